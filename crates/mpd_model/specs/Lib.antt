@@ -1,0 +1,9 @@
+pub mod Declaration
+pub mod Term
+pub mod TermCode
+pub mod TermOf
+pub mod Tree
+pub mod TreeCode
+pub mod TreeOf
+pub mod TreeFalls
+pub mod Program

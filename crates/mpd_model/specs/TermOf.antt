@@ -1,0 +1,11 @@
+-- The term that a node stands for.
+use Rattle.mpd_model.specs.Term.{Term, lit, own_rank, size, cell, op2}
+use Rattle.mpd_model.specs.declared.expr.ExprNode.{ExprNode}
+use Rattle.mpd_model.specs.declared.expr.ExprNode.TheVariants.{Number, Rank, Size, Cell, Binary}
+
+abbrev pub term_of : ExprNode → Term
+term_of (Number z) = lit z
+term_of Rank = own_rank
+term_of Size = size
+term_of (Cell p) = cell p
+term_of (Binary op a b) = op2 op a.value b.value

@@ -1,0 +1,62 @@
+//! What ranks have issued, and what was formed of it.
+
+use crate::step::CallId;
+
+/// How standard sends behave (MPI 4.0, section 3.4; docs/DEFINITIONS.md, "Modes").
+#[derive(Clone, Copy, Debug, PartialEq, Eq)]
+pub enum Mode {
+    /// No standard send is buffered: it is complete once it is paired.
+    Rendezvous,
+    /// Every standard send is complete as it is issued, and still matches later.
+    Buffered,
+}
+
+/// A call that a rank has issued. It never changes.
+#[derive(Clone, Copy, Debug, PartialEq, Eq)]
+pub struct Call {
+    /// The number, in text order, of the statement that issued it.
+    pub statement: usize,
+    pub kind: CallKind,
+}
+
+/// What a call is.
+#[derive(Clone, Copy, Debug, PartialEq, Eq)]
+pub enum CallKind {
+    /// A blocking standard send: its destination, 0 to 15, its tag, 0 to 32,767, and the value of its message.
+    Send { to: usize, tag: usize, value: i64 },
+    /// A blocking receive: its source, its tag, and the cell that its value goes to.
+    Recv {
+        from: usize,
+        tag: usize,
+        cell: usize,
+    },
+}
+
+/// Why a rank is trapped (docs/LANGUAGE.md, "Traps").
+#[derive(Clone, Copy, Debug, PartialEq, Eq)]
+pub enum Trap {
+    /// A destination or a source that is no rank.
+    BadRank,
+    /// A tag outside 0 to 32,767.
+    BadTag,
+}
+
+/// What a rank is doing. A running rank with no statement left has ended.
+#[derive(Clone, Copy, Debug, PartialEq, Eq)]
+pub enum Activity {
+    Running,
+    /// Waits for its last call to be complete.
+    Blocked,
+    Trapped(Trap),
+}
+
+/// What a step other than a local one formed.
+#[derive(Clone, Copy, Debug, PartialEq, Eq)]
+pub enum MatchSet {
+    /// A send and its receive.
+    Pair(CallId, CallId),
+    /// The call whose rank went on.
+    Woke(CallId),
+    /// All ranks left a barrier.
+    Barrier,
+}

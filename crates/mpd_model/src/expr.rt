@@ -1,0 +1,98 @@
+//! Expressions.
+
+ghost use Rattle.std.specs.Prelude.{◌≡◌, IfOk, ℤ};
+ghost use Rattle.mpd_model.specs.Term.{lit, own_rank, size, cell, op2};
+
+use crate::place::Place;
+use std::alloc::{AllocError, Global};
+use std::marker::Model;
+
+/// An operator between two operands (docs/LANGUAGE.md, "Expressions").
+#[derive(Clone, Copy, Debug, PartialEq, Eq)]
+pub enum BinaryOp {
+    Equal,
+    NotEqual,
+}
+
+/// An expression, which contracts see as a `Term`.
+#[cycle(expr)]
+#[derive(Debug, Drop)]
+pub struct Expr {
+    pub node: ExprNode,
+}
+
+/// What an expression is made of.
+#[cycle(expr)]
+#[derive(Debug, Drop)]
+pub enum ExprNode {
+    Number(i64),
+    /// The number of the rank that evaluates it.
+    Rank,
+    /// The number of ranks.
+    Size,
+    Cell(Place),
+    Binary(BinaryOp, Box<Expr>, Box<Expr>),
+}
+
+impl Model for Expr {
+    ghost use Rattle.mpd_model.specs.Term.{Term};
+    ghost use Rattle.mpd_model.specs.TermCode.{coded_term};
+
+    ghost Value = { Term };
+
+    ghost coded = { coded_term };
+
+    ghost use Rattle.mpd_model.specs.Term.{nodes};
+    ghost use Rattle.mpd_model.specs.TermOf.{term_of};
+
+    ghost view = { λ t. term_of t.node };
+
+    ghost size = { nodes };
+}
+
+impl Expr {
+    /// A number.
+    pub fn number(value: i64) -> Expr
+        ensures { result ≡ lit value }
+    {
+        Expr {
+            node: ExprNode::Number(value),
+        }
+    }
+
+    /// `rank`.
+    pub fn rank() -> Expr
+        ensures { result ≡ own_rank }
+    {
+        Expr {
+            node: ExprNode::Rank,
+        }
+    }
+
+    /// `size`.
+    pub fn size() -> Expr
+        ensures { result ≡ size }
+    {
+        Expr {
+            node: ExprNode::Size,
+        }
+    }
+
+    /// What a place holds.
+    pub fn cell(place: Place) -> Expr
+        ensures { result ≡ cell place }
+    {
+        Expr {
+            node: ExprNode::Cell(place),
+        }
+    }
+
+    /// Two operands with an operator between them. An `Err` is want of memory.
+    pub fn binary(alloc: Global, op: BinaryOp, left: Expr, right: Expr) -> Result<Expr, AllocError>
+        ensures { IfOk result (λ t. t ≡ op2 op left right) }
+    {
+        Ok(Expr {
+            node: ExprNode::Binary(op, Box::new(alloc, left)?, Box::new(alloc, right)?),
+        })
+    }
+}

@@ -1,0 +1,44 @@
+//! What a name was declared as, and where its cells are.
+
+ghost use Rattle.std.specs.Prelude.{◌≡◌};
+
+use std::marker::Model;
+
+/// What a declaration declares.
+#[derive(Clone, Copy, Debug, PartialEq, Eq)]
+pub enum DeclKind {
+    /// A variable, `var`.
+    Variable,
+    /// A handle of a request, `req` (MPI 4.0, section 3.7.1).
+    Handle,
+}
+
+/// A declaration of a script, which contracts see as a `Declared`.
+#[derive(Debug, Drop)]
+pub struct Decl {
+    pub kind: DeclKind,
+    /// At most 64 bytes.
+    pub name: String,
+    /// How many cells an array has; `None` where one name is one cell.
+    pub size: Option<usize>,
+}
+
+impl Model for Decl {
+    ghost use Rattle.std.specs.Prelude.{string_bytes};
+    ghost use Rattle.mpd_model.specs.Declaration.{Declared, declared_code};
+
+    ghost Value = { Declared };
+
+    ghost coded = { declared_code };
+
+    ghost view = { λ d. record { kind = d.kind; name = string_bytes d.name; size = d.size } };
+}
+
+/// A place that an expression reads or a receive writes: its declaration, and that declaration's first cell.
+#[derive(Clone, Copy, Debug, PartialEq, Eq)]
+pub struct Place {
+    /// The declaration's number in text order, from 0.
+    pub declaration: usize,
+    /// The number of its first cell among the variables, 0 to 1023.
+    pub first: usize,
+}
