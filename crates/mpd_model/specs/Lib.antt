@@ -7,3 +7,7 @@ pub mod TreeCode
 pub mod TreeOf
 pub mod TreeFalls
 pub mod Program
+pub mod Depth
+pub mod Limits
+pub mod Lines
+pub mod LineRows

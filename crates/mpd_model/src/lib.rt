@@ -2,8 +2,12 @@
 #![tactic(auto)]
 
 pub mod call;
+pub mod device;
 pub mod expr;
+pub mod failing;
+pub mod lines;
 pub mod place;
 pub mod script;
 pub mod step;
+pub mod steps;
 pub mod stmt;
