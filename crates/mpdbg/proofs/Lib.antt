@@ -1,0 +1,6 @@
+pub mod BareLaws
+pub mod ForwardLaws
+pub mod AnsweredLaws
+pub mod SentLaws
+pub mod TurnLaws
+pub mod GoingLaws

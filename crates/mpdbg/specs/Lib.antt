@@ -1,0 +1,6 @@
+pub mod Shown
+pub mod Answered
+pub mod Forward
+pub mod Fed
+pub mod Told
+pub mod FaultWords
