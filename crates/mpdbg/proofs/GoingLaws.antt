@@ -1,5 +1,5 @@
 -- How a run over a source and a sink goes on.
-use Rattle.std.proofs.Common.{◌≡◌, ◌≢◌, ℕ, ◌+◌, ◌<◌, ◌≤◌, List, [], ◌∷◌, ◌++◌, length, take, Option, Some, None, IfSome, refl, sym, ap, subst, ◌∙◌, append_assoc, append-nil, length-append, arith}
+use Rattle.std.proofs.Common.{◌≡◌, ◌≢◌, ℕ, ◌+◌, ◌<◌, ◌≤◌, List, [], ◌∷◌, ◌++◌, length, take, Option, Some, None, IfSome, Result, Ok, Err, OnOk, refl, sym, ap, subst, ◌∙◌, append_assoc, append-nil, length-append, arith}
 use Rattle.std.specs.Io.KnownBytes.{Appends, Consumes, IsAtEnd, Keeps}
 use Rattle.mpdbg.specs.Answered.{Answered, Tells, TellsFirst, TellsPart}
 use Rattle.mpdbg.specs.Forward.{ended_from, part_from, last_line, lines_from}
@@ -132,3 +132,23 @@ consumes_zero s1 s2 n buffer is c = let P : ℕ → Type 0 = λ k. Consumes s1 s
 
 pub consumes_piece : (s1 s2 : Option (List ℕ)) (xs piece : List ℕ) → piece ≡ xs → Consumes s1 s2 xs → Consumes s1 s2 piece
 consumes_piece s1 s2 xs piece is c = let P : List ℕ → Type 0 = λ k. Consumes s1 s2 k in subst P (sym is) c
+
+-- the same, by other words for the lines
+pub told_all_by : {T E D : Type 0} (r : Result T E) (A : D → List ℕ → List ℕ → D → Type 0) (d e : D) (f h : List ℕ → List (List ℕ)) (s0 s w0 w : Option (List ℕ))
+    → ((z : List ℕ) → f z ≡ h z) → OnOk r (TellsAll A d f s0 s w0 w e) → OnOk r (TellsAll A d h s0 s w0 w e)
+told_all_by (Ok x) A d e f h s0 s w0 w same t = (t.0, t.1, t.2, tells_along A d e (f t.0) (h t.0) w0 w (same t.0) t.3)
+told_all_by (Err x) A d e f h s0 s w0 w same t = tt
+
+pub told_read_by : {D : Type 0} (A : D → List ℕ → List ℕ → D → Type 0) (d e : D) (f h : List ℕ → List (List ℕ)) (n : ℕ) (s0 s w0 w : Option (List ℕ))
+    → ((z : List ℕ) → f z ≡ h z) → TellsRead A d f n s0 s w0 w e → TellsRead A d h n s0 s w0 w e
+told_read_by A d e f h n s0 s w0 w same t = (t.0, t.1, t.2, tells_along A d e (f t.0) (h t.0) w0 w (same t.0) t.3)
+
+pub told_first_by : {D : Type 0} (A : D → List ℕ → List ℕ → D → Type 0) (d : D) (f h : List ℕ → List (List ℕ)) (s w0 w : Option (List ℕ))
+    → ((z : List ℕ) → f z ≡ h z) → IfSome s (λ z. TellsFirst A d (f z) w0 w) → IfSome s (λ z. TellsFirst A d (h z) w0 w)
+told_first_by A d f h None w0 w same t = tt
+told_first_by A d f h (Some z) w0 w same t = (t.0, t.1, t.2, t.3 ∙ same z, t.4)
+
+pub told_part_by : {D : Type 0} (A : D → List ℕ → List ℕ → D → Type 0) (d : D) (f h : List ℕ → List (List ℕ)) (s w0 w : Option (List ℕ))
+    → ((z : List ℕ) → f z ≡ h z) → IfSome s (λ z. TellsPart A d (f z) w0 w) → IfSome s (λ z. TellsPart A d (h z) w0 w)
+told_part_by A d f h None w0 w same t = tt
+told_part_by A d f h (Some z) w0 w same t = (t.0, t.1, t.2, t.3, t.4, t.5 ∙ same z, t.6, t.7)

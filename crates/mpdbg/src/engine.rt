@@ -171,3 +171,25 @@ pub fn run_turns<S: Source, W: Sink, D: Desk>(
     }
     Err(EngineFault::TooManyTurns)
 }
+
+/// Answers the lines of a source, however they are cut into reads, and writes each answer before the next read.
+pub fn run<S: Source, W: Sink, D: Desk>(
+    alloc: Global,
+    source: &mut S,
+    sink: &mut W,
+    desk: &mut D,
+) -> Result<(), EngineFault>
+    ensures ok { OnOk result (TellsAll D.answers desk.old lines_of (S.remaining source.old) (S.remaining source.new) (W.contents sink.old) (W.contents sink.new) desk.new) }
+    ensures unfailed { OnOk result ((S.failures source.new ≡ S.failures source.old) × (W.failures sink.new ≡ W.failures sink.old)) }
+    ensures read_failed { IsErrOf result EngineFault.ReadFailed → (S.failures source.new ≡ S.failures source.old + 1)
+        × TellsRead D.answers desk.old ended_lines 0 (S.remaining source.old) (S.remaining source.new) (W.contents sink.old) (W.contents sink.new) desk.new }
+    ensures write_failed { IsErrOf result EngineFault.WriteFailed → (W.failures sink.new ≡ W.failures sink.old + 1)
+        × IfSome (S.remaining source.old) (λ input. TellsPart D.answers desk.old (lines_of input) (W.contents sink.old) (W.contents sink.new)) }
+    ensures turns { IsErrOf result EngineFault.TooManyTurns → (S.calls source.new ≡ S.calls source.old + 1000000)
+        × TellsRead D.answers desk.old ended_lines 1000000 (S.remaining source.old) (S.remaining source.new) (W.contents sink.old) (W.contents sink.new) desk.new }
+    ensures memory { IsErrOf result EngineFault.Memory →
+        IfSome (S.remaining source.old) (λ input. TellsFirst D.answers desk.old (lines_of input) (W.contents sink.old) (W.contents sink.new)) }
+{
+    let mut feeder = Feeder::new(alloc);
+    run_turns(alloc, source, sink, desk, &mut feeder, TURNS_MAX)
+}
