@@ -14,15 +14,15 @@ ended_append p (b ∷ x) y = elim (b == 10) as (λ v. (if v then bare (p ++ b �
         ≡ (if v then bare (p ++ b ∷ []) ∷ ended_from [] x else ended_from (p ++ b ∷ []) x) ++ ended_from (if v then part_from [] x else part_from (p ++ b ∷ []) x) y)
     [ true ↦ ap (λ ls. bare (p ++ b ∷ []) ∷ ls) (ended_append [] x y) | false ↦ ended_append (p ++ b ∷ []) x y ]
 
-and_first : (p q : Bool) → (p && q) ≡ true → p ≡ true
+pub and_first : (p q : Bool) → (p && q) ≡ true → p ≡ true
 and_first true q e = refl
 and_first false q e = e
 
-and_second : (p q : Bool) → (p && q) ≡ true → q ≡ true
+pub and_second : (p q : Bool) → (p && q) ≡ true → q ≡ true
 and_second true q e = e
 and_second false q e = absurd (let h : false ≡ true = e in cc)
 
-and_both : (p q : Bool) → p ≡ true → q ≡ true → (p && q) ≡ true
+pub and_both : (p q : Bool) → p ≡ true → q ≡ true → (p && q) ≡ true
 and_both true q e f = f
 and_both false q e f = e
 
@@ -42,13 +42,13 @@ and_none : (p q : Bool) → q ≡ false → (p && q) ≡ false
 and_none true q e = e
 and_none false q e = refl
 
-part_head : (b : ℕ) (l : List ℕ) → is_part (b ∷ l) ≡ true → (b == 10) ≡ false
+pub part_head : (b : ℕ) (l : List ℕ) → is_part (b ∷ l) ≡ true → (b == 10) ≡ false
 part_head b l e = not_true (b == 10) (and_first (not (b == 10)) (is_part l) e)
 
-part_tail : (b : ℕ) (l : List ℕ) → is_part (b ∷ l) ≡ true → is_part l ≡ true
+pub part_tail : (b : ℕ) (l : List ℕ) → is_part (b ∷ l) ≡ true → is_part l ≡ true
 part_tail b l e = and_second (not (b == 10)) (is_part l) e
 
-part_snoc : (p : List ℕ) (b : ℕ) → is_part p ≡ true → (b == 10) ≡ false → is_part (p ++ b ∷ []) ≡ true
+pub part_snoc : (p : List ℕ) (b : ℕ) → is_part p ≡ true → (b == 10) ≡ false → is_part (p ++ b ∷ []) ≡ true
 part_snoc [] b e f = and_both (not (b == 10)) true (not_false (b == 10) f) refl
 part_snoc (c ∷ p) b e f = and_both (not (c == 10)) (is_part (p ++ b ∷ [])) (and_first (not (c == 10)) (is_part p) e) (part_snoc p b (part_tail c p e) f)
 
@@ -56,12 +56,12 @@ grow_last : (b : ℕ) (l : List ℕ) → grow b (last_line l) ≡ (b ∷ l) ∷ 
 grow_last b [] = refl
 grow_last b (c ∷ l) = refl
 
-raw_part : (p : List ℕ) → is_part p ≡ true → raw_lines p ≡ last_line p
+pub raw_part : (p : List ℕ) → is_part p ≡ true → raw_lines p ≡ last_line p
 raw_part [] e = refl
 raw_part (b ∷ l) e =
     ap (λ (v : Bool). if v then (b ∷ []) ∷ raw_lines l else grow b (raw_lines l)) (part_head b l e) ∙ ap (λ x. grow b x) (raw_part l (part_tail b l e)) ∙ grow_last b l
 
-raw_feed : (p z : List ℕ) (b : ℕ) → (b == 10) ≡ true → is_part p ≡ true → raw_lines (p ++ b ∷ z) ≡ (p ++ b ∷ []) ∷ raw_lines z
+pub raw_feed : (p z : List ℕ) (b : ℕ) → (b == 10) ≡ true → is_part p ≡ true → raw_lines (p ++ b ∷ z) ≡ (p ++ b ∷ []) ∷ raw_lines z
 raw_feed [] z b f e = ap (λ (v : Bool). if v then (b ∷ []) ∷ raw_lines z else grow b (raw_lines z)) f
 raw_feed (c ∷ l) z b f e =
     ap (λ (v : Bool). if v then (c ∷ []) ∷ raw_lines (l ++ b ∷ z) else grow c (raw_lines (l ++ b ∷ z))) (part_head c l e) ∙ ap (λ x. grow c x) (raw_feed l z b f (part_tail c l e))
@@ -81,7 +81,7 @@ feed_not [] e = refl
 feed_not (b ∷ []) e = part_head b [] e
 feed_not (b ∷ c ∷ l) e = refl
 
-bare_part : (p : List ℕ) → is_part p ≡ true → bare p ≡ p
+pub bare_part : (p : List ℕ) → is_part p ≡ true → bare p ≡ p
 bare_part [] e = refl
 bare_part (b ∷ l) e =
     let not_end : is_ending b l ≡ false =

@@ -4,3 +4,5 @@ pub mod AnsweredLaws
 pub mod SentLaws
 pub mod TurnLaws
 pub mod GoingLaws
+pub mod ByteLaws
+pub mod DividedLaws

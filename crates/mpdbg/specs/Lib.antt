@@ -4,3 +4,5 @@ pub mod Forward
 pub mod Fed
 pub mod Told
 pub mod FaultWords
+pub mod Divided
+pub mod Collected

@@ -50,7 +50,7 @@ impl Model for Feeder {
 
 /// The line without one carriage return at its end.
 #[tactic(auto, using(crate::proofs::BareLaws::bare_lines))]
-fn without_return(line: &[u8]) -> &[u8]
+pub fn without_return(line: &[u8]) -> &[u8]
     ensures { result.now ≡ bare (line.now ++ 10 ∷ []) }
 {
     if let Some((last, shorter)) = line.split_last() {

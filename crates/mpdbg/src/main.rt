@@ -3,8 +3,10 @@
 
 
 
+pub mod divider;
 pub mod engine;
 pub mod feeder;
+pub mod plain;
 pub mod seen;
 
 use std::process::ExitCode;
