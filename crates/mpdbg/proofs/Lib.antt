@@ -6,3 +6,4 @@ pub mod TurnLaws
 pub mod GoingLaws
 pub mod ByteLaws
 pub mod DividedLaws
+pub mod CollectLaws

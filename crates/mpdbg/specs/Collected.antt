@@ -2,7 +2,7 @@
 use Rattle.std.specs.Prelude.{◌≡◌, ℕ, ◌+◌, ◌<◌, ◌≤◌, List, [], ◌++◌, length, Option}
 use Rattle.std.specs.Io.KnownBytes.{Consumes, IsAtEnd}
 use Rattle.mpd_model.specs.Lines.{divided, lines_of, ended_lines}
-use Rattle.mpdbg.specs.Divided.{begun, splits}
+use Rattle.mpdbg.specs.Divided.{Begun, splits}
 use Rattle.mpdbg.specs.declared.plain.HeadEnd.{HeadEnd}
 use Rattle.mpdbg.specs.declared.plain.HeadEnd.TheVariants.{Ended, Divided, TooLong}
 
@@ -11,6 +11,10 @@ abbrev pub HeadOf : HeadEnd → List ℕ → Option (List ℕ) → List ℕ → 
 HeadOf Ended read left script behind = IsAtEnd left × (divided read ≡ (script, [])) × (behind ≡ [])
 HeadOf Divided read left script behind = (z : List ℕ) → divided (read ++ z) ≡ (script, behind ++ z)
 HeadOf TooLong read left script behind = ((z : List ℕ) → (more : List ℕ) × ((divided (read ++ z)).0 ≡ script ++ more)) × (65536 < length script)
+
+-- the input is divided after what was read as the divider says
+abbrev pub Follows : Option (List ℕ) → Option (List ℕ) → ℕ → Begun → Type 0
+Follows old left turn begun = (read : List ℕ) × Consumes old left read × (turn ≤ length read) × ((z : List ℕ) → splits begun z ≡ divided (read ++ z))
 
 -- the lines behind the line that divides
 abbrev pub lines_behind : List ℕ → List (List ℕ)
