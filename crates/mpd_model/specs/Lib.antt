@@ -7,3 +7,8 @@ pub mod TreeCode
 pub mod TreeOf
 pub mod TreeFalls
 pub mod Program
+pub mod World
+pub mod Next
+pub mod Outcomes
+pub mod Trail
+pub mod Rows

@@ -3,6 +3,7 @@
 
 pub mod call;
 pub mod expr;
+pub mod outcome;
 pub mod place;
 pub mod script;
 pub mod step;
