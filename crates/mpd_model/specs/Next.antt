@@ -16,7 +16,8 @@ use Rattle.mpd_model.specs.declared.call.Activity.TheVariants.{Running, Blocked,
 use Rattle.mpd_model.specs.declared.call.MatchSet.TheVariants.{Pair, Woke}
 use Rattle.mpd_model.specs.Term.{Term, Value, value_of}
 use Rattle.mpd_model.specs.Tree.{Tree, print, send, recv, branch, Block, trees, statements_in, numbered}
-use Rattle.mpd_model.specs.World.{RankWorld, World, Message, call_id, kind_at, rank_numbers, call_numbers, eligible, buffer, complete, last_call}
+use Rattle.mpd_model.specs.declared.call.Message.{Message}
+use Rattle.mpd_model.specs.World.{RankWorld, World, call_id, kind_at, rank_numbers, call_numbers, eligible, buffer, complete, last_call}
 
 -- ---- local steps: the next statement of one rank
 
@@ -100,13 +101,18 @@ local_in ranks p = option_map (slice_set ranks p) (local_at ranks p)
 
 -- ---- wakes
 
-abbrev pub is_blocked : Option RankWorld → Bool
-is_blocked None = false
-is_blocked (Some r) = elim r.activity [ Running ↦ false | Blocked ↦ true | Trapped t ↦ false ]
+abbrev pub is_blocked : Activity → Bool
+is_blocked Running = false
+is_blocked Blocked = true
+is_blocked (Trapped t) = false
+
+abbrev pub waits : Option RankWorld → Bool
+waits None = false
+waits (Some r) = is_blocked r.activity
 
 -- a rank that is blocked on a complete call
 abbrev pub can_wake : World → ℕ → Bool
-can_wake w p = is_blocked (slice_get w.ranks p) && complete w (last_call w p)
+can_wake w p = waits (slice_get w.ranks p) && complete w (last_call w p)
 
 -- the cell that a woken call writes, and its new value
 abbrev pub written_by : Option CallKind → Option Message → Option (ℕ × ℤ)

@@ -9,19 +9,29 @@ use Rattle.mpd_model.specs.declared.outcome.Outcome.{Outcome}
 use Rattle.mpd_model.specs.declared.outcome.Outcome.TheVariants.{Done, Leftovers, Deadlock, Trap}
 use Rattle.mpd_model.specs.Tree.{Tree}
 use Rattle.mpd_model.specs.World.{RankWorld, World, call_id, rank_numbers, call_numbers, is_free, last_call}
-use Rattle.mpd_model.specs.Next.{steps_of, is_enabled}
+use Rattle.mpd_model.specs.Next.{steps_of, is_enabled, is_blocked}
 
 abbrev pub no_statement : List (ℕ × Tree) → Bool
 no_statement [] = true
 no_statement (t ∷ ts) = false
 
 -- a running rank with no statement left
+abbrev pub ended_by : Activity → List (ℕ × Tree) → Bool
+ended_by Running rest = no_statement rest
+ended_by Blocked rest = false
+ended_by (Trapped t) rest = false
+
 abbrev pub has_ended : RankWorld → Bool
-has_ended r = elim r.activity [ Running ↦ no_statement r.rest | Blocked ↦ false | Trapped t ↦ false ]
+has_ended r = ended_by r.activity r.rest
+
+abbrev pub trap_by : ℕ → Activity → List TrappedRank
+trap_by p Running = []
+trap_by p Blocked = []
+trap_by p (Trapped t) = record { rank = p; trap = t } ∷ []
 
 abbrev pub traps_at : ℕ → Option RankWorld → List TrappedRank
 traps_at p None = []
-traps_at p (Some r) = elim r.activity [ Running ↦ [] | Blocked ↦ [] | Trapped t ↦ record { rank = p; trap = t } ∷ [] ]
+traps_at p (Some r) = trap_by p r.activity
 
 -- the trapped ranks, the blocked calls and the free calls, by rank and number
 abbrev pub traps_in : World → List TrappedRank
@@ -29,7 +39,7 @@ traps_in w = flat_map (λ p. traps_at p (slice_get w.ranks p)) (rank_numbers w)
 
 abbrev pub blocked_at : World → ℕ → Option RankWorld → List CallId
 blocked_at w p None = []
-blocked_at w p (Some r) = elim r.activity [ Running ↦ [] | Blocked ↦ last_call w p ∷ [] | Trapped t ↦ [] ]
+blocked_at w p (Some r) = if is_blocked r.activity then last_call w p ∷ [] else []
 
 abbrev pub blocked_calls : World → List CallId
 blocked_calls w = flat_map (λ p. blocked_at w p (slice_get w.ranks p)) (rank_numbers w)

@@ -7,6 +7,7 @@ use Rattle.mpd_model.specs.declared.step.CallId.{CallId}
 use Rattle.mpd_model.specs.declared.call.Call.{Call}
 use Rattle.mpd_model.specs.declared.call.CallKind.{CallKind}
 use Rattle.mpd_model.specs.declared.call.CallKind.TheVariants.{Send, Recv}
+use Rattle.mpd_model.specs.declared.call.Message.{Message}
 use Rattle.mpd_model.specs.declared.call.Mode.{Mode}
 use Rattle.mpd_model.specs.declared.call.Mode.TheVariants.{Rendezvous, Buffered}
 use Rattle.mpd_model.specs.declared.call.Activity.{Activity}
@@ -139,12 +140,6 @@ eligible w s r =
     && not (list_any (λ i. nat_lt i r.index && fits w s (call_id r.rank i)) (posted w r.rank)))))
 
 -- ---- messages and completion (MPI 4.0, sections 3.4 and 3.7.3)
-
--- what a receive gets: the value, its sender and its tag
-pub record Message : Type 0 where
-  pub value : ℤ
-  pub source : ℕ
-  pub tag : ℕ
 
 abbrev pub message_of : CallId → Option CallKind → Option Message
 message_of s (Some (Send to tag value)) = Some (record { value = value; source = s.rank; tag = tag })
