@@ -4,6 +4,8 @@
 pub mod change;
 pub mod eval;
 pub mod fault;
+mod lookup;
 pub mod pending;
 pub mod rank;
 mod stack;
+pub mod state;
