@@ -1,8 +1,10 @@
 -- One of the ranks is changed, and changed back.
-use Rattle.std.proofs.Common.{◌≡◌, ◌&&◌, ℕ, zero, suc, ◌<◌, ◌≤◌, ◌+◌, List, [], ◌∷◌, ◌++◌, length, get_or, set, Option, Some, None, ℤ, refl, sym, ap, ◌∙◌, arith, slice_get, slice_set, IfSome, map, replicate, Bor, Bool, true, false}
+use Rattle.std.proofs.Common.{◌≡◌, ◌&&◌, ℕ, zero, suc, ◌<◌, ◌≤◌, ◌+◌, List, [], ◌∷◌, ◌++◌, length, get_or, set, drop, add-one, Option, Some, None, ℤ, refl, sym, ap, ◌∙◌, arith, slice_get, slice_set, IfSome, map, replicate, Bor, Bool, true, false}
 use Rattle.std.proofs.lemmas.Option.{slice_get_read}
 use Rattle.std.proofs.lemmas.List.{map-set, map-append, length-map, replicate-append-replicate}
 use Rattle.std.specs.Option.{option_map, option_and_then}
+use Rattle.std.specs.List.{list_all}
+use Rattle.mpd_model.specs.Outcomes.{has_ended}
 use Rattle.mpd_model.specs.World.{RankWorld}
 use Rattle.mpd_model.specs.Next.{local, local_at, local_in, put_at, update_at, write_cell, woken_rank, is_blocked, waits}
 use Rattle.mpd_model.specs.declared.call.Activity.{Activity}
@@ -111,6 +113,27 @@ start_more vs v n r e same = map-append rank_in vs (v ∷ []) ∙ ap (λ xs. xs 
     more : (n : ℕ) (r : RankWorld) → replicate n r ++ r ∷ [] ≡ replicate (n + 1) r
     more n r = replicate-append-replicate n 1 r
 
+-- one rank more that has or has not ended
+pub ended_on : (vs : List RankView) (i : ℕ) (v : RankView) (total : Bool) → i < length vs → v ≡ get_or vs i v → has_ended v.rank ≡ true → list_all has_ended (ranks_in (drop i vs)) ≡ total
+    → list_all has_ended (ranks_in (drop (i + 1) vs)) ≡ total
+ended_on vs i v total h read e so_far = rw add-one (ended_suc vs i v total h read e so_far)
+  where
+    ended_suc : (vs : List RankView) (i : ℕ) (v : RankView) (total : Bool) → i < length vs → v ≡ get_or vs i v → has_ended v.rank ≡ true → list_all has_ended (ranks_in (drop i vs)) ≡ total
+        → list_all has_ended (ranks_in (drop (suc i) vs)) ≡ total
+    ended_suc [] i v total h read e so_far = absurd (omega arith)
+    ended_suc (u ∷ vs) zero v total h read e so_far =
+        let at : has_ended u.rank ≡ true = ap (λ (x : RankView). has_ended x.rank) (sym read) ∙ e in
+        ap (λ b. b && list_all has_ended (ranks_in vs)) (sym at) ∙ so_far
+    ended_suc (u ∷ vs) (suc i) v total h read e so_far = ended_suc vs i v total (omega arith) read e so_far
+
+pub ended_not : (vs : List RankView) (i : ℕ) (v : RankView) (total : Bool) → i < length vs → v ≡ get_or vs i v → has_ended v.rank ≡ false → list_all has_ended (ranks_in (drop i vs)) ≡ total → total ≡ false
+ended_not [] i v total h read e so_far = absurd (omega arith)
+ended_not (u ∷ vs) zero v total h read e so_far =
+    let at : has_ended u.rank ≡ false = ap (λ (x : RankView). has_ended x.rank) (sym read) ∙ e in
+    sym so_far ∙ ap (λ b. b && list_all has_ended (ranks_in vs)) at
+ended_not (u ∷ vs) (suc i) v total h read e so_far = ended_not vs i v total (omega arith) read e so_far
+
+pub ruleset ending = (ended_on, ended_not)
 pub ruleset at_rank = (local_read, local_none, local_written, put_back_read, update_read, stays_read, wake_back)
 pub ruleset reading = (slice_get-ranks_in)
 pub ruleset starting = (start_more)

@@ -103,6 +103,7 @@ fn handle_count(decls: &[Decl]) -> usize
 
 impl<'s> RankState<'s> {
     ghost use Rattle.mpd_model.specs.World.{start_rank};
+    ghost use Rattle.mpd_model.specs.Outcomes.{has_ended, first_number};
     ghost use Rattle.mpd_model.specs.Next.{local, ran, trapped, printed, issued, chosen, taken, write_cell, woken_rank};
     ghost use Rattle.mpd_model.specs.Tree.{print, send, recv, branch, block_of, numbered, statements, statements_in};
     ghost use Rattle.mpd_core.specs.Undone.{undone_rank, held, blocked_rank};
@@ -307,6 +308,26 @@ impl<'s> RankState<'s> {
             Activity::Running => !self.rest.is_empty(),
             Activity::Blocked | Activity::Trapped(_) => false,
         }
+    }
+
+    /// Whether the rank is running with no statement left.
+    pub fn has_ended(&self) -> bool
+        ensures { result ≡ has_ended self.now.rank }
+    {
+        match self.activity {
+            Activity::Running => self.rest.is_empty(),
+            Activity::Blocked | Activity::Trapped(_) => false,
+        }
+    }
+
+    /// The number of its next statement, where it has one.
+    pub fn next_statement(&self) -> Option<usize>
+        ensures { result ≡ first_number self.now.rank.rest }
+    {
+        if self.rest.is_empty() {
+            return None;
+        }
+        Some(self.head().number)
     }
 
     /// Takes back a local step.

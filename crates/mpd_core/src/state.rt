@@ -2,7 +2,8 @@
 
 ghost use Rattle.std.specs.Prelude.{◌≡◌, ◌↔◌, ◌<◌, ◌≤◌, ◌&&◌, nat_lt, length, slice_get, replicate, vec_len, IfOk, IfSome, is_some, IsSome, IfNone, OnOk, OnErr, IsErrOf, Some, None};
 ghost use Rattle.std.specs.Option.{option_map};
-ghost use Rattle.std.specs.List.{list_any};
+ghost use Rattle.std.specs.List.{list_any, list_all};
+ghost use Rattle.mpd_model.specs.Outcomes.{has_ended, first_number};
 ghost use Rattle.mpd_model.specs.World.{partner as partner_in, call_id, call_at, kind_at, calls_of, is_free, fits, is_pending, is_posted, pending, posted, eligible, buffer, complete, start, start_rank, last_call};
 ghost use Rattle.mpd_model.specs.Next.{next, is_enabled, local_in, update_at, woken_rank, written_by, can_wake, waits};
 ghost use Rattle.mpd_core.specs.Heads.{heads};
@@ -135,6 +136,19 @@ fn unstep_one<'s>(ranks: &mut Vec<RankState<'s>>, rank: usize, done: LocalRecord
 {
     let state = &mut ranks[rank];
     state.unstep(done);
+}
+
+/// Whether every rank has ended.
+#[tactic(auto, using(crate::proofs::RankLemmas::ending))]
+fn all_ended(ranks: &[RankState<'_>]) -> bool
+    ensures { result ≡ list_all has_ended (ranks_in ranks.now) }
+{
+    for rank in ranks {
+        if !rank.has_ended() {
+            return false;
+        }
+    }
+    true
 }
 
 /// A rank, where there is one.
@@ -332,6 +346,79 @@ impl<'s> Core<'s> {
         }
     }
 
+    /// What a rank is doing, where there is one.
+    pub fn activity(&self, rank: usize) -> Option<Activity>
+        ensures { result ≡ option_map (λ r. r.activity) (slice_get self.now.world.ranks rank) }
+    {
+        match rank_at(&self.ranks, rank) {
+            None => None,
+            Some(state) => Some(state.activity()),
+        }
+    }
+
+    /// Whether every rank has ended.
+    pub fn all_ended(&self) -> bool
+        ensures { result ≡ list_all has_ended self.now.world.ranks }
+    {
+        all_ended(&self.ranks)
+    }
+
+    /// A rank, which is there.
+    #[tactic(auto, using(crate::proofs::RankLemmas::reading))]
+    fn rank(&self, rank: usize) -> &RankState<'s>
+        requires { rank < length self.now.world.ranks }
+        ensures { slice_get self.now.world.ranks rank ≡ Some result.now.rank }
+    {
+        &self.ranks[rank]
+    }
+
+    /// The number of the next statement of a rank, where it has one.
+    pub fn next_statement(&self, rank: usize) -> Option<usize>
+        requires { rank < length self.now.world.ranks }
+        ensures { IfSome (slice_get self.now.world.ranks rank) (λ r. result ≡ first_number r.rest) }
+    {
+        self.rank(rank).next_statement()
+    }
+
+    /// The variables of a rank, cell by cell.
+    pub fn variables(&self, rank: usize) -> &[i64]
+        requires { rank < length self.now.world.ranks }
+        ensures { IfSome (slice_get self.now.world.ranks rank) (λ r. result.now ≡ r.vars) }
+    {
+        self.rank(rank).variables()
+    }
+
+    /// The call that each handle of a rank has, if any.
+    pub fn handles(&self, rank: usize) -> &[Option<usize>]
+        requires { rank < length self.now.world.ranks }
+        ensures { IfSome (slice_get self.now.world.ranks rank) (λ r. result.now ≡ r.handles) }
+    {
+        self.rank(rank).handles()
+    }
+
+    /// What a rank has printed.
+    pub fn output(&self, rank: usize) -> &[i64]
+        requires { rank < length self.now.world.ranks }
+        ensures { IfSome (slice_get self.now.world.ranks rank) (λ r. result.now ≡ r.out) }
+    {
+        self.rank(rank).output()
+    }
+
+    /// The calls of a rank, in the order of issue.
+    pub fn calls(&self, rank: usize) -> &[Call]
+        requires { rank < length self.now.world.ranks }
+        ensures { IfSome (slice_get self.now.world.ranks rank) (λ r. result.now ≡ r.calls) }
+    {
+        self.rank(rank).calls()
+    }
+
+    /// The match sets, in the order formed.
+    pub fn sets(&self) -> &[MatchSet]
+        ensures { result.now ≡ self.now.world.sets }
+    {
+        &self.sets
+    }
+
     /// Whether a rank is blocked.
     fn is_waiting(&self, rank: usize) -> bool
         ensures { result ≡ waits (slice_get self.now.world.ranks rank) }
@@ -434,14 +521,11 @@ impl<'s> Core<'s> {
         ensures err { OnErr result (self.new.world ≡ self.old.world) }
         ensures program { self.new.program ≡ self.old.program }
     {
-        if !self.can_wake(rank) {
+        if rank >= self.ranks.len() || !self.can_wake(rank) {
             return Err(StepFault::NotEnabled);
         }
         let id = self.last_call(rank);
         let write = self.write_of(id);
-        if rank >= self.ranks.len() {
-            return Err(StepFault::NotEnabled);
-        }
         self.sets.push(MatchSet::Woke(id))?;
         let was = wake_one(&mut self.ranks, rank, write);
         Ok(Record {

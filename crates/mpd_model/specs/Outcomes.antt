@@ -15,6 +15,11 @@ abbrev pub no_statement : List (ℕ × Tree) → Bool
 no_statement [] = true
 no_statement (t ∷ ts) = false
 
+-- the number of the next statement
+abbrev pub first_number : List (ℕ × Tree) → Option ℕ
+first_number [] = None
+first_number (t ∷ ts) = Some t.0
+
 -- a running rank with no statement left
 abbrev pub ended_by : Activity → List (ℕ × Tree) → Bool
 ended_by Running rest = no_statement rest
