@@ -4,6 +4,7 @@
 pub mod change;
 pub mod eval;
 pub mod fault;
+pub mod ending;
 mod lookup;
 pub mod pending;
 pub mod rank;
