@@ -1,5 +1,5 @@
 -- A trail: steps, of which the first so many are not undone, and the world that these lead to.
-use Rattle.std.specs.Prelude.{◌≡◌, ℕ, ◌+◌, ◌-◌, Bool, true, false, ◌&&◌, ◌==◌, if◌then◌else◌, List, [], ◌∷◌, ◌++◌, take, slice_get, Option, Some, None, refl}
+use Rattle.std.specs.Prelude.{◌≡◌, ℕ, ◌+◌, ◌-◌, ◌≤◌, length, Bool, true, false, ◌&&◌, ◌==◌, if◌then◌else◌, List, [], ◌∷◌, ◌++◌, take, slice_get, Option, Some, None, refl}
 use Rattle.std.specs.Coded.{Coded, code_by, coded×, coded_ℕ, coded_list}
 use Rattle.mpd_model.specs.declared.step.Step.{Step}
 use Rattle.mpd_model.specs.declared.step.Step.TheVariants.{Local, Match, Wake, Release}
@@ -56,8 +56,10 @@ pub record Standing : Type 0 where
   pub trail : Trail
   pub world : World
 
-abbrev pub IsReached : Standing → Type 0
-IsReached s = world_of s.trail ≡ Some s.world
+-- The world is where the steps not undone lead, and so many steps there are.
+pub record IsReached (s : Standing) : Type 0 where
+  pub world : world_of s.trail ≡ Some s.world
+  pub within : s.trail.depth ≤ length s.trail.steps
 
 abbrev pub first_standing : Program → Mode → Standing
 first_standing s mode = record { trail = opening s mode; world = start s mode }
