@@ -7,3 +7,8 @@ pub mod TreeCode
 pub mod TreeOf
 pub mod TreeFalls
 pub mod Program
+pub mod Faults
+pub mod Tokens
+pub mod Input
+pub mod Grammar
+pub mod ReaderRows

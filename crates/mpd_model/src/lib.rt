@@ -4,6 +4,9 @@
 pub mod call;
 pub mod expr;
 pub mod place;
+pub mod read_fault;
 pub mod script;
+pub mod slot;
 pub mod step;
 pub mod stmt;
+pub mod token;
