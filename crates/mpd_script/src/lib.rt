@@ -1,0 +1,7 @@
+//! Reads the text of a script (docs/LANGUAGE.md).
+#![tactic(auto)]
+
+mod cursor;
+mod expr;
+mod lex;
+mod stmt;
