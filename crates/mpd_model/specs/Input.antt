@@ -132,21 +132,21 @@ unfoldable pub same_mark : Mark → Mark → Bool
 same_mark = sameb the_type
 
 abbrev pub is_mark : Mark → Token → Bool
-is_mark want (Is k) = same_mark k want
-is_mark want _ = false
+is_mark wanted (Is k) = same_mark k wanted
+is_mark wanted _ = false
 
 unfoldable pub sees : Mark → Input → Bool
-sees want i = is_mark want (token i)
+sees wanted i = is_mark wanted (token i)
 
 unfoldable pub after : Mark → Input → Input
-after want i = if sees want i then next i else i
+after wanted i = if sees wanted i then next i else i
 
 -- takes the mark, if it comes next
 abbrev pub eat : Mark → Parser Bool
-eat want = λ i. Ok (sees want i, after want i)
+eat wanted = λ i. Ok (sees wanted i, after wanted i)
 
 unfoldable pub expect : Mark → Parser (Unit {0})
-expect want = λ i. if sees want i then Ok (tt, next i) else refuse i
+expect wanted = λ i. if sees wanted i then Ok (tt, next i) else refuse i
 
 -- ---- what is counted
 
@@ -215,7 +215,7 @@ add kind name size at = λ i.
 
 -- ---- what a function that parses ensures: the parser's outcome, unless memory is refused
 
-abbrev pub Fails : {A : Type 0} → Outcome A → ReadFault → Type 0
+abbrev pub Fails : {A : Type 0} → Result A ReadFault → ReadFault → Type 0
 Fails outcome f = (f.code ≢ Memory → outcome ≡ Err f) × (f.code ≡ Memory → f.place ≡ 0)
 
 abbrev pub Reads : {A : Type 0} → Outcome A → Result A ReadFault → Input → Type 0

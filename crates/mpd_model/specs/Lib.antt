@@ -12,3 +12,5 @@ pub mod Tokens
 pub mod Input
 pub mod Grammar
 pub mod ReaderRows
+pub mod Written
+pub mod ReaderLaws

@@ -1,12 +1,12 @@
 -- The tokens behind the first one, behind blanks and behind comments.
-use Rattle.std.proofs.Common.{◌≡◌, ℕ, zero, suc, ◌+◌, ◌-◌, ◌<◌, ◌≤◌, Bool, true, false, cond, ◌==◌, ◌||◌, List, [], ◌∷◌, length, drop, take, get_or, slice_index, refl, ap, sym, ◌∙◌, arith, length-drop, map, Bor}
+use Rattle.std.proofs.Common.{◌≡◌, ℕ, zero, suc, ◌+◌, ◌-◌, ◌<◌, ◌≤◌, true, false, ◌==◌, List, [], ◌∷◌, length, drop, take, get_or, slice_index, refl, ap, sym, ◌∙◌, arith, length-drop}
 use Rattle.std.proofs.lemmas.List.{at_drop_more, drop-drop}
 use Rattle.std.proofs.lemmas.Bool.{or_parts}
 use Rattle.mpd_model.specs.declared.token.Class.TheVariants as class
 use Rattle.mpd_model.specs.declared.token.Token.{Token}
 use Rattle.mpd_model.specs.Input.{token_of, text_of, place_of, line_of, behind}
 use Rattle.mpd_script.specs.Cursor.{first}
-use Rattle.mpd_model.specs.Tokens.{Spot, tokens_after, tokens_at, front, spot, is_blank, is_gap, run_len, feeds}
+use Rattle.mpd_model.specs.Tokens.{tokens_after, tokens_at, front, spot, is_blank, is_gap, run_len, feeds}
 
 pub tokens_after-drop : (n p l : ℕ) (z : List ℕ) → tokens_after n p l z ≡ tokens_at (p + n) l (drop n z)
 unfolding tokens_after

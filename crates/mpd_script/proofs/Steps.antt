@@ -1,10 +1,8 @@
 -- One step of each recursion on a number, at a number that the code counts down.
-use Rattle.std.proofs.Common.{◌≡◌, ℕ, zero, suc, ◌+◌, ◌-◌, ◌<◌, ◌≤◌, Ok, refl, ap, arith, List, [], ◌∷◌, ◌++◌, Bool, if◌then◌else◌}
+use Rattle.std.proofs.Common.{◌≡◌, ℕ, suc, ◌+◌, ◌-◌, ◌<◌, ◌≤◌, Ok, refl, arith}
 use Rattle.mpd_model.specs.Term.{Term}
-use Rattle.mpd_model.specs.Tree.{Tree}
 use Rattle.mpd_model.specs.declared.read_fault.FaultCode.TheVariants.{TooDeep}
-use Rattle.mpd_model.specs.declared.token.Mark.TheVariants as m
-use Rattle.mpd_model.specs.Input.{Parser, Input, Outcome, and_then, token, fail, refuse, ◌>>=◌, ◌>>◌, pure, eat, expect}
+use Rattle.mpd_model.specs.Input.{Parser, Input, and_then, token, fail}
 use Rattle.mpd_model.specs.Grammar.{chain, joined, operator_at, turns, level, atom, expr}
 
 chain_none : (p : Parser Term) (k n : ℕ) (left : Term) (i : Input) → n ≡ 0 → chain p k n left i ≡ Ok (left, i)

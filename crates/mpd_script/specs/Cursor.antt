@@ -34,3 +34,4 @@ pub record IsReady (t : Inside) : Type 0 where
   pub handles : t.handles ≡ handles_in t.decls.items
   pub few_variables : t.variables ≤ 1024
   pub few_handles : t.handles ≤ 256
+  pub few_lines : length t.lines.items ≤ 4096

@@ -294,8 +294,11 @@ impl<'a> Tokens<'a> {
 
     /// What was read: the declarations, and the line of each statement.
     pub fn finish(self) -> (Vec<Decl>, Vec<usize>)
-        ensures decls { result.0.items ≡ self.decls }
-        ensures lines { result.1.items ≡ self.lines }
+        ensures decls { result.0.items ≡ self.entry.decls }
+        ensures lines { result.1.items ≡ self.entry.lines }
+        ensures variables { variables_in result.0.items ≤ 1024 }
+        ensures handles { handles_in result.0.items ≤ 256 }
+        ensures few_lines { length result.1.items ≤ 4096 }
     {
         (self.decls, self.lines)
     }

@@ -3,5 +3,9 @@
 
 mod cursor;
 mod expr;
+pub mod laws;
 mod lex;
+mod script;
 mod stmt;
+
+pub use script::read;

@@ -1,4 +1,4 @@
-use Rattle.std.proofs.Common.{◌≡◌, ◌+◌, ◌≤◌, length}
+use Rattle.std.proofs.Common.{◌≡◌, ◌+◌, length}
 use Rattle.mpd_model.specs.Declaration.{variables_in, handles_in}
 use Rattle.mpd_model.specs.Input.{slot_in, slot_from}
 use Rattle.mpd_script.proofs.cursor.slot_in.Given as goal

@@ -1,5 +1,5 @@
-use Rattle.std.proofs.Common.{sym, ◌∙◌, ap}
-use Rattle.mpd_model.specs.Input.{Input, next}
+use Rattle.std.proofs.Common.{◌∙◌, ap}
+use Rattle.mpd_model.specs.Input.{next}
 use Rattle.mpd_script.proofs.Places.{advanced}
 use Rattle.mpd_script.proofs.cursor.Tokens.advance.Goals as goal
 

@@ -3,8 +3,8 @@ use Rattle.mpd_model.specs.Input.{spelling}
 use Rattle.mpd_script.proofs.Places.{text_is}
 use Rattle.mpd_script.proofs.cursor.Tokens.spelling.Goals as goal
 
-pub returns : goal.returns
+pub returns-clause-value : goal.returns-clause-value
 unfolding spelling
-returns c =
+returns-clause-value c =
     let s = c.self.inside in
-    sym (text_is s.place s.line s.ahead.now s.token s.len c.self.invariant.token c.self.invariant.stops c.self.invariant.moves) ∙ ap spelling c.self.view_is
+    c.split_at.ensures.front ∙ sym (text_is s.place s.line s.ahead.now s.token s.len c.self.invariant.token c.self.invariant.stops c.self.invariant.moves) ∙ ap spelling c.self.view_is
