@@ -12,3 +12,10 @@ pub mod Next
 pub mod Outcomes
 pub mod Trail
 pub mod Rows
+pub mod Faults
+pub mod Tokens
+pub mod Input
+pub mod Grammar
+pub mod ReaderRows
+pub mod Written
+pub mod ReaderLaws
