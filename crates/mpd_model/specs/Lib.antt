@@ -19,3 +19,7 @@ pub mod Grammar
 pub mod ReaderRows
 pub mod Written
 pub mod ReaderLaws
+pub mod Depth
+pub mod Limits
+pub mod Lines
+pub mod LineRows

@@ -2,12 +2,16 @@
 #![tactic(auto)]
 
 pub mod call;
+pub mod device;
 pub mod expr;
 pub mod outcome;
+pub mod failing;
+pub mod lines;
 pub mod place;
 pub mod read_fault;
 pub mod script;
 pub mod slot;
 pub mod step;
+pub mod steps;
 pub mod stmt;
 pub mod token;

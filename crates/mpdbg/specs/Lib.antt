@@ -1,3 +1,9 @@
 pub mod Faults
 pub mod Kept
 pub mod Run
+pub mod Shown
+pub mod Answered
+pub mod Forward
+pub mod Fed
+pub mod Told
+pub mod FaultWords
