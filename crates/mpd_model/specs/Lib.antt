@@ -12,3 +12,7 @@ pub mod Next
 pub mod Outcomes
 pub mod Trail
 pub mod Rows
+pub mod Texts
+pub mod Words
+pub mod Answers
+pub mod TextRows

@@ -8,3 +8,4 @@ pub mod place;
 pub mod script;
 pub mod step;
 pub mod stmt;
+pub mod words;
