@@ -1,5 +1,5 @@
 -- Trace words: what a line of bytes says.
-use Rattle.std.specs.Prelude.{ℕ, ◌+◌, ◌-◌, ◌*◌, Bool, true, false, ◌&&◌, ◌||◌, not, ◌==◌, nat_le, bytes_eq, if◌then◌else◌, List, [], ◌∷◌, length, Option, Some, None, option_map, option_and_then, filter, codes}
+use Rattle.std.specs.Prelude.{ℕ, suc, ◌+◌, ◌-◌, ◌*◌, Bool, true, false, ◌&&◌, ◌||◌, not, ◌==◌, nat_le, bytes_eq, if◌then◌else◌, List, [], ◌∷◌, length, Option, Some, None, option_map, option_and_then, filter, codes}
 use Rattle.std.specs.List.{list_all}
 use Rattle.std.specs.Char.{is_ascii_digit}
 use Rattle.mpd_model.specs.declared.step.CallId.{CallId}
@@ -13,6 +13,17 @@ use Rattle.mpd_model.specs.World.{call_id}
 
 abbrev pub is_blank : ℕ → Bool
 is_blank b = (b == 32) || (b == 9)
+
+-- how many bytes stand before the first that passes the test, or all
+abbrev pub stop_len : (ℕ → Bool) → List ℕ → ℕ
+stop_len test [] = 0
+stop_len test (b ∷ z) = if test b then 0 else suc (stop_len test z)
+
+abbrev pub is_no_blank : ℕ → Bool
+is_no_blank b = not (is_blank b)
+
+abbrev pub is_dot : ℕ → Bool
+is_dot b = b == 46
 
 abbrev pub with_byte : ℕ → List (List ℕ) → List (List ℕ)
 with_byte b [] = (b ∷ []) ∷ []

@@ -8,4 +8,5 @@ pub mod place;
 pub mod script;
 pub mod step;
 pub mod stmt;
+pub mod text;
 pub mod words;
