@@ -15,10 +15,9 @@ use Rattle.mpd_model.specs.declared.call.MatchSet.TheVariants.{Pair, Woke, Barri
 use Rattle.mpd_model.specs.declared.outcome.TrappedRank.{TrappedRank}
 use Rattle.mpd_model.specs.declared.outcome.Outcome.{Outcome}
 use Rattle.mpd_model.specs.declared.outcome.Outcome.TheVariants as ending
-use Rattle.mpd_model.specs.Tree.{Tree}
 use Rattle.mpd_model.specs.Program.{Program}
 use Rattle.mpd_model.specs.World.{RankWorld, World, call_id, rank_numbers, call_numbers, kind_at, partner, buffer, last_call, pending, posted}
-use Rattle.mpd_model.specs.Outcomes.{outcome}
+use Rattle.mpd_model.specs.Outcomes.{first_number, outcome}
 
 -- ---- lists of values: one space before each
 
@@ -68,17 +67,18 @@ line_of None = 0
 line_of (Some n) = n
 
 -- what a running rank is at: the line of its next statement
-abbrev pub place_text : List ℕ → List (ℕ × Tree) → List ℕ
-place_text lines [] = codes "ended"
-place_text lines (t ∷ ts) = codes "at " ++ decimal (line_of (slice_get lines t.0))
+abbrev pub place_text : List ℕ → Option ℕ → List ℕ
+place_text lines None = codes "ended"
+place_text lines (Some number) = codes "at " ++ decimal (line_of (slice_get lines number))
 
-abbrev pub activity_text : List ℕ → CallId → List (ℕ × Tree) → Activity → List ℕ
-activity_text lines last rest Running = place_text lines rest
-activity_text lines last rest Blocked = codes "blocked " ++ decimal last.index
-activity_text lines last rest (Trapped t) = codes "trapped " ++ trap_name t
+-- what a rank is doing, given its last call and the number of its next statement
+abbrev pub activity_text : List ℕ → CallId → Option ℕ → Activity → List ℕ
+activity_text lines last next Running = place_text lines next
+activity_text lines last next Blocked = codes "blocked " ++ decimal last.index
+activity_text lines last next (Trapped t) = codes "trapped " ++ trap_name t
 
 abbrev pub state_text : Program → World → ℕ → RankWorld → List ℕ
-state_text s w p r = activity_text s.lines (last_call w p) r.rest r.activity
+state_text s w p r = activity_text s.lines (last_call w p) (first_number r.rest) r.activity
 
 abbrev pub rank_text_of : Program → World → ℕ → Option RankWorld → List ℕ
 rank_text_of s w p None = []
