@@ -1,9 +1,9 @@
 //! Printed texts that need no state (docs/FORMATS.md, "Text of show").
 
 ghost use Rattle.std.specs.Prelude.{◌≡◌, ◌++◌, IfOk, OnOk, string_bytes, codes};
-ghost use Rattle.mpd_model.specs.Texts.{id_text, trap_name, set_text, trapped_text, outcome_text, spaced};
+ghost use Rattle.mpd_model.specs.Texts.{id_text, kind_text, trap_name, set_text, trapped_text, outcome_text, spaced};
 
-use crate::call::Trap;
+use crate::call::{CallKind, MatchSet, Trap};
 use crate::outcome::{Outcome, TrappedRank};
 use crate::step::CallId;
 use std::alloc::{AllocError, Global};
@@ -16,6 +16,33 @@ impl fmt::Display for CallId {
 
     fn fmt<W: fmt::Write>(&self, f: &mut fmt::Formatter<W>) -> fmt::Result {
         write!(f, "{}.{}", self.rank, self.index)
+    }
+}
+
+impl fmt::Display for CallKind {
+    ghost use Rattle.std.specs.Prelude.{Some};
+
+    ghost output = { λ k. Some (kind_text k) };
+
+    fn fmt<W: fmt::Write>(&self, f: &mut fmt::Formatter<W>) -> fmt::Result {
+        match *self {
+            CallKind::Send { to, tag, value } => write!(f, "send to {to} tag {tag} value {value}"),
+            CallKind::Recv { from, tag, .. } => write!(f, "recv from {from} tag {tag}"),
+        }
+    }
+}
+
+impl fmt::Display for MatchSet {
+    ghost use Rattle.std.specs.Prelude.{Some};
+
+    ghost output = { λ m. Some (set_text m) };
+
+    fn fmt<W: fmt::Write>(&self, f: &mut fmt::Formatter<W>) -> fmt::Result {
+        match *self {
+            MatchSet::Pair(send, receive) => write!(f, "pair {send} {receive}"),
+            MatchSet::Woke(call) => write!(f, "woke {call}"),
+            MatchSet::Barrier => write!(f, "barrier"),
+        }
     }
 }
 
