@@ -10,3 +10,4 @@ pub mod pending;
 pub mod rank;
 mod stack;
 pub mod state;
+pub mod text;

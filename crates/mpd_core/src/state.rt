@@ -183,6 +183,11 @@ impl<'s> Core<'s> {
         self.script
     }
 
+    /// What memory is taken from.
+    pub fn allocator(&self) -> Global {
+        *self.sets.allocator()
+    }
+
     /// How many ranks there are, 1 to 16.
     pub fn rank_count(&self) -> usize
         ensures value { result ≡ length self.now.world.ranks }

@@ -23,3 +23,7 @@ pub mod Depth
 pub mod Limits
 pub mod Lines
 pub mod LineRows
+pub mod Texts
+pub mod Words
+pub mod Answers
+pub mod TextRows

@@ -15,3 +15,5 @@ pub mod step;
 pub mod steps;
 pub mod stmt;
 pub mod token;
+pub mod text;
+pub mod words;
