@@ -11,7 +11,7 @@ use Rattle.mpdbg.specs.declared.run.Command.{Command}
 use Rattle.mpdbg.specs.declared.run.Command.TheVariants.{Apply, Undo}
 use Rattle.mpdbg.specs.declared.run.Reply.{Reply}
 use Rattle.mpdbg.specs.declared.run.Reply.TheVariants.{Done, NotEnabled, Full, AtStart, Memory}
-use Rattle.mpdbg.specs.Run.{Answers, Run, SameScript}
+use Rattle.mpdbg.specs.Run.{Answers, Carried, Run, SameScript}
 use Rattle.mpdbg.proofs.KeptLemmas.{fold-append, take_noted}
 
 abbrev pub first_of : Standing → World
@@ -81,7 +81,11 @@ same_taken_back s n e = record { program = ap (λ (t : Trail). t.program) e; mod
 pub same_stays : (s n : Trail) → n ≡ s → SameScript s n
 same_stays s n e = record { program = ap (λ (t : Trail). t.program) e; mode = ap (λ (t : Trail). t.mode) e }
 
-pub ruleset answering = (applied_done, applied_reached, applied_none, applied_full, applied_memory, stays_reached, undone_done, undone_none, same_applied, same_taken_back, same_stays)
+
+pub carried_memory : (s n : Standing) (a : Step) → n.trail ≡ s.trail → n.world ≡ s.world → (next s.world a ≡ None → ⊥) → Carried s (Apply a) Memory n
+carried_memory s n a trail world some = (some_of (next s.world a) some, record { trail = trail; world = world })
+
+pub ruleset answering = (applied_done, applied_reached, applied_none, applied_full, applied_memory, stays_reached, undone_done, undone_none, same_applied, same_taken_back, same_stays, carried_memory)
 
 -- ---- lists of commands
 

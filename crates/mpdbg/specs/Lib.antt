@@ -7,3 +7,4 @@ pub mod Forward
 pub mod Fed
 pub mod Told
 pub mod FaultWords
+pub mod Said

@@ -159,6 +159,7 @@ impl<'s> Debugger<'s> {
     pub fn apply(&mut self, step: Step) -> Result<(), ApplyFault>
         ensures ok { OnOk result (self.new.trail ≡ applied self.old.trail step) }
         ensures world { OnOk result (next self.old.world step ≡ Some self.new.world) }
+        ensures room { OnOk result (self.old.trail.depth < STEPS_MAX) }
         ensures not_enabled { IsErrOf result ApplyFault.NotEnabled ↔ (next self.old.world step ≡ None) }
         ensures full { IsErrOf result ApplyFault.Full ↔ (IsSome (next self.old.world step) × (self.old.trail.depth ≡ STEPS_MAX)) }
         ensures err { OnErr result (self.new.trail ≡ self.old.trail) }

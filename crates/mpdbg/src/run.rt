@@ -4,7 +4,7 @@ ghost use Rattle.std.specs.Prelude.{◌≡◌, Some, [], IfOk};
 ghost use Rattle.mpd_model.specs.World.{start};
 ghost use Rattle.mpd_model.specs.Next.{fold};
 ghost use Rattle.mpd_model.specs.Trail.{kept, first_standing, IsReached};
-ghost use Rattle.mpdbg.specs.Run.{Answers, Run, SameScript};
+ghost use Rattle.mpdbg.specs.Run.{Answers, Carried, Run, SameScript};
 
 use crate::debugger::{ApplyFault, Debugger};
 use mpd_model::call::Mode;
@@ -33,6 +33,7 @@ pub enum Reply {
 #[tactic(auto, using(crate::proofs::RunLemmas::answering))]
 pub fn answer(debugger: &mut Debugger<'_>, command: Command) -> Reply
     ensures answers { Answers (start debugger.old.trail.program debugger.old.trail.mode) (kept debugger.old.trail) command result (kept debugger.new.trail) }
+    ensures carried { Carried debugger.old command result debugger.new }
     ensures script { SameScript debugger.old.trail debugger.new.trail }
     ensures reached { IsReached debugger.new }
 {
