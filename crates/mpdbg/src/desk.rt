@@ -1,6 +1,6 @@
 //! What answers the lines of trace words: the debugger.
 
-ghost use Rattle.std.specs.Prelude.{◌≡◌, ◌+◌, ◌<◌, ◌≤◌, List, length, IfOk, OnErr, string_bytes};
+ghost use Rattle.std.specs.Prelude.{◌≡◌, ◌+◌, ◌<◌, ◌≤◌, List, length, IfOk, OnOk, OnErr, ◌++◌, string_bytes};
 ghost use Rattle.mpd_model.specs.Trail.{IsReached};
 ghost use Rattle.mpd_model.specs.Answers.{Answer, AnswerOrMemory, ok_text, command_answer, line_answer};
 ghost use Rattle.mpdbg.specs.Said.{said_text, Replies};
@@ -89,5 +89,46 @@ fn reply(
         Some(Word::Step(step)) => step_reply(alloc, debugger, step),
         Some(Word::Back) => back_reply(alloc, debugger),
         Some(Word::Show) => show_reply(alloc, debugger),
+    }
+}
+
+/// Adds a text to the answers; `out` is as before where it could not grow.
+fn say(out: &mut Vec<u8>, said: &Said) -> Result<(), AllocError>
+    ensures ok { OnOk result (out.new.items ≡ out.old.items ++ said_text said.now) }
+    ensures err { OnErr result (out.new.items ≡ out.old.items) }
+{
+    out.extend_from_slice(said.bytes())
+}
+
+/// What a line gets that is not too long: nothing, where it has no word.
+#[tactic(auto, using(crate::proofs::DeskLemmas::answering))]
+fn line_reply(alloc: Global, debugger: &mut Debugger<'_>, line: &[u8]) -> Said
+    requires { length line.now ≤ 4096 }
+    ensures { AnswerOrMemory debugger.old line.now (said_text result) debugger.new }
+{
+    let _ = debugger.core();
+    if !has_word(line) {
+        return Said::Refusal("");
+    }
+    match reply(alloc, debugger, command_of(line)) {
+        Ok(said) => said,
+        Err(_) => Said::Refusal("refused memory\n"),
+    }
+}
+
+impl<'s> Desk for Debugger<'s> {
+    ghost use Rattle.mpd_model.specs.Answers.{AnswerOrMemory};
+
+    ghost answers = { AnswerOrMemory };
+
+    fn answer(&mut self, line: &[u8], out: &mut Vec<u8>) -> Result<(), AllocError> {
+        let said = line_reply(*out.allocator(), self, line);
+        say(out, &said)
+    }
+
+    #[tactic(auto, using(crate::proofs::DeskLemmas::refusing))]
+    fn refuse_long(&mut self, out: &mut Vec<u8>) -> Result<(), AllocError> {
+        let _ = self.core();
+        say(out, &Said::Refusal("refused bad-word\n"))
     }
 }
