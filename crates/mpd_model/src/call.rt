@@ -32,6 +32,14 @@ pub enum CallKind {
     },
 }
 
+/// What a receive gets of the send that it is paired with: value, sender and tag (MPI 4.0, section 3.2.5).
+#[derive(Clone, Copy, Debug, PartialEq, Eq)]
+pub struct Message {
+    pub value: i64,
+    pub source: usize,
+    pub tag: usize,
+}
+
 /// Why a rank is trapped (docs/LANGUAGE.md, "Traps").
 #[derive(Clone, Copy, Debug, PartialEq, Eq)]
 pub enum Trap {

@@ -4,10 +4,16 @@
 pub mod call;
 pub mod device;
 pub mod expr;
+pub mod outcome;
 pub mod failing;
 pub mod lines;
 pub mod place;
+pub mod read_fault;
 pub mod script;
+pub mod slot;
 pub mod step;
 pub mod steps;
 pub mod stmt;
+pub mod token;
+pub mod text;
+pub mod words;

@@ -1,3 +1,6 @@
+pub mod Faults
+pub mod Kept
+pub mod Run
 pub mod Shown
 pub mod Answered
 pub mod Forward
@@ -6,3 +9,4 @@ pub mod Told
 pub mod FaultWords
 pub mod Divided
 pub mod Collected
+pub mod Said

@@ -1,0 +1,4 @@
+pub mod StackLemmas
+pub mod RankLemmas
+pub mod ScanLemmas
+pub mod RangeLemmas

@@ -1,0 +1,86 @@
+-- Numbers one after another: what is so of one of them, and what they give together.
+use Rattle.std.proofs.Common.{◌≡◌, ℕ, suc, ◌<◌, ◌+◌, ◌-◌, Bool, true, false, not, ◌&&◌, ◌||◌, List, [], ◌∷◌, ◌++◌, refl, sym, ap, ◌∙◌, arith, cond, map, append_assoc, append-nil}
+use Rattle.std.specs.List.{filter, flat_map, list_any, range_with_len}
+use Rattle.mpd_model.specs.declared.step.Step.{Step}
+use Rattle.mpd_model.specs.declared.step.Step.TheVariants.{Local, Match, Wake, Release}
+use Rattle.mpd_model.specs.World.{World, rank_numbers}
+use Rattle.mpd_model.specs.Next.{is_enabled, matches_of, steps_of}
+use Rattle.mpd_model.specs.Outcomes.{is_stuck}
+
+list_any-append : {A : Type 0} (t : A → Bool) (xs ys : List A) → list_any t (xs ++ ys) ≡ list_any t xs || list_any t ys
+list_any-append t [] ys = refl
+list_any-append t (x ∷ xs) ys = elim (t x) as (λ b. b || list_any t (xs ++ ys) ≡ (b || list_any t xs) || list_any t ys) [ true ↦ refl | false ↦ list_any-append t xs ys ]
+
+module _ (t : Step → Bool) (f : ℕ → Step) where
+  -- some step of a range
+  abbrev pub mapped_from : ℕ → ℕ → Bool
+  mapped_from i n = list_any t (map f (range_with_len i n))
+
+  pub mapped_on : (i n : ℕ) (total : Bool) → i < n → mapped_from i (n - i) ≡ total → t (f i) ≡ false → mapped_from (i + 1) (n - (i + 1)) ≡ total
+  mapped_on i n total h e other =
+      let k : n - i ≡ suc (n - (i + 1)) = omega arith in
+      let u : mapped_from i (n - i) ≡ t (f i) || mapped_from (i + 1) (n - (i + 1)) = rw k refl in
+      sym (u ∙ ap (λ b. b || mapped_from (i + 1) (n - (i + 1))) other) ∙ e
+
+  pub mapped_now : (i n : ℕ) (total : Bool) → i < n → mapped_from i (n - i) ≡ total → t (f i) ≡ true → total ≡ true
+  mapped_now i n total h e here =
+      let k : n - i ≡ suc (n - (i + 1)) = omega arith in
+      let u : mapped_from i (n - i) ≡ t (f i) || mapped_from (i + 1) (n - (i + 1)) = rw k refl in
+      sym e ∙ u ∙ ap (λ b. b || mapped_from (i + 1) (n - (i + 1))) here
+
+module _ (t : Step → Bool) (f : ℕ → List Step) where
+  -- some step of the lists of a range
+  abbrev pub joined_from : ℕ → ℕ → Bool
+  joined_from i n = list_any t (flat_map f (range_with_len i n))
+
+  joined_next : (i n : ℕ) → i < n → joined_from i (n - i) ≡ list_any t (f i) || joined_from (i + 1) (n - (i + 1))
+  joined_next i n h =
+      let k : n - i ≡ suc (n - (i + 1)) = omega arith in
+      rw k (list_any-append t (f i) (flat_map f (range_with_len (i + 1) (n - (i + 1)))))
+
+  pub joined_on : (i n : ℕ) (total : Bool) → i < n → joined_from i (n - i) ≡ total → list_any t (f i) ≡ false → joined_from (i + 1) (n - (i + 1)) ≡ total
+  joined_on i n total h e other = sym (joined_next i n h ∙ ap (λ b. b || joined_from (i + 1) (n - (i + 1))) other) ∙ e
+
+  pub joined_now : (i n : ℕ) (total : Bool) → i < n → joined_from i (n - i) ≡ total → list_any t (f i) ≡ true → total ≡ true
+  joined_now i n total h e here = sym e ∙ joined_next i n h ∙ ap (λ b. b || joined_from (i + 1) (n - (i + 1))) here
+
+-- what the numbers of a range give together, one number at a time
+pub given_more : {A : Type 0} (f : ℕ → List A) (i n : ℕ) (so_far now total : List A) → i < n → so_far ++ flat_map f (range_with_len i (n - i)) ≡ total → now ≡ so_far ++ f i
+    → now ++ flat_map f (range_with_len (i + 1) (n - (i + 1))) ≡ total
+given_more f i n so_far now total h e more =
+    let k : n - i ≡ suc (n - (i + 1)) = omega arith in
+    let u : flat_map f (range_with_len i (n - i)) ≡ f i ++ flat_map f (range_with_len (i + 1) (n - (i + 1))) = rw k refl in
+    ap (λ xs. xs ++ flat_map f (range_with_len (i + 1) (n - (i + 1)))) more ∙ append_assoc so_far (f i) (flat_map f (range_with_len (i + 1) (n - (i + 1)))) ∙ ap (λ xs. so_far ++ xs) (sym u) ∙ e
+
+module _ {A : Type 0} (t : ℕ → Bool) (f : ℕ → A) where
+  abbrev pub chosen_from : ℕ → ℕ → List A
+  chosen_from i n = map f (filter t (range_with_len i n))
+
+  chosen_by : (b : Bool) (x : A) (i : ℕ) (xs : List ℕ) → f i ≡ x → map f (cond b (i ∷ xs) xs) ≡ cond b (x ∷ map f xs) (map f xs)
+  chosen_by true x i xs e = ap (λ y. y ∷ map f xs) e
+  chosen_by false x i xs e = refl
+
+  chosen_next : (i n : ℕ) → i < n → chosen_from i (n - i) ≡ cond (t i) (f i ∷ chosen_from (i + 1) (n - (i + 1))) (chosen_from (i + 1) (n - (i + 1)))
+  chosen_next i n h =
+      let k : n - i ≡ suc (n - (i + 1)) = omega arith in
+      rw k (chosen_by (t i) (f i) i (filter t (range_with_len (i + 1) (n - (i + 1)))) refl)
+
+  chosen_split : (b : Bool) (xs : List A) (x : A) (rest : List A) → xs ++ cond b (x ∷ rest) rest ≡ (xs ++ cond b (x ∷ []) []) ++ rest
+  chosen_split true xs x rest = sym (append_assoc xs (x ∷ []) rest)
+  chosen_split false xs x rest = ap (λ ys. ys ++ rest) (sym (append-nil xs))
+
+  -- the numbers of a range that are chosen, one number at a time
+  pub chosen_more : (i n : ℕ) (so_far now total : List A) → i < n → so_far ++ chosen_from i (n - i) ≡ total → now ≡ so_far ++ cond (t i) (f i ∷ []) [] → now ++ chosen_from (i + 1) (n - (i + 1)) ≡ total
+  chosen_more i n so_far now total h e more =
+      ap (λ xs. xs ++ chosen_from (i + 1) (n - (i + 1))) more ∙ sym (chosen_split (t i) so_far (f i) (chosen_from (i + 1) (n - (i + 1)))) ∙ ap (λ xs. so_far ++ xs) (sym (chosen_next i n h)) ∙ e
+
+-- no step is enabled where none of each form is
+pub enabled_parts : (w : World) → list_any (is_enabled w) (steps_of w)
+    ≡ list_any (is_enabled w) (map Local (rank_numbers w)) || (list_any (is_enabled w) (map Wake (rank_numbers w)) || list_any (is_enabled w) (flat_map (matches_of w) (rank_numbers w)))
+enabled_parts w =
+    list_any-append (is_enabled w) (map Local (rank_numbers w)) (Release ∷ (map Wake (rank_numbers w) ++ flat_map (matches_of w) (rank_numbers w)))
+    ∙ ap (λ b. list_any (is_enabled w) (map Local (rank_numbers w)) || b) (list_any-append (is_enabled w) (map Wake (rank_numbers w)) (flat_map (matches_of w) (rank_numbers w)))
+
+pub ruleset any_mapped = (mapped_on, mapped_now)
+pub ruleset any_joined = (joined_on, joined_now)
+pub ruleset stuck_by = (enabled_parts)

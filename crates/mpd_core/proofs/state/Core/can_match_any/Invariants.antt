@@ -1,0 +1,9 @@
+use Rattle.std.proofs.Common.{◌≡◌, ◌-◌, ◌++◌}
+use Rattle.std.specs.List.{flat_map, range_with_len}
+use Rattle.mpd_model.specs.declared.step.Step.TheVariants.{Local, Match, Wake}
+use Rattle.mpd_core.proofs.RangeLemmas.{joined_from}
+use Rattle.mpd_model.specs.Next.{is_enabled, matches_with, matches_of}
+use Rattle.mpd_core.proofs.state.Core.can_match_any.Given as goal
+
+abbrev pub invariant-loop-receiver : goal.invariant-loop-receiver
+invariant-loop-receiver l = joined_from (is_enabled l.self.world) (matches_of l.self.world) l.receiver (l.count - l.receiver) ≡ joined_from (is_enabled l.self.world) (matches_of l.self.world) 0 l.count

@@ -1,0 +1,9 @@
+use Rattle.std.proofs.Common.{◌≡◌, ◌-◌, ◌++◌}
+use Rattle.std.specs.List.{flat_map, range_with_len}
+use Rattle.mpd_model.specs.declared.step.Step.TheVariants.{Local, Match, Wake}
+use Rattle.mpd_core.proofs.RangeLemmas.{mapped_from}
+use Rattle.mpd_model.specs.Next.{is_enabled, matches_with, matches_of}
+use Rattle.mpd_core.proofs.state.Core.can_step_any.Given as goal
+
+abbrev pub invariant-loop-rank : goal.invariant-loop-rank
+invariant-loop-rank l = mapped_from (is_enabled l.self.world) Local l.rank (l.count - l.rank) ≡ mapped_from (is_enabled l.self.world) Local 0 l.count

@@ -1,0 +1,10 @@
+use Rattle.std.proofs.Common.{◌≡◌, replicate, length}
+use Rattle.mpd_model.specs.World.{start_rank}
+use Rattle.mpd_core.specs.Views.{ranks_in}
+use Rattle.mpd_core.proofs.state.start_ranks.Given as goal
+
+abbrev pub invariant-loop-rank : goal.invariant-loop-rank
+invariant-loop-rank l = record {
+  ranks : ranks_in l.ranks.items ≡ replicate l._rank (start_rank l.script);
+  size : length l.ranks.items ≡ l._rank;
+}

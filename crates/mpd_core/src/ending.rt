@@ -1,0 +1,229 @@
+//! How a run has ended.
+
+ghost use Rattle.std.specs.Prelude.{◌≡◌, [], ◌∷◌, ◌++◌, if◌then◌else◌, map, slice_get, IfOk, OnOk};
+ghost use Rattle.std.specs.List.{filter, flat_map, list_any};
+ghost use Rattle.mpd_model.specs.declared.step.Step.TheVariants as steps;
+ghost use Rattle.mpd_model.specs.World.{World, call_id, rank_numbers, call_numbers, is_free};
+ghost use Rattle.mpd_model.specs.Next.{is_enabled, matches_with, matches_of, steps_of};
+ghost use Rattle.mpd_model.specs.Outcomes.{traps_at, traps_in, blocked_at, blocked_calls, free_of, free_calls, untrapped, ending, is_stuck, outcome};
+
+use crate::state::Core;
+use mpd_model::call::Activity;
+use mpd_model::outcome::{CallList, Outcome, TrapList, TrappedRank};
+use mpd_model::step::{CallId, Step};
+use std::alloc::{AllocError, Global};
+
+impl<'s> Core<'s> {
+    /// Whether some rank has a local step.
+    #[tactic(auto, using(crate::proofs::RangeLemmas::any_mapped))]
+    fn can_step_any(&self) -> bool
+        ensures { result ≡ list_any (is_enabled self.now.world) (map steps.Local (rank_numbers self.now.world)) }
+    {
+        let count = self.rank_count();
+        for rank in 0..count {
+            if self.is_enabled(Step::Local(rank)) {
+                return true;
+            }
+        }
+        false
+    }
+
+    /// Whether some rank can be woken.
+    #[tactic(auto, using(crate::proofs::RangeLemmas::any_mapped))]
+    fn can_wake_any(&self) -> bool
+        ensures { result ≡ list_any (is_enabled self.now.world) (map steps.Wake (rank_numbers self.now.world)) }
+    {
+        let count = self.rank_count();
+        for rank in 0..count {
+            if self.is_enabled(Step::Wake(rank)) {
+                return true;
+            }
+        }
+        false
+    }
+
+    /// Whether some send of a rank is eligible with the receive.
+    #[tactic(auto, using(crate::proofs::RangeLemmas::any_mapped))]
+    fn can_match_from(&self, sender: usize, recv: CallId) -> bool
+        ensures { result ≡ list_any (is_enabled self.now.world) (map (λ i. steps.Match (call_id sender i) recv) (call_numbers self.now.world sender)) }
+    {
+        let count = self.call_count(sender);
+        for index in 0..count {
+            let send = CallId {
+                rank: sender,
+                index,
+            };
+            if self.is_enabled(Step::Match(send, recv)) {
+                return true;
+            }
+        }
+        false
+    }
+
+    /// Whether some send is eligible with the receive.
+    #[tactic(auto, using(crate::proofs::RangeLemmas::any_joined))]
+    fn can_match_with(&self, recv: CallId) -> bool
+        ensures { result ≡ list_any (is_enabled self.now.world) (matches_with self.now.world recv) }
+    {
+        let count = self.rank_count();
+        for sender in 0..count {
+            if self.can_match_from(sender, recv) {
+                return true;
+            }
+        }
+        false
+    }
+
+    /// Whether some receive of a rank is eligible.
+    #[tactic(auto, using(crate::proofs::RangeLemmas::any_joined))]
+    fn can_match_at(&self, receiver: usize) -> bool
+        ensures { result ≡ list_any (is_enabled self.now.world) (matches_of self.now.world receiver) }
+    {
+        let count = self.call_count(receiver);
+        for index in 0..count {
+            let recv = CallId {
+                rank: receiver,
+                index,
+            };
+            if self.can_match_with(recv) {
+                return true;
+            }
+        }
+        false
+    }
+
+    /// Whether some match is enabled.
+    #[tactic(auto, using(crate::proofs::RangeLemmas::any_joined))]
+    fn can_match_any(&self) -> bool
+        ensures { result ≡ list_any (is_enabled self.now.world) (flat_map (matches_of self.now.world) (rank_numbers self.now.world)) }
+    {
+        let count = self.rank_count();
+        for receiver in 0..count {
+            if self.can_match_at(receiver) {
+                return true;
+            }
+        }
+        false
+    }
+
+    /// Whether no step is enabled.
+    #[tactic(auto, using(crate::proofs::RangeLemmas::stuck_by))]
+    pub fn is_stuck(&self) -> bool
+        ensures { result ≡ is_stuck self.now.world }
+    {
+        !(self.can_step_any() || self.can_wake_any() || self.can_match_any())
+    }
+
+    /// Adds a rank, where it is trapped.
+    fn push_trap(&self, rank: usize, out: &mut Vec<TrappedRank>) -> Result<(), AllocError>
+        ensures { OnOk result (out.new.items ≡ out.old.items ++ traps_at rank (slice_get self.now.world.ranks rank)) }
+    {
+        if let Some(Activity::Trapped(trap)) = self.activity(rank) {
+            out.push(TrappedRank { rank, trap })?;
+        }
+        Ok(())
+    }
+
+    /// The trapped ranks.
+    fn traps(&self, alloc: Global) -> Result<Vec<TrappedRank>, AllocError>
+        ensures { IfOk result (λ traps. traps.items ≡ traps_in self.now.world) }
+    {
+        let mut traps = Vec::new(alloc);
+        let count = self.rank_count();
+        for rank in 0..count {
+            self.push_trap(rank, &mut traps)?;
+        }
+        Ok(traps)
+    }
+
+    /// Adds the call that a rank is blocked on.
+    fn push_blocked(&self, rank: usize, out: &mut Vec<CallId>) -> Result<(), AllocError>
+        ensures { OnOk result (out.new.items ≡ out.old.items ++ blocked_at self.now.world rank (slice_get self.now.world.ranks rank)) }
+    {
+        if let Some(Activity::Blocked) = self.activity(rank) {
+            out.push(self.last_call(rank))?;
+        }
+        Ok(())
+    }
+
+    /// The calls that ranks are blocked on.
+    fn blocked(&self, alloc: Global) -> Result<Vec<CallId>, AllocError>
+        ensures { IfOk result (λ calls. calls.items ≡ blocked_calls self.now.world) }
+    {
+        let mut calls = Vec::new(alloc);
+        let count = self.rank_count();
+        for rank in 0..count {
+            self.push_blocked(rank, &mut calls)?;
+        }
+        Ok(calls)
+    }
+
+    /// Adds a call, where it is free.
+    fn push_if_free(&self, id: CallId, out: &mut Vec<CallId>) -> Result<(), AllocError>
+        ensures { OnOk result (out.new.items ≡ out.old.items ++ (if is_free self.now.world id then id ∷ [] else [])) }
+    {
+        if self.is_free(id) {
+            out.push(id)?;
+        }
+        Ok(())
+    }
+
+    /// Adds the free calls of a rank.
+    fn push_free(&self, rank: usize, out: &mut Vec<CallId>) -> Result<(), AllocError>
+        ensures { OnOk result (out.new.items ≡ out.old.items ++ free_of self.now.world rank) }
+    {
+        let count = self.call_count(rank);
+        for index in 0..count {
+            self.push_if_free(CallId { rank, index }, out)?;
+        }
+        Ok(())
+    }
+
+    /// The free calls.
+    fn free(&self, alloc: Global) -> Result<Vec<CallId>, AllocError>
+        ensures { IfOk result (λ calls. calls.items ≡ free_calls self.now.world) }
+    {
+        let mut calls = Vec::new(alloc);
+        let count = self.rank_count();
+        for rank in 0..count {
+            self.push_free(rank, &mut calls)?;
+        }
+        Ok(calls)
+    }
+
+    /// What a state without a trapped rank is.
+    fn untrapped(&self, alloc: Global) -> Result<Outcome, AllocError>
+        ensures { IfOk result (λ o. o ≡ untrapped self.now.world) }
+    {
+        if !self.all_ended() {
+            return Ok(Outcome::Deadlock(CallList::new(self.blocked(alloc)?)));
+        }
+        let free = self.free(alloc)?;
+        if free.is_empty() {
+            return Ok(Outcome::Done);
+        }
+        Ok(Outcome::Leftovers(CallList::new(free)))
+    }
+
+    /// What a state without an enabled step is.
+    fn ending(&self, alloc: Global) -> Result<Outcome, AllocError>
+        ensures { IfOk result (λ o. o ≡ ending self.now.world) }
+    {
+        let traps = self.traps(alloc)?;
+        if traps.is_empty() {
+            return self.untrapped(alloc);
+        }
+        Ok(Outcome::Trap(TrapList::new(traps)))
+    }
+
+    /// How the run has ended, where no step is enabled (docs/DEFINITIONS.md, "Outcomes"). An `Err` is want of memory.
+    pub fn outcome(&self, alloc: Global) -> Result<Option<Outcome>, AllocError>
+        ensures { IfOk result (λ o. o ≡ outcome self.now.world) }
+    {
+        if !self.is_stuck() {
+            return Ok(None);
+        }
+        let ending = self.ending(alloc)?;
+        Ok(Some(ending))
+    }
+}

@@ -1,0 +1,57 @@
+//! Why a step is refused.
+
+ghost use Rattle.std.specs.Prelude.{◌≡◌};
+ghost use Rattle.mpd_core.specs.declared.fault.StepFault.TheVariants.{Memory};
+ghost use Rattle.mpd_core.specs.Faults.{step_fault_number, step_fault_name};
+
+use std::alloc::{AllocError, AllocFailed};
+use thiserror::Error;
+
+/// Why a step is refused. The state is as before.
+#[derive(Clone, Copy, PartialEq, Eq, Debug, Error)]
+pub enum StepFault {
+    /// The relation of steps has no step there.
+    #[error("not-enabled")]
+    NotEnabled,
+    /// A growth was refused.
+    #[error("memory")]
+    Memory,
+}
+
+impl StepFault {
+    /// Its number, as docs/FORMATS.md lists them.
+    pub fn number(self) -> u8
+        ensures { result ≡ step_fault_number self }
+    {
+        match self {
+            StepFault::NotEnabled => 21,
+            StepFault::Memory => 23,
+        }
+    }
+
+    /// Its name.
+    pub fn name(self) -> &'static str
+        ensures { result.now ≡ step_fault_name self }
+    {
+        match self {
+            StepFault::NotEnabled => "not-enabled",
+            StepFault::Memory => "memory",
+        }
+    }
+}
+
+impl<T: Drop> From<AllocFailed<T>> for StepFault {
+    ghost from_gives = { λ _ e. e ≡ Memory };
+
+    fn from(_failed: AllocFailed<T>) -> StepFault {
+        StepFault::Memory
+    }
+}
+
+impl From<AllocError> for StepFault {
+    ghost from_gives = { λ _ e. e ≡ Memory };
+
+    fn from(_failed: AllocError) -> StepFault {
+        StepFault::Memory
+    }
+}

@@ -1,0 +1,590 @@
+//! The state of a run.
+
+ghost use Rattle.std.specs.Prelude.{◌≡◌, ◌↔◌, ◌<◌, ◌≤◌, ◌&&◌, nat_lt, length, slice_get, replicate, vec_len, IfOk, IfSome, is_some, IsSome, IfNone, OnOk, OnErr, IsErrOf, Some, None};
+ghost use Rattle.std.specs.Option.{option_map};
+ghost use Rattle.std.specs.List.{list_any, list_all};
+ghost use Rattle.mpd_model.specs.Outcomes.{has_ended, first_number};
+ghost use Rattle.mpd_model.specs.World.{partner as partner_in, call_id, call_at, kind_at, calls_of, is_free, fits, is_pending, is_posted, pending, posted, eligible, buffer, complete, start, start_rank, last_call};
+ghost use Rattle.mpd_model.specs.Next.{next, is_enabled, local_in, update_at, woken_rank, written_by, can_wake, waits};
+ghost use Rattle.mpd_core.specs.Heads.{heads};
+ghost use Rattle.mpd_core.specs.Views.{ranks_in};
+ghost use Rattle.mpd_core.specs.Undone.{undone_rank, blocked_rank};
+ghost use Rattle.mpd_core.specs.Scan.{is_early_send, is_early_recv};
+
+use crate::change::{Change, LocalRecord};
+use crate::fault::StepFault;
+use crate::lookup;
+use crate::pending::Pending;
+use crate::rank::RankState;
+use mpd_model::call::{Activity, Call, CallKind, MatchSet, Message, Mode};
+use mpd_model::script::Script;
+use mpd_model::step::{CallId, Step};
+use std::alloc::{AllocError, Global};
+use std::marker::Model;
+
+/// The state of a run, which contracts see as a `CoreView`: its script, and its world.
+#[derive(Drop)]
+pub struct Core<'s> {
+    script: &'s Script,
+    mode: Mode,
+    ranks: Vec<RankState<'s>>,
+    sets: Vec<MatchSet>,
+}
+
+impl<'s> Model for Core<'s> {
+    ghost use Rattle.std.specs.Prelude.{◌≤◌, length};
+    ghost use Rattle.mpd_core.specs.Views.{CoreView, core_view_code, ranks_in};
+
+    ghost Value = { CoreView };
+
+    ghost coded = { core_view_code };
+
+    ghost view = { λ c. record { program = c.script.now; world = record { mode = c.mode; ranks = ranks_in c.ranks.items; sets = c.sets.items } } };
+
+    ghost invariant = { λ c. length c.ranks.items ≤ 16 };
+}
+
+/// What takes a step back, which contracts see as an `Undo`.
+#[derive(Drop)]
+pub struct Record<'s> {
+    step: Step,
+    from: Vec<Pending<'s>>,
+    change: Change,
+}
+
+impl<'s> Model for Record<'s> {
+    ghost use Rattle.mpd_core.specs.Undone.{Undo, undo_code};
+    ghost use Rattle.mpd_core.specs.Heads.{heads};
+
+    ghost Value = { Undo };
+
+    ghost coded = { undo_code };
+
+    ghost view = { λ r. record { step = r.step; from = heads r.from.items; change = r.change } };
+}
+
+/// So many ranks before their first step.
+#[tactic(auto, using(crate::proofs::RankLemmas::starting))]
+fn start_ranks<'s>(
+    alloc: Global,
+    script: &'s Script,
+    size: usize,
+) -> Result<Vec<RankState<'s>>, AllocError>
+    ensures ranks { IfOk result (λ ranks. ranks_in ranks.items ≡ replicate size (start_rank script.now)) }
+    ensures size { IfOk result (λ ranks. vec_len ranks ≡ size) }
+{
+    let mut ranks = Vec::new(alloc);
+    for _rank in 0..size {
+        ranks.push(RankState::start(alloc, script)?)?;
+    }
+    Ok(ranks)
+}
+
+/// Runs the next statement of one rank.
+#[tactic(auto, using(crate::proofs::RankLemmas::at_rank))]
+fn step_one<'s>(
+    ranks: &mut Vec<RankState<'s>>,
+    rank: usize,
+) -> Result<Option<LocalRecord<'s>>, AllocError>
+    requires within { rank < vec_len ranks.old }
+    requires few { vec_len ranks.old ≤ 16 }
+    ensures step { IfOk result (λ done. local_in (ranks_in ranks.old.items) rank ≡ option_map (λ _. ranks_in ranks.new.items) done) }
+    ensures back { IfOk result (λ done. IfSome done (λ r. update_at (ranks_in ranks.new.items) rank (λ s. undone_rank s (heads r.from.items) r.change) ≡ ranks_in ranks.old.items)) }
+    ensures none { IfOk result (λ done. IfNone done (ranks_in ranks.new.items ≡ ranks_in ranks.old.items)) }
+    ensures err { OnErr result (ranks_in ranks.new.items ≡ ranks_in ranks.old.items) }
+    ensures enabled { OnErr result (IsSome (local_in (ranks_in ranks.old.items) rank)) }
+    ensures size { vec_len ranks.new ≡ vec_len ranks.old }
+{
+    let size = ranks.len();
+    let state = &mut ranks[rank];
+    state.step(rank, size)
+}
+
+/// Wakes one rank, and answers what the write of its cell overwrote.
+#[tactic(auto, using(crate::proofs::RankLemmas::at_rank))]
+fn wake_one<'s>(
+    ranks: &mut Vec<RankState<'s>>,
+    rank: usize,
+    write: Option<(usize, i64)>,
+) -> Option<(usize, i64)>
+    requires { rank < vec_len ranks.old }
+    ensures after { ranks_in ranks.new.items ≡ update_at (ranks_in ranks.old.items) rank (woken_rank write) }
+    ensures back { IfSome (slice_get (ranks_in ranks.old.items) rank) (λ r. r.activity ≡ Activity.Blocked) → update_at (ranks_in ranks.new.items) rank (blocked_rank result) ≡ ranks_in ranks.old.items }
+    ensures size { vec_len ranks.new ≡ vec_len ranks.old }
+{
+    let state = &mut ranks[rank];
+    state.wake(write)
+}
+
+/// Blocks one rank again.
+#[tactic(auto, using(crate::proofs::RankLemmas::at_rank))]
+fn unwake_one<'s>(ranks: &mut Vec<RankState<'s>>, rank: usize, was: Option<(usize, i64)>)
+    requires { rank < vec_len ranks.old }
+    ensures after { ranks_in ranks.new.items ≡ update_at (ranks_in ranks.old.items) rank (blocked_rank was) }
+    ensures size { vec_len ranks.new ≡ vec_len ranks.old }
+{
+    let state = &mut ranks[rank];
+    state.unwake(was);
+}
+
+/// Takes back the local step of one rank.
+#[tactic(auto, using(crate::proofs::RankLemmas::at_rank))]
+fn unstep_one<'s>(ranks: &mut Vec<RankState<'s>>, rank: usize, done: LocalRecord<'s>)
+    requires { rank < vec_len ranks.old }
+    ensures after { ranks_in ranks.new.items ≡ update_at (ranks_in ranks.old.items) rank (λ s. undone_rank s (heads done.entry.from.items) done.entry.change) }
+    ensures size { vec_len ranks.new ≡ vec_len ranks.old }
+{
+    let state = &mut ranks[rank];
+    state.unstep(done);
+}
+
+/// Whether every rank has ended.
+#[tactic(auto, using(crate::proofs::RankLemmas::ending))]
+fn all_ended(ranks: &[RankState<'_>]) -> bool
+    ensures { result ≡ list_all has_ended (ranks_in ranks.now) }
+{
+    for rank in ranks {
+        if !rank.has_ended() {
+            return false;
+        }
+    }
+    true
+}
+
+/// A rank, where there is one.
+#[tactic(auto, using(crate::proofs::RankLemmas::reading))]
+fn rank_at<'a, 's>(ranks: &'a [RankState<'s>], rank: usize) -> Option<&'a RankState<'s>>
+    ensures { slice_get (ranks_in ranks.now) rank ≡ option_map (λ r. r.now.rank) result }
+{
+    ranks.get(rank)
+}
+
+impl<'s> Core<'s> {
+    ghost use Rattle.mpd_core.specs.Undone.{undone};
+
+    /// Every rank before its first step. An `Err` is want of memory.
+    pub fn start(alloc: Global, script: &'s Script, mode: Mode) -> Result<Core<'s>, AllocError>
+        ensures program { IfOk result (λ core. core.program ≡ script.now) }
+        ensures world { IfOk result (λ core. core.world ≡ start script.now mode) }
+    {
+        let size = script.ranks;
+        Ok(Core {
+            script,
+            mode,
+            ranks: start_ranks(alloc, script, size)?,
+            sets: Vec::new(alloc),
+        })
+    }
+
+    /// The script that is run.
+    pub fn script(&self) -> &'s Script
+        ensures { result.now ≡ self.now.program }
+    {
+        self.script
+    }
+
+    /// What memory is taken from.
+    pub fn allocator(&self) -> Global {
+        *self.sets.allocator()
+    }
+
+    /// How many ranks there are, 1 to 16.
+    pub fn rank_count(&self) -> usize
+        ensures value { result ≡ length self.now.world.ranks }
+        ensures small { result ≤ 16 }
+    {
+        self.ranks.len()
+    }
+
+    /// A call, where it exists.
+    pub fn call(&self, id: CallId) -> Option<Call>
+        ensures { result ≡ call_at self.now.world id }
+    {
+        let rank = rank_at(&self.ranks, id.rank)?;
+        rank.calls().get(id.index).copied()
+    }
+
+    /// What a call is, where it exists.
+    pub fn kind(&self, id: CallId) -> Option<CallKind>
+        ensures { result ≡ kind_at self.now.world id }
+    {
+        match self.call(id) {
+            None => None,
+            Some(call) => Some(call.kind),
+        }
+    }
+
+    /// The call that a pair has beside this one, where one has.
+    pub fn partner(&self, id: CallId) -> Option<CallId>
+        ensures { result ≡ partner_in self.now.world.sets id }
+    {
+        lookup::partner(&self.sets, id)
+    }
+
+    /// Whether no pair names the call.
+    pub fn is_free(&self, id: CallId) -> bool
+        ensures { result ≡ is_free self.now.world id }
+    {
+        self.partner(id).is_none()
+    }
+
+    /// The message that a receive was paired with, where it was.
+    pub fn buffer(&self, id: CallId) -> Option<Message>
+        ensures { result ≡ buffer self.now.world id }
+    {
+        let send = self.partner(id)?;
+        lookup::message_of(send, self.kind(send))
+    }
+
+    /// Whether a call is complete (docs/DEFINITIONS.md, "Completion").
+    pub fn is_complete(&self, id: CallId) -> bool
+        ensures { result ≡ complete self.now.world id }
+    {
+        self.partner(id).is_some() || lookup::is_buffered(self.mode, self.kind(id))
+    }
+
+    /// Whether the receive fits the send (MPI 4.0, section 3.2.4).
+    pub fn fits(&self, send: CallId, recv: CallId) -> bool
+        ensures { result ≡ fits self.now.world send recv }
+    {
+        lookup::is_fitting(self.kind(send), self.kind(recv), send.rank, recv.rank)
+    }
+
+    /// How many calls a rank has issued, 0 where there is no such rank.
+    pub fn call_count(&self, rank: usize) -> usize
+        ensures { result ≡ length (calls_of (slice_get self.now.world.ranks rank)) }
+    {
+        match rank_at(&self.ranks, rank) {
+            None => 0,
+            Some(state) => state.calls().len(),
+        }
+    }
+
+    /// Whether a call of the sender is a free send to the receiver.
+    pub fn is_pending(&self, sender: usize, receiver: usize, index: usize) -> bool
+        ensures { result ≡ is_pending self.now.world sender receiver index }
+    {
+        let id = CallId {
+            rank: sender,
+            index,
+        };
+        lookup::is_send_to(self.kind(id), receiver) && self.is_free(id)
+    }
+
+    /// Whether a call of the rank is a free receive.
+    pub fn is_posted(&self, rank: usize, index: usize) -> bool
+        ensures { result ≡ is_posted self.now.world rank index }
+    {
+        let id = CallId { rank, index };
+        lookup::is_recv(self.kind(id)) && self.is_free(id)
+    }
+
+    /// Whether this call of the sender is earlier than the send and fits the receive.
+    fn is_early_send(&self, send: CallId, recv: CallId, index: usize) -> bool
+        ensures { result ≡ is_early_send self.now.world send recv index }
+    {
+        let id = CallId {
+            rank: send.rank,
+            index,
+        };
+        index < send.index && self.fits(id, recv)
+    }
+
+    /// Whether this call of the receiver is earlier than the receive and fits the send.
+    fn is_early_recv(&self, send: CallId, recv: CallId, index: usize) -> bool
+        ensures { result ≡ is_early_recv self.now.world send recv index }
+    {
+        let id = CallId {
+            rank: recv.rank,
+            index,
+        };
+        index < recv.index && self.fits(send, id)
+    }
+
+    /// Whether an earlier pending send fits the receive.
+    #[tactic(auto, using(crate::proofs::ScanLemmas::found_on, crate::proofs::ScanLemmas::found_now))]
+    fn has_send_before(&self, send: CallId, recv: CallId) -> bool
+        ensures { result ≡ list_any (λ i. nat_lt i send.index && fits self.now.world (call_id send.rank i) recv) (pending self.now.world send.rank recv.rank) }
+    {
+        let count = self.call_count(send.rank);
+        for index in 0..count {
+            if self.is_pending(send.rank, recv.rank, index) && self.is_early_send(send, recv, index)
+            {
+                return true;
+            }
+        }
+        false
+    }
+
+    /// Whether an earlier posted receive fits the send.
+    #[tactic(auto, using(crate::proofs::ScanLemmas::found_on, crate::proofs::ScanLemmas::found_now))]
+    fn has_recv_before(&self, send: CallId, recv: CallId) -> bool
+        ensures { result ≡ list_any (λ i. nat_lt i recv.index && fits self.now.world send (call_id recv.rank i)) (posted self.now.world recv.rank) }
+    {
+        let count = self.call_count(recv.rank);
+        for index in 0..count {
+            if self.is_posted(recv.rank, index) && self.is_early_recv(send, recv, index) {
+                return true;
+            }
+        }
+        false
+    }
+
+    /// Whether the two may be paired (MPI 4.0, section 3.5: messages don't overtake).
+    pub fn is_eligible(&self, send: CallId, recv: CallId) -> bool
+        ensures { result ≡ eligible self.now.world send recv }
+    {
+        self.is_free(send)
+            && self.is_free(recv)
+            && self.fits(send, recv)
+            && !self.has_send_before(send, recv)
+            && !self.has_recv_before(send, recv)
+    }
+
+    /// The last call of a rank.
+    pub fn last_call(&self, rank: usize) -> CallId
+        ensures { result ≡ last_call self.now.world rank }
+    {
+        CallId {
+            rank,
+            index: self.call_count(rank).saturating_sub(1),
+        }
+    }
+
+    /// What a rank is doing, where there is one.
+    pub fn activity(&self, rank: usize) -> Option<Activity>
+        ensures { result ≡ option_map (λ r. r.activity) (slice_get self.now.world.ranks rank) }
+    {
+        match rank_at(&self.ranks, rank) {
+            None => None,
+            Some(state) => Some(state.activity()),
+        }
+    }
+
+    /// Whether every rank has ended.
+    pub fn all_ended(&self) -> bool
+        ensures { result ≡ list_all has_ended self.now.world.ranks }
+    {
+        all_ended(&self.ranks)
+    }
+
+    /// A rank, which is there.
+    #[tactic(auto, using(crate::proofs::RankLemmas::reading))]
+    fn rank(&self, rank: usize) -> &RankState<'s>
+        requires { rank < length self.now.world.ranks }
+        ensures { slice_get self.now.world.ranks rank ≡ Some result.now.rank }
+    {
+        &self.ranks[rank]
+    }
+
+    /// The number of the next statement of a rank, where it has one.
+    pub fn next_statement(&self, rank: usize) -> Option<usize>
+        requires { rank < length self.now.world.ranks }
+        ensures { IfSome (slice_get self.now.world.ranks rank) (λ r. result ≡ first_number r.rest) }
+    {
+        self.rank(rank).next_statement()
+    }
+
+    /// The variables of a rank, cell by cell.
+    pub fn variables(&self, rank: usize) -> &[i64]
+        requires { rank < length self.now.world.ranks }
+        ensures { IfSome (slice_get self.now.world.ranks rank) (λ r. result.now ≡ r.vars) }
+    {
+        self.rank(rank).variables()
+    }
+
+    /// The call that each handle of a rank has, if any.
+    pub fn handles(&self, rank: usize) -> &[Option<usize>]
+        requires { rank < length self.now.world.ranks }
+        ensures { IfSome (slice_get self.now.world.ranks rank) (λ r. result.now ≡ r.handles) }
+    {
+        self.rank(rank).handles()
+    }
+
+    /// What a rank has printed.
+    pub fn output(&self, rank: usize) -> &[i64]
+        requires { rank < length self.now.world.ranks }
+        ensures { IfSome (slice_get self.now.world.ranks rank) (λ r. result.now ≡ r.out) }
+    {
+        self.rank(rank).output()
+    }
+
+    /// The calls of a rank, in the order of issue.
+    pub fn calls(&self, rank: usize) -> &[Call]
+        requires { rank < length self.now.world.ranks }
+        ensures { IfSome (slice_get self.now.world.ranks rank) (λ r. result.now ≡ r.calls) }
+    {
+        self.rank(rank).calls()
+    }
+
+    /// The match sets, in the order formed.
+    pub fn sets(&self) -> &[MatchSet]
+        ensures { result.now ≡ self.now.world.sets }
+    {
+        &self.sets
+    }
+
+    /// Whether a rank is blocked.
+    fn is_waiting(&self, rank: usize) -> bool
+        ensures { result ≡ waits (slice_get self.now.world.ranks rank) }
+    {
+        match rank_at(&self.ranks, rank) {
+            None => false,
+            Some(state) => match state.activity() {
+                Activity::Blocked => true,
+                Activity::Running | Activity::Trapped(_) => false,
+            },
+        }
+    }
+
+    /// Whether a rank is blocked on a complete call.
+    fn can_wake(&self, rank: usize) -> bool
+        ensures { result ≡ can_wake self.now.world rank }
+    {
+        self.is_waiting(rank) && self.is_complete(self.last_call(rank))
+    }
+
+    /// Whether a rank can take a local step.
+    fn can_step(&self, rank: usize) -> bool
+        ensures { result ≡ is_some (local_in self.now.world.ranks rank) }
+    {
+        match rank_at(&self.ranks, rank) {
+            None => false,
+            Some(state) => state.can_step(rank, self.ranks.len()),
+        }
+    }
+
+    /// Whether a step is enabled.
+    pub fn is_enabled(&self, step: Step) -> bool
+        ensures { result ≡ is_enabled self.now.world step }
+    {
+        match step {
+            Step::Local(rank) => self.can_step(rank),
+            Step::Match(send, recv) => self.is_eligible(send, recv),
+            Step::Wake(rank) => self.can_wake(rank),
+            Step::Release => false,
+        }
+    }
+
+    /// A local step.
+    fn apply_local(&mut self, rank: usize) -> Result<Record<'s>, StepFault>
+        ensures ok { OnOk result (next self.old.world (Step.Local rank) ≡ Some self.new.world) }
+        ensures back { IfOk result (λ done. undone self.new.world done ≡ self.old.world) }
+        ensures step { IfOk result (λ done. done.step ≡ Step.Local rank) }
+        ensures not_enabled { IsErrOf result StepFault.NotEnabled ↔ (next self.old.world (Step.Local rank) ≡ None) }
+        ensures err { OnErr result (self.new.world ≡ self.old.world) }
+        ensures program { self.new.program ≡ self.old.program }
+    {
+        if rank >= self.ranks.len() {
+            return Err(StepFault::NotEnabled);
+        }
+        match step_one(&mut self.ranks, rank) {
+            Err(_) => Err(StepFault::Memory),
+            Ok(None) => Err(StepFault::NotEnabled),
+            Ok(Some(LocalRecord { from, change })) => Ok(Record {
+                step: Step::Local(rank),
+                from,
+                change,
+            }),
+        }
+    }
+
+    /// A match.
+    fn apply_match(&mut self, send: CallId, recv: CallId) -> Result<Record<'s>, StepFault>
+        ensures ok { OnOk result (next self.old.world (Step.Match send recv) ≡ Some self.new.world) }
+        ensures back { IfOk result (λ done. undone self.new.world done ≡ self.old.world) }
+        ensures step { IfOk result (λ done. done.step ≡ Step.Match send recv) }
+        ensures not_enabled { IsErrOf result StepFault.NotEnabled ↔ (next self.old.world (Step.Match send recv) ≡ None) }
+        ensures err { OnErr result (self.new.world ≡ self.old.world) }
+        ensures program { self.new.program ≡ self.old.program }
+    {
+        if !self.is_eligible(send, recv) {
+            return Err(StepFault::NotEnabled);
+        }
+        self.sets.push(MatchSet::Pair(send, recv))?;
+        Ok(Record {
+            step: Step::Match(send, recv),
+            from: Vec::new(*self.sets.allocator()),
+            change: Change::Matched,
+        })
+    }
+
+    /// The cell that the last call of a rank writes as it is woken, with its new value.
+    fn write_of(&self, id: CallId) -> Option<(usize, i64)>
+        ensures { result ≡ written_by (kind_at self.now.world id) (buffer self.now.world id) }
+    {
+        lookup::written_by(self.kind(id), self.buffer(id))
+    }
+
+    /// A wake.
+    #[tactic(auto, using(crate::proofs::RankLemmas::waking_blocked))]
+    fn apply_wake(&mut self, rank: usize) -> Result<Record<'s>, StepFault>
+        ensures ok { OnOk result (next self.old.world (Step.Wake rank) ≡ Some self.new.world) }
+        ensures back { IfOk result (λ done. undone self.new.world done ≡ self.old.world) }
+        ensures step { IfOk result (λ done. done.step ≡ Step.Wake rank) }
+        ensures not_enabled { IsErrOf result StepFault.NotEnabled ↔ (next self.old.world (Step.Wake rank) ≡ None) }
+        ensures err { OnErr result (self.new.world ≡ self.old.world) }
+        ensures program { self.new.program ≡ self.old.program }
+    {
+        if rank >= self.ranks.len() || !self.can_wake(rank) {
+            return Err(StepFault::NotEnabled);
+        }
+        let id = self.last_call(rank);
+        let write = self.write_of(id);
+        self.sets.push(MatchSet::Woke(id))?;
+        let was = wake_one(&mut self.ranks, rank, write);
+        Ok(Record {
+            step: Step::Wake(rank),
+            from: Vec::new(*self.sets.allocator()),
+            change: Change::Woke(was),
+        })
+    }
+
+    /// Takes a step, or refuses it: `NotEnabled` (21) exactly where the relation of steps has none, `Memory` (23)
+    /// where a growth was refused. On a refusal the state is as before (docs/DEFINITIONS.md, "Steps").
+    pub fn apply(&mut self, step: Step) -> Result<Record<'s>, StepFault>
+        ensures ok { OnOk result (next self.old.world step ≡ Some self.new.world) }
+        ensures back { IfOk result (λ done. undone self.new.world done ≡ self.old.world) }
+        ensures step { IfOk result (λ done. done.step ≡ step) }
+        ensures not_enabled { IsErrOf result StepFault.NotEnabled ↔ (next self.old.world step ≡ None) }
+        ensures err { OnErr result (self.new.world ≡ self.old.world) }
+        ensures program { self.new.program ≡ self.old.program }
+    {
+        match step {
+            Step::Local(rank) => self.apply_local(rank),
+            Step::Match(send, recv) => self.apply_match(send, recv),
+            Step::Wake(rank) => self.apply_wake(rank),
+            Step::Release => Err(StepFault::NotEnabled),
+        }
+    }
+
+    /// Takes back the step that a record is of, and no memory. On the record of the last step not undone, the state
+    /// is the one before that step.
+    pub fn undo(&mut self, done: Record<'s>)
+        ensures world { self.new.world ≡ undone self.old.world done.entry }
+        ensures program { self.new.program ≡ self.old.program }
+    {
+        let Record { step, from, change } = done;
+        match step {
+            Step::Local(rank) => {
+                if rank < self.ranks.len() {
+                    unstep_one(&mut self.ranks, rank, LocalRecord { from, change });
+                }
+            }
+            Step::Match(_, _) => {
+                let _ = self.sets.pop();
+            }
+            Step::Wake(rank) => {
+                let _ = self.sets.pop();
+                let was = match change {
+                    Change::Woke(was) => was,
+                    _ => None,
+                };
+                if rank < self.ranks.len() {
+                    unwake_one(&mut self.ranks, rank, was);
+                }
+            }
+            Step::Release => {}
+        }
+    }
+}

@@ -1,0 +1,113 @@
+//! Printed texts of calls, ranks and match sets (docs/FORMATS.md, "Text of show").
+
+ghost use Rattle.std.specs.Prelude.{◌≡◌, ◌++◌, ◌<◌, IfOk, OnOk, IfSome, IsSome, length, slice_get, string_bytes};
+ghost use Rattle.mpd_model.specs.World.{call_at};
+ghost use Rattle.mpd_model.specs.Texts.{partner_text, got_text, place_text, call_text, rank_text, set_text};
+
+use crate::state::Core;
+use mpd_model::call::{Activity, CallKind, Message};
+use mpd_model::step::CallId;
+use std::alloc::AllocError;
+
+/// Adds the call that a call was paired with, or that it is free.
+fn push_partner(out: &mut String, partner: Option<CallId>) -> Result<(), AllocError>
+    ensures { OnOk result (string_bytes out.new ≡ string_bytes out.old ++ partner_text partner) }
+{
+    match partner {
+        None => out.push_str(" free")?,
+        Some(id) => write!(out, " with {id}")?,
+    }
+    Ok(())
+}
+
+/// Adds the value that a receive got.
+fn push_got(out: &mut String, kind: CallKind, message: Option<Message>) -> Result<(), AllocError>
+    ensures { OnOk result (string_bytes out.new ≡ string_bytes out.old ++ got_text kind message) }
+{
+    if let CallKind::Recv { .. } = kind {
+        if let Some(got) = message {
+            let value = got.value;
+            write!(out, " value {value}")?;
+        }
+    }
+    Ok(())
+}
+
+/// Adds the line that a running rank is at, or that it has ended.
+fn push_place(out: &mut String, lines: &[usize], next: Option<usize>) -> Result<(), AllocError>
+    ensures { OnOk result (string_bytes out.new ≡ string_bytes out.old ++ place_text lines.now next) }
+{
+    match next {
+        None => out.push_str("ended")?,
+        Some(number) => {
+            let line = lines.get(number).copied().unwrap_or(0);
+            write!(out, "at {line}")?;
+        }
+    }
+    Ok(())
+}
+
+impl<'s> Core<'s> {
+    /// Adds a call as `show` prints it behind its name. An `Err` is want of memory.
+    pub fn push_call(&self, out: &mut String, id: CallId) -> Result<(), AllocError>
+        ensures { OnOk result (string_bytes out.new ≡ string_bytes out.old ++ call_text self.now.world id) }
+    {
+        if let Some(kind) = self.kind(id) {
+            write!(out, "{kind}")?;
+            push_partner(out, self.partner(id))?;
+            push_got(out, kind, self.buffer(id))?;
+        }
+        Ok(())
+    }
+
+    /// Adds what a rank is doing. An `Err` is want of memory.
+    pub fn push_rank(&self, out: &mut String, rank: usize) -> Result<(), AllocError>
+        requires { rank < length self.now.world.ranks }
+        ensures { OnOk result (string_bytes out.new ≡ string_bytes out.old ++ rank_text self.now.program self.now.world rank) }
+    {
+        match self.activity(rank) {
+            None => {}
+            Some(Activity::Running) => push_place(out, &self.script().lines, self.next_statement(rank))?,
+            Some(Activity::Blocked) => {
+                let number = self.last_call(rank).index;
+                write!(out, "blocked {number}")?;
+            }
+            Some(Activity::Trapped(trap)) => {
+                let name = trap.name();
+                write!(out, "trapped {name}")?;
+            }
+        }
+        Ok(())
+    }
+
+    /// A call as `show` prints it behind its name: what it is, its partner, and the value that a receive got. An `Err` is want
+    /// of memory.
+    pub fn call_text(&self, id: CallId) -> Result<String, AllocError>
+        requires { IsSome (call_at self.now.world id) }
+        ensures { IfOk result (λ t. string_bytes t ≡ call_text self.now.world id) }
+    {
+        let mut out = String::new(self.allocator());
+        self.push_call(&mut out, id)?;
+        Ok(out)
+    }
+
+    /// What a rank is doing: `at` and a line, `ended`, `blocked` and a call's number, or `trapped` and a name. An `Err` is want
+    /// of memory.
+    pub fn rank_text(&self, rank: usize) -> Result<String, AllocError>
+        requires { rank < length self.now.world.ranks }
+        ensures { IfOk result (λ t. string_bytes t ≡ rank_text self.now.program self.now.world rank) }
+    {
+        let mut out = String::new(self.allocator());
+        self.push_rank(&mut out, rank)?;
+        Ok(out)
+    }
+
+    /// The match set at a place, from 0, in the order formed. An `Err` is want of memory.
+    pub fn set_text(&self, place: usize) -> Result<String, AllocError>
+        requires { place < length self.now.world.sets }
+        ensures { IfOk result (λ t. IfSome (slice_get self.now.world.sets place) (λ m. string_bytes t ≡ set_text m)) }
+    {
+        let set = self.sets()[place];
+        format!(in self.allocator(); "{set}")
+    }
+}

@@ -1,0 +1,283 @@
+-- The grammar, one parser for each of its words.
+use Rattle.std.specs.Prelude.{ℕ, zero, suc, ◌+◌, ℤ, pos, negsuc, Bool, true, false, ◌&&◌, ◌||◌, if◌then◌else◌, ◌==◌, nat_lt, nat_le, List, [], ◌∷◌, ◌++◌, length, Option, Some, None, Result, Ok, Err}
+use Rattle.std.specs.Ordering.{int_eq}
+use Rattle.std.specs.List.{prefix_len}
+use Rattle.mpd_model.specs.declared.expr.BinaryOp.{BinaryOp}
+use Rattle.mpd_model.specs.declared.expr.BinaryOp.TheVariants as o
+use Rattle.mpd_model.specs.declared.place.Place.{Place}
+use Rattle.mpd_model.specs.declared.place.DeclKind.{DeclKind}
+use Rattle.mpd_model.specs.declared.place.DeclKind.TheVariants.{Variable}
+use Rattle.mpd_model.specs.declared.read_fault.FaultCode.TheVariants.{TooLong, NotText, TooDeep, BadRanks, NotInVersion}
+use Rattle.mpd_model.specs.declared.read_fault.ReadFault.{ReadFault}
+use Rattle.mpd_model.specs.declared.slot.Slot.{Slot}
+use Rattle.mpd_model.specs.declared.token.Mark.TheVariants as m
+use Rattle.mpd_model.specs.declared.token.Token.{Token}
+use Rattle.mpd_model.specs.declared.token.Token.TheVariants.{Number, Name, Is, End}
+use Rattle.mpd_model.specs.Faults.{fault}
+use Rattle.mpd_model.specs.Input.{Parser, Outcome, Input, start_of, left, ◌>>=◌, ◌>>◌, pure, fail, refuse, peek, advance, eat, expect, begin, spend, count, sees, seek, fresh, add, spelling, place}
+use Rattle.mpd_model.specs.Program.{Program}
+use Rattle.mpd_model.specs.Term.{Term, lit, own_rank, size, cell, op2}
+use Rattle.mpd_model.specs.Tree.{Tree, print, send, recv, branch, block_of}
+
+-- ---- expressions
+
+-- each operator, and how loosely it binds: level 3 is the comparisons
+abbrev pub operator : Token → Option (BinaryOp × ℕ)
+operator (Is m.Equal) = Some (o.Equal, 3)
+operator (Is m.NotEqual) = Some (o.NotEqual, 3)
+operator _ = None
+
+abbrev pub at_level : ℕ → Option (BinaryOp × ℕ) → Option BinaryOp
+at_level k None = None
+at_level k (Some p) = if p.1 == k then Some p.0 else None
+
+abbrev pub operator_at : ℕ → Token → Option BinaryOp
+operator_at k t = at_level k (operator t)
+
+-- Comparisons don't chain; at any other level each operator takes one of the budget.
+abbrev pub turns : ℕ → Input → ℕ
+turns k i = if k == 3 then 1 else i.budget + 1
+
+-- an operand, and then operators of the level with an operand to the right of each, grouped to the left
+abbrev pub joined : (Term → Parser Term) → Parser Term → Term → Option BinaryOp → Parser Term
+joined more operand left None = pure left
+joined more operand left (Some op) = do
+  spend
+  right ← operand
+  more (op2 op left right)
+
+unfoldable pub chain : Parser Term → ℕ → ℕ → Term → Parser Term
+chain operand k zero left = pure left
+chain operand k (suc n) left = peek >>= λ t. joined (chain operand k n) operand left (operator_at k t)
+
+abbrev pub place_of_slot : Slot → Place
+place_of_slot s = record { declaration = s.declaration; first = s.first }
+
+-- the name of a variable, and its place
+unfoldable pub variable : Parser Place
+variable = do
+  s ← seek Variable
+  advance
+  pure (place_of_slot s)
+
+-- the parser of what stands inside, by its level
+module _ (inner : ℕ → Parser Term) where
+  unfoldable pub place_inside : Parser Term
+  place_inside = do
+    p ← variable
+    pure (cell p)
+
+  unfoldable pub rounds : Parser Term
+  rounds = do
+    spend
+    e ← inner 5
+    expect m.RoundClose
+    pure e
+
+  abbrev pub atom_by : Token → Parser Term
+  atom_by (Number n) = advance >> pure (lit n)
+  atom_by (Is m.Rank) = advance >> pure own_rank
+  atom_by (Is m.Size) = advance >> pure size
+  atom_by Name = place_inside
+  atom_by (Is m.RoundOpen) = rounds
+  atom_by _ = refuse
+
+  unfoldable pub atom : Parser Term
+  atom = peek >>= atom_by
+
+  -- the operands and operators of the levels up to this one
+  unfoldable pub level : ℕ → Parser Term
+  level zero = atom
+  level (suc k) = do
+    left ← level k
+    (λ i. chain (level k) (suc k) (turns (suc k) i) left i)
+
+-- with expressions inside one another no deeper than the number, from a level on
+unfoldable pub expr : ℕ → ℕ → Parser Term
+expr zero k = fail TooDeep
+expr (suc n) k = level (expr n) k
+
+-- an expression that stands in no other; each of those inside it takes one of its budget
+abbrev pub expression : Parser Term
+expression = begin >> expr 65 5
+
+-- ---- statements
+
+-- a statement begins with the token that comes next
+abbrev pub begun : Parser (Unit {0})
+begun = count >> advance
+
+abbrev pub closes : Bool → Token → Bool
+closes true (Is m.BraceClose) = true
+closes false End = true
+closes _ _ = false
+
+unfoldable pub printing : Parser Tree
+printing = do
+  e ← expression
+  expect m.Semicolon
+  pure (print e)
+
+unfoldable pub sending : Parser Tree
+sending = do
+  value ← expression
+  expect m.To
+  to ← expression
+  expect m.Tag
+  tag ← expression
+  expect m.Semicolon
+  pure (send value to tag)
+
+abbrev pub named_by : Token → Parser Place
+named_by Name = variable
+named_by _ = refuse
+
+-- the variable that a receive writes
+unfoldable pub named : Parser Place
+named = peek >>= named_by
+
+unfoldable pub receiving : Parser Tree
+receiving = do
+  into ← named
+  expect m.From
+  from ← expression
+  expect m.Tag
+  tag ← expression
+  expect m.Semicolon
+  pure (recv into from tag)
+
+-- the parser of a block
+module _ (block : Parser (List Tree)) where
+  unfoldable pub otherwise : Parser (List Tree)
+  otherwise = do
+    found ← eat m.Else
+    if found then block else pure []
+
+  unfoldable pub choosing : Parser Tree
+  choosing = do
+    test ← expression
+    first ← block
+    second ← otherwise
+    pure (branch test (block_of first) (block_of second))
+
+  abbrev pub stmt_by : Token → Parser Tree
+  stmt_by (Is m.If) = begun >> choosing
+  stmt_by (Is m.Print) = begun >> printing
+  stmt_by (Is m.Send) = begun >> sending
+  stmt_by (Is m.Recv) = begun >> receiving
+  stmt_by (Is m.Waitany) = count >> fail NotInVersion
+  stmt_by _ = refuse
+
+  unfoldable pub stmt : Parser Tree
+  stmt = peek >>= stmt_by
+
+  -- statements up to the token that closes them
+  unfoldable pub stmts : Bool → ℕ → List Tree → Parser (List Tree)
+  stmts inside zero found = refuse
+  stmts inside (suc n) found = peek >>= λ t. if closes inside t then pure found else (do s ← stmt; stmts inside n (found ++ s ∷ []))
+
+  unfoldable pub body : Bool → Parser (List Tree)
+  body inside = λ i. stmts inside (left i + 1) [] i
+
+-- a block, where so many may still be opened
+unfoldable pub block : ℕ → Parser (List Tree)
+block zero = λ i. if sees m.BraceOpen i then fail TooDeep i else refuse i
+block (suc n) = do
+  expect m.BraceOpen
+  found ← body (block n) true
+  expect m.BraceClose
+  pure found
+
+abbrev pub max_blocks : ℕ
+max_blocks = 64
+
+-- ---- the whole text
+
+abbrev pub version_by : Token → Parser (Unit {0})
+version_by (Number n) = if int_eq n (pos 1) then advance else fail NotInVersion
+version_by _ = refuse
+
+unfoldable pub version : Parser (Unit {0})
+version = peek >>= version_by
+
+abbrev pub rank_count : ℤ → Option ℕ
+rank_count (pos n) = if nat_le 1 n && nat_le n 16 then Some n else None
+rank_count (negsuc n) = None
+
+abbrev pub ranks_of : Option ℕ → Parser ℕ
+ranks_of (Some n) = advance >> pure n
+ranks_of None = fail BadRanks
+
+abbrev pub ranks_by : Token → Parser ℕ
+ranks_by (Number n) = ranks_of (rank_count n)
+ranks_by _ = refuse
+
+unfoldable pub ranks : Parser ℕ
+ranks = peek >>= ranks_by
+
+-- A name without a size is counted once it is clear that no size follows.
+abbrev pub unsized_at : DeclKind → List ℕ → ℕ → Parser (Unit {0})
+unsized_at kind name at = λ i. (do
+  (if sees m.SquareOpen i then refuse else add kind name None at)
+  expect m.Semicolon) i
+
+unfoldable pub declaring : DeclKind → Parser (Unit {0})
+declaring kind = λ i. (do
+  fresh
+  advance
+  unsized_at kind (spelling i) (place i)) i
+
+abbrev pub decl_by : DeclKind → Token → Parser (Unit {0})
+decl_by kind Name = declaring kind
+decl_by kind _ = refuse
+
+unfoldable pub decl : DeclKind → Parser (Unit {0})
+decl kind = peek >>= decl_by kind
+
+unfoldable pub decls_from : ℕ → Parser (Unit {0})
+decls_from zero = refuse
+decls_from (suc n) = do
+  found ← eat m.Var
+  if found then decl Variable >> decls_from n else pure tt
+
+unfoldable pub decls : Parser (Unit {0})
+decls = λ i. decls_from (left i + 1) i
+
+unfoldable pub header : Parser ℕ
+header = do
+  expect m.Mpd
+  version
+  expect m.Semicolon
+  expect m.Ranks
+  n ← ranks
+  expect m.Semicolon
+  decls
+  pure n
+
+abbrev pub with_body : ℕ → List Tree → Parser Program
+with_body n body = λ i. Ok (record { version = 1; ranks = n; decls = i.decls; body = body; lines = i.lines }, i)
+
+unfoldable pub script : Parser Program
+script = do
+  n ← header
+  found ← body (block max_blocks) false
+  with_body n found
+
+-- ---- reading
+
+abbrev pub max_text : ℕ
+max_text = 65536
+
+abbrev pub is_text : ℕ → Bool
+is_text b = b == 9 || b == 10 || b == 13 || (nat_le 32 b && nat_le b 126)
+
+abbrev pub read_of : Outcome Program → Result Program ReadFault
+read_of (Ok p) = Ok p.0
+read_of (Err f) = Err f
+
+-- the script that a text spells, or its leftmost fault
+unfoldable pub reading : List ℕ → Result Program ReadFault
+reading text =
+    if nat_lt max_text (length text) then Err (fault TooLong max_text)
+    else (if nat_lt (prefix_len is_text text) (length text) then Err (fault NotText (prefix_len is_text text))
+    else read_of (script (start_of text)))

@@ -1,0 +1,176 @@
+-- What a step makes of a world, and where no step is.
+use Rattle.std.specs.Prelude.{ℕ, ◌+◌, ◌-◌, ℤ, pos, negsuc, Bool, true, false, ◌&&◌, ◌==◌, nat_lt, if◌then◌else◌, List, [], ◌∷◌, ◌++◌, length, map, slice_get, slice_set, Option, Some, None, option_and_then, is_some, Result, Ok, Err}
+use Rattle.std.specs.Option.{option_map}
+use Rattle.std.specs.List.{filter, flat_map}
+use Rattle.mpd_model.specs.declared.step.CallId.{CallId}
+use Rattle.mpd_model.specs.declared.step.Step.{Step}
+use Rattle.mpd_model.specs.declared.step.Step.TheVariants.{Local, Match, Wake, Release}
+use Rattle.mpd_model.specs.declared.place.Place.{Place}
+use Rattle.mpd_model.specs.declared.call.Call.{Call}
+use Rattle.mpd_model.specs.declared.call.CallKind.{CallKind}
+use Rattle.mpd_model.specs.declared.call.CallKind.TheVariants.{Send, Recv}
+use Rattle.mpd_model.specs.declared.call.Trap.{Trap}
+use Rattle.mpd_model.specs.declared.call.Trap.TheVariants.{BadRank, BadTag}
+use Rattle.mpd_model.specs.declared.call.Activity.{Activity}
+use Rattle.mpd_model.specs.declared.call.Activity.TheVariants.{Running, Blocked, Trapped}
+use Rattle.mpd_model.specs.declared.call.MatchSet.TheVariants.{Pair, Woke}
+use Rattle.mpd_model.specs.Term.{Term, Value, value_of}
+use Rattle.mpd_model.specs.Tree.{Tree, print, send, recv, branch, Block, trees, statements_in, numbered}
+use Rattle.mpd_model.specs.declared.call.Message.{Message}
+use Rattle.mpd_model.specs.World.{RankWorld, World, call_id, kind_at, rank_numbers, call_numbers, eligible, buffer, complete, last_call}
+
+-- ---- local steps: the next statement of one rank
+
+-- A trap changes what the rank is doing, and nothing else.
+abbrev pub trapped : RankWorld → Trap → RankWorld
+trapped r t = record r { activity = Trapped t }
+
+-- a number below the bound
+abbrev pub within : ℤ → ℕ → Trap → Result ℕ Trap
+within (pos k) n t = if nat_lt k n then Ok k else Err t
+within (negsuc k) n t = Err t
+
+abbrev pub checked : Value → ℕ → Trap → Result ℕ Trap
+checked (Ok z) n t = within z n t
+checked (Err e) n t = Err e
+
+abbrev pub and_then : {A B : Type 0} → Result A Trap → (A → Result B Trap) → Result B Trap
+and_then (Ok a) f = f a
+and_then (Err t) f = Err t
+
+abbrev pub max_tags : ℕ
+max_tags = 32768
+
+-- what a send issues on rank p of n: the value comes first, then the destination, then the tag
+abbrev pub send_kind : Term → Term → Term → List ℤ → ℕ → ℕ → Result CallKind Trap
+send_kind value to tag vars p n =
+    and_then (value_of value vars p n) (λ v.
+    and_then (checked (value_of to vars p n) n BadRank) (λ q.
+    and_then (checked (value_of tag vars p n) max_tags BadTag) (λ t. Ok (Send q t v))))
+
+-- what a receive issues: the source comes first, then the tag
+abbrev pub recv_kind : Place → Term → Term → List ℤ → ℕ → ℕ → Result CallKind Trap
+recv_kind into from tag vars p n =
+    and_then (checked (value_of from vars p n) n BadRank) (λ q.
+    and_then (checked (value_of tag vars p n) max_tags BadTag) (λ t. Ok (Recv q t into.first)))
+
+abbrev pub printed : RankWorld → List (ℕ × Tree) → Value → RankWorld
+printed r ts (Ok v) = record r { rest = ts; out = r.out ++ v ∷ [] }
+printed r ts (Err t) = trapped r t
+
+abbrev pub issued : RankWorld → List (ℕ × Tree) → ℕ → Result CallKind Trap → RankWorld
+issued r ts number (Ok kind) = record r { rest = ts; calls = r.calls ++ record { statement = number; kind = kind } ∷ []; activity = Blocked }
+issued r ts number (Err t) = trapped r t
+
+-- zero is false, and all else is true
+abbrev pub is_zero : ℤ → Bool
+is_zero (pos k) = k == 0
+is_zero (negsuc k) = false
+
+-- the block that is chosen, its statements numbered behind the `if`
+abbrev pub taken : ℕ → ℤ → Block → Block → List (ℕ × Tree)
+taken number v first second = if is_zero v then numbered (number + 1 + statements_in first) (trees second) else numbered (number + 1) (trees first)
+
+abbrev pub chosen : RankWorld → List (ℕ × Tree) → ℕ → Value → Block → Block → RankWorld
+chosen r ts number (Ok v) first second = record r { rest = taken number v first second ++ ts }
+chosen r ts number (Err t) first second = trapped r t
+
+-- what a statement makes of rank p of n, given its number and what is left behind it
+abbrev pub ran : ℕ → ℕ → RankWorld → ℕ → Tree → List (ℕ × Tree) → RankWorld
+ran p n r number (print e) ts = printed r ts (value_of e r.vars p n)
+ran p n r number (send value to tag) ts = issued r ts number (send_kind value to tag r.vars p n)
+ran p n r number (recv into from tag) ts = issued r ts number (recv_kind into from tag r.vars p n)
+ran p n r number (branch c first second) ts = chosen r ts number (value_of c r.vars p n) first second
+
+abbrev pub local_of : ℕ → ℕ → RankWorld → Activity → List (ℕ × Tree) → Option RankWorld
+local_of p n r Running [] = None
+local_of p n r Running (t ∷ ts) = Some (ran p n r t.0 t.1 ts)
+local_of p n r Blocked ts = None
+local_of p n r (Trapped t) ts = None
+
+-- one rank after its local step
+abbrev pub local : ℕ → ℕ → RankWorld → Option RankWorld
+local p n r = local_of p n r r.activity r.rest
+
+abbrev pub local_at : List RankWorld → ℕ → Option RankWorld
+local_at ranks p = option_and_then (local p (length ranks)) (slice_get ranks p)
+
+-- all ranks after it
+abbrev pub local_in : List RankWorld → ℕ → Option (List RankWorld)
+local_in ranks p = option_map (slice_set ranks p) (local_at ranks p)
+
+-- ---- wakes
+
+abbrev pub is_blocked : Activity → Bool
+is_blocked Running = false
+is_blocked Blocked = true
+is_blocked (Trapped t) = false
+
+abbrev pub waits : Option RankWorld → Bool
+waits None = false
+waits (Some r) = is_blocked r.activity
+
+-- a rank that is blocked on a complete call
+abbrev pub can_wake : World → ℕ → Bool
+can_wake w p = waits (slice_get w.ranks p) && complete w (last_call w p)
+
+-- the cell that a woken call writes, and its new value
+abbrev pub written_by : Option CallKind → Option Message → Option (ℕ × ℤ)
+written_by (Some (Recv from tag cell)) (Some m) = Some (cell, m.value)
+written_by (Some (Recv from tag cell)) None = None
+written_by (Some (Send to tag value)) m = None
+written_by None m = None
+
+abbrev pub write_cell : Option (ℕ × ℤ) → List ℤ → List ℤ
+write_cell None vars = vars
+write_cell (Some w) vars = slice_set vars w.0 w.1
+
+abbrev pub woken_rank : Option (ℕ × ℤ) → RankWorld → RankWorld
+woken_rank write r = record r { vars = write_cell write r.vars; activity = Running }
+
+-- the ranks with one changed
+abbrev pub put_at : List RankWorld → ℕ → Option RankWorld → (RankWorld → RankWorld) → List RankWorld
+put_at ranks p None f = ranks
+put_at ranks p (Some r) f = slice_set ranks p (f r)
+
+abbrev pub update_at : List RankWorld → ℕ → (RankWorld → RankWorld) → List RankWorld
+update_at ranks p f = put_at ranks p (slice_get ranks p) f
+
+abbrev pub woken : World → ℕ → World
+woken w p = record w {
+  ranks = update_at w.ranks p (woken_rank (written_by (kind_at w (last_call w p)) (buffer w (last_call w p))));
+  sets = w.sets ++ Woke (last_call w p) ∷ [];
+}
+
+-- ---- the step
+
+abbrev pub matched : World → CallId → CallId → World
+matched w s r = record w { sets = w.sets ++ Pair s r ∷ [] }
+
+-- No statement issues a barrier yet, so no release is enabled.
+abbrev pub next : World → Step → Option World
+next w (Local p) = option_map (λ ranks. record w { ranks = ranks }) (local_in w.ranks p)
+next w (Match s r) = if eligible w s r then Some (matched w s r) else None
+next w (Wake p) = if can_wake w p then Some (woken w p) else None
+next w Release = None
+
+abbrev pub is_enabled : World → Step → Bool
+is_enabled w a = is_some (next w a)
+
+abbrev pub fold : World → List Step → Option World
+fold w [] = Some w
+fold w (a ∷ steps) = option_and_then (λ v. fold v steps) (next w a)
+
+-- ---- all steps that may be enabled: local, release, wake, match; by rank, and matches by receiver, receive, sender, send
+
+abbrev pub matches_with : World → CallId → List Step
+matches_with w r = flat_map (λ p. map (λ i. Match (call_id p i) r) (call_numbers w p)) (rank_numbers w)
+
+abbrev pub matches_of : World → ℕ → List Step
+matches_of w q = flat_map (λ j. matches_with w (call_id q j)) (call_numbers w q)
+
+abbrev pub steps_of : World → List Step
+steps_of w = map Local (rank_numbers w) ++ (Release ∷ (map Wake (rank_numbers w) ++ flat_map (matches_of w) (rank_numbers w)))
+
+abbrev pub enabled : World → List Step
+enabled w = filter (is_enabled w) (steps_of w)

@@ -1,0 +1,170 @@
+-- Printed texts: calls, match sets, what a rank is doing, how a run has ended, and all that `show` prints.
+use Rattle.std.specs.Prelude.{ℕ, ℤ, List, [], ◌∷◌, ◌++◌, Option, Some, None, slice_get, codes}
+use Rattle.std.specs.List.{flat_map}
+use Rattle.std.specs.Fmt.{decimal, signed_decimal}
+use Rattle.mpd_model.specs.declared.step.CallId.{CallId}
+use Rattle.mpd_model.specs.declared.call.CallKind.{CallKind}
+use Rattle.mpd_model.specs.declared.call.CallKind.TheVariants.{Send, Recv}
+use Rattle.mpd_model.specs.declared.call.Trap.{Trap}
+use Rattle.mpd_model.specs.declared.call.Trap.TheVariants.{BadRank, BadTag}
+use Rattle.mpd_model.specs.declared.call.Activity.{Activity}
+use Rattle.mpd_model.specs.declared.call.Activity.TheVariants.{Running, Blocked, Trapped}
+use Rattle.mpd_model.specs.declared.call.Message.{Message}
+use Rattle.mpd_model.specs.declared.call.MatchSet.{MatchSet}
+use Rattle.mpd_model.specs.declared.call.MatchSet.TheVariants.{Pair, Woke, Barrier}
+use Rattle.mpd_model.specs.declared.outcome.TrappedRank.{TrappedRank}
+use Rattle.mpd_model.specs.declared.outcome.Outcome.{Outcome}
+use Rattle.mpd_model.specs.declared.outcome.Outcome.TheVariants as ending
+use Rattle.mpd_model.specs.Program.{Program}
+use Rattle.mpd_model.specs.World.{RankWorld, World, call_id, rank_numbers, call_numbers, kind_at, partner, buffer, last_call, pending, posted}
+use Rattle.mpd_model.specs.Outcomes.{first_number, outcome}
+
+-- ---- lists of values: one space before each
+
+abbrev pub spaced : {A : Type 0} → (A → List ℕ) → List A → List ℕ
+spaced text xs = flat_map (λ x. 32 ∷ text x) xs
+
+-- a text as a line of its own
+abbrev pub line : List ℕ → List ℕ
+line text = text ++ 10 ∷ []
+
+-- ---- calls
+
+-- `1.2` is the call of number 2 of rank 1
+abbrev pub id_text : CallId → List ℕ
+id_text c = decimal c.rank ++ 46 ∷ decimal c.index
+
+abbrev pub trap_name : Trap → List ℕ
+trap_name BadRank = codes "bad-rank"
+trap_name BadTag = codes "bad-tag"
+
+abbrev pub kind_text : CallKind → List ℕ
+kind_text (Send to tag value) = codes "send to " ++ decimal to ++ codes " tag " ++ decimal tag ++ codes " value " ++ signed_decimal value
+kind_text (Recv from tag cell) = codes "recv from " ++ decimal from ++ codes " tag " ++ decimal tag
+
+-- the call that a call was paired with
+abbrev pub partner_text : Option CallId → List ℕ
+partner_text None = codes " free"
+partner_text (Some d) = codes " with " ++ id_text d
+
+-- the value that a receive got
+abbrev pub got_text : CallKind → Option Message → List ℕ
+got_text (Send to tag value) m = []
+got_text (Recv from tag cell) None = []
+got_text (Recv from tag cell) (Some m) = codes " value " ++ signed_decimal m.value
+
+abbrev pub call_text_of : World → CallId → Option CallKind → List ℕ
+call_text_of w c None = []
+call_text_of w c (Some kind) = kind_text kind ++ partner_text (partner w.sets c) ++ got_text kind (buffer w c)
+
+abbrev pub call_text : World → CallId → List ℕ
+call_text w c = call_text_of w c (kind_at w c)
+
+-- ---- ranks
+
+abbrev pub line_of : Option ℕ → ℕ
+line_of None = 0
+line_of (Some n) = n
+
+-- what a running rank is at: the line of its next statement
+abbrev pub place_text : List ℕ → Option ℕ → List ℕ
+place_text lines None = codes "ended"
+place_text lines (Some number) = codes "at " ++ decimal (line_of (slice_get lines number))
+
+-- what a rank is doing, given its last call and the number of its next statement
+abbrev pub activity_text : List ℕ → CallId → Option ℕ → Activity → List ℕ
+activity_text lines last next Running = place_text lines next
+activity_text lines last next Blocked = codes "blocked " ++ decimal last.index
+activity_text lines last next (Trapped t) = codes "trapped " ++ trap_name t
+
+abbrev pub state_text : Program → World → ℕ → RankWorld → List ℕ
+state_text s w p r = activity_text s.lines (last_call w p) (first_number r.rest) r.activity
+
+abbrev pub rank_text_of : Program → World → ℕ → Option RankWorld → List ℕ
+rank_text_of s w p None = []
+rank_text_of s w p (Some r) = state_text s w p r
+
+abbrev pub rank_text : Program → World → ℕ → List ℕ
+rank_text s w p = rank_text_of s w p (slice_get w.ranks p)
+
+-- ---- match sets and outcomes
+
+abbrev pub set_text : MatchSet → List ℕ
+set_text (Pair s r) = codes "pair " ++ id_text s ++ 32 ∷ id_text r
+set_text (Woke c) = codes "woke " ++ id_text c
+set_text Barrier = codes "barrier"
+
+abbrev pub trapped_text : TrappedRank → List ℕ
+trapped_text t = decimal t.rank ++ 32 ∷ trap_name t.trap
+
+abbrev pub outcome_text : Outcome → List ℕ
+outcome_text ending.Done = codes "done"
+outcome_text (ending.Leftovers calls) = codes "leftovers" ++ spaced id_text calls
+outcome_text (ending.Deadlock calls) = codes "deadlock" ++ spaced id_text calls
+outcome_text (ending.Trap traps) = codes "trap" ++ spaced trapped_text traps
+
+-- ---- the lines of `show`
+
+abbrev pub depth_line : ℕ → ℕ → List ℕ
+depth_line depth all = line (codes "depth " ++ decimal depth ++ codes " of " ++ decimal all)
+
+abbrev pub rank_line : Program → World → ℕ → List ℕ
+rank_line s w p = line (codes "rank " ++ decimal p ++ 32 ∷ rank_text s w p)
+
+abbrev pub values_line : List ℕ → List ℤ → List ℕ
+values_line name values = line (name ++ spaced signed_decimal values)
+
+-- a handle without a call is shown by a dash
+abbrev pub handle_text : Option ℕ → List ℕ
+handle_text None = codes "-"
+handle_text (Some i) = decimal i
+
+abbrev pub handles_line : List (Option ℕ) → List ℕ
+handles_line handles = line (codes "handles" ++ spaced handle_text handles)
+
+abbrev pub call_line : World → CallId → List ℕ
+call_line w c = line (codes "call " ++ id_text c ++ 32 ∷ call_text w c)
+
+abbrev pub call_lines : World → ℕ → List ℕ
+call_lines w p = flat_map (λ i. call_line w (call_id p i)) (call_numbers w p)
+
+-- what a rank holds
+abbrev pub cell_lines : Option RankWorld → List ℕ
+cell_lines None = []
+cell_lines (Some r) = values_line (codes "vars") r.vars ++ handles_line r.handles ++ values_line (codes "out") r.out
+
+abbrev pub rank_lines : Program → World → ℕ → List ℕ
+rank_lines s w p = rank_line s w p ++ cell_lines (slice_get w.ranks p) ++ call_lines w p
+
+-- a line of call numbers, where there are any
+abbrev pub numbers_line : List ℕ → List ℕ → List ℕ
+numbers_line name [] = []
+numbers_line name (i ∷ is) = line (name ++ 58 ∷ spaced decimal (i ∷ is))
+
+abbrev pub pending_line : World → ℕ → ℕ → List ℕ
+pending_line w p q = numbers_line (codes "pending " ++ decimal p ++ codes " to " ++ decimal q) (pending w p q)
+
+abbrev pub pending_lines : World → ℕ → List ℕ
+pending_lines w p = flat_map (pending_line w p) (rank_numbers w)
+
+abbrev pub posted_line : World → ℕ → List ℕ
+posted_line w q = numbers_line (codes "posted " ++ decimal q) (posted w q)
+
+abbrev pub set_line : MatchSet → List ℕ
+set_line m = line (codes "set " ++ set_text m)
+
+abbrev pub outcome_line : Option Outcome → List ℕ
+outcome_line None = []
+outcome_line (Some o) = line (codes "outcome " ++ outcome_text o)
+
+-- The text of `show`, given the depth and the number of all steps kept: the ranks, the free sends and the free receives, the
+-- match sets in the order formed, and the outcome where no step is enabled.
+abbrev pub show_text : Program → World → ℕ → ℕ → List ℕ
+show_text s w depth all =
+    depth_line depth all
+    ++ flat_map (rank_lines s w) (rank_numbers w)
+    ++ flat_map (pending_lines w) (rank_numbers w)
+    ++ flat_map (posted_line w) (rank_numbers w)
+    ++ flat_map set_line w.sets
+    ++ outcome_line (outcome w)
+    ++ line (codes "end")

@@ -1,0 +1,73 @@
+-- A trail: steps, of which the first so many are not undone, and the world that these lead to.
+use Rattle.std.specs.Prelude.{◌≡◌, ℕ, ◌+◌, ◌-◌, ◌≤◌, length, Bool, true, false, ◌&&◌, ◌==◌, if◌then◌else◌, List, [], ◌∷◌, ◌++◌, take, slice_get, Option, Some, None, refl}
+use Rattle.std.specs.Coded.{Coded, code_by, coded×, coded_ℕ, coded_list}
+use Rattle.mpd_model.specs.declared.step.Step.{Step}
+use Rattle.mpd_model.specs.declared.step.Step.TheVariants.{Local, Match, Wake, Release}
+use Rattle.mpd_model.specs.declared.call.Mode.{Mode}
+use Rattle.mpd_model.specs.contracts.step.Step as step_row
+use Rattle.mpd_model.specs.contracts.call.Mode as mode_row
+use Rattle.mpd_model.specs.Program.{Program, program_code}
+use Rattle.mpd_model.specs.World.{World, world_code, start, id_eq}
+use Rattle.mpd_model.specs.Next.{fold}
+
+pub record Trail : Type 0 where
+  pub program : Program
+  pub mode : Mode
+  -- all steps kept, undone ones included, and how many of them are not undone
+  pub steps : List Step
+  pub depth : ℕ
+
+abbrev pub opening : Program → Mode → Trail
+opening s mode = record { program = s; mode = mode; steps = []; depth = 0 }
+
+-- the steps not undone, and where they lead
+abbrev pub kept : Trail → List Step
+kept t = take t.depth t.steps
+
+abbrev pub world_of : Trail → Option World
+world_of t = fold (start t.program t.mode) (kept t)
+
+abbrev pub step_eq : Step → Step → Bool
+step_eq (Local p) (Local q) = p == q
+step_eq (Match s r) (Match u v) = id_eq s u && id_eq r v
+step_eq (Wake p) (Wake q) = p == q
+step_eq Release Release = true
+step_eq (Local p) b = false
+step_eq (Match s r) b = false
+step_eq (Wake p) b = false
+step_eq Release b = false
+
+abbrev pub is_step : Option Step → Step → Bool
+is_step None a = false
+is_step (Some b) a = step_eq b a
+
+-- A step that stands there already is taken again, and those behind it stay; another drops them all.
+abbrev pub noted : List Step → ℕ → Step → List Step
+noted steps depth a = if is_step (slice_get steps depth) a then steps else take depth steps ++ a ∷ []
+
+abbrev pub applied : Trail → Step → Trail
+applied t a = record t { steps = noted t.steps t.depth a; depth = t.depth + 1 }
+
+abbrev pub taken_back : Trail → Trail
+taken_back t = record t { depth = t.depth - 1 }
+
+-- where a debugger stands: its trail, and the world of that trail
+pub record Standing : Type 0 where
+  pub trail : Trail
+  pub world : World
+
+-- The world is where the steps not undone lead, and so many steps there are.
+pub record IsReached (s : Standing) : Type 0 where
+  pub world : world_of s.trail ≡ Some s.world
+  pub within : s.trail.depth ≤ length s.trail.steps
+
+abbrev pub first_standing : Program → Mode → Standing
+first_standing s mode = record { trail = opening s mode; world = start s mode }
+
+abbrev pub trail_code : Coded Trail
+trail_code =
+    code_by (Program × (Mode × (List Step × ℕ))) (coded× program_code (coded× mode_row.the_row.coded (coded× (coded_list step_row.the_row.coded) coded_ℕ)))
+    (λ t. (t.program, (t.mode, (t.steps, t.depth)))) (λ q. record { program = q.0; mode = q.1.0; steps = q.1.1.0; depth = q.1.1.1 }) (λ _. refl)
+
+abbrev pub standing_code : Coded Standing
+standing_code = code_by (Trail × World) (coded× trail_code world_code) (λ s. (s.trail, s.world)) (λ q. record { trail = q.0; world = q.1 }) (λ _. refl)

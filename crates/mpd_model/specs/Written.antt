@@ -1,0 +1,121 @@
+-- The grammar as relations: which tokens write what, whatever limits there are and in whatever order they are read.
+use Rattle.std.specs.Prelude.{◌≡◌, ℕ, suc, ◌≤◌, pos, ℤ, List, [], ◌∷◌, ◌++◌, length, Option, Some, None, if◌then◌else◌, ◌==◌, Ok}
+use Rattle.mpd_model.specs.declared.expr.BinaryOp.{BinaryOp}
+use Rattle.mpd_model.specs.declared.place.DeclKind.TheVariants.{Variable}
+use Rattle.mpd_model.specs.declared.place.Place.{Place}
+use Rattle.mpd_model.specs.declared.slot.Slot.{Slot}
+use Rattle.mpd_model.specs.declared.token.Mark.TheVariants as m
+use Rattle.mpd_model.specs.declared.token.Token.TheVariants.{Number, Name, Is}
+use Rattle.mpd_model.specs.Declaration.{Declared}
+use Rattle.mpd_model.specs.Grammar.{operator_at, place_of_slot}
+use Rattle.mpd_model.specs.Input.{Input, Parser, slot_in}
+use Rattle.mpd_model.specs.Program.{Program}
+use Rattle.mpd_model.specs.Term.{Term, lit, own_rank, size, cell, op2}
+use Rattle.mpd_model.specs.Tokens.{Spot}
+use Rattle.mpd_model.specs.Tree.{Tree, print, send, recv, branch, no_more, block_of}
+
+-- ---- expressions, by how loosely they bind
+
+-- the token is the name of the variable with that place
+pub record Names (ds : List Declared) (s : Spot) (p : Place) : Type 0 where
+  pub token : s.token ≡ Name
+  pub slot : Slot
+  pub declared : slot_in ds s.text ≡ Some slot
+  pub kind : slot.kind ≡ Variable
+  pub place : place_of_slot slot ≡ p
+
+-- Operators group to the left: what stands to the left of one may be of its own level, but for comparisons, which don't chain.
+abbrev pub left_level : ℕ → ℕ
+left_level k = if k == 2 then 2 else suc k
+
+pub data Written (ds : List Declared) : ℕ → List Spot → Term → Type 0 where
+  number : (s : Spot) (n : ℤ) → s.token ≡ Number n → Written ds 0 (s ∷ []) (lit n)
+  rank : (s : Spot) → s.token ≡ Is m.Rank → Written ds 0 (s ∷ []) own_rank
+  ranks : (s : Spot) → s.token ≡ Is m.Size → Written ds 0 (s ∷ []) size
+  name : (s : Spot) (p : Place) → Names ds s p → Written ds 0 (s ∷ []) (cell p)
+  round : (a b : Spot) (ss : List Spot) (t : Term) → a.token ≡ Is m.RoundOpen → b.token ≡ Is m.RoundClose
+    → Written ds 5 ss t → Written ds 0 (a ∷ ss ++ b ∷ []) t
+  higher : (k : ℕ) (ss : List Spot) (t : Term) → Written ds k ss t → Written ds (suc k) ss t
+  joins : (k : ℕ) (l r : List Spot) (o : Spot) (op : BinaryOp) (a b : Term) → operator_at (suc k) o.token ≡ Some op
+    → Written ds (left_level k) l a → Written ds k r b → Written ds (suc k) (l ++ o ∷ r) (op2 op a b)
+
+-- the tokens between two states of the input write the term, and nothing else has changed
+pub record Takes (k : ℕ) (t : Term) (i j : Input) : Type 0 where
+  pub used : List Spot
+  pub is : i.tokens ≡ used ++ j.tokens
+  pub written : Written i.decls k used t
+  pub decls : j.decls ≡ i.decls
+  pub lines : j.lines ≡ i.lines
+
+-- a parser that reads only what is written at a level
+abbrev pub IsSound : ℕ → Parser Term → Type 0
+IsSound k p = (i j : Input) (t : Term) → p i ≡ Ok (t, j) → Takes k t i j
+
+-- ---- statements, with the line of each: that of its first token, in text order
+
+mutual
+  pub data WrittenTree (ds : List Declared) : List Spot → Tree → List ℕ → Type 0 where
+    prints : (k end : Spot) (e : List Spot) (t : Term)
+      → k.token ≡ Is m.Print → Written ds 5 e t → end.token ≡ Is m.Semicolon
+      → WrittenTree ds (k ∷ e ++ end ∷ []) (print t) (k.line ∷ [])
+    sends : (k to tag end : Spot) (a b c : List Spot) (value dest mark : Term)
+      → k.token ≡ Is m.Send → Written ds 5 a value → to.token ≡ Is m.To → Written ds 5 b dest → tag.token ≡ Is m.Tag → Written ds 5 c mark → end.token ≡ Is m.Semicolon
+      → WrittenTree ds (k ∷ a ++ to ∷ b ++ tag ∷ c ++ end ∷ []) (send value dest mark) (k.line ∷ [])
+    receives : (k n from tag end : Spot) (a b : List Spot) (into : Place) (source mark : Term)
+      → k.token ≡ Is m.Recv → Names ds n into → from.token ≡ Is m.From → Written ds 5 a source → tag.token ≡ Is m.Tag → Written ds 5 b mark → end.token ≡ Is m.Semicolon
+      → WrittenTree ds (k ∷ n ∷ from ∷ a ++ tag ∷ b ++ end ∷ []) (recv into source mark) (k.line ∷ [])
+    chooses : (k : Spot) (e a : List Spot) (t : Term) (x : List Tree) (ls : List ℕ)
+      → k.token ≡ Is m.If → Written ds 5 e t → WrittenBlock ds a x ls
+      → WrittenTree ds (k ∷ e ++ a) (branch t (block_of x) no_more) (k.line ∷ ls)
+    chooses_else : (k w : Spot) (e a b : List Spot) (t : Term) (x y : List Tree) (ls ms : List ℕ)
+      → k.token ≡ Is m.If → Written ds 5 e t → WrittenBlock ds a x ls → w.token ≡ Is m.Else → WrittenBlock ds b y ms
+      → WrittenTree ds (k ∷ e ++ a ++ w ∷ b) (branch t (block_of x) (block_of y)) (k.line ∷ ls ++ ms)
+
+  pub data WrittenBlock (ds : List Declared) : List Spot → List Tree → List ℕ → Type 0 where
+    braces : (a b : Spot) (ss : List Spot) (ts : List Tree) (ls : List ℕ)
+      → a.token ≡ Is m.BraceOpen → WrittenBody ds ss ts ls → b.token ≡ Is m.BraceClose
+      → WrittenBlock ds (a ∷ ss ++ b ∷ []) ts ls
+
+  pub data WrittenBody (ds : List Declared) : List Spot → List Tree → List ℕ → Type 0 where
+    ended : WrittenBody ds [] [] []
+    follows : (ss rs : List Spot) (t : Tree) (ts : List Tree) (ls ms : List ℕ)
+      → WrittenTree ds ss t ls → WrittenBody ds rs ts ms
+      → WrittenBody ds (ss ++ rs) (t ∷ ts) (ls ++ ms)
+
+-- the tokens between two states of the input write something, whose statements are on the lines that were noted
+pub record TakesLines (Writes : List Declared → List Spot → List ℕ → Type 0) (i j : Input) : Type 0 where
+  pub used : List Spot
+  pub begun : List ℕ
+  pub is : i.tokens ≡ used ++ j.tokens
+  pub written : Writes i.decls used begun
+  pub decls : j.decls ≡ i.decls
+  pub lines : j.lines ≡ i.lines ++ begun
+
+abbrev pub TakesTree : Tree → Input → Input → Type 0
+TakesTree t = TakesLines (λ ds ss ls. WrittenTree ds ss t ls)
+
+abbrev pub TakesBlock : List Tree → Input → Input → Type 0
+TakesBlock ts = TakesLines (λ ds ss ls. WrittenBlock ds ss ts ls)
+
+abbrev pub TakesBody : List Tree → Input → Input → Type 0
+TakesBody ts = TakesLines (λ ds ss ls. WrittenBody ds ss ts ls)
+
+-- ---- a whole script
+
+abbrev pub variable_of : List ℕ → Declared
+variable_of bytes = record { kind = Variable; name = bytes; size = None }
+
+-- the tokens bring declarations behind those that stand before them, each with a new name
+pub data WrittenDecls : List Declared → List Spot → List Declared → Type 0 where
+  none : (ds : List Declared) → WrittenDecls ds [] ds
+  declares : (ds es : List Declared) (v n end : Spot) (ss : List Spot)
+    → v.token ≡ Is m.Var → n.token ≡ Name → slot_in ds n.text ≡ None → end.token ≡ Is m.Semicolon
+    → WrittenDecls (ds ++ variable_of n.text ∷ []) ss es
+    → WrittenDecls ds (v ∷ n ∷ end ∷ ss) es
+
+pub data WrittenScript : List Spot → Program → Type 0 where
+  script : (mpd version a ranks count b : Spot) (ss rs : List Spot) (p : Program)
+    → mpd.token ≡ Is m.Mpd → version.token ≡ Number (pos p.version) → a.token ≡ Is m.Semicolon
+    → ranks.token ≡ Is m.Ranks → count.token ≡ Number (pos p.ranks) → b.token ≡ Is m.Semicolon
+    → WrittenDecls [] ss p.decls → WrittenBody p.decls rs p.body p.lines
+    → WrittenScript (mpd ∷ version ∷ a ∷ ranks ∷ count ∷ b ∷ ss ++ rs) p

@@ -1,0 +1,89 @@
+//! How a run has ended.
+
+ghost use Rattle.std.specs.Prelude.{◌≡◌};
+
+use crate::call::Trap;
+use crate::step::CallId;
+use std::marker::Model;
+
+/// A rank that is trapped, and why.
+#[derive(Clone, Copy, Debug, PartialEq, Eq)]
+pub struct TrappedRank {
+    pub rank: usize,
+    pub trap: Trap,
+}
+
+/// Calls by rank and number, which contracts see as a list.
+#[derive(Debug, Drop)]
+pub struct CallList {
+    items: Vec<CallId>,
+}
+
+impl Model for CallList {
+    ghost use Rattle.std.specs.Prelude.{List};
+    ghost use Rattle.mpd_model.specs.declared.step.CallId.{CallId};
+
+    ghost Value = { List CallId };
+
+    ghost view = { λ l. l.items.items };
+}
+
+impl CallList {
+    /// The list of these calls. It takes no memory.
+    pub fn new(items: Vec<CallId>) -> CallList
+        ensures { result ≡ items.items }
+    {
+        CallList { items }
+    }
+
+    /// The calls, in order.
+    pub fn as_slice(&self) -> &[CallId]
+        ensures { result.now ≡ self.now }
+    {
+        &self.items
+    }
+}
+
+/// Trapped ranks in ascending order, which contracts see as a list.
+#[derive(Debug, Drop)]
+pub struct TrapList {
+    items: Vec<TrappedRank>,
+}
+
+impl Model for TrapList {
+    ghost use Rattle.std.specs.Prelude.{List};
+    ghost use Rattle.mpd_model.specs.declared.outcome.TrappedRank.{TrappedRank};
+
+    ghost Value = { List TrappedRank };
+
+    ghost view = { λ l. l.items.items };
+}
+
+impl TrapList {
+    /// The list of these ranks. It takes no memory.
+    pub fn new(items: Vec<TrappedRank>) -> TrapList
+        ensures { result ≡ items.items }
+    {
+        TrapList { items }
+    }
+
+    /// The ranks with their traps, in order.
+    pub fn as_slice(&self) -> &[TrappedRank]
+        ensures { result.now ≡ self.now }
+    {
+        &self.items
+    }
+}
+
+/// What a state is in which no step is enabled (docs/DEFINITIONS.md, "Outcomes").
+#[derive(Debug, Drop)]
+pub enum Outcome {
+    /// Every rank has ended, and no call is free.
+    Done,
+    /// Every rank has ended, and these calls are still free.
+    Leftovers(CallList),
+    /// These ranks' last calls block them.
+    Deadlock(CallList),
+    /// These ranks are trapped.
+    Trap(TrapList),
+}

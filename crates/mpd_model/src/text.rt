@@ -1,0 +1,97 @@
+//! Printed texts that need no state (docs/FORMATS.md, "Text of show").
+
+ghost use Rattle.std.specs.Prelude.{◌≡◌, ◌++◌, IfOk, OnOk, string_bytes, codes};
+ghost use Rattle.mpd_model.specs.Texts.{id_text, kind_text, trap_name, set_text, trapped_text, outcome_text, spaced};
+
+use crate::call::{CallKind, MatchSet, Trap};
+use crate::outcome::{Outcome, TrappedRank};
+use crate::step::CallId;
+use std::alloc::{AllocError, Global};
+use std::fmt;
+
+impl fmt::Display for CallId {
+    ghost use Rattle.std.specs.Prelude.{Some};
+
+    ghost output = { λ c. Some (id_text c) };
+
+    fn fmt<W: fmt::Write>(&self, f: &mut fmt::Formatter<W>) -> fmt::Result {
+        write!(f, "{}.{}", self.rank, self.index)
+    }
+}
+
+impl fmt::Display for CallKind {
+    ghost use Rattle.std.specs.Prelude.{Some};
+
+    ghost output = { λ k. Some (kind_text k) };
+
+    fn fmt<W: fmt::Write>(&self, f: &mut fmt::Formatter<W>) -> fmt::Result {
+        match *self {
+            CallKind::Send { to, tag, value } => write!(f, "send to {to} tag {tag} value {value}"),
+            CallKind::Recv { from, tag, .. } => write!(f, "recv from {from} tag {tag}"),
+        }
+    }
+}
+
+impl fmt::Display for MatchSet {
+    ghost use Rattle.std.specs.Prelude.{Some};
+
+    ghost output = { λ m. Some (set_text m) };
+
+    fn fmt<W: fmt::Write>(&self, f: &mut fmt::Formatter<W>) -> fmt::Result {
+        match *self {
+            MatchSet::Pair(send, receive) => write!(f, "pair {send} {receive}"),
+            MatchSet::Woke(call) => write!(f, "woke {call}"),
+            MatchSet::Barrier => write!(f, "barrier"),
+        }
+    }
+}
+
+impl Trap {
+    /// The name that outcomes and states show.
+    pub fn name(self) -> &'static str
+        ensures { result.now ≡ trap_name self }
+    {
+        match self {
+            Trap::BadRank => "bad-rank",
+            Trap::BadTag => "bad-tag",
+        }
+    }
+}
+
+/// How a run has ended, in one line without its end. An `Err` is want of memory.
+pub fn print_outcome(alloc: Global, outcome: &Outcome) -> Result<String, AllocError>
+    ensures { IfOk result (λ t. string_bytes t ≡ outcome_text outcome.now) }
+{
+    let mut out = String::new(alloc);
+    match outcome {
+        Outcome::Done => out.push_str("done")?,
+        Outcome::Leftovers(calls) => push_calls(&mut out, "leftovers", calls.as_slice())?,
+        Outcome::Deadlock(calls) => push_calls(&mut out, "deadlock", calls.as_slice())?,
+        Outcome::Trap(traps) => push_traps(&mut out, traps.as_slice())?,
+    }
+    Ok(out)
+}
+
+/// Adds a name, and calls with one space before each.
+fn push_calls(out: &mut String, name: &str, calls: &[CallId]) -> Result<(), AllocError>
+    ensures { OnOk result (string_bytes out.new ≡ string_bytes out.old ++ (name.now ++ spaced id_text calls.now)) }
+{
+    out.push_str(name)?;
+    for call in calls {
+        write!(out, " {call}")?;
+    }
+    Ok(())
+}
+
+/// Adds trapped ranks with their traps.
+fn push_traps(out: &mut String, traps: &[TrappedRank]) -> Result<(), AllocError>
+    ensures { OnOk result (string_bytes out.new ≡ string_bytes out.old ++ (codes "trap" ++ spaced trapped_text traps.now)) }
+{
+    out.push_str("trap")?;
+    for trapped in traps {
+        let rank = trapped.rank;
+        let name = trapped.trap.name();
+        write!(out, " {rank} {name}")?;
+    }
+    Ok(())
+}

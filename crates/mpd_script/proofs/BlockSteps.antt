@@ -1,0 +1,53 @@
+-- One step of each recursion of statements and declarations.
+use Rattle.std.proofs.Common.{◌≡◌, ℕ, suc, ◌+◌, ◌-◌, ◌<◌, ◌≤◌, Err, refl, arith, List, [], ◌∷◌, ◌++◌, Bool, true, if◌then◌else◌}
+use Rattle.mpd_model.specs.Tree.{Tree}
+use Rattle.mpd_model.specs.declared.read_fault.FaultCode.TheVariants.{TooDeep}
+use Rattle.mpd_model.specs.declared.place.DeclKind.TheVariants.{Variable}
+use Rattle.mpd_model.specs.declared.token.Mark.TheVariants as m
+use Rattle.mpd_model.specs.Input.{Parser, Input, token, sees, fail, refuse, refusal, ◌>>=◌, ◌>>◌, pure, eat, expect}
+use Rattle.mpd_model.specs.Grammar.{stmt, stmts, body, closes, block, decl, decls_from}
+
+stmts_none : (b : Parser (List Tree)) (inside : Bool) (n : ℕ) (found : List Tree) (i : Input) → n ≡ 0 → stmts b inside n found i ≡ Err (refusal i)
+unfolding stmts
+stmts_none b inside n found i e = rw e refl
+
+stmts_some : (b : Parser (List Tree)) (inside : Bool) (n k : ℕ) (found : List Tree) (i : Input) → n ≡ suc k
+    → stmts b inside n found i ≡ (if closes inside (token i) then pure found else (do s ← stmt b; stmts b inside k (found ++ s ∷ []))) i
+unfolding stmts
+stmts_some b inside n k found i e = rw e refl
+
+pub stmts_more : (b : Parser (List Tree)) (inside : Bool) (n at : ℕ) (found : List Tree) (i : Input) → at < n
+    → stmts b inside (n - at) found i ≡ (if closes inside (token i) then pure found else (do s ← stmt b; stmts b inside (n - (at + 1)) (found ++ s ∷ []))) i
+stmts_more b inside n at found i h = stmts_some b inside (n - at) (n - (at + 1)) found i (omega arith)
+
+pub stmts_done : (b : Parser (List Tree)) (inside : Bool) (n at : ℕ) (found : List Tree) (i : Input) → n ≤ at → stmts b inside (n - at) found i ≡ Err (refusal i)
+stmts_done b inside n at found i h = stmts_none b inside (n - at) found i (omega arith)
+
+pub block_none : (n : ℕ) (i : Input) → n ≡ 0 → block n i ≡ (if sees m.BraceOpen i then fail TooDeep i else refuse i)
+unfolding block
+block_none n i e = rw e refl
+
+block_some : (n k : ℕ) (i : Input) → n ≡ suc k → block n i ≡ (do expect m.BraceOpen; found ← body (block k) true; expect m.BraceClose; pure found) i
+unfolding block
+block_some n k i e = rw e refl
+
+pub block_more : (n : ℕ) (i : Input) → 0 < n → block n i ≡ (do expect m.BraceOpen; found ← body (block (n - 1)) true; expect m.BraceClose; pure found) i
+block_more n i h = block_some n (n - 1) i (omega arith)
+
+decls_none : (n : ℕ) (i : Input) → n ≡ 0 → decls_from n i ≡ Err (refusal i)
+unfolding decls_from
+decls_none n i e = rw e refl
+
+decls_some : (n k : ℕ) (i : Input) → n ≡ suc k → decls_from n i ≡ (do found ← eat m.Var; if found then decl Variable >> decls_from k else pure tt) i
+unfolding decls_from
+decls_some n k i e = rw e refl
+
+pub decls_more : (n at : ℕ) (i : Input) → at < n → decls_from (n - at) i ≡ (do found ← eat m.Var; if found then decl Variable >> decls_from (n - (at + 1)) else pure tt) i
+decls_more n at i h = decls_some (n - at) (n - (at + 1)) i (omega arith)
+
+pub decls_done : (n at : ℕ) (i : Input) → n ≤ at → decls_from (n - at) i ≡ Err (refusal i)
+decls_done n at i h = decls_none (n - at) i (omega arith)
+
+pub ruleset turning = (stmts_more, stmts_done)
+pub ruleset depths = (block_none, block_more)
+pub ruleset declaring = (decls_more, decls_done)

@@ -1,0 +1,272 @@
+-- What the grammar's functions read as an expression is written so.
+use Rattle.std.proofs.Common.{◌≡◌, ◌≢◌, ℕ, zero, suc, ◌≤◌, ◌==◌, Bool, true, false, cond, List, [], ◌∷◌, ◌++◌, Option, Some, None, Ok, Err, refl, ap, sym, ◌∙◌, append_assoc, arith, rules, inl, inr}
+use Rattle.std.proofs.lemmas.Bool.{cases_Bool}
+use Rattle.std.proofs.lemmas.Bool.Decides.{nat_tests}
+use denote.Enum.Bare.{same_true}
+use Rattle.mpd_model.specs.contracts.token.Mark.{the_type}
+use Rattle.mpd_model.specs.declared.expr.BinaryOp.{BinaryOp}
+use Rattle.mpd_model.specs.declared.place.DeclKind.{DeclKind}
+use Rattle.mpd_model.specs.declared.place.DeclKind.TheVariants.{Variable, Handle}
+use Rattle.mpd_model.specs.declared.place.Place.{Place}
+use Rattle.mpd_model.specs.declared.read_fault.FaultCode.TheVariants.{UnknownName}
+use Rattle.mpd_model.specs.declared.read_fault.ReadFault.{ReadFault}
+use Rattle.mpd_model.specs.declared.slot.Slot.{Slot}
+use Rattle.mpd_model.specs.declared.token.Mark.{Mark}
+use Rattle.mpd_model.specs.declared.token.Mark.TheVariants as m
+use Rattle.mpd_model.specs.declared.token.Token.{Token}
+use Rattle.mpd_model.specs.declared.token.Token.TheVariants.{Number, Name, Is, Bad, End}
+use Rattle.mpd_model.specs.Grammar.{atom_by, atom, variable, place_inside, place_of_slot, rounds, chain, joined, level, expr, turns, operator_at}
+use Rattle.mpd_model.specs.Input.{Input, Outcome, Parser, and_then, token, token_of, text_of, spelling, next, behind, spend, expect, sees, is_mark, same_mark, same_kind, sought, seek, slot_in, pure, fail}
+use Rattle.mpd_model.specs.Term.{Term, lit, own_rank, size, cell, op2}
+use Rattle.mpd_model.specs.Tokens.{Spot}
+use Rattle.mpd_model.specs.Written.{Names, Written, number, rank, ranks, name, round, higher, joins, Takes, IsSound, left_level}
+
+-- ---- what a success of a step says
+
+pub bind_ok : {A B : Type 0} (o : Outcome A) (f : A → Parser B) (y : B × Input) → and_then o f ≡ Ok y → (x : A × Input) × (o ≡ Ok x) × (f x.0 x.1 ≡ Ok y)
+bind_ok (Ok p) f y h = (p, refl, h)
+bind_ok (Err e) f y h = absurd (cc)
+
+abbrev pub ok_of : {A : Type 0} → A × Input → Outcome A
+ok_of x = Ok x
+
+pub ok_parts : {A : Type 0} (x y : A × Input) → ok_of x ≡ ok_of y → (x.0 ≡ y.0) × (x.1 ≡ y.1)
+ok_parts x y h = let e : x ≡ y = cc in (ap (λ p. p.0) e, ap (λ p. p.1) e)
+
+pub guard_ok : {A : Type 0} (b : Bool) (e : ReadFault) (x y : A × Input) → cond b (Err e) (Ok x) ≡ Ok y → x ≡ y
+guard_ok true e x y h = absurd (cc)
+guard_ok false e x y h = cc
+
+pub test_ok : {A : Type 0} (b : Bool) (e : ReadFault) (x y : A × Input) → cond b (Ok x) (Err e) ≡ Ok y → (b ≡ true) × (x ≡ y)
+test_ok true e x y h = (refl, cc)
+test_ok false e x y h = absurd (cc)
+
+pub first_spot : (ss : List Spot) → token_of ss ≢ End → (s : Spot) × (ss ≡ s ∷ behind ss) × (s.token ≡ token_of ss) × (s.text ≡ text_of ss)
+first_spot [] h = absurd (h refl)
+first_spot (s ∷ ss) h = (s, refl, refl, refl)
+
+-- what holds of what was read, under its other name
+pub carried : {A : Type 0} (P : A → Input → Type 0) (a b : A) (k j : Input) → a ≡ b → k ≡ j → P a k → P b j
+carried P a b k j e f x = rw (← e, ← f) x
+
+-- ---- the tokens between two states of the input, where nothing else has changed
+
+pub record Moves (used : List Spot) (i j : Input) : Type 0 where
+  pub is : i.tokens ≡ used ++ j.tokens
+  pub decls : j.decls ≡ i.decls
+  pub lines : j.lines ≡ i.lines
+
+pub no_move : (i j : Input) → i ≡ j → Moves [] i j
+no_move i j e = record { is = ap (λ k. k.tokens) e; decls = sym (ap (λ k. k.decls) e); lines = sym (ap (λ k. k.lines) e) }
+
+pub then_moves : (a b : List Spot) (i j k : Input) → Moves a i j → Moves b j k → Moves (a ++ b) i k
+then_moves a b i j k x y = record {
+  is = x.is ∙ ap (λ r. a ++ r) y.is ∙ sym (append_assoc a b k.tokens);
+  decls = y.decls ∙ x.decls;
+  lines = y.lines ∙ x.lines;
+}
+
+-- one token on, by its spot
+pub record Step (i j : Input) : Type 0 where
+  pub spot : Spot
+  pub moves : Moves (spot ∷ []) i j
+  pub token : spot.token ≡ token i
+  pub text : spot.text ≡ spelling i
+
+pub step : (i j : Input) → token i ≢ End → j.tokens ≡ behind i.tokens → j.decls ≡ i.decls → j.lines ≡ i.lines → Step i j
+unfolding token spelling
+step i j some a b c =
+    let f = first_spot i.tokens some in
+    record { spot = f.0; moves = record { is = f.1 ∙ ap (λ r. f.0 ∷ r) (sym a); decls = b; lines = c }; token = f.2; text = f.3 }
+
+pub next_step : (i j : Input) → token i ≢ End → j ≡ next i → Step i j
+unfolding next
+next_step i j some e = step i j some (ap (λ k. k.tokens) e) (ap (λ k. k.decls) e) (ap (λ k. k.lines) e)
+
+pub spend_ok : (i : Input) (y : Unit {0} × Input) → spend i ≡ Ok y → (y.1.tokens ≡ behind i.tokens) × (y.1.decls ≡ i.decls) × (y.1.lines ≡ i.lines)
+unfolding spend next
+spend_ok i y h =
+    let e = guard_ok (i.budget == 0) _ _ y h in
+    (sym (ap (λ p. p.1.tokens) e), sym (ap (λ p. p.1.decls) e), sym (ap (λ p. p.1.lines) e))
+
+pub spend_step : (i : Input) (y : Unit {0} × Input) → token i ≢ End → spend i ≡ Ok y → Step i y.1
+spend_step i y some h = let s = spend_ok i y h in step i y.1 some s.0 s.1 s.2
+
+mark_is : (wanted : Mark) (t : Token) → is_mark wanted t ≡ true → t ≡ Is wanted
+unfolding same_mark
+mark_is wanted (Is k) h = ap Is (same_true the_type (search rules) k wanted h)
+mark_is wanted (Number n) h = absurd (cc)
+mark_is wanted Name h = absurd (cc)
+mark_is wanted Bad h = absurd (cc)
+mark_is wanted End h = absurd (cc)
+
+pub sees_is : (wanted : Mark) (i : Input) → sees wanted i ≡ true → token i ≡ Is wanted
+unfolding sees
+sees_is wanted i h = mark_is wanted (token i) h
+
+pub expect_ok : (wanted : Mark) (i : Input) (y : Unit {0} × Input) → expect wanted i ≡ Ok y → (token i ≡ Is wanted) × (y.1 ≡ next i)
+unfolding expect
+expect_ok wanted i y h =
+    let e = test_ok (sees wanted i) _ _ y h in
+    (sees_is wanted i e.0, sym (ap (λ p. p.1) e.1))
+
+-- a mark that was expected is there
+pub expect_step : (wanted : Mark) (i : Input) (y : Unit {0} × Input) → expect wanted i ≡ Ok y → (s : Step i y.1) × (s.spot.token ≡ Is wanted)
+expect_step wanted i y h =
+    let e = expect_ok wanted i y h in
+    let s = next_step i y.1 (λ x. absurd (cc)) e.1 in
+    (s, s.token ∙ e.0)
+
+-- ---- names
+
+sought_case : (k : DeclKind) (s : Slot) (i : Input) (y : Slot × Input) → s.kind ≡ k → cond (same_kind Variable k) (pure s) (fail UnknownName) i ≡ Ok y
+    → (s ≡ y.0) × (s.kind ≡ Variable) × (i ≡ y.1)
+sought_case Variable s i y e h = let o = ok_parts (s, i) y h in (o.0, e, o.1)
+sought_case Handle s i y e h = absurd (cc)
+
+sought_ok : (o : Option Slot) (i : Input) (y : Slot × Input) → sought Variable o i ≡ Ok y → (o ≡ Some y.0) × (y.0.kind ≡ Variable) × (i ≡ y.1)
+sought_ok None i y h = absurd (cc)
+sought_ok (Some s) i y h = let c = sought_case s.kind s i y refl h in (ap Some c.0, sym (ap (λ t. t.kind) c.0) ∙ c.1, c.2)
+
+seek_ok : (i : Input) (y : Slot × Input) → seek Variable i ≡ Ok y → (slot_in i.decls (spelling i) ≡ Some y.0) × (y.0.kind ≡ Variable) × (i ≡ y.1)
+unfolding seek
+seek_ok i y h = sought_ok (slot_in i.decls (spelling i)) i y h
+
+-- a variable's name
+pub variable_step : (i j : Input) (p : Place) → token i ≡ Name → variable i ≡ Ok (p, j) → (s : Step i j) × Names i.decls s.spot p
+unfolding variable
+variable_step i j p e h =
+    let b = bind_ok (seek Variable i) _ (p, j) h in
+    let k = seek_ok i b.0 b.1 in
+    let o = ok_parts (place_of_slot b.0.0, next b.0.1) (p, j) b.2 in
+    let s = next_step i j (λ x. absurd (cc)) (sym o.1 ∙ ap next (sym k.2)) in
+    (s, record { token = s.token ∙ e; slot = b.0.0; declared = ap (slot_in i.decls) s.text ∙ k.0; kind = k.1; place = o.0 })
+
+-- ---- expressions
+
+-- what is written between two states
+pub takes : (k : ℕ) (t : Term) (used : List Spot) (i j : Input) → Moves used i j → Written i.decls k used t → Takes k t i j
+takes k t used i j x w = record { used = used; is = x.is; written = w; decls = x.decls; lines = x.lines }
+
+pub moves_of : (k : ℕ) (t : Term) (i j : Input) (x : Takes k t i j) → Moves x.used i j
+moves_of k t i j x = record { is = x.is; decls = x.decls; lines = x.lines }
+
+-- one token writes the term
+one : (t : Term) (i j : Input) (s : Step i j) → Written i.decls 0 (s.spot ∷ []) t → Takes 0 t i j
+one t i j s w = takes 0 t (s.spot ∷ []) i j s.moves w
+
+renamed : (t t' : Term) (i j : Input) → t ≡ t' → Takes 0 t i j → Takes 0 t' i j
+renamed t t' i j e x = rw (← e) x
+
+round_takes : (i x1 x2 j : Input) (t : Term) → token i ≡ Is m.RoundOpen → Step i x1 → Takes 5 t x1 x2 → (c : Step x2 j) → c.spot.token ≡ Is m.RoundClose → Takes 0 t i j
+round_takes i x1 x2 j t e a tk c d =
+    takes 0 t (a.spot ∷ tk.used ++ c.spot ∷ []) i j
+    (then_moves (a.spot ∷ []) (tk.used ++ c.spot ∷ []) i x1 j a.moves (then_moves tk.used (c.spot ∷ []) x1 x2 j (moves_of 5 t x1 x2 tk) c.moves))
+    (round a.spot c.spot tk.used t (a.token ∙ e) d (rw (← a.moves.decls) tk.written))
+
+rounds_sound : (p : ℕ → Parser Term) → IsSound 5 (p 5) → (i j : Input) (t : Term) → token i ≡ Is m.RoundOpen → rounds p i ≡ Ok (t, j) → Takes 0 t i j
+unfolding rounds
+rounds_sound p s i j t e h =
+    let b = bind_ok (spend i) _ (t, j) h in
+    let c = bind_ok (p 5 b.0.1) _ (t, j) b.2 in
+    let d = bind_ok (expect m.RoundClose c.0.1) _ (t, j) c.2 in
+    let o = ok_parts (c.0.0, d.0.1) (t, j) d.2 in
+    let x = expect_step m.RoundClose c.0.1 d.0 d.1 in
+    carried (λ t j. Takes 0 t i j) _ _ _ _ o.0 o.1 (round_takes i b.0.1 c.0.1 d.0.1 c.0.0 e (spend_step i b.0 (λ x. absurd (cc)) b.1) (s b.0.1 c.0.1 c.0.0 c.1) x.0 x.1)
+
+name_sound : (p : ℕ → Parser Term) (i j : Input) (t : Term) → token i ≡ Name → place_inside p i ≡ Ok (t, j) → Takes 0 t i j
+unfolding place_inside
+name_sound p i j t e h =
+    let b = bind_ok (variable i) _ (t, j) h in
+    let v = variable_step i b.0.1 b.0.0 e b.1 in
+    let o = ok_parts (cell b.0.0, b.0.1) (t, j) b.2 in
+    carried (λ t j. Takes 0 t i j) _ _ _ _ o.0 o.1 (one (cell b.0.0) i b.0.1 v.0 (name v.0.spot b.0.0 v.1))
+
+simple : (i j : Input) (t t' : Term) → token i ≢ End → ok_of (t, next i) ≡ Ok (t', j) → ((s : Spot) → s.token ≡ token i → Written i.decls 0 (s ∷ []) t) → Takes 0 t' i j
+simple i j t t' some h w =
+    let o = ok_parts (t, next i) (t', j) h in
+    let s = next_step i j some (sym o.1) in
+    renamed t t' i j o.0 (one t i j s (w s.spot s.token))
+
+atom_case : (p : ℕ → Parser Term) → IsSound 5 (p 5) → (tk : Token) (i j : Input) (t : Term) → token i ≡ tk → atom_by p tk i ≡ Ok (t, j) → Takes 0 t i j
+atom_case p s (Number n) i j t e h = simple i j (lit n) t (λ x. absurd (cc)) h (λ u a. number u n (a ∙ e))
+atom_case p s (Is m.Rank) i j t e h = simple i j own_rank t (λ x. absurd (cc)) h (λ u a. rank u (a ∙ e))
+atom_case p s (Is m.Size) i j t e h = simple i j size t (λ x. absurd (cc)) h (λ u a. ranks u (a ∙ e))
+atom_case p s Name i j t e h = name_sound p i j t e h
+atom_case p s (Is m.RoundOpen) i j t e h = rounds_sound p s i j t e h
+atom_case p s _ i j t e h = absurd (cc)
+
+atom_sound : (p : ℕ → Parser Term) → IsSound 5 (p 5) → IsSound 0 (atom p)
+unfolding atom
+atom_sound p s i j t h = atom_case p s (token i) i j t refl h
+
+no_operator : (k : ℕ) (op : BinaryOp) (t : Token) → t ≡ End → operator_at (suc k) t ≡ Some op → ⊥
+no_operator k op t e o = let f = rw e at o in absurd (cc)
+
+joined_takes : (k : ℕ) (op : BinaryOp) (i x y j : Input) (a b : Term) → Takes (left_level k) a i x → operator_at (suc k) (token x) ≡ Some op
+    → Step x y → Takes k b y j → Takes (suc k) (op2 op a b) i j
+joined_takes k op i x y j a b l o s r =
+    takes (suc k) (op2 op a b) (l.used ++ s.spot ∷ r.used) i j
+    (then_moves l.used (s.spot ∷ r.used) i x j (moves_of (left_level k) a i x l) (then_moves (s.spot ∷ []) r.used x y j s.moves (moves_of k b y j r)))
+    (joins k l.used r.used s.spot op a b (ap (operator_at (suc k)) s.token ∙ o) l.written (rw (← l.decls, ← s.moves.decls) r.written))
+
+raised : (k : ℕ) (t : Term) (i j : Input) → Takes k t i j → Takes (suc k) t i j
+raised k t i j x = record { used = x.used; is = x.is; written = higher k x.used t x.written; decls = x.decls; lines = x.lines }
+
+-- a left side that may stand before an operator of the level
+abbrev MayGoOn : ℕ → ℕ → Term → Input → Input → Type 0
+MayGoOn k n t i j = n ≢ 0 → Takes (left_level k) t i j
+
+ended : (k : ℕ) (i x j : Input) (left t : Term) → left ≡ t → x ≡ j → Takes (suc k) left i x → Takes (suc k) t i j
+ended k i x j left t a b h = rw (← a, ← b) h
+
+may_go : (k n : ℕ) (t : Term) (i j : Input) → (k ≡ 2 → suc n ≤ 1) → Takes (suc k) t i j → MayGoOn k n t i j
+may_go k n t i j few x some =
+    elim (cases_Bool (k == 2)) [
+      | inl is ↦ let e : k ≡ 2 = grind (arith, nat_tests) in let f = few e in absurd (some (omega arith))
+      | inr other ↦ rw other x
+    ]
+
+joined_case : (k : ℕ) (p : Parser Term) → IsSound k p → (n : ℕ) → (k ≡ 2 → suc n ≤ 1) → (left : Term) (i x j : Input) (t : Term) (o : Option BinaryOp)
+    → operator_at (suc k) (token x) ≡ o → Takes (suc k) left i x → Takes (left_level k) left i x
+    → ((l : Term) (y : Input) → Takes (suc k) l i y → MayGoOn k n l i y → chain p (suc k) n l y ≡ Ok (t, j) → Takes (suc k) t i j)
+    → joined (chain p (suc k) n) p left o x ≡ Ok (t, j) → Takes (suc k) t i j
+joined_case k p s n few left i x j t None is a b more h = let o = ok_parts (left, x) (t, j) h in ended k i x j left t o.0 o.1 a
+joined_case k p s n few left i x j t (Some op) is a b more h =
+    let c = bind_ok (spend x) _ (t, j) h in
+    let d = bind_ok (p c.0.1) _ (t, j) c.2 in
+    let st = spend_step x c.0 (λ e. no_operator k op (token x) e is) c.1 in
+    let whole = joined_takes k op i x c.0.1 d.0.1 left d.0.0 b is st (s c.0.1 d.0.1 d.0.0 d.1) in
+    more (op2 op left d.0.0) d.0.1 whole (may_go k n (op2 op left d.0.0) i d.0.1 few whole) d.2
+
+chain_sound : (k : ℕ) (p : Parser Term) → IsSound k p → (n : ℕ) → (k ≡ 2 → n ≤ 1) → (left : Term) (i x j : Input) (t : Term)
+    → Takes (suc k) left i x → MayGoOn k n left i x → chain p (suc k) n left x ≡ Ok (t, j) → Takes (suc k) t i j
+unfolding chain
+chain_sound k p s zero few left i x j t a b h = let o = ok_parts (left, x) (t, j) h in ended k i x j left t o.0 o.1 a
+chain_sound k p s (suc n) few left i x j t a b h =
+    joined_case k p s n few left i x j t (operator_at (suc k) (token x)) refl a (b (λ e. absurd (omega arith)))
+    (λ l y c d. chain_sound k p s n (λ e. let f = few e in omega arith) l i y j t c d) h
+
+first_left : (k n : ℕ) (t : Term) (i j : Input) → Takes k t i j → MayGoOn k n t i j
+first_left k n t i j x some =
+    elim (cases_Bool (k == 2)) [
+      | inl is ↦ let e : k ≡ 2 = grind (arith, nat_tests) in let y : Takes 2 t i j = rw e at x in rw is y
+      | inr other ↦ rw other (raised k t i j x)
+    ]
+
+few_turns : (k : ℕ) (i : Input) → k ≡ 2 → turns (suc k) i ≤ 1
+few_turns k i e = rw e (omega arith)
+
+level_sound : (p : ℕ → Parser Term) → IsSound 5 (p 5) → (k : ℕ) → IsSound k (level p k)
+unfolding level
+level_sound p s zero i j t h = atom_sound p s i j t h
+level_sound p s (suc k) i j t h =
+    let b = bind_ok (level p k i) _ (t, j) h in
+    let tk = level_sound p s k i b.0.1 b.0.0 b.1 in
+    chain_sound k (level p k) (level_sound p s k) (turns (suc k) b.0.1) (few_turns k b.0.1) b.0.0 i b.0.1 j t
+    (raised k b.0.0 i b.0.1 tk) (first_left k (turns (suc k) b.0.1) b.0.0 i b.0.1 tk) b.2
+
+pub expr_sound : (n k : ℕ) → IsSound k (expr n k)
+unfolding expr
+expr_sound zero k i j t h = absurd (cc)
+expr_sound (suc n) k i j t h = level_sound (expr n) (expr_sound n 5) k i j t h

@@ -1,0 +1,254 @@
+-- What the grammar's functions read as a script is written so, and keeps the limits.
+use Rattle.std.proofs.Common.{◌≡◌, ℕ, zero, suc, ◌+◌, ℤ, pos, negsuc, Bool, true, false, cond, ◌&&◌, nat_le, List, [], ◌∷◌, ◌++◌, length, Option, Some, None, Ok, Err, refl, ap, sym, ◌∙◌, arith}
+use Rattle.std.proofs.lemmas.Bool.Decides.{nat_tests}
+use Rattle.std.specs.Ordering.{int_eq}
+use Rattle.mpd_model.specs.declared.place.DeclKind.TheVariants.{Variable}
+use Rattle.mpd_model.specs.declared.read_fault.FaultCode.TheVariants.{NotInVersion, Twice, TooMany}
+use Rattle.mpd_model.specs.declared.read_fault.ReadFault.{ReadFault}
+use Rattle.mpd_model.specs.declared.slot.Slot.{Slot}
+use Rattle.mpd_model.specs.declared.token.Mark.TheVariants as m
+use Rattle.mpd_model.specs.declared.token.Token.{Token}
+use Rattle.mpd_model.specs.declared.token.Token.TheVariants.{Number, Name, Is}
+use Rattle.mpd_model.specs.Declaration.{Declared}
+use Rattle.mpd_model.specs.Faults.{fault}
+use Rattle.mpd_model.specs.Grammar.{version_by, version, rank_count, ranks_of, ranks_by, ranks, declaring, decl_by, decl, decls_from, decls, header, body, block}
+use Rattle.mpd_model.specs.Input.{Input, Parser, token, spelling, place, next, expect, sees, after, fresh, add, fits, is_known, slot_in, advance, fail, refuse, pure, left, ◌>>◌}
+use Rattle.mpd_model.specs.Tokens.{Spot}
+use Rattle.mpd_model.specs.Tree.{Tree, block_of, statements_in}
+use Rattle.mpd_model.specs.Written.{WrittenDecls, none, declares, variable_of}
+use Rattle.mpd_script.proofs.Counted.{body_lines}
+use Rattle.mpd_script.proofs.Sound.{bind_ok, ok_parts, carried, test_ok, Step, next_step, sees_is, expect_step}
+use Rattle.mpd_script.proofs.SoundStatements.{statements_sound}
+
+-- ---- the numbers of the header
+
+abbrev IsNumber : ℕ → (i j : Input) → Type 0
+IsNumber n i j = (s : Step i j) × (s.spot.token ≡ Number (pos n))
+
+number_step : (n : ℕ) (i j : Input) → token i ≡ Number (pos n) → j ≡ next i → IsNumber n i j
+number_step n i j e h = let s = next_step i j (λ x. absurd (cc)) h in (s, s.token ∙ e)
+
+is_one : (z : ℤ) → int_eq z (pos 1) ≡ true → z ≡ pos 1
+is_one (pos n) h = let e : n ≡ 1 = grind (arith, nat_tests) in ap pos e
+is_one (negsuc n) h = absurd (cc)
+
+version_test : (b : Bool) (i : Input) (y : Unit {0} × Input) → cond b advance (fail NotInVersion) i ≡ Ok y → (b ≡ true) × (y.1 ≡ next i)
+version_test true i y h = (refl, sym (ok_parts (tt, next i) y h).1)
+version_test false i y h = absurd (cc)
+
+version_case : (tk : Token) (i : Input) (y : Unit {0} × Input) → token i ≡ tk → version_by tk i ≡ Ok y → IsNumber 1 i y.1
+version_case (Number z) i y e h =
+    let t = version_test (int_eq z (pos 1)) i y h in
+    number_step 1 i y.1 (e ∙ ap Number (is_one z t.0)) t.1
+version_case _ i y e h = absurd (cc)
+
+version_step : (i : Input) (y : Unit {0} × Input) → version i ≡ Ok y → IsNumber 1 i y.1
+unfolding version
+version_step i y h = version_case (token i) i y refl h
+
+count_test : (b : Bool) (m n : ℕ) → cond b (Some m) None ≡ Some n → m ≡ n
+count_test true m n h = cc
+count_test false m n h = absurd (cc)
+
+count_is : (z : ℤ) (n : ℕ) → rank_count z ≡ Some n → z ≡ pos n
+count_is (pos m) n h = ap pos (count_test (nat_le 1 m && nat_le m 16) m n h)
+count_is (negsuc m) n h = absurd (cc)
+
+ranks_test : (o : Option ℕ) (i : Input) (y : ℕ × Input) → ranks_of o i ≡ Ok y → (o ≡ Some y.0) × (y.1 ≡ next i)
+ranks_test (Some n) i y h = let o = ok_parts (n, next i) y h in (ap Some o.0, sym o.1)
+ranks_test None i y h = absurd (cc)
+
+ranks_case : (tk : Token) (i : Input) (y : ℕ × Input) → token i ≡ tk → ranks_by tk i ≡ Ok y → IsNumber y.0 i y.1
+ranks_case (Number z) i y e h =
+    let t = ranks_test (rank_count z) i y h in
+    number_step y.0 i y.1 (e ∙ ap Number (count_is z y.0 t.0)) t.1
+ranks_case _ i y e h = absurd (cc)
+
+ranks_step : (i : Input) (y : ℕ × Input) → ranks i ≡ Ok y → IsNumber y.0 i y.1
+unfolding ranks
+ranks_step i y h = ranks_case (token i) i y refl h
+
+-- ---- declarations
+
+unknown : (o : Option Slot) (e : ReadFault) (x y : Unit {0} × Input) → cond (is_known o) (Err e) (Ok x) ≡ Ok y → (o ≡ None) × (x ≡ y)
+unknown None e x y h = (refl, cc)
+unknown (Some s) e x y h = absurd (cc)
+
+fresh_ok : (i : Input) (y : Unit {0} × Input) → fresh i ≡ Ok y → (slot_in i.decls (spelling i) ≡ None) × (y.1 ≡ i)
+unfolding fresh
+fresh_ok i y h =
+    let t = unknown (slot_in i.decls (spelling i)) (fault Twice (place i)) (tt, i) y h in
+    (t.0, sym (ap (λ p. p.1) t.1))
+
+-- a name was declared, and nothing else has changed
+record Adds (name : List ℕ) (i j : Input) : Type 0 where
+  pub tokens : j.tokens ≡ i.tokens
+  pub decls : j.decls ≡ i.decls ++ variable_of name ∷ []
+  pub lines : j.lines ≡ i.lines
+
+add_ok : (name : List ℕ) (at : ℕ) (i : Input) (y : Unit {0} × Input) → add Variable name None at i ≡ Ok y → Adds name i y.1
+unfolding add
+add_ok name at i y h =
+    let t = test_ok (fits Variable None i.decls) (fault TooMany at) (tt, record i { decls = i.decls ++ variable_of name ∷ [] }) y h in
+    record { tokens = sym (ap (λ p. p.1.tokens) t.1); decls = sym (ap (λ p. p.1.decls) t.1); lines = sym (ap (λ p. p.1.lines) t.1) }
+
+unsized_test : (b : Bool) (name : List ℕ) (at : ℕ) (i : Input) (y : Unit {0} × Input) → cond b refuse (add Variable name None at) i ≡ Ok y → Adds name i y.1
+unsized_test true name at i y h = absurd (cc)
+unsized_test false name at i y h = add_ok name at i y h
+
+-- a name and a semicolon
+record Declares (i j : Input) : Type 0 where
+  pub name : Spot
+  pub end : Spot
+  pub is : i.tokens ≡ name ∷ end ∷ j.tokens
+  pub is_name : name.token ≡ Name
+  pub is_end : end.token ≡ Is m.Semicolon
+  pub new : slot_in i.decls name.text ≡ None
+  pub decls : j.decls ≡ i.decls ++ variable_of name.text ∷ []
+  pub lines : j.lines ≡ i.lines
+
+declared_is : (i x y j : Input) → token i ≡ Name → slot_in i.decls (spelling i) ≡ None → (s : Step i x) → Adds (spelling i) x y → (z : Step y j) → z.spot.token ≡ Is m.Semicolon → Declares i j
+declared_is i x y j e free s a z q = record {
+  name = s.spot;
+  end = z.spot;
+  is = s.moves.is ∙ ap (λ r. s.spot ∷ r) (sym a.tokens ∙ z.moves.is);
+  is_name = s.token ∙ e;
+  is_end = q;
+  new = ap (slot_in i.decls) s.text ∙ free;
+  decls = z.moves.decls ∙ a.decls ∙ ap (λ ds. ds ++ variable_of (spelling i) ∷ []) s.moves.decls ∙ ap (λ t. i.decls ++ variable_of t ∷ []) (sym s.text);
+  lines = z.moves.lines ∙ a.lines ∙ s.moves.lines;
+}
+
+declaring_ok : (i : Input) (y : Unit {0} × Input) → token i ≡ Name → declaring Variable i ≡ Ok y → Declares i y.1
+unfolding declaring
+declaring_ok i y e h =
+    let a = bind_ok (fresh i) _ y h in
+    let f = fresh_ok i a.0 a.1 in
+    let s = next_step i (next a.0.1) (λ x. absurd (cc)) (ap next f.1) in
+    let b = bind_ok (cond (sees m.SquareOpen (next a.0.1)) refuse (add Variable (spelling i) None (place i)) (next a.0.1)) _ y a.2 in
+    let d = unsized_test (sees m.SquareOpen (next a.0.1)) (spelling i) (place i) (next a.0.1) b.0 b.1 in
+    let z = expect_step m.Semicolon b.0.1 y b.2 in
+    declared_is i (next a.0.1) b.0.1 y.1 e f.0 s d z.0 z.1
+
+decl_case : (tk : Token) (i : Input) (y : Unit {0} × Input) → token i ≡ tk → decl_by Variable tk i ≡ Ok y → Declares i y.1
+decl_case Name i y e h = declaring_ok i y e h
+decl_case _ i y e h = absurd (cc)
+
+decl_ok : (i : Input) (y : Unit {0} × Input) → decl Variable i ≡ Ok y → Declares i y.1
+unfolding decl
+decl_ok i y h = decl_case (token i) i y refl h
+
+pub record TakesDecls (i j : Input) : Type 0 where
+  pub used : List Spot
+  pub is : i.tokens ≡ used ++ j.tokens
+  pub written : WrittenDecls i.decls used j.decls
+  pub lines : j.lines ≡ i.lines
+
+no_decls : (i j : Input) → i ≡ j → TakesDecls i j
+no_decls i j e = record { used = []; is = ap (λ k. k.tokens) e; written = rw (← e) (none i.decls); lines = sym (ap (λ k. k.lines) e) }
+
+more_decls : (i x y j : Input) → (s : Step i x) → s.spot.token ≡ Is m.Var → Declares x y → TakesDecls y j → TakesDecls i j
+more_decls i x y j s e d r = record {
+  used = s.spot ∷ d.name ∷ d.end ∷ r.used;
+  is = s.moves.is ∙ ap (λ q. s.spot ∷ q) (d.is ∙ ap (λ q. d.name ∷ d.end ∷ q) r.is);
+  written = declares i.decls j.decls s.spot d.name d.end r.used e d.is_name (rw (← s.moves.decls) d.new) d.is_end
+    (rw (← (d.decls ∙ ap (λ ds. ds ++ variable_of d.name.text ∷ []) s.moves.decls)) r.written);
+  lines = r.lines ∙ d.lines ∙ s.moves.lines;
+}
+
+decls_case : (p : Parser (Unit {0})) → ((i : Input) (y : Unit {0} × Input) → p i ≡ Ok y → TakesDecls i y.1) → (found : Bool) (i : Input) (y : Unit {0} × Input) → sees m.Var i ≡ found
+    → cond found (decl Variable >> p) (pure tt) (cond found (next i) i) ≡ Ok y → TakesDecls i y.1
+decls_case p s true i y e h =
+    let is = sees_is m.Var i e in
+    let v = next_step i (next i) (λ z. absurd (cc)) refl in
+    let b = bind_ok (decl Variable (next i)) _ y h in
+    more_decls i (next i) b.0.1 y.1 v (v.token ∙ is) (decl_ok (next i) b.0 b.1) (s b.0.1 y b.2)
+decls_case p s false i y e h = no_decls i y.1 (ok_parts (tt, i) y h).1
+
+decls_from_ok : (n : ℕ) (i : Input) (y : Unit {0} × Input) → decls_from n i ≡ Ok y → TakesDecls i y.1
+unfolding decls_from after
+decls_from_ok zero i y h = absurd (cc)
+decls_from_ok (suc n) i y h = decls_case (decls_from n) (λ x z e. decls_from_ok n x z e) (sees m.Var i) i y refl h
+
+decls_ok : (i : Input) (y : Unit {0} × Input) → decls i ≡ Ok y → TakesDecls i y.1
+unfolding decls
+decls_ok i y h = decls_from_ok (left i + 1) i y h
+
+carried_decls : (ds es : List Declared) (ss : List Spot) (fs : List Declared) → ds ≡ es → WrittenDecls ds ss fs → WrittenDecls es ss fs
+carried_decls ds es ss fs e x = rw (← e) x
+
+-- ---- the header
+
+pub record Header (n : ℕ) (i j : Input) : Type 0 where
+  pub mpd : Spot
+  pub version : Spot
+  pub first : Spot
+  pub ranks : Spot
+  pub count : Spot
+  pub second : Spot
+  pub used : List Spot
+  pub is : i.tokens ≡ mpd ∷ version ∷ first ∷ ranks ∷ count ∷ second ∷ used ++ j.tokens
+  pub is_mpd : mpd.token ≡ Is m.Mpd
+  pub is_version : version.token ≡ Number (pos 1)
+  pub is_first : first.token ≡ Is m.Semicolon
+  pub is_ranks : ranks.token ≡ Is m.Ranks
+  pub is_count : count.token ≡ Number (pos n)
+  pub is_second : second.token ≡ Is m.Semicolon
+  pub decls : WrittenDecls i.decls used j.decls
+  pub lines : j.lines ≡ i.lines
+
+header_is : (n : ℕ) (i x1 x2 x3 x4 x5 x6 j : Input) → (s1 : Step i x1) → s1.spot.token ≡ Is m.Mpd → (s2 : Step x1 x2) → s2.spot.token ≡ Number (pos 1)
+    → (s3 : Step x2 x3) → s3.spot.token ≡ Is m.Semicolon → (s4 : Step x3 x4) → s4.spot.token ≡ Is m.Ranks → (s5 : Step x4 x5) → s5.spot.token ≡ Number (pos n)
+    → (s6 : Step x5 x6) → s6.spot.token ≡ Is m.Semicolon → TakesDecls x6 j → Header n i j
+header_is n i x1 x2 x3 x4 x5 x6 j s1 e1 s2 e2 s3 e3 s4 e4 s5 e5 s6 e6 ds =
+    let old : x6.decls ≡ i.decls = s6.moves.decls ∙ s5.moves.decls ∙ s4.moves.decls ∙ s3.moves.decls ∙ s2.moves.decls ∙ s1.moves.decls in
+    let same : x6.lines ≡ i.lines = s6.moves.lines ∙ s5.moves.lines ∙ s4.moves.lines ∙ s3.moves.lines ∙ s2.moves.lines ∙ s1.moves.lines in
+    record {
+      mpd = s1.spot;
+      version = s2.spot;
+      first = s3.spot;
+      ranks = s4.spot;
+      count = s5.spot;
+      second = s6.spot;
+      used = ds.used;
+      is = s1.moves.is ∙ ap (λ r. s1.spot ∷ r) (s2.moves.is ∙ ap (λ r. s2.spot ∷ r) (s3.moves.is ∙ ap (λ r. s3.spot ∷ r)
+        (s4.moves.is ∙ ap (λ r. s4.spot ∷ r) (s5.moves.is ∙ ap (λ r. s5.spot ∷ r) (s6.moves.is ∙ ap (λ r. s6.spot ∷ r) ds.is)))));
+      is_mpd = e1;
+      is_version = e2;
+      is_first = e3;
+      is_ranks = e4;
+      is_count = e5;
+      is_second = e6;
+      decls = carried_decls x6.decls i.decls ds.used j.decls old ds.written;
+      lines = ds.lines ∙ same;
+    }
+
+pub header_ok : (i : Input) (y : ℕ × Input) → header i ≡ Ok y → Header y.0 i y.1
+unfolding header
+header_ok i y h =
+    let a = bind_ok (expect m.Mpd i) _ y h in
+    let b = bind_ok (version a.0.1) _ y a.2 in
+    let c = bind_ok (expect m.Semicolon b.0.1) _ y b.2 in
+    let d = bind_ok (expect m.Ranks c.0.1) _ y c.2 in
+    let e = bind_ok (ranks d.0.1) _ y d.2 in
+    let f = bind_ok (expect m.Semicolon e.0.1) _ y e.2 in
+    let g = bind_ok (decls f.0.1) _ y f.2 in
+    let o = ok_parts (e.0.0, g.0.1) y g.2 in
+    let s1 = expect_step m.Mpd i a.0 a.1 in
+    let s2 = version_step a.0.1 b.0 b.1 in
+    let s3 = expect_step m.Semicolon b.0.1 c.0 c.1 in
+    let s4 = expect_step m.Ranks c.0.1 d.0 d.1 in
+    let s5 = ranks_step d.0.1 e.0 e.1 in
+    let s6 = expect_step m.Semicolon e.0.1 f.0 f.1 in
+    carried (λ n j. Header n i j) _ _ _ _ o.0 o.1
+    (header_is e.0.0 i a.0.1 b.0.1 c.0.1 d.0.1 e.0.1 f.0.1 g.0.1 s1.0 s1.1 s2.0 s2.1 s3.0 s3.1 s4.0 s4.1 s5.0 s5.1 s6.0 s6.1 (decls_ok f.0.1 g.0 g.1))
+
+-- ---- one line for each statement
+
+pub lines_counted : (i x y : Input) (n : ℕ) (ts : List Tree) (depth : ℕ) (inside : Bool) → i.lines ≡ [] → header i ≡ Ok (n, x) → body (block depth) inside x ≡ Ok (ts, y)
+    → length y.lines ≡ statements_in (block_of ts)
+lines_counted i x y n ts depth inside e h b =
+    let head = header_ok i (n, x) h in
+    let t = statements_sound depth inside x y ts b in
+    let l : y.lines ≡ t.begun = t.lines ∙ ap (λ r. r ++ t.begun) (head.lines ∙ e) in
+    ap length l ∙ body_lines x.decls t.used ts t.begun t.written

@@ -1,0 +1,373 @@
+//! A cursor over the tokens of a text, which cuts each as it is reached.
+
+ghost use Rattle.std.specs.Prelude.{◌≡◌, ◌≢◌, ◌+◌, ◌<◌, ◌≤◌, ◌^◌, IsAscii, length, Ok};
+ghost use Rattle.mpd_model.specs.declared.read_fault.FaultCode.TheVariants.{Memory};
+ghost use Rattle.mpd_model.specs.Declaration.{handle_cells, handles_in, variable_cells, variables_in};
+ghost use Rattle.mpd_model.specs.Faults.{fault};
+ghost use Rattle.mpd_model.specs.Input as spec;
+ghost use Rattle.mpd_model.specs.Input.{Reads, line_of};
+ghost use Rattle.mpd_script.specs.Cursor.{first};
+
+use crate::lex;
+use mpd_model::place::{Decl, DeclKind};
+use mpd_model::read_fault::{FaultCode, ReadFault};
+use mpd_model::slot::Slot;
+use mpd_model::token::{Mark, Token};
+use std::alloc::Global;
+use std::marker::Model;
+use std::str;
+
+const MAX_BUDGET: usize = 64;
+const MAX_VARIABLES: usize = 1024;
+const MAX_HANDLES: usize = 256;
+const MAX_STATEMENTS: usize = 4096;
+
+/// A place in a text, which contracts see as an `Input`: the tokens from there on, and what was read before.
+#[derive(Drop)]
+pub struct Tokens<'a> {
+    /// The text from the next token on, and its place.
+    ahead: &'a [u8],
+    place: usize,
+    /// The line of that place.
+    line: usize,
+    /// That token, and its length.
+    token: Token,
+    len: usize,
+    decls: Vec<Decl>,
+    /// How many cells of each kind these have.
+    variables: usize,
+    handles: usize,
+    /// The line of each statement so far.
+    lines: Vec<usize>,
+    /// How many brackets and operators the expression may still have.
+    budget: usize,
+}
+
+impl<'a> Model for Tokens<'a> {
+    ghost use Rattle.mpd_model.specs.Input.{Input, input_code};
+
+    ghost Value = { Input };
+
+    ghost coded = { input_code };
+
+    ghost use Rattle.mpd_script.specs.Cursor.{input_of, IsReady};
+
+    ghost view = { input_of };
+
+    ghost invariant = { IsReady };
+}
+
+/// The token at the front of the text, or the end.
+fn first(ahead: &[u8]) -> (Token, usize)
+    ensures value { result ≡ first ahead.now }
+    ensures within { result.1 ≤ length ahead.now }
+    ensures moves { 0 < length ahead.now → 0 < result.1 }
+{
+    if ahead.is_empty() {
+        (Token::End, 0)
+    } else {
+        lex::front(ahead)
+    }
+}
+
+#[tactic(auto, unfolding(mpd_model::specs::Input::refusal, mpd_model::specs::Input::sees, mpd_model::specs::Input::after, mpd_model::specs::Input::expect, mpd_model::specs::Input::spend, mpd_model::specs::Input::count, mpd_model::specs::Input::seek))]
+impl<'a> Tokens<'a> {
+    /// The first token of a text.
+    pub fn new(alloc: Global, text: &'a [u8]) -> Tokens<'a>
+        requires small { length text.now < 2 ^ 32 }
+        requires ascii { IsAscii text.now }
+        ensures { result ≡ spec.start_of text.now }
+    {
+        let (place, fed) = lex::blank_len(text);
+        let (_, ahead) = text.split_at(place);
+        let (token, len) = first(ahead);
+        Tokens {
+            ahead,
+            place,
+            line: 1 + fed,
+            token,
+            len,
+            decls: Vec::new(alloc),
+            variables: 0,
+            handles: 0,
+            lines: Vec::new(alloc),
+            budget: 0,
+        }
+    }
+
+    pub fn peek(&self) -> Token
+        ensures { result ≡ spec.token self.now }
+    {
+        self.token
+    }
+
+    /// The bytes of the next token.
+    pub fn spelling(&self) -> &'a [u8]
+        ensures value { result.now ≡ spec.spelling self.now }
+        ensures ascii { IsAscii result.now }
+    {
+        let (bytes, _) = self.ahead.split_at(self.len);
+        bytes
+    }
+
+    pub fn place(&self) -> usize
+        ensures { result ≡ spec.place self.now }
+    {
+        self.place
+    }
+
+    pub fn advance(&mut self)
+        ensures { self.new ≡ spec.next self.old }
+    {
+        let (_, after) = self.ahead.split_at(self.len);
+        let (gap, fed) = lex::blank_len(after);
+        let (_, ahead) = after.split_at(gap);
+        let (token, len) = first(ahead);
+        self.place += self.len + gap;
+        self.line += fed;
+        self.ahead = ahead;
+        self.token = token;
+        self.len = len;
+    }
+
+    /// How many bytes there are from the next token on.
+    #[tactic(auto, unfolding(mpd_model::specs::Input::left))]
+    pub fn left(&self) -> usize
+        ensures value { result ≡ spec.left self.now }
+        ensures small { result < 2 ^ 32 }
+    {
+        self.ahead.len()
+    }
+
+    /// The grammar doesn't allow the next token.
+    pub fn refuse(&self) -> ReadFault
+        ensures value { result ≡ spec.refusal self.now }
+        ensures no_memory { result.code ≢ Memory }
+    {
+        self.fail(match self.peek() {
+            Token::Bad => FaultCode::BadToken,
+            _ => FaultCode::Expected,
+        })
+    }
+
+    /// A fault at the next token.
+    pub fn fail(&self, code: FaultCode) -> ReadFault
+        ensures { result ≡ fault code (spec.place self.now) }
+    {
+        ReadFault {
+            code,
+            place: self.place(),
+        }
+    }
+
+    pub fn sees(&self, mark: Mark) -> bool
+        ensures { result ≡ spec.sees mark self.now }
+    {
+        is_mark(mark, self.peek())
+    }
+
+    /// Takes the mark, if it comes next.
+    pub fn eat(&mut self, mark: Mark) -> bool
+        ensures found { result ≡ spec.sees mark self.old }
+        ensures after { self.new ≡ spec.after mark self.old }
+    {
+        let found = self.sees(mark);
+        if found {
+            self.advance();
+        }
+        found
+    }
+
+    pub fn expect(&mut self, mark: Mark) -> Result<(), ReadFault>
+        ensures { Reads (spec.expect mark self.old) result self.new }
+    {
+        if self.sees(mark) {
+            self.advance();
+            Ok(())
+        } else {
+            Err(self.refuse())
+        }
+    }
+
+    /// Begins an expression that stands in no other.
+    pub fn begin(&mut self)
+        ensures { spec.begin self.old ≡ Ok (tt, self.new) }
+    {
+        self.budget = MAX_BUDGET;
+    }
+
+    pub fn budget(&self) -> usize
+        ensures value { result ≡ self.now.budget }
+        ensures small { result ≤ 64 }
+    {
+        self.budget
+    }
+
+    /// Takes a bracket or an operator.
+    #[tactic(auto, unfolding(mpd_model::specs::Input::spend, mpd_model::specs::Input::next))]
+    pub fn spend(&mut self) -> Result<(), ReadFault>
+        ensures { Reads (spec.spend self.old) result self.new }
+    {
+        if self.budget == 0 {
+            return Err(self.fail(FaultCode::TooDeep));
+        }
+        let left = self.budget - 1;
+        self.advance();
+        self.budget = left;
+        Ok(())
+    }
+
+    /// The line of the next token, 0 where there is none.
+    fn line(&self) -> usize
+        ensures { result ≡ line_of self.now.tokens }
+    {
+        if self.ahead.is_empty() { 0 } else { self.line }
+    }
+
+    /// A statement begins at the next token.
+    pub fn count(&mut self) -> Result<(), ReadFault>
+        ensures { Reads (spec.count self.old) result self.new }
+    {
+        if self.lines.len() < MAX_STATEMENTS {
+            let line = self.line();
+            self.lines.push(line)?;
+            Ok(())
+        } else {
+            Err(self.fail(FaultCode::TooMany))
+        }
+    }
+
+    /// What a name stands for, if it is declared.
+    fn find(&self, name: &[u8]) -> Option<Slot>
+        ensures { result ≡ spec.slot_in self.now.decls name.now }
+    {
+        slot_in(&self.decls, name)
+    }
+
+    /// What the name that comes next was declared as.
+    #[tactic(auto, unfolding(mpd_model::specs::Input::seek))]
+    pub fn seek(&self, kind: DeclKind) -> Result<Slot, ReadFault>
+        ensures { Reads (spec.seek kind self.now) result self.now }
+    {
+        match self.find(self.spelling()) {
+            Some(slot) if same_kind(kind, slot.kind) => Ok(slot),
+            _ => Err(self.fail(FaultCode::UnknownName)),
+        }
+    }
+
+    /// The name that comes next is new.
+    #[tactic(auto, unfolding(mpd_model::specs::Input::fresh))]
+    pub fn fresh(&self) -> Result<(), ReadFault>
+        ensures { Reads (spec.fresh self.now) result self.now }
+    {
+        match self.find(self.spelling()) {
+            Some(_) => Err(self.fail(FaultCode::Twice)),
+            None => Ok(()),
+        }
+    }
+
+    /// Declares a name, or a fault at a place.
+    #[tactic(auto, unfolding(mpd_model::specs::Input::add))]
+    pub fn add(
+        &mut self,
+        kind: DeclKind,
+        name: &'a [u8],
+        size: Option<usize>,
+        place: usize,
+    ) -> Result<(), ReadFault>
+        requires { IsAscii name.now }
+        ensures { Reads (spec.add kind name.now size place self.old) result self.new }
+    {
+        let (variables, handles) = cells(kind, size);
+        if variables > MAX_VARIABLES - self.variables || handles > MAX_HANDLES - self.handles {
+            return Err(ReadFault {
+                code: FaultCode::TooMany,
+                place,
+            });
+        }
+        let name = String::from_str(*self.decls.allocator(), str::from_utf8(name).unwrap())?;
+        self.decls.push(Decl { kind, name, size })?;
+        self.variables += variables;
+        self.handles += handles;
+        Ok(())
+    }
+
+    /// What was read: the declarations, and the line of each statement.
+    pub fn finish(self) -> (Vec<Decl>, Vec<usize>)
+        ensures decls { result.0.items ≡ self.entry.decls }
+        ensures lines { result.1.items ≡ self.entry.lines }
+        ensures variables { variables_in result.0.items ≤ 1024 }
+        ensures handles { handles_in result.0.items ≤ 256 }
+        ensures few_lines { length result.1.items ≤ 4096 }
+    {
+        (self.decls, self.lines)
+    }
+}
+
+/// How many cells of variables and of handles a declaration has.
+fn cells(kind: DeclKind, size: Option<usize>) -> (usize, usize)
+    ensures { result ≡ (variable_cells kind size, handle_cells kind size) }
+{
+    let count = size.unwrap_or(1);
+    match kind {
+        DeclKind::Variable => (count, 0),
+        DeclKind::Handle => (0, count),
+    }
+}
+
+fn same_kind(a: DeclKind, b: DeclKind) -> bool
+    ensures { result ≡ spec.same_kind a b }
+{
+    matches!(
+        (a, b),
+        (DeclKind::Variable, DeclKind::Variable) | (DeclKind::Handle, DeclKind::Handle)
+    )
+}
+
+fn is_mark(mark: Mark, token: Token) -> bool
+    ensures { result ≡ spec.is_mark mark token }
+{
+    match token {
+        Token::Is(found) => same_mark(found, mark),
+        _ => false,
+    }
+}
+
+#[tactic(auto, unfolding(mpd_model::specs::Input::same_mark))]
+fn same_mark(a: Mark, b: Mark) -> bool
+    ensures { result ≡ spec.same_mark a b }
+{
+    a == b
+}
+
+/// What a name stands for among declarations, if it is one of them.
+#[tactic(auto, unfolding(mpd_model::specs::Input::slot_in))]
+fn slot_in(decls: &[Decl], name: &[u8]) -> Option<Slot>
+    requires variables { variables_in decls.now ≤ 1024 }
+    requires handles { handles_in decls.now ≤ 256 }
+    ensures { result ≡ spec.slot_in decls.now name.now }
+{
+    let mut rest = decls;
+    let mut declaration = 0;
+    let mut variables = 0;
+    let mut handles = 0;
+    while let [decl, more @ ..] = rest {
+        if decl.name.as_bytes() == name {
+            return Some(Slot {
+                kind: decl.kind,
+                declaration,
+                first: match decl.kind {
+                    DeclKind::Variable => variables,
+                    DeclKind::Handle => handles,
+                },
+                size: decl.size,
+            });
+        }
+        let (more_variables, more_handles) = cells(decl.kind, decl.size);
+        declaration += 1;
+        variables += more_variables;
+        handles += more_handles;
+        rest = more;
+    }
+    None
+}

@@ -1,0 +1,168 @@
+//! Expressions, a level of operators after the other (docs/LANGUAGE.md, "Expressions").
+
+ghost use Rattle.std.specs.Prelude.{◌≡◌, ◌≤◌, ◌-◌};
+ghost use Rattle.mpd_model.specs.Grammar as spec;
+ghost use Rattle.mpd_model.specs.Input.{Reads};
+
+use crate::cursor::Tokens;
+use mpd_model::expr::{BinaryOp, Expr};
+use mpd_model::place::{DeclKind, Place};
+use mpd_model::read_fault::{FaultCode, ReadFault};
+use mpd_model::token::{Mark, Token};
+use std::alloc::Global;
+
+/// The level of a whole expression.
+const WHOLE: usize = 5;
+const COMPARISON: usize = 3;
+/// One more than the brackets and operators that an expression may have.
+const DEEPEST: usize = 65;
+
+/// An operator and its level.
+fn operator(token: Token) -> Option<(BinaryOp, usize)>
+    ensures { result ≡ spec.operator token }
+{
+    match token {
+        Token::Is(Mark::Equal) => Some((BinaryOp::Equal, COMPARISON)),
+        Token::Is(Mark::NotEqual) => Some((BinaryOp::NotEqual, COMPARISON)),
+        _ => None,
+    }
+}
+
+fn operator_at(level: usize, token: Token) -> Option<BinaryOp>
+    ensures { result ≡ spec.operator_at level token }
+{
+    match operator(token) {
+        Some((op, found)) if found == level => Some(op),
+        _ => None,
+    }
+}
+
+/// How many operators of a level may follow one another.
+fn turns(level: usize, tokens: &Tokens<'_>) -> usize
+    ensures { result ≡ spec.turns level tokens.now }
+{
+    if level == COMPARISON {
+        1
+    } else {
+        tokens.budget() + 1
+    }
+}
+
+/// The variable whose name comes next.
+#[tactic(auto, unfolding(mpd_model::specs::Grammar::variable))]
+pub fn variable(tokens: &mut Tokens<'_>) -> Result<Place, ReadFault>
+    ensures { Reads (spec.variable tokens.old) result tokens.new }
+{
+    let slot = tokens.seek(DeclKind::Variable)?;
+    tokens.advance();
+    Ok(Place {
+        declaration: slot.declaration,
+        first: slot.first,
+    })
+}
+
+/// An expression that stands in no other.
+pub fn expression(alloc: Global, tokens: &mut Tokens<'_>) -> Result<Expr, ReadFault>
+    ensures { Reads (spec.expression tokens.old) result tokens.new }
+{
+    tokens.begin();
+    expr(alloc, tokens, DEEPEST, WHOLE)
+}
+
+/// An expression from a level on, which holds others no deeper than the depth.
+#[cycle(expr)]
+#[tactic(auto, using(crate::proofs::Steps::depths))]
+fn expr(alloc: Global, tokens: &mut Tokens<'_>, depth: usize, of: usize) -> Result<Expr, ReadFault>
+    requires { of ≤ 5 }
+    ensures { Reads (spec.expr depth of tokens.old) result tokens.new }
+{
+    if depth == 0 {
+        return Err(tokens.fail(FaultCode::TooDeep));
+    }
+    level(alloc, tokens, depth - 1, of)
+}
+
+/// An operand of the level below, and the operators of the level behind it.
+#[cycle(expr)]
+#[tactic(auto, using(crate::proofs::Steps::levels))]
+fn level(
+    alloc: Global,
+    tokens: &mut Tokens<'_>,
+    depth: usize,
+    of: usize,
+) -> Result<Expr, ReadFault>
+    requires { of ≤ 5 }
+    ensures { Reads (spec.level (spec.expr depth) of tokens.old) result tokens.new }
+{
+    if of == 0 {
+        return atom(alloc, tokens, depth);
+    }
+    let left = level(alloc, tokens, depth, of - 1)?;
+    let most = turns(of, tokens);
+    chain(alloc, tokens, depth, of, most, left)
+}
+
+/// The operators of a level, each with the operand to its right, behind what stands to the left.
+#[cycle(expr)]
+#[tactic(auto, using(crate::proofs::Steps::turning))]
+fn chain(
+    alloc: Global,
+    tokens: &mut Tokens<'_>,
+    depth: usize,
+    of: usize,
+    most: usize,
+    left: Expr,
+) -> Result<Expr, ReadFault>
+    requires positive { 1 ≤ of }
+    requires within { of ≤ 5 }
+    ensures { Reads (spec.chain (spec.level (spec.expr depth) (of - 1)) of most left tokens.old) result tokens.new }
+{
+    let mut left = left;
+    for _turn in 0..most {
+        match operator_at(of, tokens.peek()) {
+            None => return Ok(left),
+            Some(op) => {
+                tokens.spend()?;
+                let right = level(alloc, tokens, depth, of - 1)?;
+                left = Expr::binary(alloc, op, left, right)?;
+            }
+        }
+    }
+    Ok(left)
+}
+
+#[cycle(expr)]
+#[tactic(auto, unfolding(mpd_model::specs::Grammar::atom, mpd_model::specs::Grammar::place_inside))]
+fn atom(alloc: Global, tokens: &mut Tokens<'_>, depth: usize) -> Result<Expr, ReadFault>
+    ensures { Reads (spec.atom (spec.expr depth) tokens.old) result tokens.new }
+{
+    match tokens.peek() {
+        Token::Number(value) => {
+            tokens.advance();
+            Ok(Expr::number(value))
+        }
+        Token::Is(Mark::Rank) => {
+            tokens.advance();
+            Ok(Expr::rank())
+        }
+        Token::Is(Mark::Size) => {
+            tokens.advance();
+            Ok(Expr::size())
+        }
+        Token::Name => Ok(Expr::cell(variable(tokens)?)),
+        Token::Is(Mark::RoundOpen) => rounds(alloc, tokens, depth),
+        _ => Err(tokens.refuse()),
+    }
+}
+
+/// An expression between round brackets, which leave no trace in it.
+#[cycle(expr)]
+#[tactic(auto, unfolding(mpd_model::specs::Grammar::rounds))]
+fn rounds(alloc: Global, tokens: &mut Tokens<'_>, depth: usize) -> Result<Expr, ReadFault>
+    ensures { Reads (spec.rounds (spec.expr depth) tokens.old) result tokens.new }
+{
+    tokens.spend()?;
+    let inner = expr(alloc, tokens, depth, WHOLE)?;
+    tokens.expect(Mark::RoundClose)?;
+    Ok(inner)
+}

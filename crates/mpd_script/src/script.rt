@@ -1,0 +1,183 @@
+//! A whole text.
+
+ghost use Rattle.std.specs.Prelude.{◌≡◌, ◌≢◌, ◌≤◌, IfErr, IfOk, IfSome, Err, IsAscii, Ok, [], length};
+ghost use Rattle.std.specs.List.{prefix_len};
+ghost use Rattle.mpd_model.specs.declared.read_fault.FaultCode.TheVariants.{Memory};
+ghost use Rattle.mpd_model.specs.Grammar as spec;
+ghost use Rattle.mpd_model.specs.Input.{Fails, Reads};
+
+use crate::cursor::Tokens;
+use crate::stmt::{MAX_BLOCKS, body};
+use mpd_model::place::DeclKind;
+use mpd_model::read_fault::{FaultCode, ReadFault};
+use mpd_model::script::Script;
+use mpd_model::token::{Mark, Token};
+use std::alloc::Global;
+
+const MAX_TEXT: usize = 65_536;
+const VERSION: i64 = 1;
+
+/// The number after `mpd`.
+#[tactic(auto, unfolding(mpd_model::specs::Grammar::version))]
+fn version(tokens: &mut Tokens<'_>) -> Result<(), ReadFault>
+    ensures { Reads (spec.version tokens.old) result tokens.new }
+{
+    match tokens.peek() {
+        Token::Number(value) => {
+            if value != VERSION {
+                return Err(tokens.fail(FaultCode::NotInVersion));
+            }
+            tokens.advance();
+            Ok(())
+        }
+        _ => Err(tokens.refuse()),
+    }
+}
+
+/// A number of ranks, if it is one.
+fn rank_count(value: i64) -> Option<usize>
+    ensures value { result ≡ spec.rank_count value }
+    ensures within { IfSome result (λ n. (1 ≤ n) × (n ≤ 16)) }
+{
+    if 1 <= value && value <= 16 {
+        Some(value as usize)
+    } else {
+        None
+    }
+}
+
+/// The number after `ranks`.
+#[tactic(auto, unfolding(mpd_model::specs::Grammar::ranks))]
+fn ranks(tokens: &mut Tokens<'_>) -> Result<usize, ReadFault>
+    ensures value { Reads (spec.ranks tokens.old) result tokens.new }
+    ensures within { IfOk result (λ n. (1 ≤ n) × (n ≤ 16)) }
+{
+    match tokens.peek() {
+        Token::Number(value) => match rank_count(value) {
+            Some(count) => {
+                tokens.advance();
+                Ok(count)
+            }
+            None => Err(tokens.fail(FaultCode::BadRanks)),
+        },
+        _ => Err(tokens.refuse()),
+    }
+}
+
+/// The name in a declaration, and what is behind it.
+#[tactic(auto, unfolding(mpd_model::specs::Grammar::declaring))]
+fn declaring(tokens: &mut Tokens<'_>, kind: DeclKind) -> Result<(), ReadFault>
+    ensures { Reads (spec.declaring kind tokens.old) result tokens.new }
+{
+    let name = tokens.spelling();
+    let place = tokens.place();
+    tokens.fresh()?;
+    tokens.advance();
+    if tokens.sees(Mark::SquareOpen) {
+        return Err(tokens.refuse());
+    }
+    tokens.add(kind, name, None, place)?;
+    tokens.expect(Mark::Semicolon)
+}
+
+/// What follows `var`.
+#[tactic(auto, unfolding(mpd_model::specs::Grammar::decl))]
+fn decl(tokens: &mut Tokens<'_>, kind: DeclKind) -> Result<(), ReadFault>
+    ensures { Reads (spec.decl kind tokens.old) result tokens.new }
+{
+    match tokens.peek() {
+        Token::Name => declaring(tokens, kind),
+        _ => Err(tokens.refuse()),
+    }
+}
+
+#[tactic(auto, using(crate::proofs::BlockSteps::declaring), unfolding(mpd_model::specs::Grammar::decls))]
+fn decls(tokens: &mut Tokens<'_>) -> Result<(), ReadFault>
+    ensures { Reads (spec.decls tokens.old) result tokens.new }
+{
+    let most = tokens.left() + 1;
+    for _turn in 0..most {
+        if !tokens.eat(Mark::Var) {
+            return Ok(());
+        }
+        decl(tokens, DeclKind::Variable)?;
+    }
+    Err(tokens.refuse())
+}
+
+/// The version, the number of ranks and the declarations.
+#[tactic(auto, unfolding(mpd_model::specs::Grammar::header))]
+fn header(tokens: &mut Tokens<'_>) -> Result<usize, ReadFault>
+    ensures value { Reads (spec.header tokens.old) result tokens.new }
+    ensures within { IfOk result (λ n. (1 ≤ n) × (n ≤ 16)) }
+{
+    tokens.expect(Mark::Mpd)?;
+    version(tokens)?;
+    tokens.expect(Mark::Semicolon)?;
+    tokens.expect(Mark::Ranks)?;
+    let count = ranks(tokens)?;
+    tokens.expect(Mark::Semicolon)?;
+    decls(tokens)?;
+    Ok(count)
+}
+
+#[tactic(auto, unfolding(mpd_model::specs::Grammar::script))]
+fn script(alloc: Global, mut tokens: Tokens<'_>) -> Result<Script, ReadFault>
+    requires decls { tokens.decls ≡ [] }
+    requires lines { tokens.lines ≡ [] }
+    ensures ok { IfOk result (λ s. spec.read_of (spec.script tokens.entry) ≡ Ok s) }
+    ensures err { IfErr result (Fails (spec.read_of (spec.script tokens.entry))) }
+{
+    let ranks = header(&mut tokens)?;
+    let body = body(alloc, &mut tokens, MAX_BLOCKS, false)?;
+    let (decls, lines) = tokens.finish();
+    Ok(Script {
+        version: 1,
+        ranks,
+        decls,
+        body,
+        lines,
+    })
+}
+
+fn is_text(b: u8) -> bool
+    ensures { result ≡ spec.is_text b }
+{
+    b == b'\t' || b == b'\n' || b == b'\r' || (32 <= b && b <= 126)
+}
+
+/// How many bytes at the front may stand in a text.
+fn text_len(text: &[u8]) -> usize
+    ensures value { result ≡ prefix_len spec.is_text text.now }
+    ensures within { result ≤ length text.now }
+    ensures ascii { result ≡ length text.now → IsAscii text.now }
+{
+    let mut end = 0;
+    while end < text.len() && is_text(text[end]) {
+        end += 1;
+    }
+    end
+}
+
+/// The script that a text spells, or its leftmost fault (docs/LANGUAGE.md, "Grammar" and "Faults").
+#[tactic(auto, unfolding(mpd_model::specs::Grammar::reading))]
+pub fn read(alloc: Global, text: &[u8]) -> Result<Script, ReadFault>
+    ensures ok { IfOk result (λ s. spec.reading text.now ≡ Ok s) }
+    ensures err { IfErr result (λ f. f.code ≢ Memory → spec.reading text.now ≡ Err f) }
+    ensures memory { IfErr result (λ f. f.code ≡ Memory → f.place ≡ 0) }
+{
+    if text.len() > MAX_TEXT {
+        return Err(ReadFault {
+            code: FaultCode::TooLong,
+            place: MAX_TEXT,
+        });
+    }
+    let place = text_len(text);
+    if place < text.len() {
+        return Err(ReadFault {
+            code: FaultCode::NotText,
+            place,
+        });
+    }
+    script(alloc, Tokens::new(alloc, text))
+}

@@ -1,0 +1,189 @@
+//! Statements and blocks (docs/LANGUAGE.md, "Statements").
+
+ghost use Rattle.std.specs.Prelude.{◌≡◌};
+ghost use Rattle.mpd_model.specs.Grammar as spec;
+ghost use Rattle.mpd_model.specs.Input.{Reads, ReadsAll};
+
+use crate::cursor::Tokens;
+use crate::expr::{expression, variable};
+use mpd_model::place::Place;
+use mpd_model::read_fault::{FaultCode, ReadFault};
+use mpd_model::stmt::{Stmt, StmtNode};
+use mpd_model::token::{Mark, Token};
+use std::alloc::Global;
+
+/// How many blocks may stand open in one another.
+pub const MAX_BLOCKS: usize = 64;
+
+/// Whether statements end before the token, inside a block or outside of all.
+fn closes(inside: bool, token: Token) -> bool
+    ensures { result ≡ spec.closes inside token }
+{
+    match token {
+        Token::Is(Mark::BraceClose) => inside,
+        Token::End => !inside,
+        _ => false,
+    }
+}
+
+/// Takes the first token of a statement.
+fn begun(tokens: &mut Tokens<'_>) -> Result<(), ReadFault>
+    ensures { Reads (spec.begun tokens.old) result tokens.new }
+{
+    tokens.count()?;
+    tokens.advance();
+    Ok(())
+}
+
+/// What follows `print`.
+#[tactic(auto, unfolding(mpd_model::specs::Grammar::printing))]
+fn printing(alloc: Global, tokens: &mut Tokens<'_>) -> Result<Stmt, ReadFault>
+    ensures { Reads (spec.printing tokens.old) result tokens.new }
+{
+    let value = expression(alloc, tokens)?;
+    tokens.expect(Mark::Semicolon)?;
+    Ok(Stmt {
+        node: StmtNode::Print(value),
+    })
+}
+
+/// What follows `send`.
+#[tactic(auto, unfolding(mpd_model::specs::Grammar::sending))]
+fn sending(alloc: Global, tokens: &mut Tokens<'_>) -> Result<Stmt, ReadFault>
+    ensures { Reads (spec.sending tokens.old) result tokens.new }
+{
+    let value = expression(alloc, tokens)?;
+    tokens.expect(Mark::To)?;
+    let to = expression(alloc, tokens)?;
+    tokens.expect(Mark::Tag)?;
+    let tag = expression(alloc, tokens)?;
+    tokens.expect(Mark::Semicolon)?;
+    Ok(Stmt {
+        node: StmtNode::Send { value, to, tag },
+    })
+}
+
+/// The variable that a receive writes.
+#[tactic(auto, unfolding(mpd_model::specs::Grammar::named))]
+fn named(tokens: &mut Tokens<'_>) -> Result<Place, ReadFault>
+    ensures { Reads (spec.named tokens.old) result tokens.new }
+{
+    match tokens.peek() {
+        Token::Name => variable(tokens),
+        _ => Err(tokens.refuse()),
+    }
+}
+
+/// What follows `recv`.
+#[tactic(auto, unfolding(mpd_model::specs::Grammar::receiving))]
+fn receiving(alloc: Global, tokens: &mut Tokens<'_>) -> Result<Stmt, ReadFault>
+    ensures { Reads (spec.receiving tokens.old) result tokens.new }
+{
+    let into = named(tokens)?;
+    tokens.expect(Mark::From)?;
+    let from = expression(alloc, tokens)?;
+    tokens.expect(Mark::Tag)?;
+    let tag = expression(alloc, tokens)?;
+    tokens.expect(Mark::Semicolon)?;
+    Ok(Stmt {
+        node: StmtNode::Recv { into, from, tag },
+    })
+}
+
+/// The statements up to what closes them, with no more blocks in one another than the depth.
+#[cycle(block)]
+#[tactic(auto, using(crate::proofs::BlockSteps::turning), unfolding(mpd_model::specs::Grammar::body))]
+pub fn body(
+    alloc: Global,
+    tokens: &mut Tokens<'_>,
+    depth: usize,
+    inside: bool,
+) -> Result<Vec<Stmt>, ReadFault>
+    ensures { ReadsAll (spec.body (spec.block depth) inside tokens.old) result tokens.new }
+{
+    let mut found = Vec::new(alloc);
+    let most = tokens.left() + 1;
+    for _turn in 0..most {
+        if closes(inside, tokens.peek()) {
+            return Ok(found);
+        }
+        found.push(stmt(alloc, tokens, depth)?)?;
+    }
+    Err(tokens.refuse())
+}
+
+/// A block, where no more than the depth may be opened.
+#[cycle(block)]
+#[tactic(auto, using(crate::proofs::BlockSteps::depths))]
+fn block(alloc: Global, tokens: &mut Tokens<'_>, depth: usize) -> Result<Vec<Stmt>, ReadFault>
+    ensures { ReadsAll (spec.block depth tokens.old) result tokens.new }
+{
+    if depth == 0 {
+        return Err(if tokens.sees(Mark::BraceOpen) {
+            tokens.fail(FaultCode::TooDeep)
+        } else {
+            tokens.refuse()
+        });
+    }
+    tokens.expect(Mark::BraceOpen)?;
+    let found = body(alloc, tokens, depth - 1, true)?;
+    tokens.expect(Mark::BraceClose)?;
+    Ok(found)
+}
+
+/// The block of an `else`, empty where there is none.
+#[cycle(block)]
+#[tactic(auto, unfolding(mpd_model::specs::Grammar::otherwise))]
+fn otherwise(alloc: Global, tokens: &mut Tokens<'_>, depth: usize) -> Result<Vec<Stmt>, ReadFault>
+    ensures { ReadsAll (spec.otherwise (spec.block depth) tokens.old) result tokens.new }
+{
+    if tokens.eat(Mark::Else) {
+        block(alloc, tokens, depth)
+    } else {
+        Ok(Vec::new(alloc))
+    }
+}
+
+/// What follows `if`.
+#[cycle(block)]
+#[tactic(auto, unfolding(mpd_model::specs::Grammar::choosing))]
+fn choosing(alloc: Global, tokens: &mut Tokens<'_>, depth: usize) -> Result<Stmt, ReadFault>
+    ensures { Reads (spec.choosing (spec.block depth) tokens.old) result tokens.new }
+{
+    let test = expression(alloc, tokens)?;
+    let first = block(alloc, tokens, depth)?;
+    let second = otherwise(alloc, tokens, depth)?;
+    Ok(Stmt {
+        node: StmtNode::If(test, first, second),
+    })
+}
+
+#[cycle(block)]
+#[tactic(auto, unfolding(mpd_model::specs::Grammar::stmt))]
+fn stmt(alloc: Global, tokens: &mut Tokens<'_>, depth: usize) -> Result<Stmt, ReadFault>
+    ensures { Reads (spec.stmt (spec.block depth) tokens.old) result tokens.new }
+{
+    match tokens.peek() {
+        Token::Is(Mark::If) => {
+            begun(tokens)?;
+            choosing(alloc, tokens, depth)
+        }
+        Token::Is(Mark::Print) => {
+            begun(tokens)?;
+            printing(alloc, tokens)
+        }
+        Token::Is(Mark::Send) => {
+            begun(tokens)?;
+            sending(alloc, tokens)
+        }
+        Token::Is(Mark::Recv) => {
+            begun(tokens)?;
+            receiving(alloc, tokens)
+        }
+        Token::Is(Mark::Waitany) => {
+            tokens.count()?;
+            Err(tokens.fail(FaultCode::NotInVersion))
+        }
+        _ => Err(tokens.refuse()),
+    }
+}

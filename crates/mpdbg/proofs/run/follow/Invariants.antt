@@ -1,0 +1,12 @@
+use Rattle.std.proofs.Common.{take}
+use Rattle.mpd_model.specs.World.{start}
+use Rattle.mpd_model.specs.Trail.{kept, IsReached}
+use Rattle.mpdbg.specs.Run.{Run, SameScript}
+use Rattle.mpdbg.proofs.run.follow.Given as goal
+
+abbrev pub invariant-loop-command : goal.invariant-loop-command
+invariant-loop-command l = record {
+  run : Run (start l.fn.debugger.trail.program l.fn.debugger.trail.mode) (kept l.fn.debugger.trail) (take l.command-index l.commands) l.replies.items (kept l.debugger.trail);
+  script : SameScript l.fn.debugger.trail l.debugger.trail;
+  reached : IsReached l.debugger;
+}
