@@ -6,11 +6,11 @@ use Rattle.mpdbg.specs.Divided.{Begun, splits}
 use Rattle.mpdbg.specs.declared.plain.HeadEnd.{HeadEnd}
 use Rattle.mpdbg.specs.declared.plain.HeadEnd.TheVariants.{Ended, Divided, TooLong}
 
--- where the input stands after these bytes, the rest being left: the script and the bytes behind the line that divides
-abbrev pub HeadOf : HeadEnd → List ℕ → Option (List ℕ) → List ℕ → List ℕ → Type 0
-HeadOf Ended read left script behind = IsAtEnd left × (divided read ≡ (script, [])) × (behind ≡ [])
-HeadOf Divided read left script behind = (z : List ℕ) → divided (read ++ z) ≡ (script, behind ++ z)
-HeadOf TooLong read left script behind = ((z : List ℕ) → (more : List ℕ) × ((divided (read ++ z)).0 ≡ script ++ more)) × (65536 < length script)
+-- where the input stands after these bytes, of so many reads, the rest being left: the script and the bytes behind the line that divides
+abbrev pub HeadOf : HeadEnd → List ℕ → ℕ → Option (List ℕ) → List ℕ → List ℕ → Type 0
+HeadOf Ended read reads left script behind = IsAtEnd left × (divided read ≡ (script, [])) × (behind ≡ [])
+HeadOf Divided read reads left script behind = ((z : List ℕ) → divided (read ++ z) ≡ (script, behind ++ z)) × (reads ≤ length read)
+HeadOf TooLong read reads left script behind = ((z : List ℕ) → (more : List ℕ) × ((divided (read ++ z)).0 ≡ script ++ more)) × (65536 < length script)
 
 -- the input is divided after what was read as the divider says
 abbrev pub Follows : Option (List ℕ) → Option (List ℕ) → ℕ → Begun → Type 0

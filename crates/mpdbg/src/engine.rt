@@ -1,5 +1,5 @@
 //! Reads lines from a source, asks a desk each of them, and writes the answers to a sink.
-ghost use Rattle.std.specs.Prelude.{◌≡◌, ◌≢◌, ℕ, ◌+◌, ◌<◌, ◌≤◌, List, [], length, OnOk, OnErr, IfSome, IsErrOf};
+ghost use Rattle.std.specs.Prelude.{◌≡◌, ◌≢◌, ℕ, ◌+◌, ◌<◌, ◌≤◌, List, [], ◌++◌, length, OnOk, OnErr, IfSome, IsErrOf};
 ghost use Rattle.std.specs.Io.KnownBytes.{Appends};
 ghost use Rattle.mpd_model.specs.Lines.{lines_of, ended_lines};
 ghost use Rattle.mpdbg.specs.Answered.{AddsAnswers, AddsFirstAnswers, TellsFirst, TellsPart};
@@ -192,4 +192,33 @@ pub fn run<S: Source, W: Sink, D: Desk>(
 {
     let mut feeder = Feeder::new(alloc);
     run_turns(alloc, source, sink, desk, &mut feeder, TURNS_MAX)
+}
+
+/// Answers the lines of a source behind bytes that were read before, in so many reads at most.
+pub fn run_behind<S: Source, W: Sink, D: Desk>(
+    alloc: Global,
+    source: &mut S,
+    sink: &mut W,
+    desk: &mut D,
+    behind: &[u8],
+    turns: usize,
+) -> Result<(), EngineFault>
+    ensures ok { OnOk result (TellsAll D.answers desk.old (λ z. lines_of (behind.now ++ z)) (S.remaining source.old) (S.remaining source.new) (W.contents sink.old) (W.contents sink.new) desk.new) }
+    ensures unfailed { OnOk result ((S.failures source.new ≡ S.failures source.old) × (W.failures sink.new ≡ W.failures sink.old)) }
+    ensures read_failed { IsErrOf result EngineFault.ReadFailed → (S.failures source.new ≡ S.failures source.old + 1)
+        × TellsRead D.answers desk.old (λ z. ended_lines (behind.now ++ z)) 0 (S.remaining source.old) (S.remaining source.new) (W.contents sink.old) (W.contents sink.new) desk.new }
+    ensures write_failed { IsErrOf result EngineFault.WriteFailed → (W.failures sink.new ≡ W.failures sink.old + 1)
+        × IfSome (S.remaining source.old) (λ input. TellsPart D.answers desk.old (lines_of (behind.now ++ input)) (W.contents sink.old) (W.contents sink.new)) }
+    ensures turns { IsErrOf result EngineFault.TooManyTurns → (S.calls source.new ≡ S.calls source.old + turns)
+        × TellsRead D.answers desk.old (λ z. ended_lines (behind.now ++ z)) turns (S.remaining source.old) (S.remaining source.new) (W.contents sink.old) (W.contents sink.new) desk.new }
+    ensures memory { IsErrOf result EngineFault.Memory →
+        IfSome (S.remaining source.old) (λ input. TellsFirst D.answers desk.old (lines_of (behind.now ++ input)) (W.contents sink.old) (W.contents sink.new)) }
+{
+    let mut feeder = Feeder::new(alloc);
+    match turn(alloc, &mut feeder, desk, sink, behind) {
+        Ok(()) => {}
+        Err(TellFault::WriteFailed) => return Err(EngineFault::WriteFailed),
+        Err(TellFault::Memory) => return Err(EngineFault::Memory),
+    }
+    run_turns(alloc, source, sink, desk, &mut feeder, turns)
 }

@@ -87,8 +87,8 @@ fn too_long(alloc: Global, divider: Divider, reads: usize) -> Head
 
 /// Reads a script, and no more than the read that shows where it ends.
 fn collect<S: Source>(alloc: Global, source: &mut S) -> Result<Head, EngineFault>
-    ensures ok { IfOk result (λ head. (read : List ℕ) × Consumes (S.remaining source.old) (S.remaining source.new) read × (head.reads ≤ length read + 1)
-        × HeadOf head.end read (S.remaining source.new) head.script.items head.behind.items) }
+    ensures ok { IfOk result (λ head. (read : List ℕ) × Consumes (S.remaining source.old) (S.remaining source.new) read
+        × HeadOf head.end read head.reads (S.remaining source.new) head.script.items head.behind.items) }
     ensures reads { IfOk result (λ head. (S.calls source.new ≡ S.calls source.old + head.reads) × (S.failures source.new ≡ S.failures source.old) × (head.reads ≤ 1000000)) }
     ensures fault { IfErr result (λ fault. fault ≢ EngineFault.WriteFailed) }
     ensures read_failed { IsErrOf result EngineFault.ReadFailed → S.failures source.new ≡ S.failures source.old + 1 }
