@@ -5,7 +5,7 @@ use Rattle.mpd_model.specs.Lines.{lines_of, ended_lines}
 use Rattle.mpdbg.specs.Answered.{Answered, Tells, TellsFirst, TellsPart}
 use Rattle.mpdbg.specs.Forward.{ended_from, part_from, last_line, lines_from}
 use Rattle.mpdbg.specs.Told.{TellsAll, TellsRead}
-use Rattle.mpdbg.proofs.SentLaws.{appends_append}
+use Rattle.mpdbg.proofs.SentLaws.{appends_append, appends_none}
 use Rattle.mpdbg.proofs.AnsweredLaws.{answered_append}
 use Rattle.mpdbg.proofs.ForwardLaws.{ended_append, part_append, lines_at, ended_at}
 use Rattle.mpdbg.proofs.GoingLaws.{tells_append, tells_along}
@@ -64,3 +64,8 @@ pub turn_part : {D : Type 0} (A : D → List ℕ → List ℕ → D → Type 0) 
 turn_part A d p b None w0 w1 none t = tt
 turn_part A d p b (Some z) w0 w1 none t =
     (t.0, t.1 ++ lines_from (part_from p b) z, t.2, t.3, t.4, sym (append_assoc t.0 t.1 (lines_from (part_from p b) z)) ∙ ap (λ x. x ++ lines_from (part_from p b) z) t.5 ∙ lines_split p (part_from p b) b z none refl, t.6, t.7)
+
+-- where no debugger was made, no line was answered
+pub opened_not : {D : Type 0} (A : D → List ℕ → List ℕ → D → Type 0) (d : D) (lines : List ℕ → List (List ℕ)) (input held : Option (List ℕ)) → IfSome input (λ z. TellsFirst A d (lines z) held held)
+opened_not A d lines None held = tt
+opened_not A d lines (Some z) held = ([], lines z, d, refl, ([], appends_none held, (refl, refl)))

@@ -10,3 +10,4 @@ pub mod FaultWords
 pub mod Divided
 pub mod Collected
 pub mod Said
+pub mod Plain

@@ -1,16 +1,26 @@
 //! A script and the lines of a trace from one source.
-ghost use Rattle.std.specs.Prelude.{◌≡◌, ◌≢◌, ℕ, ◌+◌, ◌<◌, ◌≤◌, List, [], ◌++◌, length, OnOk, IfOk, IfErr, IfSome, IsErrOf, ◌⊎◌};
+ghost use Rattle.std.specs.Prelude.{◌≡◌, ◌≢◌, ℕ, ◌+◌, ◌<◌, ◌≤◌, List, [], ◌++◌, length, OnOk, IfOk, IfErr, IfSome, IsErrOf, ◌⊎◌, ◌==◌, count_by, Err};
 ghost use Rattle.std.specs.Io.KnownBytes.{Consumes};
-ghost use Rattle.mpd_model.specs.Lines.{lines_of, ended_lines};
+ghost use Rattle.mpd_model.specs.Grammar.{reading};
+ghost use Rattle.mpd_model.specs.Lines.{lines_of, ended_lines, divided};
 ghost use Rattle.mpdbg.specs.Answered.{TellsFirst, TellsPart};
 ghost use Rattle.mpdbg.specs.Collected.{HeadOf};
+ghost use Rattle.mpd_model.specs.Answers.{AnswerOrMemory};
+ghost use Rattle.mpd_model.specs.Trail.{Standing, first_standing};
 ghost use Rattle.mpdbg.specs.Divided.{splits};
+ghost use Rattle.mpdbg.specs.Plain.{line_at, PlainAll, PlainRead, PlainFirst, PlainPart};
 ghost use Rattle.mpdbg.specs.Told.{TellsAll, TellsRead};
 
 use crate::divider::{Divider, Division};
-use crate::engine::{EngineFault, READ_MAX, TURNS_MAX};
-use mpd_model::device::Source;
-use std::alloc::{AllocError, Global};
+use crate::debugger::Debugger;
+use crate::engine::{EngineFault, READ_MAX, TURNS_MAX, run_behind};
+use mpd_model::call::Mode;
+use mpd_model::device::{Sink, Source};
+use mpd_model::read_fault::{FaultCode, ReadFault};
+use mpd_model::script::Script;
+use mpd_script::read;
+use std::alloc::Global;
+use thiserror::Error;
 
 /// Why no more of the input was read.
 #[derive(Clone, Copy, Debug)]
@@ -117,4 +127,111 @@ fn collect<S: Source>(alloc: Global, source: &mut S) -> Result<Head, EngineFault
         }
     }
     Err(EngineFault::TooManyTurns)
+}
+
+/// Why `plain` has ended before its input has.
+#[derive(Clone, Copy, Debug, PartialEq, Eq, Error)]
+pub enum PlainFault {
+    /// The script is refused, with the line of the fault's place, from 1.
+    #[error("script refused {0} line {1}")]
+    Script(ReadFault, usize),
+    /// The engine's own.
+    #[error("{0}")]
+    Engine(EngineFault),
+}
+
+/// The line feeds of a text.
+fn feeds(text: &[u8]) -> usize
+    ensures value { result ≡ count_by (λ b. b == 10) text.now }
+    ensures bound { result ≤ length text.now }
+{
+    text.iter().filter(|byte| **byte == b'\n').count()
+}
+
+/// The line of a place in a text, from 1.
+#[tactic(auto, using(std::proofs::lemmas::List::take_all))]
+fn line_at(text: &[u8], place: usize) -> usize
+    ensures { result ≡ line_at text.now place }
+{
+    if place < text.len() {
+        let (front, _) = text.split_at(place);
+        return feeds(front) + 1;
+    }
+    feeds(text) + 1
+}
+
+/// The answer to a script that could not be read.
+fn refusal(text: &[u8], fault: ReadFault) -> PlainFault
+    ensures memory { fault.code ≡ FaultCode.Memory → result ≡ PlainFault.Engine EngineFault.Memory }
+    ensures script { fault.code ≢ FaultCode.Memory → result ≡ PlainFault.Script fault (line_at text.now fault.place) }
+{
+    match fault.code {
+        FaultCode::Memory => PlainFault::Engine(EngineFault::Memory),
+        _ => PlainFault::Script(fault, line_at(text, fault.place)),
+    }
+}
+
+/// Traces a script behind bytes that were read before, in so many reads at most.
+#[tactic(auto, using(crate::proofs::BehindLaws::opened_not))]
+fn trace_behind<S: Source, W: Sink>(
+    alloc: Global,
+    script: &Script,
+    source: &mut S,
+    sink: &mut W,
+    behind: &[u8],
+    turns: usize,
+) -> Result<(), EngineFault>
+    ensures ok { OnOk result ((e : Standing) × TellsAll AnswerOrMemory (first_standing script.now Mode.Rendezvous) (λ z. lines_of (behind.now ++ z)) (S.remaining source.old) (S.remaining source.new) (W.contents sink.old) (W.contents sink.new) e) }
+    ensures unfailed { OnOk result ((S.failures source.new ≡ S.failures source.old) × (W.failures sink.new ≡ W.failures sink.old)) }
+    ensures read_failed { IsErrOf result EngineFault.ReadFailed → (S.failures source.new ≡ S.failures source.old + 1)
+        × ((e : Standing) × TellsRead AnswerOrMemory (first_standing script.now Mode.Rendezvous) (λ z. ended_lines (behind.now ++ z)) 0 (S.remaining source.old) (S.remaining source.new) (W.contents sink.old) (W.contents sink.new) e) }
+    ensures write_failed { IsErrOf result EngineFault.WriteFailed → (W.failures sink.new ≡ W.failures sink.old + 1)
+        × IfSome (S.remaining source.old) (λ input. TellsPart AnswerOrMemory (first_standing script.now Mode.Rendezvous) (lines_of (behind.now ++ input)) (W.contents sink.old) (W.contents sink.new)) }
+    ensures turns { IsErrOf result EngineFault.TooManyTurns → (S.calls source.new ≡ S.calls source.old + turns)
+        × ((e : Standing) × TellsRead AnswerOrMemory (first_standing script.now Mode.Rendezvous) (λ z. ended_lines (behind.now ++ z)) turns (S.remaining source.old) (S.remaining source.new) (W.contents sink.old) (W.contents sink.new) e) }
+    ensures memory { IsErrOf result EngineFault.Memory →
+        IfSome (S.remaining source.old) (λ input. TellsFirst AnswerOrMemory (first_standing script.now Mode.Rendezvous) (lines_of (behind.now ++ input)) (W.contents sink.old) (W.contents sink.new)) }
+{
+    let Ok(mut debugger) = Debugger::start(alloc, script, Mode::Rendezvous) else {
+        return Err(EngineFault::Memory);
+    };
+    run_behind(alloc, source, sink, &mut debugger, behind, turns)
+}
+
+/// Reads a script up to a line `---` (docs/FORMATS.md) and answers the trace words behind it. Standard sends are not
+/// buffered. A script that is refused writes nothing, and the reads of the script count towards 1,000,000.
+pub fn plain<S: Source, W: Sink>(
+    alloc: Global,
+    source: &mut S,
+    sink: &mut W,
+) -> Result<(), PlainFault>
+    ensures ok { OnOk result (PlainAll (S.remaining source.old) (S.remaining source.new) (W.contents sink.old) (W.contents sink.new)) }
+    ensures unfailed { OnOk result ((S.failures source.new ≡ S.failures source.old) × (W.failures sink.new ≡ W.failures sink.old)) }
+    ensures script { (fault : ReadFault) (line : ℕ) → IsErrOf result (PlainFault.Script fault line) → (sink.new ≡ sink.old) × (fault.code ≢ FaultCode.Memory)
+        × IfSome (S.remaining source.old) (λ input. (reading (divided input).0 ≡ Err fault) × (line ≡ line_at (divided input).0 fault.place)) }
+    ensures read_failed { IsErrOf result (PlainFault.Engine EngineFault.ReadFailed) → (S.failures source.new ≡ S.failures source.old + 1)
+        × ((sink.new ≡ sink.old) ⊎ PlainRead 0 (S.remaining source.old) (S.remaining source.new) (W.contents sink.old) (W.contents sink.new)) }
+    ensures write_failed { IsErrOf result (PlainFault.Engine EngineFault.WriteFailed) → (W.failures sink.new ≡ W.failures sink.old + 1)
+        × IfSome (S.remaining source.old) (λ input. PlainPart input (W.contents sink.old) (W.contents sink.new)) }
+    ensures turns { IsErrOf result (PlainFault.Engine EngineFault.TooManyTurns) → (S.calls source.new ≡ S.calls source.old + 1000000)
+        × ((sink.new ≡ sink.old) ⊎ PlainRead 1000000 (S.remaining source.old) (S.remaining source.new) (W.contents sink.old) (W.contents sink.new)) }
+    ensures memory { IsErrOf result (PlainFault.Engine EngineFault.Memory) →
+        (sink.new ≡ sink.old) ⊎ IfSome (S.remaining source.old) (λ input. PlainFirst input (W.contents sink.old) (W.contents sink.new)) }
+{
+    let head = match collect(alloc, source) {
+        Ok(head) => head,
+        Err(fault) => return Err(PlainFault::Engine(fault)),
+    };
+    let script = match read(alloc, &head.script) {
+        Ok(script) => script,
+        Err(fault) => return Err(refusal(&head.script, fault)),
+    };
+    if let HeadEnd::Ended = head.end {
+        return Ok(());
+    }
+    let turns = TURNS_MAX - head.reads;
+    match trace_behind(alloc, &script, source, sink, &head.behind, turns) {
+        Ok(()) => Ok(()),
+        Err(fault) => Err(PlainFault::Engine(fault)),
+    }
 }
