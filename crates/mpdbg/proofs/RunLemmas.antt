@@ -81,7 +81,6 @@ same_taken_back s n e = record { program = ap (λ (t : Trail). t.program) e; mod
 pub same_stays : (s n : Trail) → n ≡ s → SameScript s n
 same_stays s n e = record { program = ap (λ (t : Trail). t.program) e; mode = ap (λ (t : Trail). t.mode) e }
 
-
 pub carried_memory : (s n : Standing) (a : Step) → n.trail ≡ s.trail → n.world ≡ s.world → (next s.world a ≡ None → ⊥) → Carried s (Apply a) Memory n
 carried_memory s n a trail world some = (some_of (next s.world a) some, record { trail = trail; world = world })
 

@@ -21,13 +21,20 @@ use std::io::Read;
 use std::process::Abort;
 use std::test::Fail;
 
-const FIRST: &[u8] = b"mpd 1;\nranks 2;\nvar x;\nif rank == 0 { send 7 to 1 tag 0; } else { recv x from 0 tag 0; print x; }";
+const FIRST: &[u8] =
+    b"mpd 1;\nranks 2;\nvar x;\nif rank == 0 { send 7 to 1 tag 0; } else { recv x from 0 tag 0; print x; }";
 
 fn call(rank: usize, index: usize) -> CallId {
     CallId { rank, index }
 }
 
-fn text_of(alloc: Global, front: &str, piece: &str, count: usize, back: &str) -> Result<String, Fail> {
+fn text_of(
+    alloc: Global,
+    front: &str,
+    piece: &str,
+    count: usize,
+    back: &str,
+) -> Result<String, Fail> {
     let mut text = String::from_str(alloc, front)?;
     for _ in 0..count {
         text.push_str(piece)?;
@@ -92,14 +99,58 @@ fn reads_up_to_its_limits(rt: HostRuntime) -> Result<(), Fail> {
     let closed = text_of(alloc, deep.as_str(), ")", 64, ";")?;
     assert!(rt; read(alloc, closed.as_bytes()).is_ok(), "64 brackets");
     let deeper = text_of(alloc, "mpd 1;ranks 1;print ", "(", 65, "1")?;
-    refused(&rt, alloc, text_of(alloc, deeper.as_str(), ")", 65, ";")?.as_str(), FaultCode::TooDeep, 84);
+    refused(
+        &rt,
+        alloc,
+        text_of(alloc, deeper.as_str(), ")", 65, ";")?.as_str(),
+        FaultCode::TooDeep,
+        84,
+    );
     let open = text_of(alloc, "mpd 1;ranks 1;", "if 1 {", 64, "")?;
-    assert!(rt; read(alloc, text_of(alloc, open.as_str(), "}", 64, "")?.as_bytes()).is_ok(), "64 blocks");
-    refused(&rt, alloc, text_of(alloc, "mpd 1;ranks 1;", "if 1 {", 65, "")?.as_str(), FaultCode::TooDeep, 403);
-    assert!(rt; read(alloc, text_of(alloc, "mpd 1;ranks 1;", "print 1;", 4096, "")?.as_bytes()).is_ok(), "4,096 statements");
-    refused(&rt, alloc, text_of(alloc, "mpd 1;ranks 1;", "print 1;", 4097, "")?.as_str(), FaultCode::TooMany, 32782);
-    refused(&rt, alloc, text_of(alloc, "", " ", 65537, "")?.as_str(), FaultCode::TooLong, 65536);
-    refused(&rt, alloc, text_of(alloc, "", " ", 65536, "")?.as_str(), FaultCode::Expected, 65536);
+    assert!(rt;
+        read(
+            alloc,
+            text_of(alloc, open.as_str(), "}", 64, "")?.as_bytes()
+        )
+        .is_ok(),
+        "64 blocks"
+    );
+    refused(
+        &rt,
+        alloc,
+        text_of(alloc, "mpd 1;ranks 1;", "if 1 {", 65, "")?.as_str(),
+        FaultCode::TooDeep,
+        403,
+    );
+    assert!(rt;
+        read(
+            alloc,
+            text_of(alloc, "mpd 1;ranks 1;", "print 1;", 4096, "")?.as_bytes()
+        )
+        .is_ok(),
+        "4,096 statements"
+    );
+    refused(
+        &rt,
+        alloc,
+        text_of(alloc, "mpd 1;ranks 1;", "print 1;", 4097, "")?.as_str(),
+        FaultCode::TooMany,
+        32782,
+    );
+    refused(
+        &rt,
+        alloc,
+        text_of(alloc, "", " ", 65537, "")?.as_str(),
+        FaultCode::TooLong,
+        65536,
+    );
+    refused(
+        &rt,
+        alloc,
+        text_of(alloc, "", " ", 65536, "")?.as_str(),
+        FaultCode::Expected,
+        65536,
+    );
     Ok(())
 }
 
@@ -123,16 +174,29 @@ fn prints_states(rt: HostRuntime) -> Result<(), Fail> {
     let script = read(alloc, FIRST).expect(&rt, "the first script");
     let mut core = Core::start(alloc, &script, Mode::Rendezvous)?;
     assert_eq!(rt; core.rank_count(), 2);
-    for step in [Step::Local(0), Step::Local(0), Step::Local(1), Step::Local(1), Step::Match(call(0, 0), call(1, 0)), Step::Wake(1)] {
+    for step in [
+        Step::Local(0),
+        Step::Local(0),
+        Step::Local(1),
+        Step::Local(1),
+        Step::Match(call(0, 0), call(1, 0)),
+        Step::Wake(1),
+    ] {
         assert!(rt; core.is_enabled(step));
         assert!(rt; core.apply(step).is_ok());
     }
     let send = call(0, 0);
     assert!(rt; core.call(send).is_some());
-    assert_eq!(rt; core.call_text(send)?.as_str(), "send to 1 tag 0 value 7 with 1.0");
+    assert_eq!(rt;
+        core.call_text(send)?.as_str(),
+        "send to 1 tag 0 value 7 with 1.0"
+    );
     let recv = call(1, 0);
     assert!(rt; core.call(recv).is_some());
-    assert_eq!(rt; core.call_text(recv)?.as_str(), "recv from 0 tag 0 with 0.0 value 7");
+    assert_eq!(rt;
+        core.call_text(recv)?.as_str(),
+        "recv from 0 tag 0 with 0.0 value 7"
+    );
     assert!(rt; core.rank_count() > 1);
     assert_eq!(rt; core.rank_text(0)?.as_str(), "blocked 0");
     assert_eq!(rt; core.rank_text(1)?.as_str(), "at 4");
@@ -148,22 +212,47 @@ fn prints_outcomes(rt: HostRuntime) -> Result<(), Fail> {
     let alloc = rt.alloc();
     assert_eq!(rt; print_outcome(alloc, &Outcome::Done)?.as_str(), "done");
     let calls = vec![in alloc; call(0, 1), call(1, 0)]?;
-    assert_eq!(rt; print_outcome(alloc, &Outcome::Deadlock(CallList::new(calls)))?.as_str(), "deadlock 0.1 1.0");
+    assert_eq!(rt;
+        print_outcome(alloc, &Outcome::Deadlock(CallList::new(calls)))?.as_str(),
+        "deadlock 0.1 1.0"
+    );
     let calls = vec![in alloc; call(0, 0)]?;
-    assert_eq!(rt; print_outcome(alloc, &Outcome::Leftovers(CallList::new(calls)))?.as_str(), "leftovers 0.0");
-    let trapped = |rank: usize| TrappedRank { rank, trap: mpd_model::call::Trap::BadRank };
+    assert_eq!(rt;
+        print_outcome(alloc, &Outcome::Leftovers(CallList::new(calls)))?.as_str(),
+        "leftovers 0.0"
+    );
+    let trapped = |rank: usize| TrappedRank {
+        rank,
+        trap: mpd_model::call::Trap::BadRank,
+    };
     let traps = vec![in alloc; trapped(0), trapped(1)]?;
-    assert_eq!(rt; print_outcome(alloc, &Outcome::Trap(TrapList::new(traps)))?.as_str(), "trap 0 bad-rank 1 bad-rank");
+    assert_eq!(rt;
+        print_outcome(alloc, &Outcome::Trap(TrapList::new(traps)))?.as_str(),
+        "trap 0 bad-rank 1 bad-rank"
+    );
     Ok(())
 }
 
 #[test]
 fn reads_steps(rt: HostRuntime) {
     assert_eq!(rt; step_of("local 0"), Some(Step::Local(0)));
-    assert_eq!(rt; step_of(" match\t0.0  1.2 "), Some(Step::Match(call(0, 0), call(1, 2))));
+    assert_eq!(rt;
+        step_of(" match\t0.0  1.2 "),
+        Some(Step::Match(call(0, 0), call(1, 2)))
+    );
     assert_eq!(rt; step_of("wake 000000001"), Some(Step::Wake(1)));
     assert_eq!(rt; step_of("release"), Some(Step::Release));
-    for text in ["", "local", "local 1 2", "match 0.0", "match 0 1", "wake 0000000001", "release 1", "Local 0", "local 0\r"] {
+    for text in [
+        "",
+        "local",
+        "local 1 2",
+        "match 0.0",
+        "match 0 1",
+        "wake 0000000001",
+        "release 1",
+        "Local 0",
+        "local 0\r",
+    ] {
         assert_eq!(rt; step_of(text), None, "{text}");
     }
 }
@@ -214,7 +303,10 @@ fn fails_where_a_device_fails(rt: HostRuntime) -> Result<(), Fail> {
         } else {
             assert_eq!(rt; ended, Ok(()));
         }
-        assert!(rt; wanted.starts_with(written.as_slice()), "up to byte {limit}");
+        assert!(rt;
+            wanted.starts_with(written.as_slice()),
+            "up to byte {limit}"
+        );
     }
     for limit in 0..30u64 {
         let mut source = FailingSource::new(FromReader::new(words), Limit::Bytes(limit));
@@ -227,7 +319,10 @@ fn fails_where_a_device_fails(rt: HostRuntime) -> Result<(), Fail> {
             assert_eq!(rt; ended, Ok(()));
             assert_eq!(rt; written.as_slice(), wanted);
         }
-        assert!(rt; wanted.starts_with(written.as_slice()), "up to byte {limit}");
+        assert!(rt;
+            wanted.starts_with(written.as_slice()),
+            "up to byte {limit}"
+        );
     }
     Ok(())
 }
