@@ -80,7 +80,7 @@ pub record Rest (k : Mark) (t : Tree) (i j : Input) : Type 0 where
   pub lines : j.lines ≡ i.lines ++ begun
   pub written : (s : Spot) → s.token ≡ Is k → WrittenTree i.decls (s ∷ used) t (s.line ∷ begun)
 
-append_none : (A : Type 0) (xs : List A) → xs ≡ xs ++ []
+pub append_none : (A : Type 0) (xs : List A) → xs ≡ xs ++ []
 append_none A [] = refl
 append_none A (x ∷ xs) = ap (λ r. x ∷ r) (append_none A xs)
 
