@@ -134,11 +134,11 @@ joined_agree : (n : ℕ) (p q : Parser Term) → Agree n p q → Lowers p → (f
 joined_agree n p q a s f g c left None i h = refl
 joined_agree n p q a s f g c left (Some op) i h =
     bind_same (spend i) _ _ (λ x e.
-        let low = spend_lowers i x e in
-        let b : x.1.budget < n = omega arith in
-        rw (← a x.1 b) (bind_same (p x.1) _ _ (λ y d.
-            let less : y.1.budget ≤ x.1.budget = s x.1 y.1 y.0 d in
-            c (op2 op left y.0) y.1 (omega arith))))
+    let low = spend_lowers i x e in
+    let b : x.1.budget < n = omega arith in
+    rw (← a x.1 b) (bind_same (p x.1) _ _ (λ y d.
+    let less : y.1.budget ≤ x.1.budget = s x.1 y.1 y.0 d in
+    c (op2 op left y.0) y.1 (omega arith))))
 
 chain_agree : (n : ℕ) (p q : Parser Term) → Agree n p q → Lowers p → (k m : ℕ) (left : Term) → Agree n (chain p k m left) (chain q k m left)
 unfolding chain
@@ -151,8 +151,8 @@ level_agree n p q a s zero i h = atom_agree n p q a i h
 level_agree n p q a s (suc k) i h =
     let e = level_agree n p q a s k in
     rw (← e i h) (bind_same (level p k i) _ _ (λ x d.
-        let less : x.1.budget ≤ i.budget = level_lowers p s k i x.1 x.0 d in
-        chain_agree (suc n) (level p k) (level q k) e (level_lowers p s k) (suc k) (turns (suc k) x.1) x.0 x.1 (omega arith)))
+    let less : x.1.budget ≤ i.budget = level_lowers p s k i x.1 x.0 d in
+    chain_agree (suc n) (level p k) (level q k) e (level_lowers p s k) (suc k) (turns (suc k) x.1) x.0 x.1 (omega arith)))
 
 pub expr_enough : (n k : ℕ) → Agree n (expr n k) (expr (suc n) k)
 unfolding expr
@@ -217,8 +217,8 @@ rounds_more : (e : ℕ) (p q : ℕ → Parser Term) → Follows e (p 5) (q 5) �
 unfolding rounds
 rounds_more e p q a i h =
     bind_more e (spend i) (spend (with_more e i)) _ _ (spend_more e i) (λ x d c.
-      bind_more e (p 5 x.1) (q 5 (with_more e x.1)) _ _ (a x.1) (λ y d' c'.
-        bind_more e (expect m.RoundClose y.1) (expect m.RoundClose (with_more e y.1)) _ _ (expect_more e m.RoundClose y.1) (λ z d'' c''. refl) c') c) h
+    bind_more e (p 5 x.1) (q 5 (with_more e x.1)) _ _ (a x.1) (λ y d' c'.
+    bind_more e (expect m.RoundClose y.1) (expect m.RoundClose (with_more e y.1)) _ _ (expect_more e m.RoundClose y.1) (λ z d'' c''. refl) c') c) h
 
 refuse_more : (e : ℕ) (i : Input) → refusal (with_more e i) ≡ refusal i
 unfolding refusal token place
@@ -243,10 +243,10 @@ joined_more : (e : ℕ) (p q : Parser Term) → Follows e p q → Lowers p → (
 joined_more e p q a s f g left None i c h = refl
 joined_more e p q a s f g left (Some op) i c h =
     bind_more e (spend i) (spend (with_more e i)) _ _ (spend_more e i) (λ x d c'.
-      bind_more e (p x.1) (q (with_more e x.1)) _ _ (a x.1) (λ y d' c''.
-        let low = spend_lowers i x d in
-        let less : y.1.budget ≤ x.1.budget = s x.1 y.1 y.0 d' in
-        c (op2 op left y.0) y.1 (omega arith) c'') c') h
+    bind_more e (p x.1) (q (with_more e x.1)) _ _ (a x.1) (λ y d' c''.
+    let low = spend_lowers i x d in
+    let less : y.1.budget ≤ x.1.budget = s x.1 y.1 y.0 d' in
+    c (op2 op left y.0) y.1 (omega arith) c'') c') h
 
 -- with as many turns
 chain_same : (e : ℕ) (p q : Parser Term) → Follows e p q → Lowers p → (k n : ℕ) (left : Term) → Follows e (chain p k n left) (chain q k n left)
@@ -263,7 +263,7 @@ chain_more e p q a s k zero more left i is b h = absurd (omega arith)
 chain_more e p q a s k (suc n) more left i is b h =
     let next_turn : more ≡ suc (n + e) = omega arith in
     rw next_turn (joined_more e p q a s (chain p k n) (chain q k (n + e)) left (operator_at k (token i)) i
-      (λ l x less c. chain_more e p q a s k n (n + e) l x refl (omega arith) c) h)
+    (λ l x less c. chain_more e p q a s k n (n + e) l x refl (omega arith) c) h)
 
 turns_more : (e : ℕ) (p q : Parser Term) → Follows e p q → Lowers p → (k : ℕ) (left : Term) (i : Input)
     → IsNotTooDeep (chain p k (turns k i) left i) → chain q k (turns k (with_more e i)) left (with_more e i) ≡ leaving_more e (chain p k (turns k i) left i)
@@ -280,7 +280,7 @@ unfolding level
 level_more e p q a s zero i h = atom_more e p q a i h
 level_more e p q a s (suc k) i h =
     bind_more e (level p k i) (level q k (with_more e i)) _ _ (level_more e p q a s k i) (λ x d c.
-      turns_more e (level p k) (level q k) (level_more e p q a s k) (level_lowers p s k) (suc k) x.0 x.1 c) h
+    turns_more e (level p k) (level q k) (level_more e p q a s k) (level_lowers p s k) (suc k) x.0 x.1 c) h
 
 expr_more_from : (e n more k : ℕ) → more ≡ n + e → Follows e (expr n k) (expr more k)
 unfolding expr

@@ -30,8 +30,8 @@ choosing_same : (p q : Parser (List Tree)) → Same p q → Same (choosing p) (c
 unfolding choosing
 choosing_same p q a i h =
     bind_same (expression i) (expression i) _ _ (λ d. refl) (λ x c.
-      bind_same (p x.1) (q x.1) _ _ (a x.1) (λ y c'.
-        bind_same (otherwise p y.1) (otherwise q y.1) _ _ (otherwise_same p q a y.1) (λ z c''. refl) c') c) h
+    bind_same (p x.1) (q x.1) _ _ (a x.1) (λ y c'.
+    bind_same (otherwise p y.1) (otherwise q y.1) _ _ (otherwise_same p q a y.1) (λ z c''. refl) c') c) h
 
 stmt_case : (p q : Parser (List Tree)) → Same p q → (tk : Token) → Same (stmt_by p tk) (stmt_by q tk)
 stmt_case p q a (Is m.If) i h = bind_same (begun i) (begun i) _ _ (λ d. refl) (λ x c. choosing_same p q a x.1 c) h
@@ -71,7 +71,7 @@ block_same e zero (suc more) is i h = none_case more i h
 block_same e (suc n) more is i h =
     let one : more ≡ suc (n + e) = omega arith in
     rw one (bind_same (expect m.BraceOpen i) (expect m.BraceOpen i) _ _ (λ d. refl) (λ x c.
-      bind_same (body (block n) true x.1) (body (block (n + e)) true x.1) _ _ (body_same (block n) (block (n + e)) (block_same e n (n + e) refl) true x.1) (λ y c'. refl) c) h)
+    bind_same (body (block n) true x.1) (body (block (n + e)) true x.1) _ _ (body_same (block n) (block (n + e)) (block_same e n (n + e) refl) true x.1) (λ y c'. refl) c) h)
 
 pub body_more : (depth more : ℕ) (inside : Bool) (i : Input) → IsNotTooDeep (body (block depth) inside i) → body (block (depth + more)) inside i ≡ body (block depth) inside i
 body_more depth more inside i h = body_same (block depth) (block (depth + more)) (block_same more depth (depth + more) refl) inside i h

@@ -36,7 +36,7 @@ slot_more n v h (e ∷ es) d name =
     let h' = h + handle_cells e.kind e.size in
     let more = slot_more (n + 1) v' h' es d name in
     let same = last_same (n + 1 + length es) (n + length (e ∷ es)) (v' + variables_in es) (v + variables_in (e ∷ es)) (h' + handles_in es) (h + handles_in (e ∷ es)) d name
-      (omega arith) (omega arith) (omega arith) in
+    (omega arith) (omega arith) (omega arith) in
     ap (λ r. cond (bytes_eq e.name name) (Some (slot_of n v h e)) r) (more ∙ ap (λ r. or_else (slot_from (n + 1) v' h' es name) r) same)
     ∙ or_cond (bytes_eq e.name name) (slot_of n v h e) (slot_from (n + 1) v' h' es name) (last (n + length (e ∷ es)) (v + variables_in (e ∷ es)) (h + handles_in (e ∷ es)) d name)
 
@@ -52,9 +52,9 @@ unfolding slot_in
 slot_put ds d s name new is =
     rw is (slot_more 0 0 0 ds d name
     ∙ ap (λ r. or_else (slot_from 0 0 0 ds name) r) (last_same (0 + length ds) (length ds) (0 + variables_in ds) (variables_in ds) (0 + handles_in ds) (handles_in ds) d name
-      (omega arith) (omega arith) (omega arith))
+    (omega arith) (omega arith) (omega arith))
     ∙ put_case (bytes_eq d.name name) (slot_of (length ds) (variables_in ds) (handles_in ds) d) (slot_from 0 0 0 ds name)
-      (λ e. ap (λ t. slot_from 0 0 0 ds t) (sym ((bytes_eq-Decides d.name name).0 e)) ∙ new))
+    (λ e. ap (λ t. slot_from 0 0 0 ds t) (sym ((bytes_eq-Decides d.name name).0 e)) ∙ new))
 
 -- ---- maps keyed by names
 

@@ -156,7 +156,7 @@ more_decls i x y j s e d r = record {
   used = s.spot ∷ d.name ∷ d.end ∷ r.used;
   is = s.moves.is ∙ ap (λ q. s.spot ∷ q) (d.is ∙ ap (λ q. d.name ∷ d.end ∷ q) r.is);
   written = declares i.decls j.decls s.spot d.name d.end r.used e d.is_name (rw (← s.moves.decls) d.new) d.is_end
-    (rw (← (d.decls ∙ ap (λ ds. ds ++ variable_of d.name.text ∷ []) s.moves.decls)) r.written);
+      (rw (← (d.decls ∙ ap (λ ds. ds ++ variable_of d.name.text ∷ []) s.moves.decls)) r.written);
   lines = r.lines ∙ d.lines ∙ s.moves.lines;
 }
 
@@ -216,7 +216,7 @@ header_is n i x1 x2 x3 x4 x5 x6 j s1 e1 s2 e2 s3 e3 s4 e4 s5 e5 s6 e6 ds =
       second = s6.spot;
       used = ds.used;
       is = s1.moves.is ∙ ap (λ r. s1.spot ∷ r) (s2.moves.is ∙ ap (λ r. s2.spot ∷ r) (s3.moves.is ∙ ap (λ r. s3.spot ∷ r)
-        (s4.moves.is ∙ ap (λ r. s4.spot ∷ r) (s5.moves.is ∙ ap (λ r. s5.spot ∷ r) (s6.moves.is ∙ ap (λ r. s6.spot ∷ r) ds.is)))));
+          (s4.moves.is ∙ ap (λ r. s4.spot ∷ r) (s5.moves.is ∙ ap (λ r. s5.spot ∷ r) (s6.moves.is ∙ ap (λ r. s6.spot ∷ r) ds.is)))));
       is_mpd = e1;
       is_version = e2;
       is_first = e3;
@@ -296,8 +296,8 @@ script_is i x j n ts none_yet no_lines h b last =
     let lines : j.lines ≡ b.begun = b.lines ∙ ap (λ r. r ++ b.begun) (h.lines ∙ no_lines) in
     let ds = carried_decls i.decls [] h.used x.decls none_yet h.decls in
     rw (h.is, used, b.decls, lines) (script h.mpd h.version h.first h.ranks h.count h.second h.used b.used
-      (record { version = 1; ranks = n; decls = x.decls; body = ts; lines = b.begun })
-      h.is_mpd h.is_version h.is_first h.is_ranks h.is_count h.is_second ds b.written)
+    (record { version = 1; ranks = n; decls = x.decls; body = ts; lines = b.begun })
+    h.is_mpd h.is_version h.is_first h.is_ranks h.is_count h.is_second ds b.written)
 
 script_written : (i : Input) (y : Program × Input) → NoEnd i.tokens → i.decls ≡ [] → i.lines ≡ [] → grammar.script i ≡ Ok y → WrittenScript i.tokens y.0
 unfolding grammar.script

@@ -19,8 +19,11 @@ use std::marker::Model;
 use std::str;
 
 const MAX_BUDGET: usize = 64;
+
 const MAX_VARIABLES: usize = 1024;
+
 const MAX_HANDLES: usize = 256;
+
 const MAX_STATEMENTS: usize = 4096;
 
 /// A place in a text, which contracts see as an `Input`: the tokens from there on, and what was read before.
