@@ -82,5 +82,7 @@ enabled_parts w =
     ∙ ap (λ b. list_any (is_enabled w) (map Local (rank_numbers w)) || b) (list_any-append (is_enabled w) (map Wake (rank_numbers w)) (flat_map (matches_of w) (rank_numbers w)))
 
 pub ruleset any_mapped = (mapped_on, mapped_now)
+
 pub ruleset any_joined = (joined_on, joined_now)
+
 pub ruleset stuck_by = (enabled_parts)

@@ -134,6 +134,9 @@ ended_not (u ∷ vs) zero v total h read e so_far =
 ended_not (u ∷ vs) (suc i) v total h read e so_far = ended_not vs i v total (omega arith) read e so_far
 
 pub ruleset ending = (ended_on, ended_not)
+
 pub ruleset at_rank = (local_read, local_none, local_written, put_back_read, update_read, stays_read, wake_back)
+
 pub ruleset reading = (slice_get-ranks_in)
+
 pub ruleset starting = (start_more)

@@ -58,4 +58,5 @@ pub length-heads : (xs : List Pending) → length (heads xs) ≡ length xs
 length-heads xs = simp (length-reverse, length-map)
 
 pub ruleset falling = (statements_pos, statements_at)
+
 pub ruleset counting = (counted_more)

@@ -2,9 +2,9 @@
 #![tactic(auto)]
 
 pub mod change;
+pub mod ending;
 pub mod eval;
 pub mod fault;
-pub mod ending;
 mod lookup;
 pub mod pending;
 pub mod rank;

@@ -36,9 +36,13 @@ pub fn is_fitting(
     match (send, recv) {
         (
             Some(CallKind::Send { to, tag, .. }),
-            Some(CallKind::Recv {
-                from, tag: wanted, ..
-            }),
+            Some(
+                CallKind::Recv {
+                    from,
+                    tag: wanted,
+                    ..
+                },
+            ),
         ) => to == receiver && from == sender && tag == wanted,
         _ => false,
     }

@@ -37,14 +37,16 @@ impl<'s> Model for RankState<'s> {
 
     ghost coded = { rank_view_code };
 
-    ghost view = { λ r. record { rank = record {
-      rest = heads r.rest.items;
-      vars = r.vars.items;
-      handles = r.handles.items;
-      calls = r.calls.items;
-      out = r.out.items;
-      activity = r.activity;
-    } } };
+    ghost view = { λ r. record {
+      rank = record {
+        rest = heads r.rest.items;
+        vars = r.vars.items;
+        handles = r.handles.items;
+        calls = r.calls.items;
+        out = r.out.items;
+        activity = r.activity;
+      };
+    } };
 }
 
 /// How many cells one name or array has.

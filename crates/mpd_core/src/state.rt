@@ -184,7 +184,7 @@ impl<'s> Core<'s> {
     }
 
     /// What memory is taken from.
-    pub fn allocator(&self) -> Global {
+    pub(crate) fn allocator(&self) -> Global {
         *self.sets.allocator()
     }
 
@@ -308,7 +308,8 @@ impl<'s> Core<'s> {
     {
         let count = self.call_count(send.rank);
         for index in 0..count {
-            if self.is_pending(send.rank, recv.rank, index) && self.is_early_send(send, recv, index)
+            if self.is_pending(send.rank, recv.rank, index)
+                && self.is_early_send(send, recv, index)
             {
                 return true;
             }

@@ -67,7 +67,10 @@ impl<'s> Core<'s> {
     {
         match self.activity(rank) {
             None => {}
-            Some(Activity::Running) => push_place(out, &self.script().lines, self.next_statement(rank))?,
+            Some(Activity::Running) => {
+                let next = self.next_statement(rank);
+                push_place(out, &self.script().lines, next)?;
+            }
             Some(Activity::Blocked) => {
                 let number = self.last_call(rank).index;
                 write!(out, "blocked {number}")?;

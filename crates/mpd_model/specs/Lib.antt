@@ -27,3 +27,4 @@ pub mod Texts
 pub mod Words
 pub mod Answers
 pub mod TextRows
+pub mod MoreRows

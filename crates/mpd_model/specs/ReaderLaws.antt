@@ -1,10 +1,13 @@
 -- What holds of the grammar's parsers, whatever they are given.
-use Rattle.std.specs.Prelude.{◌≡◌, ℕ, suc, ◌<◌, Bool, List, Ok}
-use Rattle.mpd_model.specs.Grammar.{expr, body, block}
-use Rattle.mpd_model.specs.Input.{Input}
+use Rattle.std.specs.Prelude.{◌≡◌, ◌≢◌, ℕ, suc, ◌+◌, ◌<◌, Bool, List, Ok, Err}
+use Rattle.mpd_model.specs.Grammar.{expr, body, block, reading}
+use Rattle.mpd_model.specs.declared.read_fault.FaultCode.TheVariants.{TooDeep}
+use Rattle.mpd_model.specs.Input.{Input, Outcome}
+use Rattle.mpd_model.specs.Program.{Program}
 use Rattle.mpd_model.specs.Term.{Term}
+use Rattle.mpd_model.specs.Tokens.{tokens}
 use Rattle.mpd_model.specs.Tree.{Tree}
-use Rattle.mpd_model.specs.Written.{Takes, TakesBody}
+use Rattle.mpd_model.specs.Written.{Takes, TakesBody, WrittenScript}
 
 -- What is read as an expression is written so.
 abbrev pub ExpressionsAreWritten : Type 0
@@ -13,3 +16,31 @@ ExpressionsAreWritten = (depth level : ℕ) (i j : Input) (t : Term) → expr de
 -- What is read as statements is written so, with the line of each.
 abbrev pub StatementsAreWritten : Type 0
 StatementsAreWritten = (depth : ℕ) (inside : Bool) (i j : Input) (ts : List Tree) → body (block depth) inside i ≡ Ok (ts, j) → TakesBody ts i j
+
+-- An expression never runs out of depth: each one inside another takes one of the budget, so more depth than that changes nothing.
+abbrev pub DepthIsEnough : Type 0
+DepthIsEnough = (depth level : ℕ) (i : Input) → i.budget < depth → expr depth level i ≡ expr (suc depth) level i
+
+-- not refused for its depth
+abbrev pub IsNotTooDeep : {A : Type 0} → Outcome A → Type 0
+IsNotTooDeep (Ok p) = Unit {0}
+IsNotTooDeep (Err f) = f.code ≢ TooDeep
+
+abbrev pub with_more : ℕ → Input → Input
+with_more n i = record i { budget = i.budget + n }
+
+abbrev pub leaving_more : {A : Type 0} → ℕ → Outcome A → Outcome A
+leaving_more n (Ok p) = Ok (p.0, with_more n p.1)
+leaving_more n (Err f) = Err f
+
+-- The budget of an expression decides nothing but TooDeep: where it is enough, a larger one gives the same tree or the same fault.
+abbrev pub BudgetDecidesDepthAlone : Type 0
+BudgetDecidesDepthAlone = (depth level more : ℕ) (i : Input) → IsNotTooDeep (expr depth level i) → expr (depth + more) level (with_more more i) ≡ leaving_more more (expr depth level i)
+
+-- The number of blocks that may be opened decides nothing else either.
+abbrev pub BlocksDecideDepthAlone : Type 0
+BlocksDecideDepthAlone = (depth more : ℕ) (inside : Bool) (i : Input) → IsNotTooDeep (body (block depth) inside i) → body (block (depth + more)) inside i ≡ body (block depth) inside i
+
+-- What is read as a script is written so, from the first token of the text to its last.
+abbrev pub ScriptsAreWritten : Type 0
+ScriptsAreWritten = (text : List ℕ) (p : Program) → reading text ≡ Ok p → WrittenScript (tokens text) p

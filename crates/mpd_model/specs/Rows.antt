@@ -57,7 +57,6 @@ one_message = script 2
 abbrev one_message_steps : List Step
 one_message_steps = Local 0 ∷ Local 0 ∷ Local 1 ∷ Local 1 ∷ Match (call_id 0 0) (call_id 1 0) ∷ Wake 0 ∷ Wake 1 ∷ Local 1 ∷ []
 
-
 pub row_one_message : option_map seen (fold (start one_message Rendezvous) one_message_steps) ≡ Some ((pos 0 ∷ [], ([], Running)) ∷ (pos 7 ∷ [], (pos 7 ∷ [], Running)) ∷ [])
 row_one_message = refl
 

@@ -17,7 +17,7 @@ use Rattle.mpd_model.specs.Outcomes.{outcome}
 use Rattle.mpd_model.specs.declared.words.Command.{Command}
 use Rattle.mpd_model.specs.declared.words.Command.TheVariants as command
 use Rattle.mpd_model.specs.Trail.{Standing, first_standing, applied}
-use Rattle.mpd_model.specs.Texts.{outcome_line, show_text}
+use Rattle.mpd_model.specs.Texts.{outcome_line, show_text, step_text}
 use Rattle.mpd_model.specs.Words.{has_word, step_of, command_of}
 use Rattle.mpd_model.specs.Answers.{line_answer}
 
@@ -144,3 +144,19 @@ row_too_long = refl
 pub row_full : line_answer (record begun { trail = record { program = one_message; mode = Rendezvous; steps = []; depth = 1000000 } }) (codes "local 0")
     ≡ (codes "refused full\n", record { program = one_message; mode = Rendezvous; steps = []; depth = 1000000 })
 row_full = refl
+
+-- the text of a step is read as that step
+pub row_text_local : step_of (step_text (Local 15)) ≡ Some (Local 15)
+unfolding digits
+row_text_local = refl
+
+pub row_text_match : step_of (step_text (Match (call_id 0 10) (call_id 1 2))) ≡ Some (Match (call_id 0 10) (call_id 1 2))
+unfolding digits
+row_text_match = refl
+
+pub row_text_wake : step_text (Wake 3) ≡ codes "wake 3"
+unfolding digits
+row_text_wake = refl
+
+pub row_text_release : step_of (step_text Release) ≡ Some Release
+row_text_release = refl

@@ -3,6 +3,8 @@ use Rattle.std.specs.Prelude.{ℕ, ℤ, List, [], ◌∷◌, ◌++◌, Option, S
 use Rattle.std.specs.List.{flat_map}
 use Rattle.std.specs.Fmt.{decimal, signed_decimal}
 use Rattle.mpd_model.specs.declared.step.CallId.{CallId}
+use Rattle.mpd_model.specs.declared.step.Step.{Step}
+use Rattle.mpd_model.specs.declared.step.Step.TheVariants.{Local, Match, Wake, Release}
 use Rattle.mpd_model.specs.declared.call.CallKind.{CallKind}
 use Rattle.mpd_model.specs.declared.call.CallKind.TheVariants.{Send, Recv}
 use Rattle.mpd_model.specs.declared.call.Trap.{Trap}
@@ -33,6 +35,13 @@ line text = text ++ 10 ∷ []
 -- `1.2` is the call of number 2 of rank 1
 abbrev pub id_text : CallId → List ℕ
 id_text c = decimal c.rank ++ 46 ∷ decimal c.index
+
+-- a step as trace words write it
+abbrev pub step_text : Step → List ℕ
+step_text (Local p) = codes "local " ++ decimal p
+step_text (Match s r) = codes "match " ++ id_text s ++ 32 ∷ id_text r
+step_text (Wake p) = codes "wake " ++ decimal p
+step_text Release = codes "release"
 
 abbrev pub trap_name : Trap → List ℕ
 trap_name BadRank = codes "bad-rank"

@@ -34,10 +34,10 @@ pub data Written (ds : List Declared) : ℕ → List Spot → Term → Type 0 wh
   ranks : (s : Spot) → s.token ≡ Is m.Size → Written ds 0 (s ∷ []) size
   name : (s : Spot) (p : Place) → Names ds s p → Written ds 0 (s ∷ []) (cell p)
   round : (a b : Spot) (ss : List Spot) (t : Term) → a.token ≡ Is m.RoundOpen → b.token ≡ Is m.RoundClose
-    → Written ds 5 ss t → Written ds 0 (a ∷ ss ++ b ∷ []) t
+      → Written ds 5 ss t → Written ds 0 (a ∷ ss ++ b ∷ []) t
   higher : (k : ℕ) (ss : List Spot) (t : Term) → Written ds k ss t → Written ds (suc k) ss t
   joins : (k : ℕ) (l r : List Spot) (o : Spot) (op : BinaryOp) (a b : Term) → operator_at (suc k) o.token ≡ Some op
-    → Written ds (left_level k) l a → Written ds k r b → Written ds (suc k) (l ++ o ∷ r) (op2 op a b)
+      → Written ds (left_level k) l a → Written ds k r b → Written ds (suc k) (l ++ o ∷ r) (op2 op a b)
 
 -- the tokens between two states of the input write the term, and nothing else has changed
 pub record Takes (k : ℕ) (t : Term) (i j : Input) : Type 0 where
@@ -56,31 +56,31 @@ IsSound k p = (i j : Input) (t : Term) → p i ≡ Ok (t, j) → Takes k t i j
 mutual
   pub data WrittenTree (ds : List Declared) : List Spot → Tree → List ℕ → Type 0 where
     prints : (k end : Spot) (e : List Spot) (t : Term)
-      → k.token ≡ Is m.Print → Written ds 5 e t → end.token ≡ Is m.Semicolon
-      → WrittenTree ds (k ∷ e ++ end ∷ []) (print t) (k.line ∷ [])
+        → k.token ≡ Is m.Print → Written ds 5 e t → end.token ≡ Is m.Semicolon
+        → WrittenTree ds (k ∷ e ++ end ∷ []) (print t) (k.line ∷ [])
     sends : (k to tag end : Spot) (a b c : List Spot) (value dest mark : Term)
-      → k.token ≡ Is m.Send → Written ds 5 a value → to.token ≡ Is m.To → Written ds 5 b dest → tag.token ≡ Is m.Tag → Written ds 5 c mark → end.token ≡ Is m.Semicolon
-      → WrittenTree ds (k ∷ a ++ to ∷ b ++ tag ∷ c ++ end ∷ []) (send value dest mark) (k.line ∷ [])
+        → k.token ≡ Is m.Send → Written ds 5 a value → to.token ≡ Is m.To → Written ds 5 b dest → tag.token ≡ Is m.Tag → Written ds 5 c mark → end.token ≡ Is m.Semicolon
+        → WrittenTree ds (k ∷ a ++ to ∷ b ++ tag ∷ c ++ end ∷ []) (send value dest mark) (k.line ∷ [])
     receives : (k n from tag end : Spot) (a b : List Spot) (into : Place) (source mark : Term)
-      → k.token ≡ Is m.Recv → Names ds n into → from.token ≡ Is m.From → Written ds 5 a source → tag.token ≡ Is m.Tag → Written ds 5 b mark → end.token ≡ Is m.Semicolon
-      → WrittenTree ds (k ∷ n ∷ from ∷ a ++ tag ∷ b ++ end ∷ []) (recv into source mark) (k.line ∷ [])
+        → k.token ≡ Is m.Recv → Names ds n into → from.token ≡ Is m.From → Written ds 5 a source → tag.token ≡ Is m.Tag → Written ds 5 b mark → end.token ≡ Is m.Semicolon
+        → WrittenTree ds (k ∷ n ∷ from ∷ a ++ tag ∷ b ++ end ∷ []) (recv into source mark) (k.line ∷ [])
     chooses : (k : Spot) (e a : List Spot) (t : Term) (x : List Tree) (ls : List ℕ)
-      → k.token ≡ Is m.If → Written ds 5 e t → WrittenBlock ds a x ls
-      → WrittenTree ds (k ∷ e ++ a) (branch t (block_of x) no_more) (k.line ∷ ls)
+        → k.token ≡ Is m.If → Written ds 5 e t → WrittenBlock ds a x ls
+        → WrittenTree ds (k ∷ e ++ a) (branch t (block_of x) no_more) (k.line ∷ ls)
     chooses_else : (k w : Spot) (e a b : List Spot) (t : Term) (x y : List Tree) (ls ms : List ℕ)
-      → k.token ≡ Is m.If → Written ds 5 e t → WrittenBlock ds a x ls → w.token ≡ Is m.Else → WrittenBlock ds b y ms
-      → WrittenTree ds (k ∷ e ++ a ++ w ∷ b) (branch t (block_of x) (block_of y)) (k.line ∷ ls ++ ms)
+        → k.token ≡ Is m.If → Written ds 5 e t → WrittenBlock ds a x ls → w.token ≡ Is m.Else → WrittenBlock ds b y ms
+        → WrittenTree ds (k ∷ e ++ a ++ w ∷ b) (branch t (block_of x) (block_of y)) (k.line ∷ ls ++ ms)
 
   pub data WrittenBlock (ds : List Declared) : List Spot → List Tree → List ℕ → Type 0 where
     braces : (a b : Spot) (ss : List Spot) (ts : List Tree) (ls : List ℕ)
-      → a.token ≡ Is m.BraceOpen → WrittenBody ds ss ts ls → b.token ≡ Is m.BraceClose
-      → WrittenBlock ds (a ∷ ss ++ b ∷ []) ts ls
+        → a.token ≡ Is m.BraceOpen → WrittenBody ds ss ts ls → b.token ≡ Is m.BraceClose
+        → WrittenBlock ds (a ∷ ss ++ b ∷ []) ts ls
 
   pub data WrittenBody (ds : List Declared) : List Spot → List Tree → List ℕ → Type 0 where
     ended : WrittenBody ds [] [] []
     follows : (ss rs : List Spot) (t : Tree) (ts : List Tree) (ls ms : List ℕ)
-      → WrittenTree ds ss t ls → WrittenBody ds rs ts ms
-      → WrittenBody ds (ss ++ rs) (t ∷ ts) (ls ++ ms)
+        → WrittenTree ds ss t ls → WrittenBody ds rs ts ms
+        → WrittenBody ds (ss ++ rs) (t ∷ ts) (ls ++ ms)
 
 -- the tokens between two states of the input write something, whose statements are on the lines that were noted
 pub record TakesLines (Writes : List Declared → List Spot → List ℕ → Type 0) (i j : Input) : Type 0 where
@@ -109,13 +109,13 @@ variable_of bytes = record { kind = Variable; name = bytes; size = None }
 pub data WrittenDecls : List Declared → List Spot → List Declared → Type 0 where
   none : (ds : List Declared) → WrittenDecls ds [] ds
   declares : (ds es : List Declared) (v n end : Spot) (ss : List Spot)
-    → v.token ≡ Is m.Var → n.token ≡ Name → slot_in ds n.text ≡ None → end.token ≡ Is m.Semicolon
-    → WrittenDecls (ds ++ variable_of n.text ∷ []) ss es
-    → WrittenDecls ds (v ∷ n ∷ end ∷ ss) es
+      → v.token ≡ Is m.Var → n.token ≡ Name → slot_in ds n.text ≡ None → end.token ≡ Is m.Semicolon
+      → WrittenDecls (ds ++ variable_of n.text ∷ []) ss es
+      → WrittenDecls ds (v ∷ n ∷ end ∷ ss) es
 
 pub data WrittenScript : List Spot → Program → Type 0 where
   script : (mpd version a ranks count b : Spot) (ss rs : List Spot) (p : Program)
-    → mpd.token ≡ Is m.Mpd → version.token ≡ Number (pos p.version) → a.token ≡ Is m.Semicolon
-    → ranks.token ≡ Is m.Ranks → count.token ≡ Number (pos p.ranks) → b.token ≡ Is m.Semicolon
-    → WrittenDecls [] ss p.decls → WrittenBody p.decls rs p.body p.lines
-    → WrittenScript (mpd ∷ version ∷ a ∷ ranks ∷ count ∷ b ∷ ss ++ rs) p
+      → mpd.token ≡ Is m.Mpd → version.token ≡ Number (pos p.version) → a.token ≡ Is m.Semicolon
+      → ranks.token ≡ Is m.Ranks → count.token ≡ Number (pos p.ranks) → b.token ≡ Is m.Semicolon
+      → WrittenDecls [] ss p.decls → WrittenBody p.decls rs p.body p.lines
+      → WrittenScript (mpd ∷ version ∷ a ∷ ranks ∷ count ∷ b ∷ ss ++ rs) p

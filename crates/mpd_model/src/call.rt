@@ -23,7 +23,11 @@ pub struct Call {
 #[derive(Clone, Copy, Debug, PartialEq, Eq)]
 pub enum CallKind {
     /// A blocking standard send: its destination, 0 to 15, its tag, 0 to 32,767, and the value of its message.
-    Send { to: usize, tag: usize, value: i64 },
+    Send {
+        to: usize,
+        tag: usize,
+        value: i64,
+    },
     /// A blocking receive: its source, its tag, and the cell that its value goes to.
     Recv {
         from: usize,

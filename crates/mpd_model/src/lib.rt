@@ -4,9 +4,9 @@
 pub mod call;
 pub mod device;
 pub mod expr;
-pub mod outcome;
 pub mod failing;
 pub mod lines;
+pub mod outcome;
 pub mod place;
 pub mod read_fault;
 pub mod script;
@@ -14,6 +14,6 @@ pub mod slot;
 pub mod step;
 pub mod steps;
 pub mod stmt;
-pub mod token;
 pub mod text;
+pub mod token;
 pub mod words;

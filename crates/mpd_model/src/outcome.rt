@@ -71,7 +71,7 @@ impl TrapList {
     pub fn as_slice(&self) -> &[TrappedRank]
         ensures { result.now ≡ self.now }
     {
-        &self.items
+        self.items.as_slice()
     }
 }
 

@@ -49,5 +49,7 @@ pub decls_done : (n at : ℕ) (i : Input) → n ≤ at → decls_from (n - at) i
 decls_done n at i h = decls_none (n - at) i (omega arith)
 
 pub ruleset turning = (stmts_more, stmts_done)
+
 pub ruleset depths = (block_none, block_more)
+
 pub ruleset declaring = (decls_more, decls_done)

@@ -128,7 +128,7 @@ sought_ok : (o : Option Slot) (i : Input) (y : Slot × Input) → sought Variabl
 sought_ok None i y h = absurd (cc)
 sought_ok (Some s) i y h = let c = sought_case s.kind s i y refl h in (ap Some c.0, sym (ap (λ t. t.kind) c.0) ∙ c.1, c.2)
 
-seek_ok : (i : Input) (y : Slot × Input) → seek Variable i ≡ Ok y → (slot_in i.decls (spelling i) ≡ Some y.0) × (y.0.kind ≡ Variable) × (i ≡ y.1)
+pub seek_ok : (i : Input) (y : Slot × Input) → seek Variable i ≡ Ok y → (slot_in i.decls (spelling i) ≡ Some y.0) × (y.0.kind ≡ Variable) × (i ≡ y.1)
 unfolding seek
 seek_ok i y h = sought_ok (slot_in i.decls (spelling i)) i y h
 

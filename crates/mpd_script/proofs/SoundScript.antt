@@ -1,6 +1,7 @@
 -- What the grammar's functions read as a script is written so, and keeps the limits.
-use Rattle.std.proofs.Common.{◌≡◌, ℕ, zero, suc, ◌+◌, ℤ, pos, negsuc, Bool, true, false, cond, ◌&&◌, nat_le, List, [], ◌∷◌, ◌++◌, length, Option, Some, None, Ok, Err, refl, ap, sym, ◌∙◌, arith}
+use Rattle.std.proofs.Common.{◌≡◌, ℕ, zero, suc, ◌+◌, ℤ, pos, negsuc, Bool, true, false, cond, ◌&&◌, nat_le, nat_lt, List, [], ◌∷◌, ◌++◌, length, Option, Some, None, Result, Ok, Err, refl, ap, sym, ◌∙◌, arith}
 use Rattle.std.proofs.lemmas.Bool.Decides.{nat_tests}
+use Rattle.std.specs.List.{prefix_len}
 use Rattle.std.specs.Ordering.{int_eq}
 use Rattle.mpd_model.specs.declared.place.DeclKind.TheVariants.{Variable}
 use Rattle.mpd_model.specs.declared.read_fault.FaultCode.TheVariants.{NotInVersion, Twice, TooMany}
@@ -8,17 +9,20 @@ use Rattle.mpd_model.specs.declared.read_fault.ReadFault.{ReadFault}
 use Rattle.mpd_model.specs.declared.slot.Slot.{Slot}
 use Rattle.mpd_model.specs.declared.token.Mark.TheVariants as m
 use Rattle.mpd_model.specs.declared.token.Token.{Token}
-use Rattle.mpd_model.specs.declared.token.Token.TheVariants.{Number, Name, Is}
+use Rattle.mpd_model.specs.declared.token.Token.TheVariants.{Number, Name, Is, End}
 use Rattle.mpd_model.specs.Declaration.{Declared}
 use Rattle.mpd_model.specs.Faults.{fault}
-use Rattle.mpd_model.specs.Grammar.{version_by, version, rank_count, ranks_of, ranks_by, ranks, declaring, decl_by, decl, decls_from, decls, header, body, block}
-use Rattle.mpd_model.specs.Input.{Input, Parser, token, spelling, place, next, expect, sees, after, fresh, add, fits, is_known, slot_in, advance, fail, refuse, pure, left, ◌>>◌}
-use Rattle.mpd_model.specs.Tokens.{Spot}
+use Rattle.mpd_model.specs.Grammar.{version_by, version, rank_count, ranks_of, ranks_by, ranks, declaring, decl_by, decl, decls_from, decls, header, stmt, stmts, body, block, closes, max_blocks, max_text, is_text, read_of, reading}
+use Rattle.mpd_model.specs.Grammar as grammar
+use Rattle.mpd_model.specs.Input.{Input, Outcome, Parser, start_of, token, token_of, spelling, place, next, expect, sees, after, fresh, add, fits, is_known, slot_in, advance, fail, refuse, pure, left, ◌>>=◌, ◌>>◌}
+use Rattle.mpd_model.specs.Program.{Program}
+use Rattle.mpd_model.specs.Tokens.{Spot, tokens}
 use Rattle.mpd_model.specs.Tree.{Tree, block_of, statements_in}
-use Rattle.mpd_model.specs.Written.{WrittenDecls, none, declares, variable_of}
+use Rattle.mpd_model.specs.Written.{WrittenDecls, none, declares, variable_of, TakesBody, WrittenScript, script}
 use Rattle.mpd_script.proofs.Counted.{body_lines}
+use Rattle.mpd_script.proofs.Ends.{NoEnd, tokens_real, rest_real, none_left}
 use Rattle.mpd_script.proofs.Sound.{bind_ok, ok_parts, carried, test_ok, Step, next_step, sees_is, expect_step}
-use Rattle.mpd_script.proofs.SoundStatements.{statements_sound}
+use Rattle.mpd_script.proofs.SoundStatements.{append_none, statements_sound}
 
 -- ---- the numbers of the header
 
@@ -152,7 +156,7 @@ more_decls i x y j s e d r = record {
   used = s.spot ∷ d.name ∷ d.end ∷ r.used;
   is = s.moves.is ∙ ap (λ q. s.spot ∷ q) (d.is ∙ ap (λ q. d.name ∷ d.end ∷ q) r.is);
   written = declares i.decls j.decls s.spot d.name d.end r.used e d.is_name (rw (← s.moves.decls) d.new) d.is_end
-    (rw (← (d.decls ∙ ap (λ ds. ds ++ variable_of d.name.text ∷ []) s.moves.decls)) r.written);
+      (rw (← (d.decls ∙ ap (λ ds. ds ++ variable_of d.name.text ∷ []) s.moves.decls)) r.written);
   lines = r.lines ∙ d.lines ∙ s.moves.lines;
 }
 
@@ -212,7 +216,7 @@ header_is n i x1 x2 x3 x4 x5 x6 j s1 e1 s2 e2 s3 e3 s4 e4 s5 e5 s6 e6 ds =
       second = s6.spot;
       used = ds.used;
       is = s1.moves.is ∙ ap (λ r. s1.spot ∷ r) (s2.moves.is ∙ ap (λ r. s2.spot ∷ r) (s3.moves.is ∙ ap (λ r. s3.spot ∷ r)
-        (s4.moves.is ∙ ap (λ r. s4.spot ∷ r) (s5.moves.is ∙ ap (λ r. s5.spot ∷ r) (s6.moves.is ∙ ap (λ r. s6.spot ∷ r) ds.is)))));
+          (s4.moves.is ∙ ap (λ r. s4.spot ∷ r) (s5.moves.is ∙ ap (λ r. s5.spot ∷ r) (s6.moves.is ∙ ap (λ r. s6.spot ∷ r) ds.is)))));
       is_mpd = e1;
       is_version = e2;
       is_first = e3;
@@ -252,3 +256,72 @@ lines_counted i x y n ts depth inside e h b =
     let t = statements_sound depth inside x y ts b in
     let l : y.lines ≡ t.begun = t.lines ∙ ap (λ r. r ++ t.begun) (head.lines ∙ e) in
     ap length l ∙ body_lines x.decls t.used ts t.begun t.written
+
+-- ---- the whole text
+
+ends_case : (p : Parser (List Tree)) (inside : Bool) (n : ℕ) (found ts : List Tree) (i j : Input) (ends : Bool) → closes inside (token i) ≡ ends
+    → ((f : List Tree) (x : Input) → stmts p inside n f x ≡ Ok (ts, j) → closes inside (token j) ≡ true)
+    → cond ends (pure found) (stmt p >>= λ s. stmts p inside n (found ++ s ∷ [])) i ≡ Ok (ts, j) → closes inside (token j) ≡ true
+ends_case p inside n found ts i j true e more h = let o = ok_parts (found, i) (ts, j) h in ap (λ k. closes inside (token k)) (sym o.1) ∙ e
+ends_case p inside n found ts i j false e more h =
+    let b = bind_ok (stmt p i) _ (ts, j) h in
+    more (found ++ b.0.0 ∷ []) b.0.1 b.2
+
+body_ends : (p : Parser (List Tree)) (inside : Bool) (n : ℕ) (found ts : List Tree) (i j : Input) → stmts p inside n found i ≡ Ok (ts, j) → closes inside (token j) ≡ true
+unfolding stmts
+body_ends p inside zero found ts i j h = absurd (cc)
+body_ends p inside (suc n) found ts i j h = ends_case p inside n found ts i j (closes inside (token i)) refl (λ f x e. body_ends p inside n f ts x j e) h
+
+body_closed : (p : Parser (List Tree)) (inside : Bool) (i j : Input) (ts : List Tree) → body p inside i ≡ Ok (ts, j) → closes inside (token j) ≡ true
+unfolding body
+body_closed p inside i j ts h = body_ends p inside (left i + 1) [] ts i j h
+
+at_end : (t : Token) → closes false t ≡ true → t ≡ End
+at_end End h = refl
+at_end _ h = absurd (cc)
+
+-- what is behind the last statement of a text
+nothing_left : (i x j : Input) (n : ℕ) (ts : List Tree) → NoEnd i.tokens → Header n i x → TakesBody ts x j → closes false (token j) ≡ true → j.tokens ≡ []
+unfolding token
+nothing_left i x j n ts real h b e =
+    let all = h.mpd ∷ h.version ∷ h.first ∷ h.ranks ∷ h.count ∷ h.second ∷ h.used in
+    let behind_header : NoEnd x.tokens = rest_real all x.tokens (rw h.is at real) in
+    let behind_body : NoEnd j.tokens = rest_real b.used j.tokens (rw b.is at behind_header) in
+    none_left j.tokens behind_body (at_end (token_of j.tokens) e)
+
+script_is : (i x j : Input) (n : ℕ) (ts : List Tree) → i.decls ≡ [] → i.lines ≡ [] → Header n i x → TakesBody ts x j → j.tokens ≡ []
+    → WrittenScript i.tokens (record { version = 1; ranks = n; decls = j.decls; body = ts; lines = j.lines })
+script_is i x j n ts none_yet no_lines h b last =
+    let used : x.tokens ≡ b.used = b.is ∙ ap (λ r. b.used ++ r) last ∙ sym (append_none Spot b.used) in
+    let lines : j.lines ≡ b.begun = b.lines ∙ ap (λ r. r ++ b.begun) (h.lines ∙ no_lines) in
+    let ds = carried_decls i.decls [] h.used x.decls none_yet h.decls in
+    rw (h.is, used, b.decls, lines) (script h.mpd h.version h.first h.ranks h.count h.second h.used b.used
+    (record { version = 1; ranks = n; decls = x.decls; body = ts; lines = b.begun })
+    h.is_mpd h.is_version h.is_first h.is_ranks h.is_count h.is_second ds b.written)
+
+script_written : (i : Input) (y : Program × Input) → NoEnd i.tokens → i.decls ≡ [] → i.lines ≡ [] → grammar.script i ≡ Ok y → WrittenScript i.tokens y.0
+unfolding grammar.script
+script_written i y real d l h =
+    let a = bind_ok (header i) _ y h in
+    let b = bind_ok (body (block max_blocks) false a.0.1) _ y a.2 in
+    let o = ok_parts (record { version = 1; ranks = a.0.0; decls = b.0.1.decls; body = b.0.0; lines = b.0.1.lines }, b.0.1) y b.2 in
+    let head = header_ok i a.0 a.1 in
+    let tail = statements_sound max_blocks false a.0.1 b.0.1 b.0.0 b.1 in
+    let closed = body_closed (block max_blocks) false a.0.1 b.0.1 b.0.0 b.1 in
+    rw (← o.0) (script_is i a.0.1 b.0.1 a.0.0 b.0.0 d l head tail (nothing_left i a.0.1 b.0.1 a.0.0 b.0.0 real head tail closed))
+
+read_ok : (o : Outcome Program) (p : Program) → read_of o ≡ Ok p → (j : Input) × (o ≡ Ok (p, j))
+read_ok (Ok y) p h = let e : y.0 ≡ p = cc in (y.1, rw (← e) refl)
+read_ok (Err f) p h = absurd (cc)
+
+refused : {A : Type 0} (b : Bool) (e : ReadFault) (x : Result A ReadFault) (a : A) → cond b (Err e) x ≡ Ok a → x ≡ Ok a
+refused true e x a h = absurd (cc)
+refused false e x a h = h
+
+pub reading_written : (text : List ℕ) (p : Program) → reading text ≡ Ok p → WrittenScript (tokens text) p
+unfolding reading
+reading_written text p h =
+    let a = refused (nat_lt max_text (length text)) _ _ p h in
+    let b = refused (nat_lt (prefix_len is_text text) (length text)) _ _ p a in
+    let c = read_ok (grammar.script (start_of text)) p b in
+    script_written (start_of text) (p, c.0) (tokens_real 0 0 1 text) refl refl c.1

@@ -80,7 +80,7 @@ pub record Rest (k : Mark) (t : Tree) (i j : Input) : Type 0 where
   pub lines : j.lines ≡ i.lines ++ begun
   pub written : (s : Spot) → s.token ≡ Is k → WrittenTree i.decls (s ∷ used) t (s.line ∷ begun)
 
-append_none : (A : Type 0) (xs : List A) → xs ≡ xs ++ []
+pub append_none : (A : Type 0) (xs : List A) → xs ≡ xs ++ []
 append_none A [] = refl
 append_none A (x ∷ xs) = ap (λ r. x ∷ r) (append_none A xs)
 
@@ -97,8 +97,8 @@ printing_rest i j t h =
     let e = expression_ok i a.0 a.1 in
     let z = expect_step m.Semicolon a.0.1 b.0 b.1 in
     carried (λ t j. Rest m.Print t i j) _ _ _ _ o.0 o.1 (flat m.Print (print a.0.0) (e.used ++ z.0.spot ∷ []) i b.0.1
-      (then_moves e.used (z.0.spot ∷ []) i a.0.1 b.0.1 e.moves z.0.moves)
-      (λ s is. prints s z.0.spot e.used a.0.0 is e.written z.1))
+    (then_moves e.used (z.0.spot ∷ []) i a.0.1 b.0.1 e.moves z.0.moves)
+    (λ s is. prints s z.0.spot e.used a.0.0 is e.written z.1))
 
 pub sending_rest : (i j : Input) (t : Tree) → sending i ≡ Ok (t, j) → Rest m.Send t i j
 unfolding sending
@@ -121,9 +121,9 @@ sending_rest i j t h =
     let two = then_moves value.used (to.0.spot ∷ dest.used) i a.0.1 c.0.1 value.moves second in
     let three = then_moves (value.used ++ to.0.spot ∷ dest.used) (tag.0.spot ∷ mark.used) i c.0.1 e.0.1 two third in
     carried (λ t j. Rest m.Send t i j) _ _ _ _ o.0 o.1 (flat m.Send (send a.0.0 c.0.0 e.0.0) (value.used ++ to.0.spot ∷ dest.used ++ tag.0.spot ∷ mark.used ++ z.0.spot ∷ []) i f.0.1
-      (then_moves (value.used ++ to.0.spot ∷ dest.used ++ tag.0.spot ∷ mark.used) (z.0.spot ∷ []) i e.0.1 f.0.1 three z.0.moves)
-      (λ s is. sends s to.0.spot tag.0.spot z.0.spot value.used dest.used mark.used a.0.0 c.0.0 e.0.0 is value.written to.1
-        (here c.0.0 i b.0.1 c.0.1 (to.0.moves.decls ∙ value.moves.decls) dest) tag.1 (here e.0.0 i d.0.1 e.0.1 (tag.0.moves.decls ∙ two.decls) mark) z.1))
+    (then_moves (value.used ++ to.0.spot ∷ dest.used ++ tag.0.spot ∷ mark.used) (z.0.spot ∷ []) i e.0.1 f.0.1 three z.0.moves)
+    (λ s is. sends s to.0.spot tag.0.spot z.0.spot value.used dest.used mark.used a.0.0 c.0.0 e.0.0 is value.written to.1
+    (here c.0.0 i b.0.1 c.0.1 (to.0.moves.decls ∙ value.moves.decls) dest) tag.1 (here e.0.0 i d.0.1 e.0.1 (tag.0.moves.decls ∙ two.decls) mark) z.1))
 
 named_case : (tk : Token) (i : Input) (y : Place × Input) → token i ≡ tk → named_by tk i ≡ Ok y → (s : Step i y.1) × Names i.decls s.spot y.0
 named_case Name i y e h = variable_step i y.1 y.0 e h
@@ -154,9 +154,9 @@ receiving_rest i j t h =
     let one = then_moves (into.0.spot ∷ []) (from.0.spot ∷ source.used) i a.0.1 c.0.1 into.0.moves first in
     let two = then_moves (into.0.spot ∷ from.0.spot ∷ source.used) (tag.0.spot ∷ mark.used) i c.0.1 e.0.1 one second in
     carried (λ t j. Rest m.Recv t i j) _ _ _ _ o.0 o.1 (flat m.Recv (recv a.0.0 c.0.0 e.0.0) (into.0.spot ∷ from.0.spot ∷ source.used ++ tag.0.spot ∷ mark.used ++ z.0.spot ∷ []) i f.0.1
-      (then_moves (into.0.spot ∷ from.0.spot ∷ source.used ++ tag.0.spot ∷ mark.used) (z.0.spot ∷ []) i e.0.1 f.0.1 two z.0.moves)
-      (λ s is. receives s into.0.spot from.0.spot tag.0.spot z.0.spot source.used mark.used a.0.0 c.0.0 e.0.0 is into.1 from.1
-        (here c.0.0 i b.0.1 c.0.1 (from.0.moves.decls ∙ into.0.moves.decls) source) tag.1 (here e.0.0 i d.0.1 e.0.1 (tag.0.moves.decls ∙ one.decls) mark) z.1))
+    (then_moves (into.0.spot ∷ from.0.spot ∷ source.used ++ tag.0.spot ∷ mark.used) (z.0.spot ∷ []) i e.0.1 f.0.1 two z.0.moves)
+    (λ s is. receives s into.0.spot from.0.spot tag.0.spot z.0.spot source.used mark.used a.0.0 c.0.0 e.0.0 is into.1 from.1
+    (here c.0.0 i b.0.1 c.0.1 (from.0.moves.decls ∙ into.0.moves.decls) source) tag.1 (here e.0.0 i d.0.1 e.0.1 (tag.0.moves.decls ∙ one.decls) mark) z.1))
 
 -- ---- statements that hold others
 

@@ -42,5 +42,7 @@ pub expr_more : (n k : ℕ) (i : Input) → 0 < n → expr n k i ≡ level (expr
 expr_more n k i h = expr_some n (n - 1) k i (omega arith)
 
 pub ruleset turning = (chain_more, chain_done)
+
 pub ruleset levels = (level_none, level_more)
+
 pub ruleset depths = (expr_none, expr_more)

@@ -1,7 +1,10 @@
 -- What a `Tokens` shows, and what it keeps ready.
 use Rattle.std.specs.Prelude.{◌≡◌, ℕ, ◌+◌, ◌≤◌, ◌<◌, ◌^◌, false, List, [], ◌∷◌, length, slice_index, IsAscii}
+use Rattle.std.specs.BTreeMap.{get_by}
+use Rattle.std.specs.Cmp.Lexicographic.{slice_cmp}
+use Rattle.std.specs.Ordering.{nat_cmp}
 use Rattle.mpd_model.specs.Declaration.{variables_in, handles_in}
-use Rattle.mpd_model.specs.Input.{Input}
+use Rattle.mpd_model.specs.Input.{Input, slot_in}
 use Rattle.mpd_model.specs.Tokens.{front, tokens_at, is_gap}
 use Rattle.mpd_model.specs.declared.token.Token.{Token}
 use Rattle.mpd_model.specs.declared.token.Token.TheVariants.{End}
@@ -32,6 +35,7 @@ pub record IsReady (t : Inside) : Type 0 where
   pub budget : t.budget ≤ 64
   pub variables : t.variables ≡ variables_in t.decls.items
   pub handles : t.handles ≡ handles_in t.decls.items
+  pub slots : (name : List ℕ) → get_by (λ k. slice_cmp nat_cmp name k.now) t.slots ≡ slot_in t.decls.items name
   pub few_variables : t.variables ≤ 1024
   pub few_handles : t.handles ≤ 256
   pub few_lines : length t.lines.items ≤ 4096

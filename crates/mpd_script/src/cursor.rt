@@ -1,6 +1,6 @@
 //! A cursor over the tokens of a text, which cuts each as it is reached.
 
-ghost use Rattle.std.specs.Prelude.{◌≡◌, ◌≢◌, ◌+◌, ◌<◌, ◌≤◌, ◌^◌, IsAscii, length, Ok};
+ghost use Rattle.std.specs.Prelude.{◌≡◌, ◌≢◌, ◌+◌, ◌<◌, ◌≤◌, ◌^◌, ◌∷◌, ◌++◌, IsAscii, None, Ok, OnOk, [], length, vec_capacity, vec_len};
 ghost use Rattle.mpd_model.specs.declared.read_fault.FaultCode.TheVariants.{Memory};
 ghost use Rattle.mpd_model.specs.Declaration.{handle_cells, handles_in, variable_cells, variables_in};
 ghost use Rattle.mpd_model.specs.Faults.{fault};
@@ -14,12 +14,16 @@ use mpd_model::read_fault::{FaultCode, ReadFault};
 use mpd_model::slot::Slot;
 use mpd_model::token::{Mark, Token};
 use std::alloc::Global;
+use std::collections::BTreeMap;
 use std::marker::Model;
 use std::str;
 
 const MAX_BUDGET: usize = 64;
+
 const MAX_VARIABLES: usize = 1024;
+
 const MAX_HANDLES: usize = 256;
+
 const MAX_STATEMENTS: usize = 4096;
 
 /// A place in a text, which contracts see as an `Input`: the tokens from there on, and what was read before.
@@ -34,6 +38,8 @@ pub struct Tokens<'a> {
     token: Token,
     len: usize,
     decls: Vec<Decl>,
+    /// What the name of each stands for.
+    slots: BTreeMap<&'a [u8], Slot>,
     /// How many cells of each kind these have.
     variables: usize,
     handles: usize,
@@ -73,6 +79,7 @@ fn first(ahead: &[u8]) -> (Token, usize)
 #[tactic(auto, unfolding(mpd_model::specs::Input::refusal, mpd_model::specs::Input::sees, mpd_model::specs::Input::after, mpd_model::specs::Input::expect, mpd_model::specs::Input::spend, mpd_model::specs::Input::count, mpd_model::specs::Input::seek))]
 impl<'a> Tokens<'a> {
     /// The first token of a text.
+    #[tactic(auto, using(crate::proofs::Slots::none_found))]
     pub fn new(alloc: Global, text: &'a [u8]) -> Tokens<'a>
         requires small { length text.now < 2 ^ 32 }
         requires ascii { IsAscii text.now }
@@ -88,6 +95,7 @@ impl<'a> Tokens<'a> {
             token,
             len,
             decls: Vec::new(alloc),
+            slots: BTreeMap::new(alloc),
             variables: 0,
             handles: 0,
             lines: Vec::new(alloc),
@@ -117,7 +125,8 @@ impl<'a> Tokens<'a> {
     }
 
     pub fn advance(&mut self)
-        ensures { self.new ≡ spec.next self.old }
+        ensures value { self.new ≡ spec.next self.old }
+        ensures decls { self.new.decls ≡ self.old.decls }
     {
         let (_, after) = self.ahead.split_at(self.len);
         let (gap, fed) = lex::blank_len(after);
@@ -241,7 +250,7 @@ impl<'a> Tokens<'a> {
     fn find(&self, name: &[u8]) -> Option<Slot>
         ensures { result ≡ spec.slot_in self.now.decls name.now }
     {
-        slot_in(&self.decls, name)
+        self.slots.get(name).copied()
     }
 
     /// What the name that comes next was declared as.
@@ -258,7 +267,8 @@ impl<'a> Tokens<'a> {
     /// The name that comes next is new.
     #[tactic(auto, unfolding(mpd_model::specs::Input::fresh))]
     pub fn fresh(&self) -> Result<(), ReadFault>
-        ensures { Reads (spec.fresh self.now) result self.now }
+        ensures value { Reads (spec.fresh self.now) result self.now }
+        ensures new { OnOk result (spec.slot_in self.now.decls (spec.spelling self.now) ≡ None) }
     {
         match self.find(self.spelling()) {
             Some(_) => Err(self.fail(FaultCode::Twice)),
@@ -275,7 +285,8 @@ impl<'a> Tokens<'a> {
         size: Option<usize>,
         place: usize,
     ) -> Result<(), ReadFault>
-        requires { IsAscii name.now }
+        requires ascii { IsAscii name.now }
+        requires new { spec.slot_in self.old.decls name.now ≡ None }
         ensures { Reads (spec.add kind name.now size place self.old) result self.new }
     {
         let (variables, handles) = cells(kind, size);
@@ -285,8 +296,21 @@ impl<'a> Tokens<'a> {
                 place,
             });
         }
-        let name = String::from_str(*self.decls.allocator(), str::from_utf8(name).unwrap())?;
-        self.decls.push(Decl { kind, name, size })?;
+        let slot = Slot {
+            kind,
+            declaration: self.decls.len(),
+            first: first_of(kind, self.variables, self.handles),
+            size,
+        };
+        let text = String::from_str(*self.decls.allocator(), str::from_utf8(name).unwrap())?;
+        self.decls.reserve(1)?;
+        self.slots.insert(name, slot)?;
+        let decl = Decl {
+            kind,
+            name: text,
+            size,
+        };
+        push_kept(&mut self.decls, decl);
         self.variables += variables;
         self.handles += handles;
         Ok(())
@@ -301,6 +325,24 @@ impl<'a> Tokens<'a> {
         ensures few_lines { length result.1.items ≤ 4096 }
     {
         (self.decls, self.lines)
+    }
+}
+
+/// Pushes where room was kept.
+fn push_kept(decls: &mut Vec<Decl>, decl: Decl)
+    requires { vec_len decls.old < vec_capacity decls.old }
+    ensures { decls.new.items ≡ decls.old.items ++ decl ∷ [] }
+{
+    decls.push(decl).unwrap();
+}
+
+/// The one that is of the kind.
+fn first_of(kind: DeclKind, variables: usize, handles: usize) -> usize
+    ensures { result ≡ spec.first_of kind variables handles }
+{
+    match kind {
+        DeclKind::Variable => variables,
+        DeclKind::Handle => handles,
     }
 }
 
@@ -338,36 +380,4 @@ fn same_mark(a: Mark, b: Mark) -> bool
     ensures { result ≡ spec.same_mark a b }
 {
     a == b
-}
-
-/// What a name stands for among declarations, if it is one of them.
-#[tactic(auto, unfolding(mpd_model::specs::Input::slot_in))]
-fn slot_in(decls: &[Decl], name: &[u8]) -> Option<Slot>
-    requires variables { variables_in decls.now ≤ 1024 }
-    requires handles { handles_in decls.now ≤ 256 }
-    ensures { result ≡ spec.slot_in decls.now name.now }
-{
-    let mut rest = decls;
-    let mut declaration = 0;
-    let mut variables = 0;
-    let mut handles = 0;
-    while let [decl, more @ ..] = rest {
-        if decl.name.as_bytes() == name {
-            return Some(Slot {
-                kind: decl.kind,
-                declaration,
-                first: match decl.kind {
-                    DeclKind::Variable => variables,
-                    DeclKind::Handle => handles,
-                },
-                size: decl.size,
-            });
-        }
-        let (more_variables, more_handles) = cells(decl.kind, decl.size);
-        declaration += 1;
-        variables += more_variables;
-        handles += more_handles;
-        rest = more;
-    }
-    None
 }

@@ -13,6 +13,7 @@ use std::alloc::Global;
 
 /// The level of a whole expression.
 const WHOLE: usize = 5;
+
 const COMPARISON: usize = 3;
 /// One more than the brackets and operators that an expression may have.
 const DEEPEST: usize = 65;
@@ -85,12 +86,7 @@ fn expr(alloc: Global, tokens: &mut Tokens<'_>, depth: usize, of: usize) -> Resu
 /// An operand of the level below, and the operators of the level behind it.
 #[cycle(expr)]
 #[tactic(auto, using(crate::proofs::Steps::levels))]
-fn level(
-    alloc: Global,
-    tokens: &mut Tokens<'_>,
-    depth: usize,
-    of: usize,
-) -> Result<Expr, ReadFault>
+fn level(alloc: Global, tokens: &mut Tokens<'_>, depth: usize, of: usize) -> Result<Expr, ReadFault>
     requires { of ≤ 5 }
     ensures { Reads (spec.level (spec.expr depth) of tokens.old) result tokens.new }
 {

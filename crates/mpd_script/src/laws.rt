@@ -5,11 +5,29 @@ ghost use Rattle.mpd_model.specs.ReaderLaws as law;
 /// What is read as an expression is written so.
 pub fn expressions_are_written()
     ensures { law.ExpressionsAreWritten }
-{
-}
+{}
 
 /// What is read as statements is written so, and each is noted with the line of its first token, in text order.
 pub fn statements_are_written()
     ensures { law.StatementsAreWritten }
-{
-}
+{}
+
+/// What is read as a script is written so, from the first token of the text to its last.
+pub fn scripts_are_written()
+    ensures { law.ScriptsAreWritten }
+{}
+
+/// More depth than an expression has budget changes nothing.
+pub fn depth_is_enough()
+    ensures { law.DepthIsEnough }
+{}
+
+/// The budget of an expression decides nothing but whether it is too deep.
+pub fn budget_decides_depth_alone()
+    ensures { law.BudgetDecidesDepthAlone }
+{}
+
+/// How many blocks may be opened decides nothing but whether one is too deep.
+pub fn blocks_decide_depth_alone()
+    ensures { law.BlocksDecideDepthAlone }
+{}

@@ -50,7 +50,11 @@ fn word_in(mut table: &[(&[u8], Mark)], word: &[u8]) -> Token
         }
         table = rest;
     }
-    if word.len() <= 64 { Token::Name } else { Token::Bad }
+    if word.len() <= 64 {
+        Token::Name
+    } else {
+        Token::Bad
+    }
 }
 
 #[tactic(auto, unfolding(mpd_model::specs::Tokens::word))]

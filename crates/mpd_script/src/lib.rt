@@ -9,3 +9,6 @@ mod script;
 mod stmt;
 
 pub use script::read;
+
+#[cfg(test)]
+mod tests;

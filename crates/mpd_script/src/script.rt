@@ -15,6 +15,7 @@ use mpd_model::token::{Mark, Token};
 use std::alloc::Global;
 
 const MAX_TEXT: usize = 65_536;
+
 const VERSION: i64 = 1;
 
 /// The number after `mpd`.

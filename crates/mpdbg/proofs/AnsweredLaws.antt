@@ -24,14 +24,14 @@ adds_append A d m e ls ks old mid new a b =
 pub fed_more : {D : Type 0} (A : D → List ℕ → List ℕ → D → Type 0) (d m e : D) (p z q r rest left : List ℕ) (b : ℕ) (old mid new : List ℕ)
     → Fed A d p z old mid m q rest → rest ≡ b ∷ left → r ≡ part_from q (b ∷ []) → AddsAnswers A m (ended_from q (b ∷ [])) mid new e
     → Fed A d p z old new e r left
-fed_more A d m e p z q r rest left b old mid new f is part a =
-    ( f.0 ++ ended_from q (b ∷ [])
-    , append_assoc f.0 (ended_from q (b ∷ [])) (ended_from r left)
+fed_more A d m e p z q r rest left b old mid new f is part a = (
+  f.0 ++ ended_from q (b ∷ []),
+  append_assoc f.0 (ended_from q (b ∷ [])) (ended_from r left)
       ∙ ap (λ x. f.0 ++ x) (ap (λ x. ended_from q (b ∷ []) ++ ended_from x left) part ∙ sym (ended_append q (b ∷ []) left) ∙ ap (λ x. ended_from q x) (sym is))
-      ∙ f.1
-    , ap (λ x. part_from x left) part ∙ sym (part_append q (b ∷ []) left) ∙ ap (λ x. part_from q x) (sym is) ∙ f.2
-    , adds_append A d m e f.0 (ended_from q (b ∷ [])) old mid new f.3 a
-    )
+      ∙ f.1,
+  ap (λ x. part_from x left) part ∙ sym (part_append q (b ∷ []) left) ∙ ap (λ x. part_from q x) (sym is) ∙ f.2,
+  adds_append A d m e f.0 (ended_from q (b ∷ [])) old mid new f.3 a,
+)
 
 pub fed_first : {D : Type 0} (A : D → List ℕ → List ℕ → D → Type 0) (d e : D) (p z q rest old mid new : List ℕ)
     → Fed A d p z old mid e q rest → new ≡ mid → AddsFirstAnswers A d (ended_from p z) old new

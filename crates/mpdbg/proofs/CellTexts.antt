@@ -1,5 +1,5 @@
 -- The lines of what a rank holds, one by one.
-use Rattle.std.proofs.Common.{◌≡◌, ℕ, zero, suc, ◌<◌, List, [], ◌∷◌, ◌++◌, length, Option, Some, None, IsSome, IfSome, ℤ, refl, sym, ap, ◌∙◌, arith, append_assoc, slice_get, codes}
+use Rattle.std.proofs.Common.{◌≡◌, ℕ, zero, suc, ◌<◌, List, [], ◌∷◌, ◌++◌, length, Option, Some, None, IsSome, IfSome, ℤ, refl, ap, ◌∙◌, arith, append_assoc, slice_get, codes}
 use Rattle.mpd_model.specs.World.{RankWorld}
 use Rattle.mpd_model.specs.Texts.{values_line, handles_line, cell_lines}
 

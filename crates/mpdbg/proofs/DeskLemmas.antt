@@ -45,4 +45,5 @@ refused_long s z text h many said =
     inl (record { told = rw long said; trail = rw long refl; reached = h })
 
 pub ruleset answering = (skipped, answered, unanswered)
+
 pub ruleset refusing = (refused_long)

@@ -11,7 +11,7 @@ part_append p (b ∷ x) y = elim (b == 10) as (λ v. (if v then part_from [] (x 
 pub ended_append : (p x y : List ℕ) → ended_from p (x ++ y) ≡ ended_from p x ++ ended_from (part_from p x) y
 ended_append p [] y = refl
 ended_append p (b ∷ x) y = elim (b == 10) as (λ v. (if v then bare (p ++ b ∷ []) ∷ ended_from [] (x ++ y) else ended_from (p ++ b ∷ []) (x ++ y))
-        ≡ (if v then bare (p ++ b ∷ []) ∷ ended_from [] x else ended_from (p ++ b ∷ []) x) ++ ended_from (if v then part_from [] x else part_from (p ++ b ∷ []) x) y)
+    ≡ (if v then bare (p ++ b ∷ []) ∷ ended_from [] x else ended_from (p ++ b ∷ []) x) ++ ended_from (if v then part_from [] x else part_from (p ++ b ∷ []) x) y)
     [ true ↦ ap (λ ls. bare (p ++ b ∷ []) ∷ ls) (ended_append [] x y) | false ↦ ended_append (p ++ b ∷ []) x y ]
 
 pub and_first : (p q : Bool) → (p && q) ≡ true → p ≡ true
@@ -85,7 +85,7 @@ pub bare_part : (p : List ℕ) → is_part p ≡ true → bare p ≡ p
 bare_part [] e = refl
 bare_part (b ∷ l) e =
     let not_end : is_ending b l ≡ false =
-        or_false (b == 10 && is_none l) (b == 13 && is_feed l) (ap (λ (v : Bool). v && is_none l) (part_head b l e)) (and_none (b == 13) (is_feed l) (feed_not l (part_tail b l e))) in
+    or_false (b == 10 && is_none l) (b == 13 && is_feed l) (ap (λ (v : Bool). v && is_none l) (part_head b l e)) (and_none (b == 13) (is_feed l) (feed_not l (part_tail b l e))) in
     ap (λ (v : Bool). if v then [] else b ∷ bare l) not_end ∙ ap (λ x. b ∷ x) (bare_part l (part_tail b l e))
 
 bare_last : (p : List ℕ) → is_part p ≡ true → map bare (last_line p) ≡ last_line p
@@ -101,18 +101,20 @@ pub lines_forward : (p z : List ℕ) → is_part p ≡ true → lines_of (p ++ z
 lines_forward p [] e = ap lines_of (append-nil p) ∙ ap (λ x. map bare x) (raw_part p e) ∙ bare_last p e
 lines_forward p (b ∷ z) e =
     elim (b == 10) as (λ v. (b == 10) ≡ v → lines_of (p ++ b ∷ z)
-        ≡ (if v then bare (p ++ b ∷ []) ∷ ended_from [] z else ended_from (p ++ b ∷ []) z) ++ last_line (if v then part_from [] z else part_from (p ++ b ∷ []) z))
-    [ true ↦ λ f. ap (λ x. map bare x) (raw_feed p z b f e) ∙ ap (λ x. bare (p ++ b ∷ []) ∷ x) (lines_forward [] z refl)
-    | false ↦ λ f. ap lines_of (sym (append_assoc p (b ∷ []) z)) ∙ lines_forward (p ++ b ∷ []) z (part_snoc p b e f) ] refl
+    ≡ (if v then bare (p ++ b ∷ []) ∷ ended_from [] z else ended_from (p ++ b ∷ []) z) ++ last_line (if v then part_from [] z else part_from (p ++ b ∷ []) z)) [
+      | true ↦ λ f. ap (λ x. map bare x) (raw_feed p z b f e) ∙ ap (λ x. bare (p ++ b ∷ []) ∷ x) (lines_forward [] z refl)
+      | false ↦ λ f. ap lines_of (sym (append_assoc p (b ∷ []) z)) ∙ lines_forward (p ++ b ∷ []) z (part_snoc p b e f)
+    ] refl
 
 pub ended_forward : (p z : List ℕ) → is_part p ≡ true → ended_lines (p ++ z) ≡ ended_from p z
 ended_forward p [] e = ap ended_lines (append-nil p) ∙ ap (λ x. map bare (filter ends_with_feed x)) (raw_part p e) ∙ ended_none p e
 ended_forward p (b ∷ z) e =
-    elim (b == 10) as (λ v. (b == 10) ≡ v → ended_lines (p ++ b ∷ z) ≡ (if v then bare (p ++ b ∷ []) ∷ ended_from [] z else ended_from (p ++ b ∷ []) z))
-    [ true ↦ λ f. ap (λ x. map bare (filter ends_with_feed x)) (raw_feed p z b f e)
-        ∙ ap (λ (v : Bool). map bare (if v then (p ++ b ∷ []) ∷ filter ends_with_feed (raw_lines z) else filter ends_with_feed (raw_lines z))) (ends_feed p b f)
-        ∙ ap (λ x. bare (p ++ b ∷ []) ∷ x) (ended_forward [] z refl)
-    | false ↦ λ f. ap ended_lines (sym (append_assoc p (b ∷ []) z)) ∙ ended_forward (p ++ b ∷ []) z (part_snoc p b e f) ] refl
+    elim (b == 10) as (λ v. (b == 10) ≡ v → ended_lines (p ++ b ∷ z) ≡ (if v then bare (p ++ b ∷ []) ∷ ended_from [] z else ended_from (p ++ b ∷ []) z)) [
+      | true ↦ λ f. ap (λ x. map bare (filter ends_with_feed x)) (raw_feed p z b f e)
+          ∙ ap (λ (v : Bool). map bare (if v then (p ++ b ∷ []) ∷ filter ends_with_feed (raw_lines z) else filter ends_with_feed (raw_lines z))) (ends_feed p b f)
+          ∙ ap (λ x. bare (p ++ b ∷ []) ∷ x) (ended_forward [] z refl)
+      | false ↦ λ f. ap ended_lines (sym (append_assoc p (b ∷ []) z)) ∙ ended_forward (p ++ b ∷ []) z (part_snoc p b e f)
+    ] refl
 
 pub lines_at : (p : List ℕ) → p ≡ [] → (z : List ℕ) → lines_from p z ≡ lines_of z
 lines_at p e z = ap (λ x. lines_from x z) e ∙ sym (lines_forward [] z refl)

@@ -43,23 +43,23 @@ pub so_far_more : {D : Type 0} (A : D → List ℕ → List ℕ → D → Type 0
     → SoFar A d p (n + 1) s0 s2 w0 w2 e r
 so_far_more A d m e p q r n s0 s1 s2 w0 w1 w2 piece f c some t part =
     let lines : ended_from p f.0 ++ ended_from q piece ≡ ended_from p (f.0 ++ piece) =
-        ap (λ x. ended_from p f.0 ++ ended_from x piece) f.2 ∙ sym (ended_append p f.0 piece) in
-    ( f.0 ++ piece
-    , consumes_append s0 s1 s2 f.0 piece f.1 c
-    , part ∙ ap (λ x. part_from x piece) f.2 ∙ sym (part_append p f.0 piece)
-    , (let le = f.3 in omega (arith, le, some, length-append f.0 piece))
-    , tells_along A d e (ended_from p f.0 ++ ended_from q piece) (ended_from p (f.0 ++ piece)) w0 w2 lines (tells_append A d m e (ended_from p f.0) (ended_from q piece) w0 w1 w2 f.4 t)
+    ap (λ x. ended_from p f.0 ++ ended_from x piece) f.2 ∙ sym (ended_append p f.0 piece) in (
+      f.0 ++ piece,
+      consumes_append s0 s1 s2 f.0 piece f.1 c,
+      part ∙ ap (λ x. part_from x piece) f.2 ∙ sym (part_append p f.0 piece),
+      (let le = f.3 in omega (arith, le, some, length-append f.0 piece)),
+      tells_along A d e (ended_from p f.0 ++ ended_from q piece) (ended_from p (f.0 ++ piece)) w0 w2 lines (tells_append A d m e (ended_from p f.0) (ended_from q piece) w0 w1 w2 f.4 t),
     )
 
 pub told_all : {D : Type 0} (A : D → List ℕ → List ℕ → D → Type 0) (d m e : D) (p q : List ℕ) (n : ℕ) (s0 s1 s2 w0 w1 w2 : Option (List ℕ))
     → SoFar A d p n s0 s1 w0 w1 m q → Consumes s1 s2 [] → IsAtEnd s2 → Tells A m (last_line q) w1 w2 e → TellsAll A d (lines_from p) s0 s2 w0 w2 e
 told_all A d m e p q n s0 s1 s2 w0 w1 w2 f c ends t =
-    let P : List ℕ → Type 0 = λ x. Consumes s0 s2 x in
-    ( f.0
-    , subst P (append-nil f.0) (consumes_append s0 s1 s2 f.0 [] f.1 c)
-    , ends
-    , tells_along A d e (ended_from p f.0 ++ last_line q) (lines_from p f.0) w0 w2 (ap (λ x. ended_from p f.0 ++ last_line x) f.2)
-        (tells_append A d m e (ended_from p f.0) (last_line q) w0 w1 w2 f.4 t)
+    let P : List ℕ → Type 0 = λ x. Consumes s0 s2 x in (
+      f.0,
+      subst P (append-nil f.0) (consumes_append s0 s1 s2 f.0 [] f.1 c),
+      ends,
+      tells_along A d e (ended_from p f.0 ++ last_line q) (lines_from p f.0) w0 w2 (ap (λ x. ended_from p f.0 ++ last_line x) f.2)
+          (tells_append A d m e (ended_from p f.0) (last_line q) w0 w1 w2 f.4 t),
     )
 
 pub told_read : {D : Type 0} (A : D → List ℕ → List ℕ → D → Type 0) (d e : D) (p q : List ℕ) (n k : ℕ) (s0 s1 s2 w0 w1 : Option (List ℕ))
@@ -81,13 +81,13 @@ Next q ls left = IfSome left (λ z. (more : List (List ℕ)) × (ls ++ more ≡ 
 pub next_piece : (q piece : List ℕ) (s1 s2 : Option (List ℕ)) → Consumes s1 s2 piece → Next q (ended_from q piece) s1
 next_piece q piece None s2 c = tt
 next_piece q piece (Some us) None c = absurd c
-next_piece q piece (Some us) (Some vs) c =
-    ( lines_from (part_from q piece) vs
-    , sym (append_assoc (ended_from q piece) (ended_from (part_from q piece) vs) (last_line (part_from (part_from q piece) vs)))
+next_piece q piece (Some us) (Some vs) c = (
+  lines_from (part_from q piece) vs,
+  sym (append_assoc (ended_from q piece) (ended_from (part_from q piece) vs) (last_line (part_from (part_from q piece) vs)))
       ∙ ap (λ x. x ++ last_line (part_from (part_from q piece) vs)) (sym (ended_append q piece vs))
       ∙ ap (λ x. ended_from q (piece ++ vs) ++ last_line x) (sym (part_append q piece vs))
-      ∙ ap (λ x. lines_from q x) (sym c)
-    )
+      ∙ ap (λ x. lines_from q x) (sym c),
+)
 
 pub next_last : (q : List ℕ) (s1 s2 : Option (List ℕ)) → Consumes s1 s2 [] → IsAtEnd s2 → Next q (last_line q) s1
 next_last q None s2 c ends = tt
@@ -109,22 +109,28 @@ pub told_first : {D : Type 0} (A : D → List ℕ → List ℕ → D → Type 0)
     → SoFar A d p n s0 s1 w0 w1 m q → Next q ls s1 → TellsFirst A m ls w1 w2 → IfSome s0 (λ input. TellsFirst A d (lines_from p input) w0 w2)
 told_first A d m p q n ls None s1 w0 w1 w2 f next t = tt
 told_first A d m p q n ls (Some input) None w0 w1 w2 f next t = absurd f.1
-told_first A d m p q n ls (Some input) (Some left) w0 w1 w2 f next t =
-    ( ended_from p f.0 ++ t.0, t.1 ++ next.0, t.2
-    , all_lines A p q f.0 left input ls t.0 t.1 next.0 f.1 f.2 t.3 next.1
-    , tells_append A d m t.2 (ended_from p f.0) t.0 w0 w1 w2 f.4 t.4
-    )
+told_first A d m p q n ls (Some input) (Some left) w0 w1 w2 f next t = (
+  ended_from p f.0 ++ t.0,
+  t.1 ++ next.0,
+  t.2,
+  all_lines A p q f.0 left input ls t.0 t.1 next.0 f.1 f.2 t.3 next.1,
+  tells_append A d m t.2 (ended_from p f.0) t.0 w0 w1 w2 f.4 t.4,
+)
 
 pub told_part : {D : Type 0} (A : D → List ℕ → List ℕ → D → Type 0) (d m : D) (p q : List ℕ) (n : ℕ) (ls : List (List ℕ)) (s0 s1 w0 w1 w2 : Option (List ℕ))
     → SoFar A d p n s0 s1 w0 w1 m q → Next q ls s1 → TellsPart A m ls w1 w2 → IfSome s0 (λ input. TellsPart A d (lines_from p input) w0 w2)
 told_part A d m p q n ls None s1 w0 w1 w2 f next t = tt
 told_part A d m p q n ls (Some input) None w0 w1 w2 f next t = absurd f.1
 told_part {D} A d m p q n ls (Some input) (Some left) w0 w1 w2 f next t =
-    let P : List ℕ → Type 0 = λ x. Answered A d (ended_from p f.0 ++ t.0) x t.2 in
-    ( ended_from p f.0 ++ t.0, t.1 ++ next.0, t.2, f.4.0 ++ t.3, t.4
-    , all_lines A p q f.0 left input ls t.0 t.1 next.0 f.1 f.2 t.5 next.1
-    , appends_append w0 w1 w2 f.4.0 t.3 f.4.1 t.6
-    , subst P (sym (append_assoc f.4.0 t.3 t.4)) (answered_append A d m t.2 (ended_from p f.0) t.0 f.4.0 (t.3 ++ t.4) f.4.2 t.7)
+    let P : List ℕ → Type 0 = λ x. Answered A d (ended_from p f.0 ++ t.0) x t.2 in (
+      ended_from p f.0 ++ t.0,
+      t.1 ++ next.0,
+      t.2,
+      f.4.0 ++ t.3,
+      t.4,
+      all_lines A p q f.0 left input ls t.0 t.1 next.0 f.1 f.2 t.5 next.1,
+      appends_append w0 w1 w2 f.4.0 t.3 f.4.1 t.6,
+      subst P (sym (append_assoc f.4.0 t.3 t.4)) (answered_append A d m t.2 (ended_from p f.0) t.0 f.4.0 (t.3 ++ t.4) f.4.2 t.7),
     )
 
 pub consumes_zero : (s1 s2 : Option (List ℕ)) (n : ℕ) (buffer : List ℕ) → n ≡ 0 → Consumes s1 s2 (take n buffer) → Consumes s1 s2 []

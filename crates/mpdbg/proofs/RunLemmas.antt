@@ -24,8 +24,12 @@ single w a = elim (next w a) as (λ o. option_and_then (λ v. fold v []) o ≡ o
 fold_more : (s : Standing) (a : Step) → IsReached s → fold (first_of s) (kept s.trail ++ a ∷ []) ≡ next s.world a
 fold_more s a h = fold-append (first_of s) (kept s.trail) (a ∷ []) ∙ ap (option_and_then (λ v. fold v (a ∷ []))) h.world ∙ single s.world a
 
-pub applied_done : (s n : Standing) (a : Step) → IsReached s → n.trail ≡ applied s.trail a → next s.world a ≡ Some n.world → Answers (first_of s) (kept s.trail) (Apply a) Done (kept n.trail)
-applied_done s n a h trail step = (rw (fold_more s a h, step) refl, ap kept trail ∙ take_noted s.trail.steps s.trail.depth a h.within)
+length-kept : (s : Standing) → IsReached s → length (kept s.trail) ≡ s.trail.depth
+length-kept s h = omega (arith, length-take s.trail.depth s.trail.steps, h.within)
+
+pub applied_done : (s n : Standing) (a : Step) → IsReached s → n.trail ≡ applied s.trail a → next s.world a ≡ Some n.world → s.trail.depth < 1000000 → Answers (first_of s) (kept s.trail) (Apply a) Done (kept n.trail)
+applied_done s n a h trail step room =
+    (rw (fold_more s a h, step) refl, omega (arith, length-kept s h), ap kept trail ∙ take_noted s.trail.steps s.trail.depth a h.within)
 
 pub applied_reached : (s n : Standing) (a : Step) → IsReached s → n.trail ≡ applied s.trail a → next s.world a ≡ Some n.world → IsReached n
 applied_reached s n a h trail step =
@@ -47,12 +51,8 @@ enabled_more s a h some = rw (fold_more s a h) some
 pub applied_full : (s n : Standing) (a : Step) → IsReached s → n.trail ≡ s.trail → IsSome (next s.world a) → s.trail.depth ≡ 1000000 → Answers (first_of s) (kept s.trail) (Apply a) Full (kept n.trail)
 applied_full s n a h trail some full = (enabled_more s a h some, omega (arith, length-take s.trail.depth s.trail.steps, h.within, full), ap kept trail)
 
-some_of : {A : Type 0} (o : Option A) → (o ≡ None → ⊥) → IsSome o
-some_of None h = absurd (h refl)
-some_of (Some x) h = refl
-
-pub applied_memory : (s n : Standing) (a : Step) → IsReached s → n.trail ≡ s.trail → (next s.world a ≡ None → ⊥) → Answers (first_of s) (kept s.trail) (Apply a) Memory (kept n.trail)
-applied_memory s n a h trail some = (enabled_more s a h (some_of (next s.world a) some), ap kept trail)
+pub applied_memory : (s n : Standing) (a : Step) → IsReached s → n.trail ≡ s.trail → IsSome (next s.world a) → s.trail.depth < 1000000 → Answers (first_of s) (kept s.trail) (Apply a) Memory (kept n.trail)
+applied_memory s n a h trail some room = (enabled_more s a h some, omega (arith, length-kept s h), ap kept trail)
 
 pub stays_reached : (s n : Standing) → IsReached s → n.trail ≡ s.trail → n.world ≡ s.world → IsReached n
 stays_reached s n h trail world =
@@ -81,11 +81,7 @@ same_taken_back s n e = record { program = ap (λ (t : Trail). t.program) e; mod
 pub same_stays : (s n : Trail) → n ≡ s → SameScript s n
 same_stays s n e = record { program = ap (λ (t : Trail). t.program) e; mode = ap (λ (t : Trail). t.mode) e }
 
-
-pub carried_memory : (s n : Standing) (a : Step) → n.trail ≡ s.trail → n.world ≡ s.world → (next s.world a ≡ None → ⊥) → Carried s (Apply a) Memory n
-carried_memory s n a trail world some = (some_of (next s.world a) some, record { trail = trail; world = world })
-
-pub ruleset answering = (applied_done, applied_reached, applied_none, applied_full, applied_memory, stays_reached, undone_done, undone_none, same_applied, same_taken_back, same_stays, carried_memory)
+pub ruleset answering = (applied_done, applied_reached, applied_none, applied_full, applied_memory, stays_reached, undone_done, undone_none, same_applied, same_taken_back, same_stays)
 
 -- ---- lists of commands
 

@@ -24,11 +24,11 @@ pub sent_none : (held : Option (List ℕ)) (bytes : List ℕ) → Sent held held
 sent_none held bytes = ([], refl, appends_none held)
 
 pub sent_more : (old mid new : Option (List ℕ)) (bytes rest left : List ℕ) (n : ℕ) → left ≡ drop n rest → Sent old mid bytes rest → Appends mid new (take n rest) → Sent old new bytes left
-sent_more old mid new bytes rest left n is s a =
-    ( s.0 ++ take n rest
-    , ap (λ t. (s.0 ++ take n rest) ++ t) is ∙ append_assoc s.0 (take n rest) (drop n rest) ∙ ap (λ t. s.0 ++ t) (take-append-drop n rest) ∙ s.1
-    , appends_append old mid new s.0 (take n rest) s.2 a
-    )
+sent_more old mid new bytes rest left n is s a = (
+  s.0 ++ take n rest,
+  ap (λ t. (s.0 ++ take n rest) ++ t) is ∙ append_assoc s.0 (take n rest) (drop n rest) ∙ ap (λ t. s.0 ++ t) (take-append-drop n rest) ∙ s.1,
+  appends_append old mid new s.0 (take n rest) s.2 a,
+)
 
 pub sent_all : (old new : Option (List ℕ)) (bytes rest : List ℕ) → rest ≡ [] → Sent old new bytes rest → Appends old new bytes
 sent_all old new bytes rest e s =

@@ -1,6 +1,6 @@
 //! The trail: the steps that were taken, of which some may be undone, and the state that they lead to.
 
-ghost use Rattle.std.specs.Prelude.{◌≡◌, ◌↔◌, ◌<◌, ◌≤◌, IfOk, OnOk, OnErr, IsErrOf, IsOk, IsSome, Some, None, vec_len};
+ghost use Rattle.std.specs.Prelude.{◌≡◌, ◌↔◌, ◌<◌, ◌≤◌, IfOk, OnOk, OnErr, IsErrOf, IsOk, IsSome, Some, None, vec_len, codes};
 ghost use Rattle.mpd_model.specs.World.{start};
 ghost use Rattle.mpd_model.specs.Next.{next};
 ghost use Rattle.mpd_model.specs.Trail.{first_standing, IsReached, noted, applied, taken_back, step_eq};
@@ -60,6 +60,22 @@ impl ApplyFault {
 #[derive(Clone, Copy, PartialEq, Eq, Debug, Error)]
 #[error("at-start")]
 pub struct AtStart;
+
+impl AtStart {
+    /// Its number, as docs/FORMATS.md lists them.
+    pub fn number(self) -> u8
+        ensures { result ≡ 24 }
+    {
+        24
+    }
+
+    /// Its name.
+    pub fn name(self) -> &'static str
+        ensures { result.now ≡ codes "at-start" }
+    {
+        "at-start"
+    }
+}
 
 /// The steps that were taken, and where they lead; contracts see it as a `Standing`.
 #[derive(Drop)]
@@ -162,6 +178,7 @@ impl<'s> Debugger<'s> {
         ensures room { OnOk result (self.old.trail.depth < STEPS_MAX) }
         ensures not_enabled { IsErrOf result ApplyFault.NotEnabled ↔ (next self.old.world step ≡ None) }
         ensures full { IsErrOf result ApplyFault.Full ↔ (IsSome (next self.old.world step) × (self.old.trail.depth ≡ STEPS_MAX)) }
+        ensures memory { IsErrOf result ApplyFault.Memory → IsSome (next self.old.world step) × (self.old.trail.depth < STEPS_MAX) }
         ensures err { OnErr result (self.new.trail ≡ self.old.trail) }
         ensures err_world { OnErr result (self.new.world ≡ self.old.world) }
     {

@@ -71,7 +71,12 @@ fn back_reply(alloc: Global, debugger: &mut Debugger<'_>) -> Result<Said, AllocE
 fn show_reply(alloc: Global, debugger: &mut Debugger<'_>) -> Result<Said, AllocError>
     ensures { Replies debugger.old (Some Word.Show) result debugger.new }
 {
-    let text = show(alloc, debugger.core(), debugger.depth(), debugger.steps().len())?;
+    let text = show(
+        alloc,
+        debugger.core(),
+        debugger.depth(),
+        debugger.steps().len(),
+    )?;
     Ok(Said::Text(text))
 }
 

@@ -108,12 +108,7 @@ impl Feeder {
     }
 
     // one byte more
-    fn take<D: Desk>(
-        &mut self,
-        desk: &mut D,
-        byte: u8,
-        out: &mut Vec<u8>,
-    ) -> Result<(), AllocError>
+    fn take<D: Desk>(&mut self, desk: &mut D, byte: u8, out: &mut Vec<u8>) -> Result<(), AllocError>
         ensures ok { OnOk result (AddsAnswers D.answers desk.old (ended_from self.old (byte ∷ [])) out.old.items out.new.items desk.new) }
         ensures part { OnOk result (self.new ≡ part_from self.old (byte ∷ [])) }
         ensures err { OnErr result (out.new.items ≡ out.old.items) }

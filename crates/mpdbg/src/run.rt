@@ -1,6 +1,6 @@
 //! Lists of steps and undos: the replies, and where they lead.
 
-ghost use Rattle.std.specs.Prelude.{◌≡◌, Some, [], IfOk};
+ghost use Rattle.std.specs.Prelude.{◌≡◌, Some, [], IfOk, OnErr};
 ghost use Rattle.mpd_model.specs.World.{start};
 ghost use Rattle.mpd_model.specs.Next.{fold};
 ghost use Rattle.mpd_model.specs.Trail.{kept, first_standing, IsReached};
@@ -52,7 +52,8 @@ pub fn answer(debugger: &mut Debugger<'_>, command: Command) -> Reply
     }
 }
 
-/// Carries out a list of commands, with the reply to each. An `Err` is want of memory for the replies.
+/// Carries out a list of commands, with the reply to each. An `Err` is want of memory for the replies, and then no
+/// command was carried out.
 pub fn follow(
     alloc: Global,
     debugger: &mut Debugger<'_>,
@@ -61,11 +62,12 @@ pub fn follow(
     ensures run { IfOk result (λ replies. Run (start debugger.old.trail.program debugger.old.trail.mode) (kept debugger.old.trail) commands.now replies.items (kept debugger.new.trail)) }
     ensures script { SameScript debugger.old.trail debugger.new.trail }
     ensures reached { IsReached debugger.new }
+    ensures err { OnErr result (debugger.new ≡ debugger.old) }
 {
-    let mut replies = Vec::new(alloc);
     let _ = debugger.core();
+    let mut replies = Vec::with_capacity(alloc, commands.len())?;
     for command in commands {
-        replies.push(answer(debugger, *command))?;
+        replies.push_reserved(answer(debugger, *command));
     }
     Ok(replies)
 }
@@ -80,6 +82,8 @@ pub fn replay<'s>(
 ) -> Result<(Debugger<'s>, Vec<Reply>), AllocError>
     ensures run { IfOk result (λ r. Run (start script.now mode) [] commands.now r.1.items (kept r.0.trail)) }
     ensures world { IfOk result (λ r. fold (start script.now mode) (kept r.0.trail) ≡ Some r.0.world) }
+    ensures script { IfOk result (λ r. (r.0.trail.program ≡ script.now) × (r.0.trail.mode ≡ mode)) }
+    ensures reached { IfOk result (λ r. IsReached r.0) }
 {
     let mut debugger = Debugger::start(alloc, script, mode)?;
     let replies = follow(alloc, &mut debugger, commands)?;

@@ -150,7 +150,12 @@ fn push_pending_of(out: &mut String, core: &Core<'_>, sender: usize) -> Result<(
 }
 
 /// Adds the line of a rank's free sends to another, where there are any.
-fn push_pending(out: &mut String, core: &Core<'_>, sender: usize, receiver: usize) -> Result<(), AllocError>
+fn push_pending(
+    out: &mut String,
+    core: &Core<'_>,
+    sender: usize,
+    receiver: usize,
+) -> Result<(), AllocError>
     ensures { OnOk result (string_bytes out.new ≡ string_bytes out.old ++ pending_line core.now.world sender receiver) }
 {
     let numbers = pending_numbers(core, sender, receiver)?;
@@ -162,13 +167,18 @@ fn push_pending(out: &mut String, core: &Core<'_>, sender: usize, receiver: usiz
 }
 
 /// The numbers of a rank's free sends to another.
-fn pending_numbers(core: &Core<'_>, sender: usize, receiver: usize) -> Result<Vec<usize>, AllocError>
+fn pending_numbers(
+    core: &Core<'_>,
+    sender: usize,
+    receiver: usize,
+) -> Result<Vec<usize>, AllocError>
     ensures { IfOk result (λ numbers. numbers.items ≡ pending core.now.world sender receiver) }
 {
     let mut numbers = Vec::new(core.allocator());
     let count = core.call_count(sender);
     for index in 0..count {
-        push_if(&mut numbers, index, core.is_pending(sender, receiver, index))?;
+        let is_chosen = core.is_pending(sender, receiver, index);
+        push_if(&mut numbers, index, is_chosen)?;
     }
     Ok(numbers)
 }
@@ -203,7 +213,8 @@ fn posted_numbers(core: &Core<'_>, rank: usize) -> Result<Vec<usize>, AllocError
     let mut numbers = Vec::new(core.allocator());
     let count = core.call_count(rank);
     for index in 0..count {
-        push_if(&mut numbers, index, core.is_posted(rank, index))?;
+        let is_chosen = core.is_posted(rank, index);
+        push_if(&mut numbers, index, is_chosen)?;
     }
     Ok(numbers)
 }

@@ -12,9 +12,9 @@ returns-in-Ok-last_turn-clause-ok g c =
     let some : 0 < length c.read.new.buffer = search rules in
     let ends : IsAtEnd s2 = c.in-Ok.ensures.bytes.1 c.if-count-eq0.true some in
     told_all g.D.Desk.answers c.args.desk.now c.loop-turn.desk c.last_turn.new.desk c.args.feeder.now c.loop-turn.feeder c.loop-turn._turn
-        (g.S.Source.remaining c.args.source.now) s1 s2
-        (g.W.Sink.contents c.args.sink.now) (g.W.Sink.contents c.loop-turn.sink) (g.W.Sink.contents c.last_turn.new.sink)
-        c.loop-turn.invariant.so_far none ends c.in-Ok-last_turn.ensures.0
+    (g.S.Source.remaining c.args.source.now) s1 s2
+    (g.W.Sink.contents c.args.sink.now) (g.W.Sink.contents c.loop-turn.sink) (g.W.Sink.contents c.last_turn.new.sink)
+    c.loop-turn.invariant.so_far none ends c.in-Ok-last_turn.ensures.0
 
 pub returns-in-Err-WriteFailed-clause-write_failed :
     goal.returns-in-Err-WriteFailed-clause-write_failed
@@ -24,11 +24,11 @@ returns-in-Err-WriteFailed-clause-write_failed g c is =
     let s2 = g.S.Source.remaining c.read.new.self in
     let none : Consumes s1 s2 [] = consumes_zero s1 s2 c.in-Ok.count c.read.new.buffer c.if-count-eq0.true c.in-Ok.ensures.bytes.0 in
     let some : 0 < length c.read.new.buffer = search rules in
-    let next : Next c.loop-turn.feeder (last_line c.loop-turn.feeder) s1 = next_last c.loop-turn.feeder s1 s2 none (c.in-Ok.ensures.bytes.1 c.if-count-eq0.true some) in
-    ( (let e = c.loop-turn.invariant.writes in let f = h.1 in omega (arith, e, f))
-    , told_part g.D.Desk.answers c.args.desk.now c.loop-turn.desk c.args.feeder.now c.loop-turn.feeder c.loop-turn._turn (last_line c.loop-turn.feeder)
-        (g.S.Source.remaining c.args.source.now) s1 (g.W.Sink.contents c.args.sink.now) (g.W.Sink.contents c.loop-turn.sink) (g.W.Sink.contents c.last_turn.new.sink)
-        c.loop-turn.invariant.so_far next h.0
+    let next : Next c.loop-turn.feeder (last_line c.loop-turn.feeder) s1 = next_last c.loop-turn.feeder s1 s2 none (c.in-Ok.ensures.bytes.1 c.if-count-eq0.true some) in (
+      (let e = c.loop-turn.invariant.writes in let f = h.1 in omega (arith, e, f)),
+      told_part g.D.Desk.answers c.args.desk.now c.loop-turn.desk c.args.feeder.now c.loop-turn.feeder c.loop-turn._turn (last_line c.loop-turn.feeder)
+          (g.S.Source.remaining c.args.source.now) s1 (g.W.Sink.contents c.args.sink.now) (g.W.Sink.contents c.loop-turn.sink) (g.W.Sink.contents c.last_turn.new.sink)
+          c.loop-turn.invariant.so_far next h.0,
     )
 
 pub returns-in-Err-Memory-clause-memory : goal.returns-in-Err-Memory-clause-memory
@@ -40,8 +40,8 @@ returns-in-Err-Memory-clause-memory g c is =
     let some : 0 < length c.read.new.buffer = search rules in
     let next : Next c.loop-turn.feeder (last_line c.loop-turn.feeder) s1 = next_last c.loop-turn.feeder s1 s2 none (c.in-Ok.ensures.bytes.1 c.if-count-eq0.true some) in
     told_first g.D.Desk.answers c.args.desk.now c.loop-turn.desk c.args.feeder.now c.loop-turn.feeder c.loop-turn._turn (last_line c.loop-turn.feeder)
-        (g.S.Source.remaining c.args.source.now) s1 (g.W.Sink.contents c.args.sink.now) (g.W.Sink.contents c.loop-turn.sink) (g.W.Sink.contents c.last_turn.new.sink)
-        c.loop-turn.invariant.so_far next h.0
+    (g.S.Source.remaining c.args.source.now) s1 (g.W.Sink.contents c.args.sink.now) (g.W.Sink.contents c.loop-turn.sink) (g.W.Sink.contents c.last_turn.new.sink)
+    c.loop-turn.invariant.so_far next h.0
 
 pub returns-in-Err-WriteFailed-turn-clause-write_failed :
     goal.returns-in-Err-WriteFailed-turn-clause-write_failed
@@ -50,11 +50,11 @@ returns-in-Err-WriteFailed-turn-clause-write_failed g c is =
     let s1 = g.S.Source.remaining c.loop-turn.source in
     let s2 = g.S.Source.remaining c.read.new.self in
     let piece = c.split_at.result.0.now in
-    let some : Consumes s1 s2 piece = consumes_piece s1 s2 (take c.in-Ok.count c.read.new.buffer) piece c.split_at.ensures.front c.in-Ok.ensures.bytes.0 in
-    ( (let e = c.loop-turn.invariant.writes in let f = h.1 in omega (arith, e, f))
-    , told_part g.D.Desk.answers c.args.desk.now c.loop-turn.desk c.args.feeder.now c.loop-turn.feeder c.loop-turn._turn (ended_from c.loop-turn.feeder piece)
-        (g.S.Source.remaining c.args.source.now) s1 (g.W.Sink.contents c.args.sink.now) (g.W.Sink.contents c.loop-turn.sink) (g.W.Sink.contents c.turn.new.sink)
-        c.loop-turn.invariant.so_far (next_piece c.loop-turn.feeder piece s1 s2 some) h.0
+    let some : Consumes s1 s2 piece = consumes_piece s1 s2 (take c.in-Ok.count c.read.new.buffer) piece c.split_at.ensures.front c.in-Ok.ensures.bytes.0 in (
+      (let e = c.loop-turn.invariant.writes in let f = h.1 in omega (arith, e, f)),
+      told_part g.D.Desk.answers c.args.desk.now c.loop-turn.desk c.args.feeder.now c.loop-turn.feeder c.loop-turn._turn (ended_from c.loop-turn.feeder piece)
+          (g.S.Source.remaining c.args.source.now) s1 (g.W.Sink.contents c.args.sink.now) (g.W.Sink.contents c.loop-turn.sink) (g.W.Sink.contents c.turn.new.sink)
+          c.loop-turn.invariant.so_far (next_piece c.loop-turn.feeder piece s1 s2 some) h.0,
     )
 
 pub returns-in-Err-Memory-turn-clause-memory : goal.returns-in-Err-Memory-turn-clause-memory
@@ -65,8 +65,8 @@ returns-in-Err-Memory-turn-clause-memory g c is =
     let piece = c.split_at.result.0.now in
     let some : Consumes s1 s2 piece = consumes_piece s1 s2 (take c.in-Ok.count c.read.new.buffer) piece c.split_at.ensures.front c.in-Ok.ensures.bytes.0 in
     told_first g.D.Desk.answers c.args.desk.now c.loop-turn.desk c.args.feeder.now c.loop-turn.feeder c.loop-turn._turn (ended_from c.loop-turn.feeder piece)
-        (g.S.Source.remaining c.args.source.now) s1 (g.W.Sink.contents c.args.sink.now) (g.W.Sink.contents c.loop-turn.sink) (g.W.Sink.contents c.turn.new.sink)
-        c.loop-turn.invariant.so_far (next_piece c.loop-turn.feeder piece s1 s2 some) h.0
+    (g.S.Source.remaining c.args.source.now) s1 (g.W.Sink.contents c.args.sink.now) (g.W.Sink.contents c.loop-turn.sink) (g.W.Sink.contents c.turn.new.sink)
+    c.loop-turn.invariant.so_far (next_piece c.loop-turn.feeder piece s1 s2 some) h.0
 
 pub loop-turn-preserved : goal.loop-turn-preserved
 loop-turn-preserved g c =

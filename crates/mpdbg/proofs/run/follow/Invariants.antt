@@ -1,4 +1,4 @@
-use Rattle.std.proofs.Common.{take}
+use Rattle.std.proofs.Common.{◌≡◌, ◌≤◌, length, take, vec_capacity}
 use Rattle.mpd_model.specs.World.{start}
 use Rattle.mpd_model.specs.Trail.{kept, IsReached}
 use Rattle.mpdbg.specs.Run.{Run, SameScript}
@@ -9,4 +9,6 @@ invariant-loop-command l = record {
   run : Run (start l.fn.debugger.trail.program l.fn.debugger.trail.mode) (kept l.fn.debugger.trail) (take l.command-index l.commands) l.replies.items (kept l.debugger.trail);
   script : SameScript l.fn.debugger.trail l.debugger.trail;
   reached : IsReached l.debugger;
+  counted : length l.replies.items ≡ l.command-index;
+  room : length l.commands ≤ vec_capacity l.replies;
 }

@@ -1,4 +1,4 @@
-use Rattle.std.proofs.Common.{◌≡◌, ◌++◌, ◌∷◌, [], drop, string_bytes}
+use Rattle.std.proofs.Common.{◌≡◌, ◌++◌, drop, string_bytes}
 use Rattle.std.specs.Fmt.{signed_decimal}
 use Rattle.mpd_model.specs.Texts.{spaced}
 use Rattle.mpdbg.proofs.show.push_values.Given as goal

@@ -1,0 +1,140 @@
+//! Texts whose outcome was worked out by hand.
+
+use crate::{laws, read};
+use mpd_model::expr::ExprNode;
+use mpd_model::read_fault::{FaultCode, ReadFault};
+use mpd_model::script::Script;
+use mpd_model::stmt::StmtNode;
+use std::alloc::{AllocError, Global};
+
+const HEADER: &str = "mpd 1;ranks 1;";
+
+/// A text that repeats a line.
+fn repeated(alloc: Global, line: &str, count: usize) -> Result<String, AllocError> {
+    let mut text = String::new(alloc);
+    text.push_str(HEADER)?;
+    for _line in 0..count {
+        text.push_str(line)?;
+    }
+    Ok(text)
+}
+
+/// A text that declares so many variables.
+fn declaring(alloc: Global, count: usize) -> Result<String, AllocError> {
+    let mut text = String::new(alloc);
+    text.push_str(HEADER)?;
+    for number in 0..count {
+        let line = format!(in alloc; "var v{number};")?;
+        text.push_str(line.as_str())?;
+    }
+    Ok(text)
+}
+
+/// Whether a text is refused so, or for want of memory.
+fn is_refused(outcome: Result<Script, ReadFault>, code: FaultCode, place: usize) -> bool {
+    match outcome {
+        Ok(_) => false,
+        Err(fault) if fault.code == FaultCode::Memory => fault.place == 0,
+        Err(fault) => fault == ReadFault { code, place },
+    }
+}
+
+/// Whether a text is read, or refused for want of memory.
+fn is_read(outcome: Result<Script, ReadFault>) -> bool {
+    match outcome {
+        Ok(_) => true,
+        Err(fault) => fault.code == FaultCode::Memory,
+    }
+}
+
+#[test]
+fn two_ranks(rt: HostRuntime) {
+    let text =
+        b"mpd 1;\nranks 2;\nvar x;\nif rank == 0 { send 7 to 1 tag 0; } else { recv x from 0 tag 0; print x; }";
+    match read(rt.alloc(), text) {
+        Ok(script) => {
+            assert_eq!(rt; script.ranks, 2);
+            assert_eq!(rt; script.decls.len(), 1);
+            assert!(rt; script.lines.as_slice() == [4, 4, 4, 4].as_slice());
+            match script.body.as_slice() {
+                [only] => match &only.node {
+                    StmtNode::If(test, first, second) => {
+                        assert!(rt; matches!(test.node, ExprNode::Binary(_, _, _)));
+                        assert_eq!(rt; first.len(), 1);
+                        assert_eq!(rt; second.len(), 2);
+                    }
+                    _ => assert!(rt; false, "no `if`"),
+                },
+                _ => assert!(rt; false, "not one statement"),
+            }
+        }
+        Err(fault) => assert!(rt; fault.code == FaultCode::Memory),
+    }
+}
+
+#[test]
+fn statement_4097(rt: HostRuntime) {
+    if let Ok(text) = repeated(rt.alloc(), "print 1;", 4096) {
+        assert!(rt; is_read(read(rt.alloc(), text.as_bytes())));
+    }
+    if let Ok(text) = repeated(rt.alloc(), "print 1;", 4097) {
+        assert!(rt;
+            is_refused(
+                read(rt.alloc(), text.as_bytes()),
+                FaultCode::TooMany,
+                32_782
+            )
+        );
+    }
+}
+
+#[test]
+fn variable_1025(rt: HostRuntime) {
+    if let Ok(text) = declaring(rt.alloc(), 1024) {
+        assert!(rt; is_read(read(rt.alloc(), text.as_bytes())));
+    }
+    // 14 bytes of header; ten lines of 7 bytes, 90 of 8, 900 of 9, 24 of 10; and `var `
+    if let Ok(text) = declaring(rt.alloc(), 1025) {
+        assert!(rt; is_refused(read(rt.alloc(), text.as_bytes()), FaultCode::TooMany, 9_148));
+    }
+}
+
+#[test]
+fn block_65(rt: HostRuntime) {
+    if let Ok(text) = repeated(rt.alloc(), "if 1 {", 65) {
+        assert!(rt; is_refused(read(rt.alloc(), text.as_bytes()), FaultCode::TooDeep, 403));
+    }
+}
+
+#[test]
+fn too_long(rt: HostRuntime) {
+    if let Ok(text) = repeated(rt.alloc(), " ", 65_523) {
+        assert!(rt;
+            is_refused(
+                read(rt.alloc(), text.as_bytes()),
+                FaultCode::TooLong,
+                65_536
+            )
+        );
+    }
+    if let Ok(text) = repeated(rt.alloc(), " ", 65_522) {
+        assert!(rt; is_read(read(rt.alloc(), text.as_bytes())));
+    }
+}
+
+#[test]
+fn numbers_and_names(rt: HostRuntime) {
+    assert_eq!(rt; FaultCode::TooLong.number(), 1);
+    assert_eq!(rt; FaultCode::Memory.number(), 11);
+    assert!(rt; FaultCode::NotInVersion.name() == "not-in-version");
+}
+
+#[test]
+fn laws_cost_nothing(_rt: HostRuntime) {
+    laws::expressions_are_written();
+    laws::statements_are_written();
+    laws::scripts_are_written();
+    laws::depth_is_enough();
+    laws::budget_decides_depth_alone();
+    laws::blocks_decide_depth_alone();
+}

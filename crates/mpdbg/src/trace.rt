@@ -1,0 +1,44 @@
+//! Traces a script: trace words in, answers out.
+
+ghost use Rattle.std.specs.Prelude.{◌≡◌, ◌+◌, OnOk, IfSome, IsErrOf};
+ghost use Rattle.mpd_model.specs.Lines.{lines_of, ended_lines};
+ghost use Rattle.mpd_model.specs.Trail.{Standing, first_standing};
+ghost use Rattle.mpd_model.specs.Answers.{AnswerOrMemory};
+ghost use Rattle.mpdbg.specs.Answered.{TellsFirst, TellsPart};
+ghost use Rattle.mpdbg.specs.Told.{TellsAll, TellsRead};
+
+use crate::debugger::Debugger;
+use crate::engine::{EngineFault, run};
+use mpd_model::call::Mode;
+use mpd_model::device::{Sink, Source};
+use mpd_model::script::Script;
+use std::alloc::Global;
+
+/// Answers the trace words of a source (docs/FORMATS.md, "Trace words") from the start of a script, and writes exactly
+/// the answers to the lines read, however they were cut into reads. `Ok` comes only where the input has ended,
+/// `ReadFailed` (45) and `WriteFailed` (46) only where that device failed in this call, `TooManyTurns` (47) only after
+/// 1,000,000 reads, and `Memory` only where a growth was refused; the answers that were given before stand.
+#[tactic(auto, using(crate::proofs::TraceLemmas::opening_memory))]
+pub fn trace<S: Source, W: Sink>(
+    alloc: Global,
+    script: &Script,
+    mode: Mode,
+    source: &mut S,
+    sink: &mut W,
+) -> Result<(), EngineFault>
+    ensures ok { OnOk result ((e : Standing) × TellsAll AnswerOrMemory (first_standing script.now mode) lines_of (S.remaining source.old) (S.remaining source.new) (W.contents sink.old) (W.contents sink.new) e) }
+    ensures unfailed { OnOk result ((S.failures source.new ≡ S.failures source.old) × (W.failures sink.new ≡ W.failures sink.old)) }
+    ensures read_failed { IsErrOf result EngineFault.ReadFailed → (S.failures source.new ≡ S.failures source.old + 1)
+        × ((e : Standing) × TellsRead AnswerOrMemory (first_standing script.now mode) ended_lines 0 (S.remaining source.old) (S.remaining source.new) (W.contents sink.old) (W.contents sink.new) e) }
+    ensures write_failed { IsErrOf result EngineFault.WriteFailed → (W.failures sink.new ≡ W.failures sink.old + 1)
+        × IfSome (S.remaining source.old) (λ input. TellsPart AnswerOrMemory (first_standing script.now mode) (lines_of input) (W.contents sink.old) (W.contents sink.new)) }
+    ensures turns { IsErrOf result EngineFault.TooManyTurns → (S.calls source.new ≡ S.calls source.old + 1000000)
+        × ((e : Standing) × TellsRead AnswerOrMemory (first_standing script.now mode) ended_lines 1000000 (S.remaining source.old) (S.remaining source.new) (W.contents sink.old) (W.contents sink.new) e) }
+    ensures memory { IsErrOf result EngineFault.Memory →
+        IfSome (S.remaining source.old) (λ input. TellsFirst AnswerOrMemory (first_standing script.now mode) (lines_of input) (W.contents sink.old) (W.contents sink.new)) }
+{
+    let Ok(mut debugger) = Debugger::start(alloc, script, mode) else {
+        return Err(EngineFault::Memory);
+    };
+    run(alloc, source, sink, &mut debugger)
+}
