@@ -221,8 +221,8 @@ unfolding declaring
 declaring_sure k i =
     bind_sure (fresh i) _ (fresh_sure i) (λ a x.
     bind_sure (cond (sees m.SquareOpen (next x)) refuse (add k (spelling i) None (place i)) (next x)) _
-      (either_sure (sees m.SquareOpen (next x)) refuse (add k (spelling i) None (place i)) (next x) (refusal_sure (next x)) (add_sure k (spelling i) None (place i) (next x)))
-      (λ b y. expect_sure m.Semicolon y))
+    (either_sure (sees m.SquareOpen (next x)) refuse (add k (spelling i) None (place i)) (next x) (refusal_sure (next x)) (add_sure k (spelling i) None (place i) (next x)))
+    (λ b y. expect_sure m.Semicolon y))
 
 decl_case : (k : DeclKind) (t : Token) → AllSure (decl_by k t)
 decl_case k Name i = declaring_sure k i

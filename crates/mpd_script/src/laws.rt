@@ -27,6 +27,11 @@ pub fn depth_is_enough()
     ensures { law.DepthIsEnough }
 {}
 
+/// More turns than there are tokens change nothing of statements and declarations.
+pub fn turns_are_enough()
+    ensures { law.TurnsAreEnough }
+{}
+
 /// The budget of an expression decides nothing but whether it is too deep.
 pub fn budget_decides_depth_alone()
     ensures { law.BudgetDecidesDepthAlone }

@@ -136,6 +136,7 @@ fn laws_cost_nothing(_rt: HostRuntime) {
     laws::scripts_are_written();
     laws::no_text_is_memory();
     laws::depth_is_enough();
+    laws::turns_are_enough();
     laws::budget_decides_depth_alone();
     laws::blocks_decide_depth_alone();
 }
