@@ -35,21 +35,27 @@ behind_read A d m e p q b n s0 s w0 w1 w2 none part t u =
 pub behind_first : {D : Type 0} (A : D → List ℕ → List ℕ → D → Type 0) (d m : D) (p q b : List ℕ) (s0 w0 w1 w2 : Option (List ℕ))
     → p ≡ [] → q ≡ part_from p b → Tells A d (ended_from p b) w0 w1 m → IfSome s0 (λ z. TellsFirst A m (lines_from q z) w1 w2) → IfSome s0 (λ z. TellsFirst A d (lines_of (b ++ z)) w0 w2)
 behind_first A d m p q b None w0 w1 w2 none part t u = tt
-behind_first A d m p q b (Some z) w0 w1 w2 none part t u =
-    ( ended_from p b ++ u.0, u.1, u.2
-    , append_assoc (ended_from p b) u.0 u.1 ∙ ap (λ x. ended_from p b ++ x) u.3 ∙ lines_split p q b z none part
-    , tells_append A d m u.2 (ended_from p b) u.0 w0 w1 w2 t u.4
-    )
+behind_first A d m p q b (Some z) w0 w1 w2 none part t u = (
+  ended_from p b ++ u.0,
+  u.1,
+  u.2,
+  append_assoc (ended_from p b) u.0 u.1 ∙ ap (λ x. ended_from p b ++ x) u.3 ∙ lines_split p q b z none part,
+  tells_append A d m u.2 (ended_from p b) u.0 w0 w1 w2 t u.4,
+)
 
 pub behind_part : {D : Type 0} (A : D → List ℕ → List ℕ → D → Type 0) (d m : D) (p q b : List ℕ) (s0 w0 w1 w2 : Option (List ℕ))
     → p ≡ [] → q ≡ part_from p b → Tells A d (ended_from p b) w0 w1 m → IfSome s0 (λ z. TellsPart A m (lines_from q z) w1 w2) → IfSome s0 (λ z. TellsPart A d (lines_of (b ++ z)) w0 w2)
 behind_part A d m p q b None w0 w1 w2 none part t u = tt
 behind_part {D} A d m p q b (Some z) w0 w1 w2 none part t u =
-    let P : List ℕ → Type 0 = λ x. Answered A d (ended_from p b ++ u.0) x u.2 in
-    ( ended_from p b ++ u.0, u.1, u.2, t.0 ++ u.3, u.4
-    , append_assoc (ended_from p b) u.0 u.1 ∙ ap (λ x. ended_from p b ++ x) u.5 ∙ lines_split p q b z none part
-    , appends_append w0 w1 w2 t.0 u.3 t.1 u.6
-    , subst P (sym (append_assoc t.0 u.3 u.4)) (answered_append A d m u.2 (ended_from p b) u.0 t.0 (u.3 ++ u.4) t.2 u.7)
+    let P : List ℕ → Type 0 = λ x. Answered A d (ended_from p b ++ u.0) x u.2 in (
+      ended_from p b ++ u.0,
+      u.1,
+      u.2,
+      t.0 ++ u.3,
+      u.4,
+      append_assoc (ended_from p b) u.0 u.1 ∙ ap (λ x. ended_from p b ++ x) u.5 ∙ lines_split p q b z none part,
+      appends_append w0 w1 w2 t.0 u.3 t.1 u.6,
+      subst P (sym (append_assoc t.0 u.3 u.4)) (answered_append A d m u.2 (ended_from p b) u.0 t.0 (u.3 ++ u.4) t.2 u.7),
     )
 
 -- what the turn before the first read could not write

@@ -24,8 +24,8 @@ no_feed_in [] t e p = refl
 no_feed_in (b ∷ l) [] e p = absurd (let h : false ≡ true = p in cc)
 no_feed_in (b ∷ l) (c ∷ t) e p =
     and_both (not (b == 10)) (is_part l)
-      (let P : ℕ → Type 0 = λ x. not (x == 10) ≡ true in subst P (sym (eqb-true b c (and_first (b == c) (is_prefix l t) p))) (and_first (not (c == 10)) (is_part t) e))
-      (no_feed_in l t (part_tail c t e) (and_second (b == c) (is_prefix l t) p))
+    (let P : ℕ → Type 0 = λ x. not (x == 10) ≡ true in subst P (sym (eqb-true b c (and_first (b == c) (is_prefix l t) p))) (and_first (not (c == 10)) (is_part t) e))
+    (no_feed_in l t (part_tail c t e) (and_second (b == c) (is_prefix l t) p))
 
 pub may_divide_part : (l : List ℕ) → may_divide l ≡ true → is_part l ≡ true
 may_divide_part l e = no_feed_in l (45 ∷ 45 ∷ 45 ∷ 13 ∷ []) refl e
@@ -102,11 +102,11 @@ prefix_step b l (c ∷ t) u s ih = and_both (b == c) (is_prefix l (t ++ 13 ∷ [
 prefix_of_bare : (l w t : List ℕ) → is_part l ≡ true → same_bytes (bare (l ++ w)) t ≡ true → is_prefix l (t ++ 13 ∷ []) ≡ true
 prefix_of_bare [] w t e s = refl
 prefix_of_bare (b ∷ l) w t e s =
-    elim (is_ending b (l ++ w)) as (λ v. is_ending b (l ++ w) ≡ v → same_bytes (if v then [] else b ∷ bare (l ++ w)) t ≡ true → is_prefix (b ∷ l) (t ++ 13 ∷ []) ≡ true)
-    [ true ↦ λ f h.
-        let k = ending_feed b l w (part_head b l e) f in
-        prefix_return b l t (feed_behind l w (part_tail b l e) (and_second (b == 13) (is_feed (l ++ w)) k)) (and_first (b == 13) (is_feed (l ++ w)) k) h
-    | false ↦ λ f h. prefix_step b l t (bare (l ++ w)) h (λ v g. prefix_of_bare l w v (part_tail b l e) g)
+    elim (is_ending b (l ++ w)) as (λ v. is_ending b (l ++ w) ≡ v → same_bytes (if v then [] else b ∷ bare (l ++ w)) t ≡ true → is_prefix (b ∷ l) (t ++ 13 ∷ []) ≡ true) [
+      | true ↦ λ f h.
+          let k = ending_feed b l w (part_head b l e) f in
+          prefix_return b l t (feed_behind l w (part_tail b l e) (and_second (b == 13) (is_feed (l ++ w)) k)) (and_first (b == 13) (is_feed (l ++ w)) k) h
+      | false ↦ λ f h. prefix_step b l t (bare (l ++ w)) h (λ v g. prefix_of_bare l w v (part_tail b l e) g)
     ] refl s
 
 divider_not : (l w : List ℕ) → is_part l ≡ true → may_divide l ≡ false → is_divider (l ++ w) ≡ false
@@ -133,11 +133,11 @@ goes_on known line true b z f e none =
     ∙ ap (λ h. before known h) (sym (settled_grow b (raw_lines z))) ∙ ap (λ ls. before known (settled_lines ls)) (sym (raw_other b z f))
 goes_on known line false b z f e none =
     elim (may_divide (line ++ b ∷ [])) as (λ v. may_divide (line ++ b ∷ []) ≡ v
-        → splits (if v then begun known (line ++ b ∷ []) false else begun (known ++ line ++ b ∷ []) [] true) z ≡ before known (divided (line ++ b ∷ z)))
-    [ true ↦ λ m. ap (λ x. before known (divided x)) (append_assoc line (b ∷ []) z)
-    | false ↦ λ m. ap (λ x. before x (settled_lines (raw_lines z))) (append_assoc known line (b ∷ [])) ∙ before_twice known (line ++ b ∷ []) (settled_lines (raw_lines z))
-        ∙ ap (λ h. before known h) (sym (flush_any (line ++ b ∷ []) z (part_snoc line b (may_divide_part line e) f) m))
-        ∙ ap (λ x. before known (divided x)) (append_assoc line (b ∷ []) z)
+    → splits (if v then begun known (line ++ b ∷ []) false else begun (known ++ line ++ b ∷ []) [] true) z ≡ before known (divided (line ++ b ∷ z))) [
+      | true ↦ λ m. ap (λ x. before known (divided x)) (append_assoc line (b ∷ []) z)
+      | false ↦ λ m. ap (λ x. before x (settled_lines (raw_lines z))) (append_assoc known line (b ∷ [])) ∙ before_twice known (line ++ b ∷ []) (settled_lines (raw_lines z))
+          ∙ ap (λ h. before known h) (sym (flush_any (line ++ b ∷ []) z (part_snoc line b (may_divide_part line e) f) m))
+          ∙ ap (λ x. before known (divided x)) (append_assoc line (b ∷ []) z)
     ] refl
 
 not_same : (b c : ℕ) → b ≢ c → (b == c) ≡ false
@@ -163,8 +163,8 @@ pub takes_feed : (known line : List ℕ) (settled : Bool) (old new : Begun) (b :
     → b ≡ 10 → is_divided old ≡ false → new ≡ begun (old.known ++ old.line ++ 10 ∷ []) [] false → Measures (length new.known) taken → Takes old b taken new
 takes_feed known line settled old new b taken is e none ten other on m =
     takes_on old new b taken
-      (λ z. ap (λ (x : Begun). splits x z) (on ∙ ap (λ (x : Begun). begun (x.known ++ x.line ++ 10 ∷ []) [] false) is)
-        ∙ ends_here known line settled z e none (ap is_divided (sym is) ∙ other) ∙ ap (λ (x : Begun). splits x (10 ∷ z)) (sym is) ∙ ap (λ x. splits old (x ∷ z)) (sym ten)) m
+    (λ z. ap (λ (x : Begun). splits x z) (on ∙ ap (λ (x : Begun). begun (x.known ++ x.line ++ 10 ∷ []) [] false) is)
+    ∙ ends_here known line settled z e none (ap is_divided (sym is) ∙ other) ∙ ap (λ (x : Begun). splits x (10 ∷ z)) (sym is) ∙ ap (λ x. splits old (x ∷ z)) (sym ten)) m
 
 pub takes_divider : (known line : List ℕ) (settled : Bool) (old : Begun) (b : ℕ) (z : List ℕ) → old ≡ begun known line settled → may_divide line ≡ true
     → b ≡ 10 → is_divided old ≡ true → splits old (b ∷ z) ≡ (let p : Halves = (old.known, z) in p)

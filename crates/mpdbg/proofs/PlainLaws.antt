@@ -73,9 +73,9 @@ refused_at TooLong read script behind input left n f is h r =
     let same : (divided input).0 ≡ script ++ k.0 = ap (λ x. (divided x).0) is ∙ k.1 in
     let which : f ≡ too_long = ap (λ x. error_of x too_long) (sym r ∙ reading_long script h.1) in
     let long : 65536 < length (script ++ k.0) = (let lt = h.1 in omega (arith, lt, length-append script k.0)) in
-    let le : 65536 ≤ length script = (let lt = h.1 in omega (arith, lt)) in
-    ( ap reading same ∙ reading_long (script ++ k.0) long ∙ ap (λ (x : ReadFault). let e : Result Program ReadFault = Err x in e) (sym which)
-    , ap (λ (x : ReadFault). line_at script x.place) which ∙ sym (ap (λ x. line_at x f.place) same ∙ ap (λ (x : ReadFault). line_at (script ++ k.0) x.place) which ∙ line_front script k.0 le)
+    let le : 65536 ≤ length script = (let lt = h.1 in omega (arith, lt)) in (
+      ap reading same ∙ reading_long (script ++ k.0) long ∙ ap (λ (x : ReadFault). let e : Result Program ReadFault = Err x in e) (sym which),
+      ap (λ (x : ReadFault). line_at script x.place) which ∙ sym (ap (λ x. line_at x f.place) same ∙ ap (λ (x : ReadFault). line_at (script ++ k.0) x.place) which ∙ line_front script k.0 le),
     )
 
 refused_in : (end : HeadEnd) (read script behind : List ℕ) (n : ℕ) (s0 s1 : Option (List ℕ)) (f : ReadFault) (line : ℕ) → Consumes s0 s1 read → HeadOf end read n s1 script behind
@@ -91,7 +91,7 @@ pub refused : (end : HeadEnd) (read script behind text : List ℕ) (n : ℕ) (s0
 refused end read script behind text n s0 s1 f g line r same c h is memory other err =
     let not_memory : g.code ≢ code.Memory = λ e. (let a = memory e in cc) in
     let whole : (let e : Result (Unit {0}) PlainFault = Err (Script f line) in e) ≡ Err (Script g (line_at text g.place)) =
-        sym is ∙ ap (λ (x : PlainFault). let e : Result (Unit {0}) PlainFault = Err x in e) (other not_memory) in
+    sym is ∙ ap (λ (x : PlainFault). let e : Result (Unit {0}) PlainFault = Err x in e) (other not_memory) in
     let which : f ≡ g = ap (λ x. fault_of x f) whole in
     let there : line ≡ line_at script f.place = ap line_of whole ∙ ap (λ x. line_at x g.place) same ∙ ap (λ (x : ReadFault). line_at script x.place) (sym which) in
     let says : reading script ≡ Err f = ap reading (sym same) ∙ err not_memory ∙ ap (λ (x : ReadFault). let e : Result Program ReadFault = Err x in e) (sym which) in
@@ -104,10 +104,14 @@ pub plain_ended : (end : HeadEnd) (read script behind text : List ℕ) (n : ℕ)
 plain_ended end read script behind text n s0 s1 w p is same c h ok =
     let P : HeadEnd → Type 0 = λ x. HeadOf x read n s1 script behind in
     let k : HeadOf Ended read n s1 script behind = subst P is h in
-    let d : Standing = first_standing p Rendezvous in
-    ( read, d, d, c, k.0
-    , (p, ap (λ (x : Halves). reading x.0) k.1 ∙ ap reading (sym same) ∙ ok, refl)
-    , tells_along AnswerOrMemory d d [] (lines_behind read) w w (ap (λ (x : Halves). lines_of x.1) (sym k.1)) (tells_none AnswerOrMemory d w)
+    let d : Standing = first_standing p Rendezvous in (
+      read,
+      d,
+      d,
+      c,
+      k.0,
+      (p, ap (λ (x : Halves). reading x.0) k.1 ∙ ap reading (sym same) ∙ ok, refl),
+      tells_along AnswerOrMemory d d [] (lines_behind read) w w (ap (λ (x : Halves). lines_of x.1) (sym k.1)) (tells_none AnswerOrMemory d w),
     )
 
 -- a line has divided the input
@@ -125,18 +129,28 @@ pub plain_all : (read script behind text : List ℕ) (s0 s1 s2 w0 w : Option (Li
     → ((z : List ℕ) → divided (read ++ z) ≡ (script, behind ++ z)) → reading text ≡ Ok p
     → TellsAll AnswerOrMemory (first_standing p Rendezvous) (λ z. lines_of (behind ++ z)) s1 s2 w0 w e → PlainAll s0 s2 w0 w
 plain_all read script behind text s0 s1 s2 w0 w p e same c d ok t =
-    let start : Standing = first_standing p Rendezvous in
-    ( read ++ t.0, start, e, consumes_append s0 s1 s2 read t.0 c t.1, t.2, opens_so read script behind text t.0 p same (d t.0) ok
-    , tells_along AnswerOrMemory start e (lines_of (behind ++ t.0)) (lines_behind (read ++ t.0)) w0 w (ap (λ (x : Halves). lines_of x.1) (sym (d t.0))) t.3
+    let start : Standing = first_standing p Rendezvous in (
+      read ++ t.0,
+      start,
+      e,
+      consumes_append s0 s1 s2 read t.0 c t.1,
+      t.2,
+      opens_so read script behind text t.0 p same (d t.0) ok,
+      tells_along AnswerOrMemory start e (lines_of (behind ++ t.0)) (lines_behind (read ++ t.0)) w0 w (ap (λ (x : Halves). lines_of x.1) (sym (d t.0))) t.3,
     )
 
 pub plain_read : (read script behind text : List ℕ) (m n k : ℕ) (s0 s1 s2 w0 w : Option (List ℕ)) (p : Program) (e : Standing) → text ≡ script → Consumes s0 s1 read
     → ((z : List ℕ) → divided (read ++ z) ≡ (script, behind ++ z)) → reading text ≡ Ok p → n ≤ length read → m ≤ n + k
     → TellsRead AnswerOrMemory (first_standing p Rendezvous) (λ z. ended_lines (behind ++ z)) k s1 s2 w0 w e → PlainRead m s0 s2 w0 w
 plain_read read script behind text m n k s0 s1 s2 w0 w p e same c d ok first all t =
-    let start : Standing = first_standing p Rendezvous in
-    ( read ++ t.0, start, e, consumes_append s0 s1 s2 read t.0 c t.1, (let le = t.2 in omega (arith, first, all, le, length-append read t.0)), opens_so read script behind text t.0 p same (d t.0) ok
-    , tells_along AnswerOrMemory start e (ended_lines (behind ++ t.0)) (ended_behind (read ++ t.0)) w0 w (ap (λ (x : Halves). ended_lines x.1) (sym (d t.0))) t.3
+    let start : Standing = first_standing p Rendezvous in (
+      read ++ t.0,
+      start,
+      e,
+      consumes_append s0 s1 s2 read t.0 c t.1,
+      (let le = t.2 in omega (arith, first, all, le, length-append read t.0)),
+      opens_so read script behind text t.0 p same (d t.0) ok,
+      tells_along AnswerOrMemory start e (ended_lines (behind ++ t.0)) (ended_behind (read ++ t.0)) w0 w (ap (λ (x : Halves). ended_lines x.1) (sym (d t.0))) t.3,
     )
 
 pub plain_first : (read script behind text : List ℕ) (s0 s1 w0 w : Option (List ℕ)) (p : Program) → text ≡ script → Consumes s0 s1 read
@@ -147,7 +161,7 @@ plain_first read script behind text (Some input) None w0 w p same c d ok t = abs
 plain_first read script behind text (Some input) (Some left) w0 w p same c d ok t =
     let P : List ℕ → Type 0 = λ x. PlainFirst x w0 w in
     subst P (sym c)
-      (first_standing p Rendezvous, opens_so read script behind text left p same (d left) ok, (t.0, t.1, t.2, t.3 ∙ ap (λ (x : Halves). lines_of x.1) (sym (d left)), t.4))
+    (first_standing p Rendezvous, opens_so read script behind text left p same (d left) ok, (t.0, t.1, t.2, t.3 ∙ ap (λ (x : Halves). lines_of x.1) (sym (d left)), t.4))
 
 pub plain_part : (read script behind text : List ℕ) (s0 s1 w0 w : Option (List ℕ)) (p : Program) → text ≡ script → Consumes s0 s1 read
     → ((z : List ℕ) → divided (read ++ z) ≡ (script, behind ++ z)) → reading text ≡ Ok p
@@ -157,7 +171,7 @@ plain_part read script behind text (Some input) None w0 w p same c d ok t = absu
 plain_part read script behind text (Some input) (Some left) w0 w p same c d ok t =
     let P : List ℕ → Type 0 = λ x. PlainPart x w0 w in
     subst P (sym c)
-      (first_standing p Rendezvous, opens_so read script behind text left p same (d left) ok, (t.0, t.1, t.2, t.3, t.4, t.5 ∙ ap (λ (x : Halves). lines_of x.1) (sym (d left)), t.6, t.7))
+    (first_standing p Rendezvous, opens_so read script behind text left p same (d left) ok, (t.0, t.1, t.2, t.3, t.4, t.5 ∙ ap (λ (x : Halves). lines_of x.1) (sym (d left)), t.6, t.7))
 
 -- a fault of the engine is passed on
 pub passed : (f g : EngineFault) (r : Result (Unit {0}) EngineFault) → (let e : Result (Unit {0}) PlainFault = Err (Engine f) in e ≡ Err (Engine g)) → r ≡ Err f → r ≡ Err g

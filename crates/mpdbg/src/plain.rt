@@ -11,8 +11,8 @@ ghost use Rattle.mpdbg.specs.Divided.{splits};
 ghost use Rattle.mpdbg.specs.Plain.{line_at, PlainAll, PlainRead, PlainFirst, PlainPart};
 ghost use Rattle.mpdbg.specs.Told.{TellsAll, TellsRead};
 
-use crate::divider::{Divider, Division};
 use crate::debugger::Debugger;
+use crate::divider::{Divider, Division};
 use crate::engine::{EngineFault, READ_MAX, TURNS_MAX, run_behind};
 use mpd_model::call::Mode;
 use mpd_model::device::{Sink, Source};
@@ -62,12 +62,7 @@ fn ended(alloc: Global, divider: Divider, reads: usize) -> Result<Head, EngineFa
 }
 
 // what was read where the line that divides has come
-fn divided(
-    alloc: Global,
-    divider: Divider,
-    rest: &[u8],
-    reads: usize,
-) -> Result<Head, EngineFault>
+fn divided(alloc: Global, divider: Divider, rest: &[u8], reads: usize) -> Result<Head, EngineFault>
     ensures ok { IfOk result (λ head. (head.script.items ≡ divider.known) × (head.behind.items ≡ rest.now) × (head.end ≡ HeadEnd.Divided) × (head.reads ≡ reads)) }
     ensures fault { IfErr result (λ fault. fault ≡ EngineFault.Memory) }
 {

@@ -22,7 +22,7 @@ returns-in-Ok-Divided-clause-ok g c =
     let long : 0 < length piece = search rules in
     let h = rw c.in-Ok-Divided.field-0-is at c.in-Ok-Divided.ensures in
     head_divided c.divided.result (g.S.Source.remaining c.args.source.now) s1 s2 c.loop-turn.turn c.in-Ok-Divided.used c.loop-turn.divider piece
-        c.split_at-in-Ok-Divided.result.1.now c.feed.new.self.known c.loop-turn.invariant.read some long h.0 c.split_at-in-Ok-Divided.ensures.back c.divided.ensures.ok
+    c.split_at-in-Ok-Divided.result.1.now c.feed.new.self.known c.loop-turn.invariant.read some long h.0 c.split_at-in-Ok-Divided.ensures.back c.divided.ensures.ok
 
 pub returns-in-Ok-TooLong-clause-ok : goal.returns-in-Ok-TooLong-clause-ok
 returns-in-Ok-TooLong-clause-ok g c =
@@ -32,7 +32,7 @@ returns-in-Ok-TooLong-clause-ok g c =
     let some : Consumes s1 s2 piece = consumes_piece s1 s2 (take c.in-Ok.count c.read.new.buffer) piece c.split_at.ensures.front c.in-Ok.ensures.bytes.0 in
     let h = rw c.in-Ok-TooLong.field-0-is at c.in-Ok-TooLong.ensures in
     head_too_long c.too_long.result (g.S.Source.remaining c.args.source.now) s1 s2 c.loop-turn.turn c.loop-turn.divider piece c.feed.new.self.known
-        c.loop-turn.invariant.read some h.0 h.1 c.too_long.ensures.0 c.too_long.ensures.2 c.too_long.ensures.3
+    c.loop-turn.invariant.read some h.0 h.1 c.too_long.ensures.0 c.too_long.ensures.2 c.too_long.ensures.3
 
 pub loop-turn-preserved : goal.loop-turn-preserved
 loop-turn-preserved g c =
