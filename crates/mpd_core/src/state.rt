@@ -184,7 +184,7 @@ impl<'s> Core<'s> {
     }
 
     /// What memory is taken from.
-    pub(crate) fn allocator(&self) -> Global {
+    pub fn allocator(&self) -> Global {
         *self.sets.allocator()
     }
 

@@ -446,10 +446,14 @@ pub rv_d8 : decl Variable (record (start_of (codes "y$")) { decls = record { kin
 unfolding reading script header version ranks decls decls_from decl declaring body stmts stmt block choosing otherwise printing receiving named sending variable expr level chain atom place_inside rounds count spend seek slot_in fresh add expect after sees same_mark next_token place spelling token refusal left tokens_after front sign word number
 rv_d8 = refl
 
-
 abbrev nested_ifs : ℕ → ℕ → Program
-nested_ifs a ranks = record { version = 1; ranks = ranks; decls = []; lines = 11 ∷ 12 ∷ 13 ∷ 14 ∷ 15 ∷ 16 ∷ 17 ∷ [];
-  body = branch (op2 Equal own_rank (n 0)) (then_more (branch (n a) (then_more (print (n 1)) no_more) (then_more (print (n 2)) no_more)) (then_more (print (n 3)) no_more)) (then_more (print (n 4)) no_more) ∷ print (n 5) ∷ [] }
+nested_ifs a ranks = record {
+  version = 1;
+  ranks = ranks;
+  decls = [];
+  lines = 11 ∷ 12 ∷ 13 ∷ 14 ∷ 15 ∷ 16 ∷ 17 ∷ [];
+  body = branch (op2 Equal own_rank (n 0)) (then_more (branch (n a) (then_more (print (n 1)) no_more) (then_more (print (n 2)) no_more)) (then_more (print (n 3)) no_more)) (then_more (print (n 4)) no_more) ∷ print (n 5) ∷ [];
+}
 
 abbrev left_of : Option World → Option (List (List ℕ))
 left_of w = option_map (λ w. map {B = List ℕ} (λ r. map {B = ℕ} (λ t. t.0) r.rest) w.ranks) w
@@ -470,7 +474,6 @@ rv_w3 = refl
 pub rv_w4 : option_map (λ w. map {B = List ℤ} (λ r. r.out) w.ranks) (go (nested_ifs 2 2) Rendezvous (Local 0 ∷ Local 0 ∷ Local 0 ∷ Local 0 ∷ Local 0 ∷ Local 1 ∷ Local 1 ∷ Local 1 ∷ [])) ≡ Some ((pos 1 ∷ pos 3 ∷ pos 5 ∷ []) ∷ (pos 4 ∷ pos 5 ∷ []) ∷ [])
 rv_w4 = refl
 
-
 abbrev prog : ℕ → List Tree → Program
 prog ranks body = record { version = 1; ranks = ranks; decls = variable_named (codes "x") ∷ variable_named (codes "y") ∷ []; body = body; lines = replicate 20 1 }
 
@@ -483,8 +486,8 @@ seen w = option_map (λ w. map {B = List ℤ × (List ℤ × Activity)} (λ r. (
 -- rank 0 sends 10 tag 1, 20 tag 2, 30 tag 1 to rank 1, which receives tag 2 from 0, tag 1, tag 1
 abbrev three : Program
 three = prog 2 (branch (op2 Equal own_rank (n 0))
-  (then_more (send (n 10) (n 1) (n 1)) (then_more (send (n 20) (n 1) (n 2)) (then_more (send (n 30) (n 1) (n 1)) no_more)))
-  (then_more (recv y (n 0) (n 2)) (then_more (recv (at 0) (n 0) (n 1)) (then_more (recv (at 0) (n 0) (n 1)) (then_more (print (cell y)) no_more)))) ∷ [])
+    (then_more (send (n 10) (n 1) (n 1)) (then_more (send (n 20) (n 1) (n 2)) (then_more (send (n 30) (n 1) (n 1)) no_more)))
+    (then_more (recv y (n 0) (n 2)) (then_more (recv (at 0) (n 0) (n 1)) (then_more (recv (at 0) (n 0) (n 1)) (then_more (print (cell y)) no_more)))) ∷ [])
 
 abbrev sent_all : List Step
 sent_all = Local 0 ∷ Local 0 ∷ Wake 0 ∷ Local 0 ∷ Wake 0 ∷ Local 0 ∷ Wake 0 ∷ Local 1 ∷ Local 1 ∷ []
@@ -512,7 +515,6 @@ rv_w10 = refl
 
 pub rv_w11 : option_map (λ w. map {B = ℕ} (λ c. c.statement) (calls_of (slice_get w.ranks 1))) (go three Rendezvous (Local 1 ∷ Local 1 ∷ [])) ≡ Some (4 ∷ [])
 rv_w11 = refl
-
 
 abbrev pairing : Program
 pairing = prog 2 (branch (op2 Equal own_rank (n 0)) (then_more (send (n 7) (n 1) (n 0)) no_more) (then_more (recv y (n 0) (n 0)) (then_more (print (cell y)) no_more)) ∷ [])
@@ -574,7 +576,6 @@ rv_v1 = refl
 pub rv_v2 : left_of (go (prog 1 (branch (lit (negsuc 4)) (then_more (print (n 1)) no_more) no_more ∷ [])) Rendezvous (Local 0 ∷ [])) ≡ Some ((1 ∷ []) ∷ [])
 rv_v2 = refl
 
-
 abbrev sent : ℕ → ℕ → Call
 sent to tag = record { statement = 0; kind = Send to tag (negsuc 4) }
 
@@ -585,8 +586,11 @@ abbrev rank_with : List Call → Activity → RankWorld
 rank_with calls activity = record { rest = []; vars = negsuc 0 ∷ pos 12 ∷ []; handles = None ∷ Some 3 ∷ []; calls = calls; out = []; activity = activity }
 
 abbrev hand : World
-hand = record { mode = Rendezvous; sets = Pair (call_id 2 0) (call_id 0 3) ∷ Barrier ∷ Woke (call_id 2 0) ∷ [];
-  ranks = rank_with (sent 2 1 ∷ sent 1 1 ∷ sent 2 1 ∷ awaited 2 9 ∷ []) Running ∷ rank_with (awaited 2 1 ∷ awaited 0 1 ∷ awaited 0 1 ∷ []) Blocked ∷ rank_with (sent 0 9 ∷ []) (Trapped BadTag) ∷ [] }
+hand = record {
+  mode = Rendezvous;
+  sets = Pair (call_id 2 0) (call_id 0 3) ∷ Barrier ∷ Woke (call_id 2 0) ∷ [];
+  ranks = rank_with (sent 2 1 ∷ sent 1 1 ∷ sent 2 1 ∷ awaited 2 9 ∷ []) Running ∷ rank_with (awaited 2 1 ∷ awaited 0 1 ∷ awaited 0 1 ∷ []) Blocked ∷ rank_with (sent 0 9 ∷ []) (Trapped BadTag) ∷ [];
+}
 
 pub rv_h1 : show_text (prog 3 []) hand 3 5 ≡ codes "depth 3 of 5\nrank 0 ended\nvars -1 12\nhandles - 3\nout\ncall 0.0 send to 2 tag 1 value -5 free\ncall 0.1 send to 1 tag 1 value -5 free\ncall 0.2 send to 2 tag 1 value -5 free\ncall 0.3 recv from 2 tag 9 with 2.0 value -5\nrank 1 blocked 2\nvars -1 12\nhandles - 3\nout\ncall 1.0 recv from 2 tag 1 free\ncall 1.1 recv from 0 tag 1 free\ncall 1.2 recv from 0 tag 1 free\nrank 2 trapped bad-tag\nvars -1 12\nhandles - 3\nout\ncall 2.0 send to 0 tag 9 value -5 with 0.3\npending 0 to 1: 1\npending 0 to 2: 0 2\nposted 1: 0 1 2\nset pair 2.0 0.3\nset barrier\nset woke 2.0\nend\n"
 unfolding digits
@@ -610,7 +614,6 @@ rv_h6 = refl
 pub rv_h7 : option_map (λ w. eligible w (call_id 0 1) (call_id 1 2)) (next hand (Match (call_id 0 1) (call_id 1 1))) ≡ Some false
 rv_h7 = refl
 
-
 abbrev standing_at : Trail → Option World → Standing
 standing_at t None = first_standing t.program t.mode
 standing_at t (Some w) = record { trail = t; world = w }
@@ -623,8 +626,13 @@ abbrev trace : Program → List ℕ → List ℕ
 trace s z = told (opening s Rendezvous) (lines_of z)
 
 abbrev s1 : Program
-s1 = record { version = 1; ranks = 2; decls = variable_named (codes "x") ∷ []; lines = 4 ∷ 4 ∷ 4 ∷ 4 ∷ [];
-  body = branch (op2 Equal own_rank (n 0)) (then_more (send (n 7) (n 1) (n 0)) no_more) (then_more (recv (at 0) (n 0) (n 0)) (then_more (print (cell (at 0))) no_more)) ∷ [] }
+s1 = record {
+  version = 1;
+  ranks = 2;
+  decls = variable_named (codes "x") ∷ [];
+  lines = 4 ∷ 4 ∷ 4 ∷ 4 ∷ [];
+  body = branch (op2 Equal own_rank (n 0)) (then_more (send (n 7) (n 1) (n 0)) no_more) (then_more (recv (at 0) (n 0) (n 0)) (then_more (print (cell (at 0))) no_more)) ∷ [];
+}
 
 pub rv_a1 : trace s1 (codes "local 0\nlocal 0\r\nlocal 1\n\nlocal 1\n \nmatch 0.0 1.0\nwake 0\nwake 1\nlocal 1\nback\nback\nback\nback\nback\nback\nback\nback\nback\nshow") ≡ codes "ok 1\nok 2\nok 3\nok 4\nok 5\nok 6\nok 7\nok 8\nok 7\nok 6\nok 5\nok 4\nok 3\nok 2\nok 1\nok 0\nrefused at-start\ndepth 0 of 8\nrank 0 at 4\nvars 0\nhandles\nout\nrank 1 at 4\nvars 0\nhandles\nout\nend\n"
 unfolding digits
@@ -685,6 +693,7 @@ rv_l10 = refl
 
 pub rv_l11 : lines_of (codes "a\rb\n") ≡ codes "a\rb" ∷ []
 rv_l11 = refl
+
 pub rv_x_end65536 : reading (replicate 65536 32) ≡ Err (fault f.Expected 65536)
 unfolding reading script header version ranks decls decls_from decl declaring body stmts stmt block choosing otherwise printing receiving named sending variable expr level chain atom place_inside rounds count spend seek slot_in fresh add expect after sees same_mark next_token place spelling token refusal left tokens_after front sign word number
 rv_x_end65536 = refl
@@ -697,7 +706,6 @@ pub rv_x_long0 : reading (replicate 65537 0) ≡ Err (fault f.TooLong 65536)
 unfolding reading script header version ranks decls decls_from decl declaring body stmts stmt block choosing otherwise printing receiving named sending variable expr level chain atom place_inside rounds count spend seek slot_in fresh add expect after sees same_mark next_token place spelling token refusal left tokens_after front sign word number
 rv_x_long0 = refl
 
-
 abbrev send_ : ℕ → Call
 send_ to = record { statement = 0; kind = Send to 1 (pos 3) }
 
@@ -706,9 +714,12 @@ rank_of calls rest activity = record { rest = map {B = ℕ × Tree} (λ t. (9, t
 
 -- rank 0: to 2, from 1; rank 1: to 2, to 0; rank 2: from 1, from 0; rank 3 can step; rank 4 is woken
 abbrev crowd : World
-crowd = record { mode = Rendezvous; sets = Pair (call_id 4 0) (call_id 4 1) ∷ [];
+crowd = record {
+  mode = Rendezvous;
+  sets = Pair (call_id 4 0) (call_id 4 1) ∷ [];
   ranks = rank_of (send_ 2 ∷ awaited 1 1 ∷ []) [] Running ∷ rank_of (send_ 2 ∷ send_ 0 ∷ []) [] Blocked ∷ rank_of (awaited 1 1 ∷ awaited 0 1 ∷ []) [] Blocked
-    ∷ rank_of [] (print (n 1) ∷ []) Running ∷ rank_of (send_ 4 ∷ awaited 4 1 ∷ []) [] Blocked ∷ rank_of [] (print (n 1) ∷ []) (Trapped BadRank) ∷ [] }
+      ∷ rank_of [] (print (n 1) ∷ []) Running ∷ rank_of (send_ 4 ∷ awaited 4 1 ∷ []) [] Blocked ∷ rank_of [] (print (n 1) ∷ []) (Trapped BadRank) ∷ [];
+}
 
 pub rv_x_order : enabled crowd ≡ Local 3 ∷ Wake 4 ∷ Match (call_id 1 1) (call_id 0 1) ∷ Match (call_id 1 0) (call_id 2 0) ∷ Match (call_id 0 0) (call_id 2 1) ∷ []
 rv_x_order = refl
@@ -721,7 +732,6 @@ rv_x_woke = refl
 
 pub rv_x_woke_set : option_map (λ w. w.sets) (next crowd (Wake 4)) ≡ Some (Pair (call_id 4 0) (call_id 4 1) ∷ Woke (call_id 4 1) ∷ [])
 rv_x_woke_set = refl
-
 
 abbrev trail_at : ℕ → Trail
 trail_at depth = record { program = s1; mode = Rendezvous; steps = Local 0 ∷ Local 1 ∷ Local 0 ∷ []; depth = depth }
@@ -748,6 +758,7 @@ rv_x_last = refl
 pub rv_x_s1 : trace s1 (codes "local 0\nlocal 0\nlocal 1\nback\nlocal 1\nback\nback\nlocal 1\nshow") ≡ codes "ok 1\nok 2\nok 3\nok 2\nok 3\nok 2\nok 1\nok 2\ndepth 2 of 2\nrank 0 at 4\nvars 0\nhandles\nout\nrank 1 at 4\nvars 0\nhandles\nout\nend\n"
 unfolding digits
 rv_x_s1 = refl
+
 pub rv_z_place20 : reading (divided (codes "mpd 1;ranks 1;print\n---\nlocal 0\n")).0 ≡ Err (fault f.Expected 20)
 unfolding reading script header version ranks decls decls_from decl declaring body stmts stmt block choosing otherwise printing receiving named sending variable expr level chain atom place_inside rounds count spend seek slot_in fresh add expect after sees same_mark next_token place spelling token refusal left tokens_after front sign word number
 rv_z_place20 = refl

@@ -1,7 +1,8 @@
 -- What holds of the grammar's parsers, whatever they are given.
-use Rattle.std.specs.Prelude.{◌≡◌, ◌≢◌, ℕ, suc, ◌+◌, ◌<◌, Bool, List, Ok, Err}
-use Rattle.mpd_model.specs.Grammar.{expr, body, block, reading}
-use Rattle.mpd_model.specs.declared.read_fault.FaultCode.TheVariants.{TooDeep}
+use Rattle.std.specs.Prelude.{◌≡◌, ◌≢◌, ℕ, suc, ◌+◌, ◌<◌, Bool, List, length, Ok, Err}
+use Rattle.mpd_model.specs.Grammar.{expr, stmts, body, block, decls_from, reading}
+use Rattle.mpd_model.specs.declared.read_fault.FaultCode.TheVariants.{TooDeep, Memory}
+use Rattle.mpd_model.specs.declared.read_fault.ReadFault.{ReadFault}
 use Rattle.mpd_model.specs.Input.{Input, Outcome}
 use Rattle.mpd_model.specs.Program.{Program}
 use Rattle.mpd_model.specs.Term.{Term}
@@ -44,3 +45,13 @@ BlocksDecideDepthAlone = (depth more : ℕ) (inside : Bool) (i : Input) → IsNo
 -- What is read as a script is written so, from the first token of the text to its last.
 abbrev pub ScriptsAreWritten : Type 0
 ScriptsAreWritten = (text : List ℕ) (p : Program) → reading text ≡ Ok p → WrittenScript (tokens text) p
+
+-- Want of memory is no fault of a text.
+abbrev pub NoTextIsMemory : Type 0
+NoTextIsMemory = (text : List ℕ) (f : ReadFault) → reading text ≡ Err f → f.code ≢ Memory
+
+-- Statements and declarations never run out of turns: each turn takes a token, so more turns than there are tokens change nothing.
+abbrev pub TurnsAreEnough : Type 0
+TurnsAreEnough =
+    ((depth : ℕ) (inside : Bool) (turns : ℕ) (found : List Tree) (i : Input) → length i.tokens < turns → stmts (block depth) inside turns found i ≡ stmts (block depth) inside (suc turns) found i)
+    × ((turns : ℕ) (i : Input) → length i.tokens < turns → decls_from turns i ≡ decls_from (suc turns) i)

@@ -1,5 +1,5 @@
 -- Worked rows: what some texts are read as, by computing.
-use Rattle.std.specs.Prelude.{◌≡◌, ℕ, zero, suc, pos, List, [], ◌∷◌, ◌++◌, None, Ok, Err, codes, replicate, flat_map, refl}
+use Rattle.std.specs.Prelude.{◌≡◌, ℕ, zero, suc, pos, List, [], ◌∷◌, ◌++◌, length, Some, None, Result, Ok, Err, codes, replicate, flat_map, refl}
 use Rattle.mpd_model.specs.declared.expr.BinaryOp.TheVariants.{Equal}
 use Rattle.mpd_model.specs.declared.place.DeclKind.TheVariants.{Variable}
 use Rattle.mpd_model.specs.declared.place.Place.{Place}
@@ -7,10 +7,11 @@ use Rattle.mpd_model.specs.declared.read_fault.FaultCode.TheVariants as f
 use Rattle.mpd_model.specs.Declaration.{Declared}
 use Rattle.mpd_model.specs.Faults.{fault}
 use Rattle.mpd_model.specs.Grammar.{reading, script, header, version, ranks, decls, decls_from, decl, declaring, body, stmts, stmt, block, choosing, otherwise, printing, receiving, named, sending, variable, expr, level, chain, atom, place_inside, rounds}
-use Rattle.mpd_model.specs.Input.{count, spend, seek, slot_in, fresh, add, expect, after, sees, same_mark, next, place, spelling, token, refusal, left}
+use Rattle.mpd_model.specs.Input.{Input, count, spend, seek, slot_in, fresh, add, expect, after, sees, same_mark, next, place, spelling, token, refusal, left}
+use Rattle.mpd_model.specs.Program.{Program}
 use Rattle.mpd_model.specs.Term.{lit, own_rank, size, cell, op2}
-use Rattle.mpd_model.specs.Tokens.{tokens_after, front, sign, word, number}
-use Rattle.mpd_model.specs.Tree.{Tree, print, send, recv, branch, no_more, then_more, block_of}
+use Rattle.mpd_model.specs.Tokens.{tokens, tokens_after, front, sign, word, number}
+use Rattle.mpd_model.specs.Tree.{Tree, print, send, recv, branch, Block, no_more, then_more, block_of}
 
 abbrev variable_named : List ℕ → Declared
 variable_named name = record { kind = Variable; name = name; size = None }
@@ -18,6 +19,15 @@ variable_named name = record { kind = Variable; name = name; size = None }
 -- the variable whose declaration has that number, where there are no arrays
 abbrev at : ℕ → Place
 at n = record { declaration = n; first = n }
+
+abbrev at_limits : List ℕ → Input
+at_limits text = record {
+  tokens = tokens text;
+  end = length text;
+  decls = record { kind = Variable; name = codes "a"; size = Some 1024 } ∷ [];
+  lines = replicate 4096 1;
+  budget = 0;
+}
 
 -- so many statements, each in the block of the one before
 abbrev nested : ℕ → List Tree
@@ -189,3 +199,35 @@ row_two_ranks = refl
 pub row_lines : reading (codes "mpd 1;ranks 2;# two ranks\nvar a;var b;\n\nif a\n== b { # }\n  send a\n to size tag b;\n}\r\n\tprint (1);#") ≡ Ok (record { version = 1; ranks = 2; decls = variable_named (codes "a") ∷ variable_named (codes "b") ∷ []; body = branch (op2 Equal (cell (at 0)) (cell (at 1))) (then_more (send (cell (at 0)) size (cell (at 1))) no_more) no_more ∷ print (lit (pos 1)) ∷ []; lines = 4 ∷ 6 ∷ 9 ∷ [] })
 unfolding reading script header version ranks decls decls_from decl declaring body stmts stmt block choosing otherwise printing receiving named sending variable expr level chain atom place_inside rounds count spend seek slot_in fresh add expect after sees same_mark next place spelling token refusal left tokens_after front sign word number
 row_lines = refl
+
+-- ---- where a limit is reached: each text stands behind 1,024 cells and 4,096 statements
+
+pub row_full : declaring Variable (at_limits (codes "b;")) ≡ Err (fault f.TooMany 0)
+unfolding reading script header version ranks decls decls_from decl declaring body stmts stmt block choosing otherwise printing receiving named sending variable expr level chain atom place_inside rounds count spend seek slot_in fresh add expect after sees same_mark next place spelling token refusal left tokens_after front sign word number
+row_full = refl
+
+-- what follows doesn't matter, unless it is a bracket
+pub row_full_bad : declaring Variable (at_limits (codes "b$")) ≡ Err (fault f.TooMany 0)
+unfolding reading script header version ranks decls decls_from decl declaring body stmts stmt block choosing otherwise printing receiving named sending variable expr level chain atom place_inside rounds count spend seek slot_in fresh add expect after sees same_mark next place spelling token refusal left tokens_after front sign word number
+row_full_bad = refl
+
+pub row_full_bracket : declaring Variable (at_limits (codes "b[1];")) ≡ Err (fault f.Expected 1)
+unfolding reading script header version ranks decls decls_from decl declaring body stmts stmt block choosing otherwise printing receiving named sending variable expr level chain atom place_inside rounds count spend seek slot_in fresh add expect after sees same_mark next place spelling token refusal left tokens_after front sign word number
+row_full_bracket = refl
+
+pub row_full_twice : declaring Variable (at_limits (codes "a;")) ≡ Err (fault f.Twice 0)
+unfolding reading script header version ranks decls decls_from decl declaring body stmts stmt block choosing otherwise printing receiving named sending variable expr level chain atom place_inside rounds count spend seek slot_in fresh add expect after sees same_mark next place spelling token refusal left tokens_after front sign word number
+row_full_twice = refl
+
+pub row_4097 : stmt (block 1) (at_limits (codes "print 1;")) ≡ Err (fault f.TooMany 0)
+unfolding reading script header version ranks decls decls_from decl declaring body stmts stmt block choosing otherwise printing receiving named sending variable expr level chain atom place_inside rounds count spend seek slot_in fresh add expect after sees same_mark next place spelling token refusal left tokens_after front sign word number
+row_4097 = refl
+
+pub row_4097_waitany : stmt (block 1) (at_limits (codes "waitany")) ≡ Err (fault f.TooMany 0)
+unfolding reading script header version ranks decls decls_from decl declaring body stmts stmt block choosing otherwise printing receiving named sending variable expr level chain atom place_inside rounds count spend seek slot_in fresh add expect after sees same_mark next place spelling token refusal left tokens_after front sign word number
+row_4097_waitany = refl
+
+-- a token that begins no statement isn't one too many
+pub row_4097_semicolon : stmt (block 1) (at_limits (codes ";")) ≡ Err (fault f.Expected 0)
+unfolding reading script header version ranks decls decls_from decl declaring body stmts stmt block choosing otherwise printing receiving named sending variable expr level chain atom place_inside rounds count spend seek slot_in fresh add expect after sees same_mark next place spelling token refusal left tokens_after front sign word number
+row_4097_semicolon = refl

@@ -101,7 +101,7 @@ unsized_test true name at i y h = absurd (cc)
 unsized_test false name at i y h = add_ok name at i y h
 
 -- a name and a semicolon
-record Declares (i j : Input) : Type 0 where
+pub record Declares (i j : Input) : Type 0 where
   pub name : Spot
   pub end : Spot
   pub is : i.tokens ≡ name ∷ end ∷ j.tokens
@@ -138,7 +138,7 @@ decl_case : (tk : Token) (i : Input) (y : Unit {0} × Input) → token i ≡ tk 
 decl_case Name i y e h = declaring_ok i y e h
 decl_case _ i y e h = absurd (cc)
 
-decl_ok : (i : Input) (y : Unit {0} × Input) → decl Variable i ≡ Ok y → Declares i y.1
+pub decl_ok : (i : Input) (y : Unit {0} × Input) → decl Variable i ≡ Ok y → Declares i y.1
 unfolding decl
 decl_ok i y h = decl_case (token i) i y refl h
 

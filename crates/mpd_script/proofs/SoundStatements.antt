@@ -271,7 +271,7 @@ stmt_case p s (Is m.Recv) i j t e h = begun_then m.Recv receiving receiving_rest
 stmt_case p s (Is m.Waitany) i j t e h = absurd (not_in_version i (t, j) h)
 stmt_case p s _ i j t e h = absurd (cc)
 
-stmt_sound : (p : Parser (List Tree)) → IsSoundBlock p → (i j : Input) (t : Tree) → stmt p i ≡ Ok (t, j) → TakesTree t i j
+pub stmt_sound : (p : Parser (List Tree)) → IsSoundBlock p → (i j : Input) (t : Tree) → stmt p i ≡ Ok (t, j) → TakesTree t i j
 unfolding stmt
 stmt_sound p s i j t h = stmt_case p s (token i) i j t refl h
 

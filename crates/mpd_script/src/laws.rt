@@ -17,9 +17,19 @@ pub fn scripts_are_written()
     ensures { law.ScriptsAreWritten }
 {}
 
+/// Want of memory is no fault of a text: where `read` gives another fault, the definition gives that one and no other.
+pub fn no_text_is_memory()
+    ensures { law.NoTextIsMemory }
+{}
+
 /// More depth than an expression has budget changes nothing.
 pub fn depth_is_enough()
     ensures { law.DepthIsEnough }
+{}
+
+/// More turns than there are tokens change nothing of statements and declarations.
+pub fn turns_are_enough()
+    ensures { law.TurnsAreEnough }
 {}
 
 /// The budget of an expression decides nothing but whether it is too deep.

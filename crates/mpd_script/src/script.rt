@@ -160,7 +160,9 @@ fn text_len(text: &[u8]) -> usize
     end
 }
 
-/// The script that a text spells, or its leftmost fault (docs/LANGUAGE.md, "Grammar" and "Faults").
+/// The script that a text spells (docs/LANGUAGE.md, "Grammar"), or the text's leftmost fault
+/// (docs/LANGUAGE.md, "Faults"). Where memory is refused the fault is `Memory` at 0, and says nothing of the text.
+/// Any bytes may be given.
 #[tactic(auto, unfolding(mpd_model::specs::Grammar::reading))]
 pub fn read(alloc: Global, text: &[u8]) -> Result<Script, ReadFault>
     ensures ok { IfOk result (λ s. spec.reading text.now ≡ Ok s) }

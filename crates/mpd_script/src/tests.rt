@@ -134,7 +134,9 @@ fn laws_cost_nothing(_rt: HostRuntime) {
     laws::expressions_are_written();
     laws::statements_are_written();
     laws::scripts_are_written();
+    laws::no_text_is_memory();
     laws::depth_is_enough();
+    laws::turns_are_enough();
     laws::budget_decides_depth_alone();
     laws::blocks_decide_depth_alone();
 }

@@ -1,0 +1,274 @@
+-- No fault of a text is want of memory.
+use Rattle.std.proofs.Common.{◌≡◌, ◌≢◌, ℕ, zero, suc, ◌+◌, pos, ◌==◌, nat_lt, Bool, true, false, cond, List, [], ◌∷◌, ◌++◌, length, Option, Some, None, Result, Ok, Err}
+use Rattle.std.specs.List.{prefix_len}
+use Rattle.std.specs.Ordering.{int_eq}
+use Rattle.mpd_model.specs.declared.expr.BinaryOp.{BinaryOp}
+use Rattle.mpd_model.specs.declared.place.DeclKind.{DeclKind}
+use Rattle.mpd_model.specs.declared.place.DeclKind.TheVariants.{Variable}
+use Rattle.mpd_model.specs.declared.read_fault.FaultCode.TheVariants.{UnknownName, NotInVersion, Memory}
+use Rattle.mpd_model.specs.declared.read_fault.ReadFault.{ReadFault}
+use Rattle.mpd_model.specs.declared.slot.Slot.{Slot}
+use Rattle.mpd_model.specs.declared.token.Mark.{Mark}
+use Rattle.mpd_model.specs.declared.token.Mark.TheVariants as m
+use Rattle.mpd_model.specs.declared.token.Token.{Token}
+use Rattle.mpd_model.specs.declared.token.Token.TheVariants.{Number, Name, Is, Bad}
+use Rattle.mpd_model.specs.Grammar.{atom_by, atom, variable, place_inside, rounds, chain, joined, level, expr, turns, operator_at, expression, begun, closes, printing, sending, named_by, named, receiving, otherwise, choosing, stmt_by, stmt, stmts, body, block, max_blocks, version_by, version, rank_count, ranks_of, ranks_by, ranks, declaring, decl_by, decl, decls_from, decls, header, max_text, is_text, read_of, reading}
+use Rattle.mpd_model.specs.Grammar as grammar
+use Rattle.mpd_model.specs.Input.{Input, Outcome, Parser, and_then, start_of, token, place, spelling, next, code_at, refusal, refuse, fail, advance, pure, expect, spend, count, seek, sought, same_kind, slot_in, fresh, is_known, add, fits, sees, after, left, max_budget, ◌>>=◌, ◌>>◌}
+use Rattle.mpd_model.specs.Program.{Program}
+use Rattle.mpd_model.specs.Term.{Term, op2}
+use Rattle.mpd_model.specs.Tree.{Tree}
+
+abbrev IsSure : {A : Type 0} → Result A ReadFault → Type 0
+IsSure (Ok p) = Unit {0}
+IsSure (Err f) = f.code ≢ Memory
+
+abbrev AllSure : {A : Type 0} → Parser A → Type 0
+AllSure p = (i : Input) → IsSure (p i)
+
+bind_sure : {A B : Type 0} (o : Outcome A) (f : A → Parser B) → IsSure o → ((a : A) → AllSure (f a)) → IsSure (and_then o f)
+bind_sure (Ok x) f a b = b x.0 x.1
+bind_sure (Err e) f a b = a
+
+cond_sure : {A : Type 0} (b : Bool) (x y : Result A ReadFault) → IsSure x → IsSure y → IsSure (cond b x y)
+cond_sure true x y a c = a
+cond_sure false x y a c = c
+
+-- one of two parsers
+either_sure : {A : Type 0} (b : Bool) (p q : Parser A) (i : Input) → IsSure (p i) → IsSure (q i) → IsSure (cond b p q i)
+either_sure true p q i a c = a
+either_sure false p q i a c = c
+
+code_sure : (t : Token) → code_at t ≢ Memory
+code_sure Bad e = absurd (cc)
+code_sure _ e = absurd (cc)
+
+refusal_sure : (i : Input) → (refusal i).code ≢ Memory
+unfolding refusal
+refusal_sure i = code_sure (token i)
+
+expect_sure : (k : Mark) → AllSure (expect k)
+unfolding expect
+expect_sure k i = cond_sure (sees k i) _ _ tt (refusal_sure i)
+
+spend_sure : AllSure spend
+unfolding spend
+spend_sure i = cond_sure (i.budget == 0) _ _ (λ e. absurd (cc)) tt
+
+count_sure : AllSure count
+unfolding count
+count_sure i = cond_sure (nat_lt (length i.lines) 4096) _ _ tt (λ e. absurd (cc))
+
+sought_sure : (k : DeclKind) (o : Option Slot) → AllSure (sought k o)
+sought_sure k None i = λ e. absurd (cc)
+sought_sure k (Some s) i = either_sure (same_kind k s.kind) (pure s) (fail UnknownName) i tt (λ e. absurd (cc))
+
+seek_sure : (k : DeclKind) → AllSure (seek k)
+unfolding seek
+seek_sure k i = sought_sure k (slot_in i.decls (spelling i)) i
+
+variable_sure : AllSure variable
+unfolding variable
+variable_sure i = bind_sure (seek Variable i) _ (seek_sure Variable i) (λ s j. tt)
+
+-- ---- expressions
+
+name_sure : (p : ℕ → Parser Term) → AllSure (place_inside p)
+unfolding place_inside
+name_sure p i = bind_sure (variable i) _ (variable_sure i) (λ v j. tt)
+
+rounds_sure : (p : ℕ → Parser Term) → AllSure (p 5) → AllSure (rounds p)
+unfolding rounds
+rounds_sure p s i =
+    bind_sure (spend i) _ (spend_sure i) (λ u x. bind_sure (p 5 x) _ (s x) (λ e y. bind_sure (expect m.RoundClose y) _ (expect_sure m.RoundClose y) (λ v z. tt)))
+
+atom_case : (p : ℕ → Parser Term) → AllSure (p 5) → (t : Token) → AllSure (atom_by p t)
+atom_case p s (Number n) i = tt
+atom_case p s (Is m.Rank) i = tt
+atom_case p s (Is m.Size) i = tt
+atom_case p s Name i = name_sure p i
+atom_case p s (Is m.RoundOpen) i = rounds_sure p s i
+atom_case p s _ i = refusal_sure i
+
+atom_sure : (p : ℕ → Parser Term) → AllSure (p 5) → AllSure (atom p)
+unfolding atom
+atom_sure p s i = atom_case p s (token i) i
+
+joined_sure : (more : Term → Parser Term) (p : Parser Term) → ((l : Term) → AllSure (more l)) → AllSure p → (left : Term) (o : Option BinaryOp) → AllSure (joined more p left o)
+joined_sure more p a s left None i = tt
+joined_sure more p a s left (Some op) i = bind_sure (spend i) _ (spend_sure i) (λ u x. bind_sure (p x) _ (s x) (λ r y. a (op2 op left r) y))
+
+chain_sure : (p : Parser Term) → AllSure p → (k n : ℕ) (left : Term) → AllSure (chain p k n left)
+unfolding chain
+chain_sure p s k zero left i = tt
+chain_sure p s k (suc n) left i = joined_sure (chain p k n) p (λ l. chain_sure p s k n l) s left (operator_at k (token i)) i
+
+level_sure : (p : ℕ → Parser Term) → AllSure (p 5) → (k : ℕ) → AllSure (level p k)
+unfolding level
+level_sure p s zero i = atom_sure p s i
+level_sure p s (suc k) i = bind_sure (level p k i) _ (level_sure p s k i) (λ left x. chain_sure (level p k) (level_sure p s k) (suc k) (turns (suc k) x) left x)
+
+expr_sure : (n k : ℕ) → AllSure (expr n k)
+unfolding expr
+expr_sure zero k i = λ e. absurd (cc)
+expr_sure (suc n) k i = level_sure (expr n) (expr_sure n 5) k i
+
+expression_sure : AllSure expression
+expression_sure i = expr_sure 65 5 (record i { budget = max_budget })
+
+-- ---- statements
+
+printing_sure : AllSure printing
+unfolding printing
+printing_sure i = bind_sure (expression i) _ (expression_sure i) (λ e x. bind_sure (expect m.Semicolon x) _ (expect_sure m.Semicolon x) (λ u y. tt))
+
+sending_sure : AllSure sending
+unfolding sending
+sending_sure i =
+    bind_sure (expression i) _ (expression_sure i) (λ a x1. bind_sure (expect m.To x1) _ (expect_sure m.To x1) (λ b x2.
+    bind_sure (expression x2) _ (expression_sure x2) (λ c x3. bind_sure (expect m.Tag x3) _ (expect_sure m.Tag x3) (λ d x4.
+    bind_sure (expression x4) _ (expression_sure x4) (λ e x5. bind_sure (expect m.Semicolon x5) _ (expect_sure m.Semicolon x5) (λ f x6. tt))))))
+
+named_case : (t : Token) → AllSure (named_by t)
+named_case Name i = variable_sure i
+named_case _ i = refusal_sure i
+
+named_sure : AllSure named
+unfolding named
+named_sure i = named_case (token i) i
+
+receiving_sure : AllSure receiving
+unfolding receiving
+receiving_sure i =
+    bind_sure (named i) _ (named_sure i) (λ a x1. bind_sure (expect m.From x1) _ (expect_sure m.From x1) (λ b x2.
+    bind_sure (expression x2) _ (expression_sure x2) (λ c x3. bind_sure (expect m.Tag x3) _ (expect_sure m.Tag x3) (λ d x4.
+    bind_sure (expression x4) _ (expression_sure x4) (λ e x5. bind_sure (expect m.Semicolon x5) _ (expect_sure m.Semicolon x5) (λ f x6. tt))))))
+
+otherwise_sure : (p : Parser (List Tree)) → AllSure p → AllSure (otherwise p)
+unfolding otherwise
+otherwise_sure p s i = either_sure (sees m.Else i) p (pure []) (after m.Else i) (s (after m.Else i)) tt
+
+choosing_sure : (p : Parser (List Tree)) → AllSure p → AllSure (choosing p)
+unfolding choosing
+choosing_sure p s i =
+    bind_sure (expression i) _ (expression_sure i) (λ a x. bind_sure (p x) _ (s x) (λ b y. bind_sure (otherwise p y) _ (otherwise_sure p s y) (λ c z. tt)))
+
+begun_sure : AllSure begun
+begun_sure i = bind_sure (count i) _ (count_sure i) (λ u x. tt)
+
+stmt_case : (p : Parser (List Tree)) → AllSure p → (t : Token) → AllSure (stmt_by p t)
+stmt_case p s (Is m.If) i = bind_sure (begun i) _ (begun_sure i) (λ u x. choosing_sure p s x)
+stmt_case p s (Is m.Print) i = bind_sure (begun i) _ (begun_sure i) (λ u x. printing_sure x)
+stmt_case p s (Is m.Send) i = bind_sure (begun i) _ (begun_sure i) (λ u x. sending_sure x)
+stmt_case p s (Is m.Recv) i = bind_sure (begun i) _ (begun_sure i) (λ u x. receiving_sure x)
+stmt_case p s (Is m.Waitany) i = bind_sure (count i) (λ u. fail NotInVersion) (count_sure i) (λ u x e. absurd (cc))
+stmt_case p s _ i = refusal_sure i
+
+stmt_sure : (p : Parser (List Tree)) → AllSure p → AllSure (stmt p)
+unfolding stmt
+stmt_sure p s i = stmt_case p s (token i) i
+
+stmts_sure : (p : Parser (List Tree)) → AllSure p → (inside : Bool) (n : ℕ) (found : List Tree) → AllSure (stmts p inside n found)
+unfolding stmts
+stmts_sure p s inside zero found i = refusal_sure i
+stmts_sure p s inside (suc n) found i =
+    either_sure (closes inside (token i)) (pure found) (stmt p >>= λ t. stmts p inside n (found ++ t ∷ [])) i tt
+    (bind_sure (stmt p i) _ (stmt_sure p s i) (λ t x. stmts_sure p s inside n (found ++ t ∷ []) x))
+
+body_sure : (p : Parser (List Tree)) → AllSure p → (inside : Bool) → AllSure (body p inside)
+unfolding body
+body_sure p s inside i = stmts_sure p s inside (left i + 1) [] i
+
+block_sure : (n : ℕ) → AllSure (block n)
+unfolding block
+block_sure zero i = cond_sure (sees m.BraceOpen i) _ _ (λ e. absurd (cc)) (refusal_sure i)
+block_sure (suc n) i =
+    bind_sure (expect m.BraceOpen i) _ (expect_sure m.BraceOpen i) (λ a x. bind_sure (body (block n) true x) _ (body_sure (block n) (block_sure n) true x) (λ b y.
+    bind_sure (expect m.BraceClose y) _ (expect_sure m.BraceClose y) (λ c z. tt)))
+
+-- ---- the whole text
+
+version_case : (t : Token) → AllSure (version_by t)
+version_case (Number n) i = either_sure (int_eq n (pos 1)) advance (fail NotInVersion) i tt (λ e. absurd (cc))
+version_case _ i = refusal_sure i
+
+version_sure : AllSure version
+unfolding version
+version_sure i = version_case (token i) i
+
+ranks_of_sure : (o : Option ℕ) → AllSure (ranks_of o)
+ranks_of_sure (Some n) i = tt
+ranks_of_sure None i = λ e. absurd (cc)
+
+ranks_case : (t : Token) → AllSure (ranks_by t)
+ranks_case (Number n) i = ranks_of_sure (rank_count n) i
+ranks_case _ i = refusal_sure i
+
+ranks_sure : AllSure ranks
+unfolding ranks
+ranks_sure i = ranks_case (token i) i
+
+fresh_sure : AllSure fresh
+unfolding fresh
+fresh_sure i = cond_sure (is_known (slot_in i.decls (spelling i))) _ _ (λ e. absurd (cc)) tt
+
+add_sure : (k : DeclKind) (name : List ℕ) (size : Option ℕ) (at : ℕ) → AllSure (add k name size at)
+unfolding add
+add_sure k name size at i = cond_sure (fits k size i.decls) _ _ tt (λ e. absurd (cc))
+
+declaring_sure : (k : DeclKind) → AllSure (declaring k)
+unfolding declaring
+declaring_sure k i =
+    bind_sure (fresh i) _ (fresh_sure i) (λ a x.
+    bind_sure (cond (sees m.SquareOpen (next x)) refuse (add k (spelling i) None (place i)) (next x)) _
+    (either_sure (sees m.SquareOpen (next x)) refuse (add k (spelling i) None (place i)) (next x) (refusal_sure (next x)) (add_sure k (spelling i) None (place i) (next x)))
+    (λ b y. expect_sure m.Semicolon y))
+
+decl_case : (k : DeclKind) (t : Token) → AllSure (decl_by k t)
+decl_case k Name i = declaring_sure k i
+decl_case k _ i = refusal_sure i
+
+decl_sure : (k : DeclKind) → AllSure (decl k)
+unfolding decl
+decl_sure k i = decl_case k (token i) i
+
+decls_from_sure : (n : ℕ) → AllSure (decls_from n)
+unfolding decls_from
+decls_from_sure zero i = refusal_sure i
+decls_from_sure (suc n) i =
+    either_sure (sees m.Var i) (decl Variable >> decls_from n) (pure tt) (after m.Var i)
+    (bind_sure (decl Variable (after m.Var i)) _ (decl_sure Variable (after m.Var i)) (λ a x. decls_from_sure n x)) tt
+
+decls_sure : AllSure decls
+unfolding decls
+decls_sure i = decls_from_sure (left i + 1) i
+
+header_sure : AllSure header
+unfolding header
+header_sure i =
+    bind_sure (expect m.Mpd i) _ (expect_sure m.Mpd i) (λ a x1. bind_sure (version x1) _ (version_sure x1) (λ b x2.
+    bind_sure (expect m.Semicolon x2) _ (expect_sure m.Semicolon x2) (λ c x3. bind_sure (expect m.Ranks x3) _ (expect_sure m.Ranks x3) (λ d x4.
+    bind_sure (ranks x4) _ (ranks_sure x4) (λ e x5. bind_sure (expect m.Semicolon x5) _ (expect_sure m.Semicolon x5) (λ f x6.
+    bind_sure (decls x6) _ (decls_sure x6) (λ g x7. tt)))))))
+
+script_sure : AllSure grammar.script
+unfolding grammar.script
+script_sure i =
+    bind_sure (header i) _ (header_sure i) (λ n x. bind_sure (body (block max_blocks) false x) _ (body_sure (block max_blocks) (block_sure max_blocks) false x) (λ ts y. tt))
+
+read_of_sure : (o : Outcome Program) → IsSure o → IsSure (read_of o)
+read_of_sure (Ok p) h = tt
+read_of_sure (Err f) h = h
+
+reading_sure : (text : List ℕ) → IsSure (reading text)
+unfolding reading
+reading_sure text =
+    cond_sure (nat_lt max_text (length text)) _ _ (λ e. absurd (cc))
+    (cond_sure (nat_lt (prefix_len is_text text) (length text)) _ _ (λ e. absurd (cc)) (read_of_sure (grammar.script (start_of text)) (script_sure (start_of text))))
+
+sure_of : (r : Result Program ReadFault) (f : ReadFault) → IsSure r → r ≡ Err f → f.code ≢ Memory
+sure_of (Ok p) f h e = absurd (cc)
+sure_of (Err g) f h e = let s : g ≡ f = cc in rw (← s) h
+
+pub never_memory : (text : List ℕ) (f : ReadFault) → reading text ≡ Err f → f.code ≢ Memory
+never_memory text f e = sure_of (reading text) f (reading_sure text) e
