@@ -67,7 +67,7 @@ fn reads_a_script_of_65_536_bytes(rt: HostRuntime) -> Result<(), Fail> {
     let alloc = rt.alloc();
     let mut input = Vec::new(alloc);
     input.extend_from_slice(b"mpd 1;ranks 1;print 7;")?;
-    while input.len() < 65_535 {
+    for _ in 22..65_535u32 {
         input.push(b' ')?;
     }
     input.extend_from_slice(b"\n---\nlocal 0\n")?;
