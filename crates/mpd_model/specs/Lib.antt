@@ -20,6 +20,7 @@ pub mod ReaderRows
 pub mod Written
 pub mod ReaderLaws
 pub mod Depth
+pub mod Ends
 pub mod Limits
 pub mod Lines
 pub mod LineRows

@@ -1,5 +1,6 @@
 //! Where bytes come from and where they go: one read and one write at a time, each counted.
 ghost use Rattle.std.specs.Prelude.{◌≡◌, ℕ, ◌+◌, ◌<◌, List, Option, length, true, false, OnOk, OnErr, IfOk, IsErr, ◌⊎◌};
+ghost use Rattle.mpd_model.specs.Ends.{ends_of};
 ghost use Rattle.std.specs.Io.{ReadsAtMost, WritesAtMost};
 ghost use Rattle.std.specs.Io.KnownBytes.{ReadConsumes, WriteAppends};
 
@@ -20,6 +21,9 @@ pub trait Source {
     /// How many of them failed.
     ghost failures: { Self → ℕ };
 
+    /// How many of them gave no byte: the input had ended, or there was no room.
+    ghost ends: { Self → ℕ };
+
     /// The bytes that reads will give, where they are known.
     ghost remaining: { Self → Option (List ℕ) };
 
@@ -30,7 +34,8 @@ pub trait Source {
         ensures bytes { ReadConsumes (remaining self.old) (remaining self.new) result buffer.new }
         ensures counted { calls self.new ≡ calls self.old + 1 }
         ensures ok { OnOk result (failures self.new ≡ failures self.old) }
-        ensures failed { OnErr result (failures self.new ≡ failures self.old + 1) };
+        ensures failed { OnErr result (failures self.new ≡ failures self.old + 1) }
+        ensures ended { ends self.new ≡ ends self.old + ends_of result };
 }
 
 /// What is written to, one write at a time.
@@ -61,6 +66,7 @@ pub struct FromReader<R> {
     reader: R,
     calls: Steps,
     failures: Steps,
+    ends: Steps,
 }
 
 impl<R: Read> FromReader<R> {
@@ -68,12 +74,14 @@ impl<R: Read> FromReader<R> {
     pub fn new(reader: R) -> FromReader<R>
         ensures calls { ⟦<FromReader<R> as Source>⟧.calls result ≡ 0 }
         ensures failures { ⟦<FromReader<R> as Source>⟧.failures result ≡ 0 }
+        ensures ends { ⟦<FromReader<R> as Source>⟧.ends result ≡ 0 }
         ensures remaining { ⟦<FromReader<R> as Source>⟧.remaining result ≡ R.remaining reader }
     {
         FromReader {
             reader,
             calls: Steps::new(),
             failures: Steps::new(),
+            ends: Steps::new(),
         }
     }
 }
@@ -83,12 +91,19 @@ impl<R: Read> Source for FromReader<R> {
 
     ghost failures = { λ s. s.failures };
 
+    ghost ends = { λ s. s.ends };
+
     ghost remaining = { λ s. R.remaining s.reader };
 
     fn read(&mut self, buffer: &mut [u8]) -> Result<usize, DeviceFault> {
         self.calls.tick();
         match self.reader.read(buffer) {
-            Ok(count) => Ok(count),
+            Ok(count) => {
+                if count == 0 {
+                    self.ends.tick();
+                }
+                Ok(count)
+            }
             Err(_) => {
                 self.failures.tick();
                 Err(DeviceFault)

@@ -2,6 +2,7 @@
 ghost use Rattle.std.specs.Prelude.{◌≡◌, ◌+◌, ◌<◌, ◌≤◌, length, true, false, OnOk, OnErr, IfOk, ◌⊎◌};
 ghost use Rattle.std.specs.Io.{ReadsAtMost, WritesAtMost};
 ghost use Rattle.std.specs.Io.KnownBytes.{ReadConsumes, WriteAppends};
+ghost use Rattle.mpd_model.specs.Ends.{ends_of};
 ghost use Rattle.mpd_model.specs.Limits.{is_reached, limit_after, most_of};
 
 use crate::device::{DeviceFault, Sink, Source};
@@ -59,6 +60,7 @@ pub struct FailingSource<S> {
     limit: Limit,
     calls: Steps,
     failures: Steps,
+    ends: Steps,
 }
 
 impl<S: Source> FailingSource<S> {
@@ -66,6 +68,7 @@ impl<S: Source> FailingSource<S> {
     pub fn new(inner: S, limit: Limit) -> FailingSource<S>
         ensures calls { ⟦<FailingSource<S> as Source>⟧.calls result ≡ 0 }
         ensures failures { ⟦<FailingSource<S> as Source>⟧.failures result ≡ 0 }
+        ensures ends { ⟦<FailingSource<S> as Source>⟧.ends result ≡ 0 }
         ensures remaining { ⟦<FailingSource<S> as Source>⟧.remaining result ≡ S.remaining inner }
         ensures limit { result.limit ≡ limit }
     {
@@ -74,6 +77,7 @@ impl<S: Source> FailingSource<S> {
             limit,
             calls: Steps::new(),
             failures: Steps::new(),
+            ends: Steps::new(),
         }
     }
 }
@@ -83,6 +87,8 @@ impl<S: Source> Source for FailingSource<S> {
 
     ghost failures = { λ s. s.failures };
 
+    ghost ends = { λ s. s.ends };
+
     ghost remaining = { λ s. S.remaining s.inner };
 
     fn read(&mut self, buffer: &mut [u8]) -> Result<usize, DeviceFault>
@@ -91,10 +97,12 @@ impl<S: Source> Source for FailingSource<S> {
         ensures counted { self.new.calls ≡ self.old.calls + 1 }
         ensures ok { OnOk result (self.new.failures ≡ self.old.failures) }
         ensures failed { OnErr result (self.new.failures ≡ self.old.failures + 1) }
+        ensures ended { self.new.ends ≡ self.old.ends + ends_of result }
         ensures within { OnOk result ((is_reached self.old.limit ≡ false) × (S.failures self.new.inner ≡ S.failures self.old.inner)) }
         ensures most { IfOk result (λ n. n ≤ most_of self.old.limit (length buffer.new)) }
         ensures limit { IfOk result (λ n. self.new.limit ≡ limit_after self.old.limit n) }
         ensures stays { is_reached self.old.limit ≡ true → self.new.limit ≡ self.old.limit }
+        ensures after { OnErr result (is_reached self.old.limit ≡ false → self.new.limit ≡ limit_after self.old.limit 0) }
         ensures refused { OnErr result ((is_reached self.old.limit ≡ true) ⊎ (S.failures self.new.inner ≡ S.failures self.old.inner + 1)) }
     {
         self.calls.tick();
@@ -106,6 +114,9 @@ impl<S: Source> Source for FailingSource<S> {
         match self.inner.read(part) {
             Ok(count) => {
                 self.limit = self.limit.after(count);
+                if count == 0 {
+                    self.ends.tick();
+                }
                 Ok(count)
             }
             Err(fault) => {
@@ -169,6 +180,7 @@ impl<W: Sink> Sink for FailingSink<W> {
         ensures most { IfOk result (λ n. n ≤ most_of self.old.limit (length piece.now)) }
         ensures limit { IfOk result (λ n. self.new.limit ≡ limit_after self.old.limit n) }
         ensures stays { is_reached self.old.limit ≡ true → self.new.limit ≡ self.old.limit }
+        ensures after { OnErr result (is_reached self.old.limit ≡ false → self.new.limit ≡ limit_after self.old.limit 0) }
         ensures refused { OnErr result ((is_reached self.old.limit ≡ true) ⊎ (W.failures self.new.inner ≡ W.failures self.old.inner + 1)) }
     {
         self.calls.tick();

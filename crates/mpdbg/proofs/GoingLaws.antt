@@ -1,6 +1,8 @@
 -- How a run over a source and a sink goes on.
-use Rattle.std.proofs.Common.{◌≡◌, ◌≢◌, ℕ, ◌+◌, ◌<◌, ◌≤◌, List, [], ◌∷◌, ◌++◌, length, take, Option, Some, None, IfSome, Result, Ok, Err, OnOk, refl, sym, ap, subst, ◌∙◌, append_assoc, append-nil, length-append, arith}
+use Rattle.std.proofs.Common.{◌≡◌, ◌≢◌, ℕ, zero, suc, ◌+◌, ◌<◌, ◌≤◌, List, [], ◌∷◌, ◌++◌, length, take, Option, Some, None, IfSome, Result, Ok, Err, OnOk, refl, sym, ap, subst, ◌∙◌, append_assoc, append-nil, length-append, arith}
 use Rattle.std.specs.Io.KnownBytes.{Appends, Consumes, IsAtEnd, Keeps}
+use Rattle.mpd_model.specs.declared.device.DeviceFault.{DeviceFault}
+use Rattle.mpd_model.specs.Ends.{ends_of}
 use Rattle.mpdbg.specs.Answered.{Answered, Tells, TellsFirst, TellsPart}
 use Rattle.mpdbg.specs.Forward.{ended_from, part_from, last_line, lines_from}
 use Rattle.mpdbg.specs.Told.{SoFar, TellsAll, TellsRead}
@@ -23,6 +25,11 @@ consumes_keeps None mid new xs a k = tt
 consumes_keeps (Some us) None new xs a k = absurd a
 consumes_keeps (Some us) (Some vs) None xs a k = absurd k
 consumes_keeps (Some us) (Some vs) (Some ws) xs a k = a ∙ ap (λ t. xs ++ t) (sym k)
+
+-- a read that gave a byte is not the end
+pub ends_none : (n before after : ℕ) → after ≡ before + ends_of {E = DeviceFault} (Ok n) → (n ≡ 0 → ⊥) → after ≡ before
+ends_none zero before after e h = absurd (h refl)
+ends_none (suc n) before after e h = omega (arith, e)
 
 pub tells_none : {D : Type 0} (A : D → List ℕ → List ℕ → D → Type 0) (d : D) (w : Option (List ℕ)) → Tells A d [] w w d
 tells_none A d w = ([], appends_none w, (refl, refl))

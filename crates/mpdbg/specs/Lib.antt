@@ -11,3 +11,4 @@ pub mod Divided
 pub mod Collected
 pub mod Said
 pub mod Plain
+pub mod PlainFaults

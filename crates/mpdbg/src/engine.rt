@@ -3,7 +3,7 @@ ghost use Rattle.std.specs.Prelude.{◌≡◌, ◌≢◌, ℕ, ◌+◌, ◌<◌,
 ghost use Rattle.std.specs.Io.KnownBytes.{Appends};
 ghost use Rattle.mpd_model.specs.Lines.{lines_of, ended_lines};
 ghost use Rattle.mpdbg.specs.Answered.{AddsAnswers, AddsFirstAnswers, TellsFirst, TellsPart};
-ghost use Rattle.mpdbg.specs.FaultWords.{engine_fault_number, engine_fault_name};
+ghost use Rattle.mpdbg.specs.FaultWords.{engine_fault_number, engine_fault_name, failed_reads, failed_writes};
 ghost use Rattle.mpdbg.specs.Forward.{ended_from, part_from, lines_from, last_line};
 ghost use Rattle.mpdbg.specs.Told.{AppendsPart, TellsAll, TellsRead, Turned};
 
@@ -146,6 +146,9 @@ pub fn run_turns<S: Source, W: Sink, D: Desk>(
         × IfSome (S.remaining source.old) (λ input. TellsPart D.answers desk.old (lines_from feeder.old input) (W.contents sink.old) (W.contents sink.new)) }
     ensures turns { IsErrOf result EngineFault.TooManyTurns → (S.calls source.new ≡ S.calls source.old + turns)
         × TellsRead D.answers desk.old (ended_from feeder.old) turns (S.remaining source.old) (S.remaining source.new) (W.contents sink.old) (W.contents sink.new) desk.new }
+    ensures unended { IsErrOf result EngineFault.TooManyTurns → S.ends source.new ≡ S.ends source.old }
+    ensures failed_reads { S.failures source.new ≡ S.failures source.old + failed_reads result }
+    ensures failed_writes { W.failures sink.new ≡ W.failures sink.old + failed_writes result }
     ensures memory { IsErrOf result EngineFault.Memory →
         IfSome (S.remaining source.old) (λ input. TellsFirst D.answers desk.old (lines_from feeder.old input) (W.contents sink.old) (W.contents sink.new)) }
 {
@@ -187,6 +190,9 @@ pub fn run<S: Source, W: Sink, D: Desk>(
         × IfSome (S.remaining source.old) (λ input. TellsPart D.answers desk.old (lines_of input) (W.contents sink.old) (W.contents sink.new)) }
     ensures turns { IsErrOf result EngineFault.TooManyTurns → (S.calls source.new ≡ S.calls source.old + 1000000)
         × TellsRead D.answers desk.old ended_lines 1000000 (S.remaining source.old) (S.remaining source.new) (W.contents sink.old) (W.contents sink.new) desk.new }
+    ensures unended { IsErrOf result EngineFault.TooManyTurns → S.ends source.new ≡ S.ends source.old }
+    ensures failed_reads { S.failures source.new ≡ S.failures source.old + failed_reads result }
+    ensures failed_writes { W.failures sink.new ≡ W.failures sink.old + failed_writes result }
     ensures memory { IsErrOf result EngineFault.Memory →
         IfSome (S.remaining source.old) (λ input. TellsFirst D.answers desk.old (lines_of input) (W.contents sink.old) (W.contents sink.new)) }
 {
@@ -211,6 +217,9 @@ pub fn run_behind<S: Source, W: Sink, D: Desk>(
         × IfSome (S.remaining source.old) (λ input. TellsPart D.answers desk.old (lines_of (behind.now ++ input)) (W.contents sink.old) (W.contents sink.new)) }
     ensures turns { IsErrOf result EngineFault.TooManyTurns → (S.calls source.new ≡ S.calls source.old + turns)
         × TellsRead D.answers desk.old (λ z. ended_lines (behind.now ++ z)) turns (S.remaining source.old) (S.remaining source.new) (W.contents sink.old) (W.contents sink.new) desk.new }
+    ensures unended { IsErrOf result EngineFault.TooManyTurns → S.ends source.new ≡ S.ends source.old }
+    ensures failed_reads { S.failures source.new ≡ S.failures source.old + failed_reads result }
+    ensures failed_writes { W.failures sink.new ≡ W.failures sink.old + failed_writes result }
     ensures memory { IsErrOf result EngineFault.Memory →
         IfSome (S.remaining source.old) (λ input. TellsFirst D.answers desk.old (lines_of (behind.now ++ input)) (W.contents sink.old) (W.contents sink.new)) }
 {

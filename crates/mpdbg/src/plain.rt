@@ -9,6 +9,8 @@ ghost use Rattle.mpd_model.specs.Answers.{AnswerOrMemory};
 ghost use Rattle.mpd_model.specs.Trail.{Standing, first_standing};
 ghost use Rattle.mpdbg.specs.Divided.{splits};
 ghost use Rattle.mpdbg.specs.Plain.{line_at, PlainAll, PlainRead, PlainFirst, PlainPart};
+ghost use Rattle.mpdbg.specs.FaultWords.{failed_reads, failed_writes};
+ghost use Rattle.mpdbg.specs.PlainFaults.{plain_failed_reads, plain_failed_writes};
 ghost use Rattle.mpdbg.specs.Told.{TellsAll, TellsRead};
 
 use crate::debugger::Debugger;
@@ -97,6 +99,10 @@ fn collect<S: Source>(alloc: Global, source: &mut S) -> Result<Head, EngineFault
     ensures reads { IfOk result (λ head. (S.calls source.new ≡ S.calls source.old + head.reads) × (S.failures source.new ≡ S.failures source.old) × (head.reads ≤ 1000000)) }
     ensures fault { IfErr result (λ fault. fault ≢ EngineFault.WriteFailed) }
     ensures read_failed { IsErrOf result EngineFault.ReadFailed → S.failures source.new ≡ S.failures source.old + 1 }
+    ensures unended { IsErrOf result EngineFault.TooManyTurns → S.ends source.new ≡ S.ends source.old }
+    ensures more { IfOk result (λ head. head.end ≢ HeadEnd.Ended → S.ends source.new ≡ S.ends source.old) }
+    ensures failed_reads { IfErr result (λ fault. S.failures source.new ≡ S.failures source.old + failed_reads (Err fault)) }
+    ensures failed_writes { IfErr result (λ fault. failed_writes (Err fault) ≡ 0) }
     ensures turns { IsErrOf result EngineFault.TooManyTurns → (S.calls source.new ≡ S.calls source.old + 1000000)
         × ((read : List ℕ) × Consumes (S.remaining source.old) (S.remaining source.new) read × (1000000 ≤ length read)) }
 {
@@ -159,6 +165,9 @@ fn line_at(text: &[u8], place: usize) -> usize
 fn refusal(text: &[u8], fault: ReadFault) -> PlainFault
     ensures memory { fault.code ≡ FaultCode.Memory → result ≡ PlainFault.Engine EngineFault.Memory }
     ensures script { fault.code ≢ FaultCode.Memory → result ≡ PlainFault.Script fault (line_at text.now fault.place) }
+    ensures reads { plain_failed_reads (Err result) ≡ 0 }
+    ensures writes { plain_failed_writes (Err result) ≡ 0 }
+    ensures turns { result ≢ PlainFault.Engine EngineFault.TooManyTurns }
 {
     match fault.code {
         FaultCode::Memory => PlainFault::Engine(EngineFault::Memory),
@@ -184,6 +193,9 @@ fn trace_behind<S: Source, W: Sink>(
         × IfSome (S.remaining source.old) (λ input. TellsPart AnswerOrMemory (first_standing script.now Mode.Rendezvous) (lines_of (behind.now ++ input)) (W.contents sink.old) (W.contents sink.new)) }
     ensures turns { IsErrOf result EngineFault.TooManyTurns → (S.calls source.new ≡ S.calls source.old + turns)
         × ((e : Standing) × TellsRead AnswerOrMemory (first_standing script.now Mode.Rendezvous) (λ z. ended_lines (behind.now ++ z)) turns (S.remaining source.old) (S.remaining source.new) (W.contents sink.old) (W.contents sink.new) e) }
+    ensures unended { IsErrOf result EngineFault.TooManyTurns → S.ends source.new ≡ S.ends source.old }
+    ensures failed_reads { S.failures source.new ≡ S.failures source.old + failed_reads result }
+    ensures failed_writes { W.failures sink.new ≡ W.failures sink.old + failed_writes result }
     ensures memory { IsErrOf result EngineFault.Memory →
         IfSome (S.remaining source.old) (λ input. TellsFirst AnswerOrMemory (first_standing script.now Mode.Rendezvous) (lines_of (behind.now ++ input)) (W.contents sink.old) (W.contents sink.new)) }
 {
@@ -210,6 +222,9 @@ pub fn plain<S: Source, W: Sink>(
         × IfSome (S.remaining source.old) (λ input. PlainPart input (W.contents sink.old) (W.contents sink.new)) }
     ensures turns { IsErrOf result (PlainFault.Engine EngineFault.TooManyTurns) → (S.calls source.new ≡ S.calls source.old + 1000000)
         × ((sink.new ≡ sink.old) ⊎ PlainRead 1000000 (S.remaining source.old) (S.remaining source.new) (W.contents sink.old) (W.contents sink.new)) }
+    ensures unended { IsErrOf result (PlainFault.Engine EngineFault.TooManyTurns) → S.ends source.new ≡ S.ends source.old }
+    ensures failed_reads { S.failures source.new ≡ S.failures source.old + plain_failed_reads result }
+    ensures failed_writes { W.failures sink.new ≡ W.failures sink.old + plain_failed_writes result }
     ensures memory { IsErrOf result (PlainFault.Engine EngineFault.Memory) →
         (sink.new ≡ sink.old) ⊎ IfSome (S.remaining source.old) (λ input. PlainFirst input (W.contents sink.old) (W.contents sink.new)) }
 {

@@ -5,6 +5,7 @@ ghost use Rattle.mpd_model.specs.Lines.{lines_of, ended_lines};
 ghost use Rattle.mpd_model.specs.Trail.{Standing, first_standing};
 ghost use Rattle.mpd_model.specs.Answers.{AnswerOrMemory};
 ghost use Rattle.mpdbg.specs.Answered.{TellsFirst, TellsPart};
+ghost use Rattle.mpdbg.specs.FaultWords.{failed_reads, failed_writes};
 ghost use Rattle.mpdbg.specs.Told.{TellsAll, TellsRead};
 
 use crate::debugger::Debugger;
@@ -17,7 +18,7 @@ use std::alloc::Global;
 /// Answers the trace words of a source (docs/FORMATS.md, "Trace words") from the start of a script, and writes exactly
 /// the answers to the lines read, however they were cut into reads. `Ok` comes only where the input has ended,
 /// `ReadFailed` (45) and `WriteFailed` (46) only where that device failed in this call, `TooManyTurns` (47) only after
-/// 1,000,000 reads, and `Memory` only where a growth was refused; the answers that were given before stand.
+/// 1,000,000 reads none of which was the end, and `Memory` only where a growth was refused; the answers that were given before stand.
 #[tactic(auto, using(crate::proofs::TraceLemmas::opening_memory))]
 pub fn trace<S: Source, W: Sink>(
     alloc: Global,
@@ -34,6 +35,9 @@ pub fn trace<S: Source, W: Sink>(
         × IfSome (S.remaining source.old) (λ input. TellsPart AnswerOrMemory (first_standing script.now mode) (lines_of input) (W.contents sink.old) (W.contents sink.new)) }
     ensures turns { IsErrOf result EngineFault.TooManyTurns → (S.calls source.new ≡ S.calls source.old + 1000000)
         × ((e : Standing) × TellsRead AnswerOrMemory (first_standing script.now mode) ended_lines 1000000 (S.remaining source.old) (S.remaining source.new) (W.contents sink.old) (W.contents sink.new) e) }
+    ensures unended { IsErrOf result EngineFault.TooManyTurns → S.ends source.new ≡ S.ends source.old }
+    ensures failed_reads { S.failures source.new ≡ S.failures source.old + failed_reads result }
+    ensures failed_writes { W.failures sink.new ≡ W.failures sink.old + failed_writes result }
     ensures memory { IsErrOf result EngineFault.Memory →
         IfSome (S.remaining source.old) (λ input. TellsFirst AnswerOrMemory (first_standing script.now mode) (lines_of input) (W.contents sink.old) (W.contents sink.new)) }
 {

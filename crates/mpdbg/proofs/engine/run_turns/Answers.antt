@@ -1,7 +1,7 @@
 use Rattle.std.proofs.Common.{arith, ◌≡◌, ◌+◌, ◌<◌, [], length, take, ◌∙◌, rules}
 use Rattle.std.specs.Io.KnownBytes.{Consumes, IsAtEnd}
 use Rattle.mpdbg.specs.Forward.{ended_from, last_line}
-use Rattle.mpdbg.proofs.GoingLaws.{Next, so_far_more, told_all, told_first, told_part, next_piece, next_last, consumes_zero, consumes_piece}
+use Rattle.mpdbg.proofs.GoingLaws.{ends_none, Next, so_far_more, told_all, told_first, told_part, next_piece, next_last, consumes_zero, consumes_piece}
 use Rattle.mpdbg.proofs.engine.run_turns.Goals as goal
 
 pub returns-in-Ok-last_turn-clause-ok : goal.returns-in-Ok-last_turn-clause-ok
@@ -81,5 +81,6 @@ loop-turn-preserved g c =
           c.loop-turn.invariant.so_far some long c.in-Ok-turn.ensures.told.0 c.in-Ok-turn.ensures.part;
       calls = (let e = c.loop-turn.invariant.calls in let f = c.in-Ok.ensures.counted in omega (arith, e, f));
       reads = (let e = c.loop-turn.invariant.reads in let f = c.in-Ok.ensures.ok in omega (arith, e, f));
+      ends = (let e = c.loop-turn.invariant.ends in let f = ends_none c.in-Ok.count _ _ c.in-Ok.ensures.ended c.if-count-eq0.false in omega (arith, e, f));
       writes = (let e = c.loop-turn.invariant.writes in let f = c.in-Ok-turn.ensures.told.1 in omega (arith, e, f));
     }

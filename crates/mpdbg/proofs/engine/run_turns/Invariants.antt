@@ -8,5 +8,6 @@ invariant-loop-turn g l = record {
       (g.W.Sink.contents l.fn.sink) (g.W.Sink.contents l.sink) l.desk l.feeder;
   calls : g.S.Source.calls l.source ≡ g.S.Source.calls l.fn.source + l._turn;
   reads : g.S.Source.failures l.source ≡ g.S.Source.failures l.fn.source;
+  ends : g.S.Source.ends l.source ≡ g.S.Source.ends l.fn.source;
   writes : g.W.Sink.failures l.sink ≡ g.W.Sink.failures l.fn.sink;
 }

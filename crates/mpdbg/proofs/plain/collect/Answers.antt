@@ -1,6 +1,6 @@
 use Rattle.std.proofs.Common.{arith, ◌≡◌, ◌+◌, ◌<◌, [], length, take, rules}
 use Rattle.std.specs.Io.KnownBytes.{Consumes, IsAtEnd}
-use Rattle.mpdbg.proofs.GoingLaws.{consumes_zero, consumes_piece}
+use Rattle.mpdbg.proofs.GoingLaws.{ends_none, consumes_zero, consumes_piece}
 use Rattle.mpdbg.proofs.CollectLaws.{follows_more, head_ended, head_divided, head_too_long}
 use Rattle.mpdbg.proofs.plain.collect.Goals as goal
 
@@ -46,5 +46,6 @@ loop-turn-preserved g c =
       read = follows_more (g.S.Source.remaining c.args.source.now) s1 s2 c.loop-turn.turn c.loop-turn.divider c.feed.new.self piece c.loop-turn.invariant.read some long h.0;
       short = h.1;
       calls = (let e = c.loop-turn.invariant.calls in let f = c.in-Ok.ensures.counted in omega (arith, e, f));
+      ends = (let e = c.loop-turn.invariant.ends in let f = ends_none c.in-Ok.count _ _ c.in-Ok.ensures.ended c.if-count-eq0.false in omega (arith, e, f));
       failures = (let e = c.loop-turn.invariant.failures in let f = c.in-Ok.ensures.ok in omega (arith, e, f));
     }

@@ -1,7 +1,8 @@
-use Rattle.std.proofs.Common.{arith, ◌≡◌, ◌+◌, ◌-◌, ◌≤◌, ◌++◌, ℕ, List, length, rules, refl, inl, inr}
+use Rattle.std.proofs.Common.{arith, ◌≡◌, ◌∙◌, ap, Err, ◌+◌, ◌-◌, ◌≤◌, ◌++◌, ℕ, List, length, rules, refl, inl, inr}
 use Rattle.mpd_model.specs.Grammar.{reading}
 use Rattle.mpd_model.specs.Lines.{divided}
 use Rattle.mpdbg.specs.declared.engine.EngineFault.TheVariants as engine
+use Rattle.mpdbg.specs.FaultWords.{failed_reads}
 use Rattle.mpdbg.proofs.PlainLaws.{refused, plain_ended, divides_so, plain_all, plain_read, plain_first, plain_part, passed}
 use Rattle.mpdbg.proofs.plain.plain.Goals as goal
 
@@ -36,6 +37,9 @@ returns-in-Ok-trace_behind g c =
       read_failed = λ is. absurd (let e = is in cc);
       write_failed = λ is. absurd (let e = is in cc);
       turns = λ is. absurd (let e = is in cc);
+      unended = λ is. absurd (let e = is in cc);
+      failed_reads = (let e = c.in-Ok-trace_behind.ensures.unfailed.0 in let f = c.in-Ok.ensures.reads.1 in omega (arith, e, f));
+      failed_writes = (let e = c.in-Ok-trace_behind.ensures.unfailed.1 in omega (arith, e));
       memory = λ is. absurd (let e = is in cc);
     }
 
@@ -73,6 +77,11 @@ returns g c =
                 (g.W.Sink.contents c.args.sink.now) (g.W.Sink.contents c.trace_behind.new.sink) c.in-Ok-read.script t.1.0 c.deref.ensures.value h.1 on c.in-Ok-read.ensures.ok
                 d.1 (let m = reads.2 in omega (arith, m)) t.1.1),
           );
+      unended = λ is.
+          c.trace_behind.ensures.unended (passed c.in-Err-trace_behind.fault engine.TooManyTurns c.trace_behind.result is c.in-Err-trace_behind.is)
+          ∙ c.in-Ok.ensures.more c.in_default.not-Ended;
+      failed_reads = c.in-Err-trace_behind.ensures.failed_reads ∙ ap (λ n. n + failed_reads (Err c.in-Err-trace_behind.fault)) reads.1;
+      failed_writes = c.in-Err-trace_behind.ensures.failed_writes;
       memory = λ is.
           inr (plain_first h.0 c.in-Ok.head.script.items c.deref-2.result.now c.deref.result.now
           (g.S.Source.remaining c.args.source.now) (g.S.Source.remaining c.collect.new.source)
