@@ -14,7 +14,7 @@ use Rattle.mpd_model.specs.declared.token.Mark.TheVariants as m
 use Rattle.mpd_model.specs.declared.token.Token.{Token}
 use Rattle.mpd_model.specs.declared.token.Token.TheVariants.{Number, Name, Is, End}
 use Rattle.mpd_model.specs.Faults.{fault}
-use Rattle.mpd_model.specs.Input.{Parser, Outcome, Input, start_of, left, ◌>>=◌, ◌>>◌, pure, fail, refuse, peek, advance, eat, expect, begin, spend, count, sees, seek, fresh, add, spelling, place}
+use Rattle.mpd_model.specs.Input.{Parser, Outcome, Input, start_of, ◌>>=◌, ◌>>◌, pure, fail, refuse, peek, advance, eat, expect, begin, spend, count, sees, seek, fresh, add, spelling, place}
 use Rattle.mpd_model.specs.Program.{Program}
 use Rattle.mpd_model.specs.Term.{Term, lit, own_rank, size, cell, op2}
 use Rattle.mpd_model.specs.Tree.{Tree, print, send, recv, branch, block_of}
@@ -171,13 +171,13 @@ module _ (block : Parser (List Tree)) where
   unfoldable pub stmt : Parser Tree
   stmt = peek >>= stmt_by
 
-  -- statements up to the token that closes them
+  -- statements up to the token that closes them; each takes a turn, and more of these than there are tokens change nothing
   unfoldable pub stmts : Bool → ℕ → List Tree → Parser (List Tree)
   stmts inside zero found = refuse
   stmts inside (suc n) found = peek >>= λ t. if closes inside t then pure found else (do s ← stmt; stmts inside n (found ++ s ∷ []))
 
   unfoldable pub body : Bool → Parser (List Tree)
-  body inside = λ i. stmts inside (left i + 1) [] i
+  body inside = λ i. stmts inside (length i.tokens + 1) [] i
 
 -- a block, where so many may still be opened
 unfoldable pub block : ℕ → Parser (List Tree)
@@ -241,7 +241,7 @@ decls_from (suc n) = do
   if found then decl Variable >> decls_from n else pure tt
 
 unfoldable pub decls : Parser (Unit {0})
-decls = λ i. decls_from (left i + 1) i
+decls = λ i. decls_from (length i.tokens + 1) i
 
 unfoldable pub header : Parser ℕ
 header = do

@@ -78,10 +78,6 @@ place i = place_of i.end i.tokens
 unfoldable pub next : Input → Input
 next i = record i { tokens = behind i.tokens }
 
--- how many bytes there are from the next token on
-unfoldable pub left : Input → ℕ
-left i = i.end - place i
-
 -- ---- parsers: what was read and the input behind it, or the leftmost fault
 
 abbrev pub Outcome : Type 0 → Type 0

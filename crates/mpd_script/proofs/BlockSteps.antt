@@ -6,6 +6,7 @@ use Rattle.mpd_model.specs.declared.place.DeclKind.TheVariants.{Variable}
 use Rattle.mpd_model.specs.declared.token.Mark.TheVariants as m
 use Rattle.mpd_model.specs.Input.{Parser, Input, token, sees, fail, refuse, refusal, ◌>>=◌, ◌>>◌, pure, eat, expect}
 use Rattle.mpd_model.specs.Grammar.{stmt, stmts, body, closes, block, decl, decls_from}
+use Rattle.mpd_script.proofs.Turns.{body_turns, decls_turns}
 
 stmts_none : (b : Parser (List Tree)) (inside : Bool) (n : ℕ) (found : List Tree) (i : Input) → n ≡ 0 → stmts b inside n found i ≡ Err (refusal i)
 unfolding stmts
@@ -48,8 +49,8 @@ decls_more n at i h = decls_some (n - at) (n - (at + 1)) i (omega arith)
 pub decls_done : (n at : ℕ) (i : Input) → n ≤ at → decls_from (n - at) i ≡ Err (refusal i)
 decls_done n at i h = decls_none (n - at) i (omega arith)
 
-pub ruleset turning = (stmts_more, stmts_done)
+pub ruleset turning = (stmts_more, stmts_done, body_turns)
 
 pub ruleset depths = (block_none, block_more)
 
-pub ruleset declaring = (decls_more, decls_done)
+pub ruleset declaring = (decls_more, decls_done, decls_turns)

@@ -1,11 +1,11 @@
 -- A number of blocks that is enough may as well be larger.
-use Rattle.std.proofs.Common.{◌≡◌, ℕ, zero, suc, ◌+◌, Bool, true, false, cond, List, [], ◌∷◌, ◌++◌, Ok, Err, refl, arith, inl, inr}
+use Rattle.std.proofs.Common.{◌≡◌, ℕ, zero, suc, ◌+◌, Bool, true, false, cond, List, [], ◌∷◌, length, ◌++◌, Ok, Err, refl, arith, inl, inr}
 use Rattle.std.proofs.lemmas.Bool.{cases_Bool}
 use Rattle.mpd_model.specs.declared.token.Mark.TheVariants as m
 use Rattle.mpd_model.specs.declared.token.Token.{Token}
 use Rattle.mpd_model.specs.declared.token.Token.TheVariants.{Is}
 use Rattle.mpd_model.specs.Grammar.{expression, begun, closes, otherwise, choosing, stmt_by, stmt, stmts, body, block}
-use Rattle.mpd_model.specs.Input.{Input, Outcome, Parser, and_then, token, expect, sees, after, left, pure}
+use Rattle.mpd_model.specs.Input.{Input, Outcome, Parser, and_then, token, expect, sees, after, pure}
 use Rattle.mpd_model.specs.ReaderLaws.{IsNotTooDeep}
 use Rattle.mpd_model.specs.Tree.{Tree}
 
@@ -54,7 +54,7 @@ stmts_same p q a inside (suc n) found i h =
 
 body_same : (p q : Parser (List Tree)) → Same p q → (inside : Bool) → Same (body p inside) (body q inside)
 unfolding body
-body_same p q a inside i h = stmts_same p q a inside (left i + 1) [] i h
+body_same p q a inside i h = stmts_same p q a inside (length i.tokens + 1) [] i h
 
 none_case : (e : ℕ) (i : Input) → IsNotTooDeep (block zero i) → block (suc e) i ≡ block zero i
 unfolding block expect

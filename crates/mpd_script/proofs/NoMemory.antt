@@ -14,7 +14,7 @@ use Rattle.mpd_model.specs.declared.token.Token.{Token}
 use Rattle.mpd_model.specs.declared.token.Token.TheVariants.{Number, Name, Is, Bad}
 use Rattle.mpd_model.specs.Grammar.{atom_by, atom, variable, place_inside, rounds, chain, joined, level, expr, turns, operator_at, expression, begun, closes, printing, sending, named_by, named, receiving, otherwise, choosing, stmt_by, stmt, stmts, body, block, max_blocks, version_by, version, rank_count, ranks_of, ranks_by, ranks, declaring, decl_by, decl, decls_from, decls, header, max_text, is_text, read_of, reading}
 use Rattle.mpd_model.specs.Grammar as grammar
-use Rattle.mpd_model.specs.Input.{Input, Outcome, Parser, and_then, start_of, token, place, spelling, next, code_at, refusal, refuse, fail, advance, pure, expect, spend, count, seek, sought, same_kind, slot_in, fresh, is_known, add, fits, sees, after, left, max_budget, ◌>>=◌, ◌>>◌}
+use Rattle.mpd_model.specs.Input.{Input, Outcome, Parser, and_then, start_of, token, place, spelling, next, code_at, refusal, refuse, fail, advance, pure, expect, spend, count, seek, sought, same_kind, slot_in, fresh, is_known, add, fits, sees, after, max_budget, ◌>>=◌, ◌>>◌}
 use Rattle.mpd_model.specs.Program.{Program}
 use Rattle.mpd_model.specs.Term.{Term, op2}
 use Rattle.mpd_model.specs.Tree.{Tree}
@@ -177,7 +177,7 @@ stmts_sure p s inside (suc n) found i =
 
 body_sure : (p : Parser (List Tree)) → AllSure p → (inside : Bool) → AllSure (body p inside)
 unfolding body
-body_sure p s inside i = stmts_sure p s inside (left i + 1) [] i
+body_sure p s inside i = stmts_sure p s inside (length i.tokens + 1) [] i
 
 block_sure : (n : ℕ) → AllSure (block n)
 unfolding block
@@ -241,7 +241,7 @@ decls_from_sure (suc n) i =
 
 decls_sure : AllSure decls
 unfolding decls
-decls_sure i = decls_from_sure (left i + 1) i
+decls_sure i = decls_from_sure (length i.tokens + 1) i
 
 header_sure : AllSure header
 unfolding header

@@ -1,12 +1,12 @@
 -- The tokens behind the first one, behind blanks and behind comments.
-use Rattle.std.proofs.Common.{◌≡◌, ℕ, zero, suc, ◌+◌, ◌-◌, ◌<◌, ◌≤◌, true, false, ◌==◌, List, [], ◌∷◌, length, drop, take, get_or, slice_index, refl, ap, sym, ◌∙◌, arith, length-drop}
+use Rattle.std.proofs.Common.{◌≡◌, ℕ, zero, suc, ◌+◌, ◌-◌, ◌<◌, ◌≤◌, true, false, ◌==◌, List, [], ◌∷◌, length, drop, take, get_or, slice_index, refl, ap, sym, ◌∙◌, arith, length-drop, Bool, cond}
 use Rattle.std.proofs.lemmas.List.{at_drop_more, drop-drop}
 use Rattle.std.proofs.lemmas.Bool.{or_parts}
 use Rattle.mpd_model.specs.declared.token.Class.TheVariants as class
 use Rattle.mpd_model.specs.declared.token.Token.{Token}
 use Rattle.mpd_model.specs.Input.{token_of, text_of, place_of, line_of, behind}
 use Rattle.mpd_script.specs.Cursor.{first}
-use Rattle.mpd_model.specs.Tokens.{tokens_after, tokens_at, front, spot, is_blank, is_gap, run_len, feeds}
+use Rattle.mpd_model.specs.Tokens.{Spot, tokens_after, tokens_at, front, spot, is_blank, is_gap, run_len, feeds}
 
 pub tokens_after-drop : (n p l : ℕ) (z : List ℕ) → tokens_after n p l z ≡ tokens_at (p + n) l (drop n z)
 unfolding tokens_after
@@ -89,6 +89,21 @@ place_is p l [] t n is stops moves = rw tokens_end (omega arith)
 place_is p l (b ∷ z) t n is stops moves =
     let some : 1 ≤ (front (b ∷ z)).1 = rw (← ap (λ (x : Token × ℕ). x.1) is) (moves (omega arith)) in
     rw (token_first p l b z (stops (omega arith)) some) refl
+
+few_of : (a b : Bool) (xs ys zs : List Spot) (n : ℕ) → length xs ≤ n → length ys ≤ n → length zs ≤ suc n → length (cond a xs (cond b ys zs)) ≤ suc n
+few_of true b xs ys zs n x y z = omega arith
+few_of false true xs ys zs n x y z = omega arith
+few_of false false xs ys zs n x y z = z
+
+-- no more tokens than bytes
+pub tokens_few : (n p l : ℕ) (z : List ℕ) → length (tokens_after n p l z) ≤ length z
+unfolding tokens_after
+tokens_few n p l [] = omega arith
+tokens_few (suc n) p l (b ∷ z) = omega (arith, tokens_few n (p + 1) l z)
+tokens_few zero p l (b ∷ z) =
+    few_of (is_blank b) (b == 35) _ _ (spot (b ∷ z) p l ∷ tokens_after ((front (b ∷ z)).1 - 1) (p + 1) l z) (length z)
+    (tokens_few 0 (p + 1) (l + feeds b) z) (tokens_few (run_len class.Comment z) (p + 1) l z)
+    (omega (arith, tokens_few ((front (b ∷ z)).1 - 1) (p + 1) l z))
 
 none_left : (n : ℕ) → drop {A = ℕ} n [] ≡ []
 none_left zero = refl

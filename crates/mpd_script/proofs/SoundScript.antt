@@ -14,7 +14,7 @@ use Rattle.mpd_model.specs.Declaration.{Declared}
 use Rattle.mpd_model.specs.Faults.{fault}
 use Rattle.mpd_model.specs.Grammar.{version_by, version, rank_count, ranks_of, ranks_by, ranks, declaring, decl_by, decl, decls_from, decls, header, stmt, stmts, body, block, closes, max_blocks, max_text, is_text, read_of, reading}
 use Rattle.mpd_model.specs.Grammar as grammar
-use Rattle.mpd_model.specs.Input.{Input, Outcome, Parser, start_of, token, token_of, spelling, place, next, expect, sees, after, fresh, add, fits, is_known, slot_in, advance, fail, refuse, pure, left, ◌>>=◌, ◌>>◌}
+use Rattle.mpd_model.specs.Input.{Input, Outcome, Parser, start_of, token, token_of, spelling, place, next, expect, sees, after, fresh, add, fits, is_known, slot_in, advance, fail, refuse, pure, ◌>>=◌, ◌>>◌}
 use Rattle.mpd_model.specs.Program.{Program}
 use Rattle.mpd_model.specs.Tokens.{Spot, tokens}
 use Rattle.mpd_model.specs.Tree.{Tree, block_of, statements_in}
@@ -176,7 +176,7 @@ decls_from_ok (suc n) i y h = decls_case (decls_from n) (λ x z e. decls_from_ok
 
 decls_ok : (i : Input) (y : Unit {0} × Input) → decls i ≡ Ok y → TakesDecls i y.1
 unfolding decls
-decls_ok i y h = decls_from_ok (left i + 1) i y h
+decls_ok i y h = decls_from_ok (length i.tokens + 1) i y h
 
 carried_decls : (ds es : List Declared) (ss : List Spot) (fs : List Declared) → ds ≡ es → WrittenDecls ds ss fs → WrittenDecls es ss fs
 carried_decls ds es ss fs e x = rw (← e) x
@@ -274,7 +274,7 @@ body_ends p inside (suc n) found ts i j h = ends_case p inside n found ts i j (c
 
 body_closed : (p : Parser (List Tree)) (inside : Bool) (i j : Input) (ts : List Tree) → body p inside i ≡ Ok (ts, j) → closes inside (token j) ≡ true
 unfolding body
-body_closed p inside i j ts h = body_ends p inside (left i + 1) [] ts i j h
+body_closed p inside i j ts h = body_ends p inside (length i.tokens + 1) [] ts i j h
 
 at_end : (t : Token) → closes false t ≡ true → t ≡ End
 at_end End h = refl

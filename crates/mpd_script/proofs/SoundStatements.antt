@@ -8,7 +8,7 @@ use Rattle.mpd_model.specs.declared.token.Token.{Token}
 use Rattle.mpd_model.specs.declared.token.Token.TheVariants.{Name, Is, End}
 use Rattle.mpd_model.specs.Declaration.{Declared}
 use Rattle.mpd_model.specs.Grammar.{expression, begun, closes, printing, sending, named_by, named, receiving, otherwise, choosing, stmt_by, stmt, stmts, body, block}
-use Rattle.mpd_model.specs.Input.{Input, Outcome, Parser, and_then, token, token_of, next, behind, expect, sees, count, line_of, max_budget, after, left, pure, fail, refuse, ◌>>=◌, ◌>>◌}
+use Rattle.mpd_model.specs.Input.{Input, Outcome, Parser, and_then, token, token_of, next, behind, expect, sees, count, line_of, max_budget, after, pure, fail, refuse, ◌>>=◌, ◌>>◌}
 use Rattle.mpd_model.specs.Term.{Term}
 use Rattle.mpd_model.specs.Tokens.{Spot}
 use Rattle.mpd_model.specs.Tree.{Tree, print, send, recv, branch, no_more, block_of}
@@ -336,7 +336,7 @@ stmts_sound p s inside (suc n) found ts i j h =
 body_sound : (p : Parser (List Tree)) → IsSoundBlock p → (inside : Bool) (i j : Input) (ts : List Tree) → body p inside i ≡ Ok (ts, j) → TakesBody ts i j
 unfolding body
 body_sound p s inside i j ts h =
-    let f = stmts_sound p s inside (left i + 1) [] ts i j h in
+    let f = stmts_sound p s inside (length i.tokens + 1) [] ts i j h in
     rw f.all f.takes
 
 in_braces : (ts : List Tree) (i a b j : Input) → (o : Step i a) → o.spot.token ≡ Is m.BraceOpen → TakesBody ts a b → (c : Step b j) → c.spot.token ≡ Is m.BraceClose → TakesBlock ts i j

@@ -1,9 +1,9 @@
 -- Each turn takes a token, so more turns than there are tokens change nothing.
-use Rattle.std.proofs.Common.{◌≡◌, ℕ, zero, suc, ◌<◌, Bool, true, false, cond, List, [], ◌∷◌, ◌++◌, length, length-append, Ok, Err, refl, ap, arith}
+use Rattle.std.proofs.Common.{◌≡◌, ℕ, zero, suc, ◌<◌, Bool, true, false, cond, List, [], ◌∷◌, ◌++◌, length, length-append, Ok, Err, refl, ap, arith, ◌+◌, ◌-◌, ◌∙◌}
 use Rattle.mpd_model.specs.declared.place.DeclKind.TheVariants.{Variable}
 use Rattle.mpd_model.specs.declared.token.Mark.TheVariants as m
 use Rattle.mpd_model.specs.Declaration.{Declared}
-use Rattle.mpd_model.specs.Grammar.{closes, stmt, stmts, block, decl, decls_from}
+use Rattle.mpd_model.specs.Grammar.{closes, stmt, stmts, body, block, decl, decls, decls_from}
 use Rattle.mpd_model.specs.Input.{Input, Outcome, Parser, and_then, token, next, sees, after, pure, ◌>>=◌, ◌>>◌}
 use Rattle.mpd_model.specs.Tokens.{Spot}
 use Rattle.mpd_model.specs.Tree.{Tree}
@@ -58,3 +58,31 @@ pub decls_enough : (n : ℕ) (i : Input) → length i.tokens < n → decls_from 
 unfolding decls_from after
 decls_enough zero i h = absurd (omega arith)
 decls_enough (suc n) i h = decls_turn n (sees m.Var i) i refl (λ x less. decls_enough n x (omega arith))
+
+-- ---- with any number of turns that is enough
+
+stmts_more : (depth : ℕ) (inside : Bool) (n k : ℕ) (found : List Tree) (i : Input) → length i.tokens < n → stmts (block depth) inside n found i ≡ stmts (block depth) inside (n + k) found i
+stmts_more depth inside n zero found i h = let e : n + 0 ≡ n = omega arith in rw e refl
+stmts_more depth inside n (suc k) found i h =
+    let e : n + suc k ≡ suc (n + k) = omega arith in
+    rw e (stmts_more depth inside n k found i h ∙ stmts_enough depth inside (n + k) found i (omega arith))
+
+decls_more : (n k : ℕ) (i : Input) → length i.tokens < n → decls_from n i ≡ decls_from (n + k) i
+decls_more n zero i h = let e : n + 0 ≡ n = omega arith in rw e refl
+decls_more n (suc k) i h =
+    let e : n + suc k ≡ suc (n + k) = omega arith in
+    rw e (decls_more n k i h ∙ decls_enough (n + k) i (omega arith))
+
+pub body_turns : (depth : ℕ) (inside : Bool) (most : ℕ) (i : Input) → length i.tokens < most → body (block depth) inside i ≡ stmts (block depth) inside most [] i
+unfolding body
+body_turns depth inside most i h =
+    let n = length i.tokens + 1 in
+    let e : most ≡ n + (most - n) = omega arith in
+    rw e (stmts_more depth inside n (most - n) [] i (omega arith))
+
+pub decls_turns : (most : ℕ) (i : Input) → length i.tokens < most → decls i ≡ decls_from most i
+unfolding decls
+decls_turns most i h =
+    let n = length i.tokens + 1 in
+    let e : most ≡ n + (most - n) = omega arith in
+    rw e (decls_more n (most - n) i (omega arith))

@@ -139,13 +139,12 @@ impl<'a> Tokens<'a> {
         self.len = len;
     }
 
-    /// How many bytes there are from the next token on.
-    #[tactic(auto, unfolding(mpd_model::specs::Input::left))]
-    pub fn left(&self) -> usize
-        ensures value { result ≡ spec.left self.now }
-        ensures small { result < 2 ^ 32 }
+    /// More than the tokens that are left.
+    pub fn turns(&self) -> usize
+        ensures enough { length self.now.tokens < result }
+        ensures small { result ≤ 2 ^ 32 }
     {
-        self.ahead.len()
+        self.ahead.len() + 1
     }
 
     /// The grammar doesn't allow the next token.

@@ -92,11 +92,11 @@ fn decl(tokens: &mut Tokens<'_>, kind: DeclKind) -> Result<(), ReadFault>
     }
 }
 
-#[tactic(auto, using(crate::proofs::BlockSteps::declaring), unfolding(mpd_model::specs::Grammar::decls))]
+#[tactic(auto, using(crate::proofs::BlockSteps::declaring))]
 fn decls(tokens: &mut Tokens<'_>) -> Result<(), ReadFault>
     ensures { Reads (spec.decls tokens.old) result tokens.new }
 {
-    let most = tokens.left() + 1;
+    let most = tokens.turns();
     for _turn in 0..most {
         if !tokens.eat(Mark::Var) {
             return Ok(());

@@ -92,7 +92,7 @@ fn receiving(alloc: Global, tokens: &mut Tokens<'_>) -> Result<Stmt, ReadFault>
 
 /// The statements up to what closes them, with no more blocks in one another than the depth.
 #[cycle(block)]
-#[tactic(auto, using(crate::proofs::BlockSteps::turning), unfolding(mpd_model::specs::Grammar::body))]
+#[tactic(auto, using(crate::proofs::BlockSteps::turning))]
 pub fn body(
     alloc: Global,
     tokens: &mut Tokens<'_>,
@@ -102,7 +102,7 @@ pub fn body(
     ensures { ReadsAll (spec.body (spec.block depth) inside tokens.old) result tokens.new }
 {
     let mut found = Vec::new(alloc);
-    let most = tokens.left() + 1;
+    let most = tokens.turns();
     for _turn in 0..most {
         if closes(inside, tokens.peek()) {
             return Ok(found);
