@@ -1,8 +1,7 @@
 -- Answers, one after another.
-use Rattle.std.proofs.Common.{◌≡◌, ℕ, List, [], ◌∷◌, ◌++◌, Option, Some, None, Result, Ok, Err, OnOk, OnErr, length, get_or, drop, suc, ◌+◌, ◌<◌, add-one, drop-cons, refl, ap, sym, subst, ◌∙◌, append_assoc, append-nil}
-use Rattle.std.specs.Io.KnownBytes.{Appends, Consumes, IsAtEnd, Keeps}
-use Rattle.mpdbg.specs.Answered.{Answered, AddsAnswers, AddsFirstAnswers, Tells, TellsFirst, TellsPart}
-use Rattle.mpdbg.specs.Forward.{ended_from, part_from, last_line, lines_from}
+use Rattle.std.proofs.Common.{◌≡◌, ℕ, List, [], ◌∷◌, ◌++◌, Result, Ok, Err, OnOk, OnErr, length, get_or, drop, ◌+◌, ◌<◌, add-one, drop-cons, refl, ap, sym, subst, ◌∙◌, append_assoc, append-nil}
+use Rattle.mpdbg.specs.Answered.{Answered, AddsAnswers, AddsFirstAnswers}
+use Rattle.mpdbg.specs.Forward.{ended_from, part_from}
 use Rattle.mpdbg.specs.Fed.{Fed}
 use Rattle.mpdbg.proofs.ForwardLaws.{ended_append, part_append}
 

@@ -1,6 +1,6 @@
 -- A line without what ends it.
-use Rattle.std.proofs.Common.{◌≡◌, ◌≢◌, ℕ, ◌+◌, ◌<◌, ◌≤◌, Bool, true, false, ◌&&◌, ◌||◌, ◌==◌, if◌then◌else◌, List, [], ◌∷◌, ◌++◌, length, refl, ap, sym, ◌∙◌, append_assoc, arith, inl, inr}
-use Rattle.mpd_model.specs.Lines.{bare, is_ending, is_feed, is_none}
+use Rattle.std.proofs.Common.{◌≡◌, ℕ, ◌+◌, ◌<◌, ◌≤◌, Bool, true, false, ◌&&◌, ◌||◌, ◌==◌, if◌then◌else◌, List, [], ◌∷◌, ◌++◌, length, refl, ap, sym, ◌∙◌, append_assoc, arith}
+use Rattle.mpd_model.specs.Lines.{bare, is_ending}
 
 or_none : (p q : Bool) → p ≡ false → q ≡ false → (p || q) ≡ false
 or_none false false e f = refl

@@ -1,6 +1,5 @@
 -- A run behind bytes that were read before.
-use Rattle.std.proofs.Common.{◌≡◌, ℕ, ◌+◌, ◌≤◌, List, [], ◌∷◌, ◌++◌, length, Option, Some, None, IfSome, Result, Ok, Err, OnOk, refl, sym, ap, subst, ◌∙◌, append_assoc}
-use Rattle.std.specs.Io.KnownBytes.{Consumes, IsAtEnd}
+use Rattle.std.proofs.Common.{◌≡◌, ℕ, List, [], ◌++◌, Option, Some, None, IfSome, Result, Ok, Err, OnOk, refl, sym, ap, subst, ◌∙◌, append_assoc}
 use Rattle.mpd_model.specs.Lines.{lines_of, ended_lines}
 use Rattle.mpdbg.specs.Answered.{Answered, Tells, TellsFirst, TellsPart}
 use Rattle.mpdbg.specs.Forward.{ended_from, part_from, last_line, lines_from}

@@ -1,5 +1,5 @@
 -- Bytes compared one by one.
-use Rattle.std.proofs.Common.{◌≡◌, ℕ, Bool, true, false, ◌&&◌, ◌==◌, nat_eq, List, [], ◌∷◌, take, length, refl, ap}
+use Rattle.std.proofs.Common.{◌≡◌, ℕ, ◌&&◌, nat_eq, List, [], ◌∷◌, take, length, refl, ap}
 use lib.Pointwise.{pointwise}
 use Rattle.mpd_model.specs.Lines.{same_bytes}
 use Rattle.mpdbg.specs.Divided.{is_prefix}

@@ -1,5 +1,5 @@
 -- What was read of an input up to the line that divides it.
-use Rattle.std.proofs.Common.{◌≡◌, ℕ, ◌+◌, ◌<◌, ◌≤◌, List, [], ◌∷◌, ◌++◌, length, drop, Option, Some, None, Result, Ok, Err, IfOk, refl, ap, sym, subst, ◌∙◌, append_assoc, append-nil, arith, length-append}
+use Rattle.std.proofs.Common.{◌≡◌, ℕ, ◌+◌, ◌<◌, List, [], ◌++◌, length, drop, Option, Result, Ok, Err, IfOk, ap, sym, subst, ◌∙◌, append_assoc, append-nil, arith, length-append}
 use Rattle.std.specs.Io.KnownBytes.{Consumes, IsAtEnd}
 use Rattle.mpd_model.specs.Lines.{divided}
 use Rattle.mpdbg.specs.Divided.{Begun, splits}

@@ -1,9 +1,9 @@
 -- How an input is divided, byte by byte.
-use Rattle.std.proofs.Common.{◌≡◌, ◌≢◌, ℕ, ◌+◌, ◌<◌, ◌≤◌, Bool, true, false, ◌&&◌, ◌||◌, ◌==◌, not, if◌then◌else◌, List, [], ◌∷◌, ◌++◌, length, drop, refl, ap, sym, subst, ◌∙◌, append_assoc, append-nil, arith}
+use Rattle.std.proofs.Common.{◌≡◌, ◌≢◌, ℕ, Bool, true, false, ◌&&◌, ◌||◌, ◌==◌, not, if◌then◌else◌, List, [], ◌∷◌, ◌++◌, length, refl, ap, sym, subst, ◌∙◌, append_assoc, append-nil}
 use Rattle.mpd_model.specs.Lines.{raw_lines, grow, joined, bare, divided, divided_lines, is_divider, same_bytes, is_ending, is_feed, is_none}
 use Rattle.std.proofs.lemmas.Bool.{eqb-true}
 use Rattle.mpd_model.proofs.LineLaws.{joined_raw_lines}
-use Rattle.mpdbg.specs.Forward.{is_part, last_line}
+use Rattle.mpdbg.specs.Forward.{is_part}
 use Rattle.mpdbg.specs.Divided.{Begun, begun, added, is_prefix, may_divide, is_divided, splits, settled_lines, Takes, Measures}
 use Rattle.mpdbg.specs.declared.divider.Taken.{Taken}
 use Rattle.mpdbg.specs.declared.divider.Taken.TheVariants.{Open, Divided, TooLong}

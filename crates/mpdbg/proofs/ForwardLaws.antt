@@ -1,5 +1,5 @@
 -- Lines cut from the front, piece by piece, are the lines cut from the back.
-use Rattle.std.proofs.Common.{◌≡◌, ℕ, ◌+◌, ◌<◌, ◌≤◌, Bool, true, false, ◌&&◌, ◌||◌, ◌==◌, not, if◌then◌else◌, List, [], ◌∷◌, ◌++◌, length, map, filter, refl, ap, sym, ◌∙◌, append_assoc, append-nil, arith}
+use Rattle.std.proofs.Common.{◌≡◌, ℕ, Bool, true, false, ◌&&◌, ◌||◌, ◌==◌, not, if◌then◌else◌, List, [], ◌∷◌, ◌++◌, map, filter, refl, ap, sym, ◌∙◌, append_assoc, append-nil}
 use Rattle.mpd_model.specs.Lines.{raw_lines, grow, bare, lines_of, ended_lines, ends_with_feed, is_ending, is_feed, is_none}
 use Rattle.mpdbg.specs.Forward.{ended_from, part_from, last_line, lines_from, is_part}
 

@@ -1,19 +1,18 @@
 -- What comes of an input that has a script and the lines of its trace.
-use Rattle.std.proofs.Common.{◌≡◌, ◌≢◌, ℕ, ◌+◌, ◌<◌, ◌≤◌, nat_lt, true, false, Bool, if◌then◌else◌, List, [], ◌∷◌, ◌++◌, length, take, count_by, ◌==◌, Option, Some, None, IfSome, Result, Ok, Err, refl, ap, sym, subst, ◌∙◌, append_assoc, append-nil, arith, length-append}
+use Rattle.std.proofs.Common.{◌≡◌, ◌≢◌, ℕ, ◌+◌, ◌<◌, ◌≤◌, nat_lt, true, List, [], ◌++◌, length, count_by, ◌==◌, Option, Some, None, IfSome, Result, Ok, Err, refl, ap, sym, subst, ◌∙◌, append-nil, arith, length-append}
 use Rattle.std.proofs.lemmas.Bool.{lt-ltb, cond-true}
 use Rattle.std.proofs.lemmas.List.{take-append-le}
-use Rattle.std.specs.Io.KnownBytes.{Consumes, IsAtEnd}
+use Rattle.std.specs.Io.KnownBytes.{Consumes}
 use Rattle.mpd_model.specs.Answers.{AnswerOrMemory}
 use Rattle.mpd_model.specs.Faults.{fault}
-use Rattle.mpd_model.specs.Grammar.{reading, max_text}
+use Rattle.mpd_model.specs.Grammar.{reading}
 use Rattle.mpd_model.specs.Lines.{divided, lines_of, ended_lines}
 use Rattle.mpd_model.specs.Program.{Program}
 use Rattle.mpd_model.specs.Trail.{Standing, first_standing}
 use Rattle.mpd_model.specs.declared.call.Mode.TheVariants.{Rendezvous}
 use Rattle.mpd_model.specs.declared.read_fault.ReadFault.{ReadFault}
-use Rattle.mpd_model.specs.declared.read_fault.FaultCode.{FaultCode}
 use Rattle.mpd_model.specs.declared.read_fault.FaultCode.TheVariants as code
-use Rattle.mpdbg.specs.Answered.{Tells, TellsFirst, TellsPart}
+use Rattle.mpdbg.specs.Answered.{TellsFirst, TellsPart}
 use Rattle.mpdbg.specs.Told.{TellsAll, TellsRead}
 use Rattle.mpdbg.specs.Collected.{HeadOf, lines_behind, ended_behind}
 use Rattle.mpdbg.specs.Plain.{line_at, Opens, PlainAll, PlainRead, PlainFirst, PlainPart}

@@ -1,7 +1,7 @@
 -- What a turn has written.
-use Rattle.std.proofs.Common.{◌≡◌, ℕ, ◌+◌, List, [], ◌∷◌, ◌++◌, Option, Result, Ok, Err, OnOk, OnErr, append-nil, refl, sym, ap, subst, ◌∙◌}
+use Rattle.std.proofs.Common.{◌≡◌, ℕ, List, [], ◌++◌, Option, Result, Ok, Err, OnOk, OnErr, append-nil, sym, ap, subst, ◌∙◌}
 use Rattle.std.specs.Io.KnownBytes.{Appends}
-use Rattle.mpdbg.specs.Answered.{Answered, AddsAnswers, AddsFirstAnswers, Tells, TellsFirst, TellsPart}
+use Rattle.mpdbg.specs.Answered.{Answered, AddsAnswers, AddsFirstAnswers, TellsPart}
 use Rattle.mpdbg.specs.Told.{AppendsPart}
 
 answered_along : {D : Type 0} (A : D → List ℕ → List ℕ → D → Type 0) (d e : D) (ls : List (List ℕ)) (t u : List ℕ) → t ≡ u → Answered A d ls t e → Answered A d ls u e

@@ -1,5 +1,5 @@
 -- What was read of an input up to the line that divides it.
-use Rattle.std.specs.Prelude.{◌≡◌, ℕ, ◌+◌, ◌<◌, ◌≤◌, List, [], ◌++◌, length, Option}
+use Rattle.std.specs.Prelude.{◌≡◌, ℕ, ◌<◌, ◌≤◌, List, [], ◌++◌, length, Option}
 use Rattle.std.specs.Io.KnownBytes.{Consumes, IsAtEnd}
 use Rattle.mpd_model.specs.Lines.{divided, lines_of, ended_lines}
 use Rattle.mpdbg.specs.Divided.{Begun, splits}

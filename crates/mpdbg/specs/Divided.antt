@@ -1,5 +1,5 @@
 -- What of an input stands before the line that divides it, as it comes.
-use Rattle.std.specs.Prelude.{◌≡◌, ℕ, ◌+◌, ◌<◌, ◌≤◌, Bool, true, false, ◌&&◌, ◌==◌, if◌then◌else◌, List, [], ◌∷◌, ◌++◌, length, drop}
+use Rattle.std.specs.Prelude.{◌≡◌, ℕ, ◌<◌, ◌≤◌, Bool, true, false, ◌&&◌, ◌==◌, if◌then◌else◌, List, [], ◌∷◌, ◌++◌, length, drop}
 use Rattle.mpd_model.specs.Lines.{raw_lines, divided, divided_lines, is_divider}
 use Rattle.mpdbg.specs.declared.divider.Division.{Division}
 use Rattle.mpdbg.specs.declared.divider.Division.TheVariants as d

@@ -1,5 +1,5 @@
 -- Lines as they end one after another, behind the beginning of a line that was there before.
-use Rattle.std.specs.Prelude.{ℕ, Bool, true, false, ◌&&◌, not, ◌==◌, if◌then◌else◌, List, [], ◌∷◌, ◌++◌}
+use Rattle.std.specs.Prelude.{ℕ, Bool, true, ◌&&◌, not, ◌==◌, if◌then◌else◌, List, [], ◌∷◌, ◌++◌}
 use Rattle.mpd_model.specs.Lines.{bare}
 
 -- the lines that end within z

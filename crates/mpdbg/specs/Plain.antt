@@ -1,5 +1,5 @@
 -- What comes of an input that has a script and the lines of its trace.
-use Rattle.std.specs.Prelude.{◌≡◌, ℕ, ◌+◌, ◌≤◌, ◌==◌, List, ◌++◌, length, take, count_by, Option, Result, Ok, Err}
+use Rattle.std.specs.Prelude.{◌≡◌, ℕ, ◌+◌, ◌≤◌, ◌==◌, List, length, take, count_by, Option, Ok}
 use Rattle.std.specs.Io.KnownBytes.{Consumes, IsAtEnd}
 use Rattle.mpd_model.specs.Answers.{AnswerOrMemory}
 use Rattle.mpd_model.specs.Grammar.{reading}

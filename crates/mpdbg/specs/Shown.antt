@@ -1,5 +1,5 @@
 -- Which bytes a trail shows.
-use Rattle.std.specs.Prelude.{ℕ, List, [], ◌∷◌, ◌++◌, Option, Some, None}
+use Rattle.std.specs.Prelude.{ℕ, List, [], ◌∷◌, ◌++◌, Some, None}
 use Rattle.mpdbg.specs.declared.seen.Trail.TheInside.{Inside}
 
 abbrev pub shown : Inside → List ℕ

@@ -1,5 +1,5 @@
 -- How far the answers to an input were written.
-use Rattle.std.specs.Prelude.{◌≡◌, ℕ, ◌+◌, ◌≤◌, ◌<◌, List, ◌++◌, length, Option, Some, None, Result, Ok, Err, IfSome}
+use Rattle.std.specs.Prelude.{◌≡◌, ℕ, ◌+◌, ◌≤◌, List, ◌++◌, length, Option, Result, Ok, Err}
 use Rattle.std.specs.Io.KnownBytes.{Appends, Consumes, IsAtEnd}
 use Rattle.mpdbg.specs.Answered.{Tells, TellsFirst, TellsPart}
 use Rattle.mpdbg.specs.Forward.{ended_from, part_from}

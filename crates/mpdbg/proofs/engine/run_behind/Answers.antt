@@ -1,4 +1,4 @@
-use Rattle.std.proofs.Common.{arith, ◌≡◌, ◌+◌}
+use Rattle.std.proofs.Common.{arith}
 use Rattle.mpdbg.proofs.BehindLaws.{behind_all, behind_read, behind_first, behind_part, turn_first, turn_part}
 use Rattle.mpdbg.proofs.engine.run_behind.Goals as goal
 

@@ -1,4 +1,4 @@
-use Rattle.std.proofs.Common.{arith, ◌≡◌, ◌+◌, ◌<◌, [], length, take, ◌∙◌, rules}
+use Rattle.std.proofs.Common.{arith, ◌<◌, [], length, take, rules}
 use Rattle.std.specs.Io.KnownBytes.{Consumes, IsAtEnd}
 use Rattle.mpdbg.specs.Forward.{ended_from, last_line}
 use Rattle.mpdbg.proofs.GoingLaws.{ends_none, Next, so_far_more, told_all, told_first, told_part, next_piece, next_last, consumes_zero, consumes_piece}

@@ -1,4 +1,3 @@
-use Rattle.std.proofs.Common.{◌+◌}
 use Rattle.mpdbg.specs.Forward.{ended_from}
 use Rattle.mpdbg.proofs.TurnLaws.{cut_off}
 use Rattle.mpdbg.proofs.engine.turn.Goals as goal

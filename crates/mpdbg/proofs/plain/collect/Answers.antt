@@ -1,4 +1,4 @@
-use Rattle.std.proofs.Common.{arith, ◌≡◌, ◌+◌, ◌<◌, [], length, take, rules}
+use Rattle.std.proofs.Common.{arith, ◌<◌, [], length, take, rules}
 use Rattle.std.specs.Io.KnownBytes.{Consumes, IsAtEnd}
 use Rattle.mpdbg.proofs.GoingLaws.{ends_none, consumes_zero, consumes_piece}
 use Rattle.mpdbg.proofs.CollectLaws.{follows_more, head_ended, head_divided, head_too_long}

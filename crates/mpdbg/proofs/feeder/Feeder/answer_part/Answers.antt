@@ -1,4 +1,4 @@
-use Rattle.std.proofs.Common.{arith, ◌<◌, ◌++◌, ◌∷◌, [], length}
+use Rattle.std.proofs.Common.{◌<◌, ◌++◌, ◌∷◌, [], length}
 use Rattle.mpd_model.specs.Lines.{bare}
 use Rattle.mpdbg.proofs.BareLaws.{long_bare}
 use Rattle.mpdbg.proofs.AnsweredLaws.{refused_adds}

@@ -1,4 +1,4 @@
-use Rattle.std.proofs.Common.{drop, get_or, ◌+◌, refl}
+use Rattle.std.proofs.Common.{drop, get_or, ◌+◌}
 use Rattle.mpdbg.proofs.AnsweredLaws.{fed_more, fed_first, on_err, drop_next}
 use Rattle.mpdbg.proofs.feeder.Feeder.feed.Goals as goal
 
