@@ -1,13 +1,8 @@
 -- How a run over a source and a sink goes on.
-<<<<<<< HEAD
 use Rattle.std.proofs.Common.{◌≡◌, ◌≢◌, ℕ, zero, suc, ◌+◌, ◌<◌, ◌≤◌, List, [], ◌∷◌, ◌++◌, length, take, Option, Some, None, IfSome, Result, Ok, Err, OnOk, refl, sym, ap, subst, ◌∙◌, append_assoc, append-nil, length-append, arith}
 use Rattle.std.specs.Io.KnownBytes.{Appends, Consumes, IsAtEnd, Keeps}
 use Rattle.mpd_model.specs.declared.device.DeviceFault.{DeviceFault}
 use Rattle.mpd_model.specs.Ends.{ends_of}
-=======
-use Rattle.std.proofs.Common.{◌≡◌, ℕ, ◌+◌, ◌<◌, ◌≤◌, List, [], ◌++◌, length, take, Option, Some, None, IfSome, Result, Ok, Err, OnOk, refl, sym, ap, subst, ◌∙◌, append_assoc, append-nil, length-append, arith}
-use Rattle.std.specs.Io.KnownBytes.{Consumes, IsAtEnd, Keeps}
->>>>>>> 3e777881535b7be74c065de893bed6ee8346728b
 use Rattle.mpdbg.specs.Answered.{Answered, Tells, TellsFirst, TellsPart}
 use Rattle.mpdbg.specs.Forward.{ended_from, part_from, last_line, lines_from}
 use Rattle.mpdbg.specs.Told.{SoFar, TellsAll, TellsRead}

@@ -1,9 +1,5 @@
-<<<<<<< HEAD
 use Rattle.std.proofs.Common.{arith, ◌≡◌, ◌∙◌, ap, Err, ◌+◌, ◌-◌, ◌≤◌, ◌++◌, ℕ, List, length, rules, refl, inl, inr}
 use Rattle.mpd_model.specs.Grammar.{reading}
-=======
-use Rattle.std.proofs.Common.{arith, ◌≡◌, ◌-◌, ◌++◌, ℕ, List, refl, inr}
->>>>>>> 3e777881535b7be74c065de893bed6ee8346728b
 use Rattle.mpd_model.specs.Lines.{divided}
 use Rattle.mpdbg.specs.declared.engine.EngineFault.TheVariants as engine
 use Rattle.mpdbg.specs.FaultWords.{failed_reads}
