@@ -9,6 +9,3 @@ mod script;
 mod stmt;
 
 pub use script::read;
-
-#[cfg(test)]
-mod tests;

@@ -1,10 +1,10 @@
 //! Texts whose outcome was worked out by hand.
 
-use crate::{laws, read};
 use mpd_model::expr::ExprNode;
 use mpd_model::read_fault::{FaultCode, ReadFault};
 use mpd_model::script::Script;
 use mpd_model::stmt::StmtNode;
+use mpd_script::{laws, read};
 use std::alloc::{AllocError, Global};
 
 const HEADER: &str = "mpd 1;ranks 1;";
