@@ -1,6 +1,6 @@
--- Which bytes a trail shows.
+-- Which bytes a chain shows.
 use Rattle.std.specs.Prelude.{ℕ, List, [], ◌∷◌, ◌++◌, Some, None}
-use Rattle.mpdbg.specs.declared.seen.Trail.TheInside.{Inside}
+use Rattle.mpdbg.specs.declared.seen.Chain.TheInside.{Inside}
 
 abbrev pub shown : Inside → List ℕ
-shown t = elim t.before [ None ↦ t.byte ∷ [] | Some s ↦ s.value ++ t.byte ∷ [] ]
+shown c = elim c.before [ None ↦ c.byte ∷ [] | Some s ↦ s.value ++ c.byte ∷ [] ]

@@ -7,12 +7,12 @@ use std::snapshot::Snapshot;
 
 // Bytes, the last one first. A link is made for a moment only, so that a snapshot can remember it.
 #[derive(Drop)]
-struct Trail {
-    before: Option<Snapshot<Trail>>,
+struct Chain {
+    before: Option<Snapshot<Chain>>,
     byte: u8,
 }
 
-impl Model for Trail {
+impl Model for Chain {
     ghost use Rattle.std.specs.Prelude.{List, ℕ, length};
 
     ghost Value = { List ℕ };
@@ -31,7 +31,7 @@ impl Model for Trail {
 /// Which bytes have come. It takes no bytes, so that what is known of a line has no bound where the memory for it has.
 #[derive(Drop)]
 pub struct Seen {
-    trail: Option<Snapshot<Trail>>,
+    chain: Option<Snapshot<Chain>>,
 }
 
 impl Model for Seen {
@@ -41,7 +41,7 @@ impl Model for Seen {
 
     ghost use Rattle.std.specs.Prelude.{[], None, Some};
 
-    ghost view = { λ s. elim s.trail [ None ↦ [] | Some t ↦ t.value ] };
+    ghost view = { λ s. elim s.chain [ None ↦ [] | Some c ↦ c.value ] };
 }
 
 impl Seen {
@@ -49,14 +49,14 @@ impl Seen {
     pub fn new() -> Seen
         ensures { result ≡ [] }
     {
-        Seen { trail: None }
+        Seen { chain: None }
     }
 
     /// One byte more.
     pub fn add(&mut self, byte: u8)
         ensures { self.new ≡ self.old ++ byte ∷ [] }
     {
-        let before = mem::replace(self, Seen::new()).trail;
-        self.trail = Some(Snapshot::of(&Trail { before, byte }));
+        let before = mem::replace(self, Seen::new()).chain;
+        self.chain = Some(Snapshot::of(&Chain { before, byte }));
     }
 }
