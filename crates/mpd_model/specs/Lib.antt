@@ -13,4 +13,5 @@ pub mod Input
 pub mod Grammar
 pub mod ReaderRows
 pub mod Written
+pub mod Fits
 pub mod ReaderLaws

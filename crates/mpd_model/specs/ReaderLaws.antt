@@ -1,14 +1,15 @@
 -- What holds of the grammar's parsers, whatever they are given.
-use Rattle.std.specs.Prelude.{◌≡◌, ◌≢◌, ℕ, suc, ◌+◌, ◌<◌, Bool, List, length, Ok, Err}
+use Rattle.std.specs.Prelude.{◌≡◌, ◌≢◌, ℕ, suc, ◌+◌, ◌-◌, ◌<◌, ◌≤◌, Bool, List, ◌++◌, length, Ok, Err}
+use Rattle.mpd_model.specs.Fits.{cost, Stops, at}
 use Rattle.mpd_model.specs.Grammar.{expr, stmts, body, block, decls_from, reading}
 use Rattle.mpd_model.specs.declared.read_fault.FaultCode.TheVariants.{TooDeep, Memory}
 use Rattle.mpd_model.specs.declared.read_fault.ReadFault.{ReadFault}
 use Rattle.mpd_model.specs.Input.{Input, Outcome}
 use Rattle.mpd_model.specs.Program.{Program}
 use Rattle.mpd_model.specs.Term.{Term}
-use Rattle.mpd_model.specs.Tokens.{tokens}
+use Rattle.mpd_model.specs.Tokens.{Spot, tokens}
 use Rattle.mpd_model.specs.Tree.{Tree}
-use Rattle.mpd_model.specs.Written.{Takes, TakesBody, WrittenScript}
+use Rattle.mpd_model.specs.Written.{Written, Takes, TakesBody, WrittenScript}
 
 -- What is read as an expression is written so.
 abbrev pub ExpressionsAreWritten : Type 0
@@ -55,3 +56,9 @@ abbrev pub TurnsAreEnough : Type 0
 TurnsAreEnough =
     ((depth : ℕ) (inside : Bool) (turns : ℕ) (found : List Tree) (i : Input) → length i.tokens < turns → stmts (block depth) inside turns found i ≡ stmts (block depth) inside (suc turns) found i)
     × ((turns : ℕ) (i : Input) → length i.tokens < turns → decls_from turns i ≡ decls_from (suc turns) i)
+
+-- What is written as an expression is read as that, where the budget is enough for its brackets and operators and no operator goes on behind it.
+abbrev pub WrittenExpressionsAreRead : Type 0
+WrittenExpressionsAreRead =
+    (depth level : ℕ) (ss rest : List Spot) (t : Term) (i : Input) → Written i.decls level ss t → i.tokens ≡ ss ++ rest → Stops level rest → cost ss ≤ i.budget → i.budget < depth
+    → expr depth level i ≡ Ok (t, at rest (i.budget - cost ss) i)

@@ -41,3 +41,8 @@ pub fn budget_decides_depth_alone()
 pub fn blocks_decide_depth_alone()
     ensures { law.BlocksDecideDepthAlone }
 {}
+
+/// What is written as an expression is read as that, where its brackets and operators are within the budget and no operator goes on behind it.
+pub fn written_expressions_are_read()
+    ensures { law.WrittenExpressionsAreRead }
+{}
