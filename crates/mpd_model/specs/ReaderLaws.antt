@@ -1,15 +1,15 @@
 -- What holds of the grammar's parsers, whatever they are given.
-use Rattle.std.specs.Prelude.{◌≡◌, ◌≢◌, ℕ, suc, ◌+◌, ◌-◌, ◌<◌, ◌≤◌, Bool, List, ◌++◌, length, Ok, Err}
-use Rattle.mpd_model.specs.Fits.{cost, Stops, at}
-use Rattle.mpd_model.specs.Grammar.{expr, stmts, body, block, decls_from, reading}
+use Rattle.std.specs.Prelude.{◌≡◌, ◌≢◌, ℕ, suc, ◌+◌, ◌-◌, ◌<◌, ◌≤◌, Bool, true, List, ◌++◌, length, Ok, Err}
+use Rattle.mpd_model.specs.Fits.{cost, Stops, at, Gives, blocks_in, dearest_body}
+use Rattle.mpd_model.specs.Grammar.{expr, closes, stmts, body, block, decls_from, reading}
 use Rattle.mpd_model.specs.declared.read_fault.FaultCode.TheVariants.{TooDeep, Memory}
 use Rattle.mpd_model.specs.declared.read_fault.ReadFault.{ReadFault}
-use Rattle.mpd_model.specs.Input.{Input, Outcome}
+use Rattle.mpd_model.specs.Input.{Input, Outcome, token_of, max_budget, max_statements}
 use Rattle.mpd_model.specs.Program.{Program}
 use Rattle.mpd_model.specs.Term.{Term}
 use Rattle.mpd_model.specs.Tokens.{Spot, tokens}
-use Rattle.mpd_model.specs.Tree.{Tree}
-use Rattle.mpd_model.specs.Written.{Written, Takes, TakesBody, WrittenScript}
+use Rattle.mpd_model.specs.Tree.{Tree, block_of}
+use Rattle.mpd_model.specs.Written.{Written, Takes, TakesBody, WrittenBody, WrittenScript}
 
 -- What is read as an expression is written so.
 abbrev pub ExpressionsAreWritten : Type 0
@@ -62,3 +62,10 @@ abbrev pub WrittenExpressionsAreRead : Type 0
 WrittenExpressionsAreRead =
     (depth level : ℕ) (ss rest : List Spot) (t : Term) (i : Input) → Written i.decls level ss t → i.tokens ≡ ss ++ rest → Stops level rest → cost ss ≤ i.budget → i.budget < depth
     → expr depth level i ≡ Ok (t, at rest (i.budget - cost ss) i)
+
+-- What is written as statements is read as those, where each expression is within the budget, no more blocks are open at once and no more statements begin than may, and what closes the statements follows.
+abbrev pub WrittenStatementsAreRead : Type 0
+WrittenStatementsAreRead =
+    (depth : ℕ) (inside : Bool) (ss rest : List Spot) (ts : List Tree) (ls : List ℕ) (i : Input) (w : WrittenBody i.decls ss ts ls) → i.tokens ≡ ss ++ rest → closes inside (token_of rest) ≡ true
+    → blocks_in (block_of ts) ≤ depth → dearest_body i.decls ss ts ls w ≤ max_budget → length i.lines + length ls ≤ max_statements
+    → Gives (body (block depth) inside i) ts rest (i.lines ++ ls) i

@@ -46,3 +46,8 @@ pub fn blocks_decide_depth_alone()
 pub fn written_expressions_are_read()
     ensures { law.WrittenExpressionsAreRead }
 {}
+
+/// What is written as statements, within the limits of expressions, blocks and their number, is read as those.
+pub fn written_statements_are_read()
+    ensures { law.WrittenStatementsAreRead }
+{}
