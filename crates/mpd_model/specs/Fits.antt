@@ -7,9 +7,10 @@ use Rattle.mpd_model.specs.declared.token.Token.TheVariants.{Is}
 use Rattle.mpd_model.specs.Declaration.{Declared}
 use Rattle.mpd_model.specs.Grammar.{operator, operator_at}
 use Rattle.mpd_model.specs.Input.{Input, Outcome, token_of}
+use Rattle.mpd_model.specs.Program.{Program}
 use Rattle.mpd_model.specs.Tokens.{Spot}
 use Rattle.mpd_model.specs.Tree.{Tree, Block, print, send, recv, branch, no_more, then_more}
-use Rattle.mpd_model.specs.Written.{WrittenTree, prints, sends, receives, chooses, chooses_else, WrittenBlock, braces, WrittenBody, ended, follows}
+use Rattle.mpd_model.specs.Written.{WrittenTree, prints, sends, receives, chooses, chooses_else, WrittenBlock, braces, WrittenBody, ended, follows, WrittenScript, script}
 
 -- ---- expressions
 
@@ -72,3 +73,6 @@ abbrev mutual
   pub dearest_body : (ds : List Declared) (ss : List Spot) (ts : List Tree) (ls : List ℕ) → WrittenBody ds ss ts ls → ℕ
   dearest_body ds _ _ _ ended = 0
   dearest_body ds _ _ _ (follows ss rs t ts ls ms v w) = max (dearest ds ss t ls v) (dearest_body ds rs ts ms w)
+
+abbrev pub dearest_script : (ss : List Spot) (p : Program) → WrittenScript ss p → ℕ
+dearest_script _ _ (script mpd version a ranks count b ss rs p h1 h2 h3 h4 h5 h6 ds w) = dearest_body p.decls rs p.body p.lines w

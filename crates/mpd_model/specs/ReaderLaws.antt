@@ -1,11 +1,12 @@
 -- What holds of the grammar's parsers, whatever they are given.
 use Rattle.std.specs.Prelude.{◌≡◌, ◌≢◌, ℕ, suc, ◌+◌, ◌-◌, ◌<◌, ◌≤◌, Bool, true, List, ◌++◌, length, Ok, Err}
-use Rattle.mpd_model.specs.Fits.{cost, Stops, at, Gives, blocks_in, dearest_body}
-use Rattle.mpd_model.specs.Grammar.{expr, closes, stmts, body, block, decls_from, reading}
+use Rattle.std.specs.List.{prefix_len}
+use Rattle.mpd_model.specs.Fits.{cost, Stops, at, Gives, blocks_in, dearest_body, dearest_script}
+use Rattle.mpd_model.specs.Grammar.{expr, closes, stmts, body, block, decls_from, max_blocks, max_text, is_text, reading}
 use Rattle.mpd_model.specs.declared.read_fault.FaultCode.TheVariants.{TooDeep, Memory}
 use Rattle.mpd_model.specs.declared.read_fault.ReadFault.{ReadFault}
 use Rattle.mpd_model.specs.Input.{Input, Outcome, token_of, max_budget, max_statements}
-use Rattle.mpd_model.specs.Program.{Program}
+use Rattle.mpd_model.specs.Program.{Program, IsLegal}
 use Rattle.mpd_model.specs.Term.{Term}
 use Rattle.mpd_model.specs.Tokens.{Spot, tokens}
 use Rattle.mpd_model.specs.Tree.{Tree, block_of}
@@ -69,3 +70,9 @@ WrittenStatementsAreRead =
     (depth : ℕ) (inside : Bool) (ss rest : List Spot) (ts : List Tree) (ls : List ℕ) (i : Input) (w : WrittenBody i.decls ss ts ls) → i.tokens ≡ ss ++ rest → closes inside (token_of rest) ≡ true
     → blocks_in (block_of ts) ≤ depth → dearest_body i.decls ss ts ls w ≤ max_budget → length i.lines + length ls ≤ max_statements
     → Gives (body (block depth) inside i) ts rest (i.lines ++ ls) i
+
+-- What is written as a script is read as that, where the text isn't too long and has no other bytes than a text may have, and the script keeps the limits.
+abbrev pub WrittenScriptsAreRead : Type 0
+WrittenScriptsAreRead =
+    (text : List ℕ) (p : Program) (w : WrittenScript (tokens text) p) → length text ≤ max_text → prefix_len is_text text ≡ length text → IsLegal p
+    → blocks_in (block_of p.body) ≤ max_blocks → dearest_script (tokens text) p w ≤ max_budget → reading text ≡ Ok p

@@ -51,3 +51,8 @@ pub fn written_expressions_are_read()
 pub fn written_statements_are_read()
     ensures { law.WrittenStatementsAreRead }
 {}
+
+/// What is written as a script, within the limits, is read as that.
+pub fn written_scripts_are_read()
+    ensures { law.WrittenScriptsAreRead }
+{}
