@@ -318,7 +318,7 @@ abbrev under : List Declared → Input → Input
 under ds i = record i { decls = ds }
 
 mutual
-  pub tree_read : (ds : List Declared) (i : Input) (ss : List Spot) (t : Tree) (ls : List ℕ) (w : WrittenTree ds ss t ls) (n : ℕ) → blocks t ≤ n → dearest ds ss t ls w ≤ 64 → TreeReads (under ds i) n ss t ls
+  tree_read : (ds : List Declared) (i : Input) (ss : List Spot) (t : Tree) (ls : List ℕ) (w : WrittenTree ds ss t ls) (n : ℕ) → blocks t ≤ n → dearest ds ss t ls w ≤ 64 → TreeReads (under ds i) n ss t ls
   tree_read ds i _ _ _ (prints k end e t hk w he) n deep dear = prints_reads (under ds i) n k end e t hk w he dear
   tree_read ds i _ _ _ (sends k to tag end a b c value dest mark hk wa hto wb htag wc he) n deep dear =
       sends_reads (under ds i) n k to tag end a b c value dest mark hk wa hto wb htag wc he (omega arith) (omega arith) (omega arith)
@@ -330,17 +330,33 @@ mutual
       chooses_else_reads (under ds i) n k o e a z t x y ms ns hk w (omega arith) (block_stops ds a x ms f) (block_read ds i a x ms f n (omega arith) (omega arith)) ho
       (block_read ds i z y ns g n (omega arith) (omega arith))
 
-  pub block_read : (ds : List Declared) (i : Input) (ss : List Spot) (ts : List Tree) (ls : List ℕ) (w : WrittenBlock ds ss ts ls) (n : ℕ) → blocks_in (block_of ts) < n
+  block_read : (ds : List Declared) (i : Input) (ss : List Spot) (ts : List Tree) (ls : List ℕ) (w : WrittenBlock ds ss ts ls) (n : ℕ) → blocks_in (block_of ts) < n
       → dearest_block ds ss ts ls w ≤ 64 → BlockReads (under ds i) n ss ts ls
   block_read ds i _ _ _ (braces a z ss ts ms ha w hz) n deep dear =
       braces_reads (under ds i) n (n - 1) a z ss ts ms (omega arith) ha hz (body_read ds i ss ts ms w (n - 1) (omega arith) dear)
 
-  pub body_read : (ds : List Declared) (i : Input) (ss : List Spot) (ts : List Tree) (ls : List ℕ) (w : WrittenBody ds ss ts ls) (n : ℕ) → blocks_in (block_of ts) ≤ n
+  body_read : (ds : List Declared) (i : Input) (ss : List Spot) (ts : List Tree) (ls : List ℕ) (w : WrittenBody ds ss ts ls) (n : ℕ) → blocks_in (block_of ts) ≤ n
       → dearest_body ds ss ts ls w ≤ 64 → BodyReads (under ds i) n ss ts ls
   body_read ds i _ _ _ ended n deep dear = ended_reads (under ds i) n
   body_read ds i _ _ _ (follows ss rs t ts ls ms v w) n deep dear =
       follows_reads (under ds i) n ss rs t ts ls ms (tree_opens ds ss t ls v) (some_token ds ss t ls v) (body_other ds rs ts ms w)
       (tree_read ds i ss t ls v n (omega arith) (omega arith)) (body_read ds i rs ts ms w n (omega arith) (omega arith))
+
+-- ---- at an input as it is
+
+pub tree_complete : (depth : ℕ) (ss rest : List Spot) (t : Tree) (ls : List ℕ) (i : Input) (w : WrittenTree i.decls ss t ls)
+    → i.tokens ≡ ss ++ rest → is_mark m.Else (token_of rest) ≡ false → blocks t ≤ depth → dearest i.decls ss t ls w ≤ 64 → length i.lines + length ls ≤ 4096
+    → Gives (stmt (block depth) i) t rest (i.lines ++ ls) i
+tree_complete depth ss rest t ls i w e last deep dear few =
+    let g = tree_read i.decls i ss t ls w depth deep dear i.budget i.lines rest few last in
+    record { left = g.left; is = ap (λ us. stmt (block depth) (on us i.lines i.budget i)) e ∙ g.is }
+
+pub block_complete : (depth : ℕ) (ss rest : List Spot) (ts : List Tree) (ls : List ℕ) (i : Input) (w : WrittenBlock i.decls ss ts ls)
+    → i.tokens ≡ ss ++ rest → blocks_in (block_of ts) < depth → dearest_block i.decls ss ts ls w ≤ 64 → length i.lines + length ls ≤ 4096
+    → Gives (block depth i) ts rest (i.lines ++ ls) i
+block_complete depth ss rest ts ls i w e deep dear few =
+    let g = block_read i.decls i ss ts ls w depth deep dear i.budget i.lines rest few in
+    record { left = g.left; is = ap (λ us. block depth (on us i.lines i.budget i)) e ∙ g.is }
 
 pub body_complete : (depth : ℕ) (inside : Bool) (ss rest : List Spot) (ts : List Tree) (ls : List ℕ) (i : Input) (w : WrittenBody i.decls ss ts ls)
     → i.tokens ≡ ss ++ rest → closes inside (token_of rest) ≡ true → blocks_in (block_of ts) ≤ depth → dearest_body i.decls ss ts ls w ≤ 64 → length i.lines + length ls ≤ 4096
