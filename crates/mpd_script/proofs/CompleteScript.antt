@@ -1,21 +1,19 @@
 -- What is written as a script, within the limits, is read.
-use Rattle.std.proofs.Common.{◌≡◌, ℕ, zero, suc, ◌+◌, ◌<◌, ◌≤◌, pos, Bool, true, false, cond, ◌&&◌, nat_le, nat_lt, List, [], ◌∷◌, ◌++◌, length, length-append, append-nil, Option, Some, None, Result, Ok, Err, refl, ap, sym, ◌∙◌, arith}
+use Rattle.std.proofs.Common.{◌≡◌, ℕ, zero, suc, ◌+◌, ◌<◌, ◌≤◌, pos, Bool, true, false, cond, nat_le, nat_lt, List, [], ◌∷◌, ◌++◌, length, length-append, append-nil, Some, None, Ok, refl, ap, sym, ◌∙◌, arith}
 use Rattle.std.proofs.lemmas.Bool.Decides.{nat_tests}
 use Rattle.std.specs.List.{prefix_len}
-use Rattle.std.specs.Ordering.{int_eq}
 use denote.Enum.Bare.{true_same}
 use Rattle.mpd_model.specs.contracts.token.Mark.{the_type}
 use Rattle.mpd_model.specs.declared.place.DeclKind.TheVariants.{Variable}
-use Rattle.mpd_model.specs.declared.read_fault.ReadFault.{ReadFault}
 use Rattle.mpd_model.specs.declared.token.Mark.{Mark}
 use Rattle.mpd_model.specs.declared.token.Mark.TheVariants as m
 use Rattle.mpd_model.specs.declared.token.Token.{Token}
-use Rattle.mpd_model.specs.declared.token.Token.TheVariants.{Number, Name, Is, Bad, End}
+use Rattle.mpd_model.specs.declared.token.Token.TheVariants.{Number, Name, Is}
 use Rattle.mpd_model.specs.Declaration.{Declared, variables_in, handles_in}
 use Rattle.mpd_model.specs.Fits.{at, Gives, blocks_in, dearest_body, dearest_script}
-use Rattle.mpd_model.specs.Grammar.{version_by, version, rank_count, ranks_by, ranks, declaring, decl_by, decl, decls_from, decls, header, body, block, closes, max_text, is_text, read_of, reading}
+use Rattle.mpd_model.specs.Grammar.{version_by, version, rank_count, ranks_by, ranks, declaring, decl_by, decl, decls_from, decls, header, body, block, max_text, is_text, read_of, reading}
 use Rattle.mpd_model.specs.Grammar as grammar
-use Rattle.mpd_model.specs.Input.{Input, Outcome, Parser, and_then, start_of, token, token_of, spelling, place, next, expect, sees, is_mark, same_mark, after, fresh, add, fits, is_known, slot_in, fail, refuse, pure}
+use Rattle.mpd_model.specs.Input.{Input, and_then, start_of, token, token_of, spelling, place, next, expect, sees, is_mark, same_mark, after, fresh, add, fits, slot_in, refuse}
 use Rattle.mpd_model.specs.Program.{Program, IsLegal}
 use Rattle.mpd_model.specs.Tokens.{Spot, tokens}
 use Rattle.mpd_model.specs.Tree.{Tree, block_of}

@@ -1,5 +1,5 @@
 -- What is written as statements, within the limits, is read.
-use Rattle.std.proofs.Common.{◌≡◌, ◌≢◌, ℕ, zero, suc, ◌+◌, ◌-◌, ◌<◌, ◌≤◌, Bool, true, false, cond, List, [], ◌∷◌, ◌++◌, length, length-append, append-nil, nat_lt, Ok, refl, ap, sym, ◌∙◌, append_assoc, arith}
+use Rattle.std.proofs.Common.{◌≡◌, ℕ, zero, suc, ◌+◌, ◌-◌, ◌<◌, ◌≤◌, Bool, true, false, List, [], ◌∷◌, ◌++◌, length, length-append, append-nil, nat_lt, Ok, refl, ap, ◌∙◌, append_assoc, arith}
 use Rattle.std.proofs.lemmas.Bool.Decides.{nat_tests}
 use denote.Enum.Bare.{true_same}
 use Rattle.mpd_model.specs.contracts.token.Mark.{the_type}
@@ -7,11 +7,11 @@ use Rattle.mpd_model.specs.declared.place.Place.{Place}
 use Rattle.mpd_model.specs.declared.token.Mark.{Mark}
 use Rattle.mpd_model.specs.declared.token.Mark.TheVariants as m
 use Rattle.mpd_model.specs.declared.token.Token.{Token}
-use Rattle.mpd_model.specs.declared.token.Token.TheVariants.{Number, Name, Is, Bad, End}
+use Rattle.mpd_model.specs.declared.token.Token.TheVariants.{Is, End}
 use Rattle.mpd_model.specs.Declaration.{Declared}
-use Rattle.mpd_model.specs.Fits.{cost, Stops, at, on, Gives, blocks, blocks_in, dearest, dearest_block, dearest_body}
+use Rattle.mpd_model.specs.Fits.{cost, Stops, on, Gives, blocks, blocks_in, dearest, dearest_block, dearest_body}
 use Rattle.mpd_model.specs.Grammar.{expression, begun, closes, printing, sending, named_by, named, receiving, otherwise, choosing, stmt_by, stmt, stmts, body, block}
-use Rattle.mpd_model.specs.Input.{Input, Outcome, Parser, and_then, token, token_of, next, expect, sees, is_mark, same_mark, count, line_of, after}
+use Rattle.mpd_model.specs.Input.{Input, Outcome, Parser, and_then, token, token_of, next, expect, sees, is_mark, same_mark, count, after}
 use Rattle.mpd_model.specs.Term.{Term}
 use Rattle.mpd_model.specs.Tokens.{Spot}
 use Rattle.mpd_model.specs.Tree.{Tree, print, send, recv, branch, no_more, block_of}
@@ -364,5 +364,5 @@ pub body_complete : (depth : ℕ) (inside : Bool) (ss rest : List Spot) (ts : Li
 body_complete depth inside ss rest ts ls i w e h deep dear few =
     let turns : length ss < length (ss ++ rest) + 1 = omega (arith, length-append ss rest) in
     let g = body_gives (block depth) inside (ss ++ rest) rest ts i.lines (i.lines ++ ls) i.budget i
-        (body_read i.decls i ss ts ls w depth deep dear inside (length (ss ++ rest) + 1) [] i.budget i.lines rest few h turns) in
+    (body_read i.decls i ss ts ls w depth deep dear inside (length (ss ++ rest) + 1) [] i.budget i.lines rest few h turns) in
     record { left = g.left; is = ap (λ us. body (block depth) inside (on us i.lines i.budget i)) e ∙ g.is }
