@@ -18,6 +18,7 @@ pub mod Input
 pub mod Grammar
 pub mod ReaderRows
 pub mod Written
+pub mod Fits
 pub mod ReaderLaws
 pub mod Depth
 pub mod Ends

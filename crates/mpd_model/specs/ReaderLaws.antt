@@ -1,14 +1,17 @@
 -- What holds of the grammar's parsers, whatever they are given.
-use Rattle.std.specs.Prelude.{◌≡◌, ◌≢◌, ℕ, suc, ◌+◌, ◌<◌, Bool, List, length, Ok, Err}
-use Rattle.mpd_model.specs.Grammar.{expr, stmts, body, block, decls_from, reading}
+use Rattle.std.specs.Prelude.{◌≡◌, ◌≢◌, ℕ, suc, ◌+◌, ◌-◌, ◌<◌, ◌≤◌, Bool, true, false, List, ◌++◌, length, Ok, Err}
+use Rattle.std.specs.List.{prefix_len}
+use Rattle.mpd_model.specs.Fits.{cost, Stops, at, Gives, blocks, blocks_in, dearest, dearest_block, dearest_body, dearest_script}
+use Rattle.mpd_model.specs.Grammar.{expr, closes, stmt, stmts, body, block, decls_from, max_blocks, max_text, is_text, reading}
 use Rattle.mpd_model.specs.declared.read_fault.FaultCode.TheVariants.{TooDeep, Memory}
 use Rattle.mpd_model.specs.declared.read_fault.ReadFault.{ReadFault}
-use Rattle.mpd_model.specs.Input.{Input, Outcome}
-use Rattle.mpd_model.specs.Program.{Program}
+use Rattle.mpd_model.specs.declared.token.Mark.TheVariants.{Else}
+use Rattle.mpd_model.specs.Input.{Input, Outcome, token_of, is_mark, max_budget, max_statements}
+use Rattle.mpd_model.specs.Program.{Program, IsLegal}
 use Rattle.mpd_model.specs.Term.{Term}
-use Rattle.mpd_model.specs.Tokens.{tokens}
-use Rattle.mpd_model.specs.Tree.{Tree}
-use Rattle.mpd_model.specs.Written.{Takes, TakesBody, WrittenScript}
+use Rattle.mpd_model.specs.Tokens.{Spot, tokens}
+use Rattle.mpd_model.specs.Tree.{Tree, block_of}
+use Rattle.mpd_model.specs.Written.{Written, Takes, TakesBody, WrittenTree, WrittenBlock, WrittenBody, WrittenScript}
 
 -- What is read as an expression is written so.
 abbrev pub ExpressionsAreWritten : Type 0
@@ -55,3 +58,39 @@ abbrev pub TurnsAreEnough : Type 0
 TurnsAreEnough =
     ((depth : ℕ) (inside : Bool) (turns : ℕ) (found : List Tree) (i : Input) → length i.tokens < turns → stmts (block depth) inside turns found i ≡ stmts (block depth) inside (suc turns) found i)
     × ((turns : ℕ) (i : Input) → length i.tokens < turns → decls_from turns i ≡ decls_from (suc turns) i)
+
+-- What is written as an expression is read as that, where the budget is enough for its brackets and operators and no operator goes on behind it.
+abbrev pub WrittenExpressionsAreRead : Type 0
+WrittenExpressionsAreRead =
+    (depth level : ℕ) (ss rest : List Spot) (t : Term) (i : Input) → Written i.decls level ss t → i.tokens ≡ ss ++ rest → Stops level rest → cost ss ≤ i.budget → i.budget < depth
+    → expr depth level i ≡ Ok (t, at rest (i.budget - cost ss) i)
+
+-- What is written as a statement is read as that, where each expression is within the budget, no more blocks are open at once and no more statements begin than may. No `else` follows: it would go on with an `if`.
+abbrev pub WrittenTreesAreRead : Type 0
+WrittenTreesAreRead =
+    (depth : ℕ) (ss rest : List Spot) (t : Tree) (ls : List ℕ) (i : Input) (w : WrittenTree i.decls ss t ls) → i.tokens ≡ ss ++ rest → is_mark Else (token_of rest) ≡ false
+    → blocks t ≤ depth → dearest i.decls ss t ls w ≤ max_budget → length i.lines + length ls ≤ max_statements
+    → Gives (stmt (block depth) i) t rest (i.lines ++ ls) i
+
+-- The same of a block, whatever follows. It is open itself.
+abbrev pub WrittenBlocksAreRead : Type 0
+WrittenBlocksAreRead =
+    (depth : ℕ) (ss rest : List Spot) (ts : List Tree) (ls : List ℕ) (i : Input) (w : WrittenBlock i.decls ss ts ls) → i.tokens ≡ ss ++ rest
+    → blocks_in (block_of ts) < depth → dearest_block i.decls ss ts ls w ≤ max_budget → length i.lines + length ls ≤ max_statements
+    → Gives (block depth i) ts rest (i.lines ++ ls) i
+
+-- The same of statements, where what closes them follows.
+abbrev pub WrittenBodiesAreRead : Type 0
+WrittenBodiesAreRead =
+    (depth : ℕ) (inside : Bool) (ss rest : List Spot) (ts : List Tree) (ls : List ℕ) (i : Input) (w : WrittenBody i.decls ss ts ls) → i.tokens ≡ ss ++ rest → closes inside (token_of rest) ≡ true
+    → blocks_in (block_of ts) ≤ depth → dearest_body i.decls ss ts ls w ≤ max_budget → length i.lines + length ls ≤ max_statements
+    → Gives (body (block depth) inside i) ts rest (i.lines ++ ls) i
+
+abbrev pub WrittenStatementsAreRead : Type 0
+WrittenStatementsAreRead = WrittenTreesAreRead × WrittenBlocksAreRead × WrittenBodiesAreRead
+
+-- What is written as a script is read as that, where the text isn't too long and has no other bytes than a text may have, and the script keeps the limits.
+abbrev pub WrittenScriptsAreRead : Type 0
+WrittenScriptsAreRead =
+    (text : List ℕ) (p : Program) (w : WrittenScript (tokens text) p) → length text ≤ max_text → prefix_len is_text text ≡ length text → IsLegal p
+    → blocks_in (block_of p.body) ≤ max_blocks → dearest_script (tokens text) p w ≤ max_budget → reading text ≡ Ok p

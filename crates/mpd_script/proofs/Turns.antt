@@ -17,7 +17,7 @@ bind_same (Ok x) f g h = h x refl
 bind_same (Err e) f g h = refl
 
 -- a statement has a token
-some_token : (ds : List Declared) (ss : List Spot) (t : Tree) (ls : List ℕ) → WrittenTree ds ss t ls → 0 < length ss
+pub some_token : (ds : List Declared) (ss : List Spot) (t : Tree) (ls : List ℕ) → WrittenTree ds ss t ls → 0 < length ss
 some_token ds ss t ls (prints k end e v h1 h2 h3) = omega arith
 some_token ds ss t ls (sends k to tag end a b c v d g h1 h2 h3 h4 h5 h6 h7) = omega arith
 some_token ds ss t ls (receives k n from tag end a b v d g h1 h2 h3 h4 h5 h6 h7) = omega arith

@@ -41,3 +41,18 @@ pub fn budget_decides_depth_alone()
 pub fn blocks_decide_depth_alone()
     ensures { law.BlocksDecideDepthAlone }
 {}
+
+/// What is written as an expression is read as that, where its brackets and operators are within the budget and no operator goes on behind it.
+pub fn written_expressions_are_read()
+    ensures { law.WrittenExpressionsAreRead }
+{}
+
+/// What is written as statements, within the limits of expressions, blocks and their number, is read as those.
+pub fn written_statements_are_read()
+    ensures { law.WrittenStatementsAreRead }
+{}
+
+/// What is written as a script, within the limits, is read as that.
+pub fn written_scripts_are_read()
+    ensures { law.WrittenScriptsAreRead }
+{}

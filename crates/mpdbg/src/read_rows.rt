@@ -139,4 +139,7 @@ fn laws_cost_nothing(_rt: HostRuntime) {
     laws::turns_are_enough();
     laws::budget_decides_depth_alone();
     laws::blocks_decide_depth_alone();
+    laws::written_expressions_are_read();
+    laws::written_statements_are_read();
+    laws::written_scripts_are_read();
 }

@@ -1,0 +1,78 @@
+-- What the limits say of what is written.
+use Rattle.std.specs.Prelude.{◌≡◌, ℕ, suc, ◌+◌, ◌≤◌, max, List, [], ◌∷◌, Option, None, Some, Ok}
+use Rattle.mpd_model.specs.declared.expr.BinaryOp.{BinaryOp}
+use Rattle.mpd_model.specs.declared.token.Mark.TheVariants as m
+use Rattle.mpd_model.specs.declared.token.Token.{Token}
+use Rattle.mpd_model.specs.declared.token.Token.TheVariants.{Is}
+use Rattle.mpd_model.specs.Declaration.{Declared}
+use Rattle.mpd_model.specs.Grammar.{operator, operator_at}
+use Rattle.mpd_model.specs.Input.{Input, Outcome, token_of}
+use Rattle.mpd_model.specs.Program.{Program}
+use Rattle.mpd_model.specs.Tokens.{Spot}
+use Rattle.mpd_model.specs.Tree.{Tree, Block, print, send, recv, branch, no_more, then_more}
+use Rattle.mpd_model.specs.Written.{WrittenTree, prints, sends, receives, chooses, chooses_else, WrittenBlock, braces, WrittenBody, ended, follows, WrittenScript, script}
+
+-- ---- expressions
+
+abbrev pub counted : Option (BinaryOp × ℕ) → ℕ
+counted None = 0
+counted (Some p) = 1
+
+-- a bracket that opens and an operator each take one of the budget
+abbrev pub price : Token → ℕ
+price (Is m.RoundOpen) = 1
+price t = counted (operator t)
+
+abbrev pub cost : List Spot → ℕ
+cost [] = 0
+cost (s ∷ ss) = price s.token + cost ss
+
+-- what follows doesn't go on with an operator of a level up to this one
+abbrev pub Stops : ℕ → List Spot → Type 0
+Stops k rest = (j : ℕ) → j ≤ k → operator_at j (token_of rest) ≡ None
+
+-- the input with other tokens next and another budget
+abbrev pub at : List Spot → ℕ → Input → Input
+at ss b i = record i { tokens = ss; budget = b }
+
+-- ---- statements
+
+-- the input with other tokens next, other statements begun and another budget
+abbrev pub on : List Spot → List ℕ → ℕ → Input → Input
+on ss ls b i = record i { tokens = ss; lines = ls; budget = b }
+
+-- what was read, with the tokens behind it and the lines of all statements that began; some budget is left of the last expression
+pub record Gives {A : Type 0} (o : Outcome A) (a : A) (rest : List Spot) (ls : List ℕ) (i : Input) : Type 0 where
+  pub left : ℕ
+  pub is : o ≡ Ok (a, on rest ls left i)
+
+-- how many blocks a statement has open at once
+abbrev mutual
+  pub blocks : Tree → ℕ
+  blocks (print e) = 0
+  blocks (send value to tag) = 0
+  blocks (recv into source tag) = 0
+  blocks (branch c a b) = suc (max (blocks_in a) (blocks_in b))
+
+  pub blocks_in : Block → ℕ
+  blocks_in no_more = 0
+  blocks_in (then_more t b) = max (blocks t) (blocks_in b)
+
+-- the cost of the dearest expression among what is written
+abbrev mutual
+  pub dearest : (ds : List Declared) (ss : List Spot) (t : Tree) (ls : List ℕ) → WrittenTree ds ss t ls → ℕ
+  dearest ds _ _ _ (prints k end e t h1 w h2) = cost e
+  dearest ds _ _ _ (sends k to tag end a b c value dest mark h1 v h2 d h3 g h4) = max (cost a) (max (cost b) (cost c))
+  dearest ds _ _ _ (receives k n s tag end a b into source mark h1 v h2 d h3 g h4) = max (cost a) (cost b)
+  dearest ds _ _ _ (chooses k e a t x ls h1 w f) = max (cost e) (dearest_block ds a x ls f)
+  dearest ds _ _ _ (chooses_else k o e a b t x y ls ms h1 w f h2 g) = max (cost e) (max (dearest_block ds a x ls f) (dearest_block ds b y ms g))
+
+  pub dearest_block : (ds : List Declared) (ss : List Spot) (ts : List Tree) (ls : List ℕ) → WrittenBlock ds ss ts ls → ℕ
+  dearest_block ds _ _ _ (braces a b ss ts ls h1 w h2) = dearest_body ds ss ts ls w
+
+  pub dearest_body : (ds : List Declared) (ss : List Spot) (ts : List Tree) (ls : List ℕ) → WrittenBody ds ss ts ls → ℕ
+  dearest_body ds _ _ _ ended = 0
+  dearest_body ds _ _ _ (follows ss rs t ts ls ms v w) = max (dearest ds ss t ls v) (dearest_body ds rs ts ms w)
+
+abbrev pub dearest_script : (ss : List Spot) (p : Program) → WrittenScript ss p → ℕ
+dearest_script _ _ (script mpd version a ranks count b ss rs p h1 h2 h3 h4 h5 h6 ds w) = dearest_body p.decls rs p.body p.lines w
