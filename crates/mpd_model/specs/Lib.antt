@@ -11,12 +11,10 @@ pub mod World
 pub mod Next
 pub mod Outcomes
 pub mod Trail
-pub mod Rows
 pub mod Faults
 pub mod Tokens
 pub mod Input
 pub mod Grammar
-pub mod ReaderRows
 pub mod Written
 pub mod Fits
 pub mod ReaderLaws
@@ -24,9 +22,6 @@ pub mod Depth
 pub mod Ends
 pub mod Limits
 pub mod Lines
-pub mod LineRows
 pub mod Texts
 pub mod Words
 pub mod Answers
-pub mod TextRows
-pub mod MoreRows

@@ -1,12 +1,11 @@
 -- What a step makes of a world, and where no step is.
-use Rattle.std.specs.Prelude.{ℕ, ◌+◌, ◌-◌, ℤ, pos, negsuc, Bool, true, false, ◌&&◌, ◌==◌, nat_lt, if◌then◌else◌, List, [], ◌∷◌, ◌++◌, length, map, slice_get, slice_set, Option, Some, None, option_and_then, is_some, Result, Ok, Err}
+use Rattle.std.specs.Prelude.{ℕ, ◌+◌, ℤ, pos, negsuc, Bool, true, false, ◌&&◌, ◌==◌, nat_lt, if◌then◌else◌, List, [], ◌∷◌, ◌++◌, length, map, slice_get, slice_set, Option, Some, None, option_and_then, is_some, Result, Ok, Err}
 use Rattle.std.specs.Option.{option_map}
 use Rattle.std.specs.List.{filter, flat_map}
 use Rattle.mpd_model.specs.declared.step.CallId.{CallId}
 use Rattle.mpd_model.specs.declared.step.Step.{Step}
 use Rattle.mpd_model.specs.declared.step.Step.TheVariants.{Local, Match, Wake, Release}
 use Rattle.mpd_model.specs.declared.place.Place.{Place}
-use Rattle.mpd_model.specs.declared.call.Call.{Call}
 use Rattle.mpd_model.specs.declared.call.CallKind.{CallKind}
 use Rattle.mpd_model.specs.declared.call.CallKind.TheVariants.{Send, Recv}
 use Rattle.mpd_model.specs.declared.call.Trap.{Trap}

@@ -3,9 +3,9 @@ use Rattle.std.specs.Prelude.{◌≡◌, ℕ, List, [], ◌∷◌, cond, ◌==�
 use Rattle.std.proofs.Common.{ap, sym, ◌∙◌}
 use Rattle.std.specs.Coded.{Coded}
 use base.Stored.{Gv, gnil, gnum, gcons}
-use Rattle.mpd_model.specs.Term.{Term, own_rank}
+use Rattle.mpd_model.specs.Term.{own_rank}
 use Rattle.mpd_model.specs.TermCode.{front_of, back_of, number_in, place_code, place_in, term_code, term_in, term_in-term_code}
-use Rattle.mpd_model.specs.Tree.{Tree, print, send, recv, branch, Block, no_more, then_more, block_of, trees}
+use Rattle.mpd_model.specs.Tree.{Tree, print, send, recv, branch, Block, no_more, then_more}
 
 abbrev mutual
   pub tree_code : Tree → Gv

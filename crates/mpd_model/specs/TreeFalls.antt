@@ -1,5 +1,5 @@
 -- A statement has more statements than each one inside it.
-use Rattle.std.specs.Prelude.{ℕ, ◌+◌, ◌≤◌, max, List, [], ◌∷◌}
+use Rattle.std.specs.Prelude.{◌+◌, ◌≤◌, max, List, [], ◌∷◌}
 use Rattle.std.proofs.Common.{arith}
 use denote.Param.Weighed.{most}
 use Rattle.mpd_model.specs.Tree.{Tree, block_of, statements, statements_in}

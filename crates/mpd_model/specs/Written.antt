@@ -1,5 +1,5 @@
 -- The grammar as relations: which tokens write what, whatever limits there are and in whatever order they are read.
-use Rattle.std.specs.Prelude.{◌≡◌, ℕ, suc, ◌≤◌, pos, ℤ, List, [], ◌∷◌, ◌++◌, length, Option, Some, None, if◌then◌else◌, ◌==◌, Ok}
+use Rattle.std.specs.Prelude.{◌≡◌, ℕ, suc, pos, ℤ, List, [], ◌∷◌, ◌++◌, Some, None, if◌then◌else◌, ◌==◌, Ok}
 use Rattle.mpd_model.specs.declared.expr.BinaryOp.{BinaryOp}
 use Rattle.mpd_model.specs.declared.place.DeclKind.TheVariants.{Variable}
 use Rattle.mpd_model.specs.declared.place.Place.{Place}

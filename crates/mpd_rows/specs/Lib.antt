@@ -1,0 +1,5 @@
+pub mod Rows
+pub mod MoreRows
+pub mod ReaderRows
+pub mod LineRows
+pub mod TextRows
