@@ -4,13 +4,14 @@ use Rattle.mpd_model.specs.declared.expr.BinaryOp.{BinaryOp}
 use Rattle.mpd_model.specs.declared.token.Mark.TheVariants as m
 use Rattle.mpd_model.specs.declared.token.Token.{Token}
 use Rattle.mpd_model.specs.declared.token.Token.TheVariants.{Is}
+use Rattle.mpd_model.specs.Term.{Target}
 use Rattle.mpd_model.specs.Declaration.{Declared}
 use Rattle.mpd_model.specs.Grammar.{operator, operator_at}
 use Rattle.mpd_model.specs.Input.{Input, Outcome, token_of}
 use Rattle.mpd_model.specs.Program.{Program}
 use Rattle.mpd_model.specs.Tokens.{Spot}
-use Rattle.mpd_model.specs.Tree.{Tree, Block, print, send, recv, branch, no_more, then_more}
-use Rattle.mpd_model.specs.Written.{WrittenTree, prints, sends, receives, chooses, chooses_else, WrittenBlock, braces, WrittenBody, ended, follows, WrittenScript, script}
+use Rattle.mpd_model.specs.Tree.{Tree, Block, print, send, recv, branch, assign, check, repeat, no_more, then_more}
+use Rattle.mpd_model.specs.Written.{WrittenTarget, whole, part, WrittenTree, prints, sends, receives, assigns, asserts, repeats, chooses, chooses_else, WrittenBlock, braces, WrittenBody, ended, follows, WrittenScript, script}
 
 -- ---- expressions
 
@@ -21,6 +22,8 @@ counted (Some p) = 1
 -- a bracket that opens and an operator each take one of the budget
 abbrev pub price : Token → ℕ
 price (Is m.RoundOpen) = 1
+price (Is m.SquareOpen) = 1
+price (Is m.Not) = 1
 price t = counted (operator t)
 
 abbrev pub cost : List Spot → ℕ
@@ -53,17 +56,28 @@ abbrev mutual
   blocks (send value to tag) = 0
   blocks (recv into source tag) = 0
   blocks (branch c a b) = suc (max (blocks_in a) (blocks_in b))
+  blocks (assign into e) = 0
+  blocks (check e) = 0
+  blocks (repeat c a) = suc (blocks_in a)
 
   pub blocks_in : Block → ℕ
   blocks_in no_more = 0
   blocks_in (then_more t b) = max (blocks t) (blocks_in b)
+
+-- the cost of a target's index, which is an expression of its own
+abbrev pub index_cost : (ds : List Declared) (ss : List Spot) (t : Target) → WrittenTarget ds ss t → ℕ
+index_cost ds _ _ (whole s p h) = 0
+index_cost ds _ _ (part s a b ss p t h h1 w h2) = cost ss
 
 -- the cost of the dearest expression among what is written
 abbrev mutual
   pub dearest : (ds : List Declared) (ss : List Spot) (t : Tree) (ls : List ℕ) → WrittenTree ds ss t ls → ℕ
   dearest ds _ _ _ (prints k end e t h1 w h2) = cost e
   dearest ds _ _ _ (sends k to tag end a b c value dest mark h1 v h2 d h3 g h4) = max (cost a) (max (cost b) (cost c))
-  dearest ds _ _ _ (receives k n s tag end a b into source mark h1 v h2 d h3 g h4) = max (cost a) (cost b)
+  dearest ds _ _ _ (receives k s tag end n a b into source mark h1 v h2 d h3 g h4) = max (index_cost ds n into v) (max (cost a) (cost b))
+  dearest ds _ _ _ (assigns equal end n e into t v h1 w h2) = max (index_cost ds n into v) (cost e)
+  dearest ds _ _ _ (asserts k end e t h1 w h2) = cost e
+  dearest ds _ _ _ (repeats k e a t x ls h1 w f) = max (cost e) (dearest_block ds a x ls f)
   dearest ds _ _ _ (chooses k e a t x ls h1 w f) = max (cost e) (dearest_block ds a x ls f)
   dearest ds _ _ _ (chooses_else k o e a b t x y ls ms h1 w f h2 g) = max (cost e) (max (dearest_block ds a x ls f) (dearest_block ds b y ms g))
 

@@ -4,6 +4,8 @@ use Rattle.std.specs.Ordering.{int_eq}
 use Rattle.std.specs.List.{prefix_len}
 use Rattle.mpd_model.specs.declared.expr.BinaryOp.{BinaryOp}
 use Rattle.mpd_model.specs.declared.expr.BinaryOp.TheVariants as o
+use Rattle.mpd_model.specs.declared.expr.UnaryOp.{UnaryOp}
+use Rattle.mpd_model.specs.declared.expr.UnaryOp.TheVariants as u
 use Rattle.mpd_model.specs.declared.place.Place.{Place}
 use Rattle.mpd_model.specs.declared.place.DeclKind.{DeclKind}
 use Rattle.mpd_model.specs.declared.place.DeclKind.TheVariants.{Variable}
@@ -13,19 +15,37 @@ use Rattle.mpd_model.specs.declared.slot.Slot.{Slot}
 use Rattle.mpd_model.specs.declared.token.Mark.TheVariants as m
 use Rattle.mpd_model.specs.declared.token.Token.{Token}
 use Rattle.mpd_model.specs.declared.token.Token.TheVariants.{Number, Name, Is, End}
+use Rattle.mpd_model.specs.Declaration.{cells_of}
 use Rattle.mpd_model.specs.Faults.{fault}
 use Rattle.mpd_model.specs.Input.{Parser, Outcome, Input, start_of, ◌>>=◌, ◌>>◌, pure, fail, refuse, peek, advance, eat, expect, begin, spend, count, sees, seek, fresh, add, spelling, place}
 use Rattle.mpd_model.specs.Program.{Program}
-use Rattle.mpd_model.specs.Term.{Term, lit, own_rank, size, cell, op2}
-use Rattle.mpd_model.specs.Tree.{Tree, print, send, recv, branch, block_of}
+use Rattle.mpd_model.specs.Term.{Term, lit, own_rank, size, cell, element, op1, op2, Target}
+use Rattle.mpd_model.specs.Tree.{Tree, print, send, recv, branch, assign, check, repeat, block_of}
 
 -- ---- expressions
 
--- each operator, and how loosely it binds: level 3 is the comparisons
+-- each operator, and how loosely it binds: 5 is `||`, 4 `&&`, 3 the comparisons, 2 the sums, 1 the products
 abbrev pub operator : Token → Option (BinaryOp × ℕ)
+operator (Is m.Or) = Some (o.Or, 5)
+operator (Is m.And) = Some (o.And, 4)
 operator (Is m.Equal) = Some (o.Equal, 3)
 operator (Is m.NotEqual) = Some (o.NotEqual, 3)
+operator (Is m.Less) = Some (o.Less, 3)
+operator (Is m.AtMost) = Some (o.AtMost, 3)
+operator (Is m.Greater) = Some (o.Greater, 3)
+operator (Is m.AtLeast) = Some (o.AtLeast, 3)
+operator (Is m.Plus) = Some (o.Add, 2)
+operator (Is m.Minus) = Some (o.Subtract, 2)
+operator (Is m.Times) = Some (o.Multiply, 1)
+operator (Is m.Divide) = Some (o.Divide, 1)
+operator (Is m.Remainder) = Some (o.Remainder, 1)
 operator _ = None
+
+-- the operators that stand before an operand
+abbrev pub sign : Token → Option UnaryOp
+sign (Is m.Minus) = Some u.Negate
+sign (Is m.Not) = Some u.Not
+sign _ = None
 
 abbrev pub at_level : ℕ → Option (BinaryOp × ℕ) → Option BinaryOp
 at_level k None = None
@@ -51,21 +71,28 @@ chain operand k zero left = pure left
 chain operand k (suc n) left = peek >>= λ t. joined (chain operand k n) operand left (operator_at k t)
 
 abbrev pub place_of_slot : Slot → Place
-place_of_slot s = record { declaration = s.declaration; first = s.first }
+place_of_slot s = record { declaration = s.declaration; first = s.first; cells = cells_of s.size }
 
--- the name of a variable, and its place
-unfoldable pub variable : Parser Place
-variable = do
-  s ← seek Variable
-  advance
-  pure (place_of_slot s)
+-- the bracket of a place in an expression
+unfoldable pub bracket : Parser (Unit {0})
+bracket = λ i. if sees m.SquareOpen i then spend i else refuse i
 
 -- the parser of what stands inside, by its level
 module _ (inner : ℕ → Parser Term) where
+  -- a place: an array has its index behind it
+  abbrev pub indexed : Place → Option ℕ → Parser Term
+  indexed p None = pure (cell p)
+  indexed p (Some n) = do
+    bracket
+    e ← inner 5
+    expect m.SquareClose
+    pure (element p e)
+
   unfoldable pub place_inside : Parser Term
   place_inside = do
-    p ← variable
-    pure (cell p)
+    s ← seek Variable
+    advance
+    indexed (place_of_slot s) s.size
 
   unfoldable pub rounds : Parser Term
   rounds = do
@@ -74,12 +101,20 @@ module _ (inner : ℕ → Parser Term) where
     expect m.RoundClose
     pure e
 
+  unfoldable pub signed : UnaryOp → Parser Term
+  signed op = do
+    spend
+    e ← inner 0
+    pure (op1 op e)
+
   abbrev pub atom_by : Token → Parser Term
   atom_by (Number n) = advance >> pure (lit n)
   atom_by (Is m.Rank) = advance >> pure own_rank
   atom_by (Is m.Size) = advance >> pure size
   atom_by Name = place_inside
   atom_by (Is m.RoundOpen) = rounds
+  atom_by (Is m.Minus) = signed u.Negate
+  atom_by (Is m.Not) = signed u.Not
   atom_by _ = refuse
 
   unfoldable pub atom : Parser Term
@@ -128,13 +163,44 @@ sending = do
   expect m.Semicolon
   pure (send value to tag)
 
-abbrev pub named_by : Token → Parser Place
-named_by Name = variable
+-- a place that stands in no expression: its bracket takes no budget, and its index is an expression of its own
+abbrev pub outside : Place → Option ℕ → Parser Target
+outside p None = pure (record { place = p; index = None })
+outside p (Some n) = do
+  expect m.SquareOpen
+  e ← expression
+  expect m.SquareClose
+  pure (record { place = p; index = Some e })
+
+-- the variable that comes next, and what it stands for
+unfoldable pub target : Parser Target
+target = do
+  s ← seek Variable
+  advance
+  outside (place_of_slot s) s.size
+
+abbrev pub named_by : Token → Parser Target
+named_by Name = target
 named_by _ = refuse
 
--- the variable that a receive writes
-unfoldable pub named : Parser Place
+-- the place that a receive writes
+unfoldable pub named : Parser Target
 named = peek >>= named_by
+
+-- An assignment begins with the name of its place, which is sought before the statement is counted.
+unfoldable pub assigning : Slot → Parser Tree
+assigning s = do
+  into ← outside (place_of_slot s) s.size
+  expect m.Assign
+  e ← expression
+  expect m.Semicolon
+  pure (assign into e)
+
+unfoldable pub asserting : Parser Tree
+asserting = do
+  e ← expression
+  expect m.Semicolon
+  pure (check e)
 
 unfoldable pub receiving : Parser Tree
 receiving = do
@@ -160,9 +226,18 @@ module _ (block : Parser (List Tree)) where
     second ← otherwise
     pure (branch test (block_of first) (block_of second))
 
+  unfoldable pub repeating : Parser Tree
+  repeating = do
+    test ← expression
+    inside ← block
+    pure (repeat test (block_of inside))
+
   abbrev pub stmt_by : Token → Parser Tree
+  stmt_by Name = seek Variable >>= λ s. begun >> assigning s
   stmt_by (Is m.If) = begun >> choosing
+  stmt_by (Is m.While) = begun >> repeating
   stmt_by (Is m.Print) = begun >> printing
+  stmt_by (Is m.Assert) = begun >> asserting
   stmt_by (Is m.Send) = begun >> sending
   stmt_by (Is m.Recv) = begun >> receiving
   stmt_by (Is m.Waitany) = count >> fail NotInVersion
@@ -215,17 +290,38 @@ ranks_by _ = refuse
 unfoldable pub ranks : Parser ℕ
 ranks = peek >>= ranks_by
 
--- A name without a size is counted once it is clear that no size follows.
-abbrev pub unsized_at : DeclKind → List ℕ → ℕ → Parser (Unit {0})
-unsized_at kind name at = λ i. (do
-  (if sees m.SquareOpen i then refuse else add kind name None at)
+abbrev pub natural : ℤ → Option ℕ
+natural (pos n) = Some n
+natural (negsuc n) = None
+
+abbrev pub sized_at : DeclKind → List ℕ → Option ℕ → Parser (Unit {0})
+sized_at kind name None = refuse
+sized_at kind name (Some n) = λ i. (do
+  add kind name (Some n) (place i)
+  advance
+  expect m.SquareClose
   expect m.Semicolon) i
+
+abbrev pub size_by : DeclKind → List ℕ → Token → Parser (Unit {0})
+size_by kind name (Number n) = sized_at kind name (natural n)
+size_by kind name _ = refuse
+
+-- a size, and what is behind it
+unfoldable pub sized : DeclKind → List ℕ → Parser (Unit {0})
+sized kind name = peek >>= size_by kind name
+
+-- A name without a size is counted once it is clear that no size follows, at the place of the name.
+unfoldable pub single : DeclKind → List ℕ → ℕ → Parser (Unit {0})
+single kind name at = do
+  add kind name None at
+  expect m.Semicolon
 
 unfoldable pub declaring : DeclKind → Parser (Unit {0})
 declaring kind = λ i. (do
   fresh
   advance
-  unsized_at kind (spelling i) (place i)) i
+  is_array ← eat m.SquareOpen
+  if is_array then sized kind (spelling i) else single kind (spelling i) (place i)) i
 
 abbrev pub decl_by : DeclKind → Token → Parser (Unit {0})
 decl_by kind Name = declaring kind

@@ -5,16 +5,15 @@ use Rattle.std.specs.List.{filter, flat_map}
 use Rattle.mpd_model.specs.declared.step.CallId.{CallId}
 use Rattle.mpd_model.specs.declared.step.Step.{Step}
 use Rattle.mpd_model.specs.declared.step.Step.TheVariants.{Local, Match, Wake, Release}
-use Rattle.mpd_model.specs.declared.place.Place.{Place}
 use Rattle.mpd_model.specs.declared.call.CallKind.{CallKind}
 use Rattle.mpd_model.specs.declared.call.CallKind.TheVariants.{Send, Recv}
 use Rattle.mpd_model.specs.declared.call.Trap.{Trap}
-use Rattle.mpd_model.specs.declared.call.Trap.TheVariants.{BadRank, BadTag}
+use Rattle.mpd_model.specs.declared.call.Trap.TheVariants.{BadRank, BadTag, Assertion}
 use Rattle.mpd_model.specs.declared.call.Activity.{Activity}
 use Rattle.mpd_model.specs.declared.call.Activity.TheVariants.{Running, Blocked, Trapped}
 use Rattle.mpd_model.specs.declared.call.MatchSet.TheVariants.{Pair, Woke}
-use Rattle.mpd_model.specs.Term.{Term, Value, value_of}
-use Rattle.mpd_model.specs.Tree.{Tree, print, send, recv, branch, Block, trees, statements_in, numbered}
+use Rattle.mpd_model.specs.Term.{Term, Target, Value, and_then, is_zero, checked, value_of, target_cell}
+use Rattle.mpd_model.specs.Tree.{Tree, print, send, recv, branch, assign, check, repeat, Block, trees, statements_in, numbered}
 use Rattle.mpd_model.specs.declared.call.Message.{Message}
 use Rattle.mpd_model.specs.World.{RankWorld, World, call_id, kind_at, rank_numbers, call_numbers, eligible, buffer, complete, last_call}
 
@@ -23,19 +22,6 @@ use Rattle.mpd_model.specs.World.{RankWorld, World, call_id, kind_at, rank_numbe
 -- A trap changes what the rank is doing, and nothing else.
 abbrev pub trapped : RankWorld → Trap → RankWorld
 trapped r t = record r { activity = Trapped t }
-
--- a number below the bound
-abbrev pub within : ℤ → ℕ → Trap → Result ℕ Trap
-within (pos k) n t = if nat_lt k n then Ok k else Err t
-within (negsuc k) n t = Err t
-
-abbrev pub checked : Value → ℕ → Trap → Result ℕ Trap
-checked (Ok z) n t = within z n t
-checked (Err e) n t = Err e
-
-abbrev pub and_then : {A B : Type 0} → Result A Trap → (A → Result B Trap) → Result B Trap
-and_then (Ok a) f = f a
-and_then (Err t) f = Err t
 
 abbrev pub max_tags : ℕ
 max_tags = 32768
@@ -47,11 +33,16 @@ send_kind value to tag vars p n =
     and_then (checked (value_of to vars p n) n BadRank) (λ q.
     and_then (checked (value_of tag vars p n) max_tags BadTag) (λ t. Ok (Send q t v))))
 
--- what a receive issues: the source comes first, then the tag
-abbrev pub recv_kind : Place → Term → Term → List ℤ → ℕ → ℕ → Result CallKind Trap
+-- what a receive issues: the index of its target comes first, then the source, then the tag
+abbrev pub recv_kind : Target → Term → Term → List ℤ → ℕ → ℕ → Result CallKind Trap
 recv_kind into from tag vars p n =
+    and_then (target_cell into vars p n) (λ c.
     and_then (checked (value_of from vars p n) n BadRank) (λ q.
-    and_then (checked (value_of tag vars p n) max_tags BadTag) (λ t. Ok (Recv q t into.first)))
+    and_then (checked (value_of tag vars p n) max_tags BadTag) (λ t. Ok (Recv q t c))))
+
+-- the cell that an assignment writes, and its new value: the index of its target comes first, then the expression
+abbrev pub written : Target → Term → List ℤ → ℕ → ℕ → Result (ℕ × ℤ) Trap
+written into e vars p n = and_then (target_cell into vars p n) (λ c. and_then (value_of e vars p n) (λ v. Ok (c, v)))
 
 abbrev pub printed : RankWorld → List (ℕ × Tree) → Value → RankWorld
 printed r ts (Ok v) = record r { rest = ts; out = r.out ++ v ∷ [] }
@@ -61,10 +52,13 @@ abbrev pub issued : RankWorld → List (ℕ × Tree) → ℕ → Result CallKind
 issued r ts number (Ok kind) = record r { rest = ts; calls = r.calls ++ record { statement = number; kind = kind } ∷ []; activity = Blocked }
 issued r ts number (Err t) = trapped r t
 
--- zero is false, and all else is true
-abbrev pub is_zero : ℤ → Bool
-is_zero (pos k) = k == 0
-is_zero (negsuc k) = false
+abbrev pub assigned : RankWorld → List (ℕ × Tree) → Result (ℕ × ℤ) Trap → RankWorld
+assigned r ts (Ok w) = record r { rest = ts; vars = slice_set r.vars w.0 w.1 }
+assigned r ts (Err t) = trapped r t
+
+abbrev pub asserted : RankWorld → List (ℕ × Tree) → Value → RankWorld
+asserted r ts (Ok v) = if is_zero v then trapped r Assertion else record r { rest = ts }
+asserted r ts (Err t) = trapped r t
 
 -- the block that is chosen, its statements numbered behind the `if`
 abbrev pub taken : ℕ → ℤ → Block → Block → List (ℕ × Tree)
@@ -74,12 +68,20 @@ abbrev pub chosen : RankWorld → List (ℕ × Tree) → ℕ → Value → Block
 chosen r ts number (Ok v) first second = record r { rest = taken number v first second ++ ts }
 chosen r ts number (Err t) first second = trapped r t
 
+-- A `while` whose condition holds puts its body before itself.
+abbrev pub repeated : RankWorld → List (ℕ × Tree) → ℕ → Value → Term → Block → RankWorld
+repeated r ts number (Ok v) c body = record r { rest = if is_zero v then ts else numbered (number + 1) (trees body) ++ (number, repeat c body) ∷ ts }
+repeated r ts number (Err t) c body = trapped r t
+
 -- what a statement makes of rank p of n, given its number and what is left behind it
 abbrev pub ran : ℕ → ℕ → RankWorld → ℕ → Tree → List (ℕ × Tree) → RankWorld
 ran p n r number (print e) ts = printed r ts (value_of e r.vars p n)
 ran p n r number (send value to tag) ts = issued r ts number (send_kind value to tag r.vars p n)
 ran p n r number (recv into from tag) ts = issued r ts number (recv_kind into from tag r.vars p n)
 ran p n r number (branch c first second) ts = chosen r ts number (value_of c r.vars p n) first second
+ran p n r number (assign into e) ts = assigned r ts (written into e r.vars p n)
+ran p n r number (check e) ts = asserted r ts (value_of e r.vars p n)
+ran p n r number (repeat c body) ts = repeated r ts number (value_of c r.vars p n) c body
 
 abbrev pub local_of : ℕ → ℕ → RankWorld → Activity → List (ℕ × Tree) → Option RankWorld
 local_of p n r Running [] = None

@@ -1,16 +1,22 @@
 -- An expression and its value.
-use Rattle.std.specs.Prelude.{ℕ, ◌+◌, ℤ, pos, Bool, List, slice_index_or, if◌then◌else◌, not, Result, Ok, Err}
+use Rattle.std.specs.Prelude.{ℕ, ◌+◌, ℤ, pos, negsuc, ◌+ℤ◌, ◌-ℤ◌, ◌*ℤ◌, neg_ℤ, int_lt, int_le, int_div, int_rem, Bool, false, ◌&&◌, ◌||◌, ◌==◌, nat_lt, List, slice_index_or, if◌then◌else◌, not, Option, Some, None, Result, Ok, Err}
 use Rattle.std.specs.Ordering.{int_eq}
 use Rattle.mpd_model.specs.declared.expr.BinaryOp.{BinaryOp}
-use Rattle.mpd_model.specs.declared.expr.BinaryOp.TheVariants.{Equal, NotEqual}
+use Rattle.mpd_model.specs.declared.expr.BinaryOp.TheVariants.{Or, And, Equal, NotEqual, Less, AtMost, Greater, AtLeast, Add, Subtract, Multiply, Divide, Remainder}
+use Rattle.mpd_model.specs.declared.expr.UnaryOp.{UnaryOp}
+use Rattle.mpd_model.specs.declared.expr.UnaryOp.TheVariants.{Negate, Not}
 use Rattle.mpd_model.specs.declared.place.Place.{Place}
 use Rattle.mpd_model.specs.declared.call.Trap.{Trap}
+use Rattle.mpd_model.specs.declared.call.Trap.TheVariants.{Overflow, ZeroDivisor, BadIndex}
 
 pub data Term : Type 0 where
   lit : ℤ → Term
   own_rank : Term
   size : Term
+  -- a variable that is no array, and an array at an index
   cell : Place → Term
+  element : Place → Term → Term
+  op1 : UnaryOp → Term → Term
   op2 : BinaryOp → Term → Term → Term
 
 abbrev pub nodes : Term → ℕ
@@ -18,7 +24,14 @@ nodes (lit z) = 1
 nodes own_rank = 1
 nodes size = 1
 nodes (cell p) = 1
+nodes (element p a) = nodes a + 1
+nodes (op1 op a) = nodes a + 1
 nodes (op2 op a b) = nodes a + nodes b + 1
+
+-- a place that a statement writes: an array has an index
+pub record Target : Type 0 where
+  pub place : Place
+  pub index : Option Term
 
 -- what an evaluation gives: a number, or the trap that ended it
 abbrev pub Value : Type 0
@@ -28,18 +41,87 @@ abbrev pub then_value : Value → (ℤ → Value) → Value
 then_value (Ok z) f = f z
 then_value (Err t) f = Err t
 
--- true is 1 and false is 0
+abbrev pub and_then : {A B : Type 0} → Result A Trap → (A → Result B Trap) → Result B Trap
+and_then (Ok a) f = f a
+and_then (Err t) f = Err t
+
+-- true is 1 and false is 0; zero is false, and all else is true
 abbrev pub truth : Bool → ℤ
 truth b = if b then pos 1 else pos 0
 
+abbrev pub is_zero : ℤ → Bool
+is_zero (pos k) = k == 0
+is_zero (negsuc k) = false
+
+-- ---- arithmetic on 64 bits with a sign
+
+abbrev pub is_whole : ℤ → Bool
+is_whole (pos n) = nat_lt n 9223372036854775808
+is_whole (negsuc n) = nat_lt n 9223372036854775808
+
+abbrev pub bounded : ℤ → Value
+bounded z = if is_whole z then Ok z else Err Overflow
+
+-- A quotient is rounded toward zero, and a remainder has the sign of the dividend. Either is refused where the quotient is out of range.
+abbrev pub divided : ℤ → ℤ → ℤ → Value
+divided x y z = if is_zero y then Err ZeroDivisor else (if is_whole (int_div x y) then Ok z else Err Overflow)
+
 abbrev pub combined : BinaryOp → ℤ → ℤ → Value
+combined Or x y = Ok (truth (not (is_zero x) || not (is_zero y)))
+combined And x y = Ok (truth (not (is_zero x) && not (is_zero y)))
 combined Equal x y = Ok (truth (int_eq x y))
 combined NotEqual x y = Ok (truth (not (int_eq x y)))
+combined Less x y = Ok (truth (int_lt x y))
+combined AtMost x y = Ok (truth (int_le x y))
+combined Greater x y = Ok (truth (int_lt y x))
+combined AtLeast x y = Ok (truth (int_le y x))
+combined Add x y = bounded (x +ℤ y)
+combined Subtract x y = bounded (x -ℤ y)
+combined Multiply x y = bounded (x *ℤ y)
+combined Divide x y = divided x y (int_div x y)
+combined Remainder x y = divided x y (int_rem x y)
 
--- the value of an expression on rank p of n, given the variables: its parts are evaluated from left to right
+abbrev pub altered : UnaryOp → ℤ → Value
+altered Negate x = bounded (neg_ℤ x)
+altered Not x = Ok (truth (is_zero x))
+
+-- what the left side of `||` or `&&` decides alone: the right side is then not evaluated
+abbrev pub decided : BinaryOp → ℤ → Option ℤ
+decided Or x = if is_zero x then None else Some (pos 1)
+decided And x = if is_zero x then Some (pos 0) else None
+decided _ x = None
+
+abbrev pub unless_decided : Option ℤ → Value → Value
+unless_decided (Some z) v = Ok z
+unless_decided None v = v
+
+-- ---- ranges
+
+-- a number below the bound
+abbrev pub within : ℤ → ℕ → Trap → Result ℕ Trap
+within (pos k) n t = if nat_lt k n then Ok k else Err t
+within (negsuc k) n t = Err t
+
+abbrev pub checked : Value → ℕ → Trap → Result ℕ Trap
+checked (Ok z) n t = within z n t
+checked (Err e) n t = Err e
+
+-- ---- values
+
+-- the value of an expression on rank p of n, given the variables: its parts are evaluated from left to right, and an index is checked as it is evaluated
 abbrev pub value_of : Term → List ℤ → ℕ → ℕ → Value
 value_of (lit z) vars p n = Ok z
 value_of own_rank vars p n = Ok (pos p)
 value_of size vars p n = Ok (pos n)
 value_of (cell at) vars p n = Ok (slice_index_or vars at.first (pos 0))
-value_of (op2 op a b) vars p n = then_value (value_of a vars p n) (λ x. then_value (value_of b vars p n) (combined op x))
+value_of (element at index) vars p n = and_then (checked (value_of index vars p n) at.cells BadIndex) (λ i. Ok (slice_index_or vars (at.first + i) (pos 0)))
+value_of (op1 op a) vars p n = then_value (value_of a vars p n) (altered op)
+value_of (op2 op a b) vars p n = then_value (value_of a vars p n) (λ x. unless_decided (decided op x) (then_value (value_of b vars p n) (combined op x)))
+
+-- the cell that a target is on rank p of n
+abbrev pub cell_at : Place → Option Term → List ℤ → ℕ → ℕ → Result ℕ Trap
+cell_at at None vars p n = Ok at.first
+cell_at at (Some index) vars p n = and_then (checked (value_of index vars p n) at.cells BadIndex) (λ i. Ok (at.first + i))
+
+abbrev pub target_cell : Target → List ℤ → ℕ → ℕ → Result ℕ Trap
+target_cell t = cell_at t.place t.index

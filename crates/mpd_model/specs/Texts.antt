@@ -8,7 +8,7 @@ use Rattle.mpd_model.specs.declared.step.Step.TheVariants.{Local, Match, Wake, R
 use Rattle.mpd_model.specs.declared.call.CallKind.{CallKind}
 use Rattle.mpd_model.specs.declared.call.CallKind.TheVariants.{Send, Recv}
 use Rattle.mpd_model.specs.declared.call.Trap.{Trap}
-use Rattle.mpd_model.specs.declared.call.Trap.TheVariants.{BadRank, BadTag}
+use Rattle.mpd_model.specs.declared.call.Trap.TheVariants.{Overflow, ZeroDivisor, BadRank, BadTag, BadIndex, Assertion}
 use Rattle.mpd_model.specs.declared.call.Activity.{Activity}
 use Rattle.mpd_model.specs.declared.call.Activity.TheVariants.{Running, Blocked, Trapped}
 use Rattle.mpd_model.specs.declared.call.Message.{Message}
@@ -44,8 +44,12 @@ step_text (Wake p) = codes "wake " ++ decimal p
 step_text Release = codes "release"
 
 abbrev pub trap_name : Trap → List ℕ
+trap_name Overflow = codes "overflow"
+trap_name ZeroDivisor = codes "zero-divisor"
 trap_name BadRank = codes "bad-rank"
 trap_name BadTag = codes "bad-tag"
+trap_name BadIndex = codes "bad-index"
+trap_name Assertion = codes "assert"
 
 abbrev pub kind_text : CallKind → List ℕ
 kind_text (Send to tag value) = codes "send to " ++ decimal to ++ codes " tag " ++ decimal tag ++ codes " value " ++ signed_decimal value

@@ -1,15 +1,18 @@
 -- A statement, and a block of them.
 use Rattle.std.specs.Prelude.{◌≡◌, ℕ, ◌+◌, List, [], ◌∷◌, refl}
 use Rattle.std.proofs.Common.{ap}
-use Rattle.mpd_model.specs.declared.place.Place.{Place}
-use Rattle.mpd_model.specs.Term.{Term}
+use Rattle.mpd_model.specs.Term.{Term, Target}
 
 mutual
   pub data Tree : Type 0 where
     print : Term → Tree
     send : (value to tag : Term) → Tree
-    recv : Place → (from tag : Term) → Tree
+    recv : Target → (from tag : Term) → Tree
     branch : Term → Block → Block → Tree
+    assign : Target → Term → Tree
+    -- `assert` and `while`
+    check : Term → Tree
+    repeat : Term → Block → Tree
 
   pub data Block : Type 0 where
     no_more : Block
@@ -34,6 +37,9 @@ abbrev mutual
   statements (send value to tag) = 1
   statements (recv into from tag) = 1
   statements (branch c a b) = statements_in a + statements_in b + 1
+  statements (assign into e) = 1
+  statements (check e) = 1
+  statements (repeat c a) = statements_in a + 1
 
   pub statements_in : Block → ℕ
   statements_in no_more = 0

@@ -4,15 +4,18 @@ use Rattle.std.proofs.Common.{ap, sym, ◌∙◌}
 use Rattle.std.specs.Coded.{Coded}
 use base.Stored.{Gv, gnil, gnum, gcons}
 use Rattle.mpd_model.specs.Term.{own_rank}
-use Rattle.mpd_model.specs.TermCode.{front_of, back_of, number_in, place_code, place_in, term_code, term_in, term_in-term_code}
-use Rattle.mpd_model.specs.Tree.{Tree, print, send, recv, branch, Block, no_more, then_more}
+use Rattle.mpd_model.specs.TermCode.{front_of, back_of, number_in, term_code, term_in, term_in-term_code, to_code, target_in, target_in-to_code}
+use Rattle.mpd_model.specs.Tree.{Tree, print, send, recv, branch, assign, check, repeat, Block, no_more, then_more}
 
 abbrev mutual
   pub tree_code : Tree → Gv
   tree_code (print e) = gcons (gnum 0) (gcons (term_code e) gnil)
   tree_code (send value to tag) = gcons (gnum 1) (gcons (gcons (term_code value) (gcons (term_code to) (term_code tag))) gnil)
-  tree_code (recv into from tag) = gcons (gnum 2) (gcons (gcons (place_code into) (gcons (term_code from) (term_code tag))) gnil)
+  tree_code (recv into from tag) = gcons (gnum 2) (gcons (gcons (to_code into) (gcons (term_code from) (term_code tag))) gnil)
   tree_code (branch c a b) = gcons (gnum 3) (gcons (term_code c) (gcons (block_code a) (gcons (block_code b) gnil)))
+  tree_code (assign into e) = gcons (gnum 4) (gcons (gcons (to_code into) (term_code e)) gnil)
+  tree_code (check e) = gcons (gnum 5) (gcons (term_code e) gnil)
+  tree_code (repeat c a) = gcons (gnum 6) (gcons (term_code c) (gcons (block_code a) gnil))
 
   pub block_code : Block → Gv
   block_code no_more = gnil
@@ -21,8 +24,9 @@ abbrev mutual
 abbrev made : ℕ → Gv → List Block → Tree
 made k g [] =
     cond (k == 0) (print (term_in g)) (cond (k == 1) (send (term_in (front_of g)) (term_in (front_of (back_of g))) (term_in (back_of (back_of g))))
-    (recv (place_in (front_of g)) (term_in (front_of (back_of g))) (term_in (back_of (back_of g)))))
-made k g (a ∷ []) = print own_rank
+    (cond (k == 2) (recv (target_in (front_of g)) (term_in (front_of (back_of g))) (term_in (back_of (back_of g))))
+    (cond (k == 4) (assign (target_in (front_of g)) (term_in (back_of g))) (check (term_in g)))))
+made k g (a ∷ []) = repeat (term_in g) a
 made k g (a ∷ b ∷ bs) = branch (term_in g) a b
 
 abbrev rest : List Block → List Block
@@ -39,8 +43,11 @@ mutual
   decoded-tree_code : (t : Tree) → (decoded (tree_code t)).0 ≡ t
   decoded-tree_code (print e) = λ i. print (term_in-term_code e i)
   decoded-tree_code (send value to tag) = λ i. send (term_in-term_code value i) (term_in-term_code to i) (term_in-term_code tag i)
-  decoded-tree_code (recv into from tag) = λ i. recv into (term_in-term_code from i) (term_in-term_code tag i)
+  decoded-tree_code (recv into from tag) = λ i. recv (target_in-to_code into i) (term_in-term_code from i) (term_in-term_code tag i)
   decoded-tree_code (branch c a b) = λ i. branch (term_in-term_code c i) (decoded-block_code a i) (decoded-block_code b i)
+  decoded-tree_code (assign into e) = λ i. assign (target_in-to_code into i) (term_in-term_code e i)
+  decoded-tree_code (check e) = λ i. check (term_in-term_code e i)
+  decoded-tree_code (repeat c a) = λ i. repeat (term_in-term_code c i) (decoded-block_code a i)
 
   decoded-block_code : (b : Block) → (decoded (block_code b)).1.0 ≡ b
   decoded-block_code no_more = refl

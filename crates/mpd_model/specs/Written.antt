@@ -1,27 +1,29 @@
 -- The grammar as relations: which tokens write what, whatever limits there are and in whatever order they are read.
-use Rattle.std.specs.Prelude.{◌≡◌, ℕ, suc, pos, ℤ, List, [], ◌∷◌, ◌++◌, Some, None, if◌then◌else◌, ◌==◌, Ok}
+use Rattle.std.specs.Prelude.{◌≡◌, ℕ, suc, pos, ℤ, Bool, true, false, List, [], ◌∷◌, ◌++◌, Option, Some, None, is_some, if◌then◌else◌, ◌==◌, Ok}
 use Rattle.mpd_model.specs.declared.expr.BinaryOp.{BinaryOp}
+use Rattle.mpd_model.specs.declared.expr.UnaryOp.{UnaryOp}
 use Rattle.mpd_model.specs.declared.place.DeclKind.TheVariants.{Variable}
 use Rattle.mpd_model.specs.declared.place.Place.{Place}
 use Rattle.mpd_model.specs.declared.slot.Slot.{Slot}
 use Rattle.mpd_model.specs.declared.token.Mark.TheVariants as m
 use Rattle.mpd_model.specs.declared.token.Token.TheVariants.{Number, Name, Is}
 use Rattle.mpd_model.specs.Declaration.{Declared}
-use Rattle.mpd_model.specs.Grammar.{operator_at, place_of_slot}
-use Rattle.mpd_model.specs.Input.{Input, Parser, slot_in}
+use Rattle.mpd_model.specs.Grammar.{operator_at, sign, place_of_slot}
+use Rattle.mpd_model.specs.Input.{Input, Parser, slot_in, line_of}
 use Rattle.mpd_model.specs.Program.{Program}
-use Rattle.mpd_model.specs.Term.{Term, lit, own_rank, size, cell, op2}
+use Rattle.mpd_model.specs.Term.{Term, lit, own_rank, size, cell, element, op1, op2, Target}
 use Rattle.mpd_model.specs.Tokens.{Spot}
-use Rattle.mpd_model.specs.Tree.{Tree, print, send, recv, branch, no_more, block_of}
+use Rattle.mpd_model.specs.Tree.{Tree, print, send, recv, branch, assign, check, repeat, no_more, block_of}
 
 -- ---- expressions, by how loosely they bind
 
--- the token is the name of the variable with that place
-pub record Names (ds : List Declared) (s : Spot) (p : Place) : Type 0 where
+-- the token is the name of a variable that was declared with or without a size, and has that place
+pub record Names (ds : List Declared) (s : Spot) (sized : Bool) (p : Place) : Type 0 where
   pub token : s.token ≡ Name
   pub slot : Slot
   pub declared : slot_in ds s.text ≡ Some slot
   pub kind : slot.kind ≡ Variable
+  pub size : is_some slot.size ≡ sized
   pub place : place_of_slot slot ≡ p
 
 -- Operators group to the left: what stands to the left of one may be of its own level, but for comparisons, which don't chain.
@@ -32,9 +34,12 @@ pub data Written (ds : List Declared) : ℕ → List Spot → Term → Type 0 wh
   number : (s : Spot) (n : ℤ) → s.token ≡ Number n → Written ds 0 (s ∷ []) (lit n)
   rank : (s : Spot) → s.token ≡ Is m.Rank → Written ds 0 (s ∷ []) own_rank
   ranks : (s : Spot) → s.token ≡ Is m.Size → Written ds 0 (s ∷ []) size
-  name : (s : Spot) (p : Place) → Names ds s p → Written ds 0 (s ∷ []) (cell p)
+  name : (s : Spot) (p : Place) → Names ds s false p → Written ds 0 (s ∷ []) (cell p)
+  entry : (s a b : Spot) (ss : List Spot) (p : Place) (t : Term) → Names ds s true p → a.token ≡ Is m.SquareOpen → b.token ≡ Is m.SquareClose
+      → Written ds 5 ss t → Written ds 0 (s ∷ a ∷ ss ++ b ∷ []) (element p t)
   round : (a b : Spot) (ss : List Spot) (t : Term) → a.token ≡ Is m.RoundOpen → b.token ≡ Is m.RoundClose
       → Written ds 5 ss t → Written ds 0 (a ∷ ss ++ b ∷ []) t
+  signs : (s : Spot) (ss : List Spot) (op : UnaryOp) (t : Term) → sign s.token ≡ Some op → Written ds 0 ss t → Written ds 0 (s ∷ ss) (op1 op t)
   higher : (k : ℕ) (ss : List Spot) (t : Term) → Written ds k ss t → Written ds (suc k) ss t
   joins : (k : ℕ) (l r : List Spot) (o : Spot) (op : BinaryOp) (a b : Term) → operator_at (suc k) o.token ≡ Some op
       → Written ds (left_level k) l a → Written ds k r b → Written ds (suc k) (l ++ o ∷ r) (op2 op a b)
@@ -53,6 +58,12 @@ IsSound k p = (i j : Input) (t : Term) → p i ≡ Ok (t, j) → Takes k t i j
 
 -- ---- statements, with the line of each: that of its first token, in text order
 
+-- a place that a statement writes: behind the name of an array stands its index, an expression of its own
+pub data WrittenTarget (ds : List Declared) : List Spot → Target → Type 0 where
+  whole : (s : Spot) (p : Place) → Names ds s false p → WrittenTarget ds (s ∷ []) (record { place = p; index = None })
+  part : (s a b : Spot) (ss : List Spot) (p : Place) (t : Term) → Names ds s true p → a.token ≡ Is m.SquareOpen → Written ds 5 ss t → b.token ≡ Is m.SquareClose
+      → WrittenTarget ds (s ∷ a ∷ ss ++ b ∷ []) (record { place = p; index = Some t })
+
 mutual
   pub data WrittenTree (ds : List Declared) : List Spot → Tree → List ℕ → Type 0 where
     prints : (k end : Spot) (e : List Spot) (t : Term)
@@ -61,9 +72,18 @@ mutual
     sends : (k to tag end : Spot) (a b c : List Spot) (value dest mark : Term)
         → k.token ≡ Is m.Send → Written ds 5 a value → to.token ≡ Is m.To → Written ds 5 b dest → tag.token ≡ Is m.Tag → Written ds 5 c mark → end.token ≡ Is m.Semicolon
         → WrittenTree ds (k ∷ a ++ to ∷ b ++ tag ∷ c ++ end ∷ []) (send value dest mark) (k.line ∷ [])
-    receives : (k n from tag end : Spot) (a b : List Spot) (into : Place) (source mark : Term)
-        → k.token ≡ Is m.Recv → Names ds n into → from.token ≡ Is m.From → Written ds 5 a source → tag.token ≡ Is m.Tag → Written ds 5 b mark → end.token ≡ Is m.Semicolon
-        → WrittenTree ds (k ∷ n ∷ from ∷ a ++ tag ∷ b ++ end ∷ []) (recv into source mark) (k.line ∷ [])
+    receives : (k from tag end : Spot) (n a b : List Spot) (into : Target) (source mark : Term)
+        → k.token ≡ Is m.Recv → WrittenTarget ds n into → from.token ≡ Is m.From → Written ds 5 a source → tag.token ≡ Is m.Tag → Written ds 5 b mark → end.token ≡ Is m.Semicolon
+        → WrittenTree ds (k ∷ n ++ from ∷ a ++ tag ∷ b ++ end ∷ []) (recv into source mark) (k.line ∷ [])
+    assigns : (equal end : Spot) (n e : List Spot) (into : Target) (t : Term)
+        → WrittenTarget ds n into → equal.token ≡ Is m.Assign → Written ds 5 e t → end.token ≡ Is m.Semicolon
+        → WrittenTree ds (n ++ equal ∷ e ++ end ∷ []) (assign into t) (line_of n ∷ [])
+    asserts : (k end : Spot) (e : List Spot) (t : Term)
+        → k.token ≡ Is m.Assert → Written ds 5 e t → end.token ≡ Is m.Semicolon
+        → WrittenTree ds (k ∷ e ++ end ∷ []) (check t) (k.line ∷ [])
+    repeats : (k : Spot) (e a : List Spot) (t : Term) (x : List Tree) (ls : List ℕ)
+        → k.token ≡ Is m.While → Written ds 5 e t → WrittenBlock ds a x ls
+        → WrittenTree ds (k ∷ e ++ a) (repeat t (block_of x)) (k.line ∷ ls)
     chooses : (k : Spot) (e a : List Spot) (t : Term) (x : List Tree) (ls : List ℕ)
         → k.token ≡ Is m.If → Written ds 5 e t → WrittenBlock ds a x ls
         → WrittenTree ds (k ∷ e ++ a) (branch t (block_of x) no_more) (k.line ∷ ls)
@@ -102,16 +122,21 @@ TakesBody ts = TakesLines (λ ds ss ls. WrittenBody ds ss ts ls)
 
 -- ---- a whole script
 
-abbrev pub variable_of : List ℕ → Declared
-variable_of bytes = record { kind = Variable; name = bytes; size = None }
+abbrev pub variable_of : List ℕ → Option ℕ → Declared
+variable_of bytes cells = record { kind = Variable; name = bytes; size = cells }
 
 -- the tokens bring declarations behind those that stand before them, each with a new name
 pub data WrittenDecls : List Declared → List Spot → List Declared → Type 0 where
   none : (ds : List Declared) → WrittenDecls ds [] ds
   declares : (ds es : List Declared) (v n end : Spot) (ss : List Spot)
       → v.token ≡ Is m.Var → n.token ≡ Name → slot_in ds n.text ≡ None → end.token ≡ Is m.Semicolon
-      → WrittenDecls (ds ++ variable_of n.text ∷ []) ss es
+      → WrittenDecls (ds ++ variable_of n.text None ∷ []) ss es
       → WrittenDecls ds (v ∷ n ∷ end ∷ ss) es
+  declares_array : (ds es : List Declared) (v n a c b end : Spot) (cells : ℕ) (ss : List Spot)
+      → v.token ≡ Is m.Var → n.token ≡ Name → slot_in ds n.text ≡ None
+      → a.token ≡ Is m.SquareOpen → c.token ≡ Number (pos cells) → b.token ≡ Is m.SquareClose → end.token ≡ Is m.Semicolon
+      → WrittenDecls (ds ++ variable_of n.text (Some cells) ∷ []) ss es
+      → WrittenDecls ds (v ∷ n ∷ a ∷ c ∷ b ∷ end ∷ ss) es
 
 pub data WrittenScript : List Spot → Program → Type 0 where
   script : (mpd version a ranks count b : Spot) (ss rs : List Spot) (p : Program)

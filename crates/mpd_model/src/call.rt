@@ -47,10 +47,18 @@ pub struct Message {
 /// Why a rank is trapped (docs/LANGUAGE.md, "Traps").
 #[derive(Clone, Copy, Debug, PartialEq, Eq)]
 pub enum Trap {
+    /// A value outside -9223372036854775808 to 9223372036854775807.
+    Overflow,
+    /// A division by 0, or its remainder.
+    ZeroDivisor,
     /// A destination or a source that is no rank.
     BadRank,
     /// A tag outside 0 to 32,767.
     BadTag,
+    /// An index that the array doesn't have.
+    BadIndex,
+    /// An `assert` of 0.
+    Assertion,
 }
 
 /// What a rank is doing. A running rank with no statement left has ended.

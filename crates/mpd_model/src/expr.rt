@@ -1,7 +1,7 @@
 //! Expressions.
 
 ghost use Rattle.std.specs.Prelude.{◌≡◌, IfOk, ℤ};
-ghost use Rattle.mpd_model.specs.Term.{lit, own_rank, size, cell, op2};
+ghost use Rattle.mpd_model.specs.Term.{lit, own_rank, size, cell, element, op1, op2};
 
 use crate::place::Place;
 use std::alloc::{AllocError, Global};
@@ -10,8 +10,32 @@ use std::marker::Model;
 /// An operator between two operands (docs/LANGUAGE.md, "Expressions").
 #[derive(Clone, Copy, Debug, PartialEq, Eq)]
 pub enum BinaryOp {
+    /// `||`, which leaves its right side where the left isn't 0.
+    Or,
+    /// `&&`, which leaves its right side where the left is 0.
+    And,
     Equal,
     NotEqual,
+    Less,
+    AtMost,
+    Greater,
+    AtLeast,
+    Add,
+    Subtract,
+    Multiply,
+    /// `/`, rounded toward zero.
+    Divide,
+    /// `%`, with the sign of the dividend.
+    Remainder,
+}
+
+/// An operator before its operand.
+#[derive(Clone, Copy, Debug, PartialEq, Eq)]
+pub enum UnaryOp {
+    /// `-`.
+    Negate,
+    /// `!`.
+    Not,
 }
 
 /// An expression, which contracts see as a `Term`.
@@ -30,7 +54,11 @@ pub enum ExprNode {
     Rank,
     /// The number of ranks.
     Size,
+    /// A variable that is no array.
     Cell(Place),
+    /// A cell of an array, by its index.
+    Element(Place, Box<Expr>),
+    Unary(UnaryOp, Box<Expr>),
     Binary(BinaryOp, Box<Expr>, Box<Expr>),
 }
 
@@ -85,6 +113,24 @@ impl Expr {
         Expr {
             node: ExprNode::Cell(place),
         }
+    }
+
+    /// What an array holds at an index. An `Err` is want of memory.
+    pub fn element(alloc: Global, place: Place, index: Expr) -> Result<Expr, AllocError>
+        ensures { IfOk result (λ t. t ≡ element place index) }
+    {
+        Ok(Expr {
+            node: ExprNode::Element(place, Box::new(alloc, index)?),
+        })
+    }
+
+    /// An operand with an operator before it. An `Err` is want of memory.
+    pub fn unary(alloc: Global, op: UnaryOp, operand: Expr) -> Result<Expr, AllocError>
+        ensures { IfOk result (λ t. t ≡ op1 op operand) }
+    {
+        Ok(Expr {
+            node: ExprNode::Unary(op, Box::new(alloc, operand)?),
+        })
     }
 
     /// Two operands with an operator between them. An `Err` is want of memory.

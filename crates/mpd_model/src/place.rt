@@ -34,11 +34,13 @@ impl Model for Decl {
     ghost view = { λ d. record { kind = d.kind; name = string_bytes d.name; size = d.size } };
 }
 
-/// A place that an expression reads or a receive writes: its declaration, and that declaration's first cell.
+/// What a name stands for: its declaration, and the cells of that.
 #[derive(Clone, Copy, Debug, PartialEq, Eq)]
 pub struct Place {
     /// The declaration's number in text order, from 0.
     pub declaration: usize,
-    /// The number of its first cell among the variables, 0 to 1023.
-    pub first: usize,
+    /// The number of its first cell among those of its kind, 0 to 1024.
+    pub first: u32,
+    /// How many cells it has, 0 to 1024; 1 where it is no array.
+    pub cells: u32,
 }

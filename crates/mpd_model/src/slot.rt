@@ -9,7 +9,7 @@ pub struct Slot {
     /// The declaration's number in text order, from 0.
     pub declaration: usize,
     /// The number of its first cell among those of its kind.
-    pub first: usize,
+    pub first: u32,
     /// How many cells an array has; `None` where one name is one cell.
-    pub size: Option<usize>,
+    pub size: Option<u32>,
 }

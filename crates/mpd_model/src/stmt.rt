@@ -4,6 +4,25 @@ use crate::expr::Expr;
 use crate::place::Place;
 use std::marker::Model;
 
+/// A place that an assignment or a receive writes, which contracts see as a `Target`.
+#[derive(Debug, Drop)]
+pub struct Target {
+    pub place: Place,
+    /// The index, where the place is an array.
+    pub index: Option<Expr>,
+}
+
+impl Model for Target {
+    ghost use Rattle.mpd_model.specs.Term.{Target};
+    ghost use Rattle.mpd_model.specs.TermCode.{target_code};
+
+    ghost Value = { Target };
+
+    ghost coded = { target_code };
+
+    ghost view = { λ t. record { place = t.place; index = t.index } };
+}
+
 /// A statement, which contracts see as a `Tree`.
 #[cycle(stmt)]
 #[derive(Debug, Drop)]
@@ -19,8 +38,15 @@ pub enum StmtNode {
     /// A blocking standard send (MPI 4.0, section 3.2.1).
     Send { value: Expr, to: Expr, tag: Expr },
     /// A blocking receive (MPI 4.0, section 3.2.4).
-    Recv { into: Place, from: Expr, tag: Expr },
+    Recv {
+        into: Target,
+        from: Expr,
+        tag: Expr,
+    },
     If(Expr, Vec<Stmt>, Vec<Stmt>),
+    Assign(Target, Expr),
+    Assert(Expr),
+    While(Expr, Vec<Stmt>),
 }
 
 impl Model for Stmt {

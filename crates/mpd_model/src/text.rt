@@ -52,8 +52,12 @@ impl Trap {
         ensures { result.now ≡ trap_name self }
     {
         match self {
+            Trap::Overflow => "overflow",
+            Trap::ZeroDivisor => "zero-divisor",
             Trap::BadRank => "bad-rank",
             Trap::BadTag => "bad-tag",
+            Trap::BadIndex => "bad-index",
+            Trap::Assertion => "assert",
         }
     }
 }
