@@ -1,0 +1,5 @@
+pub mod Left
+pub mod Stands
+pub mod Views
+pub mod Lowered
+pub mod Rows

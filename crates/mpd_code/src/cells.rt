@@ -1,0 +1,60 @@
+//! How many cells declarations have.
+
+ghost use Rattle.std.specs.Prelude.{◌≡◌, ◌≤◌};
+ghost use Rattle.mpd_model.specs.Declaration.{cells_of, variable_cells, handle_cells, variables_in, handles_in};
+
+use mpd_model::place::{Decl, DeclKind};
+
+/// How many cells one name or array has.
+fn cell_count(size: Option<usize>) -> usize
+    ensures { result ≡ cells_of size }
+{
+    match size {
+        None => 1,
+        Some(count) => count,
+    }
+}
+
+/// How many cells of variables a declaration has.
+fn variable_cell_count(decl: &Decl) -> usize
+    ensures { result ≡ variable_cells decl.now.kind decl.now.size }
+{
+    match decl.kind {
+        DeclKind::Variable => cell_count(decl.size),
+        DeclKind::Handle => 0,
+    }
+}
+
+/// How many handles a declaration has.
+fn handle_cell_count(decl: &Decl) -> usize
+    ensures { result ≡ handle_cells decl.now.kind decl.now.size }
+{
+    match decl.kind {
+        DeclKind::Variable => 0,
+        DeclKind::Handle => cell_count(decl.size),
+    }
+}
+
+/// How many cells all variables have.
+pub fn variable_count(decls: &[Decl]) -> usize
+    requires { variables_in decls.now ≤ 1024 }
+    ensures { result ≡ variables_in decls.now }
+{
+    let mut total = 0;
+    for decl in decls {
+        total += variable_cell_count(decl);
+    }
+    total
+}
+
+/// How many handles there are.
+pub fn handle_count(decls: &[Decl]) -> usize
+    requires { handles_in decls.now ≤ 256 }
+    ensures { result ≡ handles_in decls.now }
+{
+    let mut total = 0;
+    for decl in decls {
+        total += handle_cell_count(decl);
+    }
+    total
+}

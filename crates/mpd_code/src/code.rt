@@ -1,0 +1,111 @@
+//! Lowered code.
+
+ghost use Rattle.std.specs.Prelude.{◌≡◌, ◌<◌, [], IfSome, IfNone, Some, slice_get};
+ghost use Rattle.mpd_model.specs.Declaration.{variables_in, handles_in};
+ghost use Rattle.mpd_model.specs.Tree.{block_of, statements_in, numbered};
+ghost use Rattle.mpd_code.specs.Left.{left_at};
+ghost use Rattle.mpd_code.specs.Stands.{Stands};
+
+use crate::node::Node;
+use mpd_model::place::Decl;
+use mpd_model::script::Script;
+use std::marker::Model;
+use std::snapshot::Snapshot;
+
+/// A script as a list of nodes, numbered as its statements are in text order. Each stands for what is left to run there.
+#[derive(Drop)]
+pub struct Code {
+    pub(crate) nodes: Vec<Node>,
+    pub(crate) lines: Vec<usize>,
+    pub(crate) decls: Vec<Decl>,
+    pub(crate) ranks: usize,
+    pub(crate) cells: usize,
+    pub(crate) handles: usize,
+    /// What it was lowered from. It takes no bytes.
+    pub(crate) script: Snapshot<Script>,
+}
+
+impl Model for Code {
+    ghost use Rattle.std.specs.Prelude.{◌≡◌};
+    ghost use Rattle.mpd_code.specs.Views.{CodeView, code_view_code};
+
+    ghost Value = { CodeView };
+
+    ghost coded = { code_view_code };
+
+    ghost use Rattle.mpd_model.specs.Declaration.{variables_in, handles_in};
+    ghost use Rattle.mpd_model.specs.Program.{IsLegal};
+    ghost use Rattle.mpd_model.specs.Tree.{block_of, statements_in};
+    ghost use Rattle.mpd_code.specs.Lowered.{lowered};
+
+    ghost view = { λ c. record { program = c.script.value } };
+
+    ghost invariant = { λ c.
+        (c.nodes.items ≡ lowered 0 (block_of c.script.value.body) (statements_in (block_of c.script.value.body)))
+        × (c.lines.items ≡ c.script.value.lines)
+        × (c.decls.items ≡ c.script.value.decls)
+        × (c.ranks ≡ c.script.value.ranks)
+        × (c.cells ≡ variables_in c.script.value.decls)
+        × (c.handles ≡ handles_in c.script.value.decls)
+        × IsLegal c.script.value };
+}
+
+impl Code {
+    /// The node of a number. There is none at the end, where nothing is left to run.
+    pub fn node(&self, number: usize) -> Option<&Node>
+        ensures some { IfSome result (λ node. Stands (left_at self.now.program) number node.now) }
+        ensures none { IfNone result (left_at self.now.program number ≡ []) }
+    {
+        self.nodes.get(number)
+    }
+
+    /// The number at which a rank starts.
+    pub fn start(&self) -> usize
+        ensures { left_at self.now.program result ≡ numbered 0 self.now.program.body }
+    {
+        0
+    }
+
+    /// How many nodes there are.
+    pub fn nodes(&self) -> usize
+        ensures { result ≡ statements_in (block_of self.now.program.body) }
+    {
+        self.nodes.len()
+    }
+
+    /// The line of a node's statement, from 1.
+    pub fn line(&self, number: usize) -> usize
+        requires { number < statements_in (block_of self.now.program.body) }
+        ensures { slice_get self.now.program.lines number ≡ Some result }
+    {
+        self.lines[number]
+    }
+
+    /// How many ranks run it.
+    pub fn ranks(&self) -> usize
+        ensures { result ≡ self.now.program.ranks }
+    {
+        self.ranks
+    }
+
+    /// How many cells its variables have.
+    pub fn cells(&self) -> usize
+        ensures { result ≡ variables_in self.now.program.decls }
+    {
+        self.cells
+    }
+
+    /// How many handles it has.
+    pub fn handles(&self) -> usize
+        ensures { result ≡ handles_in self.now.program.decls }
+    {
+        self.handles
+    }
+
+    /// What it declares, in text order.
+    pub fn decls(&self) -> &[Decl]
+        ensures { result.now ≡ self.now.program.decls }
+    {
+        &self.decls
+    }
+}

@@ -1,0 +1,136 @@
+//! From a script to code.
+
+ghost use Rattle.std.specs.Prelude.{◌≡◌, ◌≤◌, ◌+◌, [], ◌∷◌, ◌++◌, IfOk, OnOk, length};
+ghost use Rattle.mpd_model.specs.Tree.{statements, statements_in, block_of};
+ghost use Rattle.mpd_code.specs.Lowered.{entry, lowered, lowered_one};
+
+use crate::cells::{handle_count, variable_count};
+use crate::code::Code;
+use crate::node::{Action, Node};
+use mpd_model::script::Script;
+use mpd_model::stmt::{Stmt, StmtNode};
+use std::alloc::{AllocError, Global};
+use std::snapshot::Snapshot;
+
+/// How many statements a statement has, with those inside.
+#[tactic(auto, using(crate::proofs::Counts::falling))]
+#[cycle(count)]
+fn count(stmt: &Stmt) -> usize
+    requires { statements stmt.now ≤ 4096 }
+    ensures { result ≡ statements stmt.now }
+{
+    match &stmt.node {
+        StmtNode::If(_, first, second) => count_all(first) + count_all(second) + 1,
+        StmtNode::While(_, body) => count_all(body) + 1,
+        _ => 1,
+    }
+}
+
+/// How many statements a block has.
+#[tactic(auto, using(crate::proofs::Counts::falling))]
+#[cycle(count)]
+fn count_all(block: &[Stmt]) -> usize
+    requires { statements_in (block_of block.now) ≤ 4096 }
+    ensures { result ≡ statements_in (block_of block.now) }
+{
+    match block.split_first() {
+        None => 0,
+        Some((first, rest)) => count(first) + count_all(rest),
+    }
+}
+
+/// The number at which a block begins: that of its first statement, or of what follows an empty one.
+fn entry(number: usize, block: &[Stmt], next: usize) -> usize
+    ensures { result ≡ entry number (block_of block.now) next }
+{
+    if block.is_empty() { next } else { number }
+}
+
+/// Adds the nodes of a statement.
+#[tactic(auto, using(crate::proofs::Counts::falling))]
+#[cycle(place)]
+fn place(nodes: &mut Vec<Node>, stmt: Stmt, next: usize) -> Result<(), AllocError>
+    requires { length nodes.old.items + statements stmt ≤ 4096 }
+    ensures { OnOk result (nodes.new.items ≡ nodes.old.items ++ lowered_one (length nodes.old.items) stmt next) }
+{
+    let number = nodes.len();
+    match stmt.node {
+        StmtNode::Print(value) => add(nodes, Action::Print(value), next),
+        StmtNode::Send { value, to, tag } => add(nodes, Action::Send { value, to, tag }, next),
+        StmtNode::Recv { into, from, tag } => add(nodes, Action::Recv { into, from, tag }, next),
+        StmtNode::Assign(into, value) => add(nodes, Action::Assign(into, value), next),
+        StmtNode::Assert(test) => add(nodes, Action::Assert(test), next),
+        StmtNode::If(test, first, second) => {
+            let other = number + 1 + count_all(&first);
+            let action = Action::Branch {
+                test,
+                first: entry(number + 1, &first, next),
+                second: entry(other, &second, next),
+            };
+            add(nodes, action, next)?;
+            place_all(nodes, first, next)?;
+            place_all(nodes, second, next)
+        }
+        StmtNode::While(test, body) => {
+            let action = Action::Repeat {
+                test,
+                body: entry(number + 1, &body, number),
+            };
+            add(nodes, action, next)?;
+            place_all(nodes, body, number)
+        }
+    }
+}
+
+/// Adds a node.
+fn add(nodes: &mut Vec<Node>, action: Action, next: usize) -> Result<(), AllocError>
+    ensures { OnOk result (nodes.new.items ≡ nodes.old.items ++ record { action = action; next = next } ∷ []) }
+{
+    nodes.push(Node { action, next })?;
+    Ok(())
+}
+
+/// Adds the nodes of a block, which `next` follows.
+#[tactic(auto, using(crate::proofs::Counts::falling))]
+#[cycle(place)]
+fn place_all(nodes: &mut Vec<Node>, block: Vec<Stmt>, next: usize) -> Result<(), AllocError>
+    requires { length nodes.old.items + statements_in (block_of block.items) ≤ 4096 }
+    ensures { OnOk result (nodes.new.items ≡ nodes.old.items ++ lowered (length nodes.old.items) (block_of block.items) next) }
+{
+    let mut rest = block;
+    rest.reverse();
+    while let Some(stmt) = rest.pop() {
+        let behind = nodes.len() + count(&stmt);
+        let follows = if rest.is_empty() { next } else { behind };
+        place(nodes, stmt, follows)?;
+    }
+    Ok(())
+}
+
+/// Lowers a script. An `Err` is want of memory, and the script is dropped.
+pub fn lower(alloc: Global, script: Script) -> Result<Code, AllocError>
+    ensures { IfOk result (λ code. code.program ≡ script) }
+{
+    let remembered = Snapshot::of(&script);
+    let cells = variable_count(&script.decls);
+    let handles = handle_count(&script.decls);
+    let end = script.lines.len();
+    let Script {
+        version: _,
+        ranks,
+        decls,
+        body,
+        lines,
+    } = script;
+    let mut nodes = Vec::with_capacity(alloc, end)?;
+    place_all(&mut nodes, body, end)?;
+    Ok(Code {
+        nodes,
+        lines,
+        decls,
+        ranks,
+        cells,
+        handles,
+        script: remembered,
+    })
+}
