@@ -1,12 +1,13 @@
 //! From a script to code.
 
 ghost use Rattle.std.specs.Prelude.{◌≡◌, ◌≤◌, ◌+◌, [], ◌∷◌, ◌++◌, IfOk, OnOk, length};
-ghost use Rattle.mpd_model.specs.Tree.{statements, statements_in, block_of};
+ghost use Rattle.mpd_model.specs.Tree.{branch, repeat, statements, statements_in, block_of};
 ghost use Rattle.mpd_code.specs.Lowered.{entry, lowered, lowered_one};
 
 use crate::cells::{handle_count, variable_count};
 use crate::code::Code;
 use crate::node::{Action, Node};
+use mpd_model::expr::Expr;
 use mpd_model::script::Script;
 use mpd_model::stmt::{Stmt, StmtNode};
 use std::alloc::{AllocError, Global};
@@ -40,6 +41,7 @@ fn count_all(block: &[Stmt]) -> usize
 }
 
 /// The number at which a block begins: that of its first statement, or of what follows an empty one.
+#[tactic(auto, using(crate::proofs::Entries::entries))]
 fn entry(number: usize, block: &[Stmt], next: usize) -> usize
     ensures { result ≡ entry number (block_of block.now) next }
 {
@@ -47,39 +49,67 @@ fn entry(number: usize, block: &[Stmt], next: usize) -> usize
 }
 
 /// Adds the nodes of a statement.
-#[tactic(auto, using(crate::proofs::Counts::falling))]
+#[tactic(auto, using(crate::proofs::Placed::placing))]
 #[cycle(place)]
 fn place(nodes: &mut Vec<Node>, stmt: Stmt, next: usize) -> Result<(), AllocError>
     requires { length nodes.old.items + statements stmt ≤ 4096 }
     ensures { OnOk result (nodes.new.items ≡ nodes.old.items ++ lowered_one (length nodes.old.items) stmt next) }
 {
-    let number = nodes.len();
     match stmt.node {
         StmtNode::Print(value) => add(nodes, Action::Print(value), next),
         StmtNode::Send { value, to, tag } => add(nodes, Action::Send { value, to, tag }, next),
         StmtNode::Recv { into, from, tag } => add(nodes, Action::Recv { into, from, tag }, next),
         StmtNode::Assign(into, value) => add(nodes, Action::Assign(into, value), next),
         StmtNode::Assert(test) => add(nodes, Action::Assert(test), next),
-        StmtNode::If(test, first, second) => {
-            let other = number + 1 + count_all(&first);
-            let action = Action::Branch {
-                test,
-                first: entry(number + 1, &first, next),
-                second: entry(other, &second, next),
-            };
-            add(nodes, action, next)?;
-            place_all(nodes, first, next)?;
-            place_all(nodes, second, next)
-        }
-        StmtNode::While(test, body) => {
-            let action = Action::Repeat {
-                test,
-                body: entry(number + 1, &body, number),
-            };
-            add(nodes, action, next)?;
-            place_all(nodes, body, number)
-        }
+        StmtNode::If(test, first, second) => place_branch(nodes, test, first, second, next),
+        StmtNode::While(test, body) => place_repeat(nodes, test, body, next),
     }
+}
+
+/// Adds the nodes of an `if`.
+#[tactic(auto, using(crate::proofs::Placed::placing))]
+#[cycle(place)]
+fn place_branch(
+    nodes: &mut Vec<Node>,
+    test: Expr,
+    first: Vec<Stmt>,
+    second: Vec<Stmt>,
+    next: usize,
+) -> Result<(), AllocError>
+    requires { length nodes.old.items + statements_in (block_of first.items) + statements_in (block_of second.items) + 1 ≤ 4096 }
+    ensures { OnOk result (nodes.new.items ≡ nodes.old.items ++ lowered_one (length nodes.old.items) (branch test (block_of first.items) (block_of second.items)) next) }
+{
+    let number = nodes.len() + 1;
+    let other = number + count_all(&first);
+    let action = Action::Branch {
+        test,
+        first: entry(number, &first, next),
+        second: entry(other, &second, next),
+    };
+    add(nodes, action, next)?;
+    place_all(nodes, first, next)?;
+    place_all(nodes, second, next)
+}
+
+/// Adds the nodes of a `while`, which follows its body.
+#[tactic(auto, using(crate::proofs::Placed::placing))]
+#[cycle(place)]
+fn place_repeat(
+    nodes: &mut Vec<Node>,
+    test: Expr,
+    body: Vec<Stmt>,
+    next: usize,
+) -> Result<(), AllocError>
+    requires { length nodes.old.items + statements_in (block_of body.items) + 1 ≤ 4096 }
+    ensures { OnOk result (nodes.new.items ≡ nodes.old.items ++ lowered_one (length nodes.old.items) (repeat test (block_of body.items)) next) }
+{
+    let number = nodes.len();
+    let action = Action::Repeat {
+        test,
+        body: entry(number + 1, &body, number),
+    };
+    add(nodes, action, next)?;
+    place_all(nodes, body, number)
 }
 
 /// Adds a node.
@@ -91,7 +121,7 @@ fn add(nodes: &mut Vec<Node>, action: Action, next: usize) -> Result<(), AllocEr
 }
 
 /// Adds the nodes of a block, which `next` follows.
-#[tactic(auto, using(crate::proofs::Counts::falling))]
+#[tactic(auto, using(crate::proofs::Placed::placing))]
 #[cycle(place)]
 fn place_all(nodes: &mut Vec<Node>, block: Vec<Stmt>, next: usize) -> Result<(), AllocError>
     requires { length nodes.old.items + statements_in (block_of block.items) ≤ 4096 }
@@ -101,7 +131,7 @@ fn place_all(nodes: &mut Vec<Node>, block: Vec<Stmt>, next: usize) -> Result<(),
     rest.reverse();
     while let Some(stmt) = rest.pop() {
         let behind = nodes.len() + count(&stmt);
-        let follows = if rest.is_empty() { next } else { behind };
+        let follows = entry(behind, &rest, next);
         place(nodes, stmt, follows)?;
     }
     Ok(())
