@@ -1,7 +1,9 @@
-//! Scripts as code: a flat list of nodes, each of which stands for what is left to run.
+//! Scripts as code: a flat list of nodes, each of which stands for what is left to run, and the values of expressions.
 #![tactic(auto)]
 
 pub mod cells;
 pub mod code;
+pub mod eval;
 pub mod lower;
 pub mod node;
+mod operate;

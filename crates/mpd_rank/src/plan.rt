@@ -1,0 +1,102 @@
+//! What the next statement of a rank does, before it is done.
+
+ghost use Rattle.std.specs.Prelude.{◌≡◌, ◌<◌, ◌^◌};
+ghost use Rattle.mpd_rank.specs.Plans.{plan_of, print_plan, assign_plan, issue_plan, assert_plan, choice_plan};
+
+use mpd_code::eval::{eval, eval_assign, eval_recv, eval_send};
+use mpd_code::node::{Action, Node};
+use mpd_model::call::{CallKind, Trap};
+
+/// What a local step does.
+#[derive(Clone, Copy, Debug, PartialEq, Eq)]
+pub enum LocalPlan {
+    /// Goes on at a node.
+    Move { next: usize },
+    /// Appends a value to the output.
+    Print { value: i64, next: usize },
+    /// Writes a cell.
+    Assign {
+        cell: usize,
+        value: i64,
+        next: usize,
+    },
+    /// Issues a call, and blocks on it.
+    Issue { kind: CallKind, next: usize },
+    Trap(Trap),
+}
+
+fn plan_print(value: Result<i64, Trap>, next: usize) -> LocalPlan
+    ensures { result ≡ print_plan value next }
+{
+    match value {
+        Ok(value) => LocalPlan::Print { value, next },
+        Err(trap) => LocalPlan::Trap(trap),
+    }
+}
+
+fn plan_assign(write: Result<(usize, i64), Trap>, next: usize) -> LocalPlan
+    ensures { result ≡ assign_plan write next }
+{
+    match write {
+        Ok((cell, value)) => LocalPlan::Assign { cell, value, next },
+        Err(trap) => LocalPlan::Trap(trap),
+    }
+}
+
+fn plan_issue(kind: Result<CallKind, Trap>, next: usize) -> LocalPlan
+    ensures { result ≡ issue_plan kind next }
+{
+    match kind {
+        Ok(kind) => LocalPlan::Issue { kind, next },
+        Err(trap) => LocalPlan::Trap(trap),
+    }
+}
+
+fn plan_assert(test: Result<i64, Trap>, next: usize) -> LocalPlan
+    ensures { result ≡ assert_plan test next }
+{
+    match test {
+        Ok(0) => LocalPlan::Trap(Trap::Assertion),
+        Ok(_) => LocalPlan::Move { next },
+        Err(trap) => LocalPlan::Trap(trap),
+    }
+}
+
+/// Goes on at one node where the test holds, else at the other.
+fn plan_choice(test: Result<i64, Trap>, holds: usize, fails: usize) -> LocalPlan
+    ensures { result ≡ choice_plan test holds fails }
+{
+    match test {
+        Ok(0) => LocalPlan::Move { next: fails },
+        Ok(_) => LocalPlan::Move { next: holds },
+        Err(trap) => LocalPlan::Trap(trap),
+    }
+}
+
+/// What a node does on rank `rank` of `size` with these variables.
+pub fn plan_node(node: &Node, vars: &[i64], rank: usize, size: usize) -> LocalPlan
+    requires rank { rank < 2 ^ 63 }
+    requires size { size < 2 ^ 63 }
+    ensures { result ≡ plan_of node.now.action node.now.next vars.now rank size }
+{
+    let next = node.next;
+    match &node.action {
+        Action::Print(value) => plan_print(eval(value, vars, rank, size), next),
+        Action::Send { value, to, tag } => {
+            plan_issue(eval_send(value, to, tag, vars, rank, size), next)
+        }
+        Action::Recv { into, from, tag } => {
+            plan_issue(eval_recv(into, from, tag, vars, rank, size), next)
+        }
+        Action::Assign(into, value) => {
+            plan_assign(eval_assign(into, value, vars, rank, size), next)
+        }
+        Action::Assert(test) => plan_assert(eval(test, vars, rank, size), next),
+        Action::Branch {
+            test,
+            first,
+            second,
+        } => plan_choice(eval(test, vars, rank, size), *first, *second),
+        Action::Repeat { test, body } => plan_choice(eval(test, vars, rank, size), *body, next),
+    }
+}

@@ -1,0 +1,260 @@
+//! The state of one rank.
+
+ghost use Rattle.std.specs.Prelude.{◌≡◌, ◌<◌, ◌≤◌, ◌^◌, IfOk, OnOk, is_some, ℕ, Some, slice_set};
+ghost use Rattle.std.specs.Option.{option_map};
+ghost use Rattle.mpd_model.specs.Program.{Program};
+ghost use Rattle.mpd_code.specs.Left.{left_at};
+
+use crate::change::{Change, RankRecord};
+use crate::plan::{LocalPlan, plan_node};
+use mpd_code::code::Code;
+use mpd_model::call::{Activity, Call};
+use std::alloc::{AllocError, Global};
+use std::marker::Model;
+
+/// One rank, which contracts see as a `RankView`. What it has left to run is what its node stands for.
+#[derive(Debug, Drop)]
+pub struct RankState {
+    node: usize,
+    vars: Vec<i64>,
+    handles: Vec<Option<usize>>,
+    calls: Vec<Call>,
+    out: Vec<i64>,
+    activity: Activity,
+}
+
+impl Model for RankState {
+    ghost use Rattle.std.specs.Prelude.{◌-◌, vec_len, vec_capacity};
+    ghost use Rattle.mpd_rank.specs.Views.{RankView, rank_view_code};
+
+    ghost Value = { RankView };
+
+    ghost coded = { rank_view_code };
+
+    ghost view = { λ r. record {
+      node = r.node;
+      vars = r.vars.items;
+      handles = r.handles.items;
+      calls = r.calls.items;
+      out = r.out.items;
+      activity = r.activity;
+      call_room = vec_capacity r.calls - vec_len r.calls;
+      out_room = vec_capacity r.out - vec_len r.out;
+    } };
+}
+
+impl RankState {
+    ghost use Rattle.mpd_model.specs.World.{start_rank};
+    ghost use Rattle.mpd_model.specs.Outcomes.{has_ended, first_number};
+    ghost use Rattle.mpd_model.specs.Next.{local, woken_rank, write_cell};
+    ghost use Rattle.mpd_rank.specs.Views.{rank_of, HasRoom};
+    ghost use Rattle.mpd_rank.specs.Plans.{planned};
+    ghost use Rattle.mpd_rank.specs.Undone.{undone_rank, held, assigned_change};
+
+    /// A rank before its first step, with the whole body to run.
+    pub fn start(alloc: Global, code: &Code) -> Result<RankState, AllocError>
+        ensures { IfOk result (λ r. rank_of code.now.program r ≡ start_rank code.now.program) }
+    {
+        Ok(RankState {
+            node: code.start(),
+            vars: vec![in alloc; 0; code.cells()]?,
+            handles: vec![in alloc; None; code.handles()]?,
+            calls: Vec::new(alloc),
+            out: Vec::new(alloc),
+            activity: Activity::Running,
+        })
+    }
+
+    /// Keeps room for one step. An `Err` is want of memory; what the rank is stays as it was.
+    pub fn keep_room(&mut self) -> Result<(), AllocError>
+        ensures room { OnOk result (HasRoom self.new) }
+        ensures same { (p : Program) → rank_of p self.new ≡ rank_of p self.old }
+    {
+        self.calls.reserve(1)?;
+        self.out.reserve(1)?;
+        Ok(())
+    }
+
+    /// What the next local step does on rank `rank` of `size`, where there is one. Nothing changes.
+    pub fn plan_local(&self, code: &Code, rank: usize, size: usize) -> Option<LocalPlan>
+        requires rank { rank < 2 ^ 63 }
+        requires size { size < 2 ^ 63 }
+        ensures { local rank size (rank_of code.now.program self.now) ≡ option_map (planned code.now.program (rank_of code.now.program self.now) self.now.node) result }
+    {
+        match self.activity {
+            Activity::Running => {}
+            Activity::Blocked | Activity::Trapped(_) => return None,
+        }
+        let node = code.node(self.node)?;
+        Some(plan_node(node, &self.vars, rank, size))
+    }
+
+    /// Writes a variable, and answers what it held.
+    fn write(&mut self, write: Option<(usize, i64)>) -> Option<(usize, i64)>
+        ensures after { self.new ≡ record self.old { vars = write_cell write self.old.vars } }
+        ensures held { result ≡ held self.old.vars write }
+    {
+        let (cell, value) = write?;
+        if cell >= self.vars.len() {
+            return None;
+        }
+        let was = self.vars[cell];
+        self.vars[cell] = value;
+        Some((cell, was))
+    }
+
+    /// Writes a cell, and answers the change.
+    fn assign(&mut self, cell: usize, value: i64) -> Change
+        ensures after { self.new ≡ record self.old { vars = slice_set self.old.vars cell value } }
+        ensures change { result ≡ assigned_change (held self.old.vars (Some (cell, value))) }
+    {
+        match self.write(Some((cell, value))) {
+            Some((cell, was)) => Change::Assigned { cell, was },
+            None => Change::Moved,
+        }
+    }
+
+    /// Does what was planned, in the room that was kept. It takes no memory.
+    #[tactic(auto, using(crate::proofs::RankLemmas::committing))]
+    pub fn commit(&mut self, plan: LocalPlan) -> RankRecord
+        requires room { HasRoom self.old }
+        ensures after { (p : Program) → rank_of p self.new ≡ planned p (rank_of p self.old) self.old.node plan }
+        ensures back { (p : Program) → self.old.activity ≡ Activity.Running → undone_rank p (rank_of p self.new) result ≡ rank_of p self.old }
+    {
+        let from = self.node;
+        let change = match plan {
+            LocalPlan::Move { next } => {
+                self.node = next;
+                Change::Moved
+            }
+            LocalPlan::Print { value, next } => {
+                self.out.push_reserved(value);
+                self.node = next;
+                Change::Printed
+            }
+            LocalPlan::Assign { cell, value, next } => {
+                self.node = next;
+                self.assign(cell, value)
+            }
+            LocalPlan::Issue { kind, next } => {
+                self.calls.push_reserved(Call {
+                    statement: from,
+                    kind,
+                });
+                self.node = next;
+                self.activity = Activity::Blocked;
+                Change::Issued
+            }
+            LocalPlan::Trap(trap) => {
+                self.activity = Activity::Trapped(trap);
+                Change::Trapped
+            }
+        };
+        RankRecord { from, change }
+    }
+
+    /// Goes on after a wake, with a cell written. It takes no memory.
+    #[tactic(auto, using(crate::proofs::RankLemmas::committing))]
+    pub fn complete(&mut self, write: Option<(usize, i64)>) -> RankRecord
+        ensures after { (p : Program) → rank_of p self.new ≡ woken_rank write (rank_of p self.old) }
+        ensures back { (p : Program) → self.old.activity ≡ Activity.Blocked → undone_rank p (rank_of p self.new) result ≡ rank_of p self.old }
+    {
+        let was = self.write(write);
+        self.activity = Activity::Running;
+        RankRecord {
+            from: self.node,
+            change: Change::Woke(was),
+        }
+    }
+
+    /// Takes a step of the rank back. It takes no memory.
+    pub fn restore(&mut self, done: RankRecord)
+        ensures { (p : Program) → rank_of p self.new ≡ undone_rank p (rank_of p self.old) done }
+    {
+        self.node = done.from;
+        match done.change {
+            Change::Matched => return,
+            Change::Woke(was) => {
+                let _ = self.write(was);
+                self.activity = Activity::Blocked;
+                return;
+            }
+            Change::Assigned { cell, was } => {
+                let _ = self.write(Some((cell, was)));
+            }
+            Change::Printed => {
+                let _ = self.out.pop();
+            }
+            Change::Issued => {
+                let _ = self.calls.pop();
+            }
+            Change::Moved | Change::Trapped => {}
+        }
+        self.activity = Activity::Running;
+    }
+
+    /// Whether the rank is running and has a statement left.
+    pub fn can_step(&self, code: &Code) -> bool
+        ensures { (rank size : ℕ) → result ≡ is_some (local rank size (rank_of code.now.program self.now)) }
+    {
+        match self.activity {
+            Activity::Running => code.node(self.node).is_some(),
+            Activity::Blocked | Activity::Trapped(_) => false,
+        }
+    }
+
+    /// Whether the rank is running with no statement left.
+    pub fn has_ended(&self, code: &Code) -> bool
+        ensures { result ≡ has_ended (rank_of code.now.program self.now) }
+    {
+        match self.activity {
+            Activity::Running => code.node(self.node).is_none(),
+            Activity::Blocked | Activity::Trapped(_) => false,
+        }
+    }
+
+    /// The number of its next statement, where it has one.
+    pub fn next_statement(&self, code: &Code) -> Option<usize>
+        ensures { result ≡ first_number (left_at code.now.program self.now.node) }
+    {
+        match code.node(self.node) {
+            Some(_) => Some(self.node),
+            None => None,
+        }
+    }
+
+    /// Its variables.
+    pub fn variables(&self) -> &[i64]
+        ensures { result.now ≡ self.now.vars }
+    {
+        &self.vars
+    }
+
+    /// The call of each handle.
+    pub fn handles(&self) -> &[Option<usize>]
+        ensures { result.now ≡ self.now.handles }
+    {
+        &self.handles
+    }
+
+    /// Its calls, in the order of issue.
+    pub fn calls(&self) -> &[Call]
+        ensures { result.now ≡ self.now.calls }
+    {
+        &self.calls
+    }
+
+    /// What it has printed.
+    pub fn output(&self) -> &[i64]
+        ensures { result.now ≡ self.now.out }
+    {
+        &self.out
+    }
+
+    /// What it is doing.
+    pub fn activity(&self) -> Activity
+        ensures { result ≡ self.now.activity }
+    {
+        self.activity
+    }
+}
