@@ -1,6 +1,6 @@
 //! The state of one rank.
 
-ghost use Rattle.std.specs.Prelude.{◌≡◌, ◌<◌, ◌≤◌, ◌^◌, IfOk, OnOk, is_some, ℕ, Some, slice_set};
+ghost use Rattle.std.specs.Prelude.{◌≡◌, ◌<◌, ◌≤◌, ◌^◌, IfOk, IfSome, IfNone, OnOk, OnErr, is_some, IsSome, ℕ, Some, slice_set};
 ghost use Rattle.std.specs.Option.{option_map};
 ghost use Rattle.mpd_model.specs.Program.{Program};
 ghost use Rattle.mpd_code.specs.Left.{left_at};
@@ -68,7 +68,7 @@ impl RankState {
     /// Keeps room for one step. An `Err` is want of memory; what the rank is stays as it was.
     pub fn keep_room(&mut self) -> Result<(), AllocError>
         ensures room { OnOk result (HasRoom self.new) }
-        ensures same { (p : Program) → rank_of p self.new ≡ rank_of p self.old }
+        ensures same { self.new ≡ record self.old { call_room = self.new.call_room; out_room = self.new.out_room } }
     {
         self.calls.reserve(1)?;
         self.out.reserve(1)?;
@@ -151,6 +151,29 @@ impl RankState {
             }
         };
         RankRecord { from, change }
+    }
+
+    /// Runs the next statement on rank `rank` of `size`, where the rank is running and has one. An `Err` is want of memory.
+    #[tactic(auto, using(crate::proofs::RankLemmas::stepping))]
+    pub fn step(
+        &mut self,
+        code: &Code,
+        rank: usize,
+        size: usize,
+    ) -> Result<Option<RankRecord>, AllocError>
+        requires rank { rank < 2 ^ 63 }
+        requires size { size < 2 ^ 63 }
+        ensures step { IfOk result (λ done. local rank size (rank_of code.now.program self.old) ≡ option_map (λ _. rank_of code.now.program self.new) done) }
+        ensures back { IfOk result (λ done. IfSome done (λ r. undone_rank code.now.program (rank_of code.now.program self.new) r ≡ rank_of code.now.program self.old)) }
+        ensures none { IfOk result (λ done. IfNone done (self.new ≡ self.old)) }
+        ensures err { OnErr result (rank_of code.now.program self.new ≡ rank_of code.now.program self.old) }
+        ensures enabled { OnErr result (IsSome (local rank size (rank_of code.now.program self.old))) }
+    {
+        let Some(plan) = self.plan_local(code, rank, size) else {
+            return Ok(None);
+        };
+        self.keep_room()?;
+        Ok(Some(self.commit(plan)))
     }
 
     /// Goes on after a wake, with a cell written. It takes no memory.

@@ -1,0 +1,96 @@
+-- What a node plans is what its statement makes of a rank.
+use Rattle.std.proofs.Common.{◌≡◌, ℕ, ◌+◌, ℤ, Bool, true, false, List, [], ◌∷◌, ◌++◌, Option, Some, None, Result, Ok, Err, refl, sym, ap, ◌∙◌, if◌then◌else◌}
+use Rattle.std.specs.Option.{option_map}
+use Rattle.mpd_model.specs.declared.call.Activity.{Activity}
+use Rattle.mpd_model.specs.declared.call.Activity.TheVariants.{Running, Blocked, Trapped}
+use Rattle.mpd_model.specs.declared.call.CallKind.{CallKind}
+use Rattle.mpd_model.specs.declared.call.Trap.{Trap}
+use Rattle.mpd_model.specs.Term.{Term, Value, value_of, is_zero}
+use Rattle.mpd_model.specs.Tree.{Tree, Block, repeat, trees, statements_in, numbered}
+use Rattle.mpd_model.specs.Program.{Program}
+use Rattle.mpd_model.specs.World.{RankWorld}
+use Rattle.mpd_model.specs.Next.{local, local_of, ran, printed, issued, assigned, asserted, chosen, taken, repeated, send_kind, recv_kind, written}
+use Rattle.mpd_code.specs.declared.node.Node.{Node}
+use Rattle.mpd_code.specs.declared.node.Action.{Action}
+use Rattle.mpd_code.specs.declared.node.Action.TheVariants as a
+use Rattle.mpd_code.specs.Left.{left_at}
+use Rattle.mpd_code.specs.Stands.{Does, Stands}
+use Rattle.mpd_rank.specs.Plans.{plan_of, planned, print_plan, assign_plan, issue_plan, assert_plan, choice_plan}
+
+print_ran : (s : Program) (r : RankWorld) (i next : ℕ) (v : Value) → planned s r i (print_plan v next) ≡ printed r (left_at s next) v
+print_ran s r i next (Ok v) = refl
+print_ran s r i next (Err t) = refl
+
+issue_ran : (s : Program) (r : RankWorld) (i next : ℕ) (k : Result CallKind Trap) → planned s r i (issue_plan k next) ≡ issued r (left_at s next) i k
+issue_ran s r i next (Ok k) = refl
+issue_ran s r i next (Err t) = refl
+
+assign_ran : (s : Program) (r : RankWorld) (i next : ℕ) (w : Result (ℕ × ℤ) Trap) → planned s r i (assign_plan w next) ≡ assigned r (left_at s next) w
+assign_ran s r i next (Ok w) = refl
+assign_ran s r i next (Err t) = refl
+
+assert_by : (s : Program) (r : RankWorld) (i next : ℕ) (v : ℤ) (b : Bool) → is_zero v ≡ b → planned s r i (assert_plan (Ok v) next) ≡ asserted r (left_at s next) (Ok v)
+assert_by s r i next v true e = rw e refl
+assert_by s r i next v false e = rw e refl
+
+assert_ran : (s : Program) (r : RankWorld) (i next : ℕ) (v : Value) → planned s r i (assert_plan v next) ≡ asserted r (left_at s next) v
+assert_ran s r i next (Ok v) = assert_by s r i next v (is_zero v) refl
+assert_ran s r i next (Err t) = refl
+
+choice_by : (s : Program) (r : RankWorld) (i first second : ℕ) (tail : List (ℕ × Tree)) (x y : Block) (v : ℤ) (b : Bool) → is_zero v ≡ b
+    → left_at s first ≡ numbered (i + 1) (trees x) ++ tail → left_at s second ≡ numbered (i + 1 + statements_in x) (trees y) ++ tail
+    → planned s r i (choice_plan (Ok v) first second) ≡ chosen r tail i (Ok v) x y
+choice_by s r i first second tail x y v true e h g = rw (e, g) refl
+choice_by s r i first second tail x y v false e h g = rw (e, h) refl
+
+choice_ran : (s : Program) (r : RankWorld) (i first second : ℕ) (tail : List (ℕ × Tree)) (x y : Block) (v : Value)
+    → left_at s first ≡ numbered (i + 1) (trees x) ++ tail → left_at s second ≡ numbered (i + 1 + statements_in x) (trees y) ++ tail
+    → planned s r i (choice_plan v first second) ≡ chosen r tail i v x y
+choice_ran s r i first second tail x y (Ok v) h g = choice_by s r i first second tail x y v (is_zero v) refl h g
+choice_ran s r i first second tail x y (Err t) h g = refl
+
+repeat_by : (s : Program) (r : RankWorld) (i body next : ℕ) (c : Term) (x : Block) (v : ℤ) (b : Bool) → is_zero v ≡ b
+    → left_at s body ≡ numbered (i + 1) (trees x) ++ (i, repeat c x) ∷ left_at s next
+    → planned s r i (choice_plan (Ok v) body next) ≡ repeated r (left_at s next) i (Ok v) c x
+repeat_by s r i body next c x v true e h = rw e refl
+repeat_by s r i body next c x v false e h = rw (e, h) refl
+
+repeat_ran : (s : Program) (r : RankWorld) (i body next : ℕ) (c : Term) (x : Block) (v : Value)
+    → left_at s body ≡ numbered (i + 1) (trees x) ++ (i, repeat c x) ∷ left_at s next
+    → planned s r i (choice_plan v body next) ≡ repeated r (left_at s next) i v c x
+repeat_ran s r i body next c x (Ok v) h = repeat_by s r i body next c x v (is_zero v) refl h
+repeat_ran s r i body next c x (Err t) h = refl
+
+does_ran : (s : Program) (p n : ℕ) (r : RankWorld) (i next : ℕ) (act : Action) (t : Tree) → Does (left_at s) i (left_at s next) act t
+    → planned s r i (plan_of act next r.vars p n) ≡ ran p n r i t (left_at s next)
+does_ran s p n r i next (a.Print e) t d = rw d (print_ran s r i next (value_of e r.vars p n))
+does_ran s p n r i next (a.Send value to tag) t d = rw d (issue_ran s r i next (send_kind value to tag r.vars p n))
+does_ran s p n r i next (a.Recv into from tag) t d = rw d (issue_ran s r i next (recv_kind into from tag r.vars p n))
+does_ran s p n r i next (a.Assign into e) t d = rw d (assign_ran s r i next (written into e r.vars p n))
+does_ran s p n r i next (a.Assert e) t d = rw d (assert_ran s r i next (value_of e r.vars p n))
+does_ran s p n r i next (a.Branch c first second) t d = rw d.1.1.0 (choice_ran s r i first second (left_at s next) d.0 d.1.0 (value_of c r.vars p n) d.1.1.1.0 d.1.1.1.1)
+does_ran s p n r i next (a.Repeat c body) t d = rw d.1.0 (repeat_ran s r i body next c d.0 (value_of c r.vars p n) d.1.1)
+
+running_first : (p n : ℕ) (r : RankWorld) (i : ℕ) (t : Tree) (ts : List (ℕ × Tree)) → r.activity ≡ Running → r.rest ≡ (i, t) ∷ ts → local p n r ≡ Some (ran p n r i t ts)
+running_first p n r i t ts e h = rw (e, h) refl
+
+-- a running rank at a node
+pub stands_ran : (s : Program) (p n : ℕ) (r : RankWorld) (i : ℕ) (node : Node) → r.activity ≡ Running → r.rest ≡ left_at s i → Stands (left_at s) i node
+    → local p n r ≡ Some (planned s r i (plan_of node.action node.next r.vars p n))
+stands_ran s p n r i node e h d =
+    running_first p n r i d.statement (left_at s node.next) e (h ∙ d.left) ∙ ap Some (sym (does_ran s p n r i node.next node.action d.statement d.does))
+
+-- a running rank with nothing left
+pub ended_none : (p n : ℕ) (r : RankWorld) → r.activity ≡ Running → r.rest ≡ [] → local p n r ≡ None
+ended_none p n r e h = rw (e, h) refl
+
+local_runs : (p n : ℕ) (r s : RankWorld) (act : Activity) → r.activity ≡ act → local p n r ≡ Some s → r.activity ≡ Running
+local_runs p n r s Running e h = e
+local_runs p n r s Blocked e h = absurd (cc)
+local_runs p n r s (Trapped t) e h = absurd (cc)
+
+-- only a running rank steps
+pub steps_running : (p n : ℕ) (r s : RankWorld) → local p n r ≡ Some s → r.activity ≡ Running
+steps_running p n r s h = local_runs p n r s r.activity refl h
+
+pub ruleset planning = (stands_ran, ended_none)
