@@ -52,6 +52,7 @@ impl Model for Code {
 
 impl Code {
     /// The node of a number. There is none at the end, where nothing is left to run.
+    #[tactic(auto, using(crate::proofs::Standing::standing))]
     pub fn node(&self, number: usize) -> Option<&Node>
         ensures some { IfSome result (λ node. Stands (left_at self.now.program) number node.now) }
         ensures none { IfNone result (left_at self.now.program number ≡ []) }
@@ -60,6 +61,7 @@ impl Code {
     }
 
     /// The number at which a rank starts.
+    #[tactic(auto, using(crate::proofs::Standing::standing))]
     pub fn start(&self) -> usize
         ensures { left_at self.now.program result ≡ numbered 0 self.now.program.body }
     {
@@ -67,6 +69,7 @@ impl Code {
     }
 
     /// How many nodes there are.
+    #[tactic(auto, using(crate::proofs::Standing::standing))]
     pub fn nodes(&self) -> usize
         ensures { result ≡ statements_in (block_of self.now.program.body) }
     {

@@ -1,7 +1,7 @@
 //! Scripts as code: a flat list of nodes, each of which stands for what is left to run, and the values of expressions.
 #![tactic(auto)]
 
-pub mod cells;
+mod cells;
 pub mod code;
 pub mod eval;
 pub mod lower;
