@@ -15,6 +15,8 @@ use Rattle.mpd_code.specs.declared.node.Action.{Action}
 use Rattle.mpd_code.specs.declared.node.Action.TheVariants as a
 use Rattle.mpd_code.specs.Left.{left_at}
 use Rattle.mpd_code.specs.Stands.{Does, Stands}
+use Rattle.mpd_rank.specs.declared.plan.LocalPlan.{LocalPlan}
+use Rattle.mpd_rank.specs.Views.{RankView, rank_of}
 use Rattle.mpd_rank.specs.Plans.{plan_of, planned, print_plan, assign_plan, issue_plan, assert_plan, choice_plan}
 
 print_ran : (s : Program) (r : RankWorld) (i next : ℕ) (v : Value) → planned s r i (print_plan v next) ≡ printed r (left_at s next) v
@@ -80,6 +82,15 @@ pub stands_ran : (s : Program) (p n : ℕ) (r : RankWorld) (i : ℕ) (node : Nod
 stands_ran s p n r i node e h d =
     running_first p n r i d.statement (left_at s node.next) e (h ∙ d.left) ∙ ap Some (sym (does_ran s p n r i node.next node.action d.statement d.does))
 
+-- the same of what a rank shows
+pub view_ran : (s : Program) (p n : ℕ) (u v : RankView) (vars : List ℤ) (plan : LocalPlan) (node : Node) → u ≡ v → u.activity ≡ Running → Stands (left_at s) u.node node → vars ≡ u.vars
+    → plan ≡ plan_of node.action node.next vars p n → local p n (rank_of s v) ≡ Some (planned s (rank_of s v) v.node plan)
+view_ran s p n u v vars plan node same running d held is =
+    let facts : local p n (rank_of s u) ≡ Some (planned s (rank_of s u) u.node (plan_of node.action node.next u.vars p n)) = stands_ran s p n (rank_of s u) u.node node running refl d in
+    let planned_is : plan_of node.action node.next u.vars p n ≡ plan = ap (λ vs. plan_of node.action node.next vs p n) (sym held) ∙ sym is in
+    let at_u : local p n (rank_of s u) ≡ Some (planned s (rank_of s u) u.node plan) = facts ∙ ap (λ q. Some (planned s (rank_of s u) u.node q)) planned_is in
+    ap (λ w. local p n (rank_of s w)) (sym same) ∙ at_u ∙ ap (λ (w : RankView). Some (planned s (rank_of s w) w.node plan)) same
+
 -- a running rank with nothing left
 pub ended_none : (p n : ℕ) (r : RankWorld) → r.activity ≡ Running → r.rest ≡ [] → local p n r ≡ None
 ended_none p n r e h = rw (e, h) refl
@@ -93,4 +104,4 @@ local_runs p n r s (Trapped t) e h = absurd (cc)
 pub steps_running : (p n : ℕ) (r s : RankWorld) → local p n r ≡ Some s → r.activity ≡ Running
 steps_running p n r s h = local_runs p n r s r.activity refl h
 
-pub ruleset planning = (stands_ran, ended_none)
+pub ruleset planning = (ended_none)

@@ -76,6 +76,7 @@ impl RankState {
     }
 
     /// What the next local step does on rank `rank` of `size`, where there is one. Nothing changes.
+    #[tactic(auto, using(crate::proofs::PlanLemmas::planning))]
     pub fn plan_local(&self, code: &Code, rank: usize, size: usize) -> Option<LocalPlan>
         requires rank { rank < 2 ^ 63 }
         requires size { size < 2 ^ 63 }
@@ -103,15 +104,19 @@ impl RankState {
         Some((cell, was))
     }
 
-    /// Writes a cell, and answers the change.
-    fn assign(&mut self, cell: usize, value: i64) -> Change
-        ensures after { self.new ≡ record self.old { vars = slice_set self.old.vars cell value } }
-        ensures change { result ≡ assigned_change (held self.old.vars (Some (cell, value))) }
+    /// Writes a cell, and goes on at a node.
+    fn assign(&mut self, cell: usize, value: i64, next: usize) -> RankRecord
+        ensures after { self.new ≡ record self.old { node = next; vars = slice_set self.old.vars cell value } }
+        ensures from { result.from ≡ self.old.node }
+        ensures change { result.change ≡ assigned_change (held self.old.vars (Some (cell, value))) }
     {
-        match self.write(Some((cell, value))) {
+        let from = self.node;
+        self.node = next;
+        let change = match self.write(Some((cell, value))) {
             Some((cell, was)) => Change::Assigned { cell, was },
             None => Change::Moved,
-        }
+        };
+        RankRecord { from, change }
     }
 
     /// Does what was planned, in the room that was kept. It takes no memory.
@@ -132,10 +137,7 @@ impl RankState {
                 self.node = next;
                 Change::Printed
             }
-            LocalPlan::Assign { cell, value, next } => {
-                self.node = next;
-                self.assign(cell, value)
-            }
+            LocalPlan::Assign { cell, value, next } => return self.assign(cell, value, next),
             LocalPlan::Issue { kind, next } => {
                 self.calls.push_reserved(Call {
                     statement: from,
@@ -154,7 +156,7 @@ impl RankState {
     }
 
     /// Runs the next statement on rank `rank` of `size`, where the rank is running and has one. An `Err` is want of memory.
-    #[tactic(auto, using(crate::proofs::RankLemmas::stepping))]
+    #[tactic(auto, using(crate::proofs::PlanLemmas::steps_running))]
     pub fn step(
         &mut self,
         code: &Code,
