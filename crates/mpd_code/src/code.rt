@@ -1,6 +1,6 @@
 //! Lowered code.
 
-ghost use Rattle.std.specs.Prelude.{◌≡◌, ◌<◌, [], IfSome, IfNone, Some, slice_get};
+ghost use Rattle.std.specs.Prelude.{◌≡◌, ◌<◌, ◌≤◌, [], IfSome, IfNone, Some, slice_get};
 ghost use Rattle.mpd_model.specs.Declaration.{variables_in, handles_in};
 ghost use Rattle.mpd_model.specs.Tree.{block_of, statements_in, numbered};
 ghost use Rattle.mpd_code.specs.Left.{left_at};
@@ -84,9 +84,18 @@ impl Code {
         self.lines[number]
     }
 
-    /// How many ranks run it.
+    /// The lines of all nodes, in their order.
+    pub fn lines(&self) -> &[usize]
+        ensures { result.now ≡ self.now.program.lines }
+    {
+        &self.lines
+    }
+
+    /// How many ranks run it, 1 to 16.
     pub fn ranks(&self) -> usize
-        ensures { result ≡ self.now.program.ranks }
+        ensures value { result ≡ self.now.program.ranks }
+        ensures some { 1 ≤ result }
+        ensures small { result ≤ 16 }
     {
         self.ranks
     }

@@ -1,4 +1,3 @@
-pub mod StackLemmas
 pub mod RankLemmas
 pub mod ScanLemmas
 pub mod RangeLemmas

@@ -13,7 +13,7 @@ use mpd_model::outcome::{CallList, Outcome, TrapList, TrappedRank};
 use mpd_model::step::{CallId, Step};
 use std::alloc::{AllocError, Global};
 
-impl<'s> Core<'s> {
+impl<'c> Core<'c> {
     /// Whether some rank has a local step.
     #[tactic(auto, using(crate::proofs::RangeLemmas::any_mapped))]
     fn can_step_any(&self) -> bool

@@ -4,34 +4,35 @@ ghost use Rattle.std.specs.Prelude.{◌≡◌, ◌↔◌, ◌<◌, ◌≤◌, �
 ghost use Rattle.std.specs.Option.{option_map};
 ghost use Rattle.std.specs.List.{list_any, list_all};
 ghost use Rattle.mpd_model.specs.Outcomes.{has_ended, first_number};
+ghost use Rattle.mpd_model.specs.Program.{Program};
 ghost use Rattle.mpd_model.specs.World.{partner as partner_in, call_id, call_at, kind_at, calls_of, is_free, fits, is_pending, is_posted, pending, posted, eligible, buffer, complete, start, start_rank, last_call};
 ghost use Rattle.mpd_model.specs.Next.{next, is_enabled, local_in, update_at, woken_rank, written_by, can_wake, waits};
-ghost use Rattle.mpd_core.specs.Heads.{heads};
 ghost use Rattle.mpd_core.specs.Views.{ranks_in};
-ghost use Rattle.mpd_core.specs.Undone.{undone_rank, blocked_rank};
+ghost use Rattle.mpd_rank.specs.Views.{rank_of};
+ghost use Rattle.mpd_rank.specs.Undone.{undone_rank};
 ghost use Rattle.mpd_core.specs.Scan.{is_early_send, is_early_recv};
 
-use crate::change::{Change, LocalRecord};
 use crate::fault::StepFault;
 use crate::lookup;
-use crate::pending::Pending;
-use crate::rank::RankState;
+use crate::record::Record;
+use mpd_code::code::Code;
 use mpd_model::call::{Activity, Call, CallKind, MatchSet, Message, Mode};
-use mpd_model::script::Script;
 use mpd_model::step::{CallId, Step};
+use mpd_rank::change::{Change, RankRecord};
+use mpd_rank::rank::RankState;
 use std::alloc::{AllocError, Global};
 use std::marker::Model;
 
-/// The state of a run, which contracts see as a `CoreView`: its script, and its world.
+/// The state of a run, which contracts see as a `CoreView`: its program, and its world.
 #[derive(Drop)]
-pub struct Core<'s> {
-    script: &'s Script,
+pub struct Core<'c> {
+    code: &'c Code,
     mode: Mode,
-    ranks: Vec<RankState<'s>>,
+    ranks: Vec<RankState>,
     sets: Vec<MatchSet>,
 }
 
-impl<'s> Model for Core<'s> {
+impl<'c> Model for Core<'c> {
     ghost use Rattle.std.specs.Prelude.{◌≤◌, length};
     ghost use Rattle.mpd_core.specs.Views.{CoreView, core_view_code, ranks_in};
 
@@ -39,112 +40,75 @@ impl<'s> Model for Core<'s> {
 
     ghost coded = { core_view_code };
 
-    ghost view = { λ c. record { program = c.script.now; world = record { mode = c.mode; ranks = ranks_in c.ranks.items; sets = c.sets.items } } };
+    ghost view = { λ c. record { program = c.code.now.program; world = record { mode = c.mode; ranks = ranks_in c.code.now.program c.ranks.items; sets = c.sets.items } } };
 
     ghost invariant = { λ c. length c.ranks.items ≤ 16 };
 }
 
-/// What takes a step back, which contracts see as an `Undo`.
-#[derive(Drop)]
-pub struct Record<'s> {
-    step: Step,
-    from: Vec<Pending<'s>>,
-    change: Change,
-}
-
-impl<'s> Model for Record<'s> {
-    ghost use Rattle.mpd_core.specs.Undone.{Undo, undo_code};
-    ghost use Rattle.mpd_core.specs.Heads.{heads};
-
-    ghost Value = { Undo };
-
-    ghost coded = { undo_code };
-
-    ghost view = { λ r. record { step = r.step; from = heads r.from.items; change = r.change } };
-}
-
 /// So many ranks before their first step.
 #[tactic(auto, using(crate::proofs::RankLemmas::starting))]
-fn start_ranks<'s>(
-    alloc: Global,
-    script: &'s Script,
-    size: usize,
-) -> Result<Vec<RankState<'s>>, AllocError>
-    ensures ranks { IfOk result (λ ranks. ranks_in ranks.items ≡ replicate size (start_rank script.now)) }
+fn start_ranks(alloc: Global, code: &Code, size: usize) -> Result<Vec<RankState>, AllocError>
+    ensures ranks { IfOk result (λ ranks. ranks_in code.now.program ranks.items ≡ replicate size (start_rank code.now.program)) }
     ensures size { IfOk result (λ ranks. vec_len ranks ≡ size) }
 {
     let mut ranks = Vec::new(alloc);
     for _rank in 0..size {
-        ranks.push(RankState::start(alloc, script)?)?;
+        ranks.push(RankState::start(alloc, code)?)?;
     }
     Ok(ranks)
 }
 
 /// Runs the next statement of one rank.
 #[tactic(auto, using(crate::proofs::RankLemmas::at_rank))]
-fn step_one<'s>(
-    ranks: &mut Vec<RankState<'s>>,
+fn step_one(
+    code: &Code,
+    ranks: &mut Vec<RankState>,
     rank: usize,
-) -> Result<Option<LocalRecord<'s>>, AllocError>
+) -> Result<Option<RankRecord>, AllocError>
     requires within { rank < vec_len ranks.old }
     requires few { vec_len ranks.old ≤ 16 }
-    ensures step { IfOk result (λ done. local_in (ranks_in ranks.old.items) rank ≡ option_map (λ _. ranks_in ranks.new.items) done) }
-    ensures back { IfOk result (λ done. IfSome done (λ r. update_at (ranks_in ranks.new.items) rank (λ s. undone_rank s (heads r.from.items) r.change) ≡ ranks_in ranks.old.items)) }
-    ensures none { IfOk result (λ done. IfNone done (ranks_in ranks.new.items ≡ ranks_in ranks.old.items)) }
-    ensures err { OnErr result (ranks_in ranks.new.items ≡ ranks_in ranks.old.items) }
-    ensures enabled { OnErr result (IsSome (local_in (ranks_in ranks.old.items) rank)) }
+    ensures step { IfOk result (λ done. local_in (ranks_in code.now.program ranks.old.items) rank ≡ option_map (λ _. ranks_in code.now.program ranks.new.items) done) }
+    ensures back { IfOk result (λ done. IfSome done (λ r. update_at (ranks_in code.now.program ranks.new.items) rank (λ s. undone_rank code.now.program s r) ≡ ranks_in code.now.program ranks.old.items)) }
+    ensures none { IfOk result (λ done. IfNone done (ranks_in code.now.program ranks.new.items ≡ ranks_in code.now.program ranks.old.items)) }
+    ensures err { OnErr result (ranks_in code.now.program ranks.new.items ≡ ranks_in code.now.program ranks.old.items) }
+    ensures enabled { OnErr result (IsSome (local_in (ranks_in code.now.program ranks.old.items) rank)) }
     ensures size { vec_len ranks.new ≡ vec_len ranks.old }
 {
     let size = ranks.len();
     let state = &mut ranks[rank];
-    state.step(rank, size)
+    state.step(code, rank, size)
 }
 
-/// Wakes one rank, and answers what the write of its cell overwrote.
+/// Wakes one rank, and answers what takes that back.
 #[tactic(auto, using(crate::proofs::RankLemmas::at_rank))]
-fn wake_one<'s>(
-    ranks: &mut Vec<RankState<'s>>,
-    rank: usize,
-    write: Option<(usize, i64)>,
-) -> Option<(usize, i64)>
+fn wake_one(ranks: &mut Vec<RankState>, rank: usize, write: Option<(usize, i64)>) -> RankRecord
     requires { rank < vec_len ranks.old }
-    ensures after { ranks_in ranks.new.items ≡ update_at (ranks_in ranks.old.items) rank (woken_rank write) }
-    ensures back { IfSome (slice_get (ranks_in ranks.old.items) rank) (λ r. r.activity ≡ Activity.Blocked) → update_at (ranks_in ranks.new.items) rank (blocked_rank result) ≡ ranks_in ranks.old.items }
+    ensures after { (s : Program) → ranks_in s ranks.new.items ≡ update_at (ranks_in s ranks.old.items) rank (woken_rank write) }
+    ensures back { (s : Program) → IfSome (slice_get (ranks_in s ranks.old.items) rank) (λ r. r.activity ≡ Activity.Blocked) → update_at (ranks_in s ranks.new.items) rank (λ r. undone_rank s r result) ≡ ranks_in s ranks.old.items }
     ensures size { vec_len ranks.new ≡ vec_len ranks.old }
 {
     let state = &mut ranks[rank];
-    state.wake(write)
+    state.complete(write)
 }
 
-/// Blocks one rank again.
+/// Takes the step of one rank back.
 #[tactic(auto, using(crate::proofs::RankLemmas::at_rank))]
-fn unwake_one<'s>(ranks: &mut Vec<RankState<'s>>, rank: usize, was: Option<(usize, i64)>)
+fn restore_one(ranks: &mut Vec<RankState>, rank: usize, done: RankRecord)
     requires { rank < vec_len ranks.old }
-    ensures after { ranks_in ranks.new.items ≡ update_at (ranks_in ranks.old.items) rank (blocked_rank was) }
+    ensures after { (s : Program) → ranks_in s ranks.new.items ≡ update_at (ranks_in s ranks.old.items) rank (λ r. undone_rank s r done) }
     ensures size { vec_len ranks.new ≡ vec_len ranks.old }
 {
     let state = &mut ranks[rank];
-    state.unwake(was);
-}
-
-/// Takes back the local step of one rank.
-#[tactic(auto, using(crate::proofs::RankLemmas::at_rank))]
-fn unstep_one<'s>(ranks: &mut Vec<RankState<'s>>, rank: usize, done: LocalRecord<'s>)
-    requires { rank < vec_len ranks.old }
-    ensures after { ranks_in ranks.new.items ≡ update_at (ranks_in ranks.old.items) rank (λ s. undone_rank s (heads done.entry.from.items) done.entry.change) }
-    ensures size { vec_len ranks.new ≡ vec_len ranks.old }
-{
-    let state = &mut ranks[rank];
-    state.unstep(done);
+    state.restore(done);
 }
 
 /// Whether every rank has ended.
 #[tactic(auto, using(crate::proofs::RankLemmas::ending))]
-fn all_ended(ranks: &[RankState<'_>]) -> bool
-    ensures { result ≡ list_all has_ended (ranks_in ranks.now) }
+fn all_ended(code: &Code, ranks: &[RankState]) -> bool
+    ensures { result ≡ list_all has_ended (ranks_in code.now.program ranks.now) }
 {
     for rank in ranks {
-        if !rank.has_ended() {
+        if !rank.has_ended(code) {
             return false;
         }
     }
@@ -153,34 +117,34 @@ fn all_ended(ranks: &[RankState<'_>]) -> bool
 
 /// A rank, where there is one.
 #[tactic(auto, using(crate::proofs::RankLemmas::reading))]
-fn rank_at<'a, 's>(ranks: &'a [RankState<'s>], rank: usize) -> Option<&'a RankState<'s>>
-    ensures { slice_get (ranks_in ranks.now) rank ≡ option_map (λ r. r.now.rank) result }
+fn rank_at(ranks: &[RankState], rank: usize) -> Option<&RankState>
+    ensures { (s : Program) → slice_get (ranks_in s ranks.now) rank ≡ option_map (λ r. rank_of s r.now) result }
 {
     ranks.get(rank)
 }
 
-impl<'s> Core<'s> {
+impl<'c> Core<'c> {
     ghost use Rattle.mpd_core.specs.Undone.{undone};
 
     /// Every rank before its first step. An `Err` is want of memory.
-    pub fn start(alloc: Global, script: &'s Script, mode: Mode) -> Result<Core<'s>, AllocError>
-        ensures program { IfOk result (λ core. core.program ≡ script.now) }
-        ensures world { IfOk result (λ core. core.world ≡ start script.now mode) }
+    pub fn start(alloc: Global, code: &'c Code, mode: Mode) -> Result<Core<'c>, AllocError>
+        ensures program { IfOk result (λ core. core.program ≡ code.now.program) }
+        ensures world { IfOk result (λ core. core.world ≡ start code.now.program mode) }
     {
-        let size = script.ranks;
+        let size = code.ranks();
         Ok(Core {
-            script,
+            code,
             mode,
-            ranks: start_ranks(alloc, script, size)?,
+            ranks: start_ranks(alloc, code, size)?,
             sets: Vec::new(alloc),
         })
     }
 
-    /// The script that is run.
-    pub fn script(&self) -> &'s Script
-        ensures { result.now ≡ self.now.program }
+    /// The code that is run.
+    pub fn code(&self) -> &'c Code
+        ensures { result.now.program ≡ self.now.program }
     {
-        self.script
+        self.code
     }
 
     /// What memory is taken from.
@@ -366,14 +330,14 @@ impl<'s> Core<'s> {
     pub fn all_ended(&self) -> bool
         ensures { result ≡ list_all has_ended self.now.world.ranks }
     {
-        all_ended(&self.ranks)
+        all_ended(self.code, &self.ranks)
     }
 
     /// A rank, which is there.
     #[tactic(auto, using(crate::proofs::RankLemmas::reading))]
-    fn rank(&self, rank: usize) -> &RankState<'s>
+    fn rank(&self, rank: usize) -> &RankState
         requires { rank < length self.now.world.ranks }
-        ensures { slice_get self.now.world.ranks rank ≡ Some result.now.rank }
+        ensures { slice_get self.now.world.ranks rank ≡ Some (rank_of self.now.program result.now) }
     {
         &self.ranks[rank]
     }
@@ -383,7 +347,7 @@ impl<'s> Core<'s> {
         requires { rank < length self.now.world.ranks }
         ensures { IfSome (slice_get self.now.world.ranks rank) (λ r. result ≡ first_number r.rest) }
     {
-        self.rank(rank).next_statement()
+        self.rank(rank).next_statement(self.code)
     }
 
     /// The variables of a rank, cell by cell.
@@ -451,7 +415,7 @@ impl<'s> Core<'s> {
     {
         match rank_at(&self.ranks, rank) {
             None => false,
-            Some(state) => state.can_step(rank, self.ranks.len()),
+            Some(state) => state.can_step(self.code),
         }
     }
 
@@ -468,9 +432,9 @@ impl<'s> Core<'s> {
     }
 
     /// A local step.
-    fn apply_local(&mut self, rank: usize) -> Result<Record<'s>, StepFault>
+    fn apply_local(&mut self, rank: usize) -> Result<Record, StepFault>
         ensures ok { OnOk result (next self.old.world (Step.Local rank) ≡ Some self.new.world) }
-        ensures back { IfOk result (λ done. undone self.new.world done ≡ self.old.world) }
+        ensures back { IfOk result (λ done. undone self.old.program self.new.world done ≡ self.old.world) }
         ensures step { IfOk result (λ done. done.step ≡ Step.Local rank) }
         ensures not_enabled { IsErrOf result StepFault.NotEnabled ↔ (next self.old.world (Step.Local rank) ≡ None) }
         ensures err { OnErr result (self.new.world ≡ self.old.world) }
@@ -479,10 +443,10 @@ impl<'s> Core<'s> {
         if rank >= self.ranks.len() {
             return Err(StepFault::NotEnabled);
         }
-        match step_one(&mut self.ranks, rank) {
+        match step_one(self.code, &mut self.ranks, rank) {
             Err(_) => Err(StepFault::Memory),
             Ok(None) => Err(StepFault::NotEnabled),
-            Ok(Some(LocalRecord { from, change })) => Ok(Record {
+            Ok(Some(RankRecord { from, change })) => Ok(Record {
                 step: Step::Local(rank),
                 from,
                 change,
@@ -491,9 +455,9 @@ impl<'s> Core<'s> {
     }
 
     /// A match.
-    fn apply_match(&mut self, send: CallId, recv: CallId) -> Result<Record<'s>, StepFault>
+    fn apply_match(&mut self, send: CallId, recv: CallId) -> Result<Record, StepFault>
         ensures ok { OnOk result (next self.old.world (Step.Match send recv) ≡ Some self.new.world) }
-        ensures back { IfOk result (λ done. undone self.new.world done ≡ self.old.world) }
+        ensures back { IfOk result (λ done. undone self.old.program self.new.world done ≡ self.old.world) }
         ensures step { IfOk result (λ done. done.step ≡ Step.Match send recv) }
         ensures not_enabled { IsErrOf result StepFault.NotEnabled ↔ (next self.old.world (Step.Match send recv) ≡ None) }
         ensures err { OnErr result (self.new.world ≡ self.old.world) }
@@ -505,7 +469,7 @@ impl<'s> Core<'s> {
         self.sets.push(MatchSet::Pair(send, recv))?;
         Ok(Record {
             step: Step::Match(send, recv),
-            from: Vec::new(*self.sets.allocator()),
+            from: 0,
             change: Change::Matched,
         })
     }
@@ -519,9 +483,9 @@ impl<'s> Core<'s> {
 
     /// A wake.
     #[tactic(auto, using(crate::proofs::RankLemmas::waking_blocked))]
-    fn apply_wake(&mut self, rank: usize) -> Result<Record<'s>, StepFault>
+    fn apply_wake(&mut self, rank: usize) -> Result<Record, StepFault>
         ensures ok { OnOk result (next self.old.world (Step.Wake rank) ≡ Some self.new.world) }
-        ensures back { IfOk result (λ done. undone self.new.world done ≡ self.old.world) }
+        ensures back { IfOk result (λ done. undone self.old.program self.new.world done ≡ self.old.world) }
         ensures step { IfOk result (λ done. done.step ≡ Step.Wake rank) }
         ensures not_enabled { IsErrOf result StepFault.NotEnabled ↔ (next self.old.world (Step.Wake rank) ≡ None) }
         ensures err { OnErr result (self.new.world ≡ self.old.world) }
@@ -533,19 +497,29 @@ impl<'s> Core<'s> {
         let id = self.last_call(rank);
         let write = self.write_of(id);
         self.sets.push(MatchSet::Woke(id))?;
-        let was = wake_one(&mut self.ranks, rank, write);
+        let RankRecord { from, change } = wake_one(&mut self.ranks, rank, write);
         Ok(Record {
             step: Step::Wake(rank),
-            from: Vec::new(*self.sets.allocator()),
-            change: Change::Woke(was),
+            from,
+            change,
         })
+    }
+
+    /// Takes the step of a rank back, where there is such a rank.
+    fn restore(&mut self, rank: usize, done: RankRecord)
+        ensures world { self.new.world ≡ record self.old.world { ranks = update_at self.old.world.ranks rank (λ r. undone_rank self.old.program r done) } }
+        ensures program { self.new.program ≡ self.old.program }
+    {
+        if rank < self.ranks.len() {
+            restore_one(&mut self.ranks, rank, done);
+        }
     }
 
     /// Takes a step, or refuses it: `NotEnabled` (21) exactly where the relation of steps has none, `Memory` (23)
     /// where a growth was refused. On a refusal the state is as before (docs/DEFINITIONS.md, "Steps").
-    pub fn apply(&mut self, step: Step) -> Result<Record<'s>, StepFault>
+    pub fn apply(&mut self, step: Step) -> Result<Record, StepFault>
         ensures ok { OnOk result (next self.old.world step ≡ Some self.new.world) }
-        ensures back { IfOk result (λ done. undone self.new.world done ≡ self.old.world) }
+        ensures back { IfOk result (λ done. undone self.old.program self.new.world done ≡ self.old.world) }
         ensures step { IfOk result (λ done. done.step ≡ step) }
         ensures not_enabled { IsErrOf result StepFault.NotEnabled ↔ (next self.old.world step ≡ None) }
         ensures err { OnErr result (self.new.world ≡ self.old.world) }
@@ -561,29 +535,19 @@ impl<'s> Core<'s> {
 
     /// Takes back the step that a record is of, and no memory. On the record of the last step not undone, the state
     /// is the one before that step.
-    pub fn undo(&mut self, done: Record<'s>)
-        ensures world { self.new.world ≡ undone self.old.world done.entry }
+    pub fn undo(&mut self, done: Record)
+        ensures world { self.new.world ≡ undone self.old.program self.old.world done }
         ensures program { self.new.program ≡ self.old.program }
     {
         let Record { step, from, change } = done;
         match step {
-            Step::Local(rank) => {
-                if rank < self.ranks.len() {
-                    unstep_one(&mut self.ranks, rank, LocalRecord { from, change });
-                }
-            }
+            Step::Local(rank) => self.restore(rank, RankRecord { from, change }),
             Step::Match(_, _) => {
                 let _ = self.sets.pop();
             }
             Step::Wake(rank) => {
                 let _ = self.sets.pop();
-                let was = match change {
-                    Change::Woke(was) => was,
-                    _ => None,
-                };
-                if rank < self.ranks.len() {
-                    unwake_one(&mut self.ranks, rank, was);
-                }
+                self.restore(rank, RankRecord { from, change });
             }
             Step::Release => {}
         }

@@ -47,7 +47,7 @@ fn push_place(out: &mut String, lines: &[usize], next: Option<usize>) -> Result<
     Ok(())
 }
 
-impl<'s> Core<'s> {
+impl<'c> Core<'c> {
     /// Adds a call as `show` prints it behind its name. An `Err` is want of memory.
     pub fn push_call(&self, out: &mut String, id: CallId) -> Result<(), AllocError>
         ensures { OnOk result (string_bytes out.new ≡ string_bytes out.old ++ call_text self.now.world id) }
@@ -69,7 +69,7 @@ impl<'s> Core<'s> {
             None => {}
             Some(Activity::Running) => {
                 let next = self.next_statement(rank);
-                push_place(out, &self.script().lines, next)?;
+                push_place(out, self.code().lines(), next)?;
             }
             Some(Activity::Blocked) => {
                 let number = self.last_call(rank).index;

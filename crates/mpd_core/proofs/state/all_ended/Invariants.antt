@@ -5,4 +5,4 @@ use Rattle.mpd_core.specs.Views.{ranks_in}
 use Rattle.mpd_core.proofs.state.all_ended.Given as goal
 
 abbrev pub invariant-loop-rank : goal.invariant-loop-rank
-invariant-loop-rank l = list_all has_ended (ranks_in (drop l.rank-index l.ranks)) ≡ list_all has_ended (ranks_in l.ranks)
+invariant-loop-rank l = list_all has_ended (ranks_in l.code.program (drop l.rank-index l.ranks)) ≡ list_all has_ended (ranks_in l.code.program l.ranks)

@@ -5,6 +5,6 @@ use Rattle.mpd_core.proofs.state.start_ranks.Given as goal
 
 abbrev pub invariant-loop-rank : goal.invariant-loop-rank
 invariant-loop-rank l = record {
-  ranks : ranks_in l.ranks.items ≡ replicate l._rank (start_rank l.script);
+  ranks : ranks_in l.code.program l.ranks.items ≡ replicate l._rank (start_rank l.code.program);
   size : length l.ranks.items ≡ l._rank;
 }

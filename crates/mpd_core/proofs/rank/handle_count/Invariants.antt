@@ -1,6 +1,0 @@
-use Rattle.std.proofs.Common.{◌≡◌, ◌+◌, drop}
-use Rattle.mpd_model.specs.Declaration.{handles_in}
-use Rattle.mpd_core.proofs.rank.handle_count.Given as goal
-
-abbrev pub invariant-loop-decl : goal.invariant-loop-decl
-invariant-loop-decl l = l.total + handles_in (drop l.decl-index l.decls) ≡ handles_in l.decls

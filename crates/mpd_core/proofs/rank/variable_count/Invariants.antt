@@ -1,6 +1,0 @@
-use Rattle.std.proofs.Common.{◌≡◌, ◌+◌, drop}
-use Rattle.mpd_model.specs.Declaration.{variables_in}
-use Rattle.mpd_core.proofs.rank.variable_count.Given as goal
-
-abbrev pub invariant-loop-decl : goal.invariant-loop-decl
-invariant-loop-decl l = l.total + variables_in (drop l.decl-index l.decls) ≡ variables_in l.decls
