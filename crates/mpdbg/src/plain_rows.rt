@@ -11,7 +11,7 @@ use std::io::Read;
 use std::process::Abort;
 use std::test::Fail;
 
-fn answers(
+pub fn answers(
     rt: &impl Abort,
     alloc: Global,
     input: &[u8],
@@ -24,7 +24,7 @@ fn answers(
     assert_eq!(rt; sink.into_writer().as_slice(), written.as_bytes());
 }
 
-fn refused(code: FaultCode, place: usize, line: usize) -> Result<(), PlainFault> {
+pub fn refused(code: FaultCode, place: usize, line: usize) -> Result<(), PlainFault> {
     Err(PlainFault::Script(ReadFault { code, place }, line))
 }
 

@@ -1,0 +1,196 @@
+//! Rows of the whole sequential language, worked out by hand from docs/LANGUAGE.md: what is printed, what traps, what is
+//! refused and where.
+
+use crate::plain::{PlainFault, plain};
+use crate::plain_rows::{answers, refused};
+use mpd_model::device::{FromReader, ToWriter};
+use mpd_model::read_fault::FaultCode;
+use std::alloc::{AllocError, Global};
+use std::process::Abort;
+use std::test::Fail;
+
+/// What an expression prints.
+const VALUES: [(&str, &str); 32] = [
+    ("7 / 2", "3"),
+    ("-7 / 2", "-3"),
+    ("7 / -2", "-3"),
+    ("-7 / -2", "3"),
+    ("7 % 2", "1"),
+    ("-7 % 2", "-1"),
+    ("7 % -2", "1"),
+    ("-7 % -2", "-1"),
+    ("2 + 3 * 4", "14"),
+    ("(2 + 3) * 4", "20"),
+    ("10 - 3 - 2", "5"),
+    ("100 / 5 / 2", "10"),
+    ("7 - 2 * 3 % 4", "5"),
+    ("1 < 2", "1"),
+    ("2 < 2", "0"),
+    ("2 <= 2", "1"),
+    ("2 > 1", "1"),
+    ("1 >= 2", "0"),
+    ("-1 < 0", "1"),
+    ("3 == 3", "1"),
+    ("3 != 3", "0"),
+    ("!0", "1"),
+    ("!5", "0"),
+    ("- -3", "3"),
+    ("!0 + 1", "2"),
+    ("-2 * 3", "-6"),
+    ("0 && 1 / 0", "0"),
+    ("1 || 1 / 0", "1"),
+    ("2 && 3", "1"),
+    ("1 || 0 && 0", "1"),
+    ("-9223372036854775807 - 1", "-9223372036854775808"),
+    ("9223372036854775807 + -1", "9223372036854775806"),
+];
+
+/// A statement that traps, behind declarations, and the trap's name.
+const TRAPS: [(&str, &str); 20] = [
+    ("print 9223372036854775807 + 1;", "overflow"),
+    ("print -9223372036854775807 - 2;", "overflow"),
+    ("print 3037000500 * 3037000500;", "overflow"),
+    ("print -(-9223372036854775807 - 1);", "overflow"),
+    ("print (-9223372036854775807 - 1) / -1;", "overflow"),
+    ("print (-9223372036854775807 - 1) % -1;", "overflow"),
+    ("print 1 / 0;", "zero-divisor"),
+    ("x = 1 % 0;", "zero-divisor"),
+    ("send 1 to 1 tag 0;", "bad-rank"),
+    ("recv x from -1 tag 0;", "bad-rank"),
+    ("send 1 to 9 tag 1 / 0;", "bad-rank"),
+    ("send 1 to 0 tag 32768;", "bad-tag"),
+    ("recv x from 0 tag -1;", "bad-tag"),
+    ("print a[2];", "bad-index"),
+    ("a[-1] = 1 / 0;", "bad-index"),
+    ("recv a[2] from 9 tag 0;", "bad-index"),
+    ("recv x from a[5] tag 0;", "bad-index"),
+    ("print e[0];", "bad-index"),
+    ("assert 1 < 1;", "assert"),
+    ("while 1 / x { x = 1; }", "zero-divisor"),
+];
+
+/// Texts behind `mpd 1;ranks 1;`, with the fault and the byte where it stands.
+const FAULTS: [(&str, FaultCode, usize); 24] = [
+    ("print 1;\u{1}", FaultCode::NotText, 22),
+    ("#\u{7f}", FaultCode::NotText, 15),
+    ("print 1 & 1;", FaultCode::BadToken, 22),
+    ("print 1 &&& 1;", FaultCode::BadToken, 24),
+    ("print 9223372036854775808;", FaultCode::BadToken, 20),
+    ("print 1 < 2 < 3;", FaultCode::Expected, 26),
+    ("print 1 + ;", FaultCode::Expected, 24),
+    ("print * 1;", FaultCode::Expected, 20),
+    ("var a[2];a=1;", FaultCode::Expected, 24),
+    ("var x;x[0]=1;", FaultCode::Expected, 21),
+    ("var a[-1];", FaultCode::Expected, 20),
+    ("while 1 print 1;", FaultCode::Expected, 22),
+    ("assert;", FaultCode::Expected, 20),
+    ("x=1;", FaultCode::UnknownName, 14),
+    ("var a[1];print a[y];", FaultCode::UnknownName, 31),
+    ("var a[2];var a;", FaultCode::Twice, 27),
+    ("var a;var a[2000];", FaultCode::Twice, 24),
+    ("var a[1025];", FaultCode::TooMany, 20),
+    ("var a[1024];var b;", FaultCode::TooMany, 30),
+    ("var a[1024];var b[1];", FaultCode::TooMany, 32),
+    ("waitany", FaultCode::NotInVersion, 14),
+    ("var x;waitany x;", FaultCode::NotInVersion, 20),
+    ("var x;x=1;waitany = 2;", FaultCode::NotInVersion, 24),
+    ("if 1 { waitany; }", FaultCode::NotInVersion, 21),
+];
+
+/// What the program writes of an input, or nothing where it is refused.
+fn written(rt: &impl Abort, alloc: Global, input: &str) -> Vec<u8> {
+    let mut source = FromReader::new(input.as_bytes());
+    let mut sink = ToWriter::new(Vec::new(alloc));
+    assert_eq!(rt; plain(alloc, &mut source, &mut sink), Ok(()), "{input}");
+    sink.into_writer()
+}
+
+fn repeated(
+    alloc: Global,
+    front: &str,
+    piece: &str,
+    count: usize,
+    back: &str,
+) -> Result<String, AllocError> {
+    let mut text = String::from_str(alloc, front)?;
+    for _ in 0..count {
+        text.push_str(piece)?;
+    }
+    text.push_str(back)?;
+    Ok(text)
+}
+
+#[test]
+fn prints_values(rt: HostRuntime) -> Result<(), Fail> {
+    let alloc = rt.alloc();
+    for (expression, value) in VALUES {
+        let input = format!(in alloc; "mpd 1;ranks 1;print {expression};\n---\nlocal 0\nshow\n")?;
+        let wanted = format!(in alloc; "ok 1\ndepth 1 of 1\nrank 0 ended\nvars\nhandles\nout {value}\noutcome done\nend\n")?;
+        assert_eq!(rt; written(&rt, alloc, input.as_str()).as_slice(), wanted.as_bytes(), "{expression}");
+    }
+    Ok(())
+}
+
+#[test]
+fn traps_and_undoes(rt: HostRuntime) -> Result<(), Fail> {
+    let alloc = rt.alloc();
+    for (statement, name) in TRAPS {
+        let input = format!(in alloc; "mpd 1;ranks 1;var x;var a[2];var e[0];{statement}\n---\nlocal 0\nshow\nback\nshow\n")?;
+        let wanted = format!(in alloc; "ok 1\ndepth 1 of 1\nrank 0 trapped {name}\nvars 0 0 0\nhandles\nout\noutcome trap 0 {name}\nend\nok 0\ndepth 0 of 1\nrank 0 at 1\nvars 0 0 0\nhandles\nout\nend\n")?;
+        assert_eq!(rt; written(&rt, alloc, input.as_str()).as_slice(), wanted.as_bytes(), "{statement}");
+    }
+    Ok(())
+}
+
+#[test]
+fn refuses_at_places(rt: HostRuntime) -> Result<(), Fail> {
+    let alloc = rt.alloc();
+    for (text, code, place) in FAULTS {
+        let input = format!(in alloc; "mpd 1;ranks 1;{text}")?;
+        answers(&rt, alloc, input.as_bytes(), refused(code, place, 1), "");
+    }
+    Ok(())
+}
+
+#[test]
+fn refuses_past_its_limits(rt: HostRuntime) -> Result<(), Fail> {
+    let alloc = rt.alloc();
+    let header = "mpd 1;ranks 1;var a[2];";
+    let signs = repeated(alloc, "mpd 1;ranks 1;print ", "-", 65, "1;")?;
+    answers(&rt, alloc, signs.as_bytes(), refused(FaultCode::TooDeep, 84, 1), "");
+    let inside = repeated(alloc, "mpd 1;ranks 1;var a[2];print a[", "-", 64, "1];")?;
+    answers(&rt, alloc, inside.as_bytes(), refused(FaultCode::TooDeep, 94, 1), "");
+    let index = repeated(alloc, "mpd 1;ranks 1;var a[2];a[", "-", 64, "1]=")?;
+    let outside = repeated(alloc, index.as_str(), "-", 64, "1;")?;
+    answers(&rt, alloc, outside.as_bytes(), Ok(()), "");
+    let assignments = repeated(alloc, "mpd 1;ranks 1;var x;", "x=1;", 4096, "")?;
+    answers(&rt, alloc, assignments.as_bytes(), Ok(()), "");
+    let one_more = repeated(alloc, assignments.as_str(), "x=1;", 1, "")?;
+    answers(&rt, alloc, one_more.as_bytes(), refused(FaultCode::TooMany, 16404, 1), "");
+    let none = repeated(alloc, "mpd 1;ranks 1;var a[1024];", "var e[0];", 1, "")?;
+    answers(&rt, alloc, none.as_bytes(), Ok(()), "");
+    let open = repeated(alloc, header, "while 1 {", 65, "")?;
+    answers(&rt, alloc, open.as_bytes(), refused(FaultCode::TooDeep, 607, 1), "");
+    Ok(())
+}
+
+#[test]
+fn loops_and_writes_arrays(rt: HostRuntime) {
+    let alloc = rt.alloc();
+    let looped: &[u8] = b"mpd 1; ranks 1; var i;\nwhile i < 2 { i = i + 1; }\n---\nlocal 0\nlocal 0\nlocal 0\nlocal 0\nlocal 0\nlocal 0\nback\nback\nshow\n";
+    answers(
+        &rt,
+        alloc,
+        looped,
+        Ok(()),
+        "ok 1\nok 2\nok 3\nok 4\nok 5\nrefused not-enabled\nok 4\nok 3\ndepth 3 of 5\nrank 0 at 2\nvars 1\nhandles\nout\nend\n",
+    );
+    let arrays: &[u8] = b"mpd 1; ranks 1; var a[3]; var b;\na[a[0] + 1] = 5;\nb = a[1] * 2;\na[2] = b;\n---\nlocal 0\nlocal 0\nlocal 0\nshow\nback\nback\nshow\n";
+    answers(
+        &rt,
+        alloc,
+        arrays,
+        Ok(()),
+        "ok 1\nok 2\nok 3\ndepth 3 of 3\nrank 0 ended\nvars 0 5 10 10\nhandles\nout\noutcome done\nend\nok 2\nok 1\ndepth 1 of 3\nrank 0 at 3\nvars 0 5 0 0\nhandles\nout\nend\n",
+    );
+}
