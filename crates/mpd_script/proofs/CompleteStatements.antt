@@ -17,7 +17,7 @@ use Rattle.mpd_model.specs.Input.{Input, Outcome, Parser, and_then, token, token
 use Rattle.mpd_model.specs.Term.{Term, Target}
 use Rattle.mpd_model.specs.Tokens.{Spot}
 use Rattle.mpd_model.specs.Tree.{Tree, print, send, recv, branch, assign, check, repeat, no_more, block_of}
-use Rattle.mpd_model.specs.Written.{Names, Written, WrittenTarget, whole, part, WrittenTree, prints, sends, receives, assigns, asserts, repeats, chooses, chooses_else, WrittenBlock, braces, WrittenBody, ended, follows}
+use Rattle.mpd_model.specs.Written.{Written, WrittenTarget, whole, part, WrittenTree, prints, sends, receives, assigns, asserts, repeats, chooses, chooses_else, WrittenBlock, braces, WrittenBody, ended, follows}
 use Rattle.mpd_script.proofs.Complete.{bind_to, expect_at, mark_stops, expr_complete}
 use Rattle.mpd_script.proofs.Turns.{some_token}
 

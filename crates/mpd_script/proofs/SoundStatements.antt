@@ -1,7 +1,6 @@
 -- What the grammar's functions read as statements is written so.
 use Rattle.std.proofs.Common.{◌≡◌, ◌≢◌, ℕ, zero, suc, ◌+◌, Bool, true, false, cond, List, [], ◌∷◌, ◌++◌, Option, None, Some, is_some, Ok, refl, ap, sym, ◌∙◌, append_assoc, length, nat_lt}
 use Rattle.mpd_model.specs.declared.place.DeclKind.TheVariants.{Variable}
-use Rattle.mpd_model.specs.declared.place.Place.{Place}
 use Rattle.mpd_model.specs.declared.read_fault.FaultCode.TheVariants.{NotInVersion, TooDeep}
 use Rattle.mpd_model.specs.declared.slot.Slot.{Slot}
 use Rattle.mpd_model.specs.declared.token.Mark.{Mark}
@@ -408,7 +407,7 @@ assignment_takes i j t e h =
     let c = bind_ok (begun a.0.1) _ (t, j) a.2 in
     let b = begun_here i a.0.1 c.0 k.2 (λ x. absurd (cc)) c.1 in
     let named : NamedBy i.decls a.0.0 b.spot =
-        λ sized is. record { token = b.token ∙ e; slot = a.0.0; declared = ap (slot_in i.decls) b.text ∙ k.0; kind = k.1; size = is; place = refl } in
+    λ sized is. record { token = b.token ∙ e; slot = a.0.0; declared = ap (slot_in i.decls) b.text ∙ k.0; kind = k.1; size = is; place = refl } in
     assigned a.0.0 t i c.0.1 j b named (assigning_ok a.0.0 c.0.1 j t c.2)
 
 -- a statement of a later version is never read

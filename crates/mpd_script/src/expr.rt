@@ -14,9 +14,13 @@ use std::alloc::Global;
 
 // How loosely operators bind, from those that bind most closely.
 const PRODUCT: usize = 1;
+
 const SUM: usize = 2;
+
 const COMPARISON: usize = 3;
+
 const CONJUNCTION: usize = 4;
+
 const DISJUNCTION: usize = 5;
 
 /// The level of a whole expression.
@@ -190,7 +194,12 @@ fn rounds(alloc: Global, tokens: &mut Tokens<'_>, depth: usize) -> Result<Expr, 
 /// An operator before its operand, which binds more closely than any between two.
 #[cycle(expr)]
 #[tactic(auto, unfolding(mpd_model::specs::Grammar::signed))]
-fn signed(alloc: Global, tokens: &mut Tokens<'_>, depth: usize, op: UnaryOp) -> Result<Expr, ReadFault>
+fn signed(
+    alloc: Global,
+    tokens: &mut Tokens<'_>,
+    depth: usize,
+    op: UnaryOp,
+) -> Result<Expr, ReadFault>
     ensures { Reads (spec.signed (spec.expr depth) op tokens.old) result tokens.new }
 {
     tokens.spend()?;

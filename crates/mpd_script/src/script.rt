@@ -69,7 +69,11 @@ fn ranks(tokens: &mut Tokens<'_>) -> Result<usize, ReadFault>
 fn natural(value: i64) -> Option<usize>
     ensures { result ≡ spec.natural value }
 {
-    if value < 0 { None } else { Some(value as usize) }
+    if value < 0 {
+        None
+    } else {
+        Some(value as usize)
+    }
 }
 
 /// The size of an array, and what is behind it.
