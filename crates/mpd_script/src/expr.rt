@@ -12,15 +12,19 @@ use mpd_model::read_fault::{FaultCode, ReadFault};
 use mpd_model::token::{Mark, Token};
 use std::alloc::Global;
 
-// How loosely operators bind, from those that bind most closely.
+/// The level of `*`, `/` and `%`, which bind most closely.
 const PRODUCT: usize = 1;
 
+/// The level of `+` and `-`.
 const SUM: usize = 2;
 
+/// The level of the comparisons.
 const COMPARISON: usize = 3;
 
+/// The level of `&&`.
 const CONJUNCTION: usize = 4;
 
+/// The level of `||`.
 const DISJUNCTION: usize = 5;
 
 /// The level of a whole expression.
