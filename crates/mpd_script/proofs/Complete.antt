@@ -1,21 +1,24 @@
 -- What is written as an expression, within the budget, is read.
-use Rattle.std.proofs.Common.{◌≡◌, ◌≢◌, ℕ, zero, suc, ◌+◌, ◌-◌, ◌<◌, ◌≤◌, ◌==◌, false, ℤ, List, [], ◌∷◌, ◌++◌, Option, Some, None, Ok, refl, ap, ◌∙◌, append_assoc, arith, inl, inr}
+use Rattle.std.proofs.Common.{◌≡◌, ◌≢◌, ℕ, zero, suc, ◌+◌, ◌-◌, ◌<◌, ◌≤◌, ◌==◌, true, false, ℤ, List, [], ◌∷◌, ◌++◌, Bool, Option, Some, None, is_some, Ok, refl, ap, ◌∙◌, append_assoc, arith, inl, inr}
 use Rattle.std.proofs.lemmas.Bool.{cases_Bool}
 use Rattle.std.proofs.lemmas.Bool.Decides.{nat_tests}
 use denote.Enum.Bare.{true_same}
 use Rattle.mpd_model.specs.contracts.token.Mark.{the_type}
 use Rattle.mpd_model.specs.declared.expr.BinaryOp.{BinaryOp}
+use Rattle.mpd_model.specs.declared.expr.UnaryOp.{UnaryOp}
+use Rattle.mpd_model.specs.declared.expr.UnaryOp.TheVariants as u
+use Rattle.mpd_model.specs.declared.place.DeclKind.TheVariants.{Variable}
 use Rattle.mpd_model.specs.declared.place.Place.{Place}
 use Rattle.mpd_model.specs.declared.token.Mark.{Mark}
 use Rattle.mpd_model.specs.declared.token.Mark.TheVariants as m
 use Rattle.mpd_model.specs.declared.token.Token.{Token}
 use Rattle.mpd_model.specs.declared.token.Token.TheVariants.{Number, Name, Is}
 use Rattle.mpd_model.specs.Fits.{price, cost, Stops, at}
-use Rattle.mpd_model.specs.Grammar.{atom_by, atom, variable, place_inside, rounds, chain, level, expr, turns, operator, operator_at, at_level}
+use Rattle.mpd_model.specs.Grammar.{atom_by, atom, bracket, indexed, place_inside, rounds, sign, signed, chain, level, expr, turns, operator, operator_at, at_level}
 use Rattle.mpd_model.specs.Input.{Input, Outcome, Parser, and_then, token, spelling, next, spend, expect, sees, same_mark, seek}
-use Rattle.mpd_model.specs.Term.{Term, lit, own_rank, size, cell, op2}
+use Rattle.mpd_model.specs.Term.{Term, lit, own_rank, size, cell, element, op1, op2}
 use Rattle.mpd_model.specs.Tokens.{Spot}
-use Rattle.mpd_model.specs.Written.{Names, Written, number, rank, ranks, name, round, higher, joins, left_level}
+use Rattle.mpd_model.specs.Written.{Names, Written, number, rank, ranks, name, entry, round, signs, higher, joins, left_level}
 
 -- ---- steps on a known list of tokens
 
@@ -26,6 +29,10 @@ bind_to o f x y e h = rw e h
 pub expect_at : (wanted : Mark) (s : Spot) (rest : List Spot) (b : ℕ) (i : Input) → s.token ≡ Is wanted → expect wanted (at (s ∷ rest) b i) ≡ Ok (tt, at rest b i)
 unfolding expect sees token next same_mark
 expect_at wanted s rest b i e = rw (e, true_same the_type wanted wanted refl) refl
+
+sees_at : (wanted : Mark) (s : Spot) (rest : List Spot) (b : ℕ) (i : Input) → s.token ≡ Is wanted → sees wanted (at (s ∷ rest) b i) ≡ true
+unfolding sees token same_mark
+sees_at wanted s rest b i e = rw e (true_same the_type wanted wanted refl)
 
 spend_at : (s : Spot) (rest : List Spot) (b : ℕ) (i : Input) → spend (at (s ∷ rest) (suc b) i) ≡ Ok (tt, at rest b i)
 unfolding spend next
@@ -43,7 +50,23 @@ cost_append (s ∷ a) b = omega (arith, cost_append a b)
 operator_costs : (k : ℕ) (op : BinaryOp) (t : Token) → operator_at k t ≡ Some op → price t ≡ 1
 operator_costs k op (Is m.Equal) h = refl
 operator_costs k op (Is m.NotEqual) h = refl
+operator_costs k op (Is m.Or) h = refl
+operator_costs k op (Is m.And) h = refl
+operator_costs k op (Is m.Less) h = refl
+operator_costs k op (Is m.AtMost) h = refl
+operator_costs k op (Is m.Greater) h = refl
+operator_costs k op (Is m.AtLeast) h = refl
+operator_costs k op (Is m.Plus) h = refl
+operator_costs k op (Is m.Minus) h = refl
+operator_costs k op (Is m.Times) h = refl
+operator_costs k op (Is m.Divide) h = refl
+operator_costs k op (Is m.Remainder) h = refl
 operator_costs k op _ h = absurd (cc)
+
+sign_costs : (op : UnaryOp) (t : Token) → sign t ≡ Some op → price t ≡ 1
+sign_costs op (Is m.Minus) h = refl
+sign_costs op (Is m.Not) h = refl
+sign_costs op _ h = absurd (cc)
 
 other_level : (k j : ℕ) (op : BinaryOp) (o : Option (BinaryOp × ℕ)) → j < k → at_level k o ≡ Some op → at_level j o ≡ None
 other_level k j op None less h = refl
@@ -73,20 +96,65 @@ ranks_read : (p : ℕ → Parser Term) (s : Spot) (rest : List Spot) (b : ℕ) (
 unfolding atom token next
 ranks_read p s rest b i e = rw e refl
 
-pub variable_read : (s : Spot) (p : Place) (rest : List Spot) (b : ℕ) (i : Input) → Names i.decls s p → variable (at (s ∷ rest) b i) ≡ Ok (p, at rest b i)
-unfolding variable seek spelling next
-variable_read s p rest b i n = rw (n.declared, n.kind, n.place) refl
+-- the name of a variable is sought
+pub seek_at : (s : Spot) (sized : Bool) (p : Place) (rest : List Spot) (b : ℕ) (i : Input) → (n : Names i.decls s sized p) → seek Variable (at (s ∷ rest) b i) ≡ Ok (n.slot, at (s ∷ rest) b i)
+unfolding seek spelling
+seek_at s sized p rest b i n = rw (n.declared, n.kind) refl
 
 atom_is : (p : ℕ → Parser Term) (s : Spot) (rest : List Spot) (b : ℕ) (i : Input) (tk : Token) → s.token ≡ tk → atom p (at (s ∷ rest) b i) ≡ atom_by p tk (at (s ∷ rest) b i)
 unfolding atom token
 atom_is p s rest b i tk e = ap (λ u. atom_by p u (at (s ∷ rest) b i)) e
 
-place_read : (q : ℕ → Parser Term) (s : Spot) (p : Place) (rest : List Spot) (b : ℕ) (i : Input) → Names i.decls s p → place_inside q (at (s ∷ rest) b i) ≡ Ok (cell p, at rest b i)
-unfolding place_inside
-place_read q s p rest b i n = bind_to _ _ _ _ (variable_read s p rest b i n) refl
+whole_read : (q : ℕ → Parser Term) (p : Place) (o : Option ℕ) (i : Input) → is_some o ≡ false → indexed q p o i ≡ Ok (cell p, i)
+whole_read q p None i h = refl
+whole_read q p (Some k) i h = absurd (cc)
 
-name_read : (q : ℕ → Parser Term) (s : Spot) (p : Place) (rest : List Spot) (b : ℕ) (i : Input) → Names i.decls s p → atom q (at (s ∷ rest) b i) ≡ Ok (cell p, at rest b i)
+place_read : (q : ℕ → Parser Term) (s : Spot) (p : Place) (rest : List Spot) (b : ℕ) (i : Input) → Names i.decls s false p → place_inside q (at (s ∷ rest) b i) ≡ Ok (cell p, at rest b i)
+unfolding place_inside next
+place_read q s p rest b i n =
+    bind_to _ _ _ _ (seek_at s false p rest b i n) (ap (λ r. indexed q r n.slot.size (at rest b i)) n.place ∙ whole_read q p n.slot.size (at rest b i) n.size)
+
+name_read : (q : ℕ → Parser Term) (s : Spot) (p : Place) (rest : List Spot) (b : ℕ) (i : Input) → Names i.decls s false p → atom q (at (s ∷ rest) b i) ≡ Ok (cell p, at rest b i)
 name_read q s p rest b i n = atom_is q s rest b i Name n.token ∙ place_read q s p rest b i n
+
+bracket_at : (a : Spot) (rest : List Spot) (b : ℕ) (i : Input) → a.token ≡ Is m.SquareOpen → bracket (at (a ∷ rest) (suc b) i) ≡ Ok (tt, at rest b i)
+unfolding bracket
+bracket_at a rest b i e = rw (sees_at m.SquareOpen a rest (suc b) i e) (spend_at a rest b i)
+
+index_read : (q : ℕ → Parser Term) (p : Place) (o : Option ℕ) (a z : Spot) (ss rest : List Spot) (t : Term) (b c : ℕ) (i : Input) → is_some o ≡ true
+    → a.token ≡ Is m.SquareOpen → z.token ≡ Is m.SquareClose → q 5 (at (ss ++ z ∷ rest) b i) ≡ Ok (t, at (z ∷ rest) c i)
+    → indexed q p o (at (a ∷ ss ++ z ∷ rest) (suc b) i) ≡ Ok (element p t, at rest c i)
+index_read q p None a z ss rest t b c i o d e h = absurd (cc)
+index_read q p (Some k) a z ss rest t b c i o d e h =
+    bind_to _ _ _ _ (bracket_at a (ss ++ z ∷ rest) b i d) (bind_to _ _ _ _ h (bind_to _ _ _ _ (expect_at m.SquareClose z rest c i e) refl))
+
+element_read : (q : ℕ → Parser Term) (s a z : Spot) (ss rest : List Spot) (p : Place) (t : Term) (b c : ℕ) (i : Input) → Names i.decls s true p
+    → a.token ≡ Is m.SquareOpen → z.token ≡ Is m.SquareClose → q 5 (at (ss ++ z ∷ rest) b i) ≡ Ok (t, at (z ∷ rest) c i)
+    → place_inside q (at (s ∷ a ∷ ss ++ z ∷ rest) (suc b) i) ≡ Ok (element p t, at rest c i)
+unfolding place_inside next
+element_read q s a z ss rest p t b c i n d e h =
+    bind_to _ _ _ _ (seek_at s true p (a ∷ ss ++ z ∷ rest) (suc b) i n)
+    (ap (λ r. indexed q r n.slot.size (at (a ∷ ss ++ z ∷ rest) (suc b) i)) n.place ∙ index_read q p n.slot.size a z ss rest t b c i n.size d e h)
+
+entry_read : (q : ℕ → Parser Term) (s a z : Spot) (ss rest : List Spot) (p : Place) (t : Term) (b c : ℕ) (i : Input) → Names i.decls s true p
+    → a.token ≡ Is m.SquareOpen → z.token ≡ Is m.SquareClose → q 5 (at (ss ++ z ∷ rest) b i) ≡ Ok (t, at (z ∷ rest) c i)
+    → atom q (at (s ∷ a ∷ ss ++ z ∷ rest) (suc b) i) ≡ Ok (element p t, at rest c i)
+entry_read q s a z ss rest p t b c i n d e h = atom_is q s (a ∷ ss ++ z ∷ rest) (suc b) i Name n.token ∙ element_read q s a z ss rest p t b c i n d e h
+
+sign_is : (q : ℕ → Parser Term) (op : UnaryOp) (tk : Token) → sign tk ≡ Some op → atom_by q tk ≡ signed q op
+sign_is q op (Is m.Minus) h = let e : u.Negate ≡ op = cc in ap (signed q) e
+sign_is q op (Is m.Not) h = let e : u.Not ≡ op = cc in ap (signed q) e
+sign_is q op _ h = absurd (cc)
+
+operand_read : (q : ℕ → Parser Term) (op : UnaryOp) (s : Spot) (ss rest : List Spot) (t : Term) (b c : ℕ) (i : Input) → q 0 (at (ss ++ rest) b i) ≡ Ok (t, at rest c i)
+    → signed q op (at (s ∷ ss ++ rest) (suc b) i) ≡ Ok (op1 op t, at rest c i)
+unfolding signed
+operand_read q op s ss rest t b c i h = bind_to _ _ _ _ (spend_at s (ss ++ rest) b i) (bind_to _ _ _ _ h refl)
+
+signed_read : (q : ℕ → Parser Term) (op : UnaryOp) (s : Spot) (ss rest : List Spot) (t : Term) (b c : ℕ) (i : Input) → sign s.token ≡ Some op
+    → q 0 (at (ss ++ rest) b i) ≡ Ok (t, at rest c i) → atom q (at (s ∷ ss ++ rest) (suc b) i) ≡ Ok (op1 op t, at rest c i)
+signed_read q op s ss rest t b c i e h =
+    atom_is q s (ss ++ rest) (suc b) i s.token refl ∙ ap (λ f. f (at (s ∷ ss ++ rest) (suc b) i)) (sign_is q op s.token e) ∙ operand_read q op s ss rest t b c i h
 
 rounds_read : (p : ℕ → Parser Term) (a z : Spot) (ss rest : List Spot) (t : Term) (b c : ℕ) (i : Input) → z.token ≡ Is m.RoundClose
     → p 5 (at (ss ++ z ∷ rest) b i) ≡ Ok (t, at (z ∷ rest) c i) → rounds p (at (a ∷ ss ++ z ∷ rest) (suc b) i) ≡ Ok (t, at rest c i)
@@ -175,6 +243,39 @@ round_reads i a z ss t ea ez h n b c rest e le st =
     let le' : c + cost ss ≤ n - 1 = omega arith in
     round_from n (n - 1) b (c + cost ss) c a z ss rest t i en eb ea ez (h (n - 1) (c + cost ss) c (z ∷ rest) refl le' (mark_stops 5 z rest (Is m.RoundClose) ez refl))
 
+entry_from : (n n' bud b' c : ℕ) (s a z : Spot) (ss rest : List Spot) (p : Place) (t : Term) (i : Input) → n ≡ suc n' → bud ≡ suc b' → Names i.decls s true p
+    → a.token ≡ Is m.SquareOpen → z.token ≡ Is m.SquareClose → level (expr n') 5 (at (ss ++ z ∷ rest) b' i) ≡ Ok (t, at (z ∷ rest) c i)
+    → level (expr n) 0 (at ((s ∷ a ∷ ss ++ z ∷ []) ++ rest) bud i) ≡ Ok (element p t, at rest c i)
+unfolding level expr
+entry_from n n' bud b' c s a z ss rest p t i en eb names ea ez h =
+    let same : (ss ++ z ∷ []) ++ rest ≡ ss ++ z ∷ rest = append_assoc ss (z ∷ []) rest in
+    rw (en, eb, same) (entry_read (expr (suc n')) s a z ss rest p t b' c i names ea ez h)
+
+entry_reads : (i : Input) (s a z : Spot) (ss : List Spot) (p : Place) (t : Term) → Names i.decls s true p → a.token ≡ Is m.SquareOpen → z.token ≡ Is m.SquareClose
+    → Reads i 5 ss t → Reads i 0 (s ∷ a ∷ ss ++ z ∷ []) (element p t)
+entry_reads i s a z ss p t names ea ez h n b c rest e le st =
+    let first : price s.token ≡ 0 = ap price names.token in
+    let one : price a.token ≡ 1 = ap price ea in
+    let none : price z.token ≡ 0 = ap price ez in
+    let all : cost (ss ++ z ∷ []) ≡ cost ss + cost (z ∷ []) = cost_append ss (z ∷ []) in
+    let en : n ≡ suc (n - 1) = omega arith in
+    let eb : b ≡ suc (c + cost ss) = omega arith in
+    let le' : c + cost ss ≤ n - 1 = omega arith in
+    entry_from n (n - 1) b (c + cost ss) c s a z ss rest p t i en eb names ea ez (h (n - 1) (c + cost ss) c (z ∷ rest) refl le' (mark_stops 5 z rest (Is m.SquareClose) ez refl))
+
+signed_from : (n n' bud b' c : ℕ) (s : Spot) (ss rest : List Spot) (op : UnaryOp) (t : Term) (i : Input) → n ≡ suc n' → bud ≡ suc b' → sign s.token ≡ Some op
+    → level (expr n') 0 (at (ss ++ rest) b' i) ≡ Ok (t, at rest c i) → level (expr n) 0 (at ((s ∷ ss) ++ rest) bud i) ≡ Ok (op1 op t, at rest c i)
+unfolding level expr
+signed_from n n' bud b' c s ss rest op t i en eb es h = rw (en, eb) (signed_read (expr (suc n')) op s ss rest t b' c i es h)
+
+signed_reads : (i : Input) (s : Spot) (ss : List Spot) (op : UnaryOp) (t : Term) → sign s.token ≡ Some op → Reads i 0 ss t → Reads i 0 (s ∷ ss) (op1 op t)
+signed_reads i s ss op t es h n b c rest e le st =
+    let one : price s.token ≡ 1 = sign_costs op s.token es in
+    let en : n ≡ suc (n - 1) = omega arith in
+    let eb : b ≡ suc (c + cost ss) = omega arith in
+    let le' : c + cost ss ≤ n - 1 = omega arith in
+    signed_from n (n - 1) b (c + cost ss) c s ss rest op t i en eb es (h (n - 1) (c + cost ss) c rest refl le' st)
+
 -- a left operand, with a turn left for the operator behind it
 record Left (p : ℕ → Parser Term) (k : ℕ) (t : Term) (i j : Input) : Type 0 where
   chained : Chained p k t i j
@@ -231,6 +332,8 @@ written_read i _ _ _ (number s n e) = (one_read i s (lit n) (ap price e) (λ n' 
 written_read i _ _ _ (rank s e) = (one_read i s own_rank (ap price e) (λ n' b rest. rank_read (expr n') s rest b i e), tt)
 written_read i _ _ _ (ranks s e) = (one_read i s size (ap price e) (λ n' b rest. ranks_read (expr n') s rest b i e), tt)
 written_read i _ _ _ (name s p e) = (one_read i s (cell p) (ap price e.token) (λ n' b rest. name_read (expr n') s p rest b i e), tt)
+written_read i _ _ _ (entry s a z ss p t n ea ez w) = (entry_reads i s a z ss p t n ea ez (written_read i 5 ss t w).0, tt)
+written_read i _ _ _ (signs s ss op t e w) = (signed_reads i s ss op t e (written_read i 0 ss t w).0, tt)
 written_read i _ _ _ (round a z ss t ea ez w) = (round_reads i a z ss t ea ez (written_read i 5 ss t w).0, tt)
 written_read i _ _ _ (higher k ss t w) = let c = chain_begins i k ss t (written_read i k ss t w).0 in (chain_ends i k ss t c, c)
 written_read i _ _ _ (joins k l r o op a b e x y) =

@@ -1,22 +1,24 @@
 -- What is written as statements, within the limits, is read.
-use Rattle.std.proofs.Common.{◌≡◌, ℕ, zero, suc, ◌+◌, ◌-◌, ◌<◌, ◌≤◌, Bool, true, false, List, [], ◌∷◌, ◌++◌, length, length-append, append-nil, nat_lt, Ok, refl, ap, ◌∙◌, append_assoc, arith}
+use Rattle.std.proofs.Common.{◌≡◌, ℕ, zero, suc, ◌+◌, ◌-◌, ◌<◌, ◌≤◌, Bool, true, false, Option, None, Some, is_some, List, [], ◌∷◌, ◌++◌, length, length-append, append-nil, nat_lt, Ok, refl, ap, sym, ◌∙◌, append_assoc, arith}
 use Rattle.std.proofs.lemmas.Bool.Decides.{nat_tests}
 use denote.Enum.Bare.{true_same}
 use Rattle.mpd_model.specs.contracts.token.Mark.{the_type}
+use Rattle.mpd_model.specs.declared.place.DeclKind.TheVariants.{Variable}
 use Rattle.mpd_model.specs.declared.place.Place.{Place}
+use Rattle.mpd_model.specs.declared.slot.Slot.{Slot}
 use Rattle.mpd_model.specs.declared.token.Mark.{Mark}
 use Rattle.mpd_model.specs.declared.token.Mark.TheVariants as m
 use Rattle.mpd_model.specs.declared.token.Token.{Token}
-use Rattle.mpd_model.specs.declared.token.Token.TheVariants.{Is, End}
+use Rattle.mpd_model.specs.declared.token.Token.TheVariants.{Name, Is, End}
 use Rattle.mpd_model.specs.Declaration.{Declared}
-use Rattle.mpd_model.specs.Fits.{cost, Stops, on, Gives, blocks, blocks_in, dearest, dearest_block, dearest_body}
-use Rattle.mpd_model.specs.Grammar.{expression, begun, closes, printing, sending, named_by, named, receiving, otherwise, choosing, stmt_by, stmt, stmts, body, block}
-use Rattle.mpd_model.specs.Input.{Input, Outcome, Parser, and_then, token, token_of, next, expect, sees, is_mark, same_mark, count, after}
-use Rattle.mpd_model.specs.Term.{Term}
+use Rattle.mpd_model.specs.Fits.{cost, Stops, on, Gives, blocks, blocks_in, index_cost, dearest, dearest_block, dearest_body}
+use Rattle.mpd_model.specs.Grammar.{expression, begun, closes, place_of_slot, printing, sending, outside, target, named_by, named, assigning, asserting, receiving, otherwise, choosing, repeating, stmt_by, stmt, stmts, body, block}
+use Rattle.mpd_model.specs.Input.{Input, Outcome, Parser, and_then, token, token_of, spelling, next, expect, seek, slot_in, sees, is_mark, same_mark, count, line_of, after}
+use Rattle.mpd_model.specs.Term.{Term, Target}
 use Rattle.mpd_model.specs.Tokens.{Spot}
-use Rattle.mpd_model.specs.Tree.{Tree, print, send, recv, branch, no_more, block_of}
-use Rattle.mpd_model.specs.Written.{Names, Written, WrittenTree, prints, sends, receives, chooses, chooses_else, WrittenBlock, braces, WrittenBody, ended, follows}
-use Rattle.mpd_script.proofs.Complete.{bind_to, expect_at, mark_stops, variable_read, expr_complete}
+use Rattle.mpd_model.specs.Tree.{Tree, print, send, recv, branch, assign, check, repeat, no_more, block_of}
+use Rattle.mpd_model.specs.Written.{Written, WrittenTarget, whole, part, WrittenTree, prints, sends, receives, assigns, asserts, repeats, chooses, chooses_else, WrittenBlock, braces, WrittenBody, ended, follows}
+use Rattle.mpd_script.proofs.Complete.{bind_to, expect_at, mark_stops, expr_complete}
 use Rattle.mpd_script.proofs.Turns.{some_token}
 
 -- ---- steps on a known list of tokens
@@ -34,9 +36,86 @@ expression_on : (e rest : List Spot) (t : Term) (ls : List ℕ) (b : ℕ) (i : I
     → expression (on (e ++ rest) ls b i) ≡ Ok (t, on rest ls (64 - cost e) i)
 expression_on e rest t ls b i w le s = expr_complete 65 5 e rest t (on (e ++ rest) ls 64 i) w refl s le (omega arith)
 
-named_on : (s : Spot) (p : Place) (rest : List Spot) (ls : List ℕ) (b : ℕ) (i : Input) → Names i.decls s p → named (on (s ∷ rest) ls b i) ≡ Ok (p, on rest ls b i)
+-- ---- places that stand in no expression
+
+-- A place that is written begins with its name; what is behind that is read.
+record Begins (i : Input) (ss : List Spot) (t : Target) : Type 0 where
+  first : Spot
+  behind : List Spot
+  is : ss ≡ first ∷ behind
+  token : first.token ≡ Name
+  slot : Slot
+  declared : slot_in i.decls first.text ≡ Some slot
+  kind : slot.kind ≡ Variable
+  reads : (ls : List ℕ) (b : ℕ) (rest : List Spot) → Gives (outside (place_of_slot slot) slot.size (on (behind ++ rest) ls b i)) t rest ls i
+
+whole_on : (p : Place) (o : Option ℕ) (rest : List Spot) (ls : List ℕ) (b : ℕ) (i : Input) → is_some o ≡ false
+    → outside p o (on rest ls b i) ≡ Ok (record { place = p; index = None }, on rest ls b i)
+whole_on p None rest ls b i h = refl
+whole_on p (Some n) rest ls b i h = absurd (cc)
+
+part_on : (p : Place) (o : Option ℕ) (a z : Spot) (ss rest : List Spot) (t : Term) (ls : List ℕ) (b : ℕ) (i : Input) → is_some o ≡ true
+    → a.token ≡ Is m.SquareOpen → Written i.decls 5 ss t → z.token ≡ Is m.SquareClose → cost ss ≤ 64
+    → outside p o (on (a ∷ (ss ++ (z ∷ rest))) ls b i) ≡ Ok (record { place = p; index = Some t }, on rest ls (64 - cost ss) i)
+part_on p None a z ss rest t ls b i h ha w hz le = absurd (cc)
+part_on p (Some n) a z ss rest t ls b i h ha w hz le =
+    bind_to _ _ _ _ (expect_on m.SquareOpen a (ss ++ (z ∷ rest)) ls b i ha)
+    (bind_to _ _ _ _ (expression_on ss (z ∷ rest) t ls b i w le (mark_stops 5 z rest (Is m.SquareClose) hz refl))
+    (bind_to _ _ _ _ (expect_on m.SquareClose z rest ls (64 - cost ss) i hz) refl))
+
+same_place : (p q : Place) (o : Option ℕ) (t : Target) (ss us rest : List Spot) (ls : List ℕ) (b : ℕ) (i : Input) → p ≡ q → ss ≡ us
+    → Gives (outside q o (on us ls b i)) t rest ls i → Gives (outside p o (on ss ls b i)) t rest ls i
+same_place p q o t ss us rest ls b i d e g = rw (d, e) g
+
+target_begins : (i : Input) (ss : List Spot) (t : Target) (w : WrittenTarget i.decls ss t) → index_cost i.decls ss t w ≤ 64 → Begins i ss t
+target_begins i _ _ (whole s p n) le = record {
+  first = s;
+  behind = [];
+  is = refl;
+  token = n.token;
+  slot = n.slot;
+  declared = n.declared;
+  kind = n.kind;
+  reads = λ ls b rest. same_place (place_of_slot n.slot) p n.slot.size (record { place = p; index = None }) rest rest rest ls b i n.place refl
+      (record { left = b; is = whole_on p n.slot.size rest ls b i n.size });
+}
+target_begins i _ _ (part s a z ss p t n ha w hz) le = record {
+  first = s;
+  behind = a ∷ ss ++ z ∷ [];
+  is = refl;
+  token = n.token;
+  slot = n.slot;
+  declared = n.declared;
+  kind = n.kind;
+  reads = λ ls b rest. same_place (place_of_slot n.slot) p n.slot.size (record { place = p; index = Some t }) _ (a ∷ (ss ++ (z ∷ rest))) rest ls b i n.place (simp append_assoc)
+      (record { left = 64 - cost ss; is = part_on p n.slot.size a z ss rest t ls b i n.size ha w hz le });
+}
+
+seek_on : (s : Spot) (slot : Slot) (rest : List Spot) (ls : List ℕ) (b : ℕ) (i : Input) → slot_in i.decls s.text ≡ Some slot → slot.kind ≡ Variable
+    → seek Variable (on (s ∷ rest) ls b i) ≡ Ok (slot, on (s ∷ rest) ls b i)
+unfolding seek spelling
+seek_on s slot rest ls b i d k = rw (d, k) refl
+
+target_on : (s : Spot) (slot : Slot) (ss rest : List Spot) (t : Target) (ls : List ℕ) (b : ℕ) (i : Input) → slot_in i.decls s.text ≡ Some slot → slot.kind ≡ Variable
+    → Gives (outside (place_of_slot slot) slot.size (on ss ls b i)) t rest ls i → Gives (target (on (s ∷ ss) ls b i)) t rest ls i
+unfolding target next
+target_on s slot ss rest t ls b i d k g = record { left = g.left; is = bind_to _ _ _ _ (seek_on s slot ss ls b i d k) g.is }
+
+named_as : (s : Spot) (ss : List Spot) (ls : List ℕ) (b : ℕ) (i : Input) → s.token ≡ Name → named (on (s ∷ ss) ls b i) ≡ target (on (s ∷ ss) ls b i)
 unfolding named token
-named_on s p rest ls b i n = ap (λ u. named_by u (on (s ∷ rest) ls b i)) n.token ∙ variable_read s p rest b (on rest ls b i) n
+named_as s ss ls b i e = ap (λ u. named_by u (on (s ∷ ss) ls b i)) e
+
+named_from : (s : Spot) (ss rest : List Spot) (t : Target) (ls : List ℕ) (b : ℕ) (i : Input) → s.token ≡ Name → Gives (target (on (s ∷ ss) ls b i)) t rest ls i
+    → Gives (named (on (s ∷ ss) ls b i)) t rest ls i
+named_from s ss rest t ls b i e g = record { left = g.left; is = named_as s ss ls b i e ∙ g.is }
+
+named_same : (ss us rest : List Spot) (t : Target) (ls : List ℕ) (b : ℕ) (i : Input) → ss ≡ us → Gives (named (on us ls b i)) t rest ls i → Gives (named (on ss ls b i)) t rest ls i
+named_same ss us rest t ls b i e g = rw e g
+
+named_on : (ss rest : List Spot) (t : Target) (ls : List ℕ) (b : ℕ) (i : Input) → Begins i ss t → Gives (named (on (ss ++ rest) ls b i)) t rest ls i
+named_on ss rest t ls b i x =
+    named_same (ss ++ rest) (x.first ∷ (x.behind ++ rest)) rest t ls b i (ap (λ r. r ++ rest) x.is)
+    (named_from x.first (x.behind ++ rest) rest t ls b i x.token (target_on x.first x.slot (x.behind ++ rest) rest t ls b i x.declared x.kind (x.reads ls b rest)))
 
 -- ---- statements without blocks
 
@@ -66,19 +145,40 @@ sending_read a to b tag c end rest value dest mark ls n i wa la eto wb lb etag w
       (bind_to _ _ _ _ (expect_on m.Semicolon end rest ls (64 - cost c) i eend) refl)))));
 }
 
-receiving_read : (v «from» : Spot) (a : List Spot) (tag : Spot) (c : List Spot) (end : Spot) (rest : List Spot) (into : Place) (source mark : Term) (ls : List ℕ) (n : ℕ) (i : Input)
-    → Names i.decls v into → «from».token ≡ Is m.From → Written i.decls 5 a source → cost a ≤ 64 → tag.token ≡ Is m.Tag
+asserting_read : (e : List Spot) (end : Spot) (rest : List Spot) (t : Term) (ls : List ℕ) (b : ℕ) (i : Input)
+    → Written i.decls 5 e t → cost e ≤ 64 → end.token ≡ Is m.Semicolon → Gives (asserting (on (e ++ end ∷ rest) ls b i)) (check t) rest ls i
+unfolding asserting
+asserting_read e end rest t ls b i w le h = record {
+  left = 64 - cost e;
+  is = bind_to _ _ _ _ (expression_on e (end ∷ rest) t ls b i w le (mark_ends end rest h)) (bind_to _ _ _ _ (expect_on m.Semicolon end rest ls (64 - cost e) i h) refl);
+}
+
+receiving_read : (v : List Spot) («from» : Spot) (a : List Spot) (tag : Spot) (c : List Spot) (end : Spot) (rest : List Spot) (into : Target) (source mark : Term) (ls : List ℕ) (n : ℕ) (i : Input)
+    → Begins i v into → «from».token ≡ Is m.From → Written i.decls 5 a source → cost a ≤ 64 → tag.token ≡ Is m.Tag
     → Written i.decls 5 c mark → cost c ≤ 64 → end.token ≡ Is m.Semicolon
-    → Gives (receiving (on (v ∷ («from» ∷ (a ++ (tag ∷ (c ++ (end ∷ rest)))))) ls n i)) (recv into source mark) rest ls i
+    → Gives (receiving (on (v ++ («from» ∷ (a ++ (tag ∷ (c ++ (end ∷ rest)))))) ls n i)) (recv into source mark) rest ls i
 unfolding receiving
-receiving_read v «from» a tag c end rest into source mark ls n i names efrom wa la etag wc lc eend = record {
-  left = 64 - cost c;
-  is = bind_to _ _ _ _ (named_on v into («from» ∷ (a ++ (tag ∷ (c ++ (end ∷ rest))))) ls n i names)
-      (bind_to _ _ _ _ (expect_on m.From «from» (a ++ (tag ∷ (c ++ (end ∷ rest)))) ls n i efrom)
-      (bind_to _ _ _ _ (expression_on a (tag ∷ (c ++ (end ∷ rest))) source ls n i wa la (mark_stops 5 tag (c ++ (end ∷ rest)) (Is m.Tag) etag refl))
-      (bind_to _ _ _ _ (expect_on m.Tag tag (c ++ (end ∷ rest)) ls (64 - cost a) i etag)
-      (bind_to _ _ _ _ (expression_on c (end ∷ rest) mark ls (64 - cost a) i wc lc (mark_ends end rest eend))
-      (bind_to _ _ _ _ (expect_on m.Semicolon end rest ls (64 - cost c) i eend) refl)))));
+receiving_read v «from» a tag c end rest into source mark ls n i begins efrom wa la etag wc lc eend =
+    let g = named_on v («from» ∷ (a ++ (tag ∷ (c ++ (end ∷ rest))))) into ls n i begins in
+    record {
+      left = 64 - cost c;
+      is = bind_to _ _ _ _ g.is
+          (bind_to _ _ _ _ (expect_on m.From «from» (a ++ (tag ∷ (c ++ (end ∷ rest)))) ls g.left i efrom)
+          (bind_to _ _ _ _ (expression_on a (tag ∷ (c ++ (end ∷ rest))) source ls g.left i wa la (mark_stops 5 tag (c ++ (end ∷ rest)) (Is m.Tag) etag refl))
+          (bind_to _ _ _ _ (expect_on m.Tag tag (c ++ (end ∷ rest)) ls (64 - cost a) i etag)
+          (bind_to _ _ _ _ (expression_on c (end ∷ rest) mark ls (64 - cost a) i wc lc (mark_ends end rest eend))
+          (bind_to _ _ _ _ (expect_on m.Semicolon end rest ls (64 - cost c) i eend) refl)))));
+    }
+
+assigning_read : (slot : Slot) (xs : List Spot) (equal : Spot) (e : List Spot) (end : Spot) (rest : List Spot) (into : Target) (t : Term) (ls : List ℕ) (b : ℕ) (i : Input)
+    → Gives (outside (place_of_slot slot) slot.size (on xs ls b i)) into (equal ∷ (e ++ (end ∷ rest))) ls i → equal.token ≡ Is m.Assign → Written i.decls 5 e t → cost e ≤ 64
+    → end.token ≡ Is m.Semicolon → Gives (assigning slot (on xs ls b i)) (assign into t) rest ls i
+unfolding assigning
+assigning_read slot xs equal e end rest into t ls b i g h w le z = record {
+  left = 64 - cost e;
+  is = bind_to _ _ _ _ g.is
+      (bind_to _ _ _ _ (expect_on m.Assign equal (e ++ (end ∷ rest)) ls g.left i h)
+      (bind_to _ _ _ _ (expression_on e (end ∷ rest) t ls g.left i w le (mark_ends end rest z)) (bind_to _ _ _ _ (expect_on m.Semicolon end rest ls (64 - cost e) i z) refl)));
 }
 
 -- ---- the first token of a statement
@@ -93,7 +193,23 @@ begins_read B q k ss rest t ls ms b tk i e s few g = record {
   is = ap (λ u. stmt_by B u (on (k ∷ ss) ls b i)) e ∙ ap (λ f. f (on (k ∷ ss) ls b i)) s ∙ bind_to _ _ _ _ (begun_on k ss ls b i few) g.is;
 }
 
--- ---- choices
+-- an assignment by its name, which is sought before the statement is counted
+assignment_read : (B : Parser (List Tree)) (s : Spot) (slot : Slot) (ss rest : List Spot) (t : Tree) (ls ms : List ℕ) (b : ℕ) (i : Input) → s.token ≡ Name
+    → slot_in i.decls s.text ≡ Some slot → slot.kind ≡ Variable → length ls < 4096 → Gives (assigning slot (on ss (ls ++ s.line ∷ []) b i)) t rest ms i → Gives (stmt B (on (s ∷ ss) ls b i)) t rest ms i
+unfolding stmt token
+assignment_read B s slot ss rest t ls ms b i e d k few g = record {
+  left = g.left;
+  is = ap (λ u. stmt_by B u (on (s ∷ ss) ls b i)) e ∙ bind_to _ _ _ _ (seek_on s slot ss ls b i d k) (bind_to _ _ _ _ (begun_on s ss ls b i few) g.is);
+}
+
+-- ---- choices and repetitions
+
+repeating_read : (B : Parser (List Tree)) (e xs rest : List Spot) (t : Term) (x : List Tree) (ls ms : List ℕ) (b : ℕ) (i : Input)
+    → Written i.decls 5 e t → cost e ≤ 64 → Stops 5 xs → ((c : ℕ) → Gives (B (on xs ls c i)) x rest ms i) → Gives (repeating B (on (e ++ xs) ls b i)) (repeat t (block_of x)) rest ms i
+unfolding repeating
+repeating_read B e xs rest t x ls ms b i w le s inside =
+    let f = inside (64 - cost e) in
+    record { left = f.left; is = bind_to _ _ _ _ (expression_on e xs t ls b i w le s) (bind_to _ _ _ _ f.is refl) }
 
 otherwise_none : (B : Parser (List Tree)) (rest : List Spot) (ls : List ℕ) (b : ℕ) (i : Input) → is_mark m.Else (token_of rest) ≡ false
     → otherwise B (on rest ls b i) ≡ Ok ([], on rest ls b i)
@@ -154,13 +270,42 @@ sends_reads i n k to tag end a b c value dest mark hk wa hto wb htag wc he la lb
     (begins_read (block n) sending k (a ++ (to ∷ (b ++ (tag ∷ (c ++ (end ∷ rest)))))) rest (send value dest mark) ls _ o (Is m.Send) i hk refl (omega arith)
     (sending_read a to b tag c end rest value dest mark (ls ++ k.line ∷ []) o i wa la hto wb lb htag wc lc he))
 
-receives_reads : (i : Input) (n : ℕ) (k v «from» tag end : Spot) (a c : List Spot) (into : Place) (source mark : Term)
-    → k.token ≡ Is m.Recv → Names i.decls v into → «from».token ≡ Is m.From → Written i.decls 5 a source → tag.token ≡ Is m.Tag → Written i.decls 5 c mark → end.token ≡ Is m.Semicolon
-    → cost a ≤ 64 → cost c ≤ 64 → TreeReads i n (k ∷ v ∷ «from» ∷ a ++ tag ∷ c ++ end ∷ []) (recv into source mark) (k.line ∷ [])
-receives_reads i n k v «from» tag end a c into source mark hk names hf wa htag wc he la lc o ls rest few last =
-    same_gives (stmt (block n)) (recv into source mark) _ (k ∷ (v ∷ («from» ∷ (a ++ (tag ∷ (c ++ (end ∷ rest))))))) rest ls _ _ o i (simp append_assoc) refl
-    (begins_read (block n) receiving k (v ∷ («from» ∷ (a ++ (tag ∷ (c ++ (end ∷ rest)))))) rest (recv into source mark) ls _ o (Is m.Recv) i hk refl (omega arith)
-    (receiving_read v «from» a tag c end rest into source mark (ls ++ k.line ∷ []) o i names hf wa la htag wc lc he))
+receives_reads : (i : Input) (n : ℕ) (k «from» tag end : Spot) (v a c : List Spot) (into : Target) (source mark : Term)
+    → k.token ≡ Is m.Recv → Begins i v into → «from».token ≡ Is m.From → Written i.decls 5 a source → tag.token ≡ Is m.Tag → Written i.decls 5 c mark → end.token ≡ Is m.Semicolon
+    → cost a ≤ 64 → cost c ≤ 64 → TreeReads i n (k ∷ v ++ «from» ∷ a ++ tag ∷ c ++ end ∷ []) (recv into source mark) (k.line ∷ [])
+receives_reads i n k «from» tag end v a c into source mark hk begins hf wa htag wc he la lc o ls rest few last =
+    same_gives (stmt (block n)) (recv into source mark) _ (k ∷ (v ++ («from» ∷ (a ++ (tag ∷ (c ++ (end ∷ rest))))))) rest ls _ _ o i (simp append_assoc) refl
+    (begins_read (block n) receiving k (v ++ («from» ∷ (a ++ (tag ∷ (c ++ (end ∷ rest)))))) rest (recv into source mark) ls _ o (Is m.Recv) i hk refl (omega arith)
+    (receiving_read v «from» a tag c end rest into source mark (ls ++ k.line ∷ []) o i begins hf wa la htag wc lc he))
+
+asserts_reads : (i : Input) (n : ℕ) (k end : Spot) (e : List Spot) (t : Term) → k.token ≡ Is m.Assert → Written i.decls 5 e t → end.token ≡ Is m.Semicolon → cost e ≤ 64
+    → TreeReads i n (k ∷ e ++ end ∷ []) (check t) (k.line ∷ [])
+asserts_reads i n k end e t hk w he le b ls rest few last =
+    same_gives (stmt (block n)) (check t) _ (k ∷ (e ++ (end ∷ rest))) rest ls _ _ b i (simp append_assoc) refl
+    (begins_read (block n) asserting k (e ++ (end ∷ rest)) rest (check t) ls _ b (Is m.Assert) i hk refl (omega arith)
+    (asserting_read e end rest t (ls ++ k.line ∷ []) b i w le he))
+
+assigned_tokens : (s equal end : Spot) (v xs e rest : List Spot) → v ≡ s ∷ xs → v ++ equal ∷ e ++ end ∷ [] ++ rest ≡ s ∷ (xs ++ (equal ∷ (e ++ (end ∷ rest))))
+assigned_tokens s equal end v xs e rest h = rw h (simp append_assoc)
+
+assigns_reads : (i : Input) (n : ℕ) (equal end : Spot) (v e : List Spot) (into : Target) (t : Term) → Begins i v into → equal.token ≡ Is m.Assign → Written i.decls 5 e t
+    → end.token ≡ Is m.Semicolon → cost e ≤ 64 → TreeReads i n (v ++ equal ∷ e ++ end ∷ []) (assign into t) (line_of v ∷ [])
+assigns_reads i n equal end v e into t x h w he le b ls rest few last =
+    same_gives (stmt (block n)) (assign into t) _ (x.first ∷ (x.behind ++ (equal ∷ (e ++ (end ∷ rest))))) rest ls (ls ++ x.first.line ∷ []) _ b i
+    (assigned_tokens x.first equal end v x.behind e rest x.is) (ap (λ r. ls ++ line_of r ∷ []) (sym x.is))
+    (assignment_read (block n) x.first x.slot (x.behind ++ (equal ∷ (e ++ (end ∷ rest)))) rest (assign into t) ls (ls ++ x.first.line ∷ []) b i x.token x.declared x.kind (omega arith)
+    (assigning_read x.slot (x.behind ++ (equal ∷ (e ++ (end ∷ rest)))) equal e end rest into t (ls ++ x.first.line ∷ []) b i
+    (x.reads (ls ++ x.first.line ∷ []) b (equal ∷ (e ++ (end ∷ rest)))) h w le he))
+
+repeats_reads : (i : Input) (n : ℕ) (k : Spot) (e a : List Spot) (t : Term) (x : List Tree) (ms : List ℕ)
+    → k.token ≡ Is m.While → Written i.decls 5 e t → cost e ≤ 64 → ((r : List Spot) → Stops 5 (a ++ r)) → BlockReads i n a x ms
+    → TreeReads i n (k ∷ e ++ a) (repeat t (block_of x)) (k.line ∷ ms)
+repeats_reads i n k e a t x ms hk w le s f b ls rest few last =
+    let ks : List ℕ = ls ++ k.line ∷ [] in
+    let more : length ks + length ms ≤ 4096 = omega (arith, length-append ls (k.line ∷ [])) in
+    same_gives (stmt (block n)) (repeat t (block_of x)) _ (k ∷ (e ++ (a ++ rest))) rest ls (ks ++ ms) _ b i (simp append_assoc) (append_assoc ls (k.line ∷ []) ms)
+    (begins_read (block n) (repeating (block n)) k (e ++ (a ++ rest)) rest (repeat t (block_of x)) ls _ b (Is m.While) i hk refl (omega arith)
+    (repeating_read (block n) e (a ++ rest) rest t x ks (ks ++ ms) b i w le (s rest) (λ c. f c ks rest more)))
 
 otherwise_nothing : (B : Parser (List Tree)) (rest : List Spot) (ls : List ℕ) (b : ℕ) (i : Input) → is_mark m.Else (token_of rest) ≡ false → Gives (otherwise B (on rest ls b i)) [] rest ls i
 otherwise_nothing B rest ls b i h = record { left = b; is = otherwise_none B rest ls b i h }
@@ -246,13 +391,38 @@ if_opens : Opens (Is m.If)
 unfolding same_mark
 if_opens = record { goes_on = elim [ true ↦ refl | false ↦ refl ]; other = refl }
 
+while_opens : Opens (Is m.While)
+unfolding same_mark
+while_opens = record { goes_on = elim [ true ↦ refl | false ↦ refl ]; other = refl }
+
+assert_opens : Opens (Is m.Assert)
+unfolding same_mark
+assert_opens = record { goes_on = elim [ true ↦ refl | false ↦ refl ]; other = refl }
+
+name_opens : Opens Name
+name_opens = record { goes_on = elim [ true ↦ refl | false ↦ refl ]; other = refl }
+
 opens_by : (t u : Token) → t ≡ u → Opens u → Opens t
 opens_by t u e x = rw e x
+
+-- a place begins with its name
+pub target_first : (ds : List Declared) (ss : List Spot) (t : Target) → WrittenTarget ds ss t → (s : Spot) × (xs : List Spot) × (ss ≡ s ∷ xs) × (s.token ≡ Name)
+target_first ds _ _ (whole s p n) = (s, [], refl, n.token)
+target_first ds _ _ (part s a z ss p t n ha w hz) = (s, a ∷ ss ++ z ∷ [], refl, n.token)
+
+assigned_opens : (s : Spot) (v xs us : List Spot) → v ≡ s ∷ xs → s.token ≡ Name → Opens (token_of (v ++ us))
+assigned_opens s v xs us e h = rw e (opens_by s.token Name h name_opens)
 
 tree_opens : (ds : List Declared) (ss : List Spot) (t : Tree) (ls : List ℕ) → WrittenTree ds ss t ls → (r : List Spot) → Opens (token_of (ss ++ r))
 tree_opens ds _ _ _ (prints k end e v h1 h2 h3) r = opens_by k.token (Is m.Print) h1 print_opens
 tree_opens ds _ _ _ (sends k to tag end a b c v d g h1 h2 h3 h4 h5 h6 h7) r = opens_by k.token (Is m.Send) h1 send_opens
-tree_opens ds _ _ _ (receives k n x tag end a b v d g h1 h2 h3 h4 h5 h6 h7) r = opens_by k.token (Is m.Recv) h1 recv_opens
+tree_opens ds _ _ _ (assigns equal end n e into v h1 h2 h3 h4) r =
+    let f = target_first ds n into h1 in
+    let same : n ++ equal ∷ e ++ end ∷ [] ++ r ≡ n ++ (equal ∷ (e ++ (end ∷ r))) = simp append_assoc in
+    rw same (assigned_opens f.0 n f.1 (equal ∷ (e ++ (end ∷ r))) f.2 f.3)
+tree_opens ds _ _ _ (asserts k end e v h1 h2 h3) r = opens_by k.token (Is m.Assert) h1 assert_opens
+tree_opens ds _ _ _ (repeats k e a v x ms h1 h2 b) r = opens_by k.token (Is m.While) h1 while_opens
+tree_opens ds _ _ _ (receives k x tag end n a b v d g h1 h2 h3 h4 h5 h6 h7) r = opens_by k.token (Is m.Recv) h1 recv_opens
 tree_opens ds _ _ _ (chooses k e a v x ms h1 h2 b) r = opens_by k.token (Is m.If) h1 if_opens
 tree_opens ds _ _ _ (chooses_else k w e a b v x y ms ns h1 h2 f h3 g) r = opens_by k.token (Is m.If) h1 if_opens
 
@@ -322,8 +492,13 @@ mutual
   tree_read ds i _ _ _ (prints k end e t hk w he) n deep dear = prints_reads (under ds i) n k end e t hk w he dear
   tree_read ds i _ _ _ (sends k to tag end a b c value dest mark hk wa hto wb htag wc he) n deep dear =
       sends_reads (under ds i) n k to tag end a b c value dest mark hk wa hto wb htag wc he (omega arith) (omega arith) (omega arith)
-  tree_read ds i _ _ _ (receives k v x tag end a c into source mark hk names hf wa htag wc he) n deep dear =
-      receives_reads (under ds i) n k v x tag end a c into source mark hk names hf wa htag wc he (omega arith) (omega arith)
+  tree_read ds i _ _ _ (receives k x tag end v a c into source mark hk names hf wa htag wc he) n deep dear =
+      receives_reads (under ds i) n k x tag end v a c into source mark hk (target_begins (under ds i) v into names (omega arith)) hf wa htag wc he (omega arith) (omega arith)
+  tree_read ds i _ _ _ (assigns equal end v e into t names h w he) n deep dear =
+      assigns_reads (under ds i) n equal end v e into t (target_begins (under ds i) v into names (omega arith)) h w he (omega arith)
+  tree_read ds i _ _ _ (asserts k end e t hk w he) n deep dear = asserts_reads (under ds i) n k end e t hk w he dear
+  tree_read ds i _ _ _ (repeats k e a t x ms hk w f) n deep dear =
+      repeats_reads (under ds i) n k e a t x ms hk w (omega arith) (block_stops ds a x ms f) (block_read ds i a x ms f n (omega arith) (omega arith))
   tree_read ds i _ _ _ (chooses k e a t x ms hk w f) n deep dear =
       chooses_reads (under ds i) n k e a t x ms hk w (omega arith) (block_stops ds a x ms f) (block_read ds i a x ms f n (omega arith) (omega arith))
   tree_read ds i _ _ _ (chooses_else k o e a z t x y ms ns hk w f ho g) n deep dear =

@@ -3,6 +3,8 @@ use Rattle.std.proofs.Common.{◌≡◌, ◌≢◌, ℕ, zero, suc, ◌+◌, ◌
 use Rattle.std.proofs.lemmas.Bool.{cases_Bool}
 use Rattle.std.proofs.lemmas.Bool.Decides.{nat_tests}
 use Rattle.mpd_model.specs.declared.expr.BinaryOp.{BinaryOp}
+use Rattle.mpd_model.specs.declared.expr.UnaryOp.{UnaryOp}
+use Rattle.mpd_model.specs.declared.expr.UnaryOp.TheVariants as u
 use Rattle.mpd_model.specs.declared.place.DeclKind.TheVariants.{Variable}
 use Rattle.mpd_model.specs.declared.place.Place.{Place}
 use Rattle.mpd_model.specs.declared.read_fault.FaultCode.TheVariants.{UnknownName}
@@ -12,10 +14,10 @@ use Rattle.mpd_model.specs.declared.token.Mark.{Mark}
 use Rattle.mpd_model.specs.declared.token.Mark.TheVariants as m
 use Rattle.mpd_model.specs.declared.token.Token.{Token}
 use Rattle.mpd_model.specs.declared.token.Token.TheVariants.{Number, Name, Is}
-use Rattle.mpd_model.specs.Grammar.{atom_by, atom, variable, place_inside, place_of_slot, rounds, chain, joined, level, expr, turns, operator_at}
-use Rattle.mpd_model.specs.Input.{Input, Outcome, Parser, and_then, token, place, spelling, next, spend, expect, sees, refusal, seek, sought, slot_in, same_kind, pure, fail}
+use Rattle.mpd_model.specs.Grammar.{atom_by, atom, bracket, indexed, place_inside, place_of_slot, rounds, signed, chain, joined, level, expr, turns, operator_at}
+use Rattle.mpd_model.specs.Input.{Input, Outcome, Parser, and_then, token, place, spelling, next, spend, expect, sees, refusal, seek, sought, slot_in, same_kind, pure, fail, refuse}
 use Rattle.mpd_model.specs.ReaderLaws.{IsNotTooDeep, with_more, leaving_more}
-use Rattle.mpd_model.specs.Term.{Term, lit, own_rank, size, cell, op2}
+use Rattle.mpd_model.specs.Term.{Term, lit, own_rank, size, cell, element, op1, op2}
 use Rattle.mpd_script.proofs.Sound.{bind_ok, ok_parts, guard_ok, expect_ok, seek_ok}
 
 bind_same : {A B : Type 0} (o : Outcome A) (f g : A → Parser B) → ((x : A × Input) → o ≡ Ok x → f x.0 x.1 ≡ g x.0 x.1) → and_then o f ≡ and_then o g
@@ -44,22 +46,45 @@ next_budget i j e = ap (λ k. k.budget) e
 abbrev Lowers : Parser Term → Type 0
 Lowers p = (i j : Input) (t : Term) → p i ≡ Ok (t, j) → j.budget ≤ i.budget
 
-variable_lowers : (i : Input) (y : Place × Input) → variable i ≡ Ok y → y.1.budget ≡ i.budget
-unfolding variable
-variable_lowers i y h =
-    let b = bind_ok (seek Variable i) _ y h in
-    let k = seek_ok i b.0 b.1 in
-    let o = ok_parts (place_of_slot b.0.0, next b.0.1) y b.2 in
-    next_budget i y.1 (sym o.1 ∙ ap next (sym k.2))
+abbrev AllLower : (ℕ → Parser Term) → Type 0
+AllLower p = (k : ℕ) → Lowers (p k)
 
-name_lowers : (p : ℕ → Parser Term) → Lowers (place_inside p)
+seek_keeps : (i : Input) (y : Slot × Input) → seek Variable i ≡ Ok y → (next y.1).budget ≡ i.budget
+seek_keeps i y h = let k = seek_ok i y h in next_budget i (next y.1) (ap next (sym k.2))
+
+bracket_case : (found : Bool) (i : Input) (y : Unit {0} × Input) → cond found (spend i) (refuse i) ≡ Ok y → y.1.budget + 1 ≡ i.budget
+bracket_case true i y h = spend_lowers i y h
+bracket_case false i y h = absurd (cc)
+
+bracket_lowers : (i : Input) (y : Unit {0} × Input) → bracket i ≡ Ok y → y.1.budget + 1 ≡ i.budget
+unfolding bracket
+bracket_lowers i y h = bracket_case (sees m.SquareOpen i) i y h
+
+indexed_lowers : (p : ℕ → Parser Term) → AllLower p → (at : Place) (cells : Option ℕ) → Lowers (indexed p at cells)
+indexed_lowers p s at None i j t h = let o = ok_parts (cell at, i) (t, j) h in omega (arith, ap (λ k. k.budget) o.1)
+indexed_lowers p s at (Some cells) i j t h =
+    let b = bind_ok (bracket i) _ (t, j) h in
+    let c = bind_ok (p 5 b.0.1) _ (t, j) b.2 in
+    let d = bind_ok (expect m.SquareClose c.0.1) _ (t, j) c.2 in
+    let ex = expect_ok m.SquareClose c.0.1 d.0 d.1 in
+    let o = ok_parts (element at c.0.0, d.0.1) (t, j) d.2 in
+    omega (arith, bracket_lowers i b.0 b.1, s 5 b.0.1 c.0.1 c.0.0 c.1, next_budget c.0.1 j (sym o.1 ∙ ex.1))
+
+name_lowers : (p : ℕ → Parser Term) → AllLower p → Lowers (place_inside p)
 unfolding place_inside
-name_lowers p i j t h =
-    let b = bind_ok (variable i) _ (t, j) h in
-    let o = ok_parts (cell b.0.0, b.0.1) (t, j) b.2 in
-    omega (arith, variable_lowers i b.0 b.1, ap (λ k. k.budget) o.1)
+name_lowers p s i j t h =
+    let b = bind_ok (seek Variable i) _ (t, j) h in
+    omega (arith, seek_keeps i b.0 b.1, indexed_lowers p s (place_of_slot b.0.0) b.0.0.size (next b.0.1) j t b.2)
 
-rounds_lowers : (p : ℕ → Parser Term) → Lowers (p 5) → Lowers (rounds p)
+signed_lowers : (p : ℕ → Parser Term) → AllLower p → (op : UnaryOp) → Lowers (signed p op)
+unfolding signed
+signed_lowers p s op i j t h =
+    let b = bind_ok (spend i) _ (t, j) h in
+    let c = bind_ok (p 0 b.0.1) _ (t, j) b.2 in
+    let o = ok_parts (op1 op c.0.0, c.0.1) (t, j) c.2 in
+    omega (arith, spend_lowers i b.0 b.1, s 0 b.0.1 c.0.1 c.0.0 c.1, ap (λ k. k.budget) o.1)
+
+rounds_lowers : (p : ℕ → Parser Term) → AllLower p → Lowers (rounds p)
 unfolding rounds
 rounds_lowers p s i j t h =
     let b = bind_ok (spend i) _ (t, j) h in
@@ -67,17 +92,19 @@ rounds_lowers p s i j t h =
     let d = bind_ok (expect m.RoundClose c.0.1) _ (t, j) c.2 in
     let ex = expect_ok m.RoundClose c.0.1 d.0 d.1 in
     let o = ok_parts (c.0.0, d.0.1) (t, j) d.2 in
-    omega (arith, spend_lowers i b.0 b.1, s b.0.1 c.0.1 c.0.0 c.1, next_budget c.0.1 j (sym o.1 ∙ ex.1))
+    omega (arith, spend_lowers i b.0 b.1, s 5 b.0.1 c.0.1 c.0.0 c.1, next_budget c.0.1 j (sym o.1 ∙ ex.1))
 
-atom_lowers_case : (p : ℕ → Parser Term) → Lowers (p 5) → (tk : Token) → Lowers (atom_by p tk)
+atom_lowers_case : (p : ℕ → Parser Term) → AllLower p → (tk : Token) → Lowers (atom_by p tk)
 atom_lowers_case p s (Number n) i j t h = let o = ok_parts (lit n, next i) (t, j) h in omega (arith, next_budget i j (sym o.1))
 atom_lowers_case p s (Is m.Rank) i j t h = let o = ok_parts (own_rank, next i) (t, j) h in omega (arith, next_budget i j (sym o.1))
 atom_lowers_case p s (Is m.Size) i j t h = let o = ok_parts (size, next i) (t, j) h in omega (arith, next_budget i j (sym o.1))
-atom_lowers_case p s Name i j t h = name_lowers p i j t h
+atom_lowers_case p s Name i j t h = name_lowers p s i j t h
 atom_lowers_case p s (Is m.RoundOpen) i j t h = rounds_lowers p s i j t h
+atom_lowers_case p s (Is m.Minus) i j t h = signed_lowers p s u.Negate i j t h
+atom_lowers_case p s (Is m.Not) i j t h = signed_lowers p s u.Not i j t h
 atom_lowers_case p s _ i j t h = absurd (cc)
 
-atom_lowers : (p : ℕ → Parser Term) → Lowers (p 5) → Lowers (atom p)
+atom_lowers : (p : ℕ → Parser Term) → AllLower p → Lowers (atom p)
 unfolding atom
 atom_lowers p s i j t h = atom_lowers_case p s (token i) i j t h
 
@@ -95,7 +122,7 @@ chain_lowers p s k zero left x j t h = let o = ok_parts (left, x) (t, j) h in om
 chain_lowers p s k (suc n) left x j t h =
     joined_lowers (chain p k n) p s left (operator_at k (token x)) x j t (λ l y e. chain_lowers p s k n l y j t e) h
 
-level_lowers : (p : ℕ → Parser Term) → Lowers (p 5) → (k : ℕ) → Lowers (level p k)
+level_lowers : (p : ℕ → Parser Term) → AllLower p → (k : ℕ) → Lowers (level p k)
 unfolding level
 level_lowers p s zero i j t h = atom_lowers p s i j t h
 level_lowers p s (suc k) i j t h =
@@ -105,27 +132,45 @@ level_lowers p s (suc k) i j t h =
 expr_lowers : (n k : ℕ) → Lowers (expr n k)
 unfolding expr
 expr_lowers zero k i j t h = absurd (cc)
-expr_lowers (suc n) k i j t h = level_lowers (expr n) (expr_lowers n 5) k i j t h
+expr_lowers (suc n) k i j t h = level_lowers (expr n) (expr_lowers n) k i j t h
 
 -- ---- two parsers that agree where less than so much budget is left
 
 abbrev Agree : ℕ → Parser Term → Parser Term → Type 0
 Agree n p q = (i : Input) → i.budget < n → p i ≡ q i
 
-rounds_agree : (n : ℕ) (p q : ℕ → Parser Term) → Agree n (p 5) (q 5) → Agree (suc n) (rounds p) (rounds q)
+abbrev AllAgree : ℕ → (ℕ → Parser Term) → (ℕ → Parser Term) → Type 0
+AllAgree n p q = (k : ℕ) → Agree n (p k) (q k)
+
+rounds_agree : (n : ℕ) (p q : ℕ → Parser Term) → AllAgree n p q → Agree (suc n) (rounds p) (rounds q)
 unfolding rounds
-rounds_agree n p q a i h = bind_same (spend i) _ _ (λ x e. let s = spend_lowers i x e in let b : x.1.budget < n = omega arith in rw (a x.1 b) refl)
+rounds_agree n p q a i h = bind_same (spend i) _ _ (λ x e. let s = spend_lowers i x e in let b : x.1.budget < n = omega arith in rw (a 5 x.1 b) refl)
 
-name_agree : (p q : ℕ → Parser Term) (i : Input) → place_inside p i ≡ place_inside q i
+signed_agree : (n : ℕ) (p q : ℕ → Parser Term) → AllAgree n p q → (op : UnaryOp) → Agree (suc n) (signed p op) (signed q op)
+unfolding signed
+signed_agree n p q a op i h = bind_same (spend i) _ _ (λ x e. let s = spend_lowers i x e in let b : x.1.budget < n = omega arith in rw (a 0 x.1 b) refl)
+
+indexed_agree : (n : ℕ) (p q : ℕ → Parser Term) → AllAgree n p q → (at : Place) (cells : Option ℕ) → Agree (suc n) (indexed p at cells) (indexed q at cells)
+indexed_agree n p q a at None i h = refl
+indexed_agree n p q a at (Some cells) i h =
+    bind_same (bracket i) _ _ (λ x e. let s = bracket_lowers i x e in let b : x.1.budget < n = omega arith in rw (a 5 x.1 b) refl)
+
+name_agree : (n : ℕ) (p q : ℕ → Parser Term) → AllAgree n p q → Agree (suc n) (place_inside p) (place_inside q)
 unfolding place_inside
-name_agree p q i = refl
+name_agree n p q a i h =
+    bind_same (seek Variable i) _ _ (λ x e.
+    let s = seek_keeps i x e in
+    let b : (next x.1).budget < suc n = omega arith in
+    indexed_agree n p q a (place_of_slot x.0) x.0.size (next x.1) b)
 
-atom_agree_case : (n : ℕ) (p q : ℕ → Parser Term) → Agree n (p 5) (q 5) → (tk : Token) (i : Input) → i.budget < suc n → atom_by p tk i ≡ atom_by q tk i
+atom_agree_case : (n : ℕ) (p q : ℕ → Parser Term) → AllAgree n p q → (tk : Token) (i : Input) → i.budget < suc n → atom_by p tk i ≡ atom_by q tk i
 atom_agree_case n p q a (Is m.RoundOpen) i h = rounds_agree n p q a i h
-atom_agree_case n p q a Name i h = name_agree p q i
+atom_agree_case n p q a (Is m.Minus) i h = signed_agree n p q a u.Negate i h
+atom_agree_case n p q a (Is m.Not) i h = signed_agree n p q a u.Not i h
+atom_agree_case n p q a Name i h = name_agree n p q a i h
 atom_agree_case n p q a _ i h = refl
 
-atom_agree : (n : ℕ) (p q : ℕ → Parser Term) → Agree n (p 5) (q 5) → Agree (suc n) (atom p) (atom q)
+atom_agree : (n : ℕ) (p q : ℕ → Parser Term) → AllAgree n p q → Agree (suc n) (atom p) (atom q)
 unfolding atom
 atom_agree n p q a i h = atom_agree_case n p q a (token i) i h
 
@@ -145,7 +190,7 @@ unfolding chain
 chain_agree n p q a s k zero left i h = refl
 chain_agree n p q a s k (suc m) left i h = joined_agree n p q a s (chain p k m) (chain q k m) (λ l. chain_agree n p q a s k m l) left (operator_at k (token i)) i h
 
-level_agree : (n : ℕ) (p q : ℕ → Parser Term) → Agree n (p 5) (q 5) → Lowers (p 5) → (k : ℕ) → Agree (suc n) (level p k) (level q k)
+level_agree : (n : ℕ) (p q : ℕ → Parser Term) → AllAgree n p q → AllLower p → (k : ℕ) → Agree (suc n) (level p k) (level q k)
 unfolding level
 level_agree n p q a s zero i h = atom_agree n p q a i h
 level_agree n p q a s (suc k) i h =
@@ -157,7 +202,7 @@ level_agree n p q a s (suc k) i h =
 pub expr_enough : (n k : ℕ) → Agree n (expr n k) (expr (suc n) k)
 unfolding expr
 expr_enough zero k i h = absurd (omega arith)
-expr_enough (suc n) k i h = level_agree n (expr n) (expr (suc n)) (expr_enough n 5) (expr_lowers n 5) k i h
+expr_enough (suc n) k i h = level_agree n (expr n) (expr (suc n)) (expr_enough n) (expr_lowers n) k i h
 
 -- ---- a larger budget
 
@@ -205,35 +250,59 @@ seek_more : (e : ℕ) → Follows e (seek Variable) (seek Variable)
 unfolding seek spelling
 seek_more e i h = sought_more e (slot_in i.decls (spelling i)) i h
 
-variable_more : (e : ℕ) → Follows e variable variable
-unfolding variable next
-variable_more e i h = bind_more e (seek Variable i) (seek Variable (with_more e i)) _ _ (seek_more e i) (λ x d c. refl) h
-
-name_more : (e : ℕ) (p q : ℕ → Parser Term) → Follows e (place_inside p) (place_inside q)
-unfolding place_inside
-name_more e p q i h = bind_more e (variable i) (variable (with_more e i)) _ _ (variable_more e i) (λ x d c. refl) h
-
-rounds_more : (e : ℕ) (p q : ℕ → Parser Term) → Follows e (p 5) (q 5) → Follows e (rounds p) (rounds q)
-unfolding rounds
-rounds_more e p q a i h =
-    bind_more e (spend i) (spend (with_more e i)) _ _ (spend_more e i) (λ x d c.
-    bind_more e (p 5 x.1) (q 5 (with_more e x.1)) _ _ (a x.1) (λ y d' c'.
-    bind_more e (expect m.RoundClose y.1) (expect m.RoundClose (with_more e y.1)) _ _ (expect_more e m.RoundClose y.1) (λ z d'' c''. refl) c') c) h
+abbrev AllFollow : ℕ → (ℕ → Parser Term) → (ℕ → Parser Term) → Type 0
+AllFollow e p q = (k : ℕ) → Follows e (p k) (q k)
 
 refuse_more : (e : ℕ) (i : Input) → refusal (with_more e i) ≡ refusal i
 unfolding refusal token place
 refuse_more e i = refl
 
-atom_more_case : (e : ℕ) (p q : ℕ → Parser Term) → Follows e (p 5) (q 5) → (tk : Token) → Follows e (atom_by p tk) (atom_by q tk)
+bracket_more_case : (e : ℕ) (found : Bool) (i : Input) → IsNotTooDeep (cond found (spend i) (refuse i))
+    → cond found (spend (with_more e i)) (refuse (with_more e i)) ≡ leaving_more e (cond found (spend i) (refuse i))
+bracket_more_case e true i h = spend_more e i h
+bracket_more_case e false i h = ap Err (refuse_more e i)
+
+bracket_more : (e : ℕ) → Follows e bracket bracket
+unfolding bracket sees token
+bracket_more e i h = bracket_more_case e (sees m.SquareOpen i) i h
+
+indexed_more : (e : ℕ) (p q : ℕ → Parser Term) → AllFollow e p q → (at : Place) (cells : Option ℕ) → Follows e (indexed p at cells) (indexed q at cells)
+indexed_more e p q a at None i h = refl
+indexed_more e p q a at (Some cells) i h =
+    bind_more e (bracket i) (bracket (with_more e i)) _ _ (bracket_more e i) (λ x d c.
+    bind_more e (p 5 x.1) (q 5 (with_more e x.1)) _ _ (a 5 x.1) (λ y d' c'.
+    bind_more e (expect m.SquareClose y.1) (expect m.SquareClose (with_more e y.1)) _ _ (expect_more e m.SquareClose y.1) (λ z d'' c''. refl) c') c) h
+
+name_more : (e : ℕ) (p q : ℕ → Parser Term) → AllFollow e p q → Follows e (place_inside p) (place_inside q)
+unfolding place_inside next
+name_more e p q a i h =
+    bind_more e (seek Variable i) (seek Variable (with_more e i)) _ _ (seek_more e i) (λ x d c. indexed_more e p q a (place_of_slot x.0) x.0.size (next x.1) c) h
+
+signed_more : (e : ℕ) (p q : ℕ → Parser Term) → AllFollow e p q → (op : UnaryOp) → Follows e (signed p op) (signed q op)
+unfolding signed
+signed_more e p q a op i h =
+    bind_more e (spend i) (spend (with_more e i)) _ _ (spend_more e i) (λ x d c.
+    bind_more e (p 0 x.1) (q 0 (with_more e x.1)) _ _ (a 0 x.1) (λ y d' c'. refl) c) h
+
+rounds_more : (e : ℕ) (p q : ℕ → Parser Term) → AllFollow e p q → Follows e (rounds p) (rounds q)
+unfolding rounds
+rounds_more e p q a i h =
+    bind_more e (spend i) (spend (with_more e i)) _ _ (spend_more e i) (λ x d c.
+    bind_more e (p 5 x.1) (q 5 (with_more e x.1)) _ _ (a 5 x.1) (λ y d' c'.
+    bind_more e (expect m.RoundClose y.1) (expect m.RoundClose (with_more e y.1)) _ _ (expect_more e m.RoundClose y.1) (λ z d'' c''. refl) c') c) h
+
+atom_more_case : (e : ℕ) (p q : ℕ → Parser Term) → AllFollow e p q → (tk : Token) → Follows e (atom_by p tk) (atom_by q tk)
 unfolding next
 atom_more_case e p q a (Number n) i h = refl
 atom_more_case e p q a (Is m.Rank) i h = refl
 atom_more_case e p q a (Is m.Size) i h = refl
-atom_more_case e p q a Name i h = name_more e p q i h
+atom_more_case e p q a Name i h = name_more e p q a i h
 atom_more_case e p q a (Is m.RoundOpen) i h = rounds_more e p q a i h
+atom_more_case e p q a (Is m.Minus) i h = signed_more e p q a u.Negate i h
+atom_more_case e p q a (Is m.Not) i h = signed_more e p q a u.Not i h
 atom_more_case e p q a _ i h = ap Err (refuse_more e i)
 
-atom_more : (e : ℕ) (p q : ℕ → Parser Term) → Follows e (p 5) (q 5) → Follows e (atom p) (atom q)
+atom_more : (e : ℕ) (p q : ℕ → Parser Term) → AllFollow e p q → Follows e (atom p) (atom q)
 unfolding atom token
 atom_more e p q a i h = atom_more_case e p q a (token i) i h
 
@@ -275,7 +344,7 @@ turns_more e p q a s k left i h =
           rw other (chain_more e p q a s k (i.budget + 1) (i.budget + e + 1) left i (omega arith) (omega arith) h')
     ]
 
-level_more : (e : ℕ) (p q : ℕ → Parser Term) → Follows e (p 5) (q 5) → Lowers (p 5) → (k : ℕ) → Follows e (level p k) (level q k)
+level_more : (e : ℕ) (p q : ℕ → Parser Term) → AllFollow e p q → AllLower p → (k : ℕ) → Follows e (level p k) (level q k)
 unfolding level
 level_more e p q a s zero i h = atom_more e p q a i h
 level_more e p q a s (suc k) i h =
@@ -287,7 +356,7 @@ unfolding expr
 expr_more_from e zero more k is i h = absurd (h refl)
 expr_more_from e (suc n) more k is i h =
     let one : more ≡ suc (n + e) = omega arith in
-    rw one (level_more e (expr n) (expr (n + e)) (expr_more_from e n (n + e) 5 refl) (expr_lowers n 5) k i h)
+    rw one (level_more e (expr n) (expr (n + e)) (λ l. expr_more_from e n (n + e) l refl) (expr_lowers n) k i h)
 
 pub expr_more : (depth k more : ℕ) (i : Input) → IsNotTooDeep (expr depth k i) → expr (depth + more) k (with_more more i) ≡ leaving_more more (expr depth k i)
 expr_more depth k more i h = expr_more_from more depth (depth + more) k refl i h

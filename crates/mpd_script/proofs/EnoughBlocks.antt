@@ -4,7 +4,7 @@ use Rattle.std.proofs.lemmas.Bool.{cases_Bool}
 use Rattle.mpd_model.specs.declared.token.Mark.TheVariants as m
 use Rattle.mpd_model.specs.declared.token.Token.{Token}
 use Rattle.mpd_model.specs.declared.token.Token.TheVariants.{Is}
-use Rattle.mpd_model.specs.Grammar.{expression, begun, closes, otherwise, choosing, stmt_by, stmt, stmts, body, block}
+use Rattle.mpd_model.specs.Grammar.{expression, begun, closes, otherwise, choosing, repeating, stmt_by, stmt, stmts, body, block}
 use Rattle.mpd_model.specs.Input.{Input, Outcome, Parser, and_then, token, expect, sees, after, pure}
 use Rattle.mpd_model.specs.ReaderLaws.{IsNotTooDeep}
 use Rattle.mpd_model.specs.Tree.{Tree}
@@ -33,8 +33,15 @@ choosing_same p q a i h =
     bind_same (p x.1) (q x.1) _ _ (a x.1) (λ y c'.
     bind_same (otherwise p y.1) (otherwise q y.1) _ _ (otherwise_same p q a y.1) (λ z c''. refl) c') c) h
 
+repeating_same : (p q : Parser (List Tree)) → Same p q → Same (repeating p) (repeating q)
+unfolding repeating
+repeating_same p q a i h =
+    bind_same (expression i) (expression i) _ _ (λ d. refl) (λ x c.
+    bind_same (p x.1) (q x.1) _ _ (a x.1) (λ y c'. refl) c) h
+
 stmt_case : (p q : Parser (List Tree)) → Same p q → (tk : Token) → Same (stmt_by p tk) (stmt_by q tk)
 stmt_case p q a (Is m.If) i h = bind_same (begun i) (begun i) _ _ (λ d. refl) (λ x c. choosing_same p q a x.1 c) h
+stmt_case p q a (Is m.While) i h = bind_same (begun i) (begun i) _ _ (λ d. refl) (λ x c. repeating_same p q a x.1 c) h
 stmt_case p q a _ i h = refl
 
 stmt_same : (p q : Parser (List Tree)) → Same p q → Same (stmt p) (stmt q)

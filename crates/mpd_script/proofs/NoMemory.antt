@@ -3,8 +3,11 @@ use Rattle.std.proofs.Common.{◌≡◌, ◌≢◌, ℕ, zero, suc, ◌+◌, pos
 use Rattle.std.specs.List.{prefix_len}
 use Rattle.std.specs.Ordering.{int_eq}
 use Rattle.mpd_model.specs.declared.expr.BinaryOp.{BinaryOp}
+use Rattle.mpd_model.specs.declared.expr.UnaryOp.{UnaryOp}
+use Rattle.mpd_model.specs.declared.expr.UnaryOp.TheVariants as u
 use Rattle.mpd_model.specs.declared.place.DeclKind.{DeclKind}
 use Rattle.mpd_model.specs.declared.place.DeclKind.TheVariants.{Variable}
+use Rattle.mpd_model.specs.declared.place.Place.{Place}
 use Rattle.mpd_model.specs.declared.read_fault.FaultCode.TheVariants.{UnknownName, NotInVersion, Memory}
 use Rattle.mpd_model.specs.declared.read_fault.ReadFault.{ReadFault}
 use Rattle.mpd_model.specs.declared.slot.Slot.{Slot}
@@ -12,7 +15,7 @@ use Rattle.mpd_model.specs.declared.token.Mark.{Mark}
 use Rattle.mpd_model.specs.declared.token.Mark.TheVariants as m
 use Rattle.mpd_model.specs.declared.token.Token.{Token}
 use Rattle.mpd_model.specs.declared.token.Token.TheVariants.{Number, Name, Is, Bad}
-use Rattle.mpd_model.specs.Grammar.{atom_by, atom, variable, place_inside, rounds, chain, joined, level, expr, turns, operator_at, expression, begun, closes, printing, sending, named_by, named, receiving, otherwise, choosing, stmt_by, stmt, stmts, body, block, max_blocks, version_by, version, rank_count, ranks_of, ranks_by, ranks, declaring, decl_by, decl, decls_from, decls, header, max_text, is_text, read_of, reading}
+use Rattle.mpd_model.specs.Grammar.{atom_by, atom, bracket, indexed, place_inside, place_of_slot, rounds, signed, chain, joined, level, expr, turns, operator_at, expression, begun, closes, printing, sending, outside, target, named_by, named, assigning, asserting, receiving, otherwise, choosing, repeating, stmt_by, stmt, stmts, body, block, max_blocks, version_by, version, rank_count, ranks_of, ranks_by, ranks, natural, sized_at, size_by, sized, single, declaring, decl_by, decl, decls_from, decls, header, max_text, is_text, read_of, reading}
 use Rattle.mpd_model.specs.Grammar as grammar
 use Rattle.mpd_model.specs.Input.{Input, Outcome, Parser, and_then, start_of, token, place, spelling, next, code_at, refusal, refuse, fail, advance, pure, expect, spend, count, seek, sought, same_kind, slot_in, fresh, is_known, add, fits, sees, after, max_budget, ◌>>=◌, ◌>>◌}
 use Rattle.mpd_model.specs.Program.{Program}
@@ -67,30 +70,44 @@ seek_sure : (k : DeclKind) → AllSure (seek k)
 unfolding seek
 seek_sure k i = sought_sure k (slot_in i.decls (spelling i)) i
 
-variable_sure : AllSure variable
-unfolding variable
-variable_sure i = bind_sure (seek Variable i) _ (seek_sure Variable i) (λ s j. tt)
-
 -- ---- expressions
 
-name_sure : (p : ℕ → Parser Term) → AllSure (place_inside p)
-unfolding place_inside
-name_sure p i = bind_sure (variable i) _ (variable_sure i) (λ v j. tt)
+abbrev AllSureAt : (ℕ → Parser Term) → Type 0
+AllSureAt p = (k : ℕ) → AllSure (p k)
 
-rounds_sure : (p : ℕ → Parser Term) → AllSure (p 5) → AllSure (rounds p)
+bracket_sure : AllSure bracket
+unfolding bracket
+bracket_sure i = cond_sure (sees m.SquareOpen i) (spend i) (refuse i) (spend_sure i) (refusal_sure i)
+
+indexed_sure : (p : ℕ → Parser Term) → AllSureAt p → (at : Place) (cells : Option ℕ) → AllSure (indexed p at cells)
+indexed_sure p s at None i = tt
+indexed_sure p s at (Some cells) i =
+    bind_sure (bracket i) _ (bracket_sure i) (λ u x. bind_sure (p 5 x) _ (s 5 x) (λ e y. bind_sure (expect m.SquareClose y) _ (expect_sure m.SquareClose y) (λ v z. tt)))
+
+name_sure : (p : ℕ → Parser Term) → AllSureAt p → AllSure (place_inside p)
+unfolding place_inside
+name_sure p s i = bind_sure (seek Variable i) _ (seek_sure Variable i) (λ v j. indexed_sure p s (place_of_slot v) v.size (next j))
+
+signed_sure : (p : ℕ → Parser Term) → AllSureAt p → (op : UnaryOp) → AllSure (signed p op)
+unfolding signed
+signed_sure p s op i = bind_sure (spend i) _ (spend_sure i) (λ u x. bind_sure (p 0 x) _ (s 0 x) (λ e y. tt))
+
+rounds_sure : (p : ℕ → Parser Term) → AllSureAt p → AllSure (rounds p)
 unfolding rounds
 rounds_sure p s i =
-    bind_sure (spend i) _ (spend_sure i) (λ u x. bind_sure (p 5 x) _ (s x) (λ e y. bind_sure (expect m.RoundClose y) _ (expect_sure m.RoundClose y) (λ v z. tt)))
+    bind_sure (spend i) _ (spend_sure i) (λ u x. bind_sure (p 5 x) _ (s 5 x) (λ e y. bind_sure (expect m.RoundClose y) _ (expect_sure m.RoundClose y) (λ v z. tt)))
 
-atom_case : (p : ℕ → Parser Term) → AllSure (p 5) → (t : Token) → AllSure (atom_by p t)
+atom_case : (p : ℕ → Parser Term) → AllSureAt p → (t : Token) → AllSure (atom_by p t)
 atom_case p s (Number n) i = tt
 atom_case p s (Is m.Rank) i = tt
 atom_case p s (Is m.Size) i = tt
-atom_case p s Name i = name_sure p i
+atom_case p s Name i = name_sure p s i
+atom_case p s (Is m.Minus) i = signed_sure p s u.Negate i
+atom_case p s (Is m.Not) i = signed_sure p s u.Not i
 atom_case p s (Is m.RoundOpen) i = rounds_sure p s i
 atom_case p s _ i = refusal_sure i
 
-atom_sure : (p : ℕ → Parser Term) → AllSure (p 5) → AllSure (atom p)
+atom_sure : (p : ℕ → Parser Term) → AllSureAt p → AllSure (atom p)
 unfolding atom
 atom_sure p s i = atom_case p s (token i) i
 
@@ -103,7 +120,7 @@ unfolding chain
 chain_sure p s k zero left i = tt
 chain_sure p s k (suc n) left i = joined_sure (chain p k n) p (λ l. chain_sure p s k n l) s left (operator_at k (token i)) i
 
-level_sure : (p : ℕ → Parser Term) → AllSure (p 5) → (k : ℕ) → AllSure (level p k)
+level_sure : (p : ℕ → Parser Term) → AllSureAt p → (k : ℕ) → AllSure (level p k)
 unfolding level
 level_sure p s zero i = atom_sure p s i
 level_sure p s (suc k) i = bind_sure (level p k i) _ (level_sure p s k i) (λ left x. chain_sure (level p k) (level_sure p s k) (suc k) (turns (suc k) x) left x)
@@ -111,7 +128,7 @@ level_sure p s (suc k) i = bind_sure (level p k i) _ (level_sure p s k i) (λ le
 expr_sure : (n k : ℕ) → AllSure (expr n k)
 unfolding expr
 expr_sure zero k i = λ e. absurd (cc)
-expr_sure (suc n) k i = level_sure (expr n) (expr_sure n 5) k i
+expr_sure (suc n) k i = level_sure (expr n) (expr_sure n) k i
 
 expression_sure : AllSure expression
 expression_sure i = expr_sure 65 5 (record i { budget = max_budget })
@@ -129,8 +146,28 @@ sending_sure i =
     bind_sure (expression x2) _ (expression_sure x2) (λ c x3. bind_sure (expect m.Tag x3) _ (expect_sure m.Tag x3) (λ d x4.
     bind_sure (expression x4) _ (expression_sure x4) (λ e x5. bind_sure (expect m.Semicolon x5) _ (expect_sure m.Semicolon x5) (λ f x6. tt))))))
 
+outside_sure : (at : Place) (cells : Option ℕ) → AllSure (outside at cells)
+outside_sure at None i = tt
+outside_sure at (Some cells) i =
+    bind_sure (expect m.SquareOpen i) _ (expect_sure m.SquareOpen i) (λ a x. bind_sure (expression x) _ (expression_sure x) (λ e y.
+    bind_sure (expect m.SquareClose y) _ (expect_sure m.SquareClose y) (λ b z. tt)))
+
+target_sure : AllSure target
+unfolding target
+target_sure i = bind_sure (seek Variable i) _ (seek_sure Variable i) (λ v j. outside_sure (place_of_slot v) v.size (next j))
+
+assigning_sure : (slot : Slot) → AllSure (assigning slot)
+unfolding assigning
+assigning_sure slot i =
+    bind_sure (outside (place_of_slot slot) slot.size i) _ (outside_sure (place_of_slot slot) slot.size i) (λ a x1. bind_sure (expect m.Assign x1) _ (expect_sure m.Assign x1) (λ b x2.
+    bind_sure (expression x2) _ (expression_sure x2) (λ c x3. bind_sure (expect m.Semicolon x3) _ (expect_sure m.Semicolon x3) (λ d x4. tt))))
+
+asserting_sure : AllSure asserting
+unfolding asserting
+asserting_sure i = bind_sure (expression i) _ (expression_sure i) (λ e x. bind_sure (expect m.Semicolon x) _ (expect_sure m.Semicolon x) (λ u y. tt))
+
 named_case : (t : Token) → AllSure (named_by t)
-named_case Name i = variable_sure i
+named_case Name i = target_sure i
 named_case _ i = refusal_sure i
 
 named_sure : AllSure named
@@ -153,10 +190,17 @@ unfolding choosing
 choosing_sure p s i =
     bind_sure (expression i) _ (expression_sure i) (λ a x. bind_sure (p x) _ (s x) (λ b y. bind_sure (otherwise p y) _ (otherwise_sure p s y) (λ c z. tt)))
 
+repeating_sure : (p : Parser (List Tree)) → AllSure p → AllSure (repeating p)
+unfolding repeating
+repeating_sure p s i = bind_sure (expression i) _ (expression_sure i) (λ a x. bind_sure (p x) _ (s x) (λ b y. tt))
+
 begun_sure : AllSure begun
 begun_sure i = bind_sure (count i) _ (count_sure i) (λ u x. tt)
 
 stmt_case : (p : Parser (List Tree)) → AllSure p → (t : Token) → AllSure (stmt_by p t)
+stmt_case p s Name i = bind_sure (seek Variable i) _ (seek_sure Variable i) (λ v x. bind_sure (begun x) _ (begun_sure x) (λ u y. assigning_sure v y))
+stmt_case p s (Is m.While) i = bind_sure (begun i) _ (begun_sure i) (λ u x. repeating_sure p s x)
+stmt_case p s (Is m.Assert) i = bind_sure (begun i) _ (begun_sure i) (λ u x. asserting_sure x)
 stmt_case p s (Is m.If) i = bind_sure (begun i) _ (begun_sure i) (λ u x. choosing_sure p s x)
 stmt_case p s (Is m.Print) i = bind_sure (begun i) _ (begun_sure i) (λ u x. printing_sure x)
 stmt_case p s (Is m.Send) i = bind_sure (begun i) _ (begun_sure i) (λ u x. sending_sure x)
@@ -216,13 +260,30 @@ add_sure : (k : DeclKind) (name : List ℕ) (size : Option ℕ) (at : ℕ) → A
 unfolding add
 add_sure k name size at i = cond_sure (fits k size i.decls) _ _ tt (λ e. absurd (cc))
 
+sized_at_sure : (k : DeclKind) (name : List ℕ) (o : Option ℕ) → AllSure (sized_at k name o)
+sized_at_sure k name None i = refusal_sure i
+sized_at_sure k name (Some n) i =
+    bind_sure (add k name (Some n) (place i) i) _ (add_sure k name (Some n) (place i) i) (λ a x.
+    bind_sure (expect m.SquareClose (next x)) _ (expect_sure m.SquareClose (next x)) (λ b y. expect_sure m.Semicolon y))
+
+size_case : (k : DeclKind) (name : List ℕ) (t : Token) → AllSure (size_by k name t)
+size_case k name (Number z) i = sized_at_sure k name (natural z) i
+size_case k name _ i = refusal_sure i
+
+sized_sure : (k : DeclKind) (name : List ℕ) → AllSure (sized k name)
+unfolding sized
+sized_sure k name i = size_case k name (token i) i
+
+single_sure : (k : DeclKind) (name : List ℕ) (at : ℕ) → AllSure (single k name at)
+unfolding single
+single_sure k name at i = bind_sure (add k name None at i) _ (add_sure k name None at i) (λ a x. expect_sure m.Semicolon x)
+
 declaring_sure : (k : DeclKind) → AllSure (declaring k)
 unfolding declaring
 declaring_sure k i =
     bind_sure (fresh i) _ (fresh_sure i) (λ a x.
-    bind_sure (cond (sees m.SquareOpen (next x)) refuse (add k (spelling i) None (place i)) (next x)) _
-    (either_sure (sees m.SquareOpen (next x)) refuse (add k (spelling i) None (place i)) (next x) (refusal_sure (next x)) (add_sure k (spelling i) None (place i) (next x)))
-    (λ b y. expect_sure m.Semicolon y))
+    either_sure (sees m.SquareOpen (next x)) (sized k (spelling i)) (single k (spelling i) (place i)) (after m.SquareOpen (next x))
+    (sized_sure k (spelling i) (after m.SquareOpen (next x))) (single_sure k (spelling i) (place i) (after m.SquareOpen (next x))))
 
 decl_case : (k : DeclKind) (t : Token) → AllSure (decl_by k t)
 decl_case k Name i = declaring_sure k i

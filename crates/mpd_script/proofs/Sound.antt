@@ -1,10 +1,12 @@
 -- What the grammar's functions read as an expression is written so.
-use Rattle.std.proofs.Common.{◌≡◌, ◌≢◌, ℕ, zero, suc, ◌≤◌, ◌==◌, Bool, true, false, cond, List, [], ◌∷◌, ◌++◌, Option, Some, None, Ok, Err, refl, ap, sym, ◌∙◌, append_assoc, arith, rules, inl, inr}
+use Rattle.std.proofs.Common.{◌≡◌, ◌≢◌, ℕ, zero, suc, ◌≤◌, ◌==◌, Bool, true, false, cond, List, [], ◌∷◌, ◌++◌, Option, Some, None, is_some, Ok, Err, refl, ap, sym, ◌∙◌, append_assoc, arith, rules, inl, inr}
 use Rattle.std.proofs.lemmas.Bool.{cases_Bool}
 use Rattle.std.proofs.lemmas.Bool.Decides.{nat_tests}
 use denote.Enum.Bare.{same_true}
 use Rattle.mpd_model.specs.contracts.token.Mark.{the_type}
 use Rattle.mpd_model.specs.declared.expr.BinaryOp.{BinaryOp}
+use Rattle.mpd_model.specs.declared.expr.UnaryOp.{UnaryOp}
+use Rattle.mpd_model.specs.declared.expr.UnaryOp.TheVariants as u
 use Rattle.mpd_model.specs.declared.place.DeclKind.{DeclKind}
 use Rattle.mpd_model.specs.declared.place.DeclKind.TheVariants.{Variable, Handle}
 use Rattle.mpd_model.specs.declared.place.Place.{Place}
@@ -15,11 +17,12 @@ use Rattle.mpd_model.specs.declared.token.Mark.{Mark}
 use Rattle.mpd_model.specs.declared.token.Mark.TheVariants as m
 use Rattle.mpd_model.specs.declared.token.Token.{Token}
 use Rattle.mpd_model.specs.declared.token.Token.TheVariants.{Number, Name, Is, Bad, End}
-use Rattle.mpd_model.specs.Grammar.{atom_by, atom, variable, place_inside, place_of_slot, rounds, chain, joined, level, expr, turns, operator_at}
-use Rattle.mpd_model.specs.Input.{Input, Outcome, Parser, and_then, token, token_of, text_of, spelling, next, behind, spend, expect, sees, is_mark, same_mark, same_kind, sought, seek, slot_in, pure, fail}
-use Rattle.mpd_model.specs.Term.{Term, lit, own_rank, size, cell, op2}
+use Rattle.mpd_model.specs.Grammar.{atom_by, atom, bracket, indexed, place_inside, place_of_slot, rounds, signed, sign, chain, joined, level, expr, turns, operator_at}
+use Rattle.mpd_model.specs.Declaration.{Declared}
+use Rattle.mpd_model.specs.Input.{Input, Outcome, Parser, and_then, token, token_of, text_of, spelling, next, behind, spend, expect, sees, is_mark, same_mark, same_kind, sought, seek, slot_in, pure, fail, refuse}
+use Rattle.mpd_model.specs.Term.{Term, lit, own_rank, size, cell, element, op1, op2}
 use Rattle.mpd_model.specs.Tokens.{Spot}
-use Rattle.mpd_model.specs.Written.{Names, Written, number, rank, ranks, name, round, higher, joins, Takes, IsSound, left_level}
+use Rattle.mpd_model.specs.Written.{Names, Written, number, rank, ranks, name, entry, round, signs, higher, joins, Takes, IsSound, left_level}
 
 -- ---- what a success of a step says
 
@@ -132,15 +135,16 @@ pub seek_ok : (i : Input) (y : Slot × Input) → seek Variable i ≡ Ok y → (
 unfolding seek
 seek_ok i y h = sought_ok (slot_in i.decls (spelling i)) i y h
 
+-- the token is the name that was declared as the slot
+abbrev pub NamedBy : List Declared → Slot → Spot → Type 0
+NamedBy ds slot s = (sized : Bool) → is_some slot.size ≡ sized → Names ds s sized (place_of_slot slot)
+
 -- a variable's name
-pub variable_step : (i j : Input) (p : Place) → token i ≡ Name → variable i ≡ Ok (p, j) → (s : Step i j) × Names i.decls s.spot p
-unfolding variable
-variable_step i j p e h =
-    let b = bind_ok (seek Variable i) _ (p, j) h in
-    let k = seek_ok i b.0 b.1 in
-    let o = ok_parts (place_of_slot b.0.0, next b.0.1) (p, j) b.2 in
-    let s = next_step i j (λ x. absurd (cc)) (sym o.1 ∙ ap next (sym k.2)) in
-    (s, record { token = s.token ∙ e; slot = b.0.0; declared = ap (slot_in i.decls) s.text ∙ k.0; kind = k.1; place = o.0 })
+pub name_step : (i : Input) (y : Slot × Input) → token i ≡ Name → seek Variable i ≡ Ok y → (s : Step i (next y.1)) × NamedBy i.decls y.0 s.spot
+name_step i y e h =
+    let k = seek_ok i y h in
+    let s = next_step i (next y.1) (λ x. absurd (cc)) (ap next (sym k.2)) in
+    (s, λ sized is. record { token = s.token ∙ e; slot = y.0; declared = ap (slot_in i.decls) s.text ∙ k.0; kind = k.1; size = is; place = refl })
 
 -- ---- expressions
 
@@ -164,7 +168,11 @@ round_takes i x1 x2 j t e a tk c d =
     (then_moves (a.spot ∷ []) (tk.used ++ c.spot ∷ []) i x1 j a.moves (then_moves tk.used (c.spot ∷ []) x1 x2 j (moves_of 5 t x1 x2 tk) c.moves))
     (round a.spot c.spot tk.used t (a.token ∙ e) d (rw (← a.moves.decls) tk.written))
 
-rounds_sound : (p : ℕ → Parser Term) → IsSound 5 (p 5) → (i j : Input) (t : Term) → token i ≡ Is m.RoundOpen → rounds p i ≡ Ok (t, j) → Takes 0 t i j
+-- sound at every level
+abbrev AllSound : (ℕ → Parser Term) → Type 0
+AllSound p = (k : ℕ) → IsSound k (p k)
+
+rounds_sound : (p : ℕ → Parser Term) → AllSound p → (i j : Input) (t : Term) → token i ≡ Is m.RoundOpen → rounds p i ≡ Ok (t, j) → Takes 0 t i j
 unfolding rounds
 rounds_sound p s i j t e h =
     let b = bind_ok (spend i) _ (t, j) h in
@@ -172,15 +180,64 @@ rounds_sound p s i j t e h =
     let d = bind_ok (expect m.RoundClose c.0.1) _ (t, j) c.2 in
     let o = ok_parts (c.0.0, d.0.1) (t, j) d.2 in
     let x = expect_step m.RoundClose c.0.1 d.0 d.1 in
-    carried (λ t j. Takes 0 t i j) _ _ _ _ o.0 o.1 (round_takes i b.0.1 c.0.1 d.0.1 c.0.0 e (spend_step i b.0 (λ x. absurd (cc)) b.1) (s b.0.1 c.0.1 c.0.0 c.1) x.0 x.1)
+    carried (λ t j. Takes 0 t i j) _ _ _ _ o.0 o.1 (round_takes i b.0.1 c.0.1 d.0.1 c.0.0 e (spend_step i b.0 (λ x. absurd (cc)) b.1) (s 5 b.0.1 c.0.1 c.0.0 c.1) x.0 x.1)
 
-name_sound : (p : ℕ → Parser Term) (i j : Input) (t : Term) → token i ≡ Name → place_inside p i ≡ Ok (t, j) → Takes 0 t i j
+bracket_case : (found : Bool) (i : Input) (y : Unit {0} × Input) → sees m.SquareOpen i ≡ found → cond found (spend i) (refuse i) ≡ Ok y
+    → (s : Step i y.1) × (s.spot.token ≡ Is m.SquareOpen)
+bracket_case true i y e h =
+    let is = sees_is m.SquareOpen i e in
+    let s = spend_step i y (λ x. absurd (cc)) h in
+    (s, s.token ∙ is)
+bracket_case false i y e h = absurd (cc)
+
+bracket_step : (i : Input) (y : Unit {0} × Input) → bracket i ≡ Ok y → (s : Step i y.1) × (s.spot.token ≡ Is m.SquareOpen)
+unfolding bracket
+bracket_step i y h = bracket_case (sees m.SquareOpen i) i y refl h
+
+entry_takes : (i x1 x2 x3 j : Input) (p : Place) (t : Term) → (s : Step i x1) → Names i.decls s.spot true p → (a : Step x1 x2) → a.spot.token ≡ Is m.SquareOpen
+    → Takes 5 t x2 x3 → (c : Step x3 j) → c.spot.token ≡ Is m.SquareClose → Takes 0 (element p t) i j
+entry_takes i x1 x2 x3 j p t s n a ea tk c ec =
+    takes 0 (element p t) (s.spot ∷ a.spot ∷ tk.used ++ c.spot ∷ []) i j
+    (then_moves (s.spot ∷ []) (a.spot ∷ tk.used ++ c.spot ∷ []) i x1 j s.moves
+    (then_moves (a.spot ∷ []) (tk.used ++ c.spot ∷ []) x1 x2 j a.moves (then_moves tk.used (c.spot ∷ []) x2 x3 j (moves_of 5 t x2 x3 tk) c.moves)))
+    (entry s.spot a.spot c.spot tk.used p t n ea ec (rw (← s.moves.decls, ← a.moves.decls) tk.written))
+
+-- a name, and the index of an array behind it
+indexed_sound : (p : ℕ → Parser Term) → AllSound p → (slot : Slot) (cells : Option ℕ) (i x j : Input) (t : Term) → (s : Step i x)
+    → ((sized : Bool) → is_some cells ≡ sized → Names i.decls s.spot sized (place_of_slot slot)) → indexed p (place_of_slot slot) cells x ≡ Ok (t, j) → Takes 0 t i j
+indexed_sound p q slot None i x j t s n h =
+    let o = ok_parts (cell (place_of_slot slot), x) (t, j) h in
+    carried (λ t j. Takes 0 t i j) _ _ _ _ o.0 o.1 (one (cell (place_of_slot slot)) i x s (name s.spot (place_of_slot slot) (n false refl)))
+indexed_sound p q slot (Some cells) i x j t s n h =
+    let a = bind_ok (bracket x) _ (t, j) h in
+    let b = bind_ok (p 5 a.0.1) _ (t, j) a.2 in
+    let c = bind_ok (expect m.SquareClose b.0.1) _ (t, j) b.2 in
+    let o = ok_parts (element (place_of_slot slot) b.0.0, c.0.1) (t, j) c.2 in
+    let opens = bracket_step x a.0 a.1 in
+    let ends = expect_step m.SquareClose b.0.1 c.0 c.1 in
+    carried (λ t j. Takes 0 t i j) _ _ _ _ o.0 o.1
+    (entry_takes i x a.0.1 b.0.1 c.0.1 (place_of_slot slot) b.0.0 s (n true refl) opens.0 opens.1 (q 5 a.0.1 b.0.1 b.0.0 b.1) ends.0 ends.1)
+
+name_sound : (p : ℕ → Parser Term) → AllSound p → (i j : Input) (t : Term) → token i ≡ Name → place_inside p i ≡ Ok (t, j) → Takes 0 t i j
 unfolding place_inside
-name_sound p i j t e h =
-    let b = bind_ok (variable i) _ (t, j) h in
-    let v = variable_step i b.0.1 b.0.0 e b.1 in
-    let o = ok_parts (cell b.0.0, b.0.1) (t, j) b.2 in
-    carried (λ t j. Takes 0 t i j) _ _ _ _ o.0 o.1 (one (cell b.0.0) i b.0.1 v.0 (name v.0.spot b.0.0 v.1))
+name_sound p q i j t e h =
+    let b = bind_ok (seek Variable i) _ (t, j) h in
+    let v = name_step i b.0 e b.1 in
+    indexed_sound p q b.0.0 b.0.0.size i (next b.0.1) j t v.0 v.1 b.2
+
+signed_takes : (op : UnaryOp) (i x j : Input) (t : Term) → sign (token i) ≡ Some op → Step i x → Takes 0 t x j → Takes 0 (op1 op t) i j
+signed_takes op i x j t e s tk =
+    takes 0 (op1 op t) (s.spot ∷ tk.used) i j
+    (then_moves (s.spot ∷ []) tk.used i x j s.moves (moves_of 0 t x j tk))
+    (signs s.spot tk.used op t (ap sign s.token ∙ e) (rw (← s.moves.decls) tk.written))
+
+signed_sound : (p : ℕ → Parser Term) → AllSound p → (op : UnaryOp) (i j : Input) (t : Term) → token i ≢ End → sign (token i) ≡ Some op → signed p op i ≡ Ok (t, j) → Takes 0 t i j
+unfolding signed
+signed_sound p s op i j t some e h =
+    let b = bind_ok (spend i) _ (t, j) h in
+    let c = bind_ok (p 0 b.0.1) _ (t, j) b.2 in
+    let o = ok_parts (op1 op c.0.0, c.0.1) (t, j) c.2 in
+    carried (λ t j. Takes 0 t i j) _ _ _ _ o.0 o.1 (signed_takes op i b.0.1 c.0.1 c.0.0 e (spend_step i b.0 some b.1) (s 0 b.0.1 c.0.1 c.0.0 c.1))
 
 simple : (i j : Input) (t t' : Term) → token i ≢ End → ok_of (t, next i) ≡ Ok (t', j) → ((s : Spot) → s.token ≡ token i → Written i.decls 0 (s ∷ []) t) → Takes 0 t' i j
 simple i j t t' some h w =
@@ -188,15 +245,17 @@ simple i j t t' some h w =
     let s = next_step i j some (sym o.1) in
     renamed t t' i j o.0 (one t i j s (w s.spot s.token))
 
-atom_case : (p : ℕ → Parser Term) → IsSound 5 (p 5) → (tk : Token) (i j : Input) (t : Term) → token i ≡ tk → atom_by p tk i ≡ Ok (t, j) → Takes 0 t i j
-atom_case p s (Number n) i j t e h = simple i j (lit n) t (λ x. absurd (cc)) h (λ u a. number u n (a ∙ e))
-atom_case p s (Is m.Rank) i j t e h = simple i j own_rank t (λ x. absurd (cc)) h (λ u a. rank u (a ∙ e))
-atom_case p s (Is m.Size) i j t e h = simple i j size t (λ x. absurd (cc)) h (λ u a. ranks u (a ∙ e))
-atom_case p s Name i j t e h = name_sound p i j t e h
+atom_case : (p : ℕ → Parser Term) → AllSound p → (tk : Token) (i j : Input) (t : Term) → token i ≡ tk → atom_by p tk i ≡ Ok (t, j) → Takes 0 t i j
+atom_case p s (Number n) i j t e h = simple i j (lit n) t (λ x. absurd (cc)) h (λ v a. number v n (a ∙ e))
+atom_case p s (Is m.Rank) i j t e h = simple i j own_rank t (λ x. absurd (cc)) h (λ v a. rank v (a ∙ e))
+atom_case p s (Is m.Size) i j t e h = simple i j size t (λ x. absurd (cc)) h (λ v a. ranks v (a ∙ e))
+atom_case p s Name i j t e h = name_sound p s i j t e h
 atom_case p s (Is m.RoundOpen) i j t e h = rounds_sound p s i j t e h
+atom_case p s (Is m.Minus) i j t e h = signed_sound p s u.Negate i j t (λ x. absurd (cc)) (ap sign e) h
+atom_case p s (Is m.Not) i j t e h = signed_sound p s u.Not i j t (λ x. absurd (cc)) (ap sign e) h
 atom_case p s _ i j t e h = absurd (cc)
 
-atom_sound : (p : ℕ → Parser Term) → IsSound 5 (p 5) → IsSound 0 (atom p)
+atom_sound : (p : ℕ → Parser Term) → AllSound p → IsSound 0 (atom p)
 unfolding atom
 atom_sound p s i j t h = atom_case p s (token i) i j t refl h
 
@@ -257,7 +316,7 @@ first_left k n t i j x some =
 few_turns : (k : ℕ) (i : Input) → k ≡ 2 → turns (suc k) i ≤ 1
 few_turns k i e = rw e (omega arith)
 
-level_sound : (p : ℕ → Parser Term) → IsSound 5 (p 5) → (k : ℕ) → IsSound k (level p k)
+level_sound : (p : ℕ → Parser Term) → AllSound p → (k : ℕ) → IsSound k (level p k)
 unfolding level
 level_sound p s zero i j t h = atom_sound p s i j t h
 level_sound p s (suc k) i j t h =
@@ -269,4 +328,4 @@ level_sound p s (suc k) i j t h =
 pub expr_sound : (n k : ℕ) → IsSound k (expr n k)
 unfolding expr
 expr_sound zero k i j t h = absurd (cc)
-expr_sound (suc n) k i j t h = level_sound (expr n) (expr_sound n 5) k i j t h
+expr_sound (suc n) k i j t h = level_sound (expr n) (expr_sound n) k i j t h

@@ -1,5 +1,5 @@
 -- What the grammar's functions read as a script is written so, and keeps the limits.
-use Rattle.std.proofs.Common.{◌≡◌, ℕ, zero, suc, ◌+◌, ℤ, pos, negsuc, Bool, true, false, cond, ◌&&◌, nat_le, nat_lt, List, [], ◌∷◌, ◌++◌, length, Option, Some, None, Result, Ok, Err, refl, ap, sym, ◌∙◌, arith}
+use Rattle.std.proofs.Common.{◌≡◌, ℕ, zero, suc, ◌+◌, ℤ, pos, negsuc, Bool, true, false, cond, ◌&&◌, nat_le, nat_lt, List, [], ◌∷◌, ◌++◌, length, Option, Some, None, Result, Ok, Err, refl, ap, sym, ◌∙◌, append_assoc, arith, ◌≢◌}
 use Rattle.std.proofs.lemmas.Bool.Decides.{nat_tests}
 use Rattle.std.specs.List.{prefix_len}
 use Rattle.std.specs.Ordering.{int_eq}
@@ -12,13 +12,13 @@ use Rattle.mpd_model.specs.declared.token.Token.{Token}
 use Rattle.mpd_model.specs.declared.token.Token.TheVariants.{Number, Name, Is, End}
 use Rattle.mpd_model.specs.Declaration.{Declared}
 use Rattle.mpd_model.specs.Faults.{fault}
-use Rattle.mpd_model.specs.Grammar.{version_by, version, rank_count, ranks_of, ranks_by, ranks, declaring, decl_by, decl, decls_from, decls, header, stmt, stmts, body, block, closes, max_blocks, max_text, is_text, read_of, reading}
+use Rattle.mpd_model.specs.Grammar.{version_by, version, rank_count, ranks_of, ranks_by, ranks, natural, sized_at, size_by, sized, single, declaring, decl_by, decl, decls_from, decls, header, stmt, stmts, body, block, closes, max_blocks, max_text, is_text, read_of, reading}
 use Rattle.mpd_model.specs.Grammar as grammar
-use Rattle.mpd_model.specs.Input.{Input, Outcome, Parser, start_of, token, token_of, spelling, place, next, expect, sees, after, fresh, add, fits, is_known, slot_in, advance, fail, refuse, pure, ◌>>=◌, ◌>>◌}
+use Rattle.mpd_model.specs.Input.{Input, Outcome, Parser, start_of, token, token_of, spelling, place, next, expect, sees, after, fresh, add, fits, is_known, slot_in, advance, fail, pure, ◌>>=◌, ◌>>◌}
 use Rattle.mpd_model.specs.Program.{Program}
 use Rattle.mpd_model.specs.Tokens.{Spot, tokens}
 use Rattle.mpd_model.specs.Tree.{Tree, block_of, statements_in}
-use Rattle.mpd_model.specs.Written.{WrittenDecls, none, declares, variable_of, TakesBody, WrittenScript, script}
+use Rattle.mpd_model.specs.Written.{WrittenDecls, none, declares, declares_array, variable_of, TakesBody, WrittenScript, script}
 use Rattle.mpd_script.proofs.Counted.{body_lines}
 use Rattle.mpd_script.proofs.Ends.{NoEnd, tokens_real, rest_real, none_left}
 use Rattle.mpd_script.proofs.Sound.{bind_ok, ok_parts, carried, test_ok, Step, next_step, sees_is, expect_step}
@@ -84,55 +84,150 @@ fresh_ok i y h =
     let t = unknown (slot_in i.decls (spelling i)) (fault Twice (place i)) (tt, i) y h in
     (t.0, sym (ap (λ p. p.1) t.1))
 
+carried_decls : (ds es : List Declared) (ss : List Spot) (fs : List Declared) → ds ≡ es → WrittenDecls ds ss fs → WrittenDecls es ss fs
+carried_decls ds es ss fs e x = rw (← e) x
+
 -- a name was declared, and nothing else has changed
-record Adds (name : List ℕ) (i j : Input) : Type 0 where
+record Adds (name : List ℕ) (size : Option ℕ) (i j : Input) : Type 0 where
   pub tokens : j.tokens ≡ i.tokens
-  pub decls : j.decls ≡ i.decls ++ variable_of name ∷ []
+  pub decls : j.decls ≡ i.decls ++ variable_of name size ∷ []
   pub lines : j.lines ≡ i.lines
 
-add_ok : (name : List ℕ) (at : ℕ) (i : Input) (y : Unit {0} × Input) → add Variable name None at i ≡ Ok y → Adds name i y.1
+add_ok : (name : List ℕ) (size : Option ℕ) (at : ℕ) (i : Input) (y : Unit {0} × Input) → add Variable name size at i ≡ Ok y → Adds name size i y.1
 unfolding add
-add_ok name at i y h =
-    let t = test_ok (fits Variable None i.decls) (fault TooMany at) (tt, record i { decls = i.decls ++ variable_of name ∷ [] }) y h in
+add_ok name size at i y h =
+    let t = test_ok (fits Variable size i.decls) (fault TooMany at) (tt, record i { decls = i.decls ++ variable_of name size ∷ [] }) y h in
     record { tokens = sym (ap (λ p. p.1.tokens) t.1); decls = sym (ap (λ p. p.1.decls) t.1); lines = sym (ap (λ p. p.1.lines) t.1) }
 
-unsized_test : (b : Bool) (name : List ℕ) (at : ℕ) (i : Input) (y : Unit {0} × Input) → cond b refuse (add Variable name None at) i ≡ Ok y → Adds name i y.1
-unsized_test true name at i y h = absurd (cc)
-unsized_test false name at i y h = add_ok name at i y h
+same_token : (i j : Input) → j.tokens ≡ i.tokens → token j ≡ token i
+unfolding token
+same_token i j e = ap token_of e
 
--- a name and a semicolon
-pub record Declares (i j : Input) : Type 0 where
-  pub name : Spot
+-- what is behind a name without a size
+record Ends (name : List ℕ) (i j : Input) : Type 0 where
   pub end : Spot
-  pub is : i.tokens ≡ name ∷ end ∷ j.tokens
-  pub is_name : name.token ≡ Name
+  pub is : i.tokens ≡ end ∷ j.tokens
   pub is_end : end.token ≡ Is m.Semicolon
-  pub new : slot_in i.decls name.text ≡ None
-  pub decls : j.decls ≡ i.decls ++ variable_of name.text ∷ []
+  pub decls : j.decls ≡ i.decls ++ variable_of name None ∷ []
   pub lines : j.lines ≡ i.lines
 
-declared_is : (i x y j : Input) → token i ≡ Name → slot_in i.decls (spelling i) ≡ None → (s : Step i x) → Adds (spelling i) x y → (z : Step y j) → z.spot.token ≡ Is m.Semicolon → Declares i j
-declared_is i x y j e free s a z q = record {
-  name = s.spot;
+single_ok : (name : List ℕ) (at : ℕ) (i : Input) (y : Unit {0} × Input) → single Variable name at i ≡ Ok y → Ends name i y.1
+unfolding single
+single_ok name at i y h =
+    let a = bind_ok (add Variable name None at i) _ y h in
+    let d = add_ok name None at i a.0 a.1 in
+    let z = expect_step m.Semicolon a.0.1 y a.2 in
+    record { end = z.0.spot; is = sym d.tokens ∙ z.0.moves.is; is_end = z.1; decls = z.0.moves.decls ∙ d.decls; lines = z.0.moves.lines ∙ d.lines }
+
+-- a size, and what is behind it
+record Sizes (name : List ℕ) (i j : Input) : Type 0 where
+  pub cells : ℕ
+  pub count : Spot
+  pub close : Spot
+  pub end : Spot
+  pub is : i.tokens ≡ count ∷ close ∷ end ∷ j.tokens
+  pub is_count : count.token ≡ Number (pos cells)
+  pub is_close : close.token ≡ Is m.SquareClose
+  pub is_end : end.token ≡ Is m.Semicolon
+  pub decls : j.decls ≡ i.decls ++ variable_of name (Some cells) ∷ []
+  pub lines : j.lines ≡ i.lines
+
+size_is : (z : ℤ) (n : ℕ) → natural z ≡ Some n → z ≡ pos n
+size_is (pos k) n h = let e : k ≡ n = cc in ap pos e
+size_is (negsuc k) n h = absurd (cc)
+
+sizes : (name : List ℕ) (n : ℕ) (i x1 x2 x3 j : Input) → token i ≡ Number (pos n) → Adds name (Some n) i x1 → (s : Step x1 x2) → (c : Step x2 x3) → c.spot.token ≡ Is m.SquareClose
+    → (z : Step x3 j) → z.spot.token ≡ Is m.Semicolon → Sizes name i j
+sizes name n i x1 x2 x3 j e d s c q z p = record {
+  cells = n;
+  count = s.spot;
+  close = c.spot;
   end = z.spot;
-  is = s.moves.is ∙ ap (λ r. s.spot ∷ r) (sym a.tokens ∙ z.moves.is);
-  is_name = s.token ∙ e;
-  is_end = q;
-  new = ap (slot_in i.decls) s.text ∙ free;
-  decls = z.moves.decls ∙ a.decls ∙ ap (λ ds. ds ++ variable_of (spelling i) ∷ []) s.moves.decls ∙ ap (λ t. i.decls ++ variable_of t ∷ []) (sym s.text);
-  lines = z.moves.lines ∙ a.lines ∙ s.moves.lines;
+  is = sym d.tokens ∙ s.moves.is ∙ ap (λ r. s.spot ∷ r) (c.moves.is ∙ ap (λ r. c.spot ∷ r) z.moves.is);
+  is_count = s.token ∙ same_token i x1 d.tokens ∙ e;
+  is_close = q;
+  is_end = p;
+  decls = z.moves.decls ∙ c.moves.decls ∙ s.moves.decls ∙ d.decls;
+  lines = z.moves.lines ∙ c.moves.lines ∙ s.moves.lines ∙ d.lines;
 }
 
+no_end : (i : Input) (z : ℤ) → token i ≡ Number z → token i ≢ End
+no_end i z e x = absurd (cc)
+
+sized_at_ok : (name : List ℕ) (o : Option ℕ) (i : Input) (y : Unit {0} × Input) → ((n : ℕ) → o ≡ Some n → token i ≡ Number (pos n)) → sized_at Variable name o i ≡ Ok y → Sizes name i y.1
+sized_at_ok name None i y is h = absurd (cc)
+sized_at_ok name (Some n) i y is h =
+    let a = bind_ok (add Variable name (Some n) (place i) i) _ y h in
+    let d = add_ok name (Some n) (place i) i a.0 a.1 in
+    let e = is n refl in
+    let s = next_step a.0.1 (next a.0.1) (no_end a.0.1 (pos n) (same_token i a.0.1 d.tokens ∙ e)) refl in
+    let b = bind_ok (expect m.SquareClose (next a.0.1)) _ y a.2 in
+    let c = expect_step m.SquareClose (next a.0.1) b.0 b.1 in
+    let z = expect_step m.Semicolon b.0.1 y b.2 in
+    sizes name n i a.0.1 (next a.0.1) b.0.1 y.1 e d s c.0 c.1 z.0 z.1
+
+size_case : (name : List ℕ) (tk : Token) (i : Input) (y : Unit {0} × Input) → token i ≡ tk → size_by Variable name tk i ≡ Ok y → Sizes name i y.1
+size_case name (Number z) i y e h = sized_at_ok name (natural z) i y (λ n is. e ∙ ap Number (size_is z n is)) h
+size_case name _ i y e h = absurd (cc)
+
+sized_ok : (name : List ℕ) (i : Input) (y : Unit {0} × Input) → sized Variable name i ≡ Ok y → Sizes name i y.1
+unfolding sized
+sized_ok name i y h = size_case name (token i) i y refl h
+
+-- a declaration behind its `var`, whatever follows it
+pub record Declares (i j : Input) : Type 0 where
+  pub used : List Spot
+  pub name : List ℕ
+  pub size : Option ℕ
+  pub is : i.tokens ≡ used ++ j.tokens
+  pub decls : j.decls ≡ i.decls ++ variable_of name size ∷ []
+  pub lines : j.lines ≡ i.lines
+  pub written : (v : Spot) (ss : List Spot) (es : List Declared) → v.token ≡ Is m.Var → WrittenDecls (i.decls ++ variable_of name size ∷ []) ss es
+      → WrittenDecls i.decls (v ∷ used ++ ss) es
+
+-- one more declaration, as it is seen from before the name
+named_so : (i x j : Input) (name : List ℕ) (size : Option ℕ) (s : Step i x) → name ≡ s.spot.text → j.decls ≡ x.decls ++ variable_of name size ∷ []
+    → j.decls ≡ i.decls ++ variable_of s.spot.text size ∷ []
+named_so i x j name size s e h = h ∙ ap (λ ds. ds ++ variable_of name size ∷ []) s.moves.decls ∙ ap (λ t. i.decls ++ variable_of t size ∷ []) e
+
+declares_one : (i x j : Input) → token i ≡ Name → slot_in i.decls (spelling i) ≡ None → (s : Step i x) → Ends (spelling i) x j → Declares i j
+declares_one i x j e free s d = record {
+  used = s.spot ∷ d.end ∷ [];
+  name = s.spot.text;
+  size = None;
+  is = s.moves.is ∙ ap (λ r. s.spot ∷ r) d.is;
+  decls = named_so i x j (spelling i) None s (sym s.text) d.decls;
+  lines = d.lines ∙ s.moves.lines;
+  written = λ v ss es ev w. declares i.decls es v s.spot d.end ss ev (s.token ∙ e) (ap (slot_in i.decls) s.text ∙ free) d.is_end w;
+}
+
+declares_many : (i x y j : Input) → token i ≡ Name → slot_in i.decls (spelling i) ≡ None → (s : Step i x) → (a : Step x y) → a.spot.token ≡ Is m.SquareOpen
+    → Sizes (spelling i) y j → Declares i j
+declares_many i x y j e free s a q d = record {
+  used = s.spot ∷ a.spot ∷ d.count ∷ d.close ∷ d.end ∷ [];
+  name = s.spot.text;
+  size = Some d.cells;
+  is = s.moves.is ∙ ap (λ r. s.spot ∷ r) (a.moves.is ∙ ap (λ r. a.spot ∷ r) d.is);
+  decls = named_so i x j (spelling i) (Some d.cells) s (sym s.text) (d.decls ∙ ap (λ ds. ds ++ variable_of (spelling i) (Some d.cells) ∷ []) a.moves.decls);
+  lines = d.lines ∙ a.moves.lines ∙ s.moves.lines;
+  written = λ v ss es ev w. declares_array i.decls es v s.spot a.spot d.count d.close d.end d.cells ss ev (s.token ∙ e) (ap (slot_in i.decls) s.text ∙ free) q d.is_count d.is_close d.is_end w;
+}
+
+declaring_case : (found : Bool) (i x : Input) (at : ℕ) (y : Unit {0} × Input) → token i ≡ Name → slot_in i.decls (spelling i) ≡ None → Step i x → sees m.SquareOpen x ≡ found
+    → cond found (sized Variable (spelling i)) (single Variable (spelling i) at) (cond found (next x) x) ≡ Ok y → Declares i y.1
+declaring_case true i x at y e free s is h =
+    let open_bracket = sees_is m.SquareOpen x is in
+    let a = next_step x (next x) (λ z. absurd (cc)) refl in
+    declares_many i x (next x) y.1 e free s a (a.token ∙ open_bracket) (sized_ok (spelling i) (next x) y h)
+declaring_case false i x at y e free s is h = declares_one i x y.1 e free s (single_ok (spelling i) at x y h)
+
 declaring_ok : (i : Input) (y : Unit {0} × Input) → token i ≡ Name → declaring Variable i ≡ Ok y → Declares i y.1
-unfolding declaring
+unfolding declaring after
 declaring_ok i y e h =
     let a = bind_ok (fresh i) _ y h in
     let f = fresh_ok i a.0 a.1 in
     let s = next_step i (next a.0.1) (λ x. absurd (cc)) (ap next f.1) in
-    let b = bind_ok (cond (sees m.SquareOpen (next a.0.1)) refuse (add Variable (spelling i) None (place i)) (next a.0.1)) _ y a.2 in
-    let d = unsized_test (sees m.SquareOpen (next a.0.1)) (spelling i) (place i) (next a.0.1) b.0 b.1 in
-    let z = expect_step m.Semicolon b.0.1 y b.2 in
-    declared_is i (next a.0.1) b.0.1 y.1 e f.0 s d z.0 z.1
+    declaring_case (sees m.SquareOpen (next a.0.1)) i (next a.0.1) (place i) y e f.0 s refl a.2
 
 decl_case : (tk : Token) (i : Input) (y : Unit {0} × Input) → token i ≡ tk → decl_by Variable tk i ≡ Ok y → Declares i y.1
 decl_case Name i y e h = declaring_ok i y e h
@@ -153,10 +248,10 @@ no_decls i j e = record { used = []; is = ap (λ k. k.tokens) e; written = rw (�
 
 more_decls : (i x y j : Input) → (s : Step i x) → s.spot.token ≡ Is m.Var → Declares x y → TakesDecls y j → TakesDecls i j
 more_decls i x y j s e d r = record {
-  used = s.spot ∷ d.name ∷ d.end ∷ r.used;
-  is = s.moves.is ∙ ap (λ q. s.spot ∷ q) (d.is ∙ ap (λ q. d.name ∷ d.end ∷ q) r.is);
-  written = declares i.decls j.decls s.spot d.name d.end r.used e d.is_name (rw (← s.moves.decls) d.new) d.is_end
-      (rw (← (d.decls ∙ ap (λ ds. ds ++ variable_of d.name.text ∷ []) s.moves.decls)) r.written);
+  used = s.spot ∷ d.used ++ r.used;
+  is = s.moves.is ∙ ap (λ q. s.spot ∷ q) (d.is ∙ ap (λ q. d.used ++ q) r.is ∙ sym (append_assoc d.used r.used j.tokens));
+  written = carried_decls x.decls i.decls (s.spot ∷ d.used ++ r.used) j.decls s.moves.decls
+      (d.written s.spot r.used j.decls e (carried_decls y.decls (x.decls ++ variable_of d.name d.size ∷ []) r.used j.decls d.decls r.written));
   lines = r.lines ∙ d.lines ∙ s.moves.lines;
 }
 
@@ -177,9 +272,6 @@ decls_from_ok (suc n) i y h = decls_case (decls_from n) (λ x z e. decls_from_ok
 decls_ok : (i : Input) (y : Unit {0} × Input) → decls i ≡ Ok y → TakesDecls i y.1
 unfolding decls
 decls_ok i y h = decls_from_ok (length i.tokens + 1) i y h
-
-carried_decls : (ds es : List Declared) (ss : List Spot) (fs : List Declared) → ds ≡ es → WrittenDecls ds ss fs → WrittenDecls es ss fs
-carried_decls ds es ss fs e x = rw (← e) x
 
 -- ---- the header
 

@@ -1,19 +1,20 @@
 -- What the grammar's functions read as statements is written so.
-use Rattle.std.proofs.Common.{◌≡◌, ◌≢◌, ℕ, zero, suc, ◌+◌, Bool, true, false, cond, List, [], ◌∷◌, ◌++◌, Ok, refl, ap, sym, ◌∙◌, append_assoc, length, nat_lt}
-use Rattle.mpd_model.specs.declared.place.Place.{Place}
+use Rattle.std.proofs.Common.{◌≡◌, ◌≢◌, ℕ, zero, suc, ◌+◌, Bool, true, false, cond, List, [], ◌∷◌, ◌++◌, Option, None, Some, is_some, Ok, refl, ap, sym, ◌∙◌, append_assoc, length, nat_lt}
+use Rattle.mpd_model.specs.declared.place.DeclKind.TheVariants.{Variable}
 use Rattle.mpd_model.specs.declared.read_fault.FaultCode.TheVariants.{NotInVersion, TooDeep}
+use Rattle.mpd_model.specs.declared.slot.Slot.{Slot}
 use Rattle.mpd_model.specs.declared.token.Mark.{Mark}
 use Rattle.mpd_model.specs.declared.token.Mark.TheVariants as m
 use Rattle.mpd_model.specs.declared.token.Token.{Token}
 use Rattle.mpd_model.specs.declared.token.Token.TheVariants.{Name, Is, End}
 use Rattle.mpd_model.specs.Declaration.{Declared}
-use Rattle.mpd_model.specs.Grammar.{expression, begun, closes, printing, sending, named_by, named, receiving, otherwise, choosing, stmt_by, stmt, stmts, body, block}
-use Rattle.mpd_model.specs.Input.{Input, Outcome, Parser, and_then, token, token_of, next, behind, expect, sees, count, line_of, max_budget, after, pure, fail, refuse, ◌>>=◌, ◌>>◌}
-use Rattle.mpd_model.specs.Term.{Term}
+use Rattle.mpd_model.specs.Grammar.{expression, begun, closes, place_of_slot, printing, sending, outside, target, named_by, named, assigning, asserting, receiving, otherwise, choosing, repeating, stmt_by, stmt, stmts, body, block}
+use Rattle.mpd_model.specs.Input.{Input, Outcome, Parser, and_then, token, token_of, spelling, next, behind, expect, seek, sees, count, slot_in, line_of, max_budget, after, pure, fail, refuse, ◌>>=◌, ◌>>◌}
+use Rattle.mpd_model.specs.Term.{Term, Target}
 use Rattle.mpd_model.specs.Tokens.{Spot}
-use Rattle.mpd_model.specs.Tree.{Tree, print, send, recv, branch, no_more, block_of}
-use Rattle.mpd_model.specs.Written.{Names, Written, Takes, WrittenTree, prints, sends, receives, chooses, chooses_else, WrittenBlock, braces, WrittenBody, ended, follows, TakesLines, TakesTree, TakesBlock, TakesBody}
-use Rattle.mpd_script.proofs.Sound.{bind_ok, ok_parts, carried, test_ok, first_spot, Moves, then_moves, Step, next_step, sees_is, expect_step, variable_step, expr_sound}
+use Rattle.mpd_model.specs.Tree.{Tree, print, send, recv, branch, assign, check, repeat, no_more, block_of}
+use Rattle.mpd_model.specs.Written.{Names, Written, Takes, WrittenTarget, whole, part, WrittenTree, prints, sends, receives, assigns, asserts, repeats, chooses, chooses_else, WrittenBlock, braces, WrittenBody, ended, follows, TakesLines, TakesTree, TakesBlock, TakesBody}
+use Rattle.mpd_script.proofs.Sound.{bind_ok, ok_parts, carried, test_ok, first_spot, Moves, no_move, then_moves, Step, next_step, sees_is, expect_step, seek_ok, NamedBy, name_step, expr_sound}
 
 -- ---- the first token of a statement
 
@@ -21,17 +22,19 @@ pub record Begun (i j : Input) : Type 0 where
   pub spot : Spot
   pub is : i.tokens ≡ spot ∷ j.tokens
   pub token : spot.token ≡ token i
+  pub text : spot.text ≡ spelling i
   pub decls : j.decls ≡ i.decls
   pub lines : j.lines ≡ i.lines ++ spot.line ∷ []
 
 begun_spot : (i j : Input) → token_of i.tokens ≢ End → j.tokens ≡ behind i.tokens → j.decls ≡ i.decls → j.lines ≡ i.lines ++ line_of i.tokens ∷ [] → Begun i j
-unfolding token
+unfolding token spelling
 begun_spot i j some a b c =
     let f = first_spot i.tokens some in
     record {
       spot = f.0;
       is = f.1 ∙ ap (λ r. f.0 ∷ r) (sym a);
       token = f.2;
+      text = f.3;
       decls = b;
       lines = c ∙ ap (λ r. i.lines ++ line_of r ∷ []) f.1;
     }
@@ -125,13 +128,116 @@ sending_rest i j t h =
     (λ s is. sends s to.0.spot tag.0.spot z.0.spot value.used dest.used mark.used a.0.0 c.0.0 e.0.0 is value.written to.1
     (here c.0.0 i b.0.1 c.0.1 (to.0.moves.decls ∙ value.moves.decls) dest) tag.1 (here e.0.0 i d.0.1 e.0.1 (tag.0.moves.decls ∙ two.decls) mark) z.1))
 
-named_case : (tk : Token) (i : Input) (y : Place × Input) → token i ≡ tk → named_by tk i ≡ Ok y → (s : Step i y.1) × Names i.decls s.spot y.0
-named_case Name i y e h = variable_step i y.1 y.0 e h
+-- ---- places that stand in no expression
+
+record TakesTarget (t : Target) (i j : Input) : Type 0 where
+  pub used : List Spot
+  pub moves : Moves used i j
+  pub written : WrittenTarget i.decls used t
+
+-- what follows the name of such a place
+record Outside (slot : Slot) (t : Target) (i j : Input) : Type 0 where
+  pub used : List Spot
+  pub moves : Moves used i j
+  pub written : (s : Spot) → NamedBy i.decls slot s → WrittenTarget i.decls (s ∷ used) t
+
+abbrev whole_of : Slot → Target
+whole_of slot = record { place = place_of_slot slot; index = None }
+
+abbrev part_of : Slot → Term → Target
+part_of slot t = record { place = place_of_slot slot; index = Some t }
+
+-- of an array, by its size
+abbrev Sized : Slot → Option ℕ → List Declared → Spot → Type 0
+Sized slot cells ds s = (sized : Bool) → is_some cells ≡ sized → Names ds s sized (place_of_slot slot)
+
+outside_case : (slot : Slot) (cells : Option ℕ) → ((ds : List Declared) (s : Spot) → NamedBy ds slot s → Sized slot cells ds s)
+    → (i j : Input) (t : Target) → outside (place_of_slot slot) cells i ≡ Ok (t, j) → Outside slot t i j
+outside_case slot None n i j t h =
+    let o = ok_parts (whole_of slot, i) (t, j) h in
+    carried (λ t j. Outside slot t i j) _ _ _ _ o.0 o.1
+    (record { used = []; moves = no_move i i refl; written = λ s named. whole s (place_of_slot slot) (n i.decls s named false refl) })
+outside_case slot (Some cells) n i j t h =
+    let a = bind_ok (expect m.SquareOpen i) _ (t, j) h in
+    let b = bind_ok (expression a.0.1) _ (t, j) a.2 in
+    let c = bind_ok (expect m.SquareClose b.0.1) _ (t, j) b.2 in
+    let o = ok_parts (part_of slot b.0.0, c.0.1) (t, j) c.2 in
+    let x = expect_step m.SquareOpen i a.0 a.1 in
+    let e = expression_ok a.0.1 b.0 b.1 in
+    let y = expect_step m.SquareClose b.0.1 c.0 c.1 in
+    carried (λ t j. Outside slot t i j) _ _ _ _ o.0 o.1
+    (record {
+      used = x.0.spot ∷ e.used ++ y.0.spot ∷ [];
+      moves = then_moves (x.0.spot ∷ []) (e.used ++ y.0.spot ∷ []) i a.0.1 c.0.1 x.0.moves (then_moves e.used (y.0.spot ∷ []) a.0.1 b.0.1 c.0.1 e.moves y.0.moves);
+      written = λ s named. part s x.0.spot y.0.spot e.used (place_of_slot slot) b.0.0 (n i.decls s named true refl) x.1 (here b.0.0 i a.0.1 b.0.1 x.0.moves.decls e) y.1;
+    })
+
+outside_ok : (slot : Slot) (i j : Input) (t : Target) → outside (place_of_slot slot) slot.size i ≡ Ok (t, j) → Outside slot t i j
+outside_ok slot i j t h = outside_case slot slot.size (λ ds s n. n) i j t h
+
+target_is : (slot : Slot) (t : Target) (i x j : Input) → (s : Step i x) → NamedBy i.decls slot s.spot → Outside slot t x j → TakesTarget t i j
+target_is slot t i x j s n o = record {
+  used = s.spot ∷ o.used;
+  moves = then_moves (s.spot ∷ []) o.used i x j s.moves o.moves;
+  written = rw (← s.moves.decls) (o.written s.spot (rw s.moves.decls n));
+}
+
+target_ok : (i : Input) (y : Target × Input) → token i ≡ Name → target i ≡ Ok y → TakesTarget y.0 i y.1
+unfolding target
+target_ok i y e h =
+    let b = bind_ok (seek Variable i) _ y h in
+    let v = name_step i b.0 e b.1 in
+    target_is b.0.0 y.0 i (next b.0.1) y.1 v.0 v.1 (outside_ok b.0.0 (next b.0.1) y.1 y.0 b.2)
+
+named_case : (tk : Token) (i : Input) (y : Target × Input) → token i ≡ tk → named_by tk i ≡ Ok y → TakesTarget y.0 i y.1
+named_case Name i y e h = target_ok i y e h
 named_case _ i y e h = absurd (cc)
 
-named_ok : (i : Input) (y : Place × Input) → named i ≡ Ok y → (s : Step i y.1) × Names i.decls s.spot y.0
+named_ok : (i : Input) (y : Target × Input) → named i ≡ Ok y → TakesTarget y.0 i y.1
 unfolding named
 named_ok i y h = named_case (token i) i y refl h
+
+-- ---- more statements that hold no other
+
+asserting_rest : (i j : Input) (t : Tree) → asserting i ≡ Ok (t, j) → Rest m.Assert t i j
+unfolding asserting
+asserting_rest i j t h =
+    let a = bind_ok (expression i) _ (t, j) h in
+    let b = bind_ok (expect m.Semicolon a.0.1) _ (t, j) a.2 in
+    let o = ok_parts (check a.0.0, b.0.1) (t, j) b.2 in
+    let e = expression_ok i a.0 a.1 in
+    let z = expect_step m.Semicolon a.0.1 b.0 b.1 in
+    carried (λ t j. Rest m.Assert t i j) _ _ _ _ o.0 o.1 (flat m.Assert (check a.0.0) (e.used ++ z.0.spot ∷ []) i b.0.1
+    (then_moves e.used (z.0.spot ∷ []) i a.0.1 b.0.1 e.moves z.0.moves)
+    (λ s is. asserts s z.0.spot e.used a.0.0 is e.written z.1))
+
+-- what follows the name that an assignment begins with
+record Assigns (slot : Slot) (t : Tree) (i j : Input) : Type 0 where
+  pub used : List Spot
+  pub moves : Moves used i j
+  pub written : (s : Spot) → NamedBy i.decls slot s → WrittenTree i.decls (s ∷ used) t (s.line ∷ [])
+
+assigning_ok : (slot : Slot) (i j : Input) (t : Tree) → assigning slot i ≡ Ok (t, j) → Assigns slot t i j
+unfolding assigning
+assigning_ok slot i j t h =
+    let a = bind_ok (outside (place_of_slot slot) slot.size i) _ (t, j) h in
+    let b = bind_ok (expect m.Assign a.0.1) _ (t, j) a.2 in
+    let c = bind_ok (expression b.0.1) _ (t, j) b.2 in
+    let d = bind_ok (expect m.Semicolon c.0.1) _ (t, j) c.2 in
+    let o = ok_parts (assign a.0.0 c.0.0, d.0.1) (t, j) d.2 in
+    let into = outside_ok slot i a.0.1 a.0.0 a.1 in
+    let equal = expect_step m.Assign a.0.1 b.0 b.1 in
+    let value = expression_ok b.0.1 c.0 c.1 in
+    let z = expect_step m.Semicolon c.0.1 d.0 d.1 in
+    let one = then_moves (equal.0.spot ∷ []) value.used a.0.1 b.0.1 c.0.1 equal.0.moves value.moves in
+    let two = then_moves into.used (equal.0.spot ∷ value.used) i a.0.1 c.0.1 into.moves one in
+    carried (λ t j. Assigns slot t i j) _ _ _ _ o.0 o.1
+    (record {
+      used = into.used ++ equal.0.spot ∷ value.used ++ z.0.spot ∷ [];
+      moves = then_moves (into.used ++ equal.0.spot ∷ value.used) (z.0.spot ∷ []) i c.0.1 d.0.1 two z.0.moves;
+      written = λ s n. assigns equal.0.spot z.0.spot (s ∷ into.used) value.used a.0.0 c.0.0 (into.written s n) equal.1
+          (here c.0.0 i b.0.1 c.0.1 (equal.0.moves.decls ∙ into.moves.decls) value) z.1;
+    })
 
 pub receiving_rest : (i j : Input) (t : Tree) → receiving i ≡ Ok (t, j) → Rest m.Recv t i j
 unfolding receiving
@@ -151,12 +257,12 @@ receiving_rest i j t h =
     let z = expect_step m.Semicolon e.0.1 f.0 f.1 in
     let first = then_moves (from.0.spot ∷ []) source.used a.0.1 b.0.1 c.0.1 from.0.moves source.moves in
     let second = then_moves (tag.0.spot ∷ []) mark.used c.0.1 d.0.1 e.0.1 tag.0.moves mark.moves in
-    let one = then_moves (into.0.spot ∷ []) (from.0.spot ∷ source.used) i a.0.1 c.0.1 into.0.moves first in
-    let two = then_moves (into.0.spot ∷ from.0.spot ∷ source.used) (tag.0.spot ∷ mark.used) i c.0.1 e.0.1 one second in
-    carried (λ t j. Rest m.Recv t i j) _ _ _ _ o.0 o.1 (flat m.Recv (recv a.0.0 c.0.0 e.0.0) (into.0.spot ∷ from.0.spot ∷ source.used ++ tag.0.spot ∷ mark.used ++ z.0.spot ∷ []) i f.0.1
-    (then_moves (into.0.spot ∷ from.0.spot ∷ source.used ++ tag.0.spot ∷ mark.used) (z.0.spot ∷ []) i e.0.1 f.0.1 two z.0.moves)
-    (λ s is. receives s into.0.spot from.0.spot tag.0.spot z.0.spot source.used mark.used a.0.0 c.0.0 e.0.0 is into.1 from.1
-    (here c.0.0 i b.0.1 c.0.1 (from.0.moves.decls ∙ into.0.moves.decls) source) tag.1 (here e.0.0 i d.0.1 e.0.1 (tag.0.moves.decls ∙ one.decls) mark) z.1))
+    let one = then_moves into.used (from.0.spot ∷ source.used) i a.0.1 c.0.1 into.moves first in
+    let two = then_moves (into.used ++ from.0.spot ∷ source.used) (tag.0.spot ∷ mark.used) i c.0.1 e.0.1 one second in
+    carried (λ t j. Rest m.Recv t i j) _ _ _ _ o.0 o.1 (flat m.Recv (recv a.0.0 c.0.0 e.0.0) (into.used ++ from.0.spot ∷ source.used ++ tag.0.spot ∷ mark.used ++ z.0.spot ∷ []) i f.0.1
+    (then_moves (into.used ++ from.0.spot ∷ source.used ++ tag.0.spot ∷ mark.used) (z.0.spot ∷ []) i e.0.1 f.0.1 two z.0.moves)
+    (λ s is. receives s from.0.spot tag.0.spot z.0.spot into.used source.used mark.used a.0.0 c.0.0 e.0.0 is into.written from.1
+    (here c.0.0 i b.0.1 c.0.1 (from.0.moves.decls ∙ into.moves.decls) source) tag.1 (here e.0.0 i d.0.1 e.0.1 (tag.0.moves.decls ∙ one.decls) mark) z.1))
 
 -- ---- statements that hold others
 
@@ -216,6 +322,18 @@ chosen_else i a b c j t x y r f w e g =
       written = λ s is. chooses_else s w.spot r.used f.used g.used t x y f.begun g.begun is r.written (there x i a b r.moves.decls f) e (there y i c j (w.moves.decls ∙ one.decls) g);
     }
 
+repeated : (i a j : Input) (t : Term) (x : List Tree) → Read t i a → TakesBlock x a j → Rest m.While (repeat t (block_of x)) i j
+repeated i a j t x r b =
+    let all = then_lines r.used b.used [] b.begun i a j (moves_lines r.used i a r.moves) (lines_of (OneBlock x) a j b) in
+    record {
+      used = r.used ++ b.used;
+      begun = b.begun;
+      is = all.is;
+      decls = all.decls;
+      lines = all.lines;
+      written = λ s is. repeats s r.used b.used t x b.begun is r.written (there x i a j r.moves.decls b);
+    }
+
 -- with `else` or without
 otherwise_case : (p : Parser (List Tree)) → IsSoundBlock p → (found : Bool) (i a b j : Input) (t : Term) (x y : List Tree) → sees m.Else b ≡ found
     → cond found p (pure []) (cond found (next b) b) ≡ Ok (y, j) → Read t i a → TakesBlock x a b → Rest m.If (branch t (block_of x) (block_of y)) i j
@@ -242,9 +360,18 @@ choosing_rest p s i j t h =
     carried (λ t j. Rest m.If t i j) _ _ _ _ o.0 o.1
     (otherwise_rest p s i a.0.1 b.0.1 c.0.1 a.0.0 b.0.0 c.0.0 c.1 (expression_ok i a.0 a.1) (s a.0.1 b.0.1 b.0.0 b.1))
 
+repeating_rest : (p : Parser (List Tree)) → IsSoundBlock p → (i j : Input) (t : Tree) → repeating p i ≡ Ok (t, j) → Rest m.While t i j
+unfolding repeating
+repeating_rest p s i j t h =
+    let a = bind_ok (expression i) _ (t, j) h in
+    let b = bind_ok (p a.0.1) _ (t, j) a.2 in
+    let o = ok_parts (repeat a.0.0 (block_of b.0.0), b.0.1) (t, j) b.2 in
+    carried (λ t j. Rest m.While t i j) _ _ _ _ o.0 o.1
+    (repeated i a.0.1 b.0.1 a.0.0 b.0.0 (expression_ok i a.0 a.1) (s a.0.1 b.0.1 b.0.0 b.1))
+
 -- the first token and the rest
-whole : (k : Mark) (t : Tree) (i x j : Input) → token i ≡ Is k → Begun i x → Rest k t x j → TakesTree t i j
-whole k t i x j e b r = record {
+all_of : (k : Mark) (t : Tree) (i x j : Input) → token i ≡ Is k → Begun i x → Rest k t x j → TakesTree t i j
+all_of k t i x j e b r = record {
   used = b.spot ∷ r.used;
   begun = b.spot.line ∷ r.begun;
   is = b.is ∙ ap (λ q. b.spot ∷ q) r.is;
@@ -257,15 +384,42 @@ begun_then : (k : Mark) (p : Parser Tree) → ((x j : Input) (t : Tree) → p x 
     → (i j : Input) (t : Tree) → token i ≡ Is k → (begun >> p) i ≡ Ok (t, j) → TakesTree t i j
 begun_then k p s i j t e h =
     let b = bind_ok (begun i) _ (t, j) h in
-    whole k t i b.0.1 j e (begun_ok i b.0 (λ x. absurd (cc)) b.1) (s b.0.1 j t b.2)
+    all_of k t i b.0.1 j e (begun_ok i b.0 (λ x. absurd (cc)) b.1) (s b.0.1 j t b.2)
+
+-- an assignment, whose first token is the name
+assigned : (slot : Slot) (t : Tree) (i x j : Input) → (b : Begun i x) → NamedBy i.decls slot b.spot → Assigns slot t x j → TakesTree t i j
+assigned slot t i x j b n r = record {
+  used = b.spot ∷ r.used;
+  begun = b.spot.line ∷ [];
+  is = b.is ∙ ap (λ q. b.spot ∷ q) r.moves.is;
+  written = rw (← b.decls) (r.written b.spot (rw b.decls n));
+  decls = r.moves.decls ∙ b.decls;
+  lines = r.moves.lines ∙ b.lines;
+}
+
+begun_here : (i x : Input) (y : Unit {0} × Input) → i ≡ x → token i ≢ End → begun x ≡ Ok y → Begun i y.1
+begun_here i x y e some h = begun_ok i y some (rw e h)
+
+assignment_takes : (i j : Input) (t : Tree) → token i ≡ Name → (seek Variable >>= λ s. begun >> assigning s) i ≡ Ok (t, j) → TakesTree t i j
+assignment_takes i j t e h =
+    let a = bind_ok (seek Variable i) _ (t, j) h in
+    let k = seek_ok i a.0 a.1 in
+    let c = bind_ok (begun a.0.1) _ (t, j) a.2 in
+    let b = begun_here i a.0.1 c.0 k.2 (λ x. absurd (cc)) c.1 in
+    let named : NamedBy i.decls a.0.0 b.spot =
+    λ sized is. record { token = b.token ∙ e; slot = a.0.0; declared = ap (slot_in i.decls) b.text ∙ k.0; kind = k.1; size = is; place = refl } in
+    assigned a.0.0 t i c.0.1 j b named (assigning_ok a.0.0 c.0.1 j t c.2)
 
 -- a statement of a later version is never read
 not_in_version : (i : Input) (y : Tree × Input) → and_then (count i) (λ x. fail {A = Tree} NotInVersion) ≡ Ok y → ⊥
 not_in_version i y h = let b = bind_ok (count i) (λ x. fail {A = Tree} NotInVersion) y h in absurd (cc)
 
 stmt_case : (p : Parser (List Tree)) → IsSoundBlock p → (tk : Token) (i j : Input) (t : Tree) → token i ≡ tk → stmt_by p tk i ≡ Ok (t, j) → TakesTree t i j
+stmt_case p s Name i j t e h = assignment_takes i j t e h
 stmt_case p s (Is m.If) i j t e h = begun_then m.If (choosing p) (choosing_rest p s) i j t e h
+stmt_case p s (Is m.While) i j t e h = begun_then m.While (repeating p) (repeating_rest p s) i j t e h
 stmt_case p s (Is m.Print) i j t e h = begun_then m.Print printing printing_rest i j t e h
+stmt_case p s (Is m.Assert) i j t e h = begun_then m.Assert asserting asserting_rest i j t e h
 stmt_case p s (Is m.Send) i j t e h = begun_then m.Send sending sending_rest i j t e h
 stmt_case p s (Is m.Recv) i j t e h = begun_then m.Recv receiving receiving_rest i j t e h
 stmt_case p s (Is m.Waitany) i j t e h = absurd (not_in_version i (t, j) h)

@@ -7,7 +7,7 @@ use Rattle.mpd_model.specs.Grammar.{closes, stmt, stmts, body, block, decl, decl
 use Rattle.mpd_model.specs.Input.{Input, Outcome, Parser, and_then, token, next, sees, after, pure, ◌>>=◌, ◌>>◌}
 use Rattle.mpd_model.specs.Tokens.{Spot}
 use Rattle.mpd_model.specs.Tree.{Tree}
-use Rattle.mpd_model.specs.Written.{WrittenTree, prints, sends, receives, chooses, chooses_else, TakesTree}
+use Rattle.mpd_model.specs.Written.{WrittenTree, prints, sends, receives, assigns, asserts, repeats, chooses, chooses_else, TakesTree}
 use Rattle.mpd_script.proofs.Sound.{Step, next_step, sees_is}
 use Rattle.mpd_script.proofs.SoundScript.{Declares, decl_ok}
 use Rattle.mpd_script.proofs.SoundStatements.{block_sound, stmt_sound}
@@ -20,7 +20,10 @@ bind_same (Err e) f g h = refl
 pub some_token : (ds : List Declared) (ss : List Spot) (t : Tree) (ls : List ℕ) → WrittenTree ds ss t ls → 0 < length ss
 some_token ds ss t ls (prints k end e v h1 h2 h3) = omega arith
 some_token ds ss t ls (sends k to tag end a b c v d g h1 h2 h3 h4 h5 h6 h7) = omega arith
-some_token ds ss t ls (receives k n from tag end a b v d g h1 h2 h3 h4 h5 h6 h7) = omega arith
+some_token ds ss t ls (receives k from tag end n a b v d g h1 h2 h3 h4 h5 h6 h7) = omega arith
+some_token ds ss t ls (assigns equal end n e into v h1 h2 h3 h4) = omega (arith, length-append (n ++ equal ∷ e) (end ∷ []))
+some_token ds ss t ls (asserts k end e v h1 h2 h3) = omega arith
+some_token ds ss t ls (repeats k e a v x ms h1 h2 b) = omega arith
 some_token ds ss t ls (chooses k e a v x ms h1 h2 b) = omega arith
 some_token ds ss t ls (chooses_else k w e a b v x y ms ns h1 h2 f h3 g) = omega arith
 
@@ -44,7 +47,7 @@ stmts_enough depth inside (suc n) found i h =
 -- ---- declarations
 
 decl_shorter : (i x y : Input) → Step i x → Declares x y → length y.tokens < length i.tokens
-decl_shorter i x y s d = omega (arith, ap length s.moves.is, ap length d.is)
+decl_shorter i x y s d = omega (arith, ap length s.moves.is, ap length d.is, length-append d.used y.tokens)
 
 decls_turn : (n : ℕ) (found : Bool) (i : Input) → sees m.Var i ≡ found → ((x : Input) → length x.tokens < length i.tokens → decls_from n x ≡ decls_from (suc n) x)
     → cond found (decl Variable >> decls_from n) (pure tt) (cond found (next i) i) ≡ cond found (decl Variable >> decls_from (suc n)) (pure tt) (cond found (next i) i)

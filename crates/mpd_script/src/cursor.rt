@@ -1,6 +1,6 @@
 //! A cursor over the tokens of a text, which cuts each as it is reached.
 
-ghost use Rattle.std.specs.Prelude.{◌≡◌, ◌≢◌, ◌+◌, ◌<◌, ◌≤◌, ◌^◌, ◌∷◌, ◌++◌, IsAscii, None, Ok, OnOk, [], length, vec_capacity, vec_len};
+ghost use Rattle.std.specs.Prelude.{◌≡◌, ◌≢◌, ◌+◌, ◌<◌, ◌≤◌, ◌^◌, ◌∷◌, ◌++◌, IfSome, IsAscii, None, Ok, OnOk, [], length, vec_capacity, vec_len};
 ghost use Rattle.mpd_model.specs.declared.read_fault.FaultCode.TheVariants.{Memory};
 ghost use Rattle.mpd_model.specs.Declaration.{handle_cells, handles_in, variable_cells, variables_in};
 ghost use Rattle.mpd_model.specs.Faults.{fault};
@@ -178,6 +178,7 @@ impl<'a> Tokens<'a> {
     pub fn eat(&mut self, mark: Mark) -> bool
         ensures found { result ≡ spec.sees mark self.old }
         ensures after { self.new ≡ spec.after mark self.old }
+        ensures decls { self.new.decls ≡ self.old.decls }
     {
         let found = self.sees(mark);
         if found {
@@ -298,8 +299,8 @@ impl<'a> Tokens<'a> {
         let slot = Slot {
             kind,
             declaration: self.decls.len(),
-            first: first_of(kind, self.variables, self.handles),
-            size,
+            first: first_of(kind, self.variables, self.handles) as u32,
+            size: narrow(size),
         };
         let text = String::from_str(*self.decls.allocator(), str::from_utf8(name).unwrap())?;
         self.decls.reserve(1)?;
@@ -342,6 +343,17 @@ fn first_of(kind: DeclKind, variables: usize, handles: usize) -> usize
     match kind {
         DeclKind::Variable => variables,
         DeclKind::Handle => handles,
+    }
+}
+
+/// A size within the limits, in fewer bits.
+fn narrow(size: Option<usize>) -> Option<u32>
+    requires { IfSome size (λ n. n ≤ 1024) }
+    ensures { result ≡ size }
+{
+    match size {
+        Some(count) => Some(count as u32),
+        None => None,
     }
 }
 

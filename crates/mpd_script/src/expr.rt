@@ -5,16 +5,31 @@ ghost use Rattle.mpd_model.specs.Grammar as spec;
 ghost use Rattle.mpd_model.specs.Input.{Reads};
 
 use crate::cursor::Tokens;
-use mpd_model::expr::{BinaryOp, Expr};
-use mpd_model::place::{DeclKind, Place};
+use crate::place::{bracket, place_of};
+use mpd_model::expr::{BinaryOp, Expr, UnaryOp};
+use mpd_model::place::DeclKind;
 use mpd_model::read_fault::{FaultCode, ReadFault};
 use mpd_model::token::{Mark, Token};
 use std::alloc::Global;
 
-/// The level of a whole expression.
-const WHOLE: usize = 5;
+/// The level of `*`, `/` and `%`, which bind most closely.
+const PRODUCT: usize = 1;
 
+/// The level of `+` and `-`.
+const SUM: usize = 2;
+
+/// The level of the comparisons.
 const COMPARISON: usize = 3;
+
+/// The level of `&&`.
+const CONJUNCTION: usize = 4;
+
+/// The level of `||`.
+const DISJUNCTION: usize = 5;
+
+/// The level of a whole expression.
+const WHOLE: usize = DISJUNCTION;
+
 /// One more than the brackets and operators that an expression may have.
 const DEEPEST: usize = 65;
 
@@ -23,8 +38,19 @@ fn operator(token: Token) -> Option<(BinaryOp, usize)>
     ensures { result ≡ spec.operator token }
 {
     match token {
+        Token::Is(Mark::Or) => Some((BinaryOp::Or, DISJUNCTION)),
+        Token::Is(Mark::And) => Some((BinaryOp::And, CONJUNCTION)),
         Token::Is(Mark::Equal) => Some((BinaryOp::Equal, COMPARISON)),
         Token::Is(Mark::NotEqual) => Some((BinaryOp::NotEqual, COMPARISON)),
+        Token::Is(Mark::Less) => Some((BinaryOp::Less, COMPARISON)),
+        Token::Is(Mark::AtMost) => Some((BinaryOp::AtMost, COMPARISON)),
+        Token::Is(Mark::Greater) => Some((BinaryOp::Greater, COMPARISON)),
+        Token::Is(Mark::AtLeast) => Some((BinaryOp::AtLeast, COMPARISON)),
+        Token::Is(Mark::Plus) => Some((BinaryOp::Add, SUM)),
+        Token::Is(Mark::Minus) => Some((BinaryOp::Subtract, SUM)),
+        Token::Is(Mark::Times) => Some((BinaryOp::Multiply, PRODUCT)),
+        Token::Is(Mark::Divide) => Some((BinaryOp::Divide, PRODUCT)),
+        Token::Is(Mark::Remainder) => Some((BinaryOp::Remainder, PRODUCT)),
         _ => None,
     }
 }
@@ -47,19 +73,6 @@ fn turns(level: usize, tokens: &Tokens<'_>) -> usize
     } else {
         tokens.budget() + 1
     }
-}
-
-/// The variable whose name comes next.
-#[tactic(auto, unfolding(mpd_model::specs::Grammar::variable))]
-pub fn variable(tokens: &mut Tokens<'_>) -> Result<Place, ReadFault>
-    ensures { Reads (spec.variable tokens.old) result tokens.new }
-{
-    let slot = tokens.seek(DeclKind::Variable)?;
-    tokens.advance();
-    Ok(Place {
-        declaration: slot.declaration,
-        first: slot.first,
-    })
 }
 
 /// An expression that stands in no other.
@@ -128,7 +141,7 @@ fn chain(
 }
 
 #[cycle(expr)]
-#[tactic(auto, unfolding(mpd_model::specs::Grammar::atom, mpd_model::specs::Grammar::place_inside))]
+#[tactic(auto, unfolding(mpd_model::specs::Grammar::atom))]
 fn atom(alloc: Global, tokens: &mut Tokens<'_>, depth: usize) -> Result<Expr, ReadFault>
     ensures { Reads (spec.atom (spec.expr depth) tokens.old) result tokens.new }
 {
@@ -145,10 +158,29 @@ fn atom(alloc: Global, tokens: &mut Tokens<'_>, depth: usize) -> Result<Expr, Re
             tokens.advance();
             Ok(Expr::size())
         }
-        Token::Name => Ok(Expr::cell(variable(tokens)?)),
+        Token::Name => place_inside(alloc, tokens, depth),
         Token::Is(Mark::RoundOpen) => rounds(alloc, tokens, depth),
+        Token::Is(Mark::Minus) => signed(alloc, tokens, depth, UnaryOp::Negate),
+        Token::Is(Mark::Not) => signed(alloc, tokens, depth, UnaryOp::Not),
         _ => Err(tokens.refuse()),
     }
+}
+
+/// A variable, with its index where it is an array.
+#[cycle(expr)]
+#[tactic(auto, unfolding(mpd_model::specs::Grammar::place_inside))]
+fn place_inside(alloc: Global, tokens: &mut Tokens<'_>, depth: usize) -> Result<Expr, ReadFault>
+    ensures { Reads (spec.place_inside (spec.expr depth) tokens.old) result tokens.new }
+{
+    let slot = tokens.seek(DeclKind::Variable)?;
+    tokens.advance();
+    if slot.size.is_none() {
+        return Ok(Expr::cell(place_of(slot)));
+    }
+    bracket(tokens)?;
+    let index = expr(alloc, tokens, depth, WHOLE)?;
+    tokens.expect(Mark::SquareClose)?;
+    Ok(Expr::element(alloc, place_of(slot), index)?)
 }
 
 /// An expression between round brackets, which leave no trace in it.
@@ -161,4 +193,20 @@ fn rounds(alloc: Global, tokens: &mut Tokens<'_>, depth: usize) -> Result<Expr, 
     let inner = expr(alloc, tokens, depth, WHOLE)?;
     tokens.expect(Mark::RoundClose)?;
     Ok(inner)
+}
+
+/// An operator before its operand, which binds more closely than any between two.
+#[cycle(expr)]
+#[tactic(auto, unfolding(mpd_model::specs::Grammar::signed))]
+fn signed(
+    alloc: Global,
+    tokens: &mut Tokens<'_>,
+    depth: usize,
+    op: UnaryOp,
+) -> Result<Expr, ReadFault>
+    ensures { Reads (spec.signed (spec.expr depth) op tokens.old) result tokens.new }
+{
+    tokens.spend()?;
+    let operand = expr(alloc, tokens, depth, 0)?;
+    Ok(Expr::unary(alloc, op, operand)?)
 }

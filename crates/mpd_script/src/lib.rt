@@ -5,6 +5,7 @@ mod cursor;
 mod expr;
 pub mod laws;
 mod lex;
+mod place;
 mod script;
 mod stmt;
 

@@ -1,10 +1,10 @@
 //! A whole text.
 
-ghost use Rattle.std.specs.Prelude.{◌≡◌, ◌≢◌, ◌≤◌, IfErr, IfOk, IfSome, Err, IsAscii, Ok, [], length};
+ghost use Rattle.std.specs.Prelude.{◌≡◌, ◌≢◌, ◌≤◌, IfErr, IfOk, IfSome, Err, IsAscii, None, Ok, [], length};
 ghost use Rattle.std.specs.List.{prefix_len};
 ghost use Rattle.mpd_model.specs.declared.read_fault.FaultCode.TheVariants.{Memory};
 ghost use Rattle.mpd_model.specs.Grammar as spec;
-ghost use Rattle.mpd_model.specs.Input.{Fails, Reads};
+ghost use Rattle.mpd_model.specs.Input.{Fails, Reads, slot_in};
 
 use crate::cursor::Tokens;
 use crate::stmt::{MAX_BLOCKS, body};
@@ -65,6 +65,55 @@ fn ranks(tokens: &mut Tokens<'_>) -> Result<usize, ReadFault>
     }
 }
 
+/// A number that is no less than 0.
+fn natural(value: i64) -> Option<usize>
+    ensures { result ≡ spec.natural value }
+{
+    if value < 0 {
+        None
+    } else {
+        Some(value as usize)
+    }
+}
+
+/// The size of an array, and what is behind it.
+#[tactic(auto, unfolding(mpd_model::specs::Grammar::sized))]
+fn sized<'a>(tokens: &mut Tokens<'a>, kind: DeclKind, name: &'a [u8]) -> Result<(), ReadFault>
+    requires ascii { IsAscii name.now }
+    requires new { slot_in tokens.old.decls name.now ≡ None }
+    ensures { Reads (spec.sized kind name.now tokens.old) result tokens.new }
+{
+    match tokens.peek() {
+        Token::Number(value) => match natural(value) {
+            Some(size) => {
+                let place = tokens.place();
+                tokens.add(kind, name, Some(size), place)?;
+                tokens.advance();
+                tokens.expect(Mark::SquareClose)?;
+                tokens.expect(Mark::Semicolon)
+            }
+            None => Err(tokens.refuse()),
+        },
+        _ => Err(tokens.refuse()),
+    }
+}
+
+/// What is behind a name without a size. A fault of it is at the place of the name.
+#[tactic(auto, unfolding(mpd_model::specs::Grammar::single))]
+fn single<'a>(
+    tokens: &mut Tokens<'a>,
+    kind: DeclKind,
+    name: &'a [u8],
+    place: usize,
+) -> Result<(), ReadFault>
+    requires ascii { IsAscii name.now }
+    requires new { slot_in tokens.old.decls name.now ≡ None }
+    ensures { Reads (spec.single kind name.now place tokens.old) result tokens.new }
+{
+    tokens.add(kind, name, None, place)?;
+    tokens.expect(Mark::Semicolon)
+}
+
 /// The name in a declaration, and what is behind it.
 #[tactic(auto, unfolding(mpd_model::specs::Grammar::declaring))]
 fn declaring(tokens: &mut Tokens<'_>, kind: DeclKind) -> Result<(), ReadFault>
@@ -74,11 +123,11 @@ fn declaring(tokens: &mut Tokens<'_>, kind: DeclKind) -> Result<(), ReadFault>
     let place = tokens.place();
     tokens.fresh()?;
     tokens.advance();
-    if tokens.sees(Mark::SquareOpen) {
-        return Err(tokens.refuse());
+    if tokens.eat(Mark::SquareOpen) {
+        sized(tokens, kind, name)
+    } else {
+        single(tokens, kind, name, place)
     }
-    tokens.add(kind, name, None, place)?;
-    tokens.expect(Mark::Semicolon)
 }
 
 /// What follows `var`.

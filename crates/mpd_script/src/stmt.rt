@@ -5,9 +5,11 @@ ghost use Rattle.mpd_model.specs.Grammar as spec;
 ghost use Rattle.mpd_model.specs.Input.{Reads, ReadsAll};
 
 use crate::cursor::Tokens;
-use crate::expr::{expression, variable};
-use mpd_model::place::Place;
+use crate::expr::expression;
+use crate::place::{named, outside};
+use mpd_model::place::DeclKind;
 use mpd_model::read_fault::{FaultCode, ReadFault};
+use mpd_model::slot::Slot;
 use mpd_model::stmt::{Stmt, StmtNode};
 use mpd_model::token::{Mark, Token};
 use std::alloc::Global;
@@ -63,15 +65,30 @@ fn sending(alloc: Global, tokens: &mut Tokens<'_>) -> Result<Stmt, ReadFault>
     })
 }
 
-/// The variable that a receive writes.
-#[tactic(auto, unfolding(mpd_model::specs::Grammar::named))]
-fn named(tokens: &mut Tokens<'_>) -> Result<Place, ReadFault>
-    ensures { Reads (spec.named tokens.old) result tokens.new }
+/// What follows the name of the place that an assignment writes.
+#[tactic(auto, unfolding(mpd_model::specs::Grammar::assigning))]
+fn assigning(alloc: Global, tokens: &mut Tokens<'_>, slot: Slot) -> Result<Stmt, ReadFault>
+    ensures { Reads (spec.assigning slot tokens.old) result tokens.new }
 {
-    match tokens.peek() {
-        Token::Name => variable(tokens),
-        _ => Err(tokens.refuse()),
-    }
+    let into = outside(alloc, tokens, slot)?;
+    tokens.expect(Mark::Assign)?;
+    let value = expression(alloc, tokens)?;
+    tokens.expect(Mark::Semicolon)?;
+    Ok(Stmt {
+        node: StmtNode::Assign(into, value),
+    })
+}
+
+/// What follows `assert`.
+#[tactic(auto, unfolding(mpd_model::specs::Grammar::asserting))]
+fn asserting(alloc: Global, tokens: &mut Tokens<'_>) -> Result<Stmt, ReadFault>
+    ensures { Reads (spec.asserting tokens.old) result tokens.new }
+{
+    let value = expression(alloc, tokens)?;
+    tokens.expect(Mark::Semicolon)?;
+    Ok(Stmt {
+        node: StmtNode::Assert(value),
+    })
 }
 
 /// What follows `recv`.
@@ -79,7 +96,7 @@ fn named(tokens: &mut Tokens<'_>) -> Result<Place, ReadFault>
 fn receiving(alloc: Global, tokens: &mut Tokens<'_>) -> Result<Stmt, ReadFault>
     ensures { Reads (spec.receiving tokens.old) result tokens.new }
 {
-    let into = named(tokens)?;
+    let into = named(alloc, tokens)?;
     tokens.expect(Mark::From)?;
     let from = expression(alloc, tokens)?;
     tokens.expect(Mark::Tag)?;
@@ -158,19 +175,45 @@ fn choosing(alloc: Global, tokens: &mut Tokens<'_>, depth: usize) -> Result<Stmt
     })
 }
 
+/// What follows `while`.
+#[cycle(block)]
+#[tactic(auto, unfolding(mpd_model::specs::Grammar::repeating))]
+fn repeating(alloc: Global, tokens: &mut Tokens<'_>, depth: usize) -> Result<Stmt, ReadFault>
+    ensures { Reads (spec.repeating (spec.block depth) tokens.old) result tokens.new }
+{
+    let test = expression(alloc, tokens)?;
+    let inside = block(alloc, tokens, depth)?;
+    Ok(Stmt {
+        node: StmtNode::While(test, inside),
+    })
+}
+
 #[cycle(block)]
 #[tactic(auto, unfolding(mpd_model::specs::Grammar::stmt))]
 fn stmt(alloc: Global, tokens: &mut Tokens<'_>, depth: usize) -> Result<Stmt, ReadFault>
     ensures { Reads (spec.stmt (spec.block depth) tokens.old) result tokens.new }
 {
     match tokens.peek() {
+        Token::Name => {
+            let slot = tokens.seek(DeclKind::Variable)?;
+            begun(tokens)?;
+            assigning(alloc, tokens, slot)
+        }
         Token::Is(Mark::If) => {
             begun(tokens)?;
             choosing(alloc, tokens, depth)
         }
+        Token::Is(Mark::While) => {
+            begun(tokens)?;
+            repeating(alloc, tokens, depth)
+        }
         Token::Is(Mark::Print) => {
             begun(tokens)?;
             printing(alloc, tokens)
+        }
+        Token::Is(Mark::Assert) => {
+            begun(tokens)?;
+            asserting(alloc, tokens)
         }
         Token::Is(Mark::Send) => {
             begun(tokens)?;

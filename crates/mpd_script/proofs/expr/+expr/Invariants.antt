@@ -11,6 +11,12 @@ decreases-atom l = 32 * l.depth + 2
 abbrev pub decreases-rounds : goal.decreases-rounds
 decreases-rounds l = 32 * l.depth + 1
 
+abbrev pub decreases-place_inside : goal.decreases-place_inside
+decreases-place_inside l = 32 * l.depth + 1
+
+abbrev pub decreases-signed : goal.decreases-signed
+decreases-signed l = 32 * l.depth + 1
+
 abbrev pub decreases-level : goal.decreases-level
 decreases-level l = 32 * l.depth + 2 * l.of + 4
 

@@ -11,6 +11,9 @@ decreases-otherwise l = 8 * l.depth + 1
 abbrev pub decreases-choosing : goal.decreases-choosing
 decreases-choosing l = 8 * l.depth + 2
 
+abbrev pub decreases-repeating : goal.decreases-repeating
+decreases-repeating l = 8 * l.depth + 2
+
 abbrev pub decreases-stmt : goal.decreases-stmt
 decreases-stmt l = 8 * l.depth + 3
 

@@ -21,6 +21,7 @@ invariant_of-self-2 c =
     let new : slot_in ds c.args.name.now ≡ None = ap (λ i. slot_in i.decls c.args.name.now) c.self.view_is ∙ c.requires.new in
     let same : d.name ≡ c.args.name.now = grind (arith, common_steps) in
     let number : c.len.result ≡ length ds = grind (arith, common_steps) in
+    let s = found_put c.args.name c.self.inside.slots c.insert.new.self ds c.push_kept.new.decls.items d c.len.result c.first_of.result c.self.inside.variables c.self.inside.handles i.slots new same number c.first_of.ensures i.variables i.handles (rw (← c.narrow.ensures) c.in_ok-insert.ensures.updates) items in
     let variables : variables_in c.push_kept.new.decls.items ≡ variables_in ds + c.cells-variables.result.0 = rw items (variables_in-more ds d ∙ ap (λ n. variables_in ds + n) (sym (ap (λ r. r.0) c.cells-variables.ensures))) in
     let handles : handles_in c.push_kept.new.decls.items ≡ handles_in ds + c.cells-variables.result.1 = rw items (handles_in-more ds d ∙ ap (λ n. handles_in ds + n) (sym (ap (λ r. r.1) c.cells-variables.ensures))) in
     record {
@@ -34,7 +35,7 @@ invariant_of-self-2 c =
       budget = i.budget;
       variables = omega (arith, i.variables, variables);
       handles = omega (arith, i.handles, handles);
-      slots = found_put c.args.name c.self.inside.slots c.insert.new.self ds c.push_kept.new.decls.items d c.len.result c.first_of.result c.self.inside.variables c.self.inside.handles i.slots new same number c.first_of.ensures i.variables i.handles c.in_ok-insert.ensures.updates items;
+      slots = s;
       few_variables = grind (arith, nat_tests, common_steps);
       few_handles = grind (arith, nat_tests, common_steps);
       few_lines = i.few_lines;

@@ -1,0 +1,75 @@
+//! Places: variables, and arrays at an index (docs/LANGUAGE.md, "Grammar").
+
+ghost use Rattle.std.specs.Prelude.{◌≡◌};
+ghost use Rattle.mpd_model.specs.Grammar as spec;
+ghost use Rattle.mpd_model.specs.Input.{Reads};
+
+use crate::cursor::Tokens;
+use crate::expr::expression;
+use mpd_model::place::{DeclKind, Place};
+use mpd_model::read_fault::ReadFault;
+use mpd_model::slot::Slot;
+use mpd_model::stmt::Target;
+use mpd_model::token::{Mark, Token};
+use std::alloc::Global;
+
+/// What a name stands for.
+pub fn place_of(slot: Slot) -> Place
+    ensures { result ≡ spec.place_of_slot slot }
+{
+    Place {
+        declaration: slot.declaration,
+        first: slot.first,
+        cells: slot.size.unwrap_or(1),
+    }
+}
+
+/// The bracket before the index of a place in an expression, which takes one of its budget.
+#[tactic(auto, unfolding(mpd_model::specs::Grammar::bracket))]
+pub fn bracket(tokens: &mut Tokens<'_>) -> Result<(), ReadFault>
+    ensures { Reads (spec.bracket tokens.old) result tokens.new }
+{
+    if tokens.sees(Mark::SquareOpen) {
+        tokens.spend()
+    } else {
+        Err(tokens.refuse())
+    }
+}
+
+/// What follows the name of a place that stands in no expression: the index of an array, an expression of its own.
+pub fn outside(alloc: Global, tokens: &mut Tokens<'_>, slot: Slot) -> Result<Target, ReadFault>
+    ensures { Reads (spec.outside (spec.place_of_slot slot) slot.size tokens.old) result tokens.new }
+{
+    let place = place_of(slot);
+    if slot.size.is_none() {
+        return Ok(Target { place, index: None });
+    }
+    tokens.expect(Mark::SquareOpen)?;
+    let index = expression(alloc, tokens)?;
+    tokens.expect(Mark::SquareClose)?;
+    Ok(Target {
+        place,
+        index: Some(index),
+    })
+}
+
+/// The place whose name comes next.
+#[tactic(auto, unfolding(mpd_model::specs::Grammar::target))]
+fn target(alloc: Global, tokens: &mut Tokens<'_>) -> Result<Target, ReadFault>
+    ensures { Reads (spec.target tokens.old) result tokens.new }
+{
+    let slot = tokens.seek(DeclKind::Variable)?;
+    tokens.advance();
+    outside(alloc, tokens, slot)
+}
+
+/// The place that a receive writes.
+#[tactic(auto, unfolding(mpd_model::specs::Grammar::named))]
+pub fn named(alloc: Global, tokens: &mut Tokens<'_>) -> Result<Target, ReadFault>
+    ensures { Reads (spec.named tokens.old) result tokens.new }
+{
+    match tokens.peek() {
+        Token::Name => target(alloc, tokens),
+        _ => Err(tokens.refuse()),
+    }
+}
