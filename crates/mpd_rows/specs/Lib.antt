@@ -4,3 +4,4 @@ pub mod ReaderRows
 pub mod LineRows
 pub mod TextRows
 pub mod ValueRows
+pub mod StepRows
