@@ -5,3 +5,4 @@ pub mod LineRows
 pub mod TextRows
 pub mod ValueRows
 pub mod StepRows
+pub mod WiderReaderRows
