@@ -1,5 +1,5 @@
 -- Worked rows of texts with operators, arrays, assignments, `while` and `assert`: what each is read as, or its fault and that fault's byte place.
-use Rattle.std.specs.Prelude.{◌≡◌, ℕ, zero, suc, ◌+◌, pos, map, List, [], ◌∷◌, ◌++◌, Option, Some, None, Result, Ok, Err, codes, replicate, flat_map, refl}
+use Rattle.std.specs.Prelude.{◌≡◌, ℕ, zero, suc, ◌+◌, pos, false, map, List, [], ◌∷◌, ◌++◌, Option, Some, None, Result, Ok, Err, codes, replicate, flat_map, refl}
 use Rattle.mpd_model.specs.declared.expr.BinaryOp.{BinaryOp}
 use Rattle.mpd_model.specs.declared.expr.BinaryOp.TheVariants.{Or, And, Equal, NotEqual, Less, AtMost, Greater, AtLeast, Add, Subtract, Multiply, Divide, Remainder}
 use Rattle.mpd_model.specs.declared.expr.UnaryOp.{UnaryOp}
@@ -460,6 +460,19 @@ last_one =
 pub row_last_one : map {B = Outcome Tree} (λ r. stmt_after 4095 r.0) last_one ≡ map {B = Outcome Tree} (λ r. refused_tree r.1.0 r.1.1) last_one
 unfolding reading script header version ranks decls decls_from decl declaring single sized body stmts stmt block choosing otherwise repeating printing asserting sending target named assigning receiving expr level chain atom place_inside bracket rounds signed count spend seek slot_in fresh add expect after sees same_mark next place spelling token refusal tokens_after front sign word number
 row_last_one = refl
+
+-- statements are counted one after the other: of these the first is the last that may be begun
+abbrev body_after : ℕ → List ℕ → Outcome (List Tree)
+body_after k text = body (block 64) false (record (start_of text) { decls = declared (codes "x") None ∷ []; lines = replicate k 1 })
+
+pub row_4097 : map {B = Outcome (List Tree)} (body_after 4095) (codes "x=1;x=1;" ∷ codes "assert 1;;" ∷ codes "while 0 {}x=1;" ∷ codes "if 1 {} x=1;" ∷ codes "x=1;$" ∷ codes "x=1;}" ∷ codes "x=1;y=1;" ∷ [])
+    ≡ Err (fault f.TooMany 4) ∷ Err (fault f.Expected 9) ∷ Err (fault f.TooMany 10) ∷ Err (fault f.TooMany 8) ∷ Err (fault f.BadToken 4) ∷ Err (fault f.Expected 4) ∷ Err (fault f.UnknownName 4) ∷ []
+unfolding reading script header version ranks decls decls_from decl declaring single sized body stmts stmt block choosing otherwise repeating printing asserting sending target named assigning receiving expr level chain atom place_inside bracket rounds signed count spend seek slot_in fresh add expect after sees same_mark next place spelling token refusal tokens_after front sign word number
+row_4097 = refl
+
+pub row_4096 : body_after 4095 (codes "x=1;") ≡ Ok (assign (whole x) (n 1) ∷ [], record { tokens = []; end = 4; decls = declared (codes "x") None ∷ []; lines = replicate 4096 1; budget = 64 })
+unfolding reading script header version ranks decls decls_from decl declaring single sized body stmts stmt block choosing otherwise repeating printing asserting sending target named assigning receiving expr level chain atom place_inside bracket rounds signed count spend seek slot_in fresh add expect after sees same_mark next place spelling token refusal tokens_after front sign word number
+row_4096 = refl
 
 -- ---- lines: a statement's is that of its first token, in text order
 
