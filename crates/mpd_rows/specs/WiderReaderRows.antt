@@ -478,13 +478,13 @@ row_4096 = refl
 
 pub row_lines : reading (codes "mpd 1;\nranks 1;\nvar x;var a[3];\nwhile x<3 {\n  a[x]\n =x;\n  if x {\n assert x; } else {\n\n  while 0 { x=0;\n x\n=\n1; } }\n x=x+1;\n}\nprint x;")
     ≡ Ok (record {
-    version = 1;
-    ranks = 1;
-    decls = declared (codes "x") None ∷ declared (codes "a") (Some 3) ∷ [];
-    body = repeat (op2 Less (cell x) (n 3)) (then_more (assign (part a (cell x)) (cell x))
-        (then_more (branch (cell x) (then_more (check (cell x)) no_more) (then_more (repeat (n 0) (then_more (assign (whole x) (n 0)) (then_more (assign (whole x) (n 1)) no_more))) no_more))
-        (then_more (assign (whole x) (op2 Add (cell x) (n 1))) no_more))) ∷ print (cell x) ∷ [];
-    lines = 4 ∷ 5 ∷ 7 ∷ 8 ∷ 10 ∷ 10 ∷ 11 ∷ 14 ∷ 16 ∷ [];
+      version = 1;
+      ranks = 1;
+      decls = declared (codes "x") None ∷ declared (codes "a") (Some 3) ∷ [];
+      body = repeat (op2 Less (cell x) (n 3)) (then_more (assign (part a (cell x)) (cell x))
+          (then_more (branch (cell x) (then_more (check (cell x)) no_more) (then_more (repeat (n 0) (then_more (assign (whole x) (n 0)) (then_more (assign (whole x) (n 1)) no_more))) no_more))
+          (then_more (assign (whole x) (op2 Add (cell x) (n 1))) no_more))) ∷ print (cell x) ∷ [];
+      lines = 4 ∷ 5 ∷ 7 ∷ 8 ∷ 10 ∷ 10 ∷ 11 ∷ 14 ∷ 16 ∷ [];
     })
 unfolding reading script header version ranks decls decls_from decl declaring single sized body stmts stmt block choosing otherwise repeating printing asserting sending target named assigning receiving expr level chain atom place_inside bracket rounds signed count spend seek slot_in fresh add expect after sees same_mark next place spelling token refusal tokens_after front sign word number
 row_lines = refl
@@ -502,11 +502,11 @@ row_overflowing = refl
 
 pub row_two_ranks : reading (codes "mpd 1;\nranks 2;\nvar x;\nif rank == 0 {\n  send 7 to 1 tag 0;\n} else {\n  recv x from 0 tag 0;\n  print x;\n}\n")
     ≡ Ok (record {
-    version = 1;
-    ranks = 2;
-    decls = declared (codes "x") None ∷ [];
-    body = branch (op2 Equal own_rank (n 0)) (then_more (send (n 7) (n 1) (n 0)) no_more) (then_more (recv (whole x) (n 0) (n 0)) (then_more (print (cell x)) no_more)) ∷ [];
-    lines = 4 ∷ 5 ∷ 7 ∷ 8 ∷ [];
+      version = 1;
+      ranks = 2;
+      decls = declared (codes "x") None ∷ [];
+      body = branch (op2 Equal own_rank (n 0)) (then_more (send (n 7) (n 1) (n 0)) no_more) (then_more (recv (whole x) (n 0) (n 0)) (then_more (print (cell x)) no_more)) ∷ [];
+      lines = 4 ∷ 5 ∷ 7 ∷ 8 ∷ [];
     })
 unfolding reading script header version ranks decls decls_from decl declaring single sized body stmts stmt block choosing otherwise repeating printing asserting sending target named assigning receiving expr level chain atom place_inside bracket rounds signed count spend seek slot_in fresh add expect after sees same_mark next place spelling token refusal tokens_after front sign word number
 row_two_ranks = refl
