@@ -1,5 +1,5 @@
 -- Worked rows of texts with operators, arrays, assignments, `while` and `assert`: what each is read as, or its fault and that fault's byte place.
-use Rattle.std.specs.Prelude.{◌≡◌, ℕ, zero, suc, ◌+◌, pos, false, map, List, [], ◌∷◌, ◌++◌, Option, Some, None, Result, Ok, Err, codes, replicate, flat_map, refl}
+use Rattle.std.specs.Prelude.{◌≡◌, ℕ, ℤ, zero, suc, ◌+◌, pos, negsuc, false, map, slice_get, List, [], ◌∷◌, ◌++◌, Option, Some, None, Result, Ok, Err, codes, replicate, flat_map, refl}
 use Rattle.mpd_model.specs.declared.expr.BinaryOp.{BinaryOp}
 use Rattle.mpd_model.specs.declared.expr.BinaryOp.TheVariants.{Or, And, Equal, NotEqual, Less, AtMost, Greater, AtLeast, Add, Subtract, Multiply, Divide, Remainder}
 use Rattle.mpd_model.specs.declared.expr.UnaryOp.{UnaryOp}
@@ -9,6 +9,12 @@ use Rattle.mpd_model.specs.declared.place.Place.{Place}
 use Rattle.mpd_model.specs.declared.read_fault.FaultCode.{FaultCode}
 use Rattle.mpd_model.specs.declared.read_fault.FaultCode.TheVariants as f
 use Rattle.mpd_model.specs.declared.read_fault.ReadFault.{ReadFault}
+use Rattle.mpd_model.specs.declared.step.Step.TheVariants.{Local}
+use Rattle.mpd_model.specs.declared.call.Mode.TheVariants.{Rendezvous}
+use Rattle.mpd_model.specs.declared.call.Trap.{Trap}
+use Rattle.mpd_model.specs.declared.call.Trap.TheVariants.{Overflow, ZeroDivisor, BadIndex}
+use Rattle.mpd_model.specs.declared.call.Activity.{Activity}
+use Rattle.mpd_model.specs.declared.call.Activity.TheVariants.{Running, Trapped}
 use Rattle.mpd_model.specs.Declaration.{Declared}
 use Rattle.mpd_model.specs.Faults.{fault}
 use Rattle.mpd_model.specs.Grammar.{reading, script, header, version, ranks, decls, decls_from, decl, declaring, single, sized, body, stmts, stmt, block, choosing, otherwise, repeating, printing, asserting, sending, target, named, assigning, receiving, expr, level, chain, atom, place_inside, bracket, rounds, signed}
@@ -17,6 +23,8 @@ use Rattle.mpd_model.specs.Program.{Program}
 use Rattle.mpd_model.specs.Term.{Term, lit, own_rank, size, cell, element, op1, op2, Target}
 use Rattle.mpd_model.specs.Tokens.{tokens_after, front, sign, word, number}
 use Rattle.mpd_model.specs.Tree.{Tree, print, send, recv, branch, assign, check, repeat, no_more, then_more, block_of}
+use Rattle.mpd_model.specs.World.{RankWorld, World, start}
+use Rattle.mpd_model.specs.Next.{fold}
 
 abbrev Read : Type 0
 Read = Result Program ReadFault
@@ -283,7 +291,7 @@ wanted_bodies table = map {B = Read} (λ r. runs r.1.0 r.1.1) table
 
 abbrev statements : Bodies
 statements =
-    (codes "x=1;", (assign (whole x) (n 1) ∷ [], 1)) ∷ (codes "x = 1 ;", (assign (whole x) (n 1) ∷ [], 1)) ∷ (codes "x=x==1;", (assign (whole x) (op2 Equal (cell x) (n 1)) ∷ [], 1)) ∷ (codes "x=!x;", (assign (whole x) (op1 Not (cell x)) ∷ [], 1))
+    (codes "x=1;", (assign (whole x) (n 1) ∷ [], 1)) ∷ (codes "x = 1 ;", (assign (whole x) (n 1) ∷ [], 1)) ∷ (codes "x=x==1;", (assign (whole x) (op2 Equal (cell x) (n 1)) ∷ [], 1)) ∷ (codes "x=!x;", (assign (whole x) (op1 Not (cell x)) ∷ [], 1)) ∷ (codes "x#=2;\n=1;", (assign (whole x) (n 1) ∷ [], 1))
     ∷ (codes "a[0]=1;", (assign (part a (n 0)) (n 1) ∷ [], 1)) ∷ (codes "a[a[0]]=a[1];", (assign (part a (element a (n 0))) (element a (n 1)) ∷ [], 1)) ∷ (codes "a [x+1] =-a[x];", (assign (part a (op2 Add (cell x) (n 1))) (minus (element a (cell x))) ∷ [], 1))
     ∷ (codes "assert x<2;", (check (op2 Less (cell x) (n 2)) ∷ [], 1)) ∷ (codes "assert(1);", (check (n 1) ∷ [], 1)) ∷ (codes "assert!x;", (check (op1 Not (cell x)) ∷ [], 1))
     ∷ (codes "while x {}", (repeat (cell x) no_more ∷ [], 1)) ∷ (codes "while(x){x=1;}", (repeat (cell x) (then_more (assign (whole x) (n 1)) no_more) ∷ [], 2))
@@ -342,7 +350,7 @@ abbrev bad_statements : Places
 bad_statements =
     (codes "assert;", (f.Expected, 35)) ∷ (codes "assert x y;", (f.Expected, 38)) ∷ (codes "assert {}", (f.Expected, 36)) ∷ (codes "assert = 1;", (f.Expected, 36)) ∷ (codes "assert y;", (f.UnknownName, 36))
     ∷ (codes "while;", (f.Expected, 34)) ∷ (codes "while {}", (f.Expected, 35)) ∷ (codes "while x;", (f.Expected, 36)) ∷ (codes "while x x=1;", (f.Expected, 37)) ∷ (codes "while y {}", (f.UnknownName, 35)) ∷ (codes "while x {} else {}", (f.Expected, 40))
-    ∷ (codes "while x { else", (f.Expected, 39)) ∷ (codes "while x {}}", (f.Expected, 39)) ∷ (codes "while x {};", (f.Expected, 39)) ∷ (codes "while x {waitany", (f.NotInVersion, 38)) ∷ (codes "while waitany", (f.Expected, 35)) ∷ (codes "while x {y=1;}", (f.UnknownName, 38))
+    ∷ (codes "while x { else", (f.Expected, 39)) ∷ (codes "while x {}}", (f.Expected, 39)) ∷ (codes "while x {};", (f.Expected, 39)) ∷ (codes "while x {waitany", (f.NotInVersion, 38)) ∷ (codes "while waitany", (f.Expected, 35)) ∷ (codes "if 1 {} else waitany", (f.Expected, 42)) ∷ (codes "x=waitany;", (f.Expected, 31)) ∷ (codes "while x {y=1;}", (f.UnknownName, 38))
     ∷ (codes "recv a from 0 tag 0;", (f.Expected, 36)) ∷ (codes "recv a[0 from 0", (f.Expected, 38)) ∷ (codes "recv x[0] from 0", (f.Expected, 35)) ∷ (codes "recv a[0][1] from", (f.Expected, 38)) ∷ (codes "recv a[y] from", (f.UnknownName, 36)) ∷ (codes "recv a[0]=1;", (f.Expected, 38))
     ∷ (codes "recv y[0]", (f.UnknownName, 34)) ∷ (codes "recv -x from", (f.Expected, 34)) ∷ (codes "recv (x) from", (f.Expected, 34)) ∷ (codes "send a to 0 tag 0;", (f.Expected, 36)) ∷ (codes "print a[0] a[1];", (f.Expected, 40)) ∷ (codes "x=1;var z;", (f.Expected, 33))
     ∷ (codes "req h[2];", (f.Expected, 29)) ∷ (codes "barrier;", (f.Expected, 29)) ∷ []
@@ -510,3 +518,38 @@ pub row_two_ranks : reading (codes "mpd 1;\nranks 2;\nvar x;\nif rank == 0 {\n  
     })
 unfolding reading script header version ranks decls decls_from decl declaring single sized body stmts stmt block choosing otherwise repeating printing asserting sending target named assigning receiving expr level chain atom place_inside bracket rounds signed count spend seek slot_in fresh add expect after sees same_mark next place spelling token refusal tokens_after front sign word number
 row_two_ranks = refl
+
+-- ---- texts that are read and run: what the only rank prints, or how it is trapped
+
+abbrev only_rank : Option RankWorld → Option (List ℤ × Activity)
+only_rank None = None
+only_rank (Some r) = Some (r.out, r.activity)
+
+abbrev rank_of : Option World → Option (List ℤ × Activity)
+rank_of None = None
+rank_of (Some w) = only_rank (slice_get w.ranks 0)
+
+abbrev ran : Read → Option (List ℤ × Activity)
+ran (Err e) = None
+ran (Ok s) = rank_of (fold (start s Rendezvous) (Local 0 ∷ []))
+
+abbrev gives : ℤ → Option (List ℤ × Activity)
+gives z = Some (z ∷ [], Running)
+
+abbrev traps : Trap → Option (List ℤ × Activity)
+traps t = Some ([], Trapped t)
+
+abbrev printed : List (List ℕ × Option (List ℤ × Activity))
+printed =
+    (codes "1 || 1 / 0", gives (pos 1)) ∷ (codes "-7 / 2", gives (negsuc 2)) ∷ (codes "-7 % 2", gives (negsuc 0)) ∷ (codes "1 / 0", traps ZeroDivisor)
+    ∷ (codes "7 / -2", gives (negsuc 2)) ∷ (codes "7 % -2", gives (pos 1)) ∷ (codes "-7 / -2", gives (pos 3)) ∷ (codes "-7 % -2", gives (negsuc 0)) ∷ (codes "-(7 / 2)", gives (negsuc 2)) ∷ (codes "-(7 % 2)", gives (negsuc 0))
+    ∷ (codes "1 - 2 - 3", gives (negsuc 3)) ∷ (codes "1 - (2 - 3)", gives (pos 2)) ∷ (codes "2 + 3 * 4", gives (pos 14)) ∷ (codes "(2 + 3) * 4", gives (pos 20)) ∷ (codes "8 / 4 / 2", gives (pos 1)) ∷ (codes "8 / (4 / 2)", gives (pos 4)) ∷ (codes "7 * 5 % 4", gives (pos 3)) ∷ (codes "7 * (5 % 4)", gives (pos 7))
+    ∷ (codes "0 && 1 || 1", gives (pos 1)) ∷ (codes "0 && (1 || 1)", gives (pos 0)) ∷ (codes "1 || 0 && 0", gives (pos 1)) ∷ (codes "(1 || 0) && 0", gives (pos 0)) ∷ (codes "!0 + 1", gives (pos 2)) ∷ (codes "!(0 + 1)", gives (pos 0)) ∷ (codes "3 > 2 == 1 > 0", None)
+    ∷ (codes "(3 > 2) == (1 > 0)", gives (pos 1)) ∷ (codes "- -3", gives (pos 3)) ∷ (codes "!!3", gives (pos 1)) ∷ (codes "-!3", gives (pos 0)) ∷ (codes "1 < 2 && 2 < 1", gives (pos 0)) ∷ (codes "size * 10 + rank", gives (pos 10))
+    ∷ (codes "-9223372036854775807 - 1", gives (negsuc 9223372036854775807)) ∷ (codes "-(-9223372036854775807 - 1)", traps Overflow) ∷ (codes "(-9223372036854775807 - 1) / -1", traps Overflow) ∷ (codes "(-9223372036854775807 - 1) % -1", traps Overflow)
+    ∷ (codes "-9223372036854775807 - 1 / -1", gives (negsuc 9223372036854775805)) ∷ (codes "9223372036854775807 + 1", traps Overflow) ∷ (codes "a[2] + x", gives (pos 0)) ∷ (codes "a[3]", traps BadIndex) ∷ (codes "a[-1]", traps BadIndex) ∷ (codes "a[a[0]]", gives (pos 0))
+    ∷ (codes "a[3] + 1 / 0", traps BadIndex) ∷ (codes "1 / 0 + a[3]", traps ZeroDivisor) ∷ (codes "x && a[3]", gives (pos 0)) ∷ []
+
+pub row_printed : map {B = Option (List ℤ × Activity)} (λ r. ran (printing_of r.0)) printed ≡ map {B = Option (List ℤ × Activity)} (λ r. r.1) printed
+unfolding reading script header version ranks decls decls_from decl declaring single sized body stmts stmt block choosing otherwise repeating printing asserting sending target named assigning receiving expr level chain atom place_inside bracket rounds signed count spend seek slot_in fresh add expect after sees same_mark next place spelling token refusal tokens_after front sign word number
+row_printed = refl
