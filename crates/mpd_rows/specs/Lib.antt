@@ -3,3 +3,6 @@ pub mod MoreRows
 pub mod ReaderRows
 pub mod LineRows
 pub mod TextRows
+pub mod ValueRows
+pub mod StepRows
+pub mod WiderReaderRows

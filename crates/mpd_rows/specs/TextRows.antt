@@ -8,7 +8,7 @@ use Rattle.mpd_model.specs.declared.place.Place.{Place}
 use Rattle.mpd_model.specs.declared.step.Step.{Step}
 use Rattle.mpd_model.specs.declared.step.Step.TheVariants.{Local, Match, Wake, Release}
 use Rattle.mpd_model.specs.declared.call.Mode.TheVariants.{Rendezvous}
-use Rattle.mpd_model.specs.Term.{Term, lit, own_rank, cell, op2}
+use Rattle.mpd_model.specs.Term.{Term, lit, own_rank, cell, op2, Target}
 use Rattle.mpd_model.specs.Tree.{print, send, recv, branch, no_more, then_more}
 use Rattle.mpd_model.specs.Program.{Program}
 use Rattle.mpd_model.specs.World.{World, call_id, start}
@@ -22,7 +22,10 @@ use Rattle.mpd_model.specs.Words.{has_word, step_of, command_of}
 use Rattle.mpd_model.specs.Answers.{line_answer}
 
 abbrev x : Place
-x = record { declaration = 0; first = 0 }
+x = record { declaration = 0; first = 0; cells = 1 }
+
+abbrev into : Place → Target
+into p = record { place = p; index = None }
 
 abbrev n : ℕ → Term
 n k = lit (pos k)
@@ -33,7 +36,7 @@ one_message = record {
   version = 1;
   ranks = 2;
   decls = record { kind = Variable; name = codes "x"; size = None } ∷ [];
-  body = branch (op2 Equal own_rank (n 0)) (then_more (send (n 7) (n 1) (n 0)) no_more) (then_more (recv x (n 0) (n 0)) (then_more (print (cell x)) no_more)) ∷ [];
+  body = branch (op2 Equal own_rank (n 0)) (then_more (send (n 7) (n 1) (n 0)) no_more) (then_more (recv (into x) (n 0) (n 0)) (then_more (print (cell x)) no_more)) ∷ [];
   lines = 4 ∷ 4 ∷ 4 ∷ 4 ∷ [];
 }
 
