@@ -6,10 +6,11 @@ ghost use Rattle.mpd_model.specs.Next.{next};
 ghost use Rattle.mpd_model.specs.Trail.{first_standing, IsReached, noted, applied, taken_back, step_eq};
 ghost use Rattle.mpdbg.specs.Faults.{apply_fault_number, apply_fault_name};
 
+use mpd_code::code::Code;
 use mpd_core::fault::StepFault;
-use mpd_core::state::{Core, Record};
+use mpd_core::record::Record;
+use mpd_core::state::Core;
 use mpd_model::call::Mode;
-use mpd_model::script::Script;
 use mpd_model::step::Step;
 use std::alloc::{AllocError, Global};
 use std::marker::Model;
@@ -79,15 +80,15 @@ impl AtStart {
 
 /// The steps that were taken, and where they lead; contracts see it as a `Standing`.
 #[derive(Drop)]
-pub struct Debugger<'s> {
+pub struct Debugger<'c> {
     mode: Mode,
-    core: Core<'s>,
+    core: Core<'c>,
     /// What takes each step back that is not undone, the newest last.
-    records: Vec<Record<'s>>,
+    records: Vec<Record>,
     steps: Vec<Step>,
 }
 
-impl<'s> Model for Debugger<'s> {
+impl<'c> Model for Debugger<'c> {
     ghost use Rattle.std.specs.Prelude.{length};
     ghost use Rattle.mpd_model.specs.Trail.{Standing, standing_code};
     ghost use Rattle.mpd_model.specs.World.{start};
@@ -102,7 +103,7 @@ impl<'s> Model for Debugger<'s> {
       world = d.core.world;
     } };
 
-    ghost invariant = { λ d. Keeps (start d.core.program d.mode) d.records.items d.steps.items d.core.world };
+    ghost invariant = { λ d. Keeps d.core.program (start d.core.program d.mode) d.records.items d.steps.items d.core.world };
 }
 
 /// Whether two steps are one.
@@ -130,14 +131,14 @@ fn note(steps: &mut Vec<Step>, depth: usize, step: Step) -> Result<(), AllocErro
     Ok(())
 }
 
-impl<'s> Debugger<'s> {
+impl<'c> Debugger<'c> {
     /// No step was taken. An `Err` is want of memory.
-    pub fn start(alloc: Global, script: &'s Script, mode: Mode) -> Result<Debugger<'s>, AllocError>
-        ensures { IfOk result (λ d. d ≡ first_standing script.now mode) }
+    pub fn start(alloc: Global, code: &'c Code, mode: Mode) -> Result<Debugger<'c>, AllocError>
+        ensures { IfOk result (λ d. d ≡ first_standing code.now.program mode) }
     {
         Ok(Debugger {
             mode,
-            core: Core::start(alloc, script, mode)?,
+            core: Core::start(alloc, code, mode)?,
             records: Vec::new(alloc),
             steps: Vec::new(alloc),
         })
@@ -160,7 +161,7 @@ impl<'s> Debugger<'s> {
 
     /// The state, which is where the steps not undone lead.
     #[tactic(auto, using(crate::proofs::KeptLemmas::keeping))]
-    pub fn core(&self) -> &Core<'s>
+    pub fn core(&self) -> &Core<'c>
         ensures world { result.now.world ≡ self.now.world }
         ensures program { result.now.program ≡ self.now.trail.program }
         ensures reached { IsReached self.now }

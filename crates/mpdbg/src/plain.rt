@@ -16,6 +16,7 @@ ghost use Rattle.mpdbg.specs.Told.{TellsAll, TellsRead};
 use crate::debugger::Debugger;
 use crate::divider::{Divider, Division};
 use crate::engine::{EngineFault, READ_MAX, TURNS_MAX, run_behind};
+use mpd_code::lower::lower;
 use mpd_model::call::Mode;
 use mpd_model::device::{Sink, Source};
 use mpd_model::read_fault::{FaultCode, ReadFault};
@@ -179,27 +180,30 @@ fn refusal(text: &[u8], fault: ReadFault) -> PlainFault
 #[tactic(auto, using(crate::proofs::BehindLaws::opened_not))]
 fn trace_behind<S: Source, W: Sink>(
     alloc: Global,
-    script: &Script,
+    script: Script,
     source: &mut S,
     sink: &mut W,
     behind: &[u8],
     turns: usize,
 ) -> Result<(), EngineFault>
-    ensures ok { OnOk result ((e : Standing) × TellsAll AnswerOrMemory (first_standing script.now Mode.Rendezvous) (λ z. lines_of (behind.now ++ z)) (S.remaining source.old) (S.remaining source.new) (W.contents sink.old) (W.contents sink.new) e) }
+    ensures ok { OnOk result ((e : Standing) × TellsAll AnswerOrMemory (first_standing script Mode.Rendezvous) (λ z. lines_of (behind.now ++ z)) (S.remaining source.old) (S.remaining source.new) (W.contents sink.old) (W.contents sink.new) e) }
     ensures unfailed { OnOk result ((S.failures source.new ≡ S.failures source.old) × (W.failures sink.new ≡ W.failures sink.old)) }
     ensures read_failed { IsErrOf result EngineFault.ReadFailed → (S.failures source.new ≡ S.failures source.old + 1)
-        × ((e : Standing) × TellsRead AnswerOrMemory (first_standing script.now Mode.Rendezvous) (λ z. ended_lines (behind.now ++ z)) 0 (S.remaining source.old) (S.remaining source.new) (W.contents sink.old) (W.contents sink.new) e) }
+        × ((e : Standing) × TellsRead AnswerOrMemory (first_standing script Mode.Rendezvous) (λ z. ended_lines (behind.now ++ z)) 0 (S.remaining source.old) (S.remaining source.new) (W.contents sink.old) (W.contents sink.new) e) }
     ensures write_failed { IsErrOf result EngineFault.WriteFailed → (W.failures sink.new ≡ W.failures sink.old + 1)
-        × IfSome (S.remaining source.old) (λ input. TellsPart AnswerOrMemory (first_standing script.now Mode.Rendezvous) (lines_of (behind.now ++ input)) (W.contents sink.old) (W.contents sink.new)) }
+        × IfSome (S.remaining source.old) (λ input. TellsPart AnswerOrMemory (first_standing script Mode.Rendezvous) (lines_of (behind.now ++ input)) (W.contents sink.old) (W.contents sink.new)) }
     ensures turns { IsErrOf result EngineFault.TooManyTurns → (S.calls source.new ≡ S.calls source.old + turns)
-        × ((e : Standing) × TellsRead AnswerOrMemory (first_standing script.now Mode.Rendezvous) (λ z. ended_lines (behind.now ++ z)) turns (S.remaining source.old) (S.remaining source.new) (W.contents sink.old) (W.contents sink.new) e) }
+        × ((e : Standing) × TellsRead AnswerOrMemory (first_standing script Mode.Rendezvous) (λ z. ended_lines (behind.now ++ z)) turns (S.remaining source.old) (S.remaining source.new) (W.contents sink.old) (W.contents sink.new) e) }
     ensures unended { IsErrOf result EngineFault.TooManyTurns → S.ends source.new ≡ S.ends source.old }
     ensures failed_reads { S.failures source.new ≡ S.failures source.old + failed_reads result }
     ensures failed_writes { W.failures sink.new ≡ W.failures sink.old + failed_writes result }
     ensures memory { IsErrOf result EngineFault.Memory →
-        IfSome (S.remaining source.old) (λ input. TellsFirst AnswerOrMemory (first_standing script.now Mode.Rendezvous) (lines_of (behind.now ++ input)) (W.contents sink.old) (W.contents sink.new)) }
+        IfSome (S.remaining source.old) (λ input. TellsFirst AnswerOrMemory (first_standing script Mode.Rendezvous) (lines_of (behind.now ++ input)) (W.contents sink.old) (W.contents sink.new)) }
 {
-    let Ok(mut debugger) = Debugger::start(alloc, script, Mode::Rendezvous) else {
+    let Ok(code) = lower(alloc, script) else {
+        return Err(EngineFault::Memory);
+    };
+    let Ok(mut debugger) = Debugger::start(alloc, &code, Mode::Rendezvous) else {
         return Err(EngineFault::Memory);
     };
     run_behind(alloc, source, sink, &mut debugger, behind, turns)
@@ -240,7 +244,7 @@ pub fn plain<S: Source, W: Sink>(
         return Ok(());
     }
     let turns = TURNS_MAX - head.reads;
-    match trace_behind(alloc, &script, source, sink, &head.behind, turns) {
+    match trace_behind(alloc, script, source, sink, &head.behind, turns) {
         Ok(()) => Ok(()),
         Err(fault) => Err(PlainFault::Engine(fault)),
     }

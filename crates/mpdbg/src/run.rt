@@ -7,8 +7,8 @@ ghost use Rattle.mpd_model.specs.Trail.{kept, first_standing, IsReached};
 ghost use Rattle.mpdbg.specs.Run.{Answers, Carried, Run, SameScript};
 
 use crate::debugger::{ApplyFault, Debugger};
+use mpd_code::code::Code;
 use mpd_model::call::Mode;
-use mpd_model::script::Script;
 use mpd_model::step::Step;
 use std::alloc::{AllocError, Global};
 
@@ -74,18 +74,18 @@ pub fn follow(
 
 /// The headline: from the start of any script, a list of steps and undos gets the replies of docs/DEFINITIONS.md,
 /// "Trails", and the state in the end is exactly where the relation of steps leads along those not undone.
-pub fn replay<'s>(
+pub fn replay<'c>(
     alloc: Global,
-    script: &'s Script,
+    code: &'c Code,
     mode: Mode,
     commands: &[Command],
-) -> Result<(Debugger<'s>, Vec<Reply>), AllocError>
-    ensures run { IfOk result (λ r. Run (start script.now mode) [] commands.now r.1.items (kept r.0.trail)) }
-    ensures world { IfOk result (λ r. fold (start script.now mode) (kept r.0.trail) ≡ Some r.0.world) }
-    ensures script { IfOk result (λ r. (r.0.trail.program ≡ script.now) × (r.0.trail.mode ≡ mode)) }
+) -> Result<(Debugger<'c>, Vec<Reply>), AllocError>
+    ensures run { IfOk result (λ r. Run (start code.now.program mode) [] commands.now r.1.items (kept r.0.trail)) }
+    ensures world { IfOk result (λ r. fold (start code.now.program mode) (kept r.0.trail) ≡ Some r.0.world) }
+    ensures script { IfOk result (λ r. (r.0.trail.program ≡ code.now.program) × (r.0.trail.mode ≡ mode)) }
     ensures reached { IfOk result (λ r. IsReached r.0) }
 {
-    let mut debugger = Debugger::start(alloc, script, mode)?;
+    let mut debugger = Debugger::start(alloc, code, mode)?;
     let replies = follow(alloc, &mut debugger, commands)?;
     Ok((debugger, replies))
 }

@@ -10,9 +10,9 @@ ghost use Rattle.mpdbg.specs.Told.{TellsAll, TellsRead};
 
 use crate::debugger::Debugger;
 use crate::engine::{EngineFault, run};
+use mpd_code::code::Code;
 use mpd_model::call::Mode;
 use mpd_model::device::{Sink, Source};
-use mpd_model::script::Script;
 use std::alloc::Global;
 
 /// Answers the trace words of a source (docs/FORMATS.md, "Trace words") from the start of a script, and writes exactly
@@ -22,26 +22,26 @@ use std::alloc::Global;
 #[tactic(auto, using(crate::proofs::TraceLemmas::opening_memory))]
 pub fn trace<S: Source, W: Sink>(
     alloc: Global,
-    script: &Script,
+    code: &Code,
     mode: Mode,
     source: &mut S,
     sink: &mut W,
 ) -> Result<(), EngineFault>
-    ensures ok { OnOk result ((e : Standing) × TellsAll AnswerOrMemory (first_standing script.now mode) lines_of (S.remaining source.old) (S.remaining source.new) (W.contents sink.old) (W.contents sink.new) e) }
+    ensures ok { OnOk result ((e : Standing) × TellsAll AnswerOrMemory (first_standing code.now.program mode) lines_of (S.remaining source.old) (S.remaining source.new) (W.contents sink.old) (W.contents sink.new) e) }
     ensures unfailed { OnOk result ((S.failures source.new ≡ S.failures source.old) × (W.failures sink.new ≡ W.failures sink.old)) }
     ensures read_failed { IsErrOf result EngineFault.ReadFailed → (S.failures source.new ≡ S.failures source.old + 1)
-        × ((e : Standing) × TellsRead AnswerOrMemory (first_standing script.now mode) ended_lines 0 (S.remaining source.old) (S.remaining source.new) (W.contents sink.old) (W.contents sink.new) e) }
+        × ((e : Standing) × TellsRead AnswerOrMemory (first_standing code.now.program mode) ended_lines 0 (S.remaining source.old) (S.remaining source.new) (W.contents sink.old) (W.contents sink.new) e) }
     ensures write_failed { IsErrOf result EngineFault.WriteFailed → (W.failures sink.new ≡ W.failures sink.old + 1)
-        × IfSome (S.remaining source.old) (λ input. TellsPart AnswerOrMemory (first_standing script.now mode) (lines_of input) (W.contents sink.old) (W.contents sink.new)) }
+        × IfSome (S.remaining source.old) (λ input. TellsPart AnswerOrMemory (first_standing code.now.program mode) (lines_of input) (W.contents sink.old) (W.contents sink.new)) }
     ensures turns { IsErrOf result EngineFault.TooManyTurns → (S.calls source.new ≡ S.calls source.old + 1000000)
-        × ((e : Standing) × TellsRead AnswerOrMemory (first_standing script.now mode) ended_lines 1000000 (S.remaining source.old) (S.remaining source.new) (W.contents sink.old) (W.contents sink.new) e) }
+        × ((e : Standing) × TellsRead AnswerOrMemory (first_standing code.now.program mode) ended_lines 1000000 (S.remaining source.old) (S.remaining source.new) (W.contents sink.old) (W.contents sink.new) e) }
     ensures unended { IsErrOf result EngineFault.TooManyTurns → S.ends source.new ≡ S.ends source.old }
     ensures failed_reads { S.failures source.new ≡ S.failures source.old + failed_reads result }
     ensures failed_writes { W.failures sink.new ≡ W.failures sink.old + failed_writes result }
     ensures memory { IsErrOf result EngineFault.Memory →
-        IfSome (S.remaining source.old) (λ input. TellsFirst AnswerOrMemory (first_standing script.now mode) (lines_of input) (W.contents sink.old) (W.contents sink.new)) }
+        IfSome (S.remaining source.old) (λ input. TellsFirst AnswerOrMemory (first_standing code.now.program mode) (lines_of input) (W.contents sink.old) (W.contents sink.new)) }
 {
-    let Ok(mut debugger) = Debugger::start(alloc, script, mode) else {
+    let Ok(mut debugger) = Debugger::start(alloc, code, mode) else {
         return Err(EngineFault::Memory);
     };
     run(alloc, source, sink, &mut debugger)

@@ -11,4 +11,4 @@ invariant_of-self-in-Ok-note c =
     let room : length s.records.items < 1000000 = omega (arith, long) in
     let pushed : c.push.new.self.items ≡ s.records.items ++ c.in-Ok.done ∷ [] = c.in-Ok-push.ensures.items in
     let kept : c.note.new.steps.items ≡ noted s.steps.items (length s.records.items) c.args.step = rw (← long) c.in-Ok-note.ensures.ok in
-    rw (pushed, kept, c.in-Ok.ensures.program) (keeps_push (start s.core.program s.mode) s.records.items s.steps.items s.core.world c.apply.new.self.world c.in-Ok.done c.args.step c.self.invariant room c.in-Ok.ensures.ok c.in-Ok.ensures.back)
+    rw (pushed, kept, c.in-Ok.ensures.program) (keeps_push s.core.program (start s.core.program s.mode) s.records.items s.steps.items s.core.world c.apply.new.self.world c.in-Ok.done c.args.step c.self.invariant room c.in-Ok.ensures.ok c.in-Ok.ensures.back)
