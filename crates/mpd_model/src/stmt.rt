@@ -38,11 +38,7 @@ pub enum StmtNode {
     /// A blocking standard send (MPI 4.0, section 3.2.1).
     Send { value: Expr, to: Expr, tag: Expr },
     /// A blocking receive (MPI 4.0, section 3.2.4).
-    Recv {
-        into: Target,
-        from: Expr,
-        tag: Expr,
-    },
+    Recv { into: Target, from: Expr, tag: Expr },
     If(Expr, Vec<Stmt>, Vec<Stmt>),
     Assign(Target, Expr),
     Assert(Expr),

@@ -21,8 +21,9 @@ use Rattle.mpd_model.specs.Grammar.{reading, script, header, version, ranks, dec
 use Rattle.mpd_model.specs.Input.{Outcome, start_of, count, spend, seek, slot_in, fresh, add, expect, after, sees, same_mark, next, place, spelling, token, refusal}
 use Rattle.mpd_model.specs.Program.{Program}
 use Rattle.mpd_model.specs.Term.{Term, lit, own_rank, size, cell, element, op1, op2, Target}
-use Rattle.mpd_model.specs.Tokens.{tokens_after, front, sign, word, number}
-use Rattle.mpd_model.specs.Tree.{Tree, print, send, recv, branch, assign, check, repeat, no_more, then_more, block_of}
+use Rattle.mpd_model.specs.Tokens.{tokens, tokens_after, front, sign, word, number}
+use Rattle.mpd_model.specs.Tree.{Tree, print, send, recv, branch, assign, check, repeat, no_more, then_more, block_of, statements_in}
+use Rattle.mpd_model.specs.Fits.{cost, blocks_in}
 use Rattle.mpd_model.specs.World.{RankWorld, World, start}
 use Rattle.mpd_model.specs.Next.{fold}
 
@@ -518,6 +519,18 @@ pub row_two_ranks : reading (codes "mpd 1;\nranks 2;\nvar x;\nif rank == 0 {\n  
     })
 unfolding reading script header version ranks decls decls_from decl declaring single sized body stmts stmt block choosing otherwise repeating printing asserting sending target named assigning receiving expr level chain atom place_inside bracket rounds signed count spend seek slot_in fresh add expect after sees same_mark next place spelling token refusal tokens_after front sign word number
 row_two_ranks = refl
+
+-- ---- what is counted: brackets that open and operators, open blocks, statements
+
+pub row_costs : map {B = ℕ} (λ t. cost (tokens t)) (codes "1" ∷ codes "x" ∷ codes "1+2" ∷ codes "a[1]+(2)*-!x" ∷ codes "((1))" ∷ codes "1<=2!=3" ∷ codes "a[a[0]]" ∷ codes "1||2&&3==4/5%6" ∷ codes ")]};=" ∷ []) ≡ 0 ∷ 0 ∷ 1 ∷ 6 ∷ 2 ∷ 2 ∷ 2 ∷ 5 ∷ 0 ∷ []
+unfolding tokens_after front sign word number
+row_costs = refl
+
+pub row_blocks : map {B = ℕ} (λ ts. blocks_in (block_of ts)) ([] ∷ (assign (whole x) (n 1) ∷ check (n 1) ∷ []) ∷ (repeat (n 1) no_more ∷ repeat (n 1) no_more ∷ []) ∷ whiles 64 [] ∷ whiles 32 (ifs 32) ∷ (check (n 1) ∷ whiles 3 (ifs 2)) ∷ []) ≡ 0 ∷ 0 ∷ 1 ∷ 64 ∷ 64 ∷ 5 ∷ []
+row_blocks = refl
+
+pub row_counts : map {B = ℕ} (λ ts. statements_in (block_of ts)) ([] ∷ (assign (whole x) (n 1) ∷ check (n 1) ∷ []) ∷ (repeat (n 1) no_more ∷ repeat (n 1) no_more ∷ []) ∷ whiles 64 [] ∷ whiles 63 (ifs 2) ∷ []) ≡ 0 ∷ 2 ∷ 2 ∷ 64 ∷ 65 ∷ []
+row_counts = refl
 
 -- ---- texts that are read and run: what the only rank prints, or how it is trapped
 
