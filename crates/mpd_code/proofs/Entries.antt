@@ -1,5 +1,5 @@
 -- Where blocks begin.
-use Rattle.std.proofs.Common.{◌≡◌, ℕ, ◌<◌, List, [], ◌∷◌, ◌++◌, length, reverse, refl, sym, ◌∙◌, arith, length-append}
+use Rattle.std.proofs.Common.{◌≡◌, ℕ, ◌<◌, List, [], ◌∷◌, length, reverse, refl, sym, arith}
 use Rattle.std.proofs.lemmas.List.{length-reverse}
 use Rattle.mpd_model.specs.Tree.{Tree, block_of}
 use Rattle.mpd_code.specs.Lowered.{entry}

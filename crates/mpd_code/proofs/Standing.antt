@@ -1,14 +1,15 @@
 -- Each node of a lowered program stands for what is left to run at its number.
-use Rattle.std.proofs.Common.{◌≡◌, ℕ, zero, suc, ◌<◌, ◌≤◌, ◌+◌, List, [], ◌∷◌, ◌++◌, length, get_or, refl, sym, subst, ap, ◌∙◌, arith, length-append, append_assoc, append-nil}
+use Rattle.std.proofs.Common.{◌≡◌, ℕ, zero, suc, ◌<◌, ◌≤◌, ◌+◌, List, [], ◌∷◌, ◌++◌, length, get_or, refl, sym, subst, ap, ◌∙◌, arith, length-append, append_assoc, append-nil, Some}
 use Rattle.std.proofs.lemmas.List.{get_or-append-add, get_or_past}
-use Rattle.mpd_model.specs.Term.{Term}
 use Rattle.mpd_model.specs.Tree.{Tree, print, send, recv, branch, assign, check, repeat, Block, no_more, then_more, block_of, trees, trees_of_block, statements, statements_in, numbered}
 use Rattle.mpd_model.specs.Program.{Program}
 use Rattle.mpd_code.specs.declared.node.Node.{Node}
-use Rattle.mpd_code.specs.declared.node.Action.TheVariants.{Print, Send, Recv, Assign, Assert, Branch, Repeat}
 use Rattle.mpd_code.specs.Left.{lefts, lefts_of, left_at}
-use Rattle.mpd_code.specs.Stands.{Does, Stands}
+use Rattle.mpd_code.specs.Stands.{Stands}
 use Rattle.mpd_code.specs.Lowered.{entry, lowered, lowered_one}
+use Rattle.mpd_model.specs.World.{RankWorld}
+use Rattle.mpd_model.specs.Next.{local_of}
+use Rattle.mpd_model.specs.declared.call.Activity.TheVariants.{Running}
 use Rattle.mpd_code.proofs.Placed.{length-lowered, length-lowered_one}
 
 -- ---- what is left from a number on
@@ -108,27 +109,39 @@ mutual
   one_stands at n (check v) behind next e h = (record { statement = check v; left = h.0 ∙ ap (λ l. (n, check v) ∷ l) (sym e); does = refl }, tt)
   one_stands at n (branch c a b) behind next e h =
       let first : Agrees at (n + 1) (lefts (n + 1) a behind) = agrees_first at (n + 1) (lefts (n + 1) a behind) (lefts (n + 1 + statements_in a) b behind) h.1 in
-      let second : Agrees at (n + 1 + statements_in a) (lefts (n + 1 + statements_in a) b behind) = agrees_second at (n + 1) (n + 1 + statements_in a) (lefts (n + 1) a behind) (lefts (n + 1 + statements_in a) b behind) (omega (arith, length-lefts (n + 1) a behind)) h.1 in
-      (record {
-        statement = branch c a b;
-        left = h.0 ∙ ap (λ l. (n, branch c a b) ∷ l) (sym e);
-        does = (a, (b, (refl,
-            (entered at (n + 1) a behind next e first ∙ ap (λ l. numbered (n + 1) (trees a) ++ l) (sym e),
-            entered at (n + 1 + statements_in a) b behind next e second ∙ ap (λ l. numbered (n + 1 + statements_in a) (trees b) ++ l) (sym e)))));
-      },
-      all_stand-append at (n + 1) (n + 1 + statements_in a) (lowered (n + 1) a next) (lowered (n + 1 + statements_in a) b next) (omega (arith, length-lowered (n + 1) a next))
-      (all_stand at (n + 1) a behind next e first) (all_stand at (n + 1 + statements_in a) b behind next e second))
-  one_stands at n (repeat c a) behind next e h =
-      (record {
-        statement = repeat c a;
-        left = h.0 ∙ ap (λ l. (n, repeat c a) ∷ l) (sym e);
-        does = (a, (refl, entered at (n + 1) a ((n, repeat c a) ∷ behind) n h.0 h.1 ∙ ap (λ l. numbered (n + 1) (trees a) ++ (n, repeat c a) ∷ l) (sym e)));
-      },
-      all_stand at (n + 1) a ((n, repeat c a) ∷ behind) n h.0 h.1)
+      let second : Agrees at (n + 1 + statements_in a) (lefts (n + 1 + statements_in a) b behind) = agrees_second at (n + 1) (n + 1 + statements_in a) (lefts (n + 1) a behind) (lefts (n + 1 + statements_in a) b behind) (omega (arith, length-lefts (n + 1) a behind)) h.1 in (
+        record {
+          statement = branch c a b;
+          left = h.0 ∙ ap (λ l. (n, branch c a b) ∷ l) (sym e);
+          does = (
+            a,
+            (
+              b,
+              (
+                refl,
+                (
+                  entered at (n + 1) a behind next e first ∙ ap (λ l. numbered (n + 1) (trees a) ++ l) (sym e),
+                  entered at (n + 1 + statements_in a) b behind next e second ∙ ap (λ l. numbered (n + 1 + statements_in a) (trees b) ++ l) (sym e),
+                ),
+              ),
+            ),
+          );
+        },
+        all_stand-append at (n + 1) (n + 1 + statements_in a) (lowered (n + 1) a next) (lowered (n + 1 + statements_in a) b next) (omega (arith, length-lowered (n + 1) a next))
+            (all_stand at (n + 1) a behind next e first) (all_stand at (n + 1 + statements_in a) b behind next e second),
+      )
+  one_stands at n (repeat c a) behind next e h = (
+    record {
+      statement = repeat c a;
+      left = h.0 ∙ ap (λ l. (n, repeat c a) ∷ l) (sym e);
+      does = (a, (refl, entered at (n + 1) a ((n, repeat c a) ∷ behind) n h.0 h.1 ∙ ap (λ l. numbered (n + 1) (trees a) ++ (n, repeat c a) ∷ l) (sym e)));
+    },
+    all_stand at (n + 1) a ((n, repeat c a) ∷ behind) n h.0 h.1,
+  )
 
 -- ---- a program
 
-ended : (p : Program) (i : ℕ) → statements_in (block_of p.body) ≤ i → left_at p i ≡ []
+pub ended : (p : Program) (i : ℕ) → statements_in (block_of p.body) ≤ i → left_at p i ≡ []
 ended p i h = get_or_past (lefts 0 (block_of p.body) []) i [] (omega (arith, length-lefts 0 (block_of p.body) []))
 
 whole : (p : Program) → Agrees (left_at p) 0 (lefts 0 (block_of p.body) [])
@@ -167,4 +180,4 @@ whole_left (t ∷ ts) =
 pub start_left : (p : Program) → left_at p 0 ≡ numbered 0 p.body
 start_left p = whole_left p.body
 
-pub ruleset standing = (node_stands, none_left, node_count, start_left)
+pub ruleset standing = (node_stands, none_left, ended, node_count, start_left)

@@ -2,7 +2,6 @@
 use Rattle.std.specs.Prelude.{ℕ, ◌+◌, List, [], ◌∷◌, ◌++◌}
 use Rattle.mpd_model.specs.Tree.{Tree, print, send, recv, branch, assign, check, repeat, Block, no_more, then_more, statements, statements_in}
 use Rattle.mpd_code.specs.declared.node.Node.{Node}
-use Rattle.mpd_code.specs.declared.node.Action.{Action}
 use Rattle.mpd_code.specs.declared.node.Action.TheVariants.{Print, Send, Recv, Assign, Assert, Branch, Repeat}
 
 -- where a block begins that is numbered from n: at n, or at what follows where it is empty

@@ -1,7 +1,7 @@
 -- Rows of what is left to run.
-use Rattle.std.specs.Prelude.{◌≡◌, ℕ, List, [], ◌∷◌, pos, refl}
-use Rattle.mpd_model.specs.Term.{Term, lit}
-use Rattle.mpd_model.specs.Tree.{Tree, print, branch, repeat, check, no_more, then_more}
+use Rattle.std.specs.Prelude.{◌≡◌, [], ◌∷◌, pos, refl}
+use Rattle.mpd_model.specs.Term.{lit}
+use Rattle.mpd_model.specs.Tree.{Tree, print, branch, repeat, no_more, then_more}
 use Rattle.mpd_model.specs.Program.{Program}
 use Rattle.mpd_code.specs.Left.{left_at}
 
@@ -52,3 +52,22 @@ row_6 = refl
 -- at the end: nothing
 row_7 : left_at program 6 ≡ []
 row_7 = refl
+
+-- a `while` with an empty body, and an `if` with two empty blocks
+abbrev idle : Tree
+idle = repeat (lit (pos 7)) no_more
+
+abbrev choice : Tree
+choice = branch (lit (pos 8)) no_more no_more
+
+abbrev empties : Program
+empties = record { version = 1; ranks = 1; decls = []; body = idle ∷ choice ∷ p1 ∷ []; lines = 1 ∷ 2 ∷ 3 ∷ [] }
+
+row_8 : left_at empties 0 ≡ (0, idle) ∷ (1, choice) ∷ (2, p1) ∷ []
+row_8 = refl
+
+row_9 : left_at empties 1 ≡ (1, choice) ∷ (2, p1) ∷ []
+row_9 = refl
+
+row_10 : left_at empties 3 ≡ []
+row_10 = refl

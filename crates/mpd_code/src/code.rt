@@ -1,6 +1,6 @@
 //! Lowered code.
 
-ghost use Rattle.std.specs.Prelude.{◌≡◌, ◌<◌, ◌≤◌, [], IfSome, IfNone, Some, slice_get};
+ghost use Rattle.std.specs.Prelude.{◌≡◌, ◌<◌, ◌≤◌, ◌↔◌, [], IsSome, IfSome, IfNone, Some, slice_get};
 ghost use Rattle.mpd_model.specs.Declaration.{variables_in, handles_in};
 ghost use Rattle.mpd_model.specs.Tree.{block_of, statements_in, numbered};
 ghost use Rattle.mpd_code.specs.Left.{left_at};
@@ -56,6 +56,7 @@ impl Code {
     pub fn node(&self, number: usize) -> Option<&Node>
         ensures some { IfSome result (λ node. Stands (left_at self.now.program) number node.now) }
         ensures none { IfNone result (left_at self.now.program number ≡ []) }
+        ensures within { IsSome result ↔ (number < statements_in (block_of self.now.program.body)) }
     {
         self.nodes.get(number)
     }
@@ -68,10 +69,12 @@ impl Code {
         0
     }
 
-    /// How many nodes there are.
+    /// How many nodes there are, which is the number of the end.
     #[tactic(auto, using(crate::proofs::Standing::standing))]
     pub fn nodes(&self) -> usize
-        ensures { result ≡ statements_in (block_of self.now.program.body) }
+        ensures value { result ≡ statements_in (block_of self.now.program.body) }
+        ensures bound { result ≤ 4096 }
+        ensures end { left_at self.now.program result ≡ [] }
     {
         self.nodes.len()
     }
@@ -102,14 +105,16 @@ impl Code {
 
     /// How many cells its variables have.
     pub fn cells(&self) -> usize
-        ensures { result ≡ variables_in self.now.program.decls }
+        ensures value { result ≡ variables_in self.now.program.decls }
+        ensures bound { result ≤ 1024 }
     {
         self.cells
     }
 
     /// How many handles it has.
     pub fn handles(&self) -> usize
-        ensures { result ≡ handles_in self.now.program.decls }
+        ensures value { result ≡ handles_in self.now.program.decls }
+        ensures bound { result ≤ 256 }
     {
         self.handles
     }

@@ -34,10 +34,11 @@ fn count_all(block: &[Stmt]) -> usize
     requires { statements_in (block_of block.now) ≤ 4096 }
     ensures { result ≡ statements_in (block_of block.now) }
 {
-    match block.split_first() {
-        None => 0,
-        Some((first, rest)) => count(first) + count_all(rest),
+    let mut total = 0;
+    for stmt in block {
+        total += count(stmt);
     }
+    total
 }
 
 /// The number at which a block begins: that of its first statement, or of what follows an empty one.

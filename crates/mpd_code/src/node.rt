@@ -16,7 +16,11 @@ pub struct Node {
 pub enum Action {
     Print(Expr),
     /// A blocking standard send (MPI 4.0, section 3.2.1).
-    Send { value: Expr, to: Expr, tag: Expr },
+    Send {
+        value: Expr,
+        to: Expr,
+        tag: Expr,
+    },
     /// A blocking receive (MPI 4.0, section 3.2.4).
     Recv {
         into: Target,
@@ -32,5 +36,8 @@ pub enum Action {
         second: usize,
     },
     /// A `while`: the node where its body begins. An empty body begins at the `while` itself.
-    Repeat { test: Expr, body: usize },
+    Repeat {
+        test: Expr,
+        body: usize,
+    },
 }

@@ -1,5 +1,5 @@
-use Rattle.std.proofs.Common.{◌≡◌, ℕ, ◌+◌, ◌++◌, length, reverse, sym, ◌∙◌, arith, rules}
-use Rattle.mpd_model.specs.Tree.{Tree, statements, statements_in, block_of}
+use Rattle.std.proofs.Common.{◌≡◌, ◌+◌, length, reverse, ◌∙◌, arith, rules}
+use Rattle.mpd_model.specs.Tree.{statements, statements_in, block_of}
 use Rattle.mpd_code.specs.Lowered.{entry}
 use Rattle.mpd_code.proofs.Placed.{placed_more, counted_more, length_placed, length_more}
 use Rattle.mpd_code.proofs.lower.+place.Goals as goal
