@@ -125,8 +125,14 @@ fn prints_values(rt: HostRuntime) -> Result<(), Fail> {
     let alloc = rt.alloc();
     for (expression, value) in VALUES {
         let input = format!(in alloc; "mpd 1;ranks 1;print {expression};\n---\nlocal 0\nshow\n")?;
-        let wanted = format!(in alloc; "ok 1\ndepth 1 of 1\nrank 0 ended\nvars\nhandles\nout {value}\noutcome done\nend\n")?;
-        assert_eq!(rt; written(&rt, alloc, input.as_str()).as_slice(), wanted.as_bytes(), "{expression}");
+        let wanted = format!(in alloc;
+            "ok 1\ndepth 1 of 1\nrank 0 ended\nvars\nhandles\nout {value}\noutcome done\nend\n"
+        )?;
+        assert_eq!(rt;
+            written(&rt, alloc, input.as_str()).as_slice(),
+            wanted.as_bytes(),
+            "{expression}"
+        );
     }
     Ok(())
 }
@@ -135,9 +141,17 @@ fn prints_values(rt: HostRuntime) -> Result<(), Fail> {
 fn traps_and_undoes(rt: HostRuntime) -> Result<(), Fail> {
     let alloc = rt.alloc();
     for (statement, name) in TRAPS {
-        let input = format!(in alloc; "mpd 1;ranks 1;var x;var a[2];var e[0];{statement}\n---\nlocal 0\nshow\nback\nshow\n")?;
-        let wanted = format!(in alloc; "ok 1\ndepth 1 of 1\nrank 0 trapped {name}\nvars 0 0 0\nhandles\nout\noutcome trap 0 {name}\nend\nok 0\ndepth 0 of 1\nrank 0 at 1\nvars 0 0 0\nhandles\nout\nend\n")?;
-        assert_eq!(rt; written(&rt, alloc, input.as_str()).as_slice(), wanted.as_bytes(), "{statement}");
+        let input = format!(in alloc;
+            "mpd 1;ranks 1;var x;var a[2];var e[0];{statement}\n---\nlocal 0\nshow\nback\nshow\n"
+        )?;
+        let wanted = format!(in alloc;
+            "ok 1\ndepth 1 of 1\nrank 0 trapped {name}\nvars 0 0 0\nhandles\nout\noutcome trap 0 {name}\nend\nok 0\ndepth 0 of 1\nrank 0 at 1\nvars 0 0 0\nhandles\nout\nend\n"
+        )?;
+        assert_eq!(rt;
+            written(&rt, alloc, input.as_str()).as_slice(),
+            wanted.as_bytes(),
+            "{statement}"
+        );
     }
     Ok(())
 }
@@ -157,27 +171,52 @@ fn refuses_past_its_limits(rt: HostRuntime) -> Result<(), Fail> {
     let alloc = rt.alloc();
     let header = "mpd 1;ranks 1;var a[2];";
     let signs = repeated(alloc, "mpd 1;ranks 1;print ", "-", 65, "1;")?;
-    answers(&rt, alloc, signs.as_bytes(), refused(FaultCode::TooDeep, 84, 1), "");
+    answers(
+        &rt,
+        alloc,
+        signs.as_bytes(),
+        refused(FaultCode::TooDeep, 84, 1),
+        "",
+    );
     let inside = repeated(alloc, "mpd 1;ranks 1;var a[2];print a[", "-", 64, "1];")?;
-    answers(&rt, alloc, inside.as_bytes(), refused(FaultCode::TooDeep, 94, 1), "");
+    answers(
+        &rt,
+        alloc,
+        inside.as_bytes(),
+        refused(FaultCode::TooDeep, 94, 1),
+        "",
+    );
     let index = repeated(alloc, "mpd 1;ranks 1;var a[2];a[", "-", 64, "1]=")?;
     let outside = repeated(alloc, index.as_str(), "-", 64, "1;")?;
     answers(&rt, alloc, outside.as_bytes(), Ok(()), "");
     let assignments = repeated(alloc, "mpd 1;ranks 1;var x;", "x=1;", 4096, "")?;
     answers(&rt, alloc, assignments.as_bytes(), Ok(()), "");
     let one_more = repeated(alloc, assignments.as_str(), "x=1;", 1, "")?;
-    answers(&rt, alloc, one_more.as_bytes(), refused(FaultCode::TooMany, 16404, 1), "");
+    answers(
+        &rt,
+        alloc,
+        one_more.as_bytes(),
+        refused(FaultCode::TooMany, 16404, 1),
+        "",
+    );
     let none = repeated(alloc, "mpd 1;ranks 1;var a[1024];", "var e[0];", 1, "")?;
     answers(&rt, alloc, none.as_bytes(), Ok(()), "");
     let open = repeated(alloc, header, "while 1 {", 65, "")?;
-    answers(&rt, alloc, open.as_bytes(), refused(FaultCode::TooDeep, 607, 1), "");
+    answers(
+        &rt,
+        alloc,
+        open.as_bytes(),
+        refused(FaultCode::TooDeep, 607, 1),
+        "",
+    );
     Ok(())
 }
 
 #[test]
 fn loops_and_writes_arrays(rt: HostRuntime) {
     let alloc = rt.alloc();
-    let looped: &[u8] = b"mpd 1; ranks 1; var i;\nwhile i < 2 { i = i + 1; }\n---\nlocal 0\nlocal 0\nlocal 0\nlocal 0\nlocal 0\nlocal 0\nback\nback\nshow\n";
+    let looped: &[u8] =
+        b"mpd 1; ranks 1; var i;\nwhile i < 2 { i = i + 1; }\n---\nlocal 0\nlocal 0\nlocal 0\nlocal 0\nlocal 0\nlocal 0\nback\nback\nshow\n";
     answers(
         &rt,
         alloc,
@@ -185,7 +224,8 @@ fn loops_and_writes_arrays(rt: HostRuntime) {
         Ok(()),
         "ok 1\nok 2\nok 3\nok 4\nok 5\nrefused not-enabled\nok 4\nok 3\ndepth 3 of 5\nrank 0 at 2\nvars 1\nhandles\nout\nend\n",
     );
-    let arrays: &[u8] = b"mpd 1; ranks 1; var a[3]; var b;\na[a[0] + 1] = 5;\nb = a[1] * 2;\na[2] = b;\n---\nlocal 0\nlocal 0\nlocal 0\nshow\nback\nback\nshow\n";
+    let arrays: &[u8] =
+        b"mpd 1; ranks 1; var a[3]; var b;\na[a[0] + 1] = 5;\nb = a[1] * 2;\na[2] = b;\n---\nlocal 0\nlocal 0\nlocal 0\nshow\nback\nback\nshow\n";
     answers(
         &rt,
         alloc,

@@ -4,6 +4,7 @@ use crate::debugger::{ApplyFault, Debugger};
 use crate::engine::EngineFault;
 use crate::run::{Command, Reply, replay};
 use crate::trace::trace;
+use mpd_code::lower::lower;
 use mpd_core::state::Core;
 use mpd_model::call::Mode;
 use mpd_model::device::{FromReader, ToWriter};
@@ -55,7 +56,10 @@ fn refused(rt: &impl Abort, alloc: Global, text: &str, code: FaultCode, place: u
 
 #[test]
 fn replies_and_undoes(rt: HostRuntime) -> Result<(), Fail> {
-    let script = read(rt.alloc(), FIRST).expect(&rt, "the first script");
+    let code = lower(
+        rt.alloc(),
+        read(rt.alloc(), FIRST).expect(&rt, "the first script"),
+    )?;
     let pair = Step::Match(call(0, 0), call(1, 0));
     let commands = [
         Command::Undo,
@@ -71,7 +75,7 @@ fn replies_and_undoes(rt: HostRuntime) -> Result<(), Fail> {
         Command::Apply(Step::Wake(1)),
         Command::Apply(Step::Release),
     ];
-    let (debugger, replies) = replay(rt.alloc(), &script, Mode::Rendezvous, &commands)?;
+    let (debugger, replies) = replay(rt.alloc(), &code, Mode::Rendezvous, &commands)?;
     let wanted = [
         Reply::AtStart,
         Reply::Done,
@@ -171,8 +175,8 @@ fn declares_up_to_its_limits(rt: HostRuntime) -> Result<(), Fail> {
 #[test]
 fn prints_states(rt: HostRuntime) -> Result<(), Fail> {
     let alloc = rt.alloc();
-    let script = read(alloc, FIRST).expect(&rt, "the first script");
-    let mut core = Core::start(alloc, &script, Mode::Rendezvous)?;
+    let code = lower(alloc, read(alloc, FIRST).expect(&rt, "the first script"))?;
+    let mut core = Core::start(alloc, &code, Mode::Rendezvous)?;
     assert_eq!(rt; core.rank_count(), 2);
     for step in [
         Step::Local(0),
@@ -276,10 +280,10 @@ impl Read for Feeds {
 #[test]
 fn ends_after_a_million_reads(rt: HostRuntime) -> Result<(), Fail> {
     let alloc = rt.alloc();
-    let script = read(alloc, FIRST).expect(&rt, "the first script");
+    let code = lower(alloc, read(alloc, FIRST).expect(&rt, "the first script"))?;
     let mut source = FromReader::new(Feeds);
     let mut sink = ToWriter::new(Vec::new(alloc));
-    let ended = trace(alloc, &script, Mode::Rendezvous, &mut source, &mut sink);
+    let ended = trace(alloc, &code, Mode::Rendezvous, &mut source, &mut sink);
     assert_eq!(rt; ended, Err(EngineFault::TooManyTurns));
     assert!(rt; sink.into_writer().is_empty());
     Ok(())
@@ -288,13 +292,13 @@ fn ends_after_a_million_reads(rt: HostRuntime) -> Result<(), Fail> {
 #[test]
 fn fails_where_a_device_fails(rt: HostRuntime) -> Result<(), Fail> {
     let alloc = rt.alloc();
-    let script = read(alloc, FIRST).expect(&rt, "the first script");
+    let code = lower(alloc, read(alloc, FIRST).expect(&rt, "the first script"))?;
     let words: &[u8] = b"local 0\nback\nfly\nlocal 0";
     let wanted: &[u8] = b"ok 1\nok 0\nrefused bad-word\nok 1\n";
     for limit in 0..40u64 {
         let mut source = FromReader::new(words);
         let mut sink = FailingSink::new(ToWriter::new(Vec::new(alloc)), Limit::Bytes(limit));
-        let ended = trace(alloc, &script, Mode::Rendezvous, &mut source, &mut sink);
+        let ended = trace(alloc, &code, Mode::Rendezvous, &mut source, &mut sink);
         let written = sink.into_inner().into_writer();
         let whole = wanted.len() as u64;
         if limit <= whole && limit < whole {
@@ -311,7 +315,7 @@ fn fails_where_a_device_fails(rt: HostRuntime) -> Result<(), Fail> {
     for limit in 0..30u64 {
         let mut source = FailingSource::new(FromReader::new(words), Limit::Bytes(limit));
         let mut sink = ToWriter::new(Vec::new(alloc));
-        let ended = trace(alloc, &script, Mode::Rendezvous, &mut source, &mut sink);
+        let ended = trace(alloc, &code, Mode::Rendezvous, &mut source, &mut sink);
         let written = sink.into_writer();
         if limit <= words.len() as u64 {
             assert_eq!(rt; ended, Err(EngineFault::ReadFailed));
