@@ -16,6 +16,7 @@ pub mod Tokens
 pub mod Input
 pub mod Grammar
 pub mod Written
+pub mod Canonical
 pub mod Fits
 pub mod ReaderLaws
 pub mod Depth

@@ -1,0 +1,8 @@
+//! The canonical text of a script (docs/LANGUAGE.md, "Canonical text").
+#![tactic(auto)]
+
+mod expr;
+mod script;
+mod stmt;
+
+pub use script::print;
