@@ -2,7 +2,7 @@
 
 ghost use Rattle.std.specs.Prelude.{◌≡◌, ◌<◌, ◌≤◌, ◌+◌, ◌++◌, OnOk, string_bytes, codes};
 ghost use Rattle.mpd_model.specs.Tree.{statements, statements_in, block_of};
-ghost use Rattle.mpd_model.specs.Canonical.{whole_text, indent, tree_text, block_text};
+ghost use Rattle.mpd_model.specs.Canonical.{whole_text, indent, else_text, tree_text, block_text};
 
 use crate::expr::{push_expr, push_target};
 use mpd_model::expr::Expr;
@@ -11,6 +11,7 @@ use mpd_model::stmt::{Stmt, StmtNode};
 use std::alloc::AllocError;
 
 /// Adds two spaces for each open block.
+
 fn push_indent(out: &mut String, depth: usize) -> Result<(), AllocError>
     ensures { OnOk result (string_bytes out.new ≡ string_bytes out.old ++ indent depth) }
 {
@@ -21,6 +22,7 @@ fn push_indent(out: &mut String, depth: usize) -> Result<(), AllocError>
 }
 
 /// Adds statements that stand in so many open blocks.
+#[tactic(auto, using(crate::proofs::PrintLemmas::statements_at))]
 #[cycle(trees)]
 pub fn push_stmts(
     out: &mut String,
@@ -73,10 +75,7 @@ fn push_stmt(
         StmtNode::If(test, first, second) => {
             push_test(out, decls, "if ", test)?;
             push_block(out, decls, depth, first)?;
-            if !second.is_empty() {
-                out.push_str(" else {\n")?;
-                push_block(out, decls, depth, second)?;
-            }
+            push_else(out, decls, depth, second)?;
             out.push_str("\n")
         }
         StmtNode::While(test, inside) => {
@@ -119,4 +118,24 @@ fn push_block(
     push_stmts(out, decls, depth + 1, stmts)?;
     push_indent(out, depth)?;
     out.push_str("}")
+}
+
+/// Adds the second block of an `if` behind the first, and nothing if it is empty.
+#[tactic(auto, using(crate::proofs::PrintLemmas::else_some))]
+#[cycle(trees)]
+fn push_else(
+    out: &mut String,
+    decls: &[Decl],
+    depth: usize,
+    stmts: &[Stmt],
+) -> Result<(), AllocError>
+    requires { depth + statements_in (block_of stmts.now) < 4096 }
+    ensures { OnOk result (string_bytes out.new ≡ string_bytes out.old ++ else_text (block_of stmts.now) depth (block_text decls.now (depth + 1) (block_of stmts.now))) }
+{
+    if stmts.is_empty() {
+        return Ok(());
+    }
+    out.push_str(" else {\n")?;
+    push_block(out, decls, depth, stmts)?;
+    Ok(())
 }
