@@ -19,6 +19,7 @@ pub mod Written
 pub mod Canonical
 pub mod Fits
 pub mod ReaderLaws
+pub mod Printable
 pub mod Depth
 pub mod Ends
 pub mod Limits

@@ -80,7 +80,6 @@ fn push_name(out: &mut String, decls: &[Decl], place: Place) -> Result<(), Alloc
 }
 
 /// Adds an expression where one of a level is read, in parentheses if it is looser.
-#[cycle(terms)]
 fn push_term(
     out: &mut String,
     decls: &[Decl],

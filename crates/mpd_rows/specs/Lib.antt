@@ -3,3 +3,4 @@ pub mod MoreRows
 pub mod ReaderRows
 pub mod LineRows
 pub mod TextRows
+pub mod PrintRows
