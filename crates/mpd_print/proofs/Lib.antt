@@ -1,3 +1,4 @@
 pub mod PrintLemmas
 pub mod Cuts
 pub mod Signs
+pub mod Runs
