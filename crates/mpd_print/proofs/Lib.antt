@@ -2,3 +2,4 @@ pub mod PrintLemmas
 pub mod Cuts
 pub mod Signs
 pub mod Runs
+pub mod PrintTerms
