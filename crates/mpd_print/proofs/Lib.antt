@@ -3,3 +3,4 @@ pub mod Cuts
 pub mod Signs
 pub mod Runs
 pub mod PrintTerms
+pub mod PrintStatements
