@@ -4,3 +4,4 @@ pub mod Signs
 pub mod Runs
 pub mod PrintTerms
 pub mod PrintStatements
+pub mod PrintScript

@@ -67,7 +67,7 @@ target_spelled ds t h = at_spelled ds t.place t.index h
 
 -- ---- indentation
 
-nil_spelled : Spelled Any IsNone []
+pub nil_spelled : Spelled Any IsNone []
 unfolding tokens_after
 nil_spelled = fixed [] (λ p l z. refl) (λ p l. nothing) refl
 

@@ -2,6 +2,7 @@
 #![tactic(auto)]
 
 mod expr;
+pub mod laws;
 mod script;
 mod stmt;
 
