@@ -1,10 +1,10 @@
 -- What a text is cut into, where something follows it.
-use Rattle.std.proofs.Common.{◌≡◌, ℕ, ◌+◌, Bool, true, false, ◌&&◌, cond, List, [], ◌∷◌, ◌++◌, refl, ap, sym, ◌∙◌, append_assoc, append-nil, subst}
+use Rattle.std.proofs.Common.{◌≡◌, ℕ, ◌+◌, Bool, true, false, List, [], ◌∷◌, ◌++◌, refl, ap, sym, ◌∙◌, append_assoc, append-nil, subst}
 use Rattle.std.proofs.lemmas.List.Folds.{list_all-append}
 use Rattle.std.specs.List.{list_all}
 use Rattle.mpd_model.specs.declared.token.Token.{Token}
 use Rattle.mpd_model.specs.Grammar.{is_text}
-use Rattle.mpd_model.specs.Tokens.{Spot, tokens_after, tokens_at, is_blank, is_in_name, feeds}
+use Rattle.mpd_model.specs.Tokens.{Spot, tokens_at, is_blank, is_in_name, feeds}
 
 -- nothing, or a byte that ends a name or a number
 abbrev pub Ends : List ℕ → Type 0

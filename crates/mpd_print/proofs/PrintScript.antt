@@ -1,5 +1,5 @@
 -- The canonical text of a script is cut into tokens that write it, so it is read again.
-use Rattle.std.proofs.Common.{◌≡◌, ℕ, zero, suc, pos, ◌+◌, ◌<◌, ◌≤◌, ◌^◌, Bool, true, false, List, [], ◌∷◌, ◌++◌, length, Option, Some, None, Ok, refl, subst, ap, sym, ◌∙◌, append_assoc, append-nil, arith}
+use Rattle.std.proofs.Common.{◌≡◌, ℕ, pos, ◌≤◌, true, List, [], ◌∷◌, ◌++◌, length, Option, Some, None, refl, subst, ap, sym, ◌∙◌, append_assoc, append-nil, arith}
 use Rattle.std.specs.Prelude.{codes}
 use Rattle.std.specs.Fmt.{decimal}
 use Rattle.std.specs.List.{flat_map, list_all, prefix_len}
@@ -7,18 +7,18 @@ use Rattle.mpd_model.specs.declared.place.DeclKind.{DeclKind}
 use Rattle.mpd_model.specs.declared.place.DeclKind.TheVariants.{Variable, Handle}
 use Rattle.mpd_model.specs.declared.token.Mark.TheVariants as m
 use Rattle.mpd_model.specs.declared.token.Token.TheVariants.{Number, Name, Is}
-use Rattle.mpd_model.specs.Canonical.{size_text, decl_text, block_text, canonical}
+use Rattle.mpd_model.specs.Canonical.{decl_text, block_text, canonical}
 use Rattle.mpd_model.specs.Declaration.{Declared, variable_cells, variables_in}
 use Rattle.mpd_model.specs.Fits.{dearest_script}
-use Rattle.mpd_model.specs.Grammar.{is_text, max_text, reading}
+use Rattle.mpd_model.specs.Grammar.{is_text}
 use Rattle.mpd_model.specs.Input.{slot_in, max_budget}
 use Rattle.mpd_model.specs.Printable.{IsName, AreNamed, AreVariables, AreNew, IsPrintable, CanonicalIsReadAgain}
 use Rattle.mpd_model.specs.Program.{Program, IsLegal}
 use Rattle.mpd_model.specs.ReaderLaws.{WrittenScriptsAreRead}
 use Rattle.mpd_model.specs.Tokens.{Spot, tokens, tokens_at, tokens_after, front, sign, word, number}
-use Rattle.mpd_model.specs.Tree.{block_of, trees, trees_of_block, statements_in}
+use Rattle.mpd_model.specs.Tree.{block_of, trees_of_block, statements_in}
 use Rattle.mpd_model.specs.Written.{variable_of, WrittenDecls, none, declares, declares_array, WrittenScript, script}
-use Rattle.mpd_print.proofs.Cuts.{Ends, Any, Cut, Spelled, join, turned, narrowed, fixed, Both, both, IsOne, one, IsWord, one_word, IsNone, nothing}
+use Rattle.mpd_print.proofs.Cuts.{Ends, Any, Cut, Spelled, join, turned, fixed, Both, both, IsOne, one, IsWord, one_word, IsNone, nothing}
 use Rattle.mpd_print.proofs.PrintStatements.{BodySpots, block_spelled, nil_spelled}
 use Rattle.mpd_print.proofs.PrintTerms.{name_spelled}
 use Rattle.mpd_print.proofs.Runs.{decimal_spelled, first_passes}

@@ -1,5 +1,5 @@
 -- The canonical text of statements is cut into tokens that write them, each expression within the limit.
-use Rattle.std.proofs.Common.{◌≡◌, ℕ, zero, suc, ◌+◌, ◌≤◌, max, Bool, true, false, List, [], ◌∷◌, ◌++◌, length, length-append, Option, Some, None, refl, subst, ap, sym, ◌∙◌, append_assoc, append-nil, arith}
+use Rattle.std.proofs.Common.{◌≡◌, ℕ, zero, suc, ◌≤◌, max, true, false, List, [], ◌∷◌, ◌++◌, length, length-append, Option, Some, None, refl, subst, ap, sym, ◌∙◌, append_assoc, append-nil, arith}
 use Rattle.std.specs.Prelude.{codes}
 use Rattle.mpd_model.specs.declared.place.Place.{Place}
 use Rattle.mpd_model.specs.declared.token.Mark.TheVariants as m
@@ -7,13 +7,13 @@ use Rattle.mpd_model.specs.declared.token.Token.{Token}
 use Rattle.mpd_model.specs.declared.token.Token.TheVariants.{Name, Is}
 use Rattle.mpd_model.specs.Canonical.{name_text, whole_text, index_text, target_text, indent, else_text, tree_text, block_text}
 use Rattle.mpd_model.specs.Declaration.{Declared}
-use Rattle.mpd_model.specs.Fits.{cost, index_cost, dearest, dearest_block, dearest_body}
+use Rattle.mpd_model.specs.Fits.{cost, index_cost, dearest, dearest_body}
 use Rattle.mpd_model.specs.Input.{line_of, max_budget}
 use Rattle.mpd_model.specs.Printable.{Stands, IsPrintableWhole, IsPrintableAt, IsPrintableTarget, IsPrintableTree, IsPrintableBlock, term_cost}
 use Rattle.mpd_model.specs.Term.{Term, Target}
 use Rattle.mpd_model.specs.Tokens.{Spot, tokens_after}
 use Rattle.mpd_model.specs.Tree.{Tree, Block, print, send, recv, branch, assign, check, repeat, no_more, then_more, block_of, trees, statements, statements_in}
-use Rattle.mpd_model.specs.Written.{Written, WrittenTarget, whole, part, WrittenTree, prints, sends, receives, assigns, asserts, repeats, chooses, chooses_else, WrittenBlock, braces, WrittenBody, ended, follows}
+use Rattle.mpd_model.specs.Written.{Written, WrittenTarget, whole, part, WrittenTree, prints, sends, receives, assigns, asserts, repeats, chooses, chooses_else, braces, WrittenBody, ended, follows}
 use Rattle.mpd_print.proofs.Cuts.{Ends, Any, Spelled, join, turned, narrowed, fixed, blank_before, blank_behind, Both, both, IsOne, one, IsWord, one_word, IsNone, nothing}
 use Rattle.mpd_print.proofs.PrintTerms.{TermSpots, term_spelled, name_spelled, names_of}
 use Rattle.mpd_print.proofs.Signs.{square_open, square_close, print_word, assert_word, send_word, recv_word, if_word, while_word, to_word, from_word, tag_word, assign_sign, end_sign, brace_open, brace_close, brace_end, else_word, brace_behind, line_end, two_spaces}

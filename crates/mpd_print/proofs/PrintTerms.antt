@@ -1,17 +1,16 @@
 -- The canonical text of an expression is cut into tokens that write it, at the cost that was counted.
-use Rattle.std.proofs.Common.{◌≡◌, ℕ, zero, suc, pos, negsuc, ℤ, ◌+◌, ◌<◌, ◌≤◌, ◌==◌, Bool, true, false, nat_lt, List, [], ◌∷◌, ◌++◌, length, Some, refl, subst, ap, sym, ◌∙◌, append_assoc, lit≤, arith, inl, inr}
+use Rattle.std.proofs.Common.{◌≡◌, ℕ, zero, suc, pos, negsuc, ℤ, ◌+◌, ◌<◌, ◌≤◌, ◌==◌, Bool, true, false, nat_lt, List, [], ◌∷◌, ◌++◌, length, refl, subst, ap, sym, ◌∙◌, append_assoc, lit≤, arith, inl, inr}
 use Rattle.std.specs.Prelude.{slice_index, codes}
 use Rattle.std.proofs.lemmas.Bool.{cases_lt}
 use Rattle.std.proofs.lemmas.Bool.Decides.{nat_tests}
 use Rattle.std.specs.Fmt.{decimal}
 use Rattle.mpd_model.specs.declared.expr.BinaryOp.{BinaryOp}
 use Rattle.mpd_model.specs.declared.expr.BinaryOp.TheVariants.{Or, And, Equal, NotEqual, Less, AtMost, Greater, AtLeast, Add, Subtract, Multiply, Divide, Remainder}
-use Rattle.mpd_model.specs.declared.expr.UnaryOp.{UnaryOp}
 use Rattle.mpd_model.specs.declared.expr.UnaryOp.TheVariants.{Negate, Not}
 use Rattle.mpd_model.specs.declared.place.Place.{Place}
 use Rattle.mpd_model.specs.declared.token.Mark.TheVariants as m
 use Rattle.mpd_model.specs.declared.token.Token.TheVariants.{Number, Name, Is}
-use Rattle.mpd_model.specs.Canonical.{name_text, below, op_text, sign_text, in_brackets, term_text}
+use Rattle.mpd_model.specs.Canonical.{name_text, below, op_text, in_brackets, term_text}
 use Rattle.mpd_model.specs.Declaration.{Declared}
 use Rattle.mpd_model.specs.Fits.{cost, price}
 use Rattle.mpd_model.specs.Grammar.{operator_at, sign}
@@ -20,7 +19,7 @@ use Rattle.mpd_model.specs.Printable.{IsName, Stands, IsPrintableTerm, bracket_c
 use Rattle.mpd_model.specs.Term.{Term, lit, own_rank, size, cell, element, op1, op2}
 use Rattle.mpd_model.specs.Tokens.{Spot, tokens_after, front, begins_name, word, sign as byte_sign}
 use Rattle.mpd_model.specs.Written.{Names, Written, number, rank, ranks, name, entry, round, signs, higher, joins, left_level}
-use Rattle.mpd_print.proofs.Cuts.{Ends, Any, Spelled, join, turned, narrowed, Both, both, IsOne, one, IsWord, one_word}
+use Rattle.mpd_print.proofs.Cuts.{Ends, Spelled, join, turned, narrowed, Both, both, IsOne, one, IsWord, one_word}
 use Rattle.mpd_print.proofs.Runs.{word_spelled, decimal_spelled, decimal_first, first_of_names}
 use Rattle.mpd_print.proofs.Signs.{square_open, square_close, round_open, round_close, minus, op_token, op_spelled, op_level, op_price}
 

@@ -1,5 +1,5 @@
 -- Names and numbers, cut: each ends where what follows is in no name.
-use Rattle.std.proofs.Common.{◌≡◌, ℕ, zero, suc, pos, ◌+◌, ◌-◌, ◌*◌, ◌/◌, ◌%◌, ◌^◌, ◌<◌, ◌≤◌, ◌==◌, Bool, true, false, ◌&&◌, List, [], ◌∷◌, ◌++◌, length, length-append, take, nat_lt, refl, subst, ap, sym, ◌∙◌, arith, inl, inr}
+use Rattle.std.proofs.Common.{◌≡◌, ℕ, suc, pos, ◌+◌, ◌-◌, ◌*◌, ◌/◌, ◌%◌, ◌^◌, ◌<◌, ◌≤◌, ◌==◌, Bool, true, false, List, [], ◌∷◌, ◌++◌, length, length-append, take, nat_lt, refl, subst, ap, ◌∙◌, arith, inl, inr}
 use Rattle.std.specs.Prelude.{slice_index}
 use Rattle.std.proofs.Math.Seq.{take-append_seam}
 use Rattle.std.proofs.lemmas.Bool.{cases_Bool}
@@ -9,11 +9,10 @@ use Rattle.std.proofs.lemmas.List.Folds.{list_all-append}
 use Rattle.std.specs.Fmt.{decimal}
 use Rattle.std.specs.Char.{is_ascii_digit}
 use Rattle.std.specs.List.{list_all, prefix_len}
-use Rattle.mpd_model.specs.declared.token.Class.TheVariants as class
 use Rattle.mpd_model.specs.declared.token.Token.{Token}
 use Rattle.mpd_model.specs.declared.token.Token.TheVariants.{Number}
 use Rattle.mpd_model.specs.Grammar.{is_text}
-use Rattle.mpd_model.specs.Tokens.{is_blank, is_in_name, begins_name, run_len, decimal_after, number, word, front, tokens_after, tokens_at, Spot, feeds}
+use Rattle.mpd_model.specs.Tokens.{is_blank, is_in_name, begins_name, decimal_after, number, word, front, tokens_after, tokens_at, Spot}
 use Rattle.mpd_print.proofs.Cuts.{Ends, Cut, Spelled, IsWord, one_word}
 
 -- ---- runs of bytes

@@ -80,12 +80,7 @@ fn push_name(out: &mut String, decls: &[Decl], place: Place) -> Result<(), Alloc
 }
 
 /// Adds an expression where one of a level is read, in parentheses if it is looser.
-fn push_term(
-    out: &mut String,
-    decls: &[Decl],
-    level: u32,
-    expr: &Expr,
-) -> Result<(), AllocError>
+fn push_term(out: &mut String, decls: &[Decl], level: u32, expr: &Expr) -> Result<(), AllocError>
     ensures { OnOk result (string_bytes out.new ≡ string_bytes out.old ++ term_text decls.now level expr.now) }
 {
     match &expr.node {

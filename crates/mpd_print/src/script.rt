@@ -52,3 +52,39 @@ fn kind_name(kind: DeclKind) -> &'static str
         DeclKind::Handle => "req ",
     }
 }
+
+#[cfg(test)]
+mod tests {
+    use super::*;
+    use mpd_model::expr::Expr;
+    use mpd_model::stmt::{Stmt, StmtNode};
+    use std::test::Fail;
+
+    #[test]
+    fn prints_a_small_script(rt: HostRuntime) -> Result<(), Fail> {
+        let alloc = rt.alloc();
+        let first = Stmt {
+            node: StmtNode::Print(Expr::rank()),
+        };
+        let inside = Stmt {
+            node: StmtNode::Assert(Expr::size()),
+        };
+        let test = Stmt {
+            node: StmtNode::If(
+                Expr::number(7),
+                Vec::new(alloc),
+                Vec::from_array(alloc, [inside])?,
+            ),
+        };
+        let script = Script {
+            version: 1,
+            ranks: 2,
+            decls: Vec::new(alloc),
+            body: Vec::from_array(alloc, [first, test])?,
+            lines: Vec::from_array(alloc, [3, 4, 5])?,
+        };
+        let text = print(alloc, &script)?;
+        assert_eq!(rt; text.as_str(), "mpd 1;\nranks 2;\nprint rank;\nif 7 {\n} else {\n  assert size;\n}\n");
+        Ok(())
+    }
+}

@@ -41,12 +41,7 @@ pub fn push_stmts(
 
 /// Adds a statement.
 #[cycle(trees)]
-fn push_stmt(
-    out: &mut String,
-    decls: &[Decl],
-    depth: usize,
-    stmt: &Stmt,
-) -> Result<(), AllocError>
+fn push_stmt(out: &mut String, decls: &[Decl], depth: usize, stmt: &Stmt) -> Result<(), AllocError>
     requires { depth + statements stmt.now ≤ 4096 }
     ensures { OnOk result (string_bytes out.new ≡ string_bytes out.old ++ tree_text decls.now depth stmt.now) }
 {

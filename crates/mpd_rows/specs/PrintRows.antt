@@ -1,19 +1,19 @@
 -- Worked rows of the canonical text, by computing: each text was worked out by hand from the rules (docs/LANGUAGE.md, "Canonical text").
-use Rattle.std.specs.Prelude.{◌≡◌, ℕ, zero, suc, pos, List, [], ◌∷◌, ◌++◌, Option, Some, None, Result, Ok, Err, codes, refl}
+use Rattle.std.specs.Prelude.{◌≡◌, ℕ, pos, List, [], ◌∷◌, Some, None, Result, Ok, Err, codes, refl}
 use Rattle.std.specs.Fmt.{digits}
 use Rattle.mpd_model.specs.declared.expr.BinaryOp.TheVariants.{Or, And, Equal, NotEqual, Less, AtMost, Greater, AtLeast, Add, Subtract, Multiply, Divide, Remainder}
 use Rattle.mpd_model.specs.declared.expr.UnaryOp.TheVariants.{Negate, Not}
 use Rattle.mpd_model.specs.declared.place.DeclKind.TheVariants.{Variable, Handle}
 use Rattle.mpd_model.specs.declared.place.Place.{Place}
 use Rattle.mpd_model.specs.declared.read_fault.ReadFault.{ReadFault}
-use Rattle.mpd_model.specs.Canonical.{term_text, whole_text, target_text, tree_text, decl_text, canonical}
+use Rattle.mpd_model.specs.Canonical.{whole_text, tree_text, canonical}
 use Rattle.mpd_model.specs.Declaration.{Declared}
 use Rattle.mpd_model.specs.Grammar.{chain, bracket, place_inside, rounds, signed, atom, level, expr, printing, sending, target, named, assigning, asserting, receiving, otherwise, choosing, repeating, stmt, stmts, body, block, version, ranks, sized, single, declaring, decl, decls_from, decls, header, script, reading}
 use Rattle.mpd_model.specs.Input.{token, spelling, place, next, refusal, same_mark, sees, after, expect, spend, count, slot_in, seek, fresh, add}
 use Rattle.mpd_model.specs.Program.{Program}
 use Rattle.mpd_model.specs.Term.{Term, lit, own_rank, size, cell, element, op1, op2, Target}
 use Rattle.mpd_model.specs.Tokens.{tokens_after, front, sign, word, number}
-use Rattle.mpd_model.specs.Tree.{Tree, print, send, recv, branch, assign, check, repeat, Block, no_more, then_more}
+use Rattle.mpd_model.specs.Tree.{Tree, print, send, recv, branch, assign, check, repeat, no_more, then_more}
 
 -- ---- what the rows speak of: x is a variable, a an array of ten cells behind it
 
@@ -265,11 +265,11 @@ all_kinds = record {
   body =
       assign into_x (n 1)
       ∷ repeat (op2 Less x (n 10))
-        (then_more (assign (into_a x) (op2 Add (op2 Multiply (a (op2 Subtract x (n 1))) (n 2)) own_rank))
-        (then_more (branch (op2 And (op2 Equal (op2 Remainder (a x) (n 2)) (n 0)) (op1 Not (op2 Equal x (n 5))))
-            (then_more (print (a x)) no_more)
-            (then_more (check (op2 NotEqual x (n 0))) (then_more (branch own_rank no_more no_more) no_more)))
-        (then_more (assign into_x (op2 Add x (n 1))) no_more)))
+      (then_more (assign (into_a x) (op2 Add (op2 Multiply (a (op2 Subtract x (n 1))) (n 2)) own_rank))
+      (then_more (branch (op2 And (op2 Equal (op2 Remainder (a x) (n 2)) (n 0)) (op1 Not (op2 Equal x (n 5))))
+      (then_more (print (a x)) no_more)
+      (then_more (check (op2 NotEqual x (n 0))) (then_more (branch own_rank no_more no_more) no_more)))
+      (then_more (assign into_x (op2 Add x (n 1))) no_more)))
       ∷ send (op1 Negate x) (op2 Subtract (n 1) own_rank) (n 0)
       ∷ recv (into_a (op2 Subtract x (n 1))) (op2 Subtract (n 1) own_rank) (n 0)
       ∷ [];
