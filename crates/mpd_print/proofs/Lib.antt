@@ -5,3 +5,4 @@ pub mod Runs
 pub mod PrintTerms
 pub mod PrintStatements
 pub mod PrintScript
+pub mod GoodSpots
