@@ -6,3 +6,4 @@ pub mod PrintTerms
 pub mod PrintStatements
 pub mod PrintScript
 pub mod GoodSpots
+pub mod PrintableTerms
