@@ -7,3 +7,4 @@ pub mod PrintStatements
 pub mod PrintScript
 pub mod GoodSpots
 pub mod PrintableTerms
+pub mod PrintableStatements

@@ -1,5 +1,5 @@
 -- What is written as an expression is printable, and its canonical text costs no more.
-use Rattle.std.proofs.Common.{◌≡◌, ℕ, zero, suc, pos, negsuc, ℤ, ◌+◌, ◌-◌, ◌<◌, ◌≤◌, ◌==◌, Bool, true, false, cond, nat_lt, if◌then◌else◌, List, [], ◌∷◌, ◌++◌, length, Option, Some, None, refl, subst, ap, sym, ◌∙◌, lit≤, arith, inl, inr}
+use Rattle.std.proofs.Common.{◌≡◌, ℕ, suc, ◌+◌, ◌-◌, ◌≤◌, ◌==◌, Bool, true, false, nat_lt, List, [], ◌∷◌, Option, Some, None, refl, subst, ap, sym, ◌∙◌, lit≤, arith, inl, inr}
 use Rattle.std.specs.Prelude.{slice_get}
 use Rattle.std.proofs.lemmas.Bool.{cases_Bool}
 use Rattle.std.proofs.lemmas.Bool.Decides.{nat_tests}
@@ -11,7 +11,7 @@ use Rattle.mpd_model.specs.declared.place.Place.{Place}
 use Rattle.mpd_model.specs.declared.slot.Slot.{Slot}
 use Rattle.mpd_model.specs.declared.token.Mark.TheVariants as m
 use Rattle.mpd_model.specs.declared.token.Token.{Token}
-use Rattle.mpd_model.specs.declared.token.Token.TheVariants.{Number, Name, Is}
+use Rattle.mpd_model.specs.declared.token.Token.TheVariants.{Is}
 use Rattle.mpd_model.specs.Canonical.{name_of, name_text, below}
 use Rattle.mpd_model.specs.Declaration.{Declared, variable_cells, handle_cells}
 use Rattle.mpd_model.specs.Fits.{cost, price}

@@ -84,7 +84,10 @@ mod tests {
             lines: Vec::from_array(alloc, [3, 4, 5])?,
         };
         let text = print(alloc, &script)?;
-        assert_eq!(rt; text.as_str(), "mpd 1;\nranks 2;\nprint rank;\nif 7 {\n} else {\n  assert size;\n}\n");
+        assert_eq!(rt;
+            text.as_str(),
+            "mpd 1;\nranks 2;\nprint rank;\nif 7 {\n} else {\n  assert size;\n}\n"
+        );
         Ok(())
     }
 }
