@@ -8,3 +8,4 @@ pub mod PrintScript
 pub mod GoodSpots
 pub mod PrintableTerms
 pub mod PrintableStatements
+pub mod ReadCosts

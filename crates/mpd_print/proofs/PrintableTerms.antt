@@ -73,11 +73,11 @@ stands_of ds sized s p g x =
 
 -- ---- operators
 
-abbrev IsFit : Option (BinaryOp × ℕ) → Type 0
+abbrev pub IsFit : Option (BinaryOp × ℕ) → Type 0
 IsFit None = Unit {0}
 IsFit (Some p) = suc (below p.0) ≡ p.1
 
-ops_fit : (t : Token) → IsFit (operator t)
+pub ops_fit : (t : Token) → IsFit (operator t)
 ops_fit (Is m.Or) = refl
 ops_fit (Is m.And) = refl
 ops_fit (Is m.Equal) = refl
@@ -93,7 +93,7 @@ ops_fit (Is m.Divide) = refl
 ops_fit (Is m.Remainder) = refl
 ops_fit _ = tt
 
-level_is : (k : ℕ) (o : Option (BinaryOp × ℕ)) (op : BinaryOp) → IsFit o → at_level k o ≡ Some op → suc (below op) ≡ k
+pub level_is : (k : ℕ) (o : Option (BinaryOp × ℕ)) (op : BinaryOp) → IsFit o → at_level k o ≡ Some op → suc (below op) ≡ k
 level_is k None op f h = absurd (let x : ⊥ = cc in x)
 level_is k (Some p) op f h =
     elim (cases_Bool (p.1 == k)) [
@@ -140,7 +140,7 @@ not_below : (k j : ℕ) → nat_lt k j ≡ false → nat_lt (suc k) j ≡ false
 not_below k j h = grind (arith, nat_tests)
 
 -- a looser level asks for no more brackets
-looser : (k : ℕ) (t : Term) → term_cost (suc k) t ≤ term_cost k t
+pub looser : (k : ℕ) (t : Term) → term_cost (suc k) t ≤ term_cost k t
 looser k (lit z) = omega arith
 looser k own_rank = omega arith
 looser k size = omega arith
@@ -150,7 +150,7 @@ looser k (op1 op a) = omega arith
 looser k (op2 op a b) = omega (arith, bracket_more (nat_lt k (suc (below op))) (nat_lt (suc k) (suc (below op))) (not_below k (suc (below op))))
 
 -- and any level asks for one bracket at most
-one_more : (j k : ℕ) (t : Term) → term_cost j t ≤ 1 + term_cost k t
+pub one_more : (j k : ℕ) (t : Term) → term_cost j t ≤ 1 + term_cost k t
 one_more j k (lit z) = omega arith
 one_more j k own_rank = omega arith
 one_more j k size = omega arith
@@ -162,7 +162,7 @@ one_more j k (op2 op a b) = omega (arith, bracket_small (nat_lt j (suc (below op
 no_bracket : (k : ℕ) → nat_lt (suc k) (suc k) ≡ false
 no_bracket k = grind (arith, nat_tests)
 
-joined_cost : (k : ℕ) (op : BinaryOp) (a b : Term) → below op ≡ k → term_cost (suc k) (op2 op a b) ≡ term_cost (left_level k) a + suc (term_cost k b)
+pub joined_cost : (k : ℕ) (op : BinaryOp) (a b : Term) → below op ≡ k → term_cost (suc k) (op2 op a b) ≡ term_cost (left_level k) a + suc (term_cost k b)
 joined_cost k op a b e = rw (e, no_bracket k) (omega arith)
 
 -- ---- expressions
