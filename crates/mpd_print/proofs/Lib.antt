@@ -9,3 +9,4 @@ pub mod GoodSpots
 pub mod PrintableTerms
 pub mod PrintableStatements
 pub mod ReadCosts
+pub mod ReadTrees
