@@ -16,8 +16,10 @@ pub mod Tokens
 pub mod Input
 pub mod Grammar
 pub mod Written
+pub mod Canonical
 pub mod Fits
 pub mod ReaderLaws
+pub mod Printable
 pub mod Depth
 pub mod Ends
 pub mod Limits

@@ -6,3 +6,4 @@ pub mod TextRows
 pub mod ValueRows
 pub mod StepRows
 pub mod WiderReaderRows
+pub mod PrintRows

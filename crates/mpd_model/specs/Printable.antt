@@ -1,0 +1,127 @@
+-- The programs whose canonical text is read again: what the grammar and the limits allow.
+use Rattle.std.specs.Prelude.{◌≡◌, ℕ, suc, ◌+◌, ◌<◌, ◌≤◌, ◌^◌, ℤ, pos, negsuc, Bool, true, false, nat_lt, List, [], ◌∷◌, ◌++◌, length, slice_index, Option, Some, None, is_some, Ok}
+use Rattle.std.specs.List.{list_all}
+use Rattle.mpd_model.specs.declared.place.DeclKind.TheVariants.{Variable}
+use Rattle.mpd_model.specs.declared.place.Place.{Place}
+use Rattle.mpd_model.specs.declared.slot.Slot.{Slot}
+use Rattle.mpd_model.specs.declared.token.Token.TheVariants.{Name}
+use Rattle.mpd_model.specs.Canonical.{name_text, below, canonical}
+use Rattle.mpd_model.specs.Declaration.{Declared}
+use Rattle.mpd_model.specs.Fits.{blocks_in, dearest_script}
+use Rattle.mpd_model.specs.Grammar.{place_of_slot, max_blocks, max_text, reading}
+use Rattle.mpd_model.specs.Input.{slot_in, max_budget}
+use Rattle.mpd_model.specs.Program.{Program, IsLegal}
+use Rattle.mpd_model.specs.Term.{Term, lit, own_rank, size, cell, element, op1, op2, Target}
+use Rattle.mpd_model.specs.Tokens.{begins_name, is_in_name, word, tokens}
+use Rattle.mpd_model.specs.Tree.{Tree, Block, print, send, recv, branch, assign, check, repeat, no_more, then_more, block_of}
+use Rattle.mpd_model.specs.Written.{left_level, WrittenScript}
+
+-- ---- names
+
+-- the bytes are a name: no reserved word, and not too long
+pub record IsName (w : List ℕ) : Type 0 where
+  pub begins : begins_name (slice_index w 0) ≡ true
+  pub goes_on : list_all is_in_name w ≡ true
+  pub free : word w ≡ Name
+
+-- each declaration has a name
+abbrev pub AreNamed : List Declared → Type 0
+AreNamed [] = Unit {0}
+AreNamed (d ∷ ds) = IsName d.name × AreNamed ds
+
+-- the grammar declares variables alone
+abbrev pub AreVariables : List Declared → Type 0
+AreVariables [] = Unit {0}
+AreVariables (d ∷ ds) = (d.kind ≡ Variable) × AreVariables ds
+
+-- no declaration has the name of one before it
+abbrev pub AreNew : List Declared → List Declared → Type 0
+AreNew before [] = Unit {0}
+AreNew before (d ∷ ds) = (slot_in before d.name ≡ None) × AreNew (before ++ d ∷ []) ds
+
+-- the place is what the name of its declaration stands for: a variable that was declared with or without a size
+pub record Stands (ds : List Declared) (sized : Bool) (p : Place) : Type 0 where
+  pub named : IsName (name_text ds p)
+  pub slot : Slot
+  pub declared : slot_in ds (name_text ds p) ≡ Some slot
+  pub kind : slot.kind ≡ Variable
+  pub size : is_some slot.size ≡ sized
+  pub place : place_of_slot slot ≡ p
+
+-- ---- expressions
+
+-- a number that can be written
+abbrev pub IsWritable : ℤ → Type 0
+IsWritable (pos n) = n < 2 ^ 63
+IsWritable (negsuc n) = ⊥
+
+abbrev pub IsPrintableTerm : List Declared → Term → Type 0
+IsPrintableTerm ds (lit z) = IsWritable z
+IsPrintableTerm ds own_rank = Unit {0}
+IsPrintableTerm ds size = Unit {0}
+IsPrintableTerm ds (cell p) = Stands ds false p
+IsPrintableTerm ds (element p a) = Stands ds true p × IsPrintableTerm ds a
+IsPrintableTerm ds (op1 op a) = IsPrintableTerm ds a
+IsPrintableTerm ds (op2 op a b) = IsPrintableTerm ds a × IsPrintableTerm ds b
+
+abbrev pub bracket_cost : Bool → ℕ
+bracket_cost true = 1
+bracket_cost false = 0
+
+-- the brackets and operators of an expression where the grammar reads one of the level
+abbrev pub term_cost : ℕ → Term → ℕ
+term_cost k (lit z) = 0
+term_cost k own_rank = 0
+term_cost k size = 0
+term_cost k (cell p) = 0
+term_cost k (element p a) = suc (term_cost 5 a)
+term_cost k (op1 op a) = suc (term_cost 0 a)
+term_cost k (op2 op a b) = bracket_cost (nat_lt k (suc (below op))) + (term_cost (left_level (below op)) a + suc (term_cost (below op) b))
+
+-- an expression that stands in no other
+pub record IsPrintableWhole (ds : List Declared) (t : Term) : Type 0 where
+  pub term : IsPrintableTerm ds t
+  pub cost : term_cost 5 t ≤ max_budget
+
+-- ---- statements
+
+-- an index stands exactly where the place was declared with a size
+abbrev pub IsPrintableAt : List Declared → Place → Option Term → Type 0
+IsPrintableAt ds p None = Stands ds false p
+IsPrintableAt ds p (Some e) = Stands ds true p × IsPrintableWhole ds e
+
+abbrev pub IsPrintableTarget : List Declared → Target → Type 0
+IsPrintableTarget ds t = IsPrintableAt ds t.place t.index
+
+abbrev mutual
+  pub IsPrintableTree : List Declared → Tree → Type 0
+  IsPrintableTree ds (print e) = IsPrintableWhole ds e
+  IsPrintableTree ds (send value to tag) = IsPrintableWhole ds value × (IsPrintableWhole ds to × IsPrintableWhole ds tag)
+  IsPrintableTree ds (recv into from tag) = IsPrintableTarget ds into × (IsPrintableWhole ds from × IsPrintableWhole ds tag)
+  IsPrintableTree ds (branch c a b) = IsPrintableWhole ds c × (IsPrintableBlock ds a × IsPrintableBlock ds b)
+  IsPrintableTree ds (assign into e) = IsPrintableTarget ds into × IsPrintableWhole ds e
+  IsPrintableTree ds (check e) = IsPrintableWhole ds e
+  IsPrintableTree ds (repeat c a) = IsPrintableWhole ds c × IsPrintableBlock ds a
+
+  pub IsPrintableBlock : List Declared → Block → Type 0
+  IsPrintableBlock ds no_more = Unit {0}
+  IsPrintableBlock ds (then_more t b) = IsPrintableTree ds t × IsPrintableBlock ds b
+
+-- ---- a whole script
+
+pub record IsPrintable (p : Program) : Type 0 where
+  pub legal : IsLegal p
+  pub named : AreNamed p.decls
+  pub variables : AreVariables p.decls
+  pub distinct : AreNew [] p.decls
+  pub body : IsPrintableBlock p.decls (block_of p.body)
+  pub blocks : blocks_in (block_of p.body) ≤ max_blocks
+
+-- The canonical text of such a program is read as that program, with the lines of this text.
+abbrev pub CanonicalIsReadAgain : Type 0
+CanonicalIsReadAgain = (p : Program) → IsPrintable p → length (canonical p) ≤ max_text → (ls : List ℕ) × (reading (canonical p) ≡ Ok (record p { lines = ls }))
+
+-- What is written by the tokens of a text, within the limits, is printable: the canonical text has no more brackets than that text.
+abbrev pub WrittenScriptsArePrintable : Type 0
+WrittenScriptsArePrintable =
+    (text : List ℕ) (p : Program) (w : WrittenScript (tokens text) p) → IsLegal p → blocks_in (block_of p.body) ≤ max_blocks → dearest_script (tokens text) p w ≤ max_budget → IsPrintable p

@@ -1,0 +1,9 @@
+//! The canonical text of a script (docs/LANGUAGE.md, "Canonical text").
+#![tactic(auto)]
+
+mod expr;
+pub mod laws;
+mod script;
+mod stmt;
+
+pub use script::print;

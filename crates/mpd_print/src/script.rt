@@ -1,0 +1,93 @@
+//! Prints a whole script.
+
+ghost use Rattle.std.specs.Prelude.{◌≡◌, ◌++◌, IfOk, OnOk, string_bytes};
+ghost use Rattle.std.specs.List.{flat_map};
+ghost use Rattle.mpd_model.specs.Canonical.{kind_word, size_text, decl_text, canonical};
+
+use crate::stmt::push_stmts;
+use mpd_model::place::{Decl, DeclKind};
+use mpd_model::script::Script;
+use std::alloc::{AllocError, Global};
+
+/// The canonical text of a script. An `Err` is want of memory.
+pub fn print(alloc: Global, script: &Script) -> Result<String, AllocError>
+    ensures { IfOk result (λ t. string_bytes t ≡ canonical script.now) }
+{
+    let mut out = String::new(alloc);
+    let ranks = script.ranks;
+    write!(out, "mpd 1;\nranks {ranks};\n")?;
+    push_decls(&mut out, &script.decls)?;
+    push_stmts(&mut out, &script.decls, 0, &script.body)?;
+    Ok(out)
+}
+
+/// Adds a line for each declaration.
+fn push_decls(out: &mut String, decls: &[Decl]) -> Result<(), AllocError>
+    ensures { OnOk result (string_bytes out.new ≡ string_bytes out.old ++ flat_map decl_text decls.now) }
+{
+    for decl in decls {
+        push_decl(out, decl)?;
+    }
+    Ok(())
+}
+
+/// Adds the line of a declaration.
+fn push_decl(out: &mut String, decl: &Decl) -> Result<(), AllocError>
+    ensures { OnOk result (string_bytes out.new ≡ string_bytes out.old ++ decl_text decl.now) }
+{
+    out.push_str(kind_name(decl.kind))?;
+    out.push_str(&decl.name)?;
+    if let Some(size) = decl.size {
+        write!(out, "[{size}]")?;
+    }
+    out.push_str(";\n")
+}
+
+/// The word that begins a declaration, and the space behind it.
+fn kind_name(kind: DeclKind) -> &'static str
+    ensures { result.now ≡ kind_word kind }
+{
+    match kind {
+        DeclKind::Variable => "var ",
+        DeclKind::Handle => "req ",
+    }
+}
+
+#[cfg(test)]
+mod tests {
+    use super::*;
+    use mpd_model::expr::Expr;
+    use mpd_model::stmt::{Stmt, StmtNode};
+    use std::test::Fail;
+
+    #[test]
+    fn prints_a_small_script(rt: HostRuntime) -> Result<(), Fail> {
+        let alloc = rt.alloc();
+        let first = Stmt {
+            node: StmtNode::Print(Expr::rank()),
+        };
+        let inside = Stmt {
+            node: StmtNode::Assert(Expr::size()),
+        };
+        let test = Stmt {
+            node: StmtNode::If(
+                Expr::number(7),
+                Vec::new(alloc),
+                Vec::from_array(alloc, [inside])?,
+            ),
+        };
+        let script = Script {
+            version: 1,
+            ranks: 2,
+            decls: Vec::new(alloc),
+            body: Vec::from_array(alloc, [first, test])?,
+            lines: Vec::from_array(alloc, [3, 4, 5])?,
+        };
+        let text = print(alloc, &script)?;
+        assert_eq!(rt;
+            text.as_str(),
+            "mpd 1;\nranks 2;\nprint rank;\nif 7 {\n} else {\n  assert size;\n}\n"
+        );
+        Ok(())
+    }
+}
