@@ -4,7 +4,8 @@ use crate::place::Decl;
 use crate::stmt::Stmt;
 use std::marker::Model;
 
-/// A script, which contracts see as a `Program`. It keeps the limits of docs/LANGUAGE.md, "Limits".
+/// A script, which contracts see as a `Program`. It keeps the limits of docs/LANGUAGE.md, "Limits", and has names, places and
+/// numbers as the grammar allows them, so that it can be printed and read again.
 #[derive(Debug, Drop)]
 pub struct Script {
     /// The version of the language, 1.
@@ -18,7 +19,8 @@ pub struct Script {
 }
 
 impl Model for Script {
-    ghost use Rattle.mpd_model.specs.Program.{Program, program_code, IsLegal};
+    ghost use Rattle.mpd_model.specs.Program.{Program, program_code};
+    ghost use Rattle.mpd_model.specs.Printable.{IsPrintable};
 
     ghost Value = { Program };
 
@@ -26,5 +28,5 @@ impl Model for Script {
 
     ghost view = { λ s. record { version = s.version; ranks = s.ranks; decls = s.decls.items; body = s.body.items; lines = s.lines.items } };
 
-    ghost invariant = { λ s. IsLegal (record { version = s.version; ranks = s.ranks; decls = s.decls.items; body = s.body.items; lines = s.lines.items }) };
+    ghost invariant = { λ s. IsPrintable (record { version = s.version; ranks = s.ranks; decls = s.decls.items; body = s.body.items; lines = s.lines.items }) };
 }

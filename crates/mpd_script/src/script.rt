@@ -175,6 +175,7 @@ fn header(tokens: &mut Tokens<'_>) -> Result<usize, ReadFault>
 fn script(alloc: Global, mut tokens: Tokens<'_>) -> Result<Script, ReadFault>
     requires decls { tokens.decls ≡ [] }
     requires lines { tokens.lines ≡ [] }
+    requires printable { (p : Program) → spec.read_of (spec.script tokens) ≡ Ok p → IsLegal p → IsPrintable p }
     ensures ok { IfOk result (λ s. spec.read_of (spec.script tokens.entry) ≡ Ok s) }
     ensures err { IfErr result (Fails (spec.read_of (spec.script tokens.entry))) }
 {
@@ -231,5 +232,6 @@ pub fn read(alloc: Global, text: &[u8]) -> Result<Script, ReadFault>
             place,
         });
     }
+    read_scripts_are_printable();
     script(alloc, Tokens::new(alloc, text))
 }
