@@ -7,14 +7,14 @@ use Rattle.mpd_model.specs.declared.slot.Slot.{Slot}
 use Rattle.mpd_model.specs.declared.token.Token.TheVariants.{Name}
 use Rattle.mpd_model.specs.Canonical.{name_text, below, canonical}
 use Rattle.mpd_model.specs.Declaration.{Declared}
-use Rattle.mpd_model.specs.Fits.{blocks_in, dearest_script}
+use Rattle.mpd_model.specs.Fits.{cost, blocks_in}
 use Rattle.mpd_model.specs.Grammar.{place_of_slot, max_blocks, max_text, reading}
 use Rattle.mpd_model.specs.Input.{slot_in, max_budget}
 use Rattle.mpd_model.specs.Program.{Program, IsLegal}
 use Rattle.mpd_model.specs.Term.{Term, lit, own_rank, size, cell, element, op1, op2, Target}
-use Rattle.mpd_model.specs.Tokens.{begins_name, is_in_name, word, tokens}
+use Rattle.mpd_model.specs.Tokens.{begins_name, is_in_name, word, Spot}
 use Rattle.mpd_model.specs.Tree.{Tree, Block, print, send, recv, branch, assign, check, repeat, no_more, then_more, block_of}
-use Rattle.mpd_model.specs.Written.{left_level, WrittenScript}
+use Rattle.mpd_model.specs.Written.{left_level, Written}
 
 -- ---- names
 
@@ -121,7 +121,10 @@ pub record IsPrintable (p : Program) : Type 0 where
 abbrev pub CanonicalIsReadAgain : Type 0
 CanonicalIsReadAgain = (p : Program) → IsPrintable p → length (canonical p) ≤ max_text → (ls : List ℕ) × (reading (canonical p) ≡ Ok (record p { lines = ls }))
 
--- What is written by the tokens of a text, within the limits, is printable: the canonical text has no more brackets than that text.
-abbrev pub WrittenScriptsArePrintable : Type 0
-WrittenScriptsArePrintable =
-    (text : List ℕ) (p : Program) (w : WrittenScript (tokens text) p) → IsLegal p → blocks_in (block_of p.body) ≤ max_blocks → dearest_script (tokens text) p w ≤ max_budget → IsPrintable p
+-- What is read is printable, but for the limits that every script keeps: the reader shows these by counting.
+abbrev pub ReadScriptsArePrintable : Type 0
+ReadScriptsArePrintable = (text : List ℕ) (p : Program) → reading text ≡ Ok p → IsLegal p → IsPrintable p
+
+-- Parentheses stand only where the grammar needs them: no way to write an expression has fewer brackets and operators than its canonical text.
+abbrev pub FewestBrackets : Type 0
+FewestBrackets = (ds : List Declared) (k : ℕ) (ss : List Spot) (t : Term) → Written ds k ss t → term_cost k t ≤ cost ss

@@ -7,6 +7,6 @@ pub mod PrintStatements
 pub mod PrintScript
 pub mod GoodSpots
 pub mod PrintableTerms
-pub mod PrintableStatements
 pub mod ReadCosts
 pub mod ReadTrees
+pub mod PrintableStatements

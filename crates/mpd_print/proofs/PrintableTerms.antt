@@ -14,10 +14,10 @@ use Rattle.mpd_model.specs.declared.token.Token.{Token}
 use Rattle.mpd_model.specs.declared.token.Token.TheVariants.{Is}
 use Rattle.mpd_model.specs.Canonical.{name_of, name_text, below}
 use Rattle.mpd_model.specs.Declaration.{Declared, variable_cells, handle_cells}
-use Rattle.mpd_model.specs.Fits.{cost, price}
+use Rattle.mpd_model.specs.Fits.{price}
 use Rattle.mpd_model.specs.Grammar.{operator, at_level, operator_at, sign}
 use Rattle.mpd_model.specs.Input.{first_of, slot_from, slot_in}
-use Rattle.mpd_model.specs.Printable.{IsName, Stands, IsPrintableTerm, bracket_cost, term_cost}
+use Rattle.mpd_model.specs.Printable.{IsName, Stands, IsPrintableTerm, bracket_cost, term_cost, FewestBrackets}
 use Rattle.mpd_model.specs.Term.{Term, lit, own_rank, size, cell, element, op1, op2}
 use Rattle.mpd_model.specs.Tokens.{Spot}
 use Rattle.mpd_model.specs.Written.{Names, Written, number, rank, ranks, name, entry, round, signs, higher, joins, left_level}
@@ -167,33 +167,34 @@ joined_cost k op a b e = rw (e, no_bracket k) (omega arith)
 
 -- ---- expressions
 
-pub record Prints (ds : List Declared) (k : ℕ) (ss : List Spot) (t : Term) : Type 0 where
-  pub term : IsPrintableTerm ds t
-  pub cheap : term_cost k t ≤ cost ss
-
-pub term_printable : (ds : List Declared) (k : ℕ) (ss : List Spot) (t : Term) → Written ds k ss t → AllGood ss → Prints ds k ss t
-term_printable ds _ _ _ (number s n h) g = record { term = g.0.number n h; cheap = omega arith }
-term_printable ds _ _ _ (rank s h) g = record { term = tt; cheap = omega arith }
-term_printable ds _ _ _ (ranks s h) g = record { term = tt; cheap = omega arith }
-term_printable ds _ _ _ (name s p h) g = record { term = stands_of ds false s p g.0 h; cheap = omega arith }
-term_printable ds _ _ _ (entry s a b ss p t h h1 h2 w) g =
-    let x = term_printable ds 5 ss t w (good_left ss (b ∷ []) g.1.1) in
-    let counted : price a.token ≡ 1 = ap price h1 in
-    record { term = (stands_of ds true s p g.0 h, x.term); cheap = omega (arith, cost_append ss (b ∷ []), x.cheap, counted) }
-term_printable ds _ _ _ (round a b ss t h1 h2 w) g =
-    let x = term_printable ds 5 ss t w (good_left ss (b ∷ []) g.1) in
-    let counted : price a.token ≡ 1 = ap price h1 in
-    record { term = x.term; cheap = omega (arith, cost_append ss (b ∷ []), x.cheap, counted, one_more 0 5 t) }
-term_printable ds _ _ _ (signs s ss op t h w) g =
-    let x = term_printable ds 0 ss t w g.1 in
-    record { term = x.term; cheap = omega (arith, x.cheap, sign_price op s.token h) }
-term_printable ds _ _ _ (higher k ss t w) g =
-    let x = term_printable ds k ss t w g in
-    record { term = x.term; cheap = omega (arith, x.cheap, looser k t) }
+pub term_printable : (ds : List Declared) (k : ℕ) (ss : List Spot) (t : Term) → Written ds k ss t → AllGood ss → IsPrintableTerm ds t
+term_printable ds _ _ _ (number s n h) g = g.0.number n h
+term_printable ds _ _ _ (rank s h) g = tt
+term_printable ds _ _ _ (ranks s h) g = tt
+term_printable ds _ _ _ (name s p h) g = stands_of ds false s p g.0 h
+term_printable ds _ _ _ (entry s a b ss p t h h1 h2 w) g = (stands_of ds true s p g.0 h, term_printable ds 5 ss t w (good_left ss (b ∷ []) g.1.1))
+term_printable ds _ _ _ (round a b ss t h1 h2 w) g = term_printable ds 5 ss t w (good_left ss (b ∷ []) g.1)
+term_printable ds _ _ _ (signs s ss op t h w) g = term_printable ds 0 ss t w g.1
+term_printable ds _ _ _ (higher k ss t w) g = term_printable ds k ss t w g
 term_printable ds _ _ _ (joins k l r o op a b h w v) g =
-    let x = term_printable ds (left_level k) l a w (good_left l (o ∷ r) g) in
-    let y = term_printable ds k r b v (good_right l (o ∷ r) g).1 in
+    (term_printable ds (left_level k) l a w (good_left l (o ∷ r) g), term_printable ds k r b v (good_right l (o ∷ r) g).1)
+
+-- no way to write an expression has fewer brackets and operators
+pub fewest : FewestBrackets
+fewest ds _ _ _ (number s n h) = omega arith
+fewest ds _ _ _ (rank s h) = omega arith
+fewest ds _ _ _ (ranks s h) = omega arith
+fewest ds _ _ _ (name s p h) = omega arith
+fewest ds _ _ _ (entry s a b ss p t h h1 h2 w) =
+    let counted : price a.token ≡ 1 = ap price h1 in
+    omega (arith, cost_append ss (b ∷ []), fewest ds 5 ss t w, counted)
+fewest ds _ _ _ (round a b ss t h1 h2 w) =
+    let counted : price a.token ≡ 1 = ap price h1 in
+    omega (arith, cost_append ss (b ∷ []), fewest ds 5 ss t w, counted, one_more 0 5 t)
+fewest ds _ _ _ (signs s ss op t h w) = omega (arith, fewest ds 0 ss t w, sign_price op s.token h)
+fewest ds _ _ _ (higher k ss t w) = omega (arith, fewest ds k ss t w, looser k t)
+fewest ds _ _ _ (joins k l r o op a b h w v) =
     let level : suc (below op) ≡ suc k = level_is (suc k) (operator o.token) op (ops_fit o.token) h in
     let under : below op ≡ k = omega (arith, level) in
     let counted : price o.token ≡ 1 = operator_price (suc k) op o.token h in
-    record { term = (x.term, y.term); cheap = omega (arith, cost_append l (o ∷ r), x.cheap, y.cheap, counted, joined_cost k op a b under) }
+    omega (arith, cost_append l (o ∷ r), fewest ds (left_level k) l a w, fewest ds k r b v, counted, joined_cost k op a b under)

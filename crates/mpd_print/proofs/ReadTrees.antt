@@ -1,9 +1,9 @@
 -- What is read as statements has cheap expressions, and no more open blocks than may be.
-use Rattle.std.proofs.Common.{◌≡◌, ℕ, zero, suc, ◌+◌, ◌≤◌, max, Bool, true, false, cond, nat_lt, List, [], ◌∷◌, ◌++◌, length, Option, None, Some, Result, Ok, Err, refl, subst, ap, sym, ◌∙◌, lit≤, arith}
+use Rattle.std.proofs.Common.{◌≡◌, ℕ, zero, suc, ◌+◌, ◌≤◌, max, Bool, true, false, cond, nat_lt, List, [], ◌∷◌, ◌++◌, length, Option, None, Some, Result, Ok, Err, refl, subst, arith}
 use Rattle.std.specs.List.{prefix_len}
 use Rattle.mpd_model.specs.declared.place.DeclKind.TheVariants.{Variable}
 use Rattle.mpd_model.specs.declared.place.Place.{Place}
-use Rattle.mpd_model.specs.declared.read_fault.FaultCode.TheVariants.{TooDeep, NotInVersion}
+use Rattle.mpd_model.specs.declared.read_fault.FaultCode.TheVariants.{TooDeep}
 use Rattle.mpd_model.specs.declared.read_fault.ReadFault.{ReadFault}
 use Rattle.mpd_model.specs.declared.slot.Slot.{Slot}
 use Rattle.mpd_model.specs.declared.token.Mark.TheVariants as m
@@ -16,7 +16,7 @@ use Rattle.mpd_model.specs.Printable.{term_cost}
 use Rattle.mpd_model.specs.Program.{Program}
 use Rattle.mpd_model.specs.Term.{Term, Target}
 use Rattle.mpd_model.specs.Tree.{Tree, Block, print, send, recv, branch, assign, check, repeat, no_more, then_more, block_of}
-use Rattle.mpd_print.proofs.ReadCosts.{bind_ok, ok_parts, carried, expression_cheap}
+use Rattle.mpd_print.proofs.ReadCosts.{bind_ok, ok_parts, expression_cheap}
 
 max_small : (a b n : ℕ) → a ≤ n → b ≤ n → max a b ≤ n
 max_small a b n h k = grind arith

@@ -1,14 +1,19 @@
 //! What holds of the canonical text (docs/LANGUAGE.md, "Canonical text").
 
-ghost use Rattle.mpd_model.specs.Printable.{CanonicalIsReadAgain, WrittenScriptsArePrintable};
-ghost use Rattle.mpd_model.specs.ReaderLaws.{WrittenScriptsAreRead};
+ghost use Rattle.mpd_model.specs.Printable as printable;
+ghost use Rattle.mpd_model.specs.ReaderLaws.{WrittenScriptsAreRead, ScriptsAreWritten};
 
-/// Where what is written as a script is read as that, the canonical text of a script is read as that script, with the lines of this text.
+/// Where what is written as a script is read as that, the canonical text of a printable script is read as that script, with the lines of this text.
 pub fn canonical_is_read_again()
-    ensures { WrittenScriptsAreRead → CanonicalIsReadAgain }
+    ensures { WrittenScriptsAreRead → printable.CanonicalIsReadAgain }
 {}
 
-/// What is written as a script by the tokens of a text, within the limits, is printable: its canonical text has no more brackets than that text.
-pub fn written_scripts_are_printable()
-    ensures { WrittenScriptsArePrintable }
+/// Where what is read as a script is written so, it is printable.
+pub fn read_scripts_are_printable()
+    ensures { ScriptsAreWritten → printable.ReadScriptsArePrintable }
+{}
+
+/// No way to write an expression has fewer brackets and operators than its canonical text.
+pub fn fewest_brackets()
+    ensures { printable.FewestBrackets }
 {}
