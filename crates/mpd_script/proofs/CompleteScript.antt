@@ -239,3 +239,11 @@ reading_complete text p w short spelt l deep dear =
     let a : nat_lt max_text (length text) ≡ false = grind (arith, nat_tests) in
     let b : nat_lt (prefix_len is_text text) (length text) ≡ false = grind (arith, nat_tests) in
     rw (a, b) (script_read (tokens text) p (start_of text) refl l deep w dear)
+
+-- a text within the limits is read as its tokens are
+pub reading_of : (text : List ℕ) (p : Program) (i : Input) (n : ℕ) → length text ≤ 65536 → n ≡ prefix_len is_text text → length text ≤ n → i ≡ start_of text → read_of (grammar.script i) ≡ Ok p → reading text ≡ Ok p
+unfolding reading
+reading_of text p i n short e spelt same h =
+    let a : nat_lt max_text (length text) ≡ false = grind (arith, nat_tests) in
+    let b : nat_lt (prefix_len is_text text) (length text) ≡ false = grind (arith, nat_tests) in
+    rw (a, b, ← same) h

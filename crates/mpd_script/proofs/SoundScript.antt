@@ -349,6 +349,12 @@ lines_counted i x y n ts depth inside e h b =
     let l : y.lines ≡ t.begun = t.lines ∙ ap (λ r. r ++ t.begun) (head.lines ∙ e) in
     ap length l ∙ body_lines x.decls t.used ts t.begun t.written
 
+-- a header and a body are a script
+pub script_reads : (i x y : Input) (n : ℕ) (ts : List Tree) (ds : List Declared) (ls : List ℕ) → header i ≡ Ok (n, x) → body (block 64) false x ≡ Ok (ts, y) → ds ≡ y.decls → ls ≡ y.lines
+    → read_of (grammar.script i) ≡ Ok (record { version = 1; ranks = n; decls = ds; body = ts; lines = ls })
+unfolding grammar.script
+script_reads i x y n ts ds ls h b same_decls same_lines = rw (h, b, same_decls, same_lines) refl
+
 -- ---- the whole text
 
 ends_case : (p : Parser (List Tree)) (inside : Bool) (n : ℕ) (found ts : List Tree) (i j : Input) (ends : Bool) → closes inside (token i) ≡ ends

@@ -1,6 +1,9 @@
-//! What holds of the grammar that `read` follows (docs/LANGUAGE.md, "Grammar").
+//! What holds of the grammar that `read` follows (docs/LANGUAGE.md, "Grammar"), and of the canonical text.
 
+ghost use Rattle.mpd_model.specs.Printable as printable;
 ghost use Rattle.mpd_model.specs.ReaderLaws as law;
+
+use mpd_print::laws as printing;
 
 /// What is read as an expression is written so.
 pub fn expressions_are_written()
@@ -56,3 +59,19 @@ pub fn written_statements_are_read()
 pub fn written_scripts_are_read()
     ensures { law.WrittenScriptsAreRead }
 {}
+
+/// What is read can be printed and read again: its names, places, numbers, brackets and blocks are as the grammar and the limits allow.
+pub fn read_scripts_are_printable()
+    ensures { printable.ReadScriptsArePrintable }
+{
+    scripts_are_written();
+    printing::read_scripts_are_printable();
+}
+
+/// The canonical text of what can be printed is read as that, in every field but the lines, where it isn't too long.
+pub fn canonical_is_read_again()
+    ensures { printable.CanonicalIsReadAgain }
+{
+    written_scripts_are_read();
+    printing::canonical_is_read_again();
+}

@@ -1,4 +1,4 @@
-//! Reads the text of a script (docs/LANGUAGE.md).
+//! Reads the text of a script, and prints it (docs/LANGUAGE.md).
 #![tactic(auto)]
 
 mod cursor;
@@ -9,4 +9,5 @@ mod place;
 mod script;
 mod stmt;
 
+pub use mpd_print::print;
 pub use script::read;

@@ -5,8 +5,11 @@ ghost use Rattle.std.specs.List.{prefix_len};
 ghost use Rattle.mpd_model.specs.declared.read_fault.FaultCode.TheVariants.{Memory};
 ghost use Rattle.mpd_model.specs.Grammar as spec;
 ghost use Rattle.mpd_model.specs.Input.{Fails, Reads, slot_in};
+ghost use Rattle.mpd_model.specs.Printable.{IsPrintable};
+ghost use Rattle.mpd_model.specs.Program.{Program, IsLegal};
 
 use crate::cursor::Tokens;
+use crate::laws::read_scripts_are_printable;
 use crate::stmt::{MAX_BLOCKS, body};
 use mpd_model::place::DeclKind;
 use mpd_model::read_fault::{FaultCode, ReadFault};

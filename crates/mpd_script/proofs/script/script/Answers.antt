@@ -1,6 +1,6 @@
 use Rattle.std.proofs.Common.{◌≡◌, length, false, refl, ap, ◌∙◌}
 use Rattle.mpd_model.specs.Tree.{block_of, statements_in}
-use Rattle.mpd_script.proofs.SoundScript.{lines_counted}
+use Rattle.mpd_script.proofs.SoundScript.{lines_counted, script_reads}
 use Rattle.mpd_script.proofs.script.script.Goals as goal
 
 pub invariant_of-result : goal.invariant_of-result
@@ -10,7 +10,9 @@ invariant_of-result c =
     let kept = c.finish-decls.ensures in
     let counted = lines_counted c.args.tokens c.header.new.tokens c.body.new.tokens c.in_ok-ranks.ranks body 64 false c.requires.lines c.in_ok-ranks.ensures.value c.in_ok-body.ensures in
     let lines : length c.finish-decls.result.1.items ≡ statements_in (block_of body) = ap length kept.lines ∙ counted in
-    record {
+    let read = script_reads c.args.tokens c.header.new.tokens c.body.new.tokens c.in_ok-ranks.ranks body c.finish-decls.result.0.items c.finish-decls.result.1.items
+    c.in_ok-ranks.ensures.value c.in_ok-body.ensures kept.decls kept.lines in
+    c.requires.printable _ read (record {
       version = refl;
       some_rank = within.0;
       ranks = within.1;
@@ -18,4 +20,4 @@ invariant_of-result c =
       handles = kept.handles;
       statements = rw (← lines) kept.few_lines;
       lines = lines;
-    }
+    })
