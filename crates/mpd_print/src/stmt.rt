@@ -2,12 +2,12 @@
 
 ghost use Rattle.std.specs.Prelude.{◌≡◌, ◌<◌, ◌≤◌, ◌+◌, ◌++◌, OnOk, string_bytes, codes};
 ghost use Rattle.mpd_model.specs.Tree.{statements, statements_in, block_of};
-ghost use Rattle.mpd_model.specs.Canonical.{whole_text, indent, else_text, tree_text, block_text};
+ghost use Rattle.mpd_model.specs.Canonical.{whole_text, target_text, indent, else_text, tree_text, block_text};
 
 use crate::expr::{push_expr, push_target};
 use mpd_model::expr::Expr;
 use mpd_model::place::Decl;
-use mpd_model::stmt::{Stmt, StmtNode};
+use mpd_model::stmt::{Stmt, StmtNode, Target};
 use std::alloc::AllocError;
 
 /// Adds two spaces for each open block.
@@ -49,20 +49,8 @@ fn push_stmt(out: &mut String, decls: &[Decl], depth: usize, stmt: &Stmt) -> Res
     match &stmt.node {
         StmtNode::Print(value) => push_line(out, decls, "print ", value),
         StmtNode::Assert(value) => push_line(out, decls, "assert ", value),
-        StmtNode::Send { value, to, tag } => {
-            out.push_str("send ")?;
-            push_expr(out, decls, value)?;
-            out.push_str(" to ")?;
-            push_expr(out, decls, to)?;
-            push_line(out, decls, " tag ", tag)
-        }
-        StmtNode::Recv { into, from, tag } => {
-            out.push_str("recv ")?;
-            push_target(out, decls, into)?;
-            out.push_str(" from ")?;
-            push_expr(out, decls, from)?;
-            push_line(out, decls, " tag ", tag)
-        }
+        StmtNode::Send { value, to, tag } => push_send(out, decls, value, to, tag),
+        StmtNode::Recv { into, from, tag } => push_recv(out, decls, into, from, tag),
         StmtNode::Assign(into, value) => {
             push_target(out, decls, into)?;
             push_line(out, decls, " = ", value)
@@ -79,6 +67,40 @@ fn push_stmt(out: &mut String, decls: &[Decl], depth: usize, stmt: &Stmt) -> Res
             out.push_str("\n")
         }
     }
+}
+
+/// Adds a send.
+fn push_send(
+    out: &mut String,
+    decls: &[Decl],
+    value: &Expr,
+    to: &Expr,
+    tag: &Expr,
+) -> Result<(), AllocError>
+    ensures { OnOk result (string_bytes out.new ≡ string_bytes out.old ++ (codes "send " ++ whole_text decls.now value.now ++ codes " to " ++ whole_text decls.now to.now ++ codes " tag " ++ whole_text decls.now tag.now ++ codes ";\n")) }
+{
+    out.push_str("send ")?;
+    push_expr(out, decls, value)?;
+    out.push_str(" to ")?;
+    push_expr(out, decls, to)?;
+    push_line(out, decls, " tag ", tag)
+}
+
+/// Adds a receive.
+fn push_recv(
+    out: &mut String,
+    decls: &[Decl],
+    into: &Target,
+    from: &Expr,
+    tag: &Expr,
+) -> Result<(), AllocError>
+    ensures { OnOk result (string_bytes out.new ≡ string_bytes out.old ++ (codes "recv " ++ target_text decls.now into.now ++ codes " from " ++ whole_text decls.now from.now ++ codes " tag " ++ whole_text decls.now tag.now ++ codes ";\n")) }
+{
+    out.push_str("recv ")?;
+    push_target(out, decls, into)?;
+    out.push_str(" from ")?;
+    push_expr(out, decls, from)?;
+    push_line(out, decls, " tag ", tag)
 }
 
 /// Adds a word, an expression and the end of a statement.

@@ -318,3 +318,8 @@ printed (Err f) = []
 pub row_tidied : printed (reading (codes "mpd 01;ranks 016;var v;print((v))+(00);if(v){}else{}#")) ≡ codes "mpd 1;\nranks 16;\nvar v;\nprint v + 0;\nif v {\n}\n"
 unfolding digits chain bracket place_inside rounds signed atom level expr printing sending target named assigning asserting receiving otherwise choosing repeating stmt stmts body block version ranks sized single declaring decl decls_from decls header script reading token spelling place next refusal same_mark sees after expect spend count slot_in seek fresh add tokens_after front sign word number
 row_tidied = refl
+
+-- the script of one message, as it is first shown
+pub row_one_message : printed (reading (codes "mpd 1;\nranks 2;\nvar x;\nif rank == 0 { send 7 to 1 tag 0; } else { recv x from 0 tag 0; print x; }")) ≡ codes "mpd 1;\nranks 2;\nvar x;\nif rank == 0 {\n  send 7 to 1 tag 0;\n} else {\n  recv x from 0 tag 0;\n  print x;\n}\n"
+unfolding digits chain bracket place_inside rounds signed atom level expr printing sending target named assigning asserting receiving otherwise choosing repeating stmt stmts body block version ranks sized single declaring decl decls_from decls header script reading token spelling place next refusal same_mark sees after expect spend count slot_in seek fresh add tokens_after front sign word number
+row_one_message = refl
