@@ -1,0 +1,66 @@
+//! Rows of the canonical text, worked out by hand from docs/LANGUAGE.md: what is printed of what was read, and that it is read
+//! as the same again.
+
+use mpd_script::{laws, print, read};
+use std::alloc::Global;
+use std::process::Abort;
+use std::test::Fail;
+
+/// Texts, and their canonical texts behind `mpd 1;`, `ranks 1;` and `var x;`, `var a[2];`.
+const ROWS: [(&str, &str); 12] = [
+    ("print (1+2)*3;", "print (1 + 2) * 3;\n"),
+    ("print (1*2)+3;", "print 1 * 2 + 3;\n"),
+    ("print 1-(2-3);", "print 1 - (2 - 3);\n"),
+    ("print (1-2)-3;", "print 1 - 2 - 3;\n"),
+    ("print (1<2)<3;", "print (1 < 2) < 3;\n"),
+    ("print -(-(x+1));", "print --(x + 1);\n"),
+    ("print !(x&&1)||(x&&0);", "print !(x && 1) || x && 0;\n"),
+    ("a[ ( x+1 ) ]=007;", "a[x + 1] = 7;\n"),
+    ("if((x)){}else{}", "if x {\n}\n"),
+    (
+        "while x{if 1{assert rank;}}",
+        "while x {\n  if 1 {\n    assert rank;\n  }\n}\n",
+    ),
+    (
+        "recv a[0]from size-1 tag 2;",
+        "recv a[0] from size - 1 tag 2;\n",
+    ),
+    ("send 1 to 0 tag 1;# a comment", "send 1 to 0 tag 1;\n"),
+];
+
+/// Prints what is read of a text, and that again; both are the canonical text.
+fn prints(rt: &impl Abort, alloc: Global, text: &[u8], wanted: &str) {
+    let script = read(alloc, text).expect(rt, "a script");
+    let printed = print(alloc, &script).expect(rt, "its text");
+    assert_eq!(rt; printed.as_str(), wanted);
+    let again = read(alloc, printed.as_bytes()).expect(rt, "the script again");
+    let twice = print(alloc, &again).expect(rt, "its text again");
+    assert_eq!(rt; twice.as_str(), wanted);
+}
+
+#[test]
+fn prints_the_first_script(rt: HostRuntime) {
+    prints(
+        &rt,
+        rt.alloc(),
+        b"mpd 1;\nranks 2;\nvar x;\nif rank == 0 { send 7 to 1 tag 0; } else { recv x from 0 tag 0; print x; }",
+        "mpd 1;\nranks 2;\nvar x;\nif rank == 0 {\n  send 7 to 1 tag 0;\n} else {\n  recv x from 0 tag 0;\n  print x;\n}\n",
+    );
+}
+
+#[test]
+fn prints_what_is_needed(rt: HostRuntime) -> Result<(), Fail> {
+    let alloc = rt.alloc();
+    for (text, canonical) in ROWS {
+        let input = format!(in alloc; "mpd 01;ranks 1;var x;var a[2];{text}")?;
+        let wanted = format!(in alloc; "mpd 1;\nranks 1;\nvar x;\nvar a[2];\n{canonical}")?;
+        prints(&rt, alloc, input.as_bytes(), wanted.as_str());
+    }
+    Ok(())
+}
+
+#[test]
+fn laws_of_printing_cost_nothing() {
+    laws::read_scripts_are_printable();
+    laws::canonical_is_read_again();
+}
