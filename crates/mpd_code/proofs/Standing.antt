@@ -1,5 +1,5 @@
 -- Each node of a lowered program stands for what is left to run at its number.
-use Rattle.std.proofs.Common.{◌≡◌, ℕ, zero, suc, ◌<◌, ◌≤◌, ◌+◌, List, [], ◌∷◌, ◌++◌, length, get_or, refl, sym, subst, ap, ◌∙◌, arith, length-append, append_assoc, append-nil, Some}
+use Rattle.std.proofs.Common.{◌≡◌, ℕ, zero, suc, ◌<◌, ◌≤◌, ◌+◌, List, [], ◌∷◌, ◌++◌, length, get_or, refl, sym, subst, ap, ◌∙◌, arith, length-append, append_assoc, append-nil}
 use Rattle.std.proofs.lemmas.List.{get_or-append-add, get_or_past}
 use Rattle.mpd_model.specs.Tree.{Tree, print, send, recv, branch, assign, check, repeat, Block, no_more, then_more, block_of, trees, trees_of_block, statements, statements_in, numbered}
 use Rattle.mpd_model.specs.Program.{Program}
@@ -7,9 +7,6 @@ use Rattle.mpd_code.specs.declared.node.Node.{Node}
 use Rattle.mpd_code.specs.Left.{lefts, lefts_of, left_at}
 use Rattle.mpd_code.specs.Stands.{Stands}
 use Rattle.mpd_code.specs.Lowered.{entry, lowered, lowered_one}
-use Rattle.mpd_model.specs.World.{RankWorld}
-use Rattle.mpd_model.specs.Next.{local_of}
-use Rattle.mpd_model.specs.declared.call.Activity.TheVariants.{Running}
 use Rattle.mpd_code.proofs.Placed.{length-lowered, length-lowered_one}
 
 -- ---- what is left from a number on
