@@ -1,5 +1,5 @@
 -- What taking a step back makes of a world.
-use Rattle.std.specs.Prelude.{ℕ, ◌-◌, length, take}
+use Rattle.std.specs.Prelude.{◌-◌, length, take}
 use Rattle.mpd_model.specs.declared.step.Step.{Step}
 use Rattle.mpd_model.specs.declared.step.Step.TheVariants.{Local, Match, Wake, Release}
 use Rattle.mpd_model.specs.Program.{Program}

@@ -34,7 +34,7 @@ pub assign_back : (s : Program) (v w : RankView) (d : RankRecord) (c next : ℕ)
 assign_back s v w d c next x done from change running =
     let before : RankWorld = record (rank_of s v) { rest = left_at s next; vars = slice_set v.vars c x } in
     let parts : undone_parts before (assigned_change (held v.vars (Some (c, x)))) ≡ record before { vars = write_cell (held v.vars (Some (c, x))) before.vars; activity = Running } =
-        undone_assigned before (held v.vars (Some (c, x))) in
+    undone_assigned before (held v.vars (Some (c, x))) in
     ap (λ (u : RankView). undone_rank s (rank_of s u) d) done
     ∙ (λ i. record (undone_parts before (change i)) { rest = left_at s (from i) })
     ∙ (λ i. record (parts i) { rest = left_at s v.node })

@@ -5,10 +5,7 @@
 pub enum Change {
     Moved,
     /// The cell that was written, and what it held.
-    Assigned {
-        cell: usize,
-        was: i64,
-    },
+    Assigned { cell: usize, was: i64 },
     Printed,
     Issued,
     Trapped,

@@ -11,9 +11,14 @@ use mpd_model::call::{CallKind, Trap};
 #[derive(Clone, Copy, Debug, PartialEq, Eq)]
 pub enum LocalPlan {
     /// Goes on at a node.
-    Move { next: usize },
+    Move {
+        next: usize,
+    },
     /// Appends a value to the output.
-    Print { value: i64, next: usize },
+    Print {
+        value: i64,
+        next: usize,
+    },
     /// Writes a cell.
     Assign {
         cell: usize,
@@ -21,7 +26,10 @@ pub enum LocalPlan {
         next: usize,
     },
     /// Issues a call, and blocks on it.
-    Issue { kind: CallKind, next: usize },
+    Issue {
+        kind: CallKind,
+        next: usize,
+    },
     Trap(Trap),
 }
 
