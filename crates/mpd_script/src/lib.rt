@@ -6,8 +6,9 @@ mod expr;
 pub mod laws;
 mod lex;
 mod place;
+mod printed;
 mod script;
 mod stmt;
 
-pub use mpd_print::print;
+pub use printed::print;
 pub use script::read;
