@@ -1,11 +1,10 @@
 -- Numbers one after another: what is so of one of them, and what they give together.
-use Rattle.std.proofs.Common.{◌≡◌, ℕ, suc, ◌<◌, ◌+◌, ◌-◌, Bool, true, false, not, ◌&&◌, ◌||◌, List, [], ◌∷◌, ◌++◌, refl, sym, ap, ◌∙◌, arith, cond, map, append_assoc, append-nil}
+use Rattle.std.proofs.Common.{◌≡◌, ℕ, suc, ◌<◌, ◌+◌, ◌-◌, Bool, true, false, ◌||◌, List, [], ◌∷◌, ◌++◌, refl, sym, ap, ◌∙◌, arith, cond, map, append_assoc, append-nil}
 use Rattle.std.specs.List.{filter, flat_map, list_any, range_with_len}
 use Rattle.mpd_model.specs.declared.step.Step.{Step}
-use Rattle.mpd_model.specs.declared.step.Step.TheVariants.{Local, Match, Wake, Release}
+use Rattle.mpd_model.specs.declared.step.Step.TheVariants.{Local, Wake, Release}
 use Rattle.mpd_model.specs.World.{World, rank_numbers}
 use Rattle.mpd_model.specs.Next.{is_enabled, matches_of, steps_of}
-use Rattle.mpd_model.specs.Outcomes.{is_stuck}
 
 list_any-append : {A : Type 0} (t : A → Bool) (xs ys : List A) → list_any t (xs ++ ys) ≡ list_any t xs || list_any t ys
 list_any-append t [] ys = refl

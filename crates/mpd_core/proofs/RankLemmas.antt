@@ -1,8 +1,8 @@
 -- One of the ranks is changed, and changed back.
-use Rattle.std.proofs.Common.{◌≡◌, ◌&&◌, ℕ, zero, suc, ◌<◌, ◌≤◌, ◌+◌, List, [], ◌∷◌, ◌++◌, length, get_or, set, drop, add-one, Option, Some, None, ℤ, refl, sym, ap, ◌∙◌, arith, slice_get, slice_set, IfSome, map, replicate, Bor, Bool, true, false}
+use Rattle.std.proofs.Common.{◌≡◌, ◌&&◌, ℕ, zero, suc, ◌<◌, ◌+◌, List, [], ◌∷◌, ◌++◌, length, get_or, set, drop, add-one, Option, Some, None, ℤ, refl, sym, ap, ◌∙◌, arith, slice_get, slice_set, IfSome, replicate, Bool, true, false}
 use Rattle.std.proofs.lemmas.Option.{slice_get_read}
 use Rattle.std.proofs.lemmas.List.{map-set, map-append, length-map, replicate-append-replicate}
-use Rattle.std.specs.Option.{option_map, option_and_then}
+use Rattle.std.specs.Option.{option_map}
 use Rattle.std.specs.List.{list_all}
 use Rattle.mpd_model.specs.Outcomes.{has_ended}
 use Rattle.mpd_model.specs.World.{RankWorld}

@@ -1,7 +1,7 @@
 -- Statements on a stack, and how many they are.
-use Rattle.std.proofs.Common.{◌≡◌, ℕ, zero, suc, ◌<◌, ◌≤◌, ◌+◌, ◌-◌, List, [], ◌∷◌, ◌++◌, length, get_or, take, drop, map, reverse, refl, sym, ap, ◌∙◌, arith, add-one}
+use Rattle.std.proofs.Common.{◌≡◌, ℕ, zero, suc, ◌<◌, ◌≤◌, ◌+◌, ◌-◌, List, [], ◌∷◌, ◌++◌, length, get_or, take, drop, sym, ap, ◌∙◌, arith, add-one}
 use Rattle.std.proofs.lemmas.List.{reverse-append, map-append, take_more, take_all, length-reverse, length-map}
-use Rattle.mpd_model.specs.Tree.{Tree, print, send, recv, branch, Block, block_of, statements, statements_in, numbered}
+use Rattle.mpd_model.specs.Tree.{Tree, print, send, recv, branch, block_of, statements, statements_in, numbered}
 use Rattle.mpd_core.specs.declared.pending.Pending.{Pending}
 use Rattle.mpd_core.specs.Heads.{heads}
 

@@ -1,5 +1,5 @@
 -- More worked rows, of an independent reading of the definitions: each was worked out by hand from the rules alone.
-use Rattle.std.specs.Prelude.{◌≡◌, ℕ, ℤ, zero, suc, pos, negsuc, true, false, map, slice_get, List, [], ◌∷◌, ◌++◌, Option, Some, None, Ok, Err, codes, replicate, flat_map, refl}
+use Rattle.std.specs.Prelude.{◌≡◌, ℕ, ℤ, pos, negsuc, false, map, slice_get, List, [], ◌∷◌, ◌++◌, Option, Some, None, Ok, Err, codes, replicate, flat_map, refl}
 use Rattle.std.specs.Option.{option_map}
 use Rattle.std.specs.Fmt.{digits}
 use Rattle.mpd_model.specs.declared.expr.BinaryOp.TheVariants.{Equal, NotEqual}
@@ -23,7 +23,7 @@ use Rattle.mpd_model.specs.Grammar.{reading, script, header, version, ranks, dec
 use Rattle.mpd_model.specs.Input.{start_of, count, spend, seek, slot_in, fresh, add, expect, after, sees, same_mark, next as next_token, place, spelling, token, refusal}
 use Rattle.mpd_model.specs.Term.{Term, lit, own_rank, size, cell, op2}
 use Rattle.mpd_model.specs.Tokens.{tokens_after, front, sign, word, number}
-use Rattle.mpd_model.specs.Tree.{Tree, print, send, recv, branch, no_more, then_more, block_of}
+use Rattle.mpd_model.specs.Tree.{Tree, print, send, recv, branch, no_more, then_more}
 use Rattle.mpd_model.specs.Program.{Program}
 use Rattle.mpd_model.specs.World.{RankWorld, World, call_id, start, calls_of, eligible, is_free, buffer}
 use Rattle.mpd_model.specs.Next.{next, fold, enabled}

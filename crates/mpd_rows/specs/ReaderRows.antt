@@ -1,5 +1,5 @@
 -- Worked rows: what some texts are read as, by computing.
-use Rattle.std.specs.Prelude.{◌≡◌, ℕ, zero, suc, pos, List, [], ◌∷◌, ◌++◌, length, Some, None, Result, Ok, Err, codes, replicate, flat_map, refl}
+use Rattle.std.specs.Prelude.{◌≡◌, ℕ, zero, suc, pos, List, [], ◌∷◌, ◌++◌, length, Some, None, Ok, Err, codes, replicate, flat_map, refl}
 use Rattle.mpd_model.specs.declared.expr.BinaryOp.TheVariants.{Equal}
 use Rattle.mpd_model.specs.declared.place.DeclKind.TheVariants.{Variable}
 use Rattle.mpd_model.specs.declared.place.Place.{Place}
@@ -8,10 +8,9 @@ use Rattle.mpd_model.specs.Declaration.{Declared}
 use Rattle.mpd_model.specs.Faults.{fault}
 use Rattle.mpd_model.specs.Grammar.{reading, script, header, version, ranks, decls, decls_from, decl, declaring, body, stmts, stmt, block, choosing, otherwise, printing, receiving, named, sending, variable, expr, level, chain, atom, place_inside, rounds}
 use Rattle.mpd_model.specs.Input.{Input, count, spend, seek, slot_in, fresh, add, expect, after, sees, same_mark, next, place, spelling, token, refusal}
-use Rattle.mpd_model.specs.Program.{Program}
 use Rattle.mpd_model.specs.Term.{lit, own_rank, size, cell, op2}
 use Rattle.mpd_model.specs.Tokens.{tokens, tokens_after, front, sign, word, number}
-use Rattle.mpd_model.specs.Tree.{Tree, print, send, recv, branch, Block, no_more, then_more, block_of}
+use Rattle.mpd_model.specs.Tree.{Tree, print, send, recv, branch, no_more, then_more, block_of}
 
 abbrev variable_named : List ℕ → Declared
 variable_named name = record { kind = Variable; name = name; size = None }

@@ -1,32 +1,27 @@
 -- Worked rows, by computing: scripts and worlds written out by hand, and what steps make of them.
-use Rattle.std.specs.Prelude.{◌≡◌, ℕ, ℤ, pos, Bool, true, false, map, List, [], ◌∷◌, Option, Some, None, refl}
+use Rattle.std.specs.Prelude.{◌≡◌, ℕ, ℤ, pos, true, false, map, List, [], ◌∷◌, Some, None, refl}
 use Rattle.std.specs.Option.{option_map}
-use Rattle.mpd_model.specs.declared.expr.BinaryOp.TheVariants.{Equal, NotEqual}
+use Rattle.mpd_model.specs.declared.expr.BinaryOp.TheVariants.{Equal}
 use Rattle.mpd_model.specs.declared.place.DeclKind.TheVariants.{Variable}
 use Rattle.mpd_model.specs.declared.place.Place.{Place}
-use Rattle.mpd_model.specs.declared.step.CallId.{CallId}
 use Rattle.mpd_model.specs.declared.step.Step.{Step}
 use Rattle.mpd_model.specs.declared.step.Step.TheVariants.{Local, Match, Wake, Release}
 use Rattle.mpd_model.specs.declared.call.Call.{Call}
-use Rattle.mpd_model.specs.declared.call.CallKind.{CallKind}
 use Rattle.mpd_model.specs.declared.call.CallKind.TheVariants.{Send, Recv}
-use Rattle.mpd_model.specs.declared.call.Mode.{Mode}
 use Rattle.mpd_model.specs.declared.call.Mode.TheVariants.{Rendezvous, Buffered}
 use Rattle.mpd_model.specs.declared.call.Trap.TheVariants.{BadRank, BadTag}
 use Rattle.mpd_model.specs.declared.call.Activity.{Activity}
 use Rattle.mpd_model.specs.declared.call.Activity.TheVariants.{Running, Blocked, Trapped}
 use Rattle.mpd_model.specs.declared.call.MatchSet.TheVariants.{Pair, Woke}
-use Rattle.mpd_model.specs.declared.outcome.Outcome.{Outcome}
 use Rattle.mpd_model.specs.declared.outcome.Outcome.TheVariants as o
 use Rattle.mpd_model.specs.declared.outcome.TrappedRank.{TrappedRank}
-use Rattle.mpd_model.specs.Declaration.{Declared}
-use Rattle.mpd_model.specs.Term.{Term, lit, own_rank, size, cell, op2}
-use Rattle.mpd_model.specs.Tree.{Tree, print, send, recv, branch, Block, no_more, then_more}
+use Rattle.mpd_model.specs.Term.{Term, lit, own_rank, cell, op2}
+use Rattle.mpd_model.specs.Tree.{Tree, print, send, recv, branch, no_more, then_more}
 use Rattle.mpd_model.specs.Program.{Program}
-use Rattle.mpd_model.specs.World.{RankWorld, World, call_id, start, pending, posted, eligible, buffer, complete, is_free}
+use Rattle.mpd_model.specs.World.{RankWorld, World, call_id, start, pending, posted, eligible}
 use Rattle.mpd_model.specs.Next.{next, fold, enabled}
 use Rattle.mpd_model.specs.Outcomes.{outcome}
-use Rattle.mpd_model.specs.Trail.{Trail, Standing, opening, applied, taken_back, world_of}
+use Rattle.mpd_model.specs.Trail.{Trail, opening, applied, taken_back, world_of}
 
 abbrev x : Place
 x = record { declaration = 0; first = 0 }

@@ -1,10 +1,10 @@
 -- What a line gets, by the reply to its command.
-use Rattle.std.proofs.Common.{◌≡◌, ℕ, ◌<◌, ◌≤◌, ◌+◌, ◌-◌, Bool, true, false, List, [], length, Option, Some, None, IsTrue, refl, sym, ap, ◌∙◌, arith, inl, inr, ◌⊎◌}
+use Rattle.std.proofs.Common.{◌≡◌, ℕ, ◌<◌, ◌≤◌, true, false, List, [], length, refl, ap, arith, inl, inr}
 use Rattle.std.proofs.lemmas.Bool.Decides.{nat_tests}
 use Rattle.std.proofs.lemmas.Bool.{le-ltb}
 use Rattle.mpd_model.specs.Trail.{Standing, IsReached}
 use Rattle.mpd_model.specs.Words.{has_word, command_of}
-use Rattle.mpd_model.specs.Answers.{Answer, MemoryAnswer, AnswerOrMemory, command_answer, line_answer, is_too_long, is_answered, refused_bad_word, refused_memory}
+use Rattle.mpd_model.specs.Answers.{AnswerOrMemory, is_too_long, refused_bad_word, refused_memory}
 use Rattle.mpdbg.specs.declared.desk.Said.{Said}
 use Rattle.mpdbg.specs.Run.{Stays}
 use Rattle.mpdbg.specs.Said.{Told, said_text}

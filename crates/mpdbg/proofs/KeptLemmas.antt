@@ -1,15 +1,13 @@
 -- The records lead from the first world to the last.
-use Rattle.std.proofs.Common.{◌≡◌, ℕ, ◌<◌, ◌≤◌, ◌+◌, ◌-◌, Bool, true, false, List, [], ◌∷◌, ◌++◌, length, take, drop, reverse, get_or, slice_get, Option, Some, None, refl, sym, ap, subst, ◌∙◌, arith, cond}
+use Rattle.std.proofs.Common.{◌≡◌, ℕ, ◌<◌, ◌≤◌, ◌+◌, Bool, true, false, List, [], ◌∷◌, ◌++◌, length, take, reverse, get_or, slice_get, Some, None, refl, sym, ap, ◌∙◌, arith, cond}
 use Rattle.std.specs.Option.{option_and_then}
-use Rattle.std.proofs.lemmas.List.{reverse-append, reverse-reverse, length-append, length-reverse, take_more, take_all, length-take}
+use Rattle.std.proofs.lemmas.List.{reverse-append, reverse-reverse, length-append, take_more, take_all, length-take}
 use Rattle.std.proofs.lemmas.Option.{get_or_from_slice_get, slice_get_within}
 use Rattle.mpd_model.specs.declared.step.Step.{Step}
 use Rattle.mpd_model.specs.declared.step.Step.TheVariants.{Release}
-use Rattle.mpd_model.specs.declared.call.Mode.{Mode}
-use Rattle.mpd_model.specs.Program.{Program}
 use Rattle.mpd_model.specs.World.{World, start}
 use Rattle.mpd_model.specs.Next.{next, fold}
-use Rattle.mpd_model.specs.Trail.{Trail, Standing, IsReached, is_step, noted}
+use Rattle.mpd_model.specs.Trail.{Standing, IsReached, is_step, noted}
 use Rattle.mpd_core.specs.Undone.{Undo, undone}
 use Rattle.mpdbg.specs.Kept.{LeadsTo, Keeps}
 use Rattle.mpdbg.proofs.StepLemmas.{is_step-true}

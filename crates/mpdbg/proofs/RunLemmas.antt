@@ -1,5 +1,5 @@
 -- One command, and a run that goes on by one.
-use Rattle.std.proofs.Common.{◌≡◌, ◌≢◌, ℕ, ◌<◌, ◌≤◌, ◌+◌, ◌-◌, List, [], ◌∷◌, ◌++◌, length, get_or, take, Option, Some, None, IsSome, refl, sym, ap, ◌∙◌, arith, subst}
+use Rattle.std.proofs.Common.{◌≡◌, ℕ, ◌<◌, ◌≤◌, ◌+◌, ◌-◌, List, [], ◌∷◌, ◌++◌, length, get_or, take, Some, None, IsSome, refl, sym, ap, ◌∙◌, arith}
 use Rattle.std.specs.Option.{option_and_then}
 use Rattle.std.proofs.lemmas.List.{take_more, length-take, length-append}
 use Rattle.mpd_model.specs.declared.step.Step.{Step}
@@ -11,7 +11,7 @@ use Rattle.mpdbg.specs.declared.run.Command.{Command}
 use Rattle.mpdbg.specs.declared.run.Command.TheVariants.{Apply, Undo}
 use Rattle.mpdbg.specs.declared.run.Reply.{Reply}
 use Rattle.mpdbg.specs.declared.run.Reply.TheVariants.{Done, NotEnabled, Full, AtStart, Memory}
-use Rattle.mpdbg.specs.Run.{Answers, Carried, Run, SameScript}
+use Rattle.mpdbg.specs.Run.{Answers, Run, SameScript}
 use Rattle.mpdbg.proofs.KeptLemmas.{fold-append, take_noted}
 
 abbrev pub first_of : Standing → World

@@ -1,8 +1,8 @@
 -- Where memory is refused at once, no line was answered.
-use Rattle.std.proofs.Common.{◌≡◌, ℕ, List, [], ◌++◌, Option, Some, None, refl, sym, append-nil}
+use Rattle.std.proofs.Common.{ℕ, List, [], Option, Some, None, refl, sym, append-nil}
 use Rattle.std.specs.Prelude.{IfSome}
 use Rattle.std.specs.Io.KnownBytes.{Appends}
-use Rattle.mpdbg.specs.Answered.{Answered, Tells, TellsFirst}
+use Rattle.mpdbg.specs.Answered.{TellsFirst}
 
 appends_none : (held : Option (List ℕ)) → Appends held held []
 appends_none None = tt

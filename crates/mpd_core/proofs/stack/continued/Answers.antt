@@ -1,4 +1,4 @@
-use Rattle.std.proofs.Common.{◌≡◌, ◌<◌, ◌-◌, ◌++◌, length, take, drop, sym, ap, ◌∙◌, arith, rules}
+use Rattle.std.proofs.Common.{◌≡◌, ◌<◌, ◌-◌, ◌++◌, length, take, sym, ap, ◌∙◌, arith, rules}
 use Rattle.mpd_model.specs.Tree.{numbered}
 use Rattle.mpd_core.proofs.StackLemmas.{heads-front}
 use Rattle.mpd_core.proofs.stack.continued.Goals as goal

@@ -1,4 +1,4 @@
-use Rattle.std.proofs.Common.{◌≡◌, ℕ, ◌+◌, ◌-◌, ◌<◌, List, ◌∷◌, ◌++◌, take, drop, sym, ap, ◌∙◌, arith}
+use Rattle.std.proofs.Common.{◌≡◌, ℕ, ◌+◌, ◌-◌, List, ◌∷◌, ◌++◌, take, drop, sym, ap, ◌∙◌, arith}
 use Rattle.mpd_model.specs.Tree.{Tree, statements, statements_in, block_of, numbered}
 use Rattle.mpd_core.proofs.StackLemmas.{counted_more, numbered_more, heads-append}
 use Rattle.mpd_core.specs.Heads.{heads}

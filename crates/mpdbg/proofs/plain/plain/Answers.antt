@@ -1,5 +1,4 @@
-use Rattle.std.proofs.Common.{arith, ◌≡◌, ◌∙◌, ap, Err, ◌+◌, ◌-◌, ◌≤◌, ◌++◌, ℕ, List, length, rules, refl, inl, inr}
-use Rattle.mpd_model.specs.Grammar.{reading}
+use Rattle.std.proofs.Common.{arith, ◌≡◌, ◌∙◌, ap, Err, ◌+◌, ◌-◌, ◌++◌, ℕ, List, refl, inr}
 use Rattle.mpd_model.specs.Lines.{divided}
 use Rattle.mpdbg.specs.declared.engine.EngineFault.TheVariants as engine
 use Rattle.mpdbg.specs.FaultWords.{failed_reads}

@@ -1,4 +1,4 @@
-use Rattle.std.proofs.Common.{◌≡◌, [], ◌∷◌, ◌++◌, take, arith}
+use Rattle.std.proofs.Common.{◌≡◌, [], ◌∷◌, ◌++◌, arith}
 use Rattle.mpd_model.specs.World.{start}
 use Rattle.mpdbg.proofs.RunLemmas.{run_more, same_trans, answers_from}
 use Rattle.mpdbg.proofs.run.follow.Goals as goal

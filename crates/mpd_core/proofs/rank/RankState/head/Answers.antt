@@ -1,4 +1,4 @@
-use Rattle.std.proofs.Common.{◌≡◌, ◌<◌, length, sym, ap, arith, rules}
+use Rattle.std.proofs.Common.{◌≡◌, length, ap, arith, rules}
 use Rattle.mpd_core.proofs.StackLemmas.{heads_top, length-heads}
 use Rattle.mpd_core.specs.Heads.{heads}
 use Rattle.mpd_core.proofs.rank.RankState.head.Goals as goal

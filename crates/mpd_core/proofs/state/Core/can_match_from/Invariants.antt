@@ -1,9 +1,8 @@
-use Rattle.std.proofs.Common.{◌≡◌, ◌-◌, ◌++◌}
-use Rattle.std.specs.List.{flat_map, range_with_len}
-use Rattle.mpd_model.specs.declared.step.Step.TheVariants.{Local, Match, Wake}
+use Rattle.std.proofs.Common.{◌≡◌, ◌-◌}
+use Rattle.mpd_model.specs.declared.step.Step.TheVariants.{Match}
 use Rattle.mpd_core.proofs.RangeLemmas.{mapped_from}
-use Rattle.mpd_model.specs.Next.{is_enabled, matches_with, matches_of}
-use Rattle.mpd_model.specs.World.{call_id, call_numbers, is_free}
+use Rattle.mpd_model.specs.Next.{is_enabled}
+use Rattle.mpd_model.specs.World.{call_id}
 use Rattle.mpd_core.proofs.state.Core.can_match_from.Given as goal
 
 abbrev pub invariant-loop-index : goal.invariant-loop-index

@@ -1,4 +1,3 @@
-use Rattle.std.proofs.Common.{slice_get}
 use Rattle.mpd_model.specs.Outcomes.{free_of}
 use Rattle.mpd_core.proofs.RangeLemmas.{given_more}
 use Rattle.mpd_core.proofs.state.Core.free.Goals as goal

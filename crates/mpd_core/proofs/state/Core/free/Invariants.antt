@@ -1,8 +1,6 @@
 use Rattle.std.proofs.Common.{◌≡◌, ◌-◌, ◌++◌}
 use Rattle.std.specs.List.{flat_map, range_with_len}
-use Rattle.mpd_model.specs.declared.step.Step.TheVariants.{Local, Match, Wake}
-use Rattle.mpd_model.specs.Outcomes.{traps_at, traps_in, blocked_at, blocked_calls, free_of, free_calls}
-use Rattle.std.proofs.Common.{slice_get}
+use Rattle.mpd_model.specs.Outcomes.{free_of, free_calls}
 use Rattle.mpd_core.proofs.state.Core.free.Given as goal
 
 abbrev pub invariant-loop-rank : goal.invariant-loop-rank

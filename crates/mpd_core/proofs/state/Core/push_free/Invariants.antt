@@ -1,9 +1,6 @@
 use Rattle.std.proofs.Common.{◌≡◌, ◌-◌, ◌++◌}
-use Rattle.std.specs.List.{flat_map, range_with_len}
-use Rattle.mpd_model.specs.declared.step.Step.TheVariants.{Local, Match, Wake}
-use Rattle.mpd_model.specs.Outcomes.{traps_at, traps_in, blocked_at, blocked_calls, free_of, free_calls}
-use Rattle.std.proofs.Common.{slice_get}
-use Rattle.mpd_model.specs.World.{call_id, call_numbers, is_free}
+use Rattle.mpd_model.specs.Outcomes.{free_of}
+use Rattle.mpd_model.specs.World.{call_id, is_free}
 use Rattle.mpd_core.proofs.RangeLemmas.{chosen_from}
 use Rattle.mpd_core.proofs.state.Core.push_free.Given as goal
 

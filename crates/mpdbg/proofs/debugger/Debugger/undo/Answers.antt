@@ -1,6 +1,5 @@
-use Rattle.std.proofs.Common.{◌≡◌, [], ◌∷◌, ◌++◌, refl, rules}
+use Rattle.std.proofs.Common.{◌≡◌, [], ◌∷◌, ◌++◌, refl}
 use Rattle.mpd_model.specs.World.{start}
-use Rattle.mpd_core.specs.Undone.{undone}
 use Rattle.mpdbg.specs.Kept.{Keeps}
 use Rattle.mpdbg.proofs.KeptLemmas.{keeps_pop, keeps_reached}
 use Rattle.mpdbg.proofs.debugger.Debugger.undo.Goals as goal
