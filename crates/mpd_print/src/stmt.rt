@@ -11,7 +11,6 @@ use mpd_model::stmt::{Stmt, StmtNode, Target};
 use std::alloc::AllocError;
 
 /// Adds two spaces for each open block.
-
 fn push_indent(out: &mut String, depth: usize) -> Result<(), AllocError>
     ensures { OnOk result (string_bytes out.new ≡ string_bytes out.old ++ indent depth) }
 {
