@@ -2,4 +2,3 @@ pub mod Left
 pub mod Stands
 pub mod Views
 pub mod Lowered
-pub mod Rows

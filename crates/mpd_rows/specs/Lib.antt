@@ -7,3 +7,4 @@ pub mod ValueRows
 pub mod StepRows
 pub mod WiderReaderRows
 pub mod PrintRows
+pub mod LeftRows

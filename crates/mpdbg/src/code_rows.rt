@@ -1,7 +1,6 @@
 //! Rows of lowered code, of one rank and of a long run, worked out by hand: what no clause says, each public call with ample
 //! memory.
 
-use crate::debugger::{ApplyFault, Debugger};
 use mpd_code::code::Code;
 use mpd_code::eval::eval;
 use mpd_code::lower::lower;
@@ -12,6 +11,7 @@ use mpd_model::step::Step;
 use mpd_rank::plan::LocalPlan;
 use mpd_rank::rank::RankState;
 use mpd_script::read;
+use mpd_trail::debugger::{ApplyFault, Debugger};
 use std::alloc::Global;
 use std::process::Abort;
 use std::test::Fail;

@@ -1,10 +1,10 @@
 //! Rows of the whole sequential language, worked out by hand from docs/LANGUAGE.md: what is printed, what traps, what is
 //! refused and where.
 
-use crate::plain::{PlainFault, plain};
 use crate::plain_rows::{answers, refused};
 use mpd_model::device::{FromReader, ToWriter};
 use mpd_model::read_fault::FaultCode;
+use mpd_trace::plain::{PlainFault, plain};
 use std::alloc::{AllocError, Global};
 use std::process::Abort;
 use std::test::Fail;

@@ -1,10 +1,10 @@
 //! Rows of what the program answers without words: what no clause says.
 
-use crate::engine::EngineFault;
-use crate::plain::{PlainFault, plain};
 use mpd_model::device::{FromReader, ToWriter};
 use mpd_model::failing::{FailingSource, Limit};
 use mpd_model::read_fault::{FaultCode, ReadFault};
+use mpd_trace::plain::{PlainFault, plain};
+use mpd_wire::engine::EngineFault;
 use std::alloc::Global;
 use std::io;
 use std::io::Read;

@@ -1,9 +1,5 @@
 //! Worked rows that only a direct call shows: what no clause says, each public call with ample memory.
 
-use crate::debugger::{ApplyFault, Debugger};
-use crate::engine::EngineFault;
-use crate::run::{Command, Reply, replay};
-use crate::trace::trace;
 use mpd_code::lower::lower;
 use mpd_core::state::Core;
 use mpd_model::call::Mode;
@@ -16,6 +12,10 @@ use mpd_model::step::{CallId, Step};
 use mpd_model::text::print_outcome;
 use mpd_model::words::step_of;
 use mpd_script::read;
+use mpd_trace::trace::trace;
+use mpd_trail::debugger::{ApplyFault, Debugger};
+use mpd_trail::run::{Command, Reply, replay};
+use mpd_wire::engine::EngineFault;
 use std::alloc::Global;
 use std::io;
 use std::io::Read;

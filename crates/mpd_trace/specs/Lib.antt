@@ -1,0 +1,4 @@
+pub mod Said
+pub mod Collected
+pub mod Plain
+pub mod PlainFaults

@@ -1,0 +1,7 @@
+//! Traces: the words of a trace, their answers, the text of a state, and the input that holds a script and its trace.
+#![tactic(auto)]
+
+pub mod desk;
+pub mod plain;
+pub mod show;
+pub mod trace;

@@ -1,0 +1,14 @@
+-- The numbers and names of faults.
+use Rattle.std.specs.Prelude.{ℕ, List, codes}
+use Rattle.mpd_trail.specs.declared.debugger.ApplyFault.{ApplyFault}
+use Rattle.mpd_trail.specs.declared.debugger.ApplyFault.TheVariants.{NotEnabled, Full, Memory}
+
+abbrev pub apply_fault_number : ApplyFault → ℕ
+apply_fault_number NotEnabled = 21
+apply_fault_number Full = 22
+apply_fault_number Memory = 23
+
+abbrev pub apply_fault_name : ApplyFault → List ℕ
+apply_fault_name NotEnabled = codes "not-enabled"
+apply_fault_name Full = codes "full"
+apply_fault_name Memory = codes "memory"

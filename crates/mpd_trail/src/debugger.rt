@@ -1,0 +1,233 @@
+//! The trail: the steps that were taken, of which some may be undone, and the state that they lead to.
+
+ghost use Rattle.std.specs.Prelude.{◌≡◌, ◌↔◌, ◌<◌, ◌≤◌, IfOk, OnOk, OnErr, IsErrOf, IsOk, IsSome, Some, None, vec_len, codes};
+ghost use Rattle.mpd_model.specs.World.{start};
+ghost use Rattle.mpd_model.specs.Next.{next};
+ghost use Rattle.mpd_model.specs.Trail.{first_standing, IsReached, noted, applied, taken_back, step_eq};
+ghost use Rattle.mpd_trail.specs.Faults.{apply_fault_number, apply_fault_name};
+
+use mpd_code::code::Code;
+use mpd_core::fault::StepFault;
+use mpd_core::record::Record;
+use mpd_core::state::Core;
+use mpd_model::call::Mode;
+use mpd_model::step::Step;
+use std::alloc::{AllocError, Global};
+use std::marker::Model;
+use thiserror::Error;
+
+/// Steps in a trail, undone ones included.
+pub const STEPS_MAX: usize = 1_000_000;
+
+/// Why a step is refused. Nothing has changed.
+#[derive(Clone, Copy, PartialEq, Eq, Debug, Error)]
+pub enum ApplyFault {
+    /// The relation of steps has no step there.
+    #[error("not-enabled")]
+    NotEnabled,
+    /// The step is enabled, and the trail has 1,000,000 steps that are not undone.
+    #[error("full")]
+    Full,
+    /// A growth was refused.
+    #[error("memory")]
+    Memory,
+}
+
+impl ApplyFault {
+    /// Its number, as docs/FORMATS.md lists them.
+    pub fn number(self) -> u8
+        ensures { result ≡ apply_fault_number self }
+    {
+        match self {
+            ApplyFault::NotEnabled => 21,
+            ApplyFault::Full => 22,
+            ApplyFault::Memory => 23,
+        }
+    }
+
+    /// Its name.
+    pub fn name(self) -> &'static str
+        ensures { result.now ≡ apply_fault_name self }
+    {
+        match self {
+            ApplyFault::NotEnabled => "not-enabled",
+            ApplyFault::Full => "full",
+            ApplyFault::Memory => "memory",
+        }
+    }
+}
+
+/// Nothing is left to be undone (24).
+#[derive(Clone, Copy, PartialEq, Eq, Debug, Error)]
+#[error("at-start")]
+pub struct AtStart;
+
+impl AtStart {
+    /// Its number, as docs/FORMATS.md lists them.
+    pub fn number(self) -> u8
+        ensures { result ≡ 24 }
+    {
+        24
+    }
+
+    /// Its name.
+    pub fn name(self) -> &'static str
+        ensures { result.now ≡ codes "at-start" }
+    {
+        "at-start"
+    }
+}
+
+/// The steps that were taken, and where they lead; contracts see it as a `Standing`.
+#[derive(Drop)]
+pub struct Debugger<'c> {
+    mode: Mode,
+    core: Core<'c>,
+    /// What takes each step back that is not undone, the newest last.
+    records: Vec<Record>,
+    steps: Vec<Step>,
+}
+
+impl<'c> Model for Debugger<'c> {
+    ghost use Rattle.std.specs.Prelude.{length};
+    ghost use Rattle.mpd_model.specs.Trail.{Standing, standing_code};
+    ghost use Rattle.mpd_model.specs.World.{start};
+    ghost use Rattle.mpd_trail.specs.Kept.{Keeps};
+
+    ghost Value = { Standing };
+
+    ghost coded = { standing_code };
+
+    ghost view = { λ d. record {
+      trail = record { program = d.core.program; mode = d.mode; steps = d.steps.items; depth = length d.records.items };
+      world = d.core.world;
+    } };
+
+    ghost invariant = { λ d. Keeps d.core.program (start d.core.program d.mode) d.records.items d.steps.items d.core.world };
+}
+
+/// Whether two steps are one.
+fn is_same(a: Step, b: Step) -> bool
+    ensures { result ≡ step_eq a b }
+{
+    a == b
+}
+
+/// Has a step as the one at a depth: what stands there already stays, with all after it.
+#[tactic(auto, using(crate::proofs::StepLemmas::noting))]
+fn note(steps: &mut Vec<Step>, depth: usize, step: Step) -> Result<(), AllocError>
+    requires { depth ≤ vec_len steps.old }
+    ensures ok { OnOk result (steps.new.items ≡ noted steps.old.items depth step) }
+    ensures err { OnErr result (steps.new.items ≡ steps.old.items) }
+{
+    if depth == steps.len() {
+        steps.push(step)?;
+        return Ok(());
+    }
+    if !is_same(steps[depth], step) {
+        steps[depth] = step;
+        steps.truncate(depth + 1);
+    }
+    Ok(())
+}
+
+impl<'c> Debugger<'c> {
+    /// No step was taken. An `Err` is want of memory.
+    pub fn start(alloc: Global, code: &'c Code, mode: Mode) -> Result<Debugger<'c>, AllocError>
+        ensures { IfOk result (λ d. d ≡ first_standing code.now.program mode) }
+    {
+        Ok(Debugger {
+            mode,
+            core: Core::start(alloc, code, mode)?,
+            records: Vec::new(alloc),
+            steps: Vec::new(alloc),
+        })
+    }
+
+    /// How many steps are not undone, 0 to 1,000,000.
+    pub fn depth(&self) -> usize
+        ensures value { result ≡ self.now.trail.depth }
+        ensures small { result ≤ STEPS_MAX }
+    {
+        self.records.len()
+    }
+
+    /// All steps kept, undone ones included.
+    pub fn steps(&self) -> &[Step]
+        ensures { result.now ≡ self.now.trail.steps }
+    {
+        &self.steps
+    }
+
+    /// The state, which is where the steps not undone lead.
+    #[tactic(auto, using(crate::proofs::KeptLemmas::keeping))]
+    pub fn core(&self) -> &Core<'c>
+        ensures world { result.now.world ≡ self.now.world }
+        ensures program { result.now.program ≡ self.now.trail.program }
+        ensures reached { IsReached self.now }
+    {
+        &self.core
+    }
+
+    /// Takes a step, or refuses it: `NotEnabled` (21) exactly where the relation of steps has none, `Full` (22)
+    /// exactly where the step is enabled and 1,000,000 steps are not undone, `Memory` (23) where a growth was
+    /// refused. A step that stands next among those undone is taken again and keeps the rest; another drops them.
+    #[tactic(auto, using(crate::proofs::KeptLemmas::keeping))]
+    pub fn apply(&mut self, step: Step) -> Result<(), ApplyFault>
+        ensures ok { OnOk result (self.new.trail ≡ applied self.old.trail step) }
+        ensures world { OnOk result (next self.old.world step ≡ Some self.new.world) }
+        ensures room { OnOk result (self.old.trail.depth < STEPS_MAX) }
+        ensures not_enabled { IsErrOf result ApplyFault.NotEnabled ↔ (next self.old.world step ≡ None) }
+        ensures full { IsErrOf result ApplyFault.Full ↔ (IsSome (next self.old.world step) × (self.old.trail.depth ≡ STEPS_MAX)) }
+        ensures memory { IsErrOf result ApplyFault.Memory → IsSome (next self.old.world step) × (self.old.trail.depth < STEPS_MAX) }
+        ensures err { OnErr result (self.new.trail ≡ self.old.trail) }
+        ensures err_world { OnErr result (self.new.world ≡ self.old.world) }
+    {
+        let depth = self.records.len();
+        if depth >= STEPS_MAX {
+            if self.core.is_enabled(step) {
+                return Err(ApplyFault::Full);
+            }
+            return Err(ApplyFault::NotEnabled);
+        }
+        let done = match self.core.apply(step) {
+            Ok(done) => done,
+            Err(StepFault::NotEnabled) => return Err(ApplyFault::NotEnabled),
+            Err(StepFault::Memory) => return Err(ApplyFault::Memory),
+        };
+        match self.records.push(done) {
+            Ok(()) => {}
+            Err(failed) => {
+                self.core.undo(failed.value);
+                return Err(ApplyFault::Memory);
+            }
+        }
+        match note(&mut self.steps, depth, step) {
+            Ok(()) => Ok(()),
+            Err(_) => {
+                if let Some(done) = self.records.pop() {
+                    self.core.undo(done);
+                }
+                Err(ApplyFault::Memory)
+            }
+        }
+    }
+
+    /// Takes the last step back, and no memory. It is refused only where no step is left (24).
+    #[tactic(auto, using(crate::proofs::KeptLemmas::keeping))]
+    pub fn undo(&mut self) -> Result<(), AtStart>
+        ensures ok { OnOk result (self.new.trail ≡ taken_back self.old.trail) }
+        ensures reached { IsReached self.new }
+        ensures some { IsOk result ↔ (0 < self.old.trail.depth) }
+        ensures err { OnErr result (self.new.trail ≡ self.old.trail) }
+        ensures err_world { OnErr result (self.new.world ≡ self.old.world) }
+    {
+        match self.records.pop() {
+            None => Err(AtStart),
+            Some(done) => {
+                self.core.undo(done);
+                Ok(())
+            }
+        }
+    }
+}

@@ -1,0 +1,5 @@
+//! The steps that were taken, forward and back: the debugger, and the headline over lists of steps and undos.
+#![tactic(auto)]
+
+pub mod debugger;
+pub mod run;

@@ -1,0 +1,91 @@
+//! Lists of steps and undos: the replies, and where they lead.
+
+ghost use Rattle.std.specs.Prelude.{◌≡◌, Some, [], IfOk, OnErr};
+ghost use Rattle.mpd_model.specs.World.{start};
+ghost use Rattle.mpd_model.specs.Next.{fold};
+ghost use Rattle.mpd_model.specs.Trail.{kept, first_standing, IsReached};
+ghost use Rattle.mpd_trail.specs.Run.{Answers, Carried, Run, SameScript};
+
+use crate::debugger::{ApplyFault, Debugger};
+use mpd_code::code::Code;
+use mpd_model::call::Mode;
+use mpd_model::step::Step;
+use std::alloc::{AllocError, Global};
+
+/// What is asked of a debugger.
+#[derive(Clone, Copy, Debug, PartialEq, Eq)]
+pub enum Command {
+    Apply(Step),
+    Undo,
+}
+
+/// What it replies.
+#[derive(Clone, Copy, Debug, PartialEq, Eq)]
+pub enum Reply {
+    Done,
+    NotEnabled,
+    Full,
+    AtStart,
+    Memory,
+}
+
+/// Carries out one command: the reply and the steps not undone are those of docs/DEFINITIONS.md, "Trails".
+#[tactic(auto, using(crate::proofs::RunLemmas::answering))]
+pub fn answer(debugger: &mut Debugger<'_>, command: Command) -> Reply
+    ensures answers { Answers (start debugger.old.trail.program debugger.old.trail.mode) (kept debugger.old.trail) command result (kept debugger.new.trail) }
+    ensures carried { Carried debugger.old command result debugger.new }
+    ensures script { SameScript debugger.old.trail debugger.new.trail }
+    ensures reached { IsReached debugger.new }
+{
+    let _ = debugger.core();
+    match command {
+        Command::Apply(step) => match debugger.apply(step) {
+            Ok(()) => Reply::Done,
+            Err(ApplyFault::NotEnabled) => Reply::NotEnabled,
+            Err(ApplyFault::Full) => Reply::Full,
+            Err(ApplyFault::Memory) => Reply::Memory,
+        },
+        Command::Undo => match debugger.undo() {
+            Ok(()) => Reply::Done,
+            Err(_) => Reply::AtStart,
+        },
+    }
+}
+
+/// Carries out a list of commands, with the reply to each. An `Err` is want of memory for the replies, and then no
+/// command was carried out.
+pub fn follow(
+    alloc: Global,
+    debugger: &mut Debugger<'_>,
+    commands: &[Command],
+) -> Result<Vec<Reply>, AllocError>
+    ensures run { IfOk result (λ replies. Run (start debugger.old.trail.program debugger.old.trail.mode) (kept debugger.old.trail) commands.now replies.items (kept debugger.new.trail)) }
+    ensures script { SameScript debugger.old.trail debugger.new.trail }
+    ensures reached { IsReached debugger.new }
+    ensures err { OnErr result (debugger.new ≡ debugger.old) }
+{
+    let _ = debugger.core();
+    let mut replies = Vec::with_capacity(alloc, commands.len())?;
+    for command in commands {
+        replies.push_reserved(answer(debugger, *command));
+    }
+    Ok(replies)
+}
+
+/// The headline: from the start of any script, a list of steps and undos gets the replies of docs/DEFINITIONS.md,
+/// "Trails", and the state in the end is exactly where the relation of steps leads along those not undone.
+pub fn replay<'c>(
+    alloc: Global,
+    code: &'c Code,
+    mode: Mode,
+    commands: &[Command],
+) -> Result<(Debugger<'c>, Vec<Reply>), AllocError>
+    ensures run { IfOk result (λ r. Run (start code.now.program mode) [] commands.now r.1.items (kept r.0.trail)) }
+    ensures world { IfOk result (λ r. fold (start code.now.program mode) (kept r.0.trail) ≡ Some r.0.world) }
+    ensures script { IfOk result (λ r. (r.0.trail.program ≡ code.now.program) × (r.0.trail.mode ≡ mode)) }
+    ensures reached { IfOk result (λ r. IsReached r.0) }
+{
+    let mut debugger = Debugger::start(alloc, code, mode)?;
+    let replies = follow(alloc, &mut debugger, commands)?;
+    Ok((debugger, replies))
+}

@@ -1,9 +1,0 @@
-use Rattle.std.proofs.Common.{◌≡◌, ◌-◌, ◌++◌, string_bytes}
-use Rattle.std.specs.List.{flat_map}
-use Rattle.mpd_model.specs.World.{rank_numbers}
-use Rattle.mpd_model.specs.Texts.{pending_lines}
-use Rattle.mpdbg.proofs.RangeTexts.{texts_from}
-use Rattle.mpdbg.proofs.show.push_all_pending.Given as goal
-
-abbrev pub invariant-loop-sender : goal.invariant-loop-sender
-invariant-loop-sender l = string_bytes l.out ++ texts_from (pending_lines l.core.world) l.sender (l.count - l.sender) ≡ string_bytes l.fn.out ++ flat_map (pending_lines l.core.world) (rank_numbers l.core.world)
