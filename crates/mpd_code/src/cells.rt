@@ -36,7 +36,7 @@ fn handle_cell_count(decl: &Decl) -> usize
 }
 
 /// How many cells all variables have.
-pub fn variable_count(decls: &[Decl]) -> usize
+pub(crate) fn variable_count(decls: &[Decl]) -> usize
     requires { variables_in decls.now ≤ 1024 }
     ensures { result ≡ variables_in decls.now }
 {
@@ -48,7 +48,7 @@ pub fn variable_count(decls: &[Decl]) -> usize
 }
 
 /// How many handles there are.
-pub fn handle_count(decls: &[Decl]) -> usize
+pub(crate) fn handle_count(decls: &[Decl]) -> usize
     requires { handles_in decls.now ≤ 256 }
     ensures { result ≡ handles_in decls.now }
 {

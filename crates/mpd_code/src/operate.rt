@@ -62,7 +62,7 @@ fn negate(value: i64) -> Result<i64, Trap>
 }
 
 /// What an operator makes of two values, or the trap that it ends in.
-pub fn combine(op: BinaryOp, left: i64, right: i64) -> Result<i64, Trap>
+pub(crate) fn combine(op: BinaryOp, left: i64, right: i64) -> Result<i64, Trap>
     ensures { result ≡ combined op left right }
 {
     match op {
@@ -83,7 +83,7 @@ pub fn combine(op: BinaryOp, left: i64, right: i64) -> Result<i64, Trap>
 }
 
 /// What an operator makes of one value, or the trap that it ends in.
-pub fn alter(op: UnaryOp, value: i64) -> Result<i64, Trap>
+pub(crate) fn alter(op: UnaryOp, value: i64) -> Result<i64, Trap>
     ensures { result ≡ altered op value }
 {
     match op {
@@ -93,7 +93,7 @@ pub fn alter(op: UnaryOp, value: i64) -> Result<i64, Trap>
 }
 
 /// What the left side of `||` or `&&` decides alone.
-pub fn decide(op: BinaryOp, left: i64) -> Option<i64>
+pub(crate) fn decide(op: BinaryOp, left: i64) -> Option<i64>
     ensures { result ≡ decided op left }
 {
     match op {

@@ -108,7 +108,7 @@ impl<'c> Core<'c> {
 
     /// Whether no step is enabled.
     #[tactic(auto, using(crate::proofs::RangeLemmas::stuck_by))]
-    pub fn is_stuck(&self) -> bool
+    fn is_stuck(&self) -> bool
         ensures { result ≡ is_stuck self.now.world }
     {
         !(self.can_step_any() || self.can_wake_any() || self.can_match_any())

@@ -8,7 +8,7 @@ use mpd_model::call::{CallKind, MatchSet, Message, Mode};
 use mpd_model::step::CallId;
 
 /// The call that a pair has beside this one.
-pub fn partner(sets: &[MatchSet], id: CallId) -> Option<CallId>
+pub(crate) fn partner(sets: &[MatchSet], id: CallId) -> Option<CallId>
     ensures { result ≡ partner_in sets.now id }
 {
     for set in sets {
@@ -25,7 +25,7 @@ pub fn partner(sets: &[MatchSet], id: CallId) -> Option<CallId>
 }
 
 /// Whether the second is a receive that fits the first, a send.
-pub fn is_fitting(
+pub(crate) fn is_fitting(
     send: Option<CallKind>,
     recv: Option<CallKind>,
     sender: usize,
@@ -49,7 +49,7 @@ pub fn is_fitting(
 }
 
 /// Whether it is a send to this rank.
-pub fn is_send_to(kind: Option<CallKind>, rank: usize) -> bool
+pub(crate) fn is_send_to(kind: Option<CallKind>, rank: usize) -> bool
     ensures { result ≡ sends_to kind rank }
 {
     match kind {
@@ -59,14 +59,14 @@ pub fn is_send_to(kind: Option<CallKind>, rank: usize) -> bool
 }
 
 /// Whether it is a receive.
-pub fn is_recv(kind: Option<CallKind>) -> bool
+pub(crate) fn is_recv(kind: Option<CallKind>) -> bool
     ensures { result ≡ receives kind }
 {
     matches!(&kind, Some(CallKind::Recv { .. }))
 }
 
 /// The message of a send.
-pub fn message_of(send: CallId, kind: Option<CallKind>) -> Option<Message>
+pub(crate) fn message_of(send: CallId, kind: Option<CallKind>) -> Option<Message>
     ensures { result ≡ message_in send kind }
 {
     match kind {
@@ -80,7 +80,7 @@ pub fn message_of(send: CallId, kind: Option<CallKind>) -> Option<Message>
 }
 
 /// Whether a call is complete as it is issued.
-pub fn is_buffered(mode: Mode, kind: Option<CallKind>) -> bool
+pub(crate) fn is_buffered(mode: Mode, kind: Option<CallKind>) -> bool
     ensures { result ≡ buffered_in mode kind }
 {
     match (mode, kind) {
@@ -90,7 +90,7 @@ pub fn is_buffered(mode: Mode, kind: Option<CallKind>) -> bool
 }
 
 /// The cell that a woken call writes, with its new value.
-pub fn written_by(kind: Option<CallKind>, message: Option<Message>) -> Option<(usize, i64)>
+pub(crate) fn written_by(kind: Option<CallKind>, message: Option<Message>) -> Option<(usize, i64)>
     ensures { result ≡ next_specs.written_by kind message }
 {
     match (kind, message) {

@@ -124,7 +124,7 @@ fn rank_at(ranks: &[RankState], rank: usize) -> Option<&RankState>
 }
 
 impl<'c> Core<'c> {
-    ghost use Rattle.mpd_core.specs.Undone.{undone};
+    ghost use Rattle.mpd_core.specs.Undone.{undone, RecordsMatch};
 
     /// Every rank before its first step. An `Err` is want of memory.
     pub fn start(alloc: Global, code: &'c Code, mode: Mode) -> Result<Core<'c>, AllocError>
@@ -141,7 +141,7 @@ impl<'c> Core<'c> {
     }
 
     /// The code that is run.
-    pub fn code(&self) -> &'c Code
+    pub(crate) fn code(&self) -> &'c Code
         ensures { result.now.program ≡ self.now.program }
     {
         self.code
@@ -169,7 +169,7 @@ impl<'c> Core<'c> {
     }
 
     /// What a call is, where it exists.
-    pub fn kind(&self, id: CallId) -> Option<CallKind>
+    pub(crate) fn kind(&self, id: CallId) -> Option<CallKind>
         ensures { result ≡ kind_at self.now.world id }
     {
         match self.call(id) {
@@ -179,21 +179,21 @@ impl<'c> Core<'c> {
     }
 
     /// The call that a pair has beside this one, where one has.
-    pub fn partner(&self, id: CallId) -> Option<CallId>
+    pub(crate) fn partner(&self, id: CallId) -> Option<CallId>
         ensures { result ≡ partner_in self.now.world.sets id }
     {
         lookup::partner(&self.sets, id)
     }
 
     /// Whether no pair names the call.
-    pub fn is_free(&self, id: CallId) -> bool
+    pub(crate) fn is_free(&self, id: CallId) -> bool
         ensures { result ≡ is_free self.now.world id }
     {
         self.partner(id).is_none()
     }
 
     /// The message that a receive was paired with, where it was.
-    pub fn buffer(&self, id: CallId) -> Option<Message>
+    pub(crate) fn buffer(&self, id: CallId) -> Option<Message>
         ensures { result ≡ buffer self.now.world id }
     {
         let send = self.partner(id)?;
@@ -201,14 +201,14 @@ impl<'c> Core<'c> {
     }
 
     /// Whether a call is complete (docs/DEFINITIONS.md, "Completion").
-    pub fn is_complete(&self, id: CallId) -> bool
+    pub(crate) fn is_complete(&self, id: CallId) -> bool
         ensures { result ≡ complete self.now.world id }
     {
         self.partner(id).is_some() || lookup::is_buffered(self.mode, self.kind(id))
     }
 
     /// Whether the receive fits the send (MPI 4.0, section 3.2.4).
-    pub fn fits(&self, send: CallId, recv: CallId) -> bool
+    pub(crate) fn fits(&self, send: CallId, recv: CallId) -> bool
         ensures { result ≡ fits self.now.world send recv }
     {
         lookup::is_fitting(self.kind(send), self.kind(recv), send.rank, recv.rank)
@@ -296,7 +296,7 @@ impl<'c> Core<'c> {
     }
 
     /// Whether the two may be paired (MPI 4.0, section 3.5: messages don't overtake).
-    pub fn is_eligible(&self, send: CallId, recv: CallId) -> bool
+    pub(crate) fn is_eligible(&self, send: CallId, recv: CallId) -> bool
         ensures { result ≡ eligible self.now.world send recv }
     {
         self.is_free(send)
@@ -307,7 +307,7 @@ impl<'c> Core<'c> {
     }
 
     /// The last call of a rank.
-    pub fn last_call(&self, rank: usize) -> CallId
+    pub(crate) fn last_call(&self, rank: usize) -> CallId
         ensures { result ≡ last_call self.now.world rank }
     {
         CallId {
@@ -327,7 +327,7 @@ impl<'c> Core<'c> {
     }
 
     /// Whether every rank has ended.
-    pub fn all_ended(&self) -> bool
+    pub(crate) fn all_ended(&self) -> bool
         ensures { result ≡ list_all has_ended self.now.world.ranks }
     {
         all_ended(self.code, &self.ranks)
@@ -459,6 +459,7 @@ impl<'c> Core<'c> {
         ensures ok { OnOk result (next self.old.world (Step.Match send recv) ≡ Some self.new.world) }
         ensures back { IfOk result (λ done. undone self.old.program self.new.world done ≡ self.old.world) }
         ensures step { IfOk result (λ done. done.step ≡ Step.Match send recv) }
+        ensures matched { IfOk result (λ done. RecordsMatch (Step.Match send recv) done) }
         ensures not_enabled { IsErrOf result StepFault.NotEnabled ↔ (next self.old.world (Step.Match send recv) ≡ None) }
         ensures err { OnErr result (self.new.world ≡ self.old.world) }
         ensures program { self.new.program ≡ self.old.program }
@@ -521,6 +522,7 @@ impl<'c> Core<'c> {
         ensures ok { OnOk result (next self.old.world step ≡ Some self.new.world) }
         ensures back { IfOk result (λ done. undone self.old.program self.new.world done ≡ self.old.world) }
         ensures step { IfOk result (λ done. done.step ≡ step) }
+        ensures matched { IfOk result (λ done. RecordsMatch step done) }
         ensures not_enabled { IsErrOf result StepFault.NotEnabled ↔ (next self.old.world step ≡ None) }
         ensures err { OnErr result (self.new.world ≡ self.old.world) }
         ensures program { self.new.program ≡ self.old.program }

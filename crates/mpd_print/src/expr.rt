@@ -116,14 +116,18 @@ fn push_term(out: &mut String, decls: &[Decl], level: u32, expr: &Expr) -> Resul
 }
 
 /// Adds an expression that stands in no other.
-pub fn push_expr(out: &mut String, decls: &[Decl], expr: &Expr) -> Result<(), AllocError>
+pub(crate) fn push_expr(out: &mut String, decls: &[Decl], expr: &Expr) -> Result<(), AllocError>
     ensures { OnOk result (string_bytes out.new ≡ string_bytes out.old ++ whole_text decls.now expr.now) }
 {
     push_term(out, decls, LOOSEST, expr)
 }
 
 /// Adds a place that a statement writes, with its index.
-pub fn push_target(out: &mut String, decls: &[Decl], target: &Target) -> Result<(), AllocError>
+pub(crate) fn push_target(
+    out: &mut String,
+    decls: &[Decl],
+    target: &Target,
+) -> Result<(), AllocError>
     ensures { OnOk result (string_bytes out.new ≡ string_bytes out.old ++ target_text decls.now target.now) }
 {
     push_name(out, decls, target.place)?;

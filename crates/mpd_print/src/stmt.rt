@@ -23,7 +23,7 @@ fn push_indent(out: &mut String, depth: usize) -> Result<(), AllocError>
 /// Adds statements that stand in so many open blocks.
 #[tactic(auto, using(crate::proofs::PrintLemmas::statements_at))]
 #[cycle(trees)]
-pub fn push_stmts(
+pub(crate) fn push_stmts(
     out: &mut String,
     decls: &[Decl],
     depth: usize,

@@ -82,7 +82,7 @@ fn plan_choice(test: Result<i64, Trap>, holds: usize, fails: usize) -> LocalPlan
 }
 
 /// What a node does on rank `rank` of `size` with these variables.
-pub fn plan_node(node: &Node, vars: &[i64], rank: usize, size: usize) -> LocalPlan
+pub(crate) fn plan_node(node: &Node, vars: &[i64], rank: usize, size: usize) -> LocalPlan
     requires rank { rank < 2 ^ 63 }
     requires size { size < 2 ^ 63 }
     ensures { result ≡ plan_of node.now.action node.now.next vars.now rank size }

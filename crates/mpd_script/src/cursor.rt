@@ -80,7 +80,7 @@ fn first(ahead: &[u8]) -> (Token, usize)
 impl<'a> Tokens<'a> {
     /// The first token of a text.
     #[tactic(auto, using(crate::proofs::Slots::none_found))]
-    pub fn new(alloc: Global, text: &'a [u8]) -> Tokens<'a>
+    pub(crate) fn new(alloc: Global, text: &'a [u8]) -> Tokens<'a>
         requires small { length text.now < 2 ^ 32 }
         requires ascii { IsAscii text.now }
         ensures { result ≡ spec.start_of text.now }
@@ -103,14 +103,14 @@ impl<'a> Tokens<'a> {
         }
     }
 
-    pub fn peek(&self) -> Token
+    pub(crate) fn peek(&self) -> Token
         ensures { result ≡ spec.token self.now }
     {
         self.token
     }
 
     /// The bytes of the next token.
-    pub fn spelling(&self) -> &'a [u8]
+    pub(crate) fn spelling(&self) -> &'a [u8]
         ensures value { result.now ≡ spec.spelling self.now }
         ensures ascii { IsAscii result.now }
     {
@@ -118,13 +118,13 @@ impl<'a> Tokens<'a> {
         bytes
     }
 
-    pub fn place(&self) -> usize
+    pub(crate) fn place(&self) -> usize
         ensures { result ≡ spec.place self.now }
     {
         self.place
     }
 
-    pub fn advance(&mut self)
+    pub(crate) fn advance(&mut self)
         ensures value { self.new ≡ spec.next self.old }
         ensures decls { self.new.decls ≡ self.old.decls }
     {
@@ -140,7 +140,7 @@ impl<'a> Tokens<'a> {
     }
 
     /// More than the tokens that are left.
-    pub fn turns(&self) -> usize
+    pub(crate) fn turns(&self) -> usize
         ensures enough { length self.now.tokens < result }
         ensures small { result ≤ 2 ^ 32 }
     {
@@ -148,7 +148,7 @@ impl<'a> Tokens<'a> {
     }
 
     /// The grammar doesn't allow the next token.
-    pub fn refuse(&self) -> ReadFault
+    pub(crate) fn refuse(&self) -> ReadFault
         ensures value { result ≡ spec.refusal self.now }
         ensures no_memory { result.code ≢ Memory }
     {
@@ -159,7 +159,7 @@ impl<'a> Tokens<'a> {
     }
 
     /// A fault at the next token.
-    pub fn fail(&self, code: FaultCode) -> ReadFault
+    pub(crate) fn fail(&self, code: FaultCode) -> ReadFault
         ensures { result ≡ fault code (spec.place self.now) }
     {
         ReadFault {
@@ -168,14 +168,14 @@ impl<'a> Tokens<'a> {
         }
     }
 
-    pub fn sees(&self, mark: Mark) -> bool
+    pub(crate) fn sees(&self, mark: Mark) -> bool
         ensures { result ≡ spec.sees mark self.now }
     {
         is_mark(mark, self.peek())
     }
 
     /// Takes the mark, if it comes next.
-    pub fn eat(&mut self, mark: Mark) -> bool
+    pub(crate) fn eat(&mut self, mark: Mark) -> bool
         ensures found { result ≡ spec.sees mark self.old }
         ensures after { self.new ≡ spec.after mark self.old }
         ensures decls { self.new.decls ≡ self.old.decls }
@@ -187,7 +187,7 @@ impl<'a> Tokens<'a> {
         found
     }
 
-    pub fn expect(&mut self, mark: Mark) -> Result<(), ReadFault>
+    pub(crate) fn expect(&mut self, mark: Mark) -> Result<(), ReadFault>
         ensures { Reads (spec.expect mark self.old) result self.new }
     {
         if self.sees(mark) {
@@ -199,13 +199,13 @@ impl<'a> Tokens<'a> {
     }
 
     /// Begins an expression that stands in no other.
-    pub fn begin(&mut self)
+    pub(crate) fn begin(&mut self)
         ensures { spec.begin self.old ≡ Ok (tt, self.new) }
     {
         self.budget = MAX_BUDGET;
     }
 
-    pub fn budget(&self) -> usize
+    pub(crate) fn budget(&self) -> usize
         ensures value { result ≡ self.now.budget }
         ensures small { result ≤ 64 }
     {
@@ -214,7 +214,7 @@ impl<'a> Tokens<'a> {
 
     /// Takes a bracket or an operator.
     #[tactic(auto, unfolding(mpd_model::specs::Input::spend, mpd_model::specs::Input::next))]
-    pub fn spend(&mut self) -> Result<(), ReadFault>
+    pub(crate) fn spend(&mut self) -> Result<(), ReadFault>
         ensures { Reads (spec.spend self.old) result self.new }
     {
         if self.budget == 0 {
@@ -234,7 +234,7 @@ impl<'a> Tokens<'a> {
     }
 
     /// A statement begins at the next token.
-    pub fn count(&mut self) -> Result<(), ReadFault>
+    pub(crate) fn count(&mut self) -> Result<(), ReadFault>
         ensures { Reads (spec.count self.old) result self.new }
     {
         if self.lines.len() < MAX_STATEMENTS {
@@ -255,7 +255,7 @@ impl<'a> Tokens<'a> {
 
     /// What the name that comes next was declared as.
     #[tactic(auto, unfolding(mpd_model::specs::Input::seek))]
-    pub fn seek(&self, kind: DeclKind) -> Result<Slot, ReadFault>
+    pub(crate) fn seek(&self, kind: DeclKind) -> Result<Slot, ReadFault>
         ensures { Reads (spec.seek kind self.now) result self.now }
     {
         match self.find(self.spelling()) {
@@ -266,7 +266,7 @@ impl<'a> Tokens<'a> {
 
     /// The name that comes next is new.
     #[tactic(auto, unfolding(mpd_model::specs::Input::fresh))]
-    pub fn fresh(&self) -> Result<(), ReadFault>
+    pub(crate) fn fresh(&self) -> Result<(), ReadFault>
         ensures value { Reads (spec.fresh self.now) result self.now }
         ensures new { OnOk result (spec.slot_in self.now.decls (spec.spelling self.now) ≡ None) }
     {
@@ -278,7 +278,7 @@ impl<'a> Tokens<'a> {
 
     /// Declares a name, or a fault at a place.
     #[tactic(auto, unfolding(mpd_model::specs::Input::add))]
-    pub fn add(
+    pub(crate) fn add(
         &mut self,
         kind: DeclKind,
         name: &'a [u8],
@@ -317,7 +317,7 @@ impl<'a> Tokens<'a> {
     }
 
     /// What was read: the declarations, and the line of each statement.
-    pub fn finish(self) -> (Vec<Decl>, Vec<usize>)
+    pub(crate) fn finish(self) -> (Vec<Decl>, Vec<usize>)
         ensures decls { result.0.items ≡ self.entry.decls }
         ensures lines { result.1.items ≡ self.entry.lines }
         ensures variables { variables_in result.0.items ≤ 1024 }

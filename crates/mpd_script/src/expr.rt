@@ -76,7 +76,7 @@ fn turns(level: usize, tokens: &Tokens<'_>) -> usize
 }
 
 /// An expression that stands in no other.
-pub fn expression(alloc: Global, tokens: &mut Tokens<'_>) -> Result<Expr, ReadFault>
+pub(crate) fn expression(alloc: Global, tokens: &mut Tokens<'_>) -> Result<Expr, ReadFault>
     ensures { Reads (spec.expression tokens.old) result tokens.new }
 {
     tokens.begin();

@@ -110,7 +110,7 @@ fn begins_name(b: u8) -> bool
 
 /// The token at the front, and its length.
 #[tactic(auto, unfolding(mpd_model::specs::Tokens::front))]
-pub fn front(z: &[u8]) -> (Token, usize)
+pub(crate) fn front(z: &[u8]) -> (Token, usize)
     requires { 0 < length z.now }
     ensures value { result ≡ spec.front z.now }
     ensures within { (1 ≤ result.1) × (result.1 ≤ length z.now) }
@@ -129,7 +129,7 @@ pub fn front(z: &[u8]) -> (Token, usize)
 }
 
 /// How many bytes at the front are blanks and comments, and how many of these are line feeds.
-pub fn blank_len(z: &[u8]) -> (usize, usize)
+pub(crate) fn blank_len(z: &[u8]) -> (usize, usize)
     ensures same { (place line : ℕ) → spec.tokens_at place line z.now ≡ spec.tokens_at (place + result.0) (line + result.1) (drop result.0 z.now) }
     ensures stops { result.0 < length z.now → spec.is_gap (slice_index z.now result.0) ≡ false }
     ensures within { (result.0 ≤ length z.now) × (result.1 ≤ result.0) }

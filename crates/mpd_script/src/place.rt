@@ -14,7 +14,7 @@ use mpd_model::token::{Mark, Token};
 use std::alloc::Global;
 
 /// What a name stands for.
-pub fn place_of(slot: Slot) -> Place
+pub(crate) fn place_of(slot: Slot) -> Place
     ensures { result ≡ spec.place_of_slot slot }
 {
     Place {
@@ -26,7 +26,7 @@ pub fn place_of(slot: Slot) -> Place
 
 /// The bracket before the index of a place in an expression, which takes one of its budget.
 #[tactic(auto, unfolding(mpd_model::specs::Grammar::bracket))]
-pub fn bracket(tokens: &mut Tokens<'_>) -> Result<(), ReadFault>
+pub(crate) fn bracket(tokens: &mut Tokens<'_>) -> Result<(), ReadFault>
     ensures { Reads (spec.bracket tokens.old) result tokens.new }
 {
     if tokens.sees(Mark::SquareOpen) {
@@ -37,7 +37,11 @@ pub fn bracket(tokens: &mut Tokens<'_>) -> Result<(), ReadFault>
 }
 
 /// What follows the name of a place that stands in no expression: the index of an array, an expression of its own.
-pub fn outside(alloc: Global, tokens: &mut Tokens<'_>, slot: Slot) -> Result<Target, ReadFault>
+pub(crate) fn outside(
+    alloc: Global,
+    tokens: &mut Tokens<'_>,
+    slot: Slot,
+) -> Result<Target, ReadFault>
     ensures { Reads (spec.outside (spec.place_of_slot slot) slot.size tokens.old) result tokens.new }
 {
     let place = place_of(slot);
@@ -65,7 +69,7 @@ fn target(alloc: Global, tokens: &mut Tokens<'_>) -> Result<Target, ReadFault>
 
 /// The place that a receive writes.
 #[tactic(auto, unfolding(mpd_model::specs::Grammar::named))]
-pub fn named(alloc: Global, tokens: &mut Tokens<'_>) -> Result<Target, ReadFault>
+pub(crate) fn named(alloc: Global, tokens: &mut Tokens<'_>) -> Result<Target, ReadFault>
     ensures { Reads (spec.named tokens.old) result tokens.new }
 {
     match tokens.peek() {

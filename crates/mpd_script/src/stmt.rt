@@ -110,7 +110,7 @@ fn receiving(alloc: Global, tokens: &mut Tokens<'_>) -> Result<Stmt, ReadFault>
 /// The statements up to what closes them, with no more blocks in one another than the depth.
 #[cycle(block)]
 #[tactic(auto, using(crate::proofs::BlockSteps::turning))]
-pub fn body(
+pub(crate) fn body(
     alloc: Global,
     tokens: &mut Tokens<'_>,
     depth: usize,

@@ -118,7 +118,8 @@ impl Divider {
     pub fn into_script(self) -> Vec<u8>
         ensures { result.items ≡ self.known }
     {
-        self.script
+        let Divider { script, .. } = self;
+        script
     }
 
     // one byte more

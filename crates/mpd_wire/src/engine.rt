@@ -130,7 +130,7 @@ fn last_turn<W: Sink, D: Desk>(
 
 #[tactic(auto, using(crate::proofs::GoingLaws::so_far_none))]
 /// Answers the lines of a source in so many reads at most, where a line may have begun before.
-pub fn run_turns<S: Source, W: Sink, D: Desk>(
+fn run_turns<S: Source, W: Sink, D: Desk>(
     alloc: Global,
     source: &mut S,
     sink: &mut W,

@@ -30,7 +30,7 @@ pub trait Desk {
 
 /// The beginning of a line that has not ended yet.
 #[derive(Drop)]
-pub struct Feeder {
+pub(crate) struct Feeder {
     // its bytes, at most one more than a line may have: that one can be a carriage return
     part: Vec<u8>,
     // it has more bytes than that, and none is kept
@@ -50,7 +50,7 @@ impl Model for Feeder {
 
 /// The line without one carriage return at its end.
 #[tactic(auto, using(crate::proofs::BareLaws::bare_lines))]
-pub fn without_return(line: &[u8]) -> &[u8]
+pub(crate) fn without_return(line: &[u8]) -> &[u8]
     ensures { result.now ≡ bare (line.now ++ 10 ∷ []) }
 {
     if let Some((last, shorter)) = line.split_last() {
@@ -63,7 +63,7 @@ pub fn without_return(line: &[u8]) -> &[u8]
 
 impl Feeder {
     /// No line has begun.
-    pub fn new(alloc: Global) -> Feeder
+    pub(crate) fn new(alloc: Global) -> Feeder
         ensures { result ≡ [] }
     {
         Feeder {
@@ -74,7 +74,7 @@ impl Feeder {
     }
 
     /// Adds the answers to the lines that end within the piece. Where memory is refused, to the first so many of them.
-    pub fn feed<D: Desk>(
+    pub(crate) fn feed<D: Desk>(
         &mut self,
         desk: &mut D,
         piece: &[u8],
@@ -91,7 +91,7 @@ impl Feeder {
     }
 
     /// Adds the answer to the last line, which the end of the input ends.
-    pub fn finish<D: Desk>(&mut self, desk: &mut D, out: &mut Vec<u8>) -> Result<(), AllocError>
+    pub(crate) fn finish<D: Desk>(&mut self, desk: &mut D, out: &mut Vec<u8>) -> Result<(), AllocError>
         ensures ok { OnOk result (AddsAnswers D.answers desk.old (last_line self.old) out.old.items out.new.items desk.new) }
         ensures err { OnErr result (out.new.items ≡ out.old.items) }
     {

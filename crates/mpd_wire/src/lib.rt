@@ -4,4 +4,4 @@
 pub mod divider;
 pub mod engine;
 pub mod feeder;
-pub mod seen;
+mod seen;

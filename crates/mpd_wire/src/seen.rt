@@ -30,7 +30,7 @@ impl Model for Chain {
 
 /// Which bytes have come. It takes no bytes, so that what is known of a line has no bound where the memory for it has.
 #[derive(Drop)]
-pub struct Seen {
+pub(crate) struct Seen {
     chain: Option<Snapshot<Chain>>,
 }
 
@@ -46,14 +46,14 @@ impl Model for Seen {
 
 impl Seen {
     /// No byte yet.
-    pub fn new() -> Seen
+    pub(crate) fn new() -> Seen
         ensures { result ≡ [] }
     {
         Seen { chain: None }
     }
 
     /// One byte more.
-    pub fn add(&mut self, byte: u8)
+    pub(crate) fn add(&mut self, byte: u8)
         ensures { self.new ≡ self.old ++ byte ∷ [] }
     {
         let before = mem::replace(self, Seen::new()).chain;
