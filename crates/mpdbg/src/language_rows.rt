@@ -1,16 +1,14 @@
 //! Rows of the whole sequential language, worked out by hand from docs/LANGUAGE.md: what is printed, what traps, what is
 //! refused and where.
 
-use crate::plain_rows::{answers, refused};
-use mpd_model::device::{FromReader, ToWriter};
+use crate::helpers::{answers, joined, refused, repeated};
 use mpd_model::read_fault::FaultCode;
-use mpd_trace::plain::{PlainFault, plain};
-use std::alloc::{AllocError, Global};
+use mpd_trace::plain::PlainFault;
+use std::alloc::Global;
 use std::process::Abort;
-use std::test::Fail;
 
 /// What an expression prints.
-const VALUES: [(&str, &str); 32] = [
+const VALUES: &[(&str, &str)] = &[
     ("7 / 2", "3"),
     ("-7 / 2", "-3"),
     ("7 / -2", "-3"),
@@ -46,7 +44,7 @@ const VALUES: [(&str, &str); 32] = [
 ];
 
 /// A statement that traps, behind declarations, and the trap's name.
-const TRAPS: [(&str, &str); 20] = [
+const TRAPS: &[(&str, &str)] = &[
     ("print 9223372036854775807 + 1;", "overflow"),
     ("print -9223372036854775807 - 2;", "overflow"),
     ("print 3037000500 * 3037000500;", "overflow"),
@@ -70,7 +68,7 @@ const TRAPS: [(&str, &str); 20] = [
 ];
 
 /// Texts behind `mpd 1;ranks 1;`, with the fault and the byte where it stands.
-const FAULTS: [(&str, FaultCode, usize); 24] = [
+const FAULTS: &[(&str, FaultCode, usize)] = &[
     ("print 1;\u{1}", FaultCode::NotText, 22),
     ("#\u{7f}", FaultCode::NotText, 15),
     ("print 1 & 1;", FaultCode::BadToken, 22),
@@ -97,119 +95,145 @@ const FAULTS: [(&str, FaultCode, usize); 24] = [
     ("if 1 { waitany; }", FaultCode::NotInVersion, 21),
 ];
 
-/// What the program writes of an input, or nothing where it is refused.
-fn written(rt: &impl Abort, alloc: Global, input: &str) -> Vec<u8> {
-    let mut source = FromReader::new(input.as_bytes());
-    let mut sink = ToWriter::new(Vec::new(alloc));
-    assert_eq!(rt; plain(alloc, &mut source, &mut sink), Ok(()), "{input}");
-    sink.into_writer()
+/// Asserts what is printed of an expression.
+fn prints(rt: &impl Abort, alloc: Global, expression: &str, value: &str) {
+    let input = joined(
+        alloc,
+        &[
+            "mpd 1;ranks 1;print ",
+            expression,
+            ";\n---\nlocal 0\nshow\n",
+        ],
+    )
+    .expect(rt, "the input");
+    let shown = joined(
+        alloc,
+        &[
+            "ok 1\ndepth 1 of 1\nrank 0 ended\nvars\nhandles\nout ",
+            value,
+            "\noutcome done\nend\n",
+        ],
+    )
+    .expect(rt, "what is shown");
+    answers(rt, alloc, input.as_bytes(), Ok(()), shown.as_str());
 }
 
-fn repeated(
+/// Asserts that a statement traps, and that this is taken back.
+fn traps(rt: &impl Abort, alloc: Global, statement: &str, name: &str) {
+    let input = joined(
+        alloc,
+        &[
+            "mpd 1;ranks 1;var x;var a[2];var e[0];",
+            statement,
+            "\n---\nlocal 0\nshow\nback\nshow\n",
+        ],
+    )
+    .expect(rt, "the input");
+    let shown = joined(
+        alloc,
+        &[
+            "ok 1\ndepth 1 of 1\nrank 0 trapped ",
+            name,
+            "\nvars 0 0 0\nhandles\nout\noutcome trap 0 ",
+            name,
+            "\nend\nok 0\ndepth 0 of 1\nrank 0 at 1\nvars 0 0 0\nhandles\nout\nend\n",
+        ],
+    )
+    .expect(rt, "what is shown");
+    answers(rt, alloc, input.as_bytes(), Ok(()), shown.as_str());
+}
+
+/// Asserts that a text behind the first two statements is refused.
+fn refuses(rt: &impl Abort, alloc: Global, text: &str, code: FaultCode, place: usize) {
+    let input = joined(alloc, &["mpd 1;ranks 1;", text]).expect(rt, "the input");
+    answers(rt, alloc, input.as_bytes(), refused(code, place, 1), "");
+}
+
+#[test]
+fn prints_values(rt: HostRuntime) {
+    for (expression, value) in VALUES {
+        prints(&rt, rt.alloc(), expression, value);
+    }
+}
+
+#[test]
+fn traps_and_undoes(rt: HostRuntime) {
+    for (statement, name) in TRAPS {
+        traps(&rt, rt.alloc(), statement, name);
+    }
+}
+
+#[test]
+fn refuses_at_places(rt: HostRuntime) {
+    for (text, code, place) in FAULTS {
+        refuses(&rt, rt.alloc(), text, *code, *place);
+    }
+}
+
+/// Asserts how the program ends on a text that has a piece so many times between its front and its back.
+fn ends(
+    rt: &impl Abort,
     alloc: Global,
     front: &str,
     piece: &str,
     count: usize,
     back: &str,
-) -> Result<String, AllocError> {
-    let mut text = String::from_str(alloc, front)?;
-    for _ in 0..count {
-        text.push_str(piece)?;
-    }
-    text.push_str(back)?;
-    Ok(text)
+    ended: Result<(), PlainFault>,
+) {
+    let input = repeated(alloc, front, piece, count, back).expect(rt, "the input");
+    answers(rt, alloc, input.as_bytes(), ended, "");
+}
+
+fn too_deep(place: usize) -> Result<(), PlainFault> {
+    refused(FaultCode::TooDeep, place, 1)
 }
 
 #[test]
-fn prints_values(rt: HostRuntime) -> Result<(), Fail> {
+fn refuses_past_its_limits(rt: HostRuntime) {
     let alloc = rt.alloc();
-    for (expression, value) in VALUES {
-        let input = format!(in alloc; "mpd 1;ranks 1;print {expression};\n---\nlocal 0\nshow\n")?;
-        let wanted = format!(in alloc;
-            "ok 1\ndepth 1 of 1\nrank 0 ended\nvars\nhandles\nout {value}\noutcome done\nend\n"
-        )?;
-        assert_eq!(rt;
-            written(&rt, alloc, input.as_str()).as_slice(),
-            wanted.as_bytes(),
-            "{expression}"
-        );
-    }
-    Ok(())
-}
-
-#[test]
-fn traps_and_undoes(rt: HostRuntime) -> Result<(), Fail> {
-    let alloc = rt.alloc();
-    for (statement, name) in TRAPS {
-        let input = format!(in alloc;
-            "mpd 1;ranks 1;var x;var a[2];var e[0];{statement}\n---\nlocal 0\nshow\nback\nshow\n"
-        )?;
-        let wanted = format!(in alloc;
-            "ok 1\ndepth 1 of 1\nrank 0 trapped {name}\nvars 0 0 0\nhandles\nout\noutcome trap 0 {name}\nend\nok 0\ndepth 0 of 1\nrank 0 at 1\nvars 0 0 0\nhandles\nout\nend\n"
-        )?;
-        assert_eq!(rt;
-            written(&rt, alloc, input.as_str()).as_slice(),
-            wanted.as_bytes(),
-            "{statement}"
-        );
-    }
-    Ok(())
-}
-
-#[test]
-fn refuses_at_places(rt: HostRuntime) -> Result<(), Fail> {
-    let alloc = rt.alloc();
-    for (text, code, place) in FAULTS {
-        let input = format!(in alloc; "mpd 1;ranks 1;{text}")?;
-        answers(&rt, alloc, input.as_bytes(), refused(code, place, 1), "");
-    }
-    Ok(())
-}
-
-#[test]
-fn refuses_past_its_limits(rt: HostRuntime) -> Result<(), Fail> {
-    let alloc = rt.alloc();
-    let header = "mpd 1;ranks 1;var a[2];";
-    let signs = repeated(alloc, "mpd 1;ranks 1;print ", "-", 65, "1;")?;
-    answers(
+    let too_many = refused(FaultCode::TooMany, 16404, 1);
+    let inside = "mpd 1;ranks 1;var a[2];print a[";
+    let outside = repeated(alloc, "mpd 1;ranks 1;var a[2];a[", "-", 64, "1]=");
+    let index = outside.expect(&rt, "an index");
+    ends(
         &rt,
         alloc,
-        signs.as_bytes(),
-        refused(FaultCode::TooDeep, 84, 1),
-        "",
+        "mpd 1;ranks 1;print ",
+        "-",
+        65,
+        "1;",
+        too_deep(84),
     );
-    let inside = repeated(alloc, "mpd 1;ranks 1;var a[2];print a[", "-", 64, "1];")?;
-    answers(
+    ends(&rt, alloc, inside, "-", 64, "1];", too_deep(94));
+    ends(&rt, alloc, index.as_str(), "-", 64, "1;", Ok(()));
+    ends(&rt, alloc, "mpd 1;ranks 1;var x;", "x=1;", 4096, "", Ok(()));
+    ends(
         &rt,
         alloc,
-        inside.as_bytes(),
-        refused(FaultCode::TooDeep, 94, 1),
+        "mpd 1;ranks 1;var x;",
+        "x=1;",
+        4097,
         "",
+        too_many,
     );
-    let index = repeated(alloc, "mpd 1;ranks 1;var a[2];a[", "-", 64, "1]=")?;
-    let outside = repeated(alloc, index.as_str(), "-", 64, "1;")?;
-    answers(&rt, alloc, outside.as_bytes(), Ok(()), "");
-    let assignments = repeated(alloc, "mpd 1;ranks 1;var x;", "x=1;", 4096, "")?;
-    answers(&rt, alloc, assignments.as_bytes(), Ok(()), "");
-    let one_more = repeated(alloc, assignments.as_str(), "x=1;", 1, "")?;
-    answers(
+    ends(
         &rt,
         alloc,
-        one_more.as_bytes(),
-        refused(FaultCode::TooMany, 16404, 1),
+        "mpd 1;ranks 1;var a[1024];",
+        "var e[0];",
+        1,
         "",
+        Ok(()),
     );
-    let none = repeated(alloc, "mpd 1;ranks 1;var a[1024];", "var e[0];", 1, "")?;
-    answers(&rt, alloc, none.as_bytes(), Ok(()), "");
-    let open = repeated(alloc, header, "while 1 {", 65, "")?;
-    answers(
+    ends(
         &rt,
         alloc,
-        open.as_bytes(),
-        refused(FaultCode::TooDeep, 607, 1),
+        "mpd 1;ranks 1;var a[2];",
+        "while 1 {",
+        65,
         "",
+        too_deep(607),
     );
-    Ok(())
 }
 
 #[test]

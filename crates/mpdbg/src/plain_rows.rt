@@ -1,32 +1,14 @@
 //! Rows of what the program answers without words: what no clause says.
 
+use crate::helpers::{answers, refused, repeated};
 use mpd_model::device::{FromReader, ToWriter};
 use mpd_model::failing::{FailingSource, Limit};
-use mpd_model::read_fault::{FaultCode, ReadFault};
+use mpd_model::read_fault::FaultCode;
 use mpd_trace::plain::{PlainFault, plain};
 use mpd_wire::engine::EngineFault;
 use std::alloc::Global;
 use std::io;
 use std::io::Read;
-use std::process::Abort;
-use std::test::Fail;
-
-pub fn answers(
-    rt: &impl Abort,
-    alloc: Global,
-    input: &[u8],
-    ended: Result<(), PlainFault>,
-    written: &str,
-) {
-    let mut source = FromReader::new(input);
-    let mut sink = ToWriter::new(Vec::new(alloc));
-    assert_eq!(rt; plain(alloc, &mut source, &mut sink), ended, "{written}");
-    assert_eq!(rt; sink.into_writer().as_slice(), written.as_bytes());
-}
-
-pub fn refused(code: FaultCode, place: usize, line: usize) -> Result<(), PlainFault> {
-    Err(PlainFault::Script(ReadFault { code, place }, line))
-}
 
 #[test]
 fn divides_an_input(rt: HostRuntime) {
@@ -63,16 +45,11 @@ fn divides_an_input(rt: HostRuntime) {
 }
 
 #[test]
-fn reads_a_script_of_65_536_bytes(rt: HostRuntime) -> Result<(), Fail> {
+fn reads_a_script_of_65_536_bytes(rt: HostRuntime) {
     let alloc = rt.alloc();
-    let mut input = Vec::new(alloc);
-    input.extend_from_slice(b"mpd 1;ranks 1;print 7;")?;
-    for _ in 22..65_535u32 {
-        input.push(b' ')?;
-    }
-    input.extend_from_slice(b"\n---\nlocal 0\n")?;
-    answers(&rt, alloc, &input, Ok(()), "ok 1\n");
-    Ok(())
+    let script = "mpd 1;ranks 1;print 7;";
+    let input = repeated(alloc, script, " ", 65_513, "\n---\nlocal 0\n").expect(&rt, "the input");
+    answers(&rt, alloc, input.as_bytes(), Ok(()), "ok 1\n");
 }
 
 /// A reader of spaces without an end.
@@ -86,16 +63,22 @@ impl Read for Spaces {
     }
 }
 
+/// How an endless script ends, and what is written, where reading fails after so many calls.
+fn endless(alloc: Global, calls: u64) -> (Result<(), PlainFault>, Vec<u8>) {
+    let mut source = FailingSource::new(FromReader::new(Spaces), Limit::Calls(calls));
+    let mut sink = ToWriter::new(Vec::new(alloc));
+    let ended = plain(alloc, &mut source, &mut sink);
+    (ended, sink.into_writer())
+}
+
 #[test]
 fn refuses_an_endless_script_at_once(rt: HostRuntime) {
-    let alloc = rt.alloc();
-    for (calls, ended) in [
+    for (calls, wanted) in [
         (16u64, Err(PlainFault::Engine(EngineFault::ReadFailed))),
         (17u64, refused(FaultCode::TooLong, 65_536, 1)),
     ] {
-        let mut source = FailingSource::new(FromReader::new(Spaces), Limit::Calls(calls));
-        let mut sink = ToWriter::new(Vec::new(alloc));
-        assert_eq!(rt; plain(alloc, &mut source, &mut sink), ended);
-        assert!(rt; sink.into_writer().is_empty());
+        let (ended, written) = endless(rt.alloc(), calls);
+        assert_eq!(rt; ended, wanted);
+        assert!(rt; written.is_empty());
     }
 }

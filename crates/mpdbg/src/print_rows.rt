@@ -1,13 +1,13 @@
 //! Rows of the canonical text, worked out by hand from docs/LANGUAGE.md: what is printed of what was read, and that it is read
 //! as the same again.
 
+use crate::helpers::{FIRST, joined};
 use mpd_script::{laws, print, read};
 use std::alloc::Global;
 use std::process::Abort;
-use std::test::Fail;
 
 /// Texts, and their canonical texts behind `mpd 1;`, `ranks 1;` and `var x;`, `var a[2];`.
-const ROWS: [(&str, &str); 12] = [
+const ROWS: &[(&str, &str)] = &[
     ("print (1+2)*3;", "print (1 + 2) * 3;\n"),
     ("print (1*2)+3;", "print 1 * 2 + 3;\n"),
     ("print 1-(2-3);", "print 1 - (2 - 3);\n"),
@@ -28,14 +28,18 @@ const ROWS: [(&str, &str); 12] = [
     ("send 1 to 0 tag 1;# a comment", "send 1 to 0 tag 1;\n"),
 ];
 
-/// Prints what is read of a text, and that again; both are the canonical text.
-fn prints(rt: &impl Abort, alloc: Global, text: &[u8], wanted: &str) {
+/// Asserts what is printed of what is read of a text, and answers it.
+fn printed(rt: &impl Abort, alloc: Global, text: &[u8], wanted: &str) -> String {
     let script = read(alloc, text).expect(rt, "a script");
     let printed = print(alloc, &script).expect(rt, "its text");
     assert_eq!(rt; printed.as_str(), wanted);
-    let again = read(alloc, printed.as_bytes()).expect(rt, "the script again");
-    let twice = print(alloc, &again).expect(rt, "its text again");
-    assert_eq!(rt; twice.as_str(), wanted);
+    printed
+}
+
+/// Prints what is read of a text, and that again; both are the canonical text.
+fn prints(rt: &impl Abort, alloc: Global, text: &[u8], wanted: &str) {
+    let once = printed(rt, alloc, text, wanted);
+    printed(rt, alloc, once.as_bytes(), wanted);
 }
 
 #[test]
@@ -43,20 +47,25 @@ fn prints_the_first_script(rt: HostRuntime) {
     prints(
         &rt,
         rt.alloc(),
-        b"mpd 1;\nranks 2;\nvar x;\nif rank == 0 { send 7 to 1 tag 0; } else { recv x from 0 tag 0; print x; }",
+        FIRST,
         "mpd 1;\nranks 2;\nvar x;\nif rank == 0 {\n  send 7 to 1 tag 0;\n} else {\n  recv x from 0 tag 0;\n  print x;\n}\n",
     );
 }
 
 #[test]
-fn prints_what_is_needed(rt: HostRuntime) -> Result<(), Fail> {
+fn prints_what_is_needed(rt: HostRuntime) {
     let alloc = rt.alloc();
     for (text, canonical) in ROWS {
-        let input = format!(in alloc; "mpd 01;ranks 1;var x;var a[2];{text}")?;
-        let wanted = format!(in alloc; "mpd 1;\nranks 1;\nvar x;\nvar a[2];\n{canonical}")?;
+        let input = joined(alloc, &["mpd 01;ranks 1;var x;var a[2];", text]).expect(
+            &rt,
+            "the input",
+        );
+        let wanted = joined(alloc, &["mpd 1;\nranks 1;\nvar x;\nvar a[2];\n", canonical]).expect(
+            &rt,
+            "its canonical text",
+        );
         prints(&rt, alloc, input.as_bytes(), wanted.as_str());
     }
-    Ok(())
 }
 
 #[test]

@@ -1,34 +1,14 @@
 //! Texts whose outcome was worked out by hand.
 
+use crate::helpers::{FIRST, declaring, repeated};
 use mpd_model::expr::ExprNode;
 use mpd_model::read_fault::{FaultCode, ReadFault};
 use mpd_model::script::Script;
 use mpd_model::stmt::StmtNode;
 use mpd_script::{laws, read};
-use std::alloc::{AllocError, Global};
+use std::process::Abort;
 
 const HEADER: &str = "mpd 1;ranks 1;";
-
-/// A text that repeats a line.
-fn repeated(alloc: Global, line: &str, count: usize) -> Result<String, AllocError> {
-    let mut text = String::new(alloc);
-    text.push_str(HEADER)?;
-    for _line in 0..count {
-        text.push_str(line)?;
-    }
-    Ok(text)
-}
-
-/// A text that declares so many variables.
-fn declaring(alloc: Global, count: usize) -> Result<String, AllocError> {
-    let mut text = String::new(alloc);
-    text.push_str(HEADER)?;
-    for number in 0..count {
-        let line = format!(in alloc; "var v{number};")?;
-        text.push_str(line.as_str())?;
-    }
-    Ok(text)
-}
 
 /// Whether a text is refused so, or for want of memory.
 fn is_refused(outcome: Result<Script, ReadFault>, code: FaultCode, place: usize) -> bool {
@@ -47,37 +27,42 @@ fn is_read(outcome: Result<Script, ReadFault>) -> bool {
     }
 }
 
+/// Of a script whose only statement is an `if`: whether its test is a binary one, and the lengths of its blocks.
+fn only_if(script: &Script) -> Option<(bool, usize, usize)> {
+    match script.body.as_slice() {
+        [only] => match &only.node {
+            StmtNode::If(test, first, second) => {
+                let is_binary = matches!(test.node, ExprNode::Binary(_, _, _));
+                Some((is_binary, first.len(), second.len()))
+            }
+            _ => None,
+        },
+        _ => None,
+    }
+}
+
+/// Asserts what is read of the first script.
+fn is_the_first(rt: &impl Abort, script: &Script) {
+    assert_eq!(rt; script.ranks, 2);
+    assert_eq!(rt; script.decls.len(), 1);
+    assert!(rt; script.lines.as_slice() == [4, 4, 4, 4].as_slice());
+    assert_eq!(rt; only_if(script), Some((true, 1, 2)));
+}
+
 #[test]
 fn two_ranks(rt: HostRuntime) {
-    let text =
-        b"mpd 1;\nranks 2;\nvar x;\nif rank == 0 { send 7 to 1 tag 0; } else { recv x from 0 tag 0; print x; }";
-    match read(rt.alloc(), text) {
-        Ok(script) => {
-            assert_eq!(rt; script.ranks, 2);
-            assert_eq!(rt; script.decls.len(), 1);
-            assert!(rt; script.lines.as_slice() == [4, 4, 4, 4].as_slice());
-            match script.body.as_slice() {
-                [only] => match &only.node {
-                    StmtNode::If(test, first, second) => {
-                        assert!(rt; matches!(test.node, ExprNode::Binary(_, _, _)));
-                        assert_eq!(rt; first.len(), 1);
-                        assert_eq!(rt; second.len(), 2);
-                    }
-                    _ => assert!(rt; false, "no `if`"),
-                },
-                _ => assert!(rt; false, "not one statement"),
-            }
-        }
+    match read(rt.alloc(), FIRST) {
+        Ok(script) => is_the_first(&rt, &script),
         Err(fault) => assert!(rt; fault.code == FaultCode::Memory),
     }
 }
 
 #[test]
 fn statement_4097(rt: HostRuntime) {
-    if let Ok(text) = repeated(rt.alloc(), "print 1;", 4096) {
+    if let Ok(text) = repeated(rt.alloc(), HEADER, "print 1;", 4096, "") {
         assert!(rt; is_read(read(rt.alloc(), text.as_bytes())));
     }
-    if let Ok(text) = repeated(rt.alloc(), "print 1;", 4097) {
+    if let Ok(text) = repeated(rt.alloc(), HEADER, "print 1;", 4097, "") {
         assert!(rt;
             is_refused(
                 read(rt.alloc(), text.as_bytes()),
@@ -101,14 +86,14 @@ fn variable_1025(rt: HostRuntime) {
 
 #[test]
 fn block_65(rt: HostRuntime) {
-    if let Ok(text) = repeated(rt.alloc(), "if 1 {", 65) {
+    if let Ok(text) = repeated(rt.alloc(), HEADER, "if 1 {", 65, "") {
         assert!(rt; is_refused(read(rt.alloc(), text.as_bytes()), FaultCode::TooDeep, 403));
     }
 }
 
 #[test]
 fn too_long(rt: HostRuntime) {
-    if let Ok(text) = repeated(rt.alloc(), " ", 65_523) {
+    if let Ok(text) = repeated(rt.alloc(), HEADER, " ", 65_523, "") {
         assert!(rt;
             is_refused(
                 read(rt.alloc(), text.as_bytes()),
@@ -117,7 +102,7 @@ fn too_long(rt: HostRuntime) {
             )
         );
     }
-    if let Ok(text) = repeated(rt.alloc(), " ", 65_522) {
+    if let Ok(text) = repeated(rt.alloc(), HEADER, " ", 65_522, "") {
         assert!(rt; is_read(read(rt.alloc(), text.as_bytes())));
     }
 }

@@ -1,263 +1,252 @@
 //! Worked rows that only a direct call shows: what no clause says, each public call with ample memory.
 
-use mpd_code::lower::lower;
+use crate::helpers::{FIRST, declaring, lowered, repeated};
+use mpd_code::code::Code;
 use mpd_core::state::Core;
-use mpd_model::call::Mode;
-use mpd_model::device::{FromReader, ToWriter};
+use mpd_model::call::{Mode, Trap};
+use mpd_model::device::{FromReader, Sink, Source, ToWriter};
 use mpd_model::failing::{FailingSink, FailingSource, Limit};
 use mpd_model::outcome::{CallList, Outcome, TrapList, TrappedRank};
-use mpd_model::read_fault::FaultCode;
-use mpd_model::script::Script;
+use mpd_model::read_fault::{FaultCode, ReadFault};
 use mpd_model::step::{CallId, Step};
 use mpd_model::text::print_outcome;
 use mpd_model::words::step_of;
 use mpd_script::read;
 use mpd_trace::trace::trace;
-use mpd_trail::debugger::{ApplyFault, Debugger};
+use mpd_trail::debugger::Debugger;
 use mpd_trail::run::{Command, Reply, replay};
 use mpd_wire::engine::EngineFault;
-use std::alloc::Global;
+use std::alloc::{AllocError, Global};
 use std::io;
 use std::io::Read;
 use std::process::Abort;
-use std::test::Fail;
 
-const FIRST: &[u8] =
-    b"mpd 1;\nranks 2;\nvar x;\nif rank == 0 { send 7 to 1 tag 0; } else { recv x from 0 tag 0; print x; }";
+/// The only send of the first script.
+const SEND: CallId = CallId { rank: 0, index: 0 };
 
-fn call(rank: usize, index: usize) -> CallId {
-    CallId { rank, index }
+/// The only receive of the first script.
+const RECV: CallId = CallId { rank: 1, index: 0 };
+
+/// Commands on the first script.
+const COMMANDS: &[Command] = &[
+    Command::Undo,
+    Command::Apply(Step::Local(0)),
+    Command::Apply(Step::Local(0)),
+    Command::Apply(Step::Local(0)),
+    Command::Apply(Step::Local(1)),
+    Command::Apply(Step::Local(1)),
+    Command::Apply(Step::Wake(0)),
+    Command::Apply(Step::Match(SEND, RECV)),
+    Command::Undo,
+    Command::Apply(Step::Match(SEND, RECV)),
+    Command::Apply(Step::Wake(1)),
+    Command::Apply(Step::Release),
+];
+
+/// What each of the commands is answered.
+const REPLIES: &[Reply] = &[
+    Reply::AtStart,
+    Reply::Done,
+    Reply::Done,
+    Reply::NotEnabled,
+    Reply::Done,
+    Reply::Done,
+    Reply::NotEnabled,
+    Reply::Done,
+    Reply::Done,
+    Reply::Done,
+    Reply::Done,
+    Reply::NotEnabled,
+];
+
+/// The debugger of some code after commands, and the replies.
+fn replayed<'c>(
+    rt: &impl Abort,
+    alloc: Global,
+    code: &'c Code,
+    commands: &[Command],
+) -> (Debugger<'c>, Vec<Reply>) {
+    replay(alloc, code, Mode::Rendezvous, commands).expect(rt, "the replies")
 }
 
-fn text_of(
+#[test]
+fn replies_and_undoes(rt: HostRuntime) {
+    let code = lowered(&rt, rt.alloc(), FIRST);
+    let (debugger, replies) = replayed(&rt, rt.alloc(), &code, COMMANDS);
+    assert_eq!(rt; replies.as_slice(), REPLIES);
+    assert_eq!(rt; debugger.depth(), 6);
+    assert_eq!(rt; debugger.steps().len(), 6);
+}
+
+/// Why and where a text is refused, if it is.
+fn fault_of(alloc: Global, text: &str) -> Option<(FaultCode, usize)> {
+    match read(alloc, text.as_bytes()) {
+        Ok(_) => None,
+        Err(ReadFault { code, place }) => Some((code, place)),
+    }
+}
+
+/// Asserts that a text with a piece so many times between its front and its back is read, or why and where it is refused.
+fn reads(
+    rt: &impl Abort,
     alloc: Global,
     front: &str,
     piece: &str,
     count: usize,
     back: &str,
-) -> Result<String, Fail> {
-    let mut text = String::from_str(alloc, front)?;
-    for _ in 0..count {
-        text.push_str(piece)?;
-    }
-    text.push_str(back)?;
-    Ok(text)
-}
-
-fn refused(rt: &impl Abort, alloc: Global, text: &str, code: FaultCode, place: usize) {
-    match read(alloc, text.as_bytes()) {
-        Ok(_) => assert!(rt; false, "read"),
-        Err(fault) => {
-            assert_eq!(rt; fault.code, code, "{text}");
-            assert_eq!(rt; fault.place, place, "{text}");
-        }
-    }
+    fault: Option<(FaultCode, usize)>,
+) {
+    let text = repeated(alloc, front, piece, count, back).expect(rt, "the text");
+    assert_eq!(rt; fault_of(alloc, text.as_str()), fault, "{count} of {piece}");
 }
 
 #[test]
-fn replies_and_undoes(rt: HostRuntime) -> Result<(), Fail> {
-    let code = lower(
-        rt.alloc(),
-        read(rt.alloc(), FIRST).expect(&rt, "the first script"),
-    )?;
-    let pair = Step::Match(call(0, 0), call(1, 0));
-    let commands = [
-        Command::Undo,
-        Command::Apply(Step::Local(0)),
-        Command::Apply(Step::Local(0)),
-        Command::Apply(Step::Local(0)),
-        Command::Apply(Step::Local(1)),
-        Command::Apply(Step::Local(1)),
-        Command::Apply(Step::Wake(0)),
-        Command::Apply(pair),
-        Command::Undo,
-        Command::Apply(pair),
-        Command::Apply(Step::Wake(1)),
-        Command::Apply(Step::Release),
-    ];
-    let (debugger, replies) = replay(rt.alloc(), &code, Mode::Rendezvous, &commands)?;
-    let wanted = [
-        Reply::AtStart,
-        Reply::Done,
-        Reply::Done,
-        Reply::NotEnabled,
-        Reply::Done,
-        Reply::Done,
-        Reply::NotEnabled,
-        Reply::Done,
-        Reply::Done,
-        Reply::Done,
-        Reply::Done,
-        Reply::NotEnabled,
-    ];
-    assert_eq!(rt; replies.as_slice(), wanted.as_slice());
-    assert_eq!(rt; debugger.depth(), 6);
-    assert_eq!(rt; debugger.steps().len(), 6);
-    Ok(())
-}
-
-#[test]
-fn reads_up_to_its_limits(rt: HostRuntime) -> Result<(), Fail> {
+fn reads_up_to_its_limits(rt: HostRuntime) {
     let alloc = rt.alloc();
-    let deep = text_of(alloc, "mpd 1;ranks 1;print ", "(", 64, "1")?;
-    let closed = text_of(alloc, deep.as_str(), ")", 64, ";")?;
-    assert!(rt; read(alloc, closed.as_bytes()).is_ok(), "64 brackets");
-    let deeper = text_of(alloc, "mpd 1;ranks 1;print ", "(", 65, "1")?;
-    refused(
-        &rt,
-        alloc,
-        text_of(alloc, deeper.as_str(), ")", 65, ";")?.as_str(),
-        FaultCode::TooDeep,
-        84,
-    );
-    let open = text_of(alloc, "mpd 1;ranks 1;", "if 1 {", 64, "")?;
-    assert!(rt;
-        read(
-            alloc,
-            text_of(alloc, open.as_str(), "}", 64, "")?.as_bytes()
-        )
-        .is_ok(),
-        "64 blocks"
-    );
-    refused(
-        &rt,
-        alloc,
-        text_of(alloc, "mpd 1;ranks 1;", "if 1 {", 65, "")?.as_str(),
-        FaultCode::TooDeep,
-        403,
-    );
-    assert!(rt;
-        read(
-            alloc,
-            text_of(alloc, "mpd 1;ranks 1;", "print 1;", 4096, "")?.as_bytes()
-        )
-        .is_ok(),
-        "4,096 statements"
-    );
-    refused(
-        &rt,
-        alloc,
-        text_of(alloc, "mpd 1;ranks 1;", "print 1;", 4097, "")?.as_str(),
-        FaultCode::TooMany,
-        32782,
-    );
-    refused(
-        &rt,
-        alloc,
-        text_of(alloc, "", " ", 65537, "")?.as_str(),
-        FaultCode::TooLong,
-        65536,
-    );
-    refused(
-        &rt,
-        alloc,
-        text_of(alloc, "", " ", 65536, "")?.as_str(),
-        FaultCode::Expected,
-        65536,
-    );
-    Ok(())
+    let header = "mpd 1;ranks 1;";
+    let printing = "mpd 1;ranks 1;print ";
+    let deep = repeated(alloc, printing, "(", 64, "1").expect(&rt, "64 brackets");
+    reads(&rt, alloc, deep.as_str(), ")", 64, ";", None);
+    let deeper = repeated(alloc, printing, "(", 65, "1").expect(&rt, "65 brackets");
+    let too_deep = Some((FaultCode::TooDeep, 84));
+    reads(&rt, alloc, deeper.as_str(), ")", 65, ";", too_deep);
+    let open = repeated(alloc, header, "if 1 {", 64, "").expect(&rt, "64 blocks");
+    reads(&rt, alloc, open.as_str(), "}", 64, "", None);
+    let too_deep = Some((FaultCode::TooDeep, 403));
+    reads(&rt, alloc, header, "if 1 {", 65, "", too_deep);
+    reads(&rt, alloc, header, "print 1;", 4096, "", None);
+    let too_many = Some((FaultCode::TooMany, 32782));
+    reads(&rt, alloc, header, "print 1;", 4097, "", too_many);
+    let too_long = Some((FaultCode::TooLong, 65536));
+    reads(&rt, alloc, "", " ", 65537, "", too_long);
+    let empty = Some((FaultCode::Expected, 65536));
+    reads(&rt, alloc, "", " ", 65536, "", empty);
 }
 
 #[test]
-fn declares_up_to_its_limits(rt: HostRuntime) -> Result<(), Fail> {
+fn declares_up_to_its_limits(rt: HostRuntime) {
     let alloc = rt.alloc();
-    let mut text = String::from_str(alloc, "mpd 1;ranks 1;")?;
-    for number in 0..1024u32 {
-        write!(text, "var v{number};")?;
-    }
-    assert!(rt; read(alloc, text.as_bytes()).is_ok(), "1,024 variables");
+    let mut text = declaring(alloc, 1024).expect(&rt, "the text");
+    assert_eq!(rt; fault_of(alloc, text.as_str()), None, "1,024 variables");
     let place = text.len().saturating_add(4);
-    text.push_str("var w;")?;
-    refused(&rt, alloc, text.as_str(), FaultCode::TooMany, place);
-    Ok(())
+    text.push_str("var w;").expect(&rt, "one variable more");
+    assert_eq!(rt;
+        fault_of(alloc, text.as_str()),
+        Some((FaultCode::TooMany, place))
+    );
+}
+
+/// The steps of the first script up to its only output.
+const TO_THE_OUTPUT: &[Step] = &[
+    Step::Local(0),
+    Step::Local(0),
+    Step::Local(1),
+    Step::Local(1),
+    Step::Match(SEND, RECV),
+    Step::Wake(1),
+];
+
+/// Takes a step, and answers whether it could be taken.
+fn takes(core: &mut Core<'_>, step: Step) -> bool {
+    core.apply(step).is_ok()
+}
+
+/// Asserts that a text was made, and what it is.
+fn is_text(rt: &impl Abort, made: Result<String, AllocError>, wanted: &str) {
+    let text = made.expect(rt, "the text");
+    assert_eq!(rt; text.as_str(), wanted);
+}
+
+fn prints_a_call(rt: &impl Abort, core: &Core<'_>, call: CallId, wanted: &str) {
+    assert!(rt; core.call(call).is_some());
+    is_text(rt, core.call_text(call), wanted);
+}
+
+fn prints_a_rank(rt: &impl Abort, core: &Core<'_>, rank: usize, wanted: &str) {
+    assert!(rt; rank < core.rank_count());
+    is_text(rt, core.rank_text(rank), wanted);
+}
+
+fn prints_a_set(rt: &impl Abort, core: &Core<'_>, place: usize, wanted: &str) {
+    assert!(rt; place < core.sets().len());
+    is_text(rt, core.set_text(place), wanted);
 }
 
 #[test]
-fn prints_states(rt: HostRuntime) -> Result<(), Fail> {
+fn prints_states(rt: HostRuntime) {
     let alloc = rt.alloc();
-    let code = lower(alloc, read(alloc, FIRST).expect(&rt, "the first script"))?;
-    let mut core = Core::start(alloc, &code, Mode::Rendezvous)?;
+    let code = lowered(&rt, alloc, FIRST);
+    let mut core = Core::start(alloc, &code, Mode::Rendezvous).expect(&rt, "the first state");
     assert_eq!(rt; core.rank_count(), 2);
-    for step in [
-        Step::Local(0),
-        Step::Local(0),
-        Step::Local(1),
-        Step::Local(1),
-        Step::Match(call(0, 0), call(1, 0)),
-        Step::Wake(1),
-    ] {
-        assert!(rt; core.is_enabled(step));
-        assert!(rt; core.apply(step).is_ok());
+    for step in TO_THE_OUTPUT {
+        assert!(rt; core.is_enabled(*step));
+        assert!(rt; takes(&mut core, *step));
     }
-    let send = call(0, 0);
-    assert!(rt; core.call(send).is_some());
-    assert_eq!(rt;
-        core.call_text(send)?.as_str(),
-        "send to 1 tag 0 value 7 with 1.0"
-    );
-    let recv = call(1, 0);
-    assert!(rt; core.call(recv).is_some());
-    assert_eq!(rt;
-        core.call_text(recv)?.as_str(),
-        "recv from 0 tag 0 with 0.0 value 7"
-    );
-    assert!(rt; core.rank_count() > 1);
-    assert_eq!(rt; core.rank_text(0)?.as_str(), "blocked 0");
-    assert_eq!(rt; core.rank_text(1)?.as_str(), "at 4");
-    assert!(rt; core.sets().len() > 1);
-    assert_eq!(rt; core.set_text(0)?.as_str(), "pair 0.0 1.0");
-    assert_eq!(rt; core.set_text(1)?.as_str(), "woke 1.0");
-    assert!(rt; core.outcome(alloc)?.is_none());
-    Ok(())
+    prints_a_call(&rt, &core, SEND, "send to 1 tag 0 value 7 with 1.0");
+    prints_a_call(&rt, &core, RECV, "recv from 0 tag 0 with 0.0 value 7");
+    prints_a_rank(&rt, &core, 0, "blocked 0");
+    prints_a_rank(&rt, &core, 1, "at 4");
+    prints_a_set(&rt, &core, 0, "pair 0.0 1.0");
+    prints_a_set(&rt, &core, 1, "woke 1.0");
+    let outcome = core.outcome(alloc).expect(&rt, "the outcome");
+    assert!(rt; outcome.is_none());
+}
+
+fn prints(rt: &impl Abort, alloc: Global, outcome: Outcome, wanted: &str) {
+    is_text(rt, print_outcome(alloc, &outcome), wanted);
+}
+
+fn list_of(alloc: Global, calls: &[CallId]) -> Result<CallList, AllocError> {
+    Ok(CallList::new(calls.to_vec(alloc)?))
+}
+
+fn trapped(alloc: Global, ranks: &[TrappedRank]) -> Result<TrapList, AllocError> {
+    Ok(TrapList::new(ranks.to_vec(alloc)?))
 }
 
 #[test]
-fn prints_outcomes(rt: HostRuntime) -> Result<(), Fail> {
+fn prints_outcomes(rt: HostRuntime) {
     let alloc = rt.alloc();
-    assert_eq!(rt; print_outcome(alloc, &Outcome::Done)?.as_str(), "done");
-    let calls = vec![in alloc; call(0, 1), call(1, 0)]?;
-    assert_eq!(rt;
-        print_outcome(alloc, &Outcome::Deadlock(CallList::new(calls)))?.as_str(),
-        "deadlock 0.1 1.0"
+    prints(&rt, alloc, Outcome::Done, "done");
+    let blocked = list_of(alloc, &[CallId { rank: 0, index: 1 }, RECV]).expect(&rt, "two calls");
+    prints(&rt, alloc, Outcome::Deadlock(blocked), "deadlock 0.1 1.0");
+    let free = list_of(alloc, &[SEND]).expect(&rt, "one call");
+    prints(&rt, alloc, Outcome::Leftovers(free), "leftovers 0.0");
+    let trap = Trap::BadRank;
+    let ranks = [TrappedRank { rank: 0, trap }, TrappedRank { rank: 1, trap }];
+    let traps = trapped(alloc, &ranks).expect(&rt, "two traps");
+    prints(
+        &rt,
+        alloc,
+        Outcome::Trap(traps),
+        "trap 0 bad-rank 1 bad-rank",
     );
-    let calls = vec![in alloc; call(0, 0)]?;
-    assert_eq!(rt;
-        print_outcome(alloc, &Outcome::Leftovers(CallList::new(calls)))?.as_str(),
-        "leftovers 0.0"
-    );
-    let trapped = |rank: usize| TrappedRank {
-        rank,
-        trap: mpd_model::call::Trap::BadRank,
-    };
-    let traps = vec![in alloc; trapped(0), trapped(1)]?;
-    assert_eq!(rt;
-        print_outcome(alloc, &Outcome::Trap(TrapList::new(traps)))?.as_str(),
-        "trap 0 bad-rank 1 bad-rank"
-    );
-    Ok(())
 }
+
+/// Words, with the step that they say, if they say one.
+const STEPS: &[(&str, Option<Step>)] = &[
+    ("local 0", Some(Step::Local(0))),
+    (
+        " match\t0.0  1.2 ",
+        Some(Step::Match(SEND, CallId { rank: 1, index: 2 })),
+    ),
+    ("wake 000000001", Some(Step::Wake(1))),
+    ("release", Some(Step::Release)),
+    ("", None),
+    ("local", None),
+    ("local 1 2", None),
+    ("match 0.0", None),
+    ("match 0 1", None),
+    ("wake 0000000001", None),
+    ("release 1", None),
+    ("Local 0", None),
+    ("local 0\r", None),
+];
 
 #[test]
 fn reads_steps(rt: HostRuntime) {
-    assert_eq!(rt; step_of("local 0"), Some(Step::Local(0)));
-    assert_eq!(rt;
-        step_of(" match\t0.0  1.2 "),
-        Some(Step::Match(call(0, 0), call(1, 2)))
-    );
-    assert_eq!(rt; step_of("wake 000000001"), Some(Step::Wake(1)));
-    assert_eq!(rt; step_of("release"), Some(Step::Release));
-    for text in [
-        "",
-        "local",
-        "local 1 2",
-        "match 0.0",
-        "match 0 1",
-        "wake 0000000001",
-        "release 1",
-        "Local 0",
-        "local 0\r",
-    ] {
-        assert_eq!(rt; step_of(text), None, "{text}");
+    for (text, step) in STEPS {
+        assert_eq!(rt; step_of(text), *step, "{text}");
     }
 }
 
@@ -278,55 +267,91 @@ impl Read for Feeds {
 }
 
 #[test]
-fn ends_after_a_million_reads(rt: HostRuntime) -> Result<(), Fail> {
+fn ends_after_a_million_reads(rt: HostRuntime) {
     let alloc = rt.alloc();
-    let code = lower(alloc, read(alloc, FIRST).expect(&rt, "the first script"))?;
+    let code = lowered(&rt, alloc, FIRST);
     let mut source = FromReader::new(Feeds);
     let mut sink = ToWriter::new(Vec::new(alloc));
-    let ended = trace(alloc, &code, Mode::Rendezvous, &mut source, &mut sink);
+    let ended = traced(alloc, &code, &mut source, &mut sink);
     assert_eq!(rt; ended, Err(EngineFault::TooManyTurns));
     assert!(rt; sink.into_writer().is_empty());
-    Ok(())
+}
+
+/// The words of a session, and what they are answered.
+const WORDS: &[u8] = b"local 0\nback\nfly\nlocal 0";
+
+const ANSWERS: &[u8] = b"ok 1\nok 0\nrefused bad-word\nok 1\n";
+
+/// How a session with a source and a sink ends.
+fn traced<S: Source, W: Sink>(
+    alloc: Global,
+    code: &Code,
+    source: &mut S,
+    sink: &mut W,
+) -> Result<(), EngineFault> {
+    trace(alloc, code, Mode::Rendezvous, source, sink)
+}
+
+/// How a session of these words ends, and what is written, where writing fails past so many bytes.
+fn traced_to(
+    alloc: Global,
+    code: &Code,
+    words: &[u8],
+    limit: u64,
+) -> (Result<(), EngineFault>, Vec<u8>) {
+    let mut source = FromReader::new(words);
+    let mut sink = FailingSink::new(ToWriter::new(Vec::new(alloc)), Limit::Bytes(limit));
+    let ended = traced(alloc, code, &mut source, &mut sink);
+    (ended, sink.into_inner().into_writer())
+}
+
+/// How a session of these words ends, and what is written, where reading fails past so many bytes.
+fn traced_from(
+    alloc: Global,
+    code: &Code,
+    words: &[u8],
+    limit: u64,
+) -> (Result<(), EngineFault>, Vec<u8>) {
+    let mut source = FailingSource::new(FromReader::new(words), Limit::Bytes(limit));
+    let mut sink = ToWriter::new(Vec::new(alloc));
+    let ended = traced(alloc, code, &mut source, &mut sink);
+    (ended, sink.into_writer())
 }
 
 #[test]
-fn fails_where_a_device_fails(rt: HostRuntime) -> Result<(), Fail> {
+fn fails_where_a_sink_fails(rt: HostRuntime) {
     let alloc = rt.alloc();
-    let code = lower(alloc, read(alloc, FIRST).expect(&rt, "the first script"))?;
-    let words: &[u8] = b"local 0\nback\nfly\nlocal 0";
-    let wanted: &[u8] = b"ok 1\nok 0\nrefused bad-word\nok 1\n";
+    let code = lowered(&rt, alloc, FIRST);
     for limit in 0..40u64 {
-        let mut source = FromReader::new(words);
-        let mut sink = FailingSink::new(ToWriter::new(Vec::new(alloc)), Limit::Bytes(limit));
-        let ended = trace(alloc, &code, Mode::Rendezvous, &mut source, &mut sink);
-        let written = sink.into_inner().into_writer();
-        let whole = wanted.len() as u64;
-        if limit <= whole && limit < whole {
+        let (ended, written) = traced_to(alloc, &code, WORDS, limit);
+        if limit < ANSWERS.len() as u64 {
             assert_eq!(rt; ended, Err(EngineFault::WriteFailed));
             assert_eq!(rt; written.len() as u64, limit);
         } else {
             assert_eq!(rt; ended, Ok(()));
         }
         assert!(rt;
-            wanted.starts_with(written.as_slice()),
+            ANSWERS.starts_with(written.as_slice()),
             "up to byte {limit}"
         );
     }
+}
+
+#[test]
+fn fails_where_a_source_fails(rt: HostRuntime) {
+    let alloc = rt.alloc();
+    let code = lowered(&rt, alloc, FIRST);
     for limit in 0..30u64 {
-        let mut source = FailingSource::new(FromReader::new(words), Limit::Bytes(limit));
-        let mut sink = ToWriter::new(Vec::new(alloc));
-        let ended = trace(alloc, &code, Mode::Rendezvous, &mut source, &mut sink);
-        let written = sink.into_writer();
-        if limit <= words.len() as u64 {
+        let (ended, written) = traced_from(alloc, &code, WORDS, limit);
+        if limit <= WORDS.len() as u64 {
             assert_eq!(rt; ended, Err(EngineFault::ReadFailed));
         } else {
             assert_eq!(rt; ended, Ok(()));
-            assert_eq!(rt; written.as_slice(), wanted);
+            assert_eq!(rt; written.as_slice(), ANSWERS);
         }
         assert!(rt;
-            wanted.starts_with(written.as_slice()),
+            ANSWERS.starts_with(written.as_slice()),
             "up to byte {limit}"
         );
     }
-    Ok(())
 }
