@@ -91,7 +91,11 @@ impl Feeder {
     }
 
     /// Adds the answer to the last line, which the end of the input ends.
-    pub(crate) fn finish<D: Desk>(&mut self, desk: &mut D, out: &mut Vec<u8>) -> Result<(), AllocError>
+    pub(crate) fn finish<D: Desk>(
+        &mut self,
+        desk: &mut D,
+        out: &mut Vec<u8>,
+    ) -> Result<(), AllocError>
         ensures ok { OnOk result (AddsAnswers D.answers desk.old (last_line self.old) out.old.items out.new.items desk.new) }
         ensures err { OnErr result (out.new.items ≡ out.old.items) }
     {
