@@ -4,7 +4,7 @@ use Rattle.mpd_model.specs.Lines.{lines_of, ended_lines}
 use Rattle.mpd_wire.specs.Answered.{Answered, Tells, TellsFirst, TellsPart}
 use Rattle.mpd_wire.specs.Forward.{ended_from, part_from, last_line, lines_from}
 use Rattle.mpd_wire.specs.Told.{TellsAll, TellsRead}
-use Rattle.mpd_wire.proofs.SentLaws.{appends_append, appends_none}
+use Rattle.mpd_wire.proofs.SentLaws.{appends_append}
 use Rattle.mpd_wire.proofs.AnsweredLaws.{answered_append}
 use Rattle.mpd_wire.proofs.ForwardLaws.{ended_append, part_append, lines_at, ended_at}
 use Rattle.mpd_wire.proofs.GoingLaws.{tells_append, tells_along}
