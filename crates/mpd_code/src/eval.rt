@@ -79,7 +79,12 @@ fn eval_below(
 }
 
 /// The cell that a target is on rank `rank` of `size`, or the trap that its index ends in.
-pub fn eval_target(target: &Target, vars: &[i64], rank: usize, size: usize) -> Result<usize, Trap>
+pub(crate) fn eval_target(
+    target: &Target,
+    vars: &[i64],
+    rank: usize,
+    size: usize,
+) -> Result<usize, Trap>
     requires rank { rank < 2 ^ 63 }
     requires size { size < 2 ^ 63 }
     ensures { result ≡ target_cell target.now vars.now rank size }

@@ -196,13 +196,15 @@ impl<'c> Core<'c> {
         ensures { IfOk result (λ o. o ≡ untrapped self.now.world) }
     {
         if !self.all_ended() {
-            return Ok(Outcome::Deadlock(CallList::new(self.blocked(alloc)?)));
+            return Ok(Outcome::Deadlock(CallList {
+                items: self.blocked(alloc)?,
+            }));
         }
         let free = self.free(alloc)?;
         if free.is_empty() {
             return Ok(Outcome::Done);
         }
-        Ok(Outcome::Leftovers(CallList::new(free)))
+        Ok(Outcome::Leftovers(CallList { items: free }))
     }
 
     /// What a state without an enabled step is.
@@ -213,7 +215,7 @@ impl<'c> Core<'c> {
         if traps.is_empty() {
             return self.untrapped(alloc);
         }
-        Ok(Outcome::Trap(TrapList::new(traps)))
+        Ok(Outcome::Trap(TrapList { items: traps }))
     }
 
     /// How the run has ended, where no step is enabled (docs/DEFINITIONS.md, "Outcomes"). An `Err` is want of memory.

@@ -317,7 +317,7 @@ impl<'c> Core<'c> {
     }
 
     /// What a rank is doing, where there is one.
-    pub fn activity(&self, rank: usize) -> Option<Activity>
+    pub(crate) fn activity(&self, rank: usize) -> Option<Activity>
         ensures { result ≡ option_map (λ r. r.activity) (slice_get self.now.world.ranks rank) }
     {
         match rank_at(&self.ranks, rank) {
@@ -333,9 +333,9 @@ impl<'c> Core<'c> {
         all_ended(self.code, &self.ranks)
     }
 
-    /// A rank, which is there.
+    /// A rank, which is there: what it holds, has printed and has called.
     #[tactic(auto, using(crate::proofs::RankLemmas::reading))]
-    fn rank(&self, rank: usize) -> &RankState
+    pub fn rank(&self, rank: usize) -> &RankState
         requires { rank < length self.now.world.ranks }
         ensures { slice_get self.now.world.ranks rank ≡ Some (rank_of self.now.program result.now) }
     {
@@ -343,43 +343,11 @@ impl<'c> Core<'c> {
     }
 
     /// The number of the next statement of a rank, where it has one.
-    pub fn next_statement(&self, rank: usize) -> Option<usize>
+    pub(crate) fn next_statement(&self, rank: usize) -> Option<usize>
         requires { rank < length self.now.world.ranks }
         ensures { IfSome (slice_get self.now.world.ranks rank) (λ r. result ≡ first_number r.rest) }
     {
         self.rank(rank).next_statement(self.code)
-    }
-
-    /// The variables of a rank, cell by cell.
-    pub fn variables(&self, rank: usize) -> &[i64]
-        requires { rank < length self.now.world.ranks }
-        ensures { IfSome (slice_get self.now.world.ranks rank) (λ r. result.now ≡ r.vars) }
-    {
-        self.rank(rank).variables()
-    }
-
-    /// The call that each handle of a rank has, if any.
-    pub fn handles(&self, rank: usize) -> &[Option<usize>]
-        requires { rank < length self.now.world.ranks }
-        ensures { IfSome (slice_get self.now.world.ranks rank) (λ r. result.now ≡ r.handles) }
-    {
-        self.rank(rank).handles()
-    }
-
-    /// What a rank has printed.
-    pub fn output(&self, rank: usize) -> &[i64]
-        requires { rank < length self.now.world.ranks }
-        ensures { IfSome (slice_get self.now.world.ranks rank) (λ r. result.now ≡ r.out) }
-    {
-        self.rank(rank).output()
-    }
-
-    /// The calls of a rank, in the order of issue.
-    pub fn calls(&self, rank: usize) -> &[Call]
-        requires { rank < length self.now.world.ranks }
-        ensures { IfSome (slice_get self.now.world.ranks rank) (λ r. result.now ≡ r.calls) }
-    {
-        self.rank(rank).calls()
     }
 
     /// The match sets, in the order formed.

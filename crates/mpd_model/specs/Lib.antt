@@ -20,9 +20,6 @@ pub mod Canonical
 pub mod Fits
 pub mod ReaderLaws
 pub mod Printable
-pub mod Depth
-pub mod Ends
-pub mod Limits
 pub mod Lines
 pub mod Texts
 pub mod Words

@@ -1,7 +1,7 @@
 //! Expressions.
 
-ghost use Rattle.std.specs.Prelude.{◌≡◌, IfOk, ℤ};
-ghost use Rattle.mpd_model.specs.Term.{lit, own_rank, size, cell, element, op1, op2};
+ghost use Rattle.std.specs.Prelude.{◌≡◌, IfOk};
+ghost use Rattle.mpd_model.specs.Term.{element, op1, op2};
 
 use crate::place::Place;
 use std::alloc::{AllocError, Global};
@@ -79,42 +79,6 @@ impl Model for Expr {
 }
 
 impl Expr {
-    /// A number.
-    pub fn number(value: i64) -> Expr
-        ensures { result ≡ lit value }
-    {
-        Expr {
-            node: ExprNode::Number(value),
-        }
-    }
-
-    /// `rank`.
-    pub fn rank() -> Expr
-        ensures { result ≡ own_rank }
-    {
-        Expr {
-            node: ExprNode::Rank,
-        }
-    }
-
-    /// `size`.
-    pub fn size() -> Expr
-        ensures { result ≡ size }
-    {
-        Expr {
-            node: ExprNode::Size,
-        }
-    }
-
-    /// What a place holds.
-    pub fn cell(place: Place) -> Expr
-        ensures { result ≡ cell place }
-    {
-        Expr {
-            node: ExprNode::Cell(place),
-        }
-    }
-
     /// What an array holds at an index. An `Err` is want of memory.
     pub fn element(alloc: Global, place: Place, index: Expr) -> Result<Expr, AllocError>
         ensures { IfOk result (λ t. t ≡ element place index) }

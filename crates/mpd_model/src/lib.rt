@@ -1,10 +1,8 @@
-//! The types of a script and of its state, the devices, and in `specs/` every definition that contracts cite.
+//! The types of a script and of its state, and in `specs/` every definition that contracts cite.
 #![tactic(auto)]
 
 pub mod call;
-pub mod device;
 pub mod expr;
-pub mod failing;
 pub mod lines;
 pub mod outcome;
 pub mod place;
@@ -12,7 +10,6 @@ pub mod read_fault;
 pub mod script;
 pub mod slot;
 pub mod step;
-pub mod steps;
 pub mod stmt;
 pub mod text;
 pub mod token;

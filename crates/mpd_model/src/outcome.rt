@@ -1,7 +1,5 @@
 //! How a run has ended.
 
-ghost use Rattle.std.specs.Prelude.{◌≡◌};
-
 use crate::call::Trap;
 use crate::step::CallId;
 use std::marker::Model;
@@ -13,10 +11,10 @@ pub struct TrappedRank {
     pub trap: Trap,
 }
 
-/// Calls by rank and number, which contracts see as a list.
+/// Calls, by rank and then by number, which contracts see as a list.
 #[derive(Debug, Drop)]
 pub struct CallList {
-    items: Vec<CallId>,
+    pub items: Vec<CallId>,
 }
 
 impl Model for CallList {
@@ -28,26 +26,10 @@ impl Model for CallList {
     ghost view = { λ l. l.items.items };
 }
 
-impl CallList {
-    /// The list of these calls. It takes no memory.
-    pub fn new(items: Vec<CallId>) -> CallList
-        ensures { result ≡ items.items }
-    {
-        CallList { items }
-    }
-
-    /// The calls, in order.
-    pub fn as_slice(&self) -> &[CallId]
-        ensures { result.now ≡ self.now }
-    {
-        &self.items
-    }
-}
-
 /// Trapped ranks in ascending order, which contracts see as a list.
 #[derive(Debug, Drop)]
 pub struct TrapList {
-    items: Vec<TrappedRank>,
+    pub items: Vec<TrappedRank>,
 }
 
 impl Model for TrapList {
@@ -57,22 +39,6 @@ impl Model for TrapList {
     ghost Value = { List TrappedRank };
 
     ghost view = { λ l. l.items.items };
-}
-
-impl TrapList {
-    /// The list of these ranks. It takes no memory.
-    pub fn new(items: Vec<TrappedRank>) -> TrapList
-        ensures { result ≡ items.items }
-    {
-        TrapList { items }
-    }
-
-    /// The ranks with their traps, in order.
-    pub fn as_slice(&self) -> &[TrappedRank]
-        ensures { result.now ≡ self.now }
-    {
-        self.items.as_slice()
-    }
 }
 
 /// What a state is in which no step is enabled (docs/DEFINITIONS.md, "Outcomes").

@@ -69,9 +69,9 @@ pub fn print_outcome(alloc: Global, outcome: &Outcome) -> Result<String, AllocEr
     let mut out = String::new(alloc);
     match outcome {
         Outcome::Done => out.push_str("done")?,
-        Outcome::Leftovers(calls) => push_calls(&mut out, "leftovers", calls.as_slice())?,
-        Outcome::Deadlock(calls) => push_calls(&mut out, "deadlock", calls.as_slice())?,
-        Outcome::Trap(traps) => push_traps(&mut out, traps.as_slice())?,
+        Outcome::Leftovers(calls) => push_calls(&mut out, "leftovers", &calls.items)?,
+        Outcome::Deadlock(calls) => push_calls(&mut out, "deadlock", &calls.items)?,
+        Outcome::Trap(traps) => push_traps(&mut out, &traps.items)?,
     }
     Ok(out)
 }

@@ -6,7 +6,7 @@ ghost use Rattle.mpd_model.specs.Input.{Reads};
 
 use crate::cursor::Tokens;
 use crate::place::{bracket, place_of};
-use mpd_model::expr::{BinaryOp, Expr, UnaryOp};
+use mpd_model::expr::{BinaryOp, Expr, ExprNode, UnaryOp};
 use mpd_model::place::DeclKind;
 use mpd_model::read_fault::{FaultCode, ReadFault};
 use mpd_model::token::{Mark, Token};
@@ -148,15 +148,21 @@ fn atom(alloc: Global, tokens: &mut Tokens<'_>, depth: usize) -> Result<Expr, Re
     match tokens.peek() {
         Token::Number(value) => {
             tokens.advance();
-            Ok(Expr::number(value))
+            Ok(Expr {
+                node: ExprNode::Number(value),
+            })
         }
         Token::Is(Mark::Rank) => {
             tokens.advance();
-            Ok(Expr::rank())
+            Ok(Expr {
+                node: ExprNode::Rank,
+            })
         }
         Token::Is(Mark::Size) => {
             tokens.advance();
-            Ok(Expr::size())
+            Ok(Expr {
+                node: ExprNode::Size,
+            })
         }
         Token::Name => place_inside(alloc, tokens, depth),
         Token::Is(Mark::RoundOpen) => rounds(alloc, tokens, depth),
@@ -175,7 +181,9 @@ fn place_inside(alloc: Global, tokens: &mut Tokens<'_>, depth: usize) -> Result<
     let slot = tokens.seek(DeclKind::Variable)?;
     tokens.advance();
     if slot.size.is_none() {
-        return Ok(Expr::cell(place_of(slot)));
+        return Ok(Expr {
+            node: ExprNode::Cell(place_of(slot)),
+        });
     }
     bracket(tokens)?;
     let index = expr(alloc, tokens, depth, WHOLE)?;

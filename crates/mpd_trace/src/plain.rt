@@ -15,8 +15,8 @@ ghost use Rattle.mpd_wire.specs.Told.{TellsAll, TellsRead};
 
 use crate::desk::TraceDesk;
 use mpd_code::lower::lower;
+use mpd_device::device::{Sink, Source};
 use mpd_model::call::Mode;
-use mpd_model::device::{Sink, Source};
 use mpd_model::read_fault::{FaultCode, ReadFault};
 use mpd_model::script::Script;
 use mpd_script::read;

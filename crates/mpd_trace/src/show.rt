@@ -65,9 +65,10 @@ fn push_cells(out: &mut String, core: &Core<'_>, rank: usize) -> Result<(), Allo
     requires { rank < length core.now.world.ranks }
     ensures { OnOk result (string_bytes out.new ≡ string_bytes out.old ++ cell_lines (slice_get core.now.world.ranks rank)) }
 {
-    push_values(out, "vars", core.variables(rank))?;
-    push_handles(out, core.handles(rank))?;
-    push_values(out, "out", core.output(rank))?;
+    let state = core.rank(rank);
+    push_values(out, "vars", state.variables())?;
+    push_handles(out, state.handles())?;
+    push_values(out, "out", state.output())?;
     Ok(())
 }
 

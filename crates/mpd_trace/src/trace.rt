@@ -10,8 +10,8 @@ ghost use Rattle.mpd_wire.specs.Told.{TellsAll, TellsRead};
 
 use crate::desk::TraceDesk;
 use mpd_code::code::Code;
+use mpd_device::device::{Sink, Source};
 use mpd_model::call::Mode;
-use mpd_model::device::{Sink, Source};
 use mpd_wire::engine::{EngineFault, run};
 use std::alloc::Global;
 

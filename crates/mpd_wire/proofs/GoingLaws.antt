@@ -1,8 +1,8 @@
 -- How a run over a source and a sink goes on.
 use Rattle.std.proofs.Common.{◌≡◌, ℕ, zero, suc, ◌+◌, ◌<◌, ◌≤◌, List, [], ◌++◌, length, take, Option, Some, None, IfSome, Result, Ok, Err, OnOk, refl, sym, ap, subst, ◌∙◌, append_assoc, append-nil, length-append, arith}
 use Rattle.std.specs.Io.KnownBytes.{Consumes, IsAtEnd, Keeps}
-use Rattle.mpd_model.specs.declared.device.DeviceFault.{DeviceFault}
-use Rattle.mpd_model.specs.Ends.{ends_of}
+use Rattle.mpd_device.specs.declared.device.DeviceFault.{DeviceFault}
+use Rattle.mpd_device.specs.Ends.{ends_of}
 use Rattle.mpd_wire.specs.Answered.{Answered, Tells, TellsFirst, TellsPart}
 use Rattle.mpd_wire.specs.Forward.{ended_from, part_from, last_line, lines_from}
 use Rattle.mpd_wire.specs.Told.{SoFar, TellsAll, TellsRead}

@@ -8,7 +8,7 @@ ghost use Rattle.mpd_wire.specs.Forward.{ended_from, part_from, lines_from, last
 ghost use Rattle.mpd_wire.specs.Told.{AppendsPart, TellsAll, TellsRead, Turned};
 
 use crate::feeder::{Desk, Feeder};
-use mpd_model::device::{DeviceFault, Sink, Source};
+use mpd_device::device::{DeviceFault, Sink, Source};
 use std::alloc::{AllocError, Global};
 use thiserror::Error;
 

@@ -6,7 +6,7 @@ use mpd_code::code::Code;
 use mpd_code::eval::eval;
 use mpd_code::node::{Action, Node};
 use mpd_model::call::{Activity, Mode, Trap};
-use mpd_model::expr::{BinaryOp, Expr};
+use mpd_model::expr::{BinaryOp, Expr, ExprNode};
 use mpd_model::step::Step;
 use mpd_rank::change::RankRecord;
 use mpd_rank::plan::LocalPlan;
@@ -97,12 +97,18 @@ fn shows_where_blocks_begin(rt: HostRuntime) {
 #[test]
 fn evaluates_an_expression(rt: HostRuntime) {
     let alloc = rt.alloc();
-    let sum = Expr::binary(alloc, BinaryOp::Add, Expr::rank(), Expr::size()).expect(&rt, "a sum");
+    let rank = Expr {
+        node: ExprNode::Rank,
+    };
+    let size = Expr {
+        node: ExprNode::Size,
+    };
+    let sum = Expr::binary(alloc, BinaryOp::Add, rank, size).expect(&rt, "a sum");
     assert_eq!(rt; eval(&sum, &[], 2, 5), Ok(7));
-    let quotient = Expr::binary(alloc, BinaryOp::Divide, sum, Expr::number(0)).expect(
-        &rt,
-        "a quotient",
-    );
+    let zero = Expr {
+        node: ExprNode::Number(0),
+    };
+    let quotient = Expr::binary(alloc, BinaryOp::Divide, sum, zero).expect(&rt, "a quotient");
     assert_eq!(rt; eval(&quotient, &[], 2, 5), Err(Trap::ZeroDivisor));
 }
 

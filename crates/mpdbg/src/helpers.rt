@@ -2,7 +2,7 @@
 
 use mpd_code::code::Code;
 use mpd_code::lower::lower;
-use mpd_model::device::{FromReader, ToWriter};
+use mpd_device::device::{FromReader, ToWriter};
 use mpd_model::read_fault::{FaultCode, ReadFault};
 use mpd_script::read;
 use mpd_trace::plain::{PlainFault, plain};

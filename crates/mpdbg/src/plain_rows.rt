@@ -1,8 +1,8 @@
 //! Rows of what the program answers without words: what no clause says.
 
 use crate::helpers::{answers, refused, repeated};
-use mpd_model::device::{FromReader, ToWriter};
-use mpd_model::failing::{FailingSource, Limit};
+use mpd_device::device::{FromReader, ToWriter};
+use mpd_device::failing::{FailingSource, Limit};
 use mpd_model::read_fault::FaultCode;
 use mpd_trace::plain::{PlainFault, plain};
 use mpd_wire::engine::EngineFault;

@@ -3,9 +3,9 @@
 use crate::helpers::{FIRST, declaring, lowered, repeated};
 use mpd_code::code::Code;
 use mpd_core::state::Core;
+use mpd_device::device::{FromReader, Sink, Source, ToWriter};
+use mpd_device::failing::{FailingSink, FailingSource, Limit};
 use mpd_model::call::{Mode, Trap};
-use mpd_model::device::{FromReader, Sink, Source, ToWriter};
-use mpd_model::failing::{FailingSink, FailingSource, Limit};
 use mpd_model::outcome::{CallList, Outcome, TrapList, TrappedRank};
 use mpd_model::read_fault::{FaultCode, ReadFault};
 use mpd_model::step::{CallId, Step};
@@ -197,11 +197,15 @@ fn prints(rt: &impl Abort, alloc: Global, outcome: Outcome, wanted: &str) {
 }
 
 fn list_of(alloc: Global, calls: &[CallId]) -> Result<CallList, AllocError> {
-    Ok(CallList::new(calls.to_vec(alloc)?))
+    Ok(CallList {
+        items: calls.to_vec(alloc)?,
+    })
 }
 
 fn trapped(alloc: Global, ranks: &[TrappedRank]) -> Result<TrapList, AllocError> {
-    Ok(TrapList::new(ranks.to_vec(alloc)?))
+    Ok(TrapList {
+        items: ranks.to_vec(alloc)?,
+    })
 }
 
 #[test]

@@ -1,6 +1,6 @@
 //! Where bytes come from and where they go: one read and one write at a time, each counted.
 ghost use Rattle.std.specs.Prelude.{◌≡◌, ℕ, ◌+◌, ◌<◌, List, Option, length, true, false, OnOk, OnErr, IfOk, IsErr, ◌⊎◌};
-ghost use Rattle.mpd_model.specs.Ends.{ends_of};
+ghost use Rattle.mpd_device.specs.Ends.{ends_of};
 ghost use Rattle.std.specs.Io.{ReadsAtMost, WritesAtMost};
 ghost use Rattle.std.specs.Io.KnownBytes.{ReadConsumes, WriteAppends};
 

@@ -2,8 +2,8 @@
 ghost use Rattle.std.specs.Prelude.{◌≡◌, ◌+◌, ◌<◌, ◌≤◌, length, true, false, OnOk, OnErr, IfOk, ◌⊎◌};
 ghost use Rattle.std.specs.Io.{ReadsAtMost, WritesAtMost};
 ghost use Rattle.std.specs.Io.KnownBytes.{ReadConsumes, WriteAppends};
-ghost use Rattle.mpd_model.specs.Ends.{ends_of};
-ghost use Rattle.mpd_model.specs.Limits.{is_reached, limit_after, most_of};
+ghost use Rattle.mpd_device.specs.Ends.{ends_of};
+ghost use Rattle.mpd_device.specs.Limits.{is_reached, limit_after, most_of};
 
 use crate::device::{DeviceFault, Sink, Source};
 use crate::steps::Steps;

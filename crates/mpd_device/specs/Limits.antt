@@ -1,7 +1,7 @@
 -- When a device that is made to fail does so.
 use Rattle.std.specs.Prelude.{ℕ, ◌-◌, min, Bool, ◌==◌}
-use Rattle.mpd_model.specs.declared.failing.Limit.{Limit}
-use Rattle.mpd_model.specs.declared.failing.Limit.TheVariants.{Calls, Bytes}
+use Rattle.mpd_device.specs.declared.failing.Limit.{Limit}
+use Rattle.mpd_device.specs.declared.failing.Limit.TheVariants.{Calls, Bytes}
 
 -- no call, or no byte, is left
 abbrev pub is_reached : Limit → Bool

@@ -16,7 +16,7 @@ impl Model for Chain {
 
     ghost Value = { ℕ };
 
-    ghost use Rattle.mpd_model.specs.Depth.{depth};
+    ghost use Rattle.mpd_device.specs.Depth.{depth};
 
     ghost view = { depth };
 

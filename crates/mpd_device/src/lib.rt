@@ -1,0 +1,6 @@
+//! Where bytes come from and where they go: devices that are counted, and devices that are made to fail.
+#![tactic(auto)]
+
+pub mod device;
+pub mod failing;
+pub mod steps;
