@@ -148,7 +148,7 @@ impl<'c> Core<'c> {
     }
 
     /// What memory is taken from.
-    pub fn allocator(&self) -> Global {
+    pub(crate) fn allocator(&self) -> Global {
         *self.sets.allocator()
     }
 

@@ -159,7 +159,7 @@ fn push_pending(
 ) -> Result<(), AllocError>
     ensures { OnOk result (string_bytes out.new ≡ string_bytes out.old ++ pending_line core.now.world sender receiver) }
 {
-    let numbers = pending_numbers(core, sender, receiver)?;
+    let numbers = pending_numbers(*out.allocator(), core, sender, receiver)?;
     if numbers.is_empty() {
         return Ok(());
     }
@@ -169,13 +169,14 @@ fn push_pending(
 
 /// The numbers of a rank's free sends to another.
 fn pending_numbers(
+    alloc: Global,
     core: &Core<'_>,
     sender: usize,
     receiver: usize,
 ) -> Result<Vec<usize>, AllocError>
     ensures { IfOk result (λ numbers. numbers.items ≡ pending core.now.world sender receiver) }
 {
-    let mut numbers = Vec::new(core.allocator());
+    let mut numbers = Vec::new(alloc);
     let count = core.call_count(sender);
     for index in 0..count {
         let is_chosen = core.is_pending(sender, receiver, index);
@@ -199,7 +200,7 @@ fn push_all_posted(out: &mut String, core: &Core<'_>) -> Result<(), AllocError>
 fn push_posted(out: &mut String, core: &Core<'_>, rank: usize) -> Result<(), AllocError>
     ensures { OnOk result (string_bytes out.new ≡ string_bytes out.old ++ posted_line core.now.world rank) }
 {
-    let numbers = posted_numbers(core, rank)?;
+    let numbers = posted_numbers(*out.allocator(), core, rank)?;
     if numbers.is_empty() {
         return Ok(());
     }
@@ -208,10 +209,10 @@ fn push_posted(out: &mut String, core: &Core<'_>, rank: usize) -> Result<(), All
 }
 
 /// The numbers of a rank's free receives.
-fn posted_numbers(core: &Core<'_>, rank: usize) -> Result<Vec<usize>, AllocError>
+fn posted_numbers(alloc: Global, core: &Core<'_>, rank: usize) -> Result<Vec<usize>, AllocError>
     ensures { IfOk result (λ numbers. numbers.items ≡ posted core.now.world rank) }
 {
-    let mut numbers = Vec::new(core.allocator());
+    let mut numbers = Vec::new(alloc);
     let count = core.call_count(rank);
     for index in 0..count {
         let is_chosen = core.is_posted(rank, index);
@@ -255,7 +256,7 @@ fn push_sets(out: &mut String, sets: &[MatchSet]) -> Result<(), AllocError>
 fn push_outcome(out: &mut String, core: &Core<'_>) -> Result<(), AllocError>
     ensures { OnOk result (string_bytes out.new ≡ string_bytes out.old ++ outcome_line (outcome core.now.world)) }
 {
-    let alloc = core.allocator();
+    let alloc = *out.allocator();
     if let Some(ending) = core.outcome(alloc)? {
         let text = print_outcome(alloc, &ending)?;
         write!(out, "outcome {text}\n")?;
