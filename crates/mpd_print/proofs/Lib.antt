@@ -1,12 +1,1 @@
 pub mod PrintLemmas
-pub mod Cuts
-pub mod Signs
-pub mod Runs
-pub mod PrintTerms
-pub mod PrintStatements
-pub mod PrintScript
-pub mod GoodSpots
-pub mod PrintableTerms
-pub mod ReadCosts
-pub mod ReadTrees
-pub mod PrintableStatements

@@ -2,7 +2,6 @@
 #![tactic(auto)]
 
 mod expr;
-pub mod laws;
 mod script;
 mod stmt;
 

@@ -1,8 +1,9 @@
 -- What may stand in a text is ASCII.
-use Rattle.std.proofs.Common.{◌≡◌, ℕ, zero, suc, ◌+◌, ◌<◌, true, List, [], ◌∷◌, length, refl, arith, inl, inr, IsAscii, drop}
+use Rattle.std.proofs.Common.{◌≡◌, ℕ, zero, suc, ◌+◌, ◌<◌, true, List, [], ◌∷◌, length, refl, arith, inl, inr, IsAscii, drop, Result, Ok, Err}
 use Rattle.std.proofs.lemmas.Bool.{cases_Bool}
 use Rattle.std.proofs.lemmas.Bool.Decides.{nat_tests}
 use Rattle.std.specs.List.{prefix_len}
+use Rattle.std.specs.Result.{MatchResult, IsOk}
 use Rattle.mpd_model.specs.Grammar.{is_text}
 
 text_byte : (b : ℕ) → is_text b ≡ true → b < 128
@@ -29,3 +30,8 @@ pub counted_IsAscii : (z : List ℕ) (n : ℕ) → n + prefix_len is_text (drop 
 counted_IsAscii z n e h =
     let f = rw (h, drop_whole) at e in
     text_IsAscii z (omega arith)
+
+-- what fails only where a fact is false succeeds where it is true
+pub ok_where : {A E : Type 0} (P : A → Type 0) (Q : E → Type 0) (U : Type 0) (r : Result A E) → MatchResult r P (λ e. (U → ⊥) × Q e) → U → IsOk r
+ok_where P Q U (Ok a) m u = search
+ok_where P Q U (Err e) m u = absurd (m.0 u)

@@ -3,7 +3,6 @@
 
 mod cursor;
 mod expr;
-pub mod laws;
 mod lex;
 mod place;
 mod printed;

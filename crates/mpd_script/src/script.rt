@@ -9,8 +9,8 @@ ghost use Rattle.mpd_model.specs.Printable.{IsPrintable};
 ghost use Rattle.mpd_model.specs.Program.{Program, IsLegal};
 
 use crate::cursor::Tokens;
-use crate::laws::read_scripts_are_printable;
 use crate::stmt::{MAX_BLOCKS, body};
+use mpd_laws::round_trip::read_scripts_are_printable;
 use mpd_model::place::DeclKind;
 use mpd_model::read_fault::{FaultCode, ReadFault};
 use mpd_model::script::Script;

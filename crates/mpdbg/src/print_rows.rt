@@ -2,7 +2,8 @@
 //! as the same again.
 
 use crate::helpers::{FIRST, joined};
-use mpd_script::{laws, print, read};
+use mpd_laws::round_trip;
+use mpd_script::{print, read};
 use std::alloc::Global;
 use std::process::Abort;
 
@@ -70,6 +71,6 @@ fn prints_what_is_needed(rt: HostRuntime) {
 
 #[test]
 fn laws_of_printing_cost_nothing() {
-    laws::read_scripts_are_printable();
-    laws::canonical_is_read_again();
+    round_trip::read_scripts_are_printable();
+    round_trip::canonical_is_read_again();
 }

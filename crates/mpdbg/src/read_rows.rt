@@ -1,11 +1,12 @@
 //! Texts whose outcome was worked out by hand.
 
 use crate::helpers::{FIRST, declaring, repeated};
+use mpd_laws::reading;
 use mpd_model::expr::ExprNode;
 use mpd_model::read_fault::{FaultCode, ReadFault};
 use mpd_model::script::Script;
 use mpd_model::stmt::StmtNode;
-use mpd_script::{laws, read};
+use mpd_script::read;
 use std::process::Abort;
 
 const HEADER: &str = "mpd 1;ranks 1;";
@@ -116,15 +117,15 @@ fn numbers_and_names(rt: HostRuntime) {
 
 #[test]
 fn laws_cost_nothing(_rt: HostRuntime) {
-    laws::expressions_are_written();
-    laws::statements_are_written();
-    laws::scripts_are_written();
-    laws::no_text_is_memory();
-    laws::depth_is_enough();
-    laws::turns_are_enough();
-    laws::budget_decides_depth_alone();
-    laws::blocks_decide_depth_alone();
-    laws::written_expressions_are_read();
-    laws::written_statements_are_read();
-    laws::written_scripts_are_read();
+    reading::expressions_are_written();
+    reading::statements_are_written();
+    reading::scripts_are_written();
+    reading::no_text_is_memory();
+    reading::depth_is_enough();
+    reading::turns_are_enough();
+    reading::budget_decides_depth_alone();
+    reading::blocks_decide_depth_alone();
+    reading::written_expressions_are_read();
+    reading::written_statements_are_read();
+    reading::written_scripts_are_read();
 }

@@ -1,4 +1,4 @@
-use Rattle.mpd_script.proofs.CompleteScript.{reading_of}
+use Rattle.mpd_laws.proofs.CompleteScript.{reading_of}
 use Rattle.mpd_script.proofs.script.read.Goals as goal
 
 -- src/script.rt:239:5

@@ -1,0 +1,249 @@
+-- What is written as a script, within the limits, is read.
+use Rattle.std.proofs.Common.{◌≡◌, ℕ, zero, suc, ◌+◌, ◌<◌, ◌≤◌, pos, Bool, true, false, cond, nat_le, nat_lt, List, [], ◌∷◌, ◌++◌, length, length-append, append-nil, append_assoc, Option, Some, None, Ok, refl, ap, sym, ◌∙◌, arith}
+use Rattle.std.proofs.lemmas.Bool.Decides.{nat_tests}
+use Rattle.std.specs.List.{prefix_len}
+use denote.Enum.Bare.{true_same}
+use Rattle.mpd_model.specs.contracts.token.Mark.{the_type}
+use Rattle.mpd_model.specs.declared.place.DeclKind.TheVariants.{Variable}
+use Rattle.mpd_model.specs.declared.token.Mark.{Mark}
+use Rattle.mpd_model.specs.declared.token.Mark.TheVariants as m
+use Rattle.mpd_model.specs.declared.token.Token.{Token}
+use Rattle.mpd_model.specs.declared.token.Token.TheVariants.{Number, Name, Is}
+use Rattle.mpd_model.specs.Declaration.{Declared, cells_of, variables_in, handles_in}
+use Rattle.mpd_model.specs.Fits.{Gives, blocks_in, dearest_body, dearest_script}
+use Rattle.mpd_model.specs.Grammar.{version_by, version, rank_count, ranks_by, ranks, sized_at, size_by, sized, single, declaring, decl_by, decl, decls_from, decls, header, body, block, max_text, is_text, read_of, reading}
+use Rattle.mpd_model.specs.Grammar as grammar
+use Rattle.mpd_model.specs.Input.{Input, Outcome, Parser, and_then, start_of, token, token_of, spelling, place, next, expect, sees, is_mark, same_mark, after, fresh, add, fits, slot_in}
+use Rattle.mpd_model.specs.Program.{Program, IsLegal}
+use Rattle.mpd_model.specs.Tokens.{Spot, tokens}
+use Rattle.mpd_model.specs.Tree.{Tree, block_of}
+use Rattle.mpd_model.specs.Written.{WrittenTree, prints, sends, receives, assigns, asserts, repeats, chooses, chooses_else, WrittenBody, ended, follows, WrittenDecls, none, declares, declares_array, variable_of, WrittenScript, script}
+use Rattle.mpd_laws.proofs.Cells.{variables_in-more, handles_in-more}
+use Rattle.mpd_laws.proofs.Complete.{bind_to, expect_at}
+use Rattle.mpd_laws.proofs.CompleteStatements.{target_first, body_complete}
+
+-- the input with other tokens next and other declarations
+abbrev has : List Spot → List Declared → Input → Input
+has ss ds i = record i { tokens = ss; decls = ds }
+
+expect_has : (wanted : Mark) (s : Spot) (rest : List Spot) (ds : List Declared) (i : Input) → s.token ≡ Is wanted → expect wanted (has (s ∷ rest) ds i) ≡ Ok (tt, has rest ds i)
+expect_has wanted s rest ds i e = expect_at wanted s rest i.budget (has rest ds i) e
+
+mark_seen : (wanted : Mark) (t : Token) → t ≡ Is wanted → is_mark wanted t ≡ true
+unfolding same_mark
+mark_seen wanted t e = ap (is_mark wanted) e ∙ true_same the_type wanted wanted refl
+
+-- ---- a declaration
+
+fresh_has : (n : Spot) (rest : List Spot) (ds : List Declared) (i : Input) → slot_in ds n.text ≡ None → fresh (has (n ∷ rest) ds i) ≡ Ok (tt, has (n ∷ rest) ds i)
+unfolding fresh spelling
+fresh_has n rest ds i h = rw h refl
+
+add_has : (name : List ℕ) (size : Option ℕ) (p : ℕ) (ss : List Spot) (ds : List Declared) (i : Input) → fits Variable size ds ≡ true
+    → add Variable name size p (has ss ds i) ≡ Ok (tt, has ss (ds ++ variable_of name size ∷ []) i)
+unfolding add
+add_has name size p ss ds i h = rw h refl
+
+no_size : (s : Spot) → s.token ≡ Is m.Semicolon → is_mark m.SquareOpen s.token ≡ false
+unfolding same_mark
+no_size s e = ap (is_mark m.SquareOpen) e
+
+single_has : (name : List ℕ) (p : ℕ) (end : Spot) (rest : List Spot) (ds : List Declared) (i : Input) → end.token ≡ Is m.Semicolon → fits Variable None ds ≡ true
+    → single Variable name p (has (end ∷ rest) ds i) ≡ Ok (tt, has rest (ds ++ variable_of name None ∷ []) i)
+unfolding single
+single_has name p end rest ds i e h =
+    bind_to _ _ _ _ (add_has name None p (end ∷ rest) ds i h) (expect_has m.Semicolon end rest (ds ++ variable_of name None ∷ []) i e)
+
+sized_at_has : (name : List ℕ) (n : ℕ) (c z end : Spot) (rest : List Spot) (ds : List Declared) (i : Input) → z.token ≡ Is m.SquareClose → end.token ≡ Is m.Semicolon
+    → fits Variable (Some n) ds ≡ true → sized_at Variable name (Some n) (has (c ∷ z ∷ end ∷ rest) ds i) ≡ Ok (tt, has rest (ds ++ variable_of name (Some n) ∷ []) i)
+unfolding next
+sized_at_has name n c z end rest ds i ez e h =
+    let es = ds ++ variable_of name (Some n) ∷ [] in
+    bind_to _ _ _ _ (add_has name (Some n) (place (has (c ∷ z ∷ end ∷ rest) ds i)) (c ∷ z ∷ end ∷ rest) ds i h)
+    (bind_to _ _ _ _ (expect_has m.SquareClose z (end ∷ rest) es i ez) (expect_has m.Semicolon end rest es i e))
+
+sized_has : (name : List ℕ) (n : ℕ) (c z end : Spot) (rest : List Spot) (ds : List Declared) (i : Input) → c.token ≡ Number (pos n) → z.token ≡ Is m.SquareClose
+    → end.token ≡ Is m.Semicolon → fits Variable (Some n) ds ≡ true → sized Variable name (has (c ∷ z ∷ end ∷ rest) ds i) ≡ Ok (tt, has rest (ds ++ variable_of name (Some n) ∷ []) i)
+unfolding sized token
+sized_has name n c z end rest ds i ec ez e h = ap (λ u. size_by Variable name u (has (c ∷ z ∷ end ∷ rest) ds i)) ec ∙ sized_at_has name n c z end rest ds i ez e h
+
+-- one of two, each with its input
+chosen : (b c : Bool) (p q : Parser (Unit {0})) (x y : Input) (o : Outcome (Unit {0})) → b ≡ c → cond c p q (cond c x y) ≡ o → cond b p q (cond b x y) ≡ o
+chosen b c p q x y o e h = rw e h
+
+declaring_has : (n end : Spot) (rest : List Spot) (ds : List Declared) (i : Input) → slot_in ds n.text ≡ None → end.token ≡ Is m.Semicolon → fits Variable None ds ≡ true
+    → declaring Variable (has (n ∷ end ∷ rest) ds i) ≡ Ok (tt, has rest (ds ++ variable_of n.text None ∷ []) i)
+unfolding declaring next spelling sees token after
+declaring_has n end rest ds i free e h =
+    bind_to _ _ _ _ (fresh_has n (end ∷ rest) ds i free)
+    (chosen (is_mark m.SquareOpen end.token) false _ _ _ _ _ (no_size end e) (single_has n.text (place (has (n ∷ end ∷ rest) ds i)) end rest ds i e h))
+
+array_has : (n a c z end : Spot) (cells : ℕ) (rest : List Spot) (ds : List Declared) (i : Input) → slot_in ds n.text ≡ None → a.token ≡ Is m.SquareOpen
+    → c.token ≡ Number (pos cells) → z.token ≡ Is m.SquareClose → end.token ≡ Is m.Semicolon → fits Variable (Some cells) ds ≡ true
+    → declaring Variable (has (n ∷ a ∷ c ∷ z ∷ end ∷ rest) ds i) ≡ Ok (tt, has rest (ds ++ variable_of n.text (Some cells) ∷ []) i)
+unfolding declaring next spelling sees token after
+array_has n a c z end cells rest ds i free ea ec ez e h =
+    bind_to _ _ _ _ (fresh_has n (a ∷ c ∷ z ∷ end ∷ rest) ds i free)
+    (chosen (is_mark m.SquareOpen a.token) true _ _ _ _ _ (mark_seen m.SquareOpen a.token ea) (sized_has n.text cells c z end rest ds i ec ez e h))
+
+decl_as : (n : Spot) (ss : List Spot) (ds : List Declared) (i : Input) → n.token ≡ Name → decl Variable (has (n ∷ ss) ds i) ≡ declaring Variable (has (n ∷ ss) ds i)
+unfolding decl token
+decl_as n ss ds i e = ap (λ u. decl_by Variable u (has (n ∷ ss) ds i)) e
+
+-- ---- all declarations
+
+decls_more : (n : ℕ) (v : Spot) (ss : List Spot) (ds : List Declared) (i : Input) → is_mark m.Var v.token ≡ true
+    → decls_from (suc n) (has (v ∷ ss) ds i) ≡ and_then (decl Variable (has ss ds i)) (λ u. decls_from n)
+unfolding decls_from sees after token next
+decls_more n v ss ds i h = rw h refl
+
+decls_end : (n : ℕ) (ss : List Spot) (ds : List Declared) (i : Input) → is_mark m.Var (token_of ss) ≡ false → decls_from (suc n) (has ss ds i) ≡ Ok (tt, has ss ds i)
+unfolding decls_from sees after token
+decls_end n ss ds i h = rw h refl
+
+record Grows (ds es : List Declared) : Type 0 where
+  variables : variables_in ds ≤ variables_in es
+  handles : handles_in ds ≤ handles_in es
+
+less_grows : (ds es : List Declared) (d : Declared) → Grows (ds ++ d ∷ []) es → Grows ds es
+less_grows ds es d x = record {
+  variables = let y = x.variables in omega (arith, variables_in-more ds d);
+  handles = let y = x.handles in omega (arith, handles_in-more ds d);
+}
+
+decls_grow : (ds : List Declared) (ss : List Spot) (es : List Declared) → WrittenDecls ds ss es → Grows ds es
+decls_grow _ _ _ (none ds) = record { variables = omega arith; handles = omega arith }
+decls_grow _ _ _ (declares ds es v n end ss h1 h2 h3 h4 w) = less_grows ds es (variable_of n.text None) (decls_grow (ds ++ variable_of n.text None ∷ []) ss es w)
+decls_grow _ _ _ (declares_array ds es v n a c b end cells ss h1 h2 h3 h4 h5 h6 h7 w) =
+    less_grows ds es (variable_of n.text (Some cells)) (decls_grow (ds ++ variable_of n.text (Some cells) ∷ []) ss es w)
+
+room : (ds es : List Declared) (name : List ℕ) (size : Option ℕ) → Grows (ds ++ variable_of name size ∷ []) es → variables_in es ≤ 1024 → handles_in es ≤ 256 → fits Variable size ds ≡ true
+room ds es name size g a b =
+    let x : variables_in (ds ++ variable_of name size ∷ []) ≡ variables_in ds + cells_of size = variables_in-more ds (variable_of name size) in
+    let y : handles_in (ds ++ variable_of name size ∷ []) ≡ handles_in ds + 0 = handles_in-more ds (variable_of name size) in
+    let p : nat_le (variables_in ds + cells_of size) 1024 ≡ true = let z = g.variables in grind (arith, nat_tests) in
+    let q : nat_le (handles_in ds + 0) 256 ≡ true = let z = g.handles in grind (arith, nat_tests) in
+    rw (p, q) refl
+
+decls_has : (ds : List Declared) (ss : List Spot) (es : List Declared) → WrittenDecls ds ss es → (turns : ℕ) (rest : List Spot) (i : Input) → length ss < turns
+    → is_mark m.Var (token_of rest) ≡ false → variables_in es ≤ 1024 → handles_in es ≤ 256 → decls_from turns (has (ss ++ rest) ds i) ≡ Ok (tt, has rest es i)
+decls_has _ _ _ (none ds) zero rest i less h a b = absurd (omega arith)
+decls_has _ _ _ (none ds) (suc turns) rest i less h a b = decls_end turns rest ds i h
+decls_has _ _ _ (declares ds es v n end ss h1 h2 h3 h4 w) zero rest i less h a b = absurd (omega arith)
+decls_has _ _ _ (declares ds es v n end ss h1 h2 h3 h4 w) (suc turns) rest i less h a b =
+    decls_more turns v (n ∷ end ∷ (ss ++ rest)) ds i (mark_seen m.Var v.token h1)
+    ∙ bind_to _ _ _ _ (decl_as n (end ∷ (ss ++ rest)) ds i h2 ∙ declaring_has n end (ss ++ rest) ds i h3 h4 (room ds es n.text None (decls_grow _ ss es w) a b))
+    (decls_has (ds ++ variable_of n.text None ∷ []) ss es w turns rest i (omega arith) h a b)
+decls_has _ _ _ (declares_array ds es v n o c z end cells ss h1 h2 h3 h4 h5 h6 h7 w) zero rest i less h a b = absurd (omega arith)
+decls_has _ _ _ (declares_array ds es v n o c z end cells ss h1 h2 h3 h4 h5 h6 h7 w) (suc turns) rest i less h a b =
+    decls_more turns v (n ∷ o ∷ c ∷ z ∷ end ∷ (ss ++ rest)) ds i (mark_seen m.Var v.token h1)
+    ∙ bind_to _ _ _ _ (decl_as n (o ∷ c ∷ z ∷ end ∷ (ss ++ rest)) ds i h2
+    ∙ array_has n o c z end cells (ss ++ rest) ds i h3 h4 h5 h6 h7 (room ds es n.text (Some cells) (decls_grow _ ss es w) a b))
+    (decls_has (ds ++ variable_of n.text (Some cells) ∷ []) ss es w turns rest i (omega arith) h a b)
+
+all_decls : (ss rest : List Spot) (es : List Declared) (i : Input) → WrittenDecls [] ss es → is_mark m.Var (token_of rest) ≡ false → variables_in es ≤ 1024 → handles_in es ≤ 256
+    → decls (has (ss ++ rest) [] i) ≡ Ok (tt, has rest es i)
+unfolding decls
+all_decls ss rest es i w h a b =
+    let turns : length ss < length (ss ++ rest) + 1 = omega (arith, length-append ss rest) in
+    decls_has [] ss es w (length (ss ++ rest) + 1) rest i turns h a b
+
+-- ---- the header
+
+version_has : (s : Spot) (n : ℕ) (rest : List Spot) (ds : List Declared) (i : Input) → s.token ≡ Number (pos n) → n ≡ 1 → version (has (s ∷ rest) ds i) ≡ Ok (tt, has rest ds i)
+unfolding version token next
+version_has s n rest ds i e one = ap (λ u. version_by u (has (s ∷ rest) ds i)) (e ∙ ap (λ k. Number (pos k)) one)
+
+count_fits : (n : ℕ) → 1 ≤ n → n ≤ 16 → rank_count (pos n) ≡ Some n
+count_fits n a b =
+    let p : nat_le 1 n ≡ true = grind (arith, nat_tests) in
+    let q : nat_le n 16 ≡ true = grind (arith, nat_tests) in
+    rw (p, q) refl
+
+ranks_by_has : (s : Spot) (n : ℕ) (rest : List Spot) (ds : List Declared) (i : Input) → rank_count (pos n) ≡ Some n → ranks_by (Number (pos n)) (has (s ∷ rest) ds i) ≡ Ok (n, has rest ds i)
+unfolding next
+ranks_by_has s n rest ds i h = ap (λ o. grammar.ranks_of o (has (s ∷ rest) ds i)) h
+
+ranks_has : (s : Spot) (n : ℕ) (rest : List Spot) (ds : List Declared) (i : Input) → s.token ≡ Number (pos n) → 1 ≤ n → n ≤ 16 → ranks (has (s ∷ rest) ds i) ≡ Ok (n, has rest ds i)
+unfolding ranks token
+ranks_has s n rest ds i e a b = ap (λ u. ranks_by u (has (s ∷ rest) ds i)) e ∙ ranks_by_has s n rest ds i (count_fits n a b)
+
+header_has : (mpd v a r c b : Spot) (ss rest : List Spot) (version count : ℕ) (es : List Declared) (i : Input)
+    → mpd.token ≡ Is m.Mpd → v.token ≡ Number (pos version) → version ≡ 1 → a.token ≡ Is m.Semicolon → r.token ≡ Is m.Ranks → c.token ≡ Number (pos count) → 1 ≤ count → count ≤ 16
+    → b.token ≡ Is m.Semicolon → WrittenDecls [] ss es → is_mark m.Var (token_of rest) ≡ false → variables_in es ≤ 1024 → handles_in es ≤ 256
+    → header (has (mpd ∷ v ∷ a ∷ r ∷ c ∷ b ∷ (ss ++ rest)) [] i) ≡ Ok (count, has rest es i)
+unfolding header
+header_has mpd v a r c b ss rest version count es i hm hv one ha hr hc low high hb w h x y =
+    bind_to _ _ _ _ (expect_has m.Mpd mpd (v ∷ a ∷ r ∷ c ∷ b ∷ (ss ++ rest)) [] i hm)
+    (bind_to _ _ _ _ (version_has v version (a ∷ r ∷ c ∷ b ∷ (ss ++ rest)) [] i hv one)
+    (bind_to _ _ _ _ (expect_has m.Semicolon a (r ∷ c ∷ b ∷ (ss ++ rest)) [] i ha)
+    (bind_to _ _ _ _ (expect_has m.Ranks r (c ∷ b ∷ (ss ++ rest)) [] i hr)
+    (bind_to _ _ _ _ (ranks_has c count (b ∷ (ss ++ rest)) [] i hc low high)
+    (bind_to _ _ _ _ (expect_has m.Semicolon b (ss ++ rest) [] i hb)
+    (bind_to _ _ _ _ (all_decls ss rest es i w h x y) refl))))))
+
+-- ---- the body
+
+mark_differs : (t : Token) (k : Mark) → t ≡ Is k → same_mark k m.Var ≡ false → is_mark m.Var t ≡ false
+mark_differs t k e h = ap (is_mark m.Var) e ∙ h
+
+assigned_is_no_decl : (s : Spot) (v xs us : List Spot) → v ≡ s ∷ xs → s.token ≡ Name → is_mark m.Var (token_of (v ++ us)) ≡ false
+assigned_is_no_decl s v xs us e h = rw e (ap (is_mark m.Var) h)
+
+tree_is_no_decl : (ds : List Declared) (ss : List Spot) (t : Tree) (ls : List ℕ) → WrittenTree ds ss t ls → (r : List Spot) → is_mark m.Var (token_of (ss ++ r)) ≡ false
+unfolding same_mark
+tree_is_no_decl ds _ _ _ (prints k end e v h1 h2 h3) r = mark_differs k.token m.Print h1 refl
+tree_is_no_decl ds _ _ _ (sends k to tag end a b c v d g h1 h2 h3 h4 h5 h6 h7) r = mark_differs k.token m.Send h1 refl
+tree_is_no_decl ds _ _ _ (assigns equal end n e into v h1 h2 h3 h4) r =
+    let f = target_first ds n into h1 in
+    let same : n ++ equal ∷ e ++ end ∷ [] ++ r ≡ n ++ (equal ∷ (e ++ (end ∷ r))) = simp append_assoc in
+    rw same (assigned_is_no_decl f.0 n f.1 (equal ∷ (e ++ (end ∷ r))) f.2 f.3)
+tree_is_no_decl ds _ _ _ (asserts k end e v h1 h2 h3) r = mark_differs k.token m.Assert h1 refl
+tree_is_no_decl ds _ _ _ (repeats k e a v x ms h1 h2 b) r = mark_differs k.token m.While h1 refl
+tree_is_no_decl ds _ _ _ (receives k x tag end n a b v d g h1 h2 h3 h4 h5 h6 h7) r = mark_differs k.token m.Recv h1 refl
+tree_is_no_decl ds _ _ _ (chooses k e a v x ms h1 h2 b) r = mark_differs k.token m.If h1 refl
+tree_is_no_decl ds _ _ _ (chooses_else k w e a b v x y ms ns h1 h2 f h3 g) r = mark_differs k.token m.If h1 refl
+
+body_is_no_decl : (ds : List Declared) (ss : List Spot) (ts : List Tree) (ls : List ℕ) → WrittenBody ds ss ts ls → is_mark m.Var (token_of ss) ≡ false
+body_is_no_decl ds _ _ _ ended = refl
+body_is_no_decl ds _ _ _ (follows ss rs t ts ls ms v w) = tree_is_no_decl ds ss t ls v rs
+
+whole_body : (ss : List Spot) (ds : List Declared) (ts : List Tree) (ls : List ℕ) (i : Input) → i.lines ≡ [] → (w : WrittenBody ds ss ts ls) → blocks_in (block_of ts) ≤ 64
+    → dearest_body ds ss ts ls w ≤ 64 → length ls ≤ 4096 → Gives (body (block 64) false (has ss ds i)) ts [] ls (has ss ds i)
+whole_body ss ds ts ls i none_yet w deep dear few =
+    let same : i.lines ++ ls ≡ ls = ap (λ r. r ++ ls) none_yet in
+    let few' : length i.lines + length ls ≤ 4096 = omega (arith, ap length none_yet) in
+    rw same at (body_complete 64 false ss [] ts ls (has ss ds i) w (sym (append-nil ss)) refl deep dear few')
+
+-- ---- scripts
+
+with_version : (p : Program) (n : ℕ) → p.version ≡ n → record { version = n; ranks = p.ranks; decls = p.decls; body = p.body; lines = p.lines } ≡ p
+with_version p n e = ap (λ k. record { version = k; ranks = p.ranks; decls = p.decls; body = p.body; lines = p.lines }) (sym e)
+
+script_has : (ss rs : List Spot) (p : Program) (i : Input) → p.version ≡ 1 → header (has ss [] i) ≡ Ok (p.ranks, has rs p.decls i)
+    → Gives (body (block 64) false (has rs p.decls i)) p.body [] p.lines (has rs p.decls i) → read_of (grammar.script (has ss [] i)) ≡ Ok p
+unfolding grammar.script
+script_has ss rs p i one h g = ap read_of (bind_to _ _ _ _ h (bind_to _ _ _ _ g.is refl)) ∙ ap Ok (with_version p 1 one)
+
+script_read : (ss : List Spot) (p : Program) (i : Input) → i.lines ≡ [] → IsLegal p → blocks_in (block_of p.body) ≤ 64 → (w : WrittenScript ss p) → dearest_script ss p w ≤ 64
+    → read_of (grammar.script (has ss [] i)) ≡ Ok p
+script_read _ _ i none_yet l deep (script mpd v a r c b ss rs p hm hv ha hr hc hb ds w) dear =
+    script_has (mpd ∷ v ∷ a ∷ r ∷ c ∷ b ∷ (ss ++ rs)) rs p i l.version
+    (header_has mpd v a r c b ss rs p.version p.ranks p.decls i hm hv l.version ha hr hc l.some_rank l.ranks hb ds (body_is_no_decl p.decls rs p.body p.lines w) l.variables l.handles)
+    (whole_body rs p.decls p.body p.lines i none_yet w deep dear (omega arith))
+
+pub reading_complete : (text : List ℕ) (p : Program) (w : WrittenScript (tokens text) p) → length text ≤ 65536 → prefix_len is_text text ≡ length text → IsLegal p
+    → blocks_in (block_of p.body) ≤ 64 → dearest_script (tokens text) p w ≤ 64 → reading text ≡ Ok p
+unfolding reading
+reading_complete text p w short spelt l deep dear =
+    let a : nat_lt max_text (length text) ≡ false = grind (arith, nat_tests) in
+    let b : nat_lt (prefix_len is_text text) (length text) ≡ false = grind (arith, nat_tests) in
+    rw (a, b) (script_read (tokens text) p (start_of text) refl l deep w dear)
+
+-- a text within the limits is read as its tokens are
+pub reading_of : (text : List ℕ) (p : Program) (i : Input) (n : ℕ) → length text ≤ 65536 → n ≡ prefix_len is_text text → length text ≤ n → i ≡ start_of text → read_of (grammar.script i) ≡ Ok p → reading text ≡ Ok p
+unfolding reading
+reading_of text p i n short e spelt same h =
+    let a : nat_lt max_text (length text) ≡ false = grind (arith, nat_tests) in
+    let b : nat_lt (prefix_len is_text text) (length text) ≡ false = grind (arith, nat_tests) in
+    rw (a, b, ← same) h

@@ -1,0 +1,25 @@
+mod Complete
+mod CompleteStatements
+mod Counted
+mod Cuts
+mod Ends
+mod Enough
+mod EnoughBlocks
+mod GoodSpots
+mod NoMemory
+mod PrintScript
+mod PrintStatements
+mod PrintTerms
+mod PrintableStatements
+mod PrintableTerms
+mod ReadCosts
+mod ReadTrees
+mod Runs
+mod Signs
+mod Sound
+mod SoundStatements
+pub mod Cells
+pub mod CompleteScript
+pub mod PrintAgain
+pub mod SoundScript
+pub mod Turns

@@ -1,0 +1,148 @@
+-- The canonical text of a script is cut into tokens that write it, so it is read again.
+use Rattle.std.proofs.Common.{◌≡◌, ℕ, pos, ◌≤◌, true, List, [], ◌∷◌, ◌++◌, length, Option, Some, None, refl, subst, ap, sym, ◌∙◌, append_assoc, append-nil, arith}
+use Rattle.std.specs.Prelude.{codes}
+use Rattle.std.specs.Fmt.{decimal}
+use Rattle.std.specs.List.{flat_map, list_all, prefix_len}
+use Rattle.mpd_model.specs.declared.place.DeclKind.{DeclKind}
+use Rattle.mpd_model.specs.declared.place.DeclKind.TheVariants.{Variable, Handle}
+use Rattle.mpd_model.specs.declared.token.Mark.TheVariants as m
+use Rattle.mpd_model.specs.declared.token.Token.TheVariants.{Number, Name, Is}
+use Rattle.mpd_model.specs.Canonical.{decl_text, block_text, canonical}
+use Rattle.mpd_model.specs.Declaration.{Declared, variable_cells, variables_in}
+use Rattle.mpd_model.specs.Fits.{dearest_script}
+use Rattle.mpd_model.specs.Grammar.{is_text}
+use Rattle.mpd_model.specs.Input.{slot_in, max_budget}
+use Rattle.mpd_model.specs.Printable.{IsName, AreNamed, AreVariables, AreNew, IsPrintable, CanonicalIsReadAgain}
+use Rattle.mpd_model.specs.Program.{Program, IsLegal}
+use Rattle.mpd_model.specs.ReaderLaws.{WrittenScriptsAreRead}
+use Rattle.mpd_model.specs.Tokens.{Spot, tokens, tokens_at, tokens_after, front, sign, word, number}
+use Rattle.mpd_model.specs.Tree.{block_of, trees_of_block, statements_in}
+use Rattle.mpd_model.specs.Written.{variable_of, WrittenDecls, none, declares, declares_array, WrittenScript, script}
+use Rattle.mpd_laws.proofs.Cuts.{Ends, Any, Cut, Spelled, join, turned, fixed, Both, both, IsOne, one, IsWord, one_word, IsNone, nothing}
+use Rattle.mpd_laws.proofs.PrintStatements.{BodySpots, block_spelled, nil_spelled}
+use Rattle.mpd_laws.proofs.PrintTerms.{name_spelled}
+use Rattle.mpd_laws.proofs.Runs.{decimal_spelled, first_passes}
+use Rattle.mpd_laws.proofs.Signs.{square_open, square_close, end_sign}
+
+-- ---- declarations
+
+var_word : Spelled Any (IsOne (Is m.Var)) (codes "var ")
+unfolding tokens_after front sign word
+var_word = fixed (codes "var ") (λ p l z. refl) (λ p l. one _ refl) refl
+
+abbrev Declares : List Declared → List Declared → List Spot → Type 0
+Declares before ds ss = WrittenDecls before ss (before ++ ds)
+
+no_decls : (before : List Declared) (ss : List Spot) → IsNone ss → Declares before [] ss
+no_decls before _ nothing = subst (WrittenDecls before []) (sym (append-nil before)) (none before)
+
+abbrev Rest : List Declared → Declared → List Declared → List Spot → Type 0
+Rest before d ds ss = Declares (before ++ d ∷ []) ds ss
+
+single_spots : (before ds : List Declared) (w : List ℕ) → slot_in before w ≡ None → (ss : List Spot)
+    → Both (Both (Both (IsOne (Is m.Var)) (IsWord Name w)) (IsOne (Is m.Semicolon))) (Rest before (variable_of w None) ds) ss → Declares before (variable_of w None ∷ ds) ss
+single_spots before ds w h _ (both _ rs (both _ _ (both _ _ (one v h1) (one_word n h2 e)) (one end h3)) x) =
+    let es : List Declared = (before ++ variable_of w None ∷ []) ++ ds in
+    subst (WrittenDecls before (v ∷ n ∷ end ∷ rs)) (append_assoc before (variable_of w None ∷ []) ds)
+    (declares before es v n end rs h1 h2 (ap (slot_in before) e ∙ h) h3 (subst (λ u. WrittenDecls (before ++ variable_of u None ∷ []) rs es) (sym e) x))
+
+array_spots : (before ds : List Declared) (w : List ℕ) (k : ℕ) → slot_in before w ≡ None → (ss : List Spot)
+    → Both (Both (Both (Both (IsOne (Is m.Var)) (IsWord Name w)) (Both (Both (IsOne (Is m.SquareOpen)) (IsWord (Number (pos k)) (decimal k))) (IsOne (Is m.SquareClose)))) (IsOne (Is m.Semicolon)))
+    (Rest before (variable_of w (Some k)) ds) ss
+    → Declares before (variable_of w (Some k) ∷ ds) ss
+array_spots before ds w k h _ (both _ rs (both _ _ (both _ _ (both _ _ (one v h1) (one_word n h2 e)) (both _ _ (both _ _ (one a h3) (one_word c h4 f)) (one b h5))) (one end h6)) x) =
+    let es : List Declared = (before ++ variable_of w (Some k) ∷ []) ++ ds in
+    subst (WrittenDecls before (v ∷ n ∷ a ∷ c ∷ b ∷ end ∷ rs)) (append_assoc before (variable_of w (Some k) ∷ []) ds)
+    (declares_array before es v n a c b end k rs h1 h2 (ap (slot_in before) e ∙ h) h3 h4 h5 h6 (subst (λ u. WrittenDecls (before ++ variable_of u (Some k) ∷ []) rs es) (sym e) x))
+
+abbrev declared : DeclKind → List ℕ → Option ℕ → Declared
+declared kind w o = record { kind = kind; name = w; size = o }
+
+decl_spelled : (before ds : List Declared) (kind : DeclKind) (w : List ℕ) (o : Option ℕ) → IsName w → kind ≡ Variable → slot_in before w ≡ None → variable_cells kind o ≤ 1024
+    → Spelled Any (Rest before (declared kind w o) ds) (flat_map decl_text ds) → Spelled Any (Declares before (declared kind w o ∷ ds)) (decl_text (declared kind w o) ++ flat_map decl_text ds)
+decl_spelled before ds Handle w o named is new small x = absurd (let h : ⊥ = cc in h)
+decl_spelled before ds Variable w None named is new small x =
+    let a : List ℕ = codes "var " ++ w in
+    turned (a ++ [] ++ codes ";\n" ++ flat_map decl_text ds) (single_spots before ds w new)
+    (join (a ++ [] ++ codes ";\n") (flat_map decl_text ds)
+    (join (a ++ []) (codes ";\n") (subst (Spelled Ends (Both (IsOne (Is m.Var)) (IsWord Name w))) (sym (append-nil a)) (join (codes "var ") w var_word (name_spelled w named) (λ z _. tt))) end_sign (λ z _. refl))
+    x (λ z _. tt))
+decl_spelled before ds Variable w (Some k) named is new small x =
+    let a : List ℕ = codes "var " ++ w in
+    let b : List ℕ = codes "[" ++ decimal k ++ codes "]" in
+    turned (a ++ b ++ codes ";\n" ++ flat_map decl_text ds) (array_spots before ds w k new)
+    (join (a ++ b ++ codes ";\n") (flat_map decl_text ds)
+    (join (a ++ b) (codes ";\n")
+    (join a b (join (codes "var ") w var_word (name_spelled w named) (λ z _. tt))
+    (join (codes "[" ++ decimal k) (codes "]") (join (codes "[") (decimal k) square_open (decimal_spelled k (omega arith)) (λ z _. tt)) square_close (λ z _. refl))
+    (λ z _. refl))
+    end_sign (λ z _. tt))
+    x (λ z _. tt))
+
+decls_spelled : (before ds : List Declared) → AreNamed ds → AreVariables ds → AreNew before ds → variables_in ds ≤ 1024 → Spelled Any (Declares before ds) (flat_map decl_text ds)
+decls_spelled before [] named kinds new small = turned [] (no_decls before) nil_spelled
+decls_spelled before (d ∷ ds) named kinds new small =
+    decl_spelled before ds d.kind d.name d.size named.0 kinds.0 new.0 (omega arith) (decls_spelled (before ++ d ∷ []) ds named.1 kinds.1 new.1 (omega arith))
+
+-- ---- the whole text
+
+data Head : List Spot → Type 0 where
+  head : (a b c d : Spot) → a.token ≡ Is m.Mpd → b.token ≡ Number (pos 1) → c.token ≡ Is m.Semicolon → d.token ≡ Is m.Ranks → Head (a ∷ b ∷ c ∷ d ∷ [])
+
+head_spelled : Spelled Any Head (codes "mpd 1;\nranks ")
+unfolding tokens_after front sign word number
+head_spelled = fixed (codes "mpd 1;\nranks ") (λ p l z. refl) (λ p l. head _ _ _ _ refl refl refl refl) refl
+
+record ScriptSpots (p : Program) (ss : List Spot) : Type 0 where
+  lines : List ℕ
+  written : WrittenScript ss (record p { lines = lines })
+  cheap : dearest_script ss (record p { lines = lines }) written ≤ max_budget
+  count : length lines ≡ statements_in (block_of p.body)
+
+script_spots : (p : Program) → p.version ≡ 1 → (ss : List Spot)
+    → Both (Both (Both (Both Head (IsWord (Number (pos p.ranks)) (decimal p.ranks))) (IsOne (Is m.Semicolon))) (Declares [] p.decls)) (BodySpots p.decls p.body) ss → ScriptSpots p ss
+script_spots p v _ (both _ rs (both _ ss (both _ _ (both _ _ (head a b c d h1 h2 h3 h4) (one_word n h5 e)) (one f h6)) x) y) = record {
+  lines = y.lines;
+  written = script a b c d n f ss rs (record p { lines = y.lines }) h1 (h2 ∙ ap (λ k. Number (pos k)) (sym v)) h3 h4 h5 h6 x y.written;
+  cheap = y.cheap;
+  count = y.count;
+}
+
+script_spelled : (p : Program) → IsPrintable p → Spelled Any (ScriptSpots p) (canonical p)
+script_spelled p h =
+    let a : List ℕ = codes "mpd 1;\nranks " ++ decimal p.ranks in
+    let ds : List ℕ = flat_map decl_text p.decls in
+    let body : List ℕ = block_text p.decls 0 (block_of p.body) in
+    turned (a ++ codes ";\n" ++ ds ++ body) (script_spots p h.legal.version)
+    (join (a ++ codes ";\n" ++ ds) body
+    (join (a ++ codes ";\n") ds
+    (join a (codes ";\n") (join (codes "mpd 1;\nranks ") (decimal p.ranks) head_spelled (decimal_spelled p.ranks (omega (arith, h.legal.ranks))) (λ z _. tt)) end_sign (λ z _. refl))
+    (decls_spelled [] p.decls h.named h.variables h.distinct h.legal.variables) (λ z _. tt))
+    (subst (λ ts. Spelled Any (BodySpots p.decls ts) body) (trees_of_block p.body) (block_spelled p.decls 0 (block_of p.body) h.body)) (λ z _. tt))
+
+plain_prefix : (w : List ℕ) → list_all is_text w ≡ true → prefix_len is_text w ≡ length w
+plain_prefix [] h = refl
+plain_prefix (b ∷ w) h =
+    let f = first_passes is_text b w h in
+    rw f.0 (omega (arith, plain_prefix w f.1))
+
+no_tokens : (p l : ℕ) → tokens_at p l [] ≡ []
+unfolding tokens_after
+no_tokens p l = refl
+
+pub canonical_is_read : WrittenScriptsAreRead → CanonicalIsReadAgain
+canonical_is_read read p h short =
+    let x : Spelled Any (ScriptSpots p) (canonical p) = script_spelled p h in
+    let c : Cut (ScriptSpots p) (canonical p) 0 1 [] = x.cut 0 1 [] tt in
+    let same : tokens (canonical p) ≡ c.spots = ap (tokens_at 0 1) (sym (append-nil (canonical p))) ∙ c.is ∙ ap (λ ss. c.spots ++ ss) (no_tokens c.to_place c.to_line) ∙ append-nil c.spots in
+    let s : ScriptSpots p (tokens (canonical p)) = subst (ScriptSpots p) (sym same) c.holds in
+    let legal : IsLegal (record p { lines = s.lines }) = record {
+      version = h.legal.version;
+      some_rank = h.legal.some_rank;
+      ranks = h.legal.ranks;
+      variables = h.legal.variables;
+      handles = h.legal.handles;
+      statements = h.legal.statements;
+      lines = s.count;
+    } in
+    (s.lines, read (canonical p) (record p { lines = s.lines }) s.written short (plain_prefix (canonical p) x.plain) legal h.blocks s.cheap)

@@ -1,0 +1,318 @@
+-- The canonical text of statements is cut into tokens that write them, each expression within the limit.
+use Rattle.std.proofs.Common.{◌≡◌, ℕ, zero, suc, ◌≤◌, max, true, false, List, [], ◌∷◌, ◌++◌, length, length-append, Option, Some, None, refl, subst, ap, sym, ◌∙◌, append_assoc, append-nil, arith}
+use Rattle.std.specs.Prelude.{codes}
+use Rattle.mpd_model.specs.declared.place.Place.{Place}
+use Rattle.mpd_model.specs.declared.token.Mark.TheVariants as m
+use Rattle.mpd_model.specs.declared.token.Token.{Token}
+use Rattle.mpd_model.specs.declared.token.Token.TheVariants.{Name, Is}
+use Rattle.mpd_model.specs.Canonical.{name_text, whole_text, index_text, target_text, indent, else_text, tree_text, block_text}
+use Rattle.mpd_model.specs.Declaration.{Declared}
+use Rattle.mpd_model.specs.Fits.{cost, index_cost, dearest, dearest_body}
+use Rattle.mpd_model.specs.Input.{line_of, max_budget}
+use Rattle.mpd_model.specs.Printable.{Stands, IsPrintableWhole, IsPrintableAt, IsPrintableTarget, IsPrintableTree, IsPrintableBlock, term_cost}
+use Rattle.mpd_model.specs.Term.{Term, Target}
+use Rattle.mpd_model.specs.Tokens.{Spot, tokens_after}
+use Rattle.mpd_model.specs.Tree.{Tree, Block, print, send, recv, branch, assign, check, repeat, no_more, then_more, block_of, trees, statements, statements_in}
+use Rattle.mpd_model.specs.Written.{Written, WrittenTarget, whole, part, WrittenTree, prints, sends, receives, assigns, asserts, repeats, chooses, chooses_else, braces, WrittenBody, ended, follows}
+use Rattle.mpd_laws.proofs.Cuts.{Ends, Any, Spelled, join, turned, narrowed, fixed, blank_before, blank_behind, Both, both, IsOne, one, IsWord, one_word, IsNone, nothing}
+use Rattle.mpd_laws.proofs.PrintTerms.{TermSpots, term_spelled, name_spelled, names_of}
+use Rattle.mpd_laws.proofs.Signs.{square_open, square_close, print_word, assert_word, send_word, recv_word, if_word, while_word, to_word, from_word, tag_word, assign_sign, end_sign, brace_open, brace_close, brace_end, else_word, brace_behind, line_end, two_spaces}
+
+max_small : (a b n : ℕ) → a ≤ n → b ≤ n → max a b ≤ n
+max_small a b n h k = grind arith
+
+-- ---- expressions
+
+pub record WholeSpots (ds : List Declared) (t : Term) (ss : List Spot) : Type 0 where
+  pub written : Written ds 5 ss t
+  pub cheap : cost ss ≤ max_budget
+
+whole_spots : (ds : List Declared) (t : Term) → term_cost 5 t ≤ max_budget → (ss : List Spot) → TermSpots ds 5 t (term_cost 5 t) ss → WholeSpots ds t ss
+whole_spots ds t h ss x = record { written = x.written; cheap = omega (arith, x.cost) }
+
+whole_spelled : (ds : List Declared) (t : Term) → IsPrintableWhole ds t → Spelled Ends (WholeSpots ds t) (whole_text ds t)
+whole_spelled ds t h = turned (whole_text ds t) (whole_spots ds t h.cost) (term_spelled ds 5 t h.term)
+
+-- ---- targets
+
+record TargetSpots (ds : List Declared) (t : Target) (ss : List Spot) : Type 0 where
+  written : WrittenTarget ds ss t
+  cheap : index_cost ds ss t written ≤ max_budget
+
+abbrev place_at : Place → Option Term → Target
+place_at p o = record { place = p; index = o }
+
+alone_spots : (ds : List Declared) (p : Place) → Stands ds false p → (ss : List Spot) → IsWord Name (name_text ds p) ss → TargetSpots ds (place_at p None) ss
+alone_spots ds p x _ (one_word s h e) = record { written = whole s p (names_of ds false p s x h e); cheap = omega arith }
+
+part_spots : (ds : List Declared) (p : Place) (t : Term) → Stands ds true p → (ss : List Spot)
+    → Both (IsWord Name (name_text ds p)) (Both (Both (IsOne (Is m.SquareOpen)) (WholeSpots ds t)) (IsOne (Is m.SquareClose))) ss → TargetSpots ds (place_at p (Some t)) ss
+part_spots ds p t x _ (both _ _ (one_word s h e) (both _ _ (both _ inside (one o h1) y) (one c h2))) =
+    record { written = part s o c inside p t (names_of ds true p s x h e) h1 y.written h2; cheap = y.cheap }
+
+at_spelled : (ds : List Declared) (p : Place) (o : Option Term) → IsPrintableAt ds p o → Spelled Ends (TargetSpots ds (place_at p o)) (name_text ds p ++ index_text ds o)
+at_spelled ds p None h =
+    subst (Spelled Ends (TargetSpots ds (place_at p None))) (sym (append-nil (name_text ds p))) (turned (name_text ds p) (alone_spots ds p h) (name_spelled (name_text ds p) h.named))
+at_spelled ds p (Some t) h =
+    let w : List ℕ = name_text ds p in
+    let e : List ℕ = whole_text ds t in
+    narrowed (w ++ (codes "[" ++ e ++ codes "]")) (λ z _. tt)
+    (turned (w ++ (codes "[" ++ e ++ codes "]")) (part_spots ds p t h.0)
+    (join w (codes "[" ++ e ++ codes "]") (name_spelled w h.0.named)
+    (join (codes "[" ++ e) (codes "]") (join (codes "[") e square_open (whole_spelled ds t h.1) (λ z _. tt)) square_close (λ z _. refl))
+    (λ z _. refl)))
+
+target_spelled : (ds : List Declared) (t : Target) → IsPrintableTarget ds t → Spelled Ends (TargetSpots ds t) (target_text ds t)
+target_spelled ds t h = at_spelled ds t.place t.index h
+
+-- ---- indentation
+
+pub nil_spelled : Spelled Any IsNone []
+unfolding tokens_after
+nil_spelled = fixed [] (λ p l z. refl) (λ p l. nothing) refl
+
+indent_spelled : (n : ℕ) → Spelled Any IsNone (indent n)
+indent_spelled zero = nil_spelled
+indent_spelled (suc n) = blank_before (codes "  ") (indent n) two_spaces (indent_spelled n)
+
+-- a word at the beginning of a line
+begun_spelled : (n : ℕ) (t : Token) (w : List ℕ) → Spelled Any (IsOne t) w → Spelled Any (IsOne t) (indent n ++ w)
+begun_spelled n t w x = blank_before (indent n) w (indent_spelled n) x
+
+-- ---- statements
+
+pub record TreeSpots (ds : List Declared) (t : Tree) (ss : List Spot) : Type 0 where
+  pub lines : List ℕ
+  pub written : WrittenTree ds ss t lines
+  pub cheap : dearest ds ss t lines written ≤ max_budget
+  pub count : length lines ≡ statements t
+
+pub record BodySpots (ds : List Declared) (ts : List Tree) (ss : List Spot) : Type 0 where
+  pub lines : List ℕ
+  pub written : WrittenBody ds ss ts lines
+  pub cheap : dearest_body ds ss ts lines written ≤ max_budget
+  pub count : length lines ≡ statements_in (block_of ts)
+
+tree_at : (ds : List Declared) (t u : Tree) (ss rs : List Spot) → t ≡ u → ss ≡ rs → TreeSpots ds t ss → TreeSpots ds u rs
+tree_at ds t u ss rs e f x = subst (λ v. TreeSpots ds v rs) e (subst (TreeSpots ds t) f x)
+
+block_of_trees : (b : Block) → block_of (trees b) ≡ b
+block_of_trees no_more = refl
+block_of_trees (then_more t b) = ap (then_more t) (block_of_trees b)
+
+-- one token in the middle
+seam : (a b : List Spot) (o : Spot) → a ++ o ∷ b ≡ (a ++ o ∷ []) ++ b
+seam a b o = sym (append_assoc a (o ∷ []) b)
+
+prints_spots : (ds : List Declared) (e : Term) (ss : List Spot) → Both (Both (IsOne (Is m.Print)) (WholeSpots ds e)) (IsOne (Is m.Semicolon)) ss → TreeSpots ds (print e) ss
+prints_spots ds e _ (both _ _ (both _ a (one k h1) x) (one end h2)) = record { lines = k.line ∷ []; written = prints k end a e h1 x.written h2; cheap = x.cheap; count = refl }
+
+asserts_spots : (ds : List Declared) (e : Term) (ss : List Spot) → Both (Both (IsOne (Is m.Assert)) (WholeSpots ds e)) (IsOne (Is m.Semicolon)) ss → TreeSpots ds (check e) ss
+asserts_spots ds e _ (both _ _ (both _ a (one k h1) x) (one end h2)) = record { lines = k.line ∷ []; written = asserts k end a e h1 x.written h2; cheap = x.cheap; count = refl }
+
+-- a word, an expression and the end of a statement
+line_spelled : (ds : List Declared) (n : ℕ) (t : Token) (w : List ℕ) (e : Term) → Spelled Any (IsOne t) w → IsPrintableWhole ds e
+    → Spelled Any (Both (Both (IsOne t) (WholeSpots ds e)) (IsOne (Is m.Semicolon))) (indent n ++ w ++ whole_text ds e ++ codes ";\n")
+line_spelled ds n t w e x h =
+    join (indent n ++ w ++ whole_text ds e) (codes ";\n") (join (indent n ++ w) (whole_text ds e) (begun_spelled n t w x) (whole_spelled ds e h) (λ z _. tt)) end_sign (λ z _. refl)
+
+assigns_spots : (ds : List Declared) (into : Target) (e : Term) (ss : List Spot)
+    → Both (Both (Both (TargetSpots ds into) (IsOne (Is m.Assign))) (WholeSpots ds e)) (IsOne (Is m.Semicolon)) ss → TreeSpots ds (assign into e) ss
+assigns_spots ds into e _ (both _ _ (both _ b (both n _ y (one o h1)) x) (one end h2)) =
+    tree_at ds (assign into e) (assign into e) (n ++ o ∷ b ++ end ∷ []) (((n ++ o ∷ []) ++ b) ++ end ∷ []) refl (ap (λ u. u ++ end ∷ []) (seam n b o))
+    (record {
+      lines = line_of n ∷ [];
+      written = assigns o end n b into e y.written h1 x.written h2;
+      cheap = max_small (index_cost ds n into y.written) (cost b) max_budget y.cheap x.cheap;
+      count = refl;
+    })
+
+abbrev three : List Spot → Spot → List Spot → Spot → List Spot → Spot → List Spot
+three a o b q c end = ((((a ++ o ∷ []) ++ b) ++ q ∷ []) ++ c) ++ end ∷ []
+
+three_is : (a : List Spot) (o : Spot) (b : List Spot) (q : Spot) (c : List Spot) (end : Spot) → a ++ o ∷ b ++ q ∷ c ++ end ∷ [] ≡ three a o b q c end
+three_is a o b q c end = ap (λ u. u ++ end ∷ []) (seam (a ++ o ∷ b) c q) ∙ ap (λ u. ((u ++ q ∷ []) ++ c) ++ end ∷ []) (seam a b o)
+
+sends_spots : (ds : List Declared) (value dest mark : Term) (ss : List Spot)
+    → Both (Both (Both (Both (Both (Both (IsOne (Is m.Send)) (WholeSpots ds value)) (IsOne (Is m.To))) (WholeSpots ds dest)) (IsOne (Is m.Tag))) (WholeSpots ds mark)) (IsOne (Is m.Semicolon)) ss
+    → TreeSpots ds (send value dest mark) ss
+sends_spots ds value dest mark _ (both _ _ (both _ c (both _ _ (both _ b (both _ _ (both _ a (one k h1) x) (one o h2)) y) (one q h3)) z) (one end h4)) =
+    tree_at ds (send value dest mark) (send value dest mark) (k ∷ a ++ o ∷ b ++ q ∷ c ++ end ∷ []) (three (k ∷ a) o b q c end) refl (three_is (k ∷ a) o b q c end)
+    (record {
+      lines = k.line ∷ [];
+      written = sends k o q end a b c value dest mark h1 x.written h2 y.written h3 z.written h4;
+      cheap = max_small (cost a) (max (cost b) (cost c)) max_budget x.cheap (max_small (cost b) (cost c) max_budget y.cheap z.cheap);
+      count = refl;
+    })
+
+receives_spots : (ds : List Declared) (into : Target) (source mark : Term) (ss : List Spot)
+    → Both (Both (Both (Both (Both (Both (IsOne (Is m.Recv)) (TargetSpots ds into)) (IsOne (Is m.From))) (WholeSpots ds source)) (IsOne (Is m.Tag))) (WholeSpots ds mark)) (IsOne (Is m.Semicolon)) ss
+    → TreeSpots ds (recv into source mark) ss
+receives_spots ds into source mark _ (both _ _ (both _ c (both _ _ (both _ b (both _ _ (both _ a (one k h1) x) (one o h2)) y) (one q h3)) z) (one end h4)) =
+    tree_at ds (recv into source mark) (recv into source mark) (k ∷ a ++ o ∷ b ++ q ∷ c ++ end ∷ []) (three (k ∷ a) o b q c end) refl (three_is (k ∷ a) o b q c end)
+    (record {
+      lines = k.line ∷ [];
+      written = receives k o q end a b c into source mark h1 x.written h2 y.written h3 z.written h4;
+      cheap = max_small (index_cost ds a into x.written) (max (cost b) (cost c)) max_budget x.cheap (max_small (cost b) (cost c) max_budget y.cheap z.cheap);
+      count = refl;
+    })
+
+-- ---- blocks
+
+-- a word, a condition and a block
+abbrev Headed : List Declared → Token → Term → Block → List Spot → Type 0
+Headed ds t c a = Both (Both (Both (Both (IsOne t) (WholeSpots ds c)) (IsOne (Is m.BraceOpen))) (BodySpots ds (trees a))) (IsOne (Is m.BraceClose))
+
+headed_is : (a : List Spot) (o : Spot) (b : List Spot) (c : Spot) → a ++ (o ∷ b ++ c ∷ []) ≡ ((a ++ o ∷ []) ++ b) ++ c ∷ []
+headed_is a o b c = seam a (b ++ c ∷ []) o ∙ sym (append_assoc (a ++ o ∷ []) b (c ∷ []))
+
+repeats_spots : (ds : List Declared) (c : Term) (a : Block) (ss : List Spot) → Headed ds (Is m.While) c a ss → TreeSpots ds (repeat c a) ss
+repeats_spots ds c a _ (both _ _ (both _ b (both _ _ (both _ e (one k h1) x) (one o h2)) y) (one z h3)) =
+    tree_at ds (repeat c (block_of (trees a))) (repeat c a) (k ∷ e ++ (o ∷ b ++ z ∷ [])) ((((k ∷ e) ++ o ∷ []) ++ b) ++ z ∷ [])
+    (ap (repeat c) (block_of_trees a)) (headed_is (k ∷ e) o b z)
+    (record {
+      lines = k.line ∷ y.lines;
+      written = repeats k e (o ∷ b ++ z ∷ []) c (trees a) y.lines h1 x.written (braces o z b (trees a) y.lines h2 y.written h3);
+      cheap = max_small (cost e) (dearest_body ds b (trees a) y.lines y.written) max_budget x.cheap y.cheap;
+      count = omega (arith, y.count);
+    })
+
+chooses_spots : (ds : List Declared) (c : Term) (a : Block) (ss : List Spot) → Headed ds (Is m.If) c a ss → TreeSpots ds (branch c a no_more) ss
+chooses_spots ds c a _ (both _ _ (both _ b (both _ _ (both _ e (one k h1) x) (one o h2)) y) (one z h3)) =
+    tree_at ds (branch c (block_of (trees a)) no_more) (branch c a no_more) (k ∷ e ++ (o ∷ b ++ z ∷ [])) ((((k ∷ e) ++ o ∷ []) ++ b) ++ z ∷ [])
+    (ap (λ u. branch c u no_more) (block_of_trees a)) (headed_is (k ∷ e) o b z)
+    (record {
+      lines = k.line ∷ y.lines;
+      written = chooses k e (o ∷ b ++ z ∷ []) c (trees a) y.lines h1 x.written (braces o z b (trees a) y.lines h2 y.written h3);
+      cheap = max_small (cost e) (dearest_body ds b (trees a) y.lines y.written) max_budget x.cheap y.cheap;
+      count = omega (arith, y.count);
+    })
+
+-- the second block
+abbrev Otherwise : List Declared → Block → List Spot → Type 0
+Otherwise ds a = Both (Both (Both (IsOne (Is m.Else)) (IsOne (Is m.BraceOpen))) (BodySpots ds (trees a))) (IsOne (Is m.BraceClose))
+
+chooses_else_spots : (ds : List Declared) (c : Term) (a d : Block) (ss : List Spot) → Both (Headed ds (Is m.If) c a) (Otherwise ds d) ss → TreeSpots ds (branch c a d) ss
+chooses_else_spots ds c a d _ (both _ _ (both _ _ (both _ b (both _ _ (both _ e (one k h1) x) (one o h2)) y) (one z h3)) (both _ _ (both _ f (both _ _ (one w g1) (one q g2)) v) (one r g3))) =
+    tree_at ds (branch c (block_of (trees a)) (block_of (trees d))) (branch c a d)
+    (k ∷ e ++ (o ∷ b ++ z ∷ []) ++ w ∷ (q ∷ f ++ r ∷ [])) (((((k ∷ e) ++ o ∷ []) ++ b) ++ z ∷ []) ++ w ∷ (q ∷ f ++ r ∷ []))
+    ((λ i. branch c (block_of_trees a i) (block_of_trees d i))) (ap (λ u. u ++ w ∷ (q ∷ f ++ r ∷ [])) (headed_is (k ∷ e) o b z))
+    (record {
+      lines = k.line ∷ y.lines ++ v.lines;
+      written =
+          chooses_else k w e (o ∷ b ++ z ∷ []) (q ∷ f ++ r ∷ []) c (trees a) (trees d) y.lines v.lines h1 x.written
+          (braces o z b (trees a) y.lines h2 y.written h3) g1 (braces q r f (trees d) v.lines g2 v.written g3);
+      cheap =
+          max_small (cost e) (max (dearest_body ds b (trees a) y.lines y.written) (dearest_body ds f (trees d) v.lines v.written)) max_budget x.cheap
+          (max_small (dearest_body ds b (trees a) y.lines y.written) (dearest_body ds f (trees d) v.lines v.written) max_budget y.cheap v.cheap);
+      count = omega (arith, y.count, v.count, length-append y.lines v.lines);
+    })
+
+ended_spots : (ds : List Declared) (ss : List Spot) → IsNone ss → BodySpots ds [] ss
+ended_spots ds _ nothing = record { lines = []; written = ended; cheap = omega arith; count = refl }
+
+follows_spots : (ds : List Declared) (t : Tree) (ts : List Tree) (ss : List Spot) → Both (TreeSpots ds t) (BodySpots ds ts) ss → BodySpots ds (t ∷ ts) ss
+follows_spots ds t ts _ (both a b x y) = record {
+  lines = x.lines ++ y.lines;
+  written = follows a b t ts x.lines y.lines x.written y.written;
+  cheap = max_small (dearest ds a t x.lines x.written) (dearest_body ds b ts y.lines y.written) max_budget x.cheap y.cheap;
+  count = omega (arith, x.count, y.count, length-append x.lines y.lines);
+}
+
+-- what begins a statement with a block, up to the statements inside
+open_spelled : (ds : List Declared) (n : ℕ) (t : Token) (w : List ℕ) (c : Term) → Spelled Any (IsOne t) w → IsPrintableWhole ds c
+    → Spelled Any (Both (Both (IsOne t) (WholeSpots ds c)) (IsOne (Is m.BraceOpen))) (indent n ++ w ++ whole_text ds c ++ codes " {\n")
+open_spelled ds n t w c x h =
+    join (indent n ++ w ++ whole_text ds c) (codes " {\n") (join (indent n ++ w) (whole_text ds c) (begun_spelled n t w x) (whole_spelled ds c h) (λ z _. tt)) brace_open (λ z _. refl)
+
+-- and the rest of the block
+closed_spelled : {P : List Spot → Type 0} (ds : List Declared) (n : ℕ) (a : Block) (start end : List ℕ) → Spelled Any P start → Spelled Any (BodySpots ds (trees a)) (block_text ds (suc n) a)
+    → Spelled Any (IsOne (Is m.BraceClose)) end
+    → Spelled Any (Both (Both P (BodySpots ds (trees a))) (IsOne (Is m.BraceClose))) (start ++ block_text ds (suc n) a ++ indent n ++ end)
+closed_spelled ds n a start end x y z =
+    join (start ++ block_text ds (suc n) a ++ indent n) end
+    (blank_behind (start ++ block_text ds (suc n) a) (indent n) (join start (block_text ds (suc n) a) x y (λ u _. tt)) (indent_spelled n) (λ u _. tt))
+    z (λ u _. tt)
+
+else_open : Spelled Any (Both (IsOne (Is m.Else)) (IsOne (Is m.BraceOpen))) (codes " else {\n")
+else_open = join (codes " else ") (codes "{\n") else_word brace_behind (λ z _. tt)
+
+branch_spelled : (ds : List Declared) (n : ℕ) (c : Term) (a b : Block) → IsPrintableWhole ds c → Spelled Any (BodySpots ds (trees a)) (block_text ds (suc n) a)
+    → Spelled Any (BodySpots ds (trees b)) (block_text ds (suc n) b) → Spelled Any (TreeSpots ds (branch c a b)) (tree_text ds n (branch c a b))
+branch_spelled ds n c a no_more h x y =
+    let first : List ℕ = indent n ++ codes "if " ++ whole_text ds c ++ codes " {\n" ++ block_text ds (suc n) a ++ indent n ++ codes "}" in
+    turned (first ++ [] ++ codes "\n") (chooses_spots ds c a)
+    (blank_behind (first ++ []) (codes "\n")
+    (blank_behind first []
+    (closed_spelled ds n a (indent n ++ codes "if " ++ whole_text ds c ++ codes " {\n") (codes "}") (open_spelled ds n (Is m.If) (codes "if ") c if_word h) x brace_close)
+    nil_spelled (λ z _. tt))
+    line_end (λ z _. tt))
+branch_spelled ds n c a (then_more t b) h x y =
+    let first : List ℕ = indent n ++ codes "if " ++ whole_text ds c ++ codes " {\n" ++ block_text ds (suc n) a ++ indent n ++ codes "}" in
+    let second : List ℕ = else_text (then_more t b) n (block_text ds (suc n) (then_more t b)) in
+    turned (first ++ second ++ codes "\n") (chooses_else_spots ds c a (then_more t b))
+    (blank_behind (first ++ second) (codes "\n")
+    (join first second
+    (closed_spelled ds n a (indent n ++ codes "if " ++ whole_text ds c ++ codes " {\n") (codes "}") (open_spelled ds n (Is m.If) (codes "if ") c if_word h) x brace_close)
+    (closed_spelled ds n (then_more t b) (codes " else {\n") (codes "}") else_open y brace_close)
+    (λ z _. tt))
+    line_end (λ z _. tt))
+
+send_spelled : (ds : List Declared) (n : ℕ) (value dest mark : Term) → IsPrintableTree ds (send value dest mark) → Spelled Any (TreeSpots ds (send value dest mark)) (tree_text ds n (send value dest mark))
+send_spelled ds n value dest mark h =
+    let a : List ℕ = indent n ++ codes "send " ++ whole_text ds value in
+    let b : List ℕ = a ++ codes " to " ++ whole_text ds dest in
+    let c : List ℕ = b ++ codes " tag " ++ whole_text ds mark in
+    turned (c ++ codes ";\n") (sends_spots ds value dest mark)
+    (join c (codes ";\n")
+    (join (b ++ codes " tag ") (whole_text ds mark)
+    (join b (codes " tag ")
+    (join (a ++ codes " to ") (whole_text ds dest)
+    (join a (codes " to ") (join (indent n ++ codes "send ") (whole_text ds value) (begun_spelled n (Is m.Send) (codes "send ") send_word) (whole_spelled ds value h.0) (λ z _. tt)) to_word (λ z _. refl))
+    (whole_spelled ds dest h.1.0) (λ z _. tt))
+    tag_word (λ z _. refl))
+    (whole_spelled ds mark h.1.1) (λ z _. tt))
+    end_sign (λ z _. refl))
+
+recv_spelled : (ds : List Declared) (n : ℕ) (into : Target) (source mark : Term) → IsPrintableTree ds (recv into source mark) → Spelled Any (TreeSpots ds (recv into source mark)) (tree_text ds n (recv into source mark))
+recv_spelled ds n into source mark h =
+    let a : List ℕ = indent n ++ codes "recv " ++ target_text ds into in
+    let b : List ℕ = a ++ codes " from " ++ whole_text ds source in
+    let c : List ℕ = b ++ codes " tag " ++ whole_text ds mark in
+    turned (c ++ codes ";\n") (receives_spots ds into source mark)
+    (join c (codes ";\n")
+    (join (b ++ codes " tag ") (whole_text ds mark)
+    (join b (codes " tag ")
+    (join (a ++ codes " from ") (whole_text ds source)
+    (join a (codes " from ") (join (indent n ++ codes "recv ") (target_text ds into) (begun_spelled n (Is m.Recv) (codes "recv ") recv_word) (target_spelled ds into h.0) (λ z _. tt)) from_word (λ z _. refl))
+    (whole_spelled ds source h.1.0) (λ z _. tt))
+    tag_word (λ z _. refl))
+    (whole_spelled ds mark h.1.1) (λ z _. tt))
+    end_sign (λ z _. refl))
+
+assign_spelled : (ds : List Declared) (n : ℕ) (into : Target) (e : Term) → IsPrintableTree ds (assign into e) → Spelled Any (TreeSpots ds (assign into e)) (tree_text ds n (assign into e))
+assign_spelled ds n into e h =
+    let a : List ℕ = indent n ++ target_text ds into in
+    turned (a ++ codes " = " ++ whole_text ds e ++ codes ";\n") (assigns_spots ds into e)
+    (join (a ++ codes " = " ++ whole_text ds e) (codes ";\n")
+    (join (a ++ codes " = ") (whole_text ds e)
+    (join a (codes " = ") (blank_before (indent n) (target_text ds into) (indent_spelled n) (target_spelled ds into h.0)) assign_sign (λ z _. refl))
+    (whole_spelled ds e h.1) (λ z _. tt))
+    end_sign (λ z _. refl))
+
+mutual
+  pub tree_spelled : (ds : List Declared) (n : ℕ) (t : Tree) → IsPrintableTree ds t → Spelled Any (TreeSpots ds t) (tree_text ds n t)
+  tree_spelled ds n (print e) h = turned (tree_text ds n (print e)) (prints_spots ds e) (line_spelled ds n (Is m.Print) (codes "print ") e print_word h)
+  tree_spelled ds n (send value to tag) h = send_spelled ds n value to tag h
+  tree_spelled ds n (recv into from tag) h = recv_spelled ds n into from tag h
+  tree_spelled ds n (branch c a b) h = branch_spelled ds n c a b h.0 (block_spelled ds (suc n) a h.1.0) (block_spelled ds (suc n) b h.1.1)
+  tree_spelled ds n (assign into e) h = assign_spelled ds n into e h
+  tree_spelled ds n (check e) h = turned (tree_text ds n (check e)) (asserts_spots ds e) (line_spelled ds n (Is m.Assert) (codes "assert ") e assert_word h)
+  tree_spelled ds n (repeat c a) h =
+      turned (tree_text ds n (repeat c a)) (repeats_spots ds c a)
+      (closed_spelled ds n a (indent n ++ codes "while " ++ whole_text ds c ++ codes " {\n") (codes "}\n") (open_spelled ds n (Is m.While) (codes "while ") c while_word h.0) (block_spelled ds (suc n) a h.1) brace_end)
+
+  pub block_spelled : (ds : List Declared) (n : ℕ) (b : Block) → IsPrintableBlock ds b → Spelled Any (BodySpots ds (trees b)) (block_text ds n b)
+  block_spelled ds n no_more h = turned [] (ended_spots ds) nil_spelled
+  block_spelled ds n (then_more t b) h =
+      turned (tree_text ds n t ++ block_text ds n b) (follows_spots ds t (trees b)) (join (tree_text ds n t) (block_text ds n b) (tree_spelled ds n t h.0) (block_spelled ds n b h.1) (λ z _. tt))

@@ -1,0 +1,107 @@
+-- What is read as a script is printable.
+use Rattle.std.proofs.Common.{◌≡◌, ℕ, true, false, List, [], ◌∷◌, ◌++◌, Option, Some, None, refl, subst, sym, ◌∙◌, append_assoc, append-nil}
+use Rattle.mpd_model.specs.Declaration.{Declared}
+use Rattle.mpd_model.specs.Input.{slot_in}
+use Rattle.mpd_model.specs.Printable.{IsName, AreNamed, AreVariables, AreNew, IsPrintableWhole, IsPrintableTarget, IsPrintableTree, IsPrintableBlock, ReadScriptsArePrintable}
+use Rattle.mpd_model.specs.ReaderLaws.{ScriptsAreWritten}
+use Rattle.mpd_model.specs.Program.{Program}
+use Rattle.mpd_model.specs.Term.{Term, Target}
+use Rattle.mpd_model.specs.Tokens.{Spot, tokens}
+use Rattle.mpd_model.specs.Tree.{Tree, block_of}
+use Rattle.mpd_model.specs.Written.{Written, WrittenTarget, whole, part, WrittenTree, prints, sends, receives, assigns, asserts, repeats, chooses, chooses_else, WrittenBlock, braces, WrittenBody, ended, follows, variable_of, WrittenDecls, none, declares, declares_array, WrittenScript, script}
+use Rattle.mpd_laws.proofs.GoodSpots.{AllGood, good_left, good_right, tokens_good}
+use Rattle.mpd_laws.proofs.PrintableTerms.{term_printable, stands_of}
+use Rattle.mpd_laws.proofs.ReadTrees.{IsCheap, IsCheapIndex, IsCheapTree, IsCheapBlock, reading_fine}
+
+-- ---- statements
+
+whole_printable : (ds : List Declared) (ss : List Spot) (t : Term) → Written ds 5 ss t → AllGood ss → IsCheap t → IsPrintableWhole ds t
+whole_printable ds ss t w g h = record { term = term_printable ds 5 ss t w g; cost = h }
+
+target_printable : (ds : List Declared) (ss : List Spot) (t : Target) → WrittenTarget ds ss t → AllGood ss → IsCheapIndex t.index → IsPrintableTarget ds t
+target_printable ds _ _ (whole s p h) g c = stands_of ds false s p g.0 h
+target_printable ds _ _ (part s a b ss p t h h1 w h2) g c = (stands_of ds true s p g.0 h, whole_printable ds ss t w (good_left ss (b ∷ []) g.1.1) c)
+
+mutual
+  tree_printable : (ds : List Declared) (ss : List Spot) (t : Tree) (ls : List ℕ) → WrittenTree ds ss t ls → AllGood ss → IsCheapTree t → IsPrintableTree ds t
+  tree_printable ds _ _ _ (prints k end e t h1 w h2) g c = whole_printable ds e t w (good_left e (end ∷ []) g.1) c
+  tree_printable ds _ _ _ (sends k to tag end a b d value dest mark h1 v h2 w h3 x h4) g c =
+      let g0 = good_left (k ∷ a ++ to ∷ b ++ tag ∷ d) (end ∷ []) g in
+      let g1 = good_left (k ∷ a ++ to ∷ b) (tag ∷ d) g0 in (
+        whole_printable ds a value v (good_left (k ∷ a) (to ∷ b) g1).1 c.0,
+        (whole_printable ds b dest w (good_right (k ∷ a) (to ∷ b) g1).1 c.1.0, whole_printable ds d mark x (good_right (k ∷ a ++ to ∷ b) (tag ∷ d) g0).1 c.1.1),
+      )
+  tree_printable ds _ _ _ (receives k to tag end a b d into source mark h1 v h2 w h3 x h4) g c =
+      let g0 = good_left (k ∷ a ++ to ∷ b ++ tag ∷ d) (end ∷ []) g in
+      let g1 = good_left (k ∷ a ++ to ∷ b) (tag ∷ d) g0 in (
+        target_printable ds a into v (good_left (k ∷ a) (to ∷ b) g1).1 c.0,
+        (whole_printable ds b source w (good_right (k ∷ a) (to ∷ b) g1).1 c.1.0, whole_printable ds d mark x (good_right (k ∷ a ++ to ∷ b) (tag ∷ d) g0).1 c.1.1),
+      )
+  tree_printable ds _ _ _ (assigns equal end n e into t v h1 w h2) g c =
+      let g0 = good_left (n ++ equal ∷ e) (end ∷ []) g in
+      (target_printable ds n into v (good_left n (equal ∷ e) g0) c.0, whole_printable ds e t w (good_right n (equal ∷ e) g0).1 c.1)
+  tree_printable ds _ _ _ (asserts k end e t h1 w h2) g c = whole_printable ds e t w (good_left e (end ∷ []) g.1) c
+  tree_printable ds _ _ _ (repeats k e a t x ls h1 w f) g c = (whole_printable ds e t w (good_left e a g.1) c.0, block_printable ds a x ls f (good_right e a g.1) c.1)
+  tree_printable ds _ _ _ (chooses k e a t x ls h1 w f) g c = (whole_printable ds e t w (good_left e a g.1) c.0, (block_printable ds a x ls f (good_right e a g.1) c.1.0, tt))
+  tree_printable ds _ _ _ (chooses_else k o e a b t x y ls ms h1 w f h2 q) g c =
+      let g0 = good_left (k ∷ e ++ a) (o ∷ b) g in (
+        whole_printable ds e t w (good_left e a g0.1) c.0,
+        (block_printable ds a x ls f (good_right e a g0.1) c.1.0, block_printable ds b y ms q (good_right (k ∷ e ++ a) (o ∷ b) g).1 c.1.1),
+      )
+
+  block_printable : (ds : List Declared) (ss : List Spot) (ts : List Tree) (ls : List ℕ) → WrittenBlock ds ss ts ls → AllGood ss → IsCheapBlock (block_of ts) → IsPrintableBlock ds (block_of ts)
+  block_printable ds _ _ _ (braces a b ss ts ls h1 w h2) g c = body_printable ds ss ts ls w (good_left ss (b ∷ []) g.1) c
+
+  body_printable : (ds : List Declared) (ss : List Spot) (ts : List Tree) (ls : List ℕ) → WrittenBody ds ss ts ls → AllGood ss → IsCheapBlock (block_of ts) → IsPrintableBlock ds (block_of ts)
+  body_printable ds _ _ _ ended g c = tt
+  body_printable ds _ _ _ (follows ss rs t ts ls ms v w) g c = (tree_printable ds ss t ls v (good_left ss rs g) c.0, body_printable ds rs ts ms w (good_right ss rs g) c.1)
+
+-- ---- declarations
+
+-- the declarations that were brought, behind those before
+record Brought (before all : List Declared) : Type 0 where
+  more : List Declared
+  is : all ≡ before ++ more
+  named : AreNamed more
+  variables : AreVariables more
+  distinct : AreNew before more
+
+brought_more : (before all : List Declared) (w : List ℕ) (o : Option ℕ) → IsName w → slot_in before w ≡ None → Brought (before ++ variable_of w o ∷ []) all → Brought before all
+brought_more before all w o h new x = record {
+  more = variable_of w o ∷ x.more;
+  is = x.is ∙ append_assoc before (variable_of w o ∷ []) x.more;
+  named = (h, x.named);
+  variables = (refl, x.variables);
+  distinct = (new, x.distinct);
+}
+
+decls_printable : (before : List Declared) (ss : List Spot) (all : List Declared) → WrittenDecls before ss all → AllGood ss → Brought before all
+decls_printable _ _ _ (none ds) g = record { more = []; is = sym (append-nil ds); named = tt; variables = tt; distinct = tt }
+decls_printable _ _ _ (declares ds es v n end ss h1 h2 new h3 w) g =
+    brought_more ds es n.text None (g.1.0.name h2) new (decls_printable (ds ++ variable_of n.text None ∷ []) ss es w g.1.1.1)
+decls_printable _ _ _ (declares_array ds es v n a c b end cells ss h1 h2 new h3 h4 h5 h6 w) g =
+    brought_more ds es n.text (Some cells) (g.1.0.name h2) new (decls_printable (ds ++ variable_of n.text (Some cells) ∷ []) ss es w g.1.1.1.1.1.1)
+
+-- ---- a whole script
+
+record Parts (p : Program) : Type 0 where
+  decls : Brought [] p.decls
+  body : IsPrintableBlock p.decls (block_of p.body)
+
+script_parts : (ss : List Spot) (p : Program) → WrittenScript ss p → AllGood ss → IsCheapBlock (block_of p.body) → Parts p
+script_parts _ _ (script mpd version a ranks count b ss rs p h1 h2 h3 h4 h5 h6 ds w) g c =
+    let all = g.1.1.1.1.1.1 in
+    record { decls = decls_printable [] ss p.decls ds (good_left ss rs all); body = body_printable p.decls rs p.body p.lines w (good_right ss rs all) c }
+
+pub read_printable : ScriptsAreWritten → ReadScriptsArePrintable
+read_printable written text p h legal =
+    let f = reading_fine text p h in
+    let x = script_parts (tokens text) p (written text p h) (tokens_good 0 0 1 text) f.cheap in
+    record {
+      legal = legal;
+      named = subst AreNamed (sym x.decls.is) x.decls.named;
+      variables = subst AreVariables (sym x.decls.is) x.decls.variables;
+      distinct = subst (AreNew []) (sym x.decls.is) x.decls.distinct;
+      body = x.body;
+      blocks = f.open_blocks;
+    }

@@ -1,0 +1,271 @@
+-- What is read as statements has cheap expressions, and no more open blocks than may be.
+use Rattle.std.proofs.Common.{◌≡◌, ℕ, zero, suc, ◌+◌, ◌≤◌, max, Bool, true, false, cond, nat_lt, List, [], ◌∷◌, ◌++◌, length, Option, None, Some, Result, Ok, Err, refl, subst, arith}
+use Rattle.std.specs.List.{prefix_len}
+use Rattle.mpd_model.specs.declared.place.DeclKind.TheVariants.{Variable}
+use Rattle.mpd_model.specs.declared.place.Place.{Place}
+use Rattle.mpd_model.specs.declared.read_fault.FaultCode.TheVariants.{TooDeep}
+use Rattle.mpd_model.specs.declared.read_fault.ReadFault.{ReadFault}
+use Rattle.mpd_model.specs.declared.slot.Slot.{Slot}
+use Rattle.mpd_model.specs.declared.token.Mark.TheVariants as m
+use Rattle.mpd_model.specs.declared.token.Token.{Token}
+use Rattle.mpd_model.specs.declared.token.Token.TheVariants.{Name, Is}
+use Rattle.mpd_model.specs.Fits.{blocks, blocks_in}
+use Rattle.mpd_model.specs.Grammar.{expression, begun, closes, place_of_slot, printing, sending, outside, target, named_by, named, assigning, asserting, receiving, otherwise, choosing, repeating, stmt_by, stmt, stmts, body, block, header, is_text, max_blocks, max_text, read_of, reading, script as whole_script}
+use Rattle.mpd_model.specs.Input.{Input, Outcome, Parser, token, expect, seek, sees, after, count, max_budget, pure, fail, refuse, start_of, ◌>>=◌}
+use Rattle.mpd_model.specs.Printable.{term_cost}
+use Rattle.mpd_model.specs.Program.{Program}
+use Rattle.mpd_model.specs.Term.{Term, Target}
+use Rattle.mpd_model.specs.Tree.{Tree, Block, print, send, recv, branch, assign, check, repeat, no_more, then_more, block_of}
+use Rattle.mpd_laws.proofs.ReadCosts.{expression_cheap}
+use Rattle.mpd_laws.proofs.Sound.{bind_ok, ok_parts}
+
+max_small : (a b n : ℕ) → a ≤ n → b ≤ n → max a b ≤ n
+max_small a b n h k = grind arith
+
+-- ---- each expression within the limit
+
+abbrev pub IsCheap : Term → Type 0
+IsCheap t = term_cost 5 t ≤ max_budget
+
+abbrev pub IsCheapIndex : Option Term → Type 0
+IsCheapIndex None = Unit {0}
+IsCheapIndex (Some t) = IsCheap t
+
+abbrev mutual
+  pub IsCheapTree : Tree → Type 0
+  IsCheapTree (print e) = IsCheap e
+  IsCheapTree (send value to tag) = IsCheap value × (IsCheap to × IsCheap tag)
+  IsCheapTree (recv into from tag) = IsCheapIndex into.index × (IsCheap from × IsCheap tag)
+  IsCheapTree (branch c a b) = IsCheap c × (IsCheapBlock a × IsCheapBlock b)
+  IsCheapTree (assign into e) = IsCheapIndex into.index × IsCheap e
+  IsCheapTree (check e) = IsCheap e
+  IsCheapTree (repeat c a) = IsCheap c × IsCheapBlock a
+
+  pub IsCheapBlock : Block → Type 0
+  IsCheapBlock no_more = Unit {0}
+  IsCheapBlock (then_more t b) = IsCheapTree t × IsCheapBlock b
+
+-- cheap, and with no more than so many blocks open at once
+pub record Fine (d : ℕ) (t : Tree) : Type 0 where
+  pub cheap : IsCheapTree t
+  pub open_blocks : blocks t ≤ d
+
+pub record FineBlock (d : ℕ) (b : Block) : Type 0 where
+  pub cheap : IsCheapBlock b
+  pub open_blocks : blocks_in b ≤ d
+
+-- ---- statements that hold no other
+
+outside_cheap : (at : Place) (cells : Option ℕ) (i : Input) (y : Target × Input) → outside at cells i ≡ Ok y → IsCheapIndex y.0.index
+outside_cheap at None i y h = let o = ok_parts (record { place = at; index = None }, i) y h in subst (λ (t : Target). IsCheapIndex t.index) o.0 tt
+outside_cheap at (Some cells) i y h =
+    let a = bind_ok (expect m.SquareOpen i) _ y h in
+    let b = bind_ok (expression a.0.1) _ y a.2 in
+    let c = bind_ok (expect m.SquareClose b.0.1) _ y b.2 in
+    let o = ok_parts (record { place = at; index = Some b.0.0 }, c.0.1) y c.2 in
+    subst (λ (t : Target). IsCheapIndex t.index) o.0 (expression_cheap a.0.1 b.0 b.1)
+
+target_cheap : (i : Input) (y : Target × Input) → target i ≡ Ok y → IsCheapIndex y.0.index
+unfolding target
+target_cheap i y h =
+    let b = bind_ok (seek Variable i) _ y h in
+    outside_cheap (place_of_slot b.0.0) b.0.0.size _ y b.2
+
+named_case : (tk : Token) (i : Input) (y : Target × Input) → named_by tk i ≡ Ok y → IsCheapIndex y.0.index
+named_case Name i y h = target_cheap i y h
+named_case _ i y h = absurd (cc)
+
+named_cheap : (i : Input) (y : Target × Input) → named i ≡ Ok y → IsCheapIndex y.0.index
+unfolding named
+named_cheap i y h = named_case (token i) i y h
+
+abbrev Reads : ℕ → Parser Tree → Type 0
+Reads d p = (i : Input) (y : Tree × Input) → p i ≡ Ok y → Fine d y.0
+
+printing_fine : (d : ℕ) → Reads d printing
+unfolding printing
+printing_fine d i y h =
+    let a = bind_ok (expression i) _ y h in
+    let b = bind_ok (expect m.Semicolon a.0.1) _ y a.2 in
+    let o = ok_parts (print a.0.0, b.0.1) y b.2 in
+    subst (Fine d) o.0 (record { cheap = expression_cheap i a.0 a.1; open_blocks = omega arith })
+
+asserting_fine : (d : ℕ) → Reads d asserting
+unfolding asserting
+asserting_fine d i y h =
+    let a = bind_ok (expression i) _ y h in
+    let b = bind_ok (expect m.Semicolon a.0.1) _ y a.2 in
+    let o = ok_parts (check a.0.0, b.0.1) y b.2 in
+    subst (Fine d) o.0 (record { cheap = expression_cheap i a.0 a.1; open_blocks = omega arith })
+
+sending_fine : (d : ℕ) → Reads d sending
+unfolding sending
+sending_fine d i y h =
+    let a = bind_ok (expression i) _ y h in
+    let b = bind_ok (expect m.To a.0.1) _ y a.2 in
+    let c = bind_ok (expression b.0.1) _ y b.2 in
+    let e = bind_ok (expect m.Tag c.0.1) _ y c.2 in
+    let f = bind_ok (expression e.0.1) _ y e.2 in
+    let g = bind_ok (expect m.Semicolon f.0.1) _ y f.2 in
+    let o = ok_parts (send a.0.0 c.0.0 f.0.0, g.0.1) y g.2 in
+    subst (Fine d) o.0 (record { cheap = (expression_cheap i a.0 a.1, (expression_cheap b.0.1 c.0 c.1, expression_cheap e.0.1 f.0 f.1)); open_blocks = omega arith })
+
+receiving_fine : (d : ℕ) → Reads d receiving
+unfolding receiving
+receiving_fine d i y h =
+    let a = bind_ok (named i) _ y h in
+    let b = bind_ok (expect m.From a.0.1) _ y a.2 in
+    let c = bind_ok (expression b.0.1) _ y b.2 in
+    let e = bind_ok (expect m.Tag c.0.1) _ y c.2 in
+    let f = bind_ok (expression e.0.1) _ y e.2 in
+    let g = bind_ok (expect m.Semicolon f.0.1) _ y f.2 in
+    let o = ok_parts (recv a.0.0 c.0.0 f.0.0, g.0.1) y g.2 in
+    subst (Fine d) o.0 (record { cheap = (named_cheap i a.0 a.1, (expression_cheap b.0.1 c.0 c.1, expression_cheap e.0.1 f.0 f.1)); open_blocks = omega arith })
+
+assigning_fine : (d : ℕ) (s : Slot) → Reads d (assigning s)
+unfolding assigning
+assigning_fine d s i y h =
+    let a = bind_ok (outside (place_of_slot s) s.size i) _ y h in
+    let b = bind_ok (expect m.Assign a.0.1) _ y a.2 in
+    let c = bind_ok (expression b.0.1) _ y b.2 in
+    let e = bind_ok (expect m.Semicolon c.0.1) _ y c.2 in
+    let o = ok_parts (assign a.0.0 c.0.0, e.0.1) y e.2 in
+    subst (Fine d) o.0 (record { cheap = (outside_cheap (place_of_slot s) s.size i a.0 a.1, expression_cheap b.0.1 c.0 c.1); open_blocks = omega arith })
+
+-- ---- blocks
+
+-- what is read as a block is fine, and is open itself
+record FineInside (d : ℕ) (ts : List Tree) : Type 0 where
+  cheap : IsCheapBlock (block_of ts)
+  open_blocks : suc (blocks_in (block_of ts)) ≤ d
+
+abbrev ReadsBlock : ℕ → Parser (List Tree) → Type 0
+ReadsBlock d p = (i : Input) (y : List Tree × Input) → p i ≡ Ok y → FineInside d y.0
+
+otherwise_case : (d : ℕ) (p : Parser (List Tree)) → ReadsBlock d p → 1 ≤ d → (found : Bool) (i : Input) (y : List Tree × Input) → cond found p (pure []) i ≡ Ok y → FineInside d y.0
+otherwise_case d p s some true i y h = s i y h
+otherwise_case d p s some false i y h = let o = ok_parts ([], i) y h in subst (FineInside d) o.0 (record { cheap = tt; open_blocks = omega arith })
+
+otherwise_fine : (d : ℕ) (p : Parser (List Tree)) → ReadsBlock d p → 1 ≤ d → ReadsBlock d (otherwise p)
+unfolding otherwise
+otherwise_fine d p s some i y h = otherwise_case d p s some (sees m.Else i) (after m.Else i) y h
+
+choosing_fine : (d : ℕ) (p : Parser (List Tree)) → ReadsBlock d p → Reads d (choosing p)
+unfolding choosing
+choosing_fine d p s i y h =
+    let a = bind_ok (expression i) _ y h in
+    let b = bind_ok (p a.0.1) _ y a.2 in
+    let c = bind_ok (otherwise p b.0.1) _ y b.2 in
+    let o = ok_parts (branch a.0.0 (block_of b.0.0) (block_of c.0.0), c.0.1) y c.2 in
+    let first = s a.0.1 b.0 b.1 in
+    let second = otherwise_fine d p s (omega (arith, first.open_blocks)) b.0.1 c.0 c.1 in
+    subst (Fine d) o.0
+    (record {
+      cheap = (expression_cheap i a.0 a.1, (first.cheap, second.cheap));
+      open_blocks = most (blocks_in (block_of b.0.0)) (blocks_in (block_of c.0.0)) d first.open_blocks second.open_blocks;
+    })
+  where
+    most : (a b n : ℕ) → suc a ≤ n → suc b ≤ n → suc (max a b) ≤ n
+    most a b n h k = grind arith
+
+repeating_fine : (d : ℕ) (p : Parser (List Tree)) → ReadsBlock d p → Reads d (repeating p)
+unfolding repeating
+repeating_fine d p s i y h =
+    let a = bind_ok (expression i) _ y h in
+    let b = bind_ok (p a.0.1) _ y a.2 in
+    let o = ok_parts (repeat a.0.0 (block_of b.0.0), b.0.1) y b.2 in
+    let inside = s a.0.1 b.0 b.1 in
+    subst (Fine d) o.0 (record { cheap = (expression_cheap i a.0 a.1, inside.cheap); open_blocks = inside.open_blocks })
+
+stmt_case : (d : ℕ) (p : Parser (List Tree)) → ReadsBlock d p → (tk : Token) → Reads d (stmt_by p tk)
+stmt_case d p s Name i y h =
+    let a = bind_ok (seek Variable i) _ y h in
+    let b = bind_ok (begun a.0.1) _ y a.2 in
+    assigning_fine d a.0.0 b.0.1 y b.2
+stmt_case d p s (Is m.If) i y h = let b = bind_ok (begun i) _ y h in choosing_fine d p s b.0.1 y b.2
+stmt_case d p s (Is m.While) i y h = let b = bind_ok (begun i) _ y h in repeating_fine d p s b.0.1 y b.2
+stmt_case d p s (Is m.Print) i y h = let b = bind_ok (begun i) _ y h in printing_fine d b.0.1 y b.2
+stmt_case d p s (Is m.Assert) i y h = let b = bind_ok (begun i) _ y h in asserting_fine d b.0.1 y b.2
+stmt_case d p s (Is m.Send) i y h = let b = bind_ok (begun i) _ y h in sending_fine d b.0.1 y b.2
+stmt_case d p s (Is m.Recv) i y h = let b = bind_ok (begun i) _ y h in receiving_fine d b.0.1 y b.2
+stmt_case d p s (Is m.Waitany) i y h = let b = bind_ok (count i) _ y h in absurd (let e = b.2 in cc)
+stmt_case d p s _ i y h = absurd (cc)
+
+stmt_fine : (d : ℕ) (p : Parser (List Tree)) → ReadsBlock d p → Reads d (stmt p)
+unfolding stmt
+stmt_fine d p s i y h = stmt_case d p s (token i) i y h
+
+one_behind : (d : ℕ) (ts : List Tree) (t : Tree) → FineBlock d (block_of ts) → Fine d t → FineBlock d (block_of (ts ++ t ∷ []))
+one_behind d [] t x y = record { cheap = (y.cheap, tt); open_blocks = max_small (blocks t) 0 d y.open_blocks (omega arith) }
+one_behind d (u ∷ us) t x y =
+    let left : blocks u ≤ d = max_left (blocks u) (blocks_in (block_of us)) d x.open_blocks in
+    let right : blocks_in (block_of us) ≤ d = max_right (blocks u) (blocks_in (block_of us)) d x.open_blocks in
+    let more = one_behind d us t (record { cheap = x.cheap.1; open_blocks = right }) y in
+    record { cheap = (x.cheap.0, more.cheap); open_blocks = max_small (blocks u) (blocks_in (block_of (us ++ t ∷ []))) d left more.open_blocks }
+  where
+    max_left : (a b n : ℕ) → max a b ≤ n → a ≤ n
+    max_left a b n h = grind arith
+
+    max_right : (a b n : ℕ) → max a b ≤ n → b ≤ n
+    max_right a b n h = grind arith
+
+stmts_case : (d : ℕ) (p : Parser (List Tree)) (inside : Bool) (n : ℕ) (found : List Tree) (i : Input) (y : List Tree × Input) (ends : Bool)
+    → ReadsBlock d p → FineBlock d (block_of found)
+    → ((f : List Tree) (x : Input) → FineBlock d (block_of f) → stmts p inside n f x ≡ Ok y → FineBlock d (block_of y.0))
+    → cond ends (pure found) (stmt p >>= λ s. stmts p inside n (found ++ s ∷ [])) i ≡ Ok y → FineBlock d (block_of y.0)
+stmts_case d p inside n found i y true s x more h = let o = ok_parts (found, i) y h in subst (λ ts. FineBlock d (block_of ts)) o.0 x
+stmts_case d p inside n found i y false s x more h =
+    let b = bind_ok (stmt p i) _ y h in
+    more (found ++ b.0.0 ∷ []) b.0.1 (one_behind d found b.0.0 x (stmt_fine d p s i b.0 b.1)) b.2
+
+stmts_fine : (d : ℕ) (p : Parser (List Tree)) (inside : Bool) (n : ℕ) (found : List Tree) (i : Input) (y : List Tree × Input)
+    → ReadsBlock d p → FineBlock d (block_of found) → stmts p inside n found i ≡ Ok y → FineBlock d (block_of y.0)
+unfolding stmts
+stmts_fine d p inside zero found i y s x h = absurd (cc)
+stmts_fine d p inside (suc n) found i y s x h =
+    stmts_case d p inside n found i y (closes inside (token i)) s x (λ f z w e. stmts_fine d p inside n f z y s w e) h
+
+body_fine : (d : ℕ) (p : Parser (List Tree)) (inside : Bool) (i : Input) (y : List Tree × Input) → ReadsBlock d p → body p inside i ≡ Ok y → FineBlock d (block_of y.0)
+unfolding body
+body_fine d p inside i y s h = stmts_fine d p inside (length i.tokens + 1) [] i y s (record { cheap = tt; open_blocks = omega arith }) h
+
+none_opens : (v : Bool) (i : Input) (y : List Tree × Input) → cond v (fail TooDeep i) (refuse i) ≡ Ok y → ⊥
+none_opens true i y h = cc
+none_opens false i y h = cc
+
+block_fine : (d : ℕ) → ReadsBlock d (block d)
+unfolding block
+block_fine zero i y h = absurd (none_opens (sees m.BraceOpen i) i y h)
+block_fine (suc d) i y h =
+    let a = bind_ok (expect m.BraceOpen i) _ y h in
+    let b = bind_ok (body (block d) true a.0.1) _ y a.2 in
+    let c = bind_ok (expect m.BraceClose b.0.1) _ y b.2 in
+    let o = ok_parts (b.0.0, c.0.1) y c.2 in
+    let x = body_fine d (block d) true a.0.1 b.0 (block_fine d) b.1 in
+    subst (FineInside (suc d)) o.0 (record { cheap = x.cheap; open_blocks = omega (arith, x.open_blocks) })
+
+-- ---- the whole text
+
+script_fine : (i : Input) (y : Program × Input) → whole_script i ≡ Ok y → FineBlock max_blocks (block_of y.0.body)
+unfolding whole_script
+script_fine i y h =
+    let a = bind_ok (header i) _ y h in
+    let b = bind_ok (body (block max_blocks) false a.0.1) _ y a.2 in
+    let o = ok_parts (record { version = 1; ranks = a.0.0; decls = b.0.1.decls; body = b.0.0; lines = b.0.1.lines }, b.0.1) y b.2 in
+    subst (λ (p : Program). FineBlock max_blocks (block_of p.body)) o.0 (body_fine max_blocks (block max_blocks) false a.0.1 b.0 (block_fine max_blocks) b.1)
+
+read_ok : (o : Outcome Program) (p : Program) → read_of o ≡ Ok p → (j : Input) × (o ≡ Ok (p, j))
+read_ok (Ok y) p h = let e : y.0 ≡ p = cc in (y.1, rw (← e) refl)
+read_ok (Err f) p h = absurd (cc)
+
+refused : {A : Type 0} (b : Bool) (e : ReadFault) (x : Result A ReadFault) (a : A) → cond b (Err e) x ≡ Ok a → x ≡ Ok a
+refused true e x a h = absurd (cc)
+refused false e x a h = h
+
+pub reading_fine : (text : List ℕ) (p : Program) → reading text ≡ Ok p → FineBlock max_blocks (block_of p.body)
+unfolding reading
+reading_fine text p h =
+    let a = refused (nat_lt max_text (length text)) _ _ p h in
+    let b = refused (nat_lt (prefix_len is_text text) (length text)) _ _ p a in
+    let c = read_ok (whole_script (start_of text)) p b in
+    script_fine (start_of text) (p, c.0) c.1

@@ -1,0 +1,531 @@
+-- What the grammar's functions read as statements is written so.
+use Rattle.std.proofs.Common.{◌≡◌, ◌≢◌, ℕ, zero, suc, ◌+◌, Bool, true, false, cond, List, [], ◌∷◌, ◌++◌, Option, None, Some, is_some, Ok, refl, ap, sym, ◌∙◌, append_assoc, length, nat_lt}
+use Rattle.mpd_model.specs.declared.place.DeclKind.TheVariants.{Variable}
+use Rattle.mpd_model.specs.declared.read_fault.FaultCode.TheVariants.{NotInVersion, TooDeep}
+use Rattle.mpd_model.specs.declared.slot.Slot.{Slot}
+use Rattle.mpd_model.specs.declared.token.Mark.{Mark}
+use Rattle.mpd_model.specs.declared.token.Mark.TheVariants as m
+use Rattle.mpd_model.specs.declared.token.Token.{Token}
+use Rattle.mpd_model.specs.declared.token.Token.TheVariants.{Name, Is, End}
+use Rattle.mpd_model.specs.Declaration.{Declared}
+use Rattle.mpd_model.specs.Grammar.{expression, begun, closes, place_of_slot, printing, sending, outside, target, named_by, named, assigning, asserting, receiving, otherwise, choosing, repeating, stmt_by, stmt, stmts, body, block}
+use Rattle.mpd_model.specs.Input.{Input, Outcome, Parser, and_then, token, token_of, spelling, next, behind, expect, seek, sees, count, slot_in, line_of, max_budget, after, pure, fail, refuse, ◌>>=◌, ◌>>◌}
+use Rattle.mpd_model.specs.Term.{Term, Target}
+use Rattle.mpd_model.specs.Tokens.{Spot}
+use Rattle.mpd_model.specs.Tree.{Tree, print, send, recv, branch, assign, check, repeat, no_more, block_of}
+use Rattle.mpd_model.specs.Written.{Names, Written, Takes, WrittenTarget, whole, part, WrittenTree, prints, sends, receives, assigns, asserts, repeats, chooses, chooses_else, WrittenBlock, braces, WrittenBody, ended, follows, TakesLines, TakesTree, TakesBlock, TakesBody}
+use Rattle.mpd_laws.proofs.Sound.{bind_ok, ok_parts, carried, test_ok, first_spot, Moves, no_move, then_moves, Step, next_step, sees_is, expect_step, seek_ok, NamedBy, name_step, expr_sound}
+
+-- ---- the first token of a statement
+
+pub record Begun (i j : Input) : Type 0 where
+  pub spot : Spot
+  pub is : i.tokens ≡ spot ∷ j.tokens
+  pub token : spot.token ≡ token i
+  pub text : spot.text ≡ spelling i
+  pub decls : j.decls ≡ i.decls
+  pub lines : j.lines ≡ i.lines ++ spot.line ∷ []
+
+begun_spot : (i j : Input) → token_of i.tokens ≢ End → j.tokens ≡ behind i.tokens → j.decls ≡ i.decls → j.lines ≡ i.lines ++ line_of i.tokens ∷ [] → Begun i j
+unfolding token spelling
+begun_spot i j some a b c =
+    let f = first_spot i.tokens some in
+    record {
+      spot = f.0;
+      is = f.1 ∙ ap (λ r. f.0 ∷ r) (sym a);
+      token = f.2;
+      text = f.3;
+      decls = b;
+      lines = c ∙ ap (λ r. i.lines ++ line_of r ∷ []) f.1;
+    }
+
+begun_ok : (i : Input) (y : Unit {0} × Input) → token i ≢ End → begun i ≡ Ok y → Begun i y.1
+unfolding count next token
+begun_ok i y some h =
+    let b = bind_ok (count i) _ y h in
+    let c = test_ok (nat_lt (length i.lines) 4096) _ _ b.0 b.1 in
+    let o = ok_parts (tt, next b.0.1) y b.2 in
+    let t : y.1.tokens ≡ behind b.0.1.tokens = sym (ap (λ k. k.tokens) o.1) in
+    let d : y.1.decls ≡ b.0.1.decls = sym (ap (λ k. k.decls) o.1) in
+    let l : y.1.lines ≡ b.0.1.lines = sym (ap (λ k. k.lines) o.1) in
+    begun_spot i y.1 some
+    (t ∙ sym (ap (λ p. behind p.1.tokens) c.1)) (d ∙ sym (ap (λ p. p.1.decls) c.1)) (l ∙ sym (ap (λ p. p.1.lines) c.1))
+
+-- ---- expressions that stand in no other
+
+pub record Read (t : Term) (i j : Input) : Type 0 where
+  pub used : List Spot
+  pub moves : Moves used i j
+  pub written : Written i.decls 5 used t
+
+read_of_takes : (t : Term) (i x j : Input) → x.tokens ≡ i.tokens → x.decls ≡ i.decls → x.lines ≡ i.lines → Takes 5 t x j → Read t i j
+read_of_takes t i x j a b c tk = record {
+  used = tk.used;
+  moves = record { is = sym a ∙ tk.is; decls = tk.decls ∙ b; lines = tk.lines ∙ c };
+  written = rw (← b) tk.written;
+}
+
+pub expression_ok : (i : Input) (y : Term × Input) → expression i ≡ Ok y → Read y.0 i y.1
+expression_ok i y h = read_of_takes y.0 i (record i { budget = max_budget }) y.1 refl refl refl (expr_sound 65 5 (record i { budget = max_budget }) y.1 y.0 h)
+
+-- an expression seen from where the statement began
+here : (t : Term) (i x j : Input) → x.decls ≡ i.decls → (r : Read t x j) → Written i.decls 5 r.used t
+here t i x j e r = rw (← e) r.written
+
+-- ---- what follows the first token
+
+-- the tokens behind the first one write the statement, wherever it stands
+pub record Rest (k : Mark) (t : Tree) (i j : Input) : Type 0 where
+  pub used : List Spot
+  pub begun : List ℕ
+  pub is : i.tokens ≡ used ++ j.tokens
+  pub decls : j.decls ≡ i.decls
+  pub lines : j.lines ≡ i.lines ++ begun
+  pub written : (s : Spot) → s.token ≡ Is k → WrittenTree i.decls (s ∷ used) t (s.line ∷ begun)
+
+pub append_none : (A : Type 0) (xs : List A) → xs ≡ xs ++ []
+append_none A [] = refl
+append_none A (x ∷ xs) = ap (λ r. x ∷ r) (append_none A xs)
+
+-- a statement that holds no other
+flat : (k : Mark) (t : Tree) (used : List Spot) (i j : Input) → Moves used i j → ((s : Spot) → s.token ≡ Is k → WrittenTree i.decls (s ∷ used) t (s.line ∷ [])) → Rest k t i j
+flat k t used i j x w = record { used = used; begun = []; is = x.is; decls = x.decls; lines = x.lines ∙ append_none ℕ i.lines; written = w }
+
+pub printing_rest : (i j : Input) (t : Tree) → printing i ≡ Ok (t, j) → Rest m.Print t i j
+unfolding printing
+printing_rest i j t h =
+    let a = bind_ok (expression i) _ (t, j) h in
+    let b = bind_ok (expect m.Semicolon a.0.1) _ (t, j) a.2 in
+    let o = ok_parts (print a.0.0, b.0.1) (t, j) b.2 in
+    let e = expression_ok i a.0 a.1 in
+    let z = expect_step m.Semicolon a.0.1 b.0 b.1 in
+    carried (λ t j. Rest m.Print t i j) _ _ _ _ o.0 o.1 (flat m.Print (print a.0.0) (e.used ++ z.0.spot ∷ []) i b.0.1
+    (then_moves e.used (z.0.spot ∷ []) i a.0.1 b.0.1 e.moves z.0.moves)
+    (λ s is. prints s z.0.spot e.used a.0.0 is e.written z.1))
+
+pub sending_rest : (i j : Input) (t : Tree) → sending i ≡ Ok (t, j) → Rest m.Send t i j
+unfolding sending
+sending_rest i j t h =
+    let a = bind_ok (expression i) _ (t, j) h in
+    let b = bind_ok (expect m.To a.0.1) _ (t, j) a.2 in
+    let c = bind_ok (expression b.0.1) _ (t, j) b.2 in
+    let d = bind_ok (expect m.Tag c.0.1) _ (t, j) c.2 in
+    let e = bind_ok (expression d.0.1) _ (t, j) d.2 in
+    let f = bind_ok (expect m.Semicolon e.0.1) _ (t, j) e.2 in
+    let o = ok_parts (send a.0.0 c.0.0 e.0.0, f.0.1) (t, j) f.2 in
+    let value = expression_ok i a.0 a.1 in
+    let to = expect_step m.To a.0.1 b.0 b.1 in
+    let dest = expression_ok b.0.1 c.0 c.1 in
+    let tag = expect_step m.Tag c.0.1 d.0 d.1 in
+    let mark = expression_ok d.0.1 e.0 e.1 in
+    let z = expect_step m.Semicolon e.0.1 f.0 f.1 in
+    let second = then_moves (to.0.spot ∷ []) dest.used a.0.1 b.0.1 c.0.1 to.0.moves dest.moves in
+    let third = then_moves (tag.0.spot ∷ []) mark.used c.0.1 d.0.1 e.0.1 tag.0.moves mark.moves in
+    let two = then_moves value.used (to.0.spot ∷ dest.used) i a.0.1 c.0.1 value.moves second in
+    let three = then_moves (value.used ++ to.0.spot ∷ dest.used) (tag.0.spot ∷ mark.used) i c.0.1 e.0.1 two third in
+    carried (λ t j. Rest m.Send t i j) _ _ _ _ o.0 o.1 (flat m.Send (send a.0.0 c.0.0 e.0.0) (value.used ++ to.0.spot ∷ dest.used ++ tag.0.spot ∷ mark.used ++ z.0.spot ∷ []) i f.0.1
+    (then_moves (value.used ++ to.0.spot ∷ dest.used ++ tag.0.spot ∷ mark.used) (z.0.spot ∷ []) i e.0.1 f.0.1 three z.0.moves)
+    (λ s is. sends s to.0.spot tag.0.spot z.0.spot value.used dest.used mark.used a.0.0 c.0.0 e.0.0 is value.written to.1
+    (here c.0.0 i b.0.1 c.0.1 (to.0.moves.decls ∙ value.moves.decls) dest) tag.1 (here e.0.0 i d.0.1 e.0.1 (tag.0.moves.decls ∙ two.decls) mark) z.1))
+
+-- ---- places that stand in no expression
+
+record TakesTarget (t : Target) (i j : Input) : Type 0 where
+  pub used : List Spot
+  pub moves : Moves used i j
+  pub written : WrittenTarget i.decls used t
+
+-- what follows the name of such a place
+record Outside (slot : Slot) (t : Target) (i j : Input) : Type 0 where
+  pub used : List Spot
+  pub moves : Moves used i j
+  pub written : (s : Spot) → NamedBy i.decls slot s → WrittenTarget i.decls (s ∷ used) t
+
+abbrev whole_of : Slot → Target
+whole_of slot = record { place = place_of_slot slot; index = None }
+
+abbrev part_of : Slot → Term → Target
+part_of slot t = record { place = place_of_slot slot; index = Some t }
+
+-- of an array, by its size
+abbrev Sized : Slot → Option ℕ → List Declared → Spot → Type 0
+Sized slot cells ds s = (sized : Bool) → is_some cells ≡ sized → Names ds s sized (place_of_slot slot)
+
+outside_case : (slot : Slot) (cells : Option ℕ) → ((ds : List Declared) (s : Spot) → NamedBy ds slot s → Sized slot cells ds s)
+    → (i j : Input) (t : Target) → outside (place_of_slot slot) cells i ≡ Ok (t, j) → Outside slot t i j
+outside_case slot None n i j t h =
+    let o = ok_parts (whole_of slot, i) (t, j) h in
+    carried (λ t j. Outside slot t i j) _ _ _ _ o.0 o.1
+    (record { used = []; moves = no_move i i refl; written = λ s named. whole s (place_of_slot slot) (n i.decls s named false refl) })
+outside_case slot (Some cells) n i j t h =
+    let a = bind_ok (expect m.SquareOpen i) _ (t, j) h in
+    let b = bind_ok (expression a.0.1) _ (t, j) a.2 in
+    let c = bind_ok (expect m.SquareClose b.0.1) _ (t, j) b.2 in
+    let o = ok_parts (part_of slot b.0.0, c.0.1) (t, j) c.2 in
+    let x = expect_step m.SquareOpen i a.0 a.1 in
+    let e = expression_ok a.0.1 b.0 b.1 in
+    let y = expect_step m.SquareClose b.0.1 c.0 c.1 in
+    carried (λ t j. Outside slot t i j) _ _ _ _ o.0 o.1
+    (record {
+      used = x.0.spot ∷ e.used ++ y.0.spot ∷ [];
+      moves = then_moves (x.0.spot ∷ []) (e.used ++ y.0.spot ∷ []) i a.0.1 c.0.1 x.0.moves (then_moves e.used (y.0.spot ∷ []) a.0.1 b.0.1 c.0.1 e.moves y.0.moves);
+      written = λ s named. part s x.0.spot y.0.spot e.used (place_of_slot slot) b.0.0 (n i.decls s named true refl) x.1 (here b.0.0 i a.0.1 b.0.1 x.0.moves.decls e) y.1;
+    })
+
+outside_ok : (slot : Slot) (i j : Input) (t : Target) → outside (place_of_slot slot) slot.size i ≡ Ok (t, j) → Outside slot t i j
+outside_ok slot i j t h = outside_case slot slot.size (λ ds s n. n) i j t h
+
+target_is : (slot : Slot) (t : Target) (i x j : Input) → (s : Step i x) → NamedBy i.decls slot s.spot → Outside slot t x j → TakesTarget t i j
+target_is slot t i x j s n o = record {
+  used = s.spot ∷ o.used;
+  moves = then_moves (s.spot ∷ []) o.used i x j s.moves o.moves;
+  written = rw (← s.moves.decls) (o.written s.spot (rw s.moves.decls n));
+}
+
+target_ok : (i : Input) (y : Target × Input) → token i ≡ Name → target i ≡ Ok y → TakesTarget y.0 i y.1
+unfolding target
+target_ok i y e h =
+    let b = bind_ok (seek Variable i) _ y h in
+    let v = name_step i b.0 e b.1 in
+    target_is b.0.0 y.0 i (next b.0.1) y.1 v.0 v.1 (outside_ok b.0.0 (next b.0.1) y.1 y.0 b.2)
+
+named_case : (tk : Token) (i : Input) (y : Target × Input) → token i ≡ tk → named_by tk i ≡ Ok y → TakesTarget y.0 i y.1
+named_case Name i y e h = target_ok i y e h
+named_case _ i y e h = absurd (cc)
+
+named_ok : (i : Input) (y : Target × Input) → named i ≡ Ok y → TakesTarget y.0 i y.1
+unfolding named
+named_ok i y h = named_case (token i) i y refl h
+
+-- ---- more statements that hold no other
+
+asserting_rest : (i j : Input) (t : Tree) → asserting i ≡ Ok (t, j) → Rest m.Assert t i j
+unfolding asserting
+asserting_rest i j t h =
+    let a = bind_ok (expression i) _ (t, j) h in
+    let b = bind_ok (expect m.Semicolon a.0.1) _ (t, j) a.2 in
+    let o = ok_parts (check a.0.0, b.0.1) (t, j) b.2 in
+    let e = expression_ok i a.0 a.1 in
+    let z = expect_step m.Semicolon a.0.1 b.0 b.1 in
+    carried (λ t j. Rest m.Assert t i j) _ _ _ _ o.0 o.1 (flat m.Assert (check a.0.0) (e.used ++ z.0.spot ∷ []) i b.0.1
+    (then_moves e.used (z.0.spot ∷ []) i a.0.1 b.0.1 e.moves z.0.moves)
+    (λ s is. asserts s z.0.spot e.used a.0.0 is e.written z.1))
+
+-- what follows the name that an assignment begins with
+record Assigns (slot : Slot) (t : Tree) (i j : Input) : Type 0 where
+  pub used : List Spot
+  pub moves : Moves used i j
+  pub written : (s : Spot) → NamedBy i.decls slot s → WrittenTree i.decls (s ∷ used) t (s.line ∷ [])
+
+assigning_ok : (slot : Slot) (i j : Input) (t : Tree) → assigning slot i ≡ Ok (t, j) → Assigns slot t i j
+unfolding assigning
+assigning_ok slot i j t h =
+    let a = bind_ok (outside (place_of_slot slot) slot.size i) _ (t, j) h in
+    let b = bind_ok (expect m.Assign a.0.1) _ (t, j) a.2 in
+    let c = bind_ok (expression b.0.1) _ (t, j) b.2 in
+    let d = bind_ok (expect m.Semicolon c.0.1) _ (t, j) c.2 in
+    let o = ok_parts (assign a.0.0 c.0.0, d.0.1) (t, j) d.2 in
+    let into = outside_ok slot i a.0.1 a.0.0 a.1 in
+    let equal = expect_step m.Assign a.0.1 b.0 b.1 in
+    let value = expression_ok b.0.1 c.0 c.1 in
+    let z = expect_step m.Semicolon c.0.1 d.0 d.1 in
+    let one = then_moves (equal.0.spot ∷ []) value.used a.0.1 b.0.1 c.0.1 equal.0.moves value.moves in
+    let two = then_moves into.used (equal.0.spot ∷ value.used) i a.0.1 c.0.1 into.moves one in
+    carried (λ t j. Assigns slot t i j) _ _ _ _ o.0 o.1
+    (record {
+      used = into.used ++ equal.0.spot ∷ value.used ++ z.0.spot ∷ [];
+      moves = then_moves (into.used ++ equal.0.spot ∷ value.used) (z.0.spot ∷ []) i c.0.1 d.0.1 two z.0.moves;
+      written = λ s n. assigns equal.0.spot z.0.spot (s ∷ into.used) value.used a.0.0 c.0.0 (into.written s n) equal.1
+          (here c.0.0 i b.0.1 c.0.1 (equal.0.moves.decls ∙ into.moves.decls) value) z.1;
+    })
+
+pub receiving_rest : (i j : Input) (t : Tree) → receiving i ≡ Ok (t, j) → Rest m.Recv t i j
+unfolding receiving
+receiving_rest i j t h =
+    let a = bind_ok (named i) _ (t, j) h in
+    let b = bind_ok (expect m.From a.0.1) _ (t, j) a.2 in
+    let c = bind_ok (expression b.0.1) _ (t, j) b.2 in
+    let d = bind_ok (expect m.Tag c.0.1) _ (t, j) c.2 in
+    let e = bind_ok (expression d.0.1) _ (t, j) d.2 in
+    let f = bind_ok (expect m.Semicolon e.0.1) _ (t, j) e.2 in
+    let o = ok_parts (recv a.0.0 c.0.0 e.0.0, f.0.1) (t, j) f.2 in
+    let into = named_ok i a.0 a.1 in
+    let from = expect_step m.From a.0.1 b.0 b.1 in
+    let source = expression_ok b.0.1 c.0 c.1 in
+    let tag = expect_step m.Tag c.0.1 d.0 d.1 in
+    let mark = expression_ok d.0.1 e.0 e.1 in
+    let z = expect_step m.Semicolon e.0.1 f.0 f.1 in
+    let first = then_moves (from.0.spot ∷ []) source.used a.0.1 b.0.1 c.0.1 from.0.moves source.moves in
+    let second = then_moves (tag.0.spot ∷ []) mark.used c.0.1 d.0.1 e.0.1 tag.0.moves mark.moves in
+    let one = then_moves into.used (from.0.spot ∷ source.used) i a.0.1 c.0.1 into.moves first in
+    let two = then_moves (into.used ++ from.0.spot ∷ source.used) (tag.0.spot ∷ mark.used) i c.0.1 e.0.1 one second in
+    carried (λ t j. Rest m.Recv t i j) _ _ _ _ o.0 o.1 (flat m.Recv (recv a.0.0 c.0.0 e.0.0) (into.used ++ from.0.spot ∷ source.used ++ tag.0.spot ∷ mark.used ++ z.0.spot ∷ []) i f.0.1
+    (then_moves (into.used ++ from.0.spot ∷ source.used ++ tag.0.spot ∷ mark.used) (z.0.spot ∷ []) i e.0.1 f.0.1 two z.0.moves)
+    (λ s is. receives s from.0.spot tag.0.spot z.0.spot into.used source.used mark.used a.0.0 c.0.0 e.0.0 is into.written from.1
+    (here c.0.0 i b.0.1 c.0.1 (from.0.moves.decls ∙ into.moves.decls) source) tag.1 (here e.0.0 i d.0.1 e.0.1 (tag.0.moves.decls ∙ one.decls) mark) z.1))
+
+-- ---- statements that hold others
+
+abbrev pub IsSoundBlock : Parser (List Tree) → Type 0
+IsSoundBlock b = (i j : Input) (ts : List Tree) → b i ≡ Ok (ts, j) → TakesBlock ts i j
+
+-- two runs of tokens, each with its lines
+record Lines (used : List Spot) (begun : List ℕ) (i j : Input) : Type 0 where
+  pub is : i.tokens ≡ used ++ j.tokens
+  pub decls : j.decls ≡ i.decls
+  pub lines : j.lines ≡ i.lines ++ begun
+
+then_lines : (a b : List Spot) (ls ms : List ℕ) (i j k : Input) → Lines a ls i j → Lines b ms j k → Lines (a ++ b) (ls ++ ms) i k
+then_lines a b ls ms i j k x y = record {
+  is = x.is ∙ ap (λ r. a ++ r) y.is ∙ sym (append_assoc a b k.tokens);
+  decls = y.decls ∙ x.decls;
+  lines = y.lines ∙ ap (λ r. r ++ ms) x.lines ∙ append_assoc i.lines ls ms;
+}
+
+moves_lines : (used : List Spot) (i j : Input) → Moves used i j → Lines used [] i j
+moves_lines used i j x = record { is = x.is; decls = x.decls; lines = x.lines ∙ append_none ℕ i.lines }
+
+lines_of : (W : List Declared → List Spot → List ℕ → Type 0) (i j : Input) (x : TakesLines W i j) → Lines x.used x.begun i j
+lines_of W i j x = record { is = x.is; decls = x.decls; lines = x.lines }
+
+abbrev OneBlock : List Tree → List Declared → List Spot → List ℕ → Type 0
+OneBlock ts ds ss ls = WrittenBlock ds ss ts ls
+
+-- a block seen from where the statement began
+there : (ts : List Tree) (i x j : Input) → x.decls ≡ i.decls → (b : TakesBlock ts x j) → WrittenBlock i.decls b.used ts b.begun
+there ts i x j e b = rw (← e) b.written
+
+chosen_alone : (i a j : Input) (t : Term) (x : List Tree) → Read t i a → TakesBlock x a j → Rest m.If (branch t (block_of x) no_more) i j
+chosen_alone i a j t x r b =
+    let all = then_lines r.used b.used [] b.begun i a j (moves_lines r.used i a r.moves) (lines_of (OneBlock x) a j b) in
+    record {
+      used = r.used ++ b.used;
+      begun = b.begun;
+      is = all.is;
+      decls = all.decls;
+      lines = all.lines;
+      written = λ s is. chooses s r.used b.used t x b.begun is r.written (there x i a j r.moves.decls b);
+    }
+
+chosen_else : (i a b c j : Input) (t : Term) (x y : List Tree) → Read t i a → TakesBlock x a b → (s : Step b c) → s.spot.token ≡ Is m.Else → TakesBlock y c j
+    → Rest m.If (branch t (block_of x) (block_of y)) i j
+chosen_else i a b c j t x y r f w e g =
+    let one = then_lines r.used f.used [] f.begun i a b (moves_lines r.used i a r.moves) (lines_of (OneBlock x) a b f) in
+    let more = then_lines (w.spot ∷ []) g.used [] g.begun b c j (moves_lines (w.spot ∷ []) b c w.moves) (lines_of (OneBlock y) c j g) in
+    let all = then_lines (r.used ++ f.used) (w.spot ∷ g.used) f.begun g.begun i b j one more in
+    record {
+      used = r.used ++ f.used ++ w.spot ∷ g.used;
+      begun = f.begun ++ g.begun;
+      is = all.is;
+      decls = all.decls;
+      lines = all.lines;
+      written = λ s is. chooses_else s w.spot r.used f.used g.used t x y f.begun g.begun is r.written (there x i a b r.moves.decls f) e (there y i c j (w.moves.decls ∙ one.decls) g);
+    }
+
+repeated : (i a j : Input) (t : Term) (x : List Tree) → Read t i a → TakesBlock x a j → Rest m.While (repeat t (block_of x)) i j
+repeated i a j t x r b =
+    let all = then_lines r.used b.used [] b.begun i a j (moves_lines r.used i a r.moves) (lines_of (OneBlock x) a j b) in
+    record {
+      used = r.used ++ b.used;
+      begun = b.begun;
+      is = all.is;
+      decls = all.decls;
+      lines = all.lines;
+      written = λ s is. repeats s r.used b.used t x b.begun is r.written (there x i a j r.moves.decls b);
+    }
+
+-- with `else` or without
+otherwise_case : (p : Parser (List Tree)) → IsSoundBlock p → (found : Bool) (i a b j : Input) (t : Term) (x y : List Tree) → sees m.Else b ≡ found
+    → cond found p (pure []) (cond found (next b) b) ≡ Ok (y, j) → Read t i a → TakesBlock x a b → Rest m.If (branch t (block_of x) (block_of y)) i j
+otherwise_case p s true i a b j t x y e h r f =
+    let is = sees_is m.Else b e in
+    let w = next_step b (next b) (λ z. absurd (cc)) refl in
+    chosen_else i a b (next b) j t x y r f w (w.token ∙ is) (s (next b) j y h)
+otherwise_case p s false i a b j t x y e h r f =
+    let o = ok_parts ([], b) (y, j) h in
+    carried (λ ts k. Rest m.If (branch t (block_of x) (block_of ts)) i k) _ _ _ _ o.0 o.1 (chosen_alone i a b t x r f)
+
+otherwise_rest : (p : Parser (List Tree)) → IsSoundBlock p → (i a b j : Input) (t : Term) (x y : List Tree) → otherwise p b ≡ Ok (y, j)
+    → Read t i a → TakesBlock x a b → Rest m.If (branch t (block_of x) (block_of y)) i j
+unfolding otherwise after
+otherwise_rest p s i a b j t x y h r f = otherwise_case p s (sees m.Else b) i a b j t x y refl h r f
+
+choosing_rest : (p : Parser (List Tree)) → IsSoundBlock p → (i j : Input) (t : Tree) → choosing p i ≡ Ok (t, j) → Rest m.If t i j
+unfolding choosing
+choosing_rest p s i j t h =
+    let a = bind_ok (expression i) _ (t, j) h in
+    let b = bind_ok (p a.0.1) _ (t, j) a.2 in
+    let c = bind_ok (otherwise p b.0.1) _ (t, j) b.2 in
+    let o = ok_parts (branch a.0.0 (block_of b.0.0) (block_of c.0.0), c.0.1) (t, j) c.2 in
+    carried (λ t j. Rest m.If t i j) _ _ _ _ o.0 o.1
+    (otherwise_rest p s i a.0.1 b.0.1 c.0.1 a.0.0 b.0.0 c.0.0 c.1 (expression_ok i a.0 a.1) (s a.0.1 b.0.1 b.0.0 b.1))
+
+repeating_rest : (p : Parser (List Tree)) → IsSoundBlock p → (i j : Input) (t : Tree) → repeating p i ≡ Ok (t, j) → Rest m.While t i j
+unfolding repeating
+repeating_rest p s i j t h =
+    let a = bind_ok (expression i) _ (t, j) h in
+    let b = bind_ok (p a.0.1) _ (t, j) a.2 in
+    let o = ok_parts (repeat a.0.0 (block_of b.0.0), b.0.1) (t, j) b.2 in
+    carried (λ t j. Rest m.While t i j) _ _ _ _ o.0 o.1
+    (repeated i a.0.1 b.0.1 a.0.0 b.0.0 (expression_ok i a.0 a.1) (s a.0.1 b.0.1 b.0.0 b.1))
+
+-- the first token and the rest
+all_of : (k : Mark) (t : Tree) (i x j : Input) → token i ≡ Is k → Begun i x → Rest k t x j → TakesTree t i j
+all_of k t i x j e b r = record {
+  used = b.spot ∷ r.used;
+  begun = b.spot.line ∷ r.begun;
+  is = b.is ∙ ap (λ q. b.spot ∷ q) r.is;
+  written = rw (← b.decls) (r.written b.spot (b.token ∙ e));
+  decls = r.decls ∙ b.decls;
+  lines = r.lines ∙ ap (λ q. q ++ r.begun) b.lines ∙ append_assoc i.lines (b.spot.line ∷ []) r.begun;
+}
+
+begun_then : (k : Mark) (p : Parser Tree) → ((x j : Input) (t : Tree) → p x ≡ Ok (t, j) → Rest k t x j)
+    → (i j : Input) (t : Tree) → token i ≡ Is k → (begun >> p) i ≡ Ok (t, j) → TakesTree t i j
+begun_then k p s i j t e h =
+    let b = bind_ok (begun i) _ (t, j) h in
+    all_of k t i b.0.1 j e (begun_ok i b.0 (λ x. absurd (cc)) b.1) (s b.0.1 j t b.2)
+
+-- an assignment, whose first token is the name
+assigned : (slot : Slot) (t : Tree) (i x j : Input) → (b : Begun i x) → NamedBy i.decls slot b.spot → Assigns slot t x j → TakesTree t i j
+assigned slot t i x j b n r = record {
+  used = b.spot ∷ r.used;
+  begun = b.spot.line ∷ [];
+  is = b.is ∙ ap (λ q. b.spot ∷ q) r.moves.is;
+  written = rw (← b.decls) (r.written b.spot (rw b.decls n));
+  decls = r.moves.decls ∙ b.decls;
+  lines = r.moves.lines ∙ b.lines;
+}
+
+begun_here : (i x : Input) (y : Unit {0} × Input) → i ≡ x → token i ≢ End → begun x ≡ Ok y → Begun i y.1
+begun_here i x y e some h = begun_ok i y some (rw e h)
+
+assignment_takes : (i j : Input) (t : Tree) → token i ≡ Name → (seek Variable >>= λ s. begun >> assigning s) i ≡ Ok (t, j) → TakesTree t i j
+assignment_takes i j t e h =
+    let a = bind_ok (seek Variable i) _ (t, j) h in
+    let k = seek_ok i a.0 a.1 in
+    let c = bind_ok (begun a.0.1) _ (t, j) a.2 in
+    let b = begun_here i a.0.1 c.0 k.2 (λ x. absurd (cc)) c.1 in
+    let named : NamedBy i.decls a.0.0 b.spot =
+    λ sized is. record { token = b.token ∙ e; slot = a.0.0; declared = ap (slot_in i.decls) b.text ∙ k.0; kind = k.1; size = is; place = refl } in
+    assigned a.0.0 t i c.0.1 j b named (assigning_ok a.0.0 c.0.1 j t c.2)
+
+-- a statement of a later version is never read
+not_in_version : (i : Input) (y : Tree × Input) → and_then (count i) (λ x. fail {A = Tree} NotInVersion) ≡ Ok y → ⊥
+not_in_version i y h = let b = bind_ok (count i) (λ x. fail {A = Tree} NotInVersion) y h in absurd (cc)
+
+stmt_case : (p : Parser (List Tree)) → IsSoundBlock p → (tk : Token) (i j : Input) (t : Tree) → token i ≡ tk → stmt_by p tk i ≡ Ok (t, j) → TakesTree t i j
+stmt_case p s Name i j t e h = assignment_takes i j t e h
+stmt_case p s (Is m.If) i j t e h = begun_then m.If (choosing p) (choosing_rest p s) i j t e h
+stmt_case p s (Is m.While) i j t e h = begun_then m.While (repeating p) (repeating_rest p s) i j t e h
+stmt_case p s (Is m.Print) i j t e h = begun_then m.Print printing printing_rest i j t e h
+stmt_case p s (Is m.Assert) i j t e h = begun_then m.Assert asserting asserting_rest i j t e h
+stmt_case p s (Is m.Send) i j t e h = begun_then m.Send sending sending_rest i j t e h
+stmt_case p s (Is m.Recv) i j t e h = begun_then m.Recv receiving receiving_rest i j t e h
+stmt_case p s (Is m.Waitany) i j t e h = absurd (not_in_version i (t, j) h)
+stmt_case p s _ i j t e h = absurd (cc)
+
+pub stmt_sound : (p : Parser (List Tree)) → IsSoundBlock p → (i j : Input) (t : Tree) → stmt p i ≡ Ok (t, j) → TakesTree t i j
+unfolding stmt
+stmt_sound p s i j t h = stmt_case p s (token i) i j t refl h
+
+-- ---- bodies and blocks
+
+-- what was found before, and then a body
+record Found (found ts : List Tree) (i j : Input) : Type 0 where
+  pub more : List Tree
+  pub all : ts ≡ found ++ more
+  pub takes : TakesBody more i j
+
+none_more : (found ts : List Tree) (i j : Input) → found ≡ ts → i ≡ j → Found found ts i j
+none_more found ts i j a b = record {
+  more = [];
+  all = sym a ∙ append_none Tree found;
+  takes = record {
+    used = [];
+    begun = [];
+    is = ap (λ k. k.tokens) b;
+    written = ended;
+    decls = sym (ap (λ k. k.decls) b);
+    lines = sym (ap (λ k. k.lines) b) ∙ append_none ℕ i.lines;
+  };
+}
+
+abbrev OneBody : List Tree → List Declared → List Spot → List ℕ → Type 0
+OneBody ts ds ss ls = WrittenBody ds ss ts ls
+
+abbrev OneTree : Tree → List Declared → List Spot → List ℕ → Type 0
+OneTree t ds ss ls = WrittenTree ds ss t ls
+
+one_more : (found ts : List Tree) (t : Tree) (i x j : Input) → TakesTree t i x → Found (found ++ t ∷ []) ts x j → Found found ts i j
+one_more found ts t i x j a b =
+    let both = then_lines a.used b.takes.used a.begun b.takes.begun i x j (lines_of (OneTree t) i x a) (lines_of (OneBody b.more) x j b.takes) in
+    record {
+      more = t ∷ b.more;
+      all = b.all ∙ append_assoc found (t ∷ []) b.more;
+      takes = record {
+        used = a.used ++ b.takes.used;
+        begun = a.begun ++ b.takes.begun;
+        is = both.is;
+        written = follows a.used b.takes.used t b.more a.begun b.takes.begun a.written (rw (← a.decls) b.takes.written);
+        decls = both.decls;
+        lines = both.lines;
+      };
+    }
+
+stmts_case : (p : Parser (List Tree)) → IsSoundBlock p → (inside : Bool) (n : ℕ) (found ts : List Tree) (i j : Input) (ends : Bool)
+    → ((f us : List Tree) (x y : Input) → stmts p inside n f x ≡ Ok (us, y) → Found f us x y)
+    → cond ends (pure found) (stmt p >>= λ s. stmts p inside n (found ++ s ∷ [])) i ≡ Ok (ts, j) → Found found ts i j
+stmts_case p s inside n found ts i j true more h = let o = ok_parts (found, i) (ts, j) h in none_more found ts i j o.0 o.1
+stmts_case p s inside n found ts i j false more h =
+    let b = bind_ok (stmt p i) _ (ts, j) h in
+    one_more found ts b.0.0 i b.0.1 j (stmt_sound p s i b.0.1 b.0.0 b.1) (more (found ++ b.0.0 ∷ []) ts b.0.1 j b.2)
+
+stmts_sound : (p : Parser (List Tree)) → IsSoundBlock p → (inside : Bool) (n : ℕ) (found ts : List Tree) (i j : Input) → stmts p inside n found i ≡ Ok (ts, j) → Found found ts i j
+unfolding stmts
+stmts_sound p s inside zero found ts i j h = absurd (cc)
+stmts_sound p s inside (suc n) found ts i j h =
+    stmts_case p s inside n found ts i j (closes inside (token i)) (λ f us x y e. stmts_sound p s inside n f us x y e) h
+
+body_sound : (p : Parser (List Tree)) → IsSoundBlock p → (inside : Bool) (i j : Input) (ts : List Tree) → body p inside i ≡ Ok (ts, j) → TakesBody ts i j
+unfolding body
+body_sound p s inside i j ts h =
+    let f = stmts_sound p s inside (length i.tokens + 1) [] ts i j h in
+    rw f.all f.takes
+
+in_braces : (ts : List Tree) (i a b j : Input) → (o : Step i a) → o.spot.token ≡ Is m.BraceOpen → TakesBody ts a b → (c : Step b j) → c.spot.token ≡ Is m.BraceClose → TakesBlock ts i j
+in_braces ts i a b j o p x c q =
+    let inner = then_lines x.used (c.spot ∷ []) x.begun [] a b j (lines_of (OneBody ts) a b x) (moves_lines (c.spot ∷ []) b j c.moves) in
+    let all = then_lines (o.spot ∷ []) (x.used ++ c.spot ∷ []) [] (x.begun ++ []) i a j (moves_lines (o.spot ∷ []) i a o.moves) inner in
+    record {
+      used = o.spot ∷ x.used ++ c.spot ∷ [];
+      begun = x.begun;
+      is = all.is;
+      written = braces o.spot c.spot x.used ts x.begun p (rw (← o.moves.decls) x.written) q;
+      decls = all.decls;
+      lines = all.lines ∙ ap (λ r. i.lines ++ r) (sym (append_none ℕ x.begun));
+    }
+
+never : (b : Bool) (x y : Outcome (List Tree)) (z : List Tree × Input) → (x ≡ Ok z → ⊥) → (y ≡ Ok z → ⊥) → cond b x y ≡ Ok z → ⊥
+never true x y z a b h = a h
+never false x y z a b h = b h
+
+block_none : (i j : Input) (ts : List Tree) → block zero i ≡ Ok (ts, j) → ⊥
+unfolding block
+block_none i j ts h = never (sees m.BraceOpen i) (fail TooDeep i) (refuse i) (ts, j) (λ e. absurd (cc)) (λ e. absurd (cc)) h
+
+pub block_sound : (n : ℕ) → IsSoundBlock (block n)
+unfolding block
+block_sound zero i j ts h = absurd (block_none i j ts h)
+block_sound (suc n) i j ts h =
+    let a = bind_ok (expect m.BraceOpen i) _ (ts, j) h in
+    let b = bind_ok (body (block n) true a.0.1) _ (ts, j) a.2 in
+    let c = bind_ok (expect m.BraceClose b.0.1) _ (ts, j) b.2 in
+    let o = ok_parts (b.0.0, c.0.1) (ts, j) c.2 in
+    let x = expect_step m.BraceOpen i a.0 a.1 in
+    let y = expect_step m.BraceClose b.0.1 c.0 c.1 in
+    carried (λ us k. TakesBlock us i k) _ _ _ _ o.0 o.1
+    (in_braces b.0.0 i a.0.1 b.0.1 c.0.1 x.0 x.1 (body_sound (block n) (block_sound n) true a.0.1 b.0.1 b.0.0 b.1) y.0 y.1)
+
+pub statements_sound : (depth : ℕ) (inside : Bool) (i j : Input) (ts : List Tree) → body (block depth) inside i ≡ Ok (ts, j) → TakesBody ts i j
+statements_sound depth = body_sound (block depth) (block_sound depth)

@@ -1,0 +1,5 @@
+use Rattle.mpd_laws.proofs.EnoughBlocks.{body_more}
+use Rattle.mpd_laws.proofs.reading.blocks_decide_depth_alone.Goals as goal
+
+pub returns : goal.returns
+returns c = body_more

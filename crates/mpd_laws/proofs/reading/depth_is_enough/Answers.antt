@@ -1,0 +1,5 @@
+use Rattle.mpd_laws.proofs.Enough.{expr_enough}
+use Rattle.mpd_laws.proofs.reading.depth_is_enough.Goals as goal
+
+pub returns : goal.returns
+returns c = expr_enough

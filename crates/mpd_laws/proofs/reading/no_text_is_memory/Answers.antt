@@ -1,0 +1,5 @@
+use Rattle.mpd_laws.proofs.NoMemory.{never_memory}
+use Rattle.mpd_laws.proofs.reading.no_text_is_memory.Goals as goal
+
+pub returns : goal.returns
+returns c = never_memory

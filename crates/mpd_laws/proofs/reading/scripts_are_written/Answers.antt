@@ -1,0 +1,5 @@
+use Rattle.mpd_laws.proofs.SoundScript.{reading_written}
+use Rattle.mpd_laws.proofs.reading.scripts_are_written.Goals as goal
+
+pub returns : goal.returns
+returns c = reading_written
