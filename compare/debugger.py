@@ -1,0 +1,458 @@
+"""The debugger: the steps of the ranks and their matches, the texts that show a world, the trace words, the input."""
+
+import sys
+from typing import NamedTuple, Optional
+
+from language import (Assert, Assign, Branch, FAULT_NAMES, Fault, Print, Receive, Send, Trap, View, While,
+                      cell_of, evaluate, read_script)
+
+HIGHEST_TAG = 32767
+MOST_STEPS = 1000000
+MOST_READS = 1000000
+LONGEST_LINE = 4096
+LONGEST_NUMBER = 9
+
+REFUSED_FULL = 'refused full'
+REFUSED_NOT_ENABLED = 'refused not-enabled'
+REFUSED_AT_START = 'refused at-start'
+REFUSED_BAD_WORD = 'refused bad-word'
+
+
+class CallId(NamedTuple):
+    """A call by its rank and its number among the calls of that rank."""
+    rank: int
+    number: int
+
+    def __str__(self):
+        return f'{self.rank}.{self.number}'
+
+
+class Call(NamedTuple):
+    """A call made; a send has a value, a receive the cell it writes."""
+    kind: str
+    other: int
+    tag: int
+    value: Optional[int]
+    cell: Optional[int]
+
+
+class Rank(NamedTuple):
+    """A rank; `rest` is None at the end, else (statement, rest); `mode` is running, blocked or trapped."""
+    rest: Optional[tuple]
+    cells: tuple
+    calls: tuple
+    printed: tuple
+    mode: str
+    trap: Optional[str]
+
+
+class Pair(NamedTuple):
+    """The record that a send and a receive were matched."""
+    send: CallId
+    receive: CallId
+
+
+class Woken(NamedTuple):
+    """The record that the rank of a call went on behind it."""
+    call: CallId
+
+
+class World(NamedTuple):
+    ranks: tuple
+    records: tuple
+
+    def with_rank(self, number, rank):
+        return World(self.ranks[:number] + (rank,) + self.ranks[number + 1:], self.records)
+
+
+class Step(NamedTuple):
+    """A step: local or wake of a rank (`first`), match of a send (`first`) and a receive, or release."""
+    kind: str
+    first: object = None
+    second: object = None
+
+
+def pushed(statements, rest):
+    for statement in reversed(statements):
+        rest = (statement, rest)
+    return rest
+
+
+def first_world(script):
+    rank = Rank(pushed(script.body, None), (0,) * script.cells, (), (), 'running', None)
+    return World((rank,) * script.ranks, ())
+
+
+def in_bounds(expression, highest, trap, view):
+    value = evaluate(expression, view)
+    if not 0 <= value <= highest:
+        raise Trap(trap)
+    return value
+
+
+def called(statement, view):
+    """The call that a send or receive statement makes."""
+    if isinstance(statement, Send):
+        value = evaluate(statement.value, view)
+        other = in_bounds(statement.to, view.ranks - 1, 'bad-rank', view)
+        return Call('send', other, in_bounds(statement.tag, HIGHEST_TAG, 'bad-tag', view), value, None)
+    cell = cell_of(statement.place, view)
+    other = in_bounds(statement.source, view.ranks - 1, 'bad-rank', view)
+    return Call('recv', other, in_bounds(statement.tag, HIGHEST_TAG, 'bad-tag', view), None, cell)
+
+
+def written(cells, cell, value):
+    return cells[:cell] + (value,) + cells[cell + 1:]
+
+
+def executed(rank, view):
+    """The rank behind its next statement; raises the trap that stops it there."""
+    statement, tail = rank.rest
+    if isinstance(statement, Assign):
+        cell = cell_of(statement.place, view)
+        return rank._replace(rest=tail, cells=written(rank.cells, cell, evaluate(statement.value, view)))
+    if isinstance(statement, Branch):
+        taken = statement.then if evaluate(statement.condition, view) != 0 else statement.otherwise
+        return rank._replace(rest=pushed(taken, tail))
+    if isinstance(statement, While):
+        again = evaluate(statement.condition, view) != 0
+        return rank._replace(rest=pushed(statement.body, rank.rest) if again else tail)
+    if isinstance(statement, Print):
+        return rank._replace(rest=tail, printed=rank.printed + (evaluate(statement.value, view),))
+    if isinstance(statement, Assert):
+        if evaluate(statement.condition, view) == 0:
+            raise Trap('assert')
+        return rank._replace(rest=tail)
+    assert isinstance(statement, (Send, Receive))
+    return rank._replace(rest=tail, calls=rank.calls + (called(statement, view),), mode='blocked')
+
+
+def can_run(rank):
+    return rank.mode == 'running' and rank.rest is not None
+
+
+def after_local(world, number):
+    if number >= len(world.ranks) or not can_run(world.ranks[number]):
+        return None
+    rank = world.ranks[number]
+    try:
+        return world.with_rank(number, executed(rank, View(rank.cells, number, len(world.ranks))))
+    except Trap as trap:
+        return world.with_rank(number, rank._replace(mode='trapped', trap=trap.name))
+
+
+def find_call(world, call_id):
+    """The call of that name, or None."""
+    if call_id.rank < len(world.ranks) and call_id.number < len(world.ranks[call_id.rank].calls):
+        return world.ranks[call_id.rank].calls[call_id.number]
+    return None
+
+
+def partner(world, call_id):
+    """The call that one is matched with, or None."""
+    for record in world.records:
+        if isinstance(record, Pair):
+            if record.send == call_id:
+                return record.receive
+            if record.receive == call_id:
+                return record.send
+    return None
+
+
+def tags_agree(send, receive):
+    return send.tag == receive.tag
+
+
+def fits(world, send_id, receive_id):
+    send, receive = find_call(world, send_id), find_call(world, receive_id)
+    return send.other == receive_id.rank and receive.other == send_id.rank and tags_agree(send, receive)
+
+
+def pending(world, source, destination):
+    """The sends of one rank to another that are not matched."""
+    calls = enumerate(world.ranks[source].calls)
+    sends = [CallId(source, number) for number, call in calls if call.kind == 'send' and call.other == destination]
+    return [send_id for send_id in sends if partner(world, send_id) is None]
+
+
+def posted(world, rank):
+    """The receives of a rank that are not matched."""
+    receives = [CallId(rank, number) for number, call in enumerate(world.ranks[rank].calls) if call.kind == 'recv']
+    return [receive_id for receive_id in receives if partner(world, receive_id) is None]
+
+
+def eligible(world, send_id, receive_id):
+    """Whether a send and a receive may be matched: both free, fitting, and no earlier one fits in place of either."""
+    send, receive = find_call(world, send_id), find_call(world, receive_id)
+    if send is None or receive is None or send.kind != 'send' or receive.kind != 'recv':
+        return False
+    if partner(world, send_id) is not None or partner(world, receive_id) is not None:
+        return False
+    if not fits(world, send_id, receive_id):
+        return False
+    earlier_sends = [other for other in pending(world, send_id.rank, send.other) if other.number < send_id.number]
+    earlier_receives = [other for other in posted(world, receive_id.rank) if other.number < receive_id.number]
+    return not (any(fits(world, other, receive_id) for other in earlier_sends)
+                or any(fits(world, send_id, other) for other in earlier_receives))
+
+
+def after_match(world, send_id, receive_id):
+    if not eligible(world, send_id, receive_id):
+        return None
+    return World(world.ranks, world.records + (Pair(send_id, receive_id),))
+
+
+def last_call(world, number):
+    return CallId(number, len(world.ranks[number].calls) - 1)
+
+
+def can_wake(world, number):
+    return world.ranks[number].mode == 'blocked' and partner(world, last_call(world, number)) is not None
+
+
+def after_wake(world, number):
+    if number >= len(world.ranks) or not can_wake(world, number):
+        return None
+    rank = world.ranks[number]
+    call_id = last_call(world, number)
+    call = rank.calls[-1]
+    cells = rank.cells
+    if call.kind == 'recv':
+        cells = written(cells, call.cell, find_call(world, partner(world, call_id)).value)
+    woken = world.with_rank(number, rank._replace(cells=cells, mode='running'))
+    return World(woken.ranks, world.records + (Woken(call_id),))
+
+
+def next_world(world, step):
+    """The world behind a step; None where the step is not enabled."""
+    if step.kind == 'local':
+        return after_local(world, step.first)
+    if step.kind == 'wake':
+        return after_wake(world, step.first)
+    if step.kind == 'match':
+        return after_match(world, step.first, step.second)
+    return None
+
+
+def enabled_steps(world):
+    ranks = range(len(world.ranks))
+    steps = [Step('local', rank) for rank in ranks if can_run(world.ranks[rank])]
+    steps += [Step('wake', rank) for rank in ranks if can_wake(world, rank)]
+    for destination in ranks:
+        for receive_id in posted(world, destination):
+            for source in ranks:
+                steps += [Step('match', send_id, receive_id) for send_id in pending(world, source, destination)
+                          if eligible(world, send_id, receive_id)]
+    return steps
+
+
+def joined(title, values):
+    return ' '.join([title, *map(str, values)])
+
+
+def outcome(world):
+    """How a world ended in which no step is enabled."""
+    ranks = list(enumerate(world.ranks))
+    traps = [f'{number} {rank.trap}' for number, rank in ranks if rank.mode == 'trapped']
+    if traps:
+        return joined('trap', traps)
+    blocked = [last_call(world, number) for number, rank in ranks if rank.mode == 'blocked']
+    if blocked:
+        return joined('deadlock', blocked)
+    calls = [CallId(number, place) for number, rank in ranks for place in range(len(rank.calls))]
+    free = [call_id for call_id in calls if partner(world, call_id) is None]
+    return joined('leftovers', free) if free else 'done'
+
+
+def rank_state(rank):
+    if rank.mode == 'trapped':
+        return 'trapped ' + rank.trap
+    if rank.mode == 'blocked':
+        return f'blocked {len(rank.calls) - 1}'
+    return 'ended' if rank.rest is None else f'at {rank.rest[0].line}'
+
+
+def call_line(world, call_id):
+    call = find_call(world, call_id)
+    other_id = partner(world, call_id)
+    state = 'free' if other_id is None else f'with {other_id}'
+    if call.kind == 'send':
+        return f'call {call_id} send to {call.other} tag {call.tag} value {call.value} {state}'
+    if other_id is not None:
+        state += f' value {find_call(world, other_id).value}'
+    return f'call {call_id} recv from {call.other} tag {call.tag} {state}'
+
+
+def rank_lines(world, number):
+    rank = world.ranks[number]
+    lines = [f'rank {number} {rank_state(rank)}', joined('vars', rank.cells), 'handles', joined('out', rank.printed)]
+    return lines + [call_line(world, CallId(number, place)) for place in range(len(rank.calls))]
+
+
+def queue_lines(world):
+    """The calls that are not matched: sends of each pair of ranks, receives of each rank."""
+    ranks = range(len(world.ranks))
+    lines = []
+    for source in ranks:
+        for destination in ranks:
+            if sends := pending(world, source, destination):
+                lines.append(joined(f'pending {source} to {destination}:', [send_id.number for send_id in sends]))
+    for rank in ranks:
+        if receives := posted(world, rank):
+            lines.append(joined(f'posted {rank}:', [receive_id.number for receive_id in receives]))
+    return lines
+
+
+def record_line(record):
+    if isinstance(record, Pair):
+        return f'set pair {record.send} {record.receive}'
+    return f'set woke {record.call}'
+
+
+def show(world, depth, kept):
+    lines = [f'depth {depth} of {kept}']
+    for number in range(len(world.ranks)):
+        lines += rank_lines(world, number)
+    lines += queue_lines(world)
+    lines += [record_line(record) for record in world.records]
+    if not enabled_steps(world):
+        lines.append('outcome ' + outcome(world))
+    return '\n'.join(lines + ['end'])
+
+
+def number_of(word):
+    """The number that a word is, or None; bytes.isdigit knows the ten digits only."""
+    return int(word) if len(word) <= LONGEST_NUMBER and word.isdigit() else None
+
+
+def call_id_of(word):
+    """The call that a word names, or None."""
+    parts = [number_of(part) for part in word.split(b'.')]
+    return CallId(*parts) if len(parts) == 2 and None not in parts else None
+
+
+def step_of(words):
+    """The step that words name, or None."""
+    kind, *names = words
+    if kind in (b'local', b'wake') and len(names) == 1:
+        values = [number_of(names[0])]
+    elif kind == b'match' and len(names) == 2:
+        values = [call_id_of(name) for name in names]
+    elif words == [b'release']:
+        values = []
+    else:
+        return None
+    return None if None in values else Step(kind.decode(), *values)
+
+
+class Debugger:
+    """The worlds up to the current one, and the steps, undone ones too."""
+
+    def __init__(self, script):
+        self.worlds = [first_world(script)]
+        self.steps = []
+
+    @property
+    def depth(self):
+        return len(self.worlds) - 1
+
+    @property
+    def world(self):
+        return self.worlds[-1]
+
+    def is_next_undone(self, step):
+        return self.depth < len(self.steps) and self.steps[self.depth] == step
+
+    def take(self, step):
+        world = next_world(self.world, step)
+        if world is None:
+            return REFUSED_NOT_ENABLED
+        if self.depth == MOST_STEPS:
+            return REFUSED_FULL
+        if not self.is_next_undone(step):
+            del self.steps[self.depth:]
+            self.steps.append(step)
+        self.worlds.append(world)
+        return f'ok {self.depth}'
+
+    def back(self):
+        if self.depth == 0:
+            return REFUSED_AT_START
+        self.worlds.pop()
+        return f'ok {self.depth}'
+
+    def answer(self, line):
+        """The answer to a line without its end; None where it has no words."""
+        if len(line) > LONGEST_LINE:
+            return REFUSED_BAD_WORD
+        words = [word for word in line.replace(b'\t', b' ').split(b' ') if word]
+        if not words:
+            return None
+        step = step_of(words)
+        if step is not None:
+            return self.take(step)
+        if words == [b'back']:
+            return self.back()
+        if words == [b'show']:
+            return show(self.world, self.depth, len(self.steps))
+        return REFUSED_BAD_WORD
+
+
+class Result(NamedTuple):
+    """What a program gives: standard output, standard error and exit status."""
+    output: bytes
+    errors: bytes
+    status: int
+
+
+def lines_of(data):
+    """The lines of an input, each without its end; the end is LF or CR LF."""
+    lines = data.split(b'\n')
+    last = lines.pop()
+    lines = [line.removesuffix(b'\r') for line in lines]
+    return lines + [last] if last else lines
+
+
+def divided(data):
+    """The script of an input, and the lines of trace words behind the first line `---`."""
+    lines = lines_of(data)
+    if b'---' not in lines:
+        return data, []
+    before = lines.index(b'---')
+    script = b''.join(line + b'\n' for line in data.split(b'\n')[:before])
+    return script, lines[before + 1:]
+
+
+def answer(data):
+    """The result for a whole input."""
+    text, lines = divided(data)
+    try:
+        debugger = Debugger(read_script(text))
+    except Fault as fault:
+        line = 1 + text.count(b'\n', 0, fault.place)
+        message = f'mpdbg: script refused {fault.number} {FAULT_NAMES[fault.number]} at {fault.place} line {line}\n'
+        return Result(b'', message.encode(), 2)
+    answers = [debugger.answer(line) for line in lines]
+    return Result(''.join(text + '\n' for text in answers if text is not None).encode(), b'', 0)
+
+
+def answer_packets(packets):
+    """The result for an input of which each read gives one packet; the read of its end counts too."""
+    if len(packets) < MOST_READS:
+        return answer(b''.join(packets))
+    read = b''.join(packets[:MOST_READS])
+    whole_lines = read[:read.rfind(b'\n') + 1]
+    return Result(answer(whole_lines).output, b'mpdbg: turns\n', 3)
+
+
+def main():
+    """Answers standard input, as the program does: to look at one case."""
+    result = answer(sys.stdin.buffer.read())
+    sys.stdout.buffer.write(result.output)
+    sys.stdout.buffer.flush()
+    sys.stderr.buffer.write(result.errors)
+    sys.exit(result.status)
+
+
+if __name__ == '__main__':
+    main()
