@@ -13,7 +13,9 @@ use Rattle.mpd_model.specs.declared.call.Activity.{Activity}
 use Rattle.mpd_model.specs.declared.call.Activity.TheVariants.{Running, Blocked, Trapped}
 use Rattle.mpd_model.specs.declared.call.MatchSet.TheVariants.{Pair, Woke}
 use Rattle.mpd_model.specs.Term.{Term, Target, Value, and_then, is_zero, checked, value_of, target_cell}
-use Rattle.mpd_model.specs.Tree.{Tree, print, send, recv, branch, assign, check, repeat, Block, trees, statements_in, numbered}
+use Rattle.mpd_model.specs.declared.stmt.Simple.{Simple}
+use Rattle.mpd_model.specs.declared.stmt.Simple.TheVariants as st
+use Rattle.mpd_model.specs.Tree.{Tree, simple, branch, repeat, Block, trees, statements_in, numbered}
 use Rattle.mpd_model.specs.declared.call.Message.{Message}
 use Rattle.mpd_model.specs.World.{RankWorld, World, call_id, kind_at, rank_numbers, call_numbers, eligible, buffer, complete, last_call}
 
@@ -73,14 +75,18 @@ abbrev pub repeated : RankWorld → List (ℕ × Tree) → ℕ → Value → Ter
 repeated r ts number (Ok v) c body = record r { rest = if is_zero v then ts else numbered (number + 1) (trees body) ++ (number, repeat c body) ∷ ts }
 repeated r ts number (Err t) c body = trapped r t
 
--- what a statement makes of rank p of n, given its number and what is left behind it
+-- what a statement that holds no other makes of rank p of n, given its number and what is left behind it
+abbrev pub ran_simple : ℕ → ℕ → RankWorld → ℕ → Simple → List (ℕ × Tree) → RankWorld
+ran_simple p n r number (st.Print e) ts = printed r ts (value_of e r.vars p n)
+ran_simple p n r number (st.Assign s) ts = assigned r ts (written s.into s.value r.vars p n)
+ran_simple p n r number (st.Assert e) ts = asserted r ts (value_of e r.vars p n)
+ran_simple p n r number (st.Send s) ts = issued r ts number (send_kind s.value s.to s.tag r.vars p n)
+ran_simple p n r number (st.Recv s) ts = issued r ts number (recv_kind s.into s.from s.tag r.vars p n)
+
+-- what any statement makes of it
 abbrev pub ran : ℕ → ℕ → RankWorld → ℕ → Tree → List (ℕ × Tree) → RankWorld
-ran p n r number (print e) ts = printed r ts (value_of e r.vars p n)
-ran p n r number (send value to tag) ts = issued r ts number (send_kind value to tag r.vars p n)
-ran p n r number (recv into from tag) ts = issued r ts number (recv_kind into from tag r.vars p n)
+ran p n r number (simple s) ts = ran_simple p n r number s ts
 ran p n r number (branch c first second) ts = chosen r ts number (value_of c r.vars p n) first second
-ran p n r number (assign into e) ts = assigned r ts (written into e r.vars p n)
-ran p n r number (check e) ts = asserted r ts (value_of e r.vars p n)
 ran p n r number (repeat c body) ts = repeated r ts number (value_of c r.vars p n) c body
 
 abbrev pub local_of : ℕ → ℕ → RankWorld → Activity → List (ℕ × Tree) → Option RankWorld
