@@ -9,7 +9,7 @@ use crate::operate::{alter, combine, decide};
 use mpd_model::call::{CallKind, RecvCall, SendCall, Trap};
 use mpd_model::expr::{Expr, ExprNode};
 use mpd_model::limits::TAGS;
-use mpd_model::stmt::Target;
+use mpd_model::stmt::{AssignStmt, RecvStmt, SendStmt, Target};
 
 /// The value of an expression, or the trap that it ends in.
 pub fn eval(expr: &Expr, env: &Env<'_>) -> Result<i64, Trap>
@@ -96,30 +96,30 @@ fn eval_target(target: &Target, env: &Env<'_>) -> Result<usize, Trap>
 }
 
 /// What a send issues: the value is evaluated first, then the destination, then the tag.
-pub fn eval_send(value: &Expr, to: &Expr, tag: &Expr, env: &Env<'_>) -> Result<CallKind, Trap>
-    ensures { result ≡ send_kind value.now to.now tag.now env.now }
+pub fn eval_send(send: &SendStmt, env: &Env<'_>) -> Result<CallKind, Trap>
+    ensures { result ≡ send_kind send.now env.now }
 {
-    let value = eval(value, env)?;
-    let to = eval_rank(to, env)?;
-    let tag = eval_tag(tag, env)?;
+    let value = eval(&send.value, env)?;
+    let to = eval_rank(&send.to, env)?;
+    let tag = eval_tag(&send.tag, env)?;
     Ok(CallKind::Send(SendCall { to, tag, value }))
 }
 
 /// What a receive issues: the index of its target is evaluated first, then the source, then the tag.
-pub fn eval_recv(into: &Target, from: &Expr, tag: &Expr, env: &Env<'_>) -> Result<CallKind, Trap>
-    ensures { result ≡ recv_kind into.now from.now tag.now env.now }
+pub fn eval_recv(recv: &RecvStmt, env: &Env<'_>) -> Result<CallKind, Trap>
+    ensures { result ≡ recv_kind recv.now env.now }
 {
-    let cell = eval_target(into, env)?;
-    let from = eval_rank(from, env)?;
-    let tag = eval_tag(tag, env)?;
+    let cell = eval_target(&recv.into, env)?;
+    let from = eval_rank(&recv.from, env)?;
+    let tag = eval_tag(&recv.tag, env)?;
     Ok(CallKind::Recv(RecvCall { from, tag, cell }))
 }
 
 /// The cell that an assignment writes, and its new value: the index of its target is evaluated first, then the expression.
-pub fn eval_assign(into: &Target, expr: &Expr, env: &Env<'_>) -> Result<(usize, i64), Trap>
-    ensures { result ≡ assignment into.now expr.now env.now }
+pub fn eval_assign(assign: &AssignStmt, env: &Env<'_>) -> Result<(usize, i64), Trap>
+    ensures { result ≡ assignment assign.now env.now }
 {
-    let target = eval_target(into, env)?;
-    let value = eval(expr, env)?;
+    let target = eval_target(&assign.into, env)?;
+    let value = eval(&assign.value, env)?;
     Ok((target, value))
 }

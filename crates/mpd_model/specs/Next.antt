@@ -13,8 +13,13 @@ use Rattle.mpd_model.specs.declared.call.Trap.TheVariants.{BadRank, BadTag, Asse
 use Rattle.mpd_model.specs.declared.call.Activity.{Activity}
 use Rattle.mpd_model.specs.declared.call.Activity.TheVariants.{Running, Blocked, Trapped}
 use Rattle.mpd_model.specs.declared.call.MatchSet.TheVariants.{Pair, Woke}
-use Rattle.mpd_model.specs.Term.{Term, Target, Value, Env, and_then, is_zero, checked, value_of, target_cell}
-use Rattle.mpd_model.specs.Tree.{Tree, print, send, recv, branch, assign, check, repeat, Block, trees, statements_in, numbered}
+use Rattle.mpd_model.specs.Term.{Term, Value, Env, and_then, is_zero, checked, value_of, target_cell}
+use Rattle.mpd_model.specs.declared.stmt.AssignStmt.{AssignStmt}
+use Rattle.mpd_model.specs.declared.stmt.RecvStmt.{RecvStmt}
+use Rattle.mpd_model.specs.declared.stmt.SendStmt.{SendStmt}
+use Rattle.mpd_model.specs.declared.stmt.Simple.{Simple}
+use Rattle.mpd_model.specs.declared.stmt.Simple.TheVariants as st
+use Rattle.mpd_model.specs.Tree.{Tree, simple, branch, repeat, Block, trees, statements_in, numbered}
 use Rattle.mpd_model.specs.declared.call.Message.{Message}
 use Rattle.mpd_model.specs.World.{RankWorld, World, call_id, kind_at, rank_numbers, call_numbers, eligible, buffer, complete, last_call}
 
@@ -32,22 +37,22 @@ abbrev pub tag_value : Term → Env → Result ℕ Trap
 tag_value e env = checked (value_of e env) TAGS BadTag
 
 -- what a send issues: the value comes first, then the destination, then the tag
-abbrev pub send_kind : Term → Term → Term → Env → Result CallKind Trap
-send_kind value to tag env =
-    and_then (value_of value env) (λ v.
-    and_then (rank_value to env) (λ q.
-    and_then (tag_value tag env) (λ t. Ok (Send (record { to = q; tag = t; value = v })))))
+abbrev pub send_kind : SendStmt → Env → Result CallKind Trap
+send_kind s env =
+    and_then (value_of s.value env) (λ v.
+    and_then (rank_value s.to env) (λ q.
+    and_then (tag_value s.tag env) (λ t. Ok (Send (record { to = q; tag = t; value = v })))))
 
 -- what a receive issues: the index of its target comes first, then the source, then the tag
-abbrev pub recv_kind : Target → Term → Term → Env → Result CallKind Trap
-recv_kind into from tag env =
-    and_then (target_cell into env) (λ c.
-    and_then (rank_value from env) (λ q.
-    and_then (tag_value tag env) (λ t. Ok (Recv (record { from = q; tag = t; cell = c })))))
+abbrev pub recv_kind : RecvStmt → Env → Result CallKind Trap
+recv_kind s env =
+    and_then (target_cell s.into env) (λ c.
+    and_then (rank_value s.from env) (λ q.
+    and_then (tag_value s.tag env) (λ t. Ok (Recv (record { from = q; tag = t; cell = c })))))
 
 -- the cell that an assignment writes, and its new value: the index of its target comes first, then the expression
-abbrev pub assignment : Target → Term → Env → Result (ℕ × ℤ) Trap
-assignment into e env = and_then (target_cell into env) (λ c. and_then (value_of e env) (λ v. Ok (c, v)))
+abbrev pub assignment : AssignStmt → Env → Result (ℕ × ℤ) Trap
+assignment s env = and_then (target_cell s.into env) (λ c. and_then (value_of s.value env) (λ v. Ok (c, v)))
 
 abbrev pub printed : RankWorld → List (ℕ × Tree) → Value → RankWorld
 printed r ts (Ok v) = record r { rest = ts; out = r.out ++ v ∷ [] }
@@ -82,19 +87,23 @@ repeated r ts number (Err t) c body = trapped r t
 abbrev pub env_of : ℕ → ℕ → RankWorld → Env
 env_of p n r = record { vars = r.vars; rank = p; size = n }
 
--- what a statement makes of rank p of n, given its number and what is left behind it
-abbrev pub ran : ℕ → ℕ → RankWorld → ℕ → Tree → List (ℕ × Tree) → RankWorld
-ran p n r number (print e) ts = printed r ts (value_of e (env_of p n r))
-ran p n r number (send value to tag) ts = issued r ts number (send_kind value to tag (env_of p n r))
-ran p n r number (recv into from tag) ts = issued r ts number (recv_kind into from tag (env_of p n r))
-ran p n r number (branch c first second) ts = chosen r ts number (value_of c (env_of p n r)) first second
-ran p n r number (assign into e) ts = assigned r ts (assignment into e (env_of p n r))
-ran p n r number (check e) ts = asserted r ts (value_of e (env_of p n r))
-ran p n r number (repeat c body) ts = repeated r ts number (value_of c (env_of p n r)) c body
+-- what a statement that holds no other makes of a rank, given its number and what is left behind it
+abbrev pub ran_simple : Env → RankWorld → ℕ → Simple → List (ℕ × Tree) → RankWorld
+ran_simple env r number (st.Print e) ts = printed r ts (value_of e env)
+ran_simple env r number (st.Assign s) ts = assigned r ts (assignment s env)
+ran_simple env r number (st.Assert e) ts = asserted r ts (value_of e env)
+ran_simple env r number (st.Send s) ts = issued r ts number (send_kind s env)
+ran_simple env r number (st.Recv s) ts = issued r ts number (recv_kind s env)
+
+-- what any statement makes of it
+abbrev pub ran : Env → RankWorld → ℕ → Tree → List (ℕ × Tree) → RankWorld
+ran env r number (simple s) ts = ran_simple env r number s ts
+ran env r number (branch c first second) ts = chosen r ts number (value_of c env) first second
+ran env r number (repeat c body) ts = repeated r ts number (value_of c env) c body
 
 abbrev pub local_of : ℕ → ℕ → RankWorld → Activity → List (ℕ × Tree) → Option RankWorld
 local_of p n r Running [] = None
-local_of p n r Running (t ∷ ts) = Some (ran p n r t.0 t.1 ts)
+local_of p n r Running (t ∷ ts) = Some (ran (env_of p n r) r t.0 t.1 ts)
 local_of p n r Blocked ts = None
 local_of p n r (Trapped t) ts = None
 
