@@ -2,6 +2,7 @@
 use Rattle.std.specs.Prelude.{◌≡◌, refl, ℕ, zero, suc, ◌+◌, ℤ, pos, negsuc, Bool, true, false, ◌&&◌, ◌||◌, if◌then◌else◌, ◌==◌, nat_lt, nat_le, List, [], ◌∷◌, ◌++◌, length, Option, Some, None, Result, Ok, Err}
 use Rattle.std.specs.Ordering.{int_eq}
 use Rattle.std.specs.List.{prefix_len}
+use Rattle.mpd_model.specs.declared.limits.TheConstants.{BLOCKS_MAX, NESTING_MAX, RANKS_MAX, SCRIPT_MAX}
 use Rattle.mpd_model.specs.declared.expr.BinaryOp.{BinaryOp}
 use Rattle.mpd_model.specs.declared.expr.BinaryOp.TheVariants as o
 use Rattle.mpd_model.specs.declared.expr.UnaryOp.{UnaryOp}
@@ -138,7 +139,7 @@ expr (suc n) k = level (expr n) k
 
 -- an expression that stands in no other; each of those inside it takes one of its budget
 abbrev pub expression : Parser Term
-expression = begin >> expr 65 5
+expression = begin >> expr (suc NESTING_MAX) 5
 
 -- ---- statements
 
@@ -340,7 +341,7 @@ block (suc n) = do
   pure found
 
 abbrev pub max_blocks : ℕ
-max_blocks = 64
+max_blocks = BLOCKS_MAX
 
 -- ---- the whole text
 
@@ -352,7 +353,7 @@ unfoldable pub version : Parser (Unit {0})
 version = peek >>= version_by
 
 abbrev pub rank_count : ℤ → Option ℕ
-rank_count (pos n) = if nat_le 1 n && nat_le n 16 then Some n else None
+rank_count (pos n) = if nat_le 1 n && nat_le n RANKS_MAX then Some n else None
 rank_count (negsuc n) = None
 
 abbrev pub ranks_of : Option ℕ → Parser ℕ
@@ -438,7 +439,7 @@ script = do
 -- ---- reading
 
 abbrev pub max_text : ℕ
-max_text = 65536
+max_text = SCRIPT_MAX
 
 abbrev pub is_text : ℕ → Bool
 is_text b = b == 9 || b == 10 || b == 13 || (nat_le 32 b && nat_le b 126)
