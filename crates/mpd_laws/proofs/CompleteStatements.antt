@@ -92,16 +92,16 @@ same_gives : {A : Type 0} (p : Parser A) (a : A) (ss us rest : List Spot) (ls ms
 same_gives p a ss us rest ls ms ns b i d e g = rw (d, ← e) g
 
 -- a statement by its word
-form_reads : (i : Input) (n : ℕ) (k : Mark) (f : Form k) (c : Contents f.holes) (ss : List Spot) (end : Spot) → ((B : Parser (List Tree)) → stmt_by B (Is k) ≡ by_form (Some f))
-    → (w : WrittenParts i.decls ss (of_mark k ∷ filled f.holes c)) → dearest_part i.decls ss (of_mark k ∷ filled f.holes c) w ≤ 64 → end.token ≡ Is m.Semicolon
+form_reads : (i : Input) (n : ℕ) (f : Form) (c : Contents f.holes) (ss : List Spot) (end : Spot) → ((B : Parser (List Tree)) → stmt_by B (Is f.word) ≡ by_form (Some f))
+    → (w : WrittenParts i.decls ss (of_mark f.word ∷ filled f.holes c)) → dearest_part i.decls ss (of_mark f.word ∷ filled f.holes c) w ≤ 64 → end.token ≡ Is m.Semicolon
     → TreeReads i n (ss ++ end ∷ []) (simple (f.made c)) (line_of ss ∷ [])
-form_reads i n k f c _ end by (then_part _ rs _ _ (by_mark s _ h) w) le he b ls rest few last =
+form_reads i n f c _ end by (then_part _ rs _ _ (by_mark s _ h) w) le he b ls rest few last =
     same_gives (stmt (block n)) (simple (f.made c)) _ (s ∷ (rs ++ (end ∷ rest))) rest ls _ _ b i (simp append_assoc) refl
-    (begins_read (block n) (formed f) s (rs ++ (end ∷ rest)) rest (simple (f.made c)) ls _ b (Is k) i h (by (block n)) (omega arith)
+    (begins_read (block n) (formed f) s (rs ++ (end ∷ rest)) rest (simple (f.made c)) ls _ b (Is f.word) i h (by (block n)) (omega arith)
     (fill_on f.holes (λ d. simple (f.made d)) c rs end rest (ls ++ s.line ∷ []) b i f.clear w (omega arith) he))
 
 -- where a word has a form, that reads the statement
-stmt_by_form : (B : Parser (List Tree)) (k : Mark) (f : Form k) → form_of k ≡ Some f → stmt_by B (Is k) ≡ by_form (Some f)
+stmt_by_form : (B : Parser (List Tree)) (k : Mark) (f : Form) → form_of k ≡ Some f → stmt_by B (Is k) ≡ by_form (Some f)
 stmt_by_form B m.If f h = absurd (cc)
 stmt_by_form B m.While f h = absurd (cc)
 stmt_by_form B m.Waitany f h = absurd (cc)
@@ -145,8 +145,8 @@ PartsRead i n t ps = (ss : List Spot) (end : Spot) → (w : WrittenParts i.decls
 
 formed_reads : (i : Input) (n : ℕ) (s : Simple) → HasForm s → SimpleReads i n s
 formed_reads i n s x =
-    let formed : PartsRead i n (simple (x.form.made x.contents)) (of_mark x.mark ∷ filled x.form.holes x.contents) =
-    λ ss end w le he. form_reads i n x.mark x.form x.contents ss end (λ B. stmt_by_form B x.mark x.form x.found) w le he in
+    let formed : PartsRead i n (simple (x.form.made x.contents)) (of_mark x.form.word ∷ filled x.form.holes x.contents) =
+    λ ss end w le he. form_reads i n x.form x.contents ss end (λ B. stmt_by_form B x.form.word x.form x.found) w le he in
     subst (SimpleReads i n) x.is (subst (PartsRead i n (simple (x.form.made x.contents))) (sym (x.form.parts x.contents)) formed)
 
 simple_reads : (i : Input) (n : ℕ) (s : Simple) → SimpleReads i n s
@@ -232,7 +232,7 @@ pub record Opens (t : Token) : Type 0 where
   pub other : is_mark m.Else t ≡ false
   pub no_decl : is_mark m.Var t ≡ false
 
-form_opens : (k : Mark) (f : Form k) → form_of k ≡ Some f → Opens (Is k)
+form_opens : (k : Mark) (f : Form) → form_of k ≡ Some f → Opens (Is k)
 unfolding same_mark
 form_opens m.BraceClose f h = absurd (cc)
 form_opens m.Else f h = absurd (cc)
@@ -272,8 +272,8 @@ PartsOpen ds ps = (ss us : List Spot) → WrittenParts ds ss ps → Opens (token
 
 formed_opens : (ds : List Declared) (s : Simple) → HasForm s → PartsOpen ds (parts_of s)
 formed_opens ds s x =
-    let marked : PartsOpen ds (of_mark x.mark ∷ filled x.form.holes x.contents) =
-    λ ss us w. mark_first_opens ds x.mark (filled x.form.holes x.contents) ss us (form_opens x.mark x.form x.found) w in
+    let marked : PartsOpen ds (of_mark x.form.word ∷ filled x.form.holes x.contents) =
+    λ ss us w. mark_first_opens ds x.form.word (filled x.form.holes x.contents) ss us (form_opens x.form.word x.form x.found) w in
     subst (λ s. PartsOpen ds (parts_of s)) x.is (subst (PartsOpen ds) (sym (x.form.parts x.contents)) marked)
 
 simple_opens : (ds : List Declared) (s : Simple) → PartsOpen ds (parts_of s)

@@ -182,9 +182,9 @@ fill_sure (status_hole ∷ hs) made i = bind_sure (status i) _ (status_sure i) (
 begun_sure : AllSure begun
 begun_sure i = bind_sure (count i) _ (count_sure i) (λ u x. tt)
 
-form_sure : (k : Mark) (o : Option (Form k)) → AllSure (by_form o)
-form_sure k None i = refusal_sure i
-form_sure k (Some f) i = bind_sure (begun i) _ (begun_sure i) (λ u x. fill_sure f.holes (λ c. simple (f.made c)) x)
+form_sure : (o : Option Form) → AllSure (by_form o)
+form_sure None i = refusal_sure i
+form_sure (Some f) i = bind_sure (begun i) _ (begun_sure i) (λ u x. fill_sure f.holes (λ c. simple (f.made c)) x)
 
 assigning_sure : (slot : Slot) → AllSure (assigning slot)
 unfolding assigning
@@ -210,7 +210,7 @@ stmt_case p s Name i = bind_sure (seek Variable i) _ (seek_sure Variable i) (λ 
 stmt_case p s (Is m.While) i = bind_sure (begun i) _ (begun_sure i) (λ u x. repeating_sure p s x)
 stmt_case p s (Is m.If) i = bind_sure (begun i) _ (begun_sure i) (λ u x. choosing_sure p s x)
 stmt_case p s (Is m.Waitany) i = bind_sure (count i) (λ u. fail NotInVersion) (count_sure i) (λ u x e. absurd (cc))
-stmt_case p s (Is k) i = form_sure k (form_of k) i
+stmt_case p s (Is k) i = form_sure (form_of k) i
 stmt_case p s _ i = refusal_sure i
 
 stmt_sure : (p : Parser (List Tree)) → AllSure p → AllSure (stmt p)

@@ -73,12 +73,12 @@ append_none A (x ∷ xs) = ap (λ r. x ∷ r) (append_none A xs)
 flat : (k : Mark) (t : Tree) (used : List Spot) (i j : Input) → Moves used i j → ((s : Spot) → s.token ≡ Is k → WrittenTree i.decls (s ∷ used) t (s.line ∷ [])) → Rest k t i j
 flat k t used i j x w = record { used = used; begun = []; is = x.is; decls = x.decls; lines = x.lines ∙ append_none ℕ i.lines; written = w }
 
-form_rest : (k : Mark) (f : Form k) (i j : Input) (t : Tree) → formed f i ≡ Ok (t, j) → Rest k t i j
-form_rest k f i j t h =
+form_rest : (f : Form) (i j : Input) (t : Tree) → formed f i ≡ Ok (t, j) → Rest f.word t i j
+form_rest f i j t h =
     let r = fill_ok f.holes (λ c. simple (f.made c)) i j t h in
-    subst (λ t. Rest k t i j) r.is (flat k (simple (f.made r.contents)) (r.used ++ r.end ∷ []) i j r.moves
+    subst (λ t. Rest f.word t i j) r.is (flat f.word (simple (f.made r.contents)) (r.used ++ r.end ∷ []) i j r.moves
     (λ s is. simply (s ∷ r.used) r.end (f.made r.contents)
-    (subst (WrittenParts i.decls (s ∷ r.used)) (sym (f.parts r.contents)) (then_part (s ∷ []) r.used (of_mark k) (filled f.holes r.contents) (by_mark s k is) r.written)) r.closed))
+    (subst (WrittenParts i.decls (s ∷ r.used)) (sym (f.parts r.contents)) (then_part (s ∷ []) r.used (of_mark f.word) (filled f.holes r.contents) (by_mark s f.word is) r.written)) r.closed))
 
 -- what follows the name that an assignment begins with
 record Assigns (slot : Slot) (t : Tree) (i j : Input) : Type 0 where
@@ -250,16 +250,21 @@ assignment_takes i j t e h =
 not_in_version : (i : Input) (y : Tree × Input) → and_then (count i) (λ x. fail {A = Tree} NotInVersion) ≡ Ok y → ⊥
 not_in_version i y h = let b = bind_ok (count i) (λ x. fail {A = Tree} NotInVersion) y h in absurd (cc)
 
-form_case : (k : Mark) (o : Option (Form k)) (i j : Input) (t : Tree) → token i ≡ Is k → by_form o i ≡ Ok (t, j) → TakesTree t i j
-form_case k None i j t e h = absurd (cc)
-form_case k (Some f) i j t e h = begun_then k (formed f) (form_rest k f) i j t e h
+-- a form stands under its own word
+form_word : (k : Mark) (f : Form) → form_of k ≡ Some f → f.word ≡ k
+form_word m.Semicolon f h = cc
+form_word k f h = cc
+
+form_case : (k : Mark) (o : Option Form) (i j : Input) (t : Tree) → token i ≡ Is k → form_of k ≡ o → by_form o i ≡ Ok (t, j) → TakesTree t i j
+form_case k None i j t e o h = absurd (cc)
+form_case k (Some f) i j t e o h = begun_then f.word (formed f) (form_rest f) i j t (e ∙ ap Is (sym (form_word k f o))) h
 
 stmt_case : (p : Parser (List Tree)) → IsSoundBlock p → (tk : Token) (i j : Input) (t : Tree) → token i ≡ tk → stmt_by p tk i ≡ Ok (t, j) → TakesTree t i j
 stmt_case p s Name i j t e h = assignment_takes i j t e h
 stmt_case p s (Is m.If) i j t e h = begun_then m.If (choosing p) (choosing_rest p s) i j t e h
 stmt_case p s (Is m.While) i j t e h = begun_then m.While (repeating p) (repeating_rest p s) i j t e h
 stmt_case p s (Is m.Waitany) i j t e h = absurd (not_in_version i (t, j) h)
-stmt_case p s (Is k) i j t e h = form_case k (form_of k) i j t e h
+stmt_case p s (Is k) i j t e h = form_case k (form_of k) i j t e refl h
 stmt_case p s _ i j t e h = absurd (cc)
 
 pub stmt_sound : (p : Parser (List Tree)) → IsSoundBlock p → (i j : Input) (t : Tree) → stmt p i ≡ Ok (t, j) → TakesTree t i j
