@@ -64,16 +64,16 @@ abbrev pub turns : ℕ → Input → ℕ
 turns k i = if k == 3 then 1 else i.budget + 1
 
 -- an operand, and then operators of the level with an operand to the right of each, grouped to the left
-abbrev pub joined : (Term → Parser Term) → Parser Term → Term → Option BinaryOp → Parser Term
-joined more operand left None = pure left
-joined more operand left (Some op) = do
+abbrev pub continued : (Term → Parser Term) → Parser Term → Term → Option BinaryOp → Parser Term
+continued more operand left None = pure left
+continued more operand left (Some op) = do
   spend
   right ← operand
   more (op2 op left right)
 
 unfoldable pub chain : Parser Term → ℕ → ℕ → Term → Parser Term
 chain operand k zero left = pure left
-chain operand k (suc n) left = peek >>= λ t. joined (chain operand k n) operand left (operator_at k t)
+chain operand k (suc n) left = peek >>= λ t. continued (chain operand k n) operand left (operator_at k t)
 
 abbrev pub place_of_slot : Slot → Place
 place_of_slot s = record { declaration = s.declaration; first = s.first; cells = cells_of s.size }

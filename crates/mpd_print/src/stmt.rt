@@ -1,6 +1,7 @@
 //! Prints statements, each on lines of its own.
 
 ghost use Rattle.std.specs.Prelude.{◌≡◌, ◌<◌, ◌≤◌, ◌+◌, ◌++◌, OnOk, string_bytes, codes};
+ghost use Rattle.mpd_model.specs.declared.limits.TheConstants.{STATEMENTS_MAX};
 ghost use Rattle.mpd_model.specs.Tree.{statements, statements_in, block_of};
 ghost use Rattle.mpd_model.specs.Canonical.{whole_text, indent, else_text, tree_text, block_text};
 
@@ -30,7 +31,7 @@ pub(crate) fn push_stmts(
     depth: usize,
     stmts: &[Stmt],
 ) -> Result<(), AllocError>
-    requires { depth + statements_in (block_of stmts.now) ≤ 4096 }
+    requires { depth + statements_in (block_of stmts.now) ≤ STATEMENTS_MAX }
     ensures { OnOk result (string_bytes out.new ≡ string_bytes out.old ++ block_text decls.now depth (block_of stmts.now)) }
 {
     for stmt in stmts {
@@ -42,7 +43,7 @@ pub(crate) fn push_stmts(
 /// Adds a statement.
 #[cycle(trees)]
 fn push_stmt(out: &mut String, decls: &[Decl], depth: usize, stmt: &Stmt) -> Result<(), AllocError>
-    requires { depth + statements stmt.now ≤ 4096 }
+    requires { depth + statements stmt.now ≤ STATEMENTS_MAX }
     ensures { OnOk result (string_bytes out.new ≡ string_bytes out.old ++ tree_text decls.now depth stmt.now) }
 {
     push_indent(out, depth)?;
@@ -82,7 +83,7 @@ fn push_block(
     depth: usize,
     stmts: &[Stmt],
 ) -> Result<(), AllocError>
-    requires { depth + statements_in (block_of stmts.now) < 4096 }
+    requires { depth + statements_in (block_of stmts.now) < STATEMENTS_MAX }
     ensures { OnOk result (string_bytes out.new ≡ string_bytes out.old ++ (block_text decls.now (depth + 1) (block_of stmts.now) ++ indent depth ++ codes "}")) }
 {
     push_stmts(out, decls, depth + 1, stmts)?;
@@ -99,7 +100,7 @@ fn push_else(
     depth: usize,
     stmts: &[Stmt],
 ) -> Result<(), AllocError>
-    requires { depth + statements_in (block_of stmts.now) < 4096 }
+    requires { depth + statements_in (block_of stmts.now) < STATEMENTS_MAX }
     ensures { OnOk result (string_bytes out.new ≡ string_bytes out.old ++ else_text (block_of stmts.now) depth (block_text decls.now (depth + 1) (block_of stmts.now))) }
 {
     if stmts.is_empty() {

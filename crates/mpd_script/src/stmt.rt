@@ -13,9 +13,6 @@ use mpd_model::stmt::{Stmt, StmtNode};
 use mpd_model::token::{Mark, Token};
 use std::alloc::Global;
 
-/// How many blocks may stand open in one another.
-pub const MAX_BLOCKS: usize = 64;
-
 /// Whether statements end before the token, inside a block or outside of all.
 fn closes(inside: bool, token: Token) -> bool
     ensures { result ≡ spec.closes inside token }
