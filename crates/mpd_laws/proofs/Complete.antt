@@ -13,7 +13,7 @@ use Rattle.mpd_model.specs.declared.token.Mark.{Mark}
 use Rattle.mpd_model.specs.declared.token.Mark.TheVariants as m
 use Rattle.mpd_model.specs.declared.token.Token.{Token}
 use Rattle.mpd_model.specs.declared.token.Token.TheVariants.{Number, Name, Is}
-use Rattle.mpd_model.specs.Fits.{price, cost, Stops, at}
+use Rattle.mpd_model.specs.Costs.{price, cost, Stops, at}
 use Rattle.mpd_model.specs.Grammar.{atom_by, atom, bracket, indexed, place_inside, rounds, sign, signed, chain, level, expr, turns, operator, operator_at, at_level}
 use Rattle.mpd_model.specs.Input.{Input, Outcome, Parser, and_then, token, spelling, advanced, spend, expect, sees, same_mark, seek}
 use Rattle.mpd_model.specs.Term.{Term, lit, own_rank, size, cell, element, op1, op2}

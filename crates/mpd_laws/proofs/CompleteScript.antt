@@ -10,7 +10,7 @@ use Rattle.mpd_model.specs.declared.token.Mark.TheVariants as m
 use Rattle.mpd_model.specs.declared.token.Token.{Token}
 use Rattle.mpd_model.specs.declared.token.Token.TheVariants.{Number, Name, Is}
 use Rattle.mpd_model.specs.Declaration.{Declared, cells_of, variables_in, handles_in}
-use Rattle.mpd_model.specs.Fits.{Gives, blocks_in, dearest_body, dearest_script}
+use Rattle.mpd_model.specs.Costs.{Gives, blocks_in, dearest_body, dearest_script}
 use Rattle.mpd_model.specs.Grammar.{version_by, version, rank_count, ranks_by, ranks, sized_at, size_by, sized, single, declaring, decl_by, decl, decls_from, decls, header, body, block, max_text, is_text, read_of, reading}
 use Rattle.mpd_model.specs.Grammar as grammar
 use Rattle.mpd_model.specs.Input.{Input, Outcome, Parser, and_then, start_of, token, token_of, spelling, place, advanced, expect, sees, is_mark, same_mark, after, fresh, add, cells_fit, slot_in}

@@ -9,7 +9,7 @@ use Rattle.mpd_model.specs.declared.token.Mark.TheVariants as m
 use Rattle.mpd_model.specs.declared.token.Token.{Token}
 use Rattle.mpd_model.specs.declared.token.Token.TheVariants.{Name, Is, End}
 use Rattle.mpd_model.specs.Declaration.{Declared}
-use Rattle.mpd_model.specs.Fits.{cost, Stops, on, Gives, blocks, blocks_in, dearest_part, dearest, dearest_block, dearest_body}
+use Rattle.mpd_model.specs.Costs.{cost, Stops, on, Gives, blocks, blocks_in, dearest_part, dearest, dearest_block, dearest_body}
 use Rattle.mpd_model.specs.Grammar.{begun, closes, place_of_slot, outside, fill, Form, form_of, formed, by_form, HasForm, all_formed, assigning, otherwise, choosing, repeating, stmt_by, stmt, stmts, body, block}
 use Rattle.mpd_model.specs.Input.{Input, Outcome, Parser, and_then, token, token_of, advanced, slot_in, sees, is_mark, same_mark, first_line, after}
 use Rattle.mpd_model.specs.Parts.{Part, of_mark, of_target, parts_of, mark_hole, term_hole, Contents, filled}

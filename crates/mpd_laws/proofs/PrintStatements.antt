@@ -7,7 +7,7 @@ use Rattle.mpd_model.specs.declared.token.Token.{Token}
 use Rattle.mpd_model.specs.declared.token.Token.TheVariants.{Name, Is}
 use Rattle.mpd_model.specs.Canonical.{name_text, whole_text, index_text, target_text, indent, else_text, mark_text, part_text, parts_text, tree_text, block_text}
 use Rattle.mpd_model.specs.Declaration.{Declared}
-use Rattle.mpd_model.specs.Fits.{cost, index_cost, part_cost, dearest_part, dearest, dearest_body}
+use Rattle.mpd_model.specs.Costs.{cost, index_cost, part_cost, dearest_part, dearest, dearest_body}
 use Rattle.mpd_model.specs.Input.{first_line, max_budget}
 use Rattle.mpd_model.specs.Printable.{HasName, IsPrintableWhole, IsPrintableAt, IsPrintableTarget, IsPrintablePart, ArePrintable, IsPrintableTree, IsPrintableBlock, term_cost}
 use Rattle.mpd_model.specs.Term.{Term, Target}

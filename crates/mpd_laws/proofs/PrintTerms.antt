@@ -12,7 +12,7 @@ use Rattle.mpd_model.specs.declared.token.Mark.TheVariants as m
 use Rattle.mpd_model.specs.declared.token.Token.TheVariants.{Number, Name, Is}
 use Rattle.mpd_model.specs.Canonical.{name_text, below, op_text, in_brackets, term_text}
 use Rattle.mpd_model.specs.Declaration.{Declared}
-use Rattle.mpd_model.specs.Fits.{cost, price}
+use Rattle.mpd_model.specs.Costs.{cost, price}
 use Rattle.mpd_model.specs.Grammar.{operator_at, sign}
 use Rattle.mpd_model.specs.Input.{slot_in}
 use Rattle.mpd_model.specs.Printable.{IsName, HasName, IsPrintableTerm, bracket_cost, term_cost}

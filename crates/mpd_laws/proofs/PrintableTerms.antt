@@ -14,7 +14,7 @@ use Rattle.mpd_model.specs.declared.token.Token.{Token}
 use Rattle.mpd_model.specs.declared.token.Token.TheVariants.{Is}
 use Rattle.mpd_model.specs.Canonical.{name_of, name_text, below}
 use Rattle.mpd_model.specs.Declaration.{Declared, variable_cells, handle_cells}
-use Rattle.mpd_model.specs.Fits.{price}
+use Rattle.mpd_model.specs.Costs.{price}
 use Rattle.mpd_model.specs.Grammar.{operator, at_level, operator_at, sign}
 use Rattle.mpd_model.specs.Input.{first_of, slot_from, slot_in}
 use Rattle.mpd_model.specs.Printable.{IsName, HasName, IsPrintableTerm, bracket_cost, term_cost, FewestBrackets}

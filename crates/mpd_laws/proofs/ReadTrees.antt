@@ -9,7 +9,7 @@ use Rattle.mpd_model.specs.declared.slot.Slot.{Slot}
 use Rattle.mpd_model.specs.declared.token.Mark.TheVariants as m
 use Rattle.mpd_model.specs.declared.token.Token.{Token}
 use Rattle.mpd_model.specs.declared.token.Token.TheVariants.{Name, Is}
-use Rattle.mpd_model.specs.Fits.{blocks, blocks_in}
+use Rattle.mpd_model.specs.Costs.{blocks, blocks_in}
 use Rattle.mpd_model.specs.Grammar.{expression, begun, closes, place_of_slot, outside, target, named_by, named, source_by, source, status_by, status, fill, Form, form_of, by_form, assigning, otherwise, choosing, repeating, stmt_by, stmt, stmts, body, block, header, is_text, max_blocks, max_text, read_of, reading, script as whole_script}
 use Rattle.mpd_model.specs.Input.{Input, Outcome, Parser, token, expect, seek, sees, after, count, max_budget, pure, fail, refuse, start_of, ◌>>=◌}
 use Rattle.mpd_model.specs.Printable.{term_cost}

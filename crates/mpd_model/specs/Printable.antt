@@ -7,7 +7,7 @@ use Rattle.mpd_model.specs.declared.slot.Slot.{Slot}
 use Rattle.mpd_model.specs.declared.token.Token.TheVariants.{Name}
 use Rattle.mpd_model.specs.Canonical.{name_text, below, canonical}
 use Rattle.mpd_model.specs.Declaration.{Declared}
-use Rattle.mpd_model.specs.Fits.{cost, blocks_in}
+use Rattle.mpd_model.specs.Costs.{cost, blocks_in}
 use Rattle.mpd_model.specs.Grammar.{place_of_slot, max_blocks, max_text, reading}
 use Rattle.mpd_model.specs.Input.{slot_in, max_budget}
 use Rattle.mpd_model.specs.Program.{Program, IsLegal}

@@ -1,7 +1,7 @@
 -- What holds of the grammar's parsers, whatever they are given.
 use Rattle.std.specs.Prelude.{◌≡◌, ◌≢◌, ℕ, suc, ◌+◌, ◌-◌, ◌<◌, ◌≤◌, Bool, true, false, List, ◌++◌, length, Ok, Err}
 use Rattle.std.specs.List.{prefix_len}
-use Rattle.mpd_model.specs.Fits.{cost, Stops, at, Gives, blocks, blocks_in, dearest, dearest_block, dearest_body, dearest_script}
+use Rattle.mpd_model.specs.Costs.{cost, Stops, at, Gives, blocks, blocks_in, dearest, dearest_block, dearest_body, dearest_script}
 use Rattle.mpd_model.specs.Grammar.{expr, closes, stmt, stmts, body, block, decls_from, max_blocks, max_text, is_text, reading}
 use Rattle.mpd_model.specs.declared.read_fault.FaultCode.TheVariants.{TooDeep, Memory}
 use Rattle.mpd_model.specs.declared.read_fault.ReadFault.{ReadFault}

@@ -23,7 +23,7 @@ use Rattle.mpd_model.specs.Program.{Program}
 use Rattle.mpd_model.specs.Term.{Term, lit, own_rank, size, cell, element, op1, op2, Target}
 use Rattle.mpd_model.specs.Tokens.{tokens, tokens_after, front, sign, word, number}
 use Rattle.mpd_model.specs.Tree.{Tree, branch, repeat, no_more, then_more, block_of, statements_in}
-use Rattle.mpd_model.specs.Fits.{cost, blocks_in}
+use Rattle.mpd_model.specs.Costs.{cost, blocks_in}
 use Rattle.mpd_model.specs.World.{RankWorld, World, start}
 use Rattle.mpd_model.specs.Next.{fold}
 use Rattle.mpd_rows.specs.Statements.{print, send, recv, assign, check}
