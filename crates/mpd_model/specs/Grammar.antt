@@ -208,7 +208,7 @@ EndsTerm (mark_hole k ∷ hs) = operator (Is k) ≡ None
 EndsTerm (status_hole ∷ hs) = EndsTerm hs
 EndsTerm _ = ⊥
 
--- nor does a `status` follow that is none of the holes before
+-- Where the hole of a status is left empty, no `status` comes next.
 abbrev pub EndsStatus : List Hole → Type 0
 EndsStatus [] = Unit {0}
 EndsStatus (mark_hole k ∷ hs) = same_mark k m.Status ≡ false

@@ -129,10 +129,10 @@ behind_is p l (b ∷ z) t n gap fed is stops moves same =
     let e : p + n + gap ≡ p + (n + gap) = omega arith in
     sym (rw (token_first p l b z (stops (omega arith)) some, ← len) (same (p + n) l ∙ rw e refl))
 
-pub advanced : (p l : ℕ) (z after ahead : List ℕ) (t : Token) (n gap fed : ℕ) → (t, n) ≡ first z → (0 < length z → is_gap (slice_index z 0) ≡ false) → (0 < length z → 0 < n)
+pub advanced_is : (p l : ℕ) (z after ahead : List ℕ) (t : Token) (n gap fed : ℕ) → (t, n) ≡ first z → (0 < length z → is_gap (slice_index z 0) ≡ false) → (0 < length z → 0 < n)
     → n ≤ length z → after ≡ drop n z → ahead ≡ drop gap after → gap ≤ length after → ((q k : ℕ) → tokens_at q k after ≡ tokens_at (q + gap) (k + fed) (drop gap after))
     → (tokens_at (p + (n + gap)) (l + fed) ahead ≡ behind (tokens_at p l z)) × (p + (n + gap) + length ahead ≡ p + length z)
-advanced p l z after ahead t n gap fed is stops moves within a b gap_within same = (
+advanced_is p l z after ahead t n gap fed is stops moves within a b gap_within same = (
   rw (b, a) (behind_is p l z t n gap fed is stops moves (rw a at same)),
   omega (arith, length-drop n z, length-drop gap after, ap length a, ap length b),
 )
