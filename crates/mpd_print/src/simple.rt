@@ -29,12 +29,7 @@ pub(crate) fn push_simple(
 }
 
 /// Adds a word or a sign with its spaces, and the expression behind it.
-fn push_behind(
-    out: &mut String,
-    decls: &[Decl],
-    word: &str,
-    value: &Expr,
-) -> Result<(), AllocError>
+fn push_behind(out: &mut String, decls: &[Decl], word: &str, value: &Expr) -> Result<(), AllocError>
     ensures { OnOk result (string_bytes out.new ≡ string_bytes out.old ++ (word.now ++ whole_text decls.now value.now)) }
 {
     out.push_str(word)?;

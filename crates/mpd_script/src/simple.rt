@@ -16,11 +16,7 @@ use mpd_model::token::Mark;
 use std::alloc::Global;
 
 /// A statement that begins with the word, which comes next.
-pub(crate) fn by_form(
-    alloc: Global,
-    tokens: &mut Tokens<'_>,
-    word: Mark,
-) -> Result<Stmt, ReadFault>
+pub(crate) fn by_form(alloc: Global, tokens: &mut Tokens<'_>, word: Mark) -> Result<Stmt, ReadFault>
     ensures { Reads (spec.by_form (spec.form_of word) tokens.old) result tokens.new }
 {
     match word {
