@@ -1,5 +1,5 @@
 -- The parts of a statement that are written, within the limits, are read.
-use Rattle.std.proofs.Common.{◌≡◌, ℕ, ◌+◌, ◌-◌, ◌<◌, ◌≤◌, Bool, true, false, Option, None, Some, is_some, List, [], ◌∷◌, ◌++◌, length, nat_lt, Ok, refl, ap, ◌∙◌, append_assoc, arith}
+use Rattle.std.proofs.Common.{◌≡◌, ℕ, ◌+◌, ◌-◌, ◌<◌, ◌≤◌, true, false, Option, None, Some, is_some, List, [], ◌∷◌, ◌++◌, length, nat_lt, Ok, refl, ap, ◌∙◌, append_assoc, arith}
 use Rattle.std.proofs.lemmas.Bool.Decides.{nat_tests}
 use denote.Enum.Bare.{true_same}
 use Rattle.mpd_model.specs.contracts.token.Mark.{the_type}
@@ -15,7 +15,7 @@ use Rattle.mpd_model.specs.Declaration.{Declared}
 use Rattle.mpd_model.specs.Costs.{cost, Stops, on, Gives, index_cost, part_cost, dearest_part}
 use Rattle.mpd_model.specs.Grammar.{expression, begun, sign, place_of_slot, outside, target, named_by, named, source, status, fill, EndsTerm, EndsStatus, AreClear}
 use Rattle.mpd_model.specs.Input.{Input, Parser, token, token_of, spelling, advanced, expect, seek, slot_in, sees, is_mark, same_mark, count, after}
-use Rattle.mpd_model.specs.Parts.{Part, of_mark, of_term, of_target, Hole, mark_hole, term_hole, target_hole, source_hole, status_hole, source_part, status_parts, Contents, filled}
+use Rattle.mpd_model.specs.Parts.{Part, Hole, mark_hole, term_hole, target_hole, source_hole, status_hole, source_part, status_parts, Contents, filled}
 use Rattle.mpd_model.specs.Term.{Term, Target}
 use Rattle.mpd_model.specs.Tokens.{Spot}
 use Rattle.mpd_model.specs.Written.{left_level, WrittenTerm, number, rank, ranks, name, entry, round, signs, higher, joins, WrittenTarget, whole, part, WrittenPart, by_mark, by_term, by_target, WrittenParts, no_part, then_part}

@@ -7,7 +7,7 @@ use Rattle.mpd_model.specs.declared.token.Token.{Token}
 use Rattle.mpd_model.specs.declared.token.Token.TheVariants.{Name, Is}
 use Rattle.mpd_model.specs.Declaration.{Declared}
 use Rattle.mpd_model.specs.Grammar.{expression, place_of_slot, outside, target, named_by, named, source_by, source, status_by, status, fill}
-use Rattle.mpd_model.specs.Input.{Input, token, advanced, expect, seek, sees, max_budget, after, ◌>>=◌}
+use Rattle.mpd_model.specs.Input.{Input, token, advanced, expect, seek, sees, max_budget, after}
 use Rattle.mpd_model.specs.Parts.{Part, of_mark, of_term, of_target, Hole, mark_hole, term_hole, target_hole, source_hole, status_hole, source_part, status_parts, Contents, filled}
 use Rattle.mpd_model.specs.Term.{Term, Target}
 use Rattle.mpd_model.specs.Tokens.{Spot}

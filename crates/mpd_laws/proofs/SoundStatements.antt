@@ -8,7 +8,7 @@ use Rattle.mpd_model.specs.declared.token.Mark.TheVariants as m
 use Rattle.mpd_model.specs.declared.token.Token.{Token}
 use Rattle.mpd_model.specs.declared.token.Token.TheVariants.{Name, Is, End}
 use Rattle.mpd_model.specs.Declaration.{Declared}
-use Rattle.mpd_model.specs.Grammar.{expression, begun, closes, place_of_slot, outside, fill, Form, form_of, formed, by_form, assigning, otherwise, choosing, repeating, stmt_by, stmt, stmts, body, block}
+use Rattle.mpd_model.specs.Grammar.{expression, begun, closes, place_of_slot, outside, Form, form_of, formed, by_form, assigning, otherwise, choosing, repeating, stmt_by, stmt, stmts, body, block}
 use Rattle.mpd_model.specs.Input.{Input, Outcome, Parser, and_then, token, token_of, spelling, advanced, behind, expect, seek, sees, count, slot_in, first_line, after, pure, fail, refuse, ◌>>=◌, ◌>>◌}
 use Rattle.mpd_model.specs.Parts.{of_mark, of_target, mark_hole, term_hole, filled}
 use Rattle.mpd_model.specs.declared.stmt.Simple.TheVariants as st

@@ -1,19 +1,18 @@
 -- Worked rows of forms and their holes, by computing. What no statement uses yet is read and written here alone.
-use Rattle.std.specs.Prelude.{◌≡◌, ℕ, pos, List, [], ◌∷◌, Option, Some, None, Result, Ok, Err, codes, length, map, refl}
+use Rattle.std.specs.Prelude.{◌≡◌, ℕ, pos, List, [], ◌∷◌, Option, Some, None, Result, Ok, Err, codes, map, refl}
 use Rattle.std.specs.Fmt.{digits}
 use Rattle.mpd_model.specs.declared.place.DeclKind.TheVariants.{Variable}
 use Rattle.mpd_model.specs.declared.place.Place.{Place}
 use Rattle.mpd_model.specs.declared.read_fault.FaultCode.TheVariants as f
 use Rattle.mpd_model.specs.declared.read_fault.ReadFault.{ReadFault}
-use Rattle.mpd_model.specs.declared.stmt.Simple.{Simple}
 use Rattle.mpd_model.specs.declared.token.Mark.TheVariants as m
 use Rattle.mpd_model.specs.Canonical.{mark_text, parts_text}
 use Rattle.mpd_model.specs.Declaration.{Declared}
 use Rattle.mpd_model.specs.Faults.{fault}
-use Rattle.mpd_model.specs.Grammar.{chain, bracket, place_inside, rounds, signed, atom, level, expr, target, named, source, status, fill, Form, form_of}
+use Rattle.mpd_model.specs.Grammar.{chain, bracket, place_inside, rounds, signed, atom, level, expr, target, named, source, status, fill, form_of}
 use Rattle.mpd_model.specs.Input.{Outcome, start_of, token, spelling, place, advanced, refusal, same_mark, sees, after, expect, spend, slot_in, seek}
-use Rattle.mpd_model.specs.Parts.{Part, of_mark, of_term, of_target, Hole, mark_hole, term_hole, target_hole, source_hole, status_hole, Contents, filled}
-use Rattle.mpd_model.specs.Term.{Term, lit, cell, Target}
+use Rattle.mpd_model.specs.Parts.{Hole, mark_hole, term_hole, target_hole, source_hole, status_hole, Contents, filled}
+use Rattle.mpd_model.specs.Term.{lit, cell, Target}
 use Rattle.mpd_model.specs.Tokens.{reserved, tokens_after, front, sign, word, number}
 
 -- x is a variable, a an array of ten cells behind it
