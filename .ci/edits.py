@@ -1,7 +1,7 @@
 #!/usr/bin/env python3
 """Tries the must-fail edits of the crates, as many in one check as can be.
 
-    .ci/edits.py [--proved] [--jobs N] [--only EDIT] [--log FOLDER] [CRATE..]    at the top of the repository
+    .ci/edits.py [--jobs N] [--only EDIT] [--log FOLDER] [CRATE..]    at the top of the repository
 
 A function is checked against the contracts of what it calls, so wrong bodies of different functions don't disturb one another:
 they are made in one copy of the crate, and one check tells of each function whether it is proved. That is a round. Edits of one
@@ -20,8 +20,9 @@ An edit is refused where the check refuses that very function, for a reason of i
 proved is none, and that a proof file names what the edit took away is none either. Where a round can't be compiled, the edits
 that are at fault are found and told as bad, and the rest are tried without them.
 
-The crates below are read as they were built, from their out/ folders: `--proved` says that these are of these sources, as in
-.ci/run; without it `rt lib` builds what is not. Status 1 where an edit is not refused; the last line is `N refused, M not`.
+The crates below are read as they were built: `rt lib` builds those that are not, or `--built` names a copy that rt ci proved, as in
+.ci/run. Each crate's checks begin with what earlier checks kept in its out/ folder, where they did. Status 1 where an edit is not
+refused; the last line is `N refused, M not`.
 """
 import argparse
 import os
@@ -31,7 +32,7 @@ import subprocess
 import sys
 import tempfile
 import time
-from concurrent.futures import ThreadPoolExecutor, as_completed
+from concurrent.futures import FIRST_COMPLETED, ThreadPoolExecutor, wait
 
 PARTS = ('src', 'specs', 'proofs')
 
@@ -49,8 +50,8 @@ class BadEdit(Exception):
 class Repository:
     """The crates of crates.txt, and the kit that proves them."""
 
-    def __init__(self, root):
-        self.root = root
+    def __init__(self, root, built=None):
+        self.root, self.built = root, built or root
         self.kit = os.path.dirname(os.path.dirname(os.path.realpath(shutil.which('rt'))))
         self.uses = {}
         with open(f'{root}/crates.txt', encoding='utf-8') as lines:
@@ -71,7 +72,11 @@ class Repository:
         return f'{self.root}/crates/{crate}'
 
     def rlibs(self, crate):
-        return f'{self.folder(crate)}/out/rlib'
+        return f'{self.built}/crates/{crate}/out/rlib'
+
+    def kept(self, crate):
+        """What earlier checks of the crate kept, where they did."""
+        return f'{self.built}/crates/{crate}/out/incremental'
 
     def check(self, crate, kept, only):
         """The words of a check of the crate in the folder that it is started in."""
@@ -121,12 +126,16 @@ class Edit:
                     raise BadEdit("a line 'new:' stands before any 'file:' or 'old:'")
                 self.pairs.append((file, old, value))
                 old = None
-            elif line.strip():
+            elif line.strip() and not self.reads(key, value):
                 raise BadEdit(f'a line of no known kind: {line[:60]}')
         if not self.pairs or old:
             raise BadEdit("it has no pair of 'old:' and 'new:', or half of one")
         if bool(self.function) == bool(self.lemma):
             raise BadEdit("it has no line 'fn: PATH' (or 'lemma: NAME'), or both")
+
+    def reads(self, key, value):
+        """Whether this is a line that edits of another kind have; what it says is then kept."""
+        return False
 
     def regions(self):
         """What it changes: for each file where the change begins and ends, and what stands there instead."""
@@ -321,8 +330,8 @@ class Crate:
         self.began, self.rounds, done = time.time(), 0, list(self.bad)
         with tempfile.TemporaryDirectory(prefix='edits-') as room:
             kept = f'{room}/kept'
-            if os.path.isdir(f'{self.folder}/out/incremental'):
-                shutil.copytree(f'{self.folder}/out/incremental', kept)
+            if os.path.isdir(self.repository.kept(self.name)):
+                shutil.copytree(self.repository.kept(self.name), kept)
             else:
                 os.mkdir(kept)
             waiting, alone = list(self.edits), []
@@ -373,6 +382,22 @@ class Crate:
         return [judge(it, told) for it in taken]
 
 
+def merged(folder, regions):
+    """The texts of the files below a folder with these regions changed: for each file (begin, end, new), none touching another."""
+    texts = {}
+    for file, them in regions.items():
+        text = text_of(f'{folder}/{file}')
+        for begin, end, new in sorted(them, reverse=True):
+            text = text[:begin] + new + text[end:]
+        texts[file] = text
+    return texts
+
+
+def touches(regions, own):
+    """Whether one of an edit's own regions touches one of these."""
+    return any(begin <= last and first <= end for file, (begin, end, _) in own.items() for first, last, _ in regions.get(file, []))
+
+
 def first_round(edits):
     """As many of the edits as can be tried in one check, and the texts with all of them made."""
     regions, busy, taken = {}, set(), []
@@ -380,7 +405,7 @@ def first_round(edits):
         changed, own = edit.changed(), edit.regions()
         if taken and (changed is None or busy & changed):
             continue
-        if any(begin <= old_end and old_begin <= end for file, (begin, end, _) in own.items() for old_begin, old_end, _ in regions.get(file, [])):
+        if touches(regions, own):
             continue
         for file, region in own.items():
             regions.setdefault(file, []).append(region)
@@ -388,13 +413,7 @@ def first_round(edits):
         if changed is None:
             break
         busy |= changed
-    texts = {}
-    for file, them in regions.items():
-        text = text_of(f'{taken[0].folder}/{file}')
-        for begin, end, new in sorted(them, reverse=True):
-            text = text[:begin] + new + text[end:]
-        texts[file] = text
-    return taken, texts
+    return taken, merged(taken[0].folder, regions)
 
 
 def check(repository, crate, texts, kept, only):
@@ -414,7 +433,7 @@ def check(repository, crate, texts, kept, only):
     return ran.stdout
 
 
-def built(repository, crates):
+def build_below(repository, crates):
     """Builds what the crates use, where it isn't built from these sources."""
     for crate in dict.fromkeys(it for name in crates for it in repository.below(name)):
         ran = subprocess.run(['rt', 'lib'], cwd=repository.folder(crate), stdin=subprocess.DEVNULL, stdout=subprocess.PIPE, stderr=subprocess.STDOUT, text=True)
@@ -422,15 +441,70 @@ def built(repository, crates):
             sys.exit(f'{ran.stdout[-2000:]}\n{crate} is not proved')
 
 
+class Proofs:
+    """How far a run of rt ci is: by its log, and its process."""
+
+    def __init__(self, log=None, process=None):
+        self.log, self.process = log, process
+
+    def have_ended(self):
+        if not self.process:
+            return True
+        try:
+            with open(f'/proc/{self.process}/stat', encoding='utf-8') as it:
+                return it.read().rpartition(')')[2].split()[0] == 'Z'
+        except OSError:
+            return True
+
+    def have(self, crate):
+        """Whether the crate is proved, and so all below it."""
+        if not self.log:
+            return True
+        with open(self.log, encoding='utf-8', errors='replace') as it:
+            return f'rt: {crate} proved' in it.read().split('\n')
+
+
+def try_all(crates, jobs, proofs, log):
+    """Tries the edits of all crates, so many at a time, or one at a time while proofs go on; answers how many were refused, and not."""
+    left, running, refused, failed = list(crates), set(), 0, 0
+
+    def tried(crate):
+        return crate, crate.tried(log), time.time() - crate.began
+
+    with ThreadPoolExecutor(jobs) as pool:
+        while left or running:
+            is_last = proofs.have_ended()
+            ready = [it for it in left if proofs.have(it.name)]
+            while ready and len(running) < (jobs if is_last else 1):
+                left.remove(ready[0])
+                running.add(pool.submit(tried, ready.pop(0)))
+            if is_last and not running:
+                print(f"their proofs failed: {' '.join(it.name for it in left)}")
+                return refused, failed + sum(len(it.edits) for it in left)
+            if not running:
+                time.sleep(1)
+                continue
+            done, running = wait(running, timeout=1, return_when=FIRST_COMPLETED)
+            for run in done:
+                crate, verdicts, took = run.result()
+                for verdict in verdicts:
+                    print(verdict)
+                refused += sum(it.is_refused for it in verdicts)
+                failed += sum(not it.is_refused for it in verdicts)
+                print(f'{crate.name}: {len(verdicts)} edits, {crate.rounds} checks, {took:.0f} s', flush=True)
+    return refused, failed
+
+
 def main():
     words = argparse.ArgumentParser(description=__doc__, formatter_class=argparse.RawDescriptionHelpFormatter)
     words.add_argument('crates', nargs='*', metavar='CRATE')
-    words.add_argument('--proved', action='store_true', help='the crates below were built from these sources')
-    words.add_argument('--jobs', type=int, default=2, metavar='N', help='how many checks at a time')
+    words.add_argument('--built', metavar='FOLDER', help='a copy of these sources, without the edits, that rt ci proved')
+    words.add_argument('--beside', nargs=2, metavar=('LOG', 'PROCESS'), help='rt ci still runs in that copy, and writes this log: a crate is tried once it is proved')
+    words.add_argument('--jobs', type=int, default=2, metavar='N', help='how many checks at a time; one beside rt ci')
     words.add_argument('--only', metavar='EDIT', help='one edit, by the name of its file')
     words.add_argument('--log', metavar='FOLDER', help='keep what each check said there')
     given = words.parse_args()
-    repository = Repository(os.getcwd())
+    repository = Repository(os.getcwd(), given.built)
     unknown = [it for it in given.crates if it not in repository.uses]
     if unknown:
         sys.exit(f'crates.txt names no {unknown[0]}')
@@ -438,21 +512,9 @@ def main():
     crates = sorted((it for it in crates if it.edits or it.bad), key=lambda it: -it.size())
     if given.log:
         os.makedirs(given.log, exist_ok=True)
-    if not given.proved:
-        built(repository, [it.name for it in crates])
-    refused = failed = 0
-
-    def tried(crate):
-        return crate, crate.tried(given.log), time.time() - crate.began
-
-    with ThreadPoolExecutor(given.jobs) as pool:
-        for run in as_completed([pool.submit(tried, it) for it in crates]):
-            crate, verdicts, took = run.result()
-            for verdict in verdicts:
-                print(verdict)
-            refused += sum(it.is_refused for it in verdicts)
-            failed += sum(not it.is_refused for it in verdicts)
-            print(f'{crate.name}: {len(verdicts)} edits, {crate.rounds} checks, {took:.0f} s', flush=True)
+    if not given.built:
+        build_below(repository, [it.name for it in crates])
+    refused, failed = try_all(crates, given.jobs, Proofs(*given.beside or ()), given.log)
     if not refused + failed:
         print('there is no such edit')
     print(f'{refused} refused, {failed} not')
