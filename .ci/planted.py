@@ -12,8 +12,9 @@ an edit as those of must-fail/, with its crate and an input that meets it:
 
 What the program must answer to each input is worked out by the model of compare/, and PROGRAM, where it is named, must answer so
 to all of them. The bodies are planted together, in a few copies that `rt try` runs, with no proof: each body in half of the
-copies, and no two in the same ones. Its input must be answered wrongly in each copy that has it, and rightly in each that has
-it not: so it is this body that the input shows, and no other. Status 1 where that isn't so; the last line is
+copies. Its input must be answered wrongly in each copy that has it, and rightly in each that has it not. Without `--builds` there
+are so many copies that no two bodies are in the same ones: then it is this body that the input shows, and no other. With
+`--builds 2`, as in .ci/run, this is shown of the bodies in the other half. Status 1 where that isn't so; the last line is
 `N refused, M not`.
 """
 import argparse
@@ -65,9 +66,9 @@ class Planted(Edit):
 
 
 def words(count, builds=None):
-    """For each body the copies that have it: half of them, and another half for each body."""
+    """For each body the copies that have it, half of them: another half for each body, where there are copies enough."""
     builds = builds or next(it for it in itertools.count(2) if math.comb(it, it // 2) >= count)
-    return builds, list(itertools.islice(itertools.combinations(range(builds), builds // 2), count))
+    return builds, list(itertools.islice(itertools.cycle(itertools.combinations(range(builds), builds // 2)), count))
 
 
 def plant(bodies, room):
@@ -109,7 +110,7 @@ def differs(program, body):
 def main():
     given = argparse.ArgumentParser(description=__doc__, formatter_class=argparse.RawDescriptionHelpFormatter)
     given.add_argument('program', nargs='?', metavar='PROGRAM')
-    given.add_argument('--builds', type=int, metavar='N', help='how many copies (as few as can be)')
+    given.add_argument('--builds', type=int, metavar='N', help='how many copies, 2 at least')
     given.add_argument('--jobs', type=int, default=2, metavar='N', help='how many at a time')
     given = given.parse_args()
     bodies, failed = [], 0

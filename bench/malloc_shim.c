@@ -6,6 +6,7 @@
  *   SHIM_REPORT=FILE    at the end writes there: inside N outside N refused N
  *   SHIM_REFUSE=inside  refuses all that is asked for inside
  *   SHIM_REFUSE=N       refuses the Nth that is asked for, and all after it
+ *   SHIM_REFUSE_ONE=N   refuses the Nth alone
  */
 /* (no header of the system is read: the kit's compiler comes with none) */
 typedef __SIZE_TYPE__ size_t;
@@ -29,7 +30,7 @@ void *__libc_realloc(void *old, size_t size);
 void *__libc_memalign(size_t alignment, size_t size);
 
 static int is_inside, refuses_inside;
-static unsigned long inside, outside, refused, refused_from;
+static unsigned long inside, outside, refused, refused_from, refused_one;
 
 /* Counts one request; whether it is to be refused. */
 static int refuses(void) {
@@ -37,7 +38,8 @@ static int refuses(void) {
         inside++;
     else
         outside++;
-    int is_refused = (is_inside && refuses_inside) || (refused_from && inside + outside >= refused_from);
+    unsigned long number = inside + outside;
+    int is_refused = (is_inside && refuses_inside) || (refused_from && number >= refused_from) || number == refused_one;
     if (is_refused) {
         refused++;
         *__errno_location() = NO_MEMORY;
@@ -99,6 +101,9 @@ __attribute__((constructor)) static void begin(void) {
         refuses_inside = 1;
     else if (asked)
         refused_from = strtoul(asked, NULL, 10);
+    const char *one = getenv("SHIM_REFUSE_ONE");
+    if (one)
+        refused_one = strtoul(one, NULL, 10);
 }
 
 __attribute__((destructor)) static void end(void) {
