@@ -38,14 +38,18 @@ def content(number):
     return b''.join(pieces)
 
 
+def action(place, number):
+    """What makes a file, or none at all, that of a place in the program that is started."""
+    return (os.POSIX_SPAWN_CLOSE, place) if number is None else (os.POSIX_SPAWN_DUP2, number, place)
+
+
 class Started:
     """A program that was started; its output is a file in memory, so that it never waits for us."""
 
     def __init__(self, program, reading, environment=None):
         self.output = os.memfd_create('output')
         self.errors = os.memfd_create('errors')
-        numbers = (reading, self.output, self.errors)
-        actions = [(os.POSIX_SPAWN_DUP2, number, place) for place, number in enumerate(numbers)]
+        actions = [action(place, number) for place, number in enumerate((reading, self.output, self.errors))]
         self.process = os.posix_spawn(program, [program], os.environ if environment is None else environment,
                                       file_actions=actions, setsigdef=(signal.SIGPIPE, signal.SIGXFSZ))
         self.handle = os.pidfd_open(self.process)

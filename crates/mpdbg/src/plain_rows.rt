@@ -1,11 +1,9 @@
 //! Rows of what the program answers without words: what no clause says.
 
-use crate::helpers::{answers, refused, repeated};
+use crate::helpers::{EngineFault, PlainFault, answers, plain, refused, repeated};
 use mpd_device::device::{FromReader, ToWriter};
 use mpd_device::failing::{FailingSource, Limit};
 use mpd_model::read_fault::FaultCode;
-use mpd_trace::plain::{PlainFault, plain};
-use mpd_wire::engine::EngineFault;
 use std::alloc::Global;
 use std::io;
 use std::io::Read;

@@ -2,7 +2,6 @@
 //! as the same again.
 
 use crate::helpers::{FIRST, joined};
-use mpd_laws::round_trip;
 use mpd_script::{print, read};
 use std::alloc::Global;
 use std::process::Abort;
@@ -67,10 +66,4 @@ fn prints_what_is_needed(rt: HostRuntime) {
         );
         prints(&rt, alloc, input.as_bytes(), wanted.as_str());
     }
-}
-
-#[test]
-fn laws_of_printing_cost_nothing() {
-    round_trip::read_scripts_are_printable();
-    round_trip::canonical_is_read_again();
 }

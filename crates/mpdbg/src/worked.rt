@@ -1,25 +1,21 @@
 //! Worked rows that only a direct call shows: what no clause says, each public call with ample memory.
 
-use crate::helpers::{FIRST, declaring, lowered, repeated};
+use crate::helpers::{EngineFault, FIRST, lowered, trace};
 use mpd_code::code::Code;
 use mpd_core::state::Core;
-use mpd_device::device::{FromReader, Sink, Source, ToWriter};
+use mpd_device::device::{FromReader, ToWriter};
 use mpd_device::failing::{FailingSink, FailingSource, Limit};
 use mpd_model::call::{Mode, Trap};
 use mpd_model::outcome::{CallList, Outcome, TrapList, TrappedRank};
-use mpd_model::read_fault::{FaultCode, ReadFault};
 use mpd_model::step::{CallId, Step};
 use mpd_model::text::print_outcome;
 use mpd_model::words::step_of;
-use mpd_script::read;
-use mpd_trace::trace::trace;
 use mpd_trail::debugger::Debugger;
 use mpd_trail::run::{Command, Reply, replay};
-use mpd_wire::engine::EngineFault;
 use std::alloc::{AllocError, Global};
-use std::io;
 use std::io::Read;
 use std::process::Abort;
+use std::{cmp, io};
 
 /// The only send of the first script.
 const SEND: CallId = CallId { rank: 0, index: 0 };
@@ -76,64 +72,6 @@ fn replies_and_undoes(rt: HostRuntime) {
     assert_eq!(rt; replies.as_slice(), REPLIES);
     assert_eq!(rt; debugger.depth(), 6);
     assert_eq!(rt; debugger.steps().len(), 6);
-}
-
-/// Why and where a text is refused, if it is.
-fn fault_of(alloc: Global, text: &str) -> Option<(FaultCode, usize)> {
-    match read(alloc, text.as_bytes()) {
-        Ok(_) => None,
-        Err(ReadFault { code, place }) => Some((code, place)),
-    }
-}
-
-/// Asserts that a text with a piece so many times between its front and its back is read, or why and where it is refused.
-fn reads(
-    rt: &impl Abort,
-    alloc: Global,
-    front: &str,
-    piece: &str,
-    count: usize,
-    back: &str,
-    fault: Option<(FaultCode, usize)>,
-) {
-    let text = repeated(alloc, front, piece, count, back).expect(rt, "the text");
-    assert_eq!(rt; fault_of(alloc, text.as_str()), fault, "{count} of {piece}");
-}
-
-#[test]
-fn reads_up_to_its_limits(rt: HostRuntime) {
-    let alloc = rt.alloc();
-    let header = "mpd 1;ranks 1;";
-    let printing = "mpd 1;ranks 1;print ";
-    let deep = repeated(alloc, printing, "(", 64, "1").expect(&rt, "64 brackets");
-    reads(&rt, alloc, deep.as_str(), ")", 64, ";", None);
-    let deeper = repeated(alloc, printing, "(", 65, "1").expect(&rt, "65 brackets");
-    let too_deep = Some((FaultCode::TooDeep, 84));
-    reads(&rt, alloc, deeper.as_str(), ")", 65, ";", too_deep);
-    let open = repeated(alloc, header, "if 1 {", 64, "").expect(&rt, "64 blocks");
-    reads(&rt, alloc, open.as_str(), "}", 64, "", None);
-    let too_deep = Some((FaultCode::TooDeep, 403));
-    reads(&rt, alloc, header, "if 1 {", 65, "", too_deep);
-    reads(&rt, alloc, header, "print 1;", 4096, "", None);
-    let too_many = Some((FaultCode::TooMany, 32782));
-    reads(&rt, alloc, header, "print 1;", 4097, "", too_many);
-    let too_long = Some((FaultCode::TooLong, 65536));
-    reads(&rt, alloc, "", " ", 65537, "", too_long);
-    let empty = Some((FaultCode::Expected, 65536));
-    reads(&rt, alloc, "", " ", 65536, "", empty);
-}
-
-#[test]
-fn declares_up_to_its_limits(rt: HostRuntime) {
-    let alloc = rt.alloc();
-    let mut text = declaring(alloc, 1024).expect(&rt, "the text");
-    assert_eq!(rt; fault_of(alloc, text.as_str()), None, "1,024 variables");
-    let place = text.len().saturating_add(4);
-    text.push_str("var w;").expect(&rt, "one variable more");
-    assert_eq!(rt;
-        fault_of(alloc, text.as_str()),
-        Some((FaultCode::TooMany, place))
-    );
 }
 
 /// The steps of the first script up to its only output.
@@ -276,86 +214,180 @@ fn ends_after_a_million_reads(rt: HostRuntime) {
     let code = lowered(&rt, alloc, FIRST);
     let mut source = FromReader::new(Feeds);
     let mut sink = ToWriter::new(Vec::new(alloc));
-    let ended = traced(alloc, &code, &mut source, &mut sink);
+    let ended = trace(alloc, &code, Mode::Rendezvous, &mut source, &mut sink);
     assert_eq!(rt; ended, Err(EngineFault::TooManyTurns));
     assert!(rt; sink.into_writer().is_empty());
 }
 
-/// The words of a session, and what they are answered.
+/// The words of a session.
 const WORDS: &[u8] = b"local 0\nback\nfly\nlocal 0";
 
+/// What they are answered.
 const ANSWERS: &[u8] = b"ok 1\nok 0\nrefused bad-word\nok 1\n";
 
-/// How a session with a source and a sink ends.
-fn traced<S: Source, W: Sink>(
-    alloc: Global,
-    code: &Code,
-    source: &mut S,
-    sink: &mut W,
-) -> Result<(), EngineFault> {
-    trace(alloc, code, Mode::Rendezvous, source, sink)
+/// Where each line of the words ends, but the last, with how many bytes of the answers stand up to it.
+const ENDED_LINES: &[(usize, usize)] = &[(8, 5), (13, 10), (17, 27)];
+
+/// A reader that gives one line in each read.
+#[derive(Drop)]
+struct ByLines<'b> {
+    left: &'b [u8],
 }
 
-/// How a session of these words ends, and what is written, where writing fails past so many bytes.
-fn traced_to(
+impl<'b> Read for ByLines<'b> {
+    fn read(&mut self, buf: &mut [u8]) -> io::Result<usize> {
+        let line = match self.left.iter().position(|byte| *byte == b'\n') {
+            Some(place) => place.saturating_add(1),
+            None => self.left.len(),
+        };
+        let count = cmp::min(cmp::min(line, self.left.len()), buf.len());
+        let (piece, left) = self.left.split_at(count);
+        let (part, _) = buf.split_at_mut(count);
+        part.copy_from_slice(piece);
+        self.left = left;
+        Ok(count)
+    }
+}
+
+/// How a session of the words ends, and what is written, where reading and writing fail past their limits.
+fn session(
     alloc: Global,
     code: &Code,
-    words: &[u8],
-    limit: u64,
+    reading: Limit,
+    writing: Limit,
 ) -> (Result<(), EngineFault>, Vec<u8>) {
-    let mut source = FromReader::new(words);
-    let mut sink = FailingSink::new(ToWriter::new(Vec::new(alloc)), Limit::Bytes(limit));
-    let ended = traced(alloc, code, &mut source, &mut sink);
+    let words = ByLines { left: WORDS };
+    let mut source = FailingSource::new(FromReader::new(words), reading);
+    let mut sink = FailingSink::new(ToWriter::new(Vec::new(alloc)), writing);
+    let ended = trace(alloc, code, Mode::Rendezvous, &mut source, &mut sink);
     (ended, sink.into_inner().into_writer())
 }
 
-/// How a session of these words ends, and what is written, where reading fails past so many bytes.
-fn traced_from(
+/// No limit that a session reaches.
+const ENDLESS: Limit = Limit::Calls(1_000);
+
+/// Asserts how a session of the words ends, and that so many bytes of the answers are written.
+fn writes(
+    rt: &impl Abort,
     alloc: Global,
     code: &Code,
-    words: &[u8],
-    limit: u64,
-) -> (Result<(), EngineFault>, Vec<u8>) {
-    let mut source = FailingSource::new(FromReader::new(words), Limit::Bytes(limit));
-    let mut sink = ToWriter::new(Vec::new(alloc));
-    let ended = traced(alloc, code, &mut source, &mut sink);
-    (ended, sink.into_writer())
+    reading: Limit,
+    writing: Limit,
+    ended: Result<(), EngineFault>,
+    count: usize,
+) {
+    let (end, written) = session(alloc, code, reading, writing);
+    let (wanted, _) = ANSWERS.split_at(cmp::min(count, ANSWERS.len()));
+    assert_eq!(rt; end, ended);
+    assert_eq!(rt; written.as_slice(), wanted);
 }
 
 #[test]
 fn fails_where_a_sink_fails(rt: HostRuntime) {
-    let alloc = rt.alloc();
-    let code = lowered(&rt, alloc, FIRST);
-    for limit in 0..40u64 {
-        let (ended, written) = traced_to(alloc, &code, WORDS, limit);
-        if limit < ANSWERS.len() as u64 {
-            assert_eq!(rt; ended, Err(EngineFault::WriteFailed));
-            assert_eq!(rt; written.len() as u64, limit);
+    let code = lowered(&rt, rt.alloc(), FIRST);
+    for limit in 0..40usize {
+        let ended = if limit < ANSWERS.len() {
+            Err(EngineFault::WriteFailed)
         } else {
-            assert_eq!(rt; ended, Ok(()));
-        }
-        assert!(rt;
-            ANSWERS.starts_with(written.as_slice()),
-            "up to byte {limit}"
+            Ok(())
+        };
+        writes(
+            &rt,
+            rt.alloc(),
+            &code,
+            ENDLESS,
+            Limit::Bytes(limit as u64),
+            ended,
+            limit,
         );
     }
 }
 
+/// Calls before a device fails, and how many bytes of the answers are written then.
+const CALLS: &[(u64, usize)] = &[(0, 0), (1, 5), (2, 10), (3, 27)];
+
 #[test]
-fn fails_where_a_source_fails(rt: HostRuntime) {
-    let alloc = rt.alloc();
-    let code = lowered(&rt, alloc, FIRST);
-    for limit in 0..30u64 {
-        let (ended, written) = traced_from(alloc, &code, WORDS, limit);
-        if limit <= WORDS.len() as u64 {
-            assert_eq!(rt; ended, Err(EngineFault::ReadFailed));
-        } else {
-            assert_eq!(rt; ended, Ok(()));
-            assert_eq!(rt; written.as_slice(), ANSWERS);
-        }
-        assert!(rt;
-            ANSWERS.starts_with(written.as_slice()),
-            "up to byte {limit}"
+fn fails_at_a_call(rt: HostRuntime) {
+    let code = lowered(&rt, rt.alloc(), FIRST);
+    let whole = ANSWERS.len();
+    for (calls, count) in CALLS {
+        let limit = Limit::Calls(*calls);
+        writes(
+            &rt,
+            rt.alloc(),
+            &code,
+            limit,
+            ENDLESS,
+            Err(EngineFault::ReadFailed),
+            *count,
+        );
+        writes(
+            &rt,
+            rt.alloc(),
+            &code,
+            ENDLESS,
+            limit,
+            Err(EngineFault::WriteFailed),
+            *count,
         );
     }
+    // the last line has no end: its read is the fourth, and the fifth is the end
+    let fourth = Limit::Calls(4);
+    writes(
+        &rt,
+        rt.alloc(),
+        &code,
+        fourth,
+        ENDLESS,
+        Err(EngineFault::ReadFailed),
+        27,
+    );
+    writes(&rt, rt.alloc(), &code, ENDLESS, fourth, Ok(()), whole);
+    writes(
+        &rt,
+        rt.alloc(),
+        &code,
+        Limit::Calls(5),
+        ENDLESS,
+        Ok(()),
+        whole,
+    );
+}
+
+/// How many bytes of the answers are written where so many bytes were read, and not the end.
+fn answered(bytes: usize) -> usize {
+    let mut count = 0;
+    for (end, answers) in ENDED_LINES {
+        if *end <= bytes {
+            count = *answers;
+        }
+    }
+    count
+}
+
+#[test]
+fn fails_where_a_source_fails(rt: HostRuntime) {
+    let code = lowered(&rt, rt.alloc(), FIRST);
+    for limit in 0..=WORDS.len() {
+        let reading = Limit::Bytes(limit as u64);
+        writes(
+            &rt,
+            rt.alloc(),
+            &code,
+            reading,
+            ENDLESS,
+            Err(EngineFault::ReadFailed),
+            answered(limit),
+        );
+    }
+    let behind = Limit::Bytes(WORDS.len() as u64 + 1);
+    writes(
+        &rt,
+        rt.alloc(),
+        &code,
+        behind,
+        ENDLESS,
+        Ok(()),
+        ANSWERS.len(),
+    );
 }
