@@ -3,7 +3,6 @@
 from random import Random
 from typing import NamedTuple, Optional
 
-from debugger import MOST_READS, MOST_STEPS
 from language import HIGHEST, LEVELS, LOWEST
 from limit_cases import limits_case
 from scripts import Writer, mutated_bytes, mutated_tokens, rendered
@@ -28,6 +27,13 @@ def script_case(random):
     ranks = random.choice([1, 2, 2, 3, 3, 4, random.randint(1, 16)])
     script = rendered(random, Writer(random, ranks).script())
     return assembled(random, script, trace_lines(random, script, random.choice([5, 20, 40, 80])))
+
+
+def cut_case(random):
+    """An input that ends anywhere in its script, behind a comment that is not ended, or in its words."""
+    script = script_case(random)
+    place = script.find(b'---\n') if random.random() < 0.8 else len(script)
+    return script[:random.randint(0, max(place, 0))] + random.choice([b'', b'', b'', b'#', b'# end', b' ', b'-', b'\n--'])
 
 
 def mutated_case(random):
@@ -139,30 +145,9 @@ def arithmetic_case(number):
     return arithmetic_input(EXTREMES[number // count % count], EXTREMES[number % count])
 
 
-def full_trail():
-    """As many steps as there may be, then refusals, steps taken back and again."""
-    behind = ('wake 0, local 0, local 1, show, back, back, show, local 0, local 0, local 0, back, local 1, show, '
-              'local 0, back, back, local 1, show, back').split(', ')
-    return b'mpd 1; ranks 2; while 1 { }\n---\n' + b'local 0\n' * MOST_STEPS + '\n'.join(behind + ['']).encode()
-
-
-def many_reads(count, last):
-    """An input that so many reads bring, the last of them this one."""
-    return [b'mpd 1; ranks 2; while 1 { }\n---\nlocal 0\nlocal 1\n'] + [b'\n'] * (count - 2) + [last]
-
-
-def ends_cases():
-    """The most steps; inputs that end just before or behind the most reads."""
-    yield Case('ends-steps', full_trail(), None)
-    for count in range(MOST_READS - 2, MOST_READS + 2):
-        for name, last in (('ended', b'local 0\n'), ('open', b'local 0')):
-            packets = many_reads(count, last)
-            yield Case(f'ends-reads-{count}-{name}', b''.join(packets), packets)
-
-
 # Each kind with its share of the inputs of a run, in hundredths.
-KINDS = {'script': (script_case, 22), 'mutated': (mutated_case, 16), 'limits': (limits_case, 12), 'words': (words_case, 12),
-         'names': (names_case, 8), 'arrays': (arrays_case, 6), 'messages': (messages_case, 2), 'states': (states_case, 6),
+KINDS = {'script': (script_case, 20), 'mutated': (mutated_case, 14), 'limits': (limits_case, 12), 'words': (words_case, 12),
+         'cut': (cut_case, 4), 'names': (names_case, 8), 'arrays': (arrays_case, 6), 'messages': (messages_case, 2), 'states': (states_case, 6),
          'traps': (traps_case, 6), 'deep': (deep_case, 2), 'arithmetic': (None, 8)}
 
 

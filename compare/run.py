@@ -17,11 +17,10 @@ from unittest import mock
 
 import debugger
 import language
-from cases import KINDS, ends_cases, random_case, shares
+from cases import KINDS, random_case, shares
 from debugger import Result, answer, answer_packets
 from runs import limit, run_at_once, run_in_packets
 
-ENDS_SECONDS = 120
 CHUNK = 8
 
 
@@ -93,17 +92,6 @@ def compare_random(chosen, folder):
     return compared, differing
 
 
-def compare_ends(chosen, folder):
-    """Compares the inputs at the ends of steps and reads; these take long, and much memory."""
-    compared = differing = 0
-    for case in ends_cases():
-        found = different(chosen.program, case, ENDS_SECONDS)
-        report(folder, case.name, 1, found)
-        compared += 1
-        differing += len(found)
-    return compared, differing
-
-
 class Breakage(NamedTuple):
     """A fault put into the model on purpose, and the kind of inputs that is to notice it."""
     name: str
@@ -151,7 +139,6 @@ def arguments():
     parser.add_argument('--seed', type=int, default=1, help='another seed gives other inputs (1)')
     parser.add_argument('--kind', action='append', choices=list(KINDS), help='only this kind; may be given again')
     parser.add_argument('--packets', action='store_true', help='each input cut into reads, and not only every third')
-    parser.add_argument('--ends', action='store_true', help='also the most steps and the most reads, which takes longer')
     parser.add_argument('--broken', action='store_true', help='break the model on purpose; each fault must be noticed')
     parser.add_argument('--jobs', type=int, default=os.cpu_count(), help='how many processes (one for each core)')
     parser.add_argument('--seconds', type=float, default=20, help='how long one input may take (20)')
@@ -174,9 +161,6 @@ def main():
     began = time.monotonic()
     folder = []
     compared, differing = compare_random(chosen, folder)
-    if chosen.ends:
-        ends_compared, ends_differing = compare_ends(chosen, folder)
-        compared, differing = compared + ends_compared, differing + ends_differing
     print(f'{compared} inputs compared, {differing} different, {time.monotonic() - began:.1f} seconds')
     if not compared:
         print('nothing was compared')

@@ -15,9 +15,8 @@ import subprocess
 import sys
 from contextlib import contextmanager
 
-from cases import many_reads
-from debugger import Result, answer, answer_packets
-from language import MOST_OPEN_BLOCKS, MOST_OPERATORS
+from debugger import MOST_READS, MOST_STEPS, Debugger, Result, Step, answer, answer_packets
+from language import MOST_OPEN_BLOCKS, MOST_OPERATORS, read_script
 from runs import action, content, file_of, run_in_packets
 
 SECONDS = 60
@@ -169,15 +168,33 @@ def file_of_any_size(data):
     return reading
 
 
+LOOP = b'mpd 1; ranks 2; while 1 { }\n'
+
+
+def many_reads(count, last):
+    """An input that so many reads bring, the last of them this one."""
+    return [LOOP + b'---\nlocal 0\nlocal 1\n'] + [b'\n'] * (count - 2) + [last]
+
+
 def turns_rows(program):
-    """Status 3 where the input has not ended after as many reads as there may be."""
-    for count, last in ((999_998, b'local 0'), (999_999, b'local 0')):
-        packets = many_reads(count, last)
+    """Status 3 where the input has not ended after as many reads as there may be; the end is one of them."""
+    for count in (MOST_READS - 1, MOST_READS):
+        packets = many_reads(count, b'local 0')
         yield f'{count} packets and the end', run_in_packets(program, packets, SECONDS), answer_packets(packets)
-    packets = many_reads(1_000_000, b'local 0\n')
-    wanted = answer_packets(packets)
-    assert wanted.status == 3
-    yield '1,000,000 packets', run_in_packets(program, packets, SECONDS), wanted
+
+
+def full_rows(program):
+    """As many steps as there may be, then a refusal; steps taken back, and again, and refused again."""
+    behind = ('wake 0, local 0, local 1, show, back, back, show, local 0, local 0, local 0, back, local 1, show, '
+              'local 0, back, back, local 1, show, back').encode().split(b', ')
+    data = LOOP + b'---\n' + b'local 0\n' * MOST_STEPS + b'\n'.join([*behind, b''])
+    debugger = Debugger(read_script(LOOP))
+    # each step leads to the same world again
+    debugger.worlds *= MOST_STEPS + 1
+    debugger.steps = [Step('local', 0)] * MOST_STEPS
+    texts = [f'ok {depth}' for depth in range(1, MOST_STEPS + 1)] + [debugger.answer(line) for line in behind]
+    wanted = Result(''.join(text + '\n' for text in texts).encode(), b'', 0)
+    yield f'{MOST_STEPS} steps', Files(file_of(data)).run(program), wanted
 
 
 class Talk:
@@ -211,8 +228,7 @@ def talk_rows(program):
     for line in SESSION[place:].splitlines(keepends=True):
         before, asked = answer(asked).output, asked + line
         wanted = answer(asked).output[len(before):]
-        piece = line if line != b'local 0\n' else b'local 0\n'
-        answers = talk.ask(SESSION[:place] + piece if before == b'' else piece, len(wanted))
+        answers = talk.ask(line if before else SESSION[:place] + line, len(wanted))
         yield f'asked {line.decode().strip()}', Result(answers, b'', 0), Result(wanted, b'', 0)
     yield 'asked no more', talk.end(), Result(b'', b'', 0)
     process = subprocess.Popen([program], stdin=subprocess.PIPE, stdout=subprocess.PIPE, stderr=subprocess.PIPE)
@@ -243,7 +259,7 @@ def stack_rows(program):
             yield f'{block} {opening} on {STACK_KIB} KiB', result, answer(data)
 
 
-ROWS = (ended_rows, refused_rows, device_rows, talk_rows, stack_rows, turns_rows)
+ROWS = (ended_rows, refused_rows, device_rows, talk_rows, stack_rows, full_rows, turns_rows)
 
 
 def main():
