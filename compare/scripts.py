@@ -33,7 +33,9 @@ def declaration(name, size):
 
 
 def made_up_name(random, number):
-    """A name that no other number gives; many begin alike, and some are as long as allowed."""
+    """A name that no other number gives; many begin alike, and some are as long as allowed and differ at the end alone."""
+    if random.random() < 0.1:
+        return 'n' * 60 + f'{number:04}'
     front = random.choice(['v', '_', 'rank', 'x_', 'A'])
     return (f'{front}{number}' + '_' * random.choice([0, 0, 0, 1, 20, 60]))[:64]
 
