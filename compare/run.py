@@ -92,6 +92,21 @@ def compare_random(chosen, folder):
     return compared, differing
 
 
+def write_cases(chosen):
+    """Writes the inputs that are given at once, with what must be written for each, for `rt try --cases FOLDER`."""
+    os.makedirs(chosen.write, exist_ok=True)
+    count = 0
+    for kind, number_of_kind in shares(chosen.count, chosen.kind or list(KINDS)).items():
+        for number in range(number_of_kind):
+            case = random_case(kind, chosen.seed, number, False)
+            for name, data in ((case.name, case.data), (f'{case.name}.stdout', answer(case.data).output)):
+                with open(os.path.join(chosen.write, name), 'wb') as file:
+                    file.write(data)
+            count += 1
+    print(f'{count} cases in {chosen.write}')
+    return 0 if count else 1
+
+
 class Breakage(NamedTuple):
     """A fault put into the model on purpose, and the kind of inputs that is to notice it."""
     name: str
@@ -140,6 +155,7 @@ def arguments():
     parser.add_argument('--kind', action='append', choices=list(KINDS), help='only this kind; may be given again')
     parser.add_argument('--packets', action='store_true', help='each input cut into reads, and not only every third')
     parser.add_argument('--broken', action='store_true', help='break the model on purpose; each fault must be noticed')
+    parser.add_argument('--write', metavar='FOLDER', help='compare nothing: write inputs and outputs for `rt try --cases`')
     parser.add_argument('--jobs', type=int, default=os.cpu_count(), help='how many processes (one for each core)')
     parser.add_argument('--seconds', type=float, default=20, help='how long one input may take (20)')
     parser.add_argument('--memory', type=int, default=4096, help='how much memory the program may take, in MiB (4096)')
@@ -155,6 +171,8 @@ def arguments():
 
 def main():
     chosen = arguments()
+    if chosen.write:
+        return write_cases(chosen)
     if chosen.broken:
         noticed = [count_noticed(chosen, breakage) for breakage in breakages()]
         return 0 if all(noticed) else 1

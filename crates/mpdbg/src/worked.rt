@@ -1,10 +1,8 @@
 //! Worked rows that only a direct call shows: what no clause says, each public call with ample memory.
 
-use crate::helpers::{EngineFault, FIRST, lowered, trace};
+use crate::helpers::{FIRST, lowered};
 use mpd_code::code::Code;
 use mpd_core::state::Core;
-use mpd_device::device::{FromReader, ToWriter};
-use mpd_device::failing::{FailingSink, FailingSource, Limit};
 use mpd_model::call::{Mode, Trap};
 use mpd_model::outcome::{CallList, Outcome, TrapList, TrappedRank};
 use mpd_model::step::{CallId, Step};
@@ -13,7 +11,6 @@ use mpd_model::words::step_of;
 use mpd_trail::debugger::Debugger;
 use mpd_trail::run::{Command, Reply, replay};
 use std::alloc::{AllocError, Global};
-use std::io::Read;
 use std::process::Abort;
 use std::{cmp, io};
 
@@ -116,18 +113,150 @@ fn prints_states(rt: HostRuntime) {
     let code = lowered(&rt, alloc, FIRST);
     let mut core = Core::start(alloc, &code, Mode::Rendezvous).expect(&rt, "the first state");
     assert_eq!(rt; core.rank_count(), 2);
-    for step in TO_THE_OUTPUT {
-        assert!(rt; core.is_enabled(*step));
-        assert!(rt; takes(&mut core, *step));
-    }
+    takes_all(&rt, &mut core, TO_THE_OUTPUT);
     prints_a_call(&rt, &core, SEND, "send to 1 tag 0 value 7 with 1.0");
     prints_a_call(&rt, &core, RECV, "recv from 0 tag 0 with 0.0 value 7");
     prints_a_rank(&rt, &core, 0, "blocked 0");
     prints_a_rank(&rt, &core, 1, "at 4");
     prints_a_set(&rt, &core, 0, "pair 0.0 1.0");
     prints_a_set(&rt, &core, 1, "woke 1.0");
-    let outcome = core.outcome(alloc).expect(&rt, "the outcome");
-    assert!(rt; outcome.is_none());
+    has_outcome(&rt, alloc, &core, None);
+}
+
+/// A script, a mode, steps that are enabled one after the other, and the outcome behind them, if there is one.
+type Ending = (&'static str, Mode, &'static [Step], Option<&'static str>);
+
+/// The second call of the first rank.
+const SECOND: CallId = CallId { rank: 0, index: 1 };
+
+const ENDINGS: &[Ending] = &[
+    (
+        "mpd 1; ranks 2; print 1;",
+        Mode::Rendezvous,
+        &[Step::Local(1)],
+        None,
+    ),
+    (
+        "mpd 1; ranks 2; print 1;",
+        Mode::Rendezvous,
+        &[Step::Local(1), Step::Local(0)],
+        Some("done"),
+    ),
+    (
+        "mpd 1; ranks 3; send 7 to 2 - rank tag 0;",
+        Mode::Rendezvous,
+        &[Step::Local(2), Step::Local(0), Step::Local(1)],
+        Some("deadlock 0.0 1.0 2.0"),
+    ),
+    (
+        "mpd 1; ranks 3; print 1 / (rank - 1); send 1 to rank tag 0;",
+        Mode::Rendezvous,
+        &[
+            Step::Local(0),
+            Step::Local(1),
+            Step::Local(2),
+            Step::Local(2),
+            Step::Local(0),
+        ],
+        Some("trap 1 zero-divisor"),
+    ),
+    (
+        "mpd 1; ranks 2; if rank { } else { send 7 to 1 tag 0; }",
+        Mode::Buffered,
+        &[
+            Step::Local(1),
+            Step::Local(0),
+            Step::Local(0),
+            Step::Wake(0),
+        ],
+        Some("leftovers 0.0"),
+    ),
+    (
+        "mpd 1; ranks 1; var x; send 7 to 0 tag 5; recv x from 0 tag 5;",
+        Mode::Buffered,
+        &[
+            Step::Local(0),
+            Step::Wake(0),
+            Step::Local(0),
+            Step::Match(SEND, SECOND),
+            Step::Wake(0),
+        ],
+        Some("done"),
+    ),
+];
+
+/// Asserts the outcome of a state, if it has one.
+fn has_outcome(rt: &impl Abort, alloc: Global, core: &Core<'_>, wanted: Option<&str>) {
+    let outcome = core.outcome(alloc).expect(rt, "an outcome, or none");
+    match (outcome, wanted) {
+        (Some(outcome), Some(wanted)) => is_text(rt, print_outcome(alloc, &outcome), wanted),
+        (outcome, wanted) => assert_eq!(rt; outcome.is_some(), wanted.is_some()),
+    }
+}
+
+/// Asserts that the steps are enabled one after the other, and takes them.
+fn takes_all(rt: &impl Abort, core: &mut Core<'_>, steps: &[Step]) {
+    for step in steps {
+        assert!(rt; core.is_enabled(*step));
+        assert!(rt; takes(core, *step));
+    }
+}
+
+fn ends_so(
+    rt: &impl Abort,
+    alloc: Global,
+    text: &str,
+    mode: Mode,
+    steps: &[Step],
+    outcome: Option<&str>,
+) {
+    let code = lowered(rt, alloc, text.as_bytes());
+    let mut core = Core::start(alloc, &code, mode).expect(rt, "the first state");
+    takes_all(rt, &mut core, steps);
+    has_outcome(rt, alloc, &core, outcome);
+}
+
+#[test]
+fn ends_in_each_way(rt: HostRuntime) {
+    for (text, mode, steps, outcome) in ENDINGS {
+        ends_so(&rt, rt.alloc(), text, *mode, steps, *outcome);
+    }
+}
+
+/// Three sends, two of them alike, and a receive.
+const IN_ORDER: &str =
+    "mpd 1; ranks 2; var x;\nif rank == 0 { send 1 to 1 tag 0; send 2 to 1 tag 0; send 3 to 1 tag 1; } else { recv x from 0 tag 0; }";
+
+/// Its steps up to a match.
+const ISSUED: &[Step] = &[
+    Step::Local(0),
+    Step::Local(0),
+    Step::Wake(0),
+    Step::Local(0),
+    Step::Wake(0),
+    Step::Local(0),
+    Step::Wake(0),
+    Step::Local(1),
+    Step::Local(1),
+];
+
+#[test]
+fn keeps_sends_in_order(rt: HostRuntime) {
+    let code = lowered(&rt, rt.alloc(), IN_ORDER.as_bytes());
+    let mut core = Core::start(rt.alloc(), &code, Mode::Buffered).expect(&rt, "the first state");
+    takes_all(&rt, &mut core, ISSUED);
+    let third = CallId { rank: 0, index: 2 };
+    assert!(rt;
+        !core.is_enabled(Step::Match(SECOND, RECV)),
+        "an earlier send"
+    );
+    assert!(rt; !core.is_enabled(Step::Match(third, RECV)), "another tag");
+    prints_a_call(&rt, &core, SECOND, "send to 1 tag 0 value 2 free");
+    prints_a_call(&rt, &core, RECV, "recv from 0 tag 0 free");
+    prints_a_rank(&rt, &core, 0, "ended");
+    prints_a_rank(&rt, &core, 1, "blocked 0");
+    takes_all(&rt, &mut core, &[Step::Match(SEND, RECV), Step::Wake(1)]);
+    has_outcome(&rt, rt.alloc(), &core, Some("leftovers 0.1 0.2"));
 }
 
 fn prints(rt: &impl Abort, alloc: Global, outcome: Outcome, wanted: &str) {
@@ -190,204 +319,4 @@ fn reads_steps(rt: HostRuntime) {
     for (text, step) in STEPS {
         assert_eq!(rt; step_of(text), *step, "{text}");
     }
-}
-
-/// A reader that gives one line feed for each read, and never ends.
-#[derive(Drop)]
-struct Feeds;
-
-impl Read for Feeds {
-    fn read(&mut self, buf: &mut [u8]) -> io::Result<usize> {
-        match buf.first_mut() {
-            None => Ok(0),
-            Some(byte) => {
-                *byte = b'\n';
-                Ok(1)
-            }
-        }
-    }
-}
-
-#[test]
-fn ends_after_a_million_reads(rt: HostRuntime) {
-    let alloc = rt.alloc();
-    let code = lowered(&rt, alloc, FIRST);
-    let mut source = FromReader::new(Feeds);
-    let mut sink = ToWriter::new(Vec::new(alloc));
-    let ended = trace(alloc, &code, Mode::Rendezvous, &mut source, &mut sink);
-    assert_eq!(rt; ended, Err(EngineFault::TooManyTurns));
-    assert!(rt; sink.into_writer().is_empty());
-}
-
-/// The words of a session.
-const WORDS: &[u8] = b"local 0\nback\nfly\nlocal 0";
-
-/// What they are answered.
-const ANSWERS: &[u8] = b"ok 1\nok 0\nrefused bad-word\nok 1\n";
-
-/// Where each line of the words ends, but the last, with how many bytes of the answers stand up to it.
-const ENDED_LINES: &[(usize, usize)] = &[(8, 5), (13, 10), (17, 27)];
-
-/// A reader that gives one line in each read.
-#[derive(Drop)]
-struct ByLines<'b> {
-    left: &'b [u8],
-}
-
-impl<'b> Read for ByLines<'b> {
-    fn read(&mut self, buf: &mut [u8]) -> io::Result<usize> {
-        let line = match self.left.iter().position(|byte| *byte == b'\n') {
-            Some(place) => place.saturating_add(1),
-            None => self.left.len(),
-        };
-        let count = cmp::min(cmp::min(line, self.left.len()), buf.len());
-        let (piece, left) = self.left.split_at(count);
-        let (part, _) = buf.split_at_mut(count);
-        part.copy_from_slice(piece);
-        self.left = left;
-        Ok(count)
-    }
-}
-
-/// How a session of the words ends, and what is written, where reading and writing fail past their limits.
-fn session(
-    alloc: Global,
-    code: &Code,
-    reading: Limit,
-    writing: Limit,
-) -> (Result<(), EngineFault>, Vec<u8>) {
-    let words = ByLines { left: WORDS };
-    let mut source = FailingSource::new(FromReader::new(words), reading);
-    let mut sink = FailingSink::new(ToWriter::new(Vec::new(alloc)), writing);
-    let ended = trace(alloc, code, Mode::Rendezvous, &mut source, &mut sink);
-    (ended, sink.into_inner().into_writer())
-}
-
-/// No limit that a session reaches.
-const ENDLESS: Limit = Limit::Calls(1_000);
-
-/// Asserts how a session of the words ends, and that so many bytes of the answers are written.
-fn writes(
-    rt: &impl Abort,
-    alloc: Global,
-    code: &Code,
-    reading: Limit,
-    writing: Limit,
-    ended: Result<(), EngineFault>,
-    count: usize,
-) {
-    let (end, written) = session(alloc, code, reading, writing);
-    let (wanted, _) = ANSWERS.split_at(cmp::min(count, ANSWERS.len()));
-    assert_eq!(rt; end, ended);
-    assert_eq!(rt; written.as_slice(), wanted);
-}
-
-#[test]
-fn fails_where_a_sink_fails(rt: HostRuntime) {
-    let code = lowered(&rt, rt.alloc(), FIRST);
-    for limit in 0..40usize {
-        let ended = if limit < ANSWERS.len() {
-            Err(EngineFault::WriteFailed)
-        } else {
-            Ok(())
-        };
-        writes(
-            &rt,
-            rt.alloc(),
-            &code,
-            ENDLESS,
-            Limit::Bytes(limit as u64),
-            ended,
-            limit,
-        );
-    }
-}
-
-/// Calls before a device fails, and how many bytes of the answers are written then.
-const CALLS: &[(u64, usize)] = &[(0, 0), (1, 5), (2, 10), (3, 27)];
-
-#[test]
-fn fails_at_a_call(rt: HostRuntime) {
-    let code = lowered(&rt, rt.alloc(), FIRST);
-    let whole = ANSWERS.len();
-    for (calls, count) in CALLS {
-        let limit = Limit::Calls(*calls);
-        writes(
-            &rt,
-            rt.alloc(),
-            &code,
-            limit,
-            ENDLESS,
-            Err(EngineFault::ReadFailed),
-            *count,
-        );
-        writes(
-            &rt,
-            rt.alloc(),
-            &code,
-            ENDLESS,
-            limit,
-            Err(EngineFault::WriteFailed),
-            *count,
-        );
-    }
-    // the last line has no end: its read is the fourth, and the fifth is the end
-    let fourth = Limit::Calls(4);
-    writes(
-        &rt,
-        rt.alloc(),
-        &code,
-        fourth,
-        ENDLESS,
-        Err(EngineFault::ReadFailed),
-        27,
-    );
-    writes(&rt, rt.alloc(), &code, ENDLESS, fourth, Ok(()), whole);
-    writes(
-        &rt,
-        rt.alloc(),
-        &code,
-        Limit::Calls(5),
-        ENDLESS,
-        Ok(()),
-        whole,
-    );
-}
-
-/// How many bytes of the answers are written where so many bytes were read, and not the end.
-fn answered(bytes: usize) -> usize {
-    let mut count = 0;
-    for (end, answers) in ENDED_LINES {
-        if *end <= bytes {
-            count = *answers;
-        }
-    }
-    count
-}
-
-#[test]
-fn fails_where_a_source_fails(rt: HostRuntime) {
-    let code = lowered(&rt, rt.alloc(), FIRST);
-    for limit in 0..=WORDS.len() {
-        let reading = Limit::Bytes(limit as u64);
-        writes(
-            &rt,
-            rt.alloc(),
-            &code,
-            reading,
-            ENDLESS,
-            Err(EngineFault::ReadFailed),
-            answered(limit),
-        );
-    }
-    let behind = Limit::Bytes(WORDS.len() as u64 + 1);
-    writes(
-        &rt,
-        rt.alloc(),
-        &code,
-        behind,
-        ENDLESS,
-        Ok(()),
-        ANSWERS.len(),
-    );
 }
