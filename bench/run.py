@@ -87,7 +87,10 @@ def messages(program):
     for count in (1, 10, 100, 300):
         there = b''.join(message(number) for number in range(count))
         rounds = max(1, 2_000 // count)
-        took = best(program, script + (there + b'back\n' * there.count(b'\n')) * rounds) - none
+        data = script + (there + b'back\n' * there.count(b'\n')) * rounds
+        if b'refused' in subprocess.run([program], input=data, capture_output=True, check=True).stdout:
+            sys.exit('a message was refused')
+        took = best(program, data) - none
         each = took / count / rounds
         print(f'  {count:>7}   {each * 1e6:8.2f} us a message   {each / 22 * 1e9:7.1f} ns a word')
 

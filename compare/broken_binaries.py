@@ -53,7 +53,8 @@ class Change(NamedTuple):
 
 def listed(program):
     """Address, bytes, word and operands of each instruction of the repository's own functions, and the function."""
-    text = subprocess.run(['objdump', '-d', '-w', '--section=.text', program], capture_output=True, text=True, check=True).stdout
+    command = ['objdump', '-d', '-w', '--section=.text', program]
+    text = subprocess.run(command, capture_output=True, text=True, check=True).stdout
     function = ''
     for line in text.splitlines():
         if found := FUNCTION.match(line):

@@ -26,8 +26,8 @@ SECONDS = 20
 REFUSED = b'refused memory\n'
 
 # A state with much to show: pending and posted calls, an array, and a deadlock.
-MUCH = (b'mpd 1; ranks 4; var a[40]; var x;\nwhile x < 3 { a[x] = x * 1000000007; x = x + 1; }\nif rank == 0 { send 7 to 1 tag 0; }\n'
-        b'if rank == 1 { recv x from 0 tag 0; }\nprint x; print a[1];\n'
+MUCH = (b'mpd 1; ranks 4; var a[40]; var x;\nwhile x < 3 { a[x] = x * 1000000007; x = x + 1; }\n'
+        b'if rank == 0 { send 7 to 1 tag 0; }\nif rank == 1 { recv x from 0 tag 0; }\nprint x; print a[1];\n'
         b'if rank == 2 { send 1 to 3 tag 9; } else { recv x from (rank + 1) % size tag 3; }\n---\n')
 
 
@@ -40,8 +40,8 @@ def lively():
             if debugger.answer(line).startswith('ok'):
                 lines.append(line)
     half = len(lines) // 2
-    words = lines[:half] + [b'show'] + lines[half:] + [b'show', b'', b'fly', b'local 9'] + [b'back'] * (len(lines) + 1) + [b'show']
-    return MUCH + b''.join(line + b'\n' for line in words)
+    there = [*lines[:half], b'show', *lines[half:], b'show', b'', b'fly', b'local 9']
+    return MUCH + b''.join(line + b'\n' for line in [*there, *[b'back'] * (len(lines) + 1), b'show'])
 
 
 def inputs():

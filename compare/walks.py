@@ -1,6 +1,5 @@
 """Random walks through a script: the trace words of an input, chosen with the model at hand."""
 
-from functools import lru_cache
 from typing import NamedTuple
 
 from debugger import CallId, Debugger, Step, enabled_steps
