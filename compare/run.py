@@ -142,7 +142,9 @@ def count_noticed(chosen, breakage):
         result = run(chosen.program, case, chosen.seconds)
         if result == expected(case):
             with mock.patch.object(breakage.owner, breakage.attribute, breakage.replacement):
+                language.read_script.cache_clear()
                 noticed += int(result != expected(case))
+            language.read_script.cache_clear()
     print(f'{breakage.name}: kind {breakage.kind}, {chosen.count} inputs, {noticed} noticed', flush=True)
     return noticed
 
