@@ -5,22 +5,23 @@
 A run may end with the right answers up to one of them, `mpdbg: memory` and status 3; or it goes on, with `refused memory` in
 place of an answer that can be refused: then the state stands, and all answers behind it are right. Where all allocations from
 one on are refused it is the same. The status is 0 where every run did one of these. The allocations are refused by a shared
-object, which is built from bench/malloc_shim.c where none is named.
+object, which is built from bench/malloc_shim.c (see bench/memory.py) where none is named.
 """
 
 import argparse
 import os
-import subprocess
+import re
 import sys
 import tempfile
 from collections import Counter
+from typing import NamedTuple
 
 from debugger import Debugger, divided, step_of
 from language import read_script
 from runs import run_at_once
 
 HERE = os.path.dirname(os.path.abspath(__file__))
-SHIM = os.path.join(HERE, '..', 'bench', 'malloc_shim.c')
+BENCH = os.path.join(HERE, '..', 'bench')
 EXAMPLES = os.path.join(HERE, '..', 'examples')
 SECONDS = 20
 REFUSED = b'refused memory\n'
@@ -93,29 +94,37 @@ def kind_of(result):
 
 
 def built_shim(folder):
-    path = os.path.join(folder, 'malloc_shim.so')
-    subprocess.run([os.environ.get('CC', 'cc'), '-shared', '-fPIC', '-O2', '-o', path, SHIM], check=True)
-    return path
+    sys.path.insert(0, BENCH)
+    from memory import built
+    return built(folder)
 
 
-def allocations(program, data, shim, folder):
-    """How often the program asks for memory where none is refused."""
-    path = os.path.join(folder, 'count')
-    run_at_once(program, data, SECONDS, {'LD_PRELOAD': shim, 'MALLOC_COUNT': path})
-    with open(path) as file:
-        return int(file.read())
+class Shim(NamedTuple):
+    """The shared object that refuses memory, and the file where it reports."""
+    path: str
+    report: str
+
+    def run(self, program, data, **refused):
+        """The result of a run, how often the program asked for memory, and how often it was refused."""
+        if os.path.exists(self.report):
+            os.remove(self.report)
+        environment = {'LD_PRELOAD': self.path, 'SHIM_REPORT': self.report, **refused}
+        result = run_at_once(program, data, SECONDS, environment)
+        with open(self.report, encoding='ascii') as file:
+            inside, outside, count = map(int, re.findall(r'\d+', file.read()))
+        return result, inside + outside, count
 
 
-def try_input(program, name, data, shim, folder):
-    """Refuses each allocation of a run; gives how many runs were wrong."""
-    count = allocations(program, data, shim, folder)
+def try_input(program, name, data, shim):
+    """Refuses each allocation of a run alone, and then each one with all behind it; gives how many runs were wrong."""
+    _, count, _ = shim.run(program, data)
     kinds = Counter()
     wrong = 0
-    for variable in ('MALLOC_REFUSE', 'MALLOC_REFUSE_FROM'):
+    for variable in ('SHIM_REFUSE_ONE', 'SHIM_REFUSE'):
         for number in range(1, count + 1):
-            result = run_at_once(program, data, SECONDS, {'LD_PRELOAD': shim, variable: str(number)})
+            result, _, refused = shim.run(program, data, **{variable: str(number)})
             kinds[kind_of(result)] += 1
-            if what := problem(data, result):
+            if what := problem(data, result) if refused else 'nothing was refused':
                 wrong += 1
                 print(f'{name}, {variable}={number}: {what}', flush=True)
     told = ', '.join(f'{number} {kind}' for kind, number in sorted(kinds.items()))
@@ -130,8 +139,9 @@ def main():
     chosen = parser.parse_args()
     program = os.path.abspath(chosen.program)
     with tempfile.TemporaryDirectory() as folder:
-        shim = os.path.abspath(chosen.shim) if chosen.shim else built_shim(folder)
-        wrong = [try_input(program, name, data, shim, folder) for name, data in inputs()]
+        path = os.path.abspath(chosen.shim) if chosen.shim else built_shim(folder)
+        shim = Shim(path, os.path.join(folder, 'report'))
+        wrong = [try_input(program, name, data, shim) for name, data in inputs()]
     return 1 if any(wrong) else 0
 
 

@@ -22,6 +22,8 @@ from runs import action, content, file_of, run_in_packets
 SECONDS = 60
 # What the deepest scripts are run with (docs/LANGUAGE.md, "Limits").
 STACK_KIB = 512
+# The memory for answers that have many times as many bytes.
+MUCH_MIB = 32
 
 SESSION = (b'mpd 1;\nranks 2;\nvar x;\nif rank == 0 { send 7 to 1 tag 0; } else { recv x from 0 tag 0; print x; }\n---\n'
            b'local 0\nlocal 1\nlocal 0\nlocal 1\nmatch 0.0 1.0\nshow\nfly\nback\nwake 1\n')
@@ -63,10 +65,10 @@ class Files:
     def __init__(self, reading, output='memory', errors='memory'):
         self.numbers = [reading, *(os.memfd_create('written') if file == 'memory' else file for file in (output, errors))]
 
-    def run(self, program):
-        """Runs the program, and gives what it wrote to each of the two files, where that is in memory."""
+    def run(self, *words):
+        """Runs a program with its words, and gives what it wrote to each of the two files, where that is in memory."""
         actions = [action(place, number) for place, number in enumerate(self.numbers)]
-        started = os.posix_spawn(program, [program], os.environ, file_actions=actions, setsigdef=(signal.SIGPIPE,))
+        started = os.posix_spawn(words[0], words, os.environ, file_actions=actions, setsigdef=(signal.SIGPIPE,))
         handle = os.pidfd_open(started)
         poll = select.poll()
         poll.register(handle, select.POLLIN)
@@ -259,7 +261,22 @@ def stack_rows(program):
             yield f'{block} {opening} on {STACK_KIB} KiB', result, answer(data)
 
 
-ROWS = (ended_rows, refused_rows, device_rows, talk_rows, stack_rows, full_rows, turns_rows)
+def much_rows(program):
+    """Answers of many times the memory that the program may take: they are written before too many are gathered."""
+    ranks, cells = 4, 1023
+    text = f'mpd 1; ranks {ranks}; var i; var a[{cells}]; while i < {cells} {{ a[i] = -1234567890123456789; i = i + 1; }}\n---\n'
+    steps = ''.join(f'local {rank}\n' * (3 * cells + 1) for rank in range(ranks))
+    front, shows = (text + steps).encode(), 900
+    first = answer(front).output
+    shown = answer(front + b'show\n').output[len(first):]
+    data = front + b'show\n' * shows + b'back\n'
+    wanted = Result(first + shown * shows + b'ok %d\n' % (steps.count('\n') - 1), b'', 0)
+    # a limit that this process itself could not keep
+    result = Files(file_of(data)).run('/bin/sh', '-c', f'ulimit -v {MUCH_MIB << 10}; exec "$0"', program)
+    yield f'much to show with {MUCH_MIB} MiB', result, wanted
+
+
+ROWS = (ended_rows, refused_rows, device_rows, talk_rows, stack_rows, much_rows, full_rows, turns_rows)
 
 
 def main():
