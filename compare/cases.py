@@ -32,7 +32,7 @@ def script_case(random):
 def cut_case(random):
     """An input that ends anywhere in its script, behind a comment that is not ended, or in its words."""
     script = script_case(random)
-    place = script.find(b'---\n') if random.random() < 0.8 else len(script)
+    place = script.find(b'---') if random.random() < 0.8 else len(script)
     return script[:random.randint(0, max(place, 0))] + random.choice([b'', b'', b'', b'#', b'# end', b' ', b'-', b'\n--'])
 
 

@@ -158,7 +158,7 @@ def arguments():
     parser.add_argument('--packets', action='store_true', help='each input cut into reads, and not only every third')
     parser.add_argument('--broken', action='store_true', help='break the model on purpose; each fault must be noticed')
     parser.add_argument('--write', metavar='FOLDER', help='compare nothing: write inputs and outputs for `rt try --cases`')
-    parser.add_argument('--jobs', type=int, default=os.cpu_count(), help='how many processes (one for each core)')
+    parser.add_argument('--jobs', type=int, default=len(os.sched_getaffinity(0)), help='how many processes (one for each core)')
     parser.add_argument('--seconds', type=float, default=20, help='how long one input may take (20)')
     parser.add_argument('--memory', type=int, default=4096, help='how much memory the program may take, in MiB (4096)')
     parser.add_argument('--output', type=int, default=256, help='how much the program may write, in MiB (256)')

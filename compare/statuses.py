@@ -210,7 +210,7 @@ class Talk:
         """Writes a piece, and gives what comes, up to so many bytes or until nothing comes any more."""
         self.process.stdin.write(data)
         answers = b''
-        while len(answers) < length and select.select([self.process.stdout], [], [], 5)[0]:
+        while len(answers) < length and select.select([self.process.stdout], [], [], SECONDS)[0]:
             piece = os.read(self.process.stdout.fileno(), length - len(answers))
             if not piece:
                 break

@@ -20,8 +20,8 @@ ODD_LINES = (
 
 def step_line(random, step):
     def digits(number):
-        zeros = '0' * random.randint(1, 3) if random.random() < 0.02 else ''
-        return zeros + str(number)
+        """Now and then with zeros in front, up to one digit more than a number may have."""
+        return str(number).zfill(random.choice([2, 3, 8, 9, 9, 10]) if random.random() < 0.02 else 0)
 
     if step.kind == 'match':
         ends = [f'{digits(call_id.rank)}.{digits(call_id.number)}' for call_id in (step.first, step.second)]
