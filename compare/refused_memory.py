@@ -5,7 +5,7 @@
 A run may end with the right answers up to one of them, `mpdbg: memory` and status 3; or it goes on, with `refused memory` in
 place of an answer that can be refused: then the state stands, and all answers behind it are right. Where all allocations from
 one on are refused it is the same. The status is 0 where every run did one of these. The allocations are refused by a shared
-object, which is built from bench/malloc_shim.c (see bench/memory.py) where none is named.
+object, which is built from bench/malloc_shim.c where none is named.
 """
 
 import argparse
@@ -19,9 +19,10 @@ from typing import NamedTuple
 from debugger import Debugger, divided, step_of
 from language import read_script
 from runs import run_at_once
+from shims import built
 
 HERE = os.path.dirname(os.path.abspath(__file__))
-BENCH = os.path.join(HERE, '..', 'bench')
+SHIM = os.path.join(HERE, '..', 'bench', 'malloc_shim.c')
 EXAMPLES = os.path.join(HERE, '..', 'examples')
 SECONDS = 20
 REFUSED = b'refused memory\n'
@@ -93,12 +94,6 @@ def kind_of(result):
     return 'went on' if REFUSED in result.output else 'not seen'
 
 
-def built_shim(folder):
-    sys.path.insert(0, BENCH)
-    from memory import built
-    return built(folder)
-
-
 class Shim(NamedTuple):
     """The shared object that refuses memory, and the file where it reports."""
     path: str
@@ -139,7 +134,7 @@ def main():
     chosen = parser.parse_args()
     program = os.path.abspath(chosen.program)
     with tempfile.TemporaryDirectory() as folder:
-        path = os.path.abspath(chosen.shim) if chosen.shim else built_shim(folder)
+        path = os.path.abspath(chosen.shim) if chosen.shim else built(SHIM, folder)
         shim = Shim(path, os.path.join(folder, 'report'))
         wrong = [try_input(program, name, data, shim) for name, data in inputs()]
     return 1 if any(wrong) else 0

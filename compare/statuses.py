@@ -2,7 +2,7 @@
 
     python3 compare/statuses.py PROGRAM
 
-Devices that are full, closed, broken off or too short; each fault of a script; as many reads as there may be; the deepest
+Devices that are full, closed, broken off, too short or interrupted; each fault of a script; as many reads as there may be; the deepest
 scripts on a small stack; answers that come before the next read. The status is 0 where every run ended as it must.
 """
 
@@ -13,12 +13,15 @@ import signal
 import socket
 import subprocess
 import sys
+import tempfile
 from contextlib import contextmanager
 
 from debugger import MOST_READS, MOST_STEPS, Debugger, Result, Step, answer, answer_packets
 from language import MOST_OPEN_BLOCKS, MOST_OPERATORS, read_script
 from runs import action, content, file_of, run_in_packets
+from shims import built
 
+HERE = os.path.dirname(os.path.abspath(__file__))
 SECONDS = 60
 # What the deepest scripts are run with (docs/LANGUAGE.md, "Limits").
 STACK_KIB = 512
@@ -65,10 +68,10 @@ class Files:
     def __init__(self, reading, output='memory', errors='memory'):
         self.numbers = [reading, *(os.memfd_create('written') if file == 'memory' else file for file in (output, errors))]
 
-    def run(self, *words):
+    def run(self, *words, **variables):
         """Runs a program with its words, and gives what it wrote to each of the two files, where that is in memory."""
         actions = [action(place, number) for place, number in enumerate(self.numbers)]
-        started = os.posix_spawn(words[0], words, os.environ, file_actions=actions, setsigdef=(signal.SIGPIPE,))
+        started = os.posix_spawn(words[0], words, {**os.environ, **variables}, file_actions=actions, setsigdef=(signal.SIGPIPE,))
         handle = os.pidfd_open(started)
         poll = select.poll()
         poll.register(handle, select.POLLIN)
@@ -199,6 +202,13 @@ def full_rows(program):
     yield f'{MOST_STEPS} steps', Files(file_of(data)).run(program), wanted
 
 
+def interrupted_rows(program):
+    """Each read and each write is interrupted once: it is tried again, and nothing else is seen of it."""
+    with tempfile.TemporaryDirectory() as folder:
+        shim = built(os.path.join(HERE, 'interrupt_shim.c'), folder)
+        yield 'interrupted', Files(file_of(SESSION)).run(program, LD_PRELOAD=shim), ENDED
+
+
 class Talk:
     """A program that is asked piece by piece; its input stays open."""
 
@@ -276,7 +286,7 @@ def much_rows(program):
     yield f'much to show with {MUCH_MIB} MiB', result, wanted
 
 
-ROWS = (ended_rows, refused_rows, device_rows, talk_rows, stack_rows, much_rows, full_rows, turns_rows)
+ROWS = (ended_rows, refused_rows, device_rows, interrupted_rows, talk_rows, stack_rows, much_rows, full_rows, turns_rows)
 
 
 def main():
