@@ -43,6 +43,15 @@ def action(place, number):
     return (os.POSIX_SPAWN_CLOSE, place) if number is None else (os.POSIX_SPAWN_DUP2, number, place)
 
 
+def status_of(process, handle, seconds):
+    """The status of a process when it has ended; where that isn't in time, it is killed."""
+    poll = select.poll()
+    poll.register(handle, select.POLLIN)
+    if not poll.poll(seconds * 1000):
+        signal.pidfd_send_signal(handle, signal.SIGKILL)
+    return os.waitstatus_to_exitcode(os.waitpid(process, 0)[1])
+
+
 class Started:
     """A program that was started; its output is a file in memory, so that it never waits for us."""
 
@@ -60,11 +69,7 @@ class Started:
 
     def result(self, seconds):
         """What the program gives; where it doesn't end in time it is killed, which its status tells."""
-        poll = select.poll()
-        poll.register(self.handle, select.POLLIN)
-        if not poll.poll(seconds * 1000):
-            self.kill()
-        status = os.waitstatus_to_exitcode(os.waitpid(self.process, 0)[1])
+        status = status_of(self.process, self.handle, seconds)
         result = Result(content(self.output), content(self.errors), status)
         for number in (self.handle, self.output, self.errors):
             os.close(number)

@@ -2,8 +2,9 @@
 
     python3 compare/statuses.py PROGRAM
 
-Devices that are full, closed, broken off, too short or interrupted; each fault of a script; as many reads as there may be; the deepest
-scripts on a small stack; answers that come before the next read. The status is 0 where every run ended as it must.
+Devices that are full, closed, broken off, too short or interrupted; each fault of a script; as many steps and reads as there
+may be; the deepest scripts on a small stack; more answers than memory; answers that come before the next read. The status is 0
+where every run ended as it must.
 """
 
 import os
@@ -18,7 +19,7 @@ from contextlib import contextmanager
 
 from debugger import MOST_READS, MOST_STEPS, Debugger, Result, Step, answer, answer_packets
 from language import MOST_OPEN_BLOCKS, MOST_OPERATORS, read_script
-from runs import action, content, file_of, run_in_packets
+from runs import action, content, file_of, run_in_packets, status_of
 from shims import built
 
 HERE = os.path.dirname(os.path.abspath(__file__))
@@ -71,13 +72,10 @@ class Files:
     def run(self, *words, **variables):
         """Runs a program with its words, and gives what it wrote to each of the two files, where that is in memory."""
         actions = [action(place, number) for place, number in enumerate(self.numbers)]
-        started = os.posix_spawn(words[0], words, {**os.environ, **variables}, file_actions=actions, setsigdef=(signal.SIGPIPE,))
-        handle = os.pidfd_open(started)
-        poll = select.poll()
-        poll.register(handle, select.POLLIN)
-        if not poll.poll(SECONDS * 1000):
-            signal.pidfd_send_signal(handle, signal.SIGKILL)
-        status = os.waitstatus_to_exitcode(os.waitpid(started, 0)[1])
+        process = os.posix_spawn(words[0], words, {**os.environ, **variables}, file_actions=actions,
+                                 setsigdef=(signal.SIGPIPE,))
+        handle = os.pidfd_open(process)
+        status = status_of(process, handle, SECONDS)
         written = [b'' if number is None or not is_memory(number) else content(number) for number in self.numbers[1:]]
         for number in [handle, *self.numbers]:
             if number is not None:
@@ -96,13 +94,6 @@ def full():
 
 def unread_pipe():
     """The writing end of a pipe that nobody reads any more."""
-    reading, writing = os.pipe()
-    os.close(reading)
-    return writing
-
-
-def writing_end():
-    """A file that can't be read."""
     reading, writing = os.pipe()
     os.close(reading)
     return writing
@@ -148,7 +139,7 @@ def device_rows(program):
     """Status 3 for want of a device."""
     yield 'input closed', Files(None).run(program), device()
     yield 'input a directory', Files(os.open('/', os.O_RDONLY)).run(program), device()
-    yield 'input that is written', Files(writing_end()).run(program), device()
+    yield 'input that is written', Files(unread_pipe()).run(program), device()
     yield 'input broken off', Files(broken_off(SESSION + b'back')).run(program), device(ENDED.output)
     yield 'input broken off in its script', Files(broken_off(SESSION[:30])).run(program), device()
     yield 'output full', Files(file_of(SESSION), full()).run(program), device()
@@ -274,7 +265,8 @@ def stack_rows(program):
 def much_rows(program):
     """Answers of many times the memory that the program may take: they are written before too many are gathered."""
     ranks, cells = 4, 1023
-    text = f'mpd 1; ranks {ranks}; var i; var a[{cells}]; while i < {cells} {{ a[i] = -1234567890123456789; i = i + 1; }}\n---\n'
+    text = (f'mpd 1; ranks {ranks}; var i; var a[{cells}];\n'
+            f'while i < {cells} {{ a[i] = -1234567890123456789; i = i + 1; }}\n---\n')
     steps = ''.join(f'local {rank}\n' * (3 * cells + 1) for rank in range(ranks))
     front, shows = (text + steps).encode(), 900
     first = answer(front).output
@@ -286,7 +278,8 @@ def much_rows(program):
     yield f'much to show with {MUCH_MIB} MiB', result, wanted
 
 
-ROWS = (ended_rows, refused_rows, device_rows, interrupted_rows, talk_rows, stack_rows, much_rows, full_rows, turns_rows)
+ROWS = (ended_rows, refused_rows, device_rows, interrupted_rows, talk_rows, stack_rows, much_rows, full_rows,
+        turns_rows)
 
 
 def main():
