@@ -327,7 +327,7 @@ class Crate:
 
     def tried(self, log=None):
         """Tries all edits, each round over what those before it proved, and answers a verdict for each."""
-        self.began, self.rounds, done = time.time(), 0, list(self.bad)
+        self.began, self.rounds, self.seconds, done = time.time(), 0, 0, list(self.bad)
         with tempfile.TemporaryDirectory(prefix='edits-') as room:
             kept = f'{room}/kept'
             if os.path.isdir(self.repository.kept(self.name)):
@@ -356,7 +356,9 @@ class Crate:
     def check(self, texts, kept, taken, log):
         only = sorted({it.function for it in taken if it.function})
         self.rounds += 1
-        told = Told(texts, check(self.repository, self.name, texts, kept, only))
+        said, seconds = check(self.repository, self.name, texts, kept, only)
+        self.seconds += seconds
+        told = Told(texts, said)
         if log:
             with open(f'{log}/{self.name}.{self.rounds}', 'w', encoding='utf-8') as it:
                 it.write('\n'.join([f'edit {edit.name}' for edit in taken] + told.lines))
@@ -417,20 +419,20 @@ def first_round(edits):
 
 
 def check(repository, crate, texts, kept, only):
-    """Checks a copy of the crate with these texts, and answers what was said."""
+    """Checks a copy of the crate with these texts, and answers what was said, and the processor seconds that it took."""
     folder = repository.folder(crate)
-    with tempfile.TemporaryDirectory(prefix='edit-') as room:
+    with tempfile.TemporaryDirectory(prefix='edit-') as room, tempfile.TemporaryFile('w+', encoding='utf-8', errors='replace') as said:
         for part in PARTS:
             if os.path.isdir(f'{folder}/{part}'):
                 shutil.copytree(f'{folder}/{part}', f'{room}/{part}')
         for file, text in texts.items():
             with open(f'{room}/{file}', 'w', encoding='utf-8') as it:
                 it.write(text)
-        ran = subprocess.run(
-            repository.check(crate, kept, only),
-            cwd=room, stdin=subprocess.DEVNULL, stdout=subprocess.PIPE, stderr=subprocess.STDOUT, text=True, errors='replace',
-        )
-    return ran.stdout
+        started = subprocess.Popen(repository.check(crate, kept, only), cwd=room, stdin=subprocess.DEVNULL, stdout=said, stderr=subprocess.STDOUT)
+        _, _, used = os.wait4(started.pid, 0)
+        started.returncode = 0
+        said.seek(0)
+        return said.read(), used.ru_utime + used.ru_stime
 
 
 def build_below(repository, crates):
@@ -491,7 +493,7 @@ def try_all(crates, jobs, proofs, log):
                     print(verdict)
                 refused += sum(it.is_refused for it in verdicts)
                 failed += sum(not it.is_refused for it in verdicts)
-                print(f'{crate.name}: {len(verdicts)} edits, {crate.rounds} checks, {took:.0f} s', flush=True)
+                print(f'{crate.name}: {len(verdicts)} edits, {crate.rounds} checks, {took:.0f} s, of a processor {crate.seconds:.0f} s', flush=True)
     return refused, failed
 
 

@@ -92,14 +92,14 @@ def plant(bodies, room):
 
 
 def tried(bodies, cases):
-    """What a copy with these bodies says of each case: True where its answer differs, False where it is as expected."""
+    """What a copy with these bodies answers to each input, its output (as expected or not) and status, and all that was said."""
     with tempfile.TemporaryDirectory(prefix='planted-') as room:
         left = plant(bodies, room)
         if left:
             return {}, f'{left[0].name} touches another body'
         ran = subprocess.run(['rt', 'try', '--cases', cases], cwd=f'{room}/crates/mpdbg', stdin=subprocess.DEVNULL, stdout=subprocess.PIPE, stderr=subprocess.STDOUT, text=True, errors='replace')
-    said = dict(re.findall(r'(?m)^case=(\S+) .*output=(differs|expected) proved=no$', ran.stdout))
-    return {name: it == 'differs' for name, it in said.items()}, ran.stdout
+    said = re.findall(r'(?m)^case=(\S+) run=ended status=(\d+) .*output=(differs|expected) proved=no$', ran.stdout)
+    return {name: (output == 'expected', int(status)) for name, status, output in said}, ran.stdout
 
 
 def differs(program, body):
@@ -137,14 +137,15 @@ def main():
         said = [it.result() for it in runs]
     refused = 0
     for body, word in zip(bodies, taken):
-        found = [it.get(body.name) for it, _ in said]
-        wanted = [build in word for build in range(builds)]
+        right = True, body.wanted[2]
+        found = [{None: 'none', right: 'right'}.get(it.get(body.name), 'wrong') for it, _ in said]
+        wanted = ['wrong' if build in word else 'right' for build in range(builds)]
         if found == wanted:
             refused += 1
-            print(f'{body.name}: refused: answered wrongly in the {sum(wanted)} copies of {builds} that have it, rightly in the others')
+            print(f"{body.name}: refused: answered wrongly in {len(word)} of {builds} copies, those that have it")
         else:
             failed += 1
-            shown = ' '.join({True: 'wrong', False: 'right', None: 'none'}[it] for it in found)
+            shown = ' '.join(found)
             print(f"{body.name}: NOT REFUSED: it is in the copies {' '.join(map(str, word))}, and the answers are: {shown}")
     for build, (found, text) in enumerate(said):
         if len(found) < len(bodies):
