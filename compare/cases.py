@@ -145,10 +145,10 @@ def arithmetic_case(number):
     return arithmetic_input(EXTREMES[number // count % count], EXTREMES[number % count])
 
 
-# Each kind with its share of the inputs of a run, in hundredths.
-KINDS = {'script': (script_case, 20), 'mutated': (mutated_case, 14), 'limits': (limits_case, 12), 'words': (words_case, 12),
+# Each kind with its share of the inputs of a run, in hundredths; 2,000 have all pairs of extreme numbers.
+KINDS = {'script': (script_case, 18), 'mutated': (mutated_case, 14), 'limits': (limits_case, 10), 'words': (words_case, 12),
          'cut': (cut_case, 4), 'names': (names_case, 8), 'arrays': (arrays_case, 6), 'messages': (messages_case, 2),
-         'states': (states_case, 6), 'traps': (traps_case, 6), 'deep': (deep_case, 2), 'arithmetic': (None, 8)}
+         'states': (states_case, 6), 'traps': (traps_case, 6), 'deep': (deep_case, 2), 'arithmetic': (None, 12)}
 
 
 def random_case(kind, seed, number, in_packets):
