@@ -168,14 +168,24 @@ def operators_case(number):
     return f'mpd 1; ranks 1; var x; var a[2];\n{PLACES[place].format(expression)}\n---\n{words}'.encode()
 
 
-# Each kind with its share of the inputs of a run, in hundredths; 2,000 have all pairs of extreme numbers, and each place of
-# an expression with as many operators as allowed.
-KINDS = {'script': (script_case, 12), 'mutated': (mutated_case, 11), 'limits': (limits_case, 8), 'words': (words_case, 11),
+# What may stand where a statement begins.
+STATEMENTS = ('print 1;', 'x = 1;', 'if 1 { }', 'while 0 { }', 'assert 1;', 'send 1 to 0 tag 0;', 'recv x from 0 tag 0;',
+              'y = 1;', 'waitany', 'barrier;')
+
+
+def statements_case(number):
+    """A statement of each kind as the last one allowed, and as the first one too many."""
+    number, last = divmod(number, len(STATEMENTS))
+    return f'mpd 1; ranks 1; var x;\n{"x=1;" * (4095 + number % 2)}{STATEMENTS[last]}\n---\nlocal 0\n'.encode()
+
+
+# Each kind with its share of the inputs of a run, in hundredths; 2,000 have all of those that are counted out.
+KINDS = {'script': (script_case, 12), 'mutated': (mutated_case, 11), 'limits': (limits_case, 7), 'words': (words_case, 11),
          'cut': (cut_case, 4), 'names': (names_case, 8), 'arrays': (arrays_case, 6), 'messages': (messages_case, 2),
-         'states': (states_case, 6), 'traps': (traps_case, 6), 'deep': (deep_case, 2), 'arithmetic': (None, 12),
-         'operators': (None, 12)}
+         'states': (states_case, 6), 'traps': (traps_case, 6), 'deep': (deep_case, 2), 'statements': (None, 1),
+         'arithmetic': (None, 12), 'operators': (None, 12)}
 # Kinds whose inputs are counted out, and not drawn.
-NUMBERED = {'arithmetic': arithmetic_case, 'operators': operators_case}
+NUMBERED = {'arithmetic': arithmetic_case, 'operators': operators_case, 'statements': statements_case}
 
 
 def random_case(kind, seed, number, in_packets):
