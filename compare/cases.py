@@ -145,16 +145,53 @@ def arithmetic_case(number):
     return arithmetic_input(EXTREMES[number // count % count], EXTREMES[number % count])
 
 
-# Each kind with its share of the inputs of a run, in hundredths.
-KINDS = {'script': (script_case, 20), 'mutated': (mutated_case, 14), 'limits': (limits_case, 12), 'words': (words_case, 12),
+# Each place of an expression in a statement.
+PLACES = ('print {};', 'x = {};', 'a[{}] = 1;', 'if {} {{ }}', 'while {} {{ }}', 'assert {};', 'send {} to 0 tag 0;',
+          'send 1 to {} tag 0;', 'send 1 to 0 tag {};', 'recv a[{}] from 0 tag 0;', 'recv x from {} tag 0;',
+          'recv x from 0 tag {};', 'print 0 + a[{}];')
+NESTS = (('(', ')'), ('-', ''), ('a[', ']'), ('!(', ')'), ('0 + (', ')'))
+
+
+def operators_case(number):
+    """As many operators as allowed, one more and one less, one inside the other or in a row, in each place."""
+    number, place = divmod(number, len(PLACES))
+    number, change = divmod(number, 3)
+    count = 64 + (0, 1, -1)[change]
+    form = number % (len(NESTS) + 1)
+    if form == len(NESTS):
+        expression = '0' + ' + 0' * count
+    else:
+        opening, closing = NESTS[form]
+        times = count // len(opening.replace('a', '').replace('0', '').replace(' ', ''))
+        expression = opening * times + '0' + closing * times
+    words = 'local 0\n' * 3 + 'show\n'
+    return f'mpd 1; ranks 1; var x; var a[2];\n{PLACES[place].format(expression)}\n---\n{words}'.encode()
+
+
+# What may stand where a statement begins.
+STATEMENTS = ('print 1;', 'x = 1;', 'if 1 { }', 'while 0 { }', 'assert 1;', 'send 1 to 0 tag 0;', 'recv x from 0 tag 0;',
+              'y = 1;', 'waitany', 'barrier;')
+
+
+def statements_case(number):
+    """A statement of each kind as the last one allowed, and as the first one too many."""
+    number, last = divmod(number, len(STATEMENTS))
+    return f'mpd 1; ranks 1; var x;\n{"x=1;" * (4095 + number % 2)}{STATEMENTS[last]}\n---\nlocal 0\n'.encode()
+
+
+# Each kind with its share of the inputs of a run, in hundredths; 2,000 have all of those that are counted out.
+KINDS = {'script': (script_case, 12), 'mutated': (mutated_case, 11), 'limits': (limits_case, 7), 'words': (words_case, 11),
          'cut': (cut_case, 4), 'names': (names_case, 8), 'arrays': (arrays_case, 6), 'messages': (messages_case, 2),
-         'states': (states_case, 6), 'traps': (traps_case, 6), 'deep': (deep_case, 2), 'arithmetic': (None, 8)}
+         'states': (states_case, 6), 'traps': (traps_case, 6), 'deep': (deep_case, 2), 'statements': (None, 1),
+         'arithmetic': (None, 12), 'operators': (None, 12)}
+# Kinds whose inputs are counted out, and not drawn.
+NUMBERED = {'arithmetic': arithmetic_case, 'operators': operators_case, 'statements': statements_case}
 
 
 def random_case(kind, seed, number, in_packets):
     """One input of a kind, the same each time; every third one is cut into reads, or all of them."""
     random = Random(f'{kind}/{seed}/{number}')
-    data = arithmetic_case(number) if kind == 'arithmetic' else KINDS[kind][0](random)
+    data = NUMBERED[kind](number) if kind in NUMBERED else KINDS[kind][0](random)
     packets = cut(random, data) if in_packets or number % 3 == 0 else None
     return Case(f'{kind}-{seed}-{number}', data, packets)
 

@@ -251,12 +251,10 @@ def enabled_steps(world):
     ranks = range(len(world.ranks))
     steps = [Step('local', rank) for rank in ranks if can_run(world.ranks[rank])]
     steps += [Step('wake', rank) for rank in ranks if can_wake(world, rank)]
-    for destination in ranks:
-        for receive_id in posted(world, destination):
-            for source in ranks:
-                steps += [Step('match', send_id, receive_id) for send_id in pending(world, source, destination)
-                          if eligible(world, send_id, receive_id)]
-    return steps
+    sends = [call_id for rank in ranks for call_id, call in free_calls(world, rank) if call.kind == 'send']
+    receives = [call_id for rank in ranks for call_id in posted(world, rank)]
+    return steps + [Step('match', send_id, receive_id) for receive_id in receives for send_id in sends
+                    if eligible(world, send_id, receive_id)]
 
 
 def joined(title, values):

@@ -4,9 +4,21 @@ from scripts import PIECES, WORD_CHARACTERS, Writer, declaration, header, render
 from walks import assembled, trace_lines
 
 
+def nested_expression(random, arrays, operators):
+    """An expression with that many operators and brackets, each inside the one before."""
+    forms = [(['('], [')']), (['-'], []), (['!'], []), *[([name, '['], [']']) for name in arrays]]
+    if random.random() < 0.7:
+        forms = [random.choice(forms)]
+    chosen = [random.choice(forms) for _ in range(operators)]
+    opening = [token for tokens, _ in chosen for token in tokens]
+    return opening + ['0'] + [token for _, tokens in reversed(chosen) for token in tokens]
+
+
 def deep_expression(random, variables, operators):
     """An expression with about that many operators and brackets."""
     arrays = [name for name, size in variables if size]
+    if random.random() < 0.4:
+        return nested_expression(random, arrays, operators)
     tokens = []
     closing = []
     for _ in range(operators):

@@ -108,7 +108,7 @@ def messages_case(random):
     script = (f'mpd 1;\nranks {ranks};\nvar i;\nvar x;\nvar a[4];\nwhile i < {rounds} {{\n'
               f'  {exchange(random, ranks)}\n{random.choice(["", "  print x;", "  print a[i % 4] + i;"])}\n  i = i + 1;\n}}\n'
               f'{ending}\n').encode()
-    return assembled(random, script, trace_lines(random, script, random.choice([300, 600, 1500]), LONG))
+    return assembled(random, script, trace_lines(random, script, random.choice([250, 500, 1000]), LONG))
 
 
 def states_case(random):

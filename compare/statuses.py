@@ -242,10 +242,11 @@ def talk_rows(program):
     process.stdin.close()
 
 
-def deepest(block, opening, closing, count):
-    """A script of blocks as deep as allowed, with an expression as deep as allowed inside, and the words to its end."""
-    expression = opening * count + '0' + closing * count
-    inside = (block + ' ') * MOST_OPEN_BLOCKS + f'print {expression}; a[{expression} * 0] = {expression}; x = 1; '
+def deepest(block, opening, closing, cost):
+    """A script of blocks as deep as allowed, with expressions as deep as allowed inside, and the words to its end."""
+    most, fewer = MOST_OPERATORS // cost, (MOST_OPERATORS - 1) // cost
+    value, index = opening * most + '0' + closing * most, opening * fewer + '0' + closing * fewer
+    inside = (block + ' ') * MOST_OPEN_BLOCKS + f'print {value}; a[{index} * 0] = {value}; x = 1; '
     text = f'mpd 1;\nranks 1;\nvar x;\nvar a[1];\n{inside}{"}" * MOST_OPEN_BLOCKS}\n---\n'
     return (text + 'local 0\n' * 70 + 'show\n' + 'back\n' * 69 + 'show\n').encode()
 
@@ -256,7 +257,7 @@ def stack_rows(program):
              '0 || (': (')', 2), '1 && (': (')', 2), '(-a[': ('])', 3)}
     for block in ('if 1 {', 'while !x {', 'if 0 { } else {'):
         for opening, (closing, cost) in forms.items():
-            data = deepest(block, opening, closing, (MOST_OPERATORS - 1) // cost)
+            data = deepest(block, opening, closing, cost)
             with soft_limit(resource.RLIMIT_STACK, STACK_KIB << 10):
                 result = Files(file_of(data)).run(program)
             yield f'{block} {opening} on {STACK_KIB} KiB', result, answer(data)

@@ -113,6 +113,24 @@ fn ends_after_a_million_reads(rt: HostRuntime) {
     assert!(rt; sink.into_writer().is_empty());
 }
 
+/// A send that is buffered, and left over.
+const BUFFERED: &[u8] = b"mpd 1; ranks 2; if rank { } else { send 7 to 1 tag 0; }";
+
+const BUFFERED_ANSWERS: &[u8] =
+    b"ok 1\nok 2\nok 3\nok 4\ndepth 4 of 4\nrank 0 ended\nvars\nhandles\nout\ncall 0.0 send to 1 tag 0 value 7 free\nrank 1 ended\nvars\nhandles\nout\npending 0 to 1: 0\nset woke 0.0\noutcome leftovers 0.0\nend\nok 3\n";
+
+#[test]
+fn traces_with_buffered_sends(rt: HostRuntime) {
+    let alloc = rt.alloc();
+    let code = lowered(&rt, alloc, BUFFERED);
+    let words: &[u8] = b"local 0\nlocal 0\nwake 0\nlocal 1\nshow\nback\n";
+    let mut source = FromReader::new(words);
+    let mut sink = ToWriter::new(Vec::new(alloc));
+    let ended = trace(alloc, &code, Mode::Buffered, &mut source, &mut sink);
+    assert_eq!(rt; ended, Ok(()));
+    assert_eq!(rt; sink.into_writer().as_slice(), BUFFERED_ANSWERS);
+}
+
 /// The words of a session.
 const WORDS: &[u8] = b"local 0\nback\nfly\nlocal 0";
 
