@@ -1,5 +1,5 @@
 -- What a node plans is what its statement makes of a rank.
-use Rattle.std.proofs.Common.{◌≡◌, ℕ, ◌+◌, ℤ, Bool, true, false, List, [], ◌∷◌, ◌++◌, Some, None, Result, Ok, Err, refl, sym, ap, ◌∙◌}
+use Rattle.std.proofs.Common.{◌≡◌, ℕ, ◌+◌, ℤ, Bool, true, false, List, [], ◌∷◌, ◌++◌, Option, Some, None, Result, Ok, Err, refl, sym, ap, ◌∙◌, subst₂}
 use Rattle.mpd_model.specs.declared.call.Activity.{Activity}
 use Rattle.mpd_model.specs.declared.call.Activity.TheVariants.{Running, Blocked, Trapped}
 use Rattle.mpd_model.specs.declared.call.CallKind.{CallKind}
@@ -15,7 +15,10 @@ use Rattle.mpd_code.specs.declared.node.Action.TheVariants as a
 use Rattle.mpd_code.specs.Left.{left_at}
 use Rattle.mpd_code.specs.Stands.{Does, Stands}
 use Rattle.mpd_rank.specs.declared.plan.LocalPlan.{LocalPlan}
+use Rattle.mpd_rank.specs.declared.change.Change.{Change}
+use Rattle.mpd_rank.specs.declared.change.RankRecord.{RankRecord}
 use Rattle.mpd_rank.specs.Views.{RankView, rank_of}
+use Rattle.mpd_rank.specs.Records.{print_change, issue_change, write_change, assert_change, choice_change, change_of, local_record, plan_change, plan_record}
 use Rattle.mpd_rank.specs.Plans.{plan_of, planned, print_plan, assign_plan, issue_plan, assert_plan, choice_plan}
 
 print_ran : (s : Program) (r : RankWorld) (i next : ℕ) (v : Value) → planned s r i (print_plan v next) ≡ printed r (left_at s next) v
@@ -72,6 +75,42 @@ does_ran s p n r i next (a.Assert e) t d = rw d (assert_ran s r i next (value_of
 does_ran s p n r i next (a.Branch c first second) t d = rw d.1.1.0 (choice_ran s r i first second (left_at s next) d.0 d.1.0 (value_of c r.vars p n) d.1.1.1.0 d.1.1.1.1)
 does_ran s p n r i next (a.Repeat c body) t d = rw d.1.0 (repeat_ran s r i body next c d.0 (value_of c r.vars p n) d.1.1)
 
+-- ---- what a plan records is what its statement does
+
+print_recorded : (vars : List ℤ) (next : ℕ) (v : Value) → plan_change vars (print_plan v next) ≡ print_change v
+print_recorded vars next (Ok v) = refl
+print_recorded vars next (Err t) = refl
+
+issue_recorded : (vars : List ℤ) (next : ℕ) (k : Result CallKind Trap) → plan_change vars (issue_plan k next) ≡ issue_change k
+issue_recorded vars next (Ok k) = refl
+issue_recorded vars next (Err t) = refl
+
+assign_recorded : (vars : List ℤ) (next : ℕ) (w : Result (ℕ × ℤ) Trap) → plan_change vars (assign_plan w next) ≡ write_change vars w
+assign_recorded vars next (Ok w) = refl
+assign_recorded vars next (Err t) = refl
+
+assert_tested : (vars : List ℤ) (next : ℕ) (v : ℤ) (b : Bool) → is_zero v ≡ b → plan_change vars (assert_plan (Ok v) next) ≡ assert_change (Ok v)
+assert_tested vars next v true e = rw e refl
+assert_tested vars next v false e = rw e refl
+
+assert_recorded : (vars : List ℤ) (next : ℕ) (v : Value) → plan_change vars (assert_plan v next) ≡ assert_change v
+assert_recorded vars next (Ok v) = assert_tested vars next v (is_zero v) refl
+assert_recorded vars next (Err t) = refl
+
+choice_recorded : (vars : List ℤ) (first second : ℕ) (v : Value) → plan_change vars (choice_plan v first second) ≡ choice_change v
+choice_recorded vars first second (Ok v) = refl
+choice_recorded vars first second (Err t) = refl
+
+does_recorded : (at : ℕ → List (ℕ × Tree)) (p n : ℕ) (vars : List ℤ) (i next : ℕ) (tail : List (ℕ × Tree)) (act : Action) (t : Tree) → Does at i tail act t
+    → plan_change vars (plan_of act next vars p n) ≡ change_of p n vars t
+does_recorded at p n vars i next tail (a.Print e) t d = rw d (print_recorded vars next (value_of e vars p n))
+does_recorded at p n vars i next tail (a.Send value to tag) t d = rw d (issue_recorded vars next (send_kind value to tag vars p n))
+does_recorded at p n vars i next tail (a.Recv into from tag) t d = rw d (issue_recorded vars next (recv_kind into from tag vars p n))
+does_recorded at p n vars i next tail (a.Assign into e) t d = rw d (assign_recorded vars next (written into e vars p n))
+does_recorded at p n vars i next tail (a.Assert e) t d = rw d (assert_recorded vars next (value_of e vars p n))
+does_recorded at p n vars i next tail (a.Branch c first second) t d = rw d.1.1.0 (choice_recorded vars first second (value_of c vars p n))
+does_recorded at p n vars i next tail (a.Repeat c body) t d = rw d.1.0 (choice_recorded vars body next (value_of c vars p n))
+
 running_first : (p n : ℕ) (r : RankWorld) (i : ℕ) (t : Tree) (ts : List (ℕ × Tree)) → r.activity ≡ Running → r.rest ≡ (i, t) ∷ ts → local p n r ≡ Some (ran p n r i t ts)
 running_first p n r i t ts e h = rw (e, h) refl
 
@@ -81,14 +120,31 @@ pub stands_ran : (s : Program) (p n : ℕ) (r : RankWorld) (i : ℕ) (node : Nod
 stands_ran s p n r i node e h d =
     running_first p n r i d.statement (left_at s node.next) e (h ∙ d.left) ∙ ap Some (sym (does_ran s p n r i node.next node.action d.statement d.does))
 
+abbrev recorded_at : ℕ → Change → Option RankRecord
+recorded_at i c = Some (record { from = i; change = c })
+
+first_recorded : (p n : ℕ) (r : RankWorld) (i : ℕ) (t : Tree) (ts : List (ℕ × Tree)) → r.activity ≡ Running → r.rest ≡ (i, t) ∷ ts → local_record p n r ≡ Some (record { from = i; change = change_of p n r.vars t })
+first_recorded p n r i t ts e h = rw (e, h) refl
+
+-- what it records
+pub stands_recorded : (s : Program) (p n : ℕ) (v : RankView) (node : Node) → v.activity ≡ Running → Stands (left_at s) v.node node
+    → local_record p n (rank_of s v) ≡ Some (plan_record v (plan_of node.action node.next v.vars p n))
+stands_recorded s p n v node e d =
+    first_recorded p n (rank_of s v) v.node d.statement (left_at s node.next) e d.left
+    ∙ ap (recorded_at v.node) (sym (does_recorded (left_at s) p n v.vars v.node node.next (left_at s node.next) node.action d.statement d.does))
+
+-- a plan of what a rank shows
+abbrev pub IsPlanned : Program → ℕ → ℕ → RankView → LocalPlan → Type 0
+IsPlanned s p n v plan = (local p n (rank_of s v) ≡ Some (planned s (rank_of s v) v.node plan)) × (local_record p n (rank_of s v) ≡ Some (plan_record v plan))
+
 -- the same of what a rank shows
 pub view_ran : (s : Program) (p n : ℕ) (u v : RankView) (vars : List ℤ) (plan : LocalPlan) (node : Node) → u ≡ v → u.activity ≡ Running → Stands (left_at s) u.node node → vars ≡ u.vars
-    → plan ≡ plan_of node.action node.next vars p n → local p n (rank_of s v) ≡ Some (planned s (rank_of s v) v.node plan)
+    → plan ≡ plan_of node.action node.next vars p n → IsPlanned s p n v plan
 view_ran s p n u v vars plan node same running d held is =
-    let facts : local p n (rank_of s u) ≡ Some (planned s (rank_of s u) u.node (plan_of node.action node.next u.vars p n)) = stands_ran s p n (rank_of s u) u.node node running refl d in
-    let planned_is : plan_of node.action node.next u.vars p n ≡ plan = ap (λ vs. plan_of node.action node.next vs p n) (sym held) ∙ sym is in
-    let at_u : local p n (rank_of s u) ≡ Some (planned s (rank_of s u) u.node plan) = facts ∙ ap (λ q. Some (planned s (rank_of s u) u.node q)) planned_is in
-    ap (λ w. local p n (rank_of s w)) (sym same) ∙ at_u ∙ ap (λ (w : RankView). Some (planned s (rank_of s w) w.node plan)) same
+    let of_node : LocalPlan = plan_of node.action node.next u.vars p n in
+    let facts : IsPlanned s p n u of_node = (stands_ran s p n (rank_of s u) u.node node running refl d, stands_recorded s p n u node running d) in
+    let planned_is : of_node ≡ plan = ap (λ vs. plan_of node.action node.next vs p n) (sym held) ∙ sym is in
+    subst₂ (IsPlanned s p n) same planned_is facts
 
 -- a running rank with nothing left
 pub ended_none : (p n : ℕ) (r : RankWorld) → r.activity ≡ Running → r.rest ≡ [] → local p n r ≡ None

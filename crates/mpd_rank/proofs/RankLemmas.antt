@@ -8,7 +8,9 @@ use Rattle.mpd_model.specs.World.{RankWorld}
 use Rattle.mpd_code.specs.Left.{left_at}
 use Rattle.mpd_rank.specs.declared.change.RankRecord.{RankRecord}
 use Rattle.mpd_rank.specs.Views.{RankView, rank_of}
-use Rattle.mpd_rank.specs.Undone.{held, assigned_change, undone_parts, undone_rank}
+use Rattle.mpd_rank.specs.Undone.{held, assigned_change, put_back, undone_rank}
+use Rattle.mpd_rank.specs.Records.{plan_record}
+use Rattle.mpd_rank.specs.declared.plan.LocalPlan.TheVariants.{Assign}
 
 write_held : (vars : List ℤ) (c : ℕ) (x : ℤ) → write_cell (held vars (Some (c, x))) (slice_set vars c x) ≡ vars
 write_held [] c x = refl
@@ -24,20 +26,18 @@ pub written_back : (vars : List ℤ) (w : Option (ℕ × ℤ)) → write_cell (h
 written_back vars None = refl
 written_back vars (Some w) = write_held vars w.0 w.1
 
-undone_assigned : (r : RankWorld) (o : Option (ℕ × ℤ)) → undone_parts r (assigned_change o) ≡ record r { vars = write_cell o r.vars; activity = Running }
-undone_assigned r None = refl
-undone_assigned r (Some w) = refl
+undone_assigned : (s : Program) (r : RankWorld) (from : ℕ) (o : Option (ℕ × ℤ)) → put_back s r from (assigned_change o) ≡ record r { rest = left_at s from; vars = write_cell o r.vars; activity = Running }
+undone_assigned s r from None = refl
+undone_assigned s r from (Some w) = refl
 
 -- an assignment that is taken back is the rank before
 pub assign_back : (s : Program) (v w : RankView) (d : RankRecord) (c next : ℕ) (x : ℤ) → w ≡ record v { node = next; vars = slice_set v.vars c x }
-    → d.from ≡ v.node → d.change ≡ assigned_change (held v.vars (Some (c, x))) → v.activity ≡ Running → undone_rank s (rank_of s w) d ≡ rank_of s v
-assign_back s v w d c next x done from change running =
+    → d ≡ plan_record v (Assign c x next) → v.activity ≡ Running → undone_rank s (rank_of s w) d ≡ rank_of s v
+assign_back s v w d c next x done recorded running =
     let before : RankWorld = record (rank_of s v) { rest = left_at s next; vars = slice_set v.vars c x } in
-    let parts : undone_parts before (assigned_change (held v.vars (Some (c, x)))) ≡ record before { vars = write_cell (held v.vars (Some (c, x))) before.vars; activity = Running } =
-    undone_assigned before (held v.vars (Some (c, x))) in
     ap (λ (u : RankView). undone_rank s (rank_of s u) d) done
-    ∙ (λ i. record (undone_parts before (change i)) { rest = left_at s (from i) })
-    ∙ (λ i. record (parts i) { rest = left_at s v.node })
+    ∙ ap (undone_rank s before) recorded
+    ∙ undone_assigned s before v.node (held v.vars (Some (c, x)))
     ∙ (λ i. record (rank_of s v) { vars = written_back v.vars (Some (c, x)) i; activity = sym running i })
 
 pub ruleset committing = (written_back, assign_back)

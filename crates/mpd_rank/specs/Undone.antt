@@ -20,16 +20,15 @@ abbrev pub assigned_change : Option (ℕ × ℤ) → Change
 assigned_change None = Moved
 assigned_change (Some w) = Assigned w.0 w.1
 
--- what else a step did than moving the rank is taken back
-abbrev pub undone_parts : RankWorld → Change → RankWorld
-undone_parts r Moved = record r { activity = Running }
-undone_parts r (Assigned cell was) = record r { vars = slice_set r.vars cell was; activity = Running }
-undone_parts r Printed = record r { out = take (length r.out - 1) r.out; activity = Running }
-undone_parts r Issued = record r { calls = take (length r.calls - 1) r.calls; activity = Running }
-undone_parts r Trapped = record r { activity = Running }
-undone_parts r Matched = r
-undone_parts r (Woke was) = record r { vars = write_cell was r.vars; activity = Blocked }
+-- A rank before a step, given where it stood and what else the step did. A wake moves no rank, and a match is of none.
+abbrev pub put_back : Program → RankWorld → ℕ → Change → RankWorld
+put_back s r from Moved = record r { rest = left_at s from; activity = Running }
+put_back s r from (Assigned cell was) = record r { rest = left_at s from; vars = slice_set r.vars cell was; activity = Running }
+put_back s r from Printed = record r { rest = left_at s from; out = take (length r.out - 1) r.out; activity = Running }
+put_back s r from Issued = record r { rest = left_at s from; calls = take (length r.calls - 1) r.calls; activity = Running }
+put_back s r from Trapped = record r { rest = left_at s from; activity = Running }
+put_back s r from Matched = r
+put_back s r from (Woke was) = record r { vars = write_cell was r.vars; activity = Blocked }
 
--- a rank before a step, given what the step's record says
 abbrev pub undone_rank : Program → RankWorld → RankRecord → RankWorld
-undone_rank s r done = record (undone_parts r done.change) { rest = left_at s done.from }
+undone_rank s r done = put_back s r done.from done.change

@@ -1,5 +1,5 @@
 -- What a rank shows to contracts, part by part, and the rank of the world that it is.
-use Rattle.std.specs.Prelude.{ℕ, ◌≤◌, ℤ, List, Option, refl}
+use Rattle.std.specs.Prelude.{ℕ, min, ℤ, List, Option, refl}
 use Rattle.std.specs.Coded.{Coded, code_by, coded×, coded_ℕ, coded_ℤ, coded_list, coded_option}
 use Rattle.mpd_model.specs.declared.call.Activity.{Activity}
 use Rattle.mpd_model.specs.declared.call.Call.{Call}
@@ -33,7 +33,6 @@ rank_view_code =
 abbrev pub rank_of : Program → RankView → RankWorld
 rank_of p v = record { rest = left_at p v.node; vars = v.vars; handles = v.handles; calls = v.calls; out = v.out; activity = v.activity }
 
--- there is room for what one step adds
-pub record HasRoom (v : RankView) : Type 0 where
-  pub calls : 1 ≤ v.call_room
-  pub out : 1 ≤ v.out_room
+-- for how many steps, whatever they are, room is kept: a step adds a call at most, or a value that is printed
+abbrev pub step_room : RankView → ℕ
+step_room v = min v.call_room v.out_room

@@ -14,7 +14,8 @@ pub enum Change {
     Woke(Option<(usize, i64)>),
 }
 
-/// What takes the step of a rank back: the node before it, and what else it did. It holds no collection.
+/// What takes the step of a rank back: the node before it, which is 0 at a wake, since that moves no rank, and what else it did.
+/// It holds no collection.
 #[derive(Clone, Copy, Debug, PartialEq, Eq)]
 pub struct RankRecord {
     pub from: usize,

@@ -47,9 +47,10 @@ impl RankState {
     ghost use Rattle.mpd_model.specs.World.{start_rank};
     ghost use Rattle.mpd_model.specs.Outcomes.{has_ended, first_number};
     ghost use Rattle.mpd_model.specs.Next.{local, woken_rank, write_cell};
-    ghost use Rattle.mpd_rank.specs.Views.{rank_of, HasRoom};
+    ghost use Rattle.mpd_rank.specs.Views.{rank_of, step_room};
     ghost use Rattle.mpd_rank.specs.Plans.{planned};
     ghost use Rattle.mpd_rank.specs.Undone.{undone_rank, held, assigned_change};
+    ghost use Rattle.mpd_rank.specs.Records.{local_record, plan_record, wake_record};
 
     /// A rank before its first step, with the whole body to run.
     pub fn start(alloc: Global, code: &Code) -> Result<RankState, AllocError>
@@ -65,9 +66,11 @@ impl RankState {
         })
     }
 
-    /// Keeps room for one step. An `Err` is want of memory; what the rank is stays as it was.
+    /// Keeps room for one step, whatever it is. An `Err` is want of memory, and comes only where no such room was kept; what the
+    /// rank is stays as it was.
     pub fn keep_room(&mut self) -> Result<(), AllocError>
-        ensures room { OnOk result (HasRoom self.new) }
+        ensures room { OnOk result (1 ≤ step_room self.new) }
+        ensures memory { OnErr result (step_room self.old ≡ 0) }
         ensures same { self.new ≡ record self.old { call_room = self.new.call_room; out_room = self.new.out_room } }
     {
         self.calls.reserve(1)?;
@@ -80,7 +83,8 @@ impl RankState {
     pub fn plan_local(&self, code: &Code, rank: usize, size: usize) -> Option<LocalPlan>
         requires rank { rank < 2 ^ 63 }
         requires size { size < 2 ^ 63 }
-        ensures { local rank size (rank_of code.now.program self.now) ≡ option_map (planned code.now.program (rank_of code.now.program self.now) self.now.node) result }
+        ensures step { local rank size (rank_of code.now.program self.now) ≡ option_map (planned code.now.program (rank_of code.now.program self.now) self.now.node) result }
+        ensures recorded { local_record rank size (rank_of code.now.program self.now) ≡ option_map (plan_record self.now) result }
     {
         match self.activity {
             Activity::Running => {}
@@ -107,8 +111,7 @@ impl RankState {
     /// Writes a cell, and goes on at a node.
     fn assign(&mut self, cell: usize, value: i64, next: usize) -> RankRecord
         ensures after { self.new ≡ record self.old { node = next; vars = slice_set self.old.vars cell value } }
-        ensures from { result.from ≡ self.old.node }
-        ensures change { result.change ≡ assigned_change (held self.old.vars (Some (cell, value))) }
+        ensures recorded { result ≡ plan_record self.old (LocalPlan.Assign cell value next) }
     {
         let from = self.node;
         self.node = next;
@@ -119,11 +122,12 @@ impl RankState {
         RankRecord { from, change }
     }
 
-    /// Does what was planned, in the room that was kept. It takes no memory.
+    /// Does what was planned, in the room that was kept, so it can't be refused memory. It answers what takes the step back.
     #[tactic(auto, using(crate::proofs::RankLemmas::committing))]
     pub fn commit(&mut self, plan: LocalPlan) -> RankRecord
-        requires room { HasRoom self.old }
+        requires room { 1 ≤ step_room self.old }
         ensures after { (p : Program) → rank_of p self.new ≡ planned p (rank_of p self.old) self.old.node plan }
+        ensures recorded { result ≡ plan_record self.old plan }
         ensures back { (p : Program) → self.old.activity ≡ Activity.Running → undone_rank p (rank_of p self.new) result ≡ rank_of p self.old }
     {
         let from = self.node;
@@ -155,7 +159,8 @@ impl RankState {
         RankRecord { from, change }
     }
 
-    /// Runs the next statement on rank `rank` of `size`, where the rank is running and has one. An `Err` is want of memory.
+    /// Runs the next statement on rank `rank` of `size`, where the rank is running and has one. An `Err` is want of memory, and
+    /// comes only where no room was kept.
     #[tactic(auto, using(crate::proofs::PlanLemmas::steps_running))]
     pub fn step(
         &mut self,
@@ -166,10 +171,12 @@ impl RankState {
         requires rank { rank < 2 ^ 63 }
         requires size { size < 2 ^ 63 }
         ensures step { IfOk result (λ done. local rank size (rank_of code.now.program self.old) ≡ option_map (λ _. rank_of code.now.program self.new) done) }
+        ensures recorded { IfOk result (λ done. done ≡ local_record rank size (rank_of code.now.program self.old)) }
         ensures back { IfOk result (λ done. IfSome done (λ r. undone_rank code.now.program (rank_of code.now.program self.new) r ≡ rank_of code.now.program self.old)) }
-        ensures none { IfOk result (λ done. IfNone done (self.new ≡ self.old)) }
+        ensures none { IfOk result (λ done. IfNone done (rank_of code.now.program self.new ≡ rank_of code.now.program self.old)) }
         ensures err { OnErr result (rank_of code.now.program self.new ≡ rank_of code.now.program self.old) }
         ensures enabled { OnErr result (IsSome (local rank size (rank_of code.now.program self.old))) }
+        ensures memory { OnErr result (step_room self.old ≡ 0) }
     {
         let Some(plan) = self.plan_local(code, rank, size) else {
             return Ok(None);
@@ -178,25 +185,25 @@ impl RankState {
         Ok(Some(self.commit(plan)))
     }
 
-    /// Goes on after a wake, with a cell written. It takes no memory.
+    /// Goes on after a wake, with a cell written. It can't be refused memory. It answers what takes the wake back.
     #[tactic(auto, using(crate::proofs::RankLemmas::committing))]
     pub fn complete(&mut self, write: Option<(usize, i64)>) -> RankRecord
         ensures after { (p : Program) → rank_of p self.new ≡ woken_rank write (rank_of p self.old) }
+        ensures recorded { result ≡ wake_record self.old.vars write }
         ensures back { (p : Program) → self.old.activity ≡ Activity.Blocked → undone_rank p (rank_of p self.new) result ≡ rank_of p self.old }
     {
         let was = self.write(write);
         self.activity = Activity::Running;
         RankRecord {
-            from: self.node,
+            from: 0,
             change: Change::Woke(was),
         }
     }
 
-    /// Takes a step of the rank back. It takes no memory.
+    /// Takes a step of the rank back. It can't be refused memory.
     pub fn restore(&mut self, done: RankRecord)
         ensures { (p : Program) → rank_of p self.new ≡ undone_rank p (rank_of p self.old) done }
     {
-        self.node = done.from;
         match done.change {
             Change::Matched => return,
             Change::Woke(was) => {
@@ -215,6 +222,7 @@ impl RankState {
             }
             Change::Moved | Change::Trapped => {}
         }
+        self.node = done.from;
         self.activity = Activity::Running;
     }
 
