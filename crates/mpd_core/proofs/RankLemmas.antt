@@ -1,5 +1,5 @@
 -- One of the ranks is changed, and changed back.
-use Rattle.std.proofs.Common.{◌≡◌, ◌&&◌, ℕ, zero, suc, ◌<◌, ◌+◌, List, [], ◌∷◌, ◌++◌, length, get_or, set, drop, add-one, Option, Some, None, refl, sym, ap, ◌∙◌, arith, slice_get, slice_set, IfSome, replicate, Bool, true, false}
+use Rattle.std.proofs.Common.{◌≡◌, ◌&&◌, ℕ, zero, suc, ◌<◌, ◌+◌, List, [], ◌∷◌, ◌++◌, length, get_or, set, drop, add-one, ℤ, Option, Some, None, refl, sym, ap, ◌∙◌, arith, slice_get, slice_set, IfSome, replicate, Bool, true, false}
 use Rattle.std.proofs.lemmas.Option.{slice_get_read}
 use Rattle.std.proofs.lemmas.List.{map-set, map-append, length-map, replicate-append-replicate}
 use Rattle.std.specs.Option.{option_map}
@@ -11,7 +11,11 @@ use Rattle.mpd_model.specs.declared.call.Activity.{Activity}
 use Rattle.mpd_model.specs.declared.call.Activity.TheVariants.{Running, Blocked, Trapped}
 use Rattle.mpd_model.specs.Program.{Program}
 use Rattle.mpd_rank.specs.Views.{RankView, rank_of}
+use Rattle.mpd_rank.specs.declared.change.RankRecord.{RankRecord}
+use Rattle.mpd_rank.specs.Records.{local_record, wake_record}
 use Rattle.mpd_core.specs.Views.{ranks_in}
+use Rattle.mpd_core.specs.Records.{local_record_at, wake_record_at}
+use Rattle.mpd_core.proofs.RoomLemmas.{no_room_at}
 
 pub length-ranks_in : (s : Program) (vs : List RankView) → length (ranks_in s vs) ≡ length vs
 length-ranks_in s vs = length-map vs (rank_of s)
@@ -27,6 +31,13 @@ rank_read s vs n p v e h read = slice_get-ranks_in s vs p ∙ ap (option_map (ra
 -- a step of the rank that was read is the step there
 pub local_read : (s : Program) (vs : List RankView) (n p : ℕ) (v : RankView) → n ≡ length vs → p < n → v ≡ get_or vs p v → local_at (ranks_in s vs) p ≡ local p n (rank_of s v)
 local_read s vs n p v e h read = rw (rank_read s vs n p v e h read) (ap (λ m. local p m (rank_of s v)) (length-ranks_in s vs ∙ sym e))
+
+-- so is its record
+pub recorded_read : (s : Program) (vs : List RankView) (n p : ℕ) (v : RankView) (made : Option RankRecord) → n ≡ length vs → p < n → v ≡ get_or vs p v → made ≡ local_record p n (rank_of s v) → made ≡ local_record_at (ranks_in s vs) p
+recorded_read s vs n p v made e h read is = is ∙ rw (rank_read s vs n p v e h read) (ap (λ m. local_record p m (rank_of s v)) (e ∙ sym (length-ranks_in s vs)))
+
+pub woke_read : (s : Program) (vs : List RankView) (n p : ℕ) (v : RankView) (write : Option (ℕ × ℤ)) (done : RankRecord) → n ≡ length vs → p < n → v ≡ get_or vs p v → done ≡ wake_record v.vars write → wake_record_at (ranks_in s vs) p write ≡ Some done
+woke_read s vs n p v write done e h read is = rw (rank_read s vs n p v e h read) (ap Some (sym is))
 
 pub local_none : (s : Program) (vs : List RankView) (n p : ℕ) (v : RankView) → n ≡ length vs → p < n → v ≡ get_or vs p v → local p n (rank_of s v) ≡ None → local_in (ranks_in s vs) p ≡ None
 local_none s vs n p v e h read step = ap (option_map (slice_set (ranks_in s vs) p)) (local_read s vs n p v e h read ∙ step)
@@ -120,7 +131,7 @@ ended_not s (u ∷ vs) (suc i) v total h read e so_far = ended_not s vs i v tota
 
 pub ruleset ending = (ended_on, ended_not)
 
-pub ruleset at_rank = (local_read, local_none, local_written, put_back_read, update_read, stays_read, wake_back)
+pub ruleset at_rank = (local_read, recorded_read, woke_read, no_room_at, local_none, local_written, put_back_read, update_read, stays_read, wake_back)
 
 pub ruleset reading = (slice_get-ranks_in)
 
