@@ -1,14 +1,10 @@
 -- How many statements there are.
 use Rattle.std.proofs.Common.{ℕ, zero, suc, ◌<◌, ◌≤◌, List, [], ◌∷◌, length, get_or, arith}
-use Rattle.mpd_model.specs.Tree.{Tree, print, send, recv, branch, assign, check, repeat, block_of, statements, statements_in}
+use Rattle.mpd_model.specs.Tree.{Tree, simple, branch, repeat, block_of, statements, statements_in}
 
 pub statements_pos : (t : Tree) → 0 < statements t
-statements_pos (print e) = omega arith
-statements_pos (send value to tag) = omega arith
-statements_pos (recv into from tag) = omega arith
+statements_pos (simple s) = omega arith
 statements_pos (branch c a b) = omega arith
-statements_pos (assign into e) = omega arith
-statements_pos (check e) = omega arith
 statements_pos (repeat c a) = omega arith
 
 -- no statement of a block has more statements than the block

@@ -2,7 +2,7 @@
 use Rattle.std.proofs.Common.{◌≡◌, ℕ, ◌+◌, List, [], ◌∷◌, ◌++◌, length, reverse, refl, sym, ap, ◌∙◌, arith, length-append, append_assoc}
 use Rattle.std.proofs.lemmas.List.{reverse-append}
 use Rattle.mpd_model.specs.Term.{Term}
-use Rattle.mpd_model.specs.Tree.{Tree, print, send, recv, branch, assign, check, repeat, Block, no_more, then_more, block_of, statements, statements_in}
+use Rattle.mpd_model.specs.Tree.{Tree, simple, branch, repeat, Block, no_more, then_more, block_of, statements, statements_in}
 use Rattle.mpd_code.specs.declared.node.Node.{Node}
 use Rattle.mpd_code.specs.declared.node.Action.TheVariants.{Branch, Repeat}
 use Rattle.mpd_code.specs.Lowered.{entry, lowered, lowered_one}
@@ -16,13 +16,9 @@ mutual
       omega (arith, length-append (lowered_one n t (entry (n + statements t) b next)) (lowered (n + statements t) b next), length-lowered_one n t (entry (n + statements t) b next), length-lowered (n + statements t) b next)
 
   pub length-lowered_one : (n : ℕ) (t : Tree) (next : ℕ) → length (lowered_one n t next) ≡ statements t
-  length-lowered_one n (print e) next = refl
-  length-lowered_one n (send value to tag) next = refl
-  length-lowered_one n (recv into from tag) next = refl
+  length-lowered_one n (simple s) next = refl
   length-lowered_one n (branch c a b) next =
       omega (arith, length-append (lowered (n + 1) a next) (lowered (n + 1 + statements_in a) b next), length-lowered (n + 1) a next, length-lowered (n + 1 + statements_in a) b next)
-  length-lowered_one n (assign into e) next = refl
-  length-lowered_one n (check e) next = refl
   length-lowered_one n (repeat c a) next = omega (arith, length-lowered (n + 1) a n)
 
 -- an `if`: its node, then those of its blocks

@@ -1,7 +1,7 @@
 -- Each node of a lowered program stands for what is left to run at its number.
 use Rattle.std.proofs.Common.{◌≡◌, ℕ, zero, suc, ◌<◌, ◌≤◌, ◌+◌, List, [], ◌∷◌, ◌++◌, length, get_or, refl, sym, subst, ap, ◌∙◌, arith, length-append, append_assoc, append-nil}
 use Rattle.std.proofs.lemmas.List.{get_or-append-add, get_or_past}
-use Rattle.mpd_model.specs.Tree.{Tree, print, send, recv, branch, assign, check, repeat, Block, no_more, then_more, block_of, trees, trees_of_block, statements, statements_in, numbered}
+use Rattle.mpd_model.specs.Tree.{Tree, simple, branch, repeat, Block, no_more, then_more, block_of, trees, trees_of_block, statements, statements_in, numbered}
 use Rattle.mpd_model.specs.Program.{Program}
 use Rattle.mpd_code.specs.declared.node.Node.{Node}
 use Rattle.mpd_code.specs.Left.{lefts, lefts_of, left_at}
@@ -41,24 +41,16 @@ mutual
       omega (arith, length-append (lefts_of n t (numbered (n + statements t) (trees b) ++ behind)) (lefts (n + statements t) b behind), length-lefts_of n t (numbered (n + statements t) (trees b) ++ behind), length-lefts (n + statements t) b behind)
 
   length-lefts_of : (n : ℕ) (t : Tree) (behind : List (ℕ × Tree)) → length (lefts_of n t behind) ≡ statements t
-  length-lefts_of n (print e) behind = refl
-  length-lefts_of n (send value to tag) behind = refl
-  length-lefts_of n (recv into from tag) behind = refl
+  length-lefts_of n (simple s) behind = refl
   length-lefts_of n (branch c a b) behind =
       omega (arith, length-append (lefts (n + 1) a behind) (lefts (n + 1 + statements_in a) b behind), length-lefts (n + 1) a behind, length-lefts (n + 1 + statements_in a) b behind)
-  length-lefts_of n (assign into e) behind = refl
-  length-lefts_of n (check e) behind = refl
   length-lefts_of n (repeat c a) behind = omega (arith, length-lefts (n + 1) a ((n, repeat c a) ∷ behind))
 
 -- ---- where a block begins, all of it is left
 
 left_first : (at : ℕ → List (ℕ × Tree)) (n : ℕ) (t : Tree) (behind : List (ℕ × Tree)) → Agrees at n (lefts_of n t behind) → at n ≡ (n, t) ∷ behind
-left_first at n (print e) behind h = h.0
-left_first at n (send value to tag) behind h = h.0
-left_first at n (recv into from tag) behind h = h.0
+left_first at n (simple s) behind h = h.0
 left_first at n (branch c a b) behind h = h.0
-left_first at n (assign into e) behind h = h.0
-left_first at n (check e) behind h = h.0
 left_first at n (repeat c a) behind h = h.0
 
 entered : (at : ℕ → List (ℕ × Tree)) (n : ℕ) (b : Block) (behind : List (ℕ × Tree)) (next : ℕ) → at next ≡ behind → Agrees at n (lefts n b behind) → at (entry n b next) ≡ numbered n (trees b) ++ behind
@@ -99,11 +91,7 @@ mutual
       all_stand-append at n (n + statements t) (lowered_one n t (entry (n + statements t) b next)) (lowered (n + statements t) b next) (omega (arith, length-lowered_one n t (entry (n + statements t) b next))) first (all_stand at (n + statements t) b behind next e more)
 
   one_stands : (at : ℕ → List (ℕ × Tree)) (n : ℕ) (t : Tree) (behind : List (ℕ × Tree)) (next : ℕ) → at next ≡ behind → Agrees at n (lefts_of n t behind) → AllStand at n (lowered_one n t next)
-  one_stands at n (print v) behind next e h = (record { statement = print v; left = h.0 ∙ ap (λ l. (n, print v) ∷ l) (sym e); does = refl }, tt)
-  one_stands at n (send value to tag) behind next e h = (record { statement = send value to tag; left = h.0 ∙ ap (λ l. (n, send value to tag) ∷ l) (sym e); does = refl }, tt)
-  one_stands at n (recv into from tag) behind next e h = (record { statement = recv into from tag; left = h.0 ∙ ap (λ l. (n, recv into from tag) ∷ l) (sym e); does = refl }, tt)
-  one_stands at n (assign into v) behind next e h = (record { statement = assign into v; left = h.0 ∙ ap (λ l. (n, assign into v) ∷ l) (sym e); does = refl }, tt)
-  one_stands at n (check v) behind next e h = (record { statement = check v; left = h.0 ∙ ap (λ l. (n, check v) ∷ l) (sym e); does = refl }, tt)
+  one_stands at n (simple s) behind next e h = (record { statement = simple s; left = h.0 ∙ ap (λ l. (n, simple s) ∷ l) (sym e); does = refl }, tt)
   one_stands at n (branch c a b) behind next e h =
       let first : Agrees at (n + 1) (lefts (n + 1) a behind) = agrees_first at (n + 1) (lefts (n + 1) a behind) (lefts (n + 1 + statements_in a) b behind) h.1 in
       let second : Agrees at (n + 1 + statements_in a) (lefts (n + 1 + statements_in a) b behind) = agrees_second at (n + 1) (n + 1 + statements_in a) (lefts (n + 1) a behind) (lefts (n + 1 + statements_in a) b behind) (omega (arith, length-lefts (n + 1) a behind)) h.1 in (
@@ -159,12 +147,8 @@ pub node_count : (p : Program) (nodes : List Node) → nodes ≡ lowered 0 (bloc
 node_count p nodes e = ap length e ∙ length-lowered 0 (block_of p.body) (statements_in (block_of p.body))
 
 head_left : (n : ℕ) (t : Tree) (behind : List (ℕ × Tree)) (more : List (List (ℕ × Tree))) → get_or (lefts_of n t behind ++ more) 0 [] ≡ (n, t) ∷ behind
-head_left n (print e) behind more = refl
-head_left n (send value to tag) behind more = refl
-head_left n (recv into from tag) behind more = refl
+head_left n (simple s) behind more = refl
 head_left n (branch c a b) behind more = refl
-head_left n (assign into e) behind more = refl
-head_left n (check e) behind more = refl
 head_left n (repeat c a) behind more = refl
 
 whole_left : (ts : List Tree) → get_or (lefts 0 (block_of ts) []) 0 [] ≡ numbered 0 ts

@@ -1,6 +1,6 @@
 -- What is left to run at each statement of a program, the statement itself first.
 use Rattle.std.specs.Prelude.{ℕ, ◌+◌, List, [], ◌∷◌, ◌++◌, slice_index_or}
-use Rattle.mpd_model.specs.Tree.{Tree, print, send, recv, branch, assign, check, repeat, Block, no_more, then_more, block_of, trees, statements, statements_in, numbered}
+use Rattle.mpd_model.specs.Tree.{Tree, simple, branch, repeat, Block, no_more, then_more, block_of, trees, statements, statements_in, numbered}
 use Rattle.mpd_model.specs.Program.{Program}
 
 -- A block is numbered from a number on, and `behind` is what is left behind it. Behind the body of a `while` stands the `while` again.
@@ -10,12 +10,8 @@ abbrev mutual
   lefts n (then_more t b) behind = lefts_of n t (numbered (n + statements t) (trees b) ++ behind) ++ lefts (n + statements t) b behind
 
   pub lefts_of : ℕ → Tree → List (ℕ × Tree) → List (List (ℕ × Tree))
-  lefts_of n (print e) behind = ((n, print e) ∷ behind) ∷ []
-  lefts_of n (send value to tag) behind = ((n, send value to tag) ∷ behind) ∷ []
-  lefts_of n (recv into from tag) behind = ((n, recv into from tag) ∷ behind) ∷ []
+  lefts_of n (simple s) behind = ((n, simple s) ∷ behind) ∷ []
   lefts_of n (branch c a b) behind = ((n, branch c a b) ∷ behind) ∷ (lefts (n + 1) a behind ++ lefts (n + 1 + statements_in a) b behind)
-  lefts_of n (assign into e) behind = ((n, assign into e) ∷ behind) ∷ []
-  lefts_of n (check e) behind = ((n, check e) ∷ behind) ∷ []
   lefts_of n (repeat c a) behind = ((n, repeat c a) ∷ behind) ∷ lefts (n + 1) a ((n, repeat c a) ∷ behind)
 
 -- what is left to run at the statement of a number; nothing past the last

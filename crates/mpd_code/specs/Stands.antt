@@ -1,17 +1,13 @@
 -- What a node stands for, given what is left to run at each number.
 use Rattle.std.specs.Prelude.{◌≡◌, ℕ, ◌+◌, List, ◌∷◌, ◌++◌}
-use Rattle.mpd_model.specs.Tree.{Tree, print, send, recv, branch, assign, check, repeat, Block, trees, statements_in, numbered}
+use Rattle.mpd_model.specs.Tree.{Tree, simple, branch, repeat, Block, trees, statements_in, numbered}
 use Rattle.mpd_code.specs.declared.node.Node.{Node}
 use Rattle.mpd_code.specs.declared.node.Action.{Action}
-use Rattle.mpd_code.specs.declared.node.Action.TheVariants.{Print, Send, Recv, Assign, Assert, Branch, Repeat}
+use Rattle.mpd_code.specs.declared.node.Action.TheVariants.{Simple, Branch, Repeat}
 
 -- The action is that of a statement, which has number n and `tail` behind it. Its blocks are left where its numbers point.
 abbrev pub Does : (ℕ → List (ℕ × Tree)) → ℕ → List (ℕ × Tree) → Action → Tree → Type 0
-Does at n tail (Print e) t = t ≡ print e
-Does at n tail (Send value to tag) t = t ≡ send value to tag
-Does at n tail (Recv into from tag) t = t ≡ recv into from tag
-Does at n tail (Assign into e) t = t ≡ assign into e
-Does at n tail (Assert e) t = t ≡ check e
+Does at n tail (Simple s) t = t ≡ simple s
 Does at n tail (Branch c first second) t =
     (a : Block) × ((b : Block) × ((t ≡ branch c a b)
     × ((at first ≡ numbered (n + 1) (trees a) ++ tail)

@@ -3,6 +3,7 @@
 
 mod cells;
 pub mod code;
+pub mod env;
 pub mod eval;
 pub mod lower;
 pub mod node;

@@ -23,7 +23,7 @@ fn count(stmt: &Stmt) -> usize
     match &stmt.node {
         StmtNode::If(_, first, second) => count_all(first) + count_all(second) + 1,
         StmtNode::While(_, body) => count_all(body) + 1,
-        _ => 1,
+        StmtNode::Simple(_) => 1,
     }
 }
 
@@ -57,11 +57,7 @@ fn place(nodes: &mut Vec<Node>, stmt: Stmt, next: usize) -> Result<(), AllocErro
     ensures { OnOk result (nodes.new.items ≡ nodes.old.items ++ lowered_one (length nodes.old.items) stmt next) }
 {
     match stmt.node {
-        StmtNode::Print(value) => add(nodes, Action::Print(value), next),
-        StmtNode::Send { value, to, tag } => add(nodes, Action::Send { value, to, tag }, next),
-        StmtNode::Recv { into, from, tag } => add(nodes, Action::Recv { into, from, tag }, next),
-        StmtNode::Assign(into, value) => add(nodes, Action::Assign(into, value), next),
-        StmtNode::Assert(test) => add(nodes, Action::Assert(test), next),
+        StmtNode::Simple(simple) => add(nodes, Action::Simple(simple), next),
         StmtNode::If(test, first, second) => place_branch(nodes, test, first, second, next),
         StmtNode::While(test, body) => place_repeat(nodes, test, body, next),
     }

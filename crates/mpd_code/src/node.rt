@@ -1,7 +1,7 @@
 //! The nodes of lowered code.
 
 use mpd_model::expr::Expr;
-use mpd_model::stmt::Target;
+use mpd_model::stmt::Simple;
 
 /// A statement without the statements inside it.
 #[derive(Debug, Drop)]
@@ -14,21 +14,8 @@ pub struct Node {
 /// What a node does.
 #[derive(Debug, Drop)]
 pub enum Action {
-    Print(Expr),
-    /// A blocking standard send (MPI 4.0, section 3.2.1).
-    Send {
-        value: Expr,
-        to: Expr,
-        tag: Expr,
-    },
-    /// A blocking receive (MPI 4.0, section 3.2.4).
-    Recv {
-        into: Target,
-        from: Expr,
-        tag: Expr,
-    },
-    Assign(Target, Expr),
-    Assert(Expr),
+    /// A statement that holds no other.
+    Simple(Simple),
     /// An `if`: the nodes where its first and its second block begin. An empty block begins at what follows.
     Branch {
         test: Expr,

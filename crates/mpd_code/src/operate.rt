@@ -1,7 +1,7 @@
 //! What operators make of values.
 
 ghost use Rattle.std.specs.Prelude.{◌≡◌, ◌+ℤ◌, ◌-ℤ◌, ◌*ℤ◌, neg_ℤ, int_div, int_rem};
-ghost use Rattle.mpd_model.specs.Term.{truth, bounded, divided, combined, altered, decided};
+ghost use Rattle.mpd_model.specs.Term.{truth, bounded, division, combined, altered, decided};
 
 use mpd_model::call::Trap;
 use mpd_model::expr::{BinaryOp, UnaryOp};
@@ -36,7 +36,7 @@ fn multiply(left: i64, right: i64) -> Result<i64, Trap>
 
 /// The quotient, rounded toward zero.
 fn divide(left: i64, right: i64) -> Result<i64, Trap>
-    ensures { result ≡ divided left right (int_div left right) }
+    ensures { result ≡ division left right (int_div left right) }
 {
     if right == 0 {
         return Err(Trap::ZeroDivisor);
@@ -46,7 +46,7 @@ fn divide(left: i64, right: i64) -> Result<i64, Trap>
 
 /// The remainder, with the sign of the dividend.
 fn remainder(left: i64, right: i64) -> Result<i64, Trap>
-    ensures { result ≡ divided left right (int_rem left right) }
+    ensures { result ≡ division left right (int_rem left right) }
 {
     if right == 0 {
         return Err(Trap::ZeroDivisor);

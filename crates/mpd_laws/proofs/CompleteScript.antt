@@ -17,10 +17,10 @@ use Rattle.mpd_model.specs.Input.{Input, Outcome, Parser, and_then, start_of, to
 use Rattle.mpd_model.specs.Program.{Program, IsLegal}
 use Rattle.mpd_model.specs.Tokens.{Spot, tokens}
 use Rattle.mpd_model.specs.Tree.{Tree, block_of}
-use Rattle.mpd_model.specs.Written.{WrittenTree, prints, sends, receives, assigns, asserts, repeats, chooses, chooses_else, WrittenBody, ended, follows, WrittenDecls, none, declares, declares_array, variable_of, WrittenScript, script}
+use Rattle.mpd_model.specs.Written.{WrittenTree, WrittenBody, ended, follows, WrittenDecls, none, declares, declares_array, variable_of, WrittenScript, script}
 use Rattle.mpd_laws.proofs.Cells.{variables_in-more, handles_in-more}
 use Rattle.mpd_laws.proofs.Complete.{bind_to, expect_at}
-use Rattle.mpd_laws.proofs.CompleteStatements.{target_first, body_complete}
+use Rattle.mpd_laws.proofs.CompleteStatements.{tree_opens, body_complete}
 
 -- the input with other tokens next and other declarations
 abbrev has : List Spot → List Declared → Input → Input
@@ -184,25 +184,8 @@ header_has mpd v a r c b ss rest version count es i hm hv one ha hr hc low high 
 
 -- ---- the body
 
-mark_differs : (t : Token) (k : Mark) → t ≡ Is k → same_mark k m.Var ≡ false → is_mark m.Var t ≡ false
-mark_differs t k e h = ap (is_mark m.Var) e ∙ h
-
-assigned_is_no_decl : (s : Spot) (v xs us : List Spot) → v ≡ s ∷ xs → s.token ≡ Name → is_mark m.Var (token_of (v ++ us)) ≡ false
-assigned_is_no_decl s v xs us e h = rw e (ap (is_mark m.Var) h)
-
 tree_is_no_decl : (ds : List Declared) (ss : List Spot) (t : Tree) (ls : List ℕ) → WrittenTree ds ss t ls → (r : List Spot) → is_mark m.Var (token_of (ss ++ r)) ≡ false
-unfolding same_mark
-tree_is_no_decl ds _ _ _ (prints k end e v h1 h2 h3) r = mark_differs k.token m.Print h1 refl
-tree_is_no_decl ds _ _ _ (sends k to tag end a b c v d g h1 h2 h3 h4 h5 h6 h7) r = mark_differs k.token m.Send h1 refl
-tree_is_no_decl ds _ _ _ (assigns equal end n e into v h1 h2 h3 h4) r =
-    let f = target_first ds n into h1 in
-    let same : n ++ equal ∷ e ++ end ∷ [] ++ r ≡ n ++ (equal ∷ (e ++ (end ∷ r))) = simp append_assoc in
-    rw same (assigned_is_no_decl f.0 n f.1 (equal ∷ (e ++ (end ∷ r))) f.2 f.3)
-tree_is_no_decl ds _ _ _ (asserts k end e v h1 h2 h3) r = mark_differs k.token m.Assert h1 refl
-tree_is_no_decl ds _ _ _ (repeats k e a v x ms h1 h2 b) r = mark_differs k.token m.While h1 refl
-tree_is_no_decl ds _ _ _ (receives k x tag end n a b v d g h1 h2 h3 h4 h5 h6 h7) r = mark_differs k.token m.Recv h1 refl
-tree_is_no_decl ds _ _ _ (chooses k e a v x ms h1 h2 b) r = mark_differs k.token m.If h1 refl
-tree_is_no_decl ds _ _ _ (chooses_else k w e a b v x y ms ns h1 h2 f h3 g) r = mark_differs k.token m.If h1 refl
+tree_is_no_decl ds ss t ls w r = (tree_opens ds ss t ls w r).no_decl
 
 body_is_no_decl : (ds : List Declared) (ss : List Spot) (ts : List Tree) (ls : List ℕ) → WrittenBody ds ss ts ls → is_mark m.Var (token_of ss) ≡ false
 body_is_no_decl ds _ _ _ ended = refl

@@ -1,185 +1,25 @@
 -- What is written as statements, within the limits, is read.
-use Rattle.std.proofs.Common.{◌≡◌, ℕ, zero, suc, ◌+◌, ◌-◌, ◌<◌, ◌≤◌, Bool, true, false, Option, None, Some, is_some, List, [], ◌∷◌, ◌++◌, length, length-append, append-nil, nat_lt, Ok, refl, ap, sym, ◌∙◌, append_assoc, arith}
-use Rattle.std.proofs.lemmas.Bool.Decides.{nat_tests}
-use denote.Enum.Bare.{true_same}
-use Rattle.mpd_model.specs.contracts.token.Mark.{the_type}
+use Rattle.std.proofs.Common.{◌≡◌, ℕ, zero, suc, ◌+◌, ◌-◌, ◌<◌, ◌≤◌, Bool, true, false, Option, None, Some, List, [], ◌∷◌, ◌++◌, length, length-append, append-nil, Ok, refl, ap, sym, subst, ◌∙◌, append_assoc, arith}
 use Rattle.mpd_model.specs.declared.place.DeclKind.TheVariants.{Variable}
-use Rattle.mpd_model.specs.declared.place.Place.{Place}
 use Rattle.mpd_model.specs.declared.slot.Slot.{Slot}
+use Rattle.mpd_model.specs.declared.stmt.Simple.{Simple}
+use Rattle.mpd_model.specs.declared.stmt.Simple.TheVariants as st
 use Rattle.mpd_model.specs.declared.token.Mark.{Mark}
 use Rattle.mpd_model.specs.declared.token.Mark.TheVariants as m
 use Rattle.mpd_model.specs.declared.token.Token.{Token}
 use Rattle.mpd_model.specs.declared.token.Token.TheVariants.{Name, Is, End}
 use Rattle.mpd_model.specs.Declaration.{Declared}
-use Rattle.mpd_model.specs.Fits.{cost, Stops, on, Gives, blocks, blocks_in, index_cost, dearest, dearest_block, dearest_body}
-use Rattle.mpd_model.specs.Grammar.{expression, begun, closes, place_of_slot, printing, sending, outside, target, named_by, named, assigning, asserting, receiving, otherwise, choosing, repeating, stmt_by, stmt, stmts, body, block}
-use Rattle.mpd_model.specs.Input.{Input, Outcome, Parser, and_then, token, token_of, spelling, next, expect, seek, slot_in, sees, is_mark, same_mark, count, line_of, after}
+use Rattle.mpd_model.specs.Fits.{cost, Stops, on, Gives, blocks, blocks_in, dearest_part, dearest, dearest_block, dearest_body}
+use Rattle.mpd_model.specs.Grammar.{begun, closes, place_of_slot, outside, fill, Form, form_of, formed, by_form, HasForm, all_formed, assigning, otherwise, choosing, repeating, stmt_by, stmt, stmts, body, block}
+use Rattle.mpd_model.specs.Input.{Input, Outcome, Parser, and_then, token, token_of, next, slot_in, sees, is_mark, same_mark, line_of, after}
+use Rattle.mpd_model.specs.Parts.{Part, of_mark, of_target, parts_of, mark_hole, term_hole, Contents, filled}
 use Rattle.mpd_model.specs.Term.{Term, Target}
 use Rattle.mpd_model.specs.Tokens.{Spot}
-use Rattle.mpd_model.specs.Tree.{Tree, print, send, recv, branch, assign, check, repeat, no_more, block_of}
-use Rattle.mpd_model.specs.Written.{Written, WrittenTarget, whole, part, WrittenTree, prints, sends, receives, assigns, asserts, repeats, chooses, chooses_else, WrittenBlock, braces, WrittenBody, ended, follows}
-use Rattle.mpd_laws.proofs.Complete.{bind_to, expect_at, mark_stops, expr_complete}
+use Rattle.mpd_model.specs.Tree.{Tree, simple, branch, repeat, no_more, block_of}
+use Rattle.mpd_model.specs.Written.{Written, WrittenTarget, whole, part, by_mark, by_target, WrittenParts, then_part, WrittenTree, simply, repeats, chooses, chooses_else, WrittenBlock, braces, WrittenBody, ended, follows}
+use Rattle.mpd_laws.proofs.Complete.{bind_to, mark_stops}
+use Rattle.mpd_laws.proofs.CompleteParts.{expect_on, begun_on, expression_on, target_begins, seek_on, mark_seen, fill_on}
 use Rattle.mpd_laws.proofs.Turns.{some_token}
-
--- ---- steps on a known list of tokens
-
-expect_on : (wanted : Mark) (s : Spot) (rest : List Spot) (ls : List ℕ) (b : ℕ) (i : Input) → s.token ≡ Is wanted → expect wanted (on (s ∷ rest) ls b i) ≡ Ok (tt, on rest ls b i)
-expect_on wanted s rest ls b i e = expect_at wanted s rest b (on rest ls b i) e
-
-begun_on : (k : Spot) (rest : List Spot) (ls : List ℕ) (b : ℕ) (i : Input) → length ls < 4096 → begun (on (k ∷ rest) ls b i) ≡ Ok (tt, on rest (ls ++ k.line ∷ []) b i)
-unfolding count next
-begun_on k rest ls b i h =
-    let few : nat_lt (length ls) 4096 ≡ true = grind (arith, nat_tests) in
-    rw few refl
-
-expression_on : (e rest : List Spot) (t : Term) (ls : List ℕ) (b : ℕ) (i : Input) → Written i.decls 5 e t → cost e ≤ 64 → Stops 5 rest
-    → expression (on (e ++ rest) ls b i) ≡ Ok (t, on rest ls (64 - cost e) i)
-expression_on e rest t ls b i w le s = expr_complete 65 5 e rest t (on (e ++ rest) ls 64 i) w refl s le (omega arith)
-
--- ---- places that stand in no expression
-
--- A place that is written begins with its name; what is behind that is read.
-record Begins (i : Input) (ss : List Spot) (t : Target) : Type 0 where
-  first : Spot
-  behind : List Spot
-  is : ss ≡ first ∷ behind
-  token : first.token ≡ Name
-  slot : Slot
-  declared : slot_in i.decls first.text ≡ Some slot
-  kind : slot.kind ≡ Variable
-  reads : (ls : List ℕ) (b : ℕ) (rest : List Spot) → Gives (outside (place_of_slot slot) slot.size (on (behind ++ rest) ls b i)) t rest ls i
-
-whole_on : (p : Place) (o : Option ℕ) (rest : List Spot) (ls : List ℕ) (b : ℕ) (i : Input) → is_some o ≡ false
-    → outside p o (on rest ls b i) ≡ Ok (record { place = p; index = None }, on rest ls b i)
-whole_on p None rest ls b i h = refl
-whole_on p (Some n) rest ls b i h = absurd (cc)
-
-part_on : (p : Place) (o : Option ℕ) (a z : Spot) (ss rest : List Spot) (t : Term) (ls : List ℕ) (b : ℕ) (i : Input) → is_some o ≡ true
-    → a.token ≡ Is m.SquareOpen → Written i.decls 5 ss t → z.token ≡ Is m.SquareClose → cost ss ≤ 64
-    → outside p o (on (a ∷ (ss ++ (z ∷ rest))) ls b i) ≡ Ok (record { place = p; index = Some t }, on rest ls (64 - cost ss) i)
-part_on p None a z ss rest t ls b i h ha w hz le = absurd (cc)
-part_on p (Some n) a z ss rest t ls b i h ha w hz le =
-    bind_to _ _ _ _ (expect_on m.SquareOpen a (ss ++ (z ∷ rest)) ls b i ha)
-    (bind_to _ _ _ _ (expression_on ss (z ∷ rest) t ls b i w le (mark_stops 5 z rest (Is m.SquareClose) hz refl))
-    (bind_to _ _ _ _ (expect_on m.SquareClose z rest ls (64 - cost ss) i hz) refl))
-
-same_place : (p q : Place) (o : Option ℕ) (t : Target) (ss us rest : List Spot) (ls : List ℕ) (b : ℕ) (i : Input) → p ≡ q → ss ≡ us
-    → Gives (outside q o (on us ls b i)) t rest ls i → Gives (outside p o (on ss ls b i)) t rest ls i
-same_place p q o t ss us rest ls b i d e g = rw (d, e) g
-
-target_begins : (i : Input) (ss : List Spot) (t : Target) (w : WrittenTarget i.decls ss t) → index_cost i.decls ss t w ≤ 64 → Begins i ss t
-target_begins i _ _ (whole s p n) le = record {
-  first = s;
-  behind = [];
-  is = refl;
-  token = n.token;
-  slot = n.slot;
-  declared = n.declared;
-  kind = n.kind;
-  reads = λ ls b rest. same_place (place_of_slot n.slot) p n.slot.size (record { place = p; index = None }) rest rest rest ls b i n.place refl
-      (record { left = b; is = whole_on p n.slot.size rest ls b i n.size });
-}
-target_begins i _ _ (part s a z ss p t n ha w hz) le = record {
-  first = s;
-  behind = a ∷ ss ++ z ∷ [];
-  is = refl;
-  token = n.token;
-  slot = n.slot;
-  declared = n.declared;
-  kind = n.kind;
-  reads = λ ls b rest. same_place (place_of_slot n.slot) p n.slot.size (record { place = p; index = Some t }) _ (a ∷ (ss ++ (z ∷ rest))) rest ls b i n.place (simp append_assoc)
-      (record { left = 64 - cost ss; is = part_on p n.slot.size a z ss rest t ls b i n.size ha w hz le });
-}
-
-seek_on : (s : Spot) (slot : Slot) (rest : List Spot) (ls : List ℕ) (b : ℕ) (i : Input) → slot_in i.decls s.text ≡ Some slot → slot.kind ≡ Variable
-    → seek Variable (on (s ∷ rest) ls b i) ≡ Ok (slot, on (s ∷ rest) ls b i)
-unfolding seek spelling
-seek_on s slot rest ls b i d k = rw (d, k) refl
-
-target_on : (s : Spot) (slot : Slot) (ss rest : List Spot) (t : Target) (ls : List ℕ) (b : ℕ) (i : Input) → slot_in i.decls s.text ≡ Some slot → slot.kind ≡ Variable
-    → Gives (outside (place_of_slot slot) slot.size (on ss ls b i)) t rest ls i → Gives (target (on (s ∷ ss) ls b i)) t rest ls i
-unfolding target next
-target_on s slot ss rest t ls b i d k g = record { left = g.left; is = bind_to _ _ _ _ (seek_on s slot ss ls b i d k) g.is }
-
-named_as : (s : Spot) (ss : List Spot) (ls : List ℕ) (b : ℕ) (i : Input) → s.token ≡ Name → named (on (s ∷ ss) ls b i) ≡ target (on (s ∷ ss) ls b i)
-unfolding named token
-named_as s ss ls b i e = ap (λ u. named_by u (on (s ∷ ss) ls b i)) e
-
-named_from : (s : Spot) (ss rest : List Spot) (t : Target) (ls : List ℕ) (b : ℕ) (i : Input) → s.token ≡ Name → Gives (target (on (s ∷ ss) ls b i)) t rest ls i
-    → Gives (named (on (s ∷ ss) ls b i)) t rest ls i
-named_from s ss rest t ls b i e g = record { left = g.left; is = named_as s ss ls b i e ∙ g.is }
-
-named_same : (ss us rest : List Spot) (t : Target) (ls : List ℕ) (b : ℕ) (i : Input) → ss ≡ us → Gives (named (on us ls b i)) t rest ls i → Gives (named (on ss ls b i)) t rest ls i
-named_same ss us rest t ls b i e g = rw e g
-
-named_on : (ss rest : List Spot) (t : Target) (ls : List ℕ) (b : ℕ) (i : Input) → Begins i ss t → Gives (named (on (ss ++ rest) ls b i)) t rest ls i
-named_on ss rest t ls b i x =
-    named_same (ss ++ rest) (x.first ∷ (x.behind ++ rest)) rest t ls b i (ap (λ r. r ++ rest) x.is)
-    (named_from x.first (x.behind ++ rest) rest t ls b i x.token (target_on x.first x.slot (x.behind ++ rest) rest t ls b i x.declared x.kind (x.reads ls b rest)))
-
--- ---- statements without blocks
-
-abbrev mark_ends : (s : Spot) (rest : List Spot) → s.token ≡ Is m.Semicolon → Stops 5 (s ∷ rest)
-mark_ends s rest e = mark_stops 5 s rest (Is m.Semicolon) e refl
-
-printing_read : (e : List Spot) (end : Spot) (rest : List Spot) (t : Term) (ls : List ℕ) (b : ℕ) (i : Input)
-    → Written i.decls 5 e t → cost e ≤ 64 → end.token ≡ Is m.Semicolon → Gives (printing (on (e ++ end ∷ rest) ls b i)) (print t) rest ls i
-unfolding printing
-printing_read e end rest t ls b i w le h = record {
-  left = 64 - cost e;
-  is = bind_to _ _ _ _ (expression_on e (end ∷ rest) t ls b i w le (mark_ends end rest h)) (bind_to _ _ _ _ (expect_on m.Semicolon end rest ls (64 - cost e) i h) refl);
-}
-
-sending_read : (a : List Spot) (to : Spot) (b : List Spot) (tag : Spot) (c : List Spot) (end : Spot) (rest : List Spot) (value dest mark : Term) (ls : List ℕ) (n : ℕ) (i : Input)
-    → Written i.decls 5 a value → cost a ≤ 64 → to.token ≡ Is m.To → Written i.decls 5 b dest → cost b ≤ 64 → tag.token ≡ Is m.Tag
-    → Written i.decls 5 c mark → cost c ≤ 64 → end.token ≡ Is m.Semicolon
-    → Gives (sending (on (a ++ (to ∷ (b ++ (tag ∷ (c ++ (end ∷ rest)))))) ls n i)) (send value dest mark) rest ls i
-unfolding sending
-sending_read a to b tag c end rest value dest mark ls n i wa la eto wb lb etag wc lc eend = record {
-  left = 64 - cost c;
-  is = bind_to _ _ _ _ (expression_on a (to ∷ (b ++ (tag ∷ (c ++ (end ∷ rest))))) value ls n i wa la (mark_stops 5 to (b ++ (tag ∷ (c ++ (end ∷ rest)))) (Is m.To) eto refl))
-      (bind_to _ _ _ _ (expect_on m.To to (b ++ (tag ∷ (c ++ (end ∷ rest)))) ls (64 - cost a) i eto)
-      (bind_to _ _ _ _ (expression_on b (tag ∷ (c ++ (end ∷ rest))) dest ls (64 - cost a) i wb lb (mark_stops 5 tag (c ++ (end ∷ rest)) (Is m.Tag) etag refl))
-      (bind_to _ _ _ _ (expect_on m.Tag tag (c ++ (end ∷ rest)) ls (64 - cost b) i etag)
-      (bind_to _ _ _ _ (expression_on c (end ∷ rest) mark ls (64 - cost b) i wc lc (mark_ends end rest eend))
-      (bind_to _ _ _ _ (expect_on m.Semicolon end rest ls (64 - cost c) i eend) refl)))));
-}
-
-asserting_read : (e : List Spot) (end : Spot) (rest : List Spot) (t : Term) (ls : List ℕ) (b : ℕ) (i : Input)
-    → Written i.decls 5 e t → cost e ≤ 64 → end.token ≡ Is m.Semicolon → Gives (asserting (on (e ++ end ∷ rest) ls b i)) (check t) rest ls i
-unfolding asserting
-asserting_read e end rest t ls b i w le h = record {
-  left = 64 - cost e;
-  is = bind_to _ _ _ _ (expression_on e (end ∷ rest) t ls b i w le (mark_ends end rest h)) (bind_to _ _ _ _ (expect_on m.Semicolon end rest ls (64 - cost e) i h) refl);
-}
-
-receiving_read : (v : List Spot) («from» : Spot) (a : List Spot) (tag : Spot) (c : List Spot) (end : Spot) (rest : List Spot) (into : Target) (source mark : Term) (ls : List ℕ) (n : ℕ) (i : Input)
-    → Begins i v into → «from».token ≡ Is m.From → Written i.decls 5 a source → cost a ≤ 64 → tag.token ≡ Is m.Tag
-    → Written i.decls 5 c mark → cost c ≤ 64 → end.token ≡ Is m.Semicolon
-    → Gives (receiving (on (v ++ («from» ∷ (a ++ (tag ∷ (c ++ (end ∷ rest)))))) ls n i)) (recv into source mark) rest ls i
-unfolding receiving
-receiving_read v «from» a tag c end rest into source mark ls n i begins efrom wa la etag wc lc eend =
-    let g = named_on v («from» ∷ (a ++ (tag ∷ (c ++ (end ∷ rest))))) into ls n i begins in
-    record {
-      left = 64 - cost c;
-      is = bind_to _ _ _ _ g.is
-          (bind_to _ _ _ _ (expect_on m.From «from» (a ++ (tag ∷ (c ++ (end ∷ rest)))) ls g.left i efrom)
-          (bind_to _ _ _ _ (expression_on a (tag ∷ (c ++ (end ∷ rest))) source ls g.left i wa la (mark_stops 5 tag (c ++ (end ∷ rest)) (Is m.Tag) etag refl))
-          (bind_to _ _ _ _ (expect_on m.Tag tag (c ++ (end ∷ rest)) ls (64 - cost a) i etag)
-          (bind_to _ _ _ _ (expression_on c (end ∷ rest) mark ls (64 - cost a) i wc lc (mark_ends end rest eend))
-          (bind_to _ _ _ _ (expect_on m.Semicolon end rest ls (64 - cost c) i eend) refl)))));
-    }
-
-assigning_read : (slot : Slot) (xs : List Spot) (equal : Spot) (e : List Spot) (end : Spot) (rest : List Spot) (into : Target) (t : Term) (ls : List ℕ) (b : ℕ) (i : Input)
-    → Gives (outside (place_of_slot slot) slot.size (on xs ls b i)) into (equal ∷ (e ++ (end ∷ rest))) ls i → equal.token ≡ Is m.Assign → Written i.decls 5 e t → cost e ≤ 64
-    → end.token ≡ Is m.Semicolon → Gives (assigning slot (on xs ls b i)) (assign into t) rest ls i
-unfolding assigning
-assigning_read slot xs equal e end rest into t ls b i g h w le z = record {
-  left = 64 - cost e;
-  is = bind_to _ _ _ _ g.is
-      (bind_to _ _ _ _ (expect_on m.Assign equal (e ++ (end ∷ rest)) ls g.left i h)
-      (bind_to _ _ _ _ (expression_on e (end ∷ rest) t ls g.left i w le (mark_ends end rest z)) (bind_to _ _ _ _ (expect_on m.Semicolon end rest ls (64 - cost e) i z) refl)));
-}
 
 -- ---- the first token of a statement
 
@@ -216,10 +56,6 @@ otherwise_none : (B : Parser (List Tree)) (rest : List Spot) (ls : List ℕ) (b 
 unfolding otherwise sees after token
 otherwise_none B rest ls b i h = rw h refl
 
-else_seen : (w : Spot) → w.token ≡ Is m.Else → is_mark m.Else w.token ≡ true
-unfolding same_mark
-else_seen w e = ap (is_mark m.Else) e ∙ true_same the_type m.Else m.Else refl
-
 otherwise_some : (B : Parser (List Tree)) (w : Spot) (rest : List Spot) (ls : List ℕ) (b : ℕ) (i : Input) → is_mark m.Else w.token ≡ true
     → otherwise B (on (w ∷ rest) ls b i) ≡ B (on rest ls b i)
 unfolding otherwise sees after token next
@@ -255,47 +91,67 @@ same_gives : {A : Type 0} (p : Parser A) (a : A) (ss us rest : List Spot) (ls ms
     → Gives (p (on us ls b i)) a rest ms i → Gives (p (on ss ls b i)) a rest ns i
 same_gives p a ss us rest ls ms ns b i d e g = rw (d, ← e) g
 
-prints_reads : (i : Input) (n : ℕ) (k end : Spot) (e : List Spot) (t : Term) → k.token ≡ Is m.Print → Written i.decls 5 e t → end.token ≡ Is m.Semicolon → cost e ≤ 64
-    → TreeReads i n (k ∷ e ++ end ∷ []) (print t) (k.line ∷ [])
-prints_reads i n k end e t hk w he le b ls rest few last =
-    same_gives (stmt (block n)) (print t) _ (k ∷ (e ++ (end ∷ rest))) rest ls _ _ b i (simp append_assoc) refl
-    (begins_read (block n) printing k (e ++ (end ∷ rest)) rest (print t) ls _ b (Is m.Print) i hk refl (omega arith)
-    (printing_read e end rest t (ls ++ k.line ∷ []) b i w le he))
+-- a statement by its word
+form_reads : (i : Input) (n : ℕ) (k : Mark) (f : Form k) (c : Contents f.holes) (ss : List Spot) (end : Spot) → ((B : Parser (List Tree)) → stmt_by B (Is k) ≡ by_form (Some f))
+    → (w : WrittenParts i.decls ss (of_mark k ∷ filled f.holes c)) → dearest_part i.decls ss (of_mark k ∷ filled f.holes c) w ≤ 64 → end.token ≡ Is m.Semicolon
+    → TreeReads i n (ss ++ end ∷ []) (simple (f.made c)) (line_of ss ∷ [])
+form_reads i n k f c _ end by (then_part _ rs _ _ (by_mark s _ h) w) le he b ls rest few last =
+    same_gives (stmt (block n)) (simple (f.made c)) _ (s ∷ (rs ++ (end ∷ rest))) rest ls _ _ b i (simp append_assoc) refl
+    (begins_read (block n) (formed f) s (rs ++ (end ∷ rest)) rest (simple (f.made c)) ls _ b (Is k) i h (by (block n)) (omega arith)
+    (fill_on f.holes (λ d. simple (f.made d)) c rs end rest (ls ++ s.line ∷ []) b i f.clear w (omega arith) he))
 
-sends_reads : (i : Input) (n : ℕ) (k to tag end : Spot) (a b c : List Spot) (value dest mark : Term)
-    → k.token ≡ Is m.Send → Written i.decls 5 a value → to.token ≡ Is m.To → Written i.decls 5 b dest → tag.token ≡ Is m.Tag → Written i.decls 5 c mark → end.token ≡ Is m.Semicolon
-    → cost a ≤ 64 → cost b ≤ 64 → cost c ≤ 64 → TreeReads i n (k ∷ a ++ to ∷ b ++ tag ∷ c ++ end ∷ []) (send value dest mark) (k.line ∷ [])
-sends_reads i n k to tag end a b c value dest mark hk wa hto wb htag wc he la lb lc o ls rest few last =
-    same_gives (stmt (block n)) (send value dest mark) _ (k ∷ (a ++ (to ∷ (b ++ (tag ∷ (c ++ (end ∷ rest))))))) rest ls _ _ o i (simp append_assoc) refl
-    (begins_read (block n) sending k (a ++ (to ∷ (b ++ (tag ∷ (c ++ (end ∷ rest)))))) rest (send value dest mark) ls _ o (Is m.Send) i hk refl (omega arith)
-    (sending_read a to b tag c end rest value dest mark (ls ++ k.line ∷ []) o i wa la hto wb lb htag wc lc he))
+-- where a word has a form, that reads the statement
+stmt_by_form : (B : Parser (List Tree)) (k : Mark) (f : Form k) → form_of k ≡ Some f → stmt_by B (Is k) ≡ by_form (Some f)
+stmt_by_form B m.If f h = absurd (cc)
+stmt_by_form B m.While f h = absurd (cc)
+stmt_by_form B m.Waitany f h = absurd (cc)
+stmt_by_form B k f h = ap by_form h
 
-receives_reads : (i : Input) (n : ℕ) (k «from» tag end : Spot) (v a c : List Spot) (into : Target) (source mark : Term)
-    → k.token ≡ Is m.Recv → Begins i v into → «from».token ≡ Is m.From → Written i.decls 5 a source → tag.token ≡ Is m.Tag → Written i.decls 5 c mark → end.token ≡ Is m.Semicolon
-    → cost a ≤ 64 → cost c ≤ 64 → TreeReads i n (k ∷ v ++ «from» ∷ a ++ tag ∷ c ++ end ∷ []) (recv into source mark) (k.line ∷ [])
-receives_reads i n k «from» tag end v a c into source mark hk begins hf wa htag wc he la lc o ls rest few last =
-    same_gives (stmt (block n)) (recv into source mark) _ (k ∷ (v ++ («from» ∷ (a ++ (tag ∷ (c ++ (end ∷ rest))))))) rest ls _ _ o i (simp append_assoc) refl
-    (begins_read (block n) receiving k (v ++ («from» ∷ (a ++ (tag ∷ (c ++ (end ∷ rest)))))) rest (recv into source mark) ls _ o (Is m.Recv) i hk refl (omega arith)
-    (receiving_read v «from» a tag c end rest into source mark (ls ++ k.line ∷ []) o i begins hf wa la htag wc lc he))
+assigning_read : (slot : Slot) (xs us rest : List Spot) (t : Target) (e : Term) (ls : List ℕ) (b : ℕ) (i : Input) → Gives (outside (place_of_slot slot) slot.size (on xs ls b i)) t us ls i
+    → ((c : ℕ) → Gives (fill (mark_hole m.Assign ∷ term_hole ∷ []) (λ c. simple (st.Assign (record { into = t; value = c.0 }))) (on us ls c i)) (simple (st.Assign (record { into = t; value = e }))) rest ls i)
+    → Gives (assigning slot (on xs ls b i)) (simple (st.Assign (record { into = t; value = e }))) rest ls i
+unfolding assigning
+assigning_read slot xs us rest t e ls b i g f =
+    let h = f g.left in
+    record { left = h.left; is = bind_to _ _ _ _ g.is h.is }
 
-asserts_reads : (i : Input) (n : ℕ) (k end : Spot) (e : List Spot) (t : Term) → k.token ≡ Is m.Assert → Written i.decls 5 e t → end.token ≡ Is m.Semicolon → cost e ≤ 64
-    → TreeReads i n (k ∷ e ++ end ∷ []) (check t) (k.line ∷ [])
-asserts_reads i n k end e t hk w he le b ls rest few last =
-    same_gives (stmt (block n)) (check t) _ (k ∷ (e ++ (end ∷ rest))) rest ls _ _ b i (simp append_assoc) refl
-    (begins_read (block n) asserting k (e ++ (end ∷ rest)) rest (check t) ls _ b (Is m.Assert) i hk refl (omega arith)
-    (asserting_read e end rest t (ls ++ k.line ∷ []) b i w le he))
+assigned_tokens : (s : Spot) (v xs us : List Spot) (end : Spot) (rest : List Spot) → v ≡ s ∷ xs → v ++ us ++ end ∷ [] ++ rest ≡ s ∷ (xs ++ (us ++ (end ∷ rest)))
+assigned_tokens s v xs us end rest h = rw h (simp append_assoc)
 
-assigned_tokens : (s equal end : Spot) (v xs e rest : List Spot) → v ≡ s ∷ xs → v ++ equal ∷ e ++ end ∷ [] ++ rest ≡ s ∷ (xs ++ (equal ∷ (e ++ (end ∷ rest))))
-assigned_tokens s equal end v xs e rest h = rw h (simp append_assoc)
+assigned_line : (s : Spot) (v xs us : List Spot) → v ≡ s ∷ xs → s.line ≡ line_of (v ++ us)
+assigned_line s v xs us h = rw h refl
 
-assigns_reads : (i : Input) (n : ℕ) (equal end : Spot) (v e : List Spot) (into : Target) (t : Term) → Begins i v into → equal.token ≡ Is m.Assign → Written i.decls 5 e t
-    → end.token ≡ Is m.Semicolon → cost e ≤ 64 → TreeReads i n (v ++ equal ∷ e ++ end ∷ []) (assign into t) (line_of v ∷ [])
-assigns_reads i n equal end v e into t x h w he le b ls rest few last =
-    same_gives (stmt (block n)) (assign into t) _ (x.first ∷ (x.behind ++ (equal ∷ (e ++ (end ∷ rest))))) rest ls (ls ++ x.first.line ∷ []) _ b i
-    (assigned_tokens x.first equal end v x.behind e rest x.is) (ap (λ r. ls ++ line_of r ∷ []) (sym x.is))
-    (assignment_read (block n) x.first x.slot (x.behind ++ (equal ∷ (e ++ (end ∷ rest)))) rest (assign into t) ls (ls ++ x.first.line ∷ []) b i x.token x.declared x.kind (omega arith)
-    (assigning_read x.slot (x.behind ++ (equal ∷ (e ++ (end ∷ rest)))) equal e end rest into t (ls ++ x.first.line ∷ []) b i
-    (x.reads (ls ++ x.first.line ∷ []) b (equal ∷ (e ++ (end ∷ rest)))) h w le he))
+assigns_reads : (i : Input) (n : ℕ) (t : Target) (e : Term) (ss : List Spot) (end : Spot)
+    → (w : WrittenParts i.decls ss (parts_of (st.Assign (record { into = t; value = e })))) → dearest_part i.decls ss (parts_of (st.Assign (record { into = t; value = e }))) w ≤ 64 → end.token ≡ Is m.Semicolon
+    → TreeReads i n (ss ++ end ∷ []) (simple (st.Assign (record { into = t; value = e }))) (line_of ss ∷ [])
+assigns_reads i n t e _ end (then_part v rs _ _ (by_target _ _ names) w) le he b ls rest few last =
+    let x = target_begins i v t names (omega arith) in
+    let line : List ℕ = ls ++ x.first.line ∷ [] in
+    let made : Tree = simple (st.Assign (record { into = t; value = e })) in
+    same_gives (stmt (block n)) made _ (x.first ∷ (x.behind ++ (rs ++ (end ∷ rest)))) rest ls line _ b i
+    (assigned_tokens x.first v x.behind rs end rest x.is) (ap (λ r. ls ++ r ∷ []) (assigned_line x.first v x.behind rs x.is))
+    (assignment_read (block n) x.first x.slot (x.behind ++ (rs ++ (end ∷ rest))) rest made ls line b i x.token x.declared x.kind (omega arith)
+    (assigning_read x.slot (x.behind ++ (rs ++ (end ∷ rest))) (rs ++ (end ∷ rest)) rest t e line b i (x.reads line b (rs ++ (end ∷ rest)))
+    (λ c. fill_on (mark_hole m.Assign ∷ term_hole ∷ []) (λ d. simple (st.Assign (record { into = t; value = d.0 }))) (e, tt) rs end rest line c i (tt, tt) w (omega arith) he)))
+
+-- a statement that holds no other, as it is written
+abbrev SimpleReads : Input → ℕ → Simple → Type 0
+SimpleReads i n s = (ss : List Spot) (end : Spot) → (w : WrittenParts i.decls ss (parts_of s)) → dearest_part i.decls ss (parts_of s) w ≤ 64 → end.token ≡ Is m.Semicolon
+    → TreeReads i n (ss ++ end ∷ []) (simple s) (line_of ss ∷ [])
+
+-- the parts are those of the form
+abbrev PartsRead : Input → ℕ → Tree → List Part → Type 0
+PartsRead i n t ps = (ss : List Spot) (end : Spot) → (w : WrittenParts i.decls ss ps) → dearest_part i.decls ss ps w ≤ 64 → end.token ≡ Is m.Semicolon → TreeReads i n (ss ++ end ∷ []) t (line_of ss ∷ [])
+
+formed_reads : (i : Input) (n : ℕ) (s : Simple) → HasForm s → SimpleReads i n s
+formed_reads i n s x =
+    let formed : PartsRead i n (simple (x.form.made x.contents)) (of_mark x.mark ∷ filled x.form.holes x.contents) =
+    λ ss end w le he. form_reads i n x.mark x.form x.contents ss end (λ B. stmt_by_form B x.mark x.form x.found) w le he in
+    subst (SimpleReads i n) x.is (subst (PartsRead i n (simple (x.form.made x.contents))) (sym (x.form.parts x.contents)) formed)
+
+simple_reads : (i : Input) (n : ℕ) (s : Simple) → SimpleReads i n s
+simple_reads i n (st.Assign s) = assigns_reads i n s.into s.value
+simple_reads i n s = formed_reads i n s (all_formed s)
 
 repeats_reads : (i : Input) (n : ℕ) (k : Spot) (e a : List Spot) (t : Term) (x : List Tree) (ms : List ℕ)
     → k.token ≡ Is m.While → Written i.decls 5 e t → cost e ≤ 64 → ((r : List Spot) → Stops 5 (a ++ r)) → BlockReads i n a x ms
@@ -312,7 +168,7 @@ otherwise_nothing B rest ls b i h = record { left = b; is = otherwise_none B res
 
 otherwise_gives : (B : Parser (List Tree)) (w : Spot) (ss rest : List Spot) (y : List Tree) (ls ms : List ℕ) (b : ℕ) (i : Input) → w.token ≡ Is m.Else
     → Gives (B (on ss ls b i)) y rest ms i → Gives (otherwise B (on (w ∷ ss) ls b i)) y rest ms i
-otherwise_gives B w ss rest y ls ms b i h g = record { left = g.left; is = otherwise_some B w ss ls b i (else_seen w h) ∙ g.is }
+otherwise_gives B w ss rest y ls ms b i h g = record { left = g.left; is = otherwise_some B w ss ls b i (mark_seen m.Else w h) ∙ g.is }
 
 chooses_reads : (i : Input) (n : ℕ) (k : Spot) (e a : List Spot) (t : Term) (x : List Tree) (ms : List ℕ)
     → k.token ≡ Is m.If → Written i.decls 5 e t → cost e ≤ 64 → ((r : List Spot) → Stops 5 (a ++ r)) → BlockReads i n a x ms
@@ -370,59 +226,63 @@ block_stops ds _ _ _ (braces a z ss ts ls ha w hz) r = mark_stops 5 a (ss ++ z �
 
 -- ---- bodies
 
--- the token begins a statement
-record Opens (t : Token) : Type 0 where
-  goes_on : (inside : Bool) → closes inside t ≡ false
-  other : is_mark m.Else t ≡ false
+-- the token begins a statement: it closes no block, goes on with no `if`, and declares nothing
+pub record Opens (t : Token) : Type 0 where
+  pub goes_on : (inside : Bool) → closes inside t ≡ false
+  pub other : is_mark m.Else t ≡ false
+  pub no_decl : is_mark m.Var t ≡ false
 
-print_opens : Opens (Is m.Print)
+form_opens : (k : Mark) (f : Form k) → form_of k ≡ Some f → Opens (Is k)
 unfolding same_mark
-print_opens = record { goes_on = elim [ true ↦ refl | false ↦ refl ]; other = refl }
-
-send_opens : Opens (Is m.Send)
-unfolding same_mark
-send_opens = record { goes_on = elim [ true ↦ refl | false ↦ refl ]; other = refl }
-
-recv_opens : Opens (Is m.Recv)
-unfolding same_mark
-recv_opens = record { goes_on = elim [ true ↦ refl | false ↦ refl ]; other = refl }
+form_opens m.BraceClose f h = absurd (cc)
+form_opens m.Else f h = absurd (cc)
+form_opens m.Var f h = absurd (cc)
+form_opens k f h = record { goes_on = elim [ true ↦ refl | false ↦ refl ]; other = refl; no_decl = refl }
 
 if_opens : Opens (Is m.If)
 unfolding same_mark
-if_opens = record { goes_on = elim [ true ↦ refl | false ↦ refl ]; other = refl }
+if_opens = record { goes_on = elim [ true ↦ refl | false ↦ refl ]; other = refl; no_decl = refl }
 
 while_opens : Opens (Is m.While)
 unfolding same_mark
-while_opens = record { goes_on = elim [ true ↦ refl | false ↦ refl ]; other = refl }
-
-assert_opens : Opens (Is m.Assert)
-unfolding same_mark
-assert_opens = record { goes_on = elim [ true ↦ refl | false ↦ refl ]; other = refl }
+while_opens = record { goes_on = elim [ true ↦ refl | false ↦ refl ]; other = refl; no_decl = refl }
 
 name_opens : Opens Name
-name_opens = record { goes_on = elim [ true ↦ refl | false ↦ refl ]; other = refl }
+name_opens = record { goes_on = elim [ true ↦ refl | false ↦ refl ]; other = refl; no_decl = refl }
 
 opens_by : (t u : Token) → t ≡ u → Opens u → Opens t
 opens_by t u e x = rw e x
 
+tokens_open : (us vs : List Spot) → us ≡ vs → Opens (token_of vs) → Opens (token_of us)
+tokens_open us vs e x = rw e x
+
 -- a place begins with its name
-pub target_first : (ds : List Declared) (ss : List Spot) (t : Target) → WrittenTarget ds ss t → (s : Spot) × (xs : List Spot) × (ss ≡ s ∷ xs) × (s.token ≡ Name)
-target_first ds _ _ (whole s p n) = (s, [], refl, n.token)
-target_first ds _ _ (part s a z ss p t n ha w hz) = (s, a ∷ ss ++ z ∷ [], refl, n.token)
+target_opens : (ds : List Declared) (ss : List Spot) (t : Target) → WrittenTarget ds ss t → (us : List Spot) → Opens (token_of (ss ++ us))
+target_opens ds _ _ (whole s p n) us = opens_by s.token Name n.token name_opens
+target_opens ds _ _ (part s a z ss p t n ha w hz) us = opens_by s.token Name n.token name_opens
 
-assigned_opens : (s : Spot) (v xs us : List Spot) → v ≡ s ∷ xs → s.token ≡ Name → Opens (token_of (v ++ us))
-assigned_opens s v xs us e h = rw e (opens_by s.token Name h name_opens)
+mark_first_opens : (ds : List Declared) (k : Mark) (ps : List Part) (ss us : List Spot) → Opens (Is k) → WrittenParts ds ss (of_mark k ∷ ps) → Opens (token_of (ss ++ us))
+mark_first_opens ds k ps _ us x (then_part _ rs _ _ (by_mark s _ h) w) = opens_by s.token (Is k) h x
 
-tree_opens : (ds : List Declared) (ss : List Spot) (t : Tree) (ls : List ℕ) → WrittenTree ds ss t ls → (r : List Spot) → Opens (token_of (ss ++ r))
-tree_opens ds _ _ _ (prints k end e v h1 h2 h3) r = opens_by k.token (Is m.Print) h1 print_opens
-tree_opens ds _ _ _ (sends k to tag end a b c v d g h1 h2 h3 h4 h5 h6 h7) r = opens_by k.token (Is m.Send) h1 send_opens
-tree_opens ds _ _ _ (assigns equal end n e into v h1 h2 h3 h4) r =
-    let f = target_first ds n into h1 in
-    let same : n ++ equal ∷ e ++ end ∷ [] ++ r ≡ n ++ (equal ∷ (e ++ (end ∷ r))) = simp append_assoc in
-    rw same (assigned_opens f.0 n f.1 (equal ∷ (e ++ (end ∷ r))) f.2 f.3)
-tree_opens ds _ _ _ (asserts k end e v h1 h2 h3) r = opens_by k.token (Is m.Assert) h1 assert_opens
+target_first_opens : (ds : List Declared) (t : Target) (ps : List Part) (ss us : List Spot) → WrittenParts ds ss (of_target t ∷ ps) → Opens (token_of (ss ++ us))
+target_first_opens ds t ps _ us (then_part n rs _ _ (by_target _ _ h) w) = tokens_open (n ++ rs ++ us) (n ++ (rs ++ us)) (append_assoc n rs us) (target_opens ds n t h (rs ++ us))
+
+abbrev PartsOpen : List Declared → List Part → Type 0
+PartsOpen ds ps = (ss us : List Spot) → WrittenParts ds ss ps → Opens (token_of (ss ++ us))
+
+formed_opens : (ds : List Declared) (s : Simple) → HasForm s → PartsOpen ds (parts_of s)
+formed_opens ds s x =
+    let marked : PartsOpen ds (of_mark x.mark ∷ filled x.form.holes x.contents) =
+    λ ss us w. mark_first_opens ds x.mark (filled x.form.holes x.contents) ss us (form_opens x.mark x.form x.found) w in
+    subst (λ s. PartsOpen ds (parts_of s)) x.is (subst (PartsOpen ds) (sym (x.form.parts x.contents)) marked)
+
+simple_opens : (ds : List Declared) (s : Simple) → PartsOpen ds (parts_of s)
+simple_opens ds (st.Assign s) ss us w = target_first_opens ds s.into _ ss us w
+simple_opens ds s ss us w = formed_opens ds s (all_formed s) ss us w
+
+pub tree_opens : (ds : List Declared) (ss : List Spot) (t : Tree) (ls : List ℕ) → WrittenTree ds ss t ls → (r : List Spot) → Opens (token_of (ss ++ r))
+tree_opens ds _ _ _ (simply ss end s w h) r = tokens_open (ss ++ end ∷ [] ++ r) (ss ++ (end ∷ r)) (append_assoc ss (end ∷ []) r) (simple_opens ds s ss (end ∷ r) w)
 tree_opens ds _ _ _ (repeats k e a v x ms h1 h2 b) r = opens_by k.token (Is m.While) h1 while_opens
-tree_opens ds _ _ _ (receives k x tag end n a b v d g h1 h2 h3 h4 h5 h6 h7) r = opens_by k.token (Is m.Recv) h1 recv_opens
 tree_opens ds _ _ _ (chooses k e a v x ms h1 h2 b) r = opens_by k.token (Is m.If) h1 if_opens
 tree_opens ds _ _ _ (chooses_else k w e a b v x y ms ns h1 h2 f h3 g) r = opens_by k.token (Is m.If) h1 if_opens
 
@@ -489,14 +349,7 @@ under ds i = record i { decls = ds }
 
 mutual
   tree_read : (ds : List Declared) (i : Input) (ss : List Spot) (t : Tree) (ls : List ℕ) (w : WrittenTree ds ss t ls) (n : ℕ) → blocks t ≤ n → dearest ds ss t ls w ≤ 64 → TreeReads (under ds i) n ss t ls
-  tree_read ds i _ _ _ (prints k end e t hk w he) n deep dear = prints_reads (under ds i) n k end e t hk w he dear
-  tree_read ds i _ _ _ (sends k to tag end a b c value dest mark hk wa hto wb htag wc he) n deep dear =
-      sends_reads (under ds i) n k to tag end a b c value dest mark hk wa hto wb htag wc he (omega arith) (omega arith) (omega arith)
-  tree_read ds i _ _ _ (receives k x tag end v a c into source mark hk names hf wa htag wc he) n deep dear =
-      receives_reads (under ds i) n k x tag end v a c into source mark hk (target_begins (under ds i) v into names (omega arith)) hf wa htag wc he (omega arith) (omega arith)
-  tree_read ds i _ _ _ (assigns equal end v e into t names h w he) n deep dear =
-      assigns_reads (under ds i) n equal end v e into t (target_begins (under ds i) v into names (omega arith)) h w he (omega arith)
-  tree_read ds i _ _ _ (asserts k end e t hk w he) n deep dear = asserts_reads (under ds i) n k end e t hk w he dear
+  tree_read ds i _ _ _ (simply ss end s w h) n deep dear = simple_reads (under ds i) n s ss end w dear h
   tree_read ds i _ _ _ (repeats k e a t x ms hk w f) n deep dear =
       repeats_reads (under ds i) n k e a t x ms hk w (omega arith) (block_stops ds a x ms f) (block_read ds i a x ms f n (omega arith) (omega arith))
   tree_read ds i _ _ _ (chooses k e a t x ms hk w f) n deep dear =

@@ -3,15 +3,11 @@ use Rattle.std.proofs.Common.{◌≡◌, ℕ, List, length, length-append, arith
 use Rattle.mpd_model.specs.Declaration.{Declared}
 use Rattle.mpd_model.specs.Tokens.{Spot}
 use Rattle.mpd_model.specs.Tree.{Tree, block_of, statements, statements_in}
-use Rattle.mpd_model.specs.Written.{WrittenTree, prints, sends, receives, assigns, asserts, repeats, chooses, chooses_else, WrittenBlock, braces, WrittenBody, ended, follows}
+use Rattle.mpd_model.specs.Written.{WrittenTree, simply, repeats, chooses, chooses_else, WrittenBlock, braces, WrittenBody, ended, follows}
 
 mutual
   tree_lines : (ds : List Declared) (ss : List Spot) (t : Tree) (ls : List ℕ) → WrittenTree ds ss t ls → length ls ≡ statements t
-  tree_lines ds ss t ls (prints k end e v h1 h2 h3) = refl
-  tree_lines ds ss t ls (sends k to tag end a b c v d g h1 h2 h3 h4 h5 h6 h7) = refl
-  tree_lines ds ss t ls (receives k from tag end n a b v d g h1 h2 h3 h4 h5 h6 h7) = refl
-  tree_lines ds ss t ls (assigns equal end n e into v h1 h2 h3 h4) = refl
-  tree_lines ds ss t ls (asserts k end e v h1 h2 h3) = refl
+  tree_lines ds _ _ _ (simply ss end s w h) = refl
   tree_lines ds ss t ls (repeats k e a v x ms h1 h2 b) = omega (arith, block_lines ds a x ms b)
   tree_lines ds ss t ls (chooses k e a v x ms h1 h2 b) = omega (arith, block_lines ds a x ms b)
   tree_lines ds ss t ls (chooses_else k w e a b v x y ms ns h1 h2 f h3 g) =

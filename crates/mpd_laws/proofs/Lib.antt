@@ -1,4 +1,5 @@
 mod Complete
+mod CompleteParts
 mod CompleteStatements
 mod Counted
 mod Cuts
@@ -6,6 +7,7 @@ mod Ends
 mod Enough
 mod EnoughBlocks
 mod GoodSpots
+mod Marks
 mod NoMemory
 mod PrintScript
 mod PrintStatements
@@ -17,6 +19,7 @@ mod ReadTrees
 mod Runs
 mod Signs
 mod Sound
+mod SoundParts
 mod SoundStatements
 pub mod Cells
 pub mod CompleteScript

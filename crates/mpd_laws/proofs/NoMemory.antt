@@ -15,12 +15,14 @@ use Rattle.mpd_model.specs.declared.token.Mark.{Mark}
 use Rattle.mpd_model.specs.declared.token.Mark.TheVariants as m
 use Rattle.mpd_model.specs.declared.token.Token.{Token}
 use Rattle.mpd_model.specs.declared.token.Token.TheVariants.{Number, Name, Is, Bad}
-use Rattle.mpd_model.specs.Grammar.{atom_by, atom, bracket, indexed, place_inside, place_of_slot, rounds, signed, chain, joined, level, expr, turns, operator_at, expression, begun, closes, printing, sending, outside, target, named_by, named, assigning, asserting, receiving, otherwise, choosing, repeating, stmt_by, stmt, stmts, body, block, max_blocks, version_by, version, rank_count, ranks_of, ranks_by, ranks, natural, sized_at, size_by, sized, single, declaring, decl_by, decl, decls_from, decls, header, max_text, is_text, read_of, reading}
+use Rattle.mpd_model.specs.Grammar.{atom_by, atom, bracket, indexed, place_inside, place_of_slot, rounds, signed, chain, joined, level, expr, turns, operator_at, expression, begun, closes, outside, target, named_by, named, source_by, source, status_by, status, fill, Form, form_of, by_form, assigning, otherwise, choosing, repeating, stmt_by, stmt, stmts, body, block, max_blocks, version_by, version, rank_count, ranks_of, ranks_by, ranks, natural, sized_at, size_by, sized, single, declaring, decl_by, decl, decls_from, decls, header, max_text, is_text, read_of, reading}
 use Rattle.mpd_model.specs.Grammar as grammar
 use Rattle.mpd_model.specs.Input.{Input, Outcome, Parser, and_then, start_of, token, place, spelling, next, code_at, refusal, refuse, fail, advance, pure, expect, spend, count, seek, sought, same_kind, slot_in, fresh, is_known, add, fits, sees, after, max_budget, ◌>>=◌, ◌>>◌}
 use Rattle.mpd_model.specs.Program.{Program}
 use Rattle.mpd_model.specs.Term.{Term, op2}
-use Rattle.mpd_model.specs.Tree.{Tree}
+use Rattle.mpd_model.specs.declared.stmt.Simple.TheVariants as st
+use Rattle.mpd_model.specs.Parts.{Hole, mark_hole, term_hole, target_hole, source_hole, status_hole, Contents}
+use Rattle.mpd_model.specs.Tree.{Tree, simple}
 
 abbrev IsSure : {A : Type 0} → Result A ReadFault → Type 0
 IsSure (Ok p) = Unit {0}
@@ -135,17 +137,6 @@ expression_sure i = expr_sure 65 5 (record i { budget = max_budget })
 
 -- ---- statements
 
-printing_sure : AllSure printing
-unfolding printing
-printing_sure i = bind_sure (expression i) _ (expression_sure i) (λ e x. bind_sure (expect m.Semicolon x) _ (expect_sure m.Semicolon x) (λ u y. tt))
-
-sending_sure : AllSure sending
-unfolding sending
-sending_sure i =
-    bind_sure (expression i) _ (expression_sure i) (λ a x1. bind_sure (expect m.To x1) _ (expect_sure m.To x1) (λ b x2.
-    bind_sure (expression x2) _ (expression_sure x2) (λ c x3. bind_sure (expect m.Tag x3) _ (expect_sure m.Tag x3) (λ d x4.
-    bind_sure (expression x4) _ (expression_sure x4) (λ e x5. bind_sure (expect m.Semicolon x5) _ (expect_sure m.Semicolon x5) (λ f x6. tt))))))
-
 outside_sure : (at : Place) (cells : Option ℕ) → AllSure (outside at cells)
 outside_sure at None i = tt
 outside_sure at (Some cells) i =
@@ -156,16 +147,6 @@ target_sure : AllSure target
 unfolding target
 target_sure i = bind_sure (seek Variable i) _ (seek_sure Variable i) (λ v j. outside_sure (place_of_slot v) v.size (next j))
 
-assigning_sure : (slot : Slot) → AllSure (assigning slot)
-unfolding assigning
-assigning_sure slot i =
-    bind_sure (outside (place_of_slot slot) slot.size i) _ (outside_sure (place_of_slot slot) slot.size i) (λ a x1. bind_sure (expect m.Assign x1) _ (expect_sure m.Assign x1) (λ b x2.
-    bind_sure (expression x2) _ (expression_sure x2) (λ c x3. bind_sure (expect m.Semicolon x3) _ (expect_sure m.Semicolon x3) (λ d x4. tt))))
-
-asserting_sure : AllSure asserting
-unfolding asserting
-asserting_sure i = bind_sure (expression i) _ (expression_sure i) (λ e x. bind_sure (expect m.Semicolon x) _ (expect_sure m.Semicolon x) (λ u y. tt))
-
 named_case : (t : Token) → AllSure (named_by t)
 named_case Name i = target_sure i
 named_case _ i = refusal_sure i
@@ -174,12 +155,42 @@ named_sure : AllSure named
 unfolding named
 named_sure i = named_case (token i) i
 
-receiving_sure : AllSure receiving
-unfolding receiving
-receiving_sure i =
-    bind_sure (named i) _ (named_sure i) (λ a x1. bind_sure (expect m.From x1) _ (expect_sure m.From x1) (λ b x2.
-    bind_sure (expression x2) _ (expression_sure x2) (λ c x3. bind_sure (expect m.Tag x3) _ (expect_sure m.Tag x3) (λ d x4.
-    bind_sure (expression x4) _ (expression_sure x4) (λ e x5. bind_sure (expect m.Semicolon x5) _ (expect_sure m.Semicolon x5) (λ f x6. tt))))))
+source_case : (found : Bool) → AllSure (source_by found)
+source_case true i = tt
+source_case false i = bind_sure (expression i) _ (expression_sure i) (λ e x. tt)
+
+source_sure : AllSure source
+unfolding source
+source_sure i = source_case (sees m.Any i) (after m.Any i)
+
+status_case : (found : Bool) → AllSure (status_by found)
+status_case true i = bind_sure (named i) _ (named_sure i) (λ t x. tt)
+status_case false i = tt
+
+status_sure : AllSure status
+unfolding status
+status_sure i = status_case (sees m.Status i) (after m.Status i)
+
+fill_sure : {A : Type 0} (hs : List Hole) (made : Contents hs → A) → AllSure (fill hs made)
+fill_sure [] made i = bind_sure (expect m.Semicolon i) _ (expect_sure m.Semicolon i) (λ u x. tt)
+fill_sure (mark_hole k ∷ hs) made i = bind_sure (expect k i) _ (expect_sure k i) (λ u x. fill_sure hs made x)
+fill_sure (term_hole ∷ hs) made i = bind_sure (expression i) _ (expression_sure i) (λ e x. fill_sure hs (λ c. made (e, c)) x)
+fill_sure (target_hole ∷ hs) made i = bind_sure (named i) _ (named_sure i) (λ t x. fill_sure hs (λ c. made (t, c)) x)
+fill_sure (source_hole ∷ hs) made i = bind_sure (source i) _ (source_sure i) (λ o x. fill_sure hs (λ c. made (o, c)) x)
+fill_sure (status_hole ∷ hs) made i = bind_sure (status i) _ (status_sure i) (λ o x. fill_sure hs (λ c. made (o, c)) x)
+
+begun_sure : AllSure begun
+begun_sure i = bind_sure (count i) _ (count_sure i) (λ u x. tt)
+
+form_sure : (k : Mark) (o : Option (Form k)) → AllSure (by_form o)
+form_sure k None i = refusal_sure i
+form_sure k (Some f) i = bind_sure (begun i) _ (begun_sure i) (λ u x. fill_sure f.holes (λ c. simple (f.made c)) x)
+
+assigning_sure : (slot : Slot) → AllSure (assigning slot)
+unfolding assigning
+assigning_sure slot i =
+    bind_sure (outside (place_of_slot slot) slot.size i) _ (outside_sure (place_of_slot slot) slot.size i)
+    (λ t x. fill_sure (mark_hole m.Assign ∷ term_hole ∷ []) (λ c. simple (st.Assign (record { into = t; value = c.0 }))) x)
 
 otherwise_sure : (p : Parser (List Tree)) → AllSure p → AllSure (otherwise p)
 unfolding otherwise
@@ -194,18 +205,12 @@ repeating_sure : (p : Parser (List Tree)) → AllSure p → AllSure (repeating p
 unfolding repeating
 repeating_sure p s i = bind_sure (expression i) _ (expression_sure i) (λ a x. bind_sure (p x) _ (s x) (λ b y. tt))
 
-begun_sure : AllSure begun
-begun_sure i = bind_sure (count i) _ (count_sure i) (λ u x. tt)
-
 stmt_case : (p : Parser (List Tree)) → AllSure p → (t : Token) → AllSure (stmt_by p t)
 stmt_case p s Name i = bind_sure (seek Variable i) _ (seek_sure Variable i) (λ v x. bind_sure (begun x) _ (begun_sure x) (λ u y. assigning_sure v y))
 stmt_case p s (Is m.While) i = bind_sure (begun i) _ (begun_sure i) (λ u x. repeating_sure p s x)
-stmt_case p s (Is m.Assert) i = bind_sure (begun i) _ (begun_sure i) (λ u x. asserting_sure x)
 stmt_case p s (Is m.If) i = bind_sure (begun i) _ (begun_sure i) (λ u x. choosing_sure p s x)
-stmt_case p s (Is m.Print) i = bind_sure (begun i) _ (begun_sure i) (λ u x. printing_sure x)
-stmt_case p s (Is m.Send) i = bind_sure (begun i) _ (begun_sure i) (λ u x. sending_sure x)
-stmt_case p s (Is m.Recv) i = bind_sure (begun i) _ (begun_sure i) (λ u x. receiving_sure x)
 stmt_case p s (Is m.Waitany) i = bind_sure (count i) (λ u. fail NotInVersion) (count_sure i) (λ u x e. absurd (cc))
+stmt_case p s (Is k) i = form_sure k (form_of k) i
 stmt_case p s _ i = refusal_sure i
 
 stmt_sure : (p : Parser (List Tree)) → AllSure p → AllSure (stmt p)

@@ -5,18 +5,22 @@ use Rattle.mpd_model.specs.declared.place.Place.{Place}
 use Rattle.mpd_model.specs.declared.token.Mark.TheVariants as m
 use Rattle.mpd_model.specs.declared.token.Token.{Token}
 use Rattle.mpd_model.specs.declared.token.Token.TheVariants.{Name, Is}
-use Rattle.mpd_model.specs.Canonical.{name_text, whole_text, index_text, target_text, indent, else_text, tree_text, block_text}
+use Rattle.mpd_model.specs.Canonical.{name_text, whole_text, index_text, target_text, indent, else_text, mark_text, part_text, parts_text, tree_text, block_text}
 use Rattle.mpd_model.specs.Declaration.{Declared}
-use Rattle.mpd_model.specs.Fits.{cost, index_cost, dearest, dearest_body}
+use Rattle.mpd_model.specs.Fits.{cost, index_cost, part_cost, dearest_part, dearest, dearest_body}
 use Rattle.mpd_model.specs.Input.{line_of, max_budget}
-use Rattle.mpd_model.specs.Printable.{Stands, IsPrintableWhole, IsPrintableAt, IsPrintableTarget, IsPrintableTree, IsPrintableBlock, term_cost}
+use Rattle.mpd_model.specs.Printable.{Stands, IsPrintableWhole, IsPrintableAt, IsPrintableTarget, IsPrintablePart, ArePrintable, IsPrintableTree, IsPrintableBlock, term_cost}
 use Rattle.mpd_model.specs.Term.{Term, Target}
 use Rattle.mpd_model.specs.Tokens.{Spot, tokens_after}
-use Rattle.mpd_model.specs.Tree.{Tree, Block, print, send, recv, branch, assign, check, repeat, no_more, then_more, block_of, trees, statements, statements_in}
-use Rattle.mpd_model.specs.Written.{Written, WrittenTarget, whole, part, WrittenTree, prints, sends, receives, assigns, asserts, repeats, chooses, chooses_else, braces, WrittenBody, ended, follows}
+use Rattle.mpd_model.specs.declared.stmt.Simple.{Simple}
+use Rattle.mpd_model.specs.declared.token.Mark.{Mark}
+use Rattle.mpd_model.specs.Parts.{Part, of_mark, of_term, of_target, parts_of}
+use Rattle.mpd_model.specs.Tree.{Tree, Block, simple, branch, repeat, no_more, then_more, block_of, trees, statements, statements_in}
+use Rattle.mpd_model.specs.Written.{Written, WrittenTarget, whole, part, WrittenPart, by_mark, by_term, by_target, WrittenParts, no_part, then_part, WrittenTree, simply, repeats, chooses, chooses_else, braces, WrittenBody, ended, follows}
 use Rattle.mpd_laws.proofs.Cuts.{Ends, Any, Spelled, join, turned, narrowed, fixed, blank_before, blank_behind, Both, both, IsOne, one, IsWord, one_word, IsNone, nothing}
+use Rattle.mpd_laws.proofs.Marks.{Parted, spaced, closed, parted_ends, mark_spelled}
 use Rattle.mpd_laws.proofs.PrintTerms.{TermSpots, term_spelled, name_spelled, names_of}
-use Rattle.mpd_laws.proofs.Signs.{square_open, square_close, print_word, assert_word, send_word, recv_word, if_word, while_word, to_word, from_word, tag_word, assign_sign, end_sign, brace_open, brace_close, brace_end, else_word, brace_behind, line_end, two_spaces}
+use Rattle.mpd_laws.proofs.Signs.{square_open, square_close, if_word, while_word, end_sign, brace_open, brace_close, brace_end, else_word, brace_behind, line_end, two_spaces}
 
 max_small : (a b n : ℕ) → a ≤ n → b ≤ n → max a b ≤ n
 max_small a b n h k = grind arith
@@ -104,58 +108,56 @@ block_of_trees (then_more t b) = ap (then_more t) (block_of_trees b)
 seam : (a b : List Spot) (o : Spot) → a ++ o ∷ b ≡ (a ++ o ∷ []) ++ b
 seam a b o = sym (append_assoc a (o ∷ []) b)
 
-prints_spots : (ds : List Declared) (e : Term) (ss : List Spot) → Both (Both (IsOne (Is m.Print)) (WholeSpots ds e)) (IsOne (Is m.Semicolon)) ss → TreeSpots ds (print e) ss
-prints_spots ds e _ (both _ _ (both _ a (one k h1) x) (one end h2)) = record { lines = k.line ∷ []; written = prints k end a e h1 x.written h2; cheap = x.cheap; count = refl }
+-- ---- statements that hold no other
 
-asserts_spots : (ds : List Declared) (e : Term) (ss : List Spot) → Both (Both (IsOne (Is m.Assert)) (WholeSpots ds e)) (IsOne (Is m.Semicolon)) ss → TreeSpots ds (check e) ss
-asserts_spots ds e _ (both _ _ (both _ a (one k h1) x) (one end h2)) = record { lines = k.line ∷ []; written = asserts k end a e h1 x.written h2; cheap = x.cheap; count = refl }
+record PartSpots (ds : List Declared) (p : Part) (ss : List Spot) : Type 0 where
+  written : WrittenPart ds ss p
+  cheap : part_cost ds ss p written ≤ max_budget
 
--- a word, an expression and the end of a statement
-line_spelled : (ds : List Declared) (n : ℕ) (t : Token) (w : List ℕ) (e : Term) → Spelled Any (IsOne t) w → IsPrintableWhole ds e
-    → Spelled Any (Both (Both (IsOne t) (WholeSpots ds e)) (IsOne (Is m.Semicolon))) (indent n ++ w ++ whole_text ds e ++ codes ";\n")
-line_spelled ds n t w e x h =
-    join (indent n ++ w ++ whole_text ds e) (codes ";\n") (join (indent n ++ w) (whole_text ds e) (begun_spelled n t w x) (whole_spelled ds e h) (λ z _. tt)) end_sign (λ z _. refl)
+record PartsSpots (ds : List Declared) (ps : List Part) (ss : List Spot) : Type 0 where
+  written : WrittenParts ds ss ps
+  cheap : dearest_part ds ss ps written ≤ max_budget
 
-assigns_spots : (ds : List Declared) (into : Target) (e : Term) (ss : List Spot)
-    → Both (Both (Both (TargetSpots ds into) (IsOne (Is m.Assign))) (WholeSpots ds e)) (IsOne (Is m.Semicolon)) ss → TreeSpots ds (assign into e) ss
-assigns_spots ds into e _ (both _ _ (both _ b (both n _ y (one o h1)) x) (one end h2)) =
-    tree_at ds (assign into e) (assign into e) (n ++ o ∷ b ++ end ∷ []) (((n ++ o ∷ []) ++ b) ++ end ∷ []) refl (ap (λ u. u ++ end ∷ []) (seam n b o))
-    (record {
-      lines = line_of n ∷ [];
-      written = assigns o end n b into e y.written h1 x.written h2;
-      cheap = max_small (index_cost ds n into y.written) (cost b) max_budget y.cheap x.cheap;
-      count = refl;
-    })
+mark_spots : (ds : List Declared) (k : Mark) (ss : List Spot) → IsOne (Is k) ss → PartSpots ds (of_mark k) ss
+mark_spots ds k _ (one s h) = record { written = by_mark s k h; cheap = omega arith }
 
-abbrev three : List Spot → Spot → List Spot → Spot → List Spot → Spot → List Spot
-three a o b q c end = ((((a ++ o ∷ []) ++ b) ++ q ∷ []) ++ c) ++ end ∷ []
+part_spelled : (ds : List Declared) (p : Part) → IsPrintablePart ds p → Spelled Parted (PartSpots ds p) (part_text ds p)
+part_spelled ds (of_mark k) h = turned (mark_text k) (mark_spots ds k) (mark_spelled k)
+part_spelled ds (of_term e) h =
+    turned (whole_text ds e) (λ ss x. record { written = by_term ss e x.written; cheap = x.cheap }) (narrowed (whole_text ds e) parted_ends (whole_spelled ds e h))
+part_spelled ds (of_target t) h =
+    turned (target_text ds t) (λ ss x. record { written = by_target ss t x.written; cheap = x.cheap }) (narrowed (target_text ds t) parted_ends (target_spelled ds t h))
 
-three_is : (a : List Spot) (o : Spot) (b : List Spot) (q : Spot) (c : List Spot) (end : Spot) → a ++ o ∷ b ++ q ∷ c ++ end ∷ [] ≡ three a o b q c end
-three_is a o b q c end = ap (λ u. u ++ end ∷ []) (seam (a ++ o ∷ b) c q) ∙ ap (λ u. ((u ++ q ∷ []) ++ c) ++ end ∷ []) (seam a b o)
+none_spots : (ds : List Declared) (ss : List Spot) → IsNone ss → PartsSpots ds [] ss
+none_spots ds _ nothing = record { written = no_part; cheap = omega arith }
 
-sends_spots : (ds : List Declared) (value dest mark : Term) (ss : List Spot)
-    → Both (Both (Both (Both (Both (Both (IsOne (Is m.Send)) (WholeSpots ds value)) (IsOne (Is m.To))) (WholeSpots ds dest)) (IsOne (Is m.Tag))) (WholeSpots ds mark)) (IsOne (Is m.Semicolon)) ss
-    → TreeSpots ds (send value dest mark) ss
-sends_spots ds value dest mark _ (both _ _ (both _ c (both _ _ (both _ b (both _ _ (both _ a (one k h1) x) (one o h2)) y) (one q h3)) z) (one end h4)) =
-    tree_at ds (send value dest mark) (send value dest mark) (k ∷ a ++ o ∷ b ++ q ∷ c ++ end ∷ []) (three (k ∷ a) o b q c end) refl (three_is (k ∷ a) o b q c end)
-    (record {
-      lines = k.line ∷ [];
-      written = sends k o q end a b c value dest mark h1 x.written h2 y.written h3 z.written h4;
-      cheap = max_small (cost a) (max (cost b) (cost c)) max_budget x.cheap (max_small (cost b) (cost c) max_budget y.cheap z.cheap);
-      count = refl;
-    })
+last_spots : (ds : List Declared) (p : Part) (ss : List Spot) → PartSpots ds p ss → PartsSpots ds (p ∷ []) ss
+last_spots ds p ss x =
+    let last : PartsSpots ds (p ∷ []) (ss ++ []) = record { written = then_part ss [] p [] x.written no_part; cheap = max_small (part_cost ds ss p x.written) 0 max_budget x.cheap (omega arith) } in
+    subst (PartsSpots ds (p ∷ [])) (append-nil ss) last
 
-receives_spots : (ds : List Declared) (into : Target) (source mark : Term) (ss : List Spot)
-    → Both (Both (Both (Both (Both (Both (IsOne (Is m.Recv)) (TargetSpots ds into)) (IsOne (Is m.From))) (WholeSpots ds source)) (IsOne (Is m.Tag))) (WholeSpots ds mark)) (IsOne (Is m.Semicolon)) ss
-    → TreeSpots ds (recv into source mark) ss
-receives_spots ds into source mark _ (both _ _ (both _ c (both _ _ (both _ b (both _ _ (both _ a (one k h1) x) (one o h2)) y) (one q h3)) z) (one end h4)) =
-    tree_at ds (recv into source mark) (recv into source mark) (k ∷ a ++ o ∷ b ++ q ∷ c ++ end ∷ []) (three (k ∷ a) o b q c end) refl (three_is (k ∷ a) o b q c end)
-    (record {
-      lines = k.line ∷ [];
-      written = receives k o q end a b c into source mark h1 x.written h2 y.written h3 z.written h4;
-      cheap = max_small (index_cost ds a into x.written) (max (cost b) (cost c)) max_budget x.cheap (max_small (cost b) (cost c) max_budget y.cheap z.cheap);
-      count = refl;
-    })
+more_spots : (ds : List Declared) (p : Part) (ps : List Part) (ss : List Spot) → Both (PartSpots ds p) (PartsSpots ds ps) ss → PartsSpots ds (p ∷ ps) ss
+more_spots ds p ps _ (both a b x y) =
+    record { written = then_part a b p ps x.written y.written; cheap = max_small (part_cost ds a p x.written) (dearest_part ds b ps y.written) max_budget x.cheap y.cheap }
+
+one_space : Spelled Any IsNone (codes " ")
+unfolding tokens_after
+one_space = fixed (codes " ") (λ p l z. refl) (λ p l. nothing) refl
+
+parts_spelled : (ds : List Declared) (ps : List Part) → ArePrintable ds ps → Spelled Parted (PartsSpots ds ps) (parts_text ds ps)
+parts_spelled ds [] h = turned [] (none_spots ds) (narrowed [] (λ z _. tt) nil_spelled)
+parts_spelled ds (p ∷ []) h = turned (part_text ds p) (last_spots ds p) (part_spelled ds p h.0)
+parts_spelled ds (p ∷ q ∷ ps) h =
+    let first : Spelled Any (PartSpots ds p) (part_text ds p ++ codes " ") = blank_behind (part_text ds p) (codes " ") (part_spelled ds p h.0) one_space (λ z _. spaced z) in
+    turned (parts_text ds (p ∷ q ∷ ps)) (more_spots ds p (q ∷ ps)) (join (part_text ds p ++ codes " ") (parts_text ds (q ∷ ps)) first (parts_spelled ds (q ∷ ps) h.1) (λ z _. tt))
+
+simple_spots : (ds : List Declared) (s : Simple) (ss : List Spot) → Both (PartsSpots ds (parts_of s)) (IsOne (Is m.Semicolon)) ss → TreeSpots ds (simple s) ss
+simple_spots ds s _ (both ss _ x (one end h)) = record { lines = line_of ss ∷ []; written = simply ss end s x.written h; cheap = x.cheap; count = refl }
+
+simple_spelled : (ds : List Declared) (n : ℕ) (s : Simple) → ArePrintable ds (parts_of s) → Spelled Any (TreeSpots ds (simple s)) (tree_text ds n (simple s))
+simple_spelled ds n s h =
+    let line : List ℕ = parts_text ds (parts_of s) in
+    turned (tree_text ds n (simple s)) (simple_spots ds s) (join (indent n ++ line) (codes ";\n") (blank_before (indent n) line (indent_spelled n) (parts_spelled ds (parts_of s) h)) end_sign (λ z _. closed _))
 
 -- ---- blocks
 
@@ -258,56 +260,10 @@ branch_spelled ds n c a (then_more t b) h x y =
     (λ z _. tt))
     line_end (λ z _. tt))
 
-send_spelled : (ds : List Declared) (n : ℕ) (value dest mark : Term) → IsPrintableTree ds (send value dest mark) → Spelled Any (TreeSpots ds (send value dest mark)) (tree_text ds n (send value dest mark))
-send_spelled ds n value dest mark h =
-    let a : List ℕ = indent n ++ codes "send " ++ whole_text ds value in
-    let b : List ℕ = a ++ codes " to " ++ whole_text ds dest in
-    let c : List ℕ = b ++ codes " tag " ++ whole_text ds mark in
-    turned (c ++ codes ";\n") (sends_spots ds value dest mark)
-    (join c (codes ";\n")
-    (join (b ++ codes " tag ") (whole_text ds mark)
-    (join b (codes " tag ")
-    (join (a ++ codes " to ") (whole_text ds dest)
-    (join a (codes " to ") (join (indent n ++ codes "send ") (whole_text ds value) (begun_spelled n (Is m.Send) (codes "send ") send_word) (whole_spelled ds value h.0) (λ z _. tt)) to_word (λ z _. refl))
-    (whole_spelled ds dest h.1.0) (λ z _. tt))
-    tag_word (λ z _. refl))
-    (whole_spelled ds mark h.1.1) (λ z _. tt))
-    end_sign (λ z _. refl))
-
-recv_spelled : (ds : List Declared) (n : ℕ) (into : Target) (source mark : Term) → IsPrintableTree ds (recv into source mark) → Spelled Any (TreeSpots ds (recv into source mark)) (tree_text ds n (recv into source mark))
-recv_spelled ds n into source mark h =
-    let a : List ℕ = indent n ++ codes "recv " ++ target_text ds into in
-    let b : List ℕ = a ++ codes " from " ++ whole_text ds source in
-    let c : List ℕ = b ++ codes " tag " ++ whole_text ds mark in
-    turned (c ++ codes ";\n") (receives_spots ds into source mark)
-    (join c (codes ";\n")
-    (join (b ++ codes " tag ") (whole_text ds mark)
-    (join b (codes " tag ")
-    (join (a ++ codes " from ") (whole_text ds source)
-    (join a (codes " from ") (join (indent n ++ codes "recv ") (target_text ds into) (begun_spelled n (Is m.Recv) (codes "recv ") recv_word) (target_spelled ds into h.0) (λ z _. tt)) from_word (λ z _. refl))
-    (whole_spelled ds source h.1.0) (λ z _. tt))
-    tag_word (λ z _. refl))
-    (whole_spelled ds mark h.1.1) (λ z _. tt))
-    end_sign (λ z _. refl))
-
-assign_spelled : (ds : List Declared) (n : ℕ) (into : Target) (e : Term) → IsPrintableTree ds (assign into e) → Spelled Any (TreeSpots ds (assign into e)) (tree_text ds n (assign into e))
-assign_spelled ds n into e h =
-    let a : List ℕ = indent n ++ target_text ds into in
-    turned (a ++ codes " = " ++ whole_text ds e ++ codes ";\n") (assigns_spots ds into e)
-    (join (a ++ codes " = " ++ whole_text ds e) (codes ";\n")
-    (join (a ++ codes " = ") (whole_text ds e)
-    (join a (codes " = ") (blank_before (indent n) (target_text ds into) (indent_spelled n) (target_spelled ds into h.0)) assign_sign (λ z _. refl))
-    (whole_spelled ds e h.1) (λ z _. tt))
-    end_sign (λ z _. refl))
-
 mutual
   pub tree_spelled : (ds : List Declared) (n : ℕ) (t : Tree) → IsPrintableTree ds t → Spelled Any (TreeSpots ds t) (tree_text ds n t)
-  tree_spelled ds n (print e) h = turned (tree_text ds n (print e)) (prints_spots ds e) (line_spelled ds n (Is m.Print) (codes "print ") e print_word h)
-  tree_spelled ds n (send value to tag) h = send_spelled ds n value to tag h
-  tree_spelled ds n (recv into from tag) h = recv_spelled ds n into from tag h
+  tree_spelled ds n (simple s) h = simple_spelled ds n s h
   tree_spelled ds n (branch c a b) h = branch_spelled ds n c a b h.0 (block_spelled ds (suc n) a h.1.0) (block_spelled ds (suc n) b h.1.1)
-  tree_spelled ds n (assign into e) h = assign_spelled ds n into e h
-  tree_spelled ds n (check e) h = turned (tree_text ds n (check e)) (asserts_spots ds e) (line_spelled ds n (Is m.Assert) (codes "assert ") e assert_word h)
   tree_spelled ds n (repeat c a) h =
       turned (tree_text ds n (repeat c a)) (repeats_spots ds c a)
       (closed_spelled ds n a (indent n ++ codes "while " ++ whole_text ds c ++ codes " {\n") (codes "}\n") (open_spelled ds n (Is m.While) (codes "while ") c while_word h.0) (block_spelled ds (suc n) a h.1) brace_end)

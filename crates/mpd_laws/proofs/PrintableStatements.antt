@@ -2,16 +2,17 @@
 use Rattle.std.proofs.Common.{◌≡◌, ℕ, true, false, List, [], ◌∷◌, ◌++◌, Option, Some, None, refl, subst, sym, ◌∙◌, append_assoc, append-nil}
 use Rattle.mpd_model.specs.Declaration.{Declared}
 use Rattle.mpd_model.specs.Input.{slot_in}
-use Rattle.mpd_model.specs.Printable.{IsName, AreNamed, AreVariables, AreNew, IsPrintableWhole, IsPrintableTarget, IsPrintableTree, IsPrintableBlock, ReadScriptsArePrintable}
+use Rattle.mpd_model.specs.Printable.{IsName, AreNamed, AreVariables, AreNew, IsPrintableWhole, IsPrintableTarget, IsPrintablePart, ArePrintable, IsPrintableTree, IsPrintableBlock, ReadScriptsArePrintable}
 use Rattle.mpd_model.specs.ReaderLaws.{ScriptsAreWritten}
 use Rattle.mpd_model.specs.Program.{Program}
 use Rattle.mpd_model.specs.Term.{Term, Target}
 use Rattle.mpd_model.specs.Tokens.{Spot, tokens}
+use Rattle.mpd_model.specs.Parts.{Part, parts_of}
 use Rattle.mpd_model.specs.Tree.{Tree, block_of}
-use Rattle.mpd_model.specs.Written.{Written, WrittenTarget, whole, part, WrittenTree, prints, sends, receives, assigns, asserts, repeats, chooses, chooses_else, WrittenBlock, braces, WrittenBody, ended, follows, variable_of, WrittenDecls, none, declares, declares_array, WrittenScript, script}
+use Rattle.mpd_model.specs.Written.{Written, WrittenTarget, whole, part, WrittenPart, by_mark, by_term, by_target, WrittenParts, no_part, then_part, WrittenTree, simply, repeats, chooses, chooses_else, WrittenBlock, braces, WrittenBody, ended, follows, variable_of, WrittenDecls, none, declares, declares_array, WrittenScript, script}
 use Rattle.mpd_laws.proofs.GoodSpots.{AllGood, good_left, good_right, tokens_good}
 use Rattle.mpd_laws.proofs.PrintableTerms.{term_printable, stands_of}
-use Rattle.mpd_laws.proofs.ReadTrees.{IsCheap, IsCheapIndex, IsCheapTree, IsCheapBlock, reading_fine}
+use Rattle.mpd_laws.proofs.ReadTrees.{IsCheap, IsCheapIndex, IsCheapPart, AreCheap, IsCheapTree, IsCheapBlock, reading_fine}
 
 -- ---- statements
 
@@ -22,25 +23,18 @@ target_printable : (ds : List Declared) (ss : List Spot) (t : Target) → Writte
 target_printable ds _ _ (whole s p h) g c = stands_of ds false s p g.0 h
 target_printable ds _ _ (part s a b ss p t h h1 w h2) g c = (stands_of ds true s p g.0 h, whole_printable ds ss t w (good_left ss (b ∷ []) g.1.1) c)
 
+part_printable : (ds : List Declared) (ss : List Spot) (p : Part) → WrittenPart ds ss p → AllGood ss → IsCheapPart p → IsPrintablePart ds p
+part_printable ds _ _ (by_mark s k h) g c = tt
+part_printable ds _ _ (by_term ss t w) g c = whole_printable ds ss t w g c
+part_printable ds _ _ (by_target ss t w) g c = target_printable ds ss t w g c
+
+parts_printable : (ds : List Declared) (ss : List Spot) (ps : List Part) → WrittenParts ds ss ps → AllGood ss → AreCheap ps → ArePrintable ds ps
+parts_printable ds _ _ no_part g c = tt
+parts_printable ds _ _ (then_part ss rs p ps v w) g c = (part_printable ds ss p v (good_left ss rs g) c.0, parts_printable ds rs ps w (good_right ss rs g) c.1)
+
 mutual
   tree_printable : (ds : List Declared) (ss : List Spot) (t : Tree) (ls : List ℕ) → WrittenTree ds ss t ls → AllGood ss → IsCheapTree t → IsPrintableTree ds t
-  tree_printable ds _ _ _ (prints k end e t h1 w h2) g c = whole_printable ds e t w (good_left e (end ∷ []) g.1) c
-  tree_printable ds _ _ _ (sends k to tag end a b d value dest mark h1 v h2 w h3 x h4) g c =
-      let g0 = good_left (k ∷ a ++ to ∷ b ++ tag ∷ d) (end ∷ []) g in
-      let g1 = good_left (k ∷ a ++ to ∷ b) (tag ∷ d) g0 in (
-        whole_printable ds a value v (good_left (k ∷ a) (to ∷ b) g1).1 c.0,
-        (whole_printable ds b dest w (good_right (k ∷ a) (to ∷ b) g1).1 c.1.0, whole_printable ds d mark x (good_right (k ∷ a ++ to ∷ b) (tag ∷ d) g0).1 c.1.1),
-      )
-  tree_printable ds _ _ _ (receives k to tag end a b d into source mark h1 v h2 w h3 x h4) g c =
-      let g0 = good_left (k ∷ a ++ to ∷ b ++ tag ∷ d) (end ∷ []) g in
-      let g1 = good_left (k ∷ a ++ to ∷ b) (tag ∷ d) g0 in (
-        target_printable ds a into v (good_left (k ∷ a) (to ∷ b) g1).1 c.0,
-        (whole_printable ds b source w (good_right (k ∷ a) (to ∷ b) g1).1 c.1.0, whole_printable ds d mark x (good_right (k ∷ a ++ to ∷ b) (tag ∷ d) g0).1 c.1.1),
-      )
-  tree_printable ds _ _ _ (assigns equal end n e into t v h1 w h2) g c =
-      let g0 = good_left (n ++ equal ∷ e) (end ∷ []) g in
-      (target_printable ds n into v (good_left n (equal ∷ e) g0) c.0, whole_printable ds e t w (good_right n (equal ∷ e) g0).1 c.1)
-  tree_printable ds _ _ _ (asserts k end e t h1 w h2) g c = whole_printable ds e t w (good_left e (end ∷ []) g.1) c
+  tree_printable ds _ _ _ (simply ss end s w h) g c = parts_printable ds ss (parts_of s) w (good_left ss (end ∷ []) g) c
   tree_printable ds _ _ _ (repeats k e a t x ls h1 w f) g c = (whole_printable ds e t w (good_left e a g.1) c.0, block_printable ds a x ls f (good_right e a g.1) c.1)
   tree_printable ds _ _ _ (chooses k e a t x ls h1 w f) g c = (whole_printable ds e t w (good_left e a g.1) c.0, (block_printable ds a x ls f (good_right e a g.1) c.1.0, tt))
   tree_printable ds _ _ _ (chooses_else k o e a b t x y ls ms h1 w f h2 q) g c =

@@ -1,5 +1,5 @@
 -- What is read as statements has cheap expressions, and no more open blocks than may be.
-use Rattle.std.proofs.Common.{◌≡◌, ℕ, zero, suc, ◌+◌, ◌≤◌, max, Bool, true, false, cond, nat_lt, List, [], ◌∷◌, ◌++◌, length, Option, None, Some, Result, Ok, Err, refl, subst, arith}
+use Rattle.std.proofs.Common.{◌≡◌, ℕ, zero, suc, ◌+◌, ◌≤◌, max, Bool, true, false, cond, nat_lt, List, [], ◌∷◌, ◌++◌, length, Option, None, Some, Result, Ok, Err, refl, sym, subst, arith}
 use Rattle.std.specs.List.{prefix_len}
 use Rattle.mpd_model.specs.declared.place.DeclKind.TheVariants.{Variable}
 use Rattle.mpd_model.specs.declared.place.Place.{Place}
@@ -10,12 +10,15 @@ use Rattle.mpd_model.specs.declared.token.Mark.TheVariants as m
 use Rattle.mpd_model.specs.declared.token.Token.{Token}
 use Rattle.mpd_model.specs.declared.token.Token.TheVariants.{Name, Is}
 use Rattle.mpd_model.specs.Fits.{blocks, blocks_in}
-use Rattle.mpd_model.specs.Grammar.{expression, begun, closes, place_of_slot, printing, sending, outside, target, named_by, named, assigning, asserting, receiving, otherwise, choosing, repeating, stmt_by, stmt, stmts, body, block, header, is_text, max_blocks, max_text, read_of, reading, script as whole_script}
+use Rattle.mpd_model.specs.Grammar.{expression, begun, closes, place_of_slot, outside, target, named_by, named, source_by, source, status_by, status, fill, Form, form_of, by_form, assigning, otherwise, choosing, repeating, stmt_by, stmt, stmts, body, block, header, is_text, max_blocks, max_text, read_of, reading, script as whole_script}
 use Rattle.mpd_model.specs.Input.{Input, Outcome, Parser, token, expect, seek, sees, after, count, max_budget, pure, fail, refuse, start_of, ◌>>=◌}
 use Rattle.mpd_model.specs.Printable.{term_cost}
 use Rattle.mpd_model.specs.Program.{Program}
 use Rattle.mpd_model.specs.Term.{Term, Target}
-use Rattle.mpd_model.specs.Tree.{Tree, Block, print, send, recv, branch, assign, check, repeat, no_more, then_more, block_of}
+use Rattle.mpd_model.specs.declared.stmt.Simple.TheVariants as st
+use Rattle.mpd_model.specs.declared.token.Mark.{Mark}
+use Rattle.mpd_model.specs.Parts.{Part, of_mark, of_term, of_target, parts_of, Hole, mark_hole, term_hole, target_hole, source_hole, status_hole, source_part, status_parts, Contents, filled}
+use Rattle.mpd_model.specs.Tree.{Tree, Block, simple, branch, repeat, no_more, then_more, block_of}
 use Rattle.mpd_laws.proofs.ReadCosts.{expression_cheap}
 use Rattle.mpd_laws.proofs.Sound.{bind_ok, ok_parts}
 
@@ -31,14 +34,19 @@ abbrev pub IsCheapIndex : Option Term → Type 0
 IsCheapIndex None = Unit {0}
 IsCheapIndex (Some t) = IsCheap t
 
+abbrev pub IsCheapPart : Part → Type 0
+IsCheapPart (of_mark k) = Unit {0}
+IsCheapPart (of_term e) = IsCheap e
+IsCheapPart (of_target t) = IsCheapIndex t.index
+
+abbrev pub AreCheap : List Part → Type 0
+AreCheap [] = Unit {0}
+AreCheap (p ∷ ps) = IsCheapPart p × AreCheap ps
+
 abbrev mutual
   pub IsCheapTree : Tree → Type 0
-  IsCheapTree (print e) = IsCheap e
-  IsCheapTree (send value to tag) = IsCheap value × (IsCheap to × IsCheap tag)
-  IsCheapTree (recv into from tag) = IsCheapIndex into.index × (IsCheap from × IsCheap tag)
+  IsCheapTree (simple s) = AreCheap (parts_of s)
   IsCheapTree (branch c a b) = IsCheap c × (IsCheapBlock a × IsCheapBlock b)
-  IsCheapTree (assign into e) = IsCheapIndex into.index × IsCheap e
-  IsCheapTree (check e) = IsCheap e
   IsCheapTree (repeat c a) = IsCheap c × IsCheapBlock a
 
   pub IsCheapBlock : Block → Type 0
@@ -79,58 +87,73 @@ named_cheap : (i : Input) (y : Target × Input) → named i ≡ Ok y → IsCheap
 unfolding named
 named_cheap i y h = named_case (token i) i y h
 
+source_case : (found : Bool) (i : Input) (y : Option Term × Input) → source_by found i ≡ Ok y → IsCheapPart (source_part y.0)
+source_case true i y h = subst (λ o. IsCheapPart (source_part o)) (ok_parts (None, i) y h).0 tt
+source_case false i y h =
+    let b = bind_ok (expression i) _ y h in
+    subst (λ o. IsCheapPart (source_part o)) (ok_parts (Some b.0.0, b.0.1) y b.2).0 (expression_cheap i b.0 b.1)
+
+source_cheap : (i : Input) (y : Option Term × Input) → source i ≡ Ok y → IsCheapPart (source_part y.0)
+unfolding source
+source_cheap i y h = source_case (sees m.Any i) (after m.Any i) y h
+
+status_case : (found : Bool) (i : Input) (y : Option Target × Input) → status_by found i ≡ Ok y → (ps : List Part) → AreCheap ps → AreCheap (status_parts y.0 ps)
+status_case true i y h ps c =
+    let b = bind_ok (named i) _ y h in
+    subst (λ o. AreCheap (status_parts o ps)) (ok_parts (Some b.0.0, b.0.1) y b.2).0 (tt, (named_cheap i b.0 b.1, c))
+status_case false i y h ps c = subst (λ o. AreCheap (status_parts o ps)) (ok_parts (None, i) y h).0 c
+
+status_cheap : (i : Input) (y : Option Target × Input) → status i ≡ Ok y → (ps : List Part) → AreCheap ps → AreCheap (status_parts y.0 ps)
+unfolding status
+status_cheap i y h = status_case (sees m.Status i) (after m.Status i) y h
+
+-- what was read in the holes is cheap
+record CheapIn {A : Type 0} (hs : List Hole) (made : Contents hs → A) (a : A) : Type 0 where
+  contents : Contents hs
+  is : made contents ≡ a
+  cheap : AreCheap (filled hs contents)
+
+fill_cheap : {A : Type 0} (hs : List Hole) (made : Contents hs → A) (i : Input) (y : A × Input) → fill hs made i ≡ Ok y → CheapIn hs made y.0
+fill_cheap [] made i y h =
+    let b = bind_ok (expect m.Semicolon i) _ y h in
+    record { contents = tt; is = (ok_parts (made tt, b.0.1) y b.2).0; cheap = tt }
+fill_cheap (mark_hole k ∷ hs) made i y h =
+    let b = bind_ok (expect k i) _ y h in
+    let r = fill_cheap hs made b.0.1 y b.2 in
+    record { contents = r.contents; is = r.is; cheap = (tt, r.cheap) }
+fill_cheap (term_hole ∷ hs) made i y h =
+    let b = bind_ok (expression i) _ y h in
+    let r = fill_cheap hs (λ c. made (b.0.0, c)) b.0.1 y b.2 in
+    record { contents = (b.0.0, r.contents); is = r.is; cheap = (expression_cheap i b.0 b.1, r.cheap) }
+fill_cheap (target_hole ∷ hs) made i y h =
+    let b = bind_ok (named i) _ y h in
+    let r = fill_cheap hs (λ c. made (b.0.0, c)) b.0.1 y b.2 in
+    record { contents = (b.0.0, r.contents); is = r.is; cheap = (named_cheap i b.0 b.1, r.cheap) }
+fill_cheap (source_hole ∷ hs) made i y h =
+    let b = bind_ok (source i) _ y h in
+    let r = fill_cheap hs (λ c. made (b.0.0, c)) b.0.1 y b.2 in
+    record { contents = (b.0.0, r.contents); is = r.is; cheap = (source_cheap i b.0 b.1, r.cheap) }
+fill_cheap (status_hole ∷ hs) made i y h =
+    let b = bind_ok (status i) _ y h in
+    let r = fill_cheap hs (λ c. made (b.0.0, c)) b.0.1 y b.2 in
+    record { contents = (b.0.0, r.contents); is = r.is; cheap = status_cheap i b.0 b.1 (filled hs r.contents) r.cheap }
+
 abbrev Reads : ℕ → Parser Tree → Type 0
 Reads d p = (i : Input) (y : Tree × Input) → p i ≡ Ok y → Fine d y.0
 
-printing_fine : (d : ℕ) → Reads d printing
-unfolding printing
-printing_fine d i y h =
-    let a = bind_ok (expression i) _ y h in
-    let b = bind_ok (expect m.Semicolon a.0.1) _ y a.2 in
-    let o = ok_parts (print a.0.0, b.0.1) y b.2 in
-    subst (Fine d) o.0 (record { cheap = expression_cheap i a.0 a.1; open_blocks = omega arith })
-
-asserting_fine : (d : ℕ) → Reads d asserting
-unfolding asserting
-asserting_fine d i y h =
-    let a = bind_ok (expression i) _ y h in
-    let b = bind_ok (expect m.Semicolon a.0.1) _ y a.2 in
-    let o = ok_parts (check a.0.0, b.0.1) y b.2 in
-    subst (Fine d) o.0 (record { cheap = expression_cheap i a.0 a.1; open_blocks = omega arith })
-
-sending_fine : (d : ℕ) → Reads d sending
-unfolding sending
-sending_fine d i y h =
-    let a = bind_ok (expression i) _ y h in
-    let b = bind_ok (expect m.To a.0.1) _ y a.2 in
-    let c = bind_ok (expression b.0.1) _ y b.2 in
-    let e = bind_ok (expect m.Tag c.0.1) _ y c.2 in
-    let f = bind_ok (expression e.0.1) _ y e.2 in
-    let g = bind_ok (expect m.Semicolon f.0.1) _ y f.2 in
-    let o = ok_parts (send a.0.0 c.0.0 f.0.0, g.0.1) y g.2 in
-    subst (Fine d) o.0 (record { cheap = (expression_cheap i a.0 a.1, (expression_cheap b.0.1 c.0 c.1, expression_cheap e.0.1 f.0 f.1)); open_blocks = omega arith })
-
-receiving_fine : (d : ℕ) → Reads d receiving
-unfolding receiving
-receiving_fine d i y h =
-    let a = bind_ok (named i) _ y h in
-    let b = bind_ok (expect m.From a.0.1) _ y a.2 in
-    let c = bind_ok (expression b.0.1) _ y b.2 in
-    let e = bind_ok (expect m.Tag c.0.1) _ y c.2 in
-    let f = bind_ok (expression e.0.1) _ y e.2 in
-    let g = bind_ok (expect m.Semicolon f.0.1) _ y f.2 in
-    let o = ok_parts (recv a.0.0 c.0.0 f.0.0, g.0.1) y g.2 in
-    subst (Fine d) o.0 (record { cheap = (named_cheap i a.0 a.1, (expression_cheap b.0.1 c.0 c.1, expression_cheap e.0.1 f.0 f.1)); open_blocks = omega arith })
+form_fine : (d : ℕ) (k : Mark) (o : Option (Form k)) → Reads d (by_form o)
+form_fine d k None i y h = absurd (cc)
+form_fine d k (Some f) i y h =
+    let b = bind_ok (begun i) _ y h in
+    let r = fill_cheap f.holes (λ c. simple (f.made c)) b.0.1 y b.2 in
+    subst (Fine d) r.is (record { cheap = subst AreCheap (sym (f.parts r.contents)) (tt, r.cheap); open_blocks = omega arith })
 
 assigning_fine : (d : ℕ) (s : Slot) → Reads d (assigning s)
 unfolding assigning
 assigning_fine d s i y h =
     let a = bind_ok (outside (place_of_slot s) s.size i) _ y h in
-    let b = bind_ok (expect m.Assign a.0.1) _ y a.2 in
-    let c = bind_ok (expression b.0.1) _ y b.2 in
-    let e = bind_ok (expect m.Semicolon c.0.1) _ y c.2 in
-    let o = ok_parts (assign a.0.0 c.0.0, e.0.1) y e.2 in
-    subst (Fine d) o.0 (record { cheap = (outside_cheap (place_of_slot s) s.size i a.0 a.1, expression_cheap b.0.1 c.0 c.1); open_blocks = omega arith })
+    let r = fill_cheap (mark_hole m.Assign ∷ term_hole ∷ []) (λ c. simple (st.Assign (record { into = a.0.0; value = c.0 }))) a.0.1 y a.2 in
+    subst (Fine d) r.is (record { cheap = (outside_cheap (place_of_slot s) s.size i a.0 a.1, r.cheap); open_blocks = omega arith })
 
 -- ---- blocks
 
@@ -184,11 +207,8 @@ stmt_case d p s Name i y h =
     assigning_fine d a.0.0 b.0.1 y b.2
 stmt_case d p s (Is m.If) i y h = let b = bind_ok (begun i) _ y h in choosing_fine d p s b.0.1 y b.2
 stmt_case d p s (Is m.While) i y h = let b = bind_ok (begun i) _ y h in repeating_fine d p s b.0.1 y b.2
-stmt_case d p s (Is m.Print) i y h = let b = bind_ok (begun i) _ y h in printing_fine d b.0.1 y b.2
-stmt_case d p s (Is m.Assert) i y h = let b = bind_ok (begun i) _ y h in asserting_fine d b.0.1 y b.2
-stmt_case d p s (Is m.Send) i y h = let b = bind_ok (begun i) _ y h in sending_fine d b.0.1 y b.2
-stmt_case d p s (Is m.Recv) i y h = let b = bind_ok (begun i) _ y h in receiving_fine d b.0.1 y b.2
 stmt_case d p s (Is m.Waitany) i y h = let b = bind_ok (count i) _ y h in absurd (let e = b.2 in cc)
+stmt_case d p s (Is k) i y h = form_fine d k (form_of k) i y h
 stmt_case d p s _ i y h = absurd (cc)
 
 stmt_fine : (d : ℕ) (p : Parser (List Tree)) → ReadsBlock d p → Reads d (stmt p)

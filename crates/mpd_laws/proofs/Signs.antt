@@ -97,22 +97,6 @@ op_price Remainder = refl
 
 -- ---- words and signs of statements
 
-pub print_word : Spelled Any (IsOne (Is m.Print)) (codes "print ")
-unfolding tokens_after front sign word
-print_word = fixed (codes "print ") (λ p l z. refl) (λ p l. one _ refl) refl
-
-pub assert_word : Spelled Any (IsOne (Is m.Assert)) (codes "assert ")
-unfolding tokens_after front sign word
-assert_word = fixed (codes "assert ") (λ p l z. refl) (λ p l. one _ refl) refl
-
-pub send_word : Spelled Any (IsOne (Is m.Send)) (codes "send ")
-unfolding tokens_after front sign word
-send_word = fixed (codes "send ") (λ p l z. refl) (λ p l. one _ refl) refl
-
-pub recv_word : Spelled Any (IsOne (Is m.Recv)) (codes "recv ")
-unfolding tokens_after front sign word
-recv_word = fixed (codes "recv ") (λ p l z. refl) (λ p l. one _ refl) refl
-
 pub if_word : Spelled Any (IsOne (Is m.If)) (codes "if ")
 unfolding tokens_after front sign word
 if_word = fixed (codes "if ") (λ p l z. refl) (λ p l. one _ refl) refl
@@ -120,22 +104,6 @@ if_word = fixed (codes "if ") (λ p l z. refl) (λ p l. one _ refl) refl
 pub while_word : Spelled Any (IsOne (Is m.While)) (codes "while ")
 unfolding tokens_after front sign word
 while_word = fixed (codes "while ") (λ p l z. refl) (λ p l. one _ refl) refl
-
-pub to_word : Spelled Any (IsOne (Is m.To)) (codes " to ")
-unfolding tokens_after front sign word
-to_word = fixed (codes " to ") (λ p l z. refl) (λ p l. one _ refl) refl
-
-pub from_word : Spelled Any (IsOne (Is m.From)) (codes " from ")
-unfolding tokens_after front sign word
-from_word = fixed (codes " from ") (λ p l z. refl) (λ p l. one _ refl) refl
-
-pub tag_word : Spelled Any (IsOne (Is m.Tag)) (codes " tag ")
-unfolding tokens_after front sign word
-tag_word = fixed (codes " tag ") (λ p l z. refl) (λ p l. one _ refl) refl
-
-pub assign_sign : Spelled Any (IsOne (Is m.Assign)) (codes " = ")
-unfolding tokens_after front sign
-assign_sign = fixed (codes " = ") (λ p l z. refl) (λ p l. one _ refl) refl
 
 pub end_sign : Spelled Any (IsOne (Is m.Semicolon)) (codes ";\n")
 unfolding tokens_after front sign

@@ -1,5 +1,5 @@
 -- What the grammar's functions read as statements is written so.
-use Rattle.std.proofs.Common.{◌≡◌, ◌≢◌, ℕ, zero, suc, ◌+◌, Bool, true, false, cond, List, [], ◌∷◌, ◌++◌, Option, None, Some, is_some, Ok, refl, ap, sym, ◌∙◌, append_assoc, length, nat_lt}
+use Rattle.std.proofs.Common.{◌≡◌, ◌≢◌, ℕ, zero, suc, ◌+◌, Bool, true, false, cond, List, [], ◌∷◌, ◌++◌, Option, None, Some, Ok, refl, ap, sym, subst, ◌∙◌, append_assoc, length, nat_lt}
 use Rattle.mpd_model.specs.declared.place.DeclKind.TheVariants.{Variable}
 use Rattle.mpd_model.specs.declared.read_fault.FaultCode.TheVariants.{NotInVersion, TooDeep}
 use Rattle.mpd_model.specs.declared.slot.Slot.{Slot}
@@ -8,13 +8,16 @@ use Rattle.mpd_model.specs.declared.token.Mark.TheVariants as m
 use Rattle.mpd_model.specs.declared.token.Token.{Token}
 use Rattle.mpd_model.specs.declared.token.Token.TheVariants.{Name, Is, End}
 use Rattle.mpd_model.specs.Declaration.{Declared}
-use Rattle.mpd_model.specs.Grammar.{expression, begun, closes, place_of_slot, printing, sending, outside, target, named_by, named, assigning, asserting, receiving, otherwise, choosing, repeating, stmt_by, stmt, stmts, body, block}
-use Rattle.mpd_model.specs.Input.{Input, Outcome, Parser, and_then, token, token_of, spelling, next, behind, expect, seek, sees, count, slot_in, line_of, max_budget, after, pure, fail, refuse, ◌>>=◌, ◌>>◌}
-use Rattle.mpd_model.specs.Term.{Term, Target}
+use Rattle.mpd_model.specs.Grammar.{expression, begun, closes, place_of_slot, outside, fill, Form, form_of, formed, by_form, assigning, otherwise, choosing, repeating, stmt_by, stmt, stmts, body, block}
+use Rattle.mpd_model.specs.Input.{Input, Outcome, Parser, and_then, token, token_of, spelling, next, behind, expect, seek, sees, count, slot_in, line_of, after, pure, fail, refuse, ◌>>=◌, ◌>>◌}
+use Rattle.mpd_model.specs.Parts.{of_mark, of_target, mark_hole, term_hole, filled}
+use Rattle.mpd_model.specs.declared.stmt.Simple.TheVariants as st
+use Rattle.mpd_model.specs.Term.{Term}
 use Rattle.mpd_model.specs.Tokens.{Spot}
-use Rattle.mpd_model.specs.Tree.{Tree, print, send, recv, branch, assign, check, repeat, no_more, block_of}
-use Rattle.mpd_model.specs.Written.{Names, Written, Takes, WrittenTarget, whole, part, WrittenTree, prints, sends, receives, assigns, asserts, repeats, chooses, chooses_else, WrittenBlock, braces, WrittenBody, ended, follows, TakesLines, TakesTree, TakesBlock, TakesBody}
-use Rattle.mpd_laws.proofs.Sound.{bind_ok, ok_parts, carried, test_ok, first_spot, Moves, no_move, then_moves, Step, next_step, sees_is, expect_step, seek_ok, NamedBy, name_step, expr_sound}
+use Rattle.mpd_model.specs.Tree.{Tree, simple, branch, repeat, no_more, block_of}
+use Rattle.mpd_model.specs.Written.{WrittenParts, then_part, by_mark, by_target, WrittenTree, simply, repeats, chooses, chooses_else, WrittenBlock, braces, WrittenBody, ended, follows, TakesLines, TakesTree, TakesBlock, TakesBody}
+use Rattle.mpd_laws.proofs.Sound.{bind_ok, ok_parts, carried, test_ok, first_spot, Moves, Step, next_step, sees_is, expect_step, seek_ok, NamedBy}
+use Rattle.mpd_laws.proofs.SoundParts.{Read, expression_ok, outside_ok, part_moves, part_first, fill_ok}
 
 -- ---- the first token of a statement
 
@@ -51,27 +54,6 @@ begun_ok i y some h =
     begun_spot i y.1 some
     (t ∙ sym (ap (λ p. behind p.1.tokens) c.1)) (d ∙ sym (ap (λ p. p.1.decls) c.1)) (l ∙ sym (ap (λ p. p.1.lines) c.1))
 
--- ---- expressions that stand in no other
-
-pub record Read (t : Term) (i j : Input) : Type 0 where
-  pub used : List Spot
-  pub moves : Moves used i j
-  pub written : Written i.decls 5 used t
-
-read_of_takes : (t : Term) (i x j : Input) → x.tokens ≡ i.tokens → x.decls ≡ i.decls → x.lines ≡ i.lines → Takes 5 t x j → Read t i j
-read_of_takes t i x j a b c tk = record {
-  used = tk.used;
-  moves = record { is = sym a ∙ tk.is; decls = tk.decls ∙ b; lines = tk.lines ∙ c };
-  written = rw (← b) tk.written;
-}
-
-pub expression_ok : (i : Input) (y : Term × Input) → expression i ≡ Ok y → Read y.0 i y.1
-expression_ok i y h = read_of_takes y.0 i (record i { budget = max_budget }) y.1 refl refl refl (expr_sound 65 5 (record i { budget = max_budget }) y.1 y.0 h)
-
--- an expression seen from where the statement began
-here : (t : Term) (i x j : Input) → x.decls ≡ i.decls → (r : Read t x j) → Written i.decls 5 r.used t
-here t i x j e r = rw (← e) r.written
-
 -- ---- what follows the first token
 
 -- the tokens behind the first one write the statement, wherever it stands
@@ -91,125 +73,12 @@ append_none A (x ∷ xs) = ap (λ r. x ∷ r) (append_none A xs)
 flat : (k : Mark) (t : Tree) (used : List Spot) (i j : Input) → Moves used i j → ((s : Spot) → s.token ≡ Is k → WrittenTree i.decls (s ∷ used) t (s.line ∷ [])) → Rest k t i j
 flat k t used i j x w = record { used = used; begun = []; is = x.is; decls = x.decls; lines = x.lines ∙ append_none ℕ i.lines; written = w }
 
-pub printing_rest : (i j : Input) (t : Tree) → printing i ≡ Ok (t, j) → Rest m.Print t i j
-unfolding printing
-printing_rest i j t h =
-    let a = bind_ok (expression i) _ (t, j) h in
-    let b = bind_ok (expect m.Semicolon a.0.1) _ (t, j) a.2 in
-    let o = ok_parts (print a.0.0, b.0.1) (t, j) b.2 in
-    let e = expression_ok i a.0 a.1 in
-    let z = expect_step m.Semicolon a.0.1 b.0 b.1 in
-    carried (λ t j. Rest m.Print t i j) _ _ _ _ o.0 o.1 (flat m.Print (print a.0.0) (e.used ++ z.0.spot ∷ []) i b.0.1
-    (then_moves e.used (z.0.spot ∷ []) i a.0.1 b.0.1 e.moves z.0.moves)
-    (λ s is. prints s z.0.spot e.used a.0.0 is e.written z.1))
-
-pub sending_rest : (i j : Input) (t : Tree) → sending i ≡ Ok (t, j) → Rest m.Send t i j
-unfolding sending
-sending_rest i j t h =
-    let a = bind_ok (expression i) _ (t, j) h in
-    let b = bind_ok (expect m.To a.0.1) _ (t, j) a.2 in
-    let c = bind_ok (expression b.0.1) _ (t, j) b.2 in
-    let d = bind_ok (expect m.Tag c.0.1) _ (t, j) c.2 in
-    let e = bind_ok (expression d.0.1) _ (t, j) d.2 in
-    let f = bind_ok (expect m.Semicolon e.0.1) _ (t, j) e.2 in
-    let o = ok_parts (send a.0.0 c.0.0 e.0.0, f.0.1) (t, j) f.2 in
-    let value = expression_ok i a.0 a.1 in
-    let to = expect_step m.To a.0.1 b.0 b.1 in
-    let dest = expression_ok b.0.1 c.0 c.1 in
-    let tag = expect_step m.Tag c.0.1 d.0 d.1 in
-    let mark = expression_ok d.0.1 e.0 e.1 in
-    let z = expect_step m.Semicolon e.0.1 f.0 f.1 in
-    let second = then_moves (to.0.spot ∷ []) dest.used a.0.1 b.0.1 c.0.1 to.0.moves dest.moves in
-    let third = then_moves (tag.0.spot ∷ []) mark.used c.0.1 d.0.1 e.0.1 tag.0.moves mark.moves in
-    let two = then_moves value.used (to.0.spot ∷ dest.used) i a.0.1 c.0.1 value.moves second in
-    let three = then_moves (value.used ++ to.0.spot ∷ dest.used) (tag.0.spot ∷ mark.used) i c.0.1 e.0.1 two third in
-    carried (λ t j. Rest m.Send t i j) _ _ _ _ o.0 o.1 (flat m.Send (send a.0.0 c.0.0 e.0.0) (value.used ++ to.0.spot ∷ dest.used ++ tag.0.spot ∷ mark.used ++ z.0.spot ∷ []) i f.0.1
-    (then_moves (value.used ++ to.0.spot ∷ dest.used ++ tag.0.spot ∷ mark.used) (z.0.spot ∷ []) i e.0.1 f.0.1 three z.0.moves)
-    (λ s is. sends s to.0.spot tag.0.spot z.0.spot value.used dest.used mark.used a.0.0 c.0.0 e.0.0 is value.written to.1
-    (here c.0.0 i b.0.1 c.0.1 (to.0.moves.decls ∙ value.moves.decls) dest) tag.1 (here e.0.0 i d.0.1 e.0.1 (tag.0.moves.decls ∙ two.decls) mark) z.1))
-
--- ---- places that stand in no expression
-
-record TakesTarget (t : Target) (i j : Input) : Type 0 where
-  pub used : List Spot
-  pub moves : Moves used i j
-  pub written : WrittenTarget i.decls used t
-
--- what follows the name of such a place
-record Outside (slot : Slot) (t : Target) (i j : Input) : Type 0 where
-  pub used : List Spot
-  pub moves : Moves used i j
-  pub written : (s : Spot) → NamedBy i.decls slot s → WrittenTarget i.decls (s ∷ used) t
-
-abbrev whole_of : Slot → Target
-whole_of slot = record { place = place_of_slot slot; index = None }
-
-abbrev part_of : Slot → Term → Target
-part_of slot t = record { place = place_of_slot slot; index = Some t }
-
--- of an array, by its size
-abbrev Sized : Slot → Option ℕ → List Declared → Spot → Type 0
-Sized slot cells ds s = (sized : Bool) → is_some cells ≡ sized → Names ds s sized (place_of_slot slot)
-
-outside_case : (slot : Slot) (cells : Option ℕ) → ((ds : List Declared) (s : Spot) → NamedBy ds slot s → Sized slot cells ds s)
-    → (i j : Input) (t : Target) → outside (place_of_slot slot) cells i ≡ Ok (t, j) → Outside slot t i j
-outside_case slot None n i j t h =
-    let o = ok_parts (whole_of slot, i) (t, j) h in
-    carried (λ t j. Outside slot t i j) _ _ _ _ o.0 o.1
-    (record { used = []; moves = no_move i i refl; written = λ s named. whole s (place_of_slot slot) (n i.decls s named false refl) })
-outside_case slot (Some cells) n i j t h =
-    let a = bind_ok (expect m.SquareOpen i) _ (t, j) h in
-    let b = bind_ok (expression a.0.1) _ (t, j) a.2 in
-    let c = bind_ok (expect m.SquareClose b.0.1) _ (t, j) b.2 in
-    let o = ok_parts (part_of slot b.0.0, c.0.1) (t, j) c.2 in
-    let x = expect_step m.SquareOpen i a.0 a.1 in
-    let e = expression_ok a.0.1 b.0 b.1 in
-    let y = expect_step m.SquareClose b.0.1 c.0 c.1 in
-    carried (λ t j. Outside slot t i j) _ _ _ _ o.0 o.1
-    (record {
-      used = x.0.spot ∷ e.used ++ y.0.spot ∷ [];
-      moves = then_moves (x.0.spot ∷ []) (e.used ++ y.0.spot ∷ []) i a.0.1 c.0.1 x.0.moves (then_moves e.used (y.0.spot ∷ []) a.0.1 b.0.1 c.0.1 e.moves y.0.moves);
-      written = λ s named. part s x.0.spot y.0.spot e.used (place_of_slot slot) b.0.0 (n i.decls s named true refl) x.1 (here b.0.0 i a.0.1 b.0.1 x.0.moves.decls e) y.1;
-    })
-
-outside_ok : (slot : Slot) (i j : Input) (t : Target) → outside (place_of_slot slot) slot.size i ≡ Ok (t, j) → Outside slot t i j
-outside_ok slot i j t h = outside_case slot slot.size (λ ds s n. n) i j t h
-
-target_is : (slot : Slot) (t : Target) (i x j : Input) → (s : Step i x) → NamedBy i.decls slot s.spot → Outside slot t x j → TakesTarget t i j
-target_is slot t i x j s n o = record {
-  used = s.spot ∷ o.used;
-  moves = then_moves (s.spot ∷ []) o.used i x j s.moves o.moves;
-  written = rw (← s.moves.decls) (o.written s.spot (rw s.moves.decls n));
-}
-
-target_ok : (i : Input) (y : Target × Input) → token i ≡ Name → target i ≡ Ok y → TakesTarget y.0 i y.1
-unfolding target
-target_ok i y e h =
-    let b = bind_ok (seek Variable i) _ y h in
-    let v = name_step i b.0 e b.1 in
-    target_is b.0.0 y.0 i (next b.0.1) y.1 v.0 v.1 (outside_ok b.0.0 (next b.0.1) y.1 y.0 b.2)
-
-named_case : (tk : Token) (i : Input) (y : Target × Input) → token i ≡ tk → named_by tk i ≡ Ok y → TakesTarget y.0 i y.1
-named_case Name i y e h = target_ok i y e h
-named_case _ i y e h = absurd (cc)
-
-named_ok : (i : Input) (y : Target × Input) → named i ≡ Ok y → TakesTarget y.0 i y.1
-unfolding named
-named_ok i y h = named_case (token i) i y refl h
-
--- ---- more statements that hold no other
-
-asserting_rest : (i j : Input) (t : Tree) → asserting i ≡ Ok (t, j) → Rest m.Assert t i j
-unfolding asserting
-asserting_rest i j t h =
-    let a = bind_ok (expression i) _ (t, j) h in
-    let b = bind_ok (expect m.Semicolon a.0.1) _ (t, j) a.2 in
-    let o = ok_parts (check a.0.0, b.0.1) (t, j) b.2 in
-    let e = expression_ok i a.0 a.1 in
-    let z = expect_step m.Semicolon a.0.1 b.0 b.1 in
-    carried (λ t j. Rest m.Assert t i j) _ _ _ _ o.0 o.1 (flat m.Assert (check a.0.0) (e.used ++ z.0.spot ∷ []) i b.0.1
-    (then_moves e.used (z.0.spot ∷ []) i a.0.1 b.0.1 e.moves z.0.moves)
-    (λ s is. asserts s z.0.spot e.used a.0.0 is e.written z.1))
+form_rest : (k : Mark) (f : Form k) (i j : Input) (t : Tree) → formed f i ≡ Ok (t, j) → Rest k t i j
+form_rest k f i j t h =
+    let r = fill_ok f.holes (λ c. simple (f.made c)) i j t h in
+    subst (λ t. Rest k t i j) r.is (flat k (simple (f.made r.contents)) (r.used ++ r.end ∷ []) i j r.moves
+    (λ s is. simply (s ∷ r.used) r.end (f.made r.contents)
+    (subst (WrittenParts i.decls (s ∷ r.used)) (sym (f.parts r.contents)) (then_part (s ∷ []) r.used (of_mark k) (filled f.holes r.contents) (by_mark s k is) r.written)) r.closed))
 
 -- what follows the name that an assignment begins with
 record Assigns (slot : Slot) (t : Tree) (i j : Input) : Type 0 where
@@ -221,48 +90,15 @@ assigning_ok : (slot : Slot) (i j : Input) (t : Tree) → assigning slot i ≡ O
 unfolding assigning
 assigning_ok slot i j t h =
     let a = bind_ok (outside (place_of_slot slot) slot.size i) _ (t, j) h in
-    let b = bind_ok (expect m.Assign a.0.1) _ (t, j) a.2 in
-    let c = bind_ok (expression b.0.1) _ (t, j) b.2 in
-    let d = bind_ok (expect m.Semicolon c.0.1) _ (t, j) c.2 in
-    let o = ok_parts (assign a.0.0 c.0.0, d.0.1) (t, j) d.2 in
-    let into = outside_ok slot i a.0.1 a.0.0 a.1 in
-    let equal = expect_step m.Assign a.0.1 b.0 b.1 in
-    let value = expression_ok b.0.1 c.0 c.1 in
-    let z = expect_step m.Semicolon c.0.1 d.0 d.1 in
-    let one = then_moves (equal.0.spot ∷ []) value.used a.0.1 b.0.1 c.0.1 equal.0.moves value.moves in
-    let two = then_moves into.used (equal.0.spot ∷ value.used) i a.0.1 c.0.1 into.moves one in
-    carried (λ t j. Assigns slot t i j) _ _ _ _ o.0 o.1
+    let o = outside_ok slot i a.0.1 a.0.0 a.1 in
+    let r = fill_ok (mark_hole m.Assign ∷ term_hole ∷ []) (λ c. simple (st.Assign (record { into = a.0.0; value = c.0 }))) a.0.1 j t a.2 in
+    subst (λ t. Assigns slot t i j) r.is
     (record {
-      used = into.used ++ equal.0.spot ∷ value.used ++ z.0.spot ∷ [];
-      moves = then_moves (into.used ++ equal.0.spot ∷ value.used) (z.0.spot ∷ []) i c.0.1 d.0.1 two z.0.moves;
-      written = λ s n. assigns equal.0.spot z.0.spot (s ∷ into.used) value.used a.0.0 c.0.0 (into.written s n) equal.1
-          (here c.0.0 i b.0.1 c.0.1 (equal.0.moves.decls ∙ into.moves.decls) value) z.1;
+      used = o.used ++ r.used ++ r.end ∷ [];
+      moves = part_moves o.used r.used r.end i a.0.1 j o.moves r.moves;
+      written = λ s n. simply (s ∷ o.used ++ r.used) r.end (st.Assign (record { into = a.0.0; value = r.contents.0 }))
+          (part_first (of_target a.0.0) (filled (mark_hole m.Assign ∷ term_hole ∷ []) r.contents) (s ∷ o.used) r.used i a.0.1 o.moves.decls (by_target (s ∷ o.used) a.0.0 (o.written s n)) r.written) r.closed;
     })
-
-pub receiving_rest : (i j : Input) (t : Tree) → receiving i ≡ Ok (t, j) → Rest m.Recv t i j
-unfolding receiving
-receiving_rest i j t h =
-    let a = bind_ok (named i) _ (t, j) h in
-    let b = bind_ok (expect m.From a.0.1) _ (t, j) a.2 in
-    let c = bind_ok (expression b.0.1) _ (t, j) b.2 in
-    let d = bind_ok (expect m.Tag c.0.1) _ (t, j) c.2 in
-    let e = bind_ok (expression d.0.1) _ (t, j) d.2 in
-    let f = bind_ok (expect m.Semicolon e.0.1) _ (t, j) e.2 in
-    let o = ok_parts (recv a.0.0 c.0.0 e.0.0, f.0.1) (t, j) f.2 in
-    let into = named_ok i a.0 a.1 in
-    let from = expect_step m.From a.0.1 b.0 b.1 in
-    let source = expression_ok b.0.1 c.0 c.1 in
-    let tag = expect_step m.Tag c.0.1 d.0 d.1 in
-    let mark = expression_ok d.0.1 e.0 e.1 in
-    let z = expect_step m.Semicolon e.0.1 f.0 f.1 in
-    let first = then_moves (from.0.spot ∷ []) source.used a.0.1 b.0.1 c.0.1 from.0.moves source.moves in
-    let second = then_moves (tag.0.spot ∷ []) mark.used c.0.1 d.0.1 e.0.1 tag.0.moves mark.moves in
-    let one = then_moves into.used (from.0.spot ∷ source.used) i a.0.1 c.0.1 into.moves first in
-    let two = then_moves (into.used ++ from.0.spot ∷ source.used) (tag.0.spot ∷ mark.used) i c.0.1 e.0.1 one second in
-    carried (λ t j. Rest m.Recv t i j) _ _ _ _ o.0 o.1 (flat m.Recv (recv a.0.0 c.0.0 e.0.0) (into.used ++ from.0.spot ∷ source.used ++ tag.0.spot ∷ mark.used ++ z.0.spot ∷ []) i f.0.1
-    (then_moves (into.used ++ from.0.spot ∷ source.used ++ tag.0.spot ∷ mark.used) (z.0.spot ∷ []) i e.0.1 f.0.1 two z.0.moves)
-    (λ s is. receives s from.0.spot tag.0.spot z.0.spot into.used source.used mark.used a.0.0 c.0.0 e.0.0 is into.written from.1
-    (here c.0.0 i b.0.1 c.0.1 (from.0.moves.decls ∙ into.moves.decls) source) tag.1 (here e.0.0 i d.0.1 e.0.1 (tag.0.moves.decls ∙ one.decls) mark) z.1))
 
 -- ---- statements that hold others
 
@@ -414,15 +250,16 @@ assignment_takes i j t e h =
 not_in_version : (i : Input) (y : Tree × Input) → and_then (count i) (λ x. fail {A = Tree} NotInVersion) ≡ Ok y → ⊥
 not_in_version i y h = let b = bind_ok (count i) (λ x. fail {A = Tree} NotInVersion) y h in absurd (cc)
 
+form_case : (k : Mark) (o : Option (Form k)) (i j : Input) (t : Tree) → token i ≡ Is k → by_form o i ≡ Ok (t, j) → TakesTree t i j
+form_case k None i j t e h = absurd (cc)
+form_case k (Some f) i j t e h = begun_then k (formed f) (form_rest k f) i j t e h
+
 stmt_case : (p : Parser (List Tree)) → IsSoundBlock p → (tk : Token) (i j : Input) (t : Tree) → token i ≡ tk → stmt_by p tk i ≡ Ok (t, j) → TakesTree t i j
 stmt_case p s Name i j t e h = assignment_takes i j t e h
 stmt_case p s (Is m.If) i j t e h = begun_then m.If (choosing p) (choosing_rest p s) i j t e h
 stmt_case p s (Is m.While) i j t e h = begun_then m.While (repeating p) (repeating_rest p s) i j t e h
-stmt_case p s (Is m.Print) i j t e h = begun_then m.Print printing printing_rest i j t e h
-stmt_case p s (Is m.Assert) i j t e h = begun_then m.Assert asserting asserting_rest i j t e h
-stmt_case p s (Is m.Send) i j t e h = begun_then m.Send sending sending_rest i j t e h
-stmt_case p s (Is m.Recv) i j t e h = begun_then m.Recv receiving receiving_rest i j t e h
 stmt_case p s (Is m.Waitany) i j t e h = absurd (not_in_version i (t, j) h)
+stmt_case p s (Is k) i j t e h = form_case k (form_of k) i j t e h
 stmt_case p s _ i j t e h = absurd (cc)
 
 pub stmt_sound : (p : Parser (List Tree)) → IsSoundBlock p → (i j : Input) (t : Tree) → stmt p i ≡ Ok (t, j) → TakesTree t i j

@@ -7,7 +7,7 @@ use Rattle.mpd_model.specs.Grammar.{closes, stmt, stmts, body, block, decl, decl
 use Rattle.mpd_model.specs.Input.{Input, Outcome, Parser, and_then, token, next, sees, after, pure, ◌>>=◌, ◌>>◌}
 use Rattle.mpd_model.specs.Tokens.{Spot}
 use Rattle.mpd_model.specs.Tree.{Tree}
-use Rattle.mpd_model.specs.Written.{WrittenTree, prints, sends, receives, assigns, asserts, repeats, chooses, chooses_else, TakesTree}
+use Rattle.mpd_model.specs.Written.{WrittenTree, simply, repeats, chooses, chooses_else, TakesTree}
 use Rattle.mpd_laws.proofs.Sound.{Step, next_step, sees_is}
 use Rattle.mpd_laws.proofs.SoundScript.{Declares, decl_ok}
 use Rattle.mpd_laws.proofs.SoundStatements.{block_sound, stmt_sound}
@@ -18,11 +18,7 @@ bind_same (Err e) f g h = refl
 
 -- a statement has a token
 pub some_token : (ds : List Declared) (ss : List Spot) (t : Tree) (ls : List ℕ) → WrittenTree ds ss t ls → 0 < length ss
-some_token ds ss t ls (prints k end e v h1 h2 h3) = omega arith
-some_token ds ss t ls (sends k to tag end a b c v d g h1 h2 h3 h4 h5 h6 h7) = omega arith
-some_token ds ss t ls (receives k from tag end n a b v d g h1 h2 h3 h4 h5 h6 h7) = omega arith
-some_token ds ss t ls (assigns equal end n e into v h1 h2 h3 h4) = omega (arith, length-append (n ++ equal ∷ e) (end ∷ []))
-some_token ds ss t ls (asserts k end e v h1 h2 h3) = omega arith
+some_token ds _ _ _ (simply ss end s w h) = omega (arith, length-append ss (end ∷ []))
 some_token ds ss t ls (repeats k e a v x ms h1 h2 b) = omega arith
 some_token ds ss t ls (chooses k e a v x ms h1 h2 b) = omega arith
 some_token ds ss t ls (chooses_else k w e a b v x y ms ns h1 h2 f h3 g) = omega arith

@@ -1,6 +1,7 @@
 -- What a line of trace words is answered, and where the debugger stands after it.
 use Rattle.std.specs.Prelude.{◌≡◌, ℕ, ◌+◌, ◌-◌, Bool, ◌||◌, ◌==◌, nat_lt, IsTrue, ◌⊎◌, if◌then◌else◌, List, [], ◌++◌, length, Option, Some, None, codes}
 use Rattle.std.specs.Fmt.{decimal}
+use Rattle.mpd_model.specs.declared.limits.TheConstants.{LINE_MAX, STEPS_MAX}
 use Rattle.mpd_model.specs.declared.step.Step.{Step}
 use Rattle.mpd_model.specs.declared.words.Command.{Command}
 use Rattle.mpd_model.specs.declared.words.Command.TheVariants as command
@@ -12,11 +13,11 @@ use Rattle.mpd_model.specs.Words.{has_word, command_of}
 
 -- the longest line, without its line feed and a carriage return before it
 abbrev pub max_line : ℕ
-max_line = 4096
+max_line = LINE_MAX
 
 -- how many steps may stand
 abbrev pub max_depth : ℕ
-max_depth = 1000000
+max_depth = STEPS_MAX
 
 -- ---- texts of answers
 

@@ -1,5 +1,5 @@
 -- The canonical text of a script (docs/LANGUAGE.md, "Canonical text").
-use Rattle.std.specs.Prelude.{ℕ, zero, suc, Bool, true, false, nat_lt, List, [], ◌++◌, Option, Some, None, slice_get, codes}
+use Rattle.std.specs.Prelude.{ℕ, zero, suc, Bool, true, false, nat_lt, List, [], ◌∷◌, ◌++◌, Option, Some, None, slice_get, codes}
 use Rattle.std.specs.List.{flat_map}
 use Rattle.std.specs.Fmt.{decimal, signed_decimal}
 use Rattle.mpd_model.specs.declared.expr.BinaryOp.{BinaryOp}
@@ -9,10 +9,13 @@ use Rattle.mpd_model.specs.declared.expr.UnaryOp.TheVariants.{Negate, Not}
 use Rattle.mpd_model.specs.declared.place.DeclKind.{DeclKind}
 use Rattle.mpd_model.specs.declared.place.DeclKind.TheVariants.{Variable, Handle}
 use Rattle.mpd_model.specs.declared.place.Place.{Place}
+use Rattle.mpd_model.specs.declared.token.Mark.{Mark}
+use Rattle.mpd_model.specs.declared.token.Mark.TheVariants as m
 use Rattle.mpd_model.specs.Declaration.{Declared}
+use Rattle.mpd_model.specs.Parts.{Part, of_mark, of_term, of_target, parts_of}
 use Rattle.mpd_model.specs.Program.{Program}
 use Rattle.mpd_model.specs.Term.{Term, lit, own_rank, size, cell, element, op1, op2, Target}
-use Rattle.mpd_model.specs.Tree.{Tree, Block, print, send, recv, branch, assign, check, repeat, no_more, then_more, block_of}
+use Rattle.mpd_model.specs.Tree.{Tree, Block, simple, branch, repeat, no_more, then_more, block_of}
 use Rattle.mpd_model.specs.Written.{left_level}
 
 -- ---- names
@@ -90,6 +93,67 @@ index_text ds (Some e) = codes "[" ++ whole_text ds e ++ codes "]"
 abbrev pub target_text : List Declared → Target → List ℕ
 target_text ds t = name_text ds t.place ++ index_text ds t.index
 
+-- a sign or a reserved word
+abbrev pub mark_text : Mark → List ℕ
+mark_text m.Semicolon = codes ";"
+mark_text m.BraceOpen = codes "{"
+mark_text m.BraceClose = codes "}"
+mark_text m.RoundOpen = codes "("
+mark_text m.RoundClose = codes ")"
+mark_text m.SquareOpen = codes "["
+mark_text m.SquareClose = codes "]"
+mark_text m.Assign = codes "="
+mark_text m.Equal = codes "=="
+mark_text m.NotEqual = codes "!="
+mark_text m.Less = codes "<"
+mark_text m.AtMost = codes "<="
+mark_text m.Greater = codes ">"
+mark_text m.AtLeast = codes ">="
+mark_text m.Plus = codes "+"
+mark_text m.Minus = codes "-"
+mark_text m.Times = codes "*"
+mark_text m.Divide = codes "/"
+mark_text m.Remainder = codes "%"
+mark_text m.Not = codes "!"
+mark_text m.And = codes "&&"
+mark_text m.Or = codes "||"
+mark_text m.Mpd = codes "mpd"
+mark_text m.Ranks = codes "ranks"
+mark_text m.Var = codes "var"
+mark_text m.Req = codes "req"
+mark_text m.If = codes "if"
+mark_text m.Else = codes "else"
+mark_text m.While = codes "while"
+mark_text m.Print = codes "print"
+mark_text m.Assert = codes "assert"
+mark_text m.Send = codes "send"
+mark_text m.Ssend = codes "ssend"
+mark_text m.Isend = codes "isend"
+mark_text m.Issend = codes "issend"
+mark_text m.Recv = codes "recv"
+mark_text m.Irecv = codes "irecv"
+mark_text m.Wait = codes "wait"
+mark_text m.Waitany = codes "waitany"
+mark_text m.Barrier = codes "barrier"
+mark_text m.To = codes "to"
+mark_text m.From = codes "from"
+mark_text m.Tag = codes "tag"
+mark_text m.Any = codes "any"
+mark_text m.Status = codes "status"
+mark_text m.Rank = codes "rank"
+mark_text m.Size = codes "size"
+
+abbrev pub part_text : List Declared → Part → List ℕ
+part_text ds (of_mark k) = mark_text k
+part_text ds (of_term e) = whole_text ds e
+part_text ds (of_target t) = target_text ds t
+
+-- the parts of a statement, with one space between them
+abbrev pub parts_text : List Declared → List Part → List ℕ
+parts_text ds [] = []
+parts_text ds (p ∷ []) = part_text ds p
+parts_text ds (p ∷ q ∷ ps) = part_text ds p ++ codes " " ++ parts_text ds (q ∷ ps)
+
 -- two spaces for each open block
 abbrev pub indent : ℕ → List ℕ
 indent zero = []
@@ -103,13 +167,9 @@ else_text (then_more t b) n inside = codes " else {\n" ++ inside ++ indent n ++ 
 -- the lines of a statement inside so many open blocks
 abbrev mutual
   pub tree_text : List Declared → ℕ → Tree → List ℕ
-  tree_text ds n (print e) = indent n ++ codes "print " ++ whole_text ds e ++ codes ";\n"
-  tree_text ds n (send value to tag) = indent n ++ codes "send " ++ whole_text ds value ++ codes " to " ++ whole_text ds to ++ codes " tag " ++ whole_text ds tag ++ codes ";\n"
-  tree_text ds n (recv into from tag) = indent n ++ codes "recv " ++ target_text ds into ++ codes " from " ++ whole_text ds from ++ codes " tag " ++ whole_text ds tag ++ codes ";\n"
+  tree_text ds n (simple s) = indent n ++ parts_text ds (parts_of s) ++ codes ";\n"
   tree_text ds n (branch c a b) =
       indent n ++ codes "if " ++ whole_text ds c ++ codes " {\n" ++ block_text ds (suc n) a ++ indent n ++ codes "}" ++ else_text b n (block_text ds (suc n) b) ++ codes "\n"
-  tree_text ds n (assign into e) = indent n ++ target_text ds into ++ codes " = " ++ whole_text ds e ++ codes ";\n"
-  tree_text ds n (check e) = indent n ++ codes "assert " ++ whole_text ds e ++ codes ";\n"
   tree_text ds n (repeat c a) = indent n ++ codes "while " ++ whole_text ds c ++ codes " {\n" ++ block_text ds (suc n) a ++ indent n ++ codes "}\n"
 
   pub block_text : List Declared → ℕ → Block → List ℕ

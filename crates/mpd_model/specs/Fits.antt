@@ -10,8 +10,9 @@ use Rattle.mpd_model.specs.Grammar.{operator, operator_at}
 use Rattle.mpd_model.specs.Input.{Input, Outcome, token_of}
 use Rattle.mpd_model.specs.Program.{Program}
 use Rattle.mpd_model.specs.Tokens.{Spot}
-use Rattle.mpd_model.specs.Tree.{Tree, Block, print, send, recv, branch, assign, check, repeat, no_more, then_more}
-use Rattle.mpd_model.specs.Written.{WrittenTarget, whole, part, WrittenTree, prints, sends, receives, assigns, asserts, repeats, chooses, chooses_else, WrittenBlock, braces, WrittenBody, ended, follows, WrittenScript, script}
+use Rattle.mpd_model.specs.Parts.{Part, parts_of}
+use Rattle.mpd_model.specs.Tree.{Tree, Block, simple, branch, repeat, no_more, then_more}
+use Rattle.mpd_model.specs.Written.{WrittenTarget, whole, part, WrittenPart, by_mark, by_term, by_target, WrittenParts, no_part, then_part, WrittenTree, simply, repeats, chooses, chooses_else, WrittenBlock, braces, WrittenBody, ended, follows, WrittenScript, script}
 
 -- ---- expressions
 
@@ -52,12 +53,8 @@ pub record Gives {A : Type 0} (o : Outcome A) (a : A) (rest : List Spot) (ls : L
 -- how many blocks a statement has open at once
 abbrev mutual
   pub blocks : Tree → ℕ
-  blocks (print e) = 0
-  blocks (send value to tag) = 0
-  blocks (recv into source tag) = 0
+  blocks (simple s) = 0
   blocks (branch c a b) = suc (max (blocks_in a) (blocks_in b))
-  blocks (assign into e) = 0
-  blocks (check e) = 0
   blocks (repeat c a) = suc (blocks_in a)
 
   pub blocks_in : Block → ℕ
@@ -69,14 +66,19 @@ abbrev pub index_cost : (ds : List Declared) (ss : List Spot) (t : Target) → W
 index_cost ds _ _ (whole s p h) = 0
 index_cost ds _ _ (part s a b ss p t h h1 w h2) = cost ss
 
+abbrev pub part_cost : (ds : List Declared) (ss : List Spot) (p : Part) → WrittenPart ds ss p → ℕ
+part_cost ds _ _ (by_mark s k h) = 0
+part_cost ds _ _ (by_term ss t w) = cost ss
+part_cost ds _ _ (by_target ss t w) = index_cost ds ss t w
+
+abbrev pub dearest_part : (ds : List Declared) (ss : List Spot) (ps : List Part) → WrittenParts ds ss ps → ℕ
+dearest_part ds _ _ no_part = 0
+dearest_part ds _ _ (then_part ss rs p ps v w) = max (part_cost ds ss p v) (dearest_part ds rs ps w)
+
 -- the cost of the dearest expression among what is written
 abbrev mutual
   pub dearest : (ds : List Declared) (ss : List Spot) (t : Tree) (ls : List ℕ) → WrittenTree ds ss t ls → ℕ
-  dearest ds _ _ _ (prints k end e t h1 w h2) = cost e
-  dearest ds _ _ _ (sends k to tag end a b c value dest mark h1 v h2 d h3 g h4) = max (cost a) (max (cost b) (cost c))
-  dearest ds _ _ _ (receives k s tag end n a b into source mark h1 v h2 d h3 g h4) = max (index_cost ds n into v) (max (cost a) (cost b))
-  dearest ds _ _ _ (assigns equal end n e into t v h1 w h2) = max (index_cost ds n into v) (cost e)
-  dearest ds _ _ _ (asserts k end e t h1 w h2) = cost e
+  dearest ds _ _ _ (simply ss end s w h) = dearest_part ds ss (parts_of s) w
   dearest ds _ _ _ (repeats k e a t x ls h1 w f) = max (cost e) (dearest_block ds a x ls f)
   dearest ds _ _ _ (chooses k e a t x ls h1 w f) = max (cost e) (dearest_block ds a x ls f)
   dearest ds _ _ _ (chooses_else k o e a b t x y ls ms h1 w f h2 g) = max (cost e) (max (dearest_block ds a x ls f) (dearest_block ds b y ms g))

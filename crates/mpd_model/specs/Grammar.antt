@@ -1,7 +1,8 @@
 -- The grammar, one parser for each of its words.
-use Rattle.std.specs.Prelude.{ℕ, zero, suc, ◌+◌, ℤ, pos, negsuc, Bool, true, false, ◌&&◌, ◌||◌, if◌then◌else◌, ◌==◌, nat_lt, nat_le, List, [], ◌∷◌, ◌++◌, length, Option, Some, None, Result, Ok, Err}
+use Rattle.std.specs.Prelude.{◌≡◌, refl, ℕ, zero, suc, ◌+◌, ℤ, pos, negsuc, Bool, true, false, ◌&&◌, ◌||◌, if◌then◌else◌, ◌==◌, nat_lt, nat_le, List, [], ◌∷◌, ◌++◌, length, Option, Some, None, Result, Ok, Err}
 use Rattle.std.specs.Ordering.{int_eq}
 use Rattle.std.specs.List.{prefix_len}
+use Rattle.mpd_model.specs.declared.limits.TheConstants.{BLOCKS_MAX, NESTING_MAX, RANKS_MAX, SCRIPT_MAX}
 use Rattle.mpd_model.specs.declared.expr.BinaryOp.{BinaryOp}
 use Rattle.mpd_model.specs.declared.expr.BinaryOp.TheVariants as o
 use Rattle.mpd_model.specs.declared.expr.UnaryOp.{UnaryOp}
@@ -12,15 +13,19 @@ use Rattle.mpd_model.specs.declared.place.DeclKind.TheVariants.{Variable}
 use Rattle.mpd_model.specs.declared.read_fault.FaultCode.TheVariants.{TooLong, NotText, TooDeep, BadRanks, NotInVersion}
 use Rattle.mpd_model.specs.declared.read_fault.ReadFault.{ReadFault}
 use Rattle.mpd_model.specs.declared.slot.Slot.{Slot}
+use Rattle.mpd_model.specs.declared.stmt.Simple.{Simple}
+use Rattle.mpd_model.specs.declared.stmt.Simple.TheVariants as st
+use Rattle.mpd_model.specs.declared.token.Mark.{Mark}
 use Rattle.mpd_model.specs.declared.token.Mark.TheVariants as m
 use Rattle.mpd_model.specs.declared.token.Token.{Token}
 use Rattle.mpd_model.specs.declared.token.Token.TheVariants.{Number, Name, Is, End}
 use Rattle.mpd_model.specs.Declaration.{cells_of}
 use Rattle.mpd_model.specs.Faults.{fault}
-use Rattle.mpd_model.specs.Input.{Parser, Outcome, Input, start_of, ◌>>=◌, ◌>>◌, pure, fail, refuse, peek, advance, eat, expect, begin, spend, count, sees, seek, fresh, add, spelling, place}
+use Rattle.mpd_model.specs.Input.{Parser, Outcome, Input, start_of, same_mark, ◌>>=◌, ◌>>◌, pure, fail, refuse, peek, advance, eat, expect, begin, spend, count, sees, seek, fresh, add, spelling, place}
 use Rattle.mpd_model.specs.Program.{Program}
 use Rattle.mpd_model.specs.Term.{Term, lit, own_rank, size, cell, element, op1, op2, Target}
-use Rattle.mpd_model.specs.Tree.{Tree, print, send, recv, branch, assign, check, repeat, block_of}
+use Rattle.mpd_model.specs.Parts.{parts_of, of_mark, Hole, mark_hole, term_hole, target_hole, source_hole, status_hole, Contents, filled}
+use Rattle.mpd_model.specs.Tree.{Tree, simple, branch, repeat, block_of}
 
 -- ---- expressions
 
@@ -134,7 +139,7 @@ expr (suc n) k = level (expr n) k
 
 -- an expression that stands in no other; each of those inside it takes one of its budget
 abbrev pub expression : Parser Term
-expression = begin >> expr 65 5
+expression = begin >> expr (suc NESTING_MAX) 5
 
 -- ---- statements
 
@@ -146,22 +151,6 @@ abbrev pub closes : Bool → Token → Bool
 closes true (Is m.BraceClose) = true
 closes false End = true
 closes _ _ = false
-
-unfoldable pub printing : Parser Tree
-printing = do
-  e ← expression
-  expect m.Semicolon
-  pure (print e)
-
-unfoldable pub sending : Parser Tree
-sending = do
-  value ← expression
-  expect m.To
-  to ← expression
-  expect m.Tag
-  tag ← expression
-  expect m.Semicolon
-  pure (send value to tag)
 
 -- a place that stands in no expression: its bracket takes no budget, and its index is an expression of its own
 abbrev pub outside : Place → Option ℕ → Parser Target
@@ -187,30 +176,121 @@ named_by _ = refuse
 unfoldable pub named : Parser Target
 named = peek >>= named_by
 
--- An assignment begins with the name of its place, which is sought before the statement is counted.
+abbrev pub source_by : Bool → Parser (Option Term)
+source_by true = pure None
+source_by false = expression >>= λ e. pure (Some e)
+
+unfoldable pub source : Parser (Option Term)
+source = eat m.Any >>= source_by
+
+abbrev pub status_by : Bool → Parser (Option Target)
+status_by true = named >>= λ t. pure (Some t)
+status_by false = pure None
+
+unfoldable pub status : Parser (Option Target)
+status = eat m.Status >>= status_by
+
+-- what fills the holes of a statement, and the `;` behind them
+abbrev pub fill : {A : Type 0} → (hs : List Hole) → (Contents hs → A) → Parser A
+fill [] made = expect m.Semicolon >> pure (made tt)
+fill (mark_hole k ∷ hs) made = expect k >> fill hs made
+fill (term_hole ∷ hs) made = expression >>= λ e. fill hs (λ c. made (e, c))
+fill (target_hole ∷ hs) made = named >>= λ t. fill hs (λ c. made (t, c))
+fill (source_hole ∷ hs) made = source >>= λ o. fill hs (λ c. made (o, c))
+fill (status_hole ∷ hs) made = status >>= λ o. fill hs (λ c. made (o, c))
+
+-- ---- the forms of statements that hold no other and begin with a word
+
+-- What comes before such holes ends there: no operator goes on with an expression.
+abbrev pub EndsTerm : List Hole → Type 0
+EndsTerm [] = Unit {0}
+EndsTerm (mark_hole k ∷ hs) = operator (Is k) ≡ None
+EndsTerm (status_hole ∷ hs) = EndsTerm hs
+EndsTerm _ = ⊥
+
+-- nor does a `status` follow that is none of the holes before
+abbrev pub EndsStatus : List Hole → Type 0
+EndsStatus [] = Unit {0}
+EndsStatus (mark_hole k ∷ hs) = same_mark k m.Status ≡ false
+EndsStatus _ = ⊥
+
+-- it is clear where each hole ends
+abbrev pub AreClear : List Hole → Type 0
+AreClear [] = Unit {0}
+AreClear (mark_hole k ∷ hs) = AreClear hs
+AreClear (term_hole ∷ hs) = EndsTerm hs × AreClear hs
+AreClear (target_hole ∷ hs) = AreClear hs
+AreClear (source_hole ∷ hs) = EndsTerm hs × AreClear hs
+AreClear (status_hole ∷ hs) = EndsStatus hs × AreClear hs
+
+-- the statements of one word: the holes behind it, and what is made of what fills them
+pub record Form (k : Mark) : Type 0 where
+  pub holes : List Hole
+  pub made : Contents holes → Simple
+  pub parts : (c : Contents holes) → parts_of (made c) ≡ of_mark k ∷ filled holes c
+  pub clear : AreClear holes
+
+abbrev pub print_form : Form m.Print
+print_form = record { holes = term_hole ∷ []; made = λ c. st.Print c.0; parts = λ c. refl; clear = (tt, tt) }
+
+abbrev pub assert_form : Form m.Assert
+assert_form = record { holes = term_hole ∷ []; made = λ c. st.Assert c.0; parts = λ c. refl; clear = (tt, tt) }
+
+abbrev pub send_form : Form m.Send
+send_form = record {
+  holes = term_hole ∷ mark_hole m.To ∷ term_hole ∷ mark_hole m.Tag ∷ term_hole ∷ [];
+  made = λ c. st.Send (record { value = c.0; to = c.1.0; tag = c.1.1.0 });
+  parts = λ c. refl;
+  clear = (refl, (refl, (tt, tt)));
+}
+
+abbrev pub recv_form : Form m.Recv
+recv_form = record {
+  holes = target_hole ∷ mark_hole m.From ∷ term_hole ∷ mark_hole m.Tag ∷ term_hole ∷ [];
+  made = λ c. st.Recv (record { into = c.0; from = c.1.0; tag = c.1.1.0 });
+  parts = λ c. refl;
+  clear = (refl, (tt, tt));
+}
+
+abbrev pub form_of : (k : Mark) → Option (Form k)
+form_of m.Print = Some print_form
+form_of m.Assert = Some assert_form
+form_of m.Send = Some send_form
+form_of m.Recv = Some recv_form
+form_of _ = None
+
+-- what stands behind the word
+abbrev pub formed : {k : Mark} → Form k → Parser Tree
+formed f = fill f.holes (λ c. simple (f.made c))
+
+abbrev pub by_form : {k : Mark} → Option (Form k) → Parser Tree
+by_form None = refuse
+by_form (Some f) = begun >> formed f
+
+-- An assignment has no word: it begins with the name of its place, which is sought before the statement is counted.
 unfoldable pub assigning : Slot → Parser Tree
-assigning s = do
-  into ← outside (place_of_slot s) s.size
-  expect m.Assign
-  e ← expression
-  expect m.Semicolon
-  pure (assign into e)
+assigning s = outside (place_of_slot s) s.size >>= λ t. fill (mark_hole m.Assign ∷ term_hole ∷ []) (λ c. simple (st.Assign (record { into = t; value = c.0 })))
 
-unfoldable pub asserting : Parser Tree
-asserting = do
-  e ← expression
-  expect m.Semicolon
-  pure (check e)
+-- each statement that holds no other is an assignment or has its form
+pub record HasForm (s : Simple) : Type 0 where
+  pub mark : Mark
+  pub form : Form mark
+  pub found : form_of mark ≡ Some form
+  pub contents : Contents form.holes
+  pub is : form.made contents ≡ s
 
-unfoldable pub receiving : Parser Tree
-receiving = do
-  into ← named
-  expect m.From
-  from ← expression
-  expect m.Tag
-  tag ← expression
-  expect m.Semicolon
-  pure (recv into from tag)
+abbrev pub IsFormed : Simple → Type 0
+IsFormed (st.Assign s) = Unit {0}
+IsFormed s = HasForm s
+
+pub all_formed : (s : Simple) → IsFormed s
+all_formed (st.Print e) = record { mark = m.Print; form = print_form; found = refl; contents = (e, tt); is = refl }
+all_formed (st.Assign s) = tt
+all_formed (st.Assert e) = record { mark = m.Assert; form = assert_form; found = refl; contents = (e, tt); is = refl }
+all_formed (st.Send s) = record { mark = m.Send; form = send_form; found = refl; contents = (s.value, (s.to, (s.tag, tt))); is = refl }
+all_formed (st.Recv s) = record { mark = m.Recv; form = recv_form; found = refl; contents = (s.into, (s.from, (s.tag, tt))); is = refl }
+
+-- ---- any statement
 
 -- the parser of a block
 module _ (block : Parser (List Tree)) where
@@ -236,11 +316,8 @@ module _ (block : Parser (List Tree)) where
   stmt_by Name = seek Variable >>= λ s. begun >> assigning s
   stmt_by (Is m.If) = begun >> choosing
   stmt_by (Is m.While) = begun >> repeating
-  stmt_by (Is m.Print) = begun >> printing
-  stmt_by (Is m.Assert) = begun >> asserting
-  stmt_by (Is m.Send) = begun >> sending
-  stmt_by (Is m.Recv) = begun >> receiving
   stmt_by (Is m.Waitany) = count >> fail NotInVersion
+  stmt_by (Is k) = by_form (form_of k)
   stmt_by _ = refuse
 
   unfoldable pub stmt : Parser Tree
@@ -264,7 +341,7 @@ block (suc n) = do
   pure found
 
 abbrev pub max_blocks : ℕ
-max_blocks = 64
+max_blocks = BLOCKS_MAX
 
 -- ---- the whole text
 
@@ -276,7 +353,7 @@ unfoldable pub version : Parser (Unit {0})
 version = peek >>= version_by
 
 abbrev pub rank_count : ℤ → Option ℕ
-rank_count (pos n) = if nat_le 1 n && nat_le n 16 then Some n else None
+rank_count (pos n) = if nat_le 1 n && nat_le n RANKS_MAX then Some n else None
 rank_count (negsuc n) = None
 
 abbrev pub ranks_of : Option ℕ → Parser ℕ
@@ -362,7 +439,7 @@ script = do
 -- ---- reading
 
 abbrev pub max_text : ℕ
-max_text = 65536
+max_text = SCRIPT_MAX
 
 abbrev pub is_text : ℕ → Bool
 is_text b = b == 9 || b == 10 || b == 13 || (nat_le 32 b && nat_le b 126)

@@ -4,6 +4,7 @@ use Rattle.std.specs.Global.{Vec}
 use Rattle.std.specs.Coded.{Coded, code_by, coded×, coded_ℕ, coded_list}
 use Rattle.std.specs.Str.{bytes_eq}
 use denote.Enum.Bare.{sameb}
+use Rattle.mpd_model.specs.declared.limits.TheConstants.{CELLS_MAX, HANDLES_MAX, NESTING_MAX, STATEMENTS_MAX}
 use Rattle.mpd_model.specs.contracts.token.Mark.{the_type}
 use Rattle.mpd_model.specs.contracts.token.Token as token_row
 use Rattle.mpd_model.specs.declared.slot.Slot.{Slot}
@@ -147,7 +148,7 @@ expect wanted = λ i. if sees wanted i then Ok (tt, next i) else refuse i
 -- ---- what is counted
 
 abbrev pub max_budget : ℕ
-max_budget = 64
+max_budget = NESTING_MAX
 
 -- begins an expression that stands in no other
 abbrev pub begin : Parser (Unit {0})
@@ -158,7 +159,7 @@ unfoldable pub spend : Parser (Unit {0})
 spend = λ i. if i.budget == 0 then fail TooDeep i else Ok (tt, record (next i) { budget = i.budget - 1 })
 
 abbrev pub max_statements : ℕ
-max_statements = 4096
+max_statements = STATEMENTS_MAX
 
 -- a statement begins at the next token
 unfoldable pub count : Parser (Unit {0})
@@ -202,7 +203,7 @@ unfoldable pub fresh : Parser (Unit {0})
 fresh = λ i. if is_known (slot_in i.decls (spelling i)) then fail Twice i else Ok (tt, i)
 
 abbrev pub fits : DeclKind → Option ℕ → List Declared → Bool
-fits kind size ds = nat_le (variables_in ds + variable_cells kind size) 1024 && nat_le (handles_in ds + handle_cells kind size) 256
+fits kind size ds = nat_le (variables_in ds + variable_cells kind size) CELLS_MAX && nat_le (handles_in ds + handle_cells kind size) HANDLES_MAX
 
 -- declares a name, or a fault at a place
 unfoldable pub add : DeclKind → List ℕ → Option ℕ → ℕ → Parser (Unit {0})

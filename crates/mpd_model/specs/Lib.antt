@@ -3,6 +3,7 @@ pub mod Term
 pub mod TermCode
 pub mod TermOf
 pub mod Tree
+pub mod Parts
 pub mod TreeCode
 pub mod TreeOf
 pub mod TreeFalls

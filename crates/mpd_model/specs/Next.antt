@@ -2,6 +2,7 @@
 use Rattle.std.specs.Prelude.{ℕ, ◌+◌, ℤ, Bool, true, false, ◌&&◌, if◌then◌else◌, List, [], ◌∷◌, ◌++◌, length, map, slice_get, slice_set, Option, Some, None, option_and_then, is_some, Result, Ok, Err}
 use Rattle.std.specs.Option.{option_map}
 use Rattle.std.specs.List.{filter, flat_map}
+use Rattle.mpd_model.specs.declared.limits.TheConstants.{TAGS}
 use Rattle.mpd_model.specs.declared.step.CallId.{CallId}
 use Rattle.mpd_model.specs.declared.step.Step.{Step}
 use Rattle.mpd_model.specs.declared.step.Step.TheVariants.{Local, Match, Wake, Release}
@@ -12,8 +13,13 @@ use Rattle.mpd_model.specs.declared.call.Trap.TheVariants.{BadRank, BadTag, Asse
 use Rattle.mpd_model.specs.declared.call.Activity.{Activity}
 use Rattle.mpd_model.specs.declared.call.Activity.TheVariants.{Running, Blocked, Trapped}
 use Rattle.mpd_model.specs.declared.call.MatchSet.TheVariants.{Pair, Woke}
-use Rattle.mpd_model.specs.Term.{Term, Target, Value, and_then, is_zero, checked, value_of, target_cell}
-use Rattle.mpd_model.specs.Tree.{Tree, print, send, recv, branch, assign, check, repeat, Block, trees, statements_in, numbered}
+use Rattle.mpd_model.specs.Term.{Term, Value, Env, and_then, is_zero, checked, value_of, target_cell}
+use Rattle.mpd_model.specs.declared.stmt.AssignStmt.{AssignStmt}
+use Rattle.mpd_model.specs.declared.stmt.RecvStmt.{RecvStmt}
+use Rattle.mpd_model.specs.declared.stmt.SendStmt.{SendStmt}
+use Rattle.mpd_model.specs.declared.stmt.Simple.{Simple}
+use Rattle.mpd_model.specs.declared.stmt.Simple.TheVariants as st
+use Rattle.mpd_model.specs.Tree.{Tree, simple, branch, repeat, Block, trees, statements_in, numbered}
 use Rattle.mpd_model.specs.declared.call.Message.{Message}
 use Rattle.mpd_model.specs.World.{RankWorld, World, call_id, kind_at, rank_numbers, call_numbers, eligible, buffer, complete, last_call}
 
@@ -23,26 +29,30 @@ use Rattle.mpd_model.specs.World.{RankWorld, World, call_id, kind_at, rank_numbe
 abbrev pub trapped : RankWorld → Trap → RankWorld
 trapped r t = record r { activity = Trapped t }
 
-abbrev pub max_tags : ℕ
-max_tags = 32768
+-- the number of a rank, as a destination or a source, and a tag
+abbrev pub rank_value : Term → Env → Result ℕ Trap
+rank_value e env = checked (value_of e env) env.size BadRank
 
--- what a send issues on rank p of n: the value comes first, then the destination, then the tag
-abbrev pub send_kind : Term → Term → Term → List ℤ → ℕ → ℕ → Result CallKind Trap
-send_kind value to tag vars p n =
-    and_then (value_of value vars p n) (λ v.
-    and_then (checked (value_of to vars p n) n BadRank) (λ q.
-    and_then (checked (value_of tag vars p n) max_tags BadTag) (λ t. Ok (Send q t v))))
+abbrev pub tag_value : Term → Env → Result ℕ Trap
+tag_value e env = checked (value_of e env) TAGS BadTag
+
+-- what a send issues: the value comes first, then the destination, then the tag
+abbrev pub send_kind : SendStmt → Env → Result CallKind Trap
+send_kind s env =
+    and_then (value_of s.value env) (λ v.
+    and_then (rank_value s.to env) (λ q.
+    and_then (tag_value s.tag env) (λ t. Ok (Send (record { to = q; tag = t; value = v })))))
 
 -- what a receive issues: the index of its target comes first, then the source, then the tag
-abbrev pub recv_kind : Target → Term → Term → List ℤ → ℕ → ℕ → Result CallKind Trap
-recv_kind into from tag vars p n =
-    and_then (target_cell into vars p n) (λ c.
-    and_then (checked (value_of from vars p n) n BadRank) (λ q.
-    and_then (checked (value_of tag vars p n) max_tags BadTag) (λ t. Ok (Recv q t c))))
+abbrev pub recv_kind : RecvStmt → Env → Result CallKind Trap
+recv_kind s env =
+    and_then (target_cell s.into env) (λ c.
+    and_then (rank_value s.from env) (λ q.
+    and_then (tag_value s.tag env) (λ t. Ok (Recv (record { from = q; tag = t; cell = c })))))
 
 -- the cell that an assignment writes, and its new value: the index of its target comes first, then the expression
-abbrev pub written : Target → Term → List ℤ → ℕ → ℕ → Result (ℕ × ℤ) Trap
-written into e vars p n = and_then (target_cell into vars p n) (λ c. and_then (value_of e vars p n) (λ v. Ok (c, v)))
+abbrev pub assignment : AssignStmt → Env → Result (ℕ × ℤ) Trap
+assignment s env = and_then (target_cell s.into env) (λ c. and_then (value_of s.value env) (λ v. Ok (c, v)))
 
 abbrev pub printed : RankWorld → List (ℕ × Tree) → Value → RankWorld
 printed r ts (Ok v) = record r { rest = ts; out = r.out ++ v ∷ [] }
@@ -73,19 +83,27 @@ abbrev pub repeated : RankWorld → List (ℕ × Tree) → ℕ → Value → Ter
 repeated r ts number (Ok v) c body = record r { rest = if is_zero v then ts else numbered (number + 1) (trees body) ++ (number, repeat c body) ∷ ts }
 repeated r ts number (Err t) c body = trapped r t
 
--- what a statement makes of rank p of n, given its number and what is left behind it
-abbrev pub ran : ℕ → ℕ → RankWorld → ℕ → Tree → List (ℕ × Tree) → RankWorld
-ran p n r number (print e) ts = printed r ts (value_of e r.vars p n)
-ran p n r number (send value to tag) ts = issued r ts number (send_kind value to tag r.vars p n)
-ran p n r number (recv into from tag) ts = issued r ts number (recv_kind into from tag r.vars p n)
-ran p n r number (branch c first second) ts = chosen r ts number (value_of c r.vars p n) first second
-ran p n r number (assign into e) ts = assigned r ts (written into e r.vars p n)
-ran p n r number (check e) ts = asserted r ts (value_of e r.vars p n)
-ran p n r number (repeat c body) ts = repeated r ts number (value_of c r.vars p n) c body
+-- what expressions are evaluated in on rank p of n
+abbrev pub env_of : ℕ → ℕ → RankWorld → Env
+env_of p n r = record { vars = r.vars; rank = p; size = n }
+
+-- what a statement that holds no other makes of a rank, given its number and what is left behind it
+abbrev pub ran_simple : Env → RankWorld → ℕ → Simple → List (ℕ × Tree) → RankWorld
+ran_simple env r number (st.Print e) ts = printed r ts (value_of e env)
+ran_simple env r number (st.Assign s) ts = assigned r ts (assignment s env)
+ran_simple env r number (st.Assert e) ts = asserted r ts (value_of e env)
+ran_simple env r number (st.Send s) ts = issued r ts number (send_kind s env)
+ran_simple env r number (st.Recv s) ts = issued r ts number (recv_kind s env)
+
+-- what any statement makes of it
+abbrev pub ran : Env → RankWorld → ℕ → Tree → List (ℕ × Tree) → RankWorld
+ran env r number (simple s) ts = ran_simple env r number s ts
+ran env r number (branch c first second) ts = chosen r ts number (value_of c env) first second
+ran env r number (repeat c body) ts = repeated r ts number (value_of c env) c body
 
 abbrev pub local_of : ℕ → ℕ → RankWorld → Activity → List (ℕ × Tree) → Option RankWorld
 local_of p n r Running [] = None
-local_of p n r Running (t ∷ ts) = Some (ran p n r t.0 t.1 ts)
+local_of p n r Running (t ∷ ts) = Some (ran (env_of p n r) r t.0 t.1 ts)
 local_of p n r Blocked ts = None
 local_of p n r (Trapped t) ts = None
 
@@ -115,19 +133,23 @@ waits (Some r) = is_blocked r.activity
 abbrev pub can_wake : World → ℕ → Bool
 can_wake w p = waits (slice_get w.ranks p) && complete w (last_call w p)
 
--- the cell that a woken call writes, and its new value
-abbrev pub written_by : Option CallKind → Option Message → Option (ℕ × ℤ)
-written_by (Some (Recv from tag cell)) (Some m) = Some (cell, m.value)
-written_by (Some (Recv from tag cell)) None = None
-written_by (Some (Send to tag value)) m = None
-written_by None m = None
+-- the cells that a woken call writes, in order, each with its new value
+abbrev pub writes_of : Option CallKind → Option Message → List (ℕ × ℤ)
+writes_of (Some (Recv r)) (Some m) = (r.cell, m.value) ∷ []
+writes_of (Some (Recv r)) None = []
+writes_of (Some (Send s)) m = []
+writes_of None m = []
 
-abbrev pub write_cell : Option (ℕ × ℤ) → List ℤ → List ℤ
-write_cell None vars = vars
-write_cell (Some w) vars = slice_set vars w.0 w.1
+abbrev pub write_cells : List (ℕ × ℤ) → List ℤ → List ℤ
+write_cells [] vars = vars
+write_cells (w ∷ ws) vars = write_cells ws (slice_set vars w.0 w.1)
 
-abbrev pub woken_rank : Option (ℕ × ℤ) → RankWorld → RankWorld
-woken_rank write r = record r { vars = write_cell write r.vars; activity = Running }
+abbrev pub woken_rank : List (ℕ × ℤ) → RankWorld → RankWorld
+woken_rank writes r = record r { vars = write_cells writes r.vars; activity = Running }
+
+-- what the wake of a rank writes
+abbrev pub wake_writes : World → ℕ → List (ℕ × ℤ)
+wake_writes w p = writes_of (kind_at w (last_call w p)) (buffer w (last_call w p))
 
 -- the ranks with one changed
 abbrev pub put_at : List RankWorld → ℕ → Option RankWorld → (RankWorld → RankWorld) → List RankWorld
@@ -139,7 +161,7 @@ update_at ranks p f = put_at ranks p (slice_get ranks p) f
 
 abbrev pub woken : World → ℕ → World
 woken w p = record w {
-  ranks = update_at w.ranks p (woken_rank (written_by (kind_at w (last_call w p)) (buffer w (last_call w p))));
+  ranks = update_at w.ranks p (woken_rank (wake_writes w p));
   sets = w.sets ++ Woke (last_call w p) ∷ [];
 }
 

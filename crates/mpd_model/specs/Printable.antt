@@ -13,7 +13,8 @@ use Rattle.mpd_model.specs.Input.{slot_in, max_budget}
 use Rattle.mpd_model.specs.Program.{Program, IsLegal}
 use Rattle.mpd_model.specs.Term.{Term, lit, own_rank, size, cell, element, op1, op2, Target}
 use Rattle.mpd_model.specs.Tokens.{begins_name, is_in_name, word, Spot}
-use Rattle.mpd_model.specs.Tree.{Tree, Block, print, send, recv, branch, assign, check, repeat, no_more, then_more, block_of}
+use Rattle.mpd_model.specs.Parts.{Part, of_mark, of_term, of_target, parts_of}
+use Rattle.mpd_model.specs.Tree.{Tree, Block, simple, branch, repeat, no_more, then_more, block_of}
 use Rattle.mpd_model.specs.Written.{left_level, Written}
 
 -- ---- names
@@ -93,14 +94,19 @@ IsPrintableAt ds p (Some e) = Stands ds true p × IsPrintableWhole ds e
 abbrev pub IsPrintableTarget : List Declared → Target → Type 0
 IsPrintableTarget ds t = IsPrintableAt ds t.place t.index
 
+abbrev pub IsPrintablePart : List Declared → Part → Type 0
+IsPrintablePart ds (of_mark k) = Unit {0}
+IsPrintablePart ds (of_term e) = IsPrintableWhole ds e
+IsPrintablePart ds (of_target t) = IsPrintableTarget ds t
+
+abbrev pub ArePrintable : List Declared → List Part → Type 0
+ArePrintable ds [] = Unit {0}
+ArePrintable ds (p ∷ ps) = IsPrintablePart ds p × ArePrintable ds ps
+
 abbrev mutual
   pub IsPrintableTree : List Declared → Tree → Type 0
-  IsPrintableTree ds (print e) = IsPrintableWhole ds e
-  IsPrintableTree ds (send value to tag) = IsPrintableWhole ds value × (IsPrintableWhole ds to × IsPrintableWhole ds tag)
-  IsPrintableTree ds (recv into from tag) = IsPrintableTarget ds into × (IsPrintableWhole ds from × IsPrintableWhole ds tag)
+  IsPrintableTree ds (simple s) = ArePrintable ds (parts_of s)
   IsPrintableTree ds (branch c a b) = IsPrintableWhole ds c × (IsPrintableBlock ds a × IsPrintableBlock ds b)
-  IsPrintableTree ds (assign into e) = IsPrintableTarget ds into × IsPrintableWhole ds e
-  IsPrintableTree ds (check e) = IsPrintableWhole ds e
   IsPrintableTree ds (repeat c a) = IsPrintableWhole ds c × IsPrintableBlock ds a
 
   pub IsPrintableBlock : List Declared → Block → Type 0

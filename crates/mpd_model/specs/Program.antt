@@ -1,6 +1,7 @@
 -- A script as contracts see it.
 use Rattle.std.specs.Prelude.{◌≡◌, ℕ, ◌≤◌, List, length, refl}
 use Rattle.std.specs.Coded.{Coded, code_by, coded×, coded_ℕ, coded_list}
+use Rattle.mpd_model.specs.declared.limits.TheConstants.{RANKS_MAX, CELLS_MAX, HANDLES_MAX, STATEMENTS_MAX}
 use Rattle.mpd_model.specs.Declaration.{Declared, declared_code, variables_in, handles_in}
 use Rattle.mpd_model.specs.Tree.{Tree, block_of, statements_in}
 use Rattle.mpd_model.specs.TreeCode.{coded_tree}
@@ -22,8 +23,8 @@ program_code =
 pub record IsLegal (p : Program) : Type 0 where
   pub version : p.version ≡ 1
   pub some_rank : 1 ≤ p.ranks
-  pub ranks : p.ranks ≤ 16
-  pub variables : variables_in p.decls ≤ 1024
-  pub handles : handles_in p.decls ≤ 256
-  pub statements : statements_in (block_of p.body) ≤ 4096
+  pub ranks : p.ranks ≤ RANKS_MAX
+  pub variables : variables_in p.decls ≤ CELLS_MAX
+  pub handles : handles_in p.decls ≤ HANDLES_MAX
+  pub statements : statements_in (block_of p.body) ≤ STATEMENTS_MAX
   pub lines : length p.lines ≡ statements_in (block_of p.body)

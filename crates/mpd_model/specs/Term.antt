@@ -63,8 +63,8 @@ abbrev pub bounded : ℤ → Value
 bounded z = if is_whole z then Ok z else Err Overflow
 
 -- A quotient is rounded toward zero, and a remainder has the sign of the dividend. Either is refused where the quotient is out of range.
-abbrev pub divided : ℤ → ℤ → ℤ → Value
-divided x y z = if is_zero y then Err ZeroDivisor else (if is_whole (int_div x y) then Ok z else Err Overflow)
+abbrev pub division : ℤ → ℤ → ℤ → Value
+division x y z = if is_zero y then Err ZeroDivisor else (if is_whole (int_div x y) then Ok z else Err Overflow)
 
 abbrev pub combined : BinaryOp → ℤ → ℤ → Value
 combined Or x y = Ok (truth (not (is_zero x) || not (is_zero y)))
@@ -78,8 +78,8 @@ combined AtLeast x y = Ok (truth (int_le y x))
 combined Add x y = bounded (x +ℤ y)
 combined Subtract x y = bounded (x -ℤ y)
 combined Multiply x y = bounded (x *ℤ y)
-combined Divide x y = divided x y (int_div x y)
-combined Remainder x y = divided x y (int_rem x y)
+combined Divide x y = division x y (int_div x y)
+combined Remainder x y = division x y (int_rem x y)
 
 abbrev pub altered : UnaryOp → ℤ → Value
 altered Negate x = bounded (neg_ℤ x)
@@ -108,20 +108,26 @@ checked (Err e) n t = Err e
 
 -- ---- values
 
--- the value of an expression on rank p of n, given the variables: its parts are evaluated from left to right, and an index is checked as it is evaluated
-abbrev pub value_of : Term → List ℤ → ℕ → ℕ → Value
-value_of (lit z) vars p n = Ok z
-value_of own_rank vars p n = Ok (pos p)
-value_of size vars p n = Ok (pos n)
-value_of (cell at) vars p n = Ok (slice_index_or vars at.first (pos 0))
-value_of (element at index) vars p n = and_then (checked (value_of index vars p n) at.cells BadIndex) (λ i. Ok (slice_index_or vars (at.first + i) (pos 0)))
-value_of (op1 op a) vars p n = then_value (value_of a vars p n) (altered op)
-value_of (op2 op a b) vars p n = then_value (value_of a vars p n) (λ x. unless_decided (decided op x) (then_value (value_of b vars p n) (combined op x)))
+-- what an expression is evaluated in: the variables of a rank, the number of the rank, and how many ranks there are
+pub record Env : Type 0 where
+  pub vars : List ℤ
+  pub rank : ℕ
+  pub size : ℕ
 
--- the cell that a target is on rank p of n
-abbrev pub cell_at : Place → Option Term → List ℤ → ℕ → ℕ → Result ℕ Trap
-cell_at at None vars p n = Ok at.first
-cell_at at (Some index) vars p n = and_then (checked (value_of index vars p n) at.cells BadIndex) (λ i. Ok (at.first + i))
+-- the value of an expression: its parts are evaluated from left to right, and an index is checked as it is evaluated
+abbrev pub value_of : Term → Env → Value
+value_of (lit z) env = Ok z
+value_of own_rank env = Ok (pos env.rank)
+value_of size env = Ok (pos env.size)
+value_of (cell at) env = Ok (slice_index_or env.vars at.first (pos 0))
+value_of (element at index) env = and_then (checked (value_of index env) at.cells BadIndex) (λ i. Ok (slice_index_or env.vars (at.first + i) (pos 0)))
+value_of (op1 op a) env = then_value (value_of a env) (altered op)
+value_of (op2 op a b) env = then_value (value_of a env) (λ x. unless_decided (decided op x) (then_value (value_of b env) (combined op x)))
 
-abbrev pub target_cell : Target → List ℤ → ℕ → ℕ → Result ℕ Trap
+-- the cell that a target is
+abbrev pub cell_at : Place → Option Term → Env → Result ℕ Trap
+cell_at at None env = Ok at.first
+cell_at at (Some index) env = and_then (checked (value_of index env) at.cells BadIndex) (λ i. Ok (at.first + i))
+
+abbrev pub target_cell : Target → Env → Result ℕ Trap
 target_cell t = cell_at t.place t.index

@@ -1,5 +1,5 @@
 -- Printed texts: calls, match sets, what a rank is doing, how a run has ended, and all that `show` prints.
-use Rattle.std.specs.Prelude.{ℕ, ℤ, List, [], ◌∷◌, ◌++◌, Option, Some, None, slice_get, codes}
+use Rattle.std.specs.Prelude.{ℕ, ℤ, if◌then◌else◌, List, [], ◌∷◌, ◌++◌, Option, Some, None, slice_get, slice_index_or, codes}
 use Rattle.std.specs.List.{flat_map}
 use Rattle.std.specs.Fmt.{decimal, signed_decimal}
 use Rattle.mpd_model.specs.declared.step.CallId.{CallId}
@@ -18,7 +18,7 @@ use Rattle.mpd_model.specs.declared.outcome.TrappedRank.{TrappedRank}
 use Rattle.mpd_model.specs.declared.outcome.Outcome.{Outcome}
 use Rattle.mpd_model.specs.declared.outcome.Outcome.TheVariants as ending
 use Rattle.mpd_model.specs.Program.{Program}
-use Rattle.mpd_model.specs.World.{RankWorld, World, call_id, rank_numbers, call_numbers, kind_at, partner, buffer, last_call, pending, posted}
+use Rattle.mpd_model.specs.World.{RankWorld, World, call_id, rank_numbers, call_numbers, kind_at, partner, is_free, buffer, last_call, pending, posted}
 use Rattle.mpd_model.specs.Outcomes.{first_number, outcome}
 
 -- ---- lists of values: one space before each
@@ -52,43 +52,42 @@ trap_name BadIndex = codes "bad-index"
 trap_name Assertion = codes "assert"
 
 abbrev pub kind_text : CallKind → List ℕ
-kind_text (Send to tag value) = codes "send to " ++ decimal to ++ codes " tag " ++ decimal tag ++ codes " value " ++ signed_decimal value
-kind_text (Recv from tag cell) = codes "recv from " ++ decimal from ++ codes " tag " ++ decimal tag
+kind_text (Send s) = codes "send to " ++ decimal s.to ++ codes " tag " ++ decimal s.tag ++ codes " value " ++ signed_decimal s.value
+kind_text (Recv r) = codes "recv from " ++ decimal r.from ++ codes " tag " ++ decimal r.tag
 
--- the call that a call was paired with
+-- the call that a call was paired with, and the mark of one that is free
 abbrev pub partner_text : Option CallId → List ℕ
-partner_text None = codes " free"
+partner_text None = []
 partner_text (Some d) = codes " with " ++ id_text d
+
+abbrev pub mark_text : World → CallId → List ℕ
+mark_text w c = if is_free w c then codes " free" else partner_text (partner w.sets c)
 
 -- the value that a receive got
 abbrev pub got_text : CallKind → Option Message → List ℕ
-got_text (Send to tag value) m = []
-got_text (Recv from tag cell) None = []
-got_text (Recv from tag cell) (Some m) = codes " value " ++ signed_decimal m.value
+got_text (Send s) m = []
+got_text (Recv r) None = []
+got_text (Recv r) (Some m) = codes " value " ++ signed_decimal m.value
 
 abbrev pub call_text_of : World → CallId → Option CallKind → List ℕ
 call_text_of w c None = []
-call_text_of w c (Some kind) = kind_text kind ++ partner_text (partner w.sets c) ++ got_text kind (buffer w c)
+call_text_of w c (Some kind) = kind_text kind ++ mark_text w c ++ got_text kind (buffer w c)
 
 abbrev pub call_text : World → CallId → List ℕ
 call_text w c = call_text_of w c (kind_at w c)
 
 -- ---- ranks
 
-abbrev pub line_of : Option ℕ → ℕ
-line_of None = 0
-line_of (Some n) = n
-
--- what a running rank is at: the line of its next statement
+-- what a running rank is at: the line of its next statement, given that one's number
 abbrev pub place_text : List ℕ → Option ℕ → List ℕ
 place_text lines None = codes "ended"
-place_text lines (Some number) = codes "at " ++ decimal (line_of (slice_get lines number))
+place_text lines (Some number) = codes "at " ++ decimal (slice_index_or lines number 0)
 
 -- what a rank is doing, given its last call and the number of its next statement
 abbrev pub activity_text : List ℕ → CallId → Option ℕ → Activity → List ℕ
-activity_text lines last next Running = place_text lines next
-activity_text lines last next Blocked = codes "blocked " ++ decimal last.index
-activity_text lines last next (Trapped t) = codes "trapped " ++ trap_name t
+activity_text lines last number Running = place_text lines number
+activity_text lines last number Blocked = codes "blocked " ++ decimal last.index
+activity_text lines last number (Trapped t) = codes "trapped " ++ trap_name t
 
 abbrev pub state_text : Program → World → ℕ → RankWorld → List ℕ
 state_text s w p r = activity_text s.lines (last_call w p) (first_number r.rest) r.activity

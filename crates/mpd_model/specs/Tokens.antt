@@ -3,6 +3,7 @@ use Rattle.std.specs.Prelude.{ℕ, zero, suc, ◌+◌, ◌-◌, ◌*◌, ◌^◌
 use Rattle.std.specs.Char.{is_ascii_digit, is_ascii_alphabetic, is_ascii_alphanumeric}
 use Rattle.std.specs.List.{prefix_len}
 use Rattle.std.specs.Str.{bytes_eq}
+use Rattle.mpd_model.specs.declared.limits.TheConstants.{NAME_MAX}
 use Rattle.mpd_model.specs.declared.token.Mark.{Mark}
 use Rattle.mpd_model.specs.declared.token.Mark.TheVariants as m
 use Rattle.mpd_model.specs.declared.token.Token.{Token}
@@ -57,7 +58,7 @@ pub reserved_is : map (λ k. (k.0.now, k.1)) RESERVED ≡ reserved
 reserved_is = refl
 
 abbrev pub word_in : List (List ℕ × Mark) → List ℕ → Token
-word_in [] w = if nat_le (length w) 64 then Name else Bad
+word_in [] w = if nat_le (length w) NAME_MAX then Name else Bad
 word_in (k ∷ ks) w = if bytes_eq k.0 w then Is k.1 else word_in ks w
 
 unfoldable pub word : List ℕ → Token

@@ -1,17 +1,16 @@
 -- A statement, and a block of them.
 use Rattle.std.specs.Prelude.{◌≡◌, ℕ, ◌+◌, List, [], ◌∷◌, refl}
 use Rattle.std.proofs.Common.{ap}
-use Rattle.mpd_model.specs.Term.{Term, Target}
+use Rattle.mpd_model.specs.declared.stmt.Simple.{Simple}
+use Rattle.mpd_model.specs.Term.{Term}
 
 mutual
   pub data Tree : Type 0 where
-    print : Term → Tree
-    send : (value to tag : Term) → Tree
-    recv : Target → (from tag : Term) → Tree
+    -- a statement that holds no other
+    simple : Simple → Tree
+    -- `if`, with its first and its second block
     branch : Term → Block → Block → Tree
-    assign : Target → Term → Tree
-    -- `assert` and `while`
-    check : Term → Tree
+    -- `while`
     repeat : Term → Block → Tree
 
   pub data Block : Type 0 where
@@ -33,13 +32,9 @@ trees_of_block (t ∷ ts) = ap (λ us. t ∷ us) (trees_of_block ts)
 -- how many statements, with those inside
 abbrev mutual
   pub statements : Tree → ℕ
-  statements (print e) = 1
-  statements (send value to tag) = 1
-  statements (recv into from tag) = 1
-  statements (branch c a b) = statements_in a + statements_in b + 1
-  statements (assign into e) = 1
-  statements (check e) = 1
-  statements (repeat c a) = statements_in a + 1
+  statements (simple s) = 1
+  statements (branch test first second) = statements_in first + statements_in second + 1
+  statements (repeat test body) = statements_in body + 1
 
   pub statements_in : Block → ℕ
   statements_in no_more = 0

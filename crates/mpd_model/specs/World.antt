@@ -89,31 +89,37 @@ partner (Pair s r ∷ sets) c = if id_eq s c then Some r else (if id_eq r c then
 partner (Woke d ∷ sets) c = partner sets c
 partner (Barrier ∷ sets) c = partner sets c
 
--- no pair names it
+-- a send or a receive: what matching is about
+abbrev pub is_message_kind : Option CallKind → Bool
+is_message_kind (Some (Send s)) = true
+is_message_kind (Some (Recv r)) = true
+is_message_kind None = false
+
+-- a send or a receive that no pair names
 abbrev pub is_free : World → CallId → Bool
-is_free w c = is_none (partner w.sets c)
+is_free w c = is_message_kind (kind_at w c) && is_none (partner w.sets c)
 
 -- ---- matching (MPI 4.0, section 3.5)
 
 -- A send of rank p and a receive of rank q fit: the send goes to q, the receive's source is p, and their tags are one.
 abbrev pub fitting : Option CallKind → Option CallKind → ℕ → ℕ → Bool
-fitting (Some (Send to tag value)) (Some (Recv from wanted cell)) p q = (to == q) && ((from == p) && (tag == wanted))
-fitting (Some (Send to tag value)) (Some (Send to' tag' value')) p q = false
-fitting (Some (Send to tag value)) None p q = false
-fitting (Some (Recv from tag cell)) other p q = false
+fitting (Some (Send s)) (Some (Recv r)) p q = (s.to == q) && ((r.from == p) && (s.tag == r.tag))
+fitting (Some (Send s)) (Some (Send t)) p q = false
+fitting (Some (Send s)) None p q = false
+fitting (Some (Recv r)) other p q = false
 fitting None other p q = false
 
 abbrev pub fits : World → CallId → CallId → Bool
 fits w s r = fitting (kind_at w s) (kind_at w r) s.rank r.rank
 
 abbrev pub sends_to : Option CallKind → ℕ → Bool
-sends_to (Some (Send to tag value)) q = to == q
-sends_to (Some (Recv from tag cell)) q = false
+sends_to (Some (Send s)) q = s.to == q
+sends_to (Some (Recv r)) q = false
 sends_to None q = false
 
 abbrev pub receives : Option CallKind → Bool
-receives (Some (Send to tag value)) = false
-receives (Some (Recv from tag cell)) = true
+receives (Some (Send s)) = false
+receives (Some (Recv r)) = true
 receives None = false
 
 abbrev pub is_pending : World → ℕ → ℕ → ℕ → Bool
@@ -141,17 +147,17 @@ eligible w s r =
 -- ---- messages and completion (MPI 4.0, sections 3.4 and 3.7.3)
 
 abbrev pub message_of : CallId → Option CallKind → Option Message
-message_of s (Some (Send to tag value)) = Some (record { value = value; source = s.rank; tag = tag })
-message_of s (Some (Recv from tag cell)) = None
-message_of s None = None
+message_of c (Some (Send s)) = Some (record { value = s.value; source = c.rank; tag = s.tag })
+message_of c (Some (Recv r)) = None
+message_of c None = None
 
 -- the message that a receive was paired with
 abbrev pub buffer : World → CallId → Option Message
 buffer w r = option_and_then (λ s. message_of s (kind_at w s)) (partner w.sets r)
 
 abbrev pub is_buffered : Mode → Option CallKind → Bool
-is_buffered Buffered (Some (Send to tag value)) = true
-is_buffered Buffered (Some (Recv from tag cell)) = false
+is_buffered Buffered (Some (Send s)) = true
+is_buffered Buffered (Some (Recv r)) = false
 is_buffered Buffered None = false
 is_buffered Rendezvous kind = false
 

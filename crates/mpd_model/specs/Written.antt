@@ -5,6 +5,8 @@ use Rattle.mpd_model.specs.declared.expr.UnaryOp.{UnaryOp}
 use Rattle.mpd_model.specs.declared.place.DeclKind.TheVariants.{Variable}
 use Rattle.mpd_model.specs.declared.place.Place.{Place}
 use Rattle.mpd_model.specs.declared.slot.Slot.{Slot}
+use Rattle.mpd_model.specs.declared.stmt.Simple.{Simple}
+use Rattle.mpd_model.specs.declared.token.Mark.{Mark}
 use Rattle.mpd_model.specs.declared.token.Mark.TheVariants as m
 use Rattle.mpd_model.specs.declared.token.Token.TheVariants.{Number, Name, Is}
 use Rattle.mpd_model.specs.Declaration.{Declared}
@@ -13,7 +15,8 @@ use Rattle.mpd_model.specs.Input.{Input, Parser, slot_in, line_of}
 use Rattle.mpd_model.specs.Program.{Program}
 use Rattle.mpd_model.specs.Term.{Term, lit, own_rank, size, cell, element, op1, op2, Target}
 use Rattle.mpd_model.specs.Tokens.{Spot}
-use Rattle.mpd_model.specs.Tree.{Tree, print, send, recv, branch, assign, check, repeat, no_more, block_of}
+use Rattle.mpd_model.specs.Parts.{Part, of_mark, of_term, of_target, parts_of}
+use Rattle.mpd_model.specs.Tree.{Tree, simple, branch, repeat, no_more, block_of}
 
 -- ---- expressions, by how loosely they bind
 
@@ -64,23 +67,21 @@ pub data WrittenTarget (ds : List Declared) : List Spot → Target → Type 0 wh
   part : (s a b : Spot) (ss : List Spot) (p : Place) (t : Term) → Names ds s true p → a.token ≡ Is m.SquareOpen → Written ds 5 ss t → b.token ≡ Is m.SquareClose
       → WrittenTarget ds (s ∷ a ∷ ss ++ b ∷ []) (record { place = p; index = Some t })
 
+-- a part of a statement that holds no other
+pub data WrittenPart (ds : List Declared) : List Spot → Part → Type 0 where
+  by_mark : (s : Spot) (k : Mark) → s.token ≡ Is k → WrittenPart ds (s ∷ []) (of_mark k)
+  by_term : (ss : List Spot) (t : Term) → Written ds 5 ss t → WrittenPart ds ss (of_term t)
+  by_target : (ss : List Spot) (t : Target) → WrittenTarget ds ss t → WrittenPart ds ss (of_target t)
+
+pub data WrittenParts (ds : List Declared) : List Spot → List Part → Type 0 where
+  no_part : WrittenParts ds [] []
+  then_part : (ss rs : List Spot) (p : Part) (ps : List Part) → WrittenPart ds ss p → WrittenParts ds rs ps → WrittenParts ds (ss ++ rs) (p ∷ ps)
+
 mutual
   pub data WrittenTree (ds : List Declared) : List Spot → Tree → List ℕ → Type 0 where
-    prints : (k end : Spot) (e : List Spot) (t : Term)
-        → k.token ≡ Is m.Print → Written ds 5 e t → end.token ≡ Is m.Semicolon
-        → WrittenTree ds (k ∷ e ++ end ∷ []) (print t) (k.line ∷ [])
-    sends : (k to tag end : Spot) (a b c : List Spot) (value dest mark : Term)
-        → k.token ≡ Is m.Send → Written ds 5 a value → to.token ≡ Is m.To → Written ds 5 b dest → tag.token ≡ Is m.Tag → Written ds 5 c mark → end.token ≡ Is m.Semicolon
-        → WrittenTree ds (k ∷ a ++ to ∷ b ++ tag ∷ c ++ end ∷ []) (send value dest mark) (k.line ∷ [])
-    receives : (k from tag end : Spot) (n a b : List Spot) (into : Target) (source mark : Term)
-        → k.token ≡ Is m.Recv → WrittenTarget ds n into → from.token ≡ Is m.From → Written ds 5 a source → tag.token ≡ Is m.Tag → Written ds 5 b mark → end.token ≡ Is m.Semicolon
-        → WrittenTree ds (k ∷ n ++ from ∷ a ++ tag ∷ b ++ end ∷ []) (recv into source mark) (k.line ∷ [])
-    assigns : (equal end : Spot) (n e : List Spot) (into : Target) (t : Term)
-        → WrittenTarget ds n into → equal.token ≡ Is m.Assign → Written ds 5 e t → end.token ≡ Is m.Semicolon
-        → WrittenTree ds (n ++ equal ∷ e ++ end ∷ []) (assign into t) (line_of n ∷ [])
-    asserts : (k end : Spot) (e : List Spot) (t : Term)
-        → k.token ≡ Is m.Assert → Written ds 5 e t → end.token ≡ Is m.Semicolon
-        → WrittenTree ds (k ∷ e ++ end ∷ []) (check t) (k.line ∷ [])
+    simply : (ss : List Spot) (end : Spot) (s : Simple)
+        → WrittenParts ds ss (parts_of s) → end.token ≡ Is m.Semicolon
+        → WrittenTree ds (ss ++ end ∷ []) (simple s) (line_of ss ∷ [])
     repeats : (k : Spot) (e a : List Spot) (t : Term) (x : List Tree) (ls : List ℕ)
         → k.token ≡ Is m.While → Written ds 5 e t → WrittenBlock ds a x ls
         → WrittenTree ds (k ∷ e ++ a) (repeat t (block_of x)) (k.line ∷ ls)

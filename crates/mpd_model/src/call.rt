@@ -19,21 +19,35 @@ pub struct Call {
     pub kind: CallKind,
 }
 
+/// A standard send.
+#[derive(Clone, Copy, Debug, PartialEq, Eq)]
+pub struct SendCall {
+    /// Its destination, 0 to 15.
+    pub to: usize,
+    /// Its tag, 0 to 32,767.
+    pub tag: usize,
+    /// The value of its message.
+    pub value: i64,
+}
+
+/// A receive.
+#[derive(Clone, Copy, Debug, PartialEq, Eq)]
+pub struct RecvCall {
+    /// Its source, 0 to 15.
+    pub from: usize,
+    /// Its tag, 0 to 32,767.
+    pub tag: usize,
+    /// The cell that its value goes to.
+    pub cell: usize,
+}
+
 /// What a call is.
 #[derive(Clone, Copy, Debug, PartialEq, Eq)]
 pub enum CallKind {
-    /// A blocking standard send: its destination, 0 to 15, its tag, 0 to 32,767, and the value of its message.
-    Send {
-        to: usize,
-        tag: usize,
-        value: i64,
-    },
-    /// A blocking receive: its source, its tag, and the cell that its value goes to.
-    Recv {
-        from: usize,
-        tag: usize,
-        cell: usize,
-    },
+    /// A blocking standard send (MPI 4.0, section 3.2.1).
+    Send(SendCall),
+    /// A blocking receive (MPI 4.0, section 3.2.4).
+    Recv(RecvCall),
 }
 
 /// What a receive gets of the send that it is paired with: value, sender and tag (MPI 4.0, section 3.2.5).

@@ -3,6 +3,7 @@
 
 pub mod call;
 pub mod expr;
+pub mod limits;
 pub mod lines;
 pub mod outcome;
 pub mod place;

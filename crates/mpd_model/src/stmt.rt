@@ -30,18 +30,48 @@ pub struct Stmt {
     pub node: StmtNode,
 }
 
+/// A blocking standard send (MPI 4.0, section 3.2.1).
+#[derive(Debug, Drop)]
+pub struct SendStmt {
+    pub value: Expr,
+    /// The destination.
+    pub to: Expr,
+    pub tag: Expr,
+}
+
+/// A blocking receive (MPI 4.0, section 3.2.4).
+#[derive(Debug, Drop)]
+pub struct RecvStmt {
+    /// The place that the value is written to.
+    pub into: Target,
+    /// The source.
+    pub from: Expr,
+    pub tag: Expr,
+}
+
+/// An assignment.
+#[derive(Debug, Drop)]
+pub struct AssignStmt {
+    pub into: Target,
+    pub value: Expr,
+}
+
+/// A statement that holds no other (docs/LANGUAGE.md, "Statements").
+#[derive(Debug, Drop)]
+pub enum Simple {
+    Print(Expr),
+    Assign(AssignStmt),
+    Assert(Expr),
+    Send(SendStmt),
+    Recv(RecvStmt),
+}
+
 /// What a statement is made of (docs/LANGUAGE.md, "Statements").
 #[cycle(stmt)]
 #[derive(Debug, Drop)]
 pub enum StmtNode {
-    Print(Expr),
-    /// A blocking standard send (MPI 4.0, section 3.2.1).
-    Send { value: Expr, to: Expr, tag: Expr },
-    /// A blocking receive (MPI 4.0, section 3.2.4).
-    Recv { into: Target, from: Expr, tag: Expr },
+    Simple(Simple),
     If(Expr, Vec<Stmt>, Vec<Stmt>),
-    Assign(Target, Expr),
-    Assert(Expr),
     While(Expr, Vec<Stmt>),
 }
 

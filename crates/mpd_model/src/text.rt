@@ -26,8 +26,8 @@ impl fmt::Display for CallKind {
 
     fn fmt<W: fmt::Write>(&self, f: &mut fmt::Formatter<W>) -> fmt::Result {
         match *self {
-            CallKind::Send { to, tag, value } => write!(f, "send to {to} tag {tag} value {value}"),
-            CallKind::Recv { from, tag, .. } => write!(f, "recv from {from} tag {tag}"),
+            CallKind::Send(s) => write!(f, "send to {} tag {} value {}", s.to, s.tag, s.value),
+            CallKind::Recv(r) => write!(f, "recv from {} tag {}", r.from, r.tag),
         }
     }
 }

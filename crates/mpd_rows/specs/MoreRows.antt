@@ -580,10 +580,10 @@ pub rv_v2 : left_of (go (prog 1 (branch (lit (negsuc 4)) (then_more (print (n 1)
 rv_v2 = refl
 
 abbrev sent : ℕ → ℕ → Call
-sent to tag = record { statement = 0; kind = Send to tag (negsuc 4) }
+sent to tag = record { statement = 0; kind = Send (record { to = to; tag = tag; value = negsuc 4 }) }
 
 abbrev awaited : ℕ → ℕ → Call
-awaited from tag = record { statement = 0; kind = Recv from tag 0 }
+awaited from tag = record { statement = 0; kind = Recv (record { from = from; tag = tag; cell = 0 }) }
 
 abbrev rank_with : List Call → Activity → RankWorld
 rank_with calls activity = record { rest = []; vars = negsuc 0 ∷ pos 12 ∷ []; handles = None ∷ Some 3 ∷ []; calls = calls; out = []; activity = activity }
@@ -710,7 +710,7 @@ unfolding reading script header version ranks decls decls_from decl declaring si
 rv_x_long0 = refl
 
 abbrev send_ : ℕ → Call
-send_ to = record { statement = 0; kind = Send to 1 (pos 3) }
+send_ to = record { statement = 0; kind = Send (record { to = to; tag = 1; value = pos 3 }) }
 
 abbrev rank_of : List Call → List Tree → Activity → RankWorld
 rank_of calls rest activity = record { rest = map {B = ℕ × Tree} (λ t. (9, t)) rest; vars = pos 0 ∷ []; handles = []; calls = calls; out = []; activity = activity }

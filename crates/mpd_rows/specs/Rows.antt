@@ -150,10 +150,10 @@ row_empty = refl
 -- ---- worlds that no script of this grammar reaches
 
 abbrev sent : ℕ → ℕ → ℕ → Call
-sent to tag value = record { statement = 0; kind = Send to tag (pos value) }
+sent to tag value = record { statement = 0; kind = Send (record { to = to; tag = tag; value = pos value }) }
 
 abbrev awaited : ℕ → ℕ → Call
-awaited from tag = record { statement = 0; kind = Recv from tag 0 }
+awaited from tag = record { statement = 0; kind = Recv (record { from = from; tag = tag; cell = 0 }) }
 
 abbrev rank_with : List Call → Activity → RankWorld
 rank_with calls activity = record { rest = []; vars = pos 0 ∷ []; handles = []; calls = calls; out = []; activity = activity }

@@ -58,7 +58,7 @@ too_large = op2 Add (n 9223372036854775807) (n 1)
 -- ---- one rank of two, before statement 5 and with statement 20 behind it: x is 1, a is 10 20 30
 
 abbrev earlier : Call
-earlier = record { statement = 3; kind = Send 1 0 (pos 8) }
+earlier = record { statement = 3; kind = Send (record { to = 1; tag = 0; value = pos 8 }) }
 
 abbrev rank_at : List (ℕ × Tree) → RankWorld
 rank_at ts = record { rest = ts; vars = pos 1 ∷ pos 10 ∷ pos 20 ∷ pos 30 ∷ []; handles = None ∷ []; calls = earlier ∷ []; out = pos 9 ∷ []; activity = Running }
@@ -136,19 +136,19 @@ row_assertions = refl
 
 -- what is sent is the value at the issue
 pub row_sent : does (send (op2 Add (cell x) (element a (n 2))) (n 1) (n 32767))
-    ≡ Some (record (rank_at behind) { calls = earlier ∷ record { statement = 5; kind = Send 1 32767 (pos 31) } ∷ []; activity = Blocked })
+    ≡ Some (record (rank_at behind) { calls = earlier ∷ record { statement = 5; kind = Send (record { to = 1; tag = 32767; value = pos 31 }) } ∷ []; activity = Blocked })
 row_sent = refl
 
 pub row_sent_smallest : does (send (op2 Subtract (m 9223372036854775807) (n 1)) own_rank (m 0))
-    ≡ Some (record (rank_at behind) { calls = earlier ∷ record { statement = 5; kind = Send 0 0 (negsuc 9223372036854775807) } ∷ []; activity = Blocked })
+    ≡ Some (record (rank_at behind) { calls = earlier ∷ record { statement = 5; kind = Send (record { to = 0; tag = 0; value = negsuc 9223372036854775807 }) } ∷ []; activity = Blocked })
 row_sent_smallest = refl
 
 -- the cell of a receive is fixed as it is issued: the third of `a` is cell 3
 pub row_posted_at : does (recv (part a (op2 Add (cell x) (n 1))) (op2 Subtract size (n 1)) (n 0))
-    ≡ Some (record (rank_at behind) { calls = earlier ∷ record { statement = 5; kind = Recv 1 0 3 } ∷ []; activity = Blocked })
+    ≡ Some (record (rank_at behind) { calls = earlier ∷ record { statement = 5; kind = Recv (record { from = 1; tag = 0; cell = 3 }) } ∷ []; activity = Blocked })
 row_posted_at = refl
 
-pub row_posted_whole : does (recv (whole x) (n 0) (n 32767)) ≡ Some (record (rank_at behind) { calls = earlier ∷ record { statement = 5; kind = Recv 0 32767 0 } ∷ []; activity = Blocked })
+pub row_posted_whole : does (recv (whole x) (n 0) (n 32767)) ≡ Some (record (rank_at behind) { calls = earlier ∷ record { statement = 5; kind = Recv (record { from = 0; tag = 32767; cell = 0 }) } ∷ []; activity = Blocked })
 row_posted_whole = refl
 
 -- an assignment changes one cell

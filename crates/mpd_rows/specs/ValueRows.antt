@@ -5,7 +5,7 @@ use Rattle.mpd_model.specs.declared.expr.UnaryOp.TheVariants.{Negate, Not}
 use Rattle.mpd_model.specs.declared.place.Place.{Place}
 use Rattle.mpd_model.specs.declared.call.Trap.{Trap}
 use Rattle.mpd_model.specs.declared.call.Trap.TheVariants.{Overflow, ZeroDivisor, BadRank, BadTag, BadIndex, Assertion}
-use Rattle.mpd_model.specs.Term.{Term, lit, own_rank, size, cell, element, op1, op2, Target, Value, value_of, target_cell}
+use Rattle.mpd_model.specs.Term.{Term, lit, own_rank, size, cell, element, op1, op2, Target, Value, Env, value_of, target_cell}
 use Rattle.mpd_model.specs.Texts.{trap_name}
 
 -- `var x; var a[3]; var one[1]; var none[0];`
@@ -26,8 +26,11 @@ abbrev cells : List ℤ
 cells = pos 2 ∷ pos 10 ∷ pos 20 ∷ pos 30 ∷ negsuc 39 ∷ []
 
 -- on rank 1 of 3
+abbrev env : Env
+env = record { vars = cells; rank = 1; size = 3 }
+
 abbrev value : Term → Value
-value t = value_of t cells 1 3
+value t = value_of t env
 
 abbrev n : ℕ → Term
 n k = lit (pos k)
@@ -284,7 +287,7 @@ targets =
     ∷ (record { place = one; index = Some (n 0) }, Ok 4) ∷ (record { place = a; index = Some (n 3) }, Err BadIndex) ∷ (record { place = a; index = Some (m 1) }, Err BadIndex)
     ∷ (record { place = none; index = Some (n 0) }, Err BadIndex) ∷ (record { place = a; index = Some over_zero }, Err ZeroDivisor) ∷ []
 
-pub row_targets : map {B = Result ℕ Trap} (λ r. target_cell r.0 cells 1 3) targets ≡ map {B = Result ℕ Trap} (λ r. r.1) targets
+pub row_targets : map {B = Result ℕ Trap} (λ r. target_cell r.0 env) targets ≡ map {B = Result ℕ Trap} (λ r. r.1) targets
 row_targets = refl
 
 -- ---- names
