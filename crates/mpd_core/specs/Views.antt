@@ -9,6 +9,10 @@ use Rattle.mpd_rank.specs.Views.{RankView, rank_of, step_room}
 abbrev pub ranks_in : Program → List RankView → List RankWorld
 ranks_in s views = map (rank_of s) views
 
+-- which ranks they are
+abbrev pub numbers_in : List RankView → List ℕ
+numbers_in views = map (λ v. v.rank) views
+
 -- for how many steps, whatever they are, room is kept: as many match sets may be added, and each rank has room for a step of its own
 abbrev pub room_in : ℕ → List RankView → ℕ
 room_in set_room [] = set_room

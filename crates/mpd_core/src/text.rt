@@ -2,33 +2,20 @@
 
 ghost use Rattle.std.specs.Prelude.{◌≡◌, ◌++◌, ◌<◌, IfOk, OnOk, OnErr, IfSome, IsSome, length, slice_get, string_bytes};
 ghost use Rattle.mpd_model.specs.World.{call_at};
-ghost use Rattle.mpd_model.specs.Texts.{partner_text, got_text, place_text, call_text, rank_text, set_text};
+ghost use Rattle.mpd_model.specs.Texts.{mark_text, got_text, place_text, call_text, rank_text, set_text};
 
 use crate::state::Core;
 use mpd_model::call::{Activity, CallKind, Message};
 use mpd_model::step::CallId;
 use std::alloc::AllocError;
 
-/// Adds the call that a call was paired with, or that it is free.
-fn push_partner(out: &mut String, partner: Option<CallId>) -> Result<(), AllocError>
-    ensures { OnOk result (string_bytes out.new ≡ string_bytes out.old ++ partner_text partner) }
-{
-    match partner {
-        None => out.push_str(" free")?,
-        Some(id) => write!(out, " with {id}")?,
-    }
-    Ok(())
-}
-
 /// Adds the value that a receive got.
 fn push_got(out: &mut String, kind: CallKind, message: Option<Message>) -> Result<(), AllocError>
     ensures { OnOk result (string_bytes out.new ≡ string_bytes out.old ++ got_text kind message) }
 {
-    if let CallKind::Recv { .. } = kind {
-        if let Some(got) = message {
-            let value = got.value;
-            write!(out, " value {value}")?;
-        }
+    if let (CallKind::Recv(_), Some(got)) = (kind, message) {
+        let value = got.value;
+        write!(out, " value {value}")?;
     }
     Ok(())
 }
@@ -48,6 +35,18 @@ fn push_place(out: &mut String, lines: &[usize], next: Option<usize>) -> Result<
 }
 
 impl<'c> Core<'c> {
+    /// Adds that a send or a receive is free, or the call that a call was paired with.
+    fn push_mark(&self, out: &mut String, id: CallId) -> Result<(), AllocError>
+        ensures { OnOk result (string_bytes out.new ≡ string_bytes out.old ++ mark_text self.now.world id) }
+    {
+        if self.is_free(id) {
+            out.push_str(" free")?;
+        } else if let Some(partner) = self.partner(id) {
+            write!(out, " with {partner}")?;
+        }
+        Ok(())
+    }
+
     /// A call as `show` prints it behind its name, where it exists. An `Err` is want of memory.
     fn text_of_call(&self, id: CallId) -> Result<String, AllocError>
         ensures { IfOk result (λ t. string_bytes t ≡ call_text self.now.world id) }
@@ -55,7 +54,7 @@ impl<'c> Core<'c> {
         let mut text = String::new(self.allocator());
         if let Some(kind) = self.kind(id) {
             write!(text, "{kind}")?;
-            push_partner(&mut text, self.partner(id))?;
+            self.push_mark(&mut text, id)?;
             push_got(&mut text, kind, self.buffer(id))?;
         }
         Ok(text)
