@@ -64,7 +64,7 @@ pub(crate) fn is_message_kind(kind: Option<CallKind>) -> bool
     ensures { result ≡ message_kind kind }
 {
     match kind {
-        Some(CallKind::Send(_) | CallKind::Recv(_)) => true,
+        Some(CallKind::Send(_)) | Some(CallKind::Recv(_)) => true,
         None => false,
     }
 }

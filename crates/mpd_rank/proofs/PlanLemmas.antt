@@ -146,12 +146,13 @@ abbrev pub IsPlanned : Program → RankView → LocalPlan → Type 0
 IsPlanned s v plan =
     (local v.rank s.ranks (rank_of s v) ≡ Some (planned s (rank_of s v) v.node plan)) × (local_record v.rank s.ranks (rank_of s v) ≡ Some (plan_record v plan))
 
-pub view_ran : (s : Program) (u v : RankView) (env : Env) (plan : LocalPlan) (node : Node) → u ≡ v → u.activity ≡ Running → Stands (left_at s) u.node node → env ≡ env_of u.rank s.ranks (rank_of s u)
-    → plan ≡ plan_of node.action node.next env → IsPlanned s v plan
-view_ran s u v env plan node same running d in_env is =
-    let of_node : LocalPlan = plan_of node.action node.next (env_of u.rank s.ranks (rank_of s u)) in
-    let facts : IsPlanned s u of_node = (stands_ran s u.rank s.ranks (rank_of s u) u.node node running refl d, stands_recorded s u.rank s.ranks u node running d) in
-    let planned_is : of_node ≡ plan = ap (plan_of node.action node.next) (sym in_env) ∙ sym is in
+pub view_ran : (s : Program) (u v : RankView) (vars : List ℤ) (size : ℕ) (plan : LocalPlan) (node : Node) → u ≡ v → u.activity ≡ Running → Stands (left_at s) u.node node → vars ≡ u.vars → size ≡ s.ranks
+    → plan ≡ plan_of node.action node.next (record { vars = vars; rank = u.rank; size = size }) → IsPlanned s v plan
+view_ran s u v vars size plan node same running d held counted is =
+    let env : Env = env_of u.rank s.ranks (rank_of s u) in
+    let in_env : env ≡ record { vars = vars; rank = u.rank; size = size } = λ i. record { vars = sym held i; rank = u.rank; size = sym counted i } in
+    let facts : IsPlanned s u (plan_of node.action node.next env) = (stands_ran s u.rank s.ranks (rank_of s u) u.node node running refl d, stands_recorded s u.rank s.ranks u node running d) in
+    let planned_is : plan_of node.action node.next env ≡ plan = ap (plan_of node.action node.next) in_env ∙ sym is in
     subst₂ (IsPlanned s) same planned_is facts
 
 -- a running rank with nothing left

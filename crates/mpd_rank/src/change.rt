@@ -6,9 +6,9 @@ use std::marker::Model;
 
 /// Cells, in order, each with a value: what a wake writes, or what cells held that it wrote. Contracts see a list. There is one
 /// at most.
-#[derive(Clone, Copy, Debug)]
+#[derive(Debug, Drop)]
 pub struct Cells {
-    first: Option<(usize, i64)>,
+    pub(crate) first: Option<(usize, i64)>,
 }
 
 impl Model for Cells {
@@ -41,7 +41,7 @@ impl Cells {
 }
 
 /// What a step did beside moving its rank's node.
-#[derive(Clone, Copy, Debug)]
+#[derive(Debug, Drop)]
 pub enum Change {
     Moved,
     /// The cell that was written, and what it held.
@@ -56,7 +56,7 @@ pub enum Change {
 
 /// What takes the step of a rank back: the node before it, which is 0 at a wake, since that moves no rank, and what else it did.
 /// It holds no collection.
-#[derive(Clone, Copy, Debug)]
+#[derive(Debug, Drop)]
 pub struct RankRecord {
     pub from: usize,
     pub change: Change,

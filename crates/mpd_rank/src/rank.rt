@@ -222,7 +222,8 @@ impl RankState {
         ensures after { (p : Program) → rank_of p self.new ≡ undone_rank p (rank_of p self.old) done }
         ensures rank { self.new.rank ≡ self.old.rank }
     {
-        match done.change {
+        let RankRecord { from, change } = done;
+        match change {
             Change::Matched => return,
             Change::Woke(was) => {
                 let _ = self.write_all(was);
@@ -240,7 +241,7 @@ impl RankState {
             }
             Change::Moved | Change::Trapped => {}
         }
-        self.node = done.from;
+        self.node = from;
         self.activity = Activity::Running;
     }
 

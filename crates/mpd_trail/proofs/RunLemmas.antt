@@ -2,6 +2,7 @@
 use Rattle.std.proofs.Common.{◌≡◌, ℕ, ◌<◌, ◌≤◌, ◌+◌, ◌-◌, List, [], ◌∷◌, ◌++◌, length, get_or, take, Some, None, IsSome, refl, sym, ap, ◌∙◌, arith}
 use Rattle.std.specs.Option.{option_and_then}
 use Rattle.std.proofs.lemmas.List.{take_more, length-take, length-append}
+use Rattle.mpd_model.specs.declared.limits.TheConstants.{STEPS_MAX}
 use Rattle.mpd_model.specs.declared.step.Step.{Step}
 use Rattle.mpd_model.specs.declared.step.Step.TheVariants.{Release}
 use Rattle.mpd_model.specs.World.{World, start}
@@ -28,7 +29,7 @@ fold_more s a h = fold-append (first_of s) (kept s.trail) (a ∷ []) ∙ ap (opt
 length-kept : (s : DebuggerView) → IsReached (standing_of s) → length (kept s.trail) ≡ s.trail.depth
 length-kept s h = omega (arith, length-take s.trail.depth s.trail.steps, h.within)
 
-pub applied_done : (s n : DebuggerView) (a : Step) → IsReached (standing_of s) → n.trail ≡ applied s.trail a → next s.world a ≡ Some n.world → s.trail.depth < 1000000 → Answers (first_of s) (kept s.trail) (Apply a) Done (kept n.trail)
+pub applied_done : (s n : DebuggerView) (a : Step) → IsReached (standing_of s) → n.trail ≡ applied s.trail a → next s.world a ≡ Some n.world → s.trail.depth < STEPS_MAX → Answers (first_of s) (kept s.trail) (Apply a) Done (kept n.trail)
 applied_done s n a h trail step room =
     (rw (fold_more s a h, step) refl, omega (arith, length-kept s h), ap kept trail ∙ take_noted s.trail.steps s.trail.depth a h.within)
 
@@ -49,10 +50,10 @@ applied_none s n a h trail step = (fold_more s a h ∙ step, ap kept trail)
 enabled_more : (s : DebuggerView) (a : Step) → IsReached (standing_of s) → IsSome (next s.world a) → IsSome (fold (first_of s) (kept s.trail ++ a ∷ []))
 enabled_more s a h some = rw (fold_more s a h) some
 
-pub applied_full : (s n : DebuggerView) (a : Step) → IsReached (standing_of s) → n.trail ≡ s.trail → IsSome (next s.world a) → s.trail.depth ≡ 1000000 → Answers (first_of s) (kept s.trail) (Apply a) Full (kept n.trail)
+pub applied_full : (s n : DebuggerView) (a : Step) → IsReached (standing_of s) → n.trail ≡ s.trail → IsSome (next s.world a) → s.trail.depth ≡ STEPS_MAX → Answers (first_of s) (kept s.trail) (Apply a) Full (kept n.trail)
 applied_full s n a h trail some full = (enabled_more s a h some, omega (arith, length-take s.trail.depth s.trail.steps, h.within, full), ap kept trail)
 
-pub applied_memory : (s n : DebuggerView) (a : Step) → IsReached (standing_of s) → n.trail ≡ s.trail → IsSome (next s.world a) → s.trail.depth < 1000000 → Answers (first_of s) (kept s.trail) (Apply a) Memory (kept n.trail)
+pub applied_memory : (s n : DebuggerView) (a : Step) → IsReached (standing_of s) → n.trail ≡ s.trail → IsSome (next s.world a) → s.trail.depth < STEPS_MAX → Answers (first_of s) (kept s.trail) (Apply a) Memory (kept n.trail)
 applied_memory s n a h trail some room = (enabled_more s a h some, omega (arith, length-kept s h), ap kept trail)
 
 pub stays_reached : (s n : DebuggerView) → IsReached (standing_of s) → n.trail ≡ s.trail → n.world ≡ s.world → IsReached (standing_of n)

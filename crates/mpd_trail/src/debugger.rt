@@ -11,13 +11,11 @@ use mpd_core::fault::StepFault;
 use mpd_core::record::Record;
 use mpd_core::state::Core;
 use mpd_model::call::Mode;
+use mpd_model::limits::STEPS_MAX;
 use mpd_model::step::Step;
 use std::alloc::{AllocError, Global};
 use std::marker::Model;
 use thiserror::Error;
-
-/// Steps in a trail, undone ones included.
-pub const STEPS_MAX: usize = 1_000_000;
 
 /// Why a step is refused. Nothing has changed.
 #[derive(Clone, Copy, PartialEq, Eq, Debug, Error)]
