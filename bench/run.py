@@ -6,8 +6,9 @@
 It is no part of the gate. Each figure of the first program is the best of 20 runs, less the best of 20 runs of the same
 script with no words. The second program measures a local step and its undo itself, with no text in what is measured; under
 valgrind, where that is there, its growths of memory are counted: they come with reading, lowering and the first long trail,
-and not with the 30,000,000 steps.
+and not with the 30,000,000 steps. Where a program isn't built, a line says how to build it, and the status is 2.
 """
+import os
 import re
 import shutil
 import subprocess
@@ -15,13 +16,25 @@ import sys
 import time
 
 RUNS = 20
+TOP = os.path.dirname(os.path.dirname(os.path.abspath(__file__)))
+# How the programs are built, at the top of the repository.
+PROGRAMS = {'mpdbg': '(cd crates/mpdbg && rt run < ../../examples/first.trace)', 'mpd_bench': '(cd crates/mpd_bench && rt run)'}
+
+
+def built(place, name):
+    """The path of a program: that of the command line at this place, else where it is built."""
+    path = sys.argv[place] if len(sys.argv) > place else os.path.join(TOP, 'crates', name, 'out', name)
+    if os.path.isfile(path) and os.access(path, os.X_OK):
+        return os.path.abspath(path)
+    print(f'{path} is no program: build it with {PROGRAMS[name]}', file=sys.stderr)
+    sys.exit(2)
 
 
 def best(program, data):
     shortest = None
     for _ in range(RUNS):
         began = time.perf_counter()
-        ended = subprocess.run([program], input=data, capture_output=True)
+        ended = subprocess.run([program], input=data, capture_output=True, check=False)
         took = time.perf_counter() - began
         if ended.returncode != 0:
             sys.exit(f'status {ended.returncode}: {ended.stderr.decode()}')
@@ -38,13 +51,14 @@ def script_of(size):
     return (text + '#' + '-' * (size - len(text) - 1)).encode()
 
 
-def main():
-    program = sys.argv[1] if len(sys.argv) > 1 else 'crates/mpdbg/out/mpdbg'
-    empty = best(program, b'mpd 1;\nranks 1;\n')
+def reading(program, empty):
     print('reading a script, less the smallest one')
     for kib in (1, 16, 64):
         took = best(program, script_of(kib * 1024)) - empty
         print(f'  {kib:>3} KiB   {took * 1e3:8.3f} ms')
+
+
+def local_steps(program, empty):
     script = b'mpd 1;\nranks 2;\n' + b'print rank == 0;\n' * 50 + b'---\n'
     none = best(program, script)
     print('trace words that take a local step and undo it, less none')
@@ -56,7 +70,29 @@ def main():
     print(f'a million words, each a step     {took * 1e3:8.1f} ms')
     took = best(program, loop + b'local 0\nback\n' * 500_000) - empty
     print(f'a million words, there and back  {took * 1e3:8.1f} ms')
-    inside(sys.argv[2] if len(sys.argv) > 2 else 'crates/mpd_bench/out/mpd_bench')
+
+
+def message(number):
+    """The words from one message in a row to the next: each rank's three local steps, the match, the wakes, and `i`."""
+    ranks = b'local 0\n' * 3 + b'local 1\n' * 3
+    return ranks + b'match 0.%d 1.%d\n' % (number, number) + b'wake 0\nwake 1\n' + b'local 0\nlocal 1\n'
+
+
+def messages(program):
+    """Messages in a row with their undos: what matches and wakes look through grows with them."""
+    script = (b'mpd 1;\nranks 2;\nvar i;\nvar x;\n'
+              b'while 1 { if rank == 0 { send i to 1 tag 0; } else { recv x from 0 tag 0; } i = i + 1; }\n---\n')
+    none = best(program, script)
+    print('messages in a row and all of them taken back, 22 words each, less none')
+    for count in (1, 10, 100, 300):
+        there = b''.join(message(number) for number in range(count))
+        rounds = max(1, 2_000 // count)
+        data = script + (there + b'back\n' * there.count(b'\n')) * rounds
+        if b'refused' in subprocess.run([program], input=data, capture_output=True, check=True).stdout:
+            sys.exit('a message was refused')
+        took = best(program, data) - none
+        each = took / count / rounds
+        print(f'  {count:>7}   {each * 1e6:8.2f} us a message   {each / 22 * 1e9:7.1f} ns a word')
 
 
 def inside(program):
@@ -64,8 +100,17 @@ def inside(program):
     for _ in range(3):
         print(subprocess.run([program], capture_output=True, check=True).stderr.decode(), end='')
     if shutil.which('valgrind'):
-        told = subprocess.run(['valgrind', '--leak-check=no', program], capture_output=True).stderr.decode()
+        told = subprocess.run(['valgrind', '--leak-check=no', program], capture_output=True, check=False).stderr.decode()
         print(re.search(r'total heap usage: .*', told).group())
+
+
+def main():
+    program, bench = built(1, 'mpdbg'), built(2, 'mpd_bench')
+    empty = best(program, b'mpd 1;\nranks 1;\n')
+    reading(program, empty)
+    local_steps(program, empty)
+    messages(program)
+    inside(bench)
 
 
 if __name__ == '__main__':

@@ -37,10 +37,14 @@ class Call(NamedTuple):
 
 
 class Rank(NamedTuple):
-    """A rank; `rest` is None at the end, else (statement, rest); `mode` is running, blocked or trapped."""
+    """A rank; `rest` is None at the end, else (statement, rest); `mode` is running, blocked or trapped.
+
+    `free` has the numbers of its calls that are not matched, in the order of issue.
+    """
     rest: Optional[tuple]
     cells: tuple
     calls: tuple
+    free: tuple
     printed: tuple
     mode: str
     trap: Optional[str]
@@ -58,11 +62,13 @@ class Woken(NamedTuple):
 
 
 class World(NamedTuple):
+    """All ranks, the records in the order they were made, and the partner of each call that is matched."""
     ranks: tuple
     records: tuple
+    partners: dict
 
     def with_rank(self, number, rank):
-        return World(self.ranks[:number] + (rank,) + self.ranks[number + 1:], self.records)
+        return self._replace(ranks=self.ranks[:number] + (rank,) + self.ranks[number + 1:])
 
 
 class Step(NamedTuple):
@@ -79,8 +85,8 @@ def pushed(statements, rest):
 
 
 def first_world(script):
-    rank = Rank(pushed(script.body, None), (0,) * script.cells, (), (), 'running', None)
-    return World((rank,) * script.ranks, ())
+    rank = Rank(pushed(script.body, None), (0,) * script.cells, (), (), (), 'running', None)
+    return World((rank,) * script.ranks, (), {})
 
 
 def in_bounds(expression, highest, trap, view):
@@ -124,7 +130,8 @@ def executed(rank, view):
             raise Trap('assert')
         return rank._replace(rest=tail)
     assert isinstance(statement, (Send, Receive))
-    return rank._replace(rest=tail, calls=rank.calls + (called(statement, view),), mode='blocked')
+    return rank._replace(rest=tail, calls=rank.calls + (called(statement, view),),
+                         free=rank.free + (len(rank.calls),), mode='blocked')
 
 
 def can_run(rank):
@@ -150,13 +157,7 @@ def find_call(world, call_id):
 
 def partner(world, call_id):
     """The call that one is matched with, or None."""
-    for record in world.records:
-        if isinstance(record, Pair):
-            if record.send == call_id:
-                return record.receive
-            if record.receive == call_id:
-                return record.send
-    return None
+    return world.partners.get(call_id)
 
 
 def tags_agree(send, receive):
@@ -168,17 +169,21 @@ def fits(world, send_id, receive_id):
     return send.other == receive_id.rank and receive.other == send_id.rank and tags_agree(send, receive)
 
 
+def free_calls(world, rank):
+    """The calls of a rank that are not matched, each with its name."""
+    calls = world.ranks[rank].calls
+    return [(CallId(rank, number), calls[number]) for number in world.ranks[rank].free]
+
+
 def pending(world, source, destination):
     """The sends of one rank to another that are not matched."""
-    calls = enumerate(world.ranks[source].calls)
-    sends = [CallId(source, number) for number, call in calls if call.kind == 'send' and call.other == destination]
-    return [send_id for send_id in sends if partner(world, send_id) is None]
+    free = free_calls(world, source)
+    return [call_id for call_id, call in free if call.kind == 'send' and call.other == destination]
 
 
 def posted(world, rank):
     """The receives of a rank that are not matched."""
-    receives = [CallId(rank, number) for number, call in enumerate(world.ranks[rank].calls) if call.kind == 'recv']
-    return [receive_id for receive_id in receives if partner(world, receive_id) is None]
+    return [call_id for call_id, call in free_calls(world, rank) if call.kind == 'recv']
 
 
 def eligible(world, send_id, receive_id):
@@ -196,10 +201,18 @@ def eligible(world, send_id, receive_id):
                 or any(fits(world, send_id, other) for other in earlier_receives))
 
 
+def without_free(world, call_id):
+    rank = world.ranks[call_id.rank]
+    free = tuple(number for number in rank.free if number != call_id.number)
+    return world.with_rank(call_id.rank, rank._replace(free=free))
+
+
 def after_match(world, send_id, receive_id):
     if not eligible(world, send_id, receive_id):
         return None
-    return World(world.ranks, world.records + (Pair(send_id, receive_id),))
+    world = without_free(without_free(world, send_id), receive_id)
+    return world._replace(records=world.records + (Pair(send_id, receive_id),),
+                          partners=world.partners | {send_id: receive_id, receive_id: send_id})
 
 
 def last_call(world, number):
@@ -220,7 +233,7 @@ def after_wake(world, number):
     if call.kind == 'recv':
         cells = written(cells, call.cell, find_call(world, partner(world, call_id)).value)
     woken = world.with_rank(number, rank._replace(cells=cells, mode='running'))
-    return World(woken.ranks, world.records + (Woken(call_id),))
+    return woken._replace(records=world.records + (Woken(call_id),))
 
 
 def next_world(world, step):

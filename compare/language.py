@@ -1,6 +1,8 @@
 """The script language: its reader with the faults, and the evaluation of expressions with the traps."""
 
 import re
+from bisect import bisect_left
+from functools import lru_cache
 from typing import NamedTuple, Optional
 
 HIGHEST = 2 ** 63 - 1
@@ -183,6 +185,7 @@ class Reader:
     def __init__(self, text):
         self.text = text
         self.tokens = Tokens(text)
+        self.line_feeds = [found.start() for found in re.finditer('\n', text)]
         self.variables = {}
         self.cells = 0
         self.statement_count = 0
@@ -294,7 +297,7 @@ class Reader:
                 raise Fault(EXPECTED, place)
         if over:
             raise Fault(TOO_MANY, place)
-        line = 1 + self.text.count('\n', 0, place)
+        line = 1 + bisect_left(self.line_feeds, place)
         if kind == 'name':
             return self.assignment(line)
         self.tokens.advance()
@@ -432,8 +435,9 @@ class Reader:
         return Place(first, size, index)
 
 
+@lru_cache(maxsize=1)
 def read_script(data):
-    """The script that the bytes are; raises the fault where they are none."""
+    """The script that the bytes are; raises the fault where they are none. The last one is kept, and not read again."""
     if len(data) > MOST_BYTES:
         raise Fault(TOO_LONG, MOST_BYTES)
     if found := OTHER_THAN_TEXT.search(data):

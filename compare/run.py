@@ -1,97 +1,114 @@
-"""Compares a program with the model, byte for byte, on many inputs."""
+"""Compares a program with the model, byte for byte, on many inputs: the same ones for the same seed and count.
+
+    python3 compare/run.py PROGRAM      2,000 inputs of all kinds
+
+The status is 0 where inputs were compared and none differed. A program that crashes, takes too long, too much memory or
+writes too much differs.
+"""
 
 import argparse
 import os
-import subprocess
 import sys
 import tempfile
-import threading
+import time
+from concurrent.futures import ProcessPoolExecutor
 from typing import NamedTuple
 from unittest import mock
 
 import debugger
 import language
-from cases import FIXED_KINDS, RANDOM_KINDS, cases_of
+from cases import KINDS, random_case, shares
 from debugger import Result, answer, answer_packets
+from runs import limit, run_at_once, run_in_packets
 
-SECONDS = 120
-
-
-def run_at_once(program, data):
-    try:
-        process = subprocess.run([program], input=data, capture_output=True, timeout=SECONDS, check=False)
-    except subprocess.TimeoutExpired:
-        return Result(b'', b'not ended in time', -1)
-    return Result(process.stdout, process.stderr, process.returncode)
+CHUNK = 8
 
 
-def write_packets(pipe, packets):
-    try:
-        for packet in packets:
-            os.write(pipe, packet)
-    except BrokenPipeError:
-        pass
-
-
-def run_in_packets(program, packets):
-    """Each packet is one read of the program; its output is a file, so that it never waits for us."""
-    reading, writing = os.pipe2(os.O_DIRECT | os.O_CLOEXEC)
-    with tempfile.TemporaryFile() as output, tempfile.TemporaryFile() as errors:
-        process = subprocess.Popen([program], stdin=reading, stdout=output, stderr=errors)
-        os.close(reading)
-        limit = threading.Timer(SECONDS, process.kill)
-        limit.start()
-        write_packets(writing, packets)
-        os.close(writing)
-        status = process.wait()
-        limit.cancel()
-        output.seek(0)
-        errors.seek(0)
-        return Result(output.read(), errors.read(), status)
-
-
-def run(program, case):
-    return run_at_once(program, case.data) if case.packets is None else run_in_packets(program, case.packets)
+def run(program, case, seconds):
+    if case.packets is None:
+        return run_at_once(program, case.data, seconds)
+    return run_in_packets(program, case.packets, seconds)
 
 
 def expected(case):
     return answer(case.data) if case.packets is None else answer_packets(case.packets)
 
 
-class Folder:
-    """A temporary folder for inputs, made when the first one is kept."""
-
-    def __init__(self):
-        self.path = None
-
-    def keep(self, case):
-        if self.path is None:
-            self.path = tempfile.mkdtemp(prefix='compare-')
-        path = os.path.join(self.path, case.name)
-        with open(path, 'wb') as file:
-            file.write(case.data)
-        return path
-
-
 def differing_parts(result, wanted):
-    return ', '.join(part for part in Result._fields if getattr(result, part) != getattr(wanted, part))
+    """Which of output, errors and status differ, and how the program ended."""
+    parts = [part for part in Result._fields if getattr(result, part) != getattr(wanted, part)]
+    return f'{", ".join(parts)} (status {result.status}, wanted {wanted.status})'
 
 
-def compare(program, kind, cases, folder):
-    """Compares the cases of a kind and prints its line; gives the number of differences."""
-    count = different = 0
-    for case in cases:
-        count += 1
-        result, wanted = run(program, case), expected(case)
-        if result != wanted:
-            different += 1
-            print(f'{folder.keep(case)}: {differing_parts(result, wanted)}')
-    print(f'{kind}: {count} cases, {different} different', flush=True)
-    return different
+class Different(NamedTuple):
+    """An input on which the program and the model differ."""
+    case: object
+    parts: str
+
+
+def different(program, case, seconds):
+    """What is different on an input, in a list that has nothing where nothing is."""
+    result, wanted = run(program, case, seconds), expected(case)
+    return [] if result == wanted else [Different(case, differing_parts(result, wanted))]
+
+
+def compare_chunk(chosen, kind, numbers):
+    """Compares some inputs of a kind: how many, and what is different."""
+    found = []
+    for number in numbers:
+        found += different(chosen.program, random_case(kind, chosen.seed, number, chosen.packets), chosen.seconds)
+    return len(numbers), found
+
+
+def keep(folder, case):
+    """Keeps an input in a temporary folder, which is made for the first one."""
+    if not folder:
+        folder.append(tempfile.mkdtemp(prefix='compare-'))
+    path = os.path.join(folder[0], case.name)
+    with open(path, 'wb') as file:
+        file.write(case.data)
+    return path
+
+
+def report(folder, kind, count, found):
+    for case, parts in found:
+        print(f'{keep(folder, case)}: {parts}')
+    print(f'{kind}: {count} inputs, {len(found)} different', flush=True)
+
+
+def compare_random(chosen, folder):
+    """Compares inputs of the kinds; gives how many there were, and how many differed."""
+    counts = shares(chosen.count, chosen.kind or list(KINDS))
+    compared = differing = 0
+    with ProcessPoolExecutor(chosen.jobs, initializer=limit, initargs=(chosen.memory, chosen.output)) as pool:
+        tasks = {kind: [pool.submit(compare_chunk, chosen, kind, range(first, min(first + CHUNK, count)))
+                        for first in range(0, count, CHUNK)] for kind, count in counts.items()}
+        for kind, chunks in tasks.items():
+            results = [chunk.result() for chunk in chunks]
+            count, found = sum(count for count, _ in results), sum((found for _, found in results), [])
+            report(folder, kind, count, found)
+            compared += count
+            differing += len(found)
+    return compared, differing
+
+
+def write_cases(chosen):
+    """Writes the inputs that are given at once, with what must be written for each, for `rt try --cases FOLDER`."""
+    os.makedirs(chosen.write, exist_ok=True)
+    count = 0
+    for kind, number_of_kind in shares(chosen.count, chosen.kind or list(KINDS)).items():
+        for number in range(number_of_kind):
+            case = random_case(kind, chosen.seed, number, False)
+            for name, data in ((case.name, case.data), (f'{case.name}.stdout', answer(case.data).output)):
+                with open(os.path.join(chosen.write, name), 'wb') as file:
+                    file.write(data)
+            count += 1
+    print(f'{count} cases in {chosen.write}')
+    return 0 if count else 1
 
 
 class Breakage(NamedTuple):
-    """A fault put into the model on purpose, and the kind of cases that is to notice it."""
+    """A fault put into the model on purpose, and the kind of inputs that is to notice it."""
     name: str
     kind: str
     owner: object
@@ -108,34 +125,43 @@ def breakages():
         Breakage('undone steps always dropped', 'script', debugger.Debugger, 'is_next_undone', lambda *_: False),
         Breakage('any tags matched', 'script', debugger, 'tags_agree', lambda *_: True),
         Breakage('one operator more allowed', 'limits', language, 'MOST_OPERATORS', language.MOST_OPERATORS + 1),
+        Breakage('one cell more allowed', 'arrays', language, 'MOST_CELLS', language.MOST_CELLS + 1),
         Breakage('another version refused as a wrong token', 'mutated', language, 'NOT_IN_VERSION', language.EXPECTED),
         Breakage('a longer line allowed', 'words', debugger, 'LONGEST_LINE', debugger.LONGEST_LINE + 1),
         Breakage('% by -1 without a trap', 'arithmetic', language, 'remainder', wrong_remainder),
+        Breakage('a tag more allowed', 'traps', debugger, 'HIGHEST_TAG', debugger.HIGHEST_TAG + 1),
+        Breakage('no name read as another', 'names', language, 'TWICE', language.UNKNOWN_NAME),
     )
 
 
-def count_noticed(program, breakage, cases):
-    """Of cases on which program and model agree, the number on which the program and the broken model don't."""
-    count = noticed = 0
-    for case in cases:
-        count += 1
-        result = run(program, case)
+def count_noticed(chosen, breakage):
+    """Of inputs on which program and model agree, the number on which the program and the broken model don't."""
+    noticed = 0
+    for number in range(chosen.count):
+        case = random_case(breakage.kind, chosen.seed, number, chosen.packets)
+        result = run(chosen.program, case, chosen.seconds)
         if result == expected(case):
             with mock.patch.object(breakage.owner, breakage.attribute, breakage.replacement):
+                language.read_script.cache_clear()
                 noticed += int(result != expected(case))
-    print(f'{breakage.name}: kind {breakage.kind}, {count} cases, {noticed} noticed', flush=True)
+            language.read_script.cache_clear()
+    print(f'{breakage.name}: kind {breakage.kind}, {chosen.count} inputs, {noticed} noticed', flush=True)
     return noticed
 
 
 def arguments():
-    parser = argparse.ArgumentParser(description=__doc__)
+    parser = argparse.ArgumentParser(description=__doc__, formatter_class=argparse.RawDescriptionHelpFormatter)
     parser.add_argument('program', metavar='PROGRAM')
-    parser.add_argument('--kind', action='append', choices=[*RANDOM_KINDS, *FIXED_KINDS],
-                        help=f'may be given again; {", ".join(RANDOM_KINDS)} where none is given; `ends` is slow')
-    parser.add_argument('--count', type=int, default=500, help='random cases of each kind (500)')
-    parser.add_argument('--seed', type=int, default=1)
-    parser.add_argument('--packets', action='store_true', help='the input cut into packets, one for each read')
+    parser.add_argument('--count', type=int, default=2000, help='inputs in all (2000); with --broken, of each kind')
+    parser.add_argument('--seed', type=int, default=1, help='another seed gives other inputs (1)')
+    parser.add_argument('--kind', action='append', choices=list(KINDS), help='only this kind; may be given again')
+    parser.add_argument('--packets', action='store_true', help='each input cut into reads, and not only every third')
     parser.add_argument('--broken', action='store_true', help='break the model on purpose; each fault must be noticed')
+    parser.add_argument('--write', metavar='FOLDER', help='compare nothing: write inputs and outputs for `rt try --cases`')
+    parser.add_argument('--jobs', type=int, default=len(os.sched_getaffinity(0)), help='how many processes (one for each core)')
+    parser.add_argument('--seconds', type=float, default=20, help='how long one input may take (20)')
+    parser.add_argument('--memory', type=int, default=4096, help='how much memory the program may take, in MiB (4096)')
+    parser.add_argument('--output', type=int, default=256, help='how much the program may write, in MiB (256)')
     chosen = parser.parse_args()
     chosen.program = os.path.abspath(chosen.program)
     if not os.access(chosen.program, os.X_OK) or os.path.isdir(chosen.program):
@@ -147,17 +173,18 @@ def arguments():
 
 def main():
     chosen = arguments()
-
-    def cases(kind):
-        return cases_of(kind, chosen.count, chosen.seed, chosen.packets)
-
+    if chosen.write:
+        return write_cases(chosen)
     if chosen.broken:
-        noticed = [count_noticed(chosen.program, breakage, cases(breakage.kind)) for breakage in breakages()]
+        noticed = [count_noticed(chosen, breakage) for breakage in breakages()]
         return 0 if all(noticed) else 1
-    folder = Folder()
-    kinds = chosen.kind or list(RANDOM_KINDS)
-    different = [compare(chosen.program, kind, cases(kind), folder) for kind in kinds]
-    return 1 if any(different) else 0
+    began = time.monotonic()
+    folder = []
+    compared, differing = compare_random(chosen, folder)
+    print(f'{compared} inputs compared, {differing} different, {time.monotonic() - began:.1f} seconds')
+    if not compared:
+        print('nothing was compared')
+    return 0 if compared and not differing else 1
 
 
 if __name__ == '__main__':

@@ -32,22 +32,38 @@ def declaration(name, size):
     return ['var', name] + ([] if size is None else ['[', str(size), ']']) + [';']
 
 
+def made_up_name(random, number):
+    """A name that no other number gives; many begin alike, and some are as long as allowed and differ at the end alone."""
+    if random.random() < 0.1:
+        return 'n' * 60 + f'{number:04}'
+    front = random.choice(['v', '_', 'rank', 'x_', 'A'])
+    return (f'{front}{number}' + '_' * random.choice([0, 0, 0, 1, 20, 60]))[:64]
+
+
+def made_up_names(random, count):
+    """So many names, no two alike."""
+    names = [made_up_name(random, number) for number in range(count)]
+    random.shuffle(names)
+    return names
+
+
 class Writer:
     """Writes a random script as a list of tokens; a calm one avoids most traps."""
 
-    def __init__(self, random, ranks):
+    def __init__(self, random, ranks, count=None):
         self.random = random
         self.ranks = ranks
         self.calm = self.chance(0.5)
-        names = list(NAMES)
-        random.shuffle(names)
         self.variables = []
-        for _ in range(random.randint(0, 5)):
+        if count is None:
+            count = random.randint(0, 5) if self.chance(0.9) else random.randint(6, 40)
+        names = made_up_names(random, count + 1) if count > 5 else random.sample(NAMES, 6)
+        for name in names[:count]:
             unsteady_size = None if self.calm else random.randint(0, 4)
             size = random.choice([None, None, unsteady_size, random.randint(1, 3)])
-            self.variables.append((names.pop(), size))
+            self.variables.append((name, size))
         if self.chance(0.85) and all(size is not None for _, size in self.variables):
-            self.variables.append((names.pop(), None))
+            self.variables.append((names[count], None))
 
     def chance(self, probability):
         return self.random.random() < probability

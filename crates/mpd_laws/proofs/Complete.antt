@@ -13,12 +13,12 @@ use Rattle.mpd_model.specs.declared.token.Mark.{Mark}
 use Rattle.mpd_model.specs.declared.token.Mark.TheVariants as m
 use Rattle.mpd_model.specs.declared.token.Token.{Token}
 use Rattle.mpd_model.specs.declared.token.Token.TheVariants.{Number, Name, Is}
-use Rattle.mpd_model.specs.Fits.{price, cost, Stops, at}
+use Rattle.mpd_model.specs.Costs.{price, cost, Stops, at}
 use Rattle.mpd_model.specs.Grammar.{atom_by, atom, bracket, indexed, place_inside, rounds, sign, signed, chain, level, expr, turns, operator, operator_at, at_level}
-use Rattle.mpd_model.specs.Input.{Input, Outcome, Parser, and_then, token, spelling, next, spend, expect, sees, same_mark, seek}
+use Rattle.mpd_model.specs.Input.{Input, Outcome, Parser, and_then, token, spelling, advanced, spend, expect, sees, same_mark, seek}
 use Rattle.mpd_model.specs.Term.{Term, lit, own_rank, size, cell, element, op1, op2}
 use Rattle.mpd_model.specs.Tokens.{Spot}
-use Rattle.mpd_model.specs.Written.{Names, Written, number, rank, ranks, name, entry, round, signs, higher, joins, left_level}
+use Rattle.mpd_model.specs.Written.{Names, WrittenTerm, number, rank, ranks, name, entry, round, signs, higher, joins, left_level}
 
 -- ---- steps on a known list of tokens
 
@@ -27,7 +27,7 @@ pub bind_to : {A B : Type 0} (o : Outcome A) (f : A → Parser B) (x : A × Inpu
 bind_to o f x y e h = rw e h
 
 pub expect_at : (wanted : Mark) (s : Spot) (rest : List Spot) (b : ℕ) (i : Input) → s.token ≡ Is wanted → expect wanted (at (s ∷ rest) b i) ≡ Ok (tt, at rest b i)
-unfolding expect sees token next same_mark
+unfolding expect sees token advanced same_mark
 expect_at wanted s rest b i e = rw (e, true_same the_type wanted wanted refl) refl
 
 sees_at : (wanted : Mark) (s : Spot) (rest : List Spot) (b : ℕ) (i : Input) → s.token ≡ Is wanted → sees wanted (at (s ∷ rest) b i) ≡ true
@@ -35,7 +35,7 @@ unfolding sees token same_mark
 sees_at wanted s rest b i e = rw e (true_same the_type wanted wanted refl)
 
 spend_at : (s : Spot) (rest : List Spot) (b : ℕ) (i : Input) → spend (at (s ∷ rest) (suc b) i) ≡ Ok (tt, at rest b i)
-unfolding spend next
+unfolding spend advanced
 spend_at s rest b i =
     let more : (suc b == 0) ≡ false = grind (arith, nat_tests) in
     let less : suc b - 1 ≡ b = omega arith in
@@ -85,15 +85,15 @@ operator_stops k op o rest h j le = other_level (suc k) j op (operator o.token) 
 -- ---- atoms
 
 number_read : (p : ℕ → Parser Term) (s : Spot) (n : ℤ) (rest : List Spot) (b : ℕ) (i : Input) → s.token ≡ Number n → atom p (at (s ∷ rest) b i) ≡ Ok (lit n, at rest b i)
-unfolding atom token next
+unfolding atom token advanced
 number_read p s n rest b i e = rw e refl
 
 rank_read : (p : ℕ → Parser Term) (s : Spot) (rest : List Spot) (b : ℕ) (i : Input) → s.token ≡ Is m.Rank → atom p (at (s ∷ rest) b i) ≡ Ok (own_rank, at rest b i)
-unfolding atom token next
+unfolding atom token advanced
 rank_read p s rest b i e = rw e refl
 
 ranks_read : (p : ℕ → Parser Term) (s : Spot) (rest : List Spot) (b : ℕ) (i : Input) → s.token ≡ Is m.Size → atom p (at (s ∷ rest) b i) ≡ Ok (size, at rest b i)
-unfolding atom token next
+unfolding atom token advanced
 ranks_read p s rest b i e = rw e refl
 
 -- the name of a variable is sought
@@ -110,7 +110,7 @@ whole_read q p None i h = refl
 whole_read q p (Some k) i h = absurd (cc)
 
 place_read : (q : ℕ → Parser Term) (s : Spot) (p : Place) (rest : List Spot) (b : ℕ) (i : Input) → Names i.decls s false p → place_inside q (at (s ∷ rest) b i) ≡ Ok (cell p, at rest b i)
-unfolding place_inside next
+unfolding place_inside advanced
 place_read q s p rest b i n =
     bind_to _ _ _ _ (seek_at s false p rest b i n) (ap (λ r. indexed q r n.slot.size (at rest b i)) n.place ∙ whole_read q p n.slot.size (at rest b i) n.size)
 
@@ -131,7 +131,7 @@ index_read q p (Some k) a z ss rest t b c i o d e h =
 element_read : (q : ℕ → Parser Term) (s a z : Spot) (ss rest : List Spot) (p : Place) (t : Term) (b c : ℕ) (i : Input) → Names i.decls s true p
     → a.token ≡ Is m.SquareOpen → z.token ≡ Is m.SquareClose → q 5 (at (ss ++ z ∷ rest) b i) ≡ Ok (t, at (z ∷ rest) c i)
     → place_inside q (at (s ∷ a ∷ ss ++ z ∷ rest) (suc b) i) ≡ Ok (element p t, at rest c i)
-unfolding place_inside next
+unfolding place_inside advanced
 element_read q s a z ss rest p t b c i n d e h =
     bind_to _ _ _ _ (seek_at s true p (a ∷ ss ++ z ∷ rest) (suc b) i n)
     (ap (λ r. indexed q r n.slot.size (at (a ∷ ss ++ z ∷ rest) (suc b) i)) n.place ∙ index_read q p n.slot.size a z ss rest t b c i n.size d e h)
@@ -327,7 +327,7 @@ joins_chains i k l r o op a b eo hl hr n bud c rest e le s =
       enough = λ ne. let f = x.chained.enough ne in omega arith;
     }
 
-written_read : (i : Input) (k : ℕ) (ss : List Spot) (t : Term) → Written i.decls k ss t → Both i k ss t
+written_read : (i : Input) (k : ℕ) (ss : List Spot) (t : Term) → WrittenTerm i.decls k ss t → Both i k ss t
 written_read i _ _ _ (number s n e) = (one_read i s (lit n) (ap price e) (λ n' b rest. number_read (expr n') s n rest b i e), tt)
 written_read i _ _ _ (rank s e) = (one_read i s own_rank (ap price e) (λ n' b rest. rank_read (expr n') s rest b i e), tt)
 written_read i _ _ _ (ranks s e) = (one_read i s size (ap price e) (λ n' b rest. ranks_read (expr n') s rest b i e), tt)
@@ -340,7 +340,7 @@ written_read i _ _ _ (joins k l r o op a b e x y) =
     let c = joins_chains i k l r o op a b e (written_read i (left_level k) l a x) (written_read i k r b y).0 in
     (chain_ends i k (l ++ o ∷ r) (op2 op a b) c, c)
 
-pub expr_complete : (depth k : ℕ) (ss rest : List Spot) (t : Term) (i : Input) → Written i.decls k ss t → i.tokens ≡ ss ++ rest → Stops k rest → cost ss ≤ i.budget → i.budget < depth
+pub expr_complete : (depth k : ℕ) (ss rest : List Spot) (t : Term) (i : Input) → WrittenTerm i.decls k ss t → i.tokens ≡ ss ++ rest → Stops k rest → cost ss ≤ i.budget → i.budget < depth
     → expr depth k i ≡ Ok (t, at rest (i.budget - cost ss) i)
 unfolding expr
 expr_complete zero k ss rest t i w e s le less = absurd (omega arith)

@@ -1,5 +1,5 @@
 -- The parts of a statement that are written, within the limits, are read.
-use Rattle.std.proofs.Common.{◌≡◌, ℕ, ◌+◌, ◌-◌, ◌<◌, ◌≤◌, Bool, true, false, Option, None, Some, is_some, List, [], ◌∷◌, ◌++◌, length, nat_lt, Ok, refl, ap, ◌∙◌, append_assoc, arith}
+use Rattle.std.proofs.Common.{◌≡◌, ℕ, ◌+◌, ◌-◌, ◌<◌, ◌≤◌, true, false, Option, None, Some, is_some, List, [], ◌∷◌, ◌++◌, length, nat_lt, Ok, refl, ap, ◌∙◌, append_assoc, arith}
 use Rattle.std.proofs.lemmas.Bool.Decides.{nat_tests}
 use denote.Enum.Bare.{true_same}
 use Rattle.mpd_model.specs.contracts.token.Mark.{the_type}
@@ -12,13 +12,13 @@ use Rattle.mpd_model.specs.declared.token.Mark.TheVariants as m
 use Rattle.mpd_model.specs.declared.token.Token.{Token}
 use Rattle.mpd_model.specs.declared.token.Token.TheVariants.{Name, Is}
 use Rattle.mpd_model.specs.Declaration.{Declared}
-use Rattle.mpd_model.specs.Fits.{cost, Stops, on, Gives, index_cost, part_cost, dearest_part}
+use Rattle.mpd_model.specs.Costs.{cost, Stops, on, Gives, index_cost, part_cost, dearest_part}
 use Rattle.mpd_model.specs.Grammar.{expression, begun, sign, place_of_slot, outside, target, named_by, named, source, status, fill, EndsTerm, EndsStatus, AreClear}
-use Rattle.mpd_model.specs.Input.{Input, Parser, token, token_of, spelling, next, expect, seek, slot_in, sees, is_mark, same_mark, count, after}
-use Rattle.mpd_model.specs.Parts.{Part, of_mark, of_term, of_target, Hole, mark_hole, term_hole, target_hole, source_hole, status_hole, source_part, status_parts, Contents, filled}
+use Rattle.mpd_model.specs.Input.{Input, Parser, token, token_of, spelling, advanced, expect, seek, slot_in, sees, is_mark, same_mark, count, after}
+use Rattle.mpd_model.specs.Parts.{Part, Hole, mark_hole, term_hole, target_hole, source_hole, status_hole, source_part, status_parts, Contents, filled}
 use Rattle.mpd_model.specs.Term.{Term, Target}
 use Rattle.mpd_model.specs.Tokens.{Spot}
-use Rattle.mpd_model.specs.Written.{left_level, Written, number, rank, ranks, name, entry, round, signs, higher, joins, WrittenTarget, whole, part, WrittenPart, by_mark, by_term, by_target, WrittenParts, no_part, then_part}
+use Rattle.mpd_model.specs.Written.{left_level, WrittenTerm, number, rank, ranks, name, entry, round, signs, higher, joins, WrittenTarget, whole, part, WrittenPart, by_mark, by_term, by_target, WrittenParts, no_part, then_part}
 use Rattle.mpd_laws.proofs.Complete.{bind_to, expect_at, mark_stops, expr_complete}
 
 -- ---- steps on a known list of tokens
@@ -27,12 +27,12 @@ pub expect_on : (wanted : Mark) (s : Spot) (rest : List Spot) (ls : List ℕ) (b
 expect_on wanted s rest ls b i e = expect_at wanted s rest b (on rest ls b i) e
 
 pub begun_on : (k : Spot) (rest : List Spot) (ls : List ℕ) (b : ℕ) (i : Input) → length ls < 4096 → begun (on (k ∷ rest) ls b i) ≡ Ok (tt, on rest (ls ++ k.line ∷ []) b i)
-unfolding count next
+unfolding count advanced
 begun_on k rest ls b i h =
     let few : nat_lt (length ls) 4096 ≡ true = grind (arith, nat_tests) in
     rw few refl
 
-pub expression_on : (e rest : List Spot) (t : Term) (ls : List ℕ) (b : ℕ) (i : Input) → Written i.decls 5 e t → cost e ≤ 64 → Stops 5 rest
+pub expression_on : (e rest : List Spot) (t : Term) (ls : List ℕ) (b : ℕ) (i : Input) → WrittenTerm i.decls 5 e t → cost e ≤ 64 → Stops 5 rest
     → expression (on (e ++ rest) ls b i) ≡ Ok (t, on rest ls (64 - cost e) i)
 expression_on e rest t ls b i w le s = expr_complete 65 5 e rest t (on (e ++ rest) ls 64 i) w refl s le (omega arith)
 
@@ -55,7 +55,7 @@ whole_on p None rest ls b i h = refl
 whole_on p (Some n) rest ls b i h = absurd (cc)
 
 part_on : (p : Place) (o : Option ℕ) (a z : Spot) (ss rest : List Spot) (t : Term) (ls : List ℕ) (b : ℕ) (i : Input) → is_some o ≡ true
-    → a.token ≡ Is m.SquareOpen → Written i.decls 5 ss t → z.token ≡ Is m.SquareClose → cost ss ≤ 64
+    → a.token ≡ Is m.SquareOpen → WrittenTerm i.decls 5 ss t → z.token ≡ Is m.SquareClose → cost ss ≤ 64
     → outside p o (on (a ∷ (ss ++ (z ∷ rest))) ls b i) ≡ Ok (record { place = p; index = Some t }, on rest ls (64 - cost ss) i)
 part_on p None a z ss rest t ls b i h ha w hz le = absurd (cc)
 part_on p (Some n) a z ss rest t ls b i h ha w hz le =
@@ -98,7 +98,7 @@ seek_on s slot rest ls b i d k = rw (d, k) refl
 
 target_on : (s : Spot) (slot : Slot) (ss rest : List Spot) (t : Target) (ls : List ℕ) (b : ℕ) (i : Input) → slot_in i.decls s.text ≡ Some slot → slot.kind ≡ Variable
     → Gives (outside (place_of_slot slot) slot.size (on ss ls b i)) t rest ls i → Gives (target (on (s ∷ ss) ls b i)) t rest ls i
-unfolding target next
+unfolding target advanced
 target_on s slot ss rest t ls b i d k g = record { left = g.left; is = bind_to _ _ _ _ (seek_on s slot ss ls b i d k) g.is }
 
 named_as : (s : Spot) (ss : List Spot) (ls : List ℕ) (b : ℕ) (i : Input) → s.token ≡ Name → named (on (s ∷ ss) ls b i) ≡ target (on (s ∷ ss) ls b i)
@@ -159,7 +159,7 @@ sign_is_other _ op h = absurd (cc)
 same_first : (us vs : List Spot) → us ≡ vs → is_mark m.Any (token_of vs) ≡ false → is_mark m.Any (token_of us) ≡ false
 same_first us vs e h = rw e h
 
-term_is_other : (ds : List Declared) (k : ℕ) (ss : List Spot) (t : Term) → Written ds k ss t → (us : List Spot) → is_mark m.Any (token_of (ss ++ us)) ≡ false
+term_is_other : (ds : List Declared) (k : ℕ) (ss : List Spot) (t : Term) → WrittenTerm ds k ss t → (us : List Spot) → is_mark m.Any (token_of (ss ++ us)) ≡ false
 unfolding same_mark
 term_is_other ds _ _ _ (number s n h) us = ap (is_mark m.Any) h
 term_is_other ds _ _ _ (rank s h) us = ap (is_mark m.Any) h
@@ -172,7 +172,7 @@ term_is_other ds _ _ _ (higher k ss t w) us = term_is_other ds k ss t w us
 term_is_other ds _ _ _ (joins k l r o op a b h v w) us = same_first (l ++ o ∷ r ++ us) (l ++ (o ∷ r ++ us)) (append_assoc l (o ∷ r) us) (term_is_other ds (left_level k) l a v (o ∷ r ++ us))
 
 any_on : (s : Spot) (us : List Spot) (ls : List ℕ) (b : ℕ) (i : Input) → is_mark m.Any s.token ≡ true → source (on (s ∷ us) ls b i) ≡ Ok (None, on us ls b i)
-unfolding source sees after token next
+unfolding source sees after token advanced
 any_on s us ls b i h = rw h refl
 
 value_on : (ss us : List Spot) (t : Term) (ls : List ℕ) (b : ℕ) (i : Input) → is_mark m.Any (token_of ss) ≡ false → Gives (expression (on ss ls b i)) t us ls i → Gives (source (on ss ls b i)) (Some t) us ls i
@@ -193,7 +193,7 @@ absent_on us ls b i h = rw h refl
 
 present_on : (s : Spot) (ss us : List Spot) (t : Target) (ls : List ℕ) (b : ℕ) (i : Input) → is_mark m.Status s.token ≡ true → Gives (named (on ss ls b i)) t us ls i
     → Gives (status (on (s ∷ ss) ls b i)) (Some t) us ls i
-unfolding status sees after token next
+unfolding status sees after token advanced
 present_on s ss us t ls b i h g = record { left = g.left; is = rw h (bind_to _ _ _ _ g.is refl) }
 
 -- a status was read, and the other parts are still to come

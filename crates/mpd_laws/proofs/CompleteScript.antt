@@ -1,5 +1,5 @@
 -- What is written as a script, within the limits, is read.
-use Rattle.std.proofs.Common.{◌≡◌, ℕ, zero, suc, ◌+◌, ◌<◌, ◌≤◌, pos, Bool, true, false, cond, nat_le, nat_lt, List, [], ◌∷◌, ◌++◌, length, length-append, append-nil, append_assoc, Option, Some, None, Ok, refl, ap, sym, ◌∙◌, arith}
+use Rattle.std.proofs.Common.{◌≡◌, ℕ, zero, suc, ◌+◌, ◌<◌, ◌≤◌, pos, Bool, true, false, cond, nat_le, nat_lt, List, [], ◌∷◌, ◌++◌, length, length-append, append-nil, Option, Some, None, Ok, refl, ap, sym, ◌∙◌, arith}
 use Rattle.std.proofs.lemmas.Bool.Decides.{nat_tests}
 use Rattle.std.specs.List.{prefix_len}
 use denote.Enum.Bare.{true_same}
@@ -10,10 +10,10 @@ use Rattle.mpd_model.specs.declared.token.Mark.TheVariants as m
 use Rattle.mpd_model.specs.declared.token.Token.{Token}
 use Rattle.mpd_model.specs.declared.token.Token.TheVariants.{Number, Name, Is}
 use Rattle.mpd_model.specs.Declaration.{Declared, cells_of, variables_in, handles_in}
-use Rattle.mpd_model.specs.Fits.{Gives, blocks_in, dearest_body, dearest_script}
+use Rattle.mpd_model.specs.Costs.{Gives, blocks_in, dearest_body, dearest_script}
 use Rattle.mpd_model.specs.Grammar.{version_by, version, rank_count, ranks_by, ranks, sized_at, size_by, sized, single, declaring, decl_by, decl, decls_from, decls, header, body, block, max_text, is_text, read_of, reading}
 use Rattle.mpd_model.specs.Grammar as grammar
-use Rattle.mpd_model.specs.Input.{Input, Outcome, Parser, and_then, start_of, token, token_of, spelling, place, next, expect, sees, is_mark, same_mark, after, fresh, add, fits, slot_in}
+use Rattle.mpd_model.specs.Input.{Input, Outcome, Parser, and_then, start_of, token, token_of, spelling, place, advanced, expect, sees, is_mark, same_mark, after, fresh, add, cells_fit, slot_in}
 use Rattle.mpd_model.specs.Program.{Program, IsLegal}
 use Rattle.mpd_model.specs.Tokens.{Spot, tokens}
 use Rattle.mpd_model.specs.Tree.{Tree, block_of}
@@ -39,7 +39,7 @@ fresh_has : (n : Spot) (rest : List Spot) (ds : List Declared) (i : Input) → s
 unfolding fresh spelling
 fresh_has n rest ds i h = rw h refl
 
-add_has : (name : List ℕ) (size : Option ℕ) (p : ℕ) (ss : List Spot) (ds : List Declared) (i : Input) → fits Variable size ds ≡ true
+add_has : (name : List ℕ) (size : Option ℕ) (p : ℕ) (ss : List Spot) (ds : List Declared) (i : Input) → cells_fit Variable size ds ≡ true
     → add Variable name size p (has ss ds i) ≡ Ok (tt, has ss (ds ++ variable_of name size ∷ []) i)
 unfolding add
 add_has name size p ss ds i h = rw h refl
@@ -48,22 +48,22 @@ no_size : (s : Spot) → s.token ≡ Is m.Semicolon → is_mark m.SquareOpen s.t
 unfolding same_mark
 no_size s e = ap (is_mark m.SquareOpen) e
 
-single_has : (name : List ℕ) (p : ℕ) (end : Spot) (rest : List Spot) (ds : List Declared) (i : Input) → end.token ≡ Is m.Semicolon → fits Variable None ds ≡ true
+single_has : (name : List ℕ) (p : ℕ) (end : Spot) (rest : List Spot) (ds : List Declared) (i : Input) → end.token ≡ Is m.Semicolon → cells_fit Variable None ds ≡ true
     → single Variable name p (has (end ∷ rest) ds i) ≡ Ok (tt, has rest (ds ++ variable_of name None ∷ []) i)
 unfolding single
 single_has name p end rest ds i e h =
     bind_to _ _ _ _ (add_has name None p (end ∷ rest) ds i h) (expect_has m.Semicolon end rest (ds ++ variable_of name None ∷ []) i e)
 
 sized_at_has : (name : List ℕ) (n : ℕ) (c z end : Spot) (rest : List Spot) (ds : List Declared) (i : Input) → z.token ≡ Is m.SquareClose → end.token ≡ Is m.Semicolon
-    → fits Variable (Some n) ds ≡ true → sized_at Variable name (Some n) (has (c ∷ z ∷ end ∷ rest) ds i) ≡ Ok (tt, has rest (ds ++ variable_of name (Some n) ∷ []) i)
-unfolding next
+    → cells_fit Variable (Some n) ds ≡ true → sized_at Variable name (Some n) (has (c ∷ z ∷ end ∷ rest) ds i) ≡ Ok (tt, has rest (ds ++ variable_of name (Some n) ∷ []) i)
+unfolding advanced
 sized_at_has name n c z end rest ds i ez e h =
     let es = ds ++ variable_of name (Some n) ∷ [] in
     bind_to _ _ _ _ (add_has name (Some n) (place (has (c ∷ z ∷ end ∷ rest) ds i)) (c ∷ z ∷ end ∷ rest) ds i h)
     (bind_to _ _ _ _ (expect_has m.SquareClose z (end ∷ rest) es i ez) (expect_has m.Semicolon end rest es i e))
 
 sized_has : (name : List ℕ) (n : ℕ) (c z end : Spot) (rest : List Spot) (ds : List Declared) (i : Input) → c.token ≡ Number (pos n) → z.token ≡ Is m.SquareClose
-    → end.token ≡ Is m.Semicolon → fits Variable (Some n) ds ≡ true → sized Variable name (has (c ∷ z ∷ end ∷ rest) ds i) ≡ Ok (tt, has rest (ds ++ variable_of name (Some n) ∷ []) i)
+    → end.token ≡ Is m.Semicolon → cells_fit Variable (Some n) ds ≡ true → sized Variable name (has (c ∷ z ∷ end ∷ rest) ds i) ≡ Ok (tt, has rest (ds ++ variable_of name (Some n) ∷ []) i)
 unfolding sized token
 sized_has name n c z end rest ds i ec ez e h = ap (λ u. size_by Variable name u (has (c ∷ z ∷ end ∷ rest) ds i)) ec ∙ sized_at_has name n c z end rest ds i ez e h
 
@@ -71,17 +71,17 @@ sized_has name n c z end rest ds i ec ez e h = ap (λ u. size_by Variable name u
 chosen : (b c : Bool) (p q : Parser (Unit {0})) (x y : Input) (o : Outcome (Unit {0})) → b ≡ c → cond c p q (cond c x y) ≡ o → cond b p q (cond b x y) ≡ o
 chosen b c p q x y o e h = rw e h
 
-declaring_has : (n end : Spot) (rest : List Spot) (ds : List Declared) (i : Input) → slot_in ds n.text ≡ None → end.token ≡ Is m.Semicolon → fits Variable None ds ≡ true
+declaring_has : (n end : Spot) (rest : List Spot) (ds : List Declared) (i : Input) → slot_in ds n.text ≡ None → end.token ≡ Is m.Semicolon → cells_fit Variable None ds ≡ true
     → declaring Variable (has (n ∷ end ∷ rest) ds i) ≡ Ok (tt, has rest (ds ++ variable_of n.text None ∷ []) i)
-unfolding declaring next spelling sees token after
+unfolding declaring advanced spelling sees token after
 declaring_has n end rest ds i free e h =
     bind_to _ _ _ _ (fresh_has n (end ∷ rest) ds i free)
     (chosen (is_mark m.SquareOpen end.token) false _ _ _ _ _ (no_size end e) (single_has n.text (place (has (n ∷ end ∷ rest) ds i)) end rest ds i e h))
 
 array_has : (n a c z end : Spot) (cells : ℕ) (rest : List Spot) (ds : List Declared) (i : Input) → slot_in ds n.text ≡ None → a.token ≡ Is m.SquareOpen
-    → c.token ≡ Number (pos cells) → z.token ≡ Is m.SquareClose → end.token ≡ Is m.Semicolon → fits Variable (Some cells) ds ≡ true
+    → c.token ≡ Number (pos cells) → z.token ≡ Is m.SquareClose → end.token ≡ Is m.Semicolon → cells_fit Variable (Some cells) ds ≡ true
     → declaring Variable (has (n ∷ a ∷ c ∷ z ∷ end ∷ rest) ds i) ≡ Ok (tt, has rest (ds ++ variable_of n.text (Some cells) ∷ []) i)
-unfolding declaring next spelling sees token after
+unfolding declaring advanced spelling sees token after
 array_has n a c z end cells rest ds i free ea ec ez e h =
     bind_to _ _ _ _ (fresh_has n (a ∷ c ∷ z ∷ end ∷ rest) ds i free)
     (chosen (is_mark m.SquareOpen a.token) true _ _ _ _ _ (mark_seen m.SquareOpen a.token ea) (sized_has n.text cells c z end rest ds i ec ez e h))
@@ -94,7 +94,7 @@ decl_as n ss ds i e = ap (λ u. decl_by Variable u (has (n ∷ ss) ds i)) e
 
 decls_more : (n : ℕ) (v : Spot) (ss : List Spot) (ds : List Declared) (i : Input) → is_mark m.Var v.token ≡ true
     → decls_from (suc n) (has (v ∷ ss) ds i) ≡ and_then (decl Variable (has ss ds i)) (λ u. decls_from n)
-unfolding decls_from sees after token next
+unfolding decls_from sees after token advanced
 decls_more n v ss ds i h = rw h refl
 
 decls_end : (n : ℕ) (ss : List Spot) (ds : List Declared) (i : Input) → is_mark m.Var (token_of ss) ≡ false → decls_from (suc n) (has ss ds i) ≡ Ok (tt, has ss ds i)
@@ -117,7 +117,7 @@ decls_grow _ _ _ (declares ds es v n end ss h1 h2 h3 h4 w) = less_grows ds es (v
 decls_grow _ _ _ (declares_array ds es v n a c b end cells ss h1 h2 h3 h4 h5 h6 h7 w) =
     less_grows ds es (variable_of n.text (Some cells)) (decls_grow (ds ++ variable_of n.text (Some cells) ∷ []) ss es w)
 
-room : (ds es : List Declared) (name : List ℕ) (size : Option ℕ) → Grows (ds ++ variable_of name size ∷ []) es → variables_in es ≤ 1024 → handles_in es ≤ 256 → fits Variable size ds ≡ true
+room : (ds es : List Declared) (name : List ℕ) (size : Option ℕ) → Grows (ds ++ variable_of name size ∷ []) es → variables_in es ≤ 1024 → handles_in es ≤ 256 → cells_fit Variable size ds ≡ true
 room ds es name size g a b =
     let x : variables_in (ds ++ variable_of name size ∷ []) ≡ variables_in ds + cells_of size = variables_in-more ds (variable_of name size) in
     let y : handles_in (ds ++ variable_of name size ∷ []) ≡ handles_in ds + 0 = handles_in-more ds (variable_of name size) in
@@ -151,7 +151,7 @@ all_decls ss rest es i w h a b =
 -- ---- the header
 
 version_has : (s : Spot) (n : ℕ) (rest : List Spot) (ds : List Declared) (i : Input) → s.token ≡ Number (pos n) → n ≡ 1 → version (has (s ∷ rest) ds i) ≡ Ok (tt, has rest ds i)
-unfolding version token next
+unfolding version token advanced
 version_has s n rest ds i e one = ap (λ u. version_by u (has (s ∷ rest) ds i)) (e ∙ ap (λ k. Number (pos k)) one)
 
 count_fits : (n : ℕ) → 1 ≤ n → n ≤ 16 → rank_count (pos n) ≡ Some n
@@ -161,7 +161,7 @@ count_fits n a b =
     rw (p, q) refl
 
 ranks_by_has : (s : Spot) (n : ℕ) (rest : List Spot) (ds : List Declared) (i : Input) → rank_count (pos n) ≡ Some n → ranks_by (Number (pos n)) (has (s ∷ rest) ds i) ≡ Ok (n, has rest ds i)
-unfolding next
+unfolding advanced
 ranks_by_has s n rest ds i h = ap (λ o. grammar.ranks_of o (has (s ∷ rest) ds i)) h
 
 ranks_has : (s : Spot) (n : ℕ) (rest : List Spot) (ds : List Declared) (i : Input) → s.token ≡ Number (pos n) → 1 ≤ n → n ≤ 16 → ranks (has (s ∷ rest) ds i) ≡ Ok (n, has rest ds i)

@@ -1,5 +1,5 @@
 -- What is written as statements, within the limits, is read.
-use Rattle.std.proofs.Common.{◌≡◌, ℕ, zero, suc, ◌+◌, ◌-◌, ◌<◌, ◌≤◌, Bool, true, false, Option, None, Some, List, [], ◌∷◌, ◌++◌, length, length-append, append-nil, Ok, refl, ap, sym, subst, ◌∙◌, append_assoc, arith}
+use Rattle.std.proofs.Common.{◌≡◌, ℕ, zero, suc, ◌+◌, ◌-◌, ◌<◌, ◌≤◌, Bool, true, false, Some, List, [], ◌∷◌, ◌++◌, length, length-append, append-nil, Ok, refl, ap, sym, subst, ◌∙◌, append_assoc, arith}
 use Rattle.mpd_model.specs.declared.place.DeclKind.TheVariants.{Variable}
 use Rattle.mpd_model.specs.declared.slot.Slot.{Slot}
 use Rattle.mpd_model.specs.declared.stmt.Simple.{Simple}
@@ -9,14 +9,14 @@ use Rattle.mpd_model.specs.declared.token.Mark.TheVariants as m
 use Rattle.mpd_model.specs.declared.token.Token.{Token}
 use Rattle.mpd_model.specs.declared.token.Token.TheVariants.{Name, Is, End}
 use Rattle.mpd_model.specs.Declaration.{Declared}
-use Rattle.mpd_model.specs.Fits.{cost, Stops, on, Gives, blocks, blocks_in, dearest_part, dearest, dearest_block, dearest_body}
+use Rattle.mpd_model.specs.Costs.{cost, Stops, on, Gives, blocks, blocks_in, dearest_part, dearest, dearest_block, dearest_body}
 use Rattle.mpd_model.specs.Grammar.{begun, closes, place_of_slot, outside, fill, Form, form_of, formed, by_form, HasForm, all_formed, assigning, otherwise, choosing, repeating, stmt_by, stmt, stmts, body, block}
-use Rattle.mpd_model.specs.Input.{Input, Outcome, Parser, and_then, token, token_of, next, slot_in, sees, is_mark, same_mark, line_of, after}
+use Rattle.mpd_model.specs.Input.{Input, Outcome, Parser, and_then, token, token_of, advanced, slot_in, sees, is_mark, same_mark, first_line, after}
 use Rattle.mpd_model.specs.Parts.{Part, of_mark, of_target, parts_of, mark_hole, term_hole, Contents, filled}
 use Rattle.mpd_model.specs.Term.{Term, Target}
 use Rattle.mpd_model.specs.Tokens.{Spot}
 use Rattle.mpd_model.specs.Tree.{Tree, simple, branch, repeat, no_more, block_of}
-use Rattle.mpd_model.specs.Written.{Written, WrittenTarget, whole, part, by_mark, by_target, WrittenParts, then_part, WrittenTree, simply, repeats, chooses, chooses_else, WrittenBlock, braces, WrittenBody, ended, follows}
+use Rattle.mpd_model.specs.Written.{WrittenTerm, WrittenTarget, whole, part, by_mark, by_target, WrittenParts, then_part, WrittenTree, simply, repeats, chooses, chooses_else, WrittenBlock, braces, WrittenBody, ended, follows}
 use Rattle.mpd_laws.proofs.Complete.{bind_to, mark_stops}
 use Rattle.mpd_laws.proofs.CompleteParts.{expect_on, begun_on, expression_on, target_begins, seek_on, mark_seen, fill_on}
 use Rattle.mpd_laws.proofs.Turns.{some_token}
@@ -45,7 +45,7 @@ assignment_read B s slot ss rest t ls ms b i e d k few g = record {
 -- ---- choices and repetitions
 
 repeating_read : (B : Parser (List Tree)) (e xs rest : List Spot) (t : Term) (x : List Tree) (ls ms : List ℕ) (b : ℕ) (i : Input)
-    → Written i.decls 5 e t → cost e ≤ 64 → Stops 5 xs → ((c : ℕ) → Gives (B (on xs ls c i)) x rest ms i) → Gives (repeating B (on (e ++ xs) ls b i)) (repeat t (block_of x)) rest ms i
+    → WrittenTerm i.decls 5 e t → cost e ≤ 64 → Stops 5 xs → ((c : ℕ) → Gives (B (on xs ls c i)) x rest ms i) → Gives (repeating B (on (e ++ xs) ls b i)) (repeat t (block_of x)) rest ms i
 unfolding repeating
 repeating_read B e xs rest t x ls ms b i w le s inside =
     let f = inside (64 - cost e) in
@@ -58,11 +58,11 @@ otherwise_none B rest ls b i h = rw h refl
 
 otherwise_some : (B : Parser (List Tree)) (w : Spot) (rest : List Spot) (ls : List ℕ) (b : ℕ) (i : Input) → is_mark m.Else w.token ≡ true
     → otherwise B (on (w ∷ rest) ls b i) ≡ B (on rest ls b i)
-unfolding otherwise sees after token next
+unfolding otherwise sees after token advanced
 otherwise_some B w rest ls b i h = rw h refl
 
 choosing_read : (B : Parser (List Tree)) (e xs ys rest : List Spot) (t : Term) (x y : List Tree) (ls ms ns : List ℕ) (b : ℕ) (i : Input)
-    → Written i.decls 5 e t → cost e ≤ 64 → Stops 5 xs → ((c : ℕ) → Gives (B (on xs ls c i)) x ys ms i) → ((c : ℕ) → Gives (otherwise B (on ys ms c i)) y rest ns i)
+    → WrittenTerm i.decls 5 e t → cost e ≤ 64 → Stops 5 xs → ((c : ℕ) → Gives (B (on xs ls c i)) x ys ms i) → ((c : ℕ) → Gives (otherwise B (on ys ms c i)) y rest ns i)
     → Gives (choosing B (on (e ++ xs) ls b i)) (branch t (block_of x) (block_of y)) rest ns i
 unfolding choosing
 choosing_read B e xs ys rest t x y ls ms ns b i w le s first second =
@@ -92,16 +92,16 @@ same_gives : {A : Type 0} (p : Parser A) (a : A) (ss us rest : List Spot) (ls ms
 same_gives p a ss us rest ls ms ns b i d e g = rw (d, ← e) g
 
 -- a statement by its word
-form_reads : (i : Input) (n : ℕ) (k : Mark) (f : Form k) (c : Contents f.holes) (ss : List Spot) (end : Spot) → ((B : Parser (List Tree)) → stmt_by B (Is k) ≡ by_form (Some f))
-    → (w : WrittenParts i.decls ss (of_mark k ∷ filled f.holes c)) → dearest_part i.decls ss (of_mark k ∷ filled f.holes c) w ≤ 64 → end.token ≡ Is m.Semicolon
-    → TreeReads i n (ss ++ end ∷ []) (simple (f.made c)) (line_of ss ∷ [])
-form_reads i n k f c _ end by (then_part _ rs _ _ (by_mark s _ h) w) le he b ls rest few last =
+form_reads : (i : Input) (n : ℕ) (f : Form) (c : Contents f.holes) (ss : List Spot) (end : Spot) → ((B : Parser (List Tree)) → stmt_by B (Is f.word) ≡ by_form (Some f))
+    → (w : WrittenParts i.decls ss (of_mark f.word ∷ filled f.holes c)) → dearest_part i.decls ss (of_mark f.word ∷ filled f.holes c) w ≤ 64 → end.token ≡ Is m.Semicolon
+    → TreeReads i n (ss ++ end ∷ []) (simple (f.made c)) (first_line ss ∷ [])
+form_reads i n f c _ end by (then_part _ rs _ _ (by_mark s _ h) w) le he b ls rest few last =
     same_gives (stmt (block n)) (simple (f.made c)) _ (s ∷ (rs ++ (end ∷ rest))) rest ls _ _ b i (simp append_assoc) refl
-    (begins_read (block n) (formed f) s (rs ++ (end ∷ rest)) rest (simple (f.made c)) ls _ b (Is k) i h (by (block n)) (omega arith)
+    (begins_read (block n) (formed f) s (rs ++ (end ∷ rest)) rest (simple (f.made c)) ls _ b (Is f.word) i h (by (block n)) (omega arith)
     (fill_on f.holes (λ d. simple (f.made d)) c rs end rest (ls ++ s.line ∷ []) b i f.clear w (omega arith) he))
 
 -- where a word has a form, that reads the statement
-stmt_by_form : (B : Parser (List Tree)) (k : Mark) (f : Form k) → form_of k ≡ Some f → stmt_by B (Is k) ≡ by_form (Some f)
+stmt_by_form : (B : Parser (List Tree)) (k : Mark) (f : Form) → form_of k ≡ Some f → stmt_by B (Is k) ≡ by_form (Some f)
 stmt_by_form B m.If f h = absurd (cc)
 stmt_by_form B m.While f h = absurd (cc)
 stmt_by_form B m.Waitany f h = absurd (cc)
@@ -118,12 +118,12 @@ assigning_read slot xs us rest t e ls b i g f =
 assigned_tokens : (s : Spot) (v xs us : List Spot) (end : Spot) (rest : List Spot) → v ≡ s ∷ xs → v ++ us ++ end ∷ [] ++ rest ≡ s ∷ (xs ++ (us ++ (end ∷ rest)))
 assigned_tokens s v xs us end rest h = rw h (simp append_assoc)
 
-assigned_line : (s : Spot) (v xs us : List Spot) → v ≡ s ∷ xs → s.line ≡ line_of (v ++ us)
+assigned_line : (s : Spot) (v xs us : List Spot) → v ≡ s ∷ xs → s.line ≡ first_line (v ++ us)
 assigned_line s v xs us h = rw h refl
 
 assigns_reads : (i : Input) (n : ℕ) (t : Target) (e : Term) (ss : List Spot) (end : Spot)
     → (w : WrittenParts i.decls ss (parts_of (st.Assign (record { into = t; value = e })))) → dearest_part i.decls ss (parts_of (st.Assign (record { into = t; value = e }))) w ≤ 64 → end.token ≡ Is m.Semicolon
-    → TreeReads i n (ss ++ end ∷ []) (simple (st.Assign (record { into = t; value = e }))) (line_of ss ∷ [])
+    → TreeReads i n (ss ++ end ∷ []) (simple (st.Assign (record { into = t; value = e }))) (first_line ss ∷ [])
 assigns_reads i n t e _ end (then_part v rs _ _ (by_target _ _ names) w) le he b ls rest few last =
     let x = target_begins i v t names (omega arith) in
     let line : List ℕ = ls ++ x.first.line ∷ [] in
@@ -137,16 +137,16 @@ assigns_reads i n t e _ end (then_part v rs _ _ (by_target _ _ names) w) le he b
 -- a statement that holds no other, as it is written
 abbrev SimpleReads : Input → ℕ → Simple → Type 0
 SimpleReads i n s = (ss : List Spot) (end : Spot) → (w : WrittenParts i.decls ss (parts_of s)) → dearest_part i.decls ss (parts_of s) w ≤ 64 → end.token ≡ Is m.Semicolon
-    → TreeReads i n (ss ++ end ∷ []) (simple s) (line_of ss ∷ [])
+    → TreeReads i n (ss ++ end ∷ []) (simple s) (first_line ss ∷ [])
 
 -- the parts are those of the form
 abbrev PartsRead : Input → ℕ → Tree → List Part → Type 0
-PartsRead i n t ps = (ss : List Spot) (end : Spot) → (w : WrittenParts i.decls ss ps) → dearest_part i.decls ss ps w ≤ 64 → end.token ≡ Is m.Semicolon → TreeReads i n (ss ++ end ∷ []) t (line_of ss ∷ [])
+PartsRead i n t ps = (ss : List Spot) (end : Spot) → (w : WrittenParts i.decls ss ps) → dearest_part i.decls ss ps w ≤ 64 → end.token ≡ Is m.Semicolon → TreeReads i n (ss ++ end ∷ []) t (first_line ss ∷ [])
 
 formed_reads : (i : Input) (n : ℕ) (s : Simple) → HasForm s → SimpleReads i n s
 formed_reads i n s x =
-    let formed : PartsRead i n (simple (x.form.made x.contents)) (of_mark x.mark ∷ filled x.form.holes x.contents) =
-    λ ss end w le he. form_reads i n x.mark x.form x.contents ss end (λ B. stmt_by_form B x.mark x.form x.found) w le he in
+    let formed : PartsRead i n (simple (x.form.made x.contents)) (of_mark x.form.word ∷ filled x.form.holes x.contents) =
+    λ ss end w le he. form_reads i n x.form x.contents ss end (λ B. stmt_by_form B x.form.word x.form x.found) w le he in
     subst (SimpleReads i n) x.is (subst (PartsRead i n (simple (x.form.made x.contents))) (sym (x.form.parts x.contents)) formed)
 
 simple_reads : (i : Input) (n : ℕ) (s : Simple) → SimpleReads i n s
@@ -154,7 +154,7 @@ simple_reads i n (st.Assign s) = assigns_reads i n s.into s.value
 simple_reads i n s = formed_reads i n s (all_formed s)
 
 repeats_reads : (i : Input) (n : ℕ) (k : Spot) (e a : List Spot) (t : Term) (x : List Tree) (ms : List ℕ)
-    → k.token ≡ Is m.While → Written i.decls 5 e t → cost e ≤ 64 → ((r : List Spot) → Stops 5 (a ++ r)) → BlockReads i n a x ms
+    → k.token ≡ Is m.While → WrittenTerm i.decls 5 e t → cost e ≤ 64 → ((r : List Spot) → Stops 5 (a ++ r)) → BlockReads i n a x ms
     → TreeReads i n (k ∷ e ++ a) (repeat t (block_of x)) (k.line ∷ ms)
 repeats_reads i n k e a t x ms hk w le s f b ls rest few last =
     let ks : List ℕ = ls ++ k.line ∷ [] in
@@ -171,7 +171,7 @@ otherwise_gives : (B : Parser (List Tree)) (w : Spot) (ss rest : List Spot) (y :
 otherwise_gives B w ss rest y ls ms b i h g = record { left = g.left; is = otherwise_some B w ss ls b i (mark_seen m.Else w h) ∙ g.is }
 
 chooses_reads : (i : Input) (n : ℕ) (k : Spot) (e a : List Spot) (t : Term) (x : List Tree) (ms : List ℕ)
-    → k.token ≡ Is m.If → Written i.decls 5 e t → cost e ≤ 64 → ((r : List Spot) → Stops 5 (a ++ r)) → BlockReads i n a x ms
+    → k.token ≡ Is m.If → WrittenTerm i.decls 5 e t → cost e ≤ 64 → ((r : List Spot) → Stops 5 (a ++ r)) → BlockReads i n a x ms
     → TreeReads i n (k ∷ e ++ a) (branch t (block_of x) no_more) (k.line ∷ ms)
 chooses_reads i n k e a t x ms hk w le s f b ls rest few last =
     let ks : List ℕ = ls ++ k.line ∷ [] in
@@ -182,7 +182,7 @@ chooses_reads i n k e a t x ms hk w le s f b ls rest few last =
     (λ c. f c ks rest more) (λ c. otherwise_nothing (block n) rest (ks ++ ms) c i last)))
 
 chooses_else_reads : (i : Input) (n : ℕ) (k o : Spot) (e a z : List Spot) (t : Term) (x y : List Tree) (ms ns : List ℕ)
-    → k.token ≡ Is m.If → Written i.decls 5 e t → cost e ≤ 64 → ((r : List Spot) → Stops 5 (a ++ r)) → BlockReads i n a x ms → o.token ≡ Is m.Else → BlockReads i n z y ns
+    → k.token ≡ Is m.If → WrittenTerm i.decls 5 e t → cost e ≤ 64 → ((r : List Spot) → Stops 5 (a ++ r)) → BlockReads i n a x ms → o.token ≡ Is m.Else → BlockReads i n z y ns
     → TreeReads i n (k ∷ e ++ a ++ o ∷ z) (branch t (block_of x) (block_of y)) (k.line ∷ ms ++ ns)
 chooses_else_reads i n k o e a z t x y ms ns hk w le s f ho g b ls rest few last =
     let ks : List ℕ = ls ++ k.line ∷ [] in
@@ -232,7 +232,7 @@ pub record Opens (t : Token) : Type 0 where
   pub other : is_mark m.Else t ≡ false
   pub no_decl : is_mark m.Var t ≡ false
 
-form_opens : (k : Mark) (f : Form k) → form_of k ≡ Some f → Opens (Is k)
+form_opens : (k : Mark) (f : Form) → form_of k ≡ Some f → Opens (Is k)
 unfolding same_mark
 form_opens m.BraceClose f h = absurd (cc)
 form_opens m.Else f h = absurd (cc)
@@ -272,8 +272,8 @@ PartsOpen ds ps = (ss us : List Spot) → WrittenParts ds ss ps → Opens (token
 
 formed_opens : (ds : List Declared) (s : Simple) → HasForm s → PartsOpen ds (parts_of s)
 formed_opens ds s x =
-    let marked : PartsOpen ds (of_mark x.mark ∷ filled x.form.holes x.contents) =
-    λ ss us w. mark_first_opens ds x.mark (filled x.form.holes x.contents) ss us (form_opens x.mark x.form x.found) w in
+    let marked : PartsOpen ds (of_mark x.form.word ∷ filled x.form.holes x.contents) =
+    λ ss us w. mark_first_opens ds x.form.word (filled x.form.holes x.contents) ss us (form_opens x.form.word x.form x.found) w in
     subst (λ s. PartsOpen ds (parts_of s)) x.is (subst (PartsOpen ds) (sym (x.form.parts x.contents)) marked)
 
 simple_opens : (ds : List Declared) (s : Simple) → PartsOpen ds (parts_of s)

@@ -14,8 +14,8 @@ use Rattle.mpd_model.specs.declared.token.Mark.{Mark}
 use Rattle.mpd_model.specs.declared.token.Mark.TheVariants as m
 use Rattle.mpd_model.specs.declared.token.Token.{Token}
 use Rattle.mpd_model.specs.declared.token.Token.TheVariants.{Number, Name, Is}
-use Rattle.mpd_model.specs.Grammar.{atom_by, atom, bracket, indexed, place_inside, place_of_slot, rounds, signed, chain, joined, level, expr, turns, operator_at}
-use Rattle.mpd_model.specs.Input.{Input, Outcome, Parser, and_then, token, place, spelling, next, spend, expect, sees, refusal, seek, sought, slot_in, same_kind, pure, fail, refuse}
+use Rattle.mpd_model.specs.Grammar.{atom_by, atom, bracket, indexed, place_inside, place_of_slot, rounds, signed, chain, continued, level, expr, turns, operator_at}
+use Rattle.mpd_model.specs.Input.{Input, Outcome, Parser, and_then, token, place, spelling, advanced, spend, expect, sees, refusal, seek, sought, slot_in, same_kind, pure, fail, refuse}
 use Rattle.mpd_model.specs.ReaderLaws.{IsNotTooDeep, with_more, leaving_more}
 use Rattle.mpd_model.specs.Term.{Term, lit, own_rank, size, cell, element, op1, op2}
 use Rattle.mpd_laws.proofs.Sound.{bind_ok, ok_parts, guard_ok, expect_ok, seek_ok}
@@ -31,7 +31,7 @@ guard_false false e x y h = refl
 -- ---- what is read leaves no more budget than there was
 
 spend_lowers : (i : Input) (y : Unit {0} × Input) → spend i ≡ Ok y → y.1.budget + 1 ≡ i.budget
-unfolding spend next
+unfolding spend advanced
 spend_lowers i y h =
     let e = guard_ok (i.budget == 0) _ _ y h in
     let f = guard_false (i.budget == 0) _ _ y h in
@@ -39,8 +39,8 @@ spend_lowers i y h =
     let n : i.budget ≢ 0 = grind (arith, nat_tests) in
     omega arith
 
-next_budget : (i j : Input) → j ≡ next i → j.budget ≡ i.budget
-unfolding next
+next_budget : (i j : Input) → j ≡ advanced i → j.budget ≡ i.budget
+unfolding advanced
 next_budget i j e = ap (λ k. k.budget) e
 
 abbrev Lowers : Parser Term → Type 0
@@ -49,8 +49,8 @@ Lowers p = (i j : Input) (t : Term) → p i ≡ Ok (t, j) → j.budget ≤ i.bud
 abbrev AllLower : (ℕ → Parser Term) → Type 0
 AllLower p = (k : ℕ) → Lowers (p k)
 
-seek_keeps : (i : Input) (y : Slot × Input) → seek Variable i ≡ Ok y → (next y.1).budget ≡ i.budget
-seek_keeps i y h = let k = seek_ok i y h in next_budget i (next y.1) (ap next (sym k.2))
+seek_keeps : (i : Input) (y : Slot × Input) → seek Variable i ≡ Ok y → (advanced y.1).budget ≡ i.budget
+seek_keeps i y h = let k = seek_ok i y h in next_budget i (advanced y.1) (ap advanced (sym k.2))
 
 bracket_case : (found : Bool) (i : Input) (y : Unit {0} × Input) → cond found (spend i) (refuse i) ≡ Ok y → y.1.budget + 1 ≡ i.budget
 bracket_case true i y h = spend_lowers i y h
@@ -74,7 +74,7 @@ name_lowers : (p : ℕ → Parser Term) → AllLower p → Lowers (place_inside 
 unfolding place_inside
 name_lowers p s i j t h =
     let b = bind_ok (seek Variable i) _ (t, j) h in
-    omega (arith, seek_keeps i b.0 b.1, indexed_lowers p s (place_of_slot b.0.0) b.0.0.size (next b.0.1) j t b.2)
+    omega (arith, seek_keeps i b.0 b.1, indexed_lowers p s (place_of_slot b.0.0) b.0.0.size (advanced b.0.1) j t b.2)
 
 signed_lowers : (p : ℕ → Parser Term) → AllLower p → (op : UnaryOp) → Lowers (signed p op)
 unfolding signed
@@ -95,9 +95,9 @@ rounds_lowers p s i j t h =
     omega (arith, spend_lowers i b.0 b.1, s 5 b.0.1 c.0.1 c.0.0 c.1, next_budget c.0.1 j (sym o.1 ∙ ex.1))
 
 atom_lowers_case : (p : ℕ → Parser Term) → AllLower p → (tk : Token) → Lowers (atom_by p tk)
-atom_lowers_case p s (Number n) i j t h = let o = ok_parts (lit n, next i) (t, j) h in omega (arith, next_budget i j (sym o.1))
-atom_lowers_case p s (Is m.Rank) i j t h = let o = ok_parts (own_rank, next i) (t, j) h in omega (arith, next_budget i j (sym o.1))
-atom_lowers_case p s (Is m.Size) i j t h = let o = ok_parts (size, next i) (t, j) h in omega (arith, next_budget i j (sym o.1))
+atom_lowers_case p s (Number n) i j t h = let o = ok_parts (lit n, advanced i) (t, j) h in omega (arith, next_budget i j (sym o.1))
+atom_lowers_case p s (Is m.Rank) i j t h = let o = ok_parts (own_rank, advanced i) (t, j) h in omega (arith, next_budget i j (sym o.1))
+atom_lowers_case p s (Is m.Size) i j t h = let o = ok_parts (size, advanced i) (t, j) h in omega (arith, next_budget i j (sym o.1))
 atom_lowers_case p s Name i j t h = name_lowers p s i j t h
 atom_lowers_case p s (Is m.RoundOpen) i j t h = rounds_lowers p s i j t h
 atom_lowers_case p s (Is m.Minus) i j t h = signed_lowers p s u.Negate i j t h
@@ -108,10 +108,10 @@ atom_lowers : (p : ℕ → Parser Term) → AllLower p → Lowers (atom p)
 unfolding atom
 atom_lowers p s i j t h = atom_lowers_case p s (token i) i j t h
 
-joined_lowers : (more : Term → Parser Term) (p : Parser Term) → Lowers p → (left : Term) (o : Option BinaryOp) (x j : Input) (t : Term)
-    → ((l : Term) (y : Input) → more l y ≡ Ok (t, j) → j.budget ≤ y.budget) → joined more p left o x ≡ Ok (t, j) → j.budget ≤ x.budget
-joined_lowers more p s left None x j t g h = let o = ok_parts (left, x) (t, j) h in omega (arith, ap (λ k. k.budget) o.1)
-joined_lowers more p s left (Some op) x j t g h =
+continued_lowers : (more : Term → Parser Term) (p : Parser Term) → Lowers p → (left : Term) (o : Option BinaryOp) (x j : Input) (t : Term)
+    → ((l : Term) (y : Input) → more l y ≡ Ok (t, j) → j.budget ≤ y.budget) → continued more p left o x ≡ Ok (t, j) → j.budget ≤ x.budget
+continued_lowers more p s left None x j t g h = let o = ok_parts (left, x) (t, j) h in omega (arith, ap (λ k. k.budget) o.1)
+continued_lowers more p s left (Some op) x j t g h =
     let c = bind_ok (spend x) _ (t, j) h in
     let d = bind_ok (p c.0.1) _ (t, j) c.2 in
     omega (arith, spend_lowers x c.0 c.1, s c.0.1 d.0.1 d.0.0 d.1, g (op2 op left d.0.0) d.0.1 d.2)
@@ -120,7 +120,7 @@ chain_lowers : (p : Parser Term) → Lowers p → (k n : ℕ) (left : Term) (x j
 unfolding chain
 chain_lowers p s k zero left x j t h = let o = ok_parts (left, x) (t, j) h in omega (arith, ap (λ k. k.budget) o.1)
 chain_lowers p s k (suc n) left x j t h =
-    joined_lowers (chain p k n) p s left (operator_at k (token x)) x j t (λ l y e. chain_lowers p s k n l y j t e) h
+    continued_lowers (chain p k n) p s left (operator_at k (token x)) x j t (λ l y e. chain_lowers p s k n l y j t e) h
 
 level_lowers : (p : ℕ → Parser Term) → AllLower p → (k : ℕ) → Lowers (level p k)
 unfolding level
@@ -160,8 +160,8 @@ unfolding place_inside
 name_agree n p q a i h =
     bind_same (seek Variable i) _ _ (λ x e.
     let s = seek_keeps i x e in
-    let b : (next x.1).budget < suc n = omega arith in
-    indexed_agree n p q a (place_of_slot x.0) x.0.size (next x.1) b)
+    let b : (advanced x.1).budget < suc n = omega arith in
+    indexed_agree n p q a (place_of_slot x.0) x.0.size (advanced x.1) b)
 
 atom_agree_case : (n : ℕ) (p q : ℕ → Parser Term) → AllAgree n p q → (tk : Token) (i : Input) → i.budget < suc n → atom_by p tk i ≡ atom_by q tk i
 atom_agree_case n p q a (Is m.RoundOpen) i h = rounds_agree n p q a i h
@@ -174,10 +174,10 @@ atom_agree : (n : ℕ) (p q : ℕ → Parser Term) → AllAgree n p q → Agree 
 unfolding atom
 atom_agree n p q a i h = atom_agree_case n p q a (token i) i h
 
-joined_agree : (n : ℕ) (p q : Parser Term) → Agree n p q → Lowers p → (f g : Term → Parser Term) → ((l : Term) → Agree n (f l) (g l))
-    → (left : Term) (o : Option BinaryOp) → Agree n (joined f p left o) (joined g q left o)
-joined_agree n p q a s f g c left None i h = refl
-joined_agree n p q a s f g c left (Some op) i h =
+continued_agree : (n : ℕ) (p q : Parser Term) → Agree n p q → Lowers p → (f g : Term → Parser Term) → ((l : Term) → Agree n (f l) (g l))
+    → (left : Term) (o : Option BinaryOp) → Agree n (continued f p left o) (continued g q left o)
+continued_agree n p q a s f g c left None i h = refl
+continued_agree n p q a s f g c left (Some op) i h =
     bind_same (spend i) _ _ (λ x e.
     let low = spend_lowers i x e in
     let b : x.1.budget < n = omega arith in
@@ -188,7 +188,7 @@ joined_agree n p q a s f g c left (Some op) i h =
 chain_agree : (n : ℕ) (p q : Parser Term) → Agree n p q → Lowers p → (k m : ℕ) (left : Term) → Agree n (chain p k m left) (chain q k m left)
 unfolding chain
 chain_agree n p q a s k zero left i h = refl
-chain_agree n p q a s k (suc m) left i h = joined_agree n p q a s (chain p k m) (chain q k m) (λ l. chain_agree n p q a s k m l) left (operator_at k (token i)) i h
+chain_agree n p q a s k (suc m) left i h = continued_agree n p q a s (chain p k m) (chain q k m) (λ l. chain_agree n p q a s k m l) left (operator_at k (token i)) i h
 
 level_agree : (n : ℕ) (p q : ℕ → Parser Term) → AllAgree n p q → AllLower p → (k : ℕ) → Agree (suc n) (level p k) (level q k)
 unfolding level
@@ -217,7 +217,7 @@ bind_more e (Ok x) u f g a b h = rw (a tt) (b x refl h)
 bind_more e (Err c) u f g a b h = rw (a h) refl
 
 spend_more : (e : ℕ) → Follows e spend spend
-unfolding spend next place
+unfolding spend advanced place
 spend_more e i h =
     elim (cases_Bool (i.budget == 0)) [
       | inl is ↦ let deep = rw is at h in absurd (deep refl)
@@ -233,7 +233,7 @@ cond_more e true x y u v a c = a
 cond_more e false x y u v a c = c
 
 expect_more : (e : ℕ) (wanted : Mark) → Follows e (expect wanted) (expect wanted)
-unfolding expect sees token place refusal next
+unfolding expect sees token place refusal advanced
 expect_more e wanted i h = cond_more e _ _ _ _ _ refl refl
 
 pure_or_fail : (e : ℕ) (b : Bool) (s : Slot) (i : Input) → cond b (pure s) (fail UnknownName) (with_more e i) ≡ leaving_more e (cond b (pure s) (fail UnknownName) i)
@@ -274,9 +274,9 @@ indexed_more e p q a at (Some cells) i h =
     bind_more e (expect m.SquareClose y.1) (expect m.SquareClose (with_more e y.1)) _ _ (expect_more e m.SquareClose y.1) (λ z d'' c''. refl) c') c) h
 
 name_more : (e : ℕ) (p q : ℕ → Parser Term) → AllFollow e p q → Follows e (place_inside p) (place_inside q)
-unfolding place_inside next
+unfolding place_inside advanced
 name_more e p q a i h =
-    bind_more e (seek Variable i) (seek Variable (with_more e i)) _ _ (seek_more e i) (λ x d c. indexed_more e p q a (place_of_slot x.0) x.0.size (next x.1) c) h
+    bind_more e (seek Variable i) (seek Variable (with_more e i)) _ _ (seek_more e i) (λ x d c. indexed_more e p q a (place_of_slot x.0) x.0.size (advanced x.1) c) h
 
 signed_more : (e : ℕ) (p q : ℕ → Parser Term) → AllFollow e p q → (op : UnaryOp) → Follows e (signed p op) (signed q op)
 unfolding signed
@@ -292,7 +292,7 @@ rounds_more e p q a i h =
     bind_more e (expect m.RoundClose y.1) (expect m.RoundClose (with_more e y.1)) _ _ (expect_more e m.RoundClose y.1) (λ z d'' c''. refl) c') c) h
 
 atom_more_case : (e : ℕ) (p q : ℕ → Parser Term) → AllFollow e p q → (tk : Token) → Follows e (atom_by p tk) (atom_by q tk)
-unfolding next
+unfolding advanced
 atom_more_case e p q a (Number n) i h = refl
 atom_more_case e p q a (Is m.Rank) i h = refl
 atom_more_case e p q a (Is m.Size) i h = refl
@@ -306,11 +306,11 @@ atom_more : (e : ℕ) (p q : ℕ → Parser Term) → AllFollow e p q → Follow
 unfolding atom token
 atom_more e p q a i h = atom_more_case e p q a (token i) i h
 
-joined_more : (e : ℕ) (p q : Parser Term) → Follows e p q → Lowers p → (f g : Term → Parser Term) (left : Term) (o : Option BinaryOp) (i : Input)
+continued_more : (e : ℕ) (p q : Parser Term) → Follows e p q → Lowers p → (f g : Term → Parser Term) (left : Term) (o : Option BinaryOp) (i : Input)
     → ((l : Term) (x : Input) → x.budget + 1 ≤ i.budget → IsNotTooDeep (f l x) → g l (with_more e x) ≡ leaving_more e (f l x))
-    → IsNotTooDeep (joined f p left o i) → joined g q left o (with_more e i) ≡ leaving_more e (joined f p left o i)
-joined_more e p q a s f g left None i c h = refl
-joined_more e p q a s f g left (Some op) i c h =
+    → IsNotTooDeep (continued f p left o i) → continued g q left o (with_more e i) ≡ leaving_more e (continued f p left o i)
+continued_more e p q a s f g left None i c h = refl
+continued_more e p q a s f g left (Some op) i c h =
     bind_more e (spend i) (spend (with_more e i)) _ _ (spend_more e i) (λ x d c'.
     bind_more e (p x.1) (q (with_more e x.1)) _ _ (a x.1) (λ y d' c''.
     let low = spend_lowers i x d in
@@ -322,7 +322,7 @@ chain_same : (e : ℕ) (p q : Parser Term) → Follows e p q → Lowers p → (k
 unfolding chain token
 chain_same e p q a s k zero left i h = refl
 chain_same e p q a s k (suc n) left i h =
-    joined_more e p q a s (chain p k n) (chain q k n) left (operator_at k (token i)) i (λ l x less c. chain_same e p q a s k n l x c) h
+    continued_more e p q a s (chain p k n) (chain q k n) left (operator_at k (token i)) i (λ l x less c. chain_same e p q a s k n l x c) h
 
 -- with more turns than budget
 chain_more : (e : ℕ) (p q : Parser Term) → Follows e p q → Lowers p → (k n more : ℕ) (left : Term) (i : Input) → more ≡ n + e → i.budget < n
@@ -331,7 +331,7 @@ unfolding chain token
 chain_more e p q a s k zero more left i is b h = absurd (omega arith)
 chain_more e p q a s k (suc n) more left i is b h =
     let next_turn : more ≡ suc (n + e) = omega arith in
-    rw next_turn (joined_more e p q a s (chain p k n) (chain q k (n + e)) left (operator_at k (token i)) i
+    rw next_turn (continued_more e p q a s (chain p k n) (chain q k (n + e)) left (operator_at k (token i)) i
     (λ l x less c. chain_more e p q a s k n (n + e) l x refl (omega arith) c) h)
 
 turns_more : (e : ℕ) (p q : Parser Term) → Follows e p q → Lowers p → (k : ℕ) (left : Term) (i : Input)

@@ -15,9 +15,9 @@ use Rattle.mpd_model.specs.declared.token.Mark.{Mark}
 use Rattle.mpd_model.specs.declared.token.Mark.TheVariants as m
 use Rattle.mpd_model.specs.declared.token.Token.{Token}
 use Rattle.mpd_model.specs.declared.token.Token.TheVariants.{Number, Name, Is, Bad}
-use Rattle.mpd_model.specs.Grammar.{atom_by, atom, bracket, indexed, place_inside, place_of_slot, rounds, signed, chain, joined, level, expr, turns, operator_at, expression, begun, closes, outside, target, named_by, named, source_by, source, status_by, status, fill, Form, form_of, by_form, assigning, otherwise, choosing, repeating, stmt_by, stmt, stmts, body, block, max_blocks, version_by, version, rank_count, ranks_of, ranks_by, ranks, natural, sized_at, size_by, sized, single, declaring, decl_by, decl, decls_from, decls, header, max_text, is_text, read_of, reading}
+use Rattle.mpd_model.specs.Grammar.{atom_by, atom, bracket, indexed, place_inside, place_of_slot, rounds, signed, chain, continued, level, expr, turns, operator_at, expression, begun, closes, outside, target, named_by, named, source_by, source, status_by, status, fill, Form, form_of, by_form, assigning, otherwise, choosing, repeating, stmt_by, stmt, stmts, body, block, max_blocks, version_by, version, rank_count, ranks_of, ranks_by, ranks, natural, sized_at, size_by, sized, single, declaring, decl_by, decl, decls_from, decls, header, max_text, is_text, read_of, reading}
 use Rattle.mpd_model.specs.Grammar as grammar
-use Rattle.mpd_model.specs.Input.{Input, Outcome, Parser, and_then, start_of, token, place, spelling, next, code_at, refusal, refuse, fail, advance, pure, expect, spend, count, seek, sought, same_kind, slot_in, fresh, is_known, add, fits, sees, after, max_budget, ◌>>=◌, ◌>>◌}
+use Rattle.mpd_model.specs.Input.{Input, Outcome, Parser, and_then, start_of, token, place, spelling, advanced, code_at, refusal, refuse, fail, advance, pure, expect, spend, count, seek, sought, same_kind, slot_in, fresh, is_known, add, cells_fit, sees, after, max_budget, ◌>>=◌, ◌>>◌}
 use Rattle.mpd_model.specs.Program.{Program}
 use Rattle.mpd_model.specs.Term.{Term, op2}
 use Rattle.mpd_model.specs.declared.stmt.Simple.TheVariants as st
@@ -88,7 +88,7 @@ indexed_sure p s at (Some cells) i =
 
 name_sure : (p : ℕ → Parser Term) → AllSureAt p → AllSure (place_inside p)
 unfolding place_inside
-name_sure p s i = bind_sure (seek Variable i) _ (seek_sure Variable i) (λ v j. indexed_sure p s (place_of_slot v) v.size (next j))
+name_sure p s i = bind_sure (seek Variable i) _ (seek_sure Variable i) (λ v j. indexed_sure p s (place_of_slot v) v.size (advanced j))
 
 signed_sure : (p : ℕ → Parser Term) → AllSureAt p → (op : UnaryOp) → AllSure (signed p op)
 unfolding signed
@@ -113,14 +113,14 @@ atom_sure : (p : ℕ → Parser Term) → AllSureAt p → AllSure (atom p)
 unfolding atom
 atom_sure p s i = atom_case p s (token i) i
 
-joined_sure : (more : Term → Parser Term) (p : Parser Term) → ((l : Term) → AllSure (more l)) → AllSure p → (left : Term) (o : Option BinaryOp) → AllSure (joined more p left o)
-joined_sure more p a s left None i = tt
-joined_sure more p a s left (Some op) i = bind_sure (spend i) _ (spend_sure i) (λ u x. bind_sure (p x) _ (s x) (λ r y. a (op2 op left r) y))
+continued_sure : (more : Term → Parser Term) (p : Parser Term) → ((l : Term) → AllSure (more l)) → AllSure p → (left : Term) (o : Option BinaryOp) → AllSure (continued more p left o)
+continued_sure more p a s left None i = tt
+continued_sure more p a s left (Some op) i = bind_sure (spend i) _ (spend_sure i) (λ u x. bind_sure (p x) _ (s x) (λ r y. a (op2 op left r) y))
 
 chain_sure : (p : Parser Term) → AllSure p → (k n : ℕ) (left : Term) → AllSure (chain p k n left)
 unfolding chain
 chain_sure p s k zero left i = tt
-chain_sure p s k (suc n) left i = joined_sure (chain p k n) p (λ l. chain_sure p s k n l) s left (operator_at k (token i)) i
+chain_sure p s k (suc n) left i = continued_sure (chain p k n) p (λ l. chain_sure p s k n l) s left (operator_at k (token i)) i
 
 level_sure : (p : ℕ → Parser Term) → AllSureAt p → (k : ℕ) → AllSure (level p k)
 unfolding level
@@ -145,7 +145,7 @@ outside_sure at (Some cells) i =
 
 target_sure : AllSure target
 unfolding target
-target_sure i = bind_sure (seek Variable i) _ (seek_sure Variable i) (λ v j. outside_sure (place_of_slot v) v.size (next j))
+target_sure i = bind_sure (seek Variable i) _ (seek_sure Variable i) (λ v j. outside_sure (place_of_slot v) v.size (advanced j))
 
 named_case : (t : Token) → AllSure (named_by t)
 named_case Name i = target_sure i
@@ -182,9 +182,9 @@ fill_sure (status_hole ∷ hs) made i = bind_sure (status i) _ (status_sure i) (
 begun_sure : AllSure begun
 begun_sure i = bind_sure (count i) _ (count_sure i) (λ u x. tt)
 
-form_sure : (k : Mark) (o : Option (Form k)) → AllSure (by_form o)
-form_sure k None i = refusal_sure i
-form_sure k (Some f) i = bind_sure (begun i) _ (begun_sure i) (λ u x. fill_sure f.holes (λ c. simple (f.made c)) x)
+form_sure : (o : Option Form) → AllSure (by_form o)
+form_sure None i = refusal_sure i
+form_sure (Some f) i = bind_sure (begun i) _ (begun_sure i) (λ u x. fill_sure f.holes (λ c. simple (f.made c)) x)
 
 assigning_sure : (slot : Slot) → AllSure (assigning slot)
 unfolding assigning
@@ -210,7 +210,7 @@ stmt_case p s Name i = bind_sure (seek Variable i) _ (seek_sure Variable i) (λ 
 stmt_case p s (Is m.While) i = bind_sure (begun i) _ (begun_sure i) (λ u x. repeating_sure p s x)
 stmt_case p s (Is m.If) i = bind_sure (begun i) _ (begun_sure i) (λ u x. choosing_sure p s x)
 stmt_case p s (Is m.Waitany) i = bind_sure (count i) (λ u. fail NotInVersion) (count_sure i) (λ u x e. absurd (cc))
-stmt_case p s (Is k) i = form_sure k (form_of k) i
+stmt_case p s (Is k) i = form_sure (form_of k) i
 stmt_case p s _ i = refusal_sure i
 
 stmt_sure : (p : Parser (List Tree)) → AllSure p → AllSure (stmt p)
@@ -263,13 +263,13 @@ fresh_sure i = cond_sure (is_known (slot_in i.decls (spelling i))) _ _ (λ e. ab
 
 add_sure : (k : DeclKind) (name : List ℕ) (size : Option ℕ) (at : ℕ) → AllSure (add k name size at)
 unfolding add
-add_sure k name size at i = cond_sure (fits k size i.decls) _ _ tt (λ e. absurd (cc))
+add_sure k name size at i = cond_sure (cells_fit k size i.decls) _ _ tt (λ e. absurd (cc))
 
 sized_at_sure : (k : DeclKind) (name : List ℕ) (o : Option ℕ) → AllSure (sized_at k name o)
 sized_at_sure k name None i = refusal_sure i
 sized_at_sure k name (Some n) i =
     bind_sure (add k name (Some n) (place i) i) _ (add_sure k name (Some n) (place i) i) (λ a x.
-    bind_sure (expect m.SquareClose (next x)) _ (expect_sure m.SquareClose (next x)) (λ b y. expect_sure m.Semicolon y))
+    bind_sure (expect m.SquareClose (advanced x)) _ (expect_sure m.SquareClose (advanced x)) (λ b y. expect_sure m.Semicolon y))
 
 size_case : (k : DeclKind) (name : List ℕ) (t : Token) → AllSure (size_by k name t)
 size_case k name (Number z) i = sized_at_sure k name (natural z) i
@@ -287,8 +287,8 @@ declaring_sure : (k : DeclKind) → AllSure (declaring k)
 unfolding declaring
 declaring_sure k i =
     bind_sure (fresh i) _ (fresh_sure i) (λ a x.
-    either_sure (sees m.SquareOpen (next x)) (sized k (spelling i)) (single k (spelling i) (place i)) (after m.SquareOpen (next x))
-    (sized_sure k (spelling i) (after m.SquareOpen (next x))) (single_sure k (spelling i) (place i) (after m.SquareOpen (next x))))
+    either_sure (sees m.SquareOpen (advanced x)) (sized k (spelling i)) (single k (spelling i) (place i)) (after m.SquareOpen (advanced x))
+    (sized_sure k (spelling i) (after m.SquareOpen (advanced x))) (single_sure k (spelling i) (place i) (after m.SquareOpen (advanced x))))
 
 decl_case : (k : DeclKind) (t : Token) → AllSure (decl_by k t)
 decl_case k Name i = declaring_sure k i

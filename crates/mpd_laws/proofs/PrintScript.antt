@@ -9,7 +9,7 @@ use Rattle.mpd_model.specs.declared.token.Mark.TheVariants as m
 use Rattle.mpd_model.specs.declared.token.Token.TheVariants.{Number, Name, Is}
 use Rattle.mpd_model.specs.Canonical.{decl_text, block_text, canonical}
 use Rattle.mpd_model.specs.Declaration.{Declared, variable_cells, variables_in}
-use Rattle.mpd_model.specs.Fits.{dearest_script}
+use Rattle.mpd_model.specs.Costs.{dearest_script}
 use Rattle.mpd_model.specs.Grammar.{is_text}
 use Rattle.mpd_model.specs.Input.{slot_in, max_budget}
 use Rattle.mpd_model.specs.Printable.{IsName, AreNamed, AreVariables, AreNew, IsPrintable, CanonicalIsReadAgain}

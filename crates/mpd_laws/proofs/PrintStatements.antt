@@ -7,16 +7,16 @@ use Rattle.mpd_model.specs.declared.token.Token.{Token}
 use Rattle.mpd_model.specs.declared.token.Token.TheVariants.{Name, Is}
 use Rattle.mpd_model.specs.Canonical.{name_text, whole_text, index_text, target_text, indent, else_text, mark_text, part_text, parts_text, tree_text, block_text}
 use Rattle.mpd_model.specs.Declaration.{Declared}
-use Rattle.mpd_model.specs.Fits.{cost, index_cost, part_cost, dearest_part, dearest, dearest_body}
-use Rattle.mpd_model.specs.Input.{line_of, max_budget}
-use Rattle.mpd_model.specs.Printable.{Stands, IsPrintableWhole, IsPrintableAt, IsPrintableTarget, IsPrintablePart, ArePrintable, IsPrintableTree, IsPrintableBlock, term_cost}
+use Rattle.mpd_model.specs.Costs.{cost, index_cost, part_cost, dearest_part, dearest, dearest_body}
+use Rattle.mpd_model.specs.Input.{first_line, max_budget}
+use Rattle.mpd_model.specs.Printable.{HasName, IsPrintableWhole, IsPrintableAt, IsPrintableTarget, IsPrintablePart, ArePrintable, IsPrintableTree, IsPrintableBlock, term_cost}
 use Rattle.mpd_model.specs.Term.{Term, Target}
 use Rattle.mpd_model.specs.Tokens.{Spot, tokens_after}
 use Rattle.mpd_model.specs.declared.stmt.Simple.{Simple}
 use Rattle.mpd_model.specs.declared.token.Mark.{Mark}
 use Rattle.mpd_model.specs.Parts.{Part, of_mark, of_term, of_target, parts_of}
 use Rattle.mpd_model.specs.Tree.{Tree, Block, simple, branch, repeat, no_more, then_more, block_of, trees, statements, statements_in}
-use Rattle.mpd_model.specs.Written.{Written, WrittenTarget, whole, part, WrittenPart, by_mark, by_term, by_target, WrittenParts, no_part, then_part, WrittenTree, simply, repeats, chooses, chooses_else, braces, WrittenBody, ended, follows}
+use Rattle.mpd_model.specs.Written.{WrittenTerm, WrittenTarget, whole, part, WrittenPart, by_mark, by_term, by_target, WrittenParts, no_part, then_part, WrittenTree, simply, repeats, chooses, chooses_else, braces, WrittenBody, ended, follows}
 use Rattle.mpd_laws.proofs.Cuts.{Ends, Any, Spelled, join, turned, narrowed, fixed, blank_before, blank_behind, Both, both, IsOne, one, IsWord, one_word, IsNone, nothing}
 use Rattle.mpd_laws.proofs.Marks.{Parted, spaced, closed, parted_ends, mark_spelled}
 use Rattle.mpd_laws.proofs.PrintTerms.{TermSpots, term_spelled, name_spelled, names_of}
@@ -28,7 +28,7 @@ max_small a b n h k = grind arith
 -- ---- expressions
 
 pub record WholeSpots (ds : List Declared) (t : Term) (ss : List Spot) : Type 0 where
-  pub written : Written ds 5 ss t
+  pub written : WrittenTerm ds 5 ss t
   pub cheap : cost ss ≤ max_budget
 
 whole_spots : (ds : List Declared) (t : Term) → term_cost 5 t ≤ max_budget → (ss : List Spot) → TermSpots ds 5 t (term_cost 5 t) ss → WholeSpots ds t ss
@@ -46,10 +46,10 @@ record TargetSpots (ds : List Declared) (t : Target) (ss : List Spot) : Type 0 w
 abbrev place_at : Place → Option Term → Target
 place_at p o = record { place = p; index = o }
 
-alone_spots : (ds : List Declared) (p : Place) → Stands ds false p → (ss : List Spot) → IsWord Name (name_text ds p) ss → TargetSpots ds (place_at p None) ss
+alone_spots : (ds : List Declared) (p : Place) → HasName ds false p → (ss : List Spot) → IsWord Name (name_text ds p) ss → TargetSpots ds (place_at p None) ss
 alone_spots ds p x _ (one_word s h e) = record { written = whole s p (names_of ds false p s x h e); cheap = omega arith }
 
-part_spots : (ds : List Declared) (p : Place) (t : Term) → Stands ds true p → (ss : List Spot)
+part_spots : (ds : List Declared) (p : Place) (t : Term) → HasName ds true p → (ss : List Spot)
     → Both (IsWord Name (name_text ds p)) (Both (Both (IsOne (Is m.SquareOpen)) (WholeSpots ds t)) (IsOne (Is m.SquareClose))) ss → TargetSpots ds (place_at p (Some t)) ss
 part_spots ds p t x _ (both _ _ (one_word s h e) (both _ _ (both _ inside (one o h1) y) (one c h2))) =
     record { written = part s o c inside p t (names_of ds true p s x h e) h1 y.written h2; cheap = y.cheap }
@@ -152,7 +152,7 @@ parts_spelled ds (p ∷ q ∷ ps) h =
     turned (parts_text ds (p ∷ q ∷ ps)) (more_spots ds p (q ∷ ps)) (join (part_text ds p ++ codes " ") (parts_text ds (q ∷ ps)) first (parts_spelled ds (q ∷ ps) h.1) (λ z _. tt))
 
 simple_spots : (ds : List Declared) (s : Simple) (ss : List Spot) → Both (PartsSpots ds (parts_of s)) (IsOne (Is m.Semicolon)) ss → TreeSpots ds (simple s) ss
-simple_spots ds s _ (both ss _ x (one end h)) = record { lines = line_of ss ∷ []; written = simply ss end s x.written h; cheap = x.cheap; count = refl }
+simple_spots ds s _ (both ss _ x (one end h)) = record { lines = first_line ss ∷ []; written = simply ss end s x.written h; cheap = x.cheap; count = refl }
 
 simple_spelled : (ds : List Declared) (n : ℕ) (s : Simple) → ArePrintable ds (parts_of s) → Spelled Any (TreeSpots ds (simple s)) (tree_text ds n (simple s))
 simple_spelled ds n s h =

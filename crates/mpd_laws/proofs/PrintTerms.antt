@@ -12,31 +12,31 @@ use Rattle.mpd_model.specs.declared.token.Mark.TheVariants as m
 use Rattle.mpd_model.specs.declared.token.Token.TheVariants.{Number, Name, Is}
 use Rattle.mpd_model.specs.Canonical.{name_text, below, op_text, in_brackets, term_text}
 use Rattle.mpd_model.specs.Declaration.{Declared}
-use Rattle.mpd_model.specs.Fits.{cost, price}
+use Rattle.mpd_model.specs.Costs.{cost, price}
 use Rattle.mpd_model.specs.Grammar.{operator_at, sign}
 use Rattle.mpd_model.specs.Input.{slot_in}
-use Rattle.mpd_model.specs.Printable.{IsName, Stands, IsPrintableTerm, bracket_cost, term_cost}
+use Rattle.mpd_model.specs.Printable.{IsName, HasName, IsPrintableTerm, bracket_cost, term_cost}
 use Rattle.mpd_model.specs.Term.{Term, lit, own_rank, size, cell, element, op1, op2}
 use Rattle.mpd_model.specs.Tokens.{Spot, tokens_after, front, begins_name, word, sign as byte_sign}
-use Rattle.mpd_model.specs.Written.{Names, Written, number, rank, ranks, name, entry, round, signs, higher, joins, left_level}
+use Rattle.mpd_model.specs.Written.{Names, WrittenTerm, number, rank, ranks, name, entry, round, signs, higher, joins, left_level}
 use Rattle.mpd_laws.proofs.Cuts.{Ends, Spelled, join, turned, narrowed, Both, both, IsOne, one, IsWord, one_word}
 use Rattle.mpd_laws.proofs.Runs.{word_spelled, decimal_spelled, decimal_first, first_of_names}
 use Rattle.mpd_laws.proofs.Signs.{square_open, square_close, round_open, round_close, minus, op_token, op_spelled, op_level, op_price}
 
 pub record TermSpots (ds : List Declared) (k : ℕ) (t : Term) (n : ℕ) (ss : List Spot) : Type 0 where
-  pub written : Written ds k ss t
+  pub written : WrittenTerm ds k ss t
   pub cost : cost ss ≡ n
 
 pub cost_append : (a b : List Spot) → cost (a ++ b) ≡ cost a + cost b
 cost_append [] b = omega arith
 cost_append (s ∷ a) b = omega (arith, cost_append a b)
 
-raise : (ds : List Declared) (j k : ℕ) (ss : List Spot) (t : Term) → j ≤ k → Written ds j ss t → Written ds k ss t
-raise ds j zero ss t h w = let e : j ≡ 0 = omega arith in subst (λ i. Written ds i ss t) e w
+raise : (ds : List Declared) (j k : ℕ) (ss : List Spot) (t : Term) → j ≤ k → WrittenTerm ds j ss t → WrittenTerm ds k ss t
+raise ds j zero ss t h w = let e : j ≡ 0 = omega arith in subst (λ i. WrittenTerm ds i ss t) e w
 raise ds j (suc k) ss t h w =
     elim (cases_lt j (suc k)) [
       | inl less ↦ higher k ss t (raise ds j k ss t (omega arith) w)
-      | inr same ↦ let e : j ≡ suc k = omega arith in subst (λ i. Written ds i ss t) e w
+      | inr same ↦ let e : j ≡ suc k = omega arith in subst (λ i. WrittenTerm ds i ss t) e w
     ]
 
 raised : (ds : List Declared) (j k : ℕ) (t : Term) (n m : ℕ) (ss : List Spot) → j ≤ k → n ≡ m → TermSpots ds j t n ss → TermSpots ds k t m ss
@@ -53,10 +53,10 @@ rank_spots ds k w _ (one_word s h e) = record { written = raise ds 0 k (s ∷ []
 size_spots : (ds : List Declared) (k : ℕ) (w : List ℕ) (ss : List Spot) → IsWord (Is m.Size) w ss → TermSpots ds k size 0 ss
 size_spots ds k w _ (one_word s h e) = record { written = raise ds 0 k (s ∷ []) size (omega arith) (ranks s h); cost = rw h refl }
 
-pub names_of : (ds : List Declared) (sized : Bool) (p : Place) (s : Spot) → Stands ds sized p → s.token ≡ Name → s.text ≡ name_text ds p → Names ds s sized p
+pub names_of : (ds : List Declared) (sized : Bool) (p : Place) (s : Spot) → HasName ds sized p → s.token ≡ Name → s.text ≡ name_text ds p → Names ds s sized p
 names_of ds sized p s x h e = record { token = h; slot = x.slot; declared = ap (slot_in ds) e ∙ x.declared; kind = x.kind; size = x.size; place = x.place }
 
-cell_spots : (ds : List Declared) (k : ℕ) (p : Place) → Stands ds false p → (ss : List Spot) → IsWord Name (name_text ds p) ss → TermSpots ds k (cell p) 0 ss
+cell_spots : (ds : List Declared) (k : ℕ) (p : Place) → HasName ds false p → (ss : List Spot) → IsWord Name (name_text ds p) ss → TermSpots ds k (cell p) 0 ss
 cell_spots ds k p x _ (one_word s h e) = record { written = raise ds 0 k (s ∷ []) (cell p) (omega arith) (name s p (names_of ds false p s x h e)); cost = rw h refl }
 
 pub name_spelled : (w : List ℕ) → IsName w → Spelled Ends (IsWord Name w) w
@@ -75,7 +75,7 @@ size_spelled = word_spelled (codes "size") refl refl
 pub close_price : (c : Spot) → c.token ≡ Is m.SquareClose → price c.token ≡ 0
 close_price c h = ap price h
 
-entry_spots : (ds : List Declared) (k : ℕ) (p : Place) (a : Term) (n : ℕ) → Stands ds true p → (ss : List Spot)
+entry_spots : (ds : List Declared) (k : ℕ) (p : Place) (a : Term) (n : ℕ) → HasName ds true p → (ss : List Spot)
     → Both (Both (Both (IsWord Name (name_text ds p)) (IsOne (Is m.SquareOpen))) (TermSpots ds 5 a n)) (IsOne (Is m.SquareClose)) ss → TermSpots ds k (element p a) (suc n) ss
 entry_spots ds k p a n st _ (both _ _ (both _ inside (both _ _ (one_word s h e) (one o h1)) x) (one c h2)) =
     let free : price s.token ≡ 0 = ap price h in
@@ -125,13 +125,13 @@ not_sign = record {
   plain = refl;
 }
 
-joined_spots : (ds : List Declared) (op : BinaryOp) (a b : Term) (n m : ℕ) (ss : List Spot)
+continued_spots : (ds : List Declared) (op : BinaryOp) (a b : Term) (n m : ℕ) (ss : List Spot)
     → Both (Both (TermSpots ds (left_level (below op)) a n) (IsOne (op_token op))) (TermSpots ds (below op) b m) ss → TermSpots ds (suc (below op)) (op2 op a b) (n + suc m) ss
-joined_spots ds op a b n m _ (both _ r (both l _ x (one o h)) y) =
+continued_spots ds op a b n m _ (both _ r (both l _ x (one o h)) y) =
     let counted : price o.token ≡ 1 = ap price h ∙ op_price op in
     record {
       written =
-          subst (λ ss. Written ds (suc (below op)) ss (op2 op a b)) (sym (append_assoc l (o ∷ []) r))
+          subst (λ ss. WrittenTerm ds (suc (below op)) ss (op2 op a b)) (sym (append_assoc l (o ∷ []) r))
           (joins (below op) l r o op a b (ap (operator_at (suc (below op))) h ∙ op_level op) x.written y.written);
       cost = omega (arith, cost_append (l ++ o ∷ []) r, cost_append l (o ∷ []), x.cost, y.cost, counted);
     }
@@ -238,5 +238,5 @@ term_spelled ds k (op2 op a b) h =
     let n : ℕ = term_cost (left_level (below op)) a in
     let c : ℕ = term_cost (below op) b in
     bracketed ds k op (op2 op a b) (n + suc c) (nat_lt k (suc (below op))) (l ++ op_text op ++ r) (fits_level (suc (below op)) k)
-    (turned (l ++ op_text op ++ r) (joined_spots ds op a b n c)
+    (turned (l ++ op_text op ++ r) (continued_spots ds op a b n c)
     (join (l ++ op_text op) r (join l (op_text op) (term_spelled ds (left_level (below op)) a h.0) (op_spelled op) (λ z _. op_ends op z)) (term_spelled ds (below op) b h.1) (λ z _. tt)))

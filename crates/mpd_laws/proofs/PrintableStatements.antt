@@ -9,19 +9,19 @@ use Rattle.mpd_model.specs.Term.{Term, Target}
 use Rattle.mpd_model.specs.Tokens.{Spot, tokens}
 use Rattle.mpd_model.specs.Parts.{Part, parts_of}
 use Rattle.mpd_model.specs.Tree.{Tree, block_of}
-use Rattle.mpd_model.specs.Written.{Written, WrittenTarget, whole, part, WrittenPart, by_mark, by_term, by_target, WrittenParts, no_part, then_part, WrittenTree, simply, repeats, chooses, chooses_else, WrittenBlock, braces, WrittenBody, ended, follows, variable_of, WrittenDecls, none, declares, declares_array, WrittenScript, script}
+use Rattle.mpd_model.specs.Written.{WrittenTerm, WrittenTarget, whole, part, WrittenPart, by_mark, by_term, by_target, WrittenParts, no_part, then_part, WrittenTree, simply, repeats, chooses, chooses_else, WrittenBlock, braces, WrittenBody, ended, follows, variable_of, WrittenDecls, none, declares, declares_array, WrittenScript, script}
 use Rattle.mpd_laws.proofs.GoodSpots.{AllGood, good_left, good_right, tokens_good}
-use Rattle.mpd_laws.proofs.PrintableTerms.{term_printable, stands_of}
+use Rattle.mpd_laws.proofs.PrintableTerms.{term_printable, has_name}
 use Rattle.mpd_laws.proofs.ReadTrees.{IsCheap, IsCheapIndex, IsCheapPart, AreCheap, IsCheapTree, IsCheapBlock, reading_fine}
 
 -- ---- statements
 
-whole_printable : (ds : List Declared) (ss : List Spot) (t : Term) → Written ds 5 ss t → AllGood ss → IsCheap t → IsPrintableWhole ds t
+whole_printable : (ds : List Declared) (ss : List Spot) (t : Term) → WrittenTerm ds 5 ss t → AllGood ss → IsCheap t → IsPrintableWhole ds t
 whole_printable ds ss t w g h = record { term = term_printable ds 5 ss t w g; cost = h }
 
 target_printable : (ds : List Declared) (ss : List Spot) (t : Target) → WrittenTarget ds ss t → AllGood ss → IsCheapIndex t.index → IsPrintableTarget ds t
-target_printable ds _ _ (whole s p h) g c = stands_of ds false s p g.0 h
-target_printable ds _ _ (part s a b ss p t h h1 w h2) g c = (stands_of ds true s p g.0 h, whole_printable ds ss t w (good_left ss (b ∷ []) g.1.1) c)
+target_printable ds _ _ (whole s p h) g c = has_name ds false s p g.0 h
+target_printable ds _ _ (part s a b ss p t h h1 w h2) g c = (has_name ds true s p g.0 h, whole_printable ds ss t w (good_left ss (b ∷ []) g.1.1) c)
 
 part_printable : (ds : List Declared) (ss : List Spot) (p : Part) → WrittenPart ds ss p → AllGood ss → IsCheapPart p → IsPrintablePart ds p
 part_printable ds _ _ (by_mark s k h) g c = tt

@@ -14,13 +14,13 @@ use Rattle.mpd_model.specs.declared.token.Token.{Token}
 use Rattle.mpd_model.specs.declared.token.Token.TheVariants.{Is}
 use Rattle.mpd_model.specs.Canonical.{name_of, name_text, below}
 use Rattle.mpd_model.specs.Declaration.{Declared, variable_cells, handle_cells}
-use Rattle.mpd_model.specs.Fits.{price}
+use Rattle.mpd_model.specs.Costs.{price}
 use Rattle.mpd_model.specs.Grammar.{operator, at_level, operator_at, sign}
 use Rattle.mpd_model.specs.Input.{first_of, slot_from, slot_in}
-use Rattle.mpd_model.specs.Printable.{IsName, Stands, IsPrintableTerm, bracket_cost, term_cost, FewestBrackets}
+use Rattle.mpd_model.specs.Printable.{IsName, HasName, IsPrintableTerm, bracket_cost, term_cost, FewestBrackets}
 use Rattle.mpd_model.specs.Term.{Term, lit, own_rank, size, cell, element, op1, op2}
 use Rattle.mpd_model.specs.Tokens.{Spot}
-use Rattle.mpd_model.specs.Written.{Names, Written, number, rank, ranks, name, entry, round, signs, higher, joins, left_level}
+use Rattle.mpd_model.specs.Written.{Names, WrittenTerm, number, rank, ranks, name, entry, round, signs, higher, joins, left_level}
 use Rattle.mpd_laws.proofs.GoodSpots.{IsGood, AllGood, good_left, good_right}
 use Rattle.mpd_laws.proofs.PrintTerms.{cost_append}
 
@@ -66,8 +66,8 @@ slot_name ds w s e =
     let at : s.declaration - 0 ≡ s.declaration = omega arith in
     rw at at x.named
 
-pub stands_of : (ds : List Declared) (sized : Bool) (s : Spot) (p : Place) → IsGood s → Names ds s sized p → Stands ds sized p
-stands_of ds sized s p g x =
+pub has_name : (ds : List Declared) (sized : Bool) (s : Spot) (p : Place) → IsGood s → Names ds s sized p → HasName ds sized p
+has_name ds sized s p g x =
     let same : name_text ds p ≡ s.text = ap (λ (q : Place). name_text ds q) (sym x.place) ∙ slot_name ds s.text x.slot x.declared in
     record { named = subst IsName (sym same) (g.name x.token); slot = x.slot; declared = ap (slot_in ds) same ∙ x.declared; kind = x.kind; size = x.size; place = x.place }
 
@@ -162,17 +162,17 @@ one_more j k (op2 op a b) = omega (arith, bracket_small (nat_lt j (suc (below op
 no_bracket : (k : ℕ) → nat_lt (suc k) (suc k) ≡ false
 no_bracket k = grind (arith, nat_tests)
 
-pub joined_cost : (k : ℕ) (op : BinaryOp) (a b : Term) → below op ≡ k → term_cost (suc k) (op2 op a b) ≡ term_cost (left_level k) a + suc (term_cost k b)
-joined_cost k op a b e = rw (e, no_bracket k) (omega arith)
+pub continued_cost : (k : ℕ) (op : BinaryOp) (a b : Term) → below op ≡ k → term_cost (suc k) (op2 op a b) ≡ term_cost (left_level k) a + suc (term_cost k b)
+continued_cost k op a b e = rw (e, no_bracket k) (omega arith)
 
 -- ---- expressions
 
-pub term_printable : (ds : List Declared) (k : ℕ) (ss : List Spot) (t : Term) → Written ds k ss t → AllGood ss → IsPrintableTerm ds t
+pub term_printable : (ds : List Declared) (k : ℕ) (ss : List Spot) (t : Term) → WrittenTerm ds k ss t → AllGood ss → IsPrintableTerm ds t
 term_printable ds _ _ _ (number s n h) g = g.0.number n h
 term_printable ds _ _ _ (rank s h) g = tt
 term_printable ds _ _ _ (ranks s h) g = tt
-term_printable ds _ _ _ (name s p h) g = stands_of ds false s p g.0 h
-term_printable ds _ _ _ (entry s a b ss p t h h1 h2 w) g = (stands_of ds true s p g.0 h, term_printable ds 5 ss t w (good_left ss (b ∷ []) g.1.1))
+term_printable ds _ _ _ (name s p h) g = has_name ds false s p g.0 h
+term_printable ds _ _ _ (entry s a b ss p t h h1 h2 w) g = (has_name ds true s p g.0 h, term_printable ds 5 ss t w (good_left ss (b ∷ []) g.1.1))
 term_printable ds _ _ _ (round a b ss t h1 h2 w) g = term_printable ds 5 ss t w (good_left ss (b ∷ []) g.1)
 term_printable ds _ _ _ (signs s ss op t h w) g = term_printable ds 0 ss t w g.1
 term_printable ds _ _ _ (higher k ss t w) g = term_printable ds k ss t w g
@@ -197,4 +197,4 @@ fewest ds _ _ _ (joins k l r o op a b h w v) =
     let level : suc (below op) ≡ suc k = level_is (suc k) (operator o.token) op (ops_fit o.token) h in
     let under : below op ≡ k = omega (arith, level) in
     let counted : price o.token ≡ 1 = operator_price (suc k) op o.token h in
-    omega (arith, cost_append l (o ∷ r), fewest ds (left_level k) l a w, fewest ds k r b v, counted, joined_cost k op a b under)
+    omega (arith, cost_append l (o ∷ r), fewest ds (left_level k) l a w, fewest ds k r b v, counted, continued_cost k op a b under)

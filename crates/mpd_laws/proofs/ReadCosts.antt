@@ -15,12 +15,12 @@ use Rattle.mpd_model.specs.declared.token.Mark.TheVariants as m
 use Rattle.mpd_model.specs.declared.token.Token.{Token}
 use Rattle.mpd_model.specs.declared.token.Token.TheVariants.{Number, Name, Is}
 use Rattle.mpd_model.specs.Canonical.{below}
-use Rattle.mpd_model.specs.Grammar.{atom_by, atom, bracket, indexed, place_inside, place_of_slot, rounds, signed, chain, joined, level, expr, expression, turns, operator, operator_at}
-use Rattle.mpd_model.specs.Input.{Input, Parser, token, next, spend, expect, sees, same_kind, sought, seek, slot_in, spelling, pure, fail, refuse, max_budget}
+use Rattle.mpd_model.specs.Grammar.{atom_by, atom, bracket, indexed, place_inside, place_of_slot, rounds, signed, chain, continued, level, expr, expression, turns, operator, operator_at}
+use Rattle.mpd_model.specs.Input.{Input, Parser, token, advanced, spend, expect, sees, same_kind, sought, seek, slot_in, spelling, pure, fail, refuse, max_budget}
 use Rattle.mpd_model.specs.Printable.{term_cost}
 use Rattle.mpd_model.specs.Term.{Term, lit, own_rank, size, cell, element, op1, op2}
 use Rattle.mpd_model.specs.Written.{left_level}
-use Rattle.mpd_laws.proofs.PrintableTerms.{ops_fit, level_is, looser, one_more, joined_cost}
+use Rattle.mpd_laws.proofs.PrintableTerms.{ops_fit, level_is, looser, one_more, continued_cost}
 use Rattle.mpd_laws.proofs.Sound.{bind_ok, ok_of, ok_parts, carried}
 
 -- ---- what a success of a step says
@@ -35,7 +35,7 @@ test_ok false e x y h = absurd (cc)
 
 -- a bracket or an operator takes one
 spend_takes : (i : Input) (y : Unit {0} × Input) → spend i ≡ Ok y → i.budget ≡ suc y.1.budget
-unfolding spend next
+unfolding spend advanced
 spend_takes i y h =
     let e = guard_ok (i.budget == 0) _ _ y h in
     let left : y.1.budget ≡ i.budget - 1 = sym (ap (λ p. p.1.budget) e.1) in
@@ -43,7 +43,7 @@ spend_takes i y h =
     omega (arith, left, some)
 
 expect_keeps : (wanted : Mark) (i : Input) (y : Unit {0} × Input) → expect wanted i ≡ Ok y → y.1.budget ≡ i.budget
-unfolding expect next
+unfolding expect advanced
 expect_keeps wanted i y h = sym (ap (λ p. p.1.budget) (test_ok (sees wanted i) _ _ y h))
 
 sought_keeps : (b : Bool) (s : Slot) (i : Input) (y : Slot × Input) → cond b (pure s) (fail UnknownName) i ≡ Ok y → i ≡ y.1
@@ -104,11 +104,11 @@ same_budget : (k : ℕ) (t : Term) (i x j : Input) → x.budget ≡ i.budget →
 same_budget k t i x j e h = omega (arith, e, h)
 
 name_cheap : (p : ℕ → Parser Term) → AllCheap p → IsCheap 0 (place_inside p)
-unfolding place_inside next
+unfolding place_inside advanced
 name_cheap p s i j t h =
     let b = bind_ok (seek Variable i) _ (t, j) h in
-    let e : (next b.0.1).budget ≡ i.budget = sym (ap (λ k. k.budget) (seek_same i b.0 b.1)) in
-    same_budget 0 t i (next b.0.1) j e (indexed_cheap p s (place_of_slot b.0.0) b.0.0.size (next b.0.1) j t b.2)
+    let e : (advanced b.0.1).budget ≡ i.budget = sym (ap (λ k. k.budget) (seek_same i b.0 b.1)) in
+    same_budget 0 t i (advanced b.0.1) j e (indexed_cheap p s (place_of_slot b.0.0) b.0.0.size (advanced b.0.1) j t b.2)
 
 signed_cheap : (p : ℕ → Parser Term) → AllCheap p → (op : UnaryOp) → IsCheap 0 (signed p op)
 unfolding signed
@@ -118,10 +118,10 @@ signed_cheap p s op i j t h =
     let o = ok_parts (op1 op c.0.0, c.0.1) (t, j) c.2 in
     carried (λ t j. Costs 0 t i j) _ _ _ _ o.0 o.1 (omega (arith, spend_takes i b.0 b.1, s 0 b.0.1 c.0.1 c.0.0 c.1))
 
-simple_cheap : (i j : Input) (t t' : Term) → term_cost 0 t ≡ 0 → ok_of (t, next i) ≡ Ok (t', j) → Costs 0 t' i j
-unfolding next
+simple_cheap : (i j : Input) (t t' : Term) → term_cost 0 t ≡ 0 → ok_of (t, advanced i) ≡ Ok (t', j) → Costs 0 t' i j
+unfolding advanced
 simple_cheap i j t t' e h =
-    let o = ok_parts (t, next i) (t', j) h in
+    let o = ok_parts (t, advanced i) (t', j) h in
     carried (λ t j. Costs 0 t i j) _ _ _ _ o.0 o.1 (omega (arith, e))
 
 atom_case : (p : ℕ → Parser Term) → AllCheap p → (tk : Token) → IsCheap 0 (atom_by p tk)
@@ -151,24 +151,24 @@ may_go k n t i j few x some =
       | inr other ↦ rw other x
     ]
 
-joined_costs : (k : ℕ) (op : BinaryOp) (i x y j : Input) (a b : Term) → Costs (left_level k) a i x → operator_at (suc k) (token x) ≡ Some op → x.budget ≡ suc y.budget
+continued_costs : (k : ℕ) (op : BinaryOp) (i x y j : Input) (a b : Term) → Costs (left_level k) a i x → operator_at (suc k) (token x) ≡ Some op → x.budget ≡ suc y.budget
     → Costs k b y j → Costs (suc k) (op2 op a b) i j
-joined_costs k op i x y j a b l o s r =
+continued_costs k op i x y j a b l o s r =
     let fits : suc (below op) ≡ suc k = level_is (suc k) (operator (token x)) op (ops_fit (token x)) o in
     let under : below op ≡ k = omega (arith, fits) in
-    omega (arith, joined_cost k op a b under, l, s, r)
+    omega (arith, continued_cost k op a b under, l, s, r)
 
-joined_case : (k : ℕ) (p : Parser Term) → IsCheap k p → (n : ℕ) → (k ≡ 2 → suc n ≤ 1) → (left : Term) (i x j : Input) (t : Term) (o : Option BinaryOp)
+continued_case : (k : ℕ) (p : Parser Term) → IsCheap k p → (n : ℕ) → (k ≡ 2 → suc n ≤ 1) → (left : Term) (i x j : Input) (t : Term) (o : Option BinaryOp)
     → operator_at (suc k) (token x) ≡ o → Costs (suc k) left i x → Costs (left_level k) left i x
     → ((l : Term) (y : Input) → Costs (suc k) l i y → MayGoOn k n l i y → chain p (suc k) n l y ≡ Ok (t, j) → Costs (suc k) t i j)
-    → joined (chain p (suc k) n) p left o x ≡ Ok (t, j) → Costs (suc k) t i j
-joined_case k p s n few left i x j t None is a b more h =
+    → continued (chain p (suc k) n) p left o x ≡ Ok (t, j) → Costs (suc k) t i j
+continued_case k p s n few left i x j t None is a b more h =
     let o = ok_parts (left, x) (t, j) h in
     carried (λ t j. Costs (suc k) t i j) _ _ _ _ o.0 o.1 a
-joined_case k p s n few left i x j t (Some op) is a b more h =
+continued_case k p s n few left i x j t (Some op) is a b more h =
     let c = bind_ok (spend x) _ (t, j) h in
     let d = bind_ok (p c.0.1) _ (t, j) c.2 in
-    let whole = joined_costs k op i x c.0.1 d.0.1 left d.0.0 b is (spend_takes x c.0 c.1) (s c.0.1 d.0.1 d.0.0 d.1) in
+    let whole = continued_costs k op i x c.0.1 d.0.1 left d.0.0 b is (spend_takes x c.0 c.1) (s c.0.1 d.0.1 d.0.0 d.1) in
     more (op2 op left d.0.0) d.0.1 whole (may_go k n (op2 op left d.0.0) i d.0.1 few whole) d.2
 
 chain_cheap : (k : ℕ) (p : Parser Term) → IsCheap k p → (n : ℕ) → (k ≡ 2 → n ≤ 1) → (left : Term) (i x j : Input) (t : Term)
@@ -178,7 +178,7 @@ chain_cheap k p s zero few left i x j t a b h =
     let o = ok_parts (left, x) (t, j) h in
     carried (λ t j. Costs (suc k) t i j) _ _ _ _ o.0 o.1 a
 chain_cheap k p s (suc n) few left i x j t a b h =
-    joined_case k p s n few left i x j t (operator_at (suc k) (token x)) refl a (b (λ e. absurd (omega arith)))
+    continued_case k p s n few left i x j t (operator_at (suc k) (token x)) refl a (b (λ e. absurd (omega arith)))
     (λ l y c d. chain_cheap k p s n (λ e. let f = few e in omega arith) l i y j t c d) h
 
 raised : (k : ℕ) (t : Term) (i j : Input) → Costs k t i j → Costs (suc k) t i j

@@ -9,14 +9,13 @@ use Rattle.mpd_model.specs.declared.slot.Slot.{Slot}
 use Rattle.mpd_model.specs.declared.token.Mark.TheVariants as m
 use Rattle.mpd_model.specs.declared.token.Token.{Token}
 use Rattle.mpd_model.specs.declared.token.Token.TheVariants.{Name, Is}
-use Rattle.mpd_model.specs.Fits.{blocks, blocks_in}
+use Rattle.mpd_model.specs.Costs.{blocks, blocks_in}
 use Rattle.mpd_model.specs.Grammar.{expression, begun, closes, place_of_slot, outside, target, named_by, named, source_by, source, status_by, status, fill, Form, form_of, by_form, assigning, otherwise, choosing, repeating, stmt_by, stmt, stmts, body, block, header, is_text, max_blocks, max_text, read_of, reading, script as whole_script}
 use Rattle.mpd_model.specs.Input.{Input, Outcome, Parser, token, expect, seek, sees, after, count, max_budget, pure, fail, refuse, start_of, ◌>>=◌}
 use Rattle.mpd_model.specs.Printable.{term_cost}
 use Rattle.mpd_model.specs.Program.{Program}
 use Rattle.mpd_model.specs.Term.{Term, Target}
 use Rattle.mpd_model.specs.declared.stmt.Simple.TheVariants as st
-use Rattle.mpd_model.specs.declared.token.Mark.{Mark}
 use Rattle.mpd_model.specs.Parts.{Part, of_mark, of_term, of_target, parts_of, Hole, mark_hole, term_hole, target_hole, source_hole, status_hole, source_part, status_parts, Contents, filled}
 use Rattle.mpd_model.specs.Tree.{Tree, Block, simple, branch, repeat, no_more, then_more, block_of}
 use Rattle.mpd_laws.proofs.ReadCosts.{expression_cheap}
@@ -141,9 +140,9 @@ fill_cheap (status_hole ∷ hs) made i y h =
 abbrev Reads : ℕ → Parser Tree → Type 0
 Reads d p = (i : Input) (y : Tree × Input) → p i ≡ Ok y → Fine d y.0
 
-form_fine : (d : ℕ) (k : Mark) (o : Option (Form k)) → Reads d (by_form o)
-form_fine d k None i y h = absurd (cc)
-form_fine d k (Some f) i y h =
+form_fine : (d : ℕ) (o : Option Form) → Reads d (by_form o)
+form_fine d None i y h = absurd (cc)
+form_fine d (Some f) i y h =
     let b = bind_ok (begun i) _ y h in
     let r = fill_cheap f.holes (λ c. simple (f.made c)) b.0.1 y b.2 in
     subst (Fine d) r.is (record { cheap = subst AreCheap (sym (f.parts r.contents)) (tt, r.cheap); open_blocks = omega arith })
@@ -208,7 +207,7 @@ stmt_case d p s Name i y h =
 stmt_case d p s (Is m.If) i y h = let b = bind_ok (begun i) _ y h in choosing_fine d p s b.0.1 y b.2
 stmt_case d p s (Is m.While) i y h = let b = bind_ok (begun i) _ y h in repeating_fine d p s b.0.1 y b.2
 stmt_case d p s (Is m.Waitany) i y h = let b = bind_ok (count i) _ y h in absurd (let e = b.2 in cc)
-stmt_case d p s (Is k) i y h = form_fine d k (form_of k) i y h
+stmt_case d p s (Is k) i y h = form_fine d (form_of k) i y h
 stmt_case d p s _ i y h = absurd (cc)
 
 stmt_fine : (d : ℕ) (p : Parser (List Tree)) → ReadsBlock d p → Reads d (stmt p)

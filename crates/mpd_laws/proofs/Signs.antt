@@ -7,7 +7,7 @@ use Rattle.mpd_model.specs.declared.token.Mark.TheVariants as m
 use Rattle.mpd_model.specs.declared.token.Token.{Token}
 use Rattle.mpd_model.specs.declared.token.Token.TheVariants.{Is}
 use Rattle.mpd_model.specs.Canonical.{below, op_text}
-use Rattle.mpd_model.specs.Fits.{price}
+use Rattle.mpd_model.specs.Costs.{price}
 use Rattle.mpd_model.specs.Grammar.{operator_at}
 use Rattle.mpd_model.specs.Tokens.{tokens_after, front, sign, word}
 use Rattle.mpd_laws.proofs.Cuts.{Any, Spelled, fixed, IsOne, one, IsNone, nothing}

@@ -17,12 +17,12 @@ use Rattle.mpd_model.specs.declared.token.Mark.{Mark}
 use Rattle.mpd_model.specs.declared.token.Mark.TheVariants as m
 use Rattle.mpd_model.specs.declared.token.Token.{Token}
 use Rattle.mpd_model.specs.declared.token.Token.TheVariants.{Number, Name, Is, Bad, End}
-use Rattle.mpd_model.specs.Grammar.{atom_by, atom, bracket, indexed, place_inside, place_of_slot, rounds, signed, sign, chain, joined, level, expr, turns, operator_at}
+use Rattle.mpd_model.specs.Grammar.{atom_by, atom, bracket, indexed, place_inside, place_of_slot, rounds, signed, sign, chain, continued, level, expr, turns, operator_at}
 use Rattle.mpd_model.specs.Declaration.{Declared}
-use Rattle.mpd_model.specs.Input.{Input, Outcome, Parser, and_then, token, token_of, text_of, spelling, next, behind, spend, expect, sees, is_mark, same_mark, same_kind, sought, seek, slot_in, pure, fail, refuse}
+use Rattle.mpd_model.specs.Input.{Input, Outcome, Parser, and_then, token, token_of, text_of, spelling, advanced, behind, spend, expect, sees, is_mark, same_mark, same_kind, sought, seek, slot_in, pure, fail, refuse}
 use Rattle.mpd_model.specs.Term.{Term, lit, own_rank, size, cell, element, op1, op2}
 use Rattle.mpd_model.specs.Tokens.{Spot}
-use Rattle.mpd_model.specs.Written.{Names, Written, number, rank, ranks, name, entry, round, signs, higher, joins, Takes, IsSound, left_level}
+use Rattle.mpd_model.specs.Written.{Names, WrittenTerm, number, rank, ranks, name, entry, round, signs, higher, joins, TermBetween, IsSound, left_level}
 
 -- ---- what a success of a step says
 
@@ -82,12 +82,12 @@ step i j some a b c =
     let f = first_spot i.tokens some in
     record { spot = f.0; moves = record { is = f.1 ∙ ap (λ r. f.0 ∷ r) (sym a); decls = b; lines = c }; token = f.2; text = f.3 }
 
-pub next_step : (i j : Input) → token i ≢ End → j ≡ next i → Step i j
-unfolding next
+pub next_step : (i j : Input) → token i ≢ End → j ≡ advanced i → Step i j
+unfolding advanced
 next_step i j some e = step i j some (ap (λ k. k.tokens) e) (ap (λ k. k.decls) e) (ap (λ k. k.lines) e)
 
 pub spend_ok : (i : Input) (y : Unit {0} × Input) → spend i ≡ Ok y → (y.1.tokens ≡ behind i.tokens) × (y.1.decls ≡ i.decls) × (y.1.lines ≡ i.lines)
-unfolding spend next
+unfolding spend advanced
 spend_ok i y h =
     let e = guard_ok (i.budget == 0) _ _ y h in
     (sym (ap (λ p. p.1.tokens) e), sym (ap (λ p. p.1.decls) e), sym (ap (λ p. p.1.lines) e))
@@ -107,7 +107,7 @@ pub sees_is : (wanted : Mark) (i : Input) → sees wanted i ≡ true → token i
 unfolding sees
 sees_is wanted i h = mark_is wanted (token i) h
 
-pub expect_ok : (wanted : Mark) (i : Input) (y : Unit {0} × Input) → expect wanted i ≡ Ok y → (token i ≡ Is wanted) × (y.1 ≡ next i)
+pub expect_ok : (wanted : Mark) (i : Input) (y : Unit {0} × Input) → expect wanted i ≡ Ok y → (token i ≡ Is wanted) × (y.1 ≡ advanced i)
 unfolding expect
 expect_ok wanted i y h =
     let e = test_ok (sees wanted i) _ _ y h in
@@ -140,29 +140,29 @@ abbrev pub NamedBy : List Declared → Slot → Spot → Type 0
 NamedBy ds slot s = (sized : Bool) → is_some slot.size ≡ sized → Names ds s sized (place_of_slot slot)
 
 -- a variable's name
-pub name_step : (i : Input) (y : Slot × Input) → token i ≡ Name → seek Variable i ≡ Ok y → (s : Step i (next y.1)) × NamedBy i.decls y.0 s.spot
+pub name_step : (i : Input) (y : Slot × Input) → token i ≡ Name → seek Variable i ≡ Ok y → (s : Step i (advanced y.1)) × NamedBy i.decls y.0 s.spot
 name_step i y e h =
     let k = seek_ok i y h in
-    let s = next_step i (next y.1) (λ x. absurd (cc)) (ap next (sym k.2)) in
+    let s = next_step i (advanced y.1) (λ x. absurd (cc)) (ap advanced (sym k.2)) in
     (s, λ sized is. record { token = s.token ∙ e; slot = y.0; declared = ap (slot_in i.decls) s.text ∙ k.0; kind = k.1; size = is; place = refl })
 
 -- ---- expressions
 
 -- what is written between two states
-pub takes : (k : ℕ) (t : Term) (used : List Spot) (i j : Input) → Moves used i j → Written i.decls k used t → Takes k t i j
+pub takes : (k : ℕ) (t : Term) (used : List Spot) (i j : Input) → Moves used i j → WrittenTerm i.decls k used t → TermBetween k t i j
 takes k t used i j x w = record { used = used; is = x.is; written = w; decls = x.decls; lines = x.lines }
 
-pub moves_of : (k : ℕ) (t : Term) (i j : Input) (x : Takes k t i j) → Moves x.used i j
+pub moves_of : (k : ℕ) (t : Term) (i j : Input) (x : TermBetween k t i j) → Moves x.used i j
 moves_of k t i j x = record { is = x.is; decls = x.decls; lines = x.lines }
 
 -- one token writes the term
-one : (t : Term) (i j : Input) (s : Step i j) → Written i.decls 0 (s.spot ∷ []) t → Takes 0 t i j
+one : (t : Term) (i j : Input) (s : Step i j) → WrittenTerm i.decls 0 (s.spot ∷ []) t → TermBetween 0 t i j
 one t i j s w = takes 0 t (s.spot ∷ []) i j s.moves w
 
-renamed : (t t' : Term) (i j : Input) → t ≡ t' → Takes 0 t i j → Takes 0 t' i j
+renamed : (t t' : Term) (i j : Input) → t ≡ t' → TermBetween 0 t i j → TermBetween 0 t' i j
 renamed t t' i j e x = rw (← e) x
 
-round_takes : (i x1 x2 j : Input) (t : Term) → token i ≡ Is m.RoundOpen → Step i x1 → Takes 5 t x1 x2 → (c : Step x2 j) → c.spot.token ≡ Is m.RoundClose → Takes 0 t i j
+round_takes : (i x1 x2 j : Input) (t : Term) → token i ≡ Is m.RoundOpen → Step i x1 → TermBetween 5 t x1 x2 → (c : Step x2 j) → c.spot.token ≡ Is m.RoundClose → TermBetween 0 t i j
 round_takes i x1 x2 j t e a tk c d =
     takes 0 t (a.spot ∷ tk.used ++ c.spot ∷ []) i j
     (then_moves (a.spot ∷ []) (tk.used ++ c.spot ∷ []) i x1 j a.moves (then_moves tk.used (c.spot ∷ []) x1 x2 j (moves_of 5 t x1 x2 tk) c.moves))
@@ -172,7 +172,7 @@ round_takes i x1 x2 j t e a tk c d =
 abbrev AllSound : (ℕ → Parser Term) → Type 0
 AllSound p = (k : ℕ) → IsSound k (p k)
 
-rounds_sound : (p : ℕ → Parser Term) → AllSound p → (i j : Input) (t : Term) → token i ≡ Is m.RoundOpen → rounds p i ≡ Ok (t, j) → Takes 0 t i j
+rounds_sound : (p : ℕ → Parser Term) → AllSound p → (i j : Input) (t : Term) → token i ≡ Is m.RoundOpen → rounds p i ≡ Ok (t, j) → TermBetween 0 t i j
 unfolding rounds
 rounds_sound p s i j t e h =
     let b = bind_ok (spend i) _ (t, j) h in
@@ -180,7 +180,7 @@ rounds_sound p s i j t e h =
     let d = bind_ok (expect m.RoundClose c.0.1) _ (t, j) c.2 in
     let o = ok_parts (c.0.0, d.0.1) (t, j) d.2 in
     let x = expect_step m.RoundClose c.0.1 d.0 d.1 in
-    carried (λ t j. Takes 0 t i j) _ _ _ _ o.0 o.1 (round_takes i b.0.1 c.0.1 d.0.1 c.0.0 e (spend_step i b.0 (λ x. absurd (cc)) b.1) (s 5 b.0.1 c.0.1 c.0.0 c.1) x.0 x.1)
+    carried (λ t j. TermBetween 0 t i j) _ _ _ _ o.0 o.1 (round_takes i b.0.1 c.0.1 d.0.1 c.0.0 e (spend_step i b.0 (λ x. absurd (cc)) b.1) (s 5 b.0.1 c.0.1 c.0.0 c.1) x.0 x.1)
 
 bracket_case : (found : Bool) (i : Input) (y : Unit {0} × Input) → sees m.SquareOpen i ≡ found → cond found (spend i) (refuse i) ≡ Ok y
     → (s : Step i y.1) × (s.spot.token ≡ Is m.SquareOpen)
@@ -195,7 +195,7 @@ unfolding bracket
 bracket_step i y h = bracket_case (sees m.SquareOpen i) i y refl h
 
 entry_takes : (i x1 x2 x3 j : Input) (p : Place) (t : Term) → (s : Step i x1) → Names i.decls s.spot true p → (a : Step x1 x2) → a.spot.token ≡ Is m.SquareOpen
-    → Takes 5 t x2 x3 → (c : Step x3 j) → c.spot.token ≡ Is m.SquareClose → Takes 0 (element p t) i j
+    → TermBetween 5 t x2 x3 → (c : Step x3 j) → c.spot.token ≡ Is m.SquareClose → TermBetween 0 (element p t) i j
 entry_takes i x1 x2 x3 j p t s n a ea tk c ec =
     takes 0 (element p t) (s.spot ∷ a.spot ∷ tk.used ++ c.spot ∷ []) i j
     (then_moves (s.spot ∷ []) (a.spot ∷ tk.used ++ c.spot ∷ []) i x1 j s.moves
@@ -204,10 +204,10 @@ entry_takes i x1 x2 x3 j p t s n a ea tk c ec =
 
 -- a name, and the index of an array behind it
 indexed_sound : (p : ℕ → Parser Term) → AllSound p → (slot : Slot) (cells : Option ℕ) (i x j : Input) (t : Term) → (s : Step i x)
-    → ((sized : Bool) → is_some cells ≡ sized → Names i.decls s.spot sized (place_of_slot slot)) → indexed p (place_of_slot slot) cells x ≡ Ok (t, j) → Takes 0 t i j
+    → ((sized : Bool) → is_some cells ≡ sized → Names i.decls s.spot sized (place_of_slot slot)) → indexed p (place_of_slot slot) cells x ≡ Ok (t, j) → TermBetween 0 t i j
 indexed_sound p q slot None i x j t s n h =
     let o = ok_parts (cell (place_of_slot slot), x) (t, j) h in
-    carried (λ t j. Takes 0 t i j) _ _ _ _ o.0 o.1 (one (cell (place_of_slot slot)) i x s (name s.spot (place_of_slot slot) (n false refl)))
+    carried (λ t j. TermBetween 0 t i j) _ _ _ _ o.0 o.1 (one (cell (place_of_slot slot)) i x s (name s.spot (place_of_slot slot) (n false refl)))
 indexed_sound p q slot (Some cells) i x j t s n h =
     let a = bind_ok (bracket x) _ (t, j) h in
     let b = bind_ok (p 5 a.0.1) _ (t, j) a.2 in
@@ -215,37 +215,37 @@ indexed_sound p q slot (Some cells) i x j t s n h =
     let o = ok_parts (element (place_of_slot slot) b.0.0, c.0.1) (t, j) c.2 in
     let opens = bracket_step x a.0 a.1 in
     let ends = expect_step m.SquareClose b.0.1 c.0 c.1 in
-    carried (λ t j. Takes 0 t i j) _ _ _ _ o.0 o.1
+    carried (λ t j. TermBetween 0 t i j) _ _ _ _ o.0 o.1
     (entry_takes i x a.0.1 b.0.1 c.0.1 (place_of_slot slot) b.0.0 s (n true refl) opens.0 opens.1 (q 5 a.0.1 b.0.1 b.0.0 b.1) ends.0 ends.1)
 
-name_sound : (p : ℕ → Parser Term) → AllSound p → (i j : Input) (t : Term) → token i ≡ Name → place_inside p i ≡ Ok (t, j) → Takes 0 t i j
+name_sound : (p : ℕ → Parser Term) → AllSound p → (i j : Input) (t : Term) → token i ≡ Name → place_inside p i ≡ Ok (t, j) → TermBetween 0 t i j
 unfolding place_inside
 name_sound p q i j t e h =
     let b = bind_ok (seek Variable i) _ (t, j) h in
     let v = name_step i b.0 e b.1 in
-    indexed_sound p q b.0.0 b.0.0.size i (next b.0.1) j t v.0 v.1 b.2
+    indexed_sound p q b.0.0 b.0.0.size i (advanced b.0.1) j t v.0 v.1 b.2
 
-signed_takes : (op : UnaryOp) (i x j : Input) (t : Term) → sign (token i) ≡ Some op → Step i x → Takes 0 t x j → Takes 0 (op1 op t) i j
+signed_takes : (op : UnaryOp) (i x j : Input) (t : Term) → sign (token i) ≡ Some op → Step i x → TermBetween 0 t x j → TermBetween 0 (op1 op t) i j
 signed_takes op i x j t e s tk =
     takes 0 (op1 op t) (s.spot ∷ tk.used) i j
     (then_moves (s.spot ∷ []) tk.used i x j s.moves (moves_of 0 t x j tk))
     (signs s.spot tk.used op t (ap sign s.token ∙ e) (rw (← s.moves.decls) tk.written))
 
-signed_sound : (p : ℕ → Parser Term) → AllSound p → (op : UnaryOp) (i j : Input) (t : Term) → token i ≢ End → sign (token i) ≡ Some op → signed p op i ≡ Ok (t, j) → Takes 0 t i j
+signed_sound : (p : ℕ → Parser Term) → AllSound p → (op : UnaryOp) (i j : Input) (t : Term) → token i ≢ End → sign (token i) ≡ Some op → signed p op i ≡ Ok (t, j) → TermBetween 0 t i j
 unfolding signed
 signed_sound p s op i j t some e h =
     let b = bind_ok (spend i) _ (t, j) h in
     let c = bind_ok (p 0 b.0.1) _ (t, j) b.2 in
     let o = ok_parts (op1 op c.0.0, c.0.1) (t, j) c.2 in
-    carried (λ t j. Takes 0 t i j) _ _ _ _ o.0 o.1 (signed_takes op i b.0.1 c.0.1 c.0.0 e (spend_step i b.0 some b.1) (s 0 b.0.1 c.0.1 c.0.0 c.1))
+    carried (λ t j. TermBetween 0 t i j) _ _ _ _ o.0 o.1 (signed_takes op i b.0.1 c.0.1 c.0.0 e (spend_step i b.0 some b.1) (s 0 b.0.1 c.0.1 c.0.0 c.1))
 
-simple : (i j : Input) (t t' : Term) → token i ≢ End → ok_of (t, next i) ≡ Ok (t', j) → ((s : Spot) → s.token ≡ token i → Written i.decls 0 (s ∷ []) t) → Takes 0 t' i j
+simple : (i j : Input) (t t' : Term) → token i ≢ End → ok_of (t, advanced i) ≡ Ok (t', j) → ((s : Spot) → s.token ≡ token i → WrittenTerm i.decls 0 (s ∷ []) t) → TermBetween 0 t' i j
 simple i j t t' some h w =
-    let o = ok_parts (t, next i) (t', j) h in
+    let o = ok_parts (t, advanced i) (t', j) h in
     let s = next_step i j some (sym o.1) in
     renamed t t' i j o.0 (one t i j s (w s.spot s.token))
 
-atom_case : (p : ℕ → Parser Term) → AllSound p → (tk : Token) (i j : Input) (t : Term) → token i ≡ tk → atom_by p tk i ≡ Ok (t, j) → Takes 0 t i j
+atom_case : (p : ℕ → Parser Term) → AllSound p → (tk : Token) (i j : Input) (t : Term) → token i ≡ tk → atom_by p tk i ≡ Ok (t, j) → TermBetween 0 t i j
 atom_case p s (Number n) i j t e h = simple i j (lit n) t (λ x. absurd (cc)) h (λ v a. number v n (a ∙ e))
 atom_case p s (Is m.Rank) i j t e h = simple i j own_rank t (λ x. absurd (cc)) h (λ v a. rank v (a ∙ e))
 atom_case p s (Is m.Size) i j t e h = simple i j size t (λ x. absurd (cc)) h (λ v a. ranks v (a ∙ e))
@@ -262,54 +262,54 @@ atom_sound p s i j t h = atom_case p s (token i) i j t refl h
 no_operator : (k : ℕ) (op : BinaryOp) (t : Token) → t ≡ End → operator_at (suc k) t ≡ Some op → ⊥
 no_operator k op t e o = let f = rw e at o in absurd (cc)
 
-joined_takes : (k : ℕ) (op : BinaryOp) (i x y j : Input) (a b : Term) → Takes (left_level k) a i x → operator_at (suc k) (token x) ≡ Some op
-    → Step x y → Takes k b y j → Takes (suc k) (op2 op a b) i j
-joined_takes k op i x y j a b l o s r =
+continued_takes : (k : ℕ) (op : BinaryOp) (i x y j : Input) (a b : Term) → TermBetween (left_level k) a i x → operator_at (suc k) (token x) ≡ Some op
+    → Step x y → TermBetween k b y j → TermBetween (suc k) (op2 op a b) i j
+continued_takes k op i x y j a b l o s r =
     takes (suc k) (op2 op a b) (l.used ++ s.spot ∷ r.used) i j
     (then_moves l.used (s.spot ∷ r.used) i x j (moves_of (left_level k) a i x l) (then_moves (s.spot ∷ []) r.used x y j s.moves (moves_of k b y j r)))
     (joins k l.used r.used s.spot op a b (ap (operator_at (suc k)) s.token ∙ o) l.written (rw (← l.decls, ← s.moves.decls) r.written))
 
-raised : (k : ℕ) (t : Term) (i j : Input) → Takes k t i j → Takes (suc k) t i j
+raised : (k : ℕ) (t : Term) (i j : Input) → TermBetween k t i j → TermBetween (suc k) t i j
 raised k t i j x = record { used = x.used; is = x.is; written = higher k x.used t x.written; decls = x.decls; lines = x.lines }
 
 -- a left side that may stand before an operator of the level
 abbrev MayGoOn : ℕ → ℕ → Term → Input → Input → Type 0
-MayGoOn k n t i j = n ≢ 0 → Takes (left_level k) t i j
+MayGoOn k n t i j = n ≢ 0 → TermBetween (left_level k) t i j
 
-ended : (k : ℕ) (i x j : Input) (left t : Term) → left ≡ t → x ≡ j → Takes (suc k) left i x → Takes (suc k) t i j
+ended : (k : ℕ) (i x j : Input) (left t : Term) → left ≡ t → x ≡ j → TermBetween (suc k) left i x → TermBetween (suc k) t i j
 ended k i x j left t a b h = rw (← a, ← b) h
 
-may_go : (k n : ℕ) (t : Term) (i j : Input) → (k ≡ 2 → suc n ≤ 1) → Takes (suc k) t i j → MayGoOn k n t i j
+may_go : (k n : ℕ) (t : Term) (i j : Input) → (k ≡ 2 → suc n ≤ 1) → TermBetween (suc k) t i j → MayGoOn k n t i j
 may_go k n t i j few x some =
     elim (cases_Bool (k == 2)) [
       | inl is ↦ let e : k ≡ 2 = grind (arith, nat_tests) in let f = few e in absurd (some (omega arith))
       | inr other ↦ rw other x
     ]
 
-joined_case : (k : ℕ) (p : Parser Term) → IsSound k p → (n : ℕ) → (k ≡ 2 → suc n ≤ 1) → (left : Term) (i x j : Input) (t : Term) (o : Option BinaryOp)
-    → operator_at (suc k) (token x) ≡ o → Takes (suc k) left i x → Takes (left_level k) left i x
-    → ((l : Term) (y : Input) → Takes (suc k) l i y → MayGoOn k n l i y → chain p (suc k) n l y ≡ Ok (t, j) → Takes (suc k) t i j)
-    → joined (chain p (suc k) n) p left o x ≡ Ok (t, j) → Takes (suc k) t i j
-joined_case k p s n few left i x j t None is a b more h = let o = ok_parts (left, x) (t, j) h in ended k i x j left t o.0 o.1 a
-joined_case k p s n few left i x j t (Some op) is a b more h =
+continued_case : (k : ℕ) (p : Parser Term) → IsSound k p → (n : ℕ) → (k ≡ 2 → suc n ≤ 1) → (left : Term) (i x j : Input) (t : Term) (o : Option BinaryOp)
+    → operator_at (suc k) (token x) ≡ o → TermBetween (suc k) left i x → TermBetween (left_level k) left i x
+    → ((l : Term) (y : Input) → TermBetween (suc k) l i y → MayGoOn k n l i y → chain p (suc k) n l y ≡ Ok (t, j) → TermBetween (suc k) t i j)
+    → continued (chain p (suc k) n) p left o x ≡ Ok (t, j) → TermBetween (suc k) t i j
+continued_case k p s n few left i x j t None is a b more h = let o = ok_parts (left, x) (t, j) h in ended k i x j left t o.0 o.1 a
+continued_case k p s n few left i x j t (Some op) is a b more h =
     let c = bind_ok (spend x) _ (t, j) h in
     let d = bind_ok (p c.0.1) _ (t, j) c.2 in
     let st = spend_step x c.0 (λ e. no_operator k op (token x) e is) c.1 in
-    let whole = joined_takes k op i x c.0.1 d.0.1 left d.0.0 b is st (s c.0.1 d.0.1 d.0.0 d.1) in
+    let whole = continued_takes k op i x c.0.1 d.0.1 left d.0.0 b is st (s c.0.1 d.0.1 d.0.0 d.1) in
     more (op2 op left d.0.0) d.0.1 whole (may_go k n (op2 op left d.0.0) i d.0.1 few whole) d.2
 
 chain_sound : (k : ℕ) (p : Parser Term) → IsSound k p → (n : ℕ) → (k ≡ 2 → n ≤ 1) → (left : Term) (i x j : Input) (t : Term)
-    → Takes (suc k) left i x → MayGoOn k n left i x → chain p (suc k) n left x ≡ Ok (t, j) → Takes (suc k) t i j
+    → TermBetween (suc k) left i x → MayGoOn k n left i x → chain p (suc k) n left x ≡ Ok (t, j) → TermBetween (suc k) t i j
 unfolding chain
 chain_sound k p s zero few left i x j t a b h = let o = ok_parts (left, x) (t, j) h in ended k i x j left t o.0 o.1 a
 chain_sound k p s (suc n) few left i x j t a b h =
-    joined_case k p s n few left i x j t (operator_at (suc k) (token x)) refl a (b (λ e. absurd (omega arith)))
+    continued_case k p s n few left i x j t (operator_at (suc k) (token x)) refl a (b (λ e. absurd (omega arith)))
     (λ l y c d. chain_sound k p s n (λ e. let f = few e in omega arith) l i y j t c d) h
 
-first_left : (k n : ℕ) (t : Term) (i j : Input) → Takes k t i j → MayGoOn k n t i j
+first_left : (k n : ℕ) (t : Term) (i j : Input) → TermBetween k t i j → MayGoOn k n t i j
 first_left k n t i j x some =
     elim (cases_Bool (k == 2)) [
-      | inl is ↦ let e : k ≡ 2 = grind (arith, nat_tests) in let y : Takes 2 t i j = rw e at x in rw is y
+      | inl is ↦ let e : k ≡ 2 = grind (arith, nat_tests) in let y : TermBetween 2 t i j = rw e at x in rw is y
       | inr other ↦ rw other (raised k t i j x)
     ]
 

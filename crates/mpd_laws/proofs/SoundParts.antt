@@ -7,11 +7,11 @@ use Rattle.mpd_model.specs.declared.token.Token.{Token}
 use Rattle.mpd_model.specs.declared.token.Token.TheVariants.{Name, Is}
 use Rattle.mpd_model.specs.Declaration.{Declared}
 use Rattle.mpd_model.specs.Grammar.{expression, place_of_slot, outside, target, named_by, named, source_by, source, status_by, status, fill}
-use Rattle.mpd_model.specs.Input.{Input, token, next, expect, seek, sees, max_budget, after, ◌>>=◌}
+use Rattle.mpd_model.specs.Input.{Input, token, advanced, expect, seek, sees, max_budget, after}
 use Rattle.mpd_model.specs.Parts.{Part, of_mark, of_term, of_target, Hole, mark_hole, term_hole, target_hole, source_hole, status_hole, source_part, status_parts, Contents, filled}
 use Rattle.mpd_model.specs.Term.{Term, Target}
 use Rattle.mpd_model.specs.Tokens.{Spot}
-use Rattle.mpd_model.specs.Written.{Names, Written, Takes, WrittenTarget, whole, part, WrittenPart, by_mark, by_term, by_target, WrittenParts, no_part, then_part}
+use Rattle.mpd_model.specs.Written.{Names, WrittenTerm, TermBetween, WrittenTarget, whole, part, WrittenPart, by_mark, by_term, by_target, WrittenParts, no_part, then_part}
 use Rattle.mpd_laws.proofs.Sound.{bind_ok, ok_parts, carried, Moves, no_move, then_moves, Step, next_step, sees_is, expect_step, NamedBy, name_step, expr_sound}
 
 -- ---- expressions that stand in no other
@@ -19,9 +19,9 @@ use Rattle.mpd_laws.proofs.Sound.{bind_ok, ok_parts, carried, Moves, no_move, th
 pub record Read (t : Term) (i j : Input) : Type 0 where
   pub used : List Spot
   pub moves : Moves used i j
-  pub written : Written i.decls 5 used t
+  pub written : WrittenTerm i.decls 5 used t
 
-read_of_takes : (t : Term) (i x j : Input) → x.tokens ≡ i.tokens → x.decls ≡ i.decls → x.lines ≡ i.lines → Takes 5 t x j → Read t i j
+read_of_takes : (t : Term) (i x j : Input) → x.tokens ≡ i.tokens → x.decls ≡ i.decls → x.lines ≡ i.lines → TermBetween 5 t x j → Read t i j
 read_of_takes t i x j a b c tk = record {
   used = tk.used;
   moves = record { is = sym a ∙ tk.is; decls = tk.decls ∙ b; lines = tk.lines ∙ c };
@@ -32,12 +32,12 @@ pub expression_ok : (i : Input) (y : Term × Input) → expression i ≡ Ok y �
 expression_ok i y h = read_of_takes y.0 i (record i { budget = max_budget }) y.1 refl refl refl (expr_sound 65 5 (record i { budget = max_budget }) y.1 y.0 h)
 
 -- an expression seen from where the statement began
-here : (t : Term) (i x j : Input) → x.decls ≡ i.decls → (r : Read t x j) → Written i.decls 5 r.used t
+here : (t : Term) (i x j : Input) → x.decls ≡ i.decls → (r : Read t x j) → WrittenTerm i.decls 5 r.used t
 here t i x j e r = rw (← e) r.written
 
 -- ---- places that stand in no expression
 
-pub record TakesTarget (t : Target) (i j : Input) : Type 0 where
+pub record TargetBetween (t : Target) (i j : Input) : Type 0 where
   pub used : List Spot
   pub moves : Moves used i j
   pub written : WrittenTarget i.decls used t
@@ -82,75 +82,75 @@ outside_case slot (Some cells) n i j t h =
 pub outside_ok : (slot : Slot) (i j : Input) (t : Target) → outside (place_of_slot slot) slot.size i ≡ Ok (t, j) → Outside slot t i j
 outside_ok slot i j t h = outside_case slot slot.size (λ ds s n. n) i j t h
 
-target_is : (slot : Slot) (t : Target) (i x j : Input) → (s : Step i x) → NamedBy i.decls slot s.spot → Outside slot t x j → TakesTarget t i j
+target_is : (slot : Slot) (t : Target) (i x j : Input) → (s : Step i x) → NamedBy i.decls slot s.spot → Outside slot t x j → TargetBetween t i j
 target_is slot t i x j s n o = record {
   used = s.spot ∷ o.used;
   moves = then_moves (s.spot ∷ []) o.used i x j s.moves o.moves;
   written = rw (← s.moves.decls) (o.written s.spot (rw s.moves.decls n));
 }
 
-target_ok : (i : Input) (y : Target × Input) → token i ≡ Name → target i ≡ Ok y → TakesTarget y.0 i y.1
+target_ok : (i : Input) (y : Target × Input) → token i ≡ Name → target i ≡ Ok y → TargetBetween y.0 i y.1
 unfolding target
 target_ok i y e h =
     let b = bind_ok (seek Variable i) _ y h in
     let v = name_step i b.0 e b.1 in
-    target_is b.0.0 y.0 i (next b.0.1) y.1 v.0 v.1 (outside_ok b.0.0 (next b.0.1) y.1 y.0 b.2)
+    target_is b.0.0 y.0 i (advanced b.0.1) y.1 v.0 v.1 (outside_ok b.0.0 (advanced b.0.1) y.1 y.0 b.2)
 
-named_case : (tk : Token) (i : Input) (y : Target × Input) → token i ≡ tk → named_by tk i ≡ Ok y → TakesTarget y.0 i y.1
+named_case : (tk : Token) (i : Input) (y : Target × Input) → token i ≡ tk → named_by tk i ≡ Ok y → TargetBetween y.0 i y.1
 named_case Name i y e h = target_ok i y e h
 named_case _ i y e h = absurd (cc)
 
-named_ok : (i : Input) (y : Target × Input) → named i ≡ Ok y → TakesTarget y.0 i y.1
+named_ok : (i : Input) (y : Target × Input) → named i ≡ Ok y → TargetBetween y.0 i y.1
 unfolding named
 named_ok i y h = named_case (token i) i y refl h
 
 -- ---- a source, and a status before other parts
 
-record TakesSource (o : Option Term) (i j : Input) : Type 0 where
+record SourceBetween (o : Option Term) (i j : Input) : Type 0 where
   used : List Spot
   moves : Moves used i j
   written : WrittenPart i.decls used (source_part o)
 
-source_case : (found : Bool) (i : Input) (y : Option Term × Input) → sees m.Any i ≡ found → source_by found (cond found (next i) i) ≡ Ok y → TakesSource y.0 i y.1
+source_case : (found : Bool) (i : Input) (y : Option Term × Input) → sees m.Any i ≡ found → source_by found (cond found (advanced i) i) ≡ Ok y → SourceBetween y.0 i y.1
 source_case true i y e h =
-    let o = ok_parts (None, next i) y h in
+    let o = ok_parts (None, advanced i) y h in
     let is = sees_is m.Any i e in
-    let s = next_step i (next i) (λ x. absurd (cc)) refl in
-    carried (λ o j. TakesSource o i j) _ _ _ _ o.0 o.1 (record { used = s.spot ∷ []; moves = s.moves; written = by_mark s.spot m.Any (s.token ∙ is) })
+    let s = next_step i (advanced i) (λ x. absurd (cc)) refl in
+    carried (λ o j. SourceBetween o i j) _ _ _ _ o.0 o.1 (record { used = s.spot ∷ []; moves = s.moves; written = by_mark s.spot m.Any (s.token ∙ is) })
 source_case false i y e h =
     let b = bind_ok (expression i) _ y h in
     let o = ok_parts (Some b.0.0, b.0.1) y b.2 in
     let r = expression_ok i b.0 b.1 in
-    carried (λ o j. TakesSource o i j) _ _ _ _ o.0 o.1 (record { used = r.used; moves = r.moves; written = by_term r.used b.0.0 r.written })
+    carried (λ o j. SourceBetween o i j) _ _ _ _ o.0 o.1 (record { used = r.used; moves = r.moves; written = by_term r.used b.0.0 r.written })
 
-source_ok : (i : Input) (y : Option Term × Input) → source i ≡ Ok y → TakesSource y.0 i y.1
+source_ok : (i : Input) (y : Option Term × Input) → source i ≡ Ok y → SourceBetween y.0 i y.1
 unfolding source after
 source_ok i y h = source_case (sees m.Any i) i y refl h
 
-record TakesStatus (o : Option Target) (i j : Input) : Type 0 where
+record StatusBetween (o : Option Target) (i j : Input) : Type 0 where
   used : List Spot
   moves : Moves used i j
   written : (ps : List Part) (rs : List Spot) → WrittenParts i.decls rs ps → WrittenParts i.decls (used ++ rs) (status_parts o ps)
 
-status_before : (t : Target) (i x j : Input) → (s : Step i x) → s.spot.token ≡ Is m.Status → TakesTarget t x j → TakesStatus (Some t) i j
+status_before : (t : Target) (i x j : Input) → (s : Step i x) → s.spot.token ≡ Is m.Status → TargetBetween t x j → StatusBetween (Some t) i j
 status_before t i x j s is n = record {
   used = s.spot ∷ n.used;
   moves = then_moves (s.spot ∷ []) n.used i x j s.moves n.moves;
   written = λ ps rs w. then_part (s.spot ∷ []) (n.used ++ rs) (of_mark m.Status) (of_target t ∷ ps) (by_mark s.spot m.Status is) (then_part n.used rs (of_target t) ps (by_target n.used t (rw (← s.moves.decls) n.written)) w);
 }
 
-status_case : (found : Bool) (i : Input) (y : Option Target × Input) → sees m.Status i ≡ found → status_by found (cond found (next i) i) ≡ Ok y → TakesStatus y.0 i y.1
+status_case : (found : Bool) (i : Input) (y : Option Target × Input) → sees m.Status i ≡ found → status_by found (cond found (advanced i) i) ≡ Ok y → StatusBetween y.0 i y.1
 status_case true i y e h =
     let is = sees_is m.Status i e in
-    let s = next_step i (next i) (λ x. absurd (cc)) refl in
-    let b = bind_ok (named (next i)) _ y h in
+    let s = next_step i (advanced i) (λ x. absurd (cc)) refl in
+    let b = bind_ok (named (advanced i)) _ y h in
     let o = ok_parts (Some b.0.0, b.0.1) y b.2 in
-    carried (λ o j. TakesStatus o i j) _ _ _ _ o.0 o.1 (status_before b.0.0 i (next i) b.0.1 s (s.token ∙ is) (named_ok (next i) b.0 b.1))
+    carried (λ o j. StatusBetween o i j) _ _ _ _ o.0 o.1 (status_before b.0.0 i (advanced i) b.0.1 s (s.token ∙ is) (named_ok (advanced i) b.0 b.1))
 status_case false i y e h =
     let o = ok_parts (None, i) y h in
-    carried (λ o j. TakesStatus o i j) _ _ _ _ o.0 o.1 (record { used = []; moves = no_move i i refl; written = λ ps rs w. w })
+    carried (λ o j. StatusBetween o i j) _ _ _ _ o.0 o.1 (record { used = []; moves = no_move i i refl; written = λ ps rs w. w })
 
-status_ok : (i : Input) (y : Option Target × Input) → status i ≡ Ok y → TakesStatus y.0 i y.1
+status_ok : (i : Input) (y : Option Target × Input) → status i ≡ Ok y → StatusBetween y.0 i y.1
 unfolding status after
 status_ok i y h = status_case (sees m.Status i) i y refl h
 

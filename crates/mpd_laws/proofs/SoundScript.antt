@@ -14,11 +14,11 @@ use Rattle.mpd_model.specs.Declaration.{Declared}
 use Rattle.mpd_model.specs.Faults.{fault}
 use Rattle.mpd_model.specs.Grammar.{version_by, version, rank_count, ranks_of, ranks_by, ranks, natural, sized_at, size_by, sized, single, declaring, decl_by, decl, decls_from, decls, header, stmt, stmts, body, block, closes, max_blocks, max_text, is_text, read_of, reading}
 use Rattle.mpd_model.specs.Grammar as grammar
-use Rattle.mpd_model.specs.Input.{Input, Outcome, Parser, start_of, token, token_of, spelling, place, next, expect, sees, after, fresh, add, fits, is_known, slot_in, advance, fail, pure, ◌>>=◌, ◌>>◌}
+use Rattle.mpd_model.specs.Input.{Input, Outcome, Parser, start_of, token, token_of, spelling, place, advanced, expect, sees, after, fresh, add, cells_fit, is_known, slot_in, advance, fail, pure, ◌>>=◌, ◌>>◌}
 use Rattle.mpd_model.specs.Program.{Program}
 use Rattle.mpd_model.specs.Tokens.{Spot, tokens}
 use Rattle.mpd_model.specs.Tree.{Tree, block_of, statements_in}
-use Rattle.mpd_model.specs.Written.{WrittenDecls, none, declares, declares_array, variable_of, TakesBody, WrittenScript, script}
+use Rattle.mpd_model.specs.Written.{WrittenDecls, none, declares, declares_array, variable_of, BodyBetween, WrittenScript, script}
 use Rattle.mpd_laws.proofs.Counted.{body_lines}
 use Rattle.mpd_laws.proofs.Ends.{NoEnd, tokens_real, rest_real, none_left}
 use Rattle.mpd_laws.proofs.Sound.{bind_ok, ok_parts, carried, test_ok, Step, next_step, sees_is, expect_step}
@@ -29,15 +29,15 @@ use Rattle.mpd_laws.proofs.SoundStatements.{append_none, statements_sound}
 abbrev IsNumber : ℕ → (i j : Input) → Type 0
 IsNumber n i j = (s : Step i j) × (s.spot.token ≡ Number (pos n))
 
-number_step : (n : ℕ) (i j : Input) → token i ≡ Number (pos n) → j ≡ next i → IsNumber n i j
+number_step : (n : ℕ) (i j : Input) → token i ≡ Number (pos n) → j ≡ advanced i → IsNumber n i j
 number_step n i j e h = let s = next_step i j (λ x. absurd (cc)) h in (s, s.token ∙ e)
 
 is_one : (z : ℤ) → int_eq z (pos 1) ≡ true → z ≡ pos 1
 is_one (pos n) h = let e : n ≡ 1 = grind (arith, nat_tests) in ap pos e
 is_one (negsuc n) h = absurd (cc)
 
-version_test : (b : Bool) (i : Input) (y : Unit {0} × Input) → cond b advance (fail NotInVersion) i ≡ Ok y → (b ≡ true) × (y.1 ≡ next i)
-version_test true i y h = (refl, sym (ok_parts (tt, next i) y h).1)
+version_test : (b : Bool) (i : Input) (y : Unit {0} × Input) → cond b advance (fail NotInVersion) i ≡ Ok y → (b ≡ true) × (y.1 ≡ advanced i)
+version_test true i y h = (refl, sym (ok_parts (tt, advanced i) y h).1)
 version_test false i y h = absurd (cc)
 
 version_case : (tk : Token) (i : Input) (y : Unit {0} × Input) → token i ≡ tk → version_by tk i ≡ Ok y → IsNumber 1 i y.1
@@ -58,8 +58,8 @@ count_is : (z : ℤ) (n : ℕ) → rank_count z ≡ Some n → z ≡ pos n
 count_is (pos m) n h = ap pos (count_test (nat_le 1 m && nat_le m 16) m n h)
 count_is (negsuc m) n h = absurd (cc)
 
-ranks_test : (o : Option ℕ) (i : Input) (y : ℕ × Input) → ranks_of o i ≡ Ok y → (o ≡ Some y.0) × (y.1 ≡ next i)
-ranks_test (Some n) i y h = let o = ok_parts (n, next i) y h in (ap Some o.0, sym o.1)
+ranks_test : (o : Option ℕ) (i : Input) (y : ℕ × Input) → ranks_of o i ≡ Ok y → (o ≡ Some y.0) × (y.1 ≡ advanced i)
+ranks_test (Some n) i y h = let o = ok_parts (n, advanced i) y h in (ap Some o.0, sym o.1)
 ranks_test None i y h = absurd (cc)
 
 ranks_case : (tk : Token) (i : Input) (y : ℕ × Input) → token i ≡ tk → ranks_by tk i ≡ Ok y → IsNumber y.0 i y.1
@@ -96,7 +96,7 @@ record Adds (name : List ℕ) (size : Option ℕ) (i j : Input) : Type 0 where
 add_ok : (name : List ℕ) (size : Option ℕ) (at : ℕ) (i : Input) (y : Unit {0} × Input) → add Variable name size at i ≡ Ok y → Adds name size i y.1
 unfolding add
 add_ok name size at i y h =
-    let t = test_ok (fits Variable size i.decls) (fault TooMany at) (tt, record i { decls = i.decls ++ variable_of name size ∷ [] }) y h in
+    let t = test_ok (cells_fit Variable size i.decls) (fault TooMany at) (tt, record i { decls = i.decls ++ variable_of name size ∷ [] }) y h in
     record { tokens = sym (ap (λ p. p.1.tokens) t.1); decls = sym (ap (λ p. p.1.decls) t.1); lines = sym (ap (λ p. p.1.lines) t.1) }
 
 same_token : (i j : Input) → j.tokens ≡ i.tokens → token j ≡ token i
@@ -160,11 +160,11 @@ sized_at_ok name (Some n) i y is h =
     let a = bind_ok (add Variable name (Some n) (place i) i) _ y h in
     let d = add_ok name (Some n) (place i) i a.0 a.1 in
     let e = is n refl in
-    let s = next_step a.0.1 (next a.0.1) (no_end a.0.1 (pos n) (same_token i a.0.1 d.tokens ∙ e)) refl in
-    let b = bind_ok (expect m.SquareClose (next a.0.1)) _ y a.2 in
-    let c = expect_step m.SquareClose (next a.0.1) b.0 b.1 in
+    let s = next_step a.0.1 (advanced a.0.1) (no_end a.0.1 (pos n) (same_token i a.0.1 d.tokens ∙ e)) refl in
+    let b = bind_ok (expect m.SquareClose (advanced a.0.1)) _ y a.2 in
+    let c = expect_step m.SquareClose (advanced a.0.1) b.0 b.1 in
     let z = expect_step m.Semicolon b.0.1 y b.2 in
-    sizes name n i a.0.1 (next a.0.1) b.0.1 y.1 e d s c.0 c.1 z.0 z.1
+    sizes name n i a.0.1 (advanced a.0.1) b.0.1 y.1 e d s c.0 c.1 z.0 z.1
 
 size_case : (name : List ℕ) (tk : Token) (i : Input) (y : Unit {0} × Input) → token i ≡ tk → size_by Variable name tk i ≡ Ok y → Sizes name i y.1
 size_case name (Number z) i y e h = sized_at_ok name (natural z) i y (λ n is. e ∙ ap Number (size_is z n is)) h
@@ -214,11 +214,11 @@ declares_many i x y j e free s a q d = record {
 }
 
 declaring_case : (found : Bool) (i x : Input) (at : ℕ) (y : Unit {0} × Input) → token i ≡ Name → slot_in i.decls (spelling i) ≡ None → Step i x → sees m.SquareOpen x ≡ found
-    → cond found (sized Variable (spelling i)) (single Variable (spelling i) at) (cond found (next x) x) ≡ Ok y → Declares i y.1
+    → cond found (sized Variable (spelling i)) (single Variable (spelling i) at) (cond found (advanced x) x) ≡ Ok y → Declares i y.1
 declaring_case true i x at y e free s is h =
     let open_bracket = sees_is m.SquareOpen x is in
-    let a = next_step x (next x) (λ z. absurd (cc)) refl in
-    declares_many i x (next x) y.1 e free s a (a.token ∙ open_bracket) (sized_ok (spelling i) (next x) y h)
+    let a = next_step x (advanced x) (λ z. absurd (cc)) refl in
+    declares_many i x (advanced x) y.1 e free s a (a.token ∙ open_bracket) (sized_ok (spelling i) (advanced x) y h)
 declaring_case false i x at y e free s is h = declares_one i x y.1 e free s (single_ok (spelling i) at x y h)
 
 declaring_ok : (i : Input) (y : Unit {0} × Input) → token i ≡ Name → declaring Variable i ≡ Ok y → Declares i y.1
@@ -226,8 +226,8 @@ unfolding declaring after
 declaring_ok i y e h =
     let a = bind_ok (fresh i) _ y h in
     let f = fresh_ok i a.0 a.1 in
-    let s = next_step i (next a.0.1) (λ x. absurd (cc)) (ap next f.1) in
-    declaring_case (sees m.SquareOpen (next a.0.1)) i (next a.0.1) (place i) y e f.0 s refl a.2
+    let s = next_step i (advanced a.0.1) (λ x. absurd (cc)) (ap advanced f.1) in
+    declaring_case (sees m.SquareOpen (advanced a.0.1)) i (advanced a.0.1) (place i) y e f.0 s refl a.2
 
 decl_case : (tk : Token) (i : Input) (y : Unit {0} × Input) → token i ≡ tk → decl_by Variable tk i ≡ Ok y → Declares i y.1
 decl_case Name i y e h = declaring_ok i y e h
@@ -256,12 +256,12 @@ more_decls i x y j s e d r = record {
 }
 
 decls_case : (p : Parser (Unit {0})) → ((i : Input) (y : Unit {0} × Input) → p i ≡ Ok y → TakesDecls i y.1) → (found : Bool) (i : Input) (y : Unit {0} × Input) → sees m.Var i ≡ found
-    → cond found (decl Variable >> p) (pure tt) (cond found (next i) i) ≡ Ok y → TakesDecls i y.1
+    → cond found (decl Variable >> p) (pure tt) (cond found (advanced i) i) ≡ Ok y → TakesDecls i y.1
 decls_case p s true i y e h =
     let is = sees_is m.Var i e in
-    let v = next_step i (next i) (λ z. absurd (cc)) refl in
-    let b = bind_ok (decl Variable (next i)) _ y h in
-    more_decls i (next i) b.0.1 y.1 v (v.token ∙ is) (decl_ok (next i) b.0 b.1) (s b.0.1 y b.2)
+    let v = next_step i (advanced i) (λ z. absurd (cc)) refl in
+    let b = bind_ok (decl Variable (advanced i)) _ y h in
+    more_decls i (advanced i) b.0.1 y.1 v (v.token ∙ is) (decl_ok (advanced i) b.0 b.1) (s b.0.1 y b.2)
 decls_case p s false i y e h = no_decls i y.1 (ok_parts (tt, i) y h).1
 
 decls_from_ok : (n : ℕ) (i : Input) (y : Unit {0} × Input) → decls_from n i ≡ Ok y → TakesDecls i y.1
@@ -379,7 +379,7 @@ at_end End h = refl
 at_end _ h = absurd (cc)
 
 -- what is behind the last statement of a text
-nothing_left : (i x j : Input) (n : ℕ) (ts : List Tree) → NoEnd i.tokens → Header n i x → TakesBody ts x j → closes false (token j) ≡ true → j.tokens ≡ []
+nothing_left : (i x j : Input) (n : ℕ) (ts : List Tree) → NoEnd i.tokens → Header n i x → BodyBetween ts x j → closes false (token j) ≡ true → j.tokens ≡ []
 unfolding token
 nothing_left i x j n ts real h b e =
     let all = h.mpd ∷ h.version ∷ h.first ∷ h.ranks ∷ h.count ∷ h.second ∷ h.used in
@@ -387,7 +387,7 @@ nothing_left i x j n ts real h b e =
     let behind_body : NoEnd j.tokens = rest_real b.used j.tokens (rw b.is at behind_header) in
     none_left j.tokens behind_body (at_end (token_of j.tokens) e)
 
-script_is : (i x j : Input) (n : ℕ) (ts : List Tree) → i.decls ≡ [] → i.lines ≡ [] → Header n i x → TakesBody ts x j → j.tokens ≡ []
+script_is : (i x j : Input) (n : ℕ) (ts : List Tree) → i.decls ≡ [] → i.lines ≡ [] → Header n i x → BodyBetween ts x j → j.tokens ≡ []
     → WrittenScript i.tokens (record { version = 1; ranks = n; decls = j.decls; body = ts; lines = j.lines })
 script_is i x j n ts none_yet no_lines h b last =
     let used : x.tokens ≡ b.used = b.is ∙ ap (λ r. b.used ++ r) last ∙ sym (append_none Spot b.used) in

@@ -8,14 +8,14 @@ use Rattle.mpd_model.specs.declared.token.Mark.TheVariants as m
 use Rattle.mpd_model.specs.declared.token.Token.{Token}
 use Rattle.mpd_model.specs.declared.token.Token.TheVariants.{Name, Is, End}
 use Rattle.mpd_model.specs.Declaration.{Declared}
-use Rattle.mpd_model.specs.Grammar.{expression, begun, closes, place_of_slot, outside, fill, Form, form_of, formed, by_form, assigning, otherwise, choosing, repeating, stmt_by, stmt, stmts, body, block}
-use Rattle.mpd_model.specs.Input.{Input, Outcome, Parser, and_then, token, token_of, spelling, next, behind, expect, seek, sees, count, slot_in, line_of, after, pure, fail, refuse, ◌>>=◌, ◌>>◌}
+use Rattle.mpd_model.specs.Grammar.{expression, begun, closes, place_of_slot, outside, Form, form_of, formed, by_form, assigning, otherwise, choosing, repeating, stmt_by, stmt, stmts, body, block}
+use Rattle.mpd_model.specs.Input.{Input, Outcome, Parser, and_then, token, token_of, spelling, advanced, behind, expect, seek, sees, count, slot_in, first_line, after, pure, fail, refuse, ◌>>=◌, ◌>>◌}
 use Rattle.mpd_model.specs.Parts.{of_mark, of_target, mark_hole, term_hole, filled}
 use Rattle.mpd_model.specs.declared.stmt.Simple.TheVariants as st
 use Rattle.mpd_model.specs.Term.{Term}
 use Rattle.mpd_model.specs.Tokens.{Spot}
 use Rattle.mpd_model.specs.Tree.{Tree, simple, branch, repeat, no_more, block_of}
-use Rattle.mpd_model.specs.Written.{WrittenParts, then_part, by_mark, by_target, WrittenTree, simply, repeats, chooses, chooses_else, WrittenBlock, braces, WrittenBody, ended, follows, TakesLines, TakesTree, TakesBlock, TakesBody}
+use Rattle.mpd_model.specs.Written.{WrittenParts, then_part, by_mark, by_target, WrittenTree, simply, repeats, chooses, chooses_else, WrittenBlock, braces, WrittenBody, ended, follows, LinesBetween, TreeBetween, BlockBetween, BodyBetween}
 use Rattle.mpd_laws.proofs.Sound.{bind_ok, ok_parts, carried, test_ok, first_spot, Moves, Step, next_step, sees_is, expect_step, seek_ok, NamedBy}
 use Rattle.mpd_laws.proofs.SoundParts.{Read, expression_ok, outside_ok, part_moves, part_first, fill_ok}
 
@@ -29,7 +29,7 @@ pub record Begun (i j : Input) : Type 0 where
   pub decls : j.decls ≡ i.decls
   pub lines : j.lines ≡ i.lines ++ spot.line ∷ []
 
-begun_spot : (i j : Input) → token_of i.tokens ≢ End → j.tokens ≡ behind i.tokens → j.decls ≡ i.decls → j.lines ≡ i.lines ++ line_of i.tokens ∷ [] → Begun i j
+begun_spot : (i j : Input) → token_of i.tokens ≢ End → j.tokens ≡ behind i.tokens → j.decls ≡ i.decls → j.lines ≡ i.lines ++ first_line i.tokens ∷ [] → Begun i j
 unfolding token spelling
 begun_spot i j some a b c =
     let f = first_spot i.tokens some in
@@ -39,15 +39,15 @@ begun_spot i j some a b c =
       token = f.2;
       text = f.3;
       decls = b;
-      lines = c ∙ ap (λ r. i.lines ++ line_of r ∷ []) f.1;
+      lines = c ∙ ap (λ r. i.lines ++ first_line r ∷ []) f.1;
     }
 
 begun_ok : (i : Input) (y : Unit {0} × Input) → token i ≢ End → begun i ≡ Ok y → Begun i y.1
-unfolding count next token
+unfolding count advanced token
 begun_ok i y some h =
     let b = bind_ok (count i) _ y h in
     let c = test_ok (nat_lt (length i.lines) 4096) _ _ b.0 b.1 in
-    let o = ok_parts (tt, next b.0.1) y b.2 in
+    let o = ok_parts (tt, advanced b.0.1) y b.2 in
     let t : y.1.tokens ≡ behind b.0.1.tokens = sym (ap (λ k. k.tokens) o.1) in
     let d : y.1.decls ≡ b.0.1.decls = sym (ap (λ k. k.decls) o.1) in
     let l : y.1.lines ≡ b.0.1.lines = sym (ap (λ k. k.lines) o.1) in
@@ -73,12 +73,12 @@ append_none A (x ∷ xs) = ap (λ r. x ∷ r) (append_none A xs)
 flat : (k : Mark) (t : Tree) (used : List Spot) (i j : Input) → Moves used i j → ((s : Spot) → s.token ≡ Is k → WrittenTree i.decls (s ∷ used) t (s.line ∷ [])) → Rest k t i j
 flat k t used i j x w = record { used = used; begun = []; is = x.is; decls = x.decls; lines = x.lines ∙ append_none ℕ i.lines; written = w }
 
-form_rest : (k : Mark) (f : Form k) (i j : Input) (t : Tree) → formed f i ≡ Ok (t, j) → Rest k t i j
-form_rest k f i j t h =
+form_rest : (f : Form) (i j : Input) (t : Tree) → formed f i ≡ Ok (t, j) → Rest f.word t i j
+form_rest f i j t h =
     let r = fill_ok f.holes (λ c. simple (f.made c)) i j t h in
-    subst (λ t. Rest k t i j) r.is (flat k (simple (f.made r.contents)) (r.used ++ r.end ∷ []) i j r.moves
+    subst (λ t. Rest f.word t i j) r.is (flat f.word (simple (f.made r.contents)) (r.used ++ r.end ∷ []) i j r.moves
     (λ s is. simply (s ∷ r.used) r.end (f.made r.contents)
-    (subst (WrittenParts i.decls (s ∷ r.used)) (sym (f.parts r.contents)) (then_part (s ∷ []) r.used (of_mark k) (filled f.holes r.contents) (by_mark s k is) r.written)) r.closed))
+    (subst (WrittenParts i.decls (s ∷ r.used)) (sym (f.parts r.contents)) (then_part (s ∷ []) r.used (of_mark f.word) (filled f.holes r.contents) (by_mark s f.word is) r.written)) r.closed))
 
 -- what follows the name that an assignment begins with
 record Assigns (slot : Slot) (t : Tree) (i j : Input) : Type 0 where
@@ -103,7 +103,7 @@ assigning_ok slot i j t h =
 -- ---- statements that hold others
 
 abbrev pub IsSoundBlock : Parser (List Tree) → Type 0
-IsSoundBlock b = (i j : Input) (ts : List Tree) → b i ≡ Ok (ts, j) → TakesBlock ts i j
+IsSoundBlock b = (i j : Input) (ts : List Tree) → b i ≡ Ok (ts, j) → BlockBetween ts i j
 
 -- two runs of tokens, each with its lines
 record Lines (used : List Spot) (begun : List ℕ) (i j : Input) : Type 0 where
@@ -121,17 +121,17 @@ then_lines a b ls ms i j k x y = record {
 moves_lines : (used : List Spot) (i j : Input) → Moves used i j → Lines used [] i j
 moves_lines used i j x = record { is = x.is; decls = x.decls; lines = x.lines ∙ append_none ℕ i.lines }
 
-lines_of : (W : List Declared → List Spot → List ℕ → Type 0) (i j : Input) (x : TakesLines W i j) → Lines x.used x.begun i j
+lines_of : (W : List Declared → List Spot → List ℕ → Type 0) (i j : Input) (x : LinesBetween W i j) → Lines x.used x.begun i j
 lines_of W i j x = record { is = x.is; decls = x.decls; lines = x.lines }
 
 abbrev OneBlock : List Tree → List Declared → List Spot → List ℕ → Type 0
 OneBlock ts ds ss ls = WrittenBlock ds ss ts ls
 
 -- a block seen from where the statement began
-there : (ts : List Tree) (i x j : Input) → x.decls ≡ i.decls → (b : TakesBlock ts x j) → WrittenBlock i.decls b.used ts b.begun
+there : (ts : List Tree) (i x j : Input) → x.decls ≡ i.decls → (b : BlockBetween ts x j) → WrittenBlock i.decls b.used ts b.begun
 there ts i x j e b = rw (← e) b.written
 
-chosen_alone : (i a j : Input) (t : Term) (x : List Tree) → Read t i a → TakesBlock x a j → Rest m.If (branch t (block_of x) no_more) i j
+chosen_alone : (i a j : Input) (t : Term) (x : List Tree) → Read t i a → BlockBetween x a j → Rest m.If (branch t (block_of x) no_more) i j
 chosen_alone i a j t x r b =
     let all = then_lines r.used b.used [] b.begun i a j (moves_lines r.used i a r.moves) (lines_of (OneBlock x) a j b) in
     record {
@@ -143,7 +143,7 @@ chosen_alone i a j t x r b =
       written = λ s is. chooses s r.used b.used t x b.begun is r.written (there x i a j r.moves.decls b);
     }
 
-chosen_else : (i a b c j : Input) (t : Term) (x y : List Tree) → Read t i a → TakesBlock x a b → (s : Step b c) → s.spot.token ≡ Is m.Else → TakesBlock y c j
+chosen_else : (i a b c j : Input) (t : Term) (x y : List Tree) → Read t i a → BlockBetween x a b → (s : Step b c) → s.spot.token ≡ Is m.Else → BlockBetween y c j
     → Rest m.If (branch t (block_of x) (block_of y)) i j
 chosen_else i a b c j t x y r f w e g =
     let one = then_lines r.used f.used [] f.begun i a b (moves_lines r.used i a r.moves) (lines_of (OneBlock x) a b f) in
@@ -158,7 +158,7 @@ chosen_else i a b c j t x y r f w e g =
       written = λ s is. chooses_else s w.spot r.used f.used g.used t x y f.begun g.begun is r.written (there x i a b r.moves.decls f) e (there y i c j (w.moves.decls ∙ one.decls) g);
     }
 
-repeated : (i a j : Input) (t : Term) (x : List Tree) → Read t i a → TakesBlock x a j → Rest m.While (repeat t (block_of x)) i j
+repeated : (i a j : Input) (t : Term) (x : List Tree) → Read t i a → BlockBetween x a j → Rest m.While (repeat t (block_of x)) i j
 repeated i a j t x r b =
     let all = then_lines r.used b.used [] b.begun i a j (moves_lines r.used i a r.moves) (lines_of (OneBlock x) a j b) in
     record {
@@ -172,17 +172,17 @@ repeated i a j t x r b =
 
 -- with `else` or without
 otherwise_case : (p : Parser (List Tree)) → IsSoundBlock p → (found : Bool) (i a b j : Input) (t : Term) (x y : List Tree) → sees m.Else b ≡ found
-    → cond found p (pure []) (cond found (next b) b) ≡ Ok (y, j) → Read t i a → TakesBlock x a b → Rest m.If (branch t (block_of x) (block_of y)) i j
+    → cond found p (pure []) (cond found (advanced b) b) ≡ Ok (y, j) → Read t i a → BlockBetween x a b → Rest m.If (branch t (block_of x) (block_of y)) i j
 otherwise_case p s true i a b j t x y e h r f =
     let is = sees_is m.Else b e in
-    let w = next_step b (next b) (λ z. absurd (cc)) refl in
-    chosen_else i a b (next b) j t x y r f w (w.token ∙ is) (s (next b) j y h)
+    let w = next_step b (advanced b) (λ z. absurd (cc)) refl in
+    chosen_else i a b (advanced b) j t x y r f w (w.token ∙ is) (s (advanced b) j y h)
 otherwise_case p s false i a b j t x y e h r f =
     let o = ok_parts ([], b) (y, j) h in
     carried (λ ts k. Rest m.If (branch t (block_of x) (block_of ts)) i k) _ _ _ _ o.0 o.1 (chosen_alone i a b t x r f)
 
 otherwise_rest : (p : Parser (List Tree)) → IsSoundBlock p → (i a b j : Input) (t : Term) (x y : List Tree) → otherwise p b ≡ Ok (y, j)
-    → Read t i a → TakesBlock x a b → Rest m.If (branch t (block_of x) (block_of y)) i j
+    → Read t i a → BlockBetween x a b → Rest m.If (branch t (block_of x) (block_of y)) i j
 unfolding otherwise after
 otherwise_rest p s i a b j t x y h r f = otherwise_case p s (sees m.Else b) i a b j t x y refl h r f
 
@@ -206,7 +206,7 @@ repeating_rest p s i j t h =
     (repeated i a.0.1 b.0.1 a.0.0 b.0.0 (expression_ok i a.0 a.1) (s a.0.1 b.0.1 b.0.0 b.1))
 
 -- the first token and the rest
-all_of : (k : Mark) (t : Tree) (i x j : Input) → token i ≡ Is k → Begun i x → Rest k t x j → TakesTree t i j
+all_of : (k : Mark) (t : Tree) (i x j : Input) → token i ≡ Is k → Begun i x → Rest k t x j → TreeBetween t i j
 all_of k t i x j e b r = record {
   used = b.spot ∷ r.used;
   begun = b.spot.line ∷ r.begun;
@@ -217,13 +217,13 @@ all_of k t i x j e b r = record {
 }
 
 begun_then : (k : Mark) (p : Parser Tree) → ((x j : Input) (t : Tree) → p x ≡ Ok (t, j) → Rest k t x j)
-    → (i j : Input) (t : Tree) → token i ≡ Is k → (begun >> p) i ≡ Ok (t, j) → TakesTree t i j
+    → (i j : Input) (t : Tree) → token i ≡ Is k → (begun >> p) i ≡ Ok (t, j) → TreeBetween t i j
 begun_then k p s i j t e h =
     let b = bind_ok (begun i) _ (t, j) h in
     all_of k t i b.0.1 j e (begun_ok i b.0 (λ x. absurd (cc)) b.1) (s b.0.1 j t b.2)
 
 -- an assignment, whose first token is the name
-assigned : (slot : Slot) (t : Tree) (i x j : Input) → (b : Begun i x) → NamedBy i.decls slot b.spot → Assigns slot t x j → TakesTree t i j
+assigned : (slot : Slot) (t : Tree) (i x j : Input) → (b : Begun i x) → NamedBy i.decls slot b.spot → Assigns slot t x j → TreeBetween t i j
 assigned slot t i x j b n r = record {
   used = b.spot ∷ r.used;
   begun = b.spot.line ∷ [];
@@ -236,7 +236,7 @@ assigned slot t i x j b n r = record {
 begun_here : (i x : Input) (y : Unit {0} × Input) → i ≡ x → token i ≢ End → begun x ≡ Ok y → Begun i y.1
 begun_here i x y e some h = begun_ok i y some (rw e h)
 
-assignment_takes : (i j : Input) (t : Tree) → token i ≡ Name → (seek Variable >>= λ s. begun >> assigning s) i ≡ Ok (t, j) → TakesTree t i j
+assignment_takes : (i j : Input) (t : Tree) → token i ≡ Name → (seek Variable >>= λ s. begun >> assigning s) i ≡ Ok (t, j) → TreeBetween t i j
 assignment_takes i j t e h =
     let a = bind_ok (seek Variable i) _ (t, j) h in
     let k = seek_ok i a.0 a.1 in
@@ -250,19 +250,24 @@ assignment_takes i j t e h =
 not_in_version : (i : Input) (y : Tree × Input) → and_then (count i) (λ x. fail {A = Tree} NotInVersion) ≡ Ok y → ⊥
 not_in_version i y h = let b = bind_ok (count i) (λ x. fail {A = Tree} NotInVersion) y h in absurd (cc)
 
-form_case : (k : Mark) (o : Option (Form k)) (i j : Input) (t : Tree) → token i ≡ Is k → by_form o i ≡ Ok (t, j) → TakesTree t i j
-form_case k None i j t e h = absurd (cc)
-form_case k (Some f) i j t e h = begun_then k (formed f) (form_rest k f) i j t e h
+-- a form stands under its own word
+form_word : (k : Mark) (f : Form) → form_of k ≡ Some f → f.word ≡ k
+form_word m.Semicolon f h = cc
+form_word k f h = cc
 
-stmt_case : (p : Parser (List Tree)) → IsSoundBlock p → (tk : Token) (i j : Input) (t : Tree) → token i ≡ tk → stmt_by p tk i ≡ Ok (t, j) → TakesTree t i j
+form_case : (k : Mark) (o : Option Form) (i j : Input) (t : Tree) → token i ≡ Is k → form_of k ≡ o → by_form o i ≡ Ok (t, j) → TreeBetween t i j
+form_case k None i j t e o h = absurd (cc)
+form_case k (Some f) i j t e o h = begun_then f.word (formed f) (form_rest f) i j t (e ∙ ap Is (sym (form_word k f o))) h
+
+stmt_case : (p : Parser (List Tree)) → IsSoundBlock p → (tk : Token) (i j : Input) (t : Tree) → token i ≡ tk → stmt_by p tk i ≡ Ok (t, j) → TreeBetween t i j
 stmt_case p s Name i j t e h = assignment_takes i j t e h
 stmt_case p s (Is m.If) i j t e h = begun_then m.If (choosing p) (choosing_rest p s) i j t e h
 stmt_case p s (Is m.While) i j t e h = begun_then m.While (repeating p) (repeating_rest p s) i j t e h
 stmt_case p s (Is m.Waitany) i j t e h = absurd (not_in_version i (t, j) h)
-stmt_case p s (Is k) i j t e h = form_case k (form_of k) i j t e h
+stmt_case p s (Is k) i j t e h = form_case k (form_of k) i j t e refl h
 stmt_case p s _ i j t e h = absurd (cc)
 
-pub stmt_sound : (p : Parser (List Tree)) → IsSoundBlock p → (i j : Input) (t : Tree) → stmt p i ≡ Ok (t, j) → TakesTree t i j
+pub stmt_sound : (p : Parser (List Tree)) → IsSoundBlock p → (i j : Input) (t : Tree) → stmt p i ≡ Ok (t, j) → TreeBetween t i j
 unfolding stmt
 stmt_sound p s i j t h = stmt_case p s (token i) i j t refl h
 
@@ -272,7 +277,7 @@ stmt_sound p s i j t h = stmt_case p s (token i) i j t refl h
 record Found (found ts : List Tree) (i j : Input) : Type 0 where
   pub more : List Tree
   pub all : ts ≡ found ++ more
-  pub takes : TakesBody more i j
+  pub takes : BodyBetween more i j
 
 none_more : (found ts : List Tree) (i j : Input) → found ≡ ts → i ≡ j → Found found ts i j
 none_more found ts i j a b = record {
@@ -294,7 +299,7 @@ OneBody ts ds ss ls = WrittenBody ds ss ts ls
 abbrev OneTree : Tree → List Declared → List Spot → List ℕ → Type 0
 OneTree t ds ss ls = WrittenTree ds ss t ls
 
-one_more : (found ts : List Tree) (t : Tree) (i x j : Input) → TakesTree t i x → Found (found ++ t ∷ []) ts x j → Found found ts i j
+one_more : (found ts : List Tree) (t : Tree) (i x j : Input) → TreeBetween t i x → Found (found ++ t ∷ []) ts x j → Found found ts i j
 one_more found ts t i x j a b =
     let both = then_lines a.used b.takes.used a.begun b.takes.begun i x j (lines_of (OneTree t) i x a) (lines_of (OneBody b.more) x j b.takes) in
     record {
@@ -324,13 +329,13 @@ stmts_sound p s inside zero found ts i j h = absurd (cc)
 stmts_sound p s inside (suc n) found ts i j h =
     stmts_case p s inside n found ts i j (closes inside (token i)) (λ f us x y e. stmts_sound p s inside n f us x y e) h
 
-body_sound : (p : Parser (List Tree)) → IsSoundBlock p → (inside : Bool) (i j : Input) (ts : List Tree) → body p inside i ≡ Ok (ts, j) → TakesBody ts i j
+body_sound : (p : Parser (List Tree)) → IsSoundBlock p → (inside : Bool) (i j : Input) (ts : List Tree) → body p inside i ≡ Ok (ts, j) → BodyBetween ts i j
 unfolding body
 body_sound p s inside i j ts h =
     let f = stmts_sound p s inside (length i.tokens + 1) [] ts i j h in
     rw f.all f.takes
 
-in_braces : (ts : List Tree) (i a b j : Input) → (o : Step i a) → o.spot.token ≡ Is m.BraceOpen → TakesBody ts a b → (c : Step b j) → c.spot.token ≡ Is m.BraceClose → TakesBlock ts i j
+in_braces : (ts : List Tree) (i a b j : Input) → (o : Step i a) → o.spot.token ≡ Is m.BraceOpen → BodyBetween ts a b → (c : Step b j) → c.spot.token ≡ Is m.BraceClose → BlockBetween ts i j
 in_braces ts i a b j o p x c q =
     let inner = then_lines x.used (c.spot ∷ []) x.begun [] a b j (lines_of (OneBody ts) a b x) (moves_lines (c.spot ∷ []) b j c.moves) in
     let all = then_lines (o.spot ∷ []) (x.used ++ c.spot ∷ []) [] (x.begun ++ []) i a j (moves_lines (o.spot ∷ []) i a o.moves) inner in
@@ -361,8 +366,8 @@ block_sound (suc n) i j ts h =
     let o = ok_parts (b.0.0, c.0.1) (ts, j) c.2 in
     let x = expect_step m.BraceOpen i a.0 a.1 in
     let y = expect_step m.BraceClose b.0.1 c.0 c.1 in
-    carried (λ us k. TakesBlock us i k) _ _ _ _ o.0 o.1
+    carried (λ us k. BlockBetween us i k) _ _ _ _ o.0 o.1
     (in_braces b.0.0 i a.0.1 b.0.1 c.0.1 x.0 x.1 (body_sound (block n) (block_sound n) true a.0.1 b.0.1 b.0.0 b.1) y.0 y.1)
 
-pub statements_sound : (depth : ℕ) (inside : Bool) (i j : Input) (ts : List Tree) → body (block depth) inside i ≡ Ok (ts, j) → TakesBody ts i j
+pub statements_sound : (depth : ℕ) (inside : Bool) (i j : Input) (ts : List Tree) → body (block depth) inside i ≡ Ok (ts, j) → BodyBetween ts i j
 statements_sound depth = body_sound (block depth) (block_sound depth)

@@ -4,10 +4,10 @@ use Rattle.mpd_model.specs.declared.place.DeclKind.TheVariants.{Variable}
 use Rattle.mpd_model.specs.declared.token.Mark.TheVariants as m
 use Rattle.mpd_model.specs.Declaration.{Declared}
 use Rattle.mpd_model.specs.Grammar.{closes, stmt, stmts, body, block, decl, decls, decls_from}
-use Rattle.mpd_model.specs.Input.{Input, Outcome, Parser, and_then, token, next, sees, after, pure, ◌>>=◌, ◌>>◌}
+use Rattle.mpd_model.specs.Input.{Input, Outcome, Parser, and_then, token, advanced, sees, after, pure, ◌>>=◌, ◌>>◌}
 use Rattle.mpd_model.specs.Tokens.{Spot}
 use Rattle.mpd_model.specs.Tree.{Tree}
-use Rattle.mpd_model.specs.Written.{WrittenTree, simply, repeats, chooses, chooses_else, TakesTree}
+use Rattle.mpd_model.specs.Written.{WrittenTree, simply, repeats, chooses, chooses_else, TreeBetween}
 use Rattle.mpd_laws.proofs.Sound.{Step, next_step, sees_is}
 use Rattle.mpd_laws.proofs.SoundScript.{Declares, decl_ok}
 use Rattle.mpd_laws.proofs.SoundStatements.{block_sound, stmt_sound}
@@ -23,7 +23,7 @@ some_token ds ss t ls (repeats k e a v x ms h1 h2 b) = omega arith
 some_token ds ss t ls (chooses k e a v x ms h1 h2 b) = omega arith
 some_token ds ss t ls (chooses_else k w e a b v x y ms ns h1 h2 f h3 g) = omega arith
 
-tree_shorter : (t : Tree) (i j : Input) → TakesTree t i j → length j.tokens < length i.tokens
+tree_shorter : (t : Tree) (i j : Input) → TreeBetween t i j → length j.tokens < length i.tokens
 tree_shorter t i j x = omega (arith, some_token i.decls x.used t x.begun x.written, length-append x.used j.tokens, ap length x.is)
 
 stmts_turn : (depth : ℕ) (inside : Bool) (n : ℕ) (found : List Tree) (i : Input) (ends : Bool)
@@ -46,11 +46,11 @@ decl_shorter : (i x y : Input) → Step i x → Declares x y → length y.tokens
 decl_shorter i x y s d = omega (arith, ap length s.moves.is, ap length d.is, length-append d.used y.tokens)
 
 decls_turn : (n : ℕ) (found : Bool) (i : Input) → sees m.Var i ≡ found → ((x : Input) → length x.tokens < length i.tokens → decls_from n x ≡ decls_from (suc n) x)
-    → cond found (decl Variable >> decls_from n) (pure tt) (cond found (next i) i) ≡ cond found (decl Variable >> decls_from (suc n)) (pure tt) (cond found (next i) i)
+    → cond found (decl Variable >> decls_from n) (pure tt) (cond found (advanced i) i) ≡ cond found (decl Variable >> decls_from (suc n)) (pure tt) (cond found (advanced i) i)
 decls_turn n true i e more =
     let is = sees_is m.Var i e in
-    let s = next_step i (next i) (λ z. absurd (cc)) refl in
-    bind_same (decl Variable (next i)) _ _ (λ y d. more y.1 (decl_shorter i (next i) y.1 s (decl_ok (next i) y d)))
+    let s = next_step i (advanced i) (λ z. absurd (cc)) refl in
+    bind_same (decl Variable (advanced i)) _ _ (λ y d. more y.1 (decl_shorter i (advanced i) y.1 s (decl_ok (advanced i) y d)))
 decls_turn n false i e more = refl
 
 pub decls_enough : (n : ℕ) (i : Input) → length i.tokens < n → decls_from n i ≡ decls_from (suc n) i

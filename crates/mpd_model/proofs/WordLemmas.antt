@@ -1,7 +1,7 @@
 -- Words, cut off one by one.
 use Rattle.std.proofs.Common.{◌≡◌, ℕ, zero, suc, ◌<◌, ◌≤◌, ◌≢◌, Bool, true, false, not, List, [], ◌∷◌, length, take, drop, if◌then◌else◌, Option, Some, None, refl, ap, sym, ◌∙◌, arith}
 use Rattle.std.specs.Prelude.{filter, option_map}
-use Rattle.mpd_model.specs.Words.{is_blank, is_no_blank, is_dot, stop_len, with_byte, joined, pieces, has_some, words, cut_at_dot, number_of, call_with, call_of}
+use Rattle.mpd_model.specs.Words.{is_blank, is_no_blank, is_dot, stop_len, with_byte, put_before, pieces, has_some, words, cut_at_dot, number_of, call_with, call_of}
 
 -- ---- the first piece
 
@@ -16,7 +16,7 @@ with_first b p (q ∷ qs) e = cc
 pieces_first : (z : List ℕ) → pieces z ≡ take (stop_len is_blank z) z ∷ behind (pieces z)
 pieces_first [] = refl
 pieces_first (b ∷ z) =
-    elim (is_blank b) as (λ v. joined v b (pieces z) ≡ take (if v then 0 else suc (stop_len is_blank z)) (b ∷ z) ∷ behind (joined v b (pieces z)))
+    elim (is_blank b) as (λ v. put_before v b (pieces z) ≡ take (if v then 0 else suc (stop_len is_blank z)) (b ∷ z) ∷ behind (put_before v b (pieces z)))
     [ true ↦ refl | false ↦ with_first b (take (stop_len is_blank z) z) (pieces z) (pieces_first z) ]
 
 with_behind : (b : ℕ) (p : List ℕ) (x : List (List ℕ)) → x ≡ p ∷ behind x → behind (with_byte b x) ≡ behind x
@@ -24,7 +24,7 @@ with_behind b p [] e = absurd (let h : ⊥ = cc in h)
 with_behind b p (q ∷ qs) e = refl
 
 words_behind_at : (v : Bool) (b : ℕ) (z : List ℕ) → is_blank b ≡ v → filter (has_some {A = ℕ}) (behind (pieces z)) ≡ words (drop (stop_len is_blank z) z)
-    → filter (has_some {A = ℕ}) (behind (joined v b (pieces z))) ≡ words (drop (if v then 0 else suc (stop_len is_blank z)) (b ∷ z))
+    → filter (has_some {A = ℕ}) (behind (put_before v b (pieces z))) ≡ words (drop (if v then 0 else suc (stop_len is_blank z)) (b ∷ z))
 words_behind_at true b z e h = rw e refl
 words_behind_at false b z e h = rw (with_behind b _ (pieces z) (pieces_first z)) h
 

@@ -64,16 +64,16 @@ abbrev pub turns : ℕ → Input → ℕ
 turns k i = if k == 3 then 1 else i.budget + 1
 
 -- an operand, and then operators of the level with an operand to the right of each, grouped to the left
-abbrev pub joined : (Term → Parser Term) → Parser Term → Term → Option BinaryOp → Parser Term
-joined more operand left None = pure left
-joined more operand left (Some op) = do
+abbrev pub continued : (Term → Parser Term) → Parser Term → Term → Option BinaryOp → Parser Term
+continued more operand left None = pure left
+continued more operand left (Some op) = do
   spend
   right ← operand
   more (op2 op left right)
 
 unfoldable pub chain : Parser Term → ℕ → ℕ → Term → Parser Term
 chain operand k zero left = pure left
-chain operand k (suc n) left = peek >>= λ t. joined (chain operand k n) operand left (operator_at k t)
+chain operand k (suc n) left = peek >>= λ t. continued (chain operand k n) operand left (operator_at k t)
 
 abbrev pub place_of_slot : Slot → Place
 place_of_slot s = record { declaration = s.declaration; first = s.first; cells = cells_of s.size }
@@ -208,7 +208,7 @@ EndsTerm (mark_hole k ∷ hs) = operator (Is k) ≡ None
 EndsTerm (status_hole ∷ hs) = EndsTerm hs
 EndsTerm _ = ⊥
 
--- nor does a `status` follow that is none of the holes before
+-- Where the hole of a status is left empty, no `status` comes next.
 abbrev pub EndsStatus : List Hole → Type 0
 EndsStatus [] = Unit {0}
 EndsStatus (mark_hole k ∷ hs) = same_mark k m.Status ≡ false
@@ -224,35 +224,39 @@ AreClear (source_hole ∷ hs) = EndsTerm hs × AreClear hs
 AreClear (status_hole ∷ hs) = EndsStatus hs × AreClear hs
 
 -- the statements of one word: the holes behind it, and what is made of what fills them
-pub record Form (k : Mark) : Type 0 where
+pub record Form : Type 0 where
+  pub word : Mark
   pub holes : List Hole
   pub made : Contents holes → Simple
-  pub parts : (c : Contents holes) → parts_of (made c) ≡ of_mark k ∷ filled holes c
+  pub parts : (c : Contents holes) → parts_of (made c) ≡ of_mark word ∷ filled holes c
   pub clear : AreClear holes
 
-abbrev pub print_form : Form m.Print
-print_form = record { holes = term_hole ∷ []; made = λ c. st.Print c.0; parts = λ c. refl; clear = (tt, tt) }
+abbrev pub print_form : Form
+print_form = record { word = m.Print; holes = term_hole ∷ []; made = λ c. st.Print c.0; parts = λ c. refl; clear = (tt, tt) }
 
-abbrev pub assert_form : Form m.Assert
-assert_form = record { holes = term_hole ∷ []; made = λ c. st.Assert c.0; parts = λ c. refl; clear = (tt, tt) }
+abbrev pub assert_form : Form
+assert_form = record { word = m.Assert; holes = term_hole ∷ []; made = λ c. st.Assert c.0; parts = λ c. refl; clear = (tt, tt) }
 
-abbrev pub send_form : Form m.Send
+abbrev pub send_form : Form
 send_form = record {
+  word = m.Send;
   holes = term_hole ∷ mark_hole m.To ∷ term_hole ∷ mark_hole m.Tag ∷ term_hole ∷ [];
   made = λ c. st.Send (record { value = c.0; to = c.1.0; tag = c.1.1.0 });
   parts = λ c. refl;
   clear = (refl, (refl, (tt, tt)));
 }
 
-abbrev pub recv_form : Form m.Recv
+abbrev pub recv_form : Form
 recv_form = record {
+  word = m.Recv;
   holes = target_hole ∷ mark_hole m.From ∷ term_hole ∷ mark_hole m.Tag ∷ term_hole ∷ [];
   made = λ c. st.Recv (record { into = c.0; from = c.1.0; tag = c.1.1.0 });
   parts = λ c. refl;
   clear = (refl, (tt, tt));
 }
 
-abbrev pub form_of : (k : Mark) → Option (Form k)
+-- the form of a word
+abbrev pub form_of : Mark → Option Form
 form_of m.Print = Some print_form
 form_of m.Assert = Some assert_form
 form_of m.Send = Some send_form
@@ -260,10 +264,10 @@ form_of m.Recv = Some recv_form
 form_of _ = None
 
 -- what stands behind the word
-abbrev pub formed : {k : Mark} → Form k → Parser Tree
+abbrev pub formed : Form → Parser Tree
 formed f = fill f.holes (λ c. simple (f.made c))
 
-abbrev pub by_form : {k : Mark} → Option (Form k) → Parser Tree
+abbrev pub by_form : Option Form → Parser Tree
 by_form None = refuse
 by_form (Some f) = begun >> formed f
 
@@ -273,9 +277,8 @@ assigning s = outside (place_of_slot s) s.size >>= λ t. fill (mark_hole m.Assig
 
 -- each statement that holds no other is an assignment or has its form
 pub record HasForm (s : Simple) : Type 0 where
-  pub mark : Mark
-  pub form : Form mark
-  pub found : form_of mark ≡ Some form
+  pub form : Form
+  pub found : form_of form.word ≡ Some form
   pub contents : Contents form.holes
   pub is : form.made contents ≡ s
 
@@ -284,11 +287,11 @@ IsFormed (st.Assign s) = Unit {0}
 IsFormed s = HasForm s
 
 pub all_formed : (s : Simple) → IsFormed s
-all_formed (st.Print e) = record { mark = m.Print; form = print_form; found = refl; contents = (e, tt); is = refl }
+all_formed (st.Print e) = record { form = print_form; found = refl; contents = (e, tt); is = refl }
 all_formed (st.Assign s) = tt
-all_formed (st.Assert e) = record { mark = m.Assert; form = assert_form; found = refl; contents = (e, tt); is = refl }
-all_formed (st.Send s) = record { mark = m.Send; form = send_form; found = refl; contents = (s.value, (s.to, (s.tag, tt))); is = refl }
-all_formed (st.Recv s) = record { mark = m.Recv; form = recv_form; found = refl; contents = (s.into, (s.from, (s.tag, tt))); is = refl }
+all_formed (st.Assert e) = record { form = assert_form; found = refl; contents = (e, tt); is = refl }
+all_formed (st.Send s) = record { form = send_form; found = refl; contents = (s.value, (s.to, (s.tag, tt))); is = refl }
+all_formed (st.Recv s) = record { form = recv_form; found = refl; contents = (s.into, (s.from, (s.tag, tt))); is = refl }
 
 -- ---- any statement
 

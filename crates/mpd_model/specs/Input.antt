@@ -59,9 +59,9 @@ abbrev pub place_of : ℕ → List Spot → ℕ
 place_of end [] = end
 place_of end (s ∷ ss) = s.place
 
-abbrev pub line_of : List Spot → ℕ
-line_of [] = 0
-line_of (s ∷ ss) = s.line
+abbrev pub first_line : List Spot → ℕ
+first_line [] = 0
+first_line (s ∷ ss) = s.line
 
 abbrev pub behind : List Spot → List Spot
 behind [] = []
@@ -76,8 +76,8 @@ spelling i = text_of i.tokens
 unfoldable pub place : Input → ℕ
 place i = place_of i.end i.tokens
 
-unfoldable pub next : Input → Input
-next i = record i { tokens = behind i.tokens }
+unfoldable pub advanced : Input → Input
+advanced i = record i { tokens = behind i.tokens }
 
 -- ---- parsers: what was read and the input behind it, or the leftmost fault
 
@@ -122,7 +122,7 @@ abbrev pub peek : Parser Token
 peek = λ i. Ok (token i, i)
 
 abbrev pub advance : Parser (Unit {0})
-advance = λ i. Ok (tt, next i)
+advance = λ i. Ok (tt, advanced i)
 
 -- `==` on signs and words
 unfoldable pub same_mark : Mark → Mark → Bool
@@ -136,14 +136,14 @@ unfoldable pub sees : Mark → Input → Bool
 sees wanted i = is_mark wanted (token i)
 
 unfoldable pub after : Mark → Input → Input
-after wanted i = if sees wanted i then next i else i
+after wanted i = if sees wanted i then advanced i else i
 
 -- takes the mark, if it comes next
 abbrev pub eat : Mark → Parser Bool
 eat wanted = λ i. Ok (sees wanted i, after wanted i)
 
 unfoldable pub expect : Mark → Parser (Unit {0})
-expect wanted = λ i. if sees wanted i then Ok (tt, next i) else refuse i
+expect wanted = λ i. if sees wanted i then Ok (tt, advanced i) else refuse i
 
 -- ---- what is counted
 
@@ -156,14 +156,14 @@ begin = λ i. Ok (tt, record i { budget = max_budget })
 
 -- takes a bracket or an operator
 unfoldable pub spend : Parser (Unit {0})
-spend = λ i. if i.budget == 0 then fail TooDeep i else Ok (tt, record (next i) { budget = i.budget - 1 })
+spend = λ i. if i.budget == 0 then fail TooDeep i else Ok (tt, record (advanced i) { budget = i.budget - 1 })
 
 abbrev pub max_statements : ℕ
 max_statements = STATEMENTS_MAX
 
 -- a statement begins at the next token
 unfoldable pub count : Parser (Unit {0})
-count = λ i. if nat_lt (length i.lines) max_statements then Ok (tt, record i { lines = i.lines ++ line_of i.tokens ∷ [] }) else fail TooMany i
+count = λ i. if nat_lt (length i.lines) max_statements then Ok (tt, record i { lines = i.lines ++ first_line i.tokens ∷ [] }) else fail TooMany i
 
 -- ---- names
 
@@ -202,13 +202,13 @@ is_known (Some s) = true
 unfoldable pub fresh : Parser (Unit {0})
 fresh = λ i. if is_known (slot_in i.decls (spelling i)) then fail Twice i else Ok (tt, i)
 
-abbrev pub fits : DeclKind → Option ℕ → List Declared → Bool
-fits kind size ds = nat_le (variables_in ds + variable_cells kind size) CELLS_MAX && nat_le (handles_in ds + handle_cells kind size) HANDLES_MAX
+abbrev pub cells_fit : DeclKind → Option ℕ → List Declared → Bool
+cells_fit kind size ds = nat_le (variables_in ds + variable_cells kind size) CELLS_MAX && nat_le (handles_in ds + handle_cells kind size) HANDLES_MAX
 
 -- declares a name, or a fault at a place
 unfoldable pub add : DeclKind → List ℕ → Option ℕ → ℕ → Parser (Unit {0})
 add kind name size at = λ i.
-    if fits kind size i.decls then Ok (tt, record i { decls = i.decls ++ record { kind = kind; name = name; size = size } ∷ [] }) else Err (fault TooMany at)
+    if cells_fit kind size i.decls then Ok (tt, record i { decls = i.decls ++ record { kind = kind; name = name; size = size } ∷ [] }) else Err (fault TooMany at)
 
 -- ---- what a function that parses ensures: the parser's outcome, unless memory is refused
 

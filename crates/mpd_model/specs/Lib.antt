@@ -18,7 +18,7 @@ pub mod Input
 pub mod Grammar
 pub mod Written
 pub mod Canonical
-pub mod Fits
+pub mod Costs
 pub mod ReaderLaws
 pub mod Printable
 pub mod Lines

@@ -7,7 +7,7 @@ use Rattle.mpd_model.specs.declared.slot.Slot.{Slot}
 use Rattle.mpd_model.specs.declared.token.Token.TheVariants.{Name}
 use Rattle.mpd_model.specs.Canonical.{name_text, below, canonical}
 use Rattle.mpd_model.specs.Declaration.{Declared}
-use Rattle.mpd_model.specs.Fits.{cost, blocks_in}
+use Rattle.mpd_model.specs.Costs.{cost, blocks_in}
 use Rattle.mpd_model.specs.Grammar.{place_of_slot, max_blocks, max_text, reading}
 use Rattle.mpd_model.specs.Input.{slot_in, max_budget}
 use Rattle.mpd_model.specs.Program.{Program, IsLegal}
@@ -15,7 +15,7 @@ use Rattle.mpd_model.specs.Term.{Term, lit, own_rank, size, cell, element, op1, 
 use Rattle.mpd_model.specs.Tokens.{begins_name, is_in_name, word, Spot}
 use Rattle.mpd_model.specs.Parts.{Part, of_mark, of_term, of_target, parts_of}
 use Rattle.mpd_model.specs.Tree.{Tree, Block, simple, branch, repeat, no_more, then_more, block_of}
-use Rattle.mpd_model.specs.Written.{left_level, Written}
+use Rattle.mpd_model.specs.Written.{left_level, WrittenTerm}
 
 -- ---- names
 
@@ -41,7 +41,7 @@ AreNew before [] = Unit {0}
 AreNew before (d ∷ ds) = (slot_in before d.name ≡ None) × AreNew (before ++ d ∷ []) ds
 
 -- the place is what the name of its declaration stands for: a variable that was declared with or without a size
-pub record Stands (ds : List Declared) (sized : Bool) (p : Place) : Type 0 where
+pub record HasName (ds : List Declared) (sized : Bool) (p : Place) : Type 0 where
   pub named : IsName (name_text ds p)
   pub slot : Slot
   pub declared : slot_in ds (name_text ds p) ≡ Some slot
@@ -60,8 +60,8 @@ abbrev pub IsPrintableTerm : List Declared → Term → Type 0
 IsPrintableTerm ds (lit z) = IsWritable z
 IsPrintableTerm ds own_rank = Unit {0}
 IsPrintableTerm ds size = Unit {0}
-IsPrintableTerm ds (cell p) = Stands ds false p
-IsPrintableTerm ds (element p a) = Stands ds true p × IsPrintableTerm ds a
+IsPrintableTerm ds (cell p) = HasName ds false p
+IsPrintableTerm ds (element p a) = HasName ds true p × IsPrintableTerm ds a
 IsPrintableTerm ds (op1 op a) = IsPrintableTerm ds a
 IsPrintableTerm ds (op2 op a b) = IsPrintableTerm ds a × IsPrintableTerm ds b
 
@@ -88,8 +88,8 @@ pub record IsPrintableWhole (ds : List Declared) (t : Term) : Type 0 where
 
 -- an index stands exactly where the place was declared with a size
 abbrev pub IsPrintableAt : List Declared → Place → Option Term → Type 0
-IsPrintableAt ds p None = Stands ds false p
-IsPrintableAt ds p (Some e) = Stands ds true p × IsPrintableWhole ds e
+IsPrintableAt ds p None = HasName ds false p
+IsPrintableAt ds p (Some e) = HasName ds true p × IsPrintableWhole ds e
 
 abbrev pub IsPrintableTarget : List Declared → Target → Type 0
 IsPrintableTarget ds t = IsPrintableAt ds t.place t.index
@@ -133,4 +133,4 @@ ReadScriptsArePrintable = (text : List ℕ) (p : Program) → reading text ≡ O
 
 -- Parentheses stand only where the grammar needs them: no way to write an expression has fewer brackets and operators than its canonical text.
 abbrev pub FewestBrackets : Type 0
-FewestBrackets = (ds : List Declared) (k : ℕ) (ss : List Spot) (t : Term) → Written ds k ss t → term_cost k t ≤ cost ss
+FewestBrackets = (ds : List Declared) (k : ℕ) (ss : List Spot) (t : Term) → WrittenTerm ds k ss t → term_cost k t ≤ cost ss

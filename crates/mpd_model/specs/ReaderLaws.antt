@@ -1,7 +1,7 @@
 -- What holds of the grammar's parsers, whatever they are given.
 use Rattle.std.specs.Prelude.{◌≡◌, ◌≢◌, ℕ, suc, ◌+◌, ◌-◌, ◌<◌, ◌≤◌, Bool, true, false, List, ◌++◌, length, Ok, Err}
 use Rattle.std.specs.List.{prefix_len}
-use Rattle.mpd_model.specs.Fits.{cost, Stops, at, Gives, blocks, blocks_in, dearest, dearest_block, dearest_body, dearest_script}
+use Rattle.mpd_model.specs.Costs.{cost, Stops, at, Gives, blocks, blocks_in, dearest, dearest_block, dearest_body, dearest_script}
 use Rattle.mpd_model.specs.Grammar.{expr, closes, stmt, stmts, body, block, decls_from, max_blocks, max_text, is_text, reading}
 use Rattle.mpd_model.specs.declared.read_fault.FaultCode.TheVariants.{TooDeep, Memory}
 use Rattle.mpd_model.specs.declared.read_fault.ReadFault.{ReadFault}
@@ -11,15 +11,15 @@ use Rattle.mpd_model.specs.Program.{Program, IsLegal}
 use Rattle.mpd_model.specs.Term.{Term}
 use Rattle.mpd_model.specs.Tokens.{Spot, tokens}
 use Rattle.mpd_model.specs.Tree.{Tree, block_of}
-use Rattle.mpd_model.specs.Written.{Written, Takes, TakesBody, WrittenTree, WrittenBlock, WrittenBody, WrittenScript}
+use Rattle.mpd_model.specs.Written.{WrittenTerm, TermBetween, BodyBetween, WrittenTree, WrittenBlock, WrittenBody, WrittenScript}
 
 -- What is read as an expression is written so.
 abbrev pub ExpressionsAreWritten : Type 0
-ExpressionsAreWritten = (depth level : ℕ) (i j : Input) (t : Term) → expr depth level i ≡ Ok (t, j) → Takes level t i j
+ExpressionsAreWritten = (depth level : ℕ) (i j : Input) (t : Term) → expr depth level i ≡ Ok (t, j) → TermBetween level t i j
 
 -- What is read as statements is written so, with the line of each.
 abbrev pub StatementsAreWritten : Type 0
-StatementsAreWritten = (depth : ℕ) (inside : Bool) (i j : Input) (ts : List Tree) → body (block depth) inside i ≡ Ok (ts, j) → TakesBody ts i j
+StatementsAreWritten = (depth : ℕ) (inside : Bool) (i j : Input) (ts : List Tree) → body (block depth) inside i ≡ Ok (ts, j) → BodyBetween ts i j
 
 -- An expression never runs out of depth: each one inside another takes one of the budget, so more depth than that changes nothing.
 abbrev pub DepthIsEnough : Type 0
@@ -62,7 +62,7 @@ TurnsAreEnough =
 -- What is written as an expression is read as that, where the budget is enough for its brackets and operators and no operator goes on behind it.
 abbrev pub WrittenExpressionsAreRead : Type 0
 WrittenExpressionsAreRead =
-    (depth level : ℕ) (ss rest : List Spot) (t : Term) (i : Input) → Written i.decls level ss t → i.tokens ≡ ss ++ rest → Stops level rest → cost ss ≤ i.budget → i.budget < depth
+    (depth level : ℕ) (ss rest : List Spot) (t : Term) (i : Input) → WrittenTerm i.decls level ss t → i.tokens ≡ ss ++ rest → Stops level rest → cost ss ≤ i.budget → i.budget < depth
     → expr depth level i ≡ Ok (t, at rest (i.budget - cost ss) i)
 
 -- What is written as a statement is read as that, where each expression is within the budget, no more blocks are open at once and no more statements begin than may. No `else` follows: it would go on with an `if`.

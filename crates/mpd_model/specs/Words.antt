@@ -29,14 +29,14 @@ abbrev pub with_byte : ℕ → List (List ℕ) → List (List ℕ)
 with_byte b [] = (b ∷ []) ∷ []
 with_byte b (piece ∷ pieces) = (b ∷ piece) ∷ pieces
 
-abbrev pub joined : Bool → ℕ → List (List ℕ) → List (List ℕ)
-joined true b pieces = [] ∷ pieces
-joined false b pieces = with_byte b pieces
+abbrev pub put_before : Bool → ℕ → List (List ℕ) → List (List ℕ)
+put_before true b pieces = [] ∷ pieces
+put_before false b pieces = with_byte b pieces
 
 -- the pieces before, between and behind the blanks
 abbrev pub pieces : List ℕ → List (List ℕ)
 pieces [] = [] ∷ []
-pieces (b ∷ z) = joined (is_blank b) b (pieces z)
+pieces (b ∷ z) = put_before (is_blank b) b (pieces z)
 
 abbrev pub has_some : {A : Type 0} → List A → Bool
 has_some [] = false

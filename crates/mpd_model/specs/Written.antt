@@ -11,7 +11,7 @@ use Rattle.mpd_model.specs.declared.token.Mark.TheVariants as m
 use Rattle.mpd_model.specs.declared.token.Token.TheVariants.{Number, Name, Is}
 use Rattle.mpd_model.specs.Declaration.{Declared}
 use Rattle.mpd_model.specs.Grammar.{operator_at, sign, place_of_slot}
-use Rattle.mpd_model.specs.Input.{Input, Parser, slot_in, line_of}
+use Rattle.mpd_model.specs.Input.{Input, Parser, slot_in, first_line}
 use Rattle.mpd_model.specs.Program.{Program}
 use Rattle.mpd_model.specs.Term.{Term, lit, own_rank, size, cell, element, op1, op2, Target}
 use Rattle.mpd_model.specs.Tokens.{Spot}
@@ -33,44 +33,44 @@ pub record Names (ds : List Declared) (s : Spot) (sized : Bool) (p : Place) : Ty
 abbrev pub left_level : ℕ → ℕ
 left_level k = if k == 2 then 2 else suc k
 
-pub data Written (ds : List Declared) : ℕ → List Spot → Term → Type 0 where
-  number : (s : Spot) (n : ℤ) → s.token ≡ Number n → Written ds 0 (s ∷ []) (lit n)
-  rank : (s : Spot) → s.token ≡ Is m.Rank → Written ds 0 (s ∷ []) own_rank
-  ranks : (s : Spot) → s.token ≡ Is m.Size → Written ds 0 (s ∷ []) size
-  name : (s : Spot) (p : Place) → Names ds s false p → Written ds 0 (s ∷ []) (cell p)
+pub data WrittenTerm (ds : List Declared) : ℕ → List Spot → Term → Type 0 where
+  number : (s : Spot) (n : ℤ) → s.token ≡ Number n → WrittenTerm ds 0 (s ∷ []) (lit n)
+  rank : (s : Spot) → s.token ≡ Is m.Rank → WrittenTerm ds 0 (s ∷ []) own_rank
+  ranks : (s : Spot) → s.token ≡ Is m.Size → WrittenTerm ds 0 (s ∷ []) size
+  name : (s : Spot) (p : Place) → Names ds s false p → WrittenTerm ds 0 (s ∷ []) (cell p)
   entry : (s a b : Spot) (ss : List Spot) (p : Place) (t : Term) → Names ds s true p → a.token ≡ Is m.SquareOpen → b.token ≡ Is m.SquareClose
-      → Written ds 5 ss t → Written ds 0 (s ∷ a ∷ ss ++ b ∷ []) (element p t)
+      → WrittenTerm ds 5 ss t → WrittenTerm ds 0 (s ∷ a ∷ ss ++ b ∷ []) (element p t)
   round : (a b : Spot) (ss : List Spot) (t : Term) → a.token ≡ Is m.RoundOpen → b.token ≡ Is m.RoundClose
-      → Written ds 5 ss t → Written ds 0 (a ∷ ss ++ b ∷ []) t
-  signs : (s : Spot) (ss : List Spot) (op : UnaryOp) (t : Term) → sign s.token ≡ Some op → Written ds 0 ss t → Written ds 0 (s ∷ ss) (op1 op t)
-  higher : (k : ℕ) (ss : List Spot) (t : Term) → Written ds k ss t → Written ds (suc k) ss t
+      → WrittenTerm ds 5 ss t → WrittenTerm ds 0 (a ∷ ss ++ b ∷ []) t
+  signs : (s : Spot) (ss : List Spot) (op : UnaryOp) (t : Term) → sign s.token ≡ Some op → WrittenTerm ds 0 ss t → WrittenTerm ds 0 (s ∷ ss) (op1 op t)
+  higher : (k : ℕ) (ss : List Spot) (t : Term) → WrittenTerm ds k ss t → WrittenTerm ds (suc k) ss t
   joins : (k : ℕ) (l r : List Spot) (o : Spot) (op : BinaryOp) (a b : Term) → operator_at (suc k) o.token ≡ Some op
-      → Written ds (left_level k) l a → Written ds k r b → Written ds (suc k) (l ++ o ∷ r) (op2 op a b)
+      → WrittenTerm ds (left_level k) l a → WrittenTerm ds k r b → WrittenTerm ds (suc k) (l ++ o ∷ r) (op2 op a b)
 
 -- the tokens between two states of the input write the term, and nothing else has changed
-pub record Takes (k : ℕ) (t : Term) (i j : Input) : Type 0 where
+pub record TermBetween (k : ℕ) (t : Term) (i j : Input) : Type 0 where
   pub used : List Spot
   pub is : i.tokens ≡ used ++ j.tokens
-  pub written : Written i.decls k used t
+  pub written : WrittenTerm i.decls k used t
   pub decls : j.decls ≡ i.decls
   pub lines : j.lines ≡ i.lines
 
 -- a parser that reads only what is written at a level
 abbrev pub IsSound : ℕ → Parser Term → Type 0
-IsSound k p = (i j : Input) (t : Term) → p i ≡ Ok (t, j) → Takes k t i j
+IsSound k p = (i j : Input) (t : Term) → p i ≡ Ok (t, j) → TermBetween k t i j
 
 -- ---- statements, with the line of each: that of its first token, in text order
 
 -- a place that a statement writes: behind the name of an array stands its index, an expression of its own
 pub data WrittenTarget (ds : List Declared) : List Spot → Target → Type 0 where
   whole : (s : Spot) (p : Place) → Names ds s false p → WrittenTarget ds (s ∷ []) (record { place = p; index = None })
-  part : (s a b : Spot) (ss : List Spot) (p : Place) (t : Term) → Names ds s true p → a.token ≡ Is m.SquareOpen → Written ds 5 ss t → b.token ≡ Is m.SquareClose
+  part : (s a b : Spot) (ss : List Spot) (p : Place) (t : Term) → Names ds s true p → a.token ≡ Is m.SquareOpen → WrittenTerm ds 5 ss t → b.token ≡ Is m.SquareClose
       → WrittenTarget ds (s ∷ a ∷ ss ++ b ∷ []) (record { place = p; index = Some t })
 
 -- a part of a statement that holds no other
 pub data WrittenPart (ds : List Declared) : List Spot → Part → Type 0 where
   by_mark : (s : Spot) (k : Mark) → s.token ≡ Is k → WrittenPart ds (s ∷ []) (of_mark k)
-  by_term : (ss : List Spot) (t : Term) → Written ds 5 ss t → WrittenPart ds ss (of_term t)
+  by_term : (ss : List Spot) (t : Term) → WrittenTerm ds 5 ss t → WrittenPart ds ss (of_term t)
   by_target : (ss : List Spot) (t : Target) → WrittenTarget ds ss t → WrittenPart ds ss (of_target t)
 
 pub data WrittenParts (ds : List Declared) : List Spot → List Part → Type 0 where
@@ -81,15 +81,15 @@ mutual
   pub data WrittenTree (ds : List Declared) : List Spot → Tree → List ℕ → Type 0 where
     simply : (ss : List Spot) (end : Spot) (s : Simple)
         → WrittenParts ds ss (parts_of s) → end.token ≡ Is m.Semicolon
-        → WrittenTree ds (ss ++ end ∷ []) (simple s) (line_of ss ∷ [])
+        → WrittenTree ds (ss ++ end ∷ []) (simple s) (first_line ss ∷ [])
     repeats : (k : Spot) (e a : List Spot) (t : Term) (x : List Tree) (ls : List ℕ)
-        → k.token ≡ Is m.While → Written ds 5 e t → WrittenBlock ds a x ls
+        → k.token ≡ Is m.While → WrittenTerm ds 5 e t → WrittenBlock ds a x ls
         → WrittenTree ds (k ∷ e ++ a) (repeat t (block_of x)) (k.line ∷ ls)
     chooses : (k : Spot) (e a : List Spot) (t : Term) (x : List Tree) (ls : List ℕ)
-        → k.token ≡ Is m.If → Written ds 5 e t → WrittenBlock ds a x ls
+        → k.token ≡ Is m.If → WrittenTerm ds 5 e t → WrittenBlock ds a x ls
         → WrittenTree ds (k ∷ e ++ a) (branch t (block_of x) no_more) (k.line ∷ ls)
     chooses_else : (k w : Spot) (e a b : List Spot) (t : Term) (x y : List Tree) (ls ms : List ℕ)
-        → k.token ≡ Is m.If → Written ds 5 e t → WrittenBlock ds a x ls → w.token ≡ Is m.Else → WrittenBlock ds b y ms
+        → k.token ≡ Is m.If → WrittenTerm ds 5 e t → WrittenBlock ds a x ls → w.token ≡ Is m.Else → WrittenBlock ds b y ms
         → WrittenTree ds (k ∷ e ++ a ++ w ∷ b) (branch t (block_of x) (block_of y)) (k.line ∷ ls ++ ms)
 
   pub data WrittenBlock (ds : List Declared) : List Spot → List Tree → List ℕ → Type 0 where
@@ -104,7 +104,7 @@ mutual
         → WrittenBody ds (ss ++ rs) (t ∷ ts) (ls ++ ms)
 
 -- the tokens between two states of the input write something, whose statements are on the lines that were noted
-pub record TakesLines (Writes : List Declared → List Spot → List ℕ → Type 0) (i j : Input) : Type 0 where
+pub record LinesBetween (Writes : List Declared → List Spot → List ℕ → Type 0) (i j : Input) : Type 0 where
   pub used : List Spot
   pub begun : List ℕ
   pub is : i.tokens ≡ used ++ j.tokens
@@ -112,14 +112,14 @@ pub record TakesLines (Writes : List Declared → List Spot → List ℕ → Typ
   pub decls : j.decls ≡ i.decls
   pub lines : j.lines ≡ i.lines ++ begun
 
-abbrev pub TakesTree : Tree → Input → Input → Type 0
-TakesTree t = TakesLines (λ ds ss ls. WrittenTree ds ss t ls)
+abbrev pub TreeBetween : Tree → Input → Input → Type 0
+TreeBetween t = LinesBetween (λ ds ss ls. WrittenTree ds ss t ls)
 
-abbrev pub TakesBlock : List Tree → Input → Input → Type 0
-TakesBlock ts = TakesLines (λ ds ss ls. WrittenBlock ds ss ts ls)
+abbrev pub BlockBetween : List Tree → Input → Input → Type 0
+BlockBetween ts = LinesBetween (λ ds ss ls. WrittenBlock ds ss ts ls)
 
-abbrev pub TakesBody : List Tree → Input → Input → Type 0
-TakesBody ts = TakesLines (λ ds ss ls. WrittenBody ds ss ts ls)
+abbrev pub BodyBetween : List Tree → Input → Input → Type 0
+BodyBetween ts = LinesBetween (λ ds ss ls. WrittenBody ds ss ts ls)
 
 -- ---- a whole script
 

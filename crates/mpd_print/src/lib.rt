@@ -3,6 +3,7 @@
 
 mod expr;
 mod script;
+mod simple;
 mod stmt;
 
 pub use script::print;

@@ -1,13 +1,15 @@
 //! Prints statements, each on lines of its own.
 
 ghost use Rattle.std.specs.Prelude.{◌≡◌, ◌<◌, ◌≤◌, ◌+◌, ◌++◌, OnOk, string_bytes, codes};
+ghost use Rattle.mpd_model.specs.declared.limits.TheConstants.{STATEMENTS_MAX};
 ghost use Rattle.mpd_model.specs.Tree.{statements, statements_in, block_of};
-ghost use Rattle.mpd_model.specs.Canonical.{whole_text, target_text, indent, else_text, tree_text, block_text};
+ghost use Rattle.mpd_model.specs.Canonical.{whole_text, indent, else_text, tree_text, block_text};
 
-use crate::expr::{push_expr, push_target};
+use crate::expr::push_expr;
+use crate::simple::push_simple;
 use mpd_model::expr::Expr;
 use mpd_model::place::Decl;
-use mpd_model::stmt::{Stmt, StmtNode, Target};
+use mpd_model::stmt::{Stmt, StmtNode};
 use std::alloc::AllocError;
 
 /// Adds two spaces for each open block.
@@ -29,7 +31,7 @@ pub(crate) fn push_stmts(
     depth: usize,
     stmts: &[Stmt],
 ) -> Result<(), AllocError>
-    requires { depth + statements_in (block_of stmts.now) ≤ 4096 }
+    requires { depth + statements_in (block_of stmts.now) ≤ STATEMENTS_MAX }
     ensures { OnOk result (string_bytes out.new ≡ string_bytes out.old ++ block_text decls.now depth (block_of stmts.now)) }
 {
     for stmt in stmts {
@@ -41,18 +43,14 @@ pub(crate) fn push_stmts(
 /// Adds a statement.
 #[cycle(trees)]
 fn push_stmt(out: &mut String, decls: &[Decl], depth: usize, stmt: &Stmt) -> Result<(), AllocError>
-    requires { depth + statements stmt.now ≤ 4096 }
+    requires { depth + statements stmt.now ≤ STATEMENTS_MAX }
     ensures { OnOk result (string_bytes out.new ≡ string_bytes out.old ++ tree_text decls.now depth stmt.now) }
 {
     push_indent(out, depth)?;
     match &stmt.node {
-        StmtNode::Print(value) => push_line(out, decls, "print ", value),
-        StmtNode::Assert(value) => push_line(out, decls, "assert ", value),
-        StmtNode::Send { value, to, tag } => push_send(out, decls, value, to, tag),
-        StmtNode::Recv { into, from, tag } => push_recv(out, decls, into, from, tag),
-        StmtNode::Assign(into, value) => {
-            push_target(out, decls, into)?;
-            push_line(out, decls, " = ", value)
+        StmtNode::Simple(simple) => {
+            push_simple(out, decls, simple)?;
+            out.push_str(";\n")
         }
         StmtNode::If(test, first, second) => {
             push_test(out, decls, "if ", test)?;
@@ -66,49 +64,6 @@ fn push_stmt(out: &mut String, decls: &[Decl], depth: usize, stmt: &Stmt) -> Res
             out.push_str("\n")
         }
     }
-}
-
-/// Adds a send.
-fn push_send(
-    out: &mut String,
-    decls: &[Decl],
-    value: &Expr,
-    to: &Expr,
-    tag: &Expr,
-) -> Result<(), AllocError>
-    ensures { OnOk result (string_bytes out.new ≡ string_bytes out.old ++ (codes "send " ++ whole_text decls.now value.now ++ codes " to " ++ whole_text decls.now to.now ++ codes " tag " ++ whole_text decls.now tag.now ++ codes ";\n")) }
-{
-    out.push_str("send ")?;
-    push_expr(out, decls, value)?;
-    out.push_str(" to ")?;
-    push_expr(out, decls, to)?;
-    push_line(out, decls, " tag ", tag)
-}
-
-/// Adds a receive.
-fn push_recv(
-    out: &mut String,
-    decls: &[Decl],
-    into: &Target,
-    from: &Expr,
-    tag: &Expr,
-) -> Result<(), AllocError>
-    ensures { OnOk result (string_bytes out.new ≡ string_bytes out.old ++ (codes "recv " ++ target_text decls.now into.now ++ codes " from " ++ whole_text decls.now from.now ++ codes " tag " ++ whole_text decls.now tag.now ++ codes ";\n")) }
-{
-    out.push_str("recv ")?;
-    push_target(out, decls, into)?;
-    out.push_str(" from ")?;
-    push_expr(out, decls, from)?;
-    push_line(out, decls, " tag ", tag)
-}
-
-/// Adds a word, an expression and the end of a statement.
-fn push_line(out: &mut String, decls: &[Decl], word: &str, last: &Expr) -> Result<(), AllocError>
-    ensures { OnOk result (string_bytes out.new ≡ string_bytes out.old ++ (word.now ++ whole_text decls.now last.now ++ codes ";\n")) }
-{
-    out.push_str(word)?;
-    push_expr(out, decls, last)?;
-    out.push_str(";\n")
 }
 
 /// Adds a word, a condition and the beginning of a block.
@@ -128,7 +83,7 @@ fn push_block(
     depth: usize,
     stmts: &[Stmt],
 ) -> Result<(), AllocError>
-    requires { depth + statements_in (block_of stmts.now) < 4096 }
+    requires { depth + statements_in (block_of stmts.now) < STATEMENTS_MAX }
     ensures { OnOk result (string_bytes out.new ≡ string_bytes out.old ++ (block_text decls.now (depth + 1) (block_of stmts.now) ++ indent depth ++ codes "}")) }
 {
     push_stmts(out, decls, depth + 1, stmts)?;
@@ -145,7 +100,7 @@ fn push_else(
     depth: usize,
     stmts: &[Stmt],
 ) -> Result<(), AllocError>
-    requires { depth + statements_in (block_of stmts.now) < 4096 }
+    requires { depth + statements_in (block_of stmts.now) < STATEMENTS_MAX }
     ensures { OnOk result (string_bytes out.new ≡ string_bytes out.old ++ else_text (block_of stmts.now) depth (block_text decls.now (depth + 1) (block_of stmts.now))) }
 {
     if stmts.is_empty() {

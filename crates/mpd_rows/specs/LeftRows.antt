@@ -1,9 +1,10 @@
 -- Rows of what is left to run.
 use Rattle.std.specs.Prelude.{◌≡◌, [], ◌∷◌, pos, refl}
 use Rattle.mpd_model.specs.Term.{lit}
-use Rattle.mpd_model.specs.Tree.{Tree, print, branch, repeat, no_more, then_more}
+use Rattle.mpd_model.specs.Tree.{Tree, branch, repeat, no_more, then_more}
 use Rattle.mpd_model.specs.Program.{Program}
 use Rattle.mpd_code.specs.Left.{left_at}
+use Rattle.mpd_rows.specs.Statements.{print}
 
 -- p1; while w { p2; if c { p3 } else { } } p4
 abbrev p1 : Tree

@@ -1,3 +1,4 @@
+pub mod Statements
 pub mod Rows
 pub mod MoreRows
 pub mod ReaderRows
@@ -8,3 +9,4 @@ pub mod StepRows
 pub mod WiderReaderRows
 pub mod PrintRows
 pub mod LeftRows
+pub mod FormRows

@@ -17,7 +17,7 @@ use Rattle.mpd_model.specs.declared.call.Activity.{Activity}
 use Rattle.mpd_model.specs.declared.call.Activity.TheVariants.{Running, Blocked, Trapped}
 use Rattle.mpd_model.specs.Declaration.{Declared}
 use Rattle.mpd_model.specs.Term.{Term, lit, own_rank, size, cell, element, op1, op2, Target}
-use Rattle.mpd_model.specs.Tree.{Tree, print, send, recv, branch, assign, check, repeat, no_more, then_more}
+use Rattle.mpd_model.specs.Tree.{Tree, branch, repeat, no_more, then_more}
 use Rattle.mpd_model.specs.Program.{Program}
 use Rattle.mpd_model.specs.World.{RankWorld, World, call_id, start}
 use Rattle.mpd_model.specs.Next.{local, fold, enabled}
@@ -26,6 +26,7 @@ use Rattle.mpd_model.specs.Trail.{Trail, Standing, opening, first_standing, worl
 use Rattle.mpd_model.specs.Lines.{lines_of}
 use Rattle.mpd_model.specs.Texts.{rank_text, outcome_line}
 use Rattle.mpd_model.specs.Answers.{line_answer}
+use Rattle.mpd_rows.specs.Statements.{print, send, recv, assign, check}
 
 -- `var x; var a[3]; var none[0];`
 abbrev x : Place

@@ -9,7 +9,7 @@ use Rattle.mpd_model.specs.declared.step.Step.{Step}
 use Rattle.mpd_model.specs.declared.step.Step.TheVariants.{Local, Match, Wake, Release}
 use Rattle.mpd_model.specs.declared.call.Mode.TheVariants.{Rendezvous}
 use Rattle.mpd_model.specs.Term.{Term, lit, own_rank, cell, op2, Target}
-use Rattle.mpd_model.specs.Tree.{print, send, recv, branch, no_more, then_more}
+use Rattle.mpd_model.specs.Tree.{branch, no_more, then_more}
 use Rattle.mpd_model.specs.Program.{Program}
 use Rattle.mpd_model.specs.World.{World, call_id, start}
 use Rattle.mpd_model.specs.Next.{fold}
@@ -20,6 +20,7 @@ use Rattle.mpd_model.specs.Trail.{Standing, first_standing, applied}
 use Rattle.mpd_model.specs.Texts.{outcome_line, show_text, step_text}
 use Rattle.mpd_model.specs.Words.{has_word, step_of, command_of}
 use Rattle.mpd_model.specs.Answers.{line_answer}
+use Rattle.mpd_rows.specs.Statements.{print, send, recv}
 
 abbrev x : Place
 x = record { declaration = 0; first = 0; cells = 1 }

@@ -4,7 +4,7 @@ use Rattle.std.proofs.lemmas.List.{at_drop_more, drop-drop}
 use Rattle.std.proofs.lemmas.Bool.{or_parts}
 use Rattle.mpd_model.specs.declared.token.Class.TheVariants as class
 use Rattle.mpd_model.specs.declared.token.Token.{Token}
-use Rattle.mpd_model.specs.Input.{token_of, text_of, place_of, line_of, behind}
+use Rattle.mpd_model.specs.Input.{token_of, text_of, place_of, first_line, behind}
 use Rattle.mpd_script.specs.Cursor.{first}
 use Rattle.mpd_model.specs.Tokens.{Spot, tokens_after, tokens_at, front, spot, is_blank, is_gap, run_len, feeds}
 
@@ -110,13 +110,13 @@ none_left zero = refl
 none_left (suc n) = refl
 
 -- the line where there is a token
-pub line_is : (p l : ℕ) (z : List ℕ) (t : Token) (n : ℕ) → (t, n) ≡ first z → (0 < length z → is_gap (slice_index z 0) ≡ false) → (0 < length z → 0 < n) → 0 < length z → line_of (tokens_at p l z) ≡ l
+pub line_is : (p l : ℕ) (z : List ℕ) (t : Token) (n : ℕ) → (t, n) ≡ first z → (0 < length z → is_gap (slice_index z 0) ≡ false) → (0 < length z → 0 < n) → 0 < length z → first_line (tokens_at p l z) ≡ l
 line_is p l [] t n is stops moves some = absurd (omega arith)
 line_is p l (b ∷ z) t n is stops moves more =
     let some : 1 ≤ (front (b ∷ z)).1 = rw (← ap (λ (x : Token × ℕ). x.1) is) (moves (omega arith)) in
     rw (token_first p l b z (stops (omega arith)) some) refl
 
-pub line_none : (p l : ℕ) (z : List ℕ) → length z ≡ 0 → line_of (tokens_at p l z) ≡ 0
+pub line_none : (p l : ℕ) (z : List ℕ) → length z ≡ 0 → first_line (tokens_at p l z) ≡ 0
 line_none p l [] e = rw tokens_end refl
 line_none p l (b ∷ z) e = absurd (omega arith)
 
@@ -129,10 +129,10 @@ behind_is p l (b ∷ z) t n gap fed is stops moves same =
     let e : p + n + gap ≡ p + (n + gap) = omega arith in
     sym (rw (token_first p l b z (stops (omega arith)) some, ← len) (same (p + n) l ∙ rw e refl))
 
-pub advanced : (p l : ℕ) (z after ahead : List ℕ) (t : Token) (n gap fed : ℕ) → (t, n) ≡ first z → (0 < length z → is_gap (slice_index z 0) ≡ false) → (0 < length z → 0 < n)
+pub advanced_is : (p l : ℕ) (z after ahead : List ℕ) (t : Token) (n gap fed : ℕ) → (t, n) ≡ first z → (0 < length z → is_gap (slice_index z 0) ≡ false) → (0 < length z → 0 < n)
     → n ≤ length z → after ≡ drop n z → ahead ≡ drop gap after → gap ≤ length after → ((q k : ℕ) → tokens_at q k after ≡ tokens_at (q + gap) (k + fed) (drop gap after))
     → (tokens_at (p + (n + gap)) (l + fed) ahead ≡ behind (tokens_at p l z)) × (p + (n + gap) + length ahead ≡ p + length z)
-advanced p l z after ahead t n gap fed is stops moves within a b gap_within same = (
+advanced_is p l z after ahead t n gap fed is stops moves within a b gap_within same = (
   rw (b, a) (behind_is p l z t n gap fed is stops moves (rw a at same)),
   omega (arith, length-drop n z, length-drop gap after, ap length a, ap length b),
 )

@@ -1,14 +1,16 @@
 //! A cursor over the tokens of a text, which cuts each as it is reached.
 
 ghost use Rattle.std.specs.Prelude.{◌≡◌, ◌≢◌, ◌+◌, ◌<◌, ◌≤◌, ◌^◌, ◌∷◌, ◌++◌, IfSome, IsAscii, None, Ok, OnOk, [], length, vec_capacity, vec_len};
+ghost use Rattle.mpd_model.specs.declared.limits.TheConstants.{CELLS_MAX, HANDLES_MAX, STATEMENTS_MAX};
 ghost use Rattle.mpd_model.specs.declared.read_fault.FaultCode.TheVariants.{Memory};
 ghost use Rattle.mpd_model.specs.Declaration.{handle_cells, handles_in, variable_cells, variables_in};
 ghost use Rattle.mpd_model.specs.Faults.{fault};
 ghost use Rattle.mpd_model.specs.Input as spec;
-ghost use Rattle.mpd_model.specs.Input.{Reads, line_of};
+ghost use Rattle.mpd_model.specs.Input.{Reads, first_line};
 ghost use Rattle.mpd_script.specs.Cursor.{first};
 
 use crate::lex;
+use mpd_model::limits::{CELLS_MAX, HANDLES_MAX, NESTING_MAX, STATEMENTS_MAX};
 use mpd_model::place::{Decl, DeclKind};
 use mpd_model::read_fault::{FaultCode, ReadFault};
 use mpd_model::slot::Slot;
@@ -17,14 +19,6 @@ use std::alloc::Global;
 use std::collections::BTreeMap;
 use std::marker::Model;
 use std::str;
-
-const MAX_BUDGET: usize = 64;
-
-const MAX_VARIABLES: usize = 1024;
-
-const MAX_HANDLES: usize = 256;
-
-const MAX_STATEMENTS: usize = 4096;
 
 /// A place in a text, which contracts see as an `Input`: the tokens from there on, and what was read before.
 #[derive(Drop)]
@@ -125,7 +119,7 @@ impl<'a> Tokens<'a> {
     }
 
     pub(crate) fn advance(&mut self)
-        ensures value { self.new ≡ spec.next self.old }
+        ensures value { self.new ≡ spec.advanced self.old }
         ensures decls { self.new.decls ≡ self.old.decls }
     {
         let (_, after) = self.ahead.split_at(self.len);
@@ -202,18 +196,18 @@ impl<'a> Tokens<'a> {
     pub(crate) fn begin(&mut self)
         ensures { spec.begin self.old ≡ Ok (tt, self.new) }
     {
-        self.budget = MAX_BUDGET;
+        self.budget = NESTING_MAX;
     }
 
     pub(crate) fn budget(&self) -> usize
         ensures value { result ≡ self.now.budget }
-        ensures small { result ≤ 64 }
+        ensures small { result ≤ spec.max_budget }
     {
         self.budget
     }
 
     /// Takes a bracket or an operator.
-    #[tactic(auto, unfolding(mpd_model::specs::Input::spend, mpd_model::specs::Input::next))]
+    #[tactic(auto, unfolding(mpd_model::specs::Input::spend, mpd_model::specs::Input::advanced))]
     pub(crate) fn spend(&mut self) -> Result<(), ReadFault>
         ensures { Reads (spec.spend self.old) result self.new }
     {
@@ -228,7 +222,7 @@ impl<'a> Tokens<'a> {
 
     /// The line of the next token, 0 where there is none.
     fn line(&self) -> usize
-        ensures { result ≡ line_of self.now.tokens }
+        ensures { result ≡ first_line self.now.tokens }
     {
         if self.ahead.is_empty() { 0 } else { self.line }
     }
@@ -237,7 +231,7 @@ impl<'a> Tokens<'a> {
     pub(crate) fn count(&mut self) -> Result<(), ReadFault>
         ensures { Reads (spec.count self.old) result self.new }
     {
-        if self.lines.len() < MAX_STATEMENTS {
+        if self.lines.len() < STATEMENTS_MAX {
             let line = self.line();
             self.lines.push(line)?;
             Ok(())
@@ -290,7 +284,7 @@ impl<'a> Tokens<'a> {
         ensures { Reads (spec.add kind name.now size place self.old) result self.new }
     {
         let (variables, handles) = cells(kind, size);
-        if variables > MAX_VARIABLES - self.variables || handles > MAX_HANDLES - self.handles {
+        if variables > CELLS_MAX - self.variables || handles > HANDLES_MAX - self.handles {
             return Err(ReadFault {
                 code: FaultCode::TooMany,
                 place,
@@ -320,9 +314,9 @@ impl<'a> Tokens<'a> {
     pub(crate) fn finish(self) -> (Vec<Decl>, Vec<usize>)
         ensures decls { result.0.items ≡ self.entry.decls }
         ensures lines { result.1.items ≡ self.entry.lines }
-        ensures variables { variables_in result.0.items ≤ 1024 }
-        ensures handles { handles_in result.0.items ≤ 256 }
-        ensures few_lines { length result.1.items ≤ 4096 }
+        ensures variables { variables_in result.0.items ≤ CELLS_MAX }
+        ensures handles { handles_in result.0.items ≤ HANDLES_MAX }
+        ensures few_lines { length result.1.items ≤ STATEMENTS_MAX }
     {
         (self.decls, self.lines)
     }
@@ -348,7 +342,7 @@ fn first_of(kind: DeclKind, variables: usize, handles: usize) -> usize
 
 /// A size within the limits, in fewer bits.
 fn narrow(size: Option<usize>) -> Option<u32>
-    requires { IfSome size (λ n. n ≤ 1024) }
+    requires { IfSome size (λ n. n ≤ CELLS_MAX) }
     ensures { result ≡ size }
 {
     match size {

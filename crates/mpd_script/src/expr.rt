@@ -7,6 +7,7 @@ ghost use Rattle.mpd_model.specs.Input.{Reads};
 use crate::cursor::Tokens;
 use crate::place::{bracket, place_of};
 use mpd_model::expr::{BinaryOp, Expr, ExprNode, UnaryOp};
+use mpd_model::limits::NESTING_MAX;
 use mpd_model::place::DeclKind;
 use mpd_model::read_fault::{FaultCode, ReadFault};
 use mpd_model::token::{Mark, Token};
@@ -29,9 +30,6 @@ const DISJUNCTION: usize = 5;
 
 /// The level of a whole expression.
 const WHOLE: usize = DISJUNCTION;
-
-/// One more than the brackets and operators that an expression may have.
-const DEEPEST: usize = 65;
 
 /// An operator and its level.
 fn operator(token: Token) -> Option<(BinaryOp, usize)>
@@ -80,7 +78,7 @@ pub(crate) fn expression(alloc: Global, tokens: &mut Tokens<'_>) -> Result<Expr,
     ensures { Reads (spec.expression tokens.old) result tokens.new }
 {
     tokens.begin();
-    expr(alloc, tokens, DEEPEST, WHOLE)
+    expr(alloc, tokens, NESTING_MAX + 1, WHOLE)
 }
 
 /// An expression from a level on, which holds others no deeper than the depth.

@@ -3,6 +3,7 @@
 ghost use Rattle.std.specs.Prelude.{ℕ, ◌≡◌, ◌≢◌, ◌<◌, ◌≤◌, ◌+◌, map, length, slice_index, drop, true, false};
 ghost use Rattle.mpd_model.specs.Tokens as spec;
 
+use mpd_model::limits::NAME_MAX;
 use mpd_model::token::{Class, Mark, RESERVED, Token};
 
 fn is_in(class: Class, b: u8) -> bool
@@ -50,7 +51,7 @@ fn word_in(mut table: &[(&[u8], Mark)], word: &[u8]) -> Token
         }
         table = rest;
     }
-    if word.len() <= 64 {
+    if word.len() <= NAME_MAX {
         Token::Name
     } else {
         Token::Bad

@@ -7,6 +7,7 @@ mod lex;
 mod place;
 mod printed;
 mod script;
+mod simple;
 mod stmt;
 
 pub use printed::print;

@@ -2,6 +2,7 @@
 
 ghost use Rattle.std.specs.Prelude.{◌≡◌, ◌≢◌, ◌≤◌, IfErr, IfOk, IfSome, Err, IsAscii, None, Ok, [], length};
 ghost use Rattle.std.specs.List.{prefix_len};
+ghost use Rattle.mpd_model.specs.declared.limits.TheConstants.{RANKS_MAX};
 ghost use Rattle.mpd_model.specs.declared.read_fault.FaultCode.TheVariants.{Memory};
 ghost use Rattle.mpd_model.specs.Grammar as spec;
 ghost use Rattle.mpd_model.specs.Input.{Fails, Reads, slot_in};
@@ -9,15 +10,14 @@ ghost use Rattle.mpd_model.specs.Printable.{IsPrintable};
 ghost use Rattle.mpd_model.specs.Program.{Program, IsLegal};
 
 use crate::cursor::Tokens;
-use crate::stmt::{MAX_BLOCKS, body};
+use crate::stmt::body;
 use mpd_laws::round_trip::read_scripts_are_printable;
+use mpd_model::limits::{BLOCKS_MAX, RANKS_MAX, SCRIPT_MAX};
 use mpd_model::place::DeclKind;
 use mpd_model::read_fault::{FaultCode, ReadFault};
 use mpd_model::script::Script;
 use mpd_model::token::{Mark, Token};
 use std::alloc::Global;
-
-const MAX_TEXT: usize = 65_536;
 
 const VERSION: i64 = 1;
 
@@ -41,9 +41,9 @@ fn version(tokens: &mut Tokens<'_>) -> Result<(), ReadFault>
 /// A number of ranks, if it is one.
 fn rank_count(value: i64) -> Option<usize>
     ensures value { result ≡ spec.rank_count value }
-    ensures within { IfSome result (λ n. (1 ≤ n) × (n ≤ 16)) }
+    ensures within { IfSome result (λ n. (1 ≤ n) × (n ≤ RANKS_MAX)) }
 {
-    if 1 <= value && value <= 16 {
+    if 1 <= value && value <= RANKS_MAX as i64 {
         Some(value as usize)
     } else {
         None
@@ -54,7 +54,7 @@ fn rank_count(value: i64) -> Option<usize>
 #[tactic(auto, unfolding(mpd_model::specs::Grammar::ranks))]
 fn ranks(tokens: &mut Tokens<'_>) -> Result<usize, ReadFault>
     ensures value { Reads (spec.ranks tokens.old) result tokens.new }
-    ensures within { IfOk result (λ n. (1 ≤ n) × (n ≤ 16)) }
+    ensures within { IfOk result (λ n. (1 ≤ n) × (n ≤ RANKS_MAX)) }
 {
     match tokens.peek() {
         Token::Number(value) => match rank_count(value) {
@@ -162,7 +162,7 @@ fn decls(tokens: &mut Tokens<'_>) -> Result<(), ReadFault>
 #[tactic(auto, unfolding(mpd_model::specs::Grammar::header))]
 fn header(tokens: &mut Tokens<'_>) -> Result<usize, ReadFault>
     ensures value { Reads (spec.header tokens.old) result tokens.new }
-    ensures within { IfOk result (λ n. (1 ≤ n) × (n ≤ 16)) }
+    ensures within { IfOk result (λ n. (1 ≤ n) × (n ≤ RANKS_MAX)) }
 {
     tokens.expect(Mark::Mpd)?;
     version(tokens)?;
@@ -183,7 +183,7 @@ fn script(alloc: Global, mut tokens: Tokens<'_>) -> Result<Script, ReadFault>
     ensures err { IfErr result (Fails (spec.read_of (spec.script tokens.entry))) }
 {
     let ranks = header(&mut tokens)?;
-    let body = body(alloc, &mut tokens, MAX_BLOCKS, false)?;
+    let body = body(alloc, &mut tokens, BLOCKS_MAX, false)?;
     let (decls, lines) = tokens.finish();
     Ok(Script {
         version: 1,
@@ -222,10 +222,10 @@ pub fn read(alloc: Global, text: &[u8]) -> Result<Script, ReadFault>
     ensures err { IfErr result (λ f. f.code ≢ Memory → spec.reading text.now ≡ Err f) }
     ensures memory { IfErr result (λ f. f.code ≡ Memory → f.place ≡ 0) }
 {
-    if text.len() > MAX_TEXT {
+    if text.len() > SCRIPT_MAX {
         return Err(ReadFault {
             code: FaultCode::TooLong,
-            place: MAX_TEXT,
+            place: SCRIPT_MAX,
         });
     }
     let place = text_len(text);

@@ -6,16 +6,12 @@ ghost use Rattle.mpd_model.specs.Input.{Reads, ReadsAll};
 
 use crate::cursor::Tokens;
 use crate::expr::expression;
-use crate::place::{named, outside};
+use crate::simple::{assigning, by_form};
 use mpd_model::place::DeclKind;
 use mpd_model::read_fault::{FaultCode, ReadFault};
-use mpd_model::slot::Slot;
 use mpd_model::stmt::{Stmt, StmtNode};
 use mpd_model::token::{Mark, Token};
 use std::alloc::Global;
-
-/// How many blocks may stand open in one another.
-pub const MAX_BLOCKS: usize = 64;
 
 /// Whether statements end before the token, inside a block or outside of all.
 fn closes(inside: bool, token: Token) -> bool
@@ -29,82 +25,12 @@ fn closes(inside: bool, token: Token) -> bool
 }
 
 /// Takes the first token of a statement.
-fn begun(tokens: &mut Tokens<'_>) -> Result<(), ReadFault>
+pub(crate) fn begun(tokens: &mut Tokens<'_>) -> Result<(), ReadFault>
     ensures { Reads (spec.begun tokens.old) result tokens.new }
 {
     tokens.count()?;
     tokens.advance();
     Ok(())
-}
-
-/// What follows `print`.
-#[tactic(auto, unfolding(mpd_model::specs::Grammar::printing))]
-fn printing(alloc: Global, tokens: &mut Tokens<'_>) -> Result<Stmt, ReadFault>
-    ensures { Reads (spec.printing tokens.old) result tokens.new }
-{
-    let value = expression(alloc, tokens)?;
-    tokens.expect(Mark::Semicolon)?;
-    Ok(Stmt {
-        node: StmtNode::Print(value),
-    })
-}
-
-/// What follows `send`.
-#[tactic(auto, unfolding(mpd_model::specs::Grammar::sending))]
-fn sending(alloc: Global, tokens: &mut Tokens<'_>) -> Result<Stmt, ReadFault>
-    ensures { Reads (spec.sending tokens.old) result tokens.new }
-{
-    let value = expression(alloc, tokens)?;
-    tokens.expect(Mark::To)?;
-    let to = expression(alloc, tokens)?;
-    tokens.expect(Mark::Tag)?;
-    let tag = expression(alloc, tokens)?;
-    tokens.expect(Mark::Semicolon)?;
-    Ok(Stmt {
-        node: StmtNode::Send { value, to, tag },
-    })
-}
-
-/// What follows the name of the place that an assignment writes.
-#[tactic(auto, unfolding(mpd_model::specs::Grammar::assigning))]
-fn assigning(alloc: Global, tokens: &mut Tokens<'_>, slot: Slot) -> Result<Stmt, ReadFault>
-    ensures { Reads (spec.assigning slot tokens.old) result tokens.new }
-{
-    let into = outside(alloc, tokens, slot)?;
-    tokens.expect(Mark::Assign)?;
-    let value = expression(alloc, tokens)?;
-    tokens.expect(Mark::Semicolon)?;
-    Ok(Stmt {
-        node: StmtNode::Assign(into, value),
-    })
-}
-
-/// What follows `assert`.
-#[tactic(auto, unfolding(mpd_model::specs::Grammar::asserting))]
-fn asserting(alloc: Global, tokens: &mut Tokens<'_>) -> Result<Stmt, ReadFault>
-    ensures { Reads (spec.asserting tokens.old) result tokens.new }
-{
-    let value = expression(alloc, tokens)?;
-    tokens.expect(Mark::Semicolon)?;
-    Ok(Stmt {
-        node: StmtNode::Assert(value),
-    })
-}
-
-/// What follows `recv`.
-#[tactic(auto, unfolding(mpd_model::specs::Grammar::receiving))]
-fn receiving(alloc: Global, tokens: &mut Tokens<'_>) -> Result<Stmt, ReadFault>
-    ensures { Reads (spec.receiving tokens.old) result tokens.new }
-{
-    let into = named(alloc, tokens)?;
-    tokens.expect(Mark::From)?;
-    let from = expression(alloc, tokens)?;
-    tokens.expect(Mark::Tag)?;
-    let tag = expression(alloc, tokens)?;
-    tokens.expect(Mark::Semicolon)?;
-    Ok(Stmt {
-        node: StmtNode::Recv { into, from, tag },
-    })
 }
 
 /// The statements up to what closes them, with no more blocks in one another than the depth.
@@ -207,26 +133,11 @@ fn stmt(alloc: Global, tokens: &mut Tokens<'_>, depth: usize) -> Result<Stmt, Re
             begun(tokens)?;
             repeating(alloc, tokens, depth)
         }
-        Token::Is(Mark::Print) => {
-            begun(tokens)?;
-            printing(alloc, tokens)
-        }
-        Token::Is(Mark::Assert) => {
-            begun(tokens)?;
-            asserting(alloc, tokens)
-        }
-        Token::Is(Mark::Send) => {
-            begun(tokens)?;
-            sending(alloc, tokens)
-        }
-        Token::Is(Mark::Recv) => {
-            begun(tokens)?;
-            receiving(alloc, tokens)
-        }
         Token::Is(Mark::Waitany) => {
             tokens.count()?;
             Err(tokens.fail(FaultCode::NotInVersion))
         }
+        Token::Is(mark) => by_form(alloc, tokens, mark),
         _ => Err(tokens.refuse()),
     }
 }

@@ -5,9 +5,13 @@ use mpd_code::lower::lower;
 use mpd_device::device::{FromReader, ToWriter};
 use mpd_model::read_fault::{FaultCode, ReadFault};
 use mpd_script::read;
-use mpd_trace::plain::{PlainFault, plain};
 use std::alloc::{AllocError, Global};
 use std::process::Abort;
+
+// what stands above devices is named here alone
+pub(crate) use mpd_trace::plain::{PlainFault, plain};
+pub(crate) use mpd_trace::trace::trace;
+pub(crate) use mpd_wire::engine::EngineFault;
 
 /// Two ranks: the first sends 7 to the second, which prints it.
 pub(crate) const FIRST: &[u8] =

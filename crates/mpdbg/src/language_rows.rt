@@ -1,9 +1,8 @@
 //! Rows of the whole sequential language, worked out by hand from docs/LANGUAGE.md: what is printed, what traps, what is
 //! refused and where.
 
-use crate::helpers::{answers, joined, refused, repeated};
+use crate::helpers::{PlainFault, answers, joined, refused, repeated};
 use mpd_model::read_fault::FaultCode;
-use mpd_trace::plain::PlainFault;
 use std::alloc::Global;
 use std::process::Abort;
 

@@ -1,10 +1,10 @@
 //! Rows of the canonical text, worked out by hand from docs/LANGUAGE.md: what is printed of what was read, and that it is read
 //! as the same again.
 
-use crate::helpers::{FIRST, joined};
-use mpd_laws::round_trip;
+use crate::helpers::{FIRST, joined, repeated};
+use mpd_model::read_fault::{FaultCode, ReadFault};
 use mpd_script::{print, read};
-use std::alloc::Global;
+use std::alloc::{AllocError, Global};
 use std::process::Abort;
 
 /// Texts, and their canonical texts behind `mpd 1;`, `ranks 1;` and `var x;`, `var a[2];`.
@@ -27,6 +27,15 @@ const ROWS: &[(&str, &str)] = &[
         "recv a[0] from size - 1 tag 2;\n",
     ),
     ("send 1 to 0 tag 1;# a comment", "send 1 to 0 tag 1;\n"),
+    ("x=1%2/3*4-5+6;", "x = 1 % 2 / 3 * 4 - 5 + 6;\n"),
+    (
+        "print (1<=2)+(3>4)+(5>=6)+(7!=8)+(9==1);",
+        "print (1 <= 2) + (3 > 4) + (5 >= 6) + (7 != 8) + (9 == 1);\n",
+    ),
+    (
+        "if 1{x=1;}else{if 2{}else{x=2;}}",
+        "if 1 {\n  x = 1;\n} else {\n  if 2 {\n  } else {\n    x = 2;\n  }\n}\n",
+    ),
 ];
 
 /// Asserts what is printed of what is read of a text, and answers it.
@@ -69,8 +78,24 @@ fn prints_what_is_needed(rt: HostRuntime) {
     }
 }
 
+/// A thousand statements in 64 blocks.
+fn deep(alloc: Global) -> Result<String, AllocError> {
+    let open = repeated(alloc, "mpd 1;ranks 1;", "if 1{", 64, "")?;
+    let inside = repeated(alloc, open.as_str(), "print 1;", 1_000, "")?;
+    repeated(alloc, inside.as_str(), "}", 64, "")
+}
+
 #[test]
-fn laws_of_printing_cost_nothing() {
-    round_trip::read_scripts_are_printable();
-    round_trip::canonical_is_read_again();
+fn prints_more_than_can_be_read(rt: HostRuntime) {
+    let alloc = rt.alloc();
+    let text = deep(alloc).expect(&rt, "the text");
+    let script = read(alloc, text.as_bytes()).expect(&rt, "a script");
+    let printed = print(alloc, &script).expect(&rt, "its text");
+    // 16 bytes of header, 1,000 lines of 128 + 9, and for each depth d below 64 lines of 2 d + 7 and 2 d + 2
+    assert_eq!(rt; printed.len(), 145_656);
+    let too_long = ReadFault {
+        code: FaultCode::TooLong,
+        place: 65_536,
+    };
+    assert_eq!(rt; read(alloc, printed.as_bytes()).err(), Some(too_long));
 }

@@ -1,25 +1,18 @@
 //! Worked rows that only a direct call shows: what no clause says, each public call with ample memory.
 
-use crate::helpers::{FIRST, declaring, lowered, repeated};
+use crate::helpers::{FIRST, lowered};
 use mpd_code::code::Code;
 use mpd_core::state::Core;
-use mpd_device::device::{FromReader, Sink, Source, ToWriter};
-use mpd_device::failing::{FailingSink, FailingSource, Limit};
 use mpd_model::call::{Mode, Trap};
 use mpd_model::outcome::{CallList, Outcome, TrapList, TrappedRank};
-use mpd_model::read_fault::{FaultCode, ReadFault};
 use mpd_model::step::{CallId, Step};
 use mpd_model::text::print_outcome;
 use mpd_model::words::step_of;
-use mpd_script::read;
-use mpd_trace::trace::trace;
 use mpd_trail::debugger::Debugger;
 use mpd_trail::run::{Command, Reply, replay};
-use mpd_wire::engine::EngineFault;
 use std::alloc::{AllocError, Global};
-use std::io;
-use std::io::Read;
 use std::process::Abort;
+use std::{cmp, io};
 
 /// The only send of the first script.
 const SEND: CallId = CallId { rank: 0, index: 0 };
@@ -78,64 +71,6 @@ fn replies_and_undoes(rt: HostRuntime) {
     assert_eq!(rt; debugger.steps().len(), 6);
 }
 
-/// Why and where a text is refused, if it is.
-fn fault_of(alloc: Global, text: &str) -> Option<(FaultCode, usize)> {
-    match read(alloc, text.as_bytes()) {
-        Ok(_) => None,
-        Err(ReadFault { code, place }) => Some((code, place)),
-    }
-}
-
-/// Asserts that a text with a piece so many times between its front and its back is read, or why and where it is refused.
-fn reads(
-    rt: &impl Abort,
-    alloc: Global,
-    front: &str,
-    piece: &str,
-    count: usize,
-    back: &str,
-    fault: Option<(FaultCode, usize)>,
-) {
-    let text = repeated(alloc, front, piece, count, back).expect(rt, "the text");
-    assert_eq!(rt; fault_of(alloc, text.as_str()), fault, "{count} of {piece}");
-}
-
-#[test]
-fn reads_up_to_its_limits(rt: HostRuntime) {
-    let alloc = rt.alloc();
-    let header = "mpd 1;ranks 1;";
-    let printing = "mpd 1;ranks 1;print ";
-    let deep = repeated(alloc, printing, "(", 64, "1").expect(&rt, "64 brackets");
-    reads(&rt, alloc, deep.as_str(), ")", 64, ";", None);
-    let deeper = repeated(alloc, printing, "(", 65, "1").expect(&rt, "65 brackets");
-    let too_deep = Some((FaultCode::TooDeep, 84));
-    reads(&rt, alloc, deeper.as_str(), ")", 65, ";", too_deep);
-    let open = repeated(alloc, header, "if 1 {", 64, "").expect(&rt, "64 blocks");
-    reads(&rt, alloc, open.as_str(), "}", 64, "", None);
-    let too_deep = Some((FaultCode::TooDeep, 403));
-    reads(&rt, alloc, header, "if 1 {", 65, "", too_deep);
-    reads(&rt, alloc, header, "print 1;", 4096, "", None);
-    let too_many = Some((FaultCode::TooMany, 32782));
-    reads(&rt, alloc, header, "print 1;", 4097, "", too_many);
-    let too_long = Some((FaultCode::TooLong, 65536));
-    reads(&rt, alloc, "", " ", 65537, "", too_long);
-    let empty = Some((FaultCode::Expected, 65536));
-    reads(&rt, alloc, "", " ", 65536, "", empty);
-}
-
-#[test]
-fn declares_up_to_its_limits(rt: HostRuntime) {
-    let alloc = rt.alloc();
-    let mut text = declaring(alloc, 1024).expect(&rt, "the text");
-    assert_eq!(rt; fault_of(alloc, text.as_str()), None, "1,024 variables");
-    let place = text.len().saturating_add(4);
-    text.push_str("var w;").expect(&rt, "one variable more");
-    assert_eq!(rt;
-        fault_of(alloc, text.as_str()),
-        Some((FaultCode::TooMany, place))
-    );
-}
-
 /// The steps of the first script up to its only output.
 const TO_THE_OUTPUT: &[Step] = &[
     Step::Local(0),
@@ -178,18 +113,150 @@ fn prints_states(rt: HostRuntime) {
     let code = lowered(&rt, alloc, FIRST);
     let mut core = Core::start(alloc, &code, Mode::Rendezvous).expect(&rt, "the first state");
     assert_eq!(rt; core.rank_count(), 2);
-    for step in TO_THE_OUTPUT {
-        assert!(rt; core.is_enabled(*step));
-        assert!(rt; takes(&mut core, *step));
-    }
+    takes_all(&rt, &mut core, TO_THE_OUTPUT);
     prints_a_call(&rt, &core, SEND, "send to 1 tag 0 value 7 with 1.0");
     prints_a_call(&rt, &core, RECV, "recv from 0 tag 0 with 0.0 value 7");
     prints_a_rank(&rt, &core, 0, "blocked 0");
     prints_a_rank(&rt, &core, 1, "at 4");
     prints_a_set(&rt, &core, 0, "pair 0.0 1.0");
     prints_a_set(&rt, &core, 1, "woke 1.0");
-    let outcome = core.outcome(alloc).expect(&rt, "the outcome");
-    assert!(rt; outcome.is_none());
+    has_outcome(&rt, alloc, &core, None);
+}
+
+/// A script, a mode, steps that are enabled one after the other, and the outcome behind them, if there is one.
+type Ending = (&'static str, Mode, &'static [Step], Option<&'static str>);
+
+/// The second call of the first rank.
+const SECOND: CallId = CallId { rank: 0, index: 1 };
+
+const ENDINGS: &[Ending] = &[
+    (
+        "mpd 1; ranks 2; print 1;",
+        Mode::Rendezvous,
+        &[Step::Local(1)],
+        None,
+    ),
+    (
+        "mpd 1; ranks 2; print 1;",
+        Mode::Rendezvous,
+        &[Step::Local(1), Step::Local(0)],
+        Some("done"),
+    ),
+    (
+        "mpd 1; ranks 3; send 7 to 2 - rank tag 0;",
+        Mode::Rendezvous,
+        &[Step::Local(2), Step::Local(0), Step::Local(1)],
+        Some("deadlock 0.0 1.0 2.0"),
+    ),
+    (
+        "mpd 1; ranks 3; print 1 / (rank - 1); send 1 to rank tag 0;",
+        Mode::Rendezvous,
+        &[
+            Step::Local(0),
+            Step::Local(1),
+            Step::Local(2),
+            Step::Local(2),
+            Step::Local(0),
+        ],
+        Some("trap 1 zero-divisor"),
+    ),
+    (
+        "mpd 1; ranks 2; if rank { } else { send 7 to 1 tag 0; }",
+        Mode::Buffered,
+        &[
+            Step::Local(1),
+            Step::Local(0),
+            Step::Local(0),
+            Step::Wake(0),
+        ],
+        Some("leftovers 0.0"),
+    ),
+    (
+        "mpd 1; ranks 1; var x; send 7 to 0 tag 5; recv x from 0 tag 5;",
+        Mode::Buffered,
+        &[
+            Step::Local(0),
+            Step::Wake(0),
+            Step::Local(0),
+            Step::Match(SEND, SECOND),
+            Step::Wake(0),
+        ],
+        Some("done"),
+    ),
+];
+
+/// Asserts the outcome of a state, if it has one.
+fn has_outcome(rt: &impl Abort, alloc: Global, core: &Core<'_>, wanted: Option<&str>) {
+    let outcome = core.outcome(alloc).expect(rt, "an outcome, or none");
+    match (outcome, wanted) {
+        (Some(outcome), Some(wanted)) => is_text(rt, print_outcome(alloc, &outcome), wanted),
+        (outcome, wanted) => assert_eq!(rt; outcome.is_some(), wanted.is_some()),
+    }
+}
+
+/// Asserts that the steps are enabled one after the other, and takes them.
+fn takes_all(rt: &impl Abort, core: &mut Core<'_>, steps: &[Step]) {
+    for step in steps {
+        assert!(rt; core.is_enabled(*step));
+        assert!(rt; takes(core, *step));
+    }
+}
+
+fn ends_so(
+    rt: &impl Abort,
+    alloc: Global,
+    text: &str,
+    mode: Mode,
+    steps: &[Step],
+    outcome: Option<&str>,
+) {
+    let code = lowered(rt, alloc, text.as_bytes());
+    let mut core = Core::start(alloc, &code, mode).expect(rt, "the first state");
+    takes_all(rt, &mut core, steps);
+    has_outcome(rt, alloc, &core, outcome);
+}
+
+#[test]
+fn ends_in_each_way(rt: HostRuntime) {
+    for (text, mode, steps, outcome) in ENDINGS {
+        ends_so(&rt, rt.alloc(), text, *mode, steps, *outcome);
+    }
+}
+
+/// Three sends, two of them alike, and a receive.
+const IN_ORDER: &str =
+    "mpd 1; ranks 2; var x;\nif rank == 0 { send 1 to 1 tag 0; send 2 to 1 tag 0; send 3 to 1 tag 1; } else { recv x from 0 tag 0; }";
+
+/// Its steps up to a match.
+const ISSUED: &[Step] = &[
+    Step::Local(0),
+    Step::Local(0),
+    Step::Wake(0),
+    Step::Local(0),
+    Step::Wake(0),
+    Step::Local(0),
+    Step::Wake(0),
+    Step::Local(1),
+    Step::Local(1),
+];
+
+#[test]
+fn keeps_sends_in_order(rt: HostRuntime) {
+    let code = lowered(&rt, rt.alloc(), IN_ORDER.as_bytes());
+    let mut core = Core::start(rt.alloc(), &code, Mode::Buffered).expect(&rt, "the first state");
+    takes_all(&rt, &mut core, ISSUED);
+    let third = CallId { rank: 0, index: 2 };
+    assert!(rt;
+        !core.is_enabled(Step::Match(SECOND, RECV)),
+        "an earlier send"
+    );
+    assert!(rt; !core.is_enabled(Step::Match(third, RECV)), "another tag");
+    prints_a_call(&rt, &core, SECOND, "send to 1 tag 0 value 2 free");
+    prints_a_call(&rt, &core, RECV, "recv from 0 tag 0 free");
+    prints_a_rank(&rt, &core, 0, "ended");
+    prints_a_rank(&rt, &core, 1, "blocked 0");
+    takes_all(&rt, &mut core, &[Step::Match(SEND, RECV), Step::Wake(1)]);
+    has_outcome(&rt, rt.alloc(), &core, Some("leftovers 0.1 0.2"));
 }
 
 fn prints(rt: &impl Abort, alloc: Global, outcome: Outcome, wanted: &str) {
@@ -251,111 +318,5 @@ const STEPS: &[(&str, Option<Step>)] = &[
 fn reads_steps(rt: HostRuntime) {
     for (text, step) in STEPS {
         assert_eq!(rt; step_of(text), *step, "{text}");
-    }
-}
-
-/// A reader that gives one line feed for each read, and never ends.
-#[derive(Drop)]
-struct Feeds;
-
-impl Read for Feeds {
-    fn read(&mut self, buf: &mut [u8]) -> io::Result<usize> {
-        match buf.first_mut() {
-            None => Ok(0),
-            Some(byte) => {
-                *byte = b'\n';
-                Ok(1)
-            }
-        }
-    }
-}
-
-#[test]
-fn ends_after_a_million_reads(rt: HostRuntime) {
-    let alloc = rt.alloc();
-    let code = lowered(&rt, alloc, FIRST);
-    let mut source = FromReader::new(Feeds);
-    let mut sink = ToWriter::new(Vec::new(alloc));
-    let ended = traced(alloc, &code, &mut source, &mut sink);
-    assert_eq!(rt; ended, Err(EngineFault::TooManyTurns));
-    assert!(rt; sink.into_writer().is_empty());
-}
-
-/// The words of a session, and what they are answered.
-const WORDS: &[u8] = b"local 0\nback\nfly\nlocal 0";
-
-const ANSWERS: &[u8] = b"ok 1\nok 0\nrefused bad-word\nok 1\n";
-
-/// How a session with a source and a sink ends.
-fn traced<S: Source, W: Sink>(
-    alloc: Global,
-    code: &Code,
-    source: &mut S,
-    sink: &mut W,
-) -> Result<(), EngineFault> {
-    trace(alloc, code, Mode::Rendezvous, source, sink)
-}
-
-/// How a session of these words ends, and what is written, where writing fails past so many bytes.
-fn traced_to(
-    alloc: Global,
-    code: &Code,
-    words: &[u8],
-    limit: u64,
-) -> (Result<(), EngineFault>, Vec<u8>) {
-    let mut source = FromReader::new(words);
-    let mut sink = FailingSink::new(ToWriter::new(Vec::new(alloc)), Limit::Bytes(limit));
-    let ended = traced(alloc, code, &mut source, &mut sink);
-    (ended, sink.into_inner().into_writer())
-}
-
-/// How a session of these words ends, and what is written, where reading fails past so many bytes.
-fn traced_from(
-    alloc: Global,
-    code: &Code,
-    words: &[u8],
-    limit: u64,
-) -> (Result<(), EngineFault>, Vec<u8>) {
-    let mut source = FailingSource::new(FromReader::new(words), Limit::Bytes(limit));
-    let mut sink = ToWriter::new(Vec::new(alloc));
-    let ended = traced(alloc, code, &mut source, &mut sink);
-    (ended, sink.into_writer())
-}
-
-#[test]
-fn fails_where_a_sink_fails(rt: HostRuntime) {
-    let alloc = rt.alloc();
-    let code = lowered(&rt, alloc, FIRST);
-    for limit in 0..40u64 {
-        let (ended, written) = traced_to(alloc, &code, WORDS, limit);
-        if limit < ANSWERS.len() as u64 {
-            assert_eq!(rt; ended, Err(EngineFault::WriteFailed));
-            assert_eq!(rt; written.len() as u64, limit);
-        } else {
-            assert_eq!(rt; ended, Ok(()));
-        }
-        assert!(rt;
-            ANSWERS.starts_with(written.as_slice()),
-            "up to byte {limit}"
-        );
-    }
-}
-
-#[test]
-fn fails_where_a_source_fails(rt: HostRuntime) {
-    let alloc = rt.alloc();
-    let code = lowered(&rt, alloc, FIRST);
-    for limit in 0..30u64 {
-        let (ended, written) = traced_from(alloc, &code, WORDS, limit);
-        if limit <= WORDS.len() as u64 {
-            assert_eq!(rt; ended, Err(EngineFault::ReadFailed));
-        } else {
-            assert_eq!(rt; ended, Ok(()));
-            assert_eq!(rt; written.as_slice(), ANSWERS);
-        }
-        assert!(rt;
-            ANSWERS.starts_with(written.as_slice()),
-            "up to byte {limit}"
-        );
     }
 }

@@ -5,4 +5,4 @@ use Rattle.mpd_script.proofs.script.read.Goals as goal
 pub script-requires-clause-printable : goal.script-requires-clause-printable
 script-requires-clause-printable c = λ p h legal.
     c.read_scripts_are_printable.ensures c.args.text.now p
-    (reading_of c.args.text.now p c.new.result c.text_len-place.result c.if-text-gt-MAX_TEXT.false c.text_len-place.ensures.value c.if-place-text.false c.new.ensures h) legal
+    (reading_of c.args.text.now p c.new.result c.text_len-place.result c.if-text-gt-SCRIPT_MAX.false c.text_len-place.ensures.value c.if-place-text.false c.new.ensures h) legal

@@ -1,0 +1,525 @@
+#!/usr/bin/env python3
+"""Tries the must-fail edits of the crates, as many in one check as can be.
+
+    .ci/edits.py [--jobs N] [--only EDIT] [--log FOLDER] [CRATE..]    at the top of the repository
+
+A function is checked against the contracts of what it calls, so wrong bodies of different functions don't disturb one another:
+they are made in one copy of the crate, and one check tells of each function whether it is proved. That is a round. Edits of one
+function, or of one cycle of calls, go to different rounds, and so do edits whose texts touch. What changes more than the bodies
+of functions, as a constant or a definition, has a round of its own.
+
+An edit's file has these lines (docs/GATE.md, "Edits"):
+
+    fn: Core::apply         the function that must be refused, as `rt check --only` takes it; the one that is edited, or, where that
+                            has no contract of its own, one that calls it. Of an edit of specs/: lemma: NAME, a declaration there
+    file: src/state.rt      a file below src/, specs/ or proofs/
+    old: TEXT               one line, which stands in that file once
+    new: TEXT               what stands there instead; more pairs, and more files, may follow
+
+An edit is refused where the check refuses that very function, for a reason of its own: that it calls a function that isn't
+proved is none, and that a proof file names what the edit took away is none either. Where a round can't be compiled, the edits
+that are at fault are found and told as bad, and the rest are tried without them.
+
+The crates below are read as they were built: `rt lib` builds those that are not, or `--built` names a copy that rt ci proved, as in
+.ci/run. Each crate's checks begin with what earlier checks kept in its out/ folder, where they did. Status 1 where an edit is not
+refused; the last line is `N refused, M not`.
+"""
+import argparse
+import os
+import re
+import shutil
+import subprocess
+import sys
+import tempfile
+import time
+from concurrent.futures import FIRST_COMPLETED, ThreadPoolExecutor, wait
+
+PARTS = ('src', 'specs', 'proofs')
+
+# What the check says where a proof file names what an edit took away.
+TAKEN_AWAY = re.compile(r'has no field|is not in scope|has no `|was not admitted|is no name')
+
+# What it says of a function that only rests on one that is not proved.
+RESTS = re.compile(r'(?:in `[^`]*`, of this cycle of calls: )?it (?:calls|passes the block) `[^`]*`(?:(?:, | and |, and )`[^`]*`)*, which (?:is|are) not proved')
+
+
+class BadEdit(Exception):
+    """An edit that can't be tried, and why."""
+
+
+class Repository:
+    """The crates of crates.txt, and the kit that proves them."""
+
+    def __init__(self, root, built=None):
+        self.root, self.built = root, built or root
+        self.kit = os.path.dirname(os.path.dirname(os.path.realpath(shutil.which('rt'))))
+        self.uses = {}
+        with open(f'{root}/crates.txt', encoding='utf-8') as lines:
+            for line in lines:
+                name, colon, used = line.partition('#')[0].partition(':')
+                if colon:
+                    self.uses[name.split()[0]] = used.split()
+
+    def below(self, crate):
+        """The repository's crates below this one, lowest first."""
+        found = []
+        for used in self.uses[crate]:
+            if used in self.uses:
+                found += [it for it in [*self.below(used), used] if it not in found]
+        return found
+
+    def folder(self, crate):
+        return f'{self.root}/crates/{crate}'
+
+    def rlibs(self, crate):
+        return f'{self.built}/crates/{crate}/out/rlib'
+
+    def kept(self, crate):
+        """What earlier checks of the crate kept, where they did."""
+        return f'{self.built}/crates/{crate}/out/incremental'
+
+    def check(self, crate, kept, only):
+        """The words of a check of the crate in the folder that it is started in."""
+        kit = self.kit
+        is_program = os.path.exists(f'{self.folder(crate)}/src/main.rt')
+        words = [f'{kit}/bin/rattle', 'check', '--crate-name', crate, f"src/{'main' if is_program else 'lib'}.rt"]
+        for used in ['std', *self.uses[crate]]:
+            of = self.rlibs(used) if used in self.uses else f'{kit}/rlibs'
+            words += ['--extern', f'{used}={of}/{used}.rlib']
+        for of in [f'{kit}/rlibs', *map(self.rlibs, self.below(crate))]:
+            words += ['-L', f'dependency={of}']
+        words += ['--antt-project', f'{kit}/rattle/logic/antt-project.json', '--logic-built', f'{kit}/logic_built']
+        words += ['--links', f'{crate}=', '--jobs', '1', *(['--incremental', kept] if kept else [])]
+        return words + [it for path in only for it in ('--only', path)]
+
+
+class Edit:
+    """One file of must-fail/."""
+
+    def __init__(self, folder, path):
+        self.folder = folder
+        self.path = path
+        self.name = f'{os.path.basename(folder)}/{os.path.basename(path)}'
+        self.function = self.lemma = None
+        self.pairs = []
+
+    def read(self):
+        """Reads its file, and says where that is no edit."""
+        if not re.fullmatch(r'[A-Za-z0-9_-][A-Za-z0-9_.-]*\.edit', os.path.basename(self.path)):
+            raise BadEdit('its name is not of letters, digits, _, - and ., or does not end in .edit')
+        file = old = None
+        for line in text_of(self.path).split('\n'):
+            key, colon, value = line.partition(':')
+            value = value.removeprefix(' ')
+            if key == 'fn' and colon:
+                self.function = value.strip()
+            elif key == 'lemma' and colon:
+                self.lemma = value.strip()
+            elif key == 'file' and colon:
+                file = value.strip()
+                if os.path.normpath(file) != file or not file.startswith(tuple(f'{it}/' for it in PARTS)):
+                    raise BadEdit(f'{file} is no file below src/, specs/ or proofs/')
+            elif key == 'old' and colon:
+                old = value
+            elif key == 'new' and colon:
+                if not file or not old:
+                    raise BadEdit("a line 'new:' stands before any 'file:' or 'old:'")
+                self.pairs.append((file, old, value))
+                old = None
+            elif line.strip() and not self.reads(key, value):
+                raise BadEdit(f'a line of no known kind: {line[:60]}')
+        if not self.pairs or old:
+            raise BadEdit("it has no pair of 'old:' and 'new:', or half of one")
+        if bool(self.function) == bool(self.lemma):
+            raise BadEdit("it has no line 'fn: PATH' (or 'lemma: NAME'), or both")
+
+    def reads(self, key, value):
+        """Whether this is a line that edits of another kind have; what it says is then kept."""
+        return False
+
+    def regions(self):
+        """What it changes: for each file where the change begins and ends, and what stands there instead."""
+        texts = {}
+        for file, old, new in self.pairs:
+            text = texts.setdefault(file, text_of(f'{self.folder}/{file}'))
+            found = text.count(old)
+            if found != 1:
+                raise BadEdit(f'an old text stands in {file} {found} times, and not once: {old.strip()[:60]}')
+            texts[file] = text.replace(old, new)
+        found = {}
+        for file, text in texts.items():
+            was = text_of(f'{self.folder}/{file}')
+            if was == text:
+                raise BadEdit(f'it changes nothing in {file}')
+            begin = len(os.path.commonprefix([was, text]))
+            same = len(os.path.commonprefix([was[begin:][::-1], text[begin:][::-1]]))
+            found[file] = begin, len(was) - same, text[begin : len(text) - same]
+        return found
+
+    def changed(self):
+        """The functions that the edit changes, or whose refusal it wants, and those in a cycle of calls with them, each a name and
+        its place; None where it changes something else too."""
+        found = {(self.function.rpartition('::')[2], self.function)} if self.function else set()
+        for file, (begin, end, _) in self.regions().items():
+            if not file.startswith('src/'):
+                return None
+            around = enclosing(text_of(f'{self.folder}/{file}'), begin, end)
+            if not around:
+                return None
+            found |= {(name, f'{file}:{line}') for name, line in around}
+        return found
+
+    def is_blamed(self, told):
+        """Whether an error of reading or compiling stands at what this edit wrote, or names its function."""
+        for line in told.lines:
+            at = re.match(r'(?:\./)?(\S+?):(\d+):\d+: error', line)
+            if at and at[1] in told.texts:
+                said = told.texts[at[1]].split('\n')[int(at[2]) - 1]
+                if any(file == at[1] and (new in said or said.strip() in new) for file, _, new in self.pairs if new.strip()):
+                    return True
+            elif ': error' in line and f'`{self.function}`' in line:
+                return True
+        return False
+
+
+def text_of(file):
+    try:
+        with open(file, encoding='utf-8') as it:
+            return it.read()
+    except OSError as error:
+        raise BadEdit(f'{file}: {error.strerror}') from error
+
+
+# A function's head by the layout of rt fmt, with its cycle of calls, where it is in one.
+HEAD = re.compile(r'(?m)^( *)(?:#\[cycle\((\w+)\)\]\n(?:\1(?:#\[|///).*\n)*\1)?(?:pub(?:\([^)]*\))? )?(?:const )?fn (\w+)')
+
+
+def enclosing(text, begin, end):
+    """The function around this piece, and those in one cycle of calls with it, each its name and line; none where it is in none."""
+    heads = [it for it in HEAD.finditer(text)]
+    above = [it for it in heads if it.start() <= begin]
+    if not above:
+        return set()
+    head = above[-1]
+    ends = re.compile(rf'(?m)^{head[1]}\}}').search(text, head.end())
+    if not ends or ends.start() < end:
+        return set()
+    found = [it for it in heads if it is head or head[2] and it[2] == head[2]]
+    return {(it[3], text[: it.end()].count('\n') + 1) for it in found}
+
+
+class Told:
+    """What a check of a crate with these texts told."""
+
+    def __init__(self, texts, said):
+        self.texts = texts
+        self.lines = said.split('\n')
+        self.is_judged = bool(re.search(r'(?m)^(?:only=|logic=)', said))
+        self.functions = {}
+        begun = 0
+        for at, line in enumerate(self.lines):
+            told = re.match(r'fn (\S+): (.*)', line)
+            if told:
+                self.functions[told[1]] = told[2], self.lines[begun:at]
+                begun = at + 1
+
+    def named(self, path):
+        """The whole names of the functions whose names end in this path."""
+        return [it for it in self.functions if f'::{it}'.endswith(f'::{path}')]
+
+    def errors(self, folder):
+        """The errors in files below a folder."""
+        return [it for it in self.lines if it.removeprefix('./').startswith(folder) and ': error' in it]
+
+    def first_error(self):
+        return next((it for it in self.lines if ': error' in it), self.lines[-2] if len(self.lines) > 1 else '')
+
+    def has_waited(self, name):
+        """Whether goals of this function were not tried, since they wait for the proof of a function that it calls."""
+        return any(f'`search` has not tried the goals of `{name}`' in it for it in self.lines)
+
+    def reasons(self, name):
+        """Why this function is refused, the functions that it calls aside: notes of its code, then errors of its proof files."""
+        word, before = self.functions[name]
+        if word == 'proved':
+            return []
+        notes = [it for it in before if re.match(r'note: \S+:\d+:\d+: it is not proved|(?:note: )?(?:\./)?src/\S+:\d+:\d+: error', it)]
+        folders = {'proofs/' + '/'.join(name.split('::')[1:]) + '/'}
+        folders |= {it.removeprefix('./') for it in re.findall(r'expected answers in (\S+/)', word)}
+        errors = [it for folder in folders for it in self.errors(folder)]
+        # (a closure stands below its function's name, behind a part `fn`)
+        within = '::fn::' + name.rpartition('::')[2] + '::'
+        inner = [] if '::fn::' in name else [it for it in self.functions if within in it and it.startswith(name.partition('::')[0])]
+        own = [*notes, *errors, *(why for it in inner for why in self.reasons(it))]
+        if not own and RESTS.sub('', word).strip('; ') not in ('no proof:', 'not proved', 'no proof', ''):
+            own = [word]
+        return own
+
+
+def is_unread(line):
+    """Whether this error says that a text of src/ or specs/ can't be read, where a false statement reads well."""
+    found = re.match(r'(?:\./)?(?:src|specs)/\S+?:\d+:\d+: error\S*: (?:(`[^`]*`): )?(.*)', line)
+    if not found:
+        return False
+    return not found[1] or bool(re.search(r'is not in scope|has no field|is no name|operand is missing|expected the end|cannot continue', re.sub('`[^`]*`', '', found[2])))
+
+
+class Verdict:
+    """What came of one edit; `is_open` where it has to be tried again, with less beside it."""
+
+    def __init__(self, edit, is_refused, text, is_open=False):
+        self.edit, self.is_refused, self.text, self.is_open = edit, is_refused, text, is_open
+
+    def __str__(self):
+        return f"{self.edit.name}: {'refused: ' if self.is_refused else ''}{self.text}"
+
+
+def judge(edit, told):
+    """Whether the check refused what the edit names, for a reason of its own."""
+    if edit.lemma:
+        errors = [it for it in told.errors('specs/') if f'error: `{edit.lemma}`:' in it]
+        if not errors:
+            return Verdict(edit, False, f'NOT REFUSED: {edit.lemma} still holds')
+        bad = next(filter(is_unread, errors), None)
+        return Verdict(edit, False, f'BAD EDIT: {bad}') if bad else Verdict(edit, True, errors[0])
+    names = told.named(edit.function)
+    if len(names) != 1:
+        return Verdict(edit, False, f"BAD EDIT: {edit.function} names {'no function' if not names else ' and '.join(names)}")
+    name, = names
+    word = told.functions[name][0]
+    own = told.reasons(name)
+    if word == 'proved':
+        return Verdict(edit, False, f'NOT REFUSED: {name} is still proved')
+    if word.startswith('could not tell'):
+        return Verdict(edit, False, f'BAD EDIT: the check could not tell of {name}', is_open=True)
+    if not own:
+        waits = ', and its goals wait for that' if told.has_waited(name) else ''
+        return Verdict(edit, False, f'NOT REFUSED: {name} has no fault of its own{waits}: {word}', is_open=told.has_waited(name))
+    said = [it for it in own if not (it.removeprefix('./').startswith('proofs/') and TAKEN_AWAY.search(it))]
+    if not said:
+        return Verdict(edit, False, f'NOT REFUSED, but for a proof file that names what the edit took away: {own[0]}', is_open=told.has_waited(name))
+    return Verdict(edit, True, said[0].removeprefix('note: '))
+
+
+class Crate:
+    """A crate whose edits are tried."""
+
+    def __init__(self, repository, name, only=None):
+        self.repository, self.name = repository, name
+        self.folder = repository.folder(name)
+        self.edits, self.bad = [], []
+        folder = f'{self.folder}/must-fail'
+        for file in sorted(os.listdir(folder)) if os.path.isdir(folder) else []:
+            if file.endswith('.md') or only and file.removesuffix('.edit') != only.removesuffix('.edit'):
+                continue
+            edit = Edit(self.folder, f'{folder}/{file}')
+            try:
+                edit.read()
+                edit.regions()
+                self.edits.append(edit)
+            except BadEdit as error:
+                self.bad.append(Verdict(edit, False, f'BAD EDIT: {error}'))
+
+    def size(self):
+        """What its checks are likely to take, to begin with the longest."""
+        files = [f'{at}/{it}' for part in PARTS for at, _, them in os.walk(f'{self.folder}/{part}') for it in them]
+        return len(self.edits) * 20 + sum(len(text_of(it).split('\n')) for it in files)
+
+    def tried(self, log=None):
+        """Tries all edits, each round over what those before it proved, and answers a verdict for each."""
+        self.began, self.rounds, done = time.time(), 0, list(self.bad)
+        with tempfile.TemporaryDirectory(prefix='edits-') as room:
+            kept = f'{room}/kept'
+            if os.path.isdir(self.repository.kept(self.name)):
+                shutil.copytree(self.repository.kept(self.name), kept)
+            else:
+                os.mkdir(kept)
+            waiting, alone = list(self.edits), []
+            while waiting or alone:
+                taken, texts = first_round(waiting) if waiting else first_round(alone[:1])
+                waiting = [it for it in waiting if it not in taken]
+                alone = [it for it in alone if it not in taken]
+                told = self.check(texts, kept, taken, log)
+                verdicts = self.judged(taken, told)
+                is_last = len(taken) == 1
+                done += [it for it in verdicts if is_last or not it.is_open]
+                left = [it.edit for it in verdicts if it.is_open and not is_last]
+                if told.is_judged and len(left) < len(taken):
+                    # what they wait for has been tried now
+                    waiting += left
+                else:
+                    blamed = [it for it in left if it.is_blamed(told)] or left
+                    alone += blamed
+                    waiting += [it for it in left if it not in blamed]
+        return sorted(done, key=lambda it: it.edit.name)
+
+    def check(self, texts, kept, taken, log):
+        only = sorted({it.function for it in taken if it.function})
+        self.rounds += 1
+        told = Told(texts, check(self.repository, self.name, texts, kept, only))
+        if log:
+            with open(f'{log}/{self.name}.{self.rounds}', 'w', encoding='utf-8') as it:
+                it.write('\n'.join([f'edit {edit.name}' for edit in taken] + told.lines))
+        return told
+
+    def judged(self, taken, told):
+        """The verdicts of a round's edits: all are open where it wasn't judged, or where it refused what no edit changes."""
+        why = None
+        unread = next(filter(is_unread, told.lines), None)
+        if unread:
+            why = f'the edited text can not be read: {unread}'
+        elif not told.is_judged:
+            why = f'it did not reach the prover: {told.first_error()}'
+        changed = [it.changed() for it in taken]
+        if not why and None not in changed:
+            changed = {name for them in changed for name, _ in them}
+            other = next((it for it in told.functions if not changed & set(it.split('::')) and told.reasons(it)), None)
+            if other:
+                why = f'{other} is refused too, which it does not change: {told.reasons(other)[0]}'
+        if why:
+            told.is_judged = False
+            return [Verdict(it, False, f'BAD EDIT: {why}', is_open=True) for it in taken]
+        return [judge(it, told) for it in taken]
+
+
+def merged(folder, regions):
+    """The texts of the files below a folder with these regions changed: for each file (begin, end, new), none touching another."""
+    texts = {}
+    for file, them in regions.items():
+        text = text_of(f'{folder}/{file}')
+        for begin, end, new in sorted(them, reverse=True):
+            text = text[:begin] + new + text[end:]
+        texts[file] = text
+    return texts
+
+
+def touches(regions, own):
+    """Whether one of an edit's own regions touches one of these."""
+    return any(begin <= last and first <= end for file, (begin, end, _) in own.items() for first, last, _ in regions.get(file, []))
+
+
+def first_round(edits):
+    """As many of the edits as can be tried in one check, and the texts with all of them made."""
+    regions, busy, taken = {}, set(), []
+    for edit in edits:
+        changed, own = edit.changed(), edit.regions()
+        if taken and (changed is None or busy & changed):
+            continue
+        if touches(regions, own):
+            continue
+        for file, region in own.items():
+            regions.setdefault(file, []).append(region)
+        taken.append(edit)
+        if changed is None:
+            break
+        busy |= changed
+    return taken, merged(taken[0].folder, regions)
+
+
+def check(repository, crate, texts, kept, only):
+    """Checks a copy of the crate with these texts, and answers what was said."""
+    folder = repository.folder(crate)
+    with tempfile.TemporaryDirectory(prefix='edit-') as room:
+        for part in PARTS:
+            if os.path.isdir(f'{folder}/{part}'):
+                shutil.copytree(f'{folder}/{part}', f'{room}/{part}')
+        for file, text in texts.items():
+            with open(f'{room}/{file}', 'w', encoding='utf-8') as it:
+                it.write(text)
+        ran = subprocess.run(
+            repository.check(crate, kept, only),
+            cwd=room, stdin=subprocess.DEVNULL, stdout=subprocess.PIPE, stderr=subprocess.STDOUT, text=True, errors='replace',
+        )
+    return ran.stdout
+
+
+def build_below(repository, crates):
+    """Builds what the crates use, where it isn't built from these sources."""
+    for crate in dict.fromkeys(it for name in crates for it in repository.below(name)):
+        ran = subprocess.run(['rt', 'lib'], cwd=repository.folder(crate), stdin=subprocess.DEVNULL, stdout=subprocess.PIPE, stderr=subprocess.STDOUT, text=True)
+        if ran.returncode:
+            sys.exit(f'{ran.stdout[-2000:]}\n{crate} is not proved')
+
+
+class Proofs:
+    """How far a run of rt ci is: by its log, and its process."""
+
+    def __init__(self, log=None, process=None):
+        self.log, self.process = log, process
+
+    def have_ended(self):
+        if not self.process:
+            return True
+        try:
+            with open(f'/proc/{self.process}/stat', encoding='utf-8') as it:
+                return it.read().rpartition(')')[2].split()[0] == 'Z'
+        except OSError:
+            return True
+
+    def have(self, crate):
+        """Whether the crate is proved, and so all below it."""
+        if not self.log:
+            return True
+        with open(self.log, encoding='utf-8', errors='replace') as it:
+            return f'rt: {crate} proved' in it.read().split('\n')
+
+
+def try_all(crates, jobs, proofs, log):
+    """Tries the edits of all crates, so many at a time, or one at a time while proofs go on; answers how many were refused, and not."""
+    left, running, refused, failed = list(crates), set(), 0, 0
+
+    def tried(crate):
+        return crate, crate.tried(log), time.time() - crate.began
+
+    with ThreadPoolExecutor(jobs) as pool:
+        while left or running:
+            is_last = proofs.have_ended()
+            ready = [it for it in left if proofs.have(it.name)]
+            while ready and len(running) < (jobs if is_last else 1):
+                left.remove(ready[0])
+                running.add(pool.submit(tried, ready.pop(0)))
+            if is_last and not running:
+                print(f"their proofs failed: {' '.join(it.name for it in left)}")
+                return refused, failed + sum(len(it.edits) for it in left)
+            if not running:
+                time.sleep(1)
+                continue
+            done, running = wait(running, timeout=1, return_when=FIRST_COMPLETED)
+            for run in done:
+                crate, verdicts, took = run.result()
+                for verdict in verdicts:
+                    print(verdict)
+                refused += sum(it.is_refused for it in verdicts)
+                failed += sum(not it.is_refused for it in verdicts)
+                print(f'{crate.name}: {len(verdicts)} edits, {crate.rounds} checks, {took:.0f} s', flush=True)
+    return refused, failed
+
+
+def main():
+    words = argparse.ArgumentParser(description=__doc__, formatter_class=argparse.RawDescriptionHelpFormatter)
+    words.add_argument('crates', nargs='*', metavar='CRATE')
+    words.add_argument('--built', metavar='FOLDER', help='a copy of these sources, without the edits, that rt ci proved')
+    words.add_argument('--beside', nargs=2, metavar=('LOG', 'PROCESS'), help='rt ci still runs in that copy, and writes this log: a crate is tried once it is proved')
+    words.add_argument('--jobs', type=int, default=2, metavar='N', help='how many checks at a time; one beside rt ci')
+    words.add_argument('--only', metavar='EDIT', help='one edit, by the name of its file')
+    words.add_argument('--log', metavar='FOLDER', help='keep what each check said there')
+    given = words.parse_args()
+    repository = Repository(os.getcwd(), given.built)
+    unknown = [it for it in given.crates if it not in repository.uses]
+    if unknown:
+        sys.exit(f'crates.txt names no {unknown[0]}')
+    crates = [Crate(repository, it, given.only) for it in given.crates or repository.uses]
+    crates = sorted((it for it in crates if it.edits or it.bad), key=lambda it: -it.size())
+    if given.log:
+        os.makedirs(given.log, exist_ok=True)
+    if not given.built:
+        build_below(repository, [it.name for it in crates])
+    refused, failed = try_all(crates, given.jobs, Proofs(*given.beside or ()), given.log)
+    if not refused + failed:
+        print('there is no such edit')
+    print(f'{refused} refused, {failed} not')
+    return 1 if failed or not refused else 0
+
+
+if __name__ == '__main__':
+    sys.exit(main())

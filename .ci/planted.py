@@ -1,0 +1,157 @@
+#!/usr/bin/env python3
+"""Shows that the comparison with the model refuses wrong bodies that no contract can.
+
+    .ci/planted.py [--builds N] [--jobs N] [PROGRAM]    at the top of the repository
+
+A body that answers want of memory where there is no want of it may still be proved. Each file of compare/broken/ is such a body:
+an edit as those of must-fail/, with its crate and an input that meets it:
+
+    crate: mpd_core
+    fn: Core::apply, file:, old:, new:    as in must-fail/ (.ci/edits.py); the function is for whoever reads
+    in: TEXT                              a line of the input; `in N: TEXT` is N such lines, `wide N: TEXT` one line of N such texts
+
+What the program must answer to each input is worked out by the model of compare/, and PROGRAM, where it is named, must answer so
+to all of them. The bodies are planted together, in a few copies that `rt try` runs, with no proof: each body in half of the
+copies. Its input must be answered wrongly in each copy that has it, and rightly in each that has it not. Without `--builds` there
+are so many copies that no two bodies are in the same ones: then it is this body that the input shows, and no other. With
+`--builds 2`, as in .ci/run, this is shown of the bodies in the other half. Status 1 where that isn't so; the last line is
+`N refused, M not`.
+"""
+import argparse
+import itertools
+import math
+import os
+import re
+import shutil
+import subprocess
+import sys
+import tempfile
+from concurrent.futures import ThreadPoolExecutor
+
+HERE = os.path.dirname(os.path.abspath(__file__))
+sys.path[:0] = [HERE, f'{os.path.dirname(HERE)}/compare']
+sys.dont_write_bytecode = True
+
+from debugger import answer
+from edits import BadEdit, Edit, merged, touches
+
+FOLDER = 'compare/broken'
+
+
+class Planted(Edit):
+    """A wrong body, and the input that meets it."""
+
+    def __init__(self, path):
+        super().__init__('', path)
+        self.name = os.path.basename(path).removesuffix('.edit')
+        self.lines = []
+        self.read()
+        if not self.lines:
+            raise BadEdit('it has no input')
+        self.input = '\n'.join([*self.lines, '']).encode()
+        self.wanted = answer(self.input)
+
+    def reads(self, key, value):
+        word, _, count = key.partition(' ')
+        times = int(count) if count.isdigit() else 1
+        if key == 'crate':
+            self.folder = f'crates/{value.strip()}'
+        elif word == 'in':
+            self.lines += [value] * times
+        elif word == 'wide':
+            self.lines.append(value * times)
+        else:
+            return False
+        return True
+
+
+def words(count, builds=None):
+    """For each body the copies that have it, half of them: another half for each body, where there are copies enough."""
+    builds = builds or next(it for it in itertools.count(2) if math.comb(it, it // 2) >= count)
+    return builds, list(itertools.islice(itertools.cycle(itertools.combinations(range(builds), builds // 2)), count))
+
+
+def plant(bodies, room):
+    """Makes a copy of the repository with these bodies; those that touch others are answered, and left out."""
+    for name in ('crates.txt', 'HANDLES'):
+        if os.path.exists(name):
+            shutil.copy(name, room)
+    shutil.copytree('crates', f'{room}/crates', ignore=shutil.ignore_patterns('out', 'must-fail', 'proofs'))
+    regions, left = {}, []
+    for body in bodies:
+        own = {f'{body.folder}/{file}': region for file, region in body.regions().items()}
+        if touches(regions, own):
+            left.append(body)
+            continue
+        for file, region in own.items():
+            regions.setdefault(file, []).append(region)
+    for file, text in merged('.', regions).items():
+        with open(f'{room}/{file}', 'w', encoding='utf-8') as it:
+            it.write(text)
+    return left
+
+
+def tried(bodies, cases):
+    """What a copy with these bodies says of each case: True where its answer differs, False where it is as expected."""
+    with tempfile.TemporaryDirectory(prefix='planted-') as room:
+        left = plant(bodies, room)
+        if left:
+            return {}, f'{left[0].name} touches another body'
+        ran = subprocess.run(['rt', 'try', '--cases', cases], cwd=f'{room}/crates/mpdbg', stdin=subprocess.DEVNULL, stdout=subprocess.PIPE, stderr=subprocess.STDOUT, text=True, errors='replace')
+    said = dict(re.findall(r'(?m)^case=(\S+) .*output=(differs|expected) proved=no$', ran.stdout))
+    return {name: it == 'differs' for name, it in said.items()}, ran.stdout
+
+
+def differs(program, body):
+    ended = subprocess.run([program], input=body.input, capture_output=True, timeout=120)
+    return (ended.stdout, ended.stderr, ended.returncode) != tuple(body.wanted)
+
+
+def main():
+    given = argparse.ArgumentParser(description=__doc__, formatter_class=argparse.RawDescriptionHelpFormatter)
+    given.add_argument('program', nargs='?', metavar='PROGRAM')
+    given.add_argument('--builds', type=int, metavar='N', help='how many copies, 2 at least')
+    given.add_argument('--jobs', type=int, default=2, metavar='N', help='how many at a time')
+    given = given.parse_args()
+    bodies, failed = [], 0
+    for name in sorted(it for it in os.listdir(FOLDER) if it.endswith('.edit')):
+        try:
+            bodies.append(Planted(f'{FOLDER}/{name}'))
+            bodies[-1].regions()
+        except BadEdit as error:
+            failed += 1
+            bodies = [it for it in bodies if it.name != name.removesuffix('.edit')]
+            print(f'{name}: BAD EDIT: {error}')
+    if given.program:
+        for body in bodies:
+            if differs(os.path.abspath(given.program), body):
+                failed += 1
+                print(f'{body.name}: the program itself answers otherwise than the model')
+    builds, taken = words(len(bodies), given.builds)
+    with tempfile.TemporaryDirectory(prefix='cases-') as cases, ThreadPoolExecutor(given.jobs) as pool:
+        for body in bodies:
+            for ending, data in (('', body.input), ('.stdout', body.wanted[0])):
+                with open(f'{cases}/{body.name}{ending}', 'wb') as it:
+                    it.write(data)
+        runs = [pool.submit(tried, [it for it, word in zip(bodies, taken) if build in word], cases) for build in range(builds)]
+        said = [it.result() for it in runs]
+    refused = 0
+    for body, word in zip(bodies, taken):
+        found = [it.get(body.name) for it, _ in said]
+        wanted = [build in word for build in range(builds)]
+        if found == wanted:
+            refused += 1
+            print(f'{body.name}: refused: answered wrongly in the {sum(wanted)} copies of {builds} that have it, rightly in the others')
+        else:
+            failed += 1
+            shown = ' '.join({True: 'wrong', False: 'right', None: 'none'}[it] for it in found)
+            print(f"{body.name}: NOT REFUSED: it is in the copies {' '.join(map(str, word))}, and the answers are: {shown}")
+    for build, (found, text) in enumerate(said):
+        if len(found) < len(bodies):
+            print(f'copy {build} answered {len(found)} of {len(bodies)} inputs: {text[-1500:]}')
+    print(f'{refused} refused, {failed} not')
+    return 1 if failed or not refused else 0
+
+
+if __name__ == '__main__':
+    sys.exit(main())

@@ -1,0 +1,119 @@
+/* Counts what a program asks of memory, and refuses it where it is told to. Preloaded: see bench/memory.py.
+ *
+ * The program writes a line that begins with "mark begin" and one that begins with "mark end"; what it asks for between
+ * these two writes is inside, all else is outside. Only growths count: malloc, calloc, realloc and their kin.
+ *
+ *   SHIM_REPORT=FILE    at the end writes there: inside N outside N refused N
+ *   SHIM_REFUSE=inside  refuses all that is asked for inside
+ *   SHIM_REFUSE=N       refuses the Nth that is asked for, and all after it
+ *   SHIM_REFUSE_ONE=N   refuses the Nth alone
+ */
+/* (no header of the system is read: the kit's compiler comes with none) */
+typedef __SIZE_TYPE__ size_t;
+enum { NO_MEMORY = 12, SYS_WRITE = 1, WRITE_ANEW = 01 | 0100 | 01000 };
+#define NULL ((void *)0)
+
+int *__errno_location(void);
+long syscall(long number, ...);
+int open(const char *path, int flags, ...);
+int close(int file);
+char *getenv(const char *name);
+unsigned long strtoul(const char *text, char **end, int base);
+int strcmp(const char *left, const char *right);
+int strncmp(const char *left, const char *right, size_t most);
+size_t strlen(const char *text);
+int snprintf(char *out, size_t most, const char *format, ...);
+void _exit(int status);
+void *__libc_malloc(size_t size);
+void *__libc_calloc(size_t count, size_t size);
+void *__libc_realloc(void *old, size_t size);
+void *__libc_memalign(size_t alignment, size_t size);
+
+static int is_inside, refuses_inside;
+static unsigned long inside, outside, refused, refused_from, refused_one;
+
+/* Counts one request; whether it is to be refused. */
+static int refuses(void) {
+    if (is_inside)
+        inside++;
+    else
+        outside++;
+    unsigned long number = inside + outside;
+    int is_refused = (is_inside && refuses_inside) || (refused_from && number >= refused_from) || number == refused_one;
+    if (is_refused) {
+        refused++;
+        *__errno_location() = NO_MEMORY;
+    }
+    return is_refused;
+}
+
+void *malloc(size_t size) {
+    return refuses() ? NULL : __libc_malloc(size);
+}
+
+void *calloc(size_t count, size_t size) {
+    return refuses() ? NULL : __libc_calloc(count, size);
+}
+
+void *realloc(void *old, size_t size) {
+    return refuses() ? NULL : __libc_realloc(old, size);
+}
+
+void *memalign(size_t alignment, size_t size) {
+    return refuses() ? NULL : __libc_memalign(alignment, size);
+}
+
+void *aligned_alloc(size_t alignment, size_t size) {
+    return refuses() ? NULL : __libc_memalign(alignment, size);
+}
+
+void *valloc(size_t size) {
+    return refuses() ? NULL : __libc_memalign(4096, size);
+}
+
+int posix_memalign(void **made, size_t alignment, size_t size) {
+    if (refuses())
+        return NO_MEMORY;
+    *made = __libc_memalign(alignment, size);
+    return *made ? 0 : NO_MEMORY;
+}
+
+static int begins_with(const void *data, size_t size, const char *text) {
+    return size >= strlen(text) && strncmp(data, text, strlen(text)) == 0;
+}
+
+long write(int file, const void *data, size_t size) {
+    if (begins_with(data, size, "mark end"))
+        is_inside = 0;
+    long wrote = syscall(SYS_WRITE, file, data, size);
+    if (begins_with(data, size, "mark begin"))
+        is_inside = 1;
+    return wrote;
+}
+
+long __write(int file, const void *data, size_t size) {
+    return write(file, data, size);
+}
+
+__attribute__((constructor)) static void begin(void) {
+    const char *asked = getenv("SHIM_REFUSE");
+    if (asked && strcmp(asked, "inside") == 0)
+        refuses_inside = 1;
+    else if (asked)
+        refused_from = strtoul(asked, NULL, 10);
+    const char *one = getenv("SHIM_REFUSE_ONE");
+    if (one)
+        refused_one = strtoul(one, NULL, 10);
+}
+
+__attribute__((destructor)) static void end(void) {
+    const char *report = getenv("SHIM_REPORT");
+    char line[120];
+    int file = report ? open(report, WRITE_ANEW, 0644) : -1;
+    if (file < 0)
+        return;
+    int size = snprintf(line, sizeof line, "inside %lu outside %lu refused %lu\n", inside, outside, refused);
+    if (syscall(SYS_WRITE, file, line, (size_t)size) != size)
+        _exit(70);
+    close(file);
+}

@@ -1,0 +1,144 @@
+"""Runs the built program with each of its allocations refused in turn, and says what it may do then.
+
+    python3 compare/refused_memory.py PROGRAM [--shim SO]
+
+A run may end with the right answers up to one of them, `mpdbg: memory` and status 3; or it goes on, with `refused memory` in
+place of an answer that can be refused: then the state stands, and all answers behind it are right. Where all allocations from
+one on are refused it is the same. The status is 0 where every run did one of these. The allocations are refused by a shared
+object, which is built from bench/malloc_shim.c where none is named.
+"""
+
+import argparse
+import os
+import re
+import sys
+import tempfile
+from collections import Counter
+from typing import NamedTuple
+
+from debugger import Debugger, divided, step_of
+from language import read_script
+from runs import run_at_once
+from shims import built
+
+HERE = os.path.dirname(os.path.abspath(__file__))
+SHIM = os.path.join(HERE, '..', 'bench', 'malloc_shim.c')
+EXAMPLES = os.path.join(HERE, '..', 'examples')
+SECONDS = 20
+REFUSED = b'refused memory\n'
+
+# A state with much to show: pending and posted calls, an array, and a deadlock.
+MUCH = (b'mpd 1; ranks 4; var a[40]; var x;\nwhile x < 3 { a[x] = x * 1000000007; x = x + 1; }\n'
+        b'if rank == 0 { send 7 to 1 tag 0; }\nif rank == 1 { recv x from 0 tag 0; }\nprint x; print a[1];\n'
+        b'if rank == 2 { send 1 to 3 tag 9; } else { recv x from (rank + 1) % size tag 3; }\n---\n')
+
+
+def lively():
+    """Words that go to the end of that script, show it, and take it all back."""
+    debugger = Debugger(read_script(divided(MUCH + b'x')[0]))
+    lines = []
+    for _ in range(80):
+        for line in (*(b'local %d' % rank for rank in range(4)), b'match 0.0 1.0', b'wake 0', b'wake 1'):
+            if debugger.answer(line).startswith('ok'):
+                lines.append(line)
+    half = len(lines) // 2
+    there = [*lines[:half], b'show', *lines[half:], b'show', b'', b'fly', b'local 9']
+    return MUCH + b''.join(line + b'\n' for line in [*there, *[b'back'] * (len(lines) + 1), b'show'])
+
+
+def inputs():
+    for name in ('first.trace', 'primes.trace'):
+        with open(os.path.join(EXAMPLES, name), 'rb') as file:
+            yield name, file.read()
+    with open(os.path.join(EXAMPLES, 'primes.trace'), 'rb') as file:
+        yield 'primes.trace taken back', file.read() + b'back\n' * 90 + b'show\n'
+    yield 'much to show', lively()
+
+
+def can_be_refused(line):
+    """Steps, which may have to make room, and `show`; a step back and a refusal need no room."""
+    words = line.replace(b'\t', b' ').split()
+    return words == [b'show'] or step_of(words) is not None
+
+
+def problem(data, result):
+    """What is wrong with a run in which memory was refused; None where nothing is."""
+    script, lines = divided(data)
+    if result.status == 3 and result.errors == b'mpdbg: memory\n':
+        is_cut = True
+    elif result.status == 0 and result.errors == b'':
+        is_cut = False
+    else:
+        return f'status {result.status}, {result.errors}'
+    debugger = Debugger(read_script(script))
+    place = 0
+    for line in lines:
+        if is_cut and place == len(result.output):
+            return None
+        if result.output.startswith(REFUSED, place):
+            if not can_be_refused(line):
+                return f'{line} was refused memory'
+            place += len(REFUSED)
+            continue
+        text = debugger.answer(line)
+        wanted = b'' if text is None else text.encode() + b'\n'
+        if not result.output.startswith(wanted, place):
+            return f'{line} was answered {result.output[place:place + 60]}'
+        place += len(wanted)
+    return None if place == len(result.output) else 'answers behind the last'
+
+
+def kind_of(result):
+    if result.status:
+        return 'ended'
+    return 'went on' if REFUSED in result.output else 'not seen'
+
+
+class Shim(NamedTuple):
+    """The shared object that refuses memory, and the file where it reports."""
+    path: str
+    report: str
+
+    def run(self, program, data, **refused):
+        """The result of a run, how often the program asked for memory, and how often it was refused."""
+        if os.path.exists(self.report):
+            os.remove(self.report)
+        environment = {'LD_PRELOAD': self.path, 'SHIM_REPORT': self.report, **refused}
+        result = run_at_once(program, data, SECONDS, environment)
+        with open(self.report, encoding='ascii') as file:
+            inside, outside, count = map(int, re.findall(r'\d+', file.read()))
+        return result, inside + outside, count
+
+
+def try_input(program, name, data, shim):
+    """Refuses each allocation of a run alone, and then each one with all behind it; gives how many runs were wrong."""
+    _, count, _ = shim.run(program, data)
+    kinds = Counter()
+    wrong = 0
+    for variable in ('SHIM_REFUSE_ONE', 'SHIM_REFUSE'):
+        for number in range(1, count + 1):
+            result, _, refused = shim.run(program, data, **{variable: str(number)})
+            kinds[kind_of(result)] += 1
+            if what := problem(data, result) if refused else 'nothing was refused':
+                wrong += 1
+                print(f'{name}, {variable}={number}: {what}', flush=True)
+    told = ', '.join(f'{number} {kind}' for kind, number in sorted(kinds.items()))
+    print(f'{name}: {count} allocations, {kinds.total()} runs: {told}; {wrong} wrong', flush=True)
+    return wrong + (count == 0)
+
+
+def main():
+    parser = argparse.ArgumentParser(description=__doc__, formatter_class=argparse.RawDescriptionHelpFormatter)
+    parser.add_argument('program', metavar='PROGRAM')
+    parser.add_argument('--shim', help='a shared object that refuses memory')
+    chosen = parser.parse_args()
+    program = os.path.abspath(chosen.program)
+    with tempfile.TemporaryDirectory() as folder:
+        path = os.path.abspath(chosen.shim) if chosen.shim else built(SHIM, folder)
+        shim = Shim(path, os.path.join(folder, 'report'))
+        wrong = [try_input(program, name, data, shim) for name, data in inputs()]
+    return 1 if any(wrong) else 0
+
+
+if __name__ == '__main__':
+    sys.exit(main())

@@ -1,0 +1,305 @@
+"""Runs the built program in each way to end: what it writes, what it says on standard error, and its status, each exactly.
+
+    python3 compare/statuses.py PROGRAM
+
+Devices that are full, closed, broken off, too short or interrupted; each fault of a script; as many steps and reads as there
+may be; the deepest scripts on a small stack; more answers than memory; answers that come before the next read. The status is 0
+where every run ended as it must.
+"""
+
+import os
+import resource
+import select
+import signal
+import socket
+import subprocess
+import sys
+import tempfile
+from contextlib import contextmanager
+
+from debugger import MOST_READS, MOST_STEPS, Debugger, Result, Step, answer, answer_packets
+from language import MOST_OPEN_BLOCKS, MOST_OPERATORS, read_script
+from runs import action, content, file_of, run_in_packets, status_of
+from shims import built
+
+HERE = os.path.dirname(os.path.abspath(__file__))
+SECONDS = 60
+# What the deepest scripts are run with (docs/LANGUAGE.md, "Limits").
+STACK_KIB = 512
+# The memory for answers that have many times as many bytes.
+MUCH_MIB = 32
+
+SESSION = (b'mpd 1;\nranks 2;\nvar x;\nif rank == 0 { send 7 to 1 tag 0; } else { recv x from 0 tag 0; print x; }\n---\n'
+           b'local 0\nlocal 1\nlocal 0\nlocal 1\nmatch 0.0 1.0\nshow\nfly\nback\nwake 1\n')
+ENDED = Result(answer(SESSION).output, b'', 0)
+
+# Each fault of a script, at its place.
+FAULTS = (
+    (b' ' * 65537, b'1 too-long at 65536 line 1'),
+    (b'mpd 1;\nranks 1;\n# \x00\n', b'2 not-text at 18 line 3'),
+    (b'mpd 1;\nranks 1;\nprint 1 & 1;\n', b'3 bad-token at 24 line 3'),
+    (b'', b'4 expected at 0 line 1'),
+    (b'mpd 1;\nranks 1;\nprint 1\n\n', b'4 expected at 25 line 5'),
+    (b'mpd 1;\nranks 1;\nx = 1;\n', b'5 unknown-name at 16 line 3'),
+    (b'mpd 1;\nranks 1;\nvar x;\nvar x;\n', b'6 twice at 27 line 4'),
+    (b'mpd 1;\nranks 1;\nprint ' + b'-' * 65 + b'1;\n', b'7 too-deep at 86 line 3'),
+    (b'mpd 1;\nranks 1;\nvar a[1025];\n', b'8 too-many at 22 line 3'),
+    (b'mpd 1;\nranks 17;\n', b'9 bad-ranks at 13 line 2'),
+    (b'mpd 2;\n', b'10 not-in-version at 4 line 1'))
+
+
+def refused(fault):
+    return Result(b'', b'mpdbg: script refused ' + fault + b'\n', 2)
+
+
+@contextmanager
+def soft_limit(kind, number):
+    """Has what is started get a limit, and this process its own again."""
+    soft, hard = resource.getrlimit(kind)
+    resource.setrlimit(kind, (number, hard))
+    try:
+        yield
+    finally:
+        resource.setrlimit(kind, (soft, hard))
+
+
+class Files:
+    """The three files of a run: a number, or None for a closed one; those in memory are read when it has ended."""
+
+    def __init__(self, reading, output='memory', errors='memory'):
+        self.numbers = [reading, *(os.memfd_create('written') if file == 'memory' else file for file in (output, errors))]
+
+    def run(self, *words, **variables):
+        """Runs a program with its words, and gives what it wrote to each of the two files, where that is in memory."""
+        actions = [action(place, number) for place, number in enumerate(self.numbers)]
+        process = os.posix_spawn(words[0], words, {**os.environ, **variables}, file_actions=actions,
+                                 setsigdef=(signal.SIGPIPE,))
+        handle = os.pidfd_open(process)
+        status = status_of(process, handle, SECONDS)
+        written = [b'' if number is None or not is_memory(number) else content(number) for number in self.numbers[1:]]
+        for number in [handle, *self.numbers]:
+            if number is not None:
+                os.close(number)
+        return Result(*written, status)
+
+
+def is_memory(number):
+    return '/memfd:written' in os.readlink(f'/proc/self/fd/{number}')
+
+
+def full():
+    """A device that takes no byte."""
+    return os.open('/dev/full', os.O_WRONLY)
+
+
+def unread_pipe():
+    """The writing end of a pipe that nobody reads any more."""
+    reading, writing = os.pipe()
+    os.close(reading)
+    return writing
+
+
+def broken_off(data):
+    """A connection that brings the bytes and then fails, since its other side left with bytes that it hadn't read."""
+    ours, theirs = socket.socketpair()
+    theirs.sendall(b'unread')
+    ours.sendall(data)
+    ours.close()
+    return theirs.detach()
+
+
+def device(output=b''):
+    return Result(output, b'mpdbg: device\n', 3)
+
+
+def ended_rows(program):
+    """Status 0."""
+    yield 'a session', Files(file_of(SESSION)).run(program), ENDED
+    script = SESSION[:SESSION.index(b'---')]
+    yield 'a script alone', Files(file_of(script)).run(program), Result(b'', b'', 0)
+    yield 'a script and no words', Files(file_of(script + b'---\n')).run(program), Result(b'', b'', 0)
+
+
+def refused_rows(program):
+    """Status 2, also where standard error takes nothing; standard output is not looked at."""
+    for data, fault in FAULTS:
+        yield fault.decode(), Files(file_of(data)).run(program), refused(fault)
+    behind = b'mpd 2;\n---\nlocal 0\n'
+    wanted = refused(FAULTS[-1][1])
+    yield 'refused before its words', Files(file_of(behind)).run(program), wanted
+    yield 'refused, output full', Files(file_of(behind), full()).run(program), wanted
+    yield 'refused, output closed', Files(file_of(behind), None).run(program), wanted
+    silent = Result(b'', b'', 2)
+    yield 'refused, errors full', Files(file_of(behind), errors=full()).run(program), silent
+    yield 'refused, errors closed', Files(file_of(behind), errors=None).run(program), silent
+    yield 'refused, errors unread', Files(file_of(behind), errors=unread_pipe()).run(program), silent
+
+
+def device_rows(program):
+    """Status 3 for want of a device."""
+    yield 'input closed', Files(None).run(program), device()
+    yield 'input a directory', Files(os.open('/', os.O_RDONLY)).run(program), device()
+    yield 'input that is written', Files(unread_pipe()).run(program), device()
+    yield 'input broken off', Files(broken_off(SESSION + b'back')).run(program), device(ENDED.output)
+    yield 'input broken off in its script', Files(broken_off(SESSION[:30])).run(program), device()
+    yield 'output full', Files(file_of(SESSION), full()).run(program), device()
+    yield 'output closed', Files(file_of(SESSION), None).run(program), device()
+    yield 'output unread', Files(file_of(SESSION), unread_pipe()).run(program), device()
+    yield 'output and errors full', Files(file_of(SESSION), full(), full()).run(program), Result(b'', b'', 3)
+    yield 'all closed', Files(None, None, None).run(program), Result(b'', b'', 3)
+    for size in (0, 1, 4, 5, 6, 100, len(ENDED.output) - 1):
+        # standard error is a pipe, so that it has no such limit
+        reading, writing = os.pipe()
+        with soft_limit(resource.RLIMIT_FSIZE, size):
+            result = Files(file_of_any_size(SESSION), errors=writing).run(program)
+        with open(reading, 'rb') as errors:
+            yield f'output of {size} bytes', result._replace(errors=errors.read()), device(ENDED.output[:size])
+
+
+def file_of_any_size(data):
+    """A pipe that brings the bytes, for a process that may write no file."""
+    reading, writing = os.pipe()
+    os.write(writing, data)
+    os.close(writing)
+    return reading
+
+
+LOOP = b'mpd 1; ranks 2; while 1 { }\n'
+
+
+def many_reads(count, last):
+    """An input that so many reads bring, the last of them this one."""
+    return [LOOP + b'---\nlocal 0\nlocal 1\n'] + [b'\n'] * (count - 2) + [last]
+
+
+def turns_rows(program):
+    """Status 3 where the input has not ended after as many reads as there may be; the end is one of them."""
+    for count in (MOST_READS - 1, MOST_READS):
+        packets = many_reads(count, b'local 0')
+        yield f'{count} packets and the end', run_in_packets(program, packets, SECONDS), answer_packets(packets)
+
+
+def full_rows(program):
+    """As many steps as there may be, then a refusal; steps taken back, and again, and refused again."""
+    behind = ('wake 0, local 0, local 1, show, back, back, show, local 0, local 0, local 0, back, local 1, show, '
+              'local 0, back, back, local 1, show, back').encode().split(b', ')
+    data = LOOP + b'---\n' + b'local 0\n' * MOST_STEPS + b'\n'.join([*behind, b''])
+    debugger = Debugger(read_script(LOOP))
+    # each step leads to the same world again
+    debugger.worlds *= MOST_STEPS + 1
+    debugger.steps = [Step('local', 0)] * MOST_STEPS
+    texts = [f'ok {depth}' for depth in range(1, MOST_STEPS + 1)] + [debugger.answer(line) for line in behind]
+    wanted = Result(''.join(text + '\n' for text in texts).encode(), b'', 0)
+    yield f'{MOST_STEPS} steps', Files(file_of(data)).run(program), wanted
+
+
+def interrupted_rows(program):
+    """Each read and each write is interrupted once: it is tried again, and nothing else is seen of it."""
+    with tempfile.TemporaryDirectory() as folder:
+        shim = built(os.path.join(HERE, 'interrupt_shim.c'), folder)
+        yield 'interrupted', Files(file_of(SESSION)).run(program, LD_PRELOAD=shim), ENDED
+
+
+class Talk:
+    """A program that is asked piece by piece; its input stays open."""
+
+    def __init__(self, program):
+        self.process = subprocess.Popen([program], stdin=subprocess.PIPE, stdout=subprocess.PIPE, stderr=subprocess.PIPE,
+                                        bufsize=0)
+
+    def ask(self, data, length):
+        """Writes a piece, and gives what comes, up to so many bytes or until nothing comes any more."""
+        self.process.stdin.write(data)
+        answers = b''
+        while len(answers) < length and select.select([self.process.stdout], [], [], SECONDS)[0]:
+            piece = os.read(self.process.stdout.fileno(), length - len(answers))
+            if not piece:
+                break
+            answers += piece
+        return answers
+
+    def end(self):
+        output, errors = self.process.communicate(timeout=SECONDS)
+        return Result(output, errors, self.process.returncode)
+
+
+def talk_rows(program):
+    """What a read brought is answered before the next one; a script that can't be read is refused before its input ends."""
+    place = SESSION.index(b'---\n') + 4
+    talk = Talk(program)
+    asked = SESSION[:place]
+    for line in SESSION[place:].splitlines(keepends=True):
+        before, asked = answer(asked).output, asked + line
+        wanted = answer(asked).output[len(before):]
+        answers = talk.ask(line if before else SESSION[:place] + line, len(wanted))
+        yield f'asked {line.decode().strip()}', Result(answers, b'', 0), Result(wanted, b'', 0)
+    yield 'asked no more', talk.end(), Result(b'', b'', 0)
+    process = subprocess.Popen([program], stdin=subprocess.PIPE, stdout=subprocess.PIPE, stderr=subprocess.PIPE)
+    os.write(process.stdin.fileno(), b' ' * 32_768)
+    os.write(process.stdin.fileno(), b' ' * 32_769)
+    status = process.wait(SECONDS)
+    yield 'too long before its end', Result(process.stdout.read(), process.stderr.read(), status), refused(FAULTS[0][1])
+    process.stdin.close()
+
+
+def deepest(block, opening, closing, count):
+    """A script of blocks as deep as allowed, with an expression as deep as allowed inside, and the words to its end."""
+    expression = opening * count + '0' + closing * count
+    inside = (block + ' ') * MOST_OPEN_BLOCKS + f'print {expression}; a[{expression} * 0] = {expression}; x = 1; '
+    text = f'mpd 1;\nranks 1;\nvar x;\nvar a[1];\n{inside}{"}" * MOST_OPEN_BLOCKS}\n---\n'
+    return (text + 'local 0\n' * 70 + 'show\n' + 'back\n' * 69 + 'show\n').encode()
+
+
+def stack_rows(program):
+    """The deepest scripts, on a stack of so many KiB."""
+    forms = {'(': (')', 1), '!': ('', 1), '-': ('', 1), 'a[': (']', 1), '(1 + ': (')', 2), '!(': (')', 2), '1 * (': (')', 2),
+             '0 || (': (')', 2), '1 && (': (')', 2), '(-a[': ('])', 3)}
+    for block in ('if 1 {', 'while !x {', 'if 0 { } else {'):
+        for opening, (closing, cost) in forms.items():
+            data = deepest(block, opening, closing, (MOST_OPERATORS - 1) // cost)
+            with soft_limit(resource.RLIMIT_STACK, STACK_KIB << 10):
+                result = Files(file_of(data)).run(program)
+            yield f'{block} {opening} on {STACK_KIB} KiB', result, answer(data)
+
+
+def much_rows(program):
+    """Answers of many times the memory that the program may take: they are written before too many are gathered."""
+    ranks, cells = 4, 1023
+    text = (f'mpd 1; ranks {ranks}; var i; var a[{cells}];\n'
+            f'while i < {cells} {{ a[i] = -1234567890123456789; i = i + 1; }}\n---\n')
+    steps = ''.join(f'local {rank}\n' * (3 * cells + 1) for rank in range(ranks))
+    front, shows = (text + steps).encode(), 900
+    first = answer(front).output
+    shown = answer(front + b'show\n').output[len(first):]
+    data = front + b'show\n' * shows + b'back\n'
+    wanted = Result(first + shown * shows + b'ok %d\n' % (steps.count('\n') - 1), b'', 0)
+    # a limit that this process itself could not keep
+    result = Files(file_of(data)).run('/bin/sh', '-c', f'ulimit -v {MUCH_MIB << 10}; exec "$0"', program)
+    yield f'much to show with {MUCH_MIB} MiB', result, wanted
+
+
+ROWS = (ended_rows, refused_rows, device_rows, interrupted_rows, talk_rows, stack_rows, much_rows, full_rows,
+        turns_rows)
+
+
+def main():
+    if len(sys.argv) != 2:
+        sys.exit(__doc__)
+    program = os.path.abspath(sys.argv[1])
+    count = wrong = 0
+    for rows in ROWS:
+        for name, result, wanted in rows(program):
+            count += 1
+            if result != wanted:
+                wrong += 1
+                print(f'{name}: {shortened(result)}, wanted {shortened(wanted)}', flush=True)
+    print(f'{count} runs, {wrong} wrong')
+    return 1 if wrong else 0
+
+
+def shortened(result):
+    return Result(result.output[-200:], result.errors[-200:], result.status)
+
+
+if __name__ == '__main__':
+    sys.exit(main())

@@ -1,0 +1,161 @@
+"""Random walks through a script: the trace words of an input, chosen with the model at hand."""
+
+from typing import NamedTuple
+
+from debugger import CallId, Debugger, Step, enabled_steps
+from language import Fault, read_script
+
+# Lines that are no step, or an odd one.
+ODD_LINES = (
+    '', ' ', '\t', 'foo', 'local', 'wake', 'match', 'local x', 'local 0 0', 'match 0.0', 'match 0.0 1.0 2.0',
+    'match 0 1', 'match 0.0.0 1.0', 'match .0 1.0', 'match 0. 1.0', 'match . .', 'match 0.0 1.', 'release 0', 'back 1',
+    'back back', 'show 1', 'Show', 'SHOW', 'show;', 'redo', 'goto 0', 'goto', 'enabled', '---', 'local 0000000000',
+    'local 1234567890', 'local 000000000', 'local -1', 'local +1', 'local 0x0', 'local 999999999', 'wakeany 0 0',
+    'local 0.0', 'wake 0.0', 'local 0\r', 'show\x0b', '\x0c', '\x00', 'match 0.0000000000 1.0',
+    'match 1234567890.0 0.0', 'match 999999999.999999999 0.0', '#', '# show', 'local  0', ' local 0', 'local 0 ',
+    '\tlocal\t0\t', 'show ', ' back', 'sho', 'shows', 'locals 0', 'local0', 'matc 0.0 1.0', 'match 0 .0 1.0',
+    'match 0.0,1.0', 'call 0.0', '-', '--', '----', ' ---', '--- ', 'release', ' release ', '\xff', 'local \xb2',
+    'local 0\x00', 'ok 1', 'wait 0', 'any', 'local 0\xa0', '\xa0show', 'local 1 ', 'wake 1')
+
+
+def step_line(random, step):
+    def digits(number):
+        """Now and then with zeros in front, up to one digit more than a number may have."""
+        return str(number).zfill(random.choice([2, 3, 8, 9, 9, 10]) if random.random() < 0.02 else 0)
+
+    if step.kind == 'match':
+        ends = [f'{digits(call_id.rank)}.{digits(call_id.number)}' for call_id in (step.first, step.second)]
+        return ' '.join(['match', *ends])
+    return 'release' if step.kind == 'release' else f'{step.kind} {digits(step.first)}'
+
+
+def random_call_id(random, world):
+    """A call that is mostly there, now and then one past the last."""
+    ranks = len(world.ranks)
+    if random.random() < 0.15:
+        return CallId(random.choice([0, 1, ranks, 999999999]), random.choice([0, 1, 2, 999999999]))
+    rank = random.randrange(ranks)
+    count = len(world.ranks[rank].calls)
+    return CallId(rank, max(0, count - random.randint(0, 2)) if random.random() < 0.5 else random.randint(0, count))
+
+
+def any_number(random, ranks):
+    return random.randint(0, ranks) if random.random() < 0.95 else random.choice([15, 16, 255, 256, 65536, 999999999])
+
+
+def random_step(random, world):
+    """A step that is often not enabled."""
+    draw = random.random()
+    if draw < 0.3:
+        return Step('local', any_number(random, len(world.ranks)))
+    if draw < 0.55:
+        return Step('wake', any_number(random, len(world.ranks)))
+    if draw < 0.6:
+        return Step('release')
+    return Step('match', random_call_id(random, world), random_call_id(random, world))
+
+
+def respaced(random, line):
+    """The line, now and then with odd blanks."""
+    if random.random() < 0.9:
+        return line
+
+    def gap(least):
+        return ''.join(random.choice(' \t') for _ in range(random.randint(least, 3)))
+
+    text = gap(0)
+    for place, word in enumerate(line.split(' ')):
+        text += (gap(1) if place else '') + word
+    return text + gap(0)
+
+
+class Habits(NamedTuple):
+    """How often a walk shows the state, goes back, takes any step at all, writes an odd line, takes undone steps again."""
+    show: tuple = (0.02, 0.1, 0.3, 1.0)
+    back: tuple = (0.0, 0.05, 0.15, 0.4)
+    any_step: tuple = (0.02, 0.1, 0.3)
+    odd: tuple = (0.0, 0.02, 0.1)
+    again: tuple = (0.2, 0.7, 0.95)
+    backs: tuple = (0, 0, 1, 2, 5, 30)
+
+
+USUAL = Habits()
+ODD = Habits(odd=(0.4,))
+# Hundreds of steps, and hundreds of them taken back at once and taken again.
+LONG = Habits(show=(0.0, 0.002), back=(0.0, 0.002, 0.005), any_step=(0.0, 0.02), odd=(0.0, 0.002), again=(0.98, 0.999),
+              backs=(0, 5, 40, 200, 500))
+SHOWING = Habits(show=(1.0,), back=(0.0, 0.05, 0.15), any_step=(0.02, 0.2), odd=(0.0,))
+
+
+class Walk:
+    """Random trace words for a script that was read, chosen with the model at hand."""
+
+    def __init__(self, random, script, habits):
+        self.random = random
+        self.debugger = Debugger(script)
+        self.show, self.back, self.any_step, self.odd, self.again = map(random.choice, habits[:5])
+        self.backs = habits.backs
+        self.backs_left = 0
+        self.order = random.choice(['any', 'any', 'first', 'last'])
+
+    def line(self):
+        if self.backs_left:
+            self.backs_left -= 1
+            return 'back'
+        draw = self.random.random()
+        if draw < self.odd:
+            return self.random.choice(ODD_LINES)
+        if draw < self.odd + self.any_step:
+            return step_line(self.random, random_step(self.random, self.debugger.world))
+        if self.random.random() < self.back:
+            self.backs_left = self.random.choice(self.backs)
+            return 'back'
+        undone = self.debugger.steps[self.debugger.depth:]
+        if undone and self.random.random() < self.again:
+            return step_line(self.random, undone[0])
+        return self.forward()
+
+    def forward(self):
+        steps = enabled_steps(self.debugger.world)
+        if not steps:
+            line = 'back'
+            if self.random.random() >= 0.3:
+                line = step_line(self.random, random_step(self.random, self.debugger.world))
+            if self.random.random() < 0.05:
+                self.backs_left = self.random.randint(1, 40)
+            return line
+        if self.order == 'any':
+            return step_line(self.random, self.random.choice(steps))
+        return step_line(self.random, steps[0 if self.order == 'first' else -1])
+
+    def lines(self, count):
+        lines = []
+        for _ in range(count):
+            line = respaced(self.random, self.line())
+            lines.append(line)
+            self.debugger.answer(line.encode('latin-1').rstrip(b'\r'))
+            if self.random.random() < self.show:
+                lines.append('show')
+        return lines + ['show']
+
+
+def trace_lines(random, script, count, habits=USUAL):
+    try:
+        read = read_script(script)
+    except Fault:
+        return [random.choice(ODD_LINES) for _ in range(random.randint(0, 3))]
+    return Walk(random, read, habits).lines(count)
+
+
+def assembled(random, script, lines):
+    """The input of a script and its lines, now and then without the line between them."""
+    line_end = random.choice(['\n', '\n', '\n', '\r\n'])
+    data = script
+    if random.random() < 0.97:
+        if not data.endswith(b'\n'):
+            data += b'\n' if random.random() < 0.9 else b'\r\n'
+        data += b'---' + (b'\n' if random.random() < 0.9 else b'\r\n')
+    body = ''.join(line + (line_end if random.random() < 0.98 else '\n') for line in lines)
+    if random.random() < 0.1:
+        body = body[:-1]
+    return data + body.encode('latin-1')

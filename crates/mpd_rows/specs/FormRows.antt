@@ -1,0 +1,105 @@
+-- Worked rows of forms and their holes, by computing. What no statement uses yet is read and written here alone.
+use Rattle.std.specs.Prelude.{◌≡◌, ℕ, pos, List, [], ◌∷◌, Option, Some, None, Result, Ok, Err, codes, map, refl}
+use Rattle.std.specs.Fmt.{digits}
+use Rattle.mpd_model.specs.declared.place.DeclKind.TheVariants.{Variable}
+use Rattle.mpd_model.specs.declared.place.Place.{Place}
+use Rattle.mpd_model.specs.declared.read_fault.FaultCode.TheVariants as f
+use Rattle.mpd_model.specs.declared.read_fault.ReadFault.{ReadFault}
+use Rattle.mpd_model.specs.declared.token.Mark.TheVariants as m
+use Rattle.mpd_model.specs.Canonical.{mark_text, parts_text}
+use Rattle.mpd_model.specs.Declaration.{Declared}
+use Rattle.mpd_model.specs.Faults.{fault}
+use Rattle.mpd_model.specs.Grammar.{chain, bracket, place_inside, rounds, signed, atom, level, expr, target, named, source, status, fill, form_of}
+use Rattle.mpd_model.specs.Input.{Outcome, start_of, token, spelling, place, advanced, refusal, same_mark, sees, after, expect, spend, slot_in, seek}
+use Rattle.mpd_model.specs.Parts.{Hole, mark_hole, term_hole, target_hole, source_hole, status_hole, Contents, filled}
+use Rattle.mpd_model.specs.Term.{lit, cell, Target}
+use Rattle.mpd_model.specs.Tokens.{reserved, tokens_after, front, sign, word, number}
+
+-- x is a variable, a an array of ten cells behind it
+abbrev declared_here : List Declared
+declared_here = record { kind = Variable; name = codes "x"; size = None } ∷ record { kind = Variable; name = codes "a"; size = Some 10 } ∷ []
+
+abbrev at_x : Place
+at_x = record { declaration = 0; first = 0; cells = 1 }
+
+abbrev into_x : Target
+into_x = record { place = at_x; index = None }
+
+abbrev into_a : ℕ → Target
+into_a k = record { place = record { declaration = 1; first = 1; cells = 10 }; index = Some (lit (pos k)) }
+
+-- ---- marks
+
+-- each reserved word is spelled as it is cut
+pub row_words : map (λ k. mark_text k.1) reserved ≡ map (λ k. k.0) reserved
+row_words = refl
+
+-- the words that a statement without blocks begins with
+abbrev is_found : {A : Type 0} → Option A → ℕ
+is_found None = 0
+is_found (Some a) = 1
+
+pub row_forms : map (λ k. is_found (form_of k.1)) reserved ≡ 0 ∷ 0 ∷ 0 ∷ 0 ∷ 0 ∷ 0 ∷ 0 ∷ 1 ∷ 1 ∷ 1 ∷ 0 ∷ 0 ∷ 0 ∷ 1 ∷ 0 ∷ 0 ∷ 0 ∷ 0 ∷ 0 ∷ 0 ∷ 0 ∷ 0 ∷ 0 ∷ 0 ∷ 0 ∷ []
+row_forms = refl
+
+-- ---- what fills holes
+
+abbrev contents_of : {A : Type 0} → Outcome A → Result A ReadFault
+contents_of (Ok p) = Ok p.0
+contents_of (Err e) = Err e
+
+abbrev filled_by : (hs : List Hole) → List ℕ → Result (Contents hs) ReadFault
+filled_by hs text = contents_of (fill hs (λ c. c) (record (start_of text) { decls = declared_here }))
+
+abbrev source_and_tag : List Hole
+source_and_tag = source_hole ∷ mark_hole m.Tag ∷ term_hole ∷ []
+
+abbrev target_and_status : List Hole
+target_and_status = target_hole ∷ status_hole ∷ []
+
+pub row_any : filled_by source_and_tag (codes "any tag 3;") ≡ Ok (None, (lit (pos 3), tt))
+unfolding chain bracket place_inside rounds signed atom level expr target named source status token spelling place advanced refusal same_mark sees after expect spend slot_in seek tokens_after front sign word number
+row_any = refl
+
+pub row_source : filled_by source_and_tag (codes "x tag 3;") ≡ Ok (Some (cell at_x), (lit (pos 3), tt))
+unfolding chain bracket place_inside rounds signed atom level expr target named source status token spelling place advanced refusal same_mark sees after expect spend slot_in seek tokens_after front sign word number
+row_source = refl
+
+pub row_no_source : filled_by source_and_tag (codes "tag 3;") ≡ Err (fault f.Expected 0)
+unfolding chain bracket place_inside rounds signed atom level expr target named source status token spelling place advanced refusal same_mark sees after expect spend slot_in seek tokens_after front sign word number
+row_no_source = refl
+
+pub row_status : filled_by target_and_status (codes "x status a[1];") ≡ Ok (into_x, (Some (into_a 1), tt))
+unfolding chain bracket place_inside rounds signed atom level expr target named source status token spelling place advanced refusal same_mark sees after expect spend slot_in seek tokens_after front sign word number
+row_status = refl
+
+pub row_no_status : filled_by target_and_status (codes "a[2];") ≡ Ok (into_a 2, (None, tt))
+unfolding chain bracket place_inside rounds signed atom level expr target named source status token spelling place advanced refusal same_mark sees after expect spend slot_in seek tokens_after front sign word number
+row_no_status = refl
+
+pub row_status_of_a_number : filled_by target_and_status (codes "x status 1;") ≡ Err (fault f.Expected 9)
+unfolding chain bracket place_inside rounds signed atom level expr target named source status token spelling place advanced refusal same_mark sees after expect spend slot_in seek tokens_after front sign word number
+row_status_of_a_number = refl
+
+pub row_no_end : filled_by target_and_status (codes "x status x") ≡ Err (fault f.Expected 10)
+unfolding chain bracket place_inside rounds signed atom level expr target named source status token spelling place advanced refusal same_mark sees after expect spend slot_in seek tokens_after front sign word number
+row_no_end = refl
+-- ---- how they are written
+
+abbrev written_by : (hs : List Hole) → Contents hs → List ℕ
+written_by hs c = parts_text declared_here (filled hs c)
+
+pub row_any_text : written_by source_and_tag (None, (lit (pos 3), tt)) ≡ codes "any tag 3"
+unfolding digits
+row_any_text = refl
+
+pub row_source_text : written_by source_and_tag (Some (cell at_x), (lit (pos 3), tt)) ≡ codes "x tag 3"
+unfolding digits
+row_source_text = refl
+
+pub row_status_text : written_by target_and_status (into_x, (Some (into_a 1), tt)) ≡ codes "x status a[1]"
+unfolding digits
+row_status_text = refl
+
+pub row_no_status_text : written_by target_and_status (into_x, (None, tt)) ≡ codes "x"
+row_no_status_text = refl
