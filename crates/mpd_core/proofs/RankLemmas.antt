@@ -1,7 +1,7 @@
 -- One of the ranks is changed, and changed back.
-use Rattle.std.proofs.Common.{◌≡◌, ◌&&◌, ℕ, zero, suc, ◌<◌, ◌+◌, List, [], ◌∷◌, ◌++◌, length, get_or, set, drop, add-one, ℤ, Option, Some, None, refl, sym, ap, ◌∙◌, arith, slice_get, slice_set, IfSome, replicate, Bool, true, false}
+use Rattle.std.proofs.Common.{◌≡◌, ◌&&◌, ℕ, zero, suc, ◌<◌, ◌+◌, List, [], ◌∷◌, ◌++◌, length, get_or, set, drop, add-one, ℤ, Option, Some, None, Result, Ok, Err, IfOk, refl, sym, ap, ◌∙◌, arith, slice_get, slice_set, IfSome, replicate, Bool, true, false}
 use Rattle.std.proofs.lemmas.Option.{slice_get_read}
-use Rattle.std.proofs.lemmas.List.{map-set, map-set_same, map-append, length-map, replicate-append-replicate}
+use Rattle.std.proofs.lemmas.List.{map-set, map-append, length-map, replicate-append-replicate}
 use Rattle.std.specs.Option.{option_map}
 use Rattle.std.proofs.lemmas.List.FromFn.{length-range_with_len}
 use Rattle.std.specs.List.{list_all, range_with_len}
@@ -44,9 +44,11 @@ as_numbered s vs n p v e h read numbers =
     sym (length-range_with_len 0 s.ranks) ∙ ap length (sym numbers) ∙ length-map vs (λ (x : RankView). x.rank) ∙ sym e)
 
 pub numbers_set : (vs : List RankView) (p : ℕ) (v w : RankView) → v ≡ get_or vs p v → w.rank ≡ v.rank → numbers_in (set vs p w) ≡ numbers_in vs
-numbers_set vs p v w read same = map-set_same (λ (x : RankView). x.rank) vs p w v (same ∙ ap (λ (x : RankView). x.rank) read)
+numbers_set [] p v w read same = refl
+numbers_set (u ∷ vs) zero v w read same = ap (λ k. k ∷ numbers_in vs) (same ∙ ap (λ (x : RankView). x.rank) read)
+numbers_set (u ∷ vs) (suc p) v w read same = ap (λ ks. u.rank ∷ ks) (numbers_set vs p v w read same)
 
-range_more : (a n : ℕ) → range_with_len a (n + 1) ≡ range_with_len a n ++ (a + n) ∷ []
+range_more : (a n : ℕ) → range_with_len a (suc n) ≡ range_with_len a n ++ (a + n) ∷ []
 range_more a zero = let e : a ≡ a + 0 = omega arith in ap (λ k. k ∷ []) e
 range_more a (suc n) =
     let e : a + 1 + n ≡ a + suc n = omega arith in
@@ -54,7 +56,9 @@ range_more a (suc n) =
 
 pub numbers_more : (vs : List RankView) (v : RankView) (n : ℕ) → numbers_in vs ≡ range_with_len 0 n → v.rank ≡ n → numbers_in (vs ++ v ∷ []) ≡ range_with_len 0 (n + 1)
 numbers_more vs v n e is =
-    map-append (λ (x : RankView). x.rank) vs (v ∷ []) ∙ ap (λ xs. xs ++ v.rank ∷ []) e ∙ ap (λ k. range_with_len 0 n ++ k ∷ []) is ∙ sym (range_more 0 n)
+    let from_0 : v.rank ≡ 0 + n = omega (arith, is) in
+    let one : suc n ≡ n + 1 = omega arith in
+    map-append (λ (x : RankView). x.rank) vs (v ∷ []) ∙ ap (λ xs. xs ++ v.rank ∷ []) e ∙ ap (λ k. range_with_len 0 n ++ k ∷ []) from_0 ∙ sym (range_more 0 n) ∙ ap (range_with_len 0) one
 
 -- a step of the rank that was read is the step there
 pub local_read : (s : Program) (vs : List RankView) (n p : ℕ) (v : RankView) → n ≡ length vs → p < n → v ≡ get_or vs p v → local_at (ranks_in s vs) p ≡ local p n (rank_of s v)
@@ -71,6 +75,11 @@ pub recorded_read : (s : Program) (vs : List RankView) (n p : ℕ) (v : RankView
 recorded_read s vs n p v made e h read numbers is =
     let same : (v.rank ≡ p) × (s.ranks ≡ n) = as_numbered s vs n p v e h read numbers in
     is ∙ rw (rank_read s vs n p v e h read) (λ i. local_record (same.0 i) ((same.1 ∙ e ∙ sym (length-ranks_in s vs)) i) (rank_of s v))
+
+pub recorded_ok : {E : Type 0} (s : Program) (vs : List RankView) (n p : ℕ) (v : RankView) (result : Result (Option RankRecord) E) → n ≡ length vs → p < n → v ≡ get_or vs p v → numbers_in vs ≡ range_with_len 0 s.ranks
+    → IfOk result (λ made. made ≡ local_record v.rank s.ranks (rank_of s v)) → IfOk result (λ made. made ≡ local_record_at (ranks_in s vs) p)
+recorded_ok s vs n p v (Ok made) e h read numbers is = recorded_read s vs n p v made e h read numbers is
+recorded_ok s vs n p v (Err failed) e h read numbers is = tt
 
 pub woke_read : (s : Program) (vs : List RankView) (n p : ℕ) (v : RankView) (writes : List (ℕ × ℤ)) (made : RankRecord) → n ≡ length vs → p < n → v ≡ get_or vs p v → made ≡ wake_record v.vars writes → wake_record_at (ranks_in s vs) p writes ≡ Some made
 woke_read s vs n p v writes made e h read is = rw (rank_read s vs n p v e h read) (ap Some (sym is))
@@ -168,7 +177,7 @@ ended_not s (u ∷ vs) (suc i) v total h read e so_far = ended_not s vs i v tota
 
 pub ruleset ending = (ended_on, ended_not)
 
-pub ruleset at_rank = (numbered_read, numbers_set, recorded_read, woke_read, no_room_at, local_none, local_written, put_back_read, update_read, stays_read, wake_back)
+pub ruleset at_rank = (numbered_read, numbers_set, woke_read, no_room_at, local_none, local_written, put_back_read, update_read, stays_read, wake_back)
 
 pub ruleset reading = (slice_get-ranks_in)
 
