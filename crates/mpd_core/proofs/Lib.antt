@@ -1,3 +1,4 @@
 pub mod RankLemmas
 pub mod ScanLemmas
 pub mod RangeLemmas
+pub mod RoomLemmas

@@ -1,10 +1,15 @@
 -- Numbers one after another: what is so of one of them, and what they give together.
-use Rattle.std.proofs.Common.{◌≡◌, ℕ, suc, ◌<◌, ◌+◌, ◌-◌, Bool, true, false, ◌||◌, List, [], ◌∷◌, ◌++◌, refl, sym, ap, ◌∙◌, arith, cond, map, append_assoc, append-nil}
+use Rattle.std.proofs.Common.{◌≡◌, ℕ, suc, ◌<◌, ◌≤◌, ◌+◌, ◌-◌, Bool, true, false, ◌||◌, List, [], ◌∷◌, ◌++◌, refl, sym, ap, ◌∙◌, arith, cond, map, length, append_assoc, append-nil, Result, Ok, Err, OnErr}
+use Rattle.std.proofs.lemmas.List.{length-append}
 use Rattle.std.specs.List.{filter, flat_map, list_any, range_with_len}
 use Rattle.mpd_model.specs.declared.step.Step.{Step}
 use Rattle.mpd_model.specs.declared.step.Step.TheVariants.{Local, Wake, Release}
 use Rattle.mpd_model.specs.World.{World, rank_numbers}
 use Rattle.mpd_model.specs.Next.{is_enabled, matches_of, steps_of}
+use Rattle.mpd_model.specs.declared.step.CallId.{CallId}
+use Rattle.mpd_model.specs.declared.outcome.TrappedRank.{TrappedRank}
+use Rattle.mpd_model.specs.Outcomes.{ending_by, ended_with}
+use Rattle.mpd_core.specs.Listed.{listed_by}
 
 list_any-append : {A : Type 0} (t : A → Bool) (xs ys : List A) → list_any t (xs ++ ys) ≡ list_any t xs || list_any t ys
 list_any-append t [] ys = refl
@@ -73,6 +78,17 @@ module _ {A : Type 0} (t : ℕ → Bool) (f : ℕ → A) where
   chosen_more i n so_far now total h e more =
       ap (λ xs. xs ++ chosen_from (i + 1) (n - (i + 1))) more ∙ sym (chosen_split (t i) so_far (f i) (chosen_from (i + 1) (n - (i + 1)))) ∙ ap (λ xs. so_far ++ xs) (sym (chosen_next i n h)) ∙ e
 
+  -- one that is chosen is in what all give behind what there was
+  pub chosen_some : (i n : ℕ) (so_far old total : List A) → i < n → length old ≤ length so_far → so_far ++ chosen_from i (n - i) ≡ old ++ total → 0 < length (cond (t i) (f i ∷ []) []) → 0 < length total
+  chosen_some i n so_far old total h grows e some =
+      let rest : List A = chosen_from (i + 1) (n - (i + 1)) in
+      let all : (so_far ++ cond (t i) (f i ∷ []) []) ++ rest ≡ old ++ total = sym (chosen_split (t i) so_far (f i) rest) ∙ ap (λ xs. so_far ++ xs) (sym (chosen_next i n h)) ∙ e in
+      omega (arith, ap length all, some, grows, length-append (so_far ++ cond (t i) (f i ∷ []) []) rest, length-append so_far (cond (t i) (f i ∷ []) []), length-append old total)
+
+-- what is added makes no list shorter
+pub chosen_grows : {A : Type 0} (old so_far now more : List A) → length old ≤ length so_far → now ≡ so_far ++ more → length old ≤ length now
+chosen_grows old so_far now more grows e = omega (arith, ap length e, grows, length-append so_far more)
+
 -- no step is enabled where none of each form is
 pub enabled_parts : (w : World) → list_any (is_enabled w) (steps_of w)
     ≡ list_any (is_enabled w) (map Local (rank_numbers w)) || (list_any (is_enabled w) (map Wake (rank_numbers w)) || list_any (is_enabled w) (flat_map (matches_of w) (rank_numbers w)))
@@ -85,3 +101,27 @@ pub ruleset any_mapped = (mapped_on, mapped_now)
 pub ruleset any_joined = (joined_on, joined_now)
 
 pub ruleset stuck_by = (enabled_parts)
+
+-- what some number of a range gives is in what all give
+pub given_some : {A : Type 0} (f : ℕ → List A) (i n : ℕ) (so_far total : List A) → i < n → so_far ++ flat_map f (range_with_len i (n - i)) ≡ total → 0 < length (f i) → 0 < length total
+given_some f i n so_far total h e some =
+    let k : n - i ≡ suc (n - (i + 1)) = omega arith in
+    let u : flat_map f (range_with_len i (n - i)) ≡ f i ++ flat_map f (range_with_len (i + 1) (n - (i + 1))) = rw k refl in
+    let long : length (so_far ++ (f i ++ flat_map f (range_with_len (i + 1) (n - (i + 1))))) ≡ length total = ap length (ap (λ xs. so_far ++ xs) (sym u) ∙ e) in
+    omega (arith, long, some, length-append so_far (f i ++ flat_map f (range_with_len (i + 1) (n - (i + 1)))), length-append (f i) (flat_map f (range_with_len (i + 1) (n - (i + 1)))))
+
+-- what holds in any case holds where memory was refused
+pub refused_with : {T E : Type 0} {P : Type 0} (r : Result T E) → P → OnErr r P
+refused_with (Ok x) p = tt
+refused_with (Err e) p = p
+
+-- a list with an entry is told in the outcome
+pub listed_trap : (w : World) (ts : List TrappedRank) → 0 < length ts → 0 < listed_by (ending_by w ts)
+listed_trap w [] some = absurd (omega (arith, some))
+listed_trap w (t ∷ ts) some = some
+
+pub listed_free : (cs : List CallId) → 0 < length cs → 0 < listed_by (ended_with cs)
+listed_free [] some = absurd (omega (arith, some))
+listed_free (c ∷ cs) some = some
+
+pub ruleset listing = (listed_trap, listed_free)

@@ -1,9 +1,10 @@
 -- One of the ranks is changed, and changed back.
-use Rattle.std.proofs.Common.{◌≡◌, ◌&&◌, ℕ, zero, suc, ◌<◌, ◌+◌, List, [], ◌∷◌, ◌++◌, length, get_or, set, drop, add-one, Option, Some, None, refl, sym, ap, ◌∙◌, arith, slice_get, slice_set, IfSome, replicate, Bool, true, false}
+use Rattle.std.proofs.Common.{◌≡◌, ◌&&◌, ℕ, zero, suc, ◌<◌, ◌+◌, List, [], ◌∷◌, ◌++◌, length, get_or, set, drop, add-one, ℤ, Option, Some, None, Result, Ok, Err, IfOk, refl, sym, ap, ◌∙◌, arith, slice_get, slice_set, IfSome, replicate, Bool, true, false}
 use Rattle.std.proofs.lemmas.Option.{slice_get_read}
 use Rattle.std.proofs.lemmas.List.{map-set, map-append, length-map, replicate-append-replicate}
 use Rattle.std.specs.Option.{option_map}
-use Rattle.std.specs.List.{list_all}
+use Rattle.std.proofs.lemmas.List.FromFn.{length-range_with_len}
+use Rattle.std.specs.List.{list_all, range_with_len}
 use Rattle.mpd_model.specs.Outcomes.{has_ended}
 use Rattle.mpd_model.specs.World.{RankWorld}
 use Rattle.mpd_model.specs.Next.{local, local_at, local_in, put_at, update_at, is_blocked, waits}
@@ -11,7 +12,11 @@ use Rattle.mpd_model.specs.declared.call.Activity.{Activity}
 use Rattle.mpd_model.specs.declared.call.Activity.TheVariants.{Running, Blocked, Trapped}
 use Rattle.mpd_model.specs.Program.{Program}
 use Rattle.mpd_rank.specs.Views.{RankView, rank_of}
-use Rattle.mpd_core.specs.Views.{ranks_in}
+use Rattle.mpd_rank.specs.declared.change.RankRecord.{RankRecord}
+use Rattle.mpd_rank.specs.Records.{local_record, wake_record}
+use Rattle.mpd_core.specs.Views.{ranks_in, numbers_in}
+use Rattle.mpd_core.specs.Records.{local_record_at, wake_record_at}
+use Rattle.mpd_core.proofs.RoomLemmas.{no_room_at}
 
 pub length-ranks_in : (s : Program) (vs : List RankView) → length (ranks_in s vs) ≡ length vs
 length-ranks_in s vs = length-map vs (rank_of s)
@@ -24,16 +29,68 @@ slice_get-ranks_in s (v ∷ vs) (suc p) = slice_get-ranks_in s vs p
 rank_read : (s : Program) (vs : List RankView) (n p : ℕ) (v : RankView) → n ≡ length vs → p < n → v ≡ get_or vs p v → slice_get (ranks_in s vs) p ≡ Some (rank_of s v)
 rank_read s vs n p v e h read = slice_get-ranks_in s vs p ∙ ap (option_map (rank_of s)) (slice_get_read vs n p v e h read)
 
+-- ---- the ranks know their numbers
+
+numbered_from : (vs : List RankView) (k m p : ℕ) (v : RankView) → numbers_in vs ≡ range_with_len k m → p < length vs → v ≡ get_or vs p v → v.rank ≡ k + p
+numbered_from [] k m p v e h read = absurd (omega arith)
+numbered_from (u ∷ vs) k zero p v e h read = cc
+numbered_from (u ∷ vs) k (suc m) zero v e h read = ap (λ (x : RankView). x.rank) read ∙ ap (λ xs. get_or xs 0 0) e ∙ omega arith
+numbered_from (u ∷ vs) k (suc m) (suc p) v e h read = numbered_from vs (k + 1) m p v (ap (drop 1) e) (omega arith) read ∙ omega arith
+
+-- so a rank that was read steps as the rank there
+as_numbered : (s : Program) (vs : List RankView) (n p : ℕ) (v : RankView) → n ≡ length vs → p < n → v ≡ get_or vs p v → numbers_in vs ≡ range_with_len 0 s.ranks → (v.rank ≡ p) × (s.ranks ≡ n)
+as_numbered s vs n p v e h read numbers =
+    (numbered_from vs 0 s.ranks p v numbers (omega (arith, e)) read ∙ omega arith,
+    sym (length-range_with_len 0 s.ranks) ∙ ap length (sym numbers) ∙ length-map vs (λ (x : RankView). x.rank) ∙ sym e)
+
+pub numbers_set : (vs : List RankView) (p : ℕ) (v w : RankView) → v ≡ get_or vs p v → w.rank ≡ v.rank → numbers_in (set vs p w) ≡ numbers_in vs
+numbers_set [] p v w read same = refl
+numbers_set (u ∷ vs) zero v w read same = ap (λ k. k ∷ numbers_in vs) (same ∙ ap (λ (x : RankView). x.rank) read)
+numbers_set (u ∷ vs) (suc p) v w read same = ap (λ ks. u.rank ∷ ks) (numbers_set vs p v w read same)
+
+range_more : (a n : ℕ) → range_with_len a (suc n) ≡ range_with_len a n ++ (a + n) ∷ []
+range_more a zero = let e : a ≡ a + 0 = omega arith in ap (λ k. k ∷ []) e
+range_more a (suc n) =
+    let e : a + 1 + n ≡ a + suc n = omega arith in
+    ap (λ xs. a ∷ xs) (range_more (a + 1) n ∙ ap (λ k. range_with_len (a + 1) n ++ k ∷ []) e)
+
+pub numbers_more : (vs : List RankView) (v : RankView) (n : ℕ) → numbers_in vs ≡ range_with_len 0 n → v.rank ≡ n → numbers_in (vs ++ v ∷ []) ≡ range_with_len 0 (n + 1)
+numbers_more vs v n e is =
+    let from_0 : v.rank ≡ 0 + n = omega (arith, is) in
+    let one : suc n ≡ n + 1 = omega arith in
+    map-append (λ (x : RankView). x.rank) vs (v ∷ []) ∙ ap (λ xs. xs ++ v.rank ∷ []) e ∙ ap (λ k. range_with_len 0 n ++ k ∷ []) from_0 ∙ sym (range_more 0 n) ∙ ap (range_with_len 0) one
+
 -- a step of the rank that was read is the step there
 pub local_read : (s : Program) (vs : List RankView) (n p : ℕ) (v : RankView) → n ≡ length vs → p < n → v ≡ get_or vs p v → local_at (ranks_in s vs) p ≡ local p n (rank_of s v)
 local_read s vs n p v e h read = rw (rank_read s vs n p v e h read) (ap (λ m. local p m (rank_of s v)) (length-ranks_in s vs ∙ sym e))
 
-pub local_none : (s : Program) (vs : List RankView) (n p : ℕ) (v : RankView) → n ≡ length vs → p < n → v ≡ get_or vs p v → local p n (rank_of s v) ≡ None → local_in (ranks_in s vs) p ≡ None
-local_none s vs n p v e h read step = ap (option_map (slice_set (ranks_in s vs) p)) (local_read s vs n p v e h read ∙ step)
+pub numbered_read : (s : Program) (vs : List RankView) (n p : ℕ) (v : RankView) → n ≡ length vs → p < n → v ≡ get_or vs p v → numbers_in vs ≡ range_with_len 0 s.ranks → local_at (ranks_in s vs) p ≡ local v.rank s.ranks (rank_of s v)
+numbered_read s vs n p v e h read numbers =
+    let same : (v.rank ≡ p) × (s.ranks ≡ n) = as_numbered s vs n p v e h read numbers in
+    local_read s vs n p v e h read ∙ (λ i. local (sym same.0 i) (sym same.1 i) (rank_of s v))
 
-pub local_written : (s : Program) (vs : List RankView) (n p : ℕ) (v w : RankView) → n ≡ length vs → p < n → v ≡ get_or vs p v → local p n (rank_of s v) ≡ Some (rank_of s w) → local_in (ranks_in s vs) p ≡ Some (ranks_in s (set vs p w))
-local_written s vs n p v w e h read step =
-    ap (option_map (slice_set (ranks_in s vs) p)) (local_read s vs n p v e h read ∙ step) ∙ ap Some (sym (map-set (rank_of s) vs p w))
+-- so is its record
+pub recorded_read : (s : Program) (vs : List RankView) (n p : ℕ) (v : RankView) (made : Option RankRecord) → n ≡ length vs → p < n → v ≡ get_or vs p v → numbers_in vs ≡ range_with_len 0 s.ranks
+    → made ≡ local_record v.rank s.ranks (rank_of s v) → made ≡ local_record_at (ranks_in s vs) p
+recorded_read s vs n p v made e h read numbers is =
+    let same : (v.rank ≡ p) × (s.ranks ≡ n) = as_numbered s vs n p v e h read numbers in
+    is ∙ rw (rank_read s vs n p v e h read) (λ i. local_record (same.0 i) ((same.1 ∙ e ∙ sym (length-ranks_in s vs)) i) (rank_of s v))
+
+pub recorded_ok : {E : Type 0} (s : Program) (vs : List RankView) (n p : ℕ) (v : RankView) (result : Result (Option RankRecord) E) → n ≡ length vs → p < n → v ≡ get_or vs p v → numbers_in vs ≡ range_with_len 0 s.ranks
+    → IfOk result (λ made. made ≡ local_record v.rank s.ranks (rank_of s v)) → IfOk result (λ made. made ≡ local_record_at (ranks_in s vs) p)
+recorded_ok s vs n p v (Ok made) e h read numbers is = recorded_read s vs n p v made e h read numbers is
+recorded_ok s vs n p v (Err failed) e h read numbers is = tt
+
+pub woke_read : (s : Program) (vs : List RankView) (n p : ℕ) (v : RankView) (writes : List (ℕ × ℤ)) (made : RankRecord) → n ≡ length vs → p < n → v ≡ get_or vs p v → made ≡ wake_record v.vars writes → wake_record_at (ranks_in s vs) p writes ≡ Some made
+woke_read s vs n p v writes made e h read is = rw (rank_read s vs n p v e h read) (ap Some (sym is))
+
+pub local_none : (s : Program) (vs : List RankView) (n p : ℕ) (v : RankView) → n ≡ length vs → p < n → v ≡ get_or vs p v → numbers_in vs ≡ range_with_len 0 s.ranks → local v.rank s.ranks (rank_of s v) ≡ None → local_in (ranks_in s vs) p ≡ None
+local_none s vs n p v e h read numbers step = ap (option_map (slice_set (ranks_in s vs) p)) (numbered_read s vs n p v e h read numbers ∙ step)
+
+pub local_written : (s : Program) (vs : List RankView) (n p : ℕ) (v w : RankView) → n ≡ length vs → p < n → v ≡ get_or vs p v → numbers_in vs ≡ range_with_len 0 s.ranks → local v.rank s.ranks (rank_of s v) ≡ Some (rank_of s w)
+    → local_in (ranks_in s vs) p ≡ Some (ranks_in s (set vs p w))
+local_written s vs n p v w e h read numbers step =
+    ap (option_map (slice_set (ranks_in s vs) p)) (numbered_read s vs n p v e h read numbers ∙ step) ∙ ap Some (sym (map-set (rank_of s) vs p w))
 
 put_back-suc : (x : RankWorld) (ys : List RankWorld) (p : ℕ) (o : Option RankWorld) (back : RankWorld → RankWorld) → put_at (x ∷ ys) (suc p) o back ≡ x ∷ put_at ys p o back
 put_back-suc x ys p None back = refl
@@ -120,8 +177,8 @@ ended_not s (u ∷ vs) (suc i) v total h read e so_far = ended_not s vs i v tota
 
 pub ruleset ending = (ended_on, ended_not)
 
-pub ruleset at_rank = (local_read, local_none, local_written, put_back_read, update_read, stays_read, wake_back)
+pub ruleset at_rank = (numbered_read, numbers_set, woke_read, no_room_at, local_none, local_written, put_back_read, update_read, stays_read, wake_back)
 
 pub ruleset reading = (slice_get-ranks_in)
 
-pub ruleset starting = (start_more)
+pub ruleset starting = (start_more, numbers_more)

@@ -1,11 +1,10 @@
 -- What taking a step back makes of a world.
-use Rattle.std.specs.Prelude.{◌-◌, ◌≡◌, length, take}
+use Rattle.std.specs.Prelude.{◌-◌, length, take}
 use Rattle.mpd_model.specs.declared.step.Step.{Step}
 use Rattle.mpd_model.specs.declared.step.Step.TheVariants.{Local, Match, Wake, Release}
 use Rattle.mpd_model.specs.Program.{Program}
 use Rattle.mpd_model.specs.World.{World}
 use Rattle.mpd_model.specs.Next.{update_at}
-use Rattle.mpd_rank.specs.declared.change.Change.TheVariants.{Matched}
 use Rattle.mpd_rank.specs.declared.change.RankRecord.{RankRecord}
 use Rattle.mpd_rank.specs.Undone.{undone_rank}
 use Rattle.mpd_core.specs.declared.record.Record.{Record}
@@ -22,10 +21,3 @@ undone_by s w done Release = w
 
 abbrev pub undone : Program → World → Record → World
 undone s w done = undone_by s w (record { from = done.from; change = done.change }) done.step
-
--- a record of a match is of no rank, and holds nothing but that
-abbrev pub RecordsMatch : Step → Record → Type 0
-RecordsMatch (Local p) done = Unit {0}
-RecordsMatch (Match a b) done = (done.from ≡ 0) × (done.change ≡ Matched)
-RecordsMatch (Wake p) done = Unit {0}
-RecordsMatch Release done = Unit {0}

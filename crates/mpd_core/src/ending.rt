@@ -1,11 +1,12 @@
 //! How a run has ended.
 
-ghost use Rattle.std.specs.Prelude.{◌≡◌, [], ◌∷◌, ◌++◌, if◌then◌else◌, map, slice_get, IfOk, OnOk};
+ghost use Rattle.std.specs.Prelude.{◌≡◌, ◌<◌, [], ◌∷◌, ◌++◌, if◌then◌else◌, length, map, slice_get, Some, IfOk, OnOk, OnErr};
 ghost use Rattle.std.specs.List.{filter, flat_map, list_any};
 ghost use Rattle.mpd_model.specs.declared.step.Step.TheVariants as steps;
 ghost use Rattle.mpd_model.specs.World.{World, call_id, rank_numbers, call_numbers, is_free};
 ghost use Rattle.mpd_model.specs.Next.{is_enabled, matches_with, matches_of, steps_of};
 ghost use Rattle.mpd_model.specs.Outcomes.{traps_at, traps_in, blocked_at, blocked_calls, free_of, free_calls, untrapped, ending, is_stuck, outcome};
+ghost use Rattle.mpd_core.specs.Listed.{listed};
 
 use crate::state::Core;
 use mpd_model::call::Activity;
@@ -116,7 +117,8 @@ impl<'c> Core<'c> {
 
     /// Adds a rank, where it is trapped.
     fn push_trap(&self, rank: usize, out: &mut Vec<TrappedRank>) -> Result<(), AllocError>
-        ensures { OnOk result (out.new.items ≡ out.old.items ++ traps_at rank (slice_get self.now.world.ranks rank)) }
+        ensures ok { OnOk result (out.new.items ≡ out.old.items ++ traps_at rank (slice_get self.now.world.ranks rank)) }
+        ensures memory { OnErr result (0 < length (traps_at rank (slice_get self.now.world.ranks rank))) }
     {
         if let Some(Activity::Trapped(trap)) = self.activity(rank) {
             out.push(TrappedRank { rank, trap })?;
@@ -125,8 +127,10 @@ impl<'c> Core<'c> {
     }
 
     /// The trapped ranks.
+    #[tactic(auto, using(crate::proofs::RangeLemmas::listing))]
     fn traps(&self, alloc: Global) -> Result<Vec<TrappedRank>, AllocError>
-        ensures { IfOk result (λ traps. traps.items ≡ traps_in self.now.world) }
+        ensures ok { IfOk result (λ traps. traps.items ≡ traps_in self.now.world) }
+        ensures memory { OnErr result (0 < length (traps_in self.now.world)) }
     {
         let mut traps = Vec::new(alloc);
         let count = self.rank_count();
@@ -138,7 +142,8 @@ impl<'c> Core<'c> {
 
     /// Adds the call that a rank is blocked on.
     fn push_blocked(&self, rank: usize, out: &mut Vec<CallId>) -> Result<(), AllocError>
-        ensures { OnOk result (out.new.items ≡ out.old.items ++ blocked_at self.now.world rank (slice_get self.now.world.ranks rank)) }
+        ensures ok { OnOk result (out.new.items ≡ out.old.items ++ blocked_at self.now.world rank (slice_get self.now.world.ranks rank)) }
+        ensures memory { OnErr result (0 < length (blocked_at self.now.world rank (slice_get self.now.world.ranks rank))) }
     {
         if let Some(Activity::Blocked) = self.activity(rank) {
             out.push(self.last_call(rank))?;
@@ -147,8 +152,10 @@ impl<'c> Core<'c> {
     }
 
     /// The calls that ranks are blocked on.
+    #[tactic(auto, using(crate::proofs::RangeLemmas::listing))]
     fn blocked(&self, alloc: Global) -> Result<Vec<CallId>, AllocError>
-        ensures { IfOk result (λ calls. calls.items ≡ blocked_calls self.now.world) }
+        ensures ok { IfOk result (λ calls. calls.items ≡ blocked_calls self.now.world) }
+        ensures memory { OnErr result (0 < length (blocked_calls self.now.world)) }
     {
         let mut calls = Vec::new(alloc);
         let count = self.rank_count();
@@ -160,7 +167,8 @@ impl<'c> Core<'c> {
 
     /// Adds a call, where it is free.
     fn push_if_free(&self, id: CallId, out: &mut Vec<CallId>) -> Result<(), AllocError>
-        ensures { OnOk result (out.new.items ≡ out.old.items ++ (if is_free self.now.world id then id ∷ [] else [])) }
+        ensures ok { OnOk result (out.new.items ≡ out.old.items ++ (if is_free self.now.world id then id ∷ [] else [])) }
+        ensures memory { OnErr result (0 < length (if is_free self.now.world id then id ∷ [] else [])) }
     {
         if self.is_free(id) {
             out.push(id)?;
@@ -169,8 +177,10 @@ impl<'c> Core<'c> {
     }
 
     /// Adds the free calls of a rank.
+    #[tactic(auto, using(crate::proofs::RangeLemmas::listing))]
     fn push_free(&self, rank: usize, out: &mut Vec<CallId>) -> Result<(), AllocError>
-        ensures { OnOk result (out.new.items ≡ out.old.items ++ free_of self.now.world rank) }
+        ensures ok { OnOk result (out.new.items ≡ out.old.items ++ free_of self.now.world rank) }
+        ensures memory { OnErr result (0 < length (free_of self.now.world rank)) }
     {
         let count = self.call_count(rank);
         for index in 0..count {
@@ -180,8 +190,10 @@ impl<'c> Core<'c> {
     }
 
     /// The free calls.
+    #[tactic(auto, using(crate::proofs::RangeLemmas::listing))]
     fn free(&self, alloc: Global) -> Result<Vec<CallId>, AllocError>
-        ensures { IfOk result (λ calls. calls.items ≡ free_calls self.now.world) }
+        ensures ok { IfOk result (λ calls. calls.items ≡ free_calls self.now.world) }
+        ensures memory { OnErr result (0 < length (free_calls self.now.world)) }
     {
         let mut calls = Vec::new(alloc);
         let count = self.rank_count();
@@ -192,8 +204,10 @@ impl<'c> Core<'c> {
     }
 
     /// What a state without a trapped rank is.
+    #[tactic(auto, using(crate::proofs::RangeLemmas::listing))]
     fn untrapped(&self, alloc: Global) -> Result<Outcome, AllocError>
-        ensures { IfOk result (λ o. o ≡ untrapped self.now.world) }
+        ensures ok { IfOk result (λ o. o ≡ untrapped self.now.world) }
+        ensures memory { OnErr result (0 < listed (Some (untrapped self.now.world))) }
     {
         if !self.all_ended() {
             return Ok(Outcome::Deadlock(CallList {
@@ -208,8 +222,10 @@ impl<'c> Core<'c> {
     }
 
     /// What a state without an enabled step is.
+    #[tactic(auto, using(crate::proofs::RangeLemmas::listing))]
     fn ending(&self, alloc: Global) -> Result<Outcome, AllocError>
-        ensures { IfOk result (λ o. o ≡ ending self.now.world) }
+        ensures ok { IfOk result (λ o. o ≡ ending self.now.world) }
+        ensures memory { OnErr result (0 < listed (Some (ending self.now.world))) }
     {
         let traps = self.traps(alloc)?;
         if traps.is_empty() {
@@ -218,9 +234,11 @@ impl<'c> Core<'c> {
         Ok(Outcome::Trap(TrapList { items: traps }))
     }
 
-    /// How the run has ended, where no step is enabled (docs/DEFINITIONS.md, "Outcomes"). An `Err` is want of memory.
+    /// How the run has ended, where no step is enabled (docs/DEFINITIONS.md, "Outcomes"). An `Err` is want of memory for the list
+    /// of an outcome, and comes only where that list has an entry.
     pub fn outcome(&self, alloc: Global) -> Result<Option<Outcome>, AllocError>
-        ensures { IfOk result (λ o. o ≡ outcome self.now.world) }
+        ensures ok { IfOk result (λ o. o ≡ outcome self.now.world) }
+        ensures memory { OnErr result (0 < listed (outcome self.now.world)) }
     {
         if !self.is_stuck() {
             return Ok(None);

@@ -1,11 +1,12 @@
 //! What is read off the match sets and the calls.
 
 ghost use Rattle.std.specs.Prelude.{◌≡◌};
-ghost use Rattle.mpd_model.specs.World.{partner as partner_in, fitting, sends_to, receives, message_of as message_in, is_buffered as buffered_in};
+ghost use Rattle.mpd_model.specs.World.{partner as partner_in, fitting, sends_to, receives, message_of as message_in, is_buffered as buffered_in, is_message_kind as message_kind};
 ghost use Rattle.mpd_model.specs.Next as next_specs;
 
 use mpd_model::call::{CallKind, MatchSet, Message, Mode};
 use mpd_model::step::CallId;
+use mpd_rank::change::Cells;
 
 /// The call that a pair has beside this one.
 pub(crate) fn partner(sets: &[MatchSet], id: CallId) -> Option<CallId>
@@ -34,16 +35,9 @@ pub(crate) fn is_fitting(
     ensures { result ≡ fitting send recv sender receiver }
 {
     match (send, recv) {
-        (
-            Some(CallKind::Send { to, tag, .. }),
-            Some(
-                CallKind::Recv {
-                    from,
-                    tag: wanted,
-                    ..
-                },
-            ),
-        ) => to == receiver && from == sender && tag == wanted,
+        (Some(CallKind::Send(send)), Some(CallKind::Recv(recv))) => {
+            send.to == receiver && recv.from == sender && send.tag == recv.tag
+        }
         _ => false,
     }
 }
@@ -53,7 +47,7 @@ pub(crate) fn is_send_to(kind: Option<CallKind>, rank: usize) -> bool
     ensures { result ≡ sends_to kind rank }
 {
     match kind {
-        Some(CallKind::Send { to, .. }) => to == rank,
+        Some(CallKind::Send(send)) => send.to == rank,
         _ => false,
     }
 }
@@ -62,18 +56,28 @@ pub(crate) fn is_send_to(kind: Option<CallKind>, rank: usize) -> bool
 pub(crate) fn is_recv(kind: Option<CallKind>) -> bool
     ensures { result ≡ receives kind }
 {
-    matches!(&kind, Some(CallKind::Recv { .. }))
+    matches!(&kind, Some(CallKind::Recv(_)))
+}
+
+/// Whether it is a send or a receive.
+pub(crate) fn is_message_kind(kind: Option<CallKind>) -> bool
+    ensures { result ≡ message_kind kind }
+{
+    match kind {
+        Some(CallKind::Send(_)) | Some(CallKind::Recv(_)) => true,
+        None => false,
+    }
 }
 
 /// The message of a send.
-pub(crate) fn message_of(send: CallId, kind: Option<CallKind>) -> Option<Message>
-    ensures { result ≡ message_in send kind }
+pub(crate) fn message_of(id: CallId, kind: Option<CallKind>) -> Option<Message>
+    ensures { result ≡ message_in id kind }
 {
     match kind {
-        Some(CallKind::Send { tag, value, .. }) => Some(Message {
-            value,
-            source: send.rank,
-            tag,
+        Some(CallKind::Send(send)) => Some(Message {
+            value: send.value,
+            source: id.rank,
+            tag: send.tag,
         }),
         _ => None,
     }
@@ -84,17 +88,17 @@ pub(crate) fn is_buffered(mode: Mode, kind: Option<CallKind>) -> bool
     ensures { result ≡ buffered_in mode kind }
 {
     match (mode, kind) {
-        (Mode::Buffered, Some(CallKind::Send { .. })) => true,
+        (Mode::Buffered, Some(CallKind::Send(_))) => true,
         _ => false,
     }
 }
 
-/// The cell that a woken call writes, with its new value.
-pub(crate) fn written_by(kind: Option<CallKind>, message: Option<Message>) -> Option<(usize, i64)>
-    ensures { result ≡ next_specs.written_by kind message }
+/// The cells that a woken call writes, each with its new value.
+pub(crate) fn writes_of(kind: Option<CallKind>, message: Option<Message>) -> Cells
+    ensures { result ≡ next_specs.writes_of kind message }
 {
     match (kind, message) {
-        (Some(CallKind::Recv { cell, .. }), Some(message)) => Some((cell, message.value)),
-        _ => None,
+        (Some(CallKind::Recv(recv)), Some(message)) => Cells::one(recv.cell, message.value),
+        _ => Cells::none(),
     }
 }

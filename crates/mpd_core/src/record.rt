@@ -3,9 +3,10 @@
 use mpd_model::step::Step;
 use mpd_rank::change::Change;
 
-/// What takes a step back: the step, the node before it of the rank that it moved (0 at a match), and what else it did.
+/// What takes a step back: the step, the node before it of the rank that it moved (0 at a match and at a wake, which move none),
+/// and what else it did.
 /// It holds no collection.
-#[derive(Clone, Copy, Debug, PartialEq, Eq)]
+#[derive(Debug, Drop)]
 pub struct Record {
     pub step: Step,
     pub from: usize,

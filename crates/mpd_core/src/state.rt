@@ -1,13 +1,14 @@
 //! The state of a run.
 
-ghost use Rattle.std.specs.Prelude.{◌≡◌, ◌↔◌, ◌<◌, ◌≤◌, ◌&&◌, nat_lt, length, slice_get, replicate, vec_len, IfOk, IfSome, is_some, IsSome, IfNone, OnOk, OnErr, IsErrOf, Some, None};
+ghost use Rattle.std.specs.Prelude.{◌≡◌, ◌↔◌, ◌<◌, ◌≤◌, ℕ, ◌&&◌, nat_lt, length, slice_get, replicate, vec_len, IfOk, IfSome, is_some, IsSome, IfNone, OnOk, OnErr, IsErrOf, Some, None};
 ghost use Rattle.std.specs.Option.{option_map};
-ghost use Rattle.std.specs.List.{list_any, list_all};
+ghost use Rattle.std.specs.List.{list_any, list_all, range_with_len};
 ghost use Rattle.mpd_model.specs.Outcomes.{has_ended, first_number};
 ghost use Rattle.mpd_model.specs.Program.{Program};
 ghost use Rattle.mpd_model.specs.World.{partner as partner_in, call_id, call_at, kind_at, calls_of, is_free, fits, is_pending, is_posted, pending, posted, eligible, buffer, complete, start, start_rank, last_call};
-ghost use Rattle.mpd_model.specs.Next.{next, is_enabled, local_in, update_at, woken_rank, written_by, can_wake, waits};
-ghost use Rattle.mpd_core.specs.Views.{ranks_in};
+ghost use Rattle.mpd_model.specs.Next.{next, is_enabled, local_in, update_at, woken_rank, wake_writes, can_wake, waits};
+ghost use Rattle.mpd_core.specs.Views.{ranks_in, numbers_in, room_in};
+ghost use Rattle.mpd_core.specs.Records.{local_record_at, wake_record_at, record_of};
 ghost use Rattle.mpd_rank.specs.Views.{rank_of};
 ghost use Rattle.mpd_rank.specs.Undone.{undone_rank};
 ghost use Rattle.mpd_core.specs.Scan.{is_early_send, is_early_recv};
@@ -18,12 +19,12 @@ use crate::record::Record;
 use mpd_code::code::Code;
 use mpd_model::call::{Activity, Call, CallKind, MatchSet, Message, Mode};
 use mpd_model::step::{CallId, Step};
-use mpd_rank::change::{Change, RankRecord};
+use mpd_rank::change::{Cells, Change, RankRecord};
 use mpd_rank::rank::RankState;
 use std::alloc::{AllocError, Global};
 use std::marker::Model;
 
-/// The state of a run, which contracts see as a `CoreView`: its program, and its world.
+/// The state of a run, which contracts see as a `CoreView`: its program, its world, and the room that is kept for steps.
 #[derive(Drop)]
 pub struct Core<'c> {
     code: &'c Code,
@@ -33,27 +34,34 @@ pub struct Core<'c> {
 }
 
 impl<'c> Model for Core<'c> {
-    ghost use Rattle.std.specs.Prelude.{◌≤◌, length};
-    ghost use Rattle.mpd_core.specs.Views.{CoreView, core_view_code, ranks_in};
+    ghost use Rattle.std.specs.Prelude.{◌≡◌, ◌≤◌, ◌-◌, length, vec_len, vec_capacity};
+    ghost use Rattle.std.specs.List.{range_with_len};
+    ghost use Rattle.mpd_core.specs.Views.{CoreView, core_view_code, ranks_in, numbers_in, room_in};
 
     ghost Value = { CoreView };
 
     ghost coded = { core_view_code };
 
-    ghost view = { λ c. record { program = c.code.now.program; world = record { mode = c.mode; ranks = ranks_in c.code.now.program c.ranks.items; sets = c.sets.items } } };
+    ghost view = { λ c. record {
+      program = c.code.now.program;
+      world = record { mode = c.mode; ranks = ranks_in c.code.now.program c.ranks.items; sets = c.sets.items };
+      room = room_in (vec_capacity c.sets - vec_len c.sets) c.ranks.items;
+    } };
 
-    ghost invariant = { λ c. length c.ranks.items ≤ 16 };
+    ghost invariant = { λ c. (length c.ranks.items ≤ 16) × (numbers_in c.ranks.items ≡ range_with_len 0 c.code.now.program.ranks) };
 }
 
 /// So many ranks before their first step.
 #[tactic(auto, using(crate::proofs::RankLemmas::starting))]
 fn start_ranks(alloc: Global, code: &Code, size: usize) -> Result<Vec<RankState>, AllocError>
+    requires few { size ≤ 16 }
     ensures ranks { IfOk result (λ ranks. ranks_in code.now.program ranks.items ≡ replicate size (start_rank code.now.program)) }
+    ensures numbers { IfOk result (λ ranks. numbers_in ranks.items ≡ range_with_len 0 size) }
     ensures size { IfOk result (λ ranks. vec_len ranks ≡ size) }
 {
     let mut ranks = Vec::new(alloc);
-    for _rank in 0..size {
-        ranks.push(RankState::start(alloc, code)?)?;
+    for rank in 0..size {
+        ranks.push(RankState::start(alloc, code, rank as u32)?)?;
     }
     Ok(ranks)
 }
@@ -66,29 +74,33 @@ fn step_one(
     rank: usize,
 ) -> Result<Option<RankRecord>, AllocError>
     requires within { rank < vec_len ranks.old }
-    requires few { vec_len ranks.old ≤ 16 }
+    requires numbers { numbers_in ranks.old.items ≡ range_with_len 0 code.now.program.ranks }
     ensures step { IfOk result (λ done. local_in (ranks_in code.now.program ranks.old.items) rank ≡ option_map (λ _. ranks_in code.now.program ranks.new.items) done) }
+    ensures recorded { IfOk result (λ done. done ≡ local_record_at (ranks_in code.now.program ranks.old.items) rank) }
     ensures back { IfOk result (λ done. IfSome done (λ r. update_at (ranks_in code.now.program ranks.new.items) rank (λ s. undone_rank code.now.program s r) ≡ ranks_in code.now.program ranks.old.items)) }
     ensures none { IfOk result (λ done. IfNone done (ranks_in code.now.program ranks.new.items ≡ ranks_in code.now.program ranks.old.items)) }
     ensures err { OnErr result (ranks_in code.now.program ranks.new.items ≡ ranks_in code.now.program ranks.old.items) }
     ensures enabled { OnErr result (IsSome (local_in (ranks_in code.now.program ranks.old.items) rank)) }
+    ensures memory { OnErr result ((set_room : ℕ) → room_in set_room ranks.old.items ≡ 0) }
+    ensures numbers { numbers_in ranks.new.items ≡ numbers_in ranks.old.items }
     ensures size { vec_len ranks.new ≡ vec_len ranks.old }
 {
-    let size = ranks.len();
     let state = &mut ranks[rank];
-    state.step(code, rank, size)
+    state.step(code)
 }
 
 /// Wakes one rank, and answers what takes that back.
 #[tactic(auto, using(crate::proofs::RankLemmas::at_rank))]
-fn wake_one(ranks: &mut Vec<RankState>, rank: usize, write: Option<(usize, i64)>) -> RankRecord
+fn wake_one(ranks: &mut Vec<RankState>, rank: usize, writes: Cells) -> RankRecord
     requires { rank < vec_len ranks.old }
-    ensures after { (s : Program) → ranks_in s ranks.new.items ≡ update_at (ranks_in s ranks.old.items) rank (woken_rank write) }
+    ensures after { (s : Program) → ranks_in s ranks.new.items ≡ update_at (ranks_in s ranks.old.items) rank (woken_rank writes) }
+    ensures recorded { (s : Program) → wake_record_at (ranks_in s ranks.old.items) rank writes ≡ Some result }
     ensures back { (s : Program) → IfSome (slice_get (ranks_in s ranks.old.items) rank) (λ r. r.activity ≡ Activity.Blocked) → update_at (ranks_in s ranks.new.items) rank (λ r. undone_rank s r result) ≡ ranks_in s ranks.old.items }
+    ensures numbers { numbers_in ranks.new.items ≡ numbers_in ranks.old.items }
     ensures size { vec_len ranks.new ≡ vec_len ranks.old }
 {
     let state = &mut ranks[rank];
-    state.complete(write)
+    state.complete(writes)
 }
 
 /// Takes the step of one rank back.
@@ -96,10 +108,28 @@ fn wake_one(ranks: &mut Vec<RankState>, rank: usize, write: Option<(usize, i64)>
 fn restore_one(ranks: &mut Vec<RankState>, rank: usize, done: RankRecord)
     requires { rank < vec_len ranks.old }
     ensures after { (s : Program) → ranks_in s ranks.new.items ≡ update_at (ranks_in s ranks.old.items) rank (λ r. undone_rank s r done) }
+    ensures numbers { numbers_in ranks.new.items ≡ numbers_in ranks.old.items }
     ensures size { vec_len ranks.new ≡ vec_len ranks.old }
 {
     let state = &mut ranks[rank];
     state.restore(done);
+}
+
+/// Keeps room for one step of each rank.
+#[tactic(auto, using(crate::proofs::RoomLemmas::keeping))]
+fn keep_rooms(ranks: &mut Vec<RankState>) -> Result<(), AllocError>
+    ensures same { (s : Program) → ranks_in s ranks.new.items ≡ ranks_in s ranks.old.items }
+    ensures room { OnOk result ((set_room : ℕ) → 1 ≤ set_room → 1 ≤ room_in set_room ranks.new.items) }
+    ensures memory { OnErr result ((set_room : ℕ) → room_in set_room ranks.old.items ≡ 0) }
+    ensures numbers { numbers_in ranks.new.items ≡ numbers_in ranks.old.items }
+    ensures size { vec_len ranks.new ≡ vec_len ranks.old }
+{
+    let count = ranks.len();
+    for rank in 0..count {
+        let state = &mut ranks[rank];
+        state.keep_room()?;
+    }
+    Ok(())
 }
 
 /// Whether every rank has ended.
@@ -124,7 +154,7 @@ fn rank_at(ranks: &[RankState], rank: usize) -> Option<&RankState>
 }
 
 impl<'c> Core<'c> {
-    ghost use Rattle.mpd_core.specs.Undone.{undone, RecordsMatch};
+    ghost use Rattle.mpd_core.specs.Undone.{undone};
 
     /// Every rank before its first step. An `Err` is want of memory.
     pub fn start(alloc: Global, code: &'c Code, mode: Mode) -> Result<Core<'c>, AllocError>
@@ -185,11 +215,11 @@ impl<'c> Core<'c> {
         lookup::partner(&self.sets, id)
     }
 
-    /// Whether no pair names the call.
+    /// Whether it is a send or a receive that no pair names.
     pub(crate) fn is_free(&self, id: CallId) -> bool
         ensures { result ≡ is_free self.now.world id }
     {
-        self.partner(id).is_none()
+        lookup::is_message_kind(self.kind(id)) && self.partner(id).is_none()
     }
 
     /// The message that a receive was paired with, where it was.
@@ -400,11 +430,13 @@ impl<'c> Core<'c> {
     }
 
     /// A local step.
+    #[tactic(auto, using(crate::proofs::RoomLemmas::refused))]
     fn apply_local(&mut self, rank: usize) -> Result<Record, StepFault>
         ensures ok { OnOk result (next self.old.world (Step.Local rank) ≡ Some self.new.world) }
         ensures back { IfOk result (λ done. undone self.old.program self.new.world done ≡ self.old.world) }
-        ensures step { IfOk result (λ done. done.step ≡ Step.Local rank) }
+        ensures recorded { IfOk result (λ done. record_of self.old.world (Step.Local rank) ≡ Some done) }
         ensures not_enabled { IsErrOf result StepFault.NotEnabled ↔ (next self.old.world (Step.Local rank) ≡ None) }
+        ensures memory { IsErrOf result StepFault.Memory → self.old.room ≡ 0 }
         ensures err { OnErr result (self.new.world ≡ self.old.world) }
         ensures program { self.new.program ≡ self.old.program }
     {
@@ -423,12 +455,13 @@ impl<'c> Core<'c> {
     }
 
     /// A match.
+    #[tactic(auto, using(crate::proofs::RoomLemmas::refused))]
     fn apply_match(&mut self, send: CallId, recv: CallId) -> Result<Record, StepFault>
         ensures ok { OnOk result (next self.old.world (Step.Match send recv) ≡ Some self.new.world) }
         ensures back { IfOk result (λ done. undone self.old.program self.new.world done ≡ self.old.world) }
-        ensures step { IfOk result (λ done. done.step ≡ Step.Match send recv) }
-        ensures matched { IfOk result (λ done. RecordsMatch (Step.Match send recv) done) }
+        ensures recorded { IfOk result (λ done. record_of self.old.world (Step.Match send recv) ≡ Some done) }
         ensures not_enabled { IsErrOf result StepFault.NotEnabled ↔ (next self.old.world (Step.Match send recv) ≡ None) }
+        ensures memory { IsErrOf result StepFault.Memory → self.old.room ≡ 0 }
         ensures err { OnErr result (self.new.world ≡ self.old.world) }
         ensures program { self.new.program ≡ self.old.program }
     {
@@ -443,30 +476,32 @@ impl<'c> Core<'c> {
         })
     }
 
-    /// The cell that the last call of a rank writes as it is woken, with its new value.
-    fn write_of(&self, id: CallId) -> Option<(usize, i64)>
-        ensures { result ≡ written_by (kind_at self.now.world id) (buffer self.now.world id) }
+    /// The cells that the last call of a rank writes as it is woken, each with its new value.
+    fn wake_writes(&self, rank: usize) -> Cells
+        ensures { result ≡ wake_writes self.now.world rank }
     {
-        lookup::written_by(self.kind(id), self.buffer(id))
+        let id = self.last_call(rank);
+        lookup::writes_of(self.kind(id), self.buffer(id))
     }
 
     /// A wake.
-    #[tactic(auto, using(crate::proofs::RankLemmas::waking_blocked))]
+    #[tactic(auto, using(crate::proofs::RankLemmas::waking_blocked, crate::proofs::RoomLemmas::refused))]
     fn apply_wake(&mut self, rank: usize) -> Result<Record, StepFault>
         ensures ok { OnOk result (next self.old.world (Step.Wake rank) ≡ Some self.new.world) }
         ensures back { IfOk result (λ done. undone self.old.program self.new.world done ≡ self.old.world) }
-        ensures step { IfOk result (λ done. done.step ≡ Step.Wake rank) }
+        ensures recorded { IfOk result (λ done. record_of self.old.world (Step.Wake rank) ≡ Some done) }
         ensures not_enabled { IsErrOf result StepFault.NotEnabled ↔ (next self.old.world (Step.Wake rank) ≡ None) }
+        ensures memory { IsErrOf result StepFault.Memory → self.old.room ≡ 0 }
         ensures err { OnErr result (self.new.world ≡ self.old.world) }
         ensures program { self.new.program ≡ self.old.program }
     {
         if rank >= self.ranks.len() || !self.can_wake(rank) {
             return Err(StepFault::NotEnabled);
         }
+        let writes = self.wake_writes(rank);
         let id = self.last_call(rank);
-        let write = self.write_of(id);
         self.sets.push(MatchSet::Woke(id))?;
-        let RankRecord { from, change } = wake_one(&mut self.ranks, rank, write);
+        let RankRecord { from, change } = wake_one(&mut self.ranks, rank, writes);
         Ok(Record {
             step: Step::Wake(rank),
             from,
@@ -484,14 +519,28 @@ impl<'c> Core<'c> {
         }
     }
 
-    /// Takes a step, or refuses it: `NotEnabled` (21) exactly where the relation of steps has none, `Memory` (23)
-    /// where a growth was refused. On a refusal the state is as before (docs/DEFINITIONS.md, "Steps").
+    /// Keeps room for one step, whatever it is. An `Err` is want of memory, and comes only where no such room was kept; the state
+    /// stays as it was.
+    #[tactic(auto, using(crate::proofs::RoomLemmas::keeping))]
+    pub fn keep_room(&mut self) -> Result<(), AllocError>
+        ensures room { OnOk result (1 ≤ self.new.room) }
+        ensures memory { OnErr result (self.old.room ≡ 0) }
+        ensures world { self.new.world ≡ self.old.world }
+        ensures program { self.new.program ≡ self.old.program }
+    {
+        self.sets.reserve(1)?;
+        keep_rooms(&mut self.ranks)
+    }
+
+    /// Takes a step, or refuses it: `NotEnabled` (21) exactly where the relation of steps has none, `Memory` (23) where a
+    /// growth was refused, which is nowhere where room was kept. On a refusal the state is as before
+    /// (docs/DEFINITIONS.md, "Steps").
     pub fn apply(&mut self, step: Step) -> Result<Record, StepFault>
         ensures ok { OnOk result (next self.old.world step ≡ Some self.new.world) }
         ensures back { IfOk result (λ done. undone self.old.program self.new.world done ≡ self.old.world) }
-        ensures step { IfOk result (λ done. done.step ≡ step) }
-        ensures matched { IfOk result (λ done. RecordsMatch step done) }
+        ensures recorded { IfOk result (λ done. record_of self.old.world step ≡ Some done) }
         ensures not_enabled { IsErrOf result StepFault.NotEnabled ↔ (next self.old.world step ≡ None) }
+        ensures memory { IsErrOf result StepFault.Memory → self.old.room ≡ 0 }
         ensures err { OnErr result (self.new.world ≡ self.old.world) }
         ensures program { self.new.program ≡ self.old.program }
     {
@@ -503,8 +552,8 @@ impl<'c> Core<'c> {
         }
     }
 
-    /// Takes back the step that a record is of, and no memory. On the record of the last step not undone, the state
-    /// is the one before that step.
+    /// Takes back the step that a record is of. It can't be refused memory. On the record of the last step not undone, the
+    /// state is the one before that step.
     pub fn undo(&mut self, done: Record)
         ensures world { self.new.world ≡ undone self.old.program self.old.world done }
         ensures program { self.new.program ≡ self.old.program }

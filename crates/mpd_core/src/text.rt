@@ -1,34 +1,21 @@
 //! Printed texts of calls, ranks and match sets (docs/FORMATS.md, "Text of show").
 
-ghost use Rattle.std.specs.Prelude.{◌≡◌, ◌++◌, ◌<◌, IfOk, OnOk, IfSome, IsSome, length, slice_get, string_bytes};
+ghost use Rattle.std.specs.Prelude.{◌≡◌, ◌++◌, ◌<◌, IfOk, OnOk, OnErr, IfSome, IsSome, length, slice_get, string_bytes};
 ghost use Rattle.mpd_model.specs.World.{call_at};
-ghost use Rattle.mpd_model.specs.Texts.{partner_text, got_text, place_text, call_text, rank_text, set_text};
+ghost use Rattle.mpd_model.specs.Texts.{mark_text, got_text, place_text, call_text, rank_text, set_text};
 
 use crate::state::Core;
 use mpd_model::call::{Activity, CallKind, Message};
 use mpd_model::step::CallId;
 use std::alloc::AllocError;
 
-/// Adds the call that a call was paired with, or that it is free.
-fn push_partner(out: &mut String, partner: Option<CallId>) -> Result<(), AllocError>
-    ensures { OnOk result (string_bytes out.new ≡ string_bytes out.old ++ partner_text partner) }
-{
-    match partner {
-        None => out.push_str(" free")?,
-        Some(id) => write!(out, " with {id}")?,
-    }
-    Ok(())
-}
-
 /// Adds the value that a receive got.
 fn push_got(out: &mut String, kind: CallKind, message: Option<Message>) -> Result<(), AllocError>
     ensures { OnOk result (string_bytes out.new ≡ string_bytes out.old ++ got_text kind message) }
 {
-    if let CallKind::Recv { .. } = kind {
-        if let Some(got) = message {
-            let value = got.value;
-            write!(out, " value {value}")?;
-        }
+    if let (CallKind::Recv(_), Some(got)) = (kind, message) {
+        let value = got.value;
+        write!(out, " value {value}")?;
     }
     Ok(())
 }
@@ -48,39 +35,48 @@ fn push_place(out: &mut String, lines: &[usize], next: Option<usize>) -> Result<
 }
 
 impl<'c> Core<'c> {
-    /// Adds a call as `show` prints it behind its name. An `Err` is want of memory.
-    pub fn push_call(&self, out: &mut String, id: CallId) -> Result<(), AllocError>
-        ensures { OnOk result (string_bytes out.new ≡ string_bytes out.old ++ call_text self.now.world id) }
+    /// Adds that a send or a receive is free, or the call that a call was paired with.
+    fn push_mark(&self, out: &mut String, id: CallId) -> Result<(), AllocError>
+        ensures { OnOk result (string_bytes out.new ≡ string_bytes out.old ++ mark_text self.now.world id) }
     {
-        if let Some(kind) = self.kind(id) {
-            write!(out, "{kind}")?;
-            push_partner(out, self.partner(id))?;
-            push_got(out, kind, self.buffer(id))?;
+        if self.is_free(id) {
+            out.push_str(" free")?;
+        } else if let Some(partner) = self.partner(id) {
+            write!(out, " with {partner}")?;
         }
         Ok(())
     }
 
-    /// Adds what a rank is doing. An `Err` is want of memory.
+    /// A call as `show` prints it behind its name, where it exists. An `Err` is want of memory.
+    fn text_of_call(&self, id: CallId) -> Result<String, AllocError>
+        ensures { IfOk result (λ t. string_bytes t ≡ call_text self.now.world id) }
+    {
+        let mut text = String::new(self.allocator());
+        if let Some(kind) = self.kind(id) {
+            write!(text, "{kind}")?;
+            self.push_mark(&mut text, id)?;
+            push_got(&mut text, kind, self.buffer(id))?;
+        }
+        Ok(text)
+    }
+
+    /// Adds a call as `show` prints it behind its name. An `Err` is want of memory, and then `out` is as before.
+    pub fn push_call(&self, out: &mut String, id: CallId) -> Result<(), AllocError>
+        ensures ok { OnOk result (string_bytes out.new ≡ string_bytes out.old ++ call_text self.now.world id) }
+        ensures err { OnErr result (string_bytes out.new ≡ string_bytes out.old) }
+    {
+        let text = self.text_of_call(id)?;
+        out.push_str(&text)
+    }
+
+    /// Adds what a rank is doing. An `Err` is want of memory, and then `out` is as before.
     pub fn push_rank(&self, out: &mut String, rank: usize) -> Result<(), AllocError>
         requires { rank < length self.now.world.ranks }
-        ensures { OnOk result (string_bytes out.new ≡ string_bytes out.old ++ rank_text self.now.program self.now.world rank) }
+        ensures ok { OnOk result (string_bytes out.new ≡ string_bytes out.old ++ rank_text self.now.program self.now.world rank) }
+        ensures err { OnErr result (string_bytes out.new ≡ string_bytes out.old) }
     {
-        match self.activity(rank) {
-            None => {}
-            Some(Activity::Running) => {
-                let next = self.next_statement(rank);
-                push_place(out, self.code().lines(), next)?;
-            }
-            Some(Activity::Blocked) => {
-                let number = self.last_call(rank).index;
-                write!(out, "blocked {number}")?;
-            }
-            Some(Activity::Trapped(trap)) => {
-                let name = trap.name();
-                write!(out, "trapped {name}")?;
-            }
-        }
-        Ok(())
+        let text = self.rank_text(rank)?;
+        out.push_str(&text)
     }
 
     /// A call as `show` prints it behind its name: what it is, its partner, and the value that a receive got. An `Err` is want
@@ -89,9 +85,7 @@ impl<'c> Core<'c> {
         requires { IsSome (call_at self.now.world id) }
         ensures { IfOk result (λ t. string_bytes t ≡ call_text self.now.world id) }
     {
-        let mut out = String::new(self.allocator());
-        self.push_call(&mut out, id)?;
-        Ok(out)
+        self.text_of_call(id)
     }
 
     /// What a rank is doing: `at` and a line, `ended`, `blocked` and a call's number, or `trapped` and a name. An `Err` is want
@@ -100,9 +94,23 @@ impl<'c> Core<'c> {
         requires { rank < length self.now.world.ranks }
         ensures { IfOk result (λ t. string_bytes t ≡ rank_text self.now.program self.now.world rank) }
     {
-        let mut out = String::new(self.allocator());
-        self.push_rank(&mut out, rank)?;
-        Ok(out)
+        let mut text = String::new(self.allocator());
+        match self.activity(rank) {
+            None => {}
+            Some(Activity::Running) => {
+                let next = self.next_statement(rank);
+                push_place(&mut text, self.code().lines(), next)?;
+            }
+            Some(Activity::Blocked) => {
+                let number = self.last_call(rank).index;
+                write!(text, "blocked {number}")?;
+            }
+            Some(Activity::Trapped(trap)) => {
+                let name = trap.name();
+                write!(text, "trapped {name}")?;
+            }
+        }
+        Ok(text)
     }
 
     /// The match set at a place, from 0, in the order formed. An `Err` is want of memory.

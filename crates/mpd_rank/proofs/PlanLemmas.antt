@@ -1,22 +1,27 @@
 -- What a node plans is what its statement makes of a rank.
-use Rattle.std.proofs.Common.{◌≡◌, ℕ, ◌+◌, ℤ, Bool, true, false, List, [], ◌∷◌, ◌++◌, Some, None, Result, Ok, Err, refl, sym, ap, ◌∙◌}
+use Rattle.std.proofs.Common.{◌≡◌, ℕ, ◌+◌, ℤ, Bool, true, false, List, [], ◌∷◌, ◌++◌, Option, Some, None, Result, Ok, Err, refl, sym, ap, ◌∙◌, subst₂}
 use Rattle.mpd_model.specs.declared.call.Activity.{Activity}
 use Rattle.mpd_model.specs.declared.call.Activity.TheVariants.{Running, Blocked, Trapped}
 use Rattle.mpd_model.specs.declared.call.CallKind.{CallKind}
 use Rattle.mpd_model.specs.declared.call.Trap.{Trap}
-use Rattle.mpd_model.specs.Term.{Term, Value, value_of, is_zero}
+use Rattle.mpd_model.specs.declared.stmt.Simple.{Simple}
+use Rattle.mpd_model.specs.declared.stmt.Simple.TheVariants as st
+use Rattle.mpd_model.specs.Term.{Term, Value, Env, value_of, is_zero}
 use Rattle.mpd_model.specs.Tree.{Tree, Block, repeat, trees, statements_in, numbered}
 use Rattle.mpd_model.specs.Program.{Program}
 use Rattle.mpd_model.specs.World.{RankWorld}
-use Rattle.mpd_model.specs.Next.{local, ran, printed, issued, assigned, asserted, chosen, repeated, send_kind, recv_kind, written}
+use Rattle.mpd_model.specs.Next.{local, env_of, ran, ran_simple, printed, issued, assigned, asserted, chosen, repeated, send_kind, recv_kind, assignment}
 use Rattle.mpd_code.specs.declared.node.Node.{Node}
 use Rattle.mpd_code.specs.declared.node.Action.{Action}
 use Rattle.mpd_code.specs.declared.node.Action.TheVariants as a
 use Rattle.mpd_code.specs.Left.{left_at}
 use Rattle.mpd_code.specs.Stands.{Does, Stands}
 use Rattle.mpd_rank.specs.declared.plan.LocalPlan.{LocalPlan}
+use Rattle.mpd_rank.specs.declared.change.Change.{Change}
+use Rattle.mpd_rank.specs.declared.change.RankRecord.{RankRecord}
 use Rattle.mpd_rank.specs.Views.{RankView, rank_of}
-use Rattle.mpd_rank.specs.Plans.{plan_of, planned, print_plan, assign_plan, issue_plan, assert_plan, choice_plan}
+use Rattle.mpd_rank.specs.Records.{print_change, issue_change, write_change, assert_change, choice_change, simple_change, change_of, local_record, plan_change, plan_record}
+use Rattle.mpd_rank.specs.Plans.{plan_of, simple_plan, planned, print_plan, assign_plan, issue_plan, assert_plan, choice_plan}
 
 print_ran : (s : Program) (r : RankWorld) (i next : ℕ) (v : Value) → planned s r i (print_plan v next) ≡ printed r (left_at s next) v
 print_ran s r i next (Ok v) = refl
@@ -62,33 +67,93 @@ repeat_ran : (s : Program) (r : RankWorld) (i body next : ℕ) (c : Term) (x : B
 repeat_ran s r i body next c x (Ok v) h = repeat_by s r i body next c x v (is_zero v) refl h
 repeat_ran s r i body next c x (Err t) h = refl
 
-does_ran : (s : Program) (p n : ℕ) (r : RankWorld) (i next : ℕ) (act : Action) (t : Tree) → Does (left_at s) i (left_at s next) act t
-    → planned s r i (plan_of act next r.vars p n) ≡ ran p n r i t (left_at s next)
-does_ran s p n r i next (a.Print e) t d = rw d (print_ran s r i next (value_of e r.vars p n))
-does_ran s p n r i next (a.Send value to tag) t d = rw d (issue_ran s r i next (send_kind value to tag r.vars p n))
-does_ran s p n r i next (a.Recv into from tag) t d = rw d (issue_ran s r i next (recv_kind into from tag r.vars p n))
-does_ran s p n r i next (a.Assign into e) t d = rw d (assign_ran s r i next (written into e r.vars p n))
-does_ran s p n r i next (a.Assert e) t d = rw d (assert_ran s r i next (value_of e r.vars p n))
-does_ran s p n r i next (a.Branch c first second) t d = rw d.1.1.0 (choice_ran s r i first second (left_at s next) d.0 d.1.0 (value_of c r.vars p n) d.1.1.1.0 d.1.1.1.1)
-does_ran s p n r i next (a.Repeat c body) t d = rw d.1.0 (repeat_ran s r i body next c d.0 (value_of c r.vars p n) d.1.1)
+simple_ran : (s : Program) (env : Env) (r : RankWorld) (i next : ℕ) (t : Simple) → planned s r i (simple_plan t next env) ≡ ran_simple env r i t (left_at s next)
+simple_ran s env r i next (st.Print e) = print_ran s r i next (value_of e env)
+simple_ran s env r i next (st.Assign t) = assign_ran s r i next (assignment t env)
+simple_ran s env r i next (st.Assert e) = assert_ran s r i next (value_of e env)
+simple_ran s env r i next (st.Send t) = issue_ran s r i next (send_kind t env)
+simple_ran s env r i next (st.Recv t) = issue_ran s r i next (recv_kind t env)
 
-running_first : (p n : ℕ) (r : RankWorld) (i : ℕ) (t : Tree) (ts : List (ℕ × Tree)) → r.activity ≡ Running → r.rest ≡ (i, t) ∷ ts → local p n r ≡ Some (ran p n r i t ts)
+does_ran : (s : Program) (env : Env) (r : RankWorld) (i next : ℕ) (act : Action) (t : Tree) → Does (left_at s) i (left_at s next) act t
+    → planned s r i (plan_of act next env) ≡ ran env r i t (left_at s next)
+does_ran s env r i next (a.Simple b) t d = rw d (simple_ran s env r i next b)
+does_ran s env r i next (a.Branch c first second) t d = rw d.1.1.0 (choice_ran s r i first second (left_at s next) d.0 d.1.0 (value_of c env) d.1.1.1.0 d.1.1.1.1)
+does_ran s env r i next (a.Repeat c body) t d = rw d.1.0 (repeat_ran s r i body next c d.0 (value_of c env) d.1.1)
+
+-- ---- what a plan records is what its statement does
+
+print_recorded : (vars : List ℤ) (next : ℕ) (v : Value) → plan_change vars (print_plan v next) ≡ print_change v
+print_recorded vars next (Ok v) = refl
+print_recorded vars next (Err t) = refl
+
+issue_recorded : (vars : List ℤ) (next : ℕ) (k : Result CallKind Trap) → plan_change vars (issue_plan k next) ≡ issue_change k
+issue_recorded vars next (Ok k) = refl
+issue_recorded vars next (Err t) = refl
+
+assign_recorded : (vars : List ℤ) (next : ℕ) (w : Result (ℕ × ℤ) Trap) → plan_change vars (assign_plan w next) ≡ write_change vars w
+assign_recorded vars next (Ok w) = refl
+assign_recorded vars next (Err t) = refl
+
+assert_tested : (vars : List ℤ) (next : ℕ) (v : ℤ) (b : Bool) → is_zero v ≡ b → plan_change vars (assert_plan (Ok v) next) ≡ assert_change (Ok v)
+assert_tested vars next v true e = rw e refl
+assert_tested vars next v false e = rw e refl
+
+assert_recorded : (vars : List ℤ) (next : ℕ) (v : Value) → plan_change vars (assert_plan v next) ≡ assert_change v
+assert_recorded vars next (Ok v) = assert_tested vars next v (is_zero v) refl
+assert_recorded vars next (Err t) = refl
+
+choice_recorded : (vars : List ℤ) (first second : ℕ) (v : Value) → plan_change vars (choice_plan v first second) ≡ choice_change v
+choice_recorded vars first second (Ok v) = refl
+choice_recorded vars first second (Err t) = refl
+
+simple_recorded : (env : Env) (next : ℕ) (t : Simple) → plan_change env.vars (simple_plan t next env) ≡ simple_change env t
+simple_recorded env next (st.Print e) = print_recorded env.vars next (value_of e env)
+simple_recorded env next (st.Assign t) = assign_recorded env.vars next (assignment t env)
+simple_recorded env next (st.Assert e) = assert_recorded env.vars next (value_of e env)
+simple_recorded env next (st.Send t) = issue_recorded env.vars next (send_kind t env)
+simple_recorded env next (st.Recv t) = issue_recorded env.vars next (recv_kind t env)
+
+does_recorded : (at : ℕ → List (ℕ × Tree)) (env : Env) (i next : ℕ) (tail : List (ℕ × Tree)) (act : Action) (t : Tree) → Does at i tail act t
+    → plan_change env.vars (plan_of act next env) ≡ change_of env t
+does_recorded at env i next tail (a.Simple b) t d = rw d (simple_recorded env next b)
+does_recorded at env i next tail (a.Branch c first second) t d = rw d.1.1.0 (choice_recorded env.vars first second (value_of c env))
+does_recorded at env i next tail (a.Repeat c body) t d = rw d.1.0 (choice_recorded env.vars body next (value_of c env))
+
+running_first : (p n : ℕ) (r : RankWorld) (i : ℕ) (t : Tree) (ts : List (ℕ × Tree)) → r.activity ≡ Running → r.rest ≡ (i, t) ∷ ts → local p n r ≡ Some (ran (env_of p n r) r i t ts)
 running_first p n r i t ts e h = rw (e, h) refl
 
 -- a running rank at a node
 pub stands_ran : (s : Program) (p n : ℕ) (r : RankWorld) (i : ℕ) (node : Node) → r.activity ≡ Running → r.rest ≡ left_at s i → Stands (left_at s) i node
-    → local p n r ≡ Some (planned s r i (plan_of node.action node.next r.vars p n))
+    → local p n r ≡ Some (planned s r i (plan_of node.action node.next (env_of p n r)))
 stands_ran s p n r i node e h d =
-    running_first p n r i d.statement (left_at s node.next) e (h ∙ d.left) ∙ ap Some (sym (does_ran s p n r i node.next node.action d.statement d.does))
+    running_first p n r i d.statement (left_at s node.next) e (h ∙ d.left) ∙ ap Some (sym (does_ran s (env_of p n r) r i node.next node.action d.statement d.does))
 
--- the same of what a rank shows
-pub view_ran : (s : Program) (p n : ℕ) (u v : RankView) (vars : List ℤ) (plan : LocalPlan) (node : Node) → u ≡ v → u.activity ≡ Running → Stands (left_at s) u.node node → vars ≡ u.vars
-    → plan ≡ plan_of node.action node.next vars p n → local p n (rank_of s v) ≡ Some (planned s (rank_of s v) v.node plan)
-view_ran s p n u v vars plan node same running d held is =
-    let facts : local p n (rank_of s u) ≡ Some (planned s (rank_of s u) u.node (plan_of node.action node.next u.vars p n)) = stands_ran s p n (rank_of s u) u.node node running refl d in
-    let planned_is : plan_of node.action node.next u.vars p n ≡ plan = ap (λ vs. plan_of node.action node.next vs p n) (sym held) ∙ sym is in
-    let at_u : local p n (rank_of s u) ≡ Some (planned s (rank_of s u) u.node plan) = facts ∙ ap (λ q. Some (planned s (rank_of s u) u.node q)) planned_is in
-    ap (λ w. local p n (rank_of s w)) (sym same) ∙ at_u ∙ ap (λ (w : RankView). Some (planned s (rank_of s w) w.node plan)) same
+abbrev recorded_at : ℕ → Change → Option RankRecord
+recorded_at i c = Some (record { from = i; change = c })
+
+first_recorded : (p n : ℕ) (r : RankWorld) (i : ℕ) (t : Tree) (ts : List (ℕ × Tree)) → r.activity ≡ Running → r.rest ≡ (i, t) ∷ ts → local_record p n r ≡ Some (record { from = i; change = change_of (env_of p n r) t })
+first_recorded p n r i t ts e h = rw (e, h) refl
+
+-- what it records
+pub stands_recorded : (s : Program) (p n : ℕ) (v : RankView) (node : Node) → v.activity ≡ Running → Stands (left_at s) v.node node
+    → local_record p n (rank_of s v) ≡ Some (plan_record v (plan_of node.action node.next (env_of p n (rank_of s v))))
+stands_recorded s p n v node e d =
+    first_recorded p n (rank_of s v) v.node d.statement (left_at s node.next) e d.left
+    ∙ ap (recorded_at v.node) (sym (does_recorded (left_at s) (env_of p n (rank_of s v)) v.node node.next (left_at s node.next) node.action d.statement d.does))
+
+-- a plan of what a rank shows
+abbrev pub IsPlanned : Program → RankView → LocalPlan → Type 0
+IsPlanned s v plan =
+    (local v.rank s.ranks (rank_of s v) ≡ Some (planned s (rank_of s v) v.node plan)) × (local_record v.rank s.ranks (rank_of s v) ≡ Some (plan_record v plan))
+
+pub view_ran : (s : Program) (u v : RankView) (vars : List ℤ) (size : ℕ) (plan : LocalPlan) (node : Node) → u ≡ v → u.activity ≡ Running → Stands (left_at s) u.node node → vars ≡ u.vars → size ≡ s.ranks
+    → plan ≡ plan_of node.action node.next (record { vars = vars; rank = u.rank; size = size }) → IsPlanned s v plan
+view_ran s u v vars size plan node same running d held counted is =
+    let env : Env = env_of u.rank s.ranks (rank_of s u) in
+    let in_env : env ≡ record { vars = vars; rank = u.rank; size = size } = λ i. record { vars = sym held i; rank = u.rank; size = sym counted i } in
+    let facts : IsPlanned s u (plan_of node.action node.next env) = (stands_ran s u.rank s.ranks (rank_of s u) u.node node running refl d, stands_recorded s u.rank s.ranks u node running d) in
+    let planned_is : plan_of node.action node.next env ≡ plan = ap (plan_of node.action node.next) in_env ∙ sym is in
+    subst₂ (IsPlanned s) same planned_is facts
 
 -- a running rank with nothing left
 pub ended_none : (p n : ℕ) (r : RankWorld) → r.activity ≡ Running → r.rest ≡ [] → local p n r ≡ None

@@ -1,43 +1,51 @@
 -- Steps of one rank, and those steps back.
-use Rattle.std.proofs.Common.{◌≡◌, ℕ, zero, suc, List, [], ◌∷◌, Option, Some, None, ℤ, refl, sym, ap, ◌∙◌, slice_get, slice_set}
+use Rattle.std.proofs.Common.{◌≡◌, ℕ, zero, suc, List, [], ◌∷◌, ◌++◌, Option, Some, None, ℤ, refl, sym, ap, ◌∙◌, slice_get, slice_set}
 use Rattle.std.specs.Option.{option_map}
-use Rattle.mpd_model.specs.Next.{write_cell}
+use Rattle.mpd_model.specs.Next.{write_cells}
 use Rattle.mpd_model.specs.declared.call.Activity.TheVariants.{Running}
 use Rattle.mpd_model.specs.Program.{Program}
 use Rattle.mpd_model.specs.World.{RankWorld}
 use Rattle.mpd_code.specs.Left.{left_at}
 use Rattle.mpd_rank.specs.declared.change.RankRecord.{RankRecord}
-use Rattle.mpd_rank.specs.Views.{RankView, rank_of}
-use Rattle.mpd_rank.specs.Undone.{held, assigned_change, undone_parts, undone_rank}
+use Rattle.mpd_rank.specs.Views.{RankView, rank_of, listed}
+use Rattle.mpd_rank.specs.Undone.{held, all_held, assigned_change, put_back, undone_rank}
+use Rattle.mpd_rank.specs.Records.{plan_record}
+use Rattle.mpd_rank.specs.declared.plan.LocalPlan.TheVariants.{Assign}
 
-write_held : (vars : List ℤ) (c : ℕ) (x : ℤ) → write_cell (held vars (Some (c, x))) (slice_set vars c x) ≡ vars
+write_cells-append : (xs ys : List (ℕ × ℤ)) (vars : List ℤ) → write_cells (xs ++ ys) vars ≡ write_cells ys (write_cells xs vars)
+write_cells-append [] ys vars = refl
+write_cells-append (x ∷ xs) ys vars = write_cells-append xs ys (slice_set vars x.0 x.1)
+
+write_held : (vars : List ℤ) (c : ℕ) (x : ℤ) → write_cells (listed (held vars c)) (slice_set vars c x) ≡ vars
 write_held [] c x = refl
 write_held (v ∷ vars) zero x = refl
 write_held (v ∷ vars) (suc c) x = held-suc v vars c x (slice_get vars c) ∙ ap (λ us. v ∷ us) (write_held vars c x)
   where
-    held-suc : (v : ℤ) (vars : List ℤ) (c : ℕ) (x : ℤ) (o : Option ℤ) → write_cell (option_map (λ u. (suc c, u)) o) (v ∷ slice_set vars c x) ≡ v ∷ write_cell (option_map (λ u. (c, u)) o) (slice_set vars c x)
+    held-suc : (v : ℤ) (vars : List ℤ) (c : ℕ) (x : ℤ) (o : Option ℤ) → write_cells (listed (option_map (λ u. (suc c, u)) o)) (v ∷ slice_set vars c x) ≡ v ∷ write_cells (listed (option_map (λ u. (c, u)) o)) (slice_set vars c x)
     held-suc v vars c x None = refl
     held-suc v vars c x (Some u) = refl
 
--- a cell that is written and written back is the cell before
-pub written_back : (vars : List ℤ) (w : Option (ℕ × ℤ)) → write_cell (held vars w) (write_cell w vars) ≡ vars
-written_back vars None = refl
-written_back vars (Some w) = write_held vars w.0 w.1
+-- cells that are all written, and all written back with the last first, are the cells before
+pub written_back : (vars : List ℤ) (ws : List (ℕ × ℤ)) → write_cells (all_held vars ws) (write_cells ws vars) ≡ vars
+written_back vars [] = refl
+written_back vars (w ∷ ws) =
+    let next : List ℤ = slice_set vars w.0 w.1 in
+    write_cells-append (all_held next ws) (listed (held vars w.0)) (write_cells ws next)
+    ∙ ap (write_cells (listed (held vars w.0))) (written_back next ws)
+    ∙ write_held vars w.0 w.1
 
-undone_assigned : (r : RankWorld) (o : Option (ℕ × ℤ)) → undone_parts r (assigned_change o) ≡ record r { vars = write_cell o r.vars; activity = Running }
-undone_assigned r None = refl
-undone_assigned r (Some w) = refl
+undone_assigned : (s : Program) (r : RankWorld) (from : ℕ) (o : Option (ℕ × ℤ)) → put_back s r from (assigned_change o) ≡ record r { rest = left_at s from; vars = write_cells (listed o) r.vars; activity = Running }
+undone_assigned s r from None = refl
+undone_assigned s r from (Some w) = refl
 
 -- an assignment that is taken back is the rank before
 pub assign_back : (s : Program) (v w : RankView) (d : RankRecord) (c next : ℕ) (x : ℤ) → w ≡ record v { node = next; vars = slice_set v.vars c x }
-    → d.from ≡ v.node → d.change ≡ assigned_change (held v.vars (Some (c, x))) → v.activity ≡ Running → undone_rank s (rank_of s w) d ≡ rank_of s v
-assign_back s v w d c next x done from change running =
+    → d ≡ plan_record v (Assign c x next) → v.activity ≡ Running → undone_rank s (rank_of s w) d ≡ rank_of s v
+assign_back s v w d c next x done recorded running =
     let before : RankWorld = record (rank_of s v) { rest = left_at s next; vars = slice_set v.vars c x } in
-    let parts : undone_parts before (assigned_change (held v.vars (Some (c, x)))) ≡ record before { vars = write_cell (held v.vars (Some (c, x))) before.vars; activity = Running } =
-    undone_assigned before (held v.vars (Some (c, x))) in
     ap (λ (u : RankView). undone_rank s (rank_of s u) d) done
-    ∙ (λ i. record (undone_parts before (change i)) { rest = left_at s (from i) })
-    ∙ (λ i. record (parts i) { rest = left_at s v.node })
-    ∙ (λ i. record (rank_of s v) { vars = written_back v.vars (Some (c, x)) i; activity = sym running i })
+    ∙ ap (undone_rank s before) recorded
+    ∙ undone_assigned s before v.node (held v.vars c)
+    ∙ (λ i. record (rank_of s v) { vars = write_held v.vars c x i; activity = sym running i })
 
 pub ruleset committing = (written_back, assign_back)

@@ -1,3 +1,4 @@
 pub mod Views
 pub mod Plans
 pub mod Undone
+pub mod Records

@@ -4,10 +4,12 @@ use Rattle.mpd_model.specs.declared.call.Activity.TheVariants.{Blocked}
 use Rattle.mpd_model.specs.declared.call.CallKind.{CallKind}
 use Rattle.mpd_model.specs.declared.call.Trap.{Trap as Reason}
 use Rattle.mpd_model.specs.declared.call.Trap.TheVariants.{Assertion}
-use Rattle.mpd_model.specs.Term.{Value, value_of, is_zero}
+use Rattle.mpd_model.specs.declared.stmt.Simple.{Simple}
+use Rattle.mpd_model.specs.declared.stmt.Simple.TheVariants as st
+use Rattle.mpd_model.specs.Term.{Value, Env, value_of, is_zero}
 use Rattle.mpd_model.specs.Program.{Program}
 use Rattle.mpd_model.specs.World.{RankWorld}
-use Rattle.mpd_model.specs.Next.{trapped, send_kind, recv_kind, written}
+use Rattle.mpd_model.specs.Next.{trapped, send_kind, recv_kind, assignment}
 use Rattle.mpd_code.specs.declared.node.Action.{Action}
 use Rattle.mpd_code.specs.declared.node.Action.TheVariants as a
 use Rattle.mpd_code.specs.Left.{left_at}
@@ -34,15 +36,19 @@ abbrev pub choice_plan : Value → ℕ → ℕ → LocalPlan
 choice_plan (Ok v) holds fails = Move (if is_zero v then fails else holds)
 choice_plan (Err t) holds fails = Trap t
 
--- what an action does on rank p of n, given what follows it and the variables
-abbrev pub plan_of : Action → ℕ → List ℤ → ℕ → ℕ → LocalPlan
-plan_of (a.Print e) next vars p n = print_plan (value_of e vars p n) next
-plan_of (a.Send value to tag) next vars p n = issue_plan (send_kind value to tag vars p n) next
-plan_of (a.Recv into from tag) next vars p n = issue_plan (recv_kind into from tag vars p n) next
-plan_of (a.Assign into e) next vars p n = assign_plan (written into e vars p n) next
-plan_of (a.Assert e) next vars p n = assert_plan (value_of e vars p n) next
-plan_of (a.Branch c first second) next vars p n = choice_plan (value_of c vars p n) first second
-plan_of (a.Repeat c body) next vars p n = choice_plan (value_of c vars p n) body next
+-- what a statement that holds no other does, given what follows it
+abbrev pub simple_plan : Simple → ℕ → Env → LocalPlan
+simple_plan (st.Print e) next env = print_plan (value_of e env) next
+simple_plan (st.Assign s) next env = assign_plan (assignment s env) next
+simple_plan (st.Assert e) next env = assert_plan (value_of e env) next
+simple_plan (st.Send s) next env = issue_plan (send_kind s env) next
+simple_plan (st.Recv s) next env = issue_plan (recv_kind s env) next
+
+-- what any action does
+abbrev pub plan_of : Action → ℕ → Env → LocalPlan
+plan_of (a.Simple s) next env = simple_plan s next env
+plan_of (a.Branch c first second) next env = choice_plan (value_of c env) first second
+plan_of (a.Repeat c body) next env = choice_plan (value_of c env) body next
 
 -- what a plan makes of a rank that stands at a statement of a number
 abbrev pub planned : Program → RankWorld → ℕ → LocalPlan → RankWorld

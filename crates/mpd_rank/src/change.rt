@@ -1,7 +1,47 @@
 //! What a step did, so that it can be taken back.
 
+ghost use Rattle.std.specs.Prelude.{◌≡◌, [], ◌∷◌};
+
+use std::marker::Model;
+
+/// Cells, in order, each with a value: what a wake writes, or what cells held that it wrote. Contracts see a list. There is one
+/// at most.
+#[derive(Debug, Drop)]
+pub struct Cells {
+    pub(crate) first: Option<(usize, i64)>,
+}
+
+impl Model for Cells {
+    ghost use Rattle.std.specs.Prelude.{ℕ, ℤ, List};
+    ghost use Rattle.mpd_rank.specs.Views.{cells_code, listed};
+
+    ghost Value = { List (ℕ × ℤ) };
+
+    ghost coded = { cells_code };
+
+    ghost view = { λ c. listed c.first };
+}
+
+impl Cells {
+    /// No cell.
+    pub fn none() -> Cells
+        ensures { result ≡ [] }
+    {
+        Cells { first: None }
+    }
+
+    /// One cell.
+    pub fn one(cell: usize, value: i64) -> Cells
+        ensures { result ≡ (cell, value) ∷ [] }
+    {
+        Cells {
+            first: Some((cell, value)),
+        }
+    }
+}
+
 /// What a step did beside moving its rank's node.
-#[derive(Clone, Copy, Debug, PartialEq, Eq)]
+#[derive(Debug, Drop)]
 pub enum Change {
     Moved,
     /// The cell that was written, and what it held.
@@ -10,12 +50,13 @@ pub enum Change {
     Issued,
     Trapped,
     Matched,
-    /// The cell that was written, if any, and what it held.
-    Woke(Option<(usize, i64)>),
+    /// The cells that were written, the last first, and what each held.
+    Woke(Cells),
 }
 
-/// What takes the step of a rank back: the node before it, and what else it did. It holds no collection.
-#[derive(Clone, Copy, Debug, PartialEq, Eq)]
+/// What takes the step of a rank back: the node before it, which is 0 at a wake, since that moves no rank, and what else it did.
+/// It holds no collection.
+#[derive(Debug, Drop)]
 pub struct RankRecord {
     pub from: usize,
     pub change: Change,

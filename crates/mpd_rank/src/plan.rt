@@ -1,11 +1,13 @@
 //! What the next statement of a rank does, before it is done.
 
-ghost use Rattle.std.specs.Prelude.{◌≡◌, ◌<◌, ◌^◌};
-ghost use Rattle.mpd_rank.specs.Plans.{plan_of, print_plan, assign_plan, issue_plan, assert_plan, choice_plan};
+ghost use Rattle.std.specs.Prelude.{◌≡◌};
+ghost use Rattle.mpd_rank.specs.Plans.{plan_of, simple_plan, print_plan, assign_plan, issue_plan, assert_plan, choice_plan};
 
+use mpd_code::env::Env;
 use mpd_code::eval::{eval, eval_assign, eval_recv, eval_send};
 use mpd_code::node::{Action, Node};
 use mpd_model::call::{CallKind, Trap};
+use mpd_model::stmt::Simple;
 
 /// What a local step does.
 #[derive(Clone, Copy, Debug, PartialEq, Eq)]
@@ -81,30 +83,30 @@ fn plan_choice(test: Result<i64, Trap>, holds: usize, fails: usize) -> LocalPlan
     }
 }
 
-/// What a node does on rank `rank` of `size` with these variables.
-pub(crate) fn plan_node(node: &Node, vars: &[i64], rank: usize, size: usize) -> LocalPlan
-    requires rank { rank < 2 ^ 63 }
-    requires size { size < 2 ^ 63 }
-    ensures { result ≡ plan_of node.now.action node.now.next vars.now rank size }
+/// What a statement that holds no other does, and the node that follows it.
+fn plan_simple(simple: &Simple, env: &Env<'_>, next: usize) -> LocalPlan
+    ensures { result ≡ simple_plan simple.now next env.now }
 {
-    let next = node.next;
+    match simple {
+        Simple::Print(value) => plan_print(eval(value, env), next),
+        Simple::Assign(assign) => plan_assign(eval_assign(assign, env), next),
+        Simple::Assert(test) => plan_assert(eval(test, env), next),
+        Simple::Send(send) => plan_issue(eval_send(send, env), next),
+        Simple::Recv(recv) => plan_issue(eval_recv(recv, env), next),
+    }
+}
+
+/// What a node does.
+pub(crate) fn plan_node(node: &Node, env: &Env<'_>) -> LocalPlan
+    ensures { result ≡ plan_of node.now.action node.now.next env.now }
+{
     match &node.action {
-        Action::Print(value) => plan_print(eval(value, vars, rank, size), next),
-        Action::Send { value, to, tag } => {
-            plan_issue(eval_send(value, to, tag, vars, rank, size), next)
-        }
-        Action::Recv { into, from, tag } => {
-            plan_issue(eval_recv(into, from, tag, vars, rank, size), next)
-        }
-        Action::Assign(into, value) => {
-            plan_assign(eval_assign(into, value, vars, rank, size), next)
-        }
-        Action::Assert(test) => plan_assert(eval(test, vars, rank, size), next),
+        Action::Simple(simple) => plan_simple(simple, env, node.next),
         Action::Branch {
             test,
             first,
             second,
-        } => plan_choice(eval(test, vars, rank, size), *first, *second),
-        Action::Repeat { test, body } => plan_choice(eval(test, vars, rank, size), *body, next),
+        } => plan_choice(eval(test, env), *first, *second),
+        Action::Repeat { test, body } => plan_choice(eval(test, env), *body, node.next),
     }
 }

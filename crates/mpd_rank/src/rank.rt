@@ -1,13 +1,14 @@
 //! The state of one rank.
 
-ghost use Rattle.std.specs.Prelude.{◌≡◌, ◌<◌, ◌≤◌, ◌^◌, IfOk, IfSome, IfNone, OnOk, OnErr, is_some, IsSome, ℕ, Some, slice_set};
+ghost use Rattle.std.specs.Prelude.{◌≡◌, ◌≤◌, IfOk, IfSome, IfNone, OnOk, OnErr, is_some, IsSome, ℕ, Some, slice_set};
 ghost use Rattle.std.specs.Option.{option_map};
 ghost use Rattle.mpd_model.specs.Program.{Program};
 ghost use Rattle.mpd_code.specs.Left.{left_at};
 
-use crate::change::{Change, RankRecord};
+use crate::change::{Cells, Change, RankRecord};
 use crate::plan::{LocalPlan, plan_node};
 use mpd_code::code::Code;
+use mpd_code::env::Env;
 use mpd_model::call::{Activity, Call};
 use std::alloc::{AllocError, Global};
 use std::marker::Model;
@@ -15,6 +16,7 @@ use std::marker::Model;
 /// One rank, which contracts see as a `RankView`. What it has left to run is what its node stands for.
 #[derive(Debug, Drop)]
 pub struct RankState {
+    rank: u32,
     node: usize,
     vars: Vec<i64>,
     handles: Vec<Option<usize>>,
@@ -32,6 +34,7 @@ impl Model for RankState {
     ghost coded = { rank_view_code };
 
     ghost view = { λ r. record {
+      rank = r.rank;
       node = r.node;
       vars = r.vars.items;
       handles = r.handles.items;
@@ -46,16 +49,19 @@ impl Model for RankState {
 impl RankState {
     ghost use Rattle.mpd_model.specs.World.{start_rank};
     ghost use Rattle.mpd_model.specs.Outcomes.{has_ended, first_number};
-    ghost use Rattle.mpd_model.specs.Next.{local, woken_rank, write_cell};
-    ghost use Rattle.mpd_rank.specs.Views.{rank_of, HasRoom};
+    ghost use Rattle.mpd_model.specs.Next.{local, woken_rank, write_cells};
+    ghost use Rattle.mpd_rank.specs.Views.{rank_of, step_room};
     ghost use Rattle.mpd_rank.specs.Plans.{planned};
-    ghost use Rattle.mpd_rank.specs.Undone.{undone_rank, held, assigned_change};
+    ghost use Rattle.mpd_rank.specs.Undone.{undone_rank, held, all_held};
+    ghost use Rattle.mpd_rank.specs.Records.{local_record, plan_record, wake_record};
 
-    /// A rank before its first step, with the whole body to run.
-    pub fn start(alloc: Global, code: &Code) -> Result<RankState, AllocError>
-        ensures { IfOk result (λ r. rank_of code.now.program r ≡ start_rank code.now.program) }
+    /// A rank before its first step, with the whole body to run. An `Err` is want of memory.
+    pub fn start(alloc: Global, code: &Code, rank: u32) -> Result<RankState, AllocError>
+        ensures world { IfOk result (λ r. rank_of code.now.program r ≡ start_rank code.now.program) }
+        ensures rank { IfOk result (λ r. r.rank ≡ rank) }
     {
         Ok(RankState {
+            rank,
             node: code.start(),
             vars: vec![in alloc; 0; code.cells()]?,
             handles: vec![in alloc; None; code.handles()]?,
@@ -65,9 +71,11 @@ impl RankState {
         })
     }
 
-    /// Keeps room for one step. An `Err` is want of memory; what the rank is stays as it was.
+    /// Keeps room for one step, whatever it is. An `Err` is want of memory, and comes only where no such room was kept; what the
+    /// rank is stays as it was.
     pub fn keep_room(&mut self) -> Result<(), AllocError>
-        ensures room { OnOk result (HasRoom self.new) }
+        ensures room { OnOk result (1 ≤ step_room self.new) }
+        ensures memory { OnErr result (step_room self.old ≡ 0) }
         ensures same { self.new ≡ record self.old { call_room = self.new.call_room; out_room = self.new.out_room } }
     {
         self.calls.reserve(1)?;
@@ -75,27 +83,31 @@ impl RankState {
         Ok(())
     }
 
-    /// What the next local step does on rank `rank` of `size`, where there is one. Nothing changes.
+    /// What the next local step does, where there is one. Nothing changes.
     #[tactic(auto, using(crate::proofs::PlanLemmas::planning))]
-    pub fn plan_local(&self, code: &Code, rank: usize, size: usize) -> Option<LocalPlan>
-        requires rank { rank < 2 ^ 63 }
-        requires size { size < 2 ^ 63 }
-        ensures { local rank size (rank_of code.now.program self.now) ≡ option_map (planned code.now.program (rank_of code.now.program self.now) self.now.node) result }
+    pub fn plan_local(&self, code: &Code) -> Option<LocalPlan>
+        ensures step { local self.now.rank code.now.program.ranks (rank_of code.now.program self.now) ≡ option_map (planned code.now.program (rank_of code.now.program self.now) self.now.node) result }
+        ensures recorded { local_record self.now.rank code.now.program.ranks (rank_of code.now.program self.now) ≡ option_map (plan_record self.now) result }
     {
         match self.activity {
             Activity::Running => {}
             Activity::Blocked | Activity::Trapped(_) => return None,
         }
         let node = code.node(self.node)?;
-        Some(plan_node(node, &self.vars, rank, size))
+        let size = code.ranks();
+        let env = Env {
+            vars: &self.vars,
+            rank: self.rank,
+            size: size as u32,
+        };
+        Some(plan_node(node, &env))
     }
 
-    /// Writes a variable, and answers what it held.
-    fn write(&mut self, write: Option<(usize, i64)>) -> Option<(usize, i64)>
-        ensures after { self.new ≡ record self.old { vars = write_cell write self.old.vars } }
-        ensures held { result ≡ held self.old.vars write }
+    /// Writes a variable, where there is such a cell, and answers what it held.
+    fn write(&mut self, cell: usize, value: i64) -> Option<(usize, i64)>
+        ensures after { self.new ≡ record self.old { vars = slice_set self.old.vars cell value } }
+        ensures held { result ≡ held self.old.vars cell }
     {
-        let (cell, value) = write?;
         if cell >= self.vars.len() {
             return None;
         }
@@ -104,26 +116,40 @@ impl RankState {
         Some((cell, was))
     }
 
+    /// Writes cells, and answers what they held, the last first.
+    fn write_all(&mut self, cells: Cells) -> Cells
+        ensures after { self.new ≡ record self.old { vars = write_cells cells self.old.vars } }
+        ensures held { result ≡ all_held self.old.vars cells }
+    {
+        match cells.first {
+            None => Cells::none(),
+            Some((cell, value)) => Cells {
+                first: self.write(cell, value),
+            },
+        }
+    }
+
     /// Writes a cell, and goes on at a node.
     fn assign(&mut self, cell: usize, value: i64, next: usize) -> RankRecord
         ensures after { self.new ≡ record self.old { node = next; vars = slice_set self.old.vars cell value } }
-        ensures from { result.from ≡ self.old.node }
-        ensures change { result.change ≡ assigned_change (held self.old.vars (Some (cell, value))) }
+        ensures recorded { result ≡ plan_record self.old (LocalPlan.Assign cell value next) }
     {
         let from = self.node;
         self.node = next;
-        let change = match self.write(Some((cell, value))) {
+        let change = match self.write(cell, value) {
             Some((cell, was)) => Change::Assigned { cell, was },
             None => Change::Moved,
         };
         RankRecord { from, change }
     }
 
-    /// Does what was planned, in the room that was kept. It takes no memory.
+    /// Does what was planned, in the room that was kept, so it can't be refused memory. It answers what takes the step back.
     #[tactic(auto, using(crate::proofs::RankLemmas::committing))]
     pub fn commit(&mut self, plan: LocalPlan) -> RankRecord
-        requires room { HasRoom self.old }
+        requires room { 1 ≤ step_room self.old }
         ensures after { (p : Program) → rank_of p self.new ≡ planned p (rank_of p self.old) self.old.node plan }
+        ensures recorded { result ≡ plan_record self.old plan }
+        ensures rank { self.new.rank ≡ self.old.rank }
         ensures back { (p : Program) → self.old.activity ≡ Activity.Running → undone_rank p (rank_of p self.new) result ≡ rank_of p self.old }
     {
         let from = self.node;
@@ -155,57 +181,57 @@ impl RankState {
         RankRecord { from, change }
     }
 
-    /// Runs the next statement on rank `rank` of `size`, where the rank is running and has one. An `Err` is want of memory.
+    /// Runs the next statement, where the rank is running and has one. An `Err` is want of memory, and comes only where no room
+    /// was kept.
     #[tactic(auto, using(crate::proofs::PlanLemmas::steps_running))]
-    pub fn step(
-        &mut self,
-        code: &Code,
-        rank: usize,
-        size: usize,
-    ) -> Result<Option<RankRecord>, AllocError>
-        requires rank { rank < 2 ^ 63 }
-        requires size { size < 2 ^ 63 }
-        ensures step { IfOk result (λ done. local rank size (rank_of code.now.program self.old) ≡ option_map (λ _. rank_of code.now.program self.new) done) }
+    pub fn step(&mut self, code: &Code) -> Result<Option<RankRecord>, AllocError>
+        ensures step { IfOk result (λ done. local self.old.rank code.now.program.ranks (rank_of code.now.program self.old) ≡ option_map (λ _. rank_of code.now.program self.new) done) }
+        ensures recorded { IfOk result (λ done. done ≡ local_record self.old.rank code.now.program.ranks (rank_of code.now.program self.old)) }
         ensures back { IfOk result (λ done. IfSome done (λ r. undone_rank code.now.program (rank_of code.now.program self.new) r ≡ rank_of code.now.program self.old)) }
-        ensures none { IfOk result (λ done. IfNone done (self.new ≡ self.old)) }
+        ensures none { IfOk result (λ done. IfNone done (rank_of code.now.program self.new ≡ rank_of code.now.program self.old)) }
         ensures err { OnErr result (rank_of code.now.program self.new ≡ rank_of code.now.program self.old) }
-        ensures enabled { OnErr result (IsSome (local rank size (rank_of code.now.program self.old))) }
+        ensures enabled { OnErr result (IsSome (local self.old.rank code.now.program.ranks (rank_of code.now.program self.old))) }
+        ensures memory { OnErr result (step_room self.old ≡ 0) }
+        ensures rank { self.new.rank ≡ self.old.rank }
     {
-        let Some(plan) = self.plan_local(code, rank, size) else {
+        let Some(plan) = self.plan_local(code) else {
             return Ok(None);
         };
         self.keep_room()?;
         Ok(Some(self.commit(plan)))
     }
 
-    /// Goes on after a wake, with a cell written. It takes no memory.
+    /// Goes on after a wake, with cells written. It can't be refused memory. It answers what takes the wake back.
     #[tactic(auto, using(crate::proofs::RankLemmas::committing))]
-    pub fn complete(&mut self, write: Option<(usize, i64)>) -> RankRecord
-        ensures after { (p : Program) → rank_of p self.new ≡ woken_rank write (rank_of p self.old) }
+    pub fn complete(&mut self, writes: Cells) -> RankRecord
+        ensures after { (p : Program) → rank_of p self.new ≡ woken_rank writes (rank_of p self.old) }
+        ensures recorded { result ≡ wake_record self.old.vars writes }
+        ensures rank { self.new.rank ≡ self.old.rank }
         ensures back { (p : Program) → self.old.activity ≡ Activity.Blocked → undone_rank p (rank_of p self.new) result ≡ rank_of p self.old }
     {
-        let was = self.write(write);
+        let was = self.write_all(writes);
         self.activity = Activity::Running;
         RankRecord {
-            from: self.node,
+            from: 0,
             change: Change::Woke(was),
         }
     }
 
-    /// Takes a step of the rank back. It takes no memory.
+    /// Takes a step of the rank back. It can't be refused memory.
     pub fn restore(&mut self, done: RankRecord)
-        ensures { (p : Program) → rank_of p self.new ≡ undone_rank p (rank_of p self.old) done }
+        ensures after { (p : Program) → rank_of p self.new ≡ undone_rank p (rank_of p self.old) done }
+        ensures rank { self.new.rank ≡ self.old.rank }
     {
-        self.node = done.from;
-        match done.change {
+        let RankRecord { from, change } = done;
+        match change {
             Change::Matched => return,
             Change::Woke(was) => {
-                let _ = self.write(was);
+                let _ = self.write_all(was);
                 self.activity = Activity::Blocked;
                 return;
             }
             Change::Assigned { cell, was } => {
-                let _ = self.write(Some((cell, was)));
+                let _ = self.write(cell, was);
             }
             Change::Printed => {
                 let _ = self.out.pop();
@@ -215,6 +241,7 @@ impl RankState {
             }
             Change::Moved | Change::Trapped => {}
         }
+        self.node = from;
         self.activity = Activity::Running;
     }
 

@@ -3,6 +3,7 @@ use Rattle.std.proofs.Common.{◌≡◌, ℕ, ◌<◌, ◌≤◌, ◌+◌, Bool,
 use Rattle.std.specs.Option.{option_and_then}
 use Rattle.std.proofs.lemmas.List.{reverse-append, reverse-reverse, length-append, take_more, take_all, length-take}
 use Rattle.std.proofs.lemmas.Option.{get_or_from_slice_get, slice_get_within}
+use Rattle.mpd_model.specs.declared.limits.TheConstants.{STEPS_MAX}
 use Rattle.mpd_model.specs.declared.step.Step.{Step}
 use Rattle.mpd_model.specs.declared.step.Step.TheVariants.{Release}
 use Rattle.mpd_model.specs.Program.{Program}
@@ -54,7 +55,7 @@ keeps_reached s records e k =
     record { world = ap (λ n. fold (start s.trail.program s.trail.mode) (take n s.trail.steps)) (sym e) ∙ keeps_world s.trail.program (start s.trail.program s.trail.mode) records s.trail.steps s.world k; within = omega (arith, k.within) }
 
 -- one step more
-pub keeps_push : (s : Program) (first : World) (records : List Record) (steps : List Step) (last now : World) (u : Record) (a : Step) → Keeps s first records steps last → length records < 1000000 → next last a ≡ Some now → undone s now u ≡ last
+pub keeps_push : (s : Program) (first : World) (records : List Record) (steps : List Step) (last now : World) (u : Record) (a : Step) → Keeps s first records steps last → length records < STEPS_MAX → next last a ≡ Some now → undone s now u ≡ last
     → Keeps s first (records ++ u ∷ []) (noted steps (length records) a) now
 keeps_push s first records steps last now u a k room e back =
     let n : ℕ = length records in
@@ -64,7 +65,7 @@ keeps_push s first records steps last now u a k room e back =
     rw back (e, k.leads) in
     record {
       within = omega (arith, long, ap length front, length-take (n + 1) (noted steps n a), length-append (take n steps) (a ∷ []), length-take n steps, k.within);
-      few = few_by (is_step (slice_get steps n) a) steps n 1000000 a room k.few;
+      few = few_by (is_step (slice_get steps n) a) steps n STEPS_MAX a room k.few;
       leads = rw (long, front, reverse-append records (u ∷ []), reverse-append (take n steps) (a ∷ [])) there;
     }
 

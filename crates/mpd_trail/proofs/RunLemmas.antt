@@ -2,36 +2,38 @@
 use Rattle.std.proofs.Common.{◌≡◌, ℕ, ◌<◌, ◌≤◌, ◌+◌, ◌-◌, List, [], ◌∷◌, ◌++◌, length, get_or, take, Some, None, IsSome, refl, sym, ap, ◌∙◌, arith}
 use Rattle.std.specs.Option.{option_and_then}
 use Rattle.std.proofs.lemmas.List.{take_more, length-take, length-append}
+use Rattle.mpd_model.specs.declared.limits.TheConstants.{STEPS_MAX}
 use Rattle.mpd_model.specs.declared.step.Step.{Step}
 use Rattle.mpd_model.specs.declared.step.Step.TheVariants.{Release}
 use Rattle.mpd_model.specs.World.{World, start}
 use Rattle.mpd_model.specs.Next.{next, fold}
-use Rattle.mpd_model.specs.Trail.{Trail, Standing, IsReached, kept, applied, taken_back, noted}
+use Rattle.mpd_model.specs.Trail.{Trail, IsReached, kept, applied, taken_back, noted}
 use Rattle.mpd_trail.specs.declared.run.Command.{Command}
 use Rattle.mpd_trail.specs.declared.run.Command.TheVariants.{Apply, Undo}
 use Rattle.mpd_trail.specs.declared.run.Reply.{Reply}
 use Rattle.mpd_trail.specs.declared.run.Reply.TheVariants.{Done, NotEnabled, Full, AtStart, Memory}
 use Rattle.mpd_trail.specs.Run.{Answers, Run, SameScript}
+use Rattle.mpd_trail.specs.Views.{DebuggerView, standing_of}
 use Rattle.mpd_trail.proofs.KeptLemmas.{fold-append, take_noted}
 
-abbrev pub first_of : Standing → World
+abbrev pub first_of : DebuggerView → World
 first_of s = start s.trail.program s.trail.mode
 
 single : (w : World) (a : Step) → fold w (a ∷ []) ≡ next w a
 single w a = elim (next w a) as (λ o. option_and_then (λ v. fold v []) o ≡ o) [ None ↦ refl | Some v ↦ refl ]
 
 -- one step more leads where the next world is
-fold_more : (s : Standing) (a : Step) → IsReached s → fold (first_of s) (kept s.trail ++ a ∷ []) ≡ next s.world a
+fold_more : (s : DebuggerView) (a : Step) → IsReached (standing_of s) → fold (first_of s) (kept s.trail ++ a ∷ []) ≡ next s.world a
 fold_more s a h = fold-append (first_of s) (kept s.trail) (a ∷ []) ∙ ap (option_and_then (λ v. fold v (a ∷ []))) h.world ∙ single s.world a
 
-length-kept : (s : Standing) → IsReached s → length (kept s.trail) ≡ s.trail.depth
+length-kept : (s : DebuggerView) → IsReached (standing_of s) → length (kept s.trail) ≡ s.trail.depth
 length-kept s h = omega (arith, length-take s.trail.depth s.trail.steps, h.within)
 
-pub applied_done : (s n : Standing) (a : Step) → IsReached s → n.trail ≡ applied s.trail a → next s.world a ≡ Some n.world → s.trail.depth < 1000000 → Answers (first_of s) (kept s.trail) (Apply a) Done (kept n.trail)
+pub applied_done : (s n : DebuggerView) (a : Step) → IsReached (standing_of s) → n.trail ≡ applied s.trail a → next s.world a ≡ Some n.world → s.trail.depth < STEPS_MAX → Answers (first_of s) (kept s.trail) (Apply a) Done (kept n.trail)
 applied_done s n a h trail step room =
     (rw (fold_more s a h, step) refl, omega (arith, length-kept s h), ap kept trail ∙ take_noted s.trail.steps s.trail.depth a h.within)
 
-pub applied_reached : (s n : Standing) (a : Step) → IsReached s → n.trail ≡ applied s.trail a → next s.world a ≡ Some n.world → IsReached n
+pub applied_reached : (s n : DebuggerView) (a : Step) → IsReached (standing_of s) → n.trail ≡ applied s.trail a → next s.world a ≡ Some n.world → IsReached (standing_of n)
 applied_reached s n a h trail step =
     let noted_there : take (s.trail.depth + 1) (noted s.trail.steps s.trail.depth a) ≡ take s.trail.depth s.trail.steps ++ a ∷ [] = take_noted s.trail.steps s.trail.depth a h.within in
     let long : s.trail.depth + 1 ≤ length (noted s.trail.steps s.trail.depth a) =
@@ -42,23 +44,23 @@ applied_reached s n a h trail step =
     }
 
 -- a refused step: the relation of steps has none, the trail is full, or memory is refused
-pub applied_none : (s n : Standing) (a : Step) → IsReached s → n.trail ≡ s.trail → next s.world a ≡ None → Answers (first_of s) (kept s.trail) (Apply a) NotEnabled (kept n.trail)
+pub applied_none : (s n : DebuggerView) (a : Step) → IsReached (standing_of s) → n.trail ≡ s.trail → next s.world a ≡ None → Answers (first_of s) (kept s.trail) (Apply a) NotEnabled (kept n.trail)
 applied_none s n a h trail step = (fold_more s a h ∙ step, ap kept trail)
 
-enabled_more : (s : Standing) (a : Step) → IsReached s → IsSome (next s.world a) → IsSome (fold (first_of s) (kept s.trail ++ a ∷ []))
+enabled_more : (s : DebuggerView) (a : Step) → IsReached (standing_of s) → IsSome (next s.world a) → IsSome (fold (first_of s) (kept s.trail ++ a ∷ []))
 enabled_more s a h some = rw (fold_more s a h) some
 
-pub applied_full : (s n : Standing) (a : Step) → IsReached s → n.trail ≡ s.trail → IsSome (next s.world a) → s.trail.depth ≡ 1000000 → Answers (first_of s) (kept s.trail) (Apply a) Full (kept n.trail)
+pub applied_full : (s n : DebuggerView) (a : Step) → IsReached (standing_of s) → n.trail ≡ s.trail → IsSome (next s.world a) → s.trail.depth ≡ STEPS_MAX → Answers (first_of s) (kept s.trail) (Apply a) Full (kept n.trail)
 applied_full s n a h trail some full = (enabled_more s a h some, omega (arith, length-take s.trail.depth s.trail.steps, h.within, full), ap kept trail)
 
-pub applied_memory : (s n : Standing) (a : Step) → IsReached s → n.trail ≡ s.trail → IsSome (next s.world a) → s.trail.depth < 1000000 → Answers (first_of s) (kept s.trail) (Apply a) Memory (kept n.trail)
+pub applied_memory : (s n : DebuggerView) (a : Step) → IsReached (standing_of s) → n.trail ≡ s.trail → IsSome (next s.world a) → s.trail.depth < STEPS_MAX → Answers (first_of s) (kept s.trail) (Apply a) Memory (kept n.trail)
 applied_memory s n a h trail some room = (enabled_more s a h some, omega (arith, length-kept s h), ap kept trail)
 
-pub stays_reached : (s n : Standing) → IsReached s → n.trail ≡ s.trail → n.world ≡ s.world → IsReached n
+pub stays_reached : (s n : DebuggerView) → IsReached (standing_of s) → n.trail ≡ s.trail → n.world ≡ s.world → IsReached (standing_of n)
 stays_reached s n h trail world =
     record { world = ap (λ (t : Trail). fold (start t.program t.mode) (kept t)) trail ∙ h.world ∙ ap Some (sym world); within = rw trail h.within }
 
-pub undone_done : (s n : Standing) → IsReached s → 0 < s.trail.depth → n.trail ≡ taken_back s.trail → Answers (first_of s) (kept s.trail) Undo Done (kept n.trail)
+pub undone_done : (s n : DebuggerView) → IsReached (standing_of s) → 0 < s.trail.depth → n.trail ≡ taken_back s.trail → Answers (first_of s) (kept s.trail) Undo Done (kept n.trail)
 undone_done s n h some trail =
     let d : ℕ = s.trail.depth - 1 in
     let last : Step = get_or s.trail.steps d Release in
@@ -66,7 +68,7 @@ undone_done s n h some trail =
     let same : d + 1 ≡ s.trail.depth = omega arith in
     (last, ap (λ n. take n s.trail.steps) (sym same) ∙ more ∙ ap (λ ss. ss ++ last ∷ []) (sym (ap kept trail)))
 
-pub undone_none : (s n : Standing) → (0 < s.trail.depth → ⊥) → n.trail ≡ s.trail → Answers (first_of s) (kept s.trail) Undo AtStart (kept n.trail)
+pub undone_none : (s n : DebuggerView) → (0 < s.trail.depth → ⊥) → n.trail ≡ s.trail → Answers (first_of s) (kept s.trail) Undo AtStart (kept n.trail)
 undone_none s n none trail =
     let zero : s.trail.depth ≡ 0 = omega (arith, none) in
     let front : kept s.trail ≡ [] = ap (λ n. take n s.trail.steps) zero in

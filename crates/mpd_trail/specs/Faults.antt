@@ -1,5 +1,7 @@
 -- The numbers and names of faults.
 use Rattle.std.specs.Prelude.{ℕ, List, codes}
+use Rattle.mpd_core.specs.declared.fault.StepFault.{StepFault}
+use Rattle.mpd_core.specs.declared.fault.StepFault.TheVariants as step
 use Rattle.mpd_trail.specs.declared.debugger.ApplyFault.{ApplyFault}
 use Rattle.mpd_trail.specs.declared.debugger.ApplyFault.TheVariants.{NotEnabled, Full, Memory}
 
@@ -12,3 +14,8 @@ abbrev pub apply_fault_name : ApplyFault → List ℕ
 apply_fault_name NotEnabled = codes "not-enabled"
 apply_fault_name Full = codes "full"
 apply_fault_name Memory = codes "memory"
+
+-- what the refusal of a core is to a debugger
+abbrev pub apply_fault : StepFault → ApplyFault
+apply_fault step.NotEnabled = NotEnabled
+apply_fault step.Memory = Memory

@@ -1,5 +1,6 @@
 -- What the debugger keeps: each record takes back its step.
 use Rattle.std.specs.Prelude.{◌≡◌, ◌≤◌, List, [], ◌∷◌, length, take, reverse, Some}
+use Rattle.mpd_model.specs.declared.limits.TheConstants.{STEPS_MAX}
 use Rattle.mpd_model.specs.declared.step.Step.{Step}
 use Rattle.mpd_model.specs.World.{World}
 use Rattle.mpd_model.specs.Next.{next}
@@ -16,5 +17,5 @@ LeadsTo s first (u ∷ us) [] last = ⊥
 
 pub record Keeps (s : Program) (first : World) (records : List Record) (steps : List Step) (last : World) : Type 0 where
   pub within : length records ≤ length steps
-  pub few : length steps ≤ 1000000
+  pub few : length steps ≤ STEPS_MAX
   pub leads : LeadsTo s first (reverse records) (reverse (take (length records) steps)) last

@@ -1,5 +1,6 @@
 -- What a debugger replies to a list of steps and undos, told by the steps not undone alone.
 use Rattle.std.specs.Prelude.{◌≡◌, ◌<◌, List, [], ◌∷◌, ◌++◌, length, None, Some, IsSome}
+use Rattle.mpd_model.specs.declared.limits.TheConstants.{STEPS_MAX}
 use Rattle.mpd_model.specs.declared.step.Step.{Step}
 use Rattle.mpd_model.specs.World.{World}
 use Rattle.mpd_model.specs.Next.{next, fold}
@@ -12,10 +13,10 @@ use Rattle.mpd_trail.specs.declared.run.Reply.TheVariants.{Done, NotEnabled, Ful
 -- One command, from a first world: the steps not undone before it, the reply, and the steps not undone after it. A step is
 -- refused exactly where the relation of steps has none, or as one too many, or for want of memory.
 abbrev pub Answers : World → List Step → Command → Reply → List Step → Type 0
-Answers first old (Apply a) Done new = IsSome (fold first (old ++ a ∷ [])) × (length old < 1000000) × (new ≡ old ++ a ∷ [])
+Answers first old (Apply a) Done new = IsSome (fold first (old ++ a ∷ [])) × (length old < STEPS_MAX) × (new ≡ old ++ a ∷ [])
 Answers first old (Apply a) NotEnabled new = (fold first (old ++ a ∷ []) ≡ None) × (new ≡ old)
-Answers first old (Apply a) Full new = IsSome (fold first (old ++ a ∷ [])) × (length old ≡ 1000000) × (new ≡ old)
-Answers first old (Apply a) Memory new = IsSome (fold first (old ++ a ∷ [])) × (length old < 1000000) × (new ≡ old)
+Answers first old (Apply a) Full new = IsSome (fold first (old ++ a ∷ [])) × (length old ≡ STEPS_MAX) × (new ≡ old)
+Answers first old (Apply a) Memory new = IsSome (fold first (old ++ a ∷ [])) × (length old < STEPS_MAX) × (new ≡ old)
 Answers first old (Apply a) AtStart new = ⊥
 Answers first old Undo Done new = (a : Step) × (old ≡ new ++ a ∷ [])
 Answers first old Undo AtStart new = (old ≡ []) × (new ≡ [])
@@ -29,10 +30,10 @@ pub record Stays (old new : Standing) : Type 0 where
 
 -- The same command, told by the whole trail, undone steps included, and by the world.
 abbrev pub Carried : Standing → Command → Reply → Standing → Type 0
-Carried old (Apply a) Done new = (next old.world a ≡ Some new.world) × (new.trail ≡ applied old.trail a) × (old.trail.depth < 1000000)
+Carried old (Apply a) Done new = (next old.world a ≡ Some new.world) × (new.trail ≡ applied old.trail a) × (old.trail.depth < STEPS_MAX)
 Carried old (Apply a) NotEnabled new = (next old.world a ≡ None) × Stays old new
-Carried old (Apply a) Full new = IsSome (next old.world a) × (old.trail.depth ≡ 1000000) × Stays old new
-Carried old (Apply a) Memory new = IsSome (next old.world a) × (old.trail.depth < 1000000) × Stays old new
+Carried old (Apply a) Full new = IsSome (next old.world a) × (old.trail.depth ≡ STEPS_MAX) × Stays old new
+Carried old (Apply a) Memory new = IsSome (next old.world a) × (old.trail.depth < STEPS_MAX) × Stays old new
 Carried old (Apply a) AtStart new = ⊥
 Carried old Undo Done new = (0 < old.trail.depth) × (new.trail ≡ taken_back old.trail)
 Carried old Undo AtStart new = (old.trail.depth ≡ 0) × Stays old new

@@ -1,23 +1,21 @@
 //! The trail: the steps that were taken, of which some may be undone, and the state that they lead to.
 
-ghost use Rattle.std.specs.Prelude.{◌≡◌, ◌↔◌, ◌<◌, ◌≤◌, IfOk, OnOk, OnErr, IsErrOf, IsOk, IsSome, Some, None, vec_len, codes};
-ghost use Rattle.mpd_model.specs.World.{start};
+ghost use Rattle.std.specs.Prelude.{◌≡◌, ◌↔◌, ◌<◌, ◌≤◌, IfOk, OnOk, OnErr, IsErrOf, IsOk, IsSome, Some, None, vec_len, vec_capacity, codes};
 ghost use Rattle.mpd_model.specs.Next.{next};
 ghost use Rattle.mpd_model.specs.Trail.{first_standing, IsReached, noted, applied, taken_back, step_eq};
-ghost use Rattle.mpd_trail.specs.Faults.{apply_fault_number, apply_fault_name};
+ghost use Rattle.mpd_trail.specs.Faults.{apply_fault, apply_fault_number, apply_fault_name};
+ghost use Rattle.mpd_trail.specs.Views.{standing_of};
 
 use mpd_code::code::Code;
 use mpd_core::fault::StepFault;
 use mpd_core::record::Record;
 use mpd_core::state::Core;
 use mpd_model::call::Mode;
+use mpd_model::limits::STEPS_MAX;
 use mpd_model::step::Step;
 use std::alloc::{AllocError, Global};
 use std::marker::Model;
 use thiserror::Error;
-
-/// Steps in a trail, undone ones included.
-pub const STEPS_MAX: usize = 1_000_000;
 
 /// Why a step is refused. Nothing has changed.
 #[derive(Clone, Copy, PartialEq, Eq, Debug, Error)]
@@ -57,6 +55,17 @@ impl ApplyFault {
     }
 }
 
+impl From<StepFault> for ApplyFault {
+    ghost from_gives = { λ fault e. e ≡ apply_fault fault };
+
+    fn from(fault: StepFault) -> ApplyFault {
+        match fault {
+            StepFault::NotEnabled => ApplyFault::NotEnabled,
+            StepFault::Memory => ApplyFault::Memory,
+        }
+    }
+}
+
 /// Nothing is left to be undone (24).
 #[derive(Clone, Copy, PartialEq, Eq, Debug, Error)]
 #[error("at-start")]
@@ -78,7 +87,8 @@ impl AtStart {
     }
 }
 
-/// The steps that were taken, and where they lead; contracts see it as a `Standing`.
+/// The steps that were taken, and where they lead; contracts see it as a `DebuggerView`: its trail, its world, and the room that
+/// is kept for steps.
 #[derive(Drop)]
 pub struct Debugger<'c> {
     mode: Mode,
@@ -89,18 +99,19 @@ pub struct Debugger<'c> {
 }
 
 impl<'c> Model for Debugger<'c> {
-    ghost use Rattle.std.specs.Prelude.{length};
-    ghost use Rattle.mpd_model.specs.Trail.{Standing, standing_code};
+    ghost use Rattle.std.specs.Prelude.{◌-◌, min, length, vec_len, vec_capacity};
     ghost use Rattle.mpd_model.specs.World.{start};
     ghost use Rattle.mpd_trail.specs.Kept.{Keeps};
+    ghost use Rattle.mpd_trail.specs.Views.{DebuggerView, debugger_view_code};
 
-    ghost Value = { Standing };
+    ghost Value = { DebuggerView };
 
-    ghost coded = { standing_code };
+    ghost coded = { debugger_view_code };
 
     ghost view = { λ d. record {
       trail = record { program = d.core.program; mode = d.mode; steps = d.steps.items; depth = length d.records.items };
       world = d.core.world;
+      room = min d.core.room (min (vec_capacity d.records - vec_len d.records) (vec_capacity d.steps - vec_len d.steps));
     } };
 
     ghost invariant = { λ d. Keeps d.core.program (start d.core.program d.mode) d.records.items d.steps.items d.core.world };
@@ -119,6 +130,7 @@ fn note(steps: &mut Vec<Step>, depth: usize, step: Step) -> Result<(), AllocErro
     requires { depth ≤ vec_len steps.old }
     ensures ok { OnOk result (steps.new.items ≡ noted steps.old.items depth step) }
     ensures err { OnErr result (steps.new.items ≡ steps.old.items) }
+    ensures memory { OnErr result (vec_capacity steps.old ≤ vec_len steps.old) }
 {
     if depth == steps.len() {
         steps.push(step)?;
@@ -134,7 +146,7 @@ fn note(steps: &mut Vec<Step>, depth: usize, step: Step) -> Result<(), AllocErro
 impl<'c> Debugger<'c> {
     /// No step was taken. An `Err` is want of memory.
     pub fn start(alloc: Global, code: &'c Code, mode: Mode) -> Result<Debugger<'c>, AllocError>
-        ensures { IfOk result (λ d. d ≡ first_standing code.now.program mode) }
+        ensures { IfOk result (λ d. standing_of d ≡ first_standing code.now.program mode) }
     {
         Ok(Debugger {
             mode,
@@ -164,14 +176,28 @@ impl<'c> Debugger<'c> {
     pub fn core(&self) -> &Core<'c>
         ensures world { result.now.world ≡ self.now.world }
         ensures program { result.now.program ≡ self.now.trail.program }
-        ensures reached { IsReached self.now }
+        ensures reached { IsReached (standing_of self.now) }
     {
         &self.core
     }
 
+    /// Keeps room for one step, whatever it is. An `Err` is want of memory, and comes only where no such room was kept; where the
+    /// debugger stands stays as it was.
+    pub fn keep_room(&mut self) -> Result<(), AllocError>
+        ensures room { OnOk result (1 ≤ self.new.room) }
+        ensures memory { OnErr result (self.old.room ≡ 0) }
+        ensures trail { self.new.trail ≡ self.old.trail }
+        ensures world { self.new.world ≡ self.old.world }
+    {
+        self.core.keep_room()?;
+        self.records.reserve(1)?;
+        self.steps.reserve(1)
+    }
+
     /// Takes a step, or refuses it: `NotEnabled` (21) exactly where the relation of steps has none, `Full` (22)
     /// exactly where the step is enabled and 1,000,000 steps are not undone, `Memory` (23) where a growth was
-    /// refused. A step that stands next among those undone is taken again and keeps the rest; another drops them.
+    /// refused, which is nowhere where room was kept. A step that stands next among those undone is taken again and
+    /// keeps the rest; another drops them.
     #[tactic(auto, using(crate::proofs::KeptLemmas::keeping))]
     pub fn apply(&mut self, step: Step) -> Result<(), ApplyFault>
         ensures ok { OnOk result (self.new.trail ≡ applied self.old.trail step) }
@@ -180,6 +206,7 @@ impl<'c> Debugger<'c> {
         ensures not_enabled { IsErrOf result ApplyFault.NotEnabled ↔ (next self.old.world step ≡ None) }
         ensures full { IsErrOf result ApplyFault.Full ↔ (IsSome (next self.old.world step) × (self.old.trail.depth ≡ STEPS_MAX)) }
         ensures memory { IsErrOf result ApplyFault.Memory → IsSome (next self.old.world step) × (self.old.trail.depth < STEPS_MAX) }
+        ensures no_room { IsErrOf result ApplyFault.Memory → self.old.room ≡ 0 }
         ensures err { OnErr result (self.new.trail ≡ self.old.trail) }
         ensures err_world { OnErr result (self.new.world ≡ self.old.world) }
     {
@@ -190,11 +217,7 @@ impl<'c> Debugger<'c> {
             }
             return Err(ApplyFault::NotEnabled);
         }
-        let done = match self.core.apply(step) {
-            Ok(done) => done,
-            Err(StepFault::NotEnabled) => return Err(ApplyFault::NotEnabled),
-            Err(StepFault::Memory) => return Err(ApplyFault::Memory),
-        };
+        let done = self.core.apply(step)?;
         match self.records.push(done) {
             Ok(()) => {}
             Err(failed) => {
@@ -213,11 +236,11 @@ impl<'c> Debugger<'c> {
         }
     }
 
-    /// Takes the last step back, and no memory. It is refused only where no step is left (24).
+    /// Takes the last step back. It is refused only where no step is left (24), and so never for want of memory.
     #[tactic(auto, using(crate::proofs::KeptLemmas::keeping))]
     pub fn undo(&mut self) -> Result<(), AtStart>
         ensures ok { OnOk result (self.new.trail ≡ taken_back self.old.trail) }
-        ensures reached { IsReached self.new }
+        ensures reached { IsReached (standing_of self.new) }
         ensures some { IsOk result ↔ (0 < self.old.trail.depth) }
         ensures err { OnErr result (self.new.trail ≡ self.old.trail) }
         ensures err_world { OnErr result (self.new.world ≡ self.old.world) }

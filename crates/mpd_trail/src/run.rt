@@ -1,10 +1,11 @@
 //! Lists of steps and undos: the replies, and where they lead.
 
-ghost use Rattle.std.specs.Prelude.{◌≡◌, Some, [], IfOk, OnErr};
+ghost use Rattle.std.specs.Prelude.{◌≡◌, ◌<◌, length, Some, [], IfOk, OnErr};
 ghost use Rattle.mpd_model.specs.World.{start};
 ghost use Rattle.mpd_model.specs.Next.{fold};
 ghost use Rattle.mpd_model.specs.Trail.{kept, first_standing, IsReached};
-ghost use Rattle.mpd_trail.specs.Run.{Answers, Carried, Run, SameScript};
+ghost use Rattle.mpd_trail.specs.Run.{Answers, Carried, Run, SameScript, Stays};
+ghost use Rattle.mpd_trail.specs.Views.{standing_of};
 
 use crate::debugger::{ApplyFault, Debugger};
 use mpd_code::code::Code;
@@ -33,9 +34,10 @@ pub enum Reply {
 #[tactic(auto, using(crate::proofs::RunLemmas::answering))]
 pub fn answer(debugger: &mut Debugger<'_>, command: Command) -> Reply
     ensures answers { Answers (start debugger.old.trail.program debugger.old.trail.mode) (kept debugger.old.trail) command result (kept debugger.new.trail) }
-    ensures carried { Carried debugger.old command result debugger.new }
+    ensures carried { Carried (standing_of debugger.old) command result (standing_of debugger.new) }
+    ensures memory { result ≡ Reply.Memory → debugger.old.room ≡ 0 }
     ensures script { SameScript debugger.old.trail debugger.new.trail }
-    ensures reached { IsReached debugger.new }
+    ensures reached { IsReached (standing_of debugger.new) }
 {
     let _ = debugger.core();
     match command {
@@ -61,8 +63,9 @@ pub fn follow(
 ) -> Result<Vec<Reply>, AllocError>
     ensures run { IfOk result (λ replies. Run (start debugger.old.trail.program debugger.old.trail.mode) (kept debugger.old.trail) commands.now replies.items (kept debugger.new.trail)) }
     ensures script { SameScript debugger.old.trail debugger.new.trail }
-    ensures reached { IsReached debugger.new }
-    ensures err { OnErr result (debugger.new ≡ debugger.old) }
+    ensures reached { IsReached (standing_of debugger.new) }
+    ensures err { OnErr result (Stays (standing_of debugger.old) (standing_of debugger.new)) }
+    ensures memory { OnErr result (0 < length commands.now) }
 {
     let _ = debugger.core();
     let mut replies = Vec::with_capacity(alloc, commands.len())?;
@@ -83,7 +86,7 @@ pub fn replay<'c>(
     ensures run { IfOk result (λ r. Run (start code.now.program mode) [] commands.now r.1.items (kept r.0.trail)) }
     ensures world { IfOk result (λ r. fold (start code.now.program mode) (kept r.0.trail) ≡ Some r.0.world) }
     ensures script { IfOk result (λ r. (r.0.trail.program ≡ code.now.program) × (r.0.trail.mode ≡ mode)) }
-    ensures reached { IfOk result (λ r. IsReached r.0) }
+    ensures reached { IfOk result (λ r. IsReached (standing_of r.0)) }
 {
     let mut debugger = Debugger::start(alloc, code, mode)?;
     let replies = follow(alloc, &mut debugger, commands)?;

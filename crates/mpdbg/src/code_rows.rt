@@ -8,7 +8,7 @@ use mpd_code::node::{Action, Node};
 use mpd_model::call::{Activity, Mode, Trap};
 use mpd_model::expr::{BinaryOp, Expr, ExprNode};
 use mpd_model::step::Step;
-use mpd_rank::change::RankRecord;
+use mpd_rank::change::{Cells, RankRecord};
 use mpd_rank::plan::LocalPlan;
 use mpd_rank::rank::RankState;
 use mpd_trail::debugger::{ApplyFault, Debugger};
@@ -122,7 +122,7 @@ const ASSIGNMENT: LocalPlan = LocalPlan::Assign {
 fn plans_the_assignment(rt: &impl Abort, code: &Code, rank: &RankState) {
     assert!(rt; rank.can_step(code));
     assert_eq!(rt; rank.next_statement(code), Some(0));
-    assert_eq!(rt; rank.plan_local(code, 0, 1), Some(ASSIGNMENT));
+    assert_eq!(rt; rank.plan_local(code), Some(ASSIGNMENT));
 }
 
 fn commits(rt: &impl Abort, rank: &mut RankState, plan: LocalPlan) -> RankRecord {
@@ -131,7 +131,7 @@ fn commits(rt: &impl Abort, rank: &mut RankState, plan: LocalPlan) -> RankRecord
 }
 
 fn steps(rt: &impl Abort, code: &Code, rank: &mut RankState) -> RankRecord {
-    let done = rank.step(code, 0, 1).expect(rt, "memory");
+    let done = rank.step(code).expect(rt, "memory");
     done.expect(rt, "a step")
 }
 
@@ -141,15 +141,15 @@ fn has_issued(rt: &impl Abort, rank: &RankState) {
     assert!(rt; rank.handles().is_empty());
 }
 
-fn wakes(rank: &mut RankState, write: Option<(usize, i64)>) -> RankRecord {
-    rank.complete(write)
+fn wakes(rank: &mut RankState) -> RankRecord {
+    rank.complete(Cells::none())
 }
 
 #[test]
 fn steps_one_rank_and_back(rt: HostRuntime) {
     let text = b"mpd 1; ranks 1; var x; x = 5; print x; send x to 0 tag 1;";
     let code = lowered(&rt, rt.alloc(), text);
-    let mut rank = RankState::start(rt.alloc(), &code).expect(&rt, "a rank");
+    let mut rank = RankState::start(rt.alloc(), &code, 0).expect(&rt, "a rank");
     plans_the_assignment(&rt, &code, &rank);
     let assigned = commits(&rt, &mut rank, ASSIGNMENT);
     assert!(rt; rank.variables() == [5].as_slice());
@@ -157,7 +157,7 @@ fn steps_one_rank_and_back(rt: HostRuntime) {
     assert!(rt; rank.output() == [5].as_slice());
     let issued = steps(&rt, &code, &mut rank);
     has_issued(&rt, &rank);
-    let woken = wakes(&mut rank, None);
+    let woken = wakes(&mut rank);
     assert!(rt; rank.has_ended(&code));
     rank.restore(woken);
     assert_eq!(rt; rank.activity(), Activity::Blocked);

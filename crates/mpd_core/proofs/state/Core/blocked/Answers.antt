@@ -1,9 +1,14 @@
 use Rattle.std.proofs.Common.{slice_get}
 use Rattle.mpd_model.specs.Outcomes.{blocked_at}
-use Rattle.mpd_core.proofs.RangeLemmas.{given_more}
+use Rattle.mpd_core.proofs.RangeLemmas.{given_more, given_some, refused_with}
 use Rattle.mpd_core.proofs.state.Core.blocked.Goals as goal
 
 pub loop-rank-preserved : goal.loop-rank-preserved
 loop-rank-preserved c =
     let w = c.args.self.now.world in
-    given_more (λ p. blocked_at w p (slice_get w.ranks p)) c.loop-rank.rank c.rank_count-count.result c.loop-rank.calls.items _ _ c.loop-rank-test.true c.loop-rank.invariant c.in_ok-push_blocked.ensures
+    given_more (λ p. blocked_at w p (slice_get w.ranks p)) c.loop-rank.rank c.rank_count-count.result c.loop-rank.calls.items _ _ c.loop-rank-test.true c.loop-rank.invariant c.in_ok-push_blocked.ensures.ok
+
+pub returns-in_err-push_blocked-clause-memory : goal.returns-in_err-push_blocked-clause-memory
+returns-in_err-push_blocked-clause-memory c =
+    let w = c.args.self.now.world in
+    refused_with _ (given_some (λ p. blocked_at w p (slice_get w.ranks p)) c.loop-rank.rank c.rank_count-count.result c.loop-rank.calls.items _ c.loop-rank-test.true c.loop-rank.invariant c.in_err-push_blocked.ensures.memory)

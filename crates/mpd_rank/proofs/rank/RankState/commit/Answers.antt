@@ -3,4 +3,4 @@ use Rattle.mpd_rank.proofs.rank.RankState.commit.Goals as goal
 
 -- src/rank.rt:140:56
 pub returns-in-Assign-clause-back : goal.returns-in-Assign-clause-back
-returns-in-Assign-clause-back c = λ p running. assign_back p c.args.self.now c.assign.new.self c.assign.result c.in-Assign.cell c.in-Assign.next _ c.assign.ensures.after c.assign.ensures.from c.assign.ensures.change running
+returns-in-Assign-clause-back c = λ p running. assign_back p c.args.self.now c.assign.new.self c.assign.result c.in-Assign.cell c.in-Assign.next _ c.assign.ensures.after c.assign.ensures.recorded running

@@ -1,4 +1,5 @@
 use Rattle.std.proofs.Common.{◌≡◌, ◌<◌, [], ◌∷◌, ◌++◌, length, arith, rules}
+use Rattle.mpd_model.specs.declared.limits.TheConstants.{STEPS_MAX}
 use Rattle.mpd_model.specs.World.{start}
 use Rattle.mpd_model.specs.Trail.{noted}
 use Rattle.mpd_trail.proofs.KeptLemmas.{keeps_push}
@@ -8,7 +9,7 @@ pub invariant_of-self-in-Ok-note : goal.invariant_of-self-in-Ok-note
 invariant_of-self-in-Ok-note c =
     let s = c.self.inside in
     let long : c.len-depth.result ≡ length s.records.items = search rules in
-    let room : length s.records.items < 1000000 = omega (arith, long) in
-    let pushed : c.push.new.self.items ≡ s.records.items ++ c.in-Ok.done ∷ [] = c.in-Ok-push.ensures.items in
+    let room : length s.records.items < STEPS_MAX = omega (arith, long) in
+    let pushed : c.push.new.self.items ≡ s.records.items ++ c.in_ok-done.done ∷ [] = c.in-Ok.ensures.items in
     let kept : c.note.new.steps.items ≡ noted s.steps.items (length s.records.items) c.args.step = rw (← long) c.in-Ok-note.ensures.ok in
-    rw (pushed, kept, c.in-Ok.ensures.program) (keeps_push s.core.program (start s.core.program s.mode) s.records.items s.steps.items s.core.world c.apply.new.self.world c.in-Ok.done c.args.step c.self.invariant room c.in-Ok.ensures.ok c.in-Ok.ensures.back)
+    rw (pushed, kept, c.in_ok-done.ensures.program) (keeps_push s.core.program (start s.core.program s.mode) s.records.items s.steps.items s.core.world c.apply.new.self.world c.in_ok-done.done c.args.step c.self.invariant room c.in_ok-done.ensures.ok c.in_ok-done.ensures.back)

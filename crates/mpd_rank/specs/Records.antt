@@ -1,0 +1,81 @@
+-- What the record of a step says: where the rank stood, and what the step did beside moving it.
+use Rattle.std.specs.Prelude.{ℕ, ℤ, List, [], ◌∷◌, if◌then◌else◌, Option, Some, None, Result, Ok, Err}
+use Rattle.mpd_model.specs.declared.call.Activity.{Activity}
+use Rattle.mpd_model.specs.declared.call.Activity.TheVariants as activity
+use Rattle.mpd_model.specs.declared.call.CallKind.{CallKind}
+use Rattle.mpd_model.specs.declared.call.Trap.{Trap as Reason}
+use Rattle.mpd_model.specs.declared.stmt.Simple.{Simple}
+use Rattle.mpd_model.specs.declared.stmt.Simple.TheVariants as st
+use Rattle.mpd_model.specs.Term.{Value, Env, value_of, is_zero}
+use Rattle.mpd_model.specs.Tree.{Tree, simple, branch, repeat}
+use Rattle.mpd_model.specs.World.{RankWorld}
+use Rattle.mpd_model.specs.Next.{env_of, send_kind, recv_kind, assignment}
+use Rattle.mpd_rank.specs.declared.change.Change.{Change}
+use Rattle.mpd_rank.specs.declared.change.Change.TheVariants.{Moved, Printed, Issued, Trapped, Woke}
+use Rattle.mpd_rank.specs.declared.change.RankRecord.{RankRecord}
+use Rattle.mpd_rank.specs.declared.plan.LocalPlan.{LocalPlan}
+use Rattle.mpd_rank.specs.declared.plan.LocalPlan.TheVariants as plan
+use Rattle.mpd_rank.specs.Undone.{held, all_held, assigned_change}
+use Rattle.mpd_rank.specs.Views.{RankView}
+
+-- ---- of a statement, by what it evaluates to: a trap is a change of its own
+
+abbrev pub print_change : Value → Change
+print_change (Ok v) = Printed
+print_change (Err t) = Trapped
+
+abbrev pub issue_change : Result CallKind Reason → Change
+issue_change (Ok kind) = Issued
+issue_change (Err t) = Trapped
+
+abbrev pub write_change : List ℤ → Result (ℕ × ℤ) Reason → Change
+write_change vars (Ok w) = assigned_change (held vars w.0)
+write_change vars (Err t) = Trapped
+
+abbrev pub assert_change : Value → Change
+assert_change (Ok v) = if is_zero v then Trapped else Moved
+assert_change (Err t) = Trapped
+
+abbrev pub choice_change : Value → Change
+choice_change (Ok v) = Moved
+choice_change (Err t) = Trapped
+
+-- what a statement that holds no other does, and what any does
+abbrev pub simple_change : Env → Simple → Change
+simple_change env (st.Print e) = print_change (value_of e env)
+simple_change env (st.Assign s) = write_change env.vars (assignment s env)
+simple_change env (st.Assert e) = assert_change (value_of e env)
+simple_change env (st.Send s) = issue_change (send_kind s env)
+simple_change env (st.Recv s) = issue_change (recv_kind s env)
+
+abbrev pub change_of : Env → Tree → Change
+change_of env (simple s) = simple_change env s
+change_of env (branch c first second) = choice_change (value_of c env)
+change_of env (repeat c body) = choice_change (value_of c env)
+
+abbrev pub record_by : Env → Activity → List (ℕ × Tree) → Option RankRecord
+record_by env activity.Running [] = None
+record_by env activity.Running (t ∷ ts) = Some (record { from = t.0; change = change_of env t.1 })
+record_by env activity.Blocked rest = None
+record_by env (activity.Trapped t) rest = None
+
+-- the record of the local step of rank p of n, where it has one: the number of its next statement, and what that does
+abbrev pub local_record : ℕ → ℕ → RankWorld → Option RankRecord
+local_record p n r = record_by (env_of p n r) r.activity r.rest
+
+-- the record of a wake, which moves no rank: what the written cells held
+abbrev pub wake_record : List ℤ → List (ℕ × ℤ) → RankRecord
+wake_record vars writes = record { from = 0; change = Woke (all_held vars writes) }
+
+-- ---- of a plan
+
+abbrev pub plan_change : List ℤ → LocalPlan → Change
+plan_change vars (plan.Move next) = Moved
+plan_change vars (plan.Print v next) = Printed
+plan_change vars (plan.Assign cell v next) = assigned_change (held vars cell)
+plan_change vars (plan.Issue kind next) = Issued
+plan_change vars (plan.Trap t) = Trapped
+
+-- what a rank that stands at a node records of a plan
+abbrev pub plan_record : RankView → LocalPlan → RankRecord
+plan_record v plan = record { from = v.node; change = plan_change v.vars plan }

@@ -1,0 +1,20 @@
+-- What a debugger shows to contracts, part by part, and where it stands.
+use Rattle.std.specs.Prelude.{ℕ, refl}
+use Rattle.std.specs.Coded.{Coded, code_by, coded×, coded_ℕ}
+use Rattle.mpd_model.specs.World.{World, world_code}
+use Rattle.mpd_model.specs.Trail.{Trail, Standing, trail_code}
+
+pub record DebuggerView : Type 0 where
+  pub trail : Trail
+  pub world : World
+  -- for how many steps, whatever they are, room is kept
+  pub room : ℕ
+
+abbrev pub debugger_view_code : Coded DebuggerView
+debugger_view_code =
+    code_by (Trail × (World × ℕ)) (coded× trail_code (coded× world_code coded_ℕ))
+    (λ v. (v.trail, (v.world, v.room))) (λ q. record { trail = q.0; world = q.1.0; room = q.1.1 }) (λ _. refl)
+
+-- where it stands
+abbrev pub standing_of : DebuggerView → Standing
+standing_of v = record { trail = v.trail; world = v.world }
