@@ -20,6 +20,7 @@ mod Sound
 mod SoundStatements
 pub mod Cells
 pub mod CompleteScript
+pub mod LineCuts
 pub mod PrintAgain
 pub mod SoundScript
 pub mod Turns

@@ -5,7 +5,7 @@ use mpd_device::device::{FromReader, ToWriter};
 use mpd_device::failing::{FailingSource, Limit};
 use mpd_model::read_fault::FaultCode;
 use mpd_trace::plain::{PlainFault, plain};
-use mpd_wire::engine::EngineFault;
+use mpd_lines::engine::EngineFault;
 use std::alloc::Global;
 use std::io;
 use std::io::Read;

@@ -15,7 +15,7 @@ use mpd_script::read;
 use mpd_trace::trace::trace;
 use mpd_trail::debugger::Debugger;
 use mpd_trail::run::{Command, Reply, replay};
-use mpd_wire::engine::EngineFault;
+use mpd_lines::engine::EngineFault;
 use std::alloc::{AllocError, Global};
 use std::io;
 use std::io::Read;

@@ -1,6 +1,6 @@
 use Rattle.std.proofs.Common.{arith, ◌<◌, [], length, take, rules}
 use Rattle.std.specs.Io.KnownBytes.{Consumes, IsAtEnd}
-use Rattle.mpd_wire.proofs.GoingLaws.{ends_none, consumes_zero, consumes_piece}
+use Rattle.mpd_lines.proofs.GoingLaws.{ends_none, consumes_zero, consumes_piece}
 use Rattle.mpd_trace.proofs.CollectLaws.{follows_more, head_ended, head_divided, head_too_long}
 use Rattle.mpd_trace.proofs.plain.collect.Goals as goal
 

@@ -1,7 +1,7 @@
 use Rattle.std.proofs.Common.{arith, ◌≡◌, ◌∙◌, ap, Err, ◌+◌, ◌-◌, ◌++◌, ℕ, List, refl, inr}
 use Rattle.mpd_model.specs.Lines.{divided}
-use Rattle.mpd_wire.specs.declared.engine.EngineFault.TheVariants as engine
-use Rattle.mpd_wire.specs.FaultWords.{failed_reads}
+use Rattle.mpd_lines.specs.declared.engine.EngineFault.TheVariants as engine
+use Rattle.mpd_lines.specs.FaultWords.{failed_reads}
 use Rattle.mpd_trace.proofs.PlainLaws.{refused, plain_ended, divides_so, plain_all, plain_read, plain_first, plain_part, passed}
 use Rattle.mpd_trace.proofs.plain.plain.Goals as goal
 
