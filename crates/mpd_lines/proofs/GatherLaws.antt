@@ -1,13 +1,11 @@
 -- Answers that are gathered, line after line.
-use Rattle.std.proofs.Common.{◌≡◌, ℕ, ◌+◌, ◌<◌, List, [], ◌∷◌, ◌++◌, length, get_or, drop, drop-cons, add-one, Option, Result, Ok, Err, OnOk, refl, ap, sym, subst, ◌∙◌, append_assoc, append-nil, arith}
-use Rattle.std.specs.Io.KnownBytes.{Appends}
+use Rattle.std.proofs.Common.{◌≡◌, ℕ, ◌+◌, ◌<◌, List, [], ◌∷◌, ◌++◌, length, get_or, drop, drop-cons, add-one, Option, Result, Ok, Err, refl, ap, sym, subst, ◌∙◌, append_assoc, append-nil}
 use Rattle.mpd_device.specs.Seen.{SinkSeen}
 use Rattle.mpd_device.specs.declared.device.DeviceFault.{DeviceFault}
 use Rattle.mpd_lines.specs.Forward.{ended_from, part_from}
-use Rattle.mpd_lines.specs.Telling.{SaysInTurn, AppendsPart}
-use Rattle.mpd_lines.specs.Gathering.{Gathers, Loses, Gathered, Relieved, Written, Fed}
+use Rattle.mpd_lines.specs.Gathering.{Gathers, Gathered, Relieved, Written, Fed}
 use Rattle.mpd_lines.proofs.SentLaws.{appends_none, appends_append}
-use Rattle.mpd_lines.proofs.TellingLaws.{says_append, says_one, says_along}
+use Rattle.mpd_lines.proofs.TellingLaws.{says_append, says_one}
 use Rattle.mpd_lines.proofs.ForwardLaws.{ended_append, part_append}
 
 pub relieve_none : (bytes : List ℕ) (w : SinkSeen) → Relieved bytes w w bytes (Ok _)
@@ -76,8 +74,7 @@ fed_loses A d m e p z q rest left b v0 v1 v2 o0 o1 o2 fault f is g =
     let l = g.0 in
     let next : l.0 ++ (l.1 ++ ended_from (part_from q (b ∷ [])) left) ≡ ended_from q rest =
     sym (append_assoc l.0 l.1 (ended_from (part_from q (b ∷ [])) left)) ∙ ap (λ x. x ++ ended_from (part_from q (b ∷ [])) left) l.4
-    ∙ sym (ended_append q (b ∷ []) left) ∙ ap (λ x. ended_from q x) (sym is) in
-    (
+    ∙ sym (ended_append q (b ∷ []) left) ∙ ap (λ x. ended_from q x) (sym is) in (
       (
         f.lines ++ l.0,
         l.1 ++ ended_from (part_from q (b ∷ [])) left,

@@ -1,8 +1,8 @@
 -- What was gathered is written in the end.
-use Rattle.std.proofs.Common.{◌≡◌, ℕ, ◌+◌, List, [], ◌++◌, Option, Result, Ok, Err, refl, ap, sym, ◌∙◌, append_assoc, append-nil}
+use Rattle.std.proofs.Common.{◌≡◌, ℕ, ◌+◌, List, [], ◌++◌, Result, Ok, Err, ap, sym, ◌∙◌, append_assoc, append-nil}
 use Rattle.mpd_device.specs.Seen.{SinkSeen}
 use Rattle.mpd_device.specs.declared.device.DeviceFault.{DeviceFault}
-use Rattle.mpd_lines.specs.Gathering.{Gathers, Loses, Gathered, Written, Spoken}
+use Rattle.mpd_lines.specs.Gathering.{Gathered, Written, Spoken}
 use Rattle.mpd_lines.proofs.SentLaws.{appends_append}
 use Rattle.mpd_lines.proofs.TellingLaws.{says_along}
 
@@ -14,8 +14,7 @@ spoken_all A d e ls v0 v1 v2 o0 o1 (Ok u) none g h =
     ((g.0.1 ++ o1, appends_append v0.contents v1.contents v2.contents g.0.1 o1 g.0.3 h.0, says_along A d e ls g.0.0 (g.0.1 ++ o1) (sym is) g.0.4), h.1 ∙ g.1)
 spoken_all A d e ls v0 v1 v2 o0 o1 (Err f) none g h =
     let is : g.0.1 ++ o1 ≡ g.0.0 = g.0.2 ∙ ap (λ x. x ++ g.0.0) none in
-    let whole : (g.0.1 ++ h.0.0) ++ h.0.1 ≡ g.0.0 = append_assoc g.0.1 h.0.0 h.0.1 ∙ ap (λ x. g.0.1 ++ x) h.0.2 ∙ is in
-    (
+    let whole : (g.0.1 ++ h.0.0) ++ h.0.1 ≡ g.0.0 = append_assoc g.0.1 h.0.0 h.0.1 ∙ ap (λ x. g.0.1 ++ x) h.0.2 ∙ is in (
       (
         ls,
         [],

@@ -1,14 +1,14 @@
 -- Turns, one after another.
-use Rattle.std.proofs.Common.{◌≡◌, ℕ, zero, suc, ◌+◌, ◌<◌, ◌≤◌, List, [], ◌++◌, length, take, Option, Some, None, Result, Ok, Err, refl, ap, sym, subst, ◌∙◌, append_assoc, append-nil, length-append, arith, inl, inr}
+use Rattle.std.proofs.Common.{◌≡◌, ℕ, zero, suc, ◌+◌, ◌<◌, List, [], ◌++◌, length, Option, Some, None, Result, Ok, Err, refl, ap, sym, subst, ◌∙◌, append_assoc, append-nil, length-append, arith, inl, inr}
 use Rattle.std.specs.Io.KnownBytes.{Consumes, IsAtEnd, Keeps}
 use Rattle.mpd_model.specs.Lines.{lines_of, ended_lines}
 use Rattle.mpd_device.specs.Seen.{SourceSeen, SinkSeen}
 use Rattle.mpd_device.specs.Ends.{ends_of}
 use Rattle.mpd_device.specs.declared.device.DeviceFault.{DeviceFault}
-use Rattle.mpd_lines.specs.Forward.{ended_from, part_from, last_line, lines_from}
-use Rattle.mpd_lines.specs.Telling.{Tells, TellsPart}
+use Rattle.mpd_lines.specs.Forward.{ended_from, part_from, last_line}
+use Rattle.mpd_lines.specs.Telling.{Tells}
 use Rattle.mpd_lines.specs.Gathering.{Spoken}
-use Rattle.mpd_lines.specs.FaultWords.{failed_reads, failed_writes, reads_failed, writes_failed}
+use Rattle.mpd_lines.specs.FaultWords.{failed_reads, failed_writes}
 use Rattle.mpd_lines.specs.Served.{Served, Counted}
 use Rattle.mpd_lines.specs.Turned.{Turned, CountedOnce, SoFar}
 use Rattle.mpd_lines.specs.declared.engine.EngineFault.{EngineFault}
@@ -147,8 +147,11 @@ served_fault A d m e before p q n turns s0 s1 s2 v0 v1 v2 WriteFailed f (inl t) 
 served_fault A d m e before p q n turns s0 s1 s2 v0 v1 v2 WriteFailed f (inr t) = (
   f.read,
   consumes_end s0.remaining s1.remaining s2.remaining f.read f.consumed t.0,
-  inr (t.1, part_along A d (ended_from [] (before ++ f.read) ++ last_line p) (lines_of (before ++ f.read)) v0.contents v2.contents (ended_last before f.read p f.part)
-      (tells_part_append A d m (ended_from [] (before ++ f.read)) (last_line p) v0.contents v1.contents v2.contents f.told t.2)),
+  inr (
+    t.1,
+    part_along A d (ended_from [] (before ++ f.read) ++ last_line p) (lines_of (before ++ f.read)) v0.contents v2.contents (ended_last before f.read p f.part)
+        (tells_part_append A d m (ended_from [] (before ++ f.read)) (last_line p) v0.contents v1.contents v2.contents f.told t.2),
+  ),
 )
 served_fault A d m e before p q n turns s0 s1 s2 v0 v1 v2 TooManyTurns f t = absurd t
 served_fault A d m e before p q n turns s0 s1 s2 v0 v1 v2 Memory f t = absurd t

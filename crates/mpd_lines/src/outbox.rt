@@ -1,6 +1,5 @@
 //! Answers that wait to be written.
 ghost use Rattle.std.specs.Prelude.{◌≡◌, ◌+◌, ◌<◌, ◌≤◌, [], ◌∷◌, length, IfOk, vec_len, vec_capacity, ℕ, List};
-
 ghost use Rattle.mpd_lines.specs.Gathering.{Gathered, Relieved, Written};
 
 use crate::desk::{LineDesk, ROOM};
