@@ -1,5 +1,5 @@
 -- What was read of an input up to the line that divides it.
-use Rattle.std.proofs.Common.{◌≡◌, ℕ, zero, suc, ◌+◌, ◌<◌, ◌≤◌, List, [], ◌++◌, length, drop, take, Option, Some, None, Result, Ok, Err, IfOk, IfErr, refl, ap, sym, subst, ◌∙◌, append_assoc, append-nil, arith, length-append}
+use Rattle.std.proofs.Common.{◌≡◌, ℕ, zero, suc, false, ◌+◌, ◌<◌, ◌≤◌, List, [], ◌++◌, length, drop, take, Option, Some, None, Result, Ok, Err, IfOk, IfErr, refl, ap, sym, subst, ◌∙◌, append_assoc, append-nil, arith, length-append}
 use Rattle.std.specs.Io.KnownBytes.{Consumes, IsAtEnd, Keeps}
 use Rattle.mpd_device.specs.Seen.{SourceSeen}
 use Rattle.mpd_device.specs.Ends.{ends_of}
@@ -150,3 +150,5 @@ pub collected_turns : (s t : SourceSeen) (turn : ℕ) (b : Begun) → Follows s 
     → (read : List ℕ) × Consumes s.remaining t.remaining read × IsOpen read × (1000000 ≤ length read) × (t.calls ≡ s.calls + 1000000) × (t.ends ≡ s.ends)
 collected_turns s t turn b f is =
     (f.read, f.consumed, is_open s t turn b f, (let le = f.count in omega (arith, le, is)), (let a = f.calls in omega (arith, a, is)), f.ends)
+
+pub ruleset collecting = (follows_none, follows_more, collected_end, collected_behind, collected_long, collected_failed, collected_turns)

@@ -1,5 +1,5 @@
 -- What a line gets, by the reply to its command.
-use Rattle.std.proofs.Common.{◌≡◌, ℕ, ◌+◌, ◌-◌, ◌<◌, ◌≤◌, true, false, List, [], ◌++◌, length, Option, Some, None, IsSome, refl, ap, sym, subst, ◌∙◌, arith, inl, inr, append-nil, nat_lt, ◌==◌}
+use Rattle.std.proofs.Common.{◌≡◌, ℕ, ◌+◌, ◌-◌, ◌<◌, ◌≤◌, Bool, if◌then◌else◌, true, false, List, [], ◌++◌, length, Option, Some, None, IsSome, refl, ap, sym, subst, ◌∙◌, arith, inl, inr, append-nil, nat_lt, ◌==◌}
 use Rattle.std.proofs.lemmas.Bool.Decides.{nat_tests}
 use Rattle.std.proofs.lemmas.Bool.{le-ltb}
 use Rattle.mpd_model.specs.declared.step.Step.{Step}
@@ -10,7 +10,7 @@ use Rattle.mpd_model.specs.Next.{next}
 use Rattle.mpd_model.specs.Trail.{Trail, Standing, IsReached, applied, taken_back}
 use Rattle.mpd_model.specs.Words.{has_word, command_of}
 use Rattle.mpd_model.specs.Texts.{show_text}
-use Rattle.mpd_model.specs.Answers.{AnswerOrMemory, MayWantMemory, is_too_long, max_depth, ok_text, refused_bad_word, refused_memory, refused_full, refused_at_start, refused_not_enabled, step_answer, command_answer}
+use Rattle.mpd_model.specs.Answers.{AnswerOrMemory, MayWantMemory, is_too_long, max_depth, ok_text, refused_bad_word, refused_memory, refused_full, refused_at_start, refused_not_enabled, step_answer, back_answer}
 use Rattle.mpd_trail.specs.Run.{Stays, Carried}
 use Rattle.mpd_trail.specs.declared.run.Command.TheVariants.{Apply, Undo}
 use Rattle.mpd_trail.specs.declared.run.Reply.TheVariants.{Done, NotEnabled, Full, AtStart, Memory}
@@ -71,16 +71,28 @@ step_memory s t a before after c said = (refused_memory, said, inr (record { wan
 some_depth : (n : ℕ) → 0 < n → (n == 0) ≡ false
 some_depth n lt = grind (arith, nat_tests)
 
+no_depth : (n : ℕ) → n ≡ 0 → (n == 0) ≡ true
+no_depth n e = grind (arith, nat_tests)
+
+back_by : (t : Trail) (b : Bool) → (t.depth == 0) ≡ b → back_answer t ≡ (let p : Said = if b then (refused_at_start, t) else (ok_text (t.depth - 1), taken_back t) in p)
+back_by t b e = ap (λ (v : Bool). let p : Said = if v then (refused_at_start, t) else (ok_text (t.depth - 1), taken_back t) in p) e
+
 pub back_done : (s t : Standing) (before after : List ℕ) (depth : ℕ) → Carried s Undo Done t → IsReached t → depth ≡ t.trail.depth → after ≡ before ++ ok_text depth → Replies before after s (Some command.Back) t
 back_done s t before after depth c reached is said =
+    let whole = back_by s.trail false (some_depth s.trail.depth c.0) in
     let deep : depth ≡ s.trail.depth - 1 = is ∙ ap (λ (x : Trail). x.depth) c.1 in (
       ok_text depth,
       said,
-      inl (record { told = rw (some_depth s.trail.depth c.0) (ap ok_text deep); trail = rw (some_depth s.trail.depth c.0) c.1; reached = reached }),
+      inl (record { told = ap ok_text deep ∙ ap (λ (x : Said). x.0) (sym whole); trail = c.1 ∙ ap (λ (x : Said). x.1) (sym whole); reached = reached }),
     )
 
 pub back_at_start : (s t : Standing) (before after : List ℕ) → Carried s Undo AtStart t → IsReached t → after ≡ before ++ refused_at_start → Replies before after s (Some command.Back) t
-back_at_start s t before after c reached said = (refused_at_start, said, inl (record { told = rw c.0 refl; trail = rw c.0 c.1.trail; reached = reached }))
+back_at_start s t before after c reached said =
+    let whole = back_by s.trail true (no_depth s.trail.depth c.0) in (
+      refused_at_start,
+      said,
+      inl (record { told = ap (λ (x : Said). x.0) (sym whole); trail = c.1.trail ∙ ap (λ (x : Said). x.1) (sym whole); reached = reached }),
+    )
 
 -- ---- texts, and what is no command
 

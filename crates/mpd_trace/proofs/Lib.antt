@@ -6,3 +6,4 @@ pub mod OpenLaws
 pub mod DeskLemmas
 pub mod CollectLaws
 pub mod PlainLaws
+pub mod TraceLaws

@@ -202,3 +202,5 @@ plain_uncollected engine.ReadFailed s t v h = (h.0, h.1, h.3, inl (h.2, refl))
 plain_uncollected engine.WriteFailed s t v h = absurd h
 plain_uncollected engine.TooManyTurns s t v h = (h.0, h.1, h.3, h.4, h.5, inl (h.2, refl))
 plain_uncollected engine.Memory s t v h = refl
+
+pub ruleset plainly = (plain_refused, counted_refused, plain_ended, plain_uncollected)

@@ -52,8 +52,10 @@ fn answer_step(debugger: &mut Debugger<'_>, step: Step, out: &mut Vec<u8>)
     ensures replies { Replies out.old.items out.new.items debugger.old (Some (Word.Step step)) debugger.new }
     ensures capacity { vec_capacity out.old ≤ vec_capacity out.new }
 {
-    match answer(debugger, Command::Apply(step)) {
-        Reply::Done => say_ok(out, debugger.depth()),
+    let reply = answer(debugger, Command::Apply(step));
+    let depth = debugger.depth();
+    match reply {
+        Reply::Done => say_ok(out, depth),
         Reply::NotEnabled => refuse(out, ApplyFault::NotEnabled.name()),
         Reply::Full => refuse(out, ApplyFault::Full.name()),
         Reply::Memory => refuse(out, ApplyFault::Memory.name()),
@@ -82,9 +84,8 @@ fn answer_show(alloc: Global, debugger: &Debugger<'_>, out: &mut Vec<u8>)
     ensures replies { Replies out.old.items out.new.items debugger.now (Some Word.Show) debugger.now }
     ensures capacity { vec_capacity out.old ≤ vec_capacity out.new }
 {
-    let depth = debugger.depth();
     let kept = debugger.steps().len();
-    let Ok(text) = show(alloc, debugger.core(), depth, kept) else {
+    let Ok(text) = show(alloc, debugger.core(), debugger.depth(), kept) else {
         return refuse(out, ApplyFault::Memory.name());
     };
     match out.extend_from_slice(text.as_bytes()) {

@@ -108,7 +108,7 @@ impl Divider {
     }
 
     /// The script, where the input ends here.
-    #[tactic(auto, using(crate::proofs::DividedLaws::dividing))]
+    #[tactic(auto, using(crate::proofs::DividedLaws::dividing, crate::proofs::DividedLaws::shortness))]
     pub fn finish(self) -> Vec<u8>
         requires { length self.known ≤ 65536 }
         ensures { splits self [] ≡ (result.items, []) }

@@ -6,7 +6,7 @@ ghost use Rattle.mpd_lines.specs.FaultWords.{failed_reads, failed_writes};
 ghost use Rattle.mpd_lines.specs.Served.{Served, Counted};
 ghost use Rattle.mpd_trace.specs.Collected.{Collected, CollectCounted};
 ghost use Rattle.mpd_trace.specs.Plain.{line_at, PlainServed};
-ghost use Rattle.mpd_trace.specs.PlainFaults.{refused_as, plain_failed_reads, plain_failed_writes};
+ghost use Rattle.mpd_trace.specs.PlainFaults.{fault_line, fault_status, refused_as, plain_failed_reads, plain_failed_writes};
 
 use crate::divider::{Divider, Division};
 use crate::trace::trace_behind;
@@ -18,7 +18,7 @@ use mpd_model::script::Script;
 use mpd_script::read;
 use mpd_lines::engine::{EngineFault, READ_MAX, TURNS_MAX};
 use std::alloc::Global;
-use thiserror::Error;
+use std::fmt;
 
 /// Why no more of the input was read for the script.
 #[derive(Clone, Copy, Debug)]
@@ -66,6 +66,7 @@ fn head_behind(
 }
 
 /// Reads a script, and no more than the read that shows where it ends.
+#[tactic(auto, using(crate::proofs::CollectLaws::collecting))]
 fn collect<S: Source>(alloc: Global, source: &mut S) -> Result<Head, EngineFault>
     ensures collected { Collected (S.seen source.old) (S.seen source.new) result }
     ensures counted { CollectCounted (S.seen source.old) (S.seen source.new) result }
@@ -107,15 +108,50 @@ fn collect<S: Source>(alloc: Global, source: &mut S) -> Result<Head, EngineFault
     Err(EngineFault::TooManyTurns)
 }
 
-/// Why `plain` has ended before its input has.
-#[derive(Clone, Copy, Debug, PartialEq, Eq, Error)]
+/// Why `plain` has ended before its input has. Its text is the line on standard error (docs/FORMATS.md, "Faults and
+/// statuses"), which takes no memory.
+#[derive(Clone, Copy, Debug, PartialEq, Eq)]
 pub enum PlainFault {
     /// The script is refused, with the line of the fault's place, from 1.
-    #[error("script refused {0} line {1}")]
     Script(ReadFault, usize),
     /// The engine's own.
-    #[error("{0}")]
     Engine(EngineFault),
+}
+
+impl fmt::Display for PlainFault {
+    ghost use Rattle.std.specs.Prelude.{Some};
+
+    ghost output = { λ f. Some (fault_line f) };
+
+    fn fmt<W: fmt::Write>(&self, f: &mut fmt::Formatter<W>) -> fmt::Result {
+        match *self {
+            PlainFault::Script(fault, line) => {
+                let number = fault.code.number();
+                let name = fault.code.name();
+                let place = fault.place;
+                write!(
+                    f,
+                    "mpdbg: script refused {number} {name} at {place} line {line}"
+                )
+            }
+            PlainFault::Engine(EngineFault::ReadFailed) => write!(f, "mpdbg: device"),
+            PlainFault::Engine(EngineFault::WriteFailed) => write!(f, "mpdbg: device"),
+            PlainFault::Engine(EngineFault::TooManyTurns) => write!(f, "mpdbg: turns"),
+            PlainFault::Engine(EngineFault::Memory) => write!(f, "mpdbg: memory"),
+        }
+    }
+}
+
+impl PlainFault {
+    /// The status that the program ends with: 2 where the script is refused, else 3.
+    pub fn status(self) -> u8
+        ensures { result ≡ fault_status self }
+    {
+        match self {
+            PlainFault::Script(..) => 2,
+            PlainFault::Engine(_) => 3,
+        }
+    }
 }
 
 /// The line feeds of a text.
@@ -168,6 +204,7 @@ fn trace_script<S: Source, W: Sink>(
 
 /// Reads a script up to a line `---` (docs/FORMATS.md) and answers the trace words behind it. Standard sends are not
 /// buffered. A script that is refused writes nothing, and the reads of the script count towards 1,000,000.
+#[tactic(auto, using(crate::proofs::PlainLaws::plainly))]
 pub fn plain<S: Source, W: Sink>(
     alloc: Global,
     source: &mut S,
