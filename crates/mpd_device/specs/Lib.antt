@@ -1,3 +1,4 @@
 pub mod Depth
 pub mod Ends
 pub mod Limits
+pub mod Seen

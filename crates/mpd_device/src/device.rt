@@ -1,11 +1,14 @@
 //! Where bytes come from and where they go: one read and one write at a time, each counted.
-ghost use Rattle.std.specs.Prelude.{◌≡◌, ℕ, ◌+◌, ◌<◌, List, Option, length, true, false, OnOk, OnErr, IfOk, IsErr, ◌⊎◌};
+ghost use Rattle.std.specs.Prelude.{◌≡◌, ◌↔◌, ◌+◌, ◌<◌, length, true, OnOk, OnErr, IfOk};
+ghost use Rattle.std.specs.IoError.{error_kind};
 ghost use Rattle.mpd_device.specs.Ends.{ends_of};
+ghost use Rattle.mpd_device.specs.Seen.{SourceSeen, SinkSeen};
 ghost use Rattle.std.specs.Io.{ReadsAtMost, WritesAtMost};
 ghost use Rattle.std.specs.Io.KnownBytes.{ReadConsumes, WriteAppends};
 
 use crate::steps::Steps;
-use std::io::{Read, Write};
+use std::io;
+use std::io::{ErrorKind, Read, Write};
 use thiserror::Error;
 
 /// A call of a device that failed.
@@ -15,52 +18,77 @@ pub struct DeviceFault;
 
 /// What is read from, one read at a time.
 pub trait Source {
-    /// How many reads were made.
-    ghost calls: { Self → ℕ };
-
-    /// How many of them failed.
-    ghost failures: { Self → ℕ };
-
-    /// How many of them gave no byte: the input had ended, or there was no room.
-    ghost ends: { Self → ℕ };
-
-    /// The bytes that reads will give, where they are known.
-    ghost remaining: { Self → Option (List ℕ) };
+    /// Its reads so far, and the bytes that are still to come.
+    ghost seen: { Self → SourceSeen };
 
     /// Reads into the front of `buffer`, and answers how many bytes were read: 0 at the end of the input, or where
     /// there is no room. A failed read takes no byte from the input.
     fn read(&mut self, buffer: &mut [u8]) -> Result<usize, DeviceFault>
         ensures bound { ReadsAtMost result buffer.new }
-        ensures bytes { ReadConsumes (remaining self.old) (remaining self.new) result buffer.new }
-        ensures counted { calls self.new ≡ calls self.old + 1 }
-        ensures ok { OnOk result (failures self.new ≡ failures self.old) }
-        ensures failed { OnErr result (failures self.new ≡ failures self.old + 1) }
-        ensures ended { ends self.new ≡ ends self.old + ends_of result };
+        ensures bytes { ReadConsumes (seen self.old).remaining (seen self.new).remaining result buffer.new }
+        ensures counted { (seen self.new).calls ≡ (seen self.old).calls + 1 }
+        ensures ok { OnOk result ((seen self.new).failures ≡ (seen self.old).failures) }
+        ensures failed { OnErr result ((seen self.new).failures ≡ (seen self.old).failures + 1) }
+        ensures ended { (seen self.new).ends ≡ (seen self.old).ends + ends_of result };
 }
 
 /// What is written to, one write at a time.
 pub trait Sink {
-    /// How many writes were made.
-    ghost calls: { Self → ℕ };
-
-    /// How many of them failed.
-    ghost failures: { Self → ℕ };
-
-    /// The bytes that were written, where they are known.
-    ghost contents: { Self → Option (List ℕ) };
+    /// Its writes so far, and the bytes that were written.
+    ghost seen: { Self → SinkSeen };
 
     /// Writes the front of `piece`, and answers how many bytes were written. A write of a nonempty piece that takes no
     /// byte has failed. A failed write writes nothing.
     fn write(&mut self, piece: &[u8]) -> Result<usize, DeviceFault>
         ensures bound { WritesAtMost result piece.now }
         ensures some { 0 < length piece.now → IfOk result (λ n. 0 < n) }
-        ensures bytes { WriteAppends (contents self.old) (contents self.new) result piece.now }
-        ensures counted { calls self.new ≡ calls self.old + 1 }
-        ensures ok { OnOk result (failures self.new ≡ failures self.old) }
-        ensures failed { OnErr result (failures self.new ≡ failures self.old + 1) };
+        ensures bytes { WriteAppends (seen self.old).contents (seen self.new).contents result piece.now }
+        ensures counted { (seen self.new).calls ≡ (seen self.old).calls + 1 }
+        ensures ok { OnOk result ((seen self.new).failures ≡ (seen self.old).failures) }
+        ensures failed { OnErr result ((seen self.new).failures ≡ (seen self.old).failures + 1) };
 }
 
-/// Any reader of std as a source. Memory is one: `FromReader::new(bytes)` reads the slice `bytes`.
+/// A call that a signal has interrupted: it did nothing, and may be made again.
+fn is_interrupted(error: &io::Error) -> bool
+    ensures { (result ≡ true) ↔ (error_kind error.now ≡ ErrorKind.Interrupted) }
+{
+    error.kind() == ErrorKind::Interrupted
+}
+
+/// One read of a reader. A read that is interrupted is made again, and all of them are one.
+#[tactic(auto, using(crate::proofs::KeepLaws::keeping))]
+fn read_again<R: Read>(reader: &mut R, buffer: &mut [u8]) -> Result<usize, DeviceFault>
+    ensures bound { ReadsAtMost result buffer.new }
+    ensures bytes { ReadConsumes (R.remaining reader.old) (R.remaining reader.new) result buffer.new }
+{
+    for _try in 0..u64::MAX {
+        match reader.read(buffer) {
+            Ok(count) => return Ok(count),
+            Err(error) if is_interrupted(&error) => {}
+            Err(_) => return Err(DeviceFault),
+        }
+    }
+    Err(DeviceFault)
+}
+
+/// One write to a writer. A write that is interrupted is made again, and all of them are one.
+#[tactic(auto, using(crate::proofs::KeepLaws::keeping))]
+fn write_again<W: Write>(writer: &mut W, piece: &[u8]) -> Result<usize, DeviceFault>
+    ensures bound { WritesAtMost result piece.now }
+    ensures bytes { WriteAppends (W.contents writer.old) (W.contents writer.new) result piece.now }
+{
+    for _try in 0..u64::MAX {
+        match writer.write(piece) {
+            Ok(count) => return Ok(count),
+            Err(error) if is_interrupted(&error) => {}
+            Err(_) => return Err(DeviceFault),
+        }
+    }
+    Err(DeviceFault)
+}
+
+/// Any reader of std as a source. A read that a signal interrupts is made again: that is no failure, and no further call.
+/// Memory is one: `FromReader::new(bytes)` reads the slice `bytes`.
 #[derive(Drop)]
 pub struct FromReader<R> {
     reader: R,
@@ -72,10 +100,7 @@ pub struct FromReader<R> {
 impl<R: Read> FromReader<R> {
     /// The reader, with no call yet.
     pub fn new(reader: R) -> FromReader<R>
-        ensures calls { ⟦<FromReader<R> as Source>⟧.calls result ≡ 0 }
-        ensures failures { ⟦<FromReader<R> as Source>⟧.failures result ≡ 0 }
-        ensures ends { ⟦<FromReader<R> as Source>⟧.ends result ≡ 0 }
-        ensures remaining { ⟦<FromReader<R> as Source>⟧.remaining result ≡ R.remaining reader }
+        ensures { ⟦<FromReader<R> as Source>⟧.seen result ≡ record { calls = 0; failures = 0; ends = 0; remaining = R.remaining reader } }
     {
         FromReader {
             reader,
@@ -87,32 +112,27 @@ impl<R: Read> FromReader<R> {
 }
 
 impl<R: Read> Source for FromReader<R> {
-    ghost calls = { λ s. s.calls };
-
-    ghost failures = { λ s. s.failures };
-
-    ghost ends = { λ s. s.ends };
-
-    ghost remaining = { λ s. R.remaining s.reader };
+    ghost seen = { λ s. record { calls = s.calls; failures = s.failures; ends = s.ends; remaining = R.remaining s.reader } };
 
     fn read(&mut self, buffer: &mut [u8]) -> Result<usize, DeviceFault> {
         self.calls.tick();
-        match self.reader.read(buffer) {
+        match read_again(&mut self.reader, buffer) {
             Ok(count) => {
                 if count == 0 {
                     self.ends.tick();
                 }
                 Ok(count)
             }
-            Err(_) => {
+            Err(fault) => {
                 self.failures.tick();
-                Err(DeviceFault)
+                Err(fault)
             }
         }
     }
 }
 
-/// Any writer of std as a sink. Memory is one: `ToWriter::new(Vec::new(alloc))` keeps what was written.
+/// Any writer of std as a sink. A write that a signal interrupts is made again: that is no failure, and no further call.
+/// Memory is one: `ToWriter::new(Vec::new(alloc))` keeps what was written.
 #[derive(Drop)]
 pub struct ToWriter<W> {
     writer: W,
@@ -123,9 +143,7 @@ pub struct ToWriter<W> {
 impl<W: Write> ToWriter<W> {
     /// The writer, with no call yet.
     pub fn new(writer: W) -> ToWriter<W>
-        ensures calls { ⟦<ToWriter<W> as Sink>⟧.calls result ≡ 0 }
-        ensures failures { ⟦<ToWriter<W> as Sink>⟧.failures result ≡ 0 }
-        ensures contents { ⟦<ToWriter<W> as Sink>⟧.contents result ≡ W.contents writer }
+        ensures { ⟦<ToWriter<W> as Sink>⟧.seen result ≡ record { calls = 0; failures = 0; contents = W.contents writer } }
     {
         ToWriter {
             writer,
@@ -136,22 +154,18 @@ impl<W: Write> ToWriter<W> {
 
     /// The writer again.
     pub fn into_writer(self) -> W
-        ensures { W.contents result ≡ ⟦<ToWriter<W> as Sink>⟧.contents self }
+        ensures { W.contents result ≡ (⟦<ToWriter<W> as Sink>⟧.seen self).contents }
     {
         self.writer
     }
 }
 
 impl<W: Write> Sink for ToWriter<W> {
-    ghost calls = { λ s. s.calls };
-
-    ghost failures = { λ s. s.failures };
-
-    ghost contents = { λ s. W.contents s.writer };
+    ghost seen = { λ s. record { calls = s.calls; failures = s.failures; contents = W.contents s.writer } };
 
     fn write(&mut self, piece: &[u8]) -> Result<usize, DeviceFault> {
         self.calls.tick();
-        match self.writer.write(piece) {
+        match write_again(&mut self.writer, piece) {
             Ok(count) if count > 0 || piece.is_empty() => Ok(count),
             _ => {
                 self.failures.tick();

@@ -66,10 +66,7 @@ pub struct FailingSource<S> {
 impl<S: Source> FailingSource<S> {
     /// The source `inner` up to the limit.
     pub fn new(inner: S, limit: Limit) -> FailingSource<S>
-        ensures calls { ⟦<FailingSource<S> as Source>⟧.calls result ≡ 0 }
-        ensures failures { ⟦<FailingSource<S> as Source>⟧.failures result ≡ 0 }
-        ensures ends { ⟦<FailingSource<S> as Source>⟧.ends result ≡ 0 }
-        ensures remaining { ⟦<FailingSource<S> as Source>⟧.remaining result ≡ S.remaining inner }
+        ensures seen { ⟦<FailingSource<S> as Source>⟧.seen result ≡ record { calls = 0; failures = 0; ends = 0; remaining = (S.seen inner).remaining } }
         ensures limit { result.limit ≡ limit }
     {
         FailingSource {
@@ -83,27 +80,21 @@ impl<S: Source> FailingSource<S> {
 }
 
 impl<S: Source> Source for FailingSource<S> {
-    ghost calls = { λ s. s.calls };
-
-    ghost failures = { λ s. s.failures };
-
-    ghost ends = { λ s. s.ends };
-
-    ghost remaining = { λ s. S.remaining s.inner };
+    ghost seen = { λ s. record { calls = s.calls; failures = s.failures; ends = s.ends; remaining = (S.seen s.inner).remaining } };
 
     fn read(&mut self, buffer: &mut [u8]) -> Result<usize, DeviceFault>
         ensures bound { ReadsAtMost result buffer.new }
-        ensures bytes { ReadConsumes (S.remaining self.old.inner) (S.remaining self.new.inner) result buffer.new }
+        ensures bytes { ReadConsumes (S.seen self.old.inner).remaining (S.seen self.new.inner).remaining result buffer.new }
         ensures counted { self.new.calls ≡ self.old.calls + 1 }
         ensures ok { OnOk result (self.new.failures ≡ self.old.failures) }
         ensures failed { OnErr result (self.new.failures ≡ self.old.failures + 1) }
         ensures ended { self.new.ends ≡ self.old.ends + ends_of result }
-        ensures within { OnOk result ((is_reached self.old.limit ≡ false) × (S.failures self.new.inner ≡ S.failures self.old.inner)) }
+        ensures within { OnOk result ((is_reached self.old.limit ≡ false) × ((S.seen self.new.inner).failures ≡ (S.seen self.old.inner).failures)) }
         ensures most { IfOk result (λ n. n ≤ most_of self.old.limit (length buffer.new)) }
         ensures limit { IfOk result (λ n. self.new.limit ≡ limit_after self.old.limit n) }
         ensures stays { is_reached self.old.limit ≡ true → self.new.limit ≡ self.old.limit }
         ensures after { OnErr result (is_reached self.old.limit ≡ false → self.new.limit ≡ limit_after self.old.limit 0) }
-        ensures refused { OnErr result ((is_reached self.old.limit ≡ true) ⊎ (S.failures self.new.inner ≡ S.failures self.old.inner + 1)) }
+        ensures refused { OnErr result ((is_reached self.old.limit ≡ true) ⊎ ((S.seen self.new.inner).failures ≡ (S.seen self.old.inner).failures + 1)) }
     {
         self.calls.tick();
         if self.limit.is_reached() {
@@ -141,9 +132,7 @@ pub struct FailingSink<W> {
 impl<W: Sink> FailingSink<W> {
     /// The sink `inner` up to the limit.
     pub fn new(inner: W, limit: Limit) -> FailingSink<W>
-        ensures calls { ⟦<FailingSink<W> as Sink>⟧.calls result ≡ 0 }
-        ensures failures { ⟦<FailingSink<W> as Sink>⟧.failures result ≡ 0 }
-        ensures contents { ⟦<FailingSink<W> as Sink>⟧.contents result ≡ W.contents inner }
+        ensures seen { ⟦<FailingSink<W> as Sink>⟧.seen result ≡ record { calls = 0; failures = 0; contents = (W.seen inner).contents } }
         ensures limit { result.limit ≡ limit }
     {
         FailingSink {
@@ -163,25 +152,21 @@ impl<W: Sink> FailingSink<W> {
 }
 
 impl<W: Sink> Sink for FailingSink<W> {
-    ghost calls = { λ s. s.calls };
-
-    ghost failures = { λ s. s.failures };
-
-    ghost contents = { λ s. W.contents s.inner };
+    ghost seen = { λ s. record { calls = s.calls; failures = s.failures; contents = (W.seen s.inner).contents } };
 
     fn write(&mut self, piece: &[u8]) -> Result<usize, DeviceFault>
         ensures bound { WritesAtMost result piece.now }
         ensures some { 0 < length piece.now → IfOk result (λ n. 0 < n) }
-        ensures bytes { WriteAppends (W.contents self.old.inner) (W.contents self.new.inner) result piece.now }
+        ensures bytes { WriteAppends (W.seen self.old.inner).contents (W.seen self.new.inner).contents result piece.now }
         ensures counted { self.new.calls ≡ self.old.calls + 1 }
         ensures ok { OnOk result (self.new.failures ≡ self.old.failures) }
         ensures failed { OnErr result (self.new.failures ≡ self.old.failures + 1) }
-        ensures within { OnOk result ((is_reached self.old.limit ≡ false) × (W.failures self.new.inner ≡ W.failures self.old.inner)) }
+        ensures within { OnOk result ((is_reached self.old.limit ≡ false) × ((W.seen self.new.inner).failures ≡ (W.seen self.old.inner).failures)) }
         ensures most { IfOk result (λ n. n ≤ most_of self.old.limit (length piece.now)) }
         ensures limit { IfOk result (λ n. self.new.limit ≡ limit_after self.old.limit n) }
         ensures stays { is_reached self.old.limit ≡ true → self.new.limit ≡ self.old.limit }
         ensures after { OnErr result (is_reached self.old.limit ≡ false → self.new.limit ≡ limit_after self.old.limit 0) }
-        ensures refused { OnErr result ((is_reached self.old.limit ≡ true) ⊎ (W.failures self.new.inner ≡ W.failures self.old.inner + 1)) }
+        ensures refused { OnErr result ((is_reached self.old.limit ≡ true) ⊎ ((W.seen self.new.inner).failures ≡ (W.seen self.old.inner).failures + 1)) }
     {
         self.calls.tick();
         if self.limit.is_reached() {

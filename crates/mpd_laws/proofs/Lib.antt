@@ -23,6 +23,7 @@ mod SoundParts
 mod SoundStatements
 pub mod Cells
 pub mod CompleteScript
+pub mod LineCuts
 pub mod PrintAgain
 pub mod SoundScript
 pub mod Turns

@@ -1,5 +1,5 @@
 -- What a line of trace words is answered, and where the debugger stands after it.
-use Rattle.std.specs.Prelude.{◌≡◌, ℕ, ◌+◌, ◌-◌, Bool, ◌||◌, ◌==◌, nat_lt, IsTrue, ◌⊎◌, if◌then◌else◌, List, [], ◌++◌, length, Option, Some, None, codes}
+use Rattle.std.specs.Prelude.{◌≡◌, ℕ, ◌+◌, ◌-◌, ◌<◌, Bool, true, false, ◌==◌, nat_lt, IsSome, ⊤, ◌⊎◌, if◌then◌else◌, List, [], ◌++◌, length, Option, Some, None, codes}
 use Rattle.std.specs.Fmt.{decimal}
 use Rattle.mpd_model.specs.declared.limits.TheConstants.{LINE_MAX, STEPS_MAX}
 use Rattle.mpd_model.specs.declared.step.Step.{Step}
@@ -24,20 +24,24 @@ max_depth = STEPS_MAX
 abbrev pub ok_text : ℕ → List ℕ
 ok_text depth = line (codes "ok " ++ decimal depth)
 
+-- a refusal, by its name
+abbrev pub refused_text : List ℕ → List ℕ
+refused_text name = line (codes "refused " ++ name)
+
 abbrev pub refused_not_enabled : List ℕ
-refused_not_enabled = codes "refused not-enabled\n"
+refused_not_enabled = refused_text (codes "not-enabled")
 
 abbrev pub refused_full : List ℕ
-refused_full = codes "refused full\n"
+refused_full = refused_text (codes "full")
 
 abbrev pub refused_at_start : List ℕ
-refused_at_start = codes "refused at-start\n"
+refused_at_start = refused_text (codes "at-start")
 
 abbrev pub refused_bad_word : List ℕ
-refused_bad_word = codes "refused bad-word\n"
+refused_bad_word = refused_text (codes "bad-word")
 
 abbrev pub refused_memory : List ℕ
-refused_memory = codes "refused memory\n"
+refused_memory = refused_text (codes "memory")
 
 -- ---- the answer to a line, and the trail after it
 
@@ -58,25 +62,33 @@ abbrev pub is_too_long : List ℕ → Bool
 is_too_long z = nat_lt max_line (length z)
 
 -- A line that is too long is refused, also where it has no word; else a line without a word is skipped.
-abbrev pub is_answered : List ℕ → Bool
-is_answered z = is_too_long z || has_word z
-
 abbrev pub line_answer : Standing → List ℕ → List ℕ × Trail
 line_answer s z =
     if is_too_long z then (refused_bad_word, s.trail)
     else (if has_word z then command_answer s (command_of z) else ([], s.trail))
 
 -- Where the debugger stands at s, the line z is answered by this text, and leaves it at t.
-pub record Answer (s : Standing) (z text : List ℕ) (t : Standing) : Type 0 where
+pub record LineAnswer (s : Standing) (z text : List ℕ) (t : Standing) : Type 0 where
   pub told : text ≡ (line_answer s z).0
   pub trail : t.trail ≡ (line_answer s z).1
   pub reached : IsReached t
 
--- A line that is answered at all may be refused for want of memory, and then changes nothing.
+-- Only a step that is taken, and the text of the state, may want memory: no step that isn't enabled or is one too many, no
+-- step back, and nothing that is no command.
+abbrev pub MayWantMemory : Standing → Option Command → Type 0
+MayWantMemory s None = ⊥
+MayWantMemory s (Some (command.Step a)) = IsSome (next s.world a) × (s.trail.depth < max_depth)
+MayWantMemory s (Some command.Back) = ⊥
+MayWantMemory s (Some command.Show) = ⊤
+
+-- Where memory is refused, the line is answered so, and nothing has changed.
 pub record MemoryAnswer (s : Standing) (z text : List ℕ) (t : Standing) : Type 0 where
-  pub answered : IsTrue (is_answered z)
+  pub short : is_too_long z ≡ false
+  pub word : has_word z ≡ true
+  pub wants : MayWantMemory s (command_of z)
   pub told : text ≡ refused_memory
-  pub same : t ≡ s
+  pub trail : t.trail ≡ s.trail
+  pub world : t.world ≡ s.world
 
 abbrev pub AnswerOrMemory : Standing → List ℕ → List ℕ → Standing → Type 0
-AnswerOrMemory s z text t = Answer s z text t ⊎ MemoryAnswer s z text t
+AnswerOrMemory s z text t = LineAnswer s z text t ⊎ MemoryAnswer s z text t

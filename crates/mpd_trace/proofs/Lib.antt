@@ -1,6 +1,9 @@
 pub mod RangeTexts
 pub mod CellTexts
+pub mod ByteLaws
+pub mod DividedLaws
+pub mod OpenLaws
 pub mod DeskLemmas
 pub mod CollectLaws
 pub mod PlainLaws
-pub mod TraceLemmas
+pub mod TraceLaws

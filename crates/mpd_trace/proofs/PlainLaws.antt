@@ -1,8 +1,9 @@
 -- What comes of an input that has a script and the lines of its trace.
-use Rattle.std.proofs.Common.{◌≡◌, ◌≢◌, ℕ, ◌+◌, ◌<◌, ◌≤◌, nat_lt, true, List, [], ◌++◌, length, count_by, ◌==◌, Option, Some, None, IfSome, Result, Ok, Err, refl, ap, sym, subst, ◌∙◌, append-nil, arith, length-append}
+use Rattle.std.proofs.Common.{◌≡◌, ◌≢◌, ℕ, ◌+◌, ◌-◌, ◌<◌, ◌≤◌, nat_lt, Bool, true, false, if◌then◌else◌, ◌⊎◌, inl, inr, List, [], ◌++◌, length, count_by, ◌==◌, Option, Some, None, Result, Ok, Err, refl, ap, sym, subst, ◌∙◌, append_assoc, append-nil, arith, length-append}
 use Rattle.std.proofs.lemmas.Bool.{lt-ltb, cond-true}
 use Rattle.std.proofs.lemmas.List.{take-append-le}
-use Rattle.std.specs.Io.KnownBytes.{Consumes}
+use Rattle.std.specs.Io.KnownBytes.{Appends, Consumes}
+use Rattle.mpd_device.specs.Seen.{SourceSeen, SinkSeen}
 use Rattle.mpd_model.specs.Answers.{AnswerOrMemory}
 use Rattle.mpd_model.specs.Faults.{fault}
 use Rattle.mpd_model.specs.Grammar.{reading}
@@ -12,17 +13,21 @@ use Rattle.mpd_model.specs.Trail.{Standing, first_standing}
 use Rattle.mpd_model.specs.declared.call.Mode.TheVariants.{Rendezvous}
 use Rattle.mpd_model.specs.declared.read_fault.ReadFault.{ReadFault}
 use Rattle.mpd_model.specs.declared.read_fault.FaultCode.TheVariants as code
-use Rattle.mpd_wire.specs.Answered.{TellsFirst, TellsPart}
-use Rattle.mpd_wire.specs.Told.{TellsAll, TellsRead}
-use Rattle.mpd_trace.specs.Collected.{HeadOf, lines_behind, ended_behind}
-use Rattle.mpd_trace.specs.Plain.{line_at, Opens, PlainAll, PlainRead, PlainFirst, PlainPart}
-use Rattle.mpd_wire.specs.declared.engine.EngineFault.{EngineFault}
-use Rattle.mpd_wire.specs.declared.engine.EngineFault.TheVariants as engine
+use Rattle.mpd_lines.specs.Telling.{Tells, TellsPart}
+use Rattle.mpd_lines.specs.Served.{Served, Counted}
+use Rattle.mpd_lines.specs.FaultWords.{failed_reads, failed_writes}
+use Rattle.mpd_lines.specs.declared.engine.EngineFault.{EngineFault}
+use Rattle.mpd_lines.specs.declared.engine.EngineFault.TheVariants as engine
+use Rattle.mpd_trace.specs.Divided.{has_divider, IsOpen}
+use Rattle.mpd_trace.specs.Collected.{HeadOf, Collected, CollectCounted, IsJustRead}
+use Rattle.mpd_trace.specs.Plain.{line_at, IsRefused, Traces, TracesPart, TracesSoFar, PlainServed}
+use Rattle.mpd_trace.specs.PlainFaults.{is_memory, refused_as, plain_failed_reads, plain_failed_writes}
 use Rattle.mpd_trace.specs.declared.plain.HeadEnd.{HeadEnd}
-use Rattle.mpd_trace.specs.declared.plain.HeadEnd.TheVariants.{Ended, Divided, TooLong}
+use Rattle.mpd_trace.specs.declared.plain.HeadEnd.TheVariants.{InputEnds, LineDivides, TooLong}
 use Rattle.mpd_trace.specs.declared.plain.PlainFault.{PlainFault}
 use Rattle.mpd_trace.specs.declared.plain.PlainFault.TheVariants.{Script, Engine}
-use Rattle.mpd_wire.proofs.GoingLaws.{consumes_append, tells_none, tells_along}
+use Rattle.mpd_trace.proofs.CollectLaws.{consumes_append}
+use Rattle.mpd_trace.proofs.OpenLaws.{divider_came}
 
 abbrev Halves : Type 0
 Halves = List ℕ × List ℕ
@@ -41,137 +46,161 @@ abbrev error_of : Result Program ReadFault → ReadFault → ReadFault
 error_of (Ok p) d = d
 error_of (Err e) d = e
 
-abbrev fault_of : Result (Unit {0}) PlainFault → ReadFault → ReadFault
-fault_of (Ok u) d = d
-fault_of (Err (Script f l)) d = f
-fault_of (Err (Engine e)) d = d
-
-abbrev line_of : Result (Unit {0}) PlainFault → ℕ
-line_of (Ok u) = 0
-line_of (Err (Script f l)) = l
-line_of (Err (Engine e)) = 0
-
-abbrev engine_of : Result (Unit {0}) PlainFault → EngineFault
-engine_of (Ok u) = engine.Memory
-engine_of (Err (Script f l)) = engine.Memory
-engine_of (Err (Engine e)) = e
-
 line_front : (xs ys : List ℕ) → 65536 ≤ length xs → line_at (xs ++ ys) 65536 ≡ line_at xs 65536
 line_front xs ys le = ap (λ z. count_by (λ b. b == 10) z + 1) (take-append-le 65536 xs ys le)
 
-refused_at : (end : HeadEnd) (read script behind input left : List ℕ) (n : ℕ) (f : ReadFault) → input ≡ read ++ left → HeadOf end read n (Some left) script behind → reading script ≡ Err f
-    → (reading (divided input).0 ≡ Err f) × (line_at script f.place ≡ line_at (divided input).0 f.place)
-refused_at Ended read script behind input left n f is h r =
-    let same : (divided input).0 ≡ script = ap (λ x. (divided x).0) (is ∙ ap (λ x. read ++ x) h.0 ∙ append-nil read) ∙ ap (λ (x : Halves). x.0) h.1 in
+-- ---- a script that is refused
+
+refused_here : (end : HeadEnd) (read script behind : List ℕ) (n : ℕ) (s t : SourceSeen) (f : ReadFault) → HeadOf end read n s t script behind → reading script ≡ Err f → IsRefused s t read f (line_at script f.place)
+refused_here InputEnds read script behind n s t f h r z (inl same) = absurd (let e = h.1 in omega (arith, e, same))
+refused_here InputEnds read script behind n s t f h r z (inr none) =
+    let same : (divided (read ++ z)).0 ≡ script = ap (λ x. (divided (read ++ x)).0) none ∙ ap (λ x. (divided x).0) (append-nil read) ∙ ap (λ (x : Halves). x.0) h.2 in
     (ap reading same ∙ r, ap (λ x. line_at x f.place) (sym same))
-refused_at Divided read script behind input left n f is h r =
-    let same : (divided input).0 ≡ script = ap (λ x. (divided x).0) is ∙ ap (λ (x : Halves). x.0) (h.0 left) in
+refused_here LineDivides read script behind n s t f h r z o =
+    let same : (divided (read ++ z)).0 ≡ script = ap (λ (x : Halves). x.0) (h.1 z) in
     (ap reading same ∙ r, ap (λ x. line_at x f.place) (sym same))
-refused_at TooLong read script behind input left n f is h r =
-    let k = h.0 left in
-    let same : (divided input).0 ≡ script ++ k.0 = ap (λ x. (divided x).0) is ∙ k.1 in
-    let which : f ≡ too_long = ap (λ x. error_of x too_long) (sym r ∙ reading_long script h.1) in
-    let long : 65536 < length (script ++ k.0) = (let lt = h.1 in omega (arith, lt, length-append script k.0)) in
-    let le : 65536 ≤ length script = (let lt = h.1 in omega (arith, lt)) in (
-      ap reading same ∙ reading_long (script ++ k.0) long ∙ ap (λ (x : ReadFault). let e : Result Program ReadFault = Err x in e) (sym which),
-      ap (λ (x : ReadFault). line_at script x.place) which ∙ sym (ap (λ x. line_at x f.place) same ∙ ap (λ (x : ReadFault). line_at (script ++ k.0) x.place) which ∙ line_front script k.0 le),
+refused_here TooLong read script behind n s t f h r z o =
+    let k = h.1 z in
+    let which : f ≡ too_long = ap (λ x. error_of x too_long) (sym r ∙ reading_long script h.2) in
+    let long : 65536 < length (script ++ k.0) = (let lt = h.2 in omega (arith, lt, length-append script k.0)) in
+    let le : 65536 ≤ length script = (let lt = h.2 in omega (arith, lt)) in (
+      ap reading k.1 ∙ reading_long (script ++ k.0) long ∙ ap (λ (x : ReadFault). let e : Result Program ReadFault = Err x in e) (sym which),
+      ap (λ (x : ReadFault). line_at script x.place) which
+          ∙ sym (ap (λ x. line_at x f.place) k.1 ∙ ap (λ (x : ReadFault). line_at (script ++ k.0) x.place) which ∙ line_front script k.0 le),
     )
 
-refused_in : (end : HeadEnd) (read script behind : List ℕ) (n : ℕ) (s0 s1 : Option (List ℕ)) (f : ReadFault) (line : ℕ) → Consumes s0 s1 read → HeadOf end read n s1 script behind
-    → reading script ≡ Err f → line ≡ line_at script f.place → IfSome s0 (λ input. (reading (divided input).0 ≡ Err f) × (line ≡ line_at (divided input).0 f.place))
-refused_in end read script behind n None s1 f line c h r l = tt
-refused_in end read script behind n (Some input) None f line c h r l = absurd c
-refused_in end read script behind n (Some input) (Some left) f line c h r l = let k = refused_at end read script behind input left n f c h r in (k.0, l ∙ k.1)
+not_memory : (f : ReadFault) → is_memory f.code ≡ false → f.code ≢ code.Memory
+not_memory f e is = (let h : false ≡ true = sym e ∙ ap is_memory is in cc)
 
-pub refused : (end : HeadEnd) (read script behind text : List ℕ) (n : ℕ) (s0 s1 : Option (List ℕ)) (f g : ReadFault) (line : ℕ) (r : PlainFault)
-    → text ≡ script → Consumes s0 s1 read → HeadOf end read n s1 script behind → (let e : Result (Unit {0}) PlainFault = Err r in e ≡ Err (Script f line))
-    → (g.code ≡ code.Memory → r ≡ Engine engine.Memory) → (g.code ≢ code.Memory → r ≡ Script g (line_at text g.place)) → (g.code ≢ code.Memory → reading text ≡ Err g)
-    → (f.code ≢ code.Memory) × IfSome s0 (λ input. (reading (divided input).0 ≡ Err f) × (line ≡ line_at (divided input).0 f.place))
-refused end read script behind text n s0 s1 f g line r same c h is memory other err =
-    let not_memory : g.code ≢ code.Memory = λ e. (let a = memory e in cc) in
-    let whole : (let e : Result (Unit {0}) PlainFault = Err (Script f line) in e) ≡ Err (Script g (line_at text g.place)) =
-    sym is ∙ ap (λ (x : PlainFault). let e : Result (Unit {0}) PlainFault = Err x in e) (other not_memory) in
-    let which : f ≡ g = ap (λ x. fault_of x f) whole in
-    let there : line ≡ line_at script f.place = ap line_of whole ∙ ap (λ x. line_at x g.place) same ∙ ap (λ (x : ReadFault). line_at script x.place) (sym which) in
-    let says : reading script ≡ Err f = ap reading (sym same) ∙ err not_memory ∙ ap (λ (x : ReadFault). let e : Result Program ReadFault = Err x in e) (sym which) in
-    let P : ReadFault → Type 0 = λ x. x.code ≢ code.Memory in
-    (subst P (sym which) not_memory, refused_in end read script behind n s0 s1 f line c h says there)
+pub plain_refused : (end : HeadEnd) (read script behind text : List ℕ) (n : ℕ) (s t : SourceSeen) (v : SinkSeen) (f : ReadFault) (r : PlainFault)
+    → text ≡ script → Consumes s.remaining t.remaining read → IsJustRead read → HeadOf end read n s t script behind
+    → (f.code ≢ code.Memory → reading text ≡ Err f) → r ≡ refused_as f (line_at text f.place) → PlainServed s t v v (Err r)
+plain_refused end read script behind text n s t v f r same c just h err is =
+    let P : PlainFault → Type 0 = λ x. PlainServed s t v v (Err x) in
+    subst P (sym is) (elim (is_memory f.code) as (λ m. is_memory f.code ≡ m → PlainServed s t v v (Err (if m then Engine engine.Memory else Script f (line_at text f.place)))) [
+      | true ↦ λ e. refl
+      | false ↦ λ e.
+          let other = not_memory f e in
+          let Q : List ℕ → Type 0 = λ x. IsRefused s t read f (line_at x f.place) in
+          (read, c, just, refl, other, subst Q (sym same) (refused_here end read script behind n s t f h (ap reading (sym same) ∙ err other)))
+    ] refl)
 
--- the script stands, and the input has ended
-pub plain_ended : (end : HeadEnd) (read script behind text : List ℕ) (n : ℕ) (s0 s1 w : Option (List ℕ)) (p : Program) → end ≡ Ended → text ≡ script → Consumes s0 s1 read
-    → HeadOf end read n s1 script behind → reading text ≡ Ok p → PlainAll s0 s1 w w
-plain_ended end read script behind text n s0 s1 w p is same c h ok =
-    let P : HeadEnd → Type 0 = λ x. HeadOf x read n s1 script behind in
-    let k : HeadOf Ended read n s1 script behind = subst P is h in
-    let d : Standing = first_standing p Rendezvous in (
+pub counted_refused : (s t : SourceSeen) (v : SinkSeen) (f : ReadFault) (line n : ℕ) (r : PlainFault) → r ≡ refused_as f line → t.calls ≡ s.calls + n → n ≤ 1000000 → t.failures ≡ s.failures
+    → Counted 1000000 (plain_failed_reads (Err r)) (plain_failed_writes (Err r)) s t v v
+counted_refused s t v f line n r is calls few failures =
+    let P : PlainFault → Type 0 = λ x. Counted 1000000 (plain_failed_reads (Err x)) (plain_failed_writes (Err x)) s t v v in
+    subst P (sym is) (elim (is_memory f.code) as (λ m. Counted 1000000 (plain_failed_reads (Err (if m then Engine engine.Memory else Script f line))) (plain_failed_writes (Err (if m then Engine engine.Memory else Script f line))) s t v v) [
+      | true ↦ record { calls = omega (arith, calls, few); reads_failed = omega (arith, failures); writes_failed = omega arith }
+      | false ↦ record { calls = omega (arith, calls, few); reads_failed = omega (arith, failures); writes_failed = omega arith }
+    ])
+
+-- ---- a script that stands
+
+appends_none : (held : Option (List ℕ)) → Appends held held []
+appends_none None = tt
+appends_none (Some xs) = sym (append-nil xs)
+
+-- the input has ended with the script
+pub plain_ended : (end : HeadEnd) (read script behind text : List ℕ) (n : ℕ) (s t : SourceSeen) (v : SinkSeen) (p : Program) → end ≡ InputEnds → text ≡ script
+    → Consumes s.remaining t.remaining read → HeadOf end read n s t script behind → reading text ≡ Ok p → PlainServed s t v v (Ok _)
+plain_ended end read script behind text n s t v p is same c h ok =
+    let P : HeadEnd → Type 0 = λ x. HeadOf x read n s t script behind in
+    let k : HeadOf InputEnds read n s t script behind = subst P is h in
+    let d : Standing = first_standing p Rendezvous in
+    let Q : List (List ℕ) → Type 0 = λ x. Tells AnswerOrMemory d x v.contents v.contents d in (
       read,
-      d,
-      d,
       c,
       k.0,
-      (p, ap (λ (x : Halves). reading x.0) k.1 ∙ ap reading (sym same) ∙ ok, refl),
-      tells_along AnswerOrMemory d d [] (lines_behind read) w w (ap (λ (x : Halves). lines_of x.1) (sym k.1)) (tells_none AnswerOrMemory d w),
+      k.1,
+      (p, d, ap (λ (x : Halves). reading x.0) k.2 ∙ ap reading (sym same) ∙ ok, subst Q (ap (λ (x : Halves). lines_of x.1) (sym k.2)) ([], appends_none v.contents, (refl, refl))),
     )
 
 -- a line has divided the input
-pub divides_so : (end : HeadEnd) (read script behind text : List ℕ) (n : ℕ) (s1 : Option (List ℕ)) (p : Program) → end ≢ Ended → text ≡ script → HeadOf end read n s1 script behind → reading text ≡ Ok p
-    → ((z : List ℕ) → divided (read ++ z) ≡ (script, behind ++ z)) × (n ≤ length read)
-divides_so Ended read script behind text n s1 p not same h ok = absurd (not refl)
-divides_so Divided read script behind text n s1 p not same h ok = h
-divides_so TooLong read script behind text n s1 p not same h ok =
-    absurd (let e : (let r : Result Program ReadFault = Ok p in r) ≡ Err too_long = sym ok ∙ ap reading same ∙ reading_long script h.1 in cc)
+abbrev pub Behind : List ℕ → ℕ → SourceSeen → SourceSeen → List ℕ → List ℕ → Type 0
+Behind read n s t script behind = (t.ends ≡ s.ends) × ((z : List ℕ) → divided (read ++ z) ≡ (let p : Halves = (script, behind ++ z) in p)) × (n ≤ length read)
 
-opens_so : (read script behind text z : List ℕ) (p : Program) → text ≡ script → divided (read ++ z) ≡ (script, behind ++ z) → reading text ≡ Ok p → Opens (divided (read ++ z)).0 (first_standing p Rendezvous)
-opens_so read script behind text z p same d ok = (p, ap (λ (x : Halves). reading x.0) d ∙ ap reading (sym same) ∙ ok, refl)
+pub behind_so : (end : HeadEnd) (read script behind text : List ℕ) (n : ℕ) (s t : SourceSeen) (p : Program) → end ≢ InputEnds → text ≡ script → HeadOf end read n s t script behind → reading text ≡ Ok p
+    → Behind read n s t script behind
+behind_so InputEnds read script behind text n s t p not same h ok = absurd (not refl)
+behind_so LineDivides read script behind text n s t p not same h ok = h
+behind_so TooLong read script behind text n s t p not same h ok =
+    absurd (let e : (let r : Result Program ReadFault = Ok p in r) ≡ Err too_long = sym ok ∙ ap reading same ∙ reading_long script h.2 in cc)
 
-pub plain_all : (read script behind text : List ℕ) (s0 s1 s2 w0 w : Option (List ℕ)) (p : Program) (e : Standing) → text ≡ script → Consumes s0 s1 read
-    → ((z : List ℕ) → divided (read ++ z) ≡ (script, behind ++ z)) → reading text ≡ Ok p
-    → TellsAll AnswerOrMemory (first_standing p Rendezvous) (λ z. lines_of (behind ++ z)) s1 s2 w0 w e → PlainAll s0 s2 w0 w
-plain_all read script behind text s0 s1 s2 w0 w p e same c d ok t =
-    let start : Standing = first_standing p Rendezvous in (
-      read ++ t.0,
-      start,
-      e,
-      consumes_append s0 s1 s2 read t.0 c t.1,
-      t.2,
-      opens_so read script behind text t.0 p same (d t.0) ok,
-      tells_along AnswerOrMemory start e (lines_of (behind ++ t.0)) (lines_behind (read ++ t.0)) w0 w (ap (λ (x : Halves). lines_of x.1) (sym (d t.0))) t.3,
-    )
+reads_so : (read script behind text z : List ℕ) (p : Program) → text ≡ script → divided (read ++ z) ≡ (let q : Halves = (script, behind ++ z) in q) → reading text ≡ Ok p → reading (divided (read ++ z)).0 ≡ Ok p
+reads_so read script behind text z p same d ok = ap (λ (x : Halves). reading x.0) d ∙ ap reading (sym same) ∙ ok
 
-pub plain_read : (read script behind text : List ℕ) (m n k : ℕ) (s0 s1 s2 w0 w : Option (List ℕ)) (p : Program) (e : Standing) → text ≡ script → Consumes s0 s1 read
-    → ((z : List ℕ) → divided (read ++ z) ≡ (script, behind ++ z)) → reading text ≡ Ok p → n ≤ length read → m ≤ n + k
-    → TellsRead AnswerOrMemory (first_standing p Rendezvous) (λ z. ended_lines (behind ++ z)) k s1 s2 w0 w e → PlainRead m s0 s2 w0 w
-plain_read read script behind text m n k s0 s1 s2 w0 w p e same c d ok first all t =
-    let start : Standing = first_standing p Rendezvous in (
-      read ++ t.0,
-      start,
-      e,
-      consumes_append s0 s1 s2 read t.0 c t.1,
-      (let le = t.2 in omega (arith, first, all, le, length-append read t.0)),
-      opens_so read script behind text t.0 p same (d t.0) ok,
-      tells_along AnswerOrMemory start e (ended_lines (behind ++ t.0)) (ended_behind (read ++ t.0)) w0 w (ap (λ (x : Halves). ended_lines x.1) (sym (d t.0))) t.3,
-    )
+tells_by : (d e : Standing) (ls ks : List (List ℕ)) (v w : SinkSeen) → ls ≡ ks → Tells AnswerOrMemory d ls v.contents w.contents e → Tells AnswerOrMemory d ks v.contents w.contents e
+tells_by d e ls ks v w is t = let P : List (List ℕ) → Type 0 = λ x. Tells AnswerOrMemory d x v.contents w.contents e in subst P is t
 
-pub plain_first : (read script behind text : List ℕ) (s0 s1 w0 w : Option (List ℕ)) (p : Program) → text ≡ script → Consumes s0 s1 read
-    → ((z : List ℕ) → divided (read ++ z) ≡ (script, behind ++ z)) → reading text ≡ Ok p
-    → IfSome s1 (λ z. TellsFirst AnswerOrMemory (first_standing p Rendezvous) (lines_of (behind ++ z)) w0 w) → IfSome s0 (λ input. PlainFirst input w0 w)
-plain_first read script behind text None s1 w0 w p same c d ok t = tt
-plain_first read script behind text (Some input) None w0 w p same c d ok t = absurd c
-plain_first read script behind text (Some input) (Some left) w0 w p same c d ok t =
-    let P : List ℕ → Type 0 = λ x. PlainFirst x w0 w in
-    subst P (sym c)
-    (first_standing p Rendezvous, opens_so read script behind text left p same (d left) ok, (t.0, t.1, t.2, t.3 ∙ ap (λ (x : Halves). lines_of x.1) (sym (d left)), t.4))
+part_by : (d : Standing) (ls ks : List (List ℕ)) (v w : SinkSeen) → ls ≡ ks → TellsPart AnswerOrMemory d ls v.contents w.contents → TellsPart AnswerOrMemory d ks v.contents w.contents
+part_by d ls ks v w is t = let P : List (List ℕ) → Type 0 = λ x. TellsPart AnswerOrMemory d x v.contents w.contents in subst P is t
 
-pub plain_part : (read script behind text : List ℕ) (s0 s1 w0 w : Option (List ℕ)) (p : Program) → text ≡ script → Consumes s0 s1 read
-    → ((z : List ℕ) → divided (read ++ z) ≡ (script, behind ++ z)) → reading text ≡ Ok p
-    → IfSome s1 (λ z. TellsPart AnswerOrMemory (first_standing p Rendezvous) (lines_of (behind ++ z)) w0 w) → IfSome s0 (λ input. PlainPart input w0 w)
-plain_part read script behind text None s1 w0 w p same c d ok t = tt
-plain_part read script behind text (Some input) None w0 w p same c d ok t = absurd c
-plain_part read script behind text (Some input) (Some left) w0 w p same c d ok t =
-    let P : List ℕ → Type 0 = λ x. PlainPart x w0 w in
-    subst P (sym c)
-    (first_standing p Rendezvous, opens_so read script behind text left p same (d left) ok, (t.0, t.1, t.2, t.3, t.4, t.5 ∙ ap (λ (x : Halves). lines_of x.1) (sym (d left)), t.6, t.7))
+pub plain_all : (read script behind text : List ℕ) (n turns : ℕ) (s t u : SourceSeen) (v w : SinkSeen) (p : Program) (e : Standing) → text ≡ script → Consumes s.remaining t.remaining read
+    → Behind read n s t script behind → reading text ≡ Ok p → Served AnswerOrMemory (first_standing p Rendezvous) behind turns t u v w e (Ok _) → PlainServed s u v w (Ok _)
+plain_all read script behind text n turns s t u v w p e same c b ok h = (
+  read ++ h.0,
+  consumes_append s.remaining t.remaining u.remaining read h.0 c h.1,
+  h.2,
+  (let a = h.3 in let k = b.0 in omega (arith, a, k)),
+  (
+    p,
+    e,
+    reads_so read script behind text h.0 p same (b.1 h.0) ok,
+    tells_by (first_standing p Rendezvous) e (lines_of (behind ++ h.0)) (lines_of (divided (read ++ h.0)).1) v w (ap (λ (x : Halves). lines_of x.1) (sym (b.1 h.0))) h.4,
+  ),
+)
 
--- a fault of the engine is passed on
-pub passed : (f g : EngineFault) (r : Result (Unit {0}) EngineFault) → (let e : Result (Unit {0}) PlainFault = Err (Engine f) in e ≡ Err (Engine g)) → r ≡ Err f → r ≡ Err g
-passed f g r is was = was ∙ ap (λ (x : EngineFault). let e : Result (Unit {0}) EngineFault = Err x in e) (ap engine_of is)
+-- the answers to the lines that have ended
+so_far : (read script behind text more : List ℕ) (n : ℕ) (s t : SourceSeen) (v w : SinkSeen) (p : Program) (e : Standing) → text ≡ script → Behind read n s t script behind → reading text ≡ Ok p
+    → Tells AnswerOrMemory (first_standing p Rendezvous) (ended_lines (behind ++ more)) v.contents w.contents e → TracesSoFar (read ++ more) v w
+so_far read script behind text more n s t v w p e same b ok h = inr (
+  divider_came read script behind more b.1,
+  (
+    p,
+    e,
+    reads_so read script behind text more p same (b.1 more) ok,
+    tells_by (first_standing p Rendezvous) e (ended_lines (behind ++ more)) (ended_lines (divided (read ++ more)).1) v w (ap (λ (x : Halves). ended_lines x.1) (sym (b.1 more))) h,
+  ),
+)
+
+pub plain_fault : (f : EngineFault) (read script behind text : List ℕ) (n turns : ℕ) (s t u : SourceSeen) (v w : SinkSeen) (p : Program) (e : Standing) → text ≡ script → Consumes s.remaining t.remaining read
+    → Behind read n s t script behind → reading text ≡ Ok p → n + turns ≡ 1000000 → t.calls ≡ s.calls + n
+    → Served AnswerOrMemory (first_standing p Rendezvous) behind turns t u v w e (Err f) → PlainServed s u v w (Err (Engine f))
+plain_fault engine.ReadFailed read script behind text n turns s t u v w p e same c b ok all calls h = (
+  read ++ h.0,
+  consumes_append s.remaining t.remaining u.remaining read h.0 c h.1,
+  h.2 ∙ b.0,
+  so_far read script behind text h.0 n s t v w p e same b ok h.3,
+)
+plain_fault engine.WriteFailed read script behind text n turns s t u v w p e same c b ok all calls (more, consumed, inl h) = (
+  read ++ more,
+  consumes_append s.remaining t.remaining u.remaining read more c consumed,
+  divider_came read script behind more b.1,
+  inl (p, reads_so read script behind text more p same (b.1 more) ok,
+      part_by (first_standing p Rendezvous) (ended_lines (behind ++ more)) (ended_lines (divided (read ++ more)).1) v w (ap (λ (x : Halves). ended_lines x.1) (sym (b.1 more))) h),
+)
+plain_fault engine.WriteFailed read script behind text n turns s t u v w p e same c b ok all calls (more, consumed, inr h) = (
+  read ++ more,
+  consumes_append s.remaining t.remaining u.remaining read more c consumed,
+  divider_came read script behind more b.1,
+  inr (h.0, (p, reads_so read script behind text more p same (b.1 more) ok,
+      part_by (first_standing p Rendezvous) (lines_of (behind ++ more)) (lines_of (divided (read ++ more)).1) v w (ap (λ (x : Halves). lines_of x.1) (sym (b.1 more))) h.1)),
+)
+plain_fault engine.TooManyTurns read script behind text n turns s t u v w p e same c b ok all calls h = (
+  read ++ h.0,
+  consumes_append s.remaining t.remaining u.remaining read h.0 c h.1,
+  (let le = h.2 in let first = b.2 in omega (arith, le, first, all, length-append read h.0)),
+  (let a = h.3 in omega (arith, a, calls, all)),
+  h.4 ∙ b.0,
+  so_far read script behind text h.0 n s t v w p e same b ok h.5,
+)
+plain_fault engine.Memory read script behind text n turns s t u v w p e same c b ok all calls h = h.1
+
+-- no script was collected
+pub plain_uncollected : (f : EngineFault) (s t : SourceSeen) (v : SinkSeen) → Collected s t (Err f) → PlainServed s t v v (Err (Engine f))
+plain_uncollected engine.ReadFailed s t v h = (h.0, h.1, h.3, inl (h.2, refl))
+plain_uncollected engine.WriteFailed s t v h = absurd h
+plain_uncollected engine.TooManyTurns s t v h = (h.0, h.1, h.3, h.4, h.5, inl (h.2, refl))
+plain_uncollected engine.Memory s t v h = refl
+
+pub ruleset plainly = (plain_refused, counted_refused, plain_ended, plain_uncollected)

@@ -1,4 +1,5 @@
-pub mod Said
+pub mod Divided
+pub mod Replies
 pub mod Collected
 pub mod Plain
 pub mod PlainFaults

@@ -1,37 +1,58 @@
 -- What comes of an input that has a script and the lines of its trace.
-use Rattle.std.specs.Prelude.{◌≡◌, ℕ, ◌+◌, ◌≤◌, ◌==◌, List, length, take, count_by, Option, Ok}
+use Rattle.std.specs.Prelude.{◌≡◌, ◌≢◌, ℕ, ◌+◌, ◌≤◌, ◌==◌, ◌⊎◌, List, ◌++◌, true, length, take, count_by, Result, Ok, Err, []}
 use Rattle.std.specs.Io.KnownBytes.{Consumes, IsAtEnd}
+use Rattle.mpd_device.specs.Seen.{SourceSeen, SinkSeen}
 use Rattle.mpd_model.specs.Answers.{AnswerOrMemory}
 use Rattle.mpd_model.specs.Grammar.{reading}
-use Rattle.mpd_model.specs.Lines.{divided}
+use Rattle.mpd_model.specs.Lines.{divided, lines_of, ended_lines}
 use Rattle.mpd_model.specs.Program.{Program}
 use Rattle.mpd_model.specs.Trail.{Standing, first_standing}
 use Rattle.mpd_model.specs.declared.call.Mode.TheVariants.{Rendezvous}
-use Rattle.mpd_wire.specs.Answered.{Tells, TellsFirst, TellsPart}
-use Rattle.mpd_trace.specs.Collected.{lines_behind, ended_behind}
+use Rattle.mpd_model.specs.declared.read_fault.ReadFault.{ReadFault}
+use Rattle.mpd_model.specs.declared.read_fault.FaultCode.TheVariants as code
+use Rattle.mpd_lines.specs.Telling.{Tells, TellsPart}
+use Rattle.mpd_lines.specs.declared.engine.EngineFault.{EngineFault}
+use Rattle.mpd_lines.specs.declared.engine.EngineFault.TheVariants.{ReadFailed, WriteFailed, TooManyTurns, Memory}
+use Rattle.mpd_trace.specs.Divided.{has_divider, IsOpen}
+use Rattle.mpd_trace.specs.Collected.{IsJustRead}
+use Rattle.mpd_trace.specs.declared.plain.PlainFault.{PlainFault}
+use Rattle.mpd_trace.specs.declared.plain.PlainFault.TheVariants.{Script, Engine}
 
 -- the line of a place in a text, from 1
 abbrev pub line_at : List ℕ → ℕ → ℕ
 line_at text place = count_by (λ b. b == 10) (take place text) + 1
 
--- the text is a script, and the debugger stands at its start
-abbrev pub Opens : List ℕ → Standing → Type 0
-Opens text d = (p : Program) × (reading text ≡ Ok p) × (d ≡ first_standing p Rendezvous)
+-- whatever follows these bytes (nothing, where the input has ended), the script is refused so
+abbrev pub IsRefused : SourceSeen → SourceSeen → List ℕ → ReadFault → ℕ → Type 0
+IsRefused s t read fault line =
+    (z : List ℕ) → (t.ends ≡ s.ends) ⊎ (z ≡ []) → (reading (divided (read ++ z)).0 ≡ Err fault) × (line ≡ line_at (divided (read ++ z)).0 fault.place)
 
--- the input has ended, and the answers to all lines behind its script were written
-abbrev pub PlainAll : Option (List ℕ) → Option (List ℕ) → Option (List ℕ) → Option (List ℕ) → Type 0
-PlainAll input left old new =
-    (read : List ℕ) × (d : Standing) × (e : Standing) × Consumes input left read × IsAtEnd left × Opens (divided read).0 d × Tells AnswerOrMemory d (lines_behind read) old new e
+-- the script of these bytes is p, and its debugger answered these lines
+abbrev pub Traces : List ℕ → List (List ℕ) → SinkSeen → SinkSeen → Type 0
+Traces read lines v w =
+    (p : Program) × (e : Standing) × (reading (divided read).0 ≡ Ok p) × Tells AnswerOrMemory (first_standing p Rendezvous) lines v.contents w.contents e
 
--- at least so many bytes were read, and the answers to the lines among them that stand behind the script were written
-abbrev pub PlainRead : ℕ → Option (List ℕ) → Option (List ℕ) → Option (List ℕ) → Option (List ℕ) → Type 0
-PlainRead count input left old new =
-    (read : List ℕ) × (d : Standing) × (e : Standing) × Consumes input left read × (count ≤ length read) × Opens (divided read).0 d × Tells AnswerOrMemory d (ended_behind read) old new e
+-- or a part of these answers was written
+abbrev pub TracesPart : List ℕ → List (List ℕ) → SinkSeen → SinkSeen → Type 0
+TracesPart read lines v w =
+    (p : Program) × (reading (divided read).0 ≡ Ok p) × TellsPart AnswerOrMemory (first_standing p Rendezvous) lines v.contents w.contents
 
--- the answers to the first so many lines behind the script were written
-abbrev pub PlainFirst : List ℕ → Option (List ℕ) → Option (List ℕ) → Type 0
-PlainFirst input old new = (d : Standing) × Opens (divided input).0 d × TellsFirst AnswerOrMemory d (lines_behind input) old new
+-- before the line that divides nothing is written; behind it, the answers to the lines that have ended
+abbrev pub TracesSoFar : List ℕ → SinkSeen → SinkSeen → Type 0
+TracesSoFar read v w = (IsOpen read × (w ≡ v)) ⊎ ((has_divider read ≡ true) × Traces read (ended_lines (divided read).1) v w)
 
--- a part of them was
-abbrev pub PlainPart : List ℕ → Option (List ℕ) → Option (List ℕ) → Type 0
-PlainPart input old new = (d : Standing) × Opens (divided input).0 d × TellsPart AnswerOrMemory d (lines_behind input) old new
+-- What was read and written, by what is answered: at the end of the input the answers to all lines behind the script; where
+-- a read failed, or no more may be made, those to the lines that have ended; where a write failed, a part of these. A script
+-- that is refused writes nothing, and is refused at once. Where memory is refused, nothing is written.
+abbrev pub PlainServed : SourceSeen → SourceSeen → SinkSeen → SinkSeen → Result (Unit {0}) PlainFault → Type 0
+PlainServed s t v w (Ok u) =
+    (read : List ℕ) × Consumes s.remaining t.remaining read × IsAtEnd t.remaining × (t.ends ≡ s.ends + 1) × Traces read (lines_of (divided read).1) v w
+PlainServed s t v w (Err (Script fault line)) =
+    (read : List ℕ) × Consumes s.remaining t.remaining read × IsJustRead read × (w ≡ v) × (fault.code ≢ code.Memory) × IsRefused s t read fault line
+PlainServed s t v w (Err (Engine ReadFailed)) = (read : List ℕ) × Consumes s.remaining t.remaining read × (t.ends ≡ s.ends) × TracesSoFar read v w
+PlainServed s t v w (Err (Engine WriteFailed)) =
+    (read : List ℕ) × Consumes s.remaining t.remaining read × (has_divider read ≡ true)
+    × (TracesPart read (ended_lines (divided read).1) v w ⊎ (IsAtEnd t.remaining × TracesPart read (lines_of (divided read).1) v w))
+PlainServed s t v w (Err (Engine TooManyTurns)) =
+    (read : List ℕ) × Consumes s.remaining t.remaining read × (1000000 ≤ length read) × (t.calls ≡ s.calls + 1000000) × (t.ends ≡ s.ends) × TracesSoFar read v w
+PlainServed s t v w (Err (Engine Memory)) = w ≡ v

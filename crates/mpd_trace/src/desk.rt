@@ -1,127 +1,142 @@
 //! What answers the lines of trace words: a desk with a debugger.
 
-ghost use Rattle.std.specs.Prelude.{◌≡◌, ◌+◌, ◌<◌, ◌≤◌, List, length, IfOk, OnOk, OnErr, ◌++◌, string_bytes};
-ghost use Rattle.mpd_model.specs.Trail.{IsReached, first_standing};
-ghost use Rattle.mpd_model.specs.Answers.{Answer, AnswerOrMemory, ok_text, command_answer, line_answer};
-ghost use Rattle.mpd_trace.specs.Said.{said_text, Replies};
+ghost use Rattle.std.specs.Prelude.{◌≡◌, ℕ, ◌+◌, ◌≤◌, List, length, IfOk, ◌++◌, vec_len, vec_capacity};
+ghost use Rattle.mpd_model.specs.Trail.{first_standing};
+ghost use Rattle.mpd_model.specs.Answers.{AnswerOrMemory, ok_text, refused_text};
+ghost use Rattle.mpd_trace.specs.Replies.{Replies};
 
 use crate::show::show;
+use itoa::Buffer;
 use mpd_code::code::Code;
+use mpd_lines::desk::{LineDesk, ROOM};
+use mpd_lines::kept::push_all;
 use mpd_model::call::Mode;
 use mpd_model::step::Step;
 use mpd_model::words::{Command as Word, command_of, has_word};
-use mpd_trail::debugger::Debugger;
+use mpd_trail::debugger::{ApplyFault, AtStart, Debugger};
 use mpd_trail::run::{Command, Reply, answer};
-use mpd_wire::feeder::Desk;
 use std::alloc::{AllocError, Global};
 use std::marker::Model;
 
-/// The text of an answer, with its line feed.
-#[derive(Debug, Drop)]
-pub enum Said {
-    /// A text that was printed for it.
-    Text(String),
-    /// One of the refusals.
-    Refusal(&'static str),
-}
+/// The name of what is no trace word.
+const BAD_WORD: &str = "bad-word";
 
-impl Said {
-    /// Its bytes.
-    fn bytes(&self) -> &[u8]
-        ensures { result.now ≡ said_text self.now }
-    {
-        match self {
-            Said::Text(text) => text.as_bytes(),
-            Said::Refusal(text) => text.as_bytes(),
-        }
-    }
-}
-
-/// `ok` and a depth.
-fn ok_line(alloc: Global, depth: usize) -> Result<String, AllocError>
-    ensures { IfOk result (λ t. string_bytes t ≡ ok_text depth) }
+/// Adds `ok` and a depth, which takes no memory.
+fn say_ok(out: &mut Vec<u8>, depth: usize)
+    requires room { vec_len out.old + ROOM ≤ vec_capacity out.old }
+    ensures text { out.new.items ≡ out.old.items ++ ok_text depth }
+    ensures capacity { vec_capacity out.old ≤ vec_capacity out.new }
 {
-    format!(in alloc; "ok {depth}\n")
+    let mut digits = Buffer::new();
+    push_all(out, b"ok ");
+    push_all(out, digits.format(depth).as_bytes());
+    push_all(out, b"\n");
+}
+
+/// Adds a refusal by its name, which takes no memory.
+fn refuse(out: &mut Vec<u8>, name: &str)
+    requires short { length name.now ≤ 32 }
+    requires room { vec_len out.old + ROOM ≤ vec_capacity out.old }
+    ensures text { out.new.items ≡ out.old.items ++ refused_text name.now }
+    ensures capacity { vec_capacity out.old ≤ vec_capacity out.new }
+{
+    push_all(out, b"refused ");
+    push_all(out, name.as_bytes());
+    push_all(out, b"\n");
 }
 
 /// Takes a step, and says so. Where memory is refused, nothing has changed.
-#[tactic(auto, using(crate::proofs::DeskLemmas::saying))]
-fn step_reply(alloc: Global, debugger: &mut Debugger<'_>, step: Step) -> Result<Said, AllocError>
-    ensures { Replies debugger.old (Some (Word.Step step)) result debugger.new }
+#[tactic(auto, using(crate::proofs::DeskLemmas::replying))]
+fn answer_step(debugger: &mut Debugger<'_>, step: Step, out: &mut Vec<u8>)
+    requires { vec_len out.old + ROOM ≤ vec_capacity out.old }
+    ensures replies { Replies out.old.items out.new.items debugger.old (Some (Word.Step step)) debugger.new }
+    ensures capacity { vec_capacity out.old ≤ vec_capacity out.new }
 {
-    let text = ok_line(alloc, debugger.depth() + 1)?;
-    match answer(debugger, Command::Apply(step)) {
-        Reply::Done => Ok(Said::Text(text)),
-        Reply::NotEnabled => Ok(Said::Refusal("refused not-enabled\n")),
-        Reply::Full => Ok(Said::Refusal("refused full\n")),
-        Reply::Memory | Reply::AtStart => Err(AllocError),
+    let reply = answer(debugger, Command::Apply(step));
+    let depth = debugger.depth();
+    match reply {
+        Reply::Done => say_ok(out, depth),
+        Reply::NotEnabled => refuse(out, ApplyFault::NotEnabled.name()),
+        Reply::Full => refuse(out, ApplyFault::Full.name()),
+        Reply::Memory => refuse(out, ApplyFault::Memory.name()),
+        Reply::AtStart => unreachable!(),
     }
 }
 
-/// Takes the last step back, and says so. Where memory is refused, nothing has changed.
-#[tactic(auto, using(crate::proofs::DeskLemmas::saying))]
-fn back_reply(alloc: Global, debugger: &mut Debugger<'_>) -> Result<Said, AllocError>
-    ensures { Replies debugger.old (Some Word.Back) result debugger.new }
+/// Takes the last step back, and says so. It takes no memory.
+#[tactic(auto, using(crate::proofs::DeskLemmas::replying))]
+fn answer_back(debugger: &mut Debugger<'_>, out: &mut Vec<u8>)
+    requires { vec_len out.old + ROOM ≤ vec_capacity out.old }
+    ensures replies { Replies out.old.items out.new.items debugger.old (Some Word.Back) debugger.new }
+    ensures capacity { vec_capacity out.old ≤ vec_capacity out.new }
 {
-    let text = ok_line(alloc, debugger.depth().saturating_sub(1))?;
     match answer(debugger, Command::Undo) {
-        Reply::Done => Ok(Said::Text(text)),
-        _ => Ok(Said::Refusal("refused at-start\n")),
+        Reply::Done => say_ok(out, debugger.depth()),
+        Reply::AtStart => refuse(out, AtStart.name()),
+        _ => unreachable!(),
     }
 }
 
 /// Prints the state.
-fn show_reply(alloc: Global, debugger: &mut Debugger<'_>) -> Result<Said, AllocError>
-    ensures { Replies debugger.old (Some Word.Show) result debugger.new }
+#[tactic(auto, using(crate::proofs::DeskLemmas::replying))]
+fn answer_show(alloc: Global, debugger: &Debugger<'_>, out: &mut Vec<u8>)
+    requires { vec_len out.old + ROOM ≤ vec_capacity out.old }
+    ensures replies { Replies out.old.items out.new.items debugger.now (Some Word.Show) debugger.now }
+    ensures capacity { vec_capacity out.old ≤ vec_capacity out.new }
 {
-    let text = show(
-        alloc,
-        debugger.core(),
-        debugger.depth(),
-        debugger.steps().len(),
-    )?;
-    Ok(Said::Text(text))
+    let kept = debugger.steps().len();
+    let Ok(text) = show(alloc, debugger.core(), debugger.depth(), kept) else {
+        return refuse(out, ApplyFault::Memory.name());
+    };
+    match out.extend_from_slice(text.as_bytes()) {
+        Ok(()) => {}
+        Err(_) => refuse(out, ApplyFault::Memory.name()),
+    }
+}
+
+/// Says that a line is no trace word.
+#[tactic(auto, using(crate::proofs::DeskLemmas::replying))]
+fn answer_other(debugger: &Debugger<'_>, out: &mut Vec<u8>)
+    requires { vec_len out.old + ROOM ≤ vec_capacity out.old }
+    ensures replies { Replies out.old.items out.new.items debugger.now None debugger.now }
+    ensures capacity { vec_capacity out.old ≤ vec_capacity out.new }
+{
+    let _ = debugger.core();
+    refuse(out, BAD_WORD);
 }
 
 /// Carries out a command. Where memory is refused, nothing has changed.
-fn reply(
+fn answer_command(
     alloc: Global,
     debugger: &mut Debugger<'_>,
     command: Option<Word>,
-) -> Result<Said, AllocError>
-    ensures { Replies debugger.old command result debugger.new }
+    out: &mut Vec<u8>,
+)
+    requires { vec_len out.old + ROOM ≤ vec_capacity out.old }
+    ensures replies { Replies out.old.items out.new.items debugger.old command debugger.new }
+    ensures capacity { vec_capacity out.old ≤ vec_capacity out.new }
 {
-    let _ = debugger.core();
     match command {
-        None => Ok(Said::Refusal("refused bad-word\n")),
-        Some(Word::Step(step)) => step_reply(alloc, debugger, step),
-        Some(Word::Back) => back_reply(alloc, debugger),
-        Some(Word::Show) => show_reply(alloc, debugger),
+        None => answer_other(debugger, out),
+        Some(Word::Step(step)) => answer_step(debugger, step, out),
+        Some(Word::Back) => answer_back(debugger, out),
+        Some(Word::Show) => answer_show(alloc, debugger, out),
     }
 }
 
-/// Adds a text to the answers; `out` is as before where it could not grow.
-fn say(out: &mut Vec<u8>, said: &Said) -> Result<(), AllocError>
-    ensures ok { OnOk result (out.new.items ≡ out.old.items ++ said_text said.now) }
-    ensures err { OnErr result (out.new.items ≡ out.old.items) }
-{
-    out.extend_from_slice(said.bytes())
-}
-
-/// What a line gets that is not too long: nothing, where it has no word.
+/// Answers a line that is not too long: by nothing, where it has no word.
 #[tactic(auto, using(crate::proofs::DeskLemmas::answering))]
-fn line_reply(alloc: Global, debugger: &mut Debugger<'_>, line: &[u8]) -> Said
-    requires { length line.now ≤ 4096 }
-    ensures { AnswerOrMemory debugger.old line.now (said_text result) debugger.new }
+fn answer_line(alloc: Global, debugger: &mut Debugger<'_>, line: &[u8], out: &mut Vec<u8>)
+    requires line { length line.now ≤ 4096 }
+    requires room { vec_len out.old + ROOM ≤ vec_capacity out.old }
+    ensures said { (text : List ℕ) × (out.new.items ≡ out.old.items ++ text) × AnswerOrMemory debugger.old line.now text debugger.new }
+    ensures capacity { vec_capacity out.old ≤ vec_capacity out.new }
 {
     let _ = debugger.core();
     if !has_word(line) {
-        return Said::Refusal("");
+        return;
     }
-    match reply(alloc, debugger, command_of(line)) {
-        Ok(said) => said,
-        Err(_) => Said::Refusal("refused memory\n"),
-    }
+    answer_command(alloc, debugger, command_of(line), out)
 }
 
 /// A desk that answers trace words (docs/FORMATS.md, "Trace words") with a debugger.
@@ -151,19 +166,18 @@ impl<'c> TraceDesk<'c> {
     }
 }
 
-impl<'c> Desk for TraceDesk<'c> {
+impl<'c> LineDesk for TraceDesk<'c> {
     ghost use Rattle.mpd_model.specs.Answers.{AnswerOrMemory};
 
-    ghost answers = { AnswerOrMemory };
+    ghost says = { AnswerOrMemory };
 
-    fn answer(&mut self, line: &[u8], out: &mut Vec<u8>) -> Result<(), AllocError> {
-        let said = line_reply(*out.allocator(), &mut self.debugger, line);
-        say(out, &said)
+    fn answer(&mut self, line: &[u8], out: &mut Vec<u8>) {
+        answer_line(*out.allocator(), &mut self.debugger, line, out)
     }
 
     #[tactic(auto, using(crate::proofs::DeskLemmas::refusing))]
-    fn refuse_long(&mut self, out: &mut Vec<u8>) -> Result<(), AllocError> {
+    fn refuse_long(&mut self, out: &mut Vec<u8>) {
         let _ = self.debugger.core();
-        say(out, &Said::Refusal("refused bad-word\n"))
+        refuse(out, BAD_WORD)
     }
 }

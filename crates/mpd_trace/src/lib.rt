@@ -2,6 +2,7 @@
 #![tactic(auto)]
 
 pub mod desk;
+pub mod divider;
 pub mod plain;
 pub mod show;
 pub mod trace;

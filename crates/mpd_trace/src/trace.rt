@@ -1,25 +1,22 @@
 //! Traces a script: trace words in, answers out.
 
-ghost use Rattle.std.specs.Prelude.{◌≡◌, ◌+◌, OnOk, IfSome, IsErrOf};
-ghost use Rattle.mpd_model.specs.Lines.{lines_of, ended_lines};
+ghost use Rattle.std.specs.Prelude.{[]};
 ghost use Rattle.mpd_model.specs.Trail.{Standing, first_standing};
 ghost use Rattle.mpd_model.specs.Answers.{AnswerOrMemory};
-ghost use Rattle.mpd_wire.specs.Answered.{TellsFirst, TellsPart};
-ghost use Rattle.mpd_wire.specs.FaultWords.{failed_reads, failed_writes};
-ghost use Rattle.mpd_wire.specs.Told.{TellsAll, TellsRead};
+ghost use Rattle.mpd_lines.specs.FaultWords.{failed_reads, failed_writes};
+ghost use Rattle.mpd_lines.specs.Served.{Served, Counted};
 
 use crate::desk::TraceDesk;
 use mpd_code::code::Code;
 use mpd_device::device::{Sink, Source};
+use mpd_lines::engine::{EngineFault, TURNS_MAX, run_behind};
 use mpd_model::call::Mode;
-use mpd_wire::engine::{EngineFault, run};
 use std::alloc::Global;
 
 /// Answers the trace words of a source (docs/FORMATS.md, "Trace words") from the start of a script, and writes exactly
 /// the answers to the lines read, however they were cut into reads. `Ok` comes only where the input has ended,
 /// `ReadFailed` (45) and `WriteFailed` (46) only where that device failed in this call, `TooManyTurns` (47) only after
-/// 1,000,000 reads none of which was the end, and `Memory` only where a growth was refused; the answers that were given before stand.
-#[tactic(auto, using(crate::proofs::TraceLemmas::opening_memory))]
+/// 1,000,000 reads none of which was the end, and `Memory` only before anything was read or written.
 pub fn trace<S: Source, W: Sink>(
     alloc: Global,
     code: &Code,
@@ -27,22 +24,27 @@ pub fn trace<S: Source, W: Sink>(
     source: &mut S,
     sink: &mut W,
 ) -> Result<(), EngineFault>
-    ensures ok { OnOk result ((e : Standing) × TellsAll AnswerOrMemory (first_standing code.now.program mode) lines_of (S.remaining source.old) (S.remaining source.new) (W.contents sink.old) (W.contents sink.new) e) }
-    ensures unfailed { OnOk result ((S.failures source.new ≡ S.failures source.old) × (W.failures sink.new ≡ W.failures sink.old)) }
-    ensures read_failed { IsErrOf result EngineFault.ReadFailed → (S.failures source.new ≡ S.failures source.old + 1)
-        × ((e : Standing) × TellsRead AnswerOrMemory (first_standing code.now.program mode) ended_lines 0 (S.remaining source.old) (S.remaining source.new) (W.contents sink.old) (W.contents sink.new) e) }
-    ensures write_failed { IsErrOf result EngineFault.WriteFailed → (W.failures sink.new ≡ W.failures sink.old + 1)
-        × IfSome (S.remaining source.old) (λ input. TellsPart AnswerOrMemory (first_standing code.now.program mode) (lines_of input) (W.contents sink.old) (W.contents sink.new)) }
-    ensures turns { IsErrOf result EngineFault.TooManyTurns → (S.calls source.new ≡ S.calls source.old + 1000000)
-        × ((e : Standing) × TellsRead AnswerOrMemory (first_standing code.now.program mode) ended_lines 1000000 (S.remaining source.old) (S.remaining source.new) (W.contents sink.old) (W.contents sink.new) e) }
-    ensures unended { IsErrOf result EngineFault.TooManyTurns → S.ends source.new ≡ S.ends source.old }
-    ensures failed_reads { S.failures source.new ≡ S.failures source.old + failed_reads result }
-    ensures failed_writes { W.failures sink.new ≡ W.failures sink.old + failed_writes result }
-    ensures memory { IsErrOf result EngineFault.Memory →
-        IfSome (S.remaining source.old) (λ input. TellsFirst AnswerOrMemory (first_standing code.now.program mode) (lines_of input) (W.contents sink.old) (W.contents sink.new)) }
+    ensures served { (e : Standing) × Served AnswerOrMemory (first_standing code.now.program mode) [] TURNS_MAX (S.seen source.old) (S.seen source.new) (W.seen sink.old) (W.seen sink.new) e result }
+    ensures counted { Counted TURNS_MAX (failed_reads result) (failed_writes result) (S.seen source.old) (S.seen source.new) (W.seen sink.old) (W.seen sink.new) }
+{
+    trace_behind(alloc, code, mode, source, sink, &[], TURNS_MAX)
+}
+
+/// The same behind bytes that were read before, in so many reads at most.
+pub(crate) fn trace_behind<S: Source, W: Sink>(
+    alloc: Global,
+    code: &Code,
+    mode: Mode,
+    source: &mut S,
+    sink: &mut W,
+    before: &[u8],
+    turns: usize,
+) -> Result<(), EngineFault>
+    ensures served { (e : Standing) × Served AnswerOrMemory (first_standing code.now.program mode) before.now turns (S.seen source.old) (S.seen source.new) (W.seen sink.old) (W.seen sink.new) e result }
+    ensures counted { Counted turns (failed_reads result) (failed_writes result) (S.seen source.old) (S.seen source.new) (W.seen sink.old) (W.seen sink.new) }
 {
     let Ok(mut desk) = TraceDesk::start(alloc, code, mode) else {
         return Err(EngineFault::Memory);
     };
-    run(alloc, source, sink, &mut desk)
+    run_behind(alloc, source, sink, &mut desk, before, turns)
 }

@@ -1,0 +1,7 @@
+pub mod BareLaws
+pub mod ForwardLaws
+pub mod TellingLaws
+pub mod SentLaws
+pub mod GatherLaws
+pub mod SpokenLaws
+pub mod TurnLaws

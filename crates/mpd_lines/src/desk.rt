@@ -1,0 +1,27 @@
+//! What answers lines.
+ghost use Rattle.std.specs.Prelude.{◌≡◌, ℕ, ◌+◌, ◌<◌, ◌≤◌, List, ◌++◌, length, vec_len, vec_capacity};
+
+use crate::line::LINE_MAX;
+
+/// Bytes that a buffer of answers has room for whenever a line is answered.
+pub const ROOM: usize = 64;
+
+/// What answers lines. An answer that fits into the room takes no memory; where a longer one is refused memory, the desk
+/// says so in the room. So a line is always answered.
+pub trait LineDesk {
+    /// The desk before, the line, the text of the answer, and the desk after.
+    ghost says: { Self → List ℕ → List ℕ → Self → Type 0 };
+
+    /// Adds the answer to a line.
+    fn answer(&mut self, line: &[u8], out: &mut Vec<u8>)
+        requires line { length line.now ≤ LINE_MAX }
+        requires room { vec_len out.old + ROOM ≤ vec_capacity out.old }
+        ensures said { (text : List ℕ) × (out.new.items ≡ out.old.items ++ text) × says self.old line.now text self.new }
+        ensures capacity { vec_capacity out.old ≤ vec_capacity out.new };
+
+    /// Adds the answer to a line that is too long, whichever it is.
+    fn refuse_long(&mut self, out: &mut Vec<u8>)
+        requires room { vec_len out.old + ROOM ≤ vec_capacity out.old }
+        ensures said { (text : List ℕ) × (out.new.items ≡ out.old.items ++ text) × ((line : List ℕ) → LINE_MAX < length line → says self.old line text self.new) }
+        ensures capacity { vec_capacity out.old ≤ vec_capacity out.new };
+}

@@ -1,0 +1,105 @@
+//! Answers that wait to be written.
+ghost use Rattle.std.specs.Prelude.{◌≡◌, ◌+◌, ◌<◌, ◌≤◌, [], ◌∷◌, length, IfOk, vec_len, vec_capacity, ℕ, List};
+ghost use Rattle.mpd_lines.specs.Gathering.{Gathered, Relieved, Written};
+
+use crate::desk::{LineDesk, ROOM};
+use mpd_device::device::{DeviceFault, Sink};
+use std::alloc::{AllocError, Global};
+use std::marker::Model;
+
+/// As soon as so many bytes wait, they are written.
+pub(crate) const WAITING_MAX: usize = 65_536;
+
+/// Answers that wait to be written. There is always room for a short one.
+#[derive(Drop)]
+pub(crate) struct Outbox {
+    waiting: Vec<u8>,
+}
+
+impl Model for Outbox {
+    ghost use Rattle.std.specs.Prelude.{◌≤◌, ◌<◌, List, ℕ, vec_len, vec_capacity};
+
+    ghost Value = { List ℕ };
+
+    ghost view = { λ o. o.waiting.items };
+
+    ghost invariant = { λ o. (vec_len o.waiting < 65536) × (65600 ≤ vec_capacity o.waiting) };
+}
+
+/// Writes all bytes, however the sink cuts them.
+#[tactic(auto, using(crate::proofs::SentLaws::sending))]
+fn write_all<W: Sink>(sink: &mut W, bytes: &[u8]) -> Result<(), DeviceFault>
+    ensures { Written bytes.now (W.seen sink.old) (W.seen sink.new) result }
+{
+    let mut rest = bytes;
+    while !rest.is_empty() {
+        let count = sink.write(rest)?;
+        let (_, left) = rest.split_at(count);
+        rest = left;
+    }
+    Ok(())
+}
+
+/// Writes what waits, where that is much. What a failed write has left is dropped.
+#[tactic(auto, using(crate::proofs::GatherLaws::relieving))]
+fn relieve<W: Sink>(waiting: &mut Vec<u8>, sink: &mut W) -> Result<(), DeviceFault>
+    ensures relieved { Relieved waiting.old.items (W.seen sink.old) (W.seen sink.new) waiting.new.items result }
+    ensures few { vec_len waiting.new < WAITING_MAX }
+    ensures capacity { vec_capacity waiting.new ≡ vec_capacity waiting.old }
+{
+    if waiting.len() < WAITING_MAX {
+        return Ok(());
+    }
+    let written = write_all(sink, waiting);
+    waiting.clear();
+    written
+}
+
+impl Outbox {
+    /// Nothing waits. An `Err` is want of memory.
+    pub(crate) fn new(alloc: Global) -> Result<Outbox, AllocError>
+        ensures { IfOk result (λ o. o ≡ []) }
+    {
+        Ok(Outbox {
+            waiting: Vec::with_capacity(alloc, WAITING_MAX + ROOM)?,
+        })
+    }
+
+    /// Gathers the answer to a line, and writes what waits where that is much.
+    #[tactic(auto, using(crate::proofs::GatherLaws::gathering))]
+    pub(crate) fn answer<D: LineDesk, W: Sink>(
+        &mut self,
+        desk: &mut D,
+        line: &[u8],
+        sink: &mut W,
+    ) -> Result<(), DeviceFault>
+        requires { length line.now ≤ 4096 }
+        ensures { Gathered D.says desk.old (line.now ∷ []) (W.seen sink.old) self.old (W.seen sink.new) self.new desk.new result }
+    {
+        desk.answer(line, &mut self.waiting);
+        relieve(&mut self.waiting, sink)
+    }
+
+    /// Gathers the answer to a line that is too long, and writes what waits where that is much.
+    #[tactic(auto, using(crate::proofs::GatherLaws::gathering))]
+    pub(crate) fn refuse_long<D: LineDesk, W: Sink>(
+        &mut self,
+        desk: &mut D,
+        sink: &mut W,
+    ) -> Result<(), DeviceFault>
+        ensures { (line : List ℕ) → 4096 < length line → Gathered D.says desk.old (line ∷ []) (W.seen sink.old) self.old (W.seen sink.new) self.new desk.new result }
+    {
+        desk.refuse_long(&mut self.waiting);
+        relieve(&mut self.waiting, sink)
+    }
+
+    /// Writes all that waits. What a failed write has left is dropped.
+    pub(crate) fn flush<W: Sink>(&mut self, sink: &mut W) -> Result<(), DeviceFault>
+        ensures written { Written self.old (W.seen sink.old) (W.seen sink.new) result }
+        ensures none { self.new ≡ [] }
+    {
+        let written = write_all(sink, &self.waiting);
+        self.waiting.clear();
+        written
+    }
+}

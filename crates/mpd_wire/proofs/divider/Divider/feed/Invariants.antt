@@ -1,9 +1,0 @@
-use Rattle.std.proofs.Common.{◌≡◌, ◌≤◌, ◌++◌, ℕ, List, length, drop}
-use Rattle.mpd_wire.specs.Divided.{splits}
-use Rattle.mpd_wire.proofs.divider.Divider.feed.Given as goal
-
-abbrev pub invariant-loop-index : goal.invariant-loop-index
-invariant-loop-index l = record {
-  going : (z : List ℕ) → splits l.self (drop l.index l.piece ++ z) ≡ splits l.fn.self (l.piece ++ z);
-  short : length l.self.known ≤ 65536;
-}
