@@ -1,7 +1,8 @@
 -- The parts of a statement that are written, within the limits, are read.
-use Rattle.std.proofs.Common.{◌≡◌, ℕ, ◌+◌, ◌-◌, ◌<◌, ◌≤◌, true, false, Option, None, Some, is_some, List, [], ◌∷◌, ◌++◌, length, nat_lt, Ok, refl, ap, ◌∙◌, append_assoc, arith}
+use Rattle.std.proofs.Common.{◌≡◌, ℕ, suc, ◌-◌, ◌<◌, ◌≤◌, true, false, Option, None, Some, is_some, List, [], ◌∷◌, ◌++◌, length, nat_lt, Ok, refl, ap, ◌∙◌, append_assoc, arith}
 use Rattle.std.proofs.lemmas.Bool.Decides.{nat_tests}
 use denote.Enum.Bare.{true_same}
+use Rattle.mpd_model.specs.declared.limits.TheConstants.{NESTING_MAX, STATEMENTS_MAX}
 use Rattle.mpd_model.specs.contracts.token.Mark.{the_type}
 use Rattle.mpd_model.specs.declared.expr.UnaryOp.{UnaryOp}
 use Rattle.mpd_model.specs.declared.place.DeclKind.TheVariants.{Variable}
@@ -26,15 +27,15 @@ use Rattle.mpd_laws.proofs.Complete.{bind_to, expect_at, mark_stops, expr_comple
 pub expect_on : (wanted : Mark) (s : Spot) (rest : List Spot) (ls : List ℕ) (b : ℕ) (i : Input) → s.token ≡ Is wanted → expect wanted (on (s ∷ rest) ls b i) ≡ Ok (tt, on rest ls b i)
 expect_on wanted s rest ls b i e = expect_at wanted s rest b (on rest ls b i) e
 
-pub begun_on : (k : Spot) (rest : List Spot) (ls : List ℕ) (b : ℕ) (i : Input) → length ls < 4096 → begun (on (k ∷ rest) ls b i) ≡ Ok (tt, on rest (ls ++ k.line ∷ []) b i)
+pub begun_on : (k : Spot) (rest : List Spot) (ls : List ℕ) (b : ℕ) (i : Input) → length ls < STATEMENTS_MAX → begun (on (k ∷ rest) ls b i) ≡ Ok (tt, on rest (ls ++ k.line ∷ []) b i)
 unfolding count advanced
 begun_on k rest ls b i h =
-    let few : nat_lt (length ls) 4096 ≡ true = grind (arith, nat_tests) in
+    let few : nat_lt (length ls) STATEMENTS_MAX ≡ true = grind (arith, nat_tests) in
     rw few refl
 
-pub expression_on : (e rest : List Spot) (t : Term) (ls : List ℕ) (b : ℕ) (i : Input) → WrittenTerm i.decls 5 e t → cost e ≤ 64 → Stops 5 rest
-    → expression (on (e ++ rest) ls b i) ≡ Ok (t, on rest ls (64 - cost e) i)
-expression_on e rest t ls b i w le s = expr_complete 65 5 e rest t (on (e ++ rest) ls 64 i) w refl s le (omega arith)
+pub expression_on : (e rest : List Spot) (t : Term) (ls : List ℕ) (b : ℕ) (i : Input) → WrittenTerm i.decls 5 e t → cost e ≤ NESTING_MAX → Stops 5 rest
+    → expression (on (e ++ rest) ls b i) ≡ Ok (t, on rest ls (NESTING_MAX - cost e) i)
+expression_on e rest t ls b i w le s = expr_complete (suc NESTING_MAX) 5 e rest t (on (e ++ rest) ls NESTING_MAX i) w refl s le (omega arith)
 
 -- ---- places that stand in no expression
 
@@ -55,19 +56,19 @@ whole_on p None rest ls b i h = refl
 whole_on p (Some n) rest ls b i h = absurd (cc)
 
 part_on : (p : Place) (o : Option ℕ) (a z : Spot) (ss rest : List Spot) (t : Term) (ls : List ℕ) (b : ℕ) (i : Input) → is_some o ≡ true
-    → a.token ≡ Is m.SquareOpen → WrittenTerm i.decls 5 ss t → z.token ≡ Is m.SquareClose → cost ss ≤ 64
-    → outside p o (on (a ∷ (ss ++ (z ∷ rest))) ls b i) ≡ Ok (record { place = p; index = Some t }, on rest ls (64 - cost ss) i)
+    → a.token ≡ Is m.SquareOpen → WrittenTerm i.decls 5 ss t → z.token ≡ Is m.SquareClose → cost ss ≤ NESTING_MAX
+    → outside p o (on (a ∷ (ss ++ (z ∷ rest))) ls b i) ≡ Ok (record { place = p; index = Some t }, on rest ls (NESTING_MAX - cost ss) i)
 part_on p None a z ss rest t ls b i h ha w hz le = absurd (cc)
 part_on p (Some n) a z ss rest t ls b i h ha w hz le =
     bind_to _ _ _ _ (expect_on m.SquareOpen a (ss ++ (z ∷ rest)) ls b i ha)
     (bind_to _ _ _ _ (expression_on ss (z ∷ rest) t ls b i w le (mark_stops 5 z rest (Is m.SquareClose) hz refl))
-    (bind_to _ _ _ _ (expect_on m.SquareClose z rest ls (64 - cost ss) i hz) refl))
+    (bind_to _ _ _ _ (expect_on m.SquareClose z rest ls (NESTING_MAX - cost ss) i hz) refl))
 
 same_place : (p q : Place) (o : Option ℕ) (t : Target) (ss us rest : List Spot) (ls : List ℕ) (b : ℕ) (i : Input) → p ≡ q → ss ≡ us
     → Gives (outside q o (on us ls b i)) t rest ls i → Gives (outside p o (on ss ls b i)) t rest ls i
 same_place p q o t ss us rest ls b i d e g = rw (d, e) g
 
-pub target_begins : (i : Input) (ss : List Spot) (t : Target) (w : WrittenTarget i.decls ss t) → index_cost i.decls ss t w ≤ 64 → Begins i ss t
+pub target_begins : (i : Input) (ss : List Spot) (t : Target) (w : WrittenTarget i.decls ss t) → index_cost i.decls ss t w ≤ NESTING_MAX → Begins i ss t
 target_begins i _ _ (whole s p n) le = record {
   first = s;
   behind = [];
@@ -88,7 +89,7 @@ target_begins i _ _ (part s a z ss p t n ha w hz) le = record {
   declared = n.declared;
   kind = n.kind;
   reads = λ ls b rest. same_place (place_of_slot n.slot) p n.slot.size (record { place = p; index = Some t }) _ (a ∷ (ss ++ (z ∷ rest))) rest ls b i n.place (simp append_assoc)
-      (record { left = 64 - cost ss; is = part_on p n.slot.size a z ss rest t ls b i n.size ha w hz le });
+      (record { left = NESTING_MAX - cost ss; is = part_on p n.slot.size a z ss rest t ls b i n.size ha w hz le });
 }
 
 pub seek_on : (s : Spot) (slot : Slot) (rest : List Spot) (ls : List ℕ) (b : ℕ) (i : Input) → slot_in i.decls s.text ≡ Some slot → slot.kind ≡ Variable
@@ -179,11 +180,11 @@ value_on : (ss us : List Spot) (t : Term) (ls : List ℕ) (b : ℕ) (i : Input) 
 unfolding source sees after token
 value_on ss us t ls b i h g = record { left = g.left; is = rw h (bind_to _ _ _ _ g.is refl) }
 
-source_on : (o : Option Term) (ss us : List Spot) (ls : List ℕ) (b : ℕ) (i : Input) → (w : WrittenPart i.decls ss (source_part o)) → part_cost i.decls ss (source_part o) w ≤ 64 → Stops 5 us
+source_on : (o : Option Term) (ss us : List Spot) (ls : List ℕ) (b : ℕ) (i : Input) → (w : WrittenPart i.decls ss (source_part o)) → part_cost i.decls ss (source_part o) w ≤ NESTING_MAX → Stops 5 us
     → Gives (source (on (ss ++ us) ls b i)) o us ls i
 source_on None _ us ls b i (by_mark s _ h) le x = record { left = b; is = any_on s us ls b i (mark_seen m.Any s h) }
 source_on (Some e) _ us ls b i (by_term ss _ w) le x =
-    value_on (ss ++ us) us e ls b i (term_is_other i.decls 5 ss e w us) (record { left = 64 - cost ss; is = expression_on ss us e ls b i w le x })
+    value_on (ss ++ us) us e ls b i (term_is_other i.decls 5 ss e w us) (record { left = NESTING_MAX - cost ss; is = expression_on ss us e ls b i w le x })
 
 -- ---- a status
 
@@ -200,10 +201,10 @@ present_on s ss us t ls b i h g = record { left = g.left; is = rw h (bind_to _ _
 record StatusRead (o : Option Target) (ps : List Part) (ss us : List Spot) (ls : List ℕ) (b : ℕ) (i : Input) : Type 0 where
   others : List Spot
   written : WrittenParts i.decls others ps
-  cheap : dearest_part i.decls others ps written ≤ 64
+  cheap : dearest_part i.decls others ps written ≤ NESTING_MAX
   gives : Gives (status (on (ss ++ us) ls b i)) o (others ++ us) ls i
 
-status_on : (o : Option Target) (ps : List Part) (ss us : List Spot) (ls : List ℕ) (b : ℕ) (i : Input) → (w : WrittenParts i.decls ss (status_parts o ps)) → dearest_part i.decls ss (status_parts o ps) w ≤ 64
+status_on : (o : Option Target) (ps : List Part) (ss us : List Spot) (ls : List ℕ) (b : ℕ) (i : Input) → (w : WrittenParts i.decls ss (status_parts o ps)) → dearest_part i.decls ss (status_parts o ps) w ≤ NESTING_MAX
     → ((rs : List Spot) → WrittenParts i.decls rs ps → is_mark m.Status (token_of (rs ++ us)) ≡ false) → StatusRead o ps ss us ls b i
 status_on None ps ss us ls b i w le ends = record { others = ss; written = w; cheap = le; gives = record { left = b; is = absent_on (ss ++ us) ls b i (ends ss w) } }
 status_on (Some t) ps _ us ls b i (then_part _ _ _ _ (by_mark s _ h) (then_part ts rs _ _ (by_target _ _ x) w)) le ends = record {
@@ -220,14 +221,14 @@ same_on : {A : Type 0} (p : Parser A) (a : A) (ss us rest : List Spot) (ls ms : 
 same_on p a ss us rest ls ms b i e g = rw e g
 
 pub fill_on : {A : Type 0} (hs : List Hole) (made : Contents hs → A) (c : Contents hs) (ss : List Spot) (end : Spot) (rest : List Spot) (ls : List ℕ) (b : ℕ) (i : Input) → AreClear hs
-    → (w : WrittenParts i.decls ss (filled hs c)) → dearest_part i.decls ss (filled hs c) w ≤ 64 → end.token ≡ Is m.Semicolon → Gives (fill hs made (on (ss ++ (end ∷ rest)) ls b i)) (made c) rest ls i
+    → (w : WrittenParts i.decls ss (filled hs c)) → dearest_part i.decls ss (filled hs c) w ≤ NESTING_MAX → end.token ≡ Is m.Semicolon → Gives (fill hs made (on (ss ++ (end ∷ rest)) ls b i)) (made c) rest ls i
 fill_on [] made c _ end rest ls b i p no_part le e = record { left = b; is = bind_to _ _ _ _ (expect_on m.Semicolon end rest ls b i e) refl }
 fill_on (mark_hole k ∷ hs) made c _ end rest ls b i p (then_part _ rs _ _ (by_mark s _ x) w) le e =
     let g = fill_on hs made c rs end rest ls b i p w (omega arith) e in
     record { left = g.left; is = bind_to _ _ _ _ (expect_on k s (rs ++ (end ∷ rest)) ls b i x) g.is }
 fill_on (term_hole ∷ hs) made c _ end rest ls b i p (then_part ss rs _ _ (by_term _ _ x) w) le e =
     let first = expression_on ss (rs ++ (end ∷ rest)) c.0 ls b i x (omega arith) (holes_stop i.decls hs c.1 rs end rest p.0 w e) in
-    let g = fill_on hs (λ d. made (c.0, d)) c.1 rs end rest ls (64 - cost ss) i p.1 w (omega arith) e in
+    let g = fill_on hs (λ d. made (c.0, d)) c.1 rs end rest ls (NESTING_MAX - cost ss) i p.1 w (omega arith) e in
     same_on (fill (term_hole ∷ hs) made) (made c) (ss ++ rs ++ (end ∷ rest)) (ss ++ (rs ++ (end ∷ rest))) rest ls ls b i (append_assoc ss rs (end ∷ rest))
     (record { left = g.left; is = bind_to _ _ _ _ first g.is })
 fill_on (target_hole ∷ hs) made c _ end rest ls b i p (then_part ss rs _ _ (by_target _ _ x) w) le e =

@@ -3,6 +3,7 @@ use Rattle.std.proofs.Common.{◌≡◌, ℕ, zero, suc, ◌+◌, ◌<◌, ◌�
 use Rattle.std.proofs.lemmas.Bool.Decides.{nat_tests}
 use Rattle.std.specs.List.{prefix_len}
 use denote.Enum.Bare.{true_same}
+use Rattle.mpd_model.specs.declared.limits.TheConstants.{BLOCKS_MAX, CELLS_MAX, HANDLES_MAX, NESTING_MAX, RANKS_MAX, SCRIPT_MAX, STATEMENTS_MAX}
 use Rattle.mpd_model.specs.contracts.token.Mark.{the_type}
 use Rattle.mpd_model.specs.declared.place.DeclKind.TheVariants.{Variable}
 use Rattle.mpd_model.specs.declared.token.Mark.{Mark}
@@ -117,16 +118,16 @@ decls_grow _ _ _ (declares ds es v n end ss h1 h2 h3 h4 w) = less_grows ds es (v
 decls_grow _ _ _ (declares_array ds es v n a c b end cells ss h1 h2 h3 h4 h5 h6 h7 w) =
     less_grows ds es (variable_of n.text (Some cells)) (decls_grow (ds ++ variable_of n.text (Some cells) ∷ []) ss es w)
 
-room : (ds es : List Declared) (name : List ℕ) (size : Option ℕ) → Grows (ds ++ variable_of name size ∷ []) es → variables_in es ≤ 1024 → handles_in es ≤ 256 → cells_fit Variable size ds ≡ true
+room : (ds es : List Declared) (name : List ℕ) (size : Option ℕ) → Grows (ds ++ variable_of name size ∷ []) es → variables_in es ≤ CELLS_MAX → handles_in es ≤ HANDLES_MAX → cells_fit Variable size ds ≡ true
 room ds es name size g a b =
     let x : variables_in (ds ++ variable_of name size ∷ []) ≡ variables_in ds + cells_of size = variables_in-more ds (variable_of name size) in
     let y : handles_in (ds ++ variable_of name size ∷ []) ≡ handles_in ds + 0 = handles_in-more ds (variable_of name size) in
-    let p : nat_le (variables_in ds + cells_of size) 1024 ≡ true = let z = g.variables in grind (arith, nat_tests) in
-    let q : nat_le (handles_in ds + 0) 256 ≡ true = let z = g.handles in grind (arith, nat_tests) in
+    let p : nat_le (variables_in ds + cells_of size) CELLS_MAX ≡ true = let z = g.variables in grind (arith, nat_tests) in
+    let q : nat_le (handles_in ds + 0) HANDLES_MAX ≡ true = let z = g.handles in grind (arith, nat_tests) in
     rw (p, q) refl
 
 decls_has : (ds : List Declared) (ss : List Spot) (es : List Declared) → WrittenDecls ds ss es → (turns : ℕ) (rest : List Spot) (i : Input) → length ss < turns
-    → is_mark m.Var (token_of rest) ≡ false → variables_in es ≤ 1024 → handles_in es ≤ 256 → decls_from turns (has (ss ++ rest) ds i) ≡ Ok (tt, has rest es i)
+    → is_mark m.Var (token_of rest) ≡ false → variables_in es ≤ CELLS_MAX → handles_in es ≤ HANDLES_MAX → decls_from turns (has (ss ++ rest) ds i) ≡ Ok (tt, has rest es i)
 decls_has _ _ _ (none ds) zero rest i less h a b = absurd (omega arith)
 decls_has _ _ _ (none ds) (suc turns) rest i less h a b = decls_end turns rest ds i h
 decls_has _ _ _ (declares ds es v n end ss h1 h2 h3 h4 w) zero rest i less h a b = absurd (omega arith)
@@ -141,7 +142,7 @@ decls_has _ _ _ (declares_array ds es v n o c z end cells ss h1 h2 h3 h4 h5 h6 h
     ∙ array_has n o c z end cells (ss ++ rest) ds i h3 h4 h5 h6 h7 (room ds es n.text (Some cells) (decls_grow _ ss es w) a b))
     (decls_has (ds ++ variable_of n.text (Some cells) ∷ []) ss es w turns rest i (omega arith) h a b)
 
-all_decls : (ss rest : List Spot) (es : List Declared) (i : Input) → WrittenDecls [] ss es → is_mark m.Var (token_of rest) ≡ false → variables_in es ≤ 1024 → handles_in es ≤ 256
+all_decls : (ss rest : List Spot) (es : List Declared) (i : Input) → WrittenDecls [] ss es → is_mark m.Var (token_of rest) ≡ false → variables_in es ≤ CELLS_MAX → handles_in es ≤ HANDLES_MAX
     → decls (has (ss ++ rest) [] i) ≡ Ok (tt, has rest es i)
 unfolding decls
 all_decls ss rest es i w h a b =
@@ -154,23 +155,23 @@ version_has : (s : Spot) (n : ℕ) (rest : List Spot) (ds : List Declared) (i : 
 unfolding version token advanced
 version_has s n rest ds i e one = ap (λ u. version_by u (has (s ∷ rest) ds i)) (e ∙ ap (λ k. Number (pos k)) one)
 
-count_fits : (n : ℕ) → 1 ≤ n → n ≤ 16 → rank_count (pos n) ≡ Some n
+count_fits : (n : ℕ) → 1 ≤ n → n ≤ RANKS_MAX → rank_count (pos n) ≡ Some n
 count_fits n a b =
     let p : nat_le 1 n ≡ true = grind (arith, nat_tests) in
-    let q : nat_le n 16 ≡ true = grind (arith, nat_tests) in
+    let q : nat_le n RANKS_MAX ≡ true = grind (arith, nat_tests) in
     rw (p, q) refl
 
 ranks_by_has : (s : Spot) (n : ℕ) (rest : List Spot) (ds : List Declared) (i : Input) → rank_count (pos n) ≡ Some n → ranks_by (Number (pos n)) (has (s ∷ rest) ds i) ≡ Ok (n, has rest ds i)
 unfolding advanced
 ranks_by_has s n rest ds i h = ap (λ o. grammar.ranks_of o (has (s ∷ rest) ds i)) h
 
-ranks_has : (s : Spot) (n : ℕ) (rest : List Spot) (ds : List Declared) (i : Input) → s.token ≡ Number (pos n) → 1 ≤ n → n ≤ 16 → ranks (has (s ∷ rest) ds i) ≡ Ok (n, has rest ds i)
+ranks_has : (s : Spot) (n : ℕ) (rest : List Spot) (ds : List Declared) (i : Input) → s.token ≡ Number (pos n) → 1 ≤ n → n ≤ RANKS_MAX → ranks (has (s ∷ rest) ds i) ≡ Ok (n, has rest ds i)
 unfolding ranks token
 ranks_has s n rest ds i e a b = ap (λ u. ranks_by u (has (s ∷ rest) ds i)) e ∙ ranks_by_has s n rest ds i (count_fits n a b)
 
 header_has : (mpd v a r c b : Spot) (ss rest : List Spot) (version count : ℕ) (es : List Declared) (i : Input)
-    → mpd.token ≡ Is m.Mpd → v.token ≡ Number (pos version) → version ≡ 1 → a.token ≡ Is m.Semicolon → r.token ≡ Is m.Ranks → c.token ≡ Number (pos count) → 1 ≤ count → count ≤ 16
-    → b.token ≡ Is m.Semicolon → WrittenDecls [] ss es → is_mark m.Var (token_of rest) ≡ false → variables_in es ≤ 1024 → handles_in es ≤ 256
+    → mpd.token ≡ Is m.Mpd → v.token ≡ Number (pos version) → version ≡ 1 → a.token ≡ Is m.Semicolon → r.token ≡ Is m.Ranks → c.token ≡ Number (pos count) → 1 ≤ count → count ≤ RANKS_MAX
+    → b.token ≡ Is m.Semicolon → WrittenDecls [] ss es → is_mark m.Var (token_of rest) ≡ false → variables_in es ≤ CELLS_MAX → handles_in es ≤ HANDLES_MAX
     → header (has (mpd ∷ v ∷ a ∷ r ∷ c ∷ b ∷ (ss ++ rest)) [] i) ≡ Ok (count, has rest es i)
 unfolding header
 header_has mpd v a r c b ss rest version count es i hm hv one ha hr hc low high hb w h x y =
@@ -191,12 +192,12 @@ body_is_no_decl : (ds : List Declared) (ss : List Spot) (ts : List Tree) (ls : L
 body_is_no_decl ds _ _ _ ended = refl
 body_is_no_decl ds _ _ _ (follows ss rs t ts ls ms v w) = tree_is_no_decl ds ss t ls v rs
 
-whole_body : (ss : List Spot) (ds : List Declared) (ts : List Tree) (ls : List ℕ) (i : Input) → i.lines ≡ [] → (w : WrittenBody ds ss ts ls) → blocks_in (block_of ts) ≤ 64
-    → dearest_body ds ss ts ls w ≤ 64 → length ls ≤ 4096 → Gives (body (block 64) false (has ss ds i)) ts [] ls (has ss ds i)
+whole_body : (ss : List Spot) (ds : List Declared) (ts : List Tree) (ls : List ℕ) (i : Input) → i.lines ≡ [] → (w : WrittenBody ds ss ts ls) → blocks_in (block_of ts) ≤ BLOCKS_MAX
+    → dearest_body ds ss ts ls w ≤ NESTING_MAX → length ls ≤ STATEMENTS_MAX → Gives (body (block BLOCKS_MAX) false (has ss ds i)) ts [] ls (has ss ds i)
 whole_body ss ds ts ls i none_yet w deep dear few =
     let same : i.lines ++ ls ≡ ls = ap (λ r. r ++ ls) none_yet in
-    let few' : length i.lines + length ls ≤ 4096 = omega (arith, ap length none_yet) in
-    rw same at (body_complete 64 false ss [] ts ls (has ss ds i) w (sym (append-nil ss)) refl deep dear few')
+    let few' : length i.lines + length ls ≤ STATEMENTS_MAX = omega (arith, ap length none_yet) in
+    rw same at (body_complete BLOCKS_MAX false ss [] ts ls (has ss ds i) w (sym (append-nil ss)) refl deep dear few')
 
 -- ---- scripts
 
@@ -204,19 +205,19 @@ with_version : (p : Program) (n : ℕ) → p.version ≡ n → record { version 
 with_version p n e = ap (λ k. record { version = k; ranks = p.ranks; decls = p.decls; body = p.body; lines = p.lines }) (sym e)
 
 script_has : (ss rs : List Spot) (p : Program) (i : Input) → p.version ≡ 1 → header (has ss [] i) ≡ Ok (p.ranks, has rs p.decls i)
-    → Gives (body (block 64) false (has rs p.decls i)) p.body [] p.lines (has rs p.decls i) → read_of (grammar.script (has ss [] i)) ≡ Ok p
+    → Gives (body (block BLOCKS_MAX) false (has rs p.decls i)) p.body [] p.lines (has rs p.decls i) → read_of (grammar.script (has ss [] i)) ≡ Ok p
 unfolding grammar.script
 script_has ss rs p i one h g = ap read_of (bind_to _ _ _ _ h (bind_to _ _ _ _ g.is refl)) ∙ ap Ok (with_version p 1 one)
 
-script_read : (ss : List Spot) (p : Program) (i : Input) → i.lines ≡ [] → IsLegal p → blocks_in (block_of p.body) ≤ 64 → (w : WrittenScript ss p) → dearest_script ss p w ≤ 64
+script_read : (ss : List Spot) (p : Program) (i : Input) → i.lines ≡ [] → IsLegal p → blocks_in (block_of p.body) ≤ BLOCKS_MAX → (w : WrittenScript ss p) → dearest_script ss p w ≤ NESTING_MAX
     → read_of (grammar.script (has ss [] i)) ≡ Ok p
 script_read _ _ i none_yet l deep (script mpd v a r c b ss rs p hm hv ha hr hc hb ds w) dear =
     script_has (mpd ∷ v ∷ a ∷ r ∷ c ∷ b ∷ (ss ++ rs)) rs p i l.version
     (header_has mpd v a r c b ss rs p.version p.ranks p.decls i hm hv l.version ha hr hc l.some_rank l.ranks hb ds (body_is_no_decl p.decls rs p.body p.lines w) l.variables l.handles)
     (whole_body rs p.decls p.body p.lines i none_yet w deep dear (omega arith))
 
-pub reading_complete : (text : List ℕ) (p : Program) (w : WrittenScript (tokens text) p) → length text ≤ 65536 → prefix_len is_text text ≡ length text → IsLegal p
-    → blocks_in (block_of p.body) ≤ 64 → dearest_script (tokens text) p w ≤ 64 → reading text ≡ Ok p
+pub reading_complete : (text : List ℕ) (p : Program) (w : WrittenScript (tokens text) p) → length text ≤ SCRIPT_MAX → prefix_len is_text text ≡ length text → IsLegal p
+    → blocks_in (block_of p.body) ≤ BLOCKS_MAX → dearest_script (tokens text) p w ≤ NESTING_MAX → reading text ≡ Ok p
 unfolding reading
 reading_complete text p w short spelt l deep dear =
     let a : nat_lt max_text (length text) ≡ false = grind (arith, nat_tests) in
@@ -224,7 +225,7 @@ reading_complete text p w short spelt l deep dear =
     rw (a, b) (script_read (tokens text) p (start_of text) refl l deep w dear)
 
 -- a text within the limits is read as its tokens are
-pub reading_of : (text : List ℕ) (p : Program) (i : Input) (n : ℕ) → length text ≤ 65536 → n ≡ prefix_len is_text text → length text ≤ n → i ≡ start_of text → read_of (grammar.script i) ≡ Ok p → reading text ≡ Ok p
+pub reading_of : (text : List ℕ) (p : Program) (i : Input) (n : ℕ) → length text ≤ SCRIPT_MAX → n ≡ prefix_len is_text text → length text ≤ n → i ≡ start_of text → read_of (grammar.script i) ≡ Ok p → reading text ≡ Ok p
 unfolding reading
 reading_of text p i n short e spelt same h =
     let a : nat_lt max_text (length text) ≡ false = grind (arith, nat_tests) in

@@ -1,5 +1,6 @@
 -- What is written as statements, within the limits, is read.
 use Rattle.std.proofs.Common.{◌≡◌, ℕ, zero, suc, ◌+◌, ◌-◌, ◌<◌, ◌≤◌, Bool, true, false, Some, List, [], ◌∷◌, ◌++◌, length, length-append, append-nil, Ok, refl, ap, sym, subst, ◌∙◌, append_assoc, arith}
+use Rattle.mpd_model.specs.declared.limits.TheConstants.{NESTING_MAX, STATEMENTS_MAX}
 use Rattle.mpd_model.specs.declared.place.DeclKind.TheVariants.{Variable}
 use Rattle.mpd_model.specs.declared.slot.Slot.{Slot}
 use Rattle.mpd_model.specs.declared.stmt.Simple.{Simple}
@@ -25,7 +26,7 @@ use Rattle.mpd_laws.proofs.Turns.{some_token}
 
 -- a statement by its first token, and what follows that
 begins_read : (B : Parser (List Tree)) (q : Parser Tree) (k : Spot) (ss rest : List Spot) (t : Tree) (ls ms : List ℕ) (b : ℕ) (tk : Token) (i : Input)
-    → k.token ≡ tk → stmt_by B tk ≡ (λ x. and_then (begun x) (λ u. q)) → length ls < 4096
+    → k.token ≡ tk → stmt_by B tk ≡ (λ x. and_then (begun x) (λ u. q)) → length ls < STATEMENTS_MAX
     → Gives (q (on ss (ls ++ k.line ∷ []) b i)) t rest ms i → Gives (stmt B (on (k ∷ ss) ls b i)) t rest ms i
 unfolding stmt token
 begins_read B q k ss rest t ls ms b tk i e s few g = record {
@@ -35,7 +36,7 @@ begins_read B q k ss rest t ls ms b tk i e s few g = record {
 
 -- an assignment by its name, which is sought before the statement is counted
 assignment_read : (B : Parser (List Tree)) (s : Spot) (slot : Slot) (ss rest : List Spot) (t : Tree) (ls ms : List ℕ) (b : ℕ) (i : Input) → s.token ≡ Name
-    → slot_in i.decls s.text ≡ Some slot → slot.kind ≡ Variable → length ls < 4096 → Gives (assigning slot (on ss (ls ++ s.line ∷ []) b i)) t rest ms i → Gives (stmt B (on (s ∷ ss) ls b i)) t rest ms i
+    → slot_in i.decls s.text ≡ Some slot → slot.kind ≡ Variable → length ls < STATEMENTS_MAX → Gives (assigning slot (on ss (ls ++ s.line ∷ []) b i)) t rest ms i → Gives (stmt B (on (s ∷ ss) ls b i)) t rest ms i
 unfolding stmt token
 assignment_read B s slot ss rest t ls ms b i e d k few g = record {
   left = g.left;
@@ -45,10 +46,10 @@ assignment_read B s slot ss rest t ls ms b i e d k few g = record {
 -- ---- choices and repetitions
 
 repeating_read : (B : Parser (List Tree)) (e xs rest : List Spot) (t : Term) (x : List Tree) (ls ms : List ℕ) (b : ℕ) (i : Input)
-    → WrittenTerm i.decls 5 e t → cost e ≤ 64 → Stops 5 xs → ((c : ℕ) → Gives (B (on xs ls c i)) x rest ms i) → Gives (repeating B (on (e ++ xs) ls b i)) (repeat t (block_of x)) rest ms i
+    → WrittenTerm i.decls 5 e t → cost e ≤ NESTING_MAX → Stops 5 xs → ((c : ℕ) → Gives (B (on xs ls c i)) x rest ms i) → Gives (repeating B (on (e ++ xs) ls b i)) (repeat t (block_of x)) rest ms i
 unfolding repeating
 repeating_read B e xs rest t x ls ms b i w le s inside =
-    let f = inside (64 - cost e) in
+    let f = inside (NESTING_MAX - cost e) in
     record { left = f.left; is = bind_to _ _ _ _ (expression_on e xs t ls b i w le s) (bind_to _ _ _ _ f.is refl) }
 
 otherwise_none : (B : Parser (List Tree)) (rest : List Spot) (ls : List ℕ) (b : ℕ) (i : Input) → is_mark m.Else (token_of rest) ≡ false
@@ -62,11 +63,11 @@ unfolding otherwise sees after token advanced
 otherwise_some B w rest ls b i h = rw h refl
 
 choosing_read : (B : Parser (List Tree)) (e xs ys rest : List Spot) (t : Term) (x y : List Tree) (ls ms ns : List ℕ) (b : ℕ) (i : Input)
-    → WrittenTerm i.decls 5 e t → cost e ≤ 64 → Stops 5 xs → ((c : ℕ) → Gives (B (on xs ls c i)) x ys ms i) → ((c : ℕ) → Gives (otherwise B (on ys ms c i)) y rest ns i)
+    → WrittenTerm i.decls 5 e t → cost e ≤ NESTING_MAX → Stops 5 xs → ((c : ℕ) → Gives (B (on xs ls c i)) x ys ms i) → ((c : ℕ) → Gives (otherwise B (on ys ms c i)) y rest ns i)
     → Gives (choosing B (on (e ++ xs) ls b i)) (branch t (block_of x) (block_of y)) rest ns i
 unfolding choosing
 choosing_read B e xs ys rest t x y ls ms ns b i w le s first second =
-    let f = first (64 - cost e) in
+    let f = first (NESTING_MAX - cost e) in
     let g = second f.left in
     record {
       left = g.left;
@@ -76,14 +77,14 @@ choosing_read B e xs ys rest t x y ls ms ns b i w le s first second =
 -- ---- statements, by what is written
 
 abbrev TreeReads : Input → ℕ → List Spot → Tree → List ℕ → Type 0
-TreeReads i n ss t ms = (b : ℕ) (ls : List ℕ) (rest : List Spot) → length ls + length ms ≤ 4096 → is_mark m.Else (token_of rest) ≡ false
+TreeReads i n ss t ms = (b : ℕ) (ls : List ℕ) (rest : List Spot) → length ls + length ms ≤ STATEMENTS_MAX → is_mark m.Else (token_of rest) ≡ false
     → Gives (stmt (block n) (on (ss ++ rest) ls b i)) t rest (ls ++ ms) i
 
 abbrev BlockReads : Input → ℕ → List Spot → List Tree → List ℕ → Type 0
-BlockReads i n ss ts ms = (b : ℕ) (ls : List ℕ) (rest : List Spot) → length ls + length ms ≤ 4096 → Gives (block n (on (ss ++ rest) ls b i)) ts rest (ls ++ ms) i
+BlockReads i n ss ts ms = (b : ℕ) (ls : List ℕ) (rest : List Spot) → length ls + length ms ≤ STATEMENTS_MAX → Gives (block n (on (ss ++ rest) ls b i)) ts rest (ls ++ ms) i
 
 abbrev BodyReads : Input → ℕ → List Spot → List Tree → List ℕ → Type 0
-BodyReads i n ss ts ms = (inside : Bool) (turns : ℕ) (found : List Tree) (b : ℕ) (ls : List ℕ) (rest : List Spot) → length ls + length ms ≤ 4096
+BodyReads i n ss ts ms = (inside : Bool) (turns : ℕ) (found : List Tree) (b : ℕ) (ls : List ℕ) (rest : List Spot) → length ls + length ms ≤ STATEMENTS_MAX
     → closes inside (token_of rest) ≡ true → length ss < turns → Gives (stmts (block n) inside turns found (on (ss ++ rest) ls b i)) (found ++ ts) rest (ls ++ ms) i
 
 -- the same of the same tokens and lines
@@ -93,7 +94,7 @@ same_gives p a ss us rest ls ms ns b i d e g = rw (d, ← e) g
 
 -- a statement by its word
 form_reads : (i : Input) (n : ℕ) (f : Form) (c : Contents f.holes) (ss : List Spot) (end : Spot) → ((B : Parser (List Tree)) → stmt_by B (Is f.word) ≡ by_form (Some f))
-    → (w : WrittenParts i.decls ss (of_mark f.word ∷ filled f.holes c)) → dearest_part i.decls ss (of_mark f.word ∷ filled f.holes c) w ≤ 64 → end.token ≡ Is m.Semicolon
+    → (w : WrittenParts i.decls ss (of_mark f.word ∷ filled f.holes c)) → dearest_part i.decls ss (of_mark f.word ∷ filled f.holes c) w ≤ NESTING_MAX → end.token ≡ Is m.Semicolon
     → TreeReads i n (ss ++ end ∷ []) (simple (f.made c)) (first_line ss ∷ [])
 form_reads i n f c _ end by (then_part _ rs _ _ (by_mark s _ h) w) le he b ls rest few last =
     same_gives (stmt (block n)) (simple (f.made c)) _ (s ∷ (rs ++ (end ∷ rest))) rest ls _ _ b i (simp append_assoc) refl
@@ -122,7 +123,7 @@ assigned_line : (s : Spot) (v xs us : List Spot) → v ≡ s ∷ xs → s.line �
 assigned_line s v xs us h = rw h refl
 
 assigns_reads : (i : Input) (n : ℕ) (t : Target) (e : Term) (ss : List Spot) (end : Spot)
-    → (w : WrittenParts i.decls ss (parts_of (st.Assign (record { into = t; value = e })))) → dearest_part i.decls ss (parts_of (st.Assign (record { into = t; value = e }))) w ≤ 64 → end.token ≡ Is m.Semicolon
+    → (w : WrittenParts i.decls ss (parts_of (st.Assign (record { into = t; value = e })))) → dearest_part i.decls ss (parts_of (st.Assign (record { into = t; value = e }))) w ≤ NESTING_MAX → end.token ≡ Is m.Semicolon
     → TreeReads i n (ss ++ end ∷ []) (simple (st.Assign (record { into = t; value = e }))) (first_line ss ∷ [])
 assigns_reads i n t e _ end (then_part v rs _ _ (by_target _ _ names) w) le he b ls rest few last =
     let x = target_begins i v t names (omega arith) in
@@ -136,12 +137,12 @@ assigns_reads i n t e _ end (then_part v rs _ _ (by_target _ _ names) w) le he b
 
 -- a statement that holds no other, as it is written
 abbrev SimpleReads : Input → ℕ → Simple → Type 0
-SimpleReads i n s = (ss : List Spot) (end : Spot) → (w : WrittenParts i.decls ss (parts_of s)) → dearest_part i.decls ss (parts_of s) w ≤ 64 → end.token ≡ Is m.Semicolon
+SimpleReads i n s = (ss : List Spot) (end : Spot) → (w : WrittenParts i.decls ss (parts_of s)) → dearest_part i.decls ss (parts_of s) w ≤ NESTING_MAX → end.token ≡ Is m.Semicolon
     → TreeReads i n (ss ++ end ∷ []) (simple s) (first_line ss ∷ [])
 
 -- the parts are those of the form
 abbrev PartsRead : Input → ℕ → Tree → List Part → Type 0
-PartsRead i n t ps = (ss : List Spot) (end : Spot) → (w : WrittenParts i.decls ss ps) → dearest_part i.decls ss ps w ≤ 64 → end.token ≡ Is m.Semicolon → TreeReads i n (ss ++ end ∷ []) t (first_line ss ∷ [])
+PartsRead i n t ps = (ss : List Spot) (end : Spot) → (w : WrittenParts i.decls ss ps) → dearest_part i.decls ss ps w ≤ NESTING_MAX → end.token ≡ Is m.Semicolon → TreeReads i n (ss ++ end ∷ []) t (first_line ss ∷ [])
 
 formed_reads : (i : Input) (n : ℕ) (s : Simple) → HasForm s → SimpleReads i n s
 formed_reads i n s x =
@@ -154,11 +155,11 @@ simple_reads i n (st.Assign s) = assigns_reads i n s.into s.value
 simple_reads i n s = formed_reads i n s (all_formed s)
 
 repeats_reads : (i : Input) (n : ℕ) (k : Spot) (e a : List Spot) (t : Term) (x : List Tree) (ms : List ℕ)
-    → k.token ≡ Is m.While → WrittenTerm i.decls 5 e t → cost e ≤ 64 → ((r : List Spot) → Stops 5 (a ++ r)) → BlockReads i n a x ms
+    → k.token ≡ Is m.While → WrittenTerm i.decls 5 e t → cost e ≤ NESTING_MAX → ((r : List Spot) → Stops 5 (a ++ r)) → BlockReads i n a x ms
     → TreeReads i n (k ∷ e ++ a) (repeat t (block_of x)) (k.line ∷ ms)
 repeats_reads i n k e a t x ms hk w le s f b ls rest few last =
     let ks : List ℕ = ls ++ k.line ∷ [] in
-    let more : length ks + length ms ≤ 4096 = omega (arith, length-append ls (k.line ∷ [])) in
+    let more : length ks + length ms ≤ STATEMENTS_MAX = omega (arith, length-append ls (k.line ∷ [])) in
     same_gives (stmt (block n)) (repeat t (block_of x)) _ (k ∷ (e ++ (a ++ rest))) rest ls (ks ++ ms) _ b i (simp append_assoc) (append_assoc ls (k.line ∷ []) ms)
     (begins_read (block n) (repeating (block n)) k (e ++ (a ++ rest)) rest (repeat t (block_of x)) ls _ b (Is m.While) i hk refl (omega arith)
     (repeating_read (block n) e (a ++ rest) rest t x ks (ks ++ ms) b i w le (s rest) (λ c. f c ks rest more)))
@@ -171,25 +172,25 @@ otherwise_gives : (B : Parser (List Tree)) (w : Spot) (ss rest : List Spot) (y :
 otherwise_gives B w ss rest y ls ms b i h g = record { left = g.left; is = otherwise_some B w ss ls b i (mark_seen m.Else w h) ∙ g.is }
 
 chooses_reads : (i : Input) (n : ℕ) (k : Spot) (e a : List Spot) (t : Term) (x : List Tree) (ms : List ℕ)
-    → k.token ≡ Is m.If → WrittenTerm i.decls 5 e t → cost e ≤ 64 → ((r : List Spot) → Stops 5 (a ++ r)) → BlockReads i n a x ms
+    → k.token ≡ Is m.If → WrittenTerm i.decls 5 e t → cost e ≤ NESTING_MAX → ((r : List Spot) → Stops 5 (a ++ r)) → BlockReads i n a x ms
     → TreeReads i n (k ∷ e ++ a) (branch t (block_of x) no_more) (k.line ∷ ms)
 chooses_reads i n k e a t x ms hk w le s f b ls rest few last =
     let ks : List ℕ = ls ++ k.line ∷ [] in
-    let more : length ks + length ms ≤ 4096 = omega (arith, length-append ls (k.line ∷ [])) in
+    let more : length ks + length ms ≤ STATEMENTS_MAX = omega (arith, length-append ls (k.line ∷ [])) in
     same_gives (stmt (block n)) (branch t (block_of x) no_more) _ (k ∷ (e ++ (a ++ rest))) rest ls (ks ++ ms) _ b i (simp append_assoc) (append_assoc ls (k.line ∷ []) ms)
     (begins_read (block n) (choosing (block n)) k (e ++ (a ++ rest)) rest (branch t (block_of x) no_more) ls _ b (Is m.If) i hk refl (omega arith)
     (choosing_read (block n) e (a ++ rest) rest rest t x [] ks (ks ++ ms) (ks ++ ms) b i w le (s rest)
     (λ c. f c ks rest more) (λ c. otherwise_nothing (block n) rest (ks ++ ms) c i last)))
 
 chooses_else_reads : (i : Input) (n : ℕ) (k o : Spot) (e a z : List Spot) (t : Term) (x y : List Tree) (ms ns : List ℕ)
-    → k.token ≡ Is m.If → WrittenTerm i.decls 5 e t → cost e ≤ 64 → ((r : List Spot) → Stops 5 (a ++ r)) → BlockReads i n a x ms → o.token ≡ Is m.Else → BlockReads i n z y ns
+    → k.token ≡ Is m.If → WrittenTerm i.decls 5 e t → cost e ≤ NESTING_MAX → ((r : List Spot) → Stops 5 (a ++ r)) → BlockReads i n a x ms → o.token ≡ Is m.Else → BlockReads i n z y ns
     → TreeReads i n (k ∷ e ++ a ++ o ∷ z) (branch t (block_of x) (block_of y)) (k.line ∷ ms ++ ns)
 chooses_else_reads i n k o e a z t x y ms ns hk w le s f ho g b ls rest few last =
     let ks : List ℕ = ls ++ k.line ∷ [] in
     let all : length (ks ++ ms) ≡ length ls + 1 + length ms = omega (arith, length-append ls (k.line ∷ []), length-append ks ms) in
     let some : length (k.line ∷ ms ++ ns) ≡ 1 + length ms + length ns = omega (arith, length-append (k.line ∷ ms) ns) in
-    let more : length ks + length ms ≤ 4096 = omega (arith, length-append ls (k.line ∷ [])) in
-    let more' : length (ks ++ ms) + length ns ≤ 4096 = omega arith in
+    let more : length ks + length ms ≤ STATEMENTS_MAX = omega (arith, length-append ls (k.line ∷ [])) in
+    let more' : length (ks ++ ms) + length ns ≤ STATEMENTS_MAX = omega arith in
     same_gives (stmt (block n)) (branch t (block_of x) (block_of y)) _ (k ∷ (e ++ (a ++ (o ∷ (z ++ rest))))) rest ls (ks ++ ms ++ ns) _ b i (simp append_assoc) (simp append_assoc)
     (begins_read (block n) (choosing (block n)) k (e ++ (a ++ (o ∷ (z ++ rest)))) rest (branch t (block_of x) (block_of y)) ls _ b (Is m.If) i hk refl (omega arith)
     (choosing_read (block n) e (a ++ (o ∷ (z ++ rest))) (o ∷ (z ++ rest)) rest t x y ks (ks ++ ms) (ks ++ ms ++ ns) b i w le (s (o ∷ (z ++ rest)))
@@ -331,8 +332,8 @@ follows_reads i n ss rs t ts ls ms o some other f g inside (suc turns) found b k
     let all : length (ls ++ ms) ≡ length ls + length ms = length-append ls ms in
     let both : length (ks ++ ls) ≡ length ks + length ls = length-append ks ls in
     let long : length (ss ++ rs) ≡ length ss + length rs = length-append ss rs in
-    let few1 : length ks + length ls ≤ 4096 = omega arith in
-    let few2 : length (ks ++ ls) + length ms ≤ 4096 = omega arith in
+    let few1 : length ks + length ls ≤ STATEMENTS_MAX = omega arith in
+    let few2 : length (ks ++ ls) + length ms ≤ STATEMENTS_MAX = omega arith in
     let less2 : length rs < turns = omega arith in
     let first = o (rs ++ rest) in
     same_gives (stmts (block n) inside (suc turns) found) (found ++ t ∷ ts) (ss ++ rs ++ rest) (ss ++ (rs ++ rest)) rest ks (ks ++ (ls ++ ms)) (ks ++ (ls ++ ms)) b i (append_assoc ss rs rest) refl
@@ -348,7 +349,7 @@ abbrev under : List Declared → Input → Input
 under ds i = record i { decls = ds }
 
 mutual
-  tree_read : (ds : List Declared) (i : Input) (ss : List Spot) (t : Tree) (ls : List ℕ) (w : WrittenTree ds ss t ls) (n : ℕ) → blocks t ≤ n → dearest ds ss t ls w ≤ 64 → TreeReads (under ds i) n ss t ls
+  tree_read : (ds : List Declared) (i : Input) (ss : List Spot) (t : Tree) (ls : List ℕ) (w : WrittenTree ds ss t ls) (n : ℕ) → blocks t ≤ n → dearest ds ss t ls w ≤ NESTING_MAX → TreeReads (under ds i) n ss t ls
   tree_read ds i _ _ _ (simply ss end s w h) n deep dear = simple_reads (under ds i) n s ss end w dear h
   tree_read ds i _ _ _ (repeats k e a t x ms hk w f) n deep dear =
       repeats_reads (under ds i) n k e a t x ms hk w (omega arith) (block_stops ds a x ms f) (block_read ds i a x ms f n (omega arith) (omega arith))
@@ -359,12 +360,12 @@ mutual
       (block_read ds i z y ns g n (omega arith) (omega arith))
 
   block_read : (ds : List Declared) (i : Input) (ss : List Spot) (ts : List Tree) (ls : List ℕ) (w : WrittenBlock ds ss ts ls) (n : ℕ) → blocks_in (block_of ts) < n
-      → dearest_block ds ss ts ls w ≤ 64 → BlockReads (under ds i) n ss ts ls
+      → dearest_block ds ss ts ls w ≤ NESTING_MAX → BlockReads (under ds i) n ss ts ls
   block_read ds i _ _ _ (braces a z ss ts ms ha w hz) n deep dear =
       braces_reads (under ds i) n (n - 1) a z ss ts ms (omega arith) ha hz (body_read ds i ss ts ms w (n - 1) (omega arith) dear)
 
   body_read : (ds : List Declared) (i : Input) (ss : List Spot) (ts : List Tree) (ls : List ℕ) (w : WrittenBody ds ss ts ls) (n : ℕ) → blocks_in (block_of ts) ≤ n
-      → dearest_body ds ss ts ls w ≤ 64 → BodyReads (under ds i) n ss ts ls
+      → dearest_body ds ss ts ls w ≤ NESTING_MAX → BodyReads (under ds i) n ss ts ls
   body_read ds i _ _ _ ended n deep dear = ended_reads (under ds i) n
   body_read ds i _ _ _ (follows ss rs t ts ls ms v w) n deep dear =
       follows_reads (under ds i) n ss rs t ts ls ms (tree_opens ds ss t ls v) (some_token ds ss t ls v) (body_other ds rs ts ms w)
@@ -373,21 +374,21 @@ mutual
 -- ---- at an input as it is
 
 pub tree_complete : (depth : ℕ) (ss rest : List Spot) (t : Tree) (ls : List ℕ) (i : Input) (w : WrittenTree i.decls ss t ls)
-    → i.tokens ≡ ss ++ rest → is_mark m.Else (token_of rest) ≡ false → blocks t ≤ depth → dearest i.decls ss t ls w ≤ 64 → length i.lines + length ls ≤ 4096
+    → i.tokens ≡ ss ++ rest → is_mark m.Else (token_of rest) ≡ false → blocks t ≤ depth → dearest i.decls ss t ls w ≤ NESTING_MAX → length i.lines + length ls ≤ STATEMENTS_MAX
     → Gives (stmt (block depth) i) t rest (i.lines ++ ls) i
 tree_complete depth ss rest t ls i w e last deep dear few =
     let g = tree_read i.decls i ss t ls w depth deep dear i.budget i.lines rest few last in
     record { left = g.left; is = ap (λ us. stmt (block depth) (on us i.lines i.budget i)) e ∙ g.is }
 
 pub block_complete : (depth : ℕ) (ss rest : List Spot) (ts : List Tree) (ls : List ℕ) (i : Input) (w : WrittenBlock i.decls ss ts ls)
-    → i.tokens ≡ ss ++ rest → blocks_in (block_of ts) < depth → dearest_block i.decls ss ts ls w ≤ 64 → length i.lines + length ls ≤ 4096
+    → i.tokens ≡ ss ++ rest → blocks_in (block_of ts) < depth → dearest_block i.decls ss ts ls w ≤ NESTING_MAX → length i.lines + length ls ≤ STATEMENTS_MAX
     → Gives (block depth i) ts rest (i.lines ++ ls) i
 block_complete depth ss rest ts ls i w e deep dear few =
     let g = block_read i.decls i ss ts ls w depth deep dear i.budget i.lines rest few in
     record { left = g.left; is = ap (λ us. block depth (on us i.lines i.budget i)) e ∙ g.is }
 
 pub body_complete : (depth : ℕ) (inside : Bool) (ss rest : List Spot) (ts : List Tree) (ls : List ℕ) (i : Input) (w : WrittenBody i.decls ss ts ls)
-    → i.tokens ≡ ss ++ rest → closes inside (token_of rest) ≡ true → blocks_in (block_of ts) ≤ depth → dearest_body i.decls ss ts ls w ≤ 64 → length i.lines + length ls ≤ 4096
+    → i.tokens ≡ ss ++ rest → closes inside (token_of rest) ≡ true → blocks_in (block_of ts) ≤ depth → dearest_body i.decls ss ts ls w ≤ NESTING_MAX → length i.lines + length ls ≤ STATEMENTS_MAX
     → Gives (body (block depth) inside i) ts rest (i.lines ++ ls) i
 body_complete depth inside ss rest ts ls i w e h deep dear few =
     let turns : length ss < length (ss ++ rest) + 1 = omega (arith, length-append ss rest) in

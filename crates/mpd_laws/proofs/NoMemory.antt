@@ -2,6 +2,7 @@
 use Rattle.std.proofs.Common.{◌≡◌, ◌≢◌, ℕ, zero, suc, ◌+◌, pos, ◌==◌, nat_lt, Bool, true, false, cond, List, [], ◌∷◌, ◌++◌, length, Option, Some, None, Result, Ok, Err}
 use Rattle.std.specs.List.{prefix_len}
 use Rattle.std.specs.Ordering.{int_eq}
+use Rattle.mpd_model.specs.declared.limits.TheConstants.{NESTING_MAX, STATEMENTS_MAX}
 use Rattle.mpd_model.specs.declared.expr.BinaryOp.{BinaryOp}
 use Rattle.mpd_model.specs.declared.expr.UnaryOp.{UnaryOp}
 use Rattle.mpd_model.specs.declared.expr.UnaryOp.TheVariants as u
@@ -62,7 +63,7 @@ spend_sure i = cond_sure (i.budget == 0) _ _ (λ e. absurd (cc)) tt
 
 count_sure : AllSure count
 unfolding count
-count_sure i = cond_sure (nat_lt (length i.lines) 4096) _ _ tt (λ e. absurd (cc))
+count_sure i = cond_sure (nat_lt (length i.lines) STATEMENTS_MAX) _ _ tt (λ e. absurd (cc))
 
 sought_sure : (k : DeclKind) (o : Option Slot) → AllSure (sought k o)
 sought_sure k None i = λ e. absurd (cc)
@@ -133,7 +134,7 @@ expr_sure zero k i = λ e. absurd (cc)
 expr_sure (suc n) k i = level_sure (expr n) (expr_sure n) k i
 
 expression_sure : AllSure expression
-expression_sure i = expr_sure 65 5 (record i { budget = max_budget })
+expression_sure i = expr_sure (suc NESTING_MAX) 5 (record i { budget = max_budget })
 
 -- ---- statements
 

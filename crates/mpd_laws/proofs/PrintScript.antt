@@ -3,6 +3,7 @@ use Rattle.std.proofs.Common.{◌≡◌, ℕ, pos, ◌≤◌, true, List, [], �
 use Rattle.std.specs.Prelude.{codes}
 use Rattle.std.specs.Fmt.{decimal}
 use Rattle.std.specs.List.{flat_map, list_all, prefix_len}
+use Rattle.mpd_model.specs.declared.limits.TheConstants.{CELLS_MAX}
 use Rattle.mpd_model.specs.declared.place.DeclKind.{DeclKind}
 use Rattle.mpd_model.specs.declared.place.DeclKind.TheVariants.{Variable, Handle}
 use Rattle.mpd_model.specs.declared.token.Mark.TheVariants as m
@@ -58,7 +59,7 @@ array_spots before ds w k h _ (both _ rs (both _ _ (both _ _ (both _ _ (one v h1
 abbrev declared : DeclKind → List ℕ → Option ℕ → Declared
 declared kind w o = record { kind = kind; name = w; size = o }
 
-decl_spelled : (before ds : List Declared) (kind : DeclKind) (w : List ℕ) (o : Option ℕ) → IsName w → kind ≡ Variable → slot_in before w ≡ None → variable_cells kind o ≤ 1024
+decl_spelled : (before ds : List Declared) (kind : DeclKind) (w : List ℕ) (o : Option ℕ) → IsName w → kind ≡ Variable → slot_in before w ≡ None → variable_cells kind o ≤ CELLS_MAX
     → Spelled Any (Rest before (declared kind w o) ds) (flat_map decl_text ds) → Spelled Any (Declares before (declared kind w o ∷ ds)) (decl_text (declared kind w o) ++ flat_map decl_text ds)
 decl_spelled before ds Handle w o named is new small x = absurd (let h : ⊥ = cc in h)
 decl_spelled before ds Variable w None named is new small x =
@@ -79,7 +80,7 @@ decl_spelled before ds Variable w (Some k) named is new small x =
     end_sign (λ z _. tt))
     x (λ z _. tt))
 
-decls_spelled : (before ds : List Declared) → AreNamed ds → AreVariables ds → AreNew before ds → variables_in ds ≤ 1024 → Spelled Any (Declares before ds) (flat_map decl_text ds)
+decls_spelled : (before ds : List Declared) → AreNamed ds → AreVariables ds → AreNew before ds → variables_in ds ≤ CELLS_MAX → Spelled Any (Declares before ds) (flat_map decl_text ds)
 decls_spelled before [] named kinds new small = turned [] (no_decls before) nil_spelled
 decls_spelled before (d ∷ ds) named kinds new small =
     decl_spelled before ds d.kind d.name d.size named.0 kinds.0 new.0 (omega arith) (decls_spelled (before ++ d ∷ []) ds named.1 kinds.1 new.1 (omega arith))

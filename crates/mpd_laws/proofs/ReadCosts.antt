@@ -2,6 +2,7 @@
 use Rattle.std.proofs.Common.{◌≡◌, ◌≢◌, ℕ, zero, suc, ◌+◌, ◌-◌, ◌≤◌, ◌==◌, Bool, true, false, cond, Option, Some, None, Ok, Err, refl, ap, sym, arith, inl, inr}
 use Rattle.std.proofs.lemmas.Bool.{cases_Bool}
 use Rattle.std.proofs.lemmas.Bool.Decides.{nat_tests}
+use Rattle.mpd_model.specs.declared.limits.TheConstants.{NESTING_MAX}
 use Rattle.mpd_model.specs.declared.expr.BinaryOp.{BinaryOp}
 use Rattle.mpd_model.specs.declared.expr.UnaryOp.{UnaryOp}
 use Rattle.mpd_model.specs.declared.expr.UnaryOp.TheVariants as u
@@ -210,4 +211,4 @@ expr_cheap (suc n) k i j t h = level_cheap (expr n) (expr_cheap n) k i j t h
 
 -- an expression that stands in no other is within the limit
 pub expression_cheap : (i : Input) (y : Term × Input) → expression i ≡ Ok y → term_cost 5 y.0 ≤ max_budget
-expression_cheap i y h = let x = expr_cheap 65 5 (record i { budget = max_budget }) y.1 y.0 h in omega (arith, x)
+expression_cheap i y h = let x = expr_cheap (suc NESTING_MAX) 5 (record i { budget = max_budget }) y.1 y.0 h in omega (arith, x)

@@ -1,5 +1,6 @@
 -- What is read as the parts of a statement is written so.
-use Rattle.std.proofs.Common.{◌≡◌, ℕ, Bool, true, false, cond, List, [], ◌∷◌, ◌++◌, Option, None, Some, is_some, Ok, refl, sym, subst, ◌∙◌, append_assoc}
+use Rattle.std.proofs.Common.{◌≡◌, ℕ, suc, Bool, true, false, cond, List, [], ◌∷◌, ◌++◌, Option, None, Some, is_some, Ok, refl, sym, subst, ◌∙◌, append_assoc}
+use Rattle.mpd_model.specs.declared.limits.TheConstants.{NESTING_MAX}
 use Rattle.mpd_model.specs.declared.place.DeclKind.TheVariants.{Variable}
 use Rattle.mpd_model.specs.declared.slot.Slot.{Slot}
 use Rattle.mpd_model.specs.declared.token.Mark.TheVariants as m
@@ -29,7 +30,7 @@ read_of_takes t i x j a b c tk = record {
 }
 
 pub expression_ok : (i : Input) (y : Term × Input) → expression i ≡ Ok y → Read y.0 i y.1
-expression_ok i y h = read_of_takes y.0 i (record i { budget = max_budget }) y.1 refl refl refl (expr_sound 65 5 (record i { budget = max_budget }) y.1 y.0 h)
+expression_ok i y h = read_of_takes y.0 i (record i { budget = max_budget }) y.1 refl refl refl (expr_sound (suc NESTING_MAX) 5 (record i { budget = max_budget }) y.1 y.0 h)
 
 -- an expression seen from where the statement began
 here : (t : Term) (i x j : Input) → x.decls ≡ i.decls → (r : Read t x j) → WrittenTerm i.decls 5 r.used t

@@ -3,6 +3,7 @@ use Rattle.std.proofs.Common.{◌≡◌, ℕ, zero, suc, ◌+◌, ℤ, pos, negs
 use Rattle.std.proofs.lemmas.Bool.Decides.{nat_tests}
 use Rattle.std.specs.List.{prefix_len}
 use Rattle.std.specs.Ordering.{int_eq}
+use Rattle.mpd_model.specs.declared.limits.TheConstants.{BLOCKS_MAX, RANKS_MAX}
 use Rattle.mpd_model.specs.declared.place.DeclKind.TheVariants.{Variable}
 use Rattle.mpd_model.specs.declared.read_fault.FaultCode.TheVariants.{NotInVersion, Twice, TooMany}
 use Rattle.mpd_model.specs.declared.read_fault.ReadFault.{ReadFault}
@@ -55,7 +56,7 @@ count_test true m n h = cc
 count_test false m n h = absurd (cc)
 
 count_is : (z : ℤ) (n : ℕ) → rank_count z ≡ Some n → z ≡ pos n
-count_is (pos m) n h = ap pos (count_test (nat_le 1 m && nat_le m 16) m n h)
+count_is (pos m) n h = ap pos (count_test (nat_le 1 m && nat_le m RANKS_MAX) m n h)
 count_is (negsuc m) n h = absurd (cc)
 
 ranks_test : (o : Option ℕ) (i : Input) (y : ℕ × Input) → ranks_of o i ≡ Ok y → (o ≡ Some y.0) × (y.1 ≡ advanced i)
@@ -350,7 +351,7 @@ lines_counted i x y n ts depth inside e h b =
     ap length l ∙ body_lines x.decls t.used ts t.begun t.written
 
 -- a header and a body are a script
-pub script_reads : (i x y : Input) (n : ℕ) (ts : List Tree) (ds : List Declared) (ls : List ℕ) → header i ≡ Ok (n, x) → body (block 64) false x ≡ Ok (ts, y) → ds ≡ y.decls → ls ≡ y.lines
+pub script_reads : (i x y : Input) (n : ℕ) (ts : List Tree) (ds : List Declared) (ls : List ℕ) → header i ≡ Ok (n, x) → body (block BLOCKS_MAX) false x ≡ Ok (ts, y) → ds ≡ y.decls → ls ≡ y.lines
     → read_of (grammar.script i) ≡ Ok (record { version = 1; ranks = n; decls = ds; body = ts; lines = ls })
 unfolding grammar.script
 script_reads i x y n ts ds ls h b same_decls same_lines = rw (h, b, same_decls, same_lines) refl

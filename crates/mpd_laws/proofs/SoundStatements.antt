@@ -1,5 +1,6 @@
 -- What the grammar's functions read as statements is written so.
 use Rattle.std.proofs.Common.{◌≡◌, ◌≢◌, ℕ, zero, suc, ◌+◌, Bool, true, false, cond, List, [], ◌∷◌, ◌++◌, Option, None, Some, Ok, refl, ap, sym, subst, ◌∙◌, append_assoc, length, nat_lt}
+use Rattle.mpd_model.specs.declared.limits.TheConstants.{STATEMENTS_MAX}
 use Rattle.mpd_model.specs.declared.place.DeclKind.TheVariants.{Variable}
 use Rattle.mpd_model.specs.declared.read_fault.FaultCode.TheVariants.{NotInVersion, TooDeep}
 use Rattle.mpd_model.specs.declared.slot.Slot.{Slot}
@@ -46,7 +47,7 @@ begun_ok : (i : Input) (y : Unit {0} × Input) → token i ≢ End → begun i �
 unfolding count advanced token
 begun_ok i y some h =
     let b = bind_ok (count i) _ y h in
-    let c = test_ok (nat_lt (length i.lines) 4096) _ _ b.0 b.1 in
+    let c = test_ok (nat_lt (length i.lines) STATEMENTS_MAX) _ _ b.0 b.1 in
     let o = ok_parts (tt, advanced b.0.1) y b.2 in
     let t : y.1.tokens ≡ behind b.0.1.tokens = sym (ap (λ k. k.tokens) o.1) in
     let d : y.1.decls ≡ b.0.1.decls = sym (ap (λ k. k.decls) o.1) in
