@@ -39,9 +39,10 @@ numbered_from (u ∷ vs) k (suc m) (suc p) v e h read = numbered_from vs (k + 1)
 
 -- so a rank that was read steps as the rank there
 as_numbered : (s : Program) (vs : List RankView) (n p : ℕ) (v : RankView) → n ≡ length vs → p < n → v ≡ get_or vs p v → numbers_in vs ≡ range_with_len 0 s.ranks → (v.rank ≡ p) × (s.ranks ≡ n)
-as_numbered s vs n p v e h read numbers =
-    (numbered_from vs 0 s.ranks p v numbers (omega (arith, e)) read ∙ omega arith,
-    sym (length-range_with_len 0 s.ranks) ∙ ap length (sym numbers) ∙ length-map vs (λ (x : RankView). x.rank) ∙ sym e)
+as_numbered s vs n p v e h read numbers = (
+  numbered_from vs 0 s.ranks p v numbers (omega (arith, e)) read ∙ omega arith,
+  sym (length-range_with_len 0 s.ranks) ∙ ap length (sym numbers) ∙ length-map vs (λ (x : RankView). x.rank) ∙ sym e,
+)
 
 pub numbers_set : (vs : List RankView) (p : ℕ) (v w : RankView) → v ≡ get_or vs p v → w.rank ≡ v.rank → numbers_in (set vs p w) ≡ numbers_in vs
 numbers_set [] p v w read same = refl
