@@ -203,4 +203,13 @@ plain_uncollected engine.WriteFailed s t v h = absurd h
 plain_uncollected engine.TooManyTurns s t v h = (h.0, h.1, h.3, h.4, h.5, inl (h.2, refl))
 plain_uncollected engine.Memory s t v h = refl
 
+-- the calls of the script, and those behind it
+pub counted_on : (n turns reads writes : ℕ) (s t u : SourceSeen) (v w : SinkSeen) → t.calls ≡ s.calls + n → n + turns ≡ 1000000 → t.failures ≡ s.failures
+    → Counted turns reads writes t u v w → Counted 1000000 reads writes s u v w
+counted_on n turns reads writes s t u v w calls all failures c = record {
+  calls = (let a = c.calls in omega (arith, a, calls, all));
+  reads_failed = c.reads_failed ∙ ap (λ k. k + reads) failures;
+  writes_failed = c.writes_failed;
+}
+
 pub ruleset plainly = (plain_refused, counted_refused, plain_ended, plain_uncollected)
