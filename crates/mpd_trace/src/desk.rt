@@ -4,6 +4,7 @@ ghost use Rattle.std.specs.Prelude.{◌≡◌, ℕ, ◌+◌, ◌≤◌, List, le
 ghost use Rattle.mpd_model.specs.Trail.{first_standing};
 ghost use Rattle.mpd_model.specs.Answers.{AnswerOrMemory, ok_text, refused_text};
 ghost use Rattle.mpd_trace.specs.Replies.{Replies};
+ghost use Rattle.mpd_trail.specs.Views.{standing_of};
 
 use crate::show::show;
 use itoa::Buffer;
@@ -49,7 +50,7 @@ fn refuse(out: &mut Vec<u8>, name: &str)
 #[tactic(auto, using(crate::proofs::DeskLemmas::replying))]
 fn answer_step(debugger: &mut Debugger<'_>, step: Step, out: &mut Vec<u8>)
     requires { vec_len out.old + ROOM ≤ vec_capacity out.old }
-    ensures replies { Replies out.old.items out.new.items debugger.old (Some (Word.Step step)) debugger.new }
+    ensures replies { Replies out.old.items out.new.items (standing_of debugger.old) (Some (Word.Step step)) (standing_of debugger.new) }
     ensures capacity { vec_capacity out.old ≤ vec_capacity out.new }
 {
     let reply = answer(debugger, Command::Apply(step));
@@ -67,7 +68,7 @@ fn answer_step(debugger: &mut Debugger<'_>, step: Step, out: &mut Vec<u8>)
 #[tactic(auto, using(crate::proofs::DeskLemmas::replying))]
 fn answer_back(debugger: &mut Debugger<'_>, out: &mut Vec<u8>)
     requires { vec_len out.old + ROOM ≤ vec_capacity out.old }
-    ensures replies { Replies out.old.items out.new.items debugger.old (Some Word.Back) debugger.new }
+    ensures replies { Replies out.old.items out.new.items (standing_of debugger.old) (Some Word.Back) (standing_of debugger.new) }
     ensures capacity { vec_capacity out.old ≤ vec_capacity out.new }
 {
     match answer(debugger, Command::Undo) {
@@ -81,7 +82,7 @@ fn answer_back(debugger: &mut Debugger<'_>, out: &mut Vec<u8>)
 #[tactic(auto, using(crate::proofs::DeskLemmas::replying))]
 fn answer_show(alloc: Global, debugger: &Debugger<'_>, out: &mut Vec<u8>)
     requires { vec_len out.old + ROOM ≤ vec_capacity out.old }
-    ensures replies { Replies out.old.items out.new.items debugger.now (Some Word.Show) debugger.now }
+    ensures replies { Replies out.old.items out.new.items (standing_of debugger.now) (Some Word.Show) (standing_of debugger.now) }
     ensures capacity { vec_capacity out.old ≤ vec_capacity out.new }
 {
     let kept = debugger.steps().len();
@@ -98,7 +99,7 @@ fn answer_show(alloc: Global, debugger: &Debugger<'_>, out: &mut Vec<u8>)
 #[tactic(auto, using(crate::proofs::DeskLemmas::replying))]
 fn answer_other(debugger: &Debugger<'_>, out: &mut Vec<u8>)
     requires { vec_len out.old + ROOM ≤ vec_capacity out.old }
-    ensures replies { Replies out.old.items out.new.items debugger.now None debugger.now }
+    ensures replies { Replies out.old.items out.new.items (standing_of debugger.now) None (standing_of debugger.now) }
     ensures capacity { vec_capacity out.old ≤ vec_capacity out.new }
 {
     let _ = debugger.core();
@@ -113,7 +114,7 @@ fn answer_command(
     out: &mut Vec<u8>,
 )
     requires { vec_len out.old + ROOM ≤ vec_capacity out.old }
-    ensures replies { Replies out.old.items out.new.items debugger.old command debugger.new }
+    ensures replies { Replies out.old.items out.new.items (standing_of debugger.old) command (standing_of debugger.new) }
     ensures capacity { vec_capacity out.old ≤ vec_capacity out.new }
 {
     match command {
@@ -129,7 +130,7 @@ fn answer_command(
 fn answer_line(alloc: Global, debugger: &mut Debugger<'_>, line: &[u8], out: &mut Vec<u8>)
     requires line { length line.now ≤ 4096 }
     requires room { vec_len out.old + ROOM ≤ vec_capacity out.old }
-    ensures said { (text : List ℕ) × (out.new.items ≡ out.old.items ++ text) × AnswerOrMemory debugger.old line.now text debugger.new }
+    ensures said { (text : List ℕ) × (out.new.items ≡ out.old.items ++ text) × AnswerOrMemory (standing_of debugger.old) line.now text (standing_of debugger.new) }
     ensures capacity { vec_capacity out.old ≤ vec_capacity out.new }
 {
     let _ = debugger.core();
@@ -147,12 +148,13 @@ pub struct TraceDesk<'c> {
 
 impl<'c> Model for TraceDesk<'c> {
     ghost use Rattle.mpd_model.specs.Trail.{Standing, standing_code};
+    ghost use Rattle.mpd_trail.specs.Views.{standing_of};
 
     ghost Value = { Standing };
 
     ghost coded = { standing_code };
 
-    ghost view = { λ d. d.debugger };
+    ghost view = { λ d. standing_of d.debugger };
 }
 
 impl<'c> TraceDesk<'c> {
