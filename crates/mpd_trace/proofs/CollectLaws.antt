@@ -1,12 +1,12 @@
 -- What was read of an input up to the line that divides it.
-use Rattle.std.proofs.Common.{◌≡◌, ℕ, zero, suc, false, ◌+◌, ◌<◌, ◌≤◌, List, [], ◌++◌, length, drop, take, Option, Some, None, Result, Ok, Err, IfOk, IfErr, refl, ap, sym, subst, ◌∙◌, append_assoc, append-nil, arith, length-append}
+use Rattle.std.proofs.Common.{◌≡◌, ℕ, zero, suc, false, ◌+◌, ◌<◌, ◌≤◌, List, [], ◌++◌, length, drop, Option, Some, None, Result, Ok, Err, IfOk, IfErr, refl, ap, sym, subst, ◌∙◌, append_assoc, arith, length-append}
 use Rattle.std.specs.Io.KnownBytes.{Consumes, IsAtEnd, Keeps}
 use Rattle.mpd_device.specs.Seen.{SourceSeen}
 use Rattle.mpd_device.specs.Ends.{ends_of}
 use Rattle.mpd_device.specs.declared.device.DeviceFault.{DeviceFault}
 use Rattle.mpd_model.specs.Lines.{divided}
 use Rattle.mpd_lines.specs.declared.engine.EngineFault.{EngineFault}
-use Rattle.mpd_lines.specs.declared.engine.EngineFault.TheVariants.{ReadFailed, WriteFailed, TooManyTurns, Memory}
+use Rattle.mpd_lines.specs.declared.engine.EngineFault.TheVariants.{Memory}
 use Rattle.mpd_trace.specs.Divided.{Begun, begun, splits, IsOpen, IsHeld}
 use Rattle.mpd_trace.specs.Collected.{IsJustRead, HeadOf, Collected, Follows}
 use Rattle.mpd_trace.specs.declared.plain.HeadEnd.{HeadEnd}

@@ -1,17 +1,16 @@
 -- What a line gets, by the reply to its command.
-use Rattle.std.proofs.Common.{◌≡◌, ℕ, ◌+◌, ◌-◌, ◌<◌, ◌≤◌, Bool, if◌then◌else◌, true, false, List, [], ◌++◌, length, Option, Some, None, IsSome, refl, ap, sym, subst, ◌∙◌, arith, inl, inr, append-nil, nat_lt, ◌==◌}
+use Rattle.std.proofs.Common.{◌≡◌, ℕ, ◌+◌, ◌-◌, ◌<◌, ◌≤◌, Bool, if◌then◌else◌, true, false, List, [], ◌++◌, length, Option, Some, None, IsSome, refl, ap, sym, ◌∙◌, arith, inl, inr, append-nil, nat_lt, ◌==◌}
 use Rattle.std.proofs.lemmas.Bool.Decides.{nat_tests}
 use Rattle.std.proofs.lemmas.Bool.{le-ltb}
 use Rattle.mpd_model.specs.declared.step.Step.{Step}
-use Rattle.mpd_model.specs.declared.words.Command.{Command}
 use Rattle.mpd_model.specs.declared.words.Command.TheVariants as command
 use Rattle.mpd_model.specs.World.{World}
 use Rattle.mpd_model.specs.Next.{next}
 use Rattle.mpd_model.specs.Trail.{Trail, Standing, IsReached, applied, taken_back}
 use Rattle.mpd_model.specs.Words.{has_word, command_of}
 use Rattle.mpd_model.specs.Texts.{show_text}
-use Rattle.mpd_model.specs.Answers.{AnswerOrMemory, MayWantMemory, is_too_long, max_depth, ok_text, refused_bad_word, refused_memory, refused_full, refused_at_start, refused_not_enabled, step_answer, back_answer}
-use Rattle.mpd_trail.specs.Run.{Stays, Carried}
+use Rattle.mpd_model.specs.Answers.{AnswerOrMemory, is_too_long, max_depth, ok_text, refused_bad_word, refused_memory, refused_full, refused_at_start, refused_not_enabled, step_answer, back_answer}
+use Rattle.mpd_trail.specs.Run.{Carried}
 use Rattle.mpd_trail.specs.declared.run.Command.TheVariants.{Apply, Undo}
 use Rattle.mpd_trail.specs.declared.run.Reply.TheVariants.{Done, NotEnabled, Full, AtStart, Memory}
 use Rattle.mpd_trace.specs.Replies.{CommandAnswer, CommandMemory, Replies}

@@ -2,10 +2,10 @@
 use Rattle.std.proofs.Common.{◌≡◌, ◌≢◌, ℕ, ◌+◌, ◌<◌, ◌≤◌, arith, get_or, drop, drop-cons, add-one, Bool, true, false, ◌&&◌, ◌||◌, ◌==◌, not, if◌then◌else◌, List, [], ◌∷◌, ◌++◌, length, refl, ap, sym, subst, ◌∙◌, append_assoc, append-nil}
 use Rattle.mpd_model.specs.Lines.{raw_lines, grow, joined, bare, divided, divided_lines, is_divider, same_bytes, is_ending, is_feed, is_none}
 use Rattle.std.proofs.lemmas.Bool.{eqb-true}
-use Rattle.mpd_trace.specs.Divided.{Begun, begun, added, is_prefix, may_divide, ends_script, splits, settled_lines, has_divider, IsOpen, IsHeld, ByteBrings, Measures}
+use Rattle.mpd_trace.specs.Divided.{Begun, begun, added, is_prefix, may_divide, ends_script, splits, settled_lines, ByteBrings, Measures}
 use Rattle.mpd_trace.specs.declared.divider.Taken.{Taken}
 use Rattle.mpd_trace.specs.declared.divider.Taken.TheVariants.{Open, Here, TooLong}
-use Rattle.mpd_laws.proofs.LineCuts.{is_part, ending_line, joined_raw_lines, raw_feed, raw_part, bare_part, part_snoc, part_head, part_tail, and_first, and_second, and_both}
+use Rattle.mpd_laws.proofs.LineCuts.{is_part, joined_raw_lines, raw_feed, raw_part, bare_part, part_snoc, part_head, part_tail, and_first, and_second, and_both}
 
 abbrev Halves : Type 0
 Halves = List ℕ × List ℕ

@@ -1,9 +1,9 @@
 -- As long as the line that divides has not come, it may come.
-use Rattle.std.proofs.Common.{◌≡◌, ℕ, ◌≤◌, Bool, true, false, ◌&&◌, ◌==◌, not, if◌then◌else◌, List, [], ◌∷◌, ◌++◌, length, refl, ap, sym, subst, ◌∙◌, append_assoc, append-nil}
+use Rattle.std.proofs.Common.{◌≡◌, ℕ, ◌≤◌, Bool, true, false, ◌==◌, not, if◌then◌else◌, List, [], ◌∷◌, ◌++◌, length, refl, ap, sym, subst, ◌∙◌, append_assoc, append-nil}
 use Rattle.std.proofs.lemmas.Bool.{eqb-true}
-use Rattle.mpd_model.specs.Lines.{raw_lines, joined, divided, divided_lines, is_divider, is_none}
+use Rattle.mpd_model.specs.Lines.{joined, divided, divided_lines, is_divider, is_none}
 use Rattle.mpd_laws.proofs.LineCuts.{raw_feed, and_first, and_second}
-use Rattle.mpd_trace.specs.Divided.{Begun, begun, is_prefix, may_divide, splits, settled_lines, has_divider, IsOpen, IsHeld}
+use Rattle.mpd_trace.specs.Divided.{Begun, begun, is_prefix, may_divide, splits, has_divider, IsOpen, IsHeld}
 use Rattle.mpd_trace.proofs.DividedLaws.{may_divide_part}
 
 abbrev Halves : Type 0

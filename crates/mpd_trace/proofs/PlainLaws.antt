@@ -1,5 +1,5 @@
 -- What comes of an input that has a script and the lines of its trace.
-use Rattle.std.proofs.Common.{◌≡◌, ◌≢◌, ℕ, ◌+◌, ◌-◌, ◌<◌, ◌≤◌, nat_lt, Bool, true, false, if◌then◌else◌, ◌⊎◌, inl, inr, List, [], ◌++◌, length, count_by, ◌==◌, Option, Some, None, Result, Ok, Err, refl, ap, sym, subst, ◌∙◌, append_assoc, append-nil, arith, length-append}
+use Rattle.std.proofs.Common.{◌≡◌, ◌≢◌, ℕ, ◌+◌, ◌<◌, ◌≤◌, nat_lt, true, false, if◌then◌else◌, inl, inr, List, [], ◌++◌, length, count_by, ◌==◌, Option, Some, None, Result, Ok, Err, refl, ap, sym, subst, ◌∙◌, append-nil, arith, length-append}
 use Rattle.std.proofs.lemmas.Bool.{lt-ltb, cond-true}
 use Rattle.std.proofs.lemmas.List.{take-append-le}
 use Rattle.std.specs.Io.KnownBytes.{Appends, Consumes}
@@ -15,12 +15,10 @@ use Rattle.mpd_model.specs.declared.read_fault.ReadFault.{ReadFault}
 use Rattle.mpd_model.specs.declared.read_fault.FaultCode.TheVariants as code
 use Rattle.mpd_lines.specs.Telling.{Tells, TellsPart}
 use Rattle.mpd_lines.specs.Served.{Served, Counted}
-use Rattle.mpd_lines.specs.FaultWords.{failed_reads, failed_writes}
 use Rattle.mpd_lines.specs.declared.engine.EngineFault.{EngineFault}
 use Rattle.mpd_lines.specs.declared.engine.EngineFault.TheVariants as engine
-use Rattle.mpd_trace.specs.Divided.{has_divider, IsOpen}
-use Rattle.mpd_trace.specs.Collected.{HeadOf, Collected, CollectCounted, IsJustRead}
-use Rattle.mpd_trace.specs.Plain.{line_at, IsRefused, Traces, TracesPart, TracesSoFar, PlainServed}
+use Rattle.mpd_trace.specs.Collected.{HeadOf, Collected, IsJustRead}
+use Rattle.mpd_trace.specs.Plain.{line_at, IsRefused, TracesSoFar, PlainServed}
 use Rattle.mpd_trace.specs.PlainFaults.{is_memory, refused_as, plain_failed_reads, plain_failed_writes}
 use Rattle.mpd_trace.specs.declared.plain.HeadEnd.{HeadEnd}
 use Rattle.mpd_trace.specs.declared.plain.HeadEnd.TheVariants.{InputEnds, LineDivides, TooLong}
@@ -176,15 +174,24 @@ plain_fault engine.WriteFailed read script behind text n turns s t u v w p e sam
   read ++ more,
   consumes_append s.remaining t.remaining u.remaining read more c consumed,
   divider_came read script behind more b.1,
-  inl (p, reads_so read script behind text more p same (b.1 more) ok,
-      part_by (first_standing p Rendezvous) (ended_lines (behind ++ more)) (ended_lines (divided (read ++ more)).1) v w (ap (λ (x : Halves). ended_lines x.1) (sym (b.1 more))) h),
+  inl (
+    p,
+    reads_so read script behind text more p same (b.1 more) ok,
+    part_by (first_standing p Rendezvous) (ended_lines (behind ++ more)) (ended_lines (divided (read ++ more)).1) v w (ap (λ (x : Halves). ended_lines x.1) (sym (b.1 more))) h,
+  ),
 )
 plain_fault engine.WriteFailed read script behind text n turns s t u v w p e same c b ok all calls (more, consumed, inr h) = (
   read ++ more,
   consumes_append s.remaining t.remaining u.remaining read more c consumed,
   divider_came read script behind more b.1,
-  inr (h.0, (p, reads_so read script behind text more p same (b.1 more) ok,
-      part_by (first_standing p Rendezvous) (lines_of (behind ++ more)) (lines_of (divided (read ++ more)).1) v w (ap (λ (x : Halves). lines_of x.1) (sym (b.1 more))) h.1)),
+  inr (
+    h.0,
+    (
+      p,
+      reads_so read script behind text more p same (b.1 more) ok,
+      part_by (first_standing p Rendezvous) (lines_of (behind ++ more)) (lines_of (divided (read ++ more)).1) v w (ap (λ (x : Halves). lines_of x.1) (sym (b.1 more))) h.1,
+    ),
+  ),
 )
 plain_fault engine.TooManyTurns read script behind text n turns s t u v w p e same c b ok all calls h = (
   read ++ h.0,

@@ -11,7 +11,6 @@ use Rattle.mpd_model.specs.declared.call.Mode.TheVariants.{Rendezvous}
 use Rattle.mpd_model.specs.declared.read_fault.ReadFault.{ReadFault}
 use Rattle.mpd_model.specs.declared.read_fault.FaultCode.TheVariants as code
 use Rattle.mpd_lines.specs.Telling.{Tells, TellsPart}
-use Rattle.mpd_lines.specs.declared.engine.EngineFault.{EngineFault}
 use Rattle.mpd_lines.specs.declared.engine.EngineFault.TheVariants.{ReadFailed, WriteFailed, TooManyTurns, Memory}
 use Rattle.mpd_trace.specs.Divided.{has_divider, IsOpen}
 use Rattle.mpd_trace.specs.Collected.{IsJustRead}

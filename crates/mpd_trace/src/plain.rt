@@ -12,11 +12,11 @@ use crate::divider::{Divider, Division};
 use crate::trace::trace_behind;
 use mpd_code::lower::lower;
 use mpd_device::device::{Sink, Source};
+use mpd_lines::engine::{EngineFault, READ_MAX, TURNS_MAX};
 use mpd_model::call::Mode;
 use mpd_model::read_fault::{FaultCode, ReadFault};
 use mpd_model::script::Script;
 use mpd_script::read;
-use mpd_lines::engine::{EngineFault, READ_MAX, TURNS_MAX};
 use std::alloc::Global;
 use std::fmt;
 
