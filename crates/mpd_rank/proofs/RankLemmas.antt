@@ -7,7 +7,7 @@ use Rattle.mpd_model.specs.Program.{Program}
 use Rattle.mpd_model.specs.World.{RankWorld}
 use Rattle.mpd_code.specs.Left.{left_at}
 use Rattle.mpd_rank.specs.declared.change.RankRecord.{RankRecord}
-use Rattle.mpd_rank.specs.Views.{RankView, rank_of, listed}
+use Rattle.mpd_rank.specs.Views.{RankView, rank_of, listed, first_of, first_listed}
 use Rattle.mpd_rank.specs.Undone.{held, all_held, assigned_change, put_back, undone_rank}
 use Rattle.mpd_rank.specs.Records.{plan_record}
 use Rattle.mpd_rank.specs.declared.plan.LocalPlan.TheVariants.{Assign}
@@ -48,4 +48,12 @@ assign_back s v w d c next x done recorded running =
     ∙ undone_assigned s before v.node (held v.vars c)
     ∙ (λ i. record (rank_of s v) { vars = write_held v.vars c x i; activity = sym running i })
 
-pub ruleset committing = (written_back, assign_back)
+-- what a list of one cell at most holds
+pub first_held : (o : Option (ℕ × ℤ)) (ws : List (ℕ × ℤ)) → ws ≡ listed o → o ≡ first_of ws
+first_held o ws e = sym (first_listed o) ∙ ap first_of (sym e)
+
+-- the same of one cell at most
+pub first_back : (vars after : List ℤ) (ws held : List (ℕ × ℤ)) (o : Option (ℕ × ℤ)) → held ≡ all_held vars ws → held ≡ listed o → after ≡ write_cells ws vars → write_cells (listed o) after ≡ vars
+first_back vars after ws held o e f g = ap (λ l. write_cells l after) (sym f ∙ e) ∙ ap (write_cells (all_held vars ws)) g ∙ written_back vars ws
+
+pub ruleset committing = (first_held, first_back, assign_back)

@@ -1,5 +1,5 @@
 -- What a node does, and what its plan makes of a rank.
-use Rattle.std.specs.Prelude.{ℕ, ℤ, List, [], ◌∷◌, ◌++◌, slice_set, if◌then◌else◌, Result, Ok, Err}
+use Rattle.std.specs.Prelude.{ℕ, ℤ, [], ◌∷◌, ◌++◌, slice_set, if◌then◌else◌, Result, Ok, Err}
 use Rattle.mpd_model.specs.declared.call.Activity.TheVariants.{Blocked}
 use Rattle.mpd_model.specs.declared.call.CallKind.{CallKind}
 use Rattle.mpd_model.specs.declared.call.Trap.{Trap as Reason}

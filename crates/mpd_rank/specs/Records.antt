@@ -16,7 +16,7 @@ use Rattle.mpd_rank.specs.declared.change.RankRecord.{RankRecord}
 use Rattle.mpd_rank.specs.declared.plan.LocalPlan.{LocalPlan}
 use Rattle.mpd_rank.specs.declared.plan.LocalPlan.TheVariants as plan
 use Rattle.mpd_rank.specs.Undone.{held, all_held, assigned_change}
-use Rattle.mpd_rank.specs.Views.{RankView}
+use Rattle.mpd_rank.specs.Views.{RankView, first_of}
 
 -- ---- of a statement, by what it evaluates to: a trap is a change of its own
 
@@ -65,7 +65,7 @@ local_record p n r = record_by (env_of p n r) r.activity r.rest
 
 -- the record of a wake, which moves no rank: what the written cells held
 abbrev pub wake_record : List ℤ → List (ℕ × ℤ) → RankRecord
-wake_record vars writes = record { from = 0; change = Woke (all_held vars writes) }
+wake_record vars writes = record { from = 0; change = Woke (first_of (all_held vars writes)) }
 
 -- ---- of a plan
 

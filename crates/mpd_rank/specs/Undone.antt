@@ -33,7 +33,7 @@ put_back s r from Printed = record r { rest = left_at s from; out = take (length
 put_back s r from Issued = record r { rest = left_at s from; calls = take (length r.calls - 1) r.calls; activity = Running }
 put_back s r from Trapped = record r { rest = left_at s from; activity = Running }
 put_back s r from Matched = r
-put_back s r from (Woke was) = record r { vars = write_cells was r.vars; activity = Blocked }
+put_back s r from (Woke was) = record r { vars = write_cells (listed was) r.vars; activity = Blocked }
 
 abbrev pub undone_rank : Program → RankWorld → RankRecord → RankWorld
 undone_rank s r done = put_back s r done.from done.change

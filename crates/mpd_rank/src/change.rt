@@ -6,20 +6,25 @@ use std::marker::Model;
 
 /// Cells, in order, each with a value: what a wake writes, or what cells held that it wrote. Contracts see a list. There is one
 /// at most.
-#[derive(Debug, Drop)]
+#[derive(Clone, Copy, Debug, PartialEq, Eq)]
 pub struct Cells {
     pub(crate) first: Option<(usize, i64)>,
 }
 
 impl Model for Cells {
     ghost use Rattle.std.specs.Prelude.{ℕ, ℤ, List};
-    ghost use Rattle.mpd_rank.specs.Views.{cells_code, listed};
+    ghost use Rattle.std.proofs.Common.{ap};
+    ghost use Rattle.mpd_rank.specs.Views.{cells_code, listed, first_of, first_listed};
 
     ghost Value = { List (ℕ × ℤ) };
 
     ghost coded = { cells_code };
 
     ghost view = { λ c. listed c.first };
+
+    ghost inverse = { λ l. record { first = first_of l } };
+
+    ghost inverse_ok = { λ c h. ap (λ o. record { first = o }) (first_listed c.first) };
 }
 
 impl Cells {
@@ -41,7 +46,7 @@ impl Cells {
 }
 
 /// What a step did beside moving its rank's node.
-#[derive(Debug, Drop)]
+#[derive(Clone, Copy, Debug, PartialEq, Eq)]
 pub enum Change {
     Moved,
     /// The cell that was written, and what it held.
@@ -50,13 +55,13 @@ pub enum Change {
     Issued,
     Trapped,
     Matched,
-    /// The cells that were written, the last first, and what each held.
-    Woke(Cells),
+    /// The cell that was written, if any, and what it held.
+    Woke(Option<(usize, i64)>),
 }
 
 /// What takes the step of a rank back: the node before it, which is 0 at a wake, since that moves no rank, and what else it did.
 /// It holds no collection.
-#[derive(Debug, Drop)]
+#[derive(Clone, Copy, Debug, PartialEq, Eq)]
 pub struct RankRecord {
     pub from: usize,
     pub change: Change,

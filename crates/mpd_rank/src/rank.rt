@@ -213,7 +213,7 @@ impl RankState {
         self.activity = Activity::Running;
         RankRecord {
             from: 0,
-            change: Change::Woke(was),
+            change: Change::Woke(was.first),
         }
     }
 
@@ -226,7 +226,7 @@ impl RankState {
         match change {
             Change::Matched => return,
             Change::Woke(was) => {
-                let _ = self.write_all(was);
+                let _ = self.write_all(Cells { first: was });
                 self.activity = Activity::Blocked;
                 return;
             }
