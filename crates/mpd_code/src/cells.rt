@@ -3,6 +3,7 @@
 ghost use Rattle.std.specs.Prelude.{◌≡◌, ◌≤◌};
 ghost use Rattle.mpd_model.specs.Declaration.{cells_of, variable_cells, handle_cells, variables_in, handles_in};
 
+use mpd_model::limits::{CELLS_MAX, HANDLES_MAX};
 use mpd_model::place::{Decl, DeclKind};
 
 /// How many cells one name or array has.
@@ -37,7 +38,7 @@ fn handle_cell_count(decl: &Decl) -> usize
 
 /// How many cells all variables have.
 pub(crate) fn variable_count(decls: &[Decl]) -> usize
-    requires { variables_in decls.now ≤ 1024 }
+    requires { variables_in decls.now ≤ CELLS_MAX }
     ensures { result ≡ variables_in decls.now }
 {
     let mut total = 0;
@@ -49,7 +50,7 @@ pub(crate) fn variable_count(decls: &[Decl]) -> usize
 
 /// How many handles there are.
 pub(crate) fn handle_count(decls: &[Decl]) -> usize
-    requires { handles_in decls.now ≤ 256 }
+    requires { handles_in decls.now ≤ HANDLES_MAX }
     ensures { result ≡ handles_in decls.now }
 {
     let mut total = 0;

@@ -7,6 +7,7 @@ ghost use Rattle.mpd_code.specs.Left.{left_at};
 ghost use Rattle.mpd_code.specs.Stands.{Stands};
 
 use crate::node::Node;
+use mpd_model::limits::{CELLS_MAX, HANDLES_MAX, RANKS_MAX, STATEMENTS_MAX};
 use mpd_model::place::Decl;
 use mpd_model::script::Script;
 use std::marker::Model;
@@ -73,7 +74,7 @@ impl Code {
     #[tactic(auto, using(crate::proofs::Standing::standing))]
     pub fn nodes(&self) -> usize
         ensures value { result ≡ statements_in (block_of self.now.program.body) }
-        ensures bound { result ≤ 4096 }
+        ensures bound { result ≤ STATEMENTS_MAX }
         ensures end { left_at self.now.program result ≡ [] }
     {
         self.nodes.len()
@@ -98,7 +99,7 @@ impl Code {
     pub fn ranks(&self) -> usize
         ensures value { result ≡ self.now.program.ranks }
         ensures some { 1 ≤ result }
-        ensures small { result ≤ 16 }
+        ensures small { result ≤ RANKS_MAX }
     {
         self.ranks
     }
@@ -106,7 +107,7 @@ impl Code {
     /// How many cells its variables have.
     pub fn cells(&self) -> usize
         ensures value { result ≡ variables_in self.now.program.decls }
-        ensures bound { result ≤ 1024 }
+        ensures bound { result ≤ CELLS_MAX }
     {
         self.cells
     }
@@ -114,7 +115,7 @@ impl Code {
     /// How many handles it has.
     pub fn handles(&self) -> usize
         ensures value { result ≡ handles_in self.now.program.decls }
-        ensures bound { result ≤ 256 }
+        ensures bound { result ≤ HANDLES_MAX }
     {
         self.handles
     }

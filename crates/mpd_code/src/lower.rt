@@ -8,6 +8,7 @@ use crate::cells::{handle_count, variable_count};
 use crate::code::Code;
 use crate::node::{Action, Node};
 use mpd_model::expr::Expr;
+use mpd_model::limits::STATEMENTS_MAX;
 use mpd_model::script::Script;
 use mpd_model::stmt::{Stmt, StmtNode};
 use std::alloc::{AllocError, Global};
@@ -17,7 +18,7 @@ use std::snapshot::Snapshot;
 #[tactic(auto, using(crate::proofs::Counts::falling))]
 #[cycle(count)]
 fn count(stmt: &Stmt) -> usize
-    requires { statements stmt.now ≤ 4096 }
+    requires { statements stmt.now ≤ STATEMENTS_MAX }
     ensures { result ≡ statements stmt.now }
 {
     match &stmt.node {
@@ -31,7 +32,7 @@ fn count(stmt: &Stmt) -> usize
 #[tactic(auto, using(crate::proofs::Counts::falling))]
 #[cycle(count)]
 fn count_all(block: &[Stmt]) -> usize
-    requires { statements_in (block_of block.now) ≤ 4096 }
+    requires { statements_in (block_of block.now) ≤ STATEMENTS_MAX }
     ensures { result ≡ statements_in (block_of block.now) }
 {
     let mut total = 0;
@@ -53,7 +54,7 @@ fn entry(number: usize, block: &[Stmt], next: usize) -> usize
 #[tactic(auto, using(crate::proofs::Placed::placing))]
 #[cycle(place)]
 fn place(nodes: &mut Vec<Node>, stmt: Stmt, next: usize) -> Result<(), AllocError>
-    requires { length nodes.old.items + statements stmt ≤ 4096 }
+    requires { length nodes.old.items + statements stmt ≤ STATEMENTS_MAX }
     ensures { OnOk result (nodes.new.items ≡ nodes.old.items ++ lowered_one (length nodes.old.items) stmt next) }
 {
     match stmt.node {
@@ -73,7 +74,7 @@ fn place_branch(
     second: Vec<Stmt>,
     next: usize,
 ) -> Result<(), AllocError>
-    requires { length nodes.old.items + statements_in (block_of first.items) + statements_in (block_of second.items) + 1 ≤ 4096 }
+    requires { length nodes.old.items + statements_in (block_of first.items) + statements_in (block_of second.items) + 1 ≤ STATEMENTS_MAX }
     ensures { OnOk result (nodes.new.items ≡ nodes.old.items ++ lowered_one (length nodes.old.items) (branch test (block_of first.items) (block_of second.items)) next) }
 {
     let number = nodes.len() + 1;
@@ -97,7 +98,7 @@ fn place_repeat(
     body: Vec<Stmt>,
     next: usize,
 ) -> Result<(), AllocError>
-    requires { length nodes.old.items + statements_in (block_of body.items) + 1 ≤ 4096 }
+    requires { length nodes.old.items + statements_in (block_of body.items) + 1 ≤ STATEMENTS_MAX }
     ensures { OnOk result (nodes.new.items ≡ nodes.old.items ++ lowered_one (length nodes.old.items) (repeat test (block_of body.items)) next) }
 {
     let number = nodes.len();
@@ -121,7 +122,7 @@ fn add(nodes: &mut Vec<Node>, action: Action, next: usize) -> Result<(), AllocEr
 #[tactic(auto, using(crate::proofs::Placed::placing))]
 #[cycle(place)]
 fn place_all(nodes: &mut Vec<Node>, block: Vec<Stmt>, next: usize) -> Result<(), AllocError>
-    requires { length nodes.old.items + statements_in (block_of block.items) ≤ 4096 }
+    requires { length nodes.old.items + statements_in (block_of block.items) ≤ STATEMENTS_MAX }
     ensures { OnOk result (nodes.new.items ≡ nodes.old.items ++ lowered (length nodes.old.items) (block_of block.items) next) }
 {
     let mut rest = block;

@@ -18,6 +18,7 @@ use crate::lookup;
 use crate::record::Record;
 use mpd_code::code::Code;
 use mpd_model::call::{Activity, Call, CallKind, MatchSet, Message, Mode};
+use mpd_model::limits::RANKS_MAX;
 use mpd_model::step::{CallId, Step};
 use mpd_rank::change::{Cells, Change, RankRecord};
 use mpd_rank::rank::RankState;
@@ -34,6 +35,7 @@ pub struct Core<'c> {
 }
 
 impl<'c> Model for Core<'c> {
+    ghost use Rattle.mpd_model.specs.declared.limits.TheConstants.{RANKS_MAX};
     ghost use Rattle.std.specs.Prelude.{◌≡◌, ◌≤◌, ◌-◌, length, vec_len, vec_capacity};
     ghost use Rattle.std.specs.List.{range_with_len};
     ghost use Rattle.mpd_core.specs.Views.{CoreView, core_view_code, ranks_in, numbers_in, room_in};
@@ -48,13 +50,13 @@ impl<'c> Model for Core<'c> {
       room = room_in (vec_capacity c.sets - vec_len c.sets) c.ranks.items;
     } };
 
-    ghost invariant = { λ c. (length c.ranks.items ≤ 16) × (numbers_in c.ranks.items ≡ range_with_len 0 c.code.now.program.ranks) };
+    ghost invariant = { λ c. (length c.ranks.items ≤ RANKS_MAX) × (numbers_in c.ranks.items ≡ range_with_len 0 c.code.now.program.ranks) };
 }
 
 /// So many ranks before their first step.
 #[tactic(auto, using(crate::proofs::RankLemmas::starting))]
 fn start_ranks(alloc: Global, code: &Code, size: usize) -> Result<Vec<RankState>, AllocError>
-    requires few { size ≤ 16 }
+    requires few { size ≤ RANKS_MAX }
     ensures ranks { IfOk result (λ ranks. ranks_in code.now.program ranks.items ≡ replicate size (start_rank code.now.program)) }
     ensures numbers { IfOk result (λ ranks. numbers_in ranks.items ≡ range_with_len 0 size) }
     ensures size { IfOk result (λ ranks. vec_len ranks ≡ size) }
@@ -185,7 +187,7 @@ impl<'c> Core<'c> {
     /// How many ranks there are, 1 to 16.
     pub fn rank_count(&self) -> usize
         ensures value { result ≡ length self.now.world.ranks }
-        ensures small { result ≤ 16 }
+        ensures small { result ≤ RANKS_MAX }
     {
         self.ranks.len()
     }

@@ -10,11 +10,9 @@ use crate::desk::LineDesk;
 use crate::feeder::Feeder;
 use crate::outbox::Outbox;
 use mpd_device::device::{DeviceFault, Sink, Source};
+use mpd_model::limits::READS_MAX;
 use std::alloc::Global;
 use thiserror::Error;
-
-/// Reads by one engine.
-pub const TURNS_MAX: usize = 1_000_000;
 
 /// Bytes that one read can give.
 pub const READ_MAX: usize = 4096;
@@ -143,10 +141,10 @@ pub fn run<S: Source, W: Sink, D: LineDesk>(
     sink: &mut W,
     desk: &mut D,
 ) -> Result<(), EngineFault>
-    ensures served { Served D.says desk.old [] TURNS_MAX (S.seen source.old) (S.seen source.new) (W.seen sink.old) (W.seen sink.new) desk.new result }
-    ensures counted { Counted TURNS_MAX (failed_reads result) (failed_writes result) (S.seen source.old) (S.seen source.new) (W.seen sink.old) (W.seen sink.new) }
+    ensures served { Served D.says desk.old [] READS_MAX (S.seen source.old) (S.seen source.new) (W.seen sink.old) (W.seen sink.new) desk.new result }
+    ensures counted { Counted READS_MAX (failed_reads result) (failed_writes result) (S.seen source.old) (S.seen source.new) (W.seen sink.old) (W.seen sink.new) }
 {
-    run_behind(alloc, source, sink, desk, &[], TURNS_MAX)
+    run_behind(alloc, source, sink, desk, &[], READS_MAX)
 }
 
 /// Answers the lines of a source behind bytes that were read before, in so many reads at most.

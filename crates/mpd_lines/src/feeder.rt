@@ -5,10 +5,11 @@ ghost use Rattle.mpd_lines.specs.Gathering.{Gathered};
 ghost use Rattle.mpd_lines.specs.Forward.{ended_from, part_from, last_line};
 
 use crate::desk::LineDesk;
-use crate::line::{LINE_MAX, without_return};
+use crate::line::without_return;
 use crate::outbox::Outbox;
 use crate::seen::Seen;
 use mpd_device::device::{DeviceFault, Sink};
+use mpd_model::limits::LINE_MAX;
 use std::alloc::{AllocError, Global};
 use std::marker::Model;
 

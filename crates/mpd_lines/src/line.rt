@@ -2,9 +2,6 @@
 ghost use Rattle.std.specs.Prelude.{◌≡◌, [], ◌∷◌, ◌++◌};
 ghost use Rattle.mpd_model.specs.Lines.{bare};
 
-/// Bytes that a line may have, its line feed and a carriage return before that aside.
-pub const LINE_MAX: usize = 4096;
-
 /// The line without one carriage return at its end.
 #[tactic(auto, using(crate::proofs::BareLaws::bare_lines))]
 pub fn without_return(line: &[u8]) -> &[u8]

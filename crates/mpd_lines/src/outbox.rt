@@ -4,6 +4,7 @@ ghost use Rattle.mpd_lines.specs.Gathering.{Gathered, Relieved, Written};
 
 use crate::desk::{LineDesk, ROOM};
 use mpd_device::device::{DeviceFault, Sink};
+use mpd_model::limits::LINE_MAX;
 use std::alloc::{AllocError, Global};
 use std::marker::Model;
 
@@ -73,7 +74,7 @@ impl Outbox {
         line: &[u8],
         sink: &mut W,
     ) -> Result<(), DeviceFault>
-        requires { length line.now ≤ 4096 }
+        requires { length line.now ≤ LINE_MAX }
         ensures { Gathered D.says desk.old (line.now ∷ []) (W.seen sink.old) self.old (W.seen sink.new) self.new desk.new result }
     {
         desk.answer(line, &mut self.waiting);
@@ -87,7 +88,7 @@ impl Outbox {
         desk: &mut D,
         sink: &mut W,
     ) -> Result<(), DeviceFault>
-        ensures { (line : List ℕ) → 4096 < length line → Gathered D.says desk.old (line ∷ []) (W.seen sink.old) self.old (W.seen sink.new) self.new desk.new result }
+        ensures { (line : List ℕ) → LINE_MAX < length line → Gathered D.says desk.old (line ∷ []) (W.seen sink.old) self.old (W.seen sink.new) self.new desk.new result }
     {
         desk.refuse_long(&mut self.waiting);
         relieve(&mut self.waiting, sink)

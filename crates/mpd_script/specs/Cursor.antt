@@ -3,6 +3,7 @@ use Rattle.std.specs.Prelude.{◌≡◌, ℕ, ◌+◌, ◌≤◌, ◌<◌, ◌^�
 use Rattle.std.specs.BTreeMap.{get_by}
 use Rattle.std.specs.Cmp.Lexicographic.{slice_cmp}
 use Rattle.std.specs.Ordering.{nat_cmp}
+use Rattle.mpd_model.specs.declared.limits.TheConstants.{CELLS_MAX, HANDLES_MAX, STATEMENTS_MAX}
 use Rattle.mpd_model.specs.Declaration.{variables_in, handles_in}
 use Rattle.mpd_model.specs.Input.{Input, slot_in}
 use Rattle.mpd_model.specs.Tokens.{front, tokens_at, is_gap}
@@ -36,6 +37,6 @@ pub record IsReady (t : Inside) : Type 0 where
   pub variables : t.variables ≡ variables_in t.decls.items
   pub handles : t.handles ≡ handles_in t.decls.items
   pub slots : (name : List ℕ) → get_by (λ k. slice_cmp nat_cmp name k.now) t.slots ≡ slot_in t.decls.items name
-  pub few_variables : t.variables ≤ 1024
-  pub few_handles : t.handles ≤ 256
-  pub few_lines : length t.lines.items ≤ 4096
+  pub few_variables : t.variables ≤ CELLS_MAX
+  pub few_handles : t.handles ≤ HANDLES_MAX
+  pub few_lines : length t.lines.items ≤ STATEMENTS_MAX

@@ -1,5 +1,6 @@
 -- What of an input stands before the line that divides it, as it comes.
 use Rattle.std.specs.Prelude.{◌≡◌, ℕ, ◌<◌, ◌≤◌, Bool, true, false, ◌&&◌, not, ◌==◌, if◌then◌else◌, List, [], ◌∷◌, ◌++◌, length, drop}
+use Rattle.mpd_model.specs.declared.limits.TheConstants.{SCRIPT_MAX}
 use Rattle.mpd_model.specs.Lines.{raw_lines, divided, divided_lines, is_divider, is_none}
 use Rattle.mpd_trace.specs.declared.divider.Division.{Division}
 use Rattle.mpd_trace.specs.declared.divider.Division.TheVariants as d
@@ -53,15 +54,15 @@ splits b z =
 
 -- what a byte has brought: the line that divides, or a script that is too long
 abbrev pub ByteBrings : Begun → ℕ → Taken → Begun → Type 0
-ByteBrings old b Open new = ((z : List ℕ) → splits new z ≡ splits old (b ∷ z)) × (length new.known ≤ 65536)
-ByteBrings old b Here new = ((z : List ℕ) → splits old (b ∷ z) ≡ (new.known, z)) × (length new.known ≤ 65536)
-ByteBrings old b TooLong new = ((z : List ℕ) → (more : List ℕ) × ((splits old (b ∷ z)).0 ≡ new.known ++ more)) × (65536 < length new.known)
+ByteBrings old b Open new = ((z : List ℕ) → splits new z ≡ splits old (b ∷ z)) × (length new.known ≤ SCRIPT_MAX)
+ByteBrings old b Here new = ((z : List ℕ) → splits old (b ∷ z) ≡ (new.known, z)) × (length new.known ≤ SCRIPT_MAX)
+ByteBrings old b TooLong new = ((z : List ℕ) → (more : List ℕ) × ((splits old (b ∷ z)).0 ≡ new.known ++ more)) × (SCRIPT_MAX < length new.known)
 
 -- so many bytes are a script that is too long, or not
 abbrev pub Measures : ℕ → Taken → Type 0
-Measures n Open = n ≤ 65536
+Measures n Open = n ≤ SCRIPT_MAX
 Measures n Here = ⊥
-Measures n TooLong = 65536 < n
+Measures n TooLong = SCRIPT_MAX < n
 
 -- the line that divides is among these bytes, with its end: a byte more stands behind it
 abbrev pub has_divider : List ℕ → Bool
@@ -70,11 +71,11 @@ has_divider read = not (is_none (divided (read ++ 10 ∷ [])).1)
 -- where the script ends is not known yet: the line that divides has not come, and the script may still be short enough
 pub record IsOpen (read : List ℕ) : Type 0 where
   pub divider : has_divider read ≡ false
-  pub short : (z : List ℕ) × (length (divided (read ++ z)).0 ≤ 65536)
+  pub short : (z : List ℕ) × (length (divided (read ++ z)).0 ≤ SCRIPT_MAX)
 
 -- what a piece has brought: the line that divides, with so many of its bytes, or a script that is too long
 abbrev pub PieceBrings : Begun → List ℕ → Division → Begun → Type 0
-PieceBrings old piece d.Open new = ((z : List ℕ) → splits new z ≡ splits old (piece ++ z)) × (length new.known ≤ 65536)
+PieceBrings old piece d.Open new = ((z : List ℕ) → splits new z ≡ splits old (piece ++ z)) × (length new.known ≤ SCRIPT_MAX)
 PieceBrings old piece (d.Here used) new =
-    ((z : List ℕ) → splits old (piece ++ z) ≡ (new.known, drop used piece ++ z)) × (used ≤ length piece) × (length new.known ≤ 65536)
-PieceBrings old piece d.TooLong new = ((z : List ℕ) → (more : List ℕ) × ((splits old (piece ++ z)).0 ≡ new.known ++ more)) × (65536 < length new.known)
+    ((z : List ℕ) → splits old (piece ++ z) ≡ (new.known, drop used piece ++ z)) × (used ≤ length piece) × (length new.known ≤ SCRIPT_MAX)
+PieceBrings old piece d.TooLong new = ((z : List ℕ) → (more : List ℕ) × ((splits old (piece ++ z)).0 ≡ new.known ++ more)) × (SCRIPT_MAX < length new.known)

@@ -2,6 +2,7 @@
 use Rattle.std.specs.Prelude.{◌≡◌, ◌≢◌, ℕ, ◌+◌, ◌≤◌, ◌==◌, ◌⊎◌, List, ◌++◌, true, length, take, count_by, Result, Ok, Err, []}
 use Rattle.std.specs.Io.KnownBytes.{Consumes, IsAtEnd}
 use Rattle.mpd_device.specs.Seen.{SourceSeen, SinkSeen}
+use Rattle.mpd_model.specs.declared.limits.TheConstants.{READS_MAX}
 use Rattle.mpd_model.specs.Answers.{AnswerOrMemory}
 use Rattle.mpd_model.specs.Grammar.{reading}
 use Rattle.mpd_model.specs.Lines.{divided, lines_of, ended_lines}
@@ -53,5 +54,5 @@ PlainServed s t v w (Err (Engine WriteFailed)) =
     (read : List ℕ) × Consumes s.remaining t.remaining read × (has_divider read ≡ true)
     × (TracesPart read (ended_lines (divided read).1) v w ⊎ (IsAtEnd t.remaining × TracesPart read (lines_of (divided read).1) v w))
 PlainServed s t v w (Err (Engine TooManyTurns)) =
-    (read : List ℕ) × Consumes s.remaining t.remaining read × (1000000 ≤ length read) × (t.calls ≡ s.calls + 1000000) × (t.ends ≡ s.ends) × TracesSoFar read v w
+    (read : List ℕ) × Consumes s.remaining t.remaining read × (READS_MAX ≤ length read) × (t.calls ≡ s.calls + READS_MAX) × (t.ends ≡ s.ends) × TracesSoFar read v w
 PlainServed s t v w (Err (Engine Memory)) = w ≡ v

@@ -12,6 +12,7 @@ use mpd_code::code::Code;
 use mpd_lines::desk::{LineDesk, ROOM};
 use mpd_lines::kept::push_all;
 use mpd_model::call::Mode;
+use mpd_model::limits::LINE_MAX;
 use mpd_model::step::Step;
 use mpd_model::words::{Command as Word, command_of, has_word};
 use mpd_trail::debugger::{ApplyFault, AtStart, Debugger};
@@ -128,7 +129,7 @@ fn answer_command(
 /// Answers a line that is not too long: by nothing, where it has no word.
 #[tactic(auto, using(crate::proofs::DeskLemmas::answering))]
 fn answer_line(alloc: Global, debugger: &mut Debugger<'_>, line: &[u8], out: &mut Vec<u8>)
-    requires line { length line.now ≤ 4096 }
+    requires line { length line.now ≤ LINE_MAX }
     requires room { vec_len out.old + ROOM ≤ vec_capacity out.old }
     ensures said { (text : List ℕ) × (out.new.items ≡ out.old.items ++ text) × AnswerOrMemory (standing_of debugger.old) line.now text (standing_of debugger.new) }
     ensures capacity { vec_capacity out.old ≤ vec_capacity out.new }

@@ -5,11 +5,9 @@ ghost use Rattle.mpd_trace.specs.Divided.{may_divide, ends_script, splits, begun
 
 use mpd_lines::kept::push_all;
 use mpd_lines::line::without_return;
+use mpd_model::limits::SCRIPT_MAX;
 use std::alloc::{AllocError, Global};
 use std::marker::Model;
-
-/// Bytes that a script may have.
-pub const SCRIPT_MAX: usize = 65_536;
 
 // bytes of a line that may be the one that divides, and of the one byte more that shows that it isn't
 const LINE_ROOM: usize = 8;
@@ -92,7 +90,7 @@ impl Divider {
 
     /// Takes the next piece of the input, up to the line that divides or to the byte that makes the script too long.
     pub fn feed(&mut self, piece: &[u8]) -> Division
-        requires { length self.old.known ≤ 65536 }
+        requires { length self.old.known ≤ SCRIPT_MAX }
         ensures brings { PieceBrings self.old piece.now result self.new }
         ensures held { IsHeld self.new }
     {
@@ -110,7 +108,7 @@ impl Divider {
     /// The script, where the input ends here.
     #[tactic(auto, using(crate::proofs::DividedLaws::dividing, crate::proofs::DividedLaws::shortness))]
     pub fn finish(self) -> Vec<u8>
-        requires { length self.known ≤ 65536 }
+        requires { length self.known ≤ SCRIPT_MAX }
         ensures { splits self [] ≡ (result.items, []) }
     {
         if is_hyphens(&self.line) {
@@ -132,7 +130,7 @@ impl Divider {
     // one byte more
     #[tactic(auto, using(crate::proofs::DividedLaws::dividing))]
     fn take(&mut self, byte: u8) -> Taken
-        requires { length self.old.known ≤ 65536 }
+        requires { length self.old.known ≤ SCRIPT_MAX }
         ensures brings { ByteBrings self.old byte result self.new }
         ensures held { IsHeld self.new }
     {
@@ -161,7 +159,7 @@ impl Divider {
     // a line feed, which ends another line
     #[tactic(auto, using(crate::proofs::DividedLaws::shortness))]
     fn end_line(&mut self)
-        requires { length self.old.known ≤ 65536 }
+        requires { length self.old.known ≤ SCRIPT_MAX }
         ensures line { self.new ≡ begun (self.old.known ++ self.old.line ++ 10 ∷ []) [] false }
         ensures held { IsHeld self.new }
     {
@@ -174,7 +172,7 @@ impl Divider {
     // one byte more of the line
     #[tactic(auto, using(crate::proofs::DividedLaws::shortness))]
     fn add(&mut self, byte: u8)
-        requires { length self.old.known ≤ 65536 }
+        requires { length self.old.known ≤ SCRIPT_MAX }
         ensures byte { self.new ≡ added self.old byte }
         ensures held { IsHeld self.new }
     {

@@ -12,8 +12,9 @@ use crate::divider::{Divider, Division};
 use crate::trace::trace_behind;
 use mpd_code::lower::lower;
 use mpd_device::device::{Sink, Source};
-use mpd_lines::engine::{EngineFault, READ_MAX, TURNS_MAX};
+use mpd_lines::engine::{EngineFault, READ_MAX};
 use mpd_model::call::Mode;
+use mpd_model::limits::READS_MAX;
 use mpd_model::read_fault::{FaultCode, ReadFault};
 use mpd_model::script::Script;
 use mpd_script::read;
@@ -75,7 +76,7 @@ fn collect<S: Source>(alloc: Global, source: &mut S) -> Result<Head, EngineFault
     let Ok(mut divider) = Divider::new(alloc) else {
         return Err(EngineFault::Memory);
     };
-    for turn in 0..TURNS_MAX {
+    for turn in 0..READS_MAX {
         let Ok(count) = source.read(&mut buffer) else {
             return Err(EngineFault::ReadFailed);
         };
@@ -211,7 +212,7 @@ pub fn plain<S: Source, W: Sink>(
     sink: &mut W,
 ) -> Result<(), PlainFault>
     ensures served { PlainServed (S.seen source.old) (S.seen source.new) (W.seen sink.old) (W.seen sink.new) result }
-    ensures counted { Counted TURNS_MAX (plain_failed_reads result) (plain_failed_writes result) (S.seen source.old) (S.seen source.new) (W.seen sink.old) (W.seen sink.new) }
+    ensures counted { Counted READS_MAX (plain_failed_reads result) (plain_failed_writes result) (S.seen source.old) (S.seen source.new) (W.seen sink.old) (W.seen sink.new) }
 {
     let head = match collect(alloc, source) {
         Ok(head) => head,
@@ -224,7 +225,7 @@ pub fn plain<S: Source, W: Sink>(
     if let HeadEnd::InputEnds = head.end {
         return Ok(());
     }
-    let turns = TURNS_MAX - head.reads;
+    let turns = READS_MAX - head.reads;
     match trace_script(alloc, script, source, sink, &head.behind, turns) {
         Ok(()) => Ok(()),
         Err(fault) => Err(PlainFault::Engine(fault)),

@@ -9,8 +9,9 @@ ghost use Rattle.mpd_lines.specs.Served.{Served, Counted};
 use crate::desk::TraceDesk;
 use mpd_code::code::Code;
 use mpd_device::device::{Sink, Source};
-use mpd_lines::engine::{EngineFault, TURNS_MAX, run_behind};
+use mpd_lines::engine::{EngineFault, run_behind};
 use mpd_model::call::Mode;
+use mpd_model::limits::READS_MAX;
 use std::alloc::Global;
 
 /// Answers the trace words of a source (docs/FORMATS.md, "Trace words") from the start of a script, and writes exactly
@@ -24,10 +25,10 @@ pub fn trace<S: Source, W: Sink>(
     source: &mut S,
     sink: &mut W,
 ) -> Result<(), EngineFault>
-    ensures served { (e : Standing) × Served AnswerOrMemory (first_standing code.now.program mode) [] TURNS_MAX (S.seen source.old) (S.seen source.new) (W.seen sink.old) (W.seen sink.new) e result }
-    ensures counted { Counted TURNS_MAX (failed_reads result) (failed_writes result) (S.seen source.old) (S.seen source.new) (W.seen sink.old) (W.seen sink.new) }
+    ensures served { (e : Standing) × Served AnswerOrMemory (first_standing code.now.program mode) [] READS_MAX (S.seen source.old) (S.seen source.new) (W.seen sink.old) (W.seen sink.new) e result }
+    ensures counted { Counted READS_MAX (failed_reads result) (failed_writes result) (S.seen source.old) (S.seen source.new) (W.seen sink.old) (W.seen sink.new) }
 {
-    trace_behind(alloc, code, mode, source, sink, &[], TURNS_MAX)
+    trace_behind(alloc, code, mode, source, sink, &[], READS_MAX)
 }
 
 /// The same behind bytes that were read before, in so many reads at most.
