@@ -3,6 +3,7 @@
 
 use crate::helpers::lowered;
 use mpd_code::code::Code;
+use mpd_code::env::Env;
 use mpd_code::eval::eval;
 use mpd_code::node::{Action, Node};
 use mpd_model::call::{Activity, Mode, Trap};
@@ -104,12 +105,17 @@ fn evaluates_an_expression(rt: HostRuntime) {
         node: ExprNode::Size,
     };
     let sum = Expr::binary(alloc, BinaryOp::Add, rank, size).expect(&rt, "a sum");
-    assert_eq!(rt; eval(&sum, &[], 2, 5), Ok(7));
+    let env = Env {
+        vars: &[],
+        rank: 2,
+        size: 5,
+    };
+    assert_eq!(rt; eval(&sum, &env), Ok(7));
     let zero = Expr {
         node: ExprNode::Number(0),
     };
     let quotient = Expr::binary(alloc, BinaryOp::Divide, sum, zero).expect(&rt, "a quotient");
-    assert_eq!(rt; eval(&quotient, &[], 2, 5), Err(Trap::ZeroDivisor));
+    assert_eq!(rt; eval(&quotient, &env), Err(Trap::ZeroDivisor));
 }
 
 /// What the first statement of the one rank does.
