@@ -84,6 +84,7 @@ row_status_of_a_number = refl
 pub row_no_end : filled_by target_and_status (codes "x status x") ≡ Err (fault f.Expected 10)
 unfolding chain bracket place_inside rounds signed atom level expr target named source status token spelling place advanced refusal same_mark sees after expect spend slot_in seek tokens_after front sign word number
 row_no_end = refl
+
 -- ---- how they are written
 
 abbrev written_by : (hs : List Hole) → Contents hs → List ℕ

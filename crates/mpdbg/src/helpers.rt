@@ -9,9 +9,9 @@ use std::alloc::{AllocError, Global};
 use std::process::Abort;
 
 // what stands above devices is named here alone
+pub(crate) use mpd_lines::engine::EngineFault;
 pub(crate) use mpd_trace::plain::{PlainFault, plain};
 pub(crate) use mpd_trace::trace::trace;
-pub(crate) use mpd_lines::engine::EngineFault;
 
 /// Two ranks: the first sends 7 to the second, which prints it.
 pub(crate) const FIRST: &[u8] =
