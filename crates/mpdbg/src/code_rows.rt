@@ -5,7 +5,6 @@ use crate::helpers::lowered;
 use mpd_code::code::Code;
 use mpd_code::env::Env;
 use mpd_code::eval::eval;
-use mpd_code::node::{Action, Node};
 use mpd_model::call::{Activity, Mode, Trap};
 use mpd_model::expr::{BinaryOp, Expr, ExprNode};
 use mpd_model::step::Step;
@@ -54,25 +53,6 @@ fn next_of(code: &Code, number: usize) -> Option<usize> {
     }
 }
 
-/// Where the blocks of an `if` begin, or the body of a `while`.
-fn blocks_of(code: &Code, number: usize) -> Option<(usize, Option<usize>)> {
-    match code.node(number) {
-        Some(
-            Node {
-                action: Action::Branch { first, second, .. },
-                ..
-            },
-        ) => Some((*first, Some(*second))),
-        Some(
-            Node {
-                action: Action::Repeat { body, .. },
-                ..
-            },
-        ) => Some((*body, None)),
-        _ => None,
-    }
-}
-
 #[test]
 fn shows_lowered_code(rt: HostRuntime) {
     let code = lowered(&rt, rt.alloc(), NESTED);
@@ -80,19 +60,6 @@ fn shows_lowered_code(rt: HostRuntime) {
     assert_eq!(rt; next_of(&code, 1), Some(3));
     assert_eq!(rt; next_of(&code, 3), Some(0));
     assert_eq!(rt; next_of(&code, 5), None);
-}
-
-#[test]
-fn shows_where_blocks_begin(rt: HostRuntime) {
-    let code = lowered(&rt, rt.alloc(), NESTED);
-    assert!(rt;
-        matches!(blocks_of(&code, 0), Some((1, None))),
-        "the `while`"
-    );
-    assert!(rt;
-        matches!(blocks_of(&code, 1), Some((3, Some(2)))),
-        "the `if`"
-    );
 }
 
 #[test]
