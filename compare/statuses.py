@@ -72,7 +72,7 @@ class Files:
     def run(self, *words, **variables):
         """Runs a program with its words, and gives what it wrote to each of the two files, where that is in memory."""
         actions = [action(place, number) for place, number in enumerate(self.numbers)]
-        process = os.posix_spawn(words[0], words, {**os.environ, **variables}, file_actions=actions,
+        process = os.posix_spawnp(words[0], words, {**os.environ, **variables}, file_actions=actions,
                                  setsigdef=(signal.SIGPIPE,))
         handle = os.pidfd_open(process)
         status = status_of(process, handle, SECONDS)
@@ -275,7 +275,7 @@ def much_rows(program):
     data = front + b'show\n' * shows + b'back\n'
     wanted = Result(first + shown * shows + b'ok %d\n' % (steps.count('\n') - 1), b'', 0)
     # a limit that this process itself could not keep
-    result = Files(file_of(data)).run('/bin/sh', '-c', f'ulimit -v {MUCH_MIB << 10}; exec "$0"', program)
+    result = Files(file_of(data)).run('sh', '-c', f'ulimit -v {MUCH_MIB << 10}; exec "$0"', program)
     yield f'much to show with {MUCH_MIB} MiB', result, wanted
 
 
