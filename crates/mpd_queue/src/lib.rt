@@ -1,0 +1,10 @@
+//! Lists that are changed in place, and that count their writes: a tape, and disjoint lists that are linked both ways.
+#![tactic(auto)]
+
+mod link;
+mod links;
+pub mod lists;
+#[cfg(test)]
+mod rows;
+mod shown;
+pub mod tape;

@@ -1,0 +1,119 @@
+//! A list that grows and shrinks at its end, and counts its writes.
+ghost use Rattle.std.specs.Prelude.{◌≡◌, ℕ, ◌+◌, ◌<◌, ◌≤◌, [], ◌∷◌, ◌++◌, length, option_to_list, slice_get, slice_set, IsOk, IfOk, IfSome, IfNone, OnOk, OnErr};
+
+use mpd_device::steps::Steps;
+use std::alloc::{AllocError, Global};
+use std::marker::Model;
+
+/// A list that is changed in place. A change is one write, and each write is counted; the counter takes no bytes.
+///
+/// Contracts see a `TapeView`: the items, the room (how many items more fit without memory), and the number of writes
+/// since the tape was made.
+#[derive(Drop)]
+pub struct Tape<T: Copy> {
+    items: Vec<T>,
+    writes: Steps,
+}
+
+impl<T: Copy> Model for Tape<T> {
+    ghost use Rattle.std.specs.Prelude.{◌-◌, vec_capacity, vec_len};
+    ghost use Rattle.mpd_queue.specs.Views.{TapeView};
+
+    ghost Value = { TapeView T };
+
+    ghost view = { λ t. record { items = t.items.items; room = vec_capacity t.items - vec_len t.items; writes = t.writes } };
+}
+
+impl<T: Copy> Tape<T> {
+    /// A tape without items and without room. It takes no memory.
+    pub fn new(alloc: Global) -> Tape<T>
+        ensures items { result.items ≡ [] }
+        ensures room { result.room ≡ 0 }
+        ensures writes { result.writes ≡ 0 }
+    {
+        Tape {
+            items: Vec::new(alloc),
+            writes: Steps::new(),
+        }
+    }
+
+    /// Keeps room for `count` items more. An `Err` is want of memory, and comes only where that room was missing.
+    pub fn keep_room(&mut self, count: usize) -> Result<(), AllocError>
+        ensures items { self.new.items ≡ self.old.items }
+        ensures writes { self.new.writes ≡ self.old.writes }
+        ensures room { OnOk result (count ≤ self.new.room) }
+        ensures never_less { self.old.room ≤ self.new.room }
+        ensures kept { count ≤ self.old.room → IsOk result }
+        ensures missing { OnErr result (self.new.room < count) }
+        ensures memory { OnErr result (self.new.room ≡ self.old.room) }
+    {
+        self.items.reserve(count)
+    }
+
+    /// Puts `value` in the place of the item with that index, counted from 0.
+    pub fn set(&mut self, index: usize, value: T)
+        requires { index < length self.old.items }
+        ensures items { self.new.items ≡ slice_set self.old.items index value }
+        ensures room { self.new.room ≡ self.old.room }
+        ensures writes { self.new.writes ≡ self.old.writes + 1 }
+    {
+        self.items[index] = value;
+        self.writes.tick();
+    }
+
+    /// Puts an item at the end, in room that was kept.
+    pub fn push_kept(&mut self, value: T)
+        requires { 0 < self.old.room }
+        ensures items { self.new.items ≡ self.old.items ++ value ∷ [] }
+        ensures room { self.new.room + 1 ≡ self.old.room }
+        ensures writes { self.new.writes ≡ self.old.writes + 1 }
+    {
+        self.items.push_reserved(value);
+        self.writes.tick();
+    }
+
+    /// Takes the last item off, where there is one. Its room stays. Where there is none, nothing is written.
+    pub fn pop(&mut self) -> Option<T>
+        ensures items { self.old.items ≡ self.new.items ++ option_to_list result }
+        ensures last { IfSome result (λ _. (self.new.room ≡ self.old.room + 1) × (self.new.writes ≡ self.old.writes + 1)) }
+        ensures empty { IfNone result ((self.old.items ≡ []) × (self.new.room ≡ self.old.room) × (self.new.writes ≡ self.old.writes)) }
+    {
+        let item = self.items.pop()?;
+        self.writes.tick();
+        Some(item)
+    }
+
+    /// The item with that index, counted from 0, where there is one.
+    pub fn get(&self, index: usize) -> Option<T>
+        ensures { result ≡ slice_get self.now.items index }
+    {
+        self.items.get(index).copied()
+    }
+
+    /// The items, in order.
+    pub fn items(&self) -> &[T]
+        ensures { result.now ≡ self.now.items }
+    {
+        self.items.as_slice()
+    }
+
+    /// How many items there are.
+    pub fn len(&self) -> usize
+        ensures { result ≡ length self.now.items }
+    {
+        self.items.len()
+    }
+
+    /// The same items, in memory of their own. The copy counts its writes from 0. An `Err` is want of memory.
+    pub fn copy(&self) -> Result<Tape<T>, AllocError>
+        ensures items { IfOk result (λ t. t.items ≡ self.now.items) }
+        ensures writes { IfOk result (λ t. t.writes ≡ 0) }
+    {
+        let mut items = Vec::new(*self.items.allocator());
+        items.extend_from_slice(self.items.as_slice())?;
+        Ok(Tape {
+            items,
+            writes: Steps::new(),
+        })
+    }
+}
