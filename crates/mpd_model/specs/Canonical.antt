@@ -146,7 +146,7 @@ mark_text m.Size = codes "size"
 abbrev pub part_text : List Declared → Part → List ℕ
 part_text ds (of_mark k) = mark_text k
 part_text ds (of_term e) = whole_text ds e
-part_text ds (of_target t) = target_text ds t
+part_text ds (of_target kind t) = target_text ds t
 
 -- the parts of a statement, with one space between them
 abbrev pub parts_text : List Declared → List Part → List ℕ

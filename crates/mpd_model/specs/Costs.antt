@@ -1,6 +1,7 @@
 -- What the limits say of what is written.
 use Rattle.std.specs.Prelude.{◌≡◌, ℕ, suc, ◌+◌, ◌≤◌, max, List, [], ◌∷◌, Option, None, Some, Ok}
 use Rattle.mpd_model.specs.declared.expr.BinaryOp.{BinaryOp}
+use Rattle.mpd_model.specs.declared.place.DeclKind.{DeclKind}
 use Rattle.mpd_model.specs.declared.token.Mark.TheVariants as m
 use Rattle.mpd_model.specs.declared.token.Token.{Token}
 use Rattle.mpd_model.specs.declared.token.Token.TheVariants.{Is}
@@ -62,14 +63,14 @@ abbrev mutual
   blocks_in (then_more t b) = max (blocks t) (blocks_in b)
 
 -- the cost of a target's index, which is an expression of its own
-abbrev pub index_cost : (ds : List Declared) (ss : List Spot) (t : Target) → WrittenTarget ds ss t → ℕ
-index_cost ds _ _ (whole s p h) = 0
-index_cost ds _ _ (part s a b ss p t h h1 w h2) = cost ss
+abbrev pub index_cost : (ds : List Declared) (kind : DeclKind) (ss : List Spot) (t : Target) → WrittenTarget ds kind ss t → ℕ
+index_cost ds kind _ _ (whole s p h) = 0
+index_cost ds kind _ _ (part s a b ss p t h h1 w h2) = cost ss
 
 abbrev pub part_cost : (ds : List Declared) (ss : List Spot) (p : Part) → WrittenPart ds ss p → ℕ
 part_cost ds _ _ (by_mark s k h) = 0
 part_cost ds _ _ (by_term ss t w) = cost ss
-part_cost ds _ _ (by_target ss t w) = index_cost ds ss t w
+part_cost ds _ _ (by_target ss kind t w) = index_cost ds kind ss t w
 
 abbrev pub dearest_part : (ds : List Declared) (ss : List Spot) (ps : List Part) → WrittenParts ds ss ps → ℕ
 dearest_part ds _ _ no_part = 0

@@ -9,7 +9,7 @@ use Rattle.mpd_model.specs.declared.expr.UnaryOp.{UnaryOp}
 use Rattle.mpd_model.specs.declared.expr.UnaryOp.TheVariants as u
 use Rattle.mpd_model.specs.declared.place.Place.{Place}
 use Rattle.mpd_model.specs.declared.place.DeclKind.{DeclKind}
-use Rattle.mpd_model.specs.declared.place.DeclKind.TheVariants.{Variable}
+use Rattle.mpd_model.specs.declared.place.DeclKind.TheVariants.{Variable, Handle}
 use Rattle.mpd_model.specs.declared.read_fault.FaultCode.TheVariants.{TooLong, NotText, TooDeep, BadRanks, NotInVersion}
 use Rattle.mpd_model.specs.declared.read_fault.ReadFault.{ReadFault}
 use Rattle.mpd_model.specs.declared.slot.Slot.{Slot}
@@ -161,20 +161,20 @@ outside p (Some n) = do
   expect m.SquareClose
   pure (record { place = p; index = Some e })
 
--- the variable that comes next, and what it stands for
-unfoldable pub target : Parser Target
-target = do
-  s ← seek Variable
+-- the variable or the handle that comes next, and what it stands for
+unfoldable pub target : DeclKind → Parser Target
+target kind = do
+  s ← seek kind
   advance
   outside (place_of_slot s) s.size
 
-abbrev pub named_by : Token → Parser Target
-named_by Name = target
-named_by _ = refuse
+abbrev pub named_by : DeclKind → Token → Parser Target
+named_by kind Name = target kind
+named_by kind _ = refuse
 
--- the place that a receive writes
-unfoldable pub named : Parser Target
-named = peek >>= named_by
+-- a place that a statement names behind its word
+unfoldable pub named : DeclKind → Parser Target
+named kind = peek >>= named_by kind
 
 abbrev pub source_by : Bool → Parser (Option Term)
 source_by true = pure None
@@ -184,7 +184,7 @@ unfoldable pub source : Parser (Option Term)
 source = eat m.Any >>= source_by
 
 abbrev pub status_by : Bool → Parser (Option Target)
-status_by true = named >>= λ t. pure (Some t)
+status_by true = named Variable >>= λ t. pure (Some t)
 status_by false = pure None
 
 unfoldable pub status : Parser (Option Target)
@@ -195,7 +195,7 @@ abbrev pub fill : {A : Type 0} → (hs : List Hole) → (Contents hs → A) → 
 fill [] made = expect m.Semicolon >> pure (made tt)
 fill (mark_hole k ∷ hs) made = expect k >> fill hs made
 fill (term_hole ∷ hs) made = expression >>= λ e. fill hs (λ c. made (e, c))
-fill (target_hole ∷ hs) made = named >>= λ t. fill hs (λ c. made (t, c))
+fill (target_hole kind ∷ hs) made = named kind >>= λ t. fill hs (λ c. made (t, c))
 fill (source_hole ∷ hs) made = source >>= λ o. fill hs (λ c. made (o, c))
 fill (status_hole ∷ hs) made = status >>= λ o. fill hs (λ c. made (o, c))
 
@@ -219,7 +219,7 @@ abbrev pub AreClear : List Hole → Type 0
 AreClear [] = Unit {0}
 AreClear (mark_hole k ∷ hs) = AreClear hs
 AreClear (term_hole ∷ hs) = EndsTerm hs × AreClear hs
-AreClear (target_hole ∷ hs) = AreClear hs
+AreClear (target_hole kind ∷ hs) = AreClear hs
 AreClear (source_hole ∷ hs) = EndsTerm hs × AreClear hs
 AreClear (status_hole ∷ hs) = EndsStatus hs × AreClear hs
 
@@ -249,11 +249,32 @@ send_form = record {
 abbrev pub recv_form : Form
 recv_form = record {
   word = m.Recv;
-  holes = target_hole ∷ mark_hole m.From ∷ term_hole ∷ mark_hole m.Tag ∷ term_hole ∷ [];
+  holes = target_hole Variable ∷ mark_hole m.From ∷ term_hole ∷ mark_hole m.Tag ∷ term_hole ∷ [];
   made = λ c. st.Recv (record { into = c.0; from = c.1.0; tag = c.1.1.0 });
   parts = λ c. refl;
   clear = (refl, (tt, tt));
 }
+
+abbrev pub isend_form : Form
+isend_form = record {
+  word = m.Isend;
+  holes = target_hole Handle ∷ term_hole ∷ mark_hole m.To ∷ term_hole ∷ mark_hole m.Tag ∷ term_hole ∷ [];
+  made = λ c. st.Isend (record { request = c.0; send = record { value = c.1.0; to = c.1.1.0; tag = c.1.1.1.0 } });
+  parts = λ c. refl;
+  clear = (refl, (refl, (tt, tt)));
+}
+
+abbrev pub irecv_form : Form
+irecv_form = record {
+  word = m.Irecv;
+  holes = target_hole Handle ∷ target_hole Variable ∷ mark_hole m.From ∷ term_hole ∷ mark_hole m.Tag ∷ term_hole ∷ [];
+  made = λ c. st.Irecv (record { request = c.0; recv = record { into = c.1.0; from = c.1.1.0; tag = c.1.1.1.0 } });
+  parts = λ c. refl;
+  clear = (refl, (tt, tt));
+}
+
+abbrev pub wait_form : Form
+wait_form = record { word = m.Wait; holes = target_hole Handle ∷ []; made = λ c. st.Wait c.0; parts = λ c. refl; clear = tt }
 
 -- the form of a word
 abbrev pub form_of : Mark → Option Form
@@ -261,6 +282,9 @@ form_of m.Print = Some print_form
 form_of m.Assert = Some assert_form
 form_of m.Send = Some send_form
 form_of m.Recv = Some recv_form
+form_of m.Isend = Some isend_form
+form_of m.Irecv = Some irecv_form
+form_of m.Wait = Some wait_form
 form_of _ = None
 
 -- what stands behind the word
@@ -292,6 +316,9 @@ all_formed (st.Assign s) = tt
 all_formed (st.Assert e) = record { form = assert_form; found = refl; contents = (e, tt); is = refl }
 all_formed (st.Send s) = record { form = send_form; found = refl; contents = (s.value, (s.to, (s.tag, tt))); is = refl }
 all_formed (st.Recv s) = record { form = recv_form; found = refl; contents = (s.into, (s.from, (s.tag, tt))); is = refl }
+all_formed (st.Isend s) = record { form = isend_form; found = refl; contents = (s.request, (s.send.value, (s.send.to, (s.send.tag, tt)))); is = refl }
+all_formed (st.Irecv s) = record { form = irecv_form; found = refl; contents = (s.request, (s.recv.into, (s.recv.from, (s.recv.tag, tt)))); is = refl }
+all_formed (st.Wait t) = record { form = wait_form; found = refl; contents = (t, tt); is = refl }
 
 -- ---- any statement
 
@@ -410,11 +437,20 @@ decl_by kind _ = refuse
 unfoldable pub decl : DeclKind → Parser (Unit {0})
 decl kind = peek >>= decl_by kind
 
+-- what a token declares, if it begins a declaration
+abbrev pub declares : Token → Option DeclKind
+declares (Is m.Var) = Some Variable
+declares (Is m.Req) = Some Handle
+declares _ = None
+
+abbrev pub decls_by : Parser (Unit {0}) → Option DeclKind → Parser (Unit {0})
+decls_by more None = pure tt
+decls_by more (Some kind) = advance >> decl kind >> more
+
+-- declarations, at most so many and one less
 unfoldable pub decls_from : ℕ → Parser (Unit {0})
 decls_from zero = refuse
-decls_from (suc n) = do
-  found ← eat m.Var
-  if found then decl Variable >> decls_from n else pure tt
+decls_from (suc n) = peek >>= λ t. decls_by (decls_from n) (declares t)
 
 unfoldable pub decls : Parser (Unit {0})
 decls = λ i. decls_from (length i.tokens + 1) i

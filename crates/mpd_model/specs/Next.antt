@@ -1,5 +1,5 @@
 -- What a step makes of a world, and where no step is.
-use Rattle.std.specs.Prelude.{ℕ, ◌+◌, ℤ, Bool, true, false, ◌&&◌, if◌then◌else◌, List, [], ◌∷◌, ◌++◌, length, map, slice_get, slice_set, Option, Some, None, option_and_then, is_some, Result, Ok, Err}
+use Rattle.std.specs.Prelude.{ℕ, ◌+◌, ℤ, Bool, true, false, ◌&&◌, if◌then◌else◌, List, [], ◌∷◌, ◌++◌, length, map, slice_get, slice_set, slice_index_or, Option, Some, None, option_and_then, is_some, Result, Ok, Err}
 use Rattle.std.specs.Option.{option_map}
 use Rattle.std.specs.List.{filter, flat_map}
 use Rattle.mpd_model.specs.declared.limits.TheConstants.{TAGS}
@@ -7,21 +7,24 @@ use Rattle.mpd_model.specs.declared.step.CallId.{CallId}
 use Rattle.mpd_model.specs.declared.step.Step.{Step}
 use Rattle.mpd_model.specs.declared.step.Step.TheVariants.{Local, Match, Wake, Release}
 use Rattle.mpd_model.specs.declared.call.CallKind.{CallKind}
-use Rattle.mpd_model.specs.declared.call.CallKind.TheVariants.{Send, Recv}
+use Rattle.mpd_model.specs.declared.call.CallKind.TheVariants.{Send, Recv, Wait}
+use Rattle.mpd_model.specs.declared.call.Issue.{Issue}
 use Rattle.mpd_model.specs.declared.call.Trap.{Trap}
 use Rattle.mpd_model.specs.declared.call.Trap.TheVariants.{BadRank, BadTag, Assertion}
 use Rattle.mpd_model.specs.declared.call.Activity.{Activity}
 use Rattle.mpd_model.specs.declared.call.Activity.TheVariants.{Running, Blocked, Trapped}
 use Rattle.mpd_model.specs.declared.call.MatchSet.TheVariants.{Pair, Woke}
-use Rattle.mpd_model.specs.Term.{Term, Value, Env, and_then, is_zero, checked, value_of, target_cell}
+use Rattle.mpd_model.specs.Term.{Term, Value, Env, and_then, is_zero, checked, value_of, target_cell, Target}
 use Rattle.mpd_model.specs.declared.stmt.AssignStmt.{AssignStmt}
+use Rattle.mpd_model.specs.declared.stmt.IsendStmt.{IsendStmt}
+use Rattle.mpd_model.specs.declared.stmt.IrecvStmt.{IrecvStmt}
 use Rattle.mpd_model.specs.declared.stmt.RecvStmt.{RecvStmt}
 use Rattle.mpd_model.specs.declared.stmt.SendStmt.{SendStmt}
 use Rattle.mpd_model.specs.declared.stmt.Simple.{Simple}
 use Rattle.mpd_model.specs.declared.stmt.Simple.TheVariants as st
 use Rattle.mpd_model.specs.Tree.{Tree, simple, branch, repeat, Block, trees, statements_in, numbered}
 use Rattle.mpd_model.specs.declared.call.Message.{Message}
-use Rattle.mpd_model.specs.World.{RankWorld, World, call_id, kind_at, rank_numbers, call_numbers, eligible, buffer, complete, last_call}
+use Rattle.mpd_model.specs.World.{RankWorld, World, Board, board_of, call_id, kind_at, rank_numbers, call_numbers, eligible, buffer, awaited, complete, last_call}
 
 -- ---- local steps: the next statement of one rank
 
@@ -37,18 +40,46 @@ abbrev pub tag_value : Term → Env → Result ℕ Trap
 tag_value e env = checked (value_of e env) TAGS BadTag
 
 -- what a send issues: the value comes first, then the destination, then the tag
-abbrev pub send_kind : SendStmt → Env → Result CallKind Trap
-send_kind s env =
+abbrev pub send_kind : Bool → SendStmt → Env → Result CallKind Trap
+send_kind blocks s env =
     and_then (value_of s.value env) (λ v.
     and_then (rank_value s.to env) (λ q.
-    and_then (tag_value s.tag env) (λ t. Ok (Send (record { to = q; tag = t; value = v })))))
+    and_then (tag_value s.tag env) (λ t. Ok (Send (record { to = q; tag = t; value = v; blocks = blocks })))))
 
 -- what a receive issues: the index of its target comes first, then the source, then the tag
-abbrev pub recv_kind : RecvStmt → Env → Result CallKind Trap
-recv_kind s env =
+abbrev pub recv_kind : Bool → RecvStmt → Env → Result CallKind Trap
+recv_kind blocks s env =
     and_then (target_cell s.into env) (λ c.
     and_then (rank_value s.from env) (λ q.
-    and_then (tag_value s.tag env) (λ t. Ok (Recv (record { from = q; tag = t; cell = c })))))
+    and_then (tag_value s.tag env) (λ t. Ok (Recv (record { from = q; tag = t; cell = c; blocks = blocks })))))
+
+-- a call that its rank waits for
+abbrev pub awaiting : Result CallKind Trap → Result Issue Trap
+awaiting k = and_then k (λ kind. Ok (record { kind = kind; handle = None }))
+
+-- A call that its rank doesn't wait for: the index of its handle comes first.
+abbrev pub held_by : Target → Env → Result CallKind Trap → Result Issue Trap
+held_by request env k = and_then (target_cell request env) (λ h. and_then k (λ kind. Ok (record { kind = kind; handle = Some h })))
+
+-- a wait for what a handle holds now
+abbrev pub wait_kind : Target → Env → Result CallKind Trap
+wait_kind request env = and_then (target_cell request env) (λ h. Ok (Wait (record { handle = h; target = slice_index_or env.handles h None })))
+
+-- what each statement issues
+abbrev pub send_issue : SendStmt → Env → Result Issue Trap
+send_issue s env = awaiting (send_kind true s env)
+
+abbrev pub recv_issue : RecvStmt → Env → Result Issue Trap
+recv_issue s env = awaiting (recv_kind true s env)
+
+abbrev pub isend_issue : IsendStmt → Env → Result Issue Trap
+isend_issue s env = held_by s.request env (send_kind false s.send env)
+
+abbrev pub irecv_issue : IrecvStmt → Env → Result Issue Trap
+irecv_issue s env = held_by s.request env (recv_kind false s.recv env)
+
+abbrev pub wait_issue : Target → Env → Result Issue Trap
+wait_issue t env = awaiting (wait_kind t env)
 
 -- the cell that an assignment writes, and its new value: the index of its target comes first, then the expression
 abbrev pub assignment : AssignStmt → Env → Result (ℕ × ℤ) Trap
@@ -58,8 +89,27 @@ abbrev pub printed : RankWorld → List (ℕ × Tree) → Value → RankWorld
 printed r ts (Ok v) = record r { rest = ts; out = r.out ++ v ∷ [] }
 printed r ts (Err t) = trapped r t
 
-abbrev pub issued : RankWorld → List (ℕ × Tree) → ℕ → Result CallKind Trap → RankWorld
-issued r ts number (Ok kind) = record r { rest = ts; calls = r.calls ++ record { statement = number; kind = kind } ∷ []; activity = Blocked }
+-- whether a rank waits for a call of this kind
+abbrev pub blocks : CallKind → Bool
+blocks (Send s) = s.blocks
+blocks (Recv r) = r.blocks
+blocks (Wait t) = true
+
+abbrev pub activity_after : CallKind → Activity
+activity_after kind = if blocks kind then Blocked else Running
+
+-- handles of which one, if any, gets the number of a call
+abbrev pub with_request : Option ℕ → ℕ → List (Option ℕ) → List (Option ℕ)
+with_request None i handles = handles
+with_request (Some h) i handles = slice_set handles h (Some i)
+
+abbrev pub issued : RankWorld → List (ℕ × Tree) → ℕ → Result Issue Trap → RankWorld
+issued r ts number (Ok a) = record r {
+  rest = ts;
+  handles = with_request a.handle (length r.calls) r.handles;
+  calls = r.calls ++ record { statement = number; kind = a.kind } ∷ [];
+  activity = activity_after a.kind;
+}
 issued r ts number (Err t) = trapped r t
 
 abbrev pub assigned : RankWorld → List (ℕ × Tree) → Result (ℕ × ℤ) Trap → RankWorld
@@ -83,17 +133,20 @@ abbrev pub repeated : RankWorld → List (ℕ × Tree) → ℕ → Value → Ter
 repeated r ts number (Ok v) c body = record r { rest = if is_zero v then ts else numbered (number + 1) (trees body) ++ (number, repeat c body) ∷ ts }
 repeated r ts number (Err t) c body = trapped r t
 
--- what expressions are evaluated in on rank p of n
+-- what statements are evaluated in on rank p of n
 abbrev pub env_of : ℕ → ℕ → RankWorld → Env
-env_of p n r = record { vars = r.vars; rank = p; size = n }
+env_of p n r = record { vars = r.vars; handles = r.handles; rank = p; size = n }
 
 -- what a statement that holds no other makes of a rank, given its number and what is left behind it
 abbrev pub ran_simple : Env → RankWorld → ℕ → Simple → List (ℕ × Tree) → RankWorld
 ran_simple env r number (st.Print e) ts = printed r ts (value_of e env)
 ran_simple env r number (st.Assign s) ts = assigned r ts (assignment s env)
 ran_simple env r number (st.Assert e) ts = asserted r ts (value_of e env)
-ran_simple env r number (st.Send s) ts = issued r ts number (send_kind s env)
-ran_simple env r number (st.Recv s) ts = issued r ts number (recv_kind s env)
+ran_simple env r number (st.Send s) ts = issued r ts number (send_issue s env)
+ran_simple env r number (st.Recv s) ts = issued r ts number (recv_issue s env)
+ran_simple env r number (st.Isend s) ts = issued r ts number (isend_issue s env)
+ran_simple env r number (st.Irecv s) ts = issued r ts number (irecv_issue s env)
+ran_simple env r number (st.Wait t) ts = issued r ts number (wait_issue t env)
 
 -- what any statement makes of it
 abbrev pub ran : Env → RankWorld → ℕ → Tree → List (ℕ × Tree) → RankWorld
@@ -131,25 +184,44 @@ waits (Some r) = is_blocked r.activity
 
 -- a rank that is blocked on a complete call
 abbrev pub can_wake : World → ℕ → Bool
-can_wake w p = waits (slice_get w.ranks p) && complete w (last_call w p)
+can_wake w p = waits (slice_get w.ranks p) && complete (board_of w) (last_call (board_of w) p)
 
--- the cells that a woken call writes, in order, each with its new value
+-- the cells that a receive writes as its rank goes on, in order, each with its new value
 abbrev pub writes_of : Option CallKind → Option Message → List (ℕ × ℤ)
 writes_of (Some (Recv r)) (Some m) = (r.cell, m.value) ∷ []
 writes_of (Some (Recv r)) None = []
 writes_of (Some (Send s)) m = []
+writes_of (Some (Wait t)) m = []
 writes_of None m = []
+
+abbrev pub writes_by : Board → Option CallId → List (ℕ × ℤ)
+writes_by b None = []
+writes_by b (Some c) = writes_of (kind_at b c) (buffer b c)
 
 abbrev pub write_cells : List (ℕ × ℤ) → List ℤ → List ℤ
 write_cells [] vars = vars
 write_cells (w ∷ ws) vars = write_cells ws (slice_set vars w.0 w.1)
 
-abbrev pub woken_rank : List (ℕ × ℤ) → RankWorld → RankWorld
-woken_rank writes r = record r { vars = write_cells writes r.vars; activity = Running }
+-- the handle that a wait clears
+abbrev pub cleared_by : Option CallKind → Option ℕ
+cleared_by (Some (Wait t)) = Some t.handle
+cleared_by (Some (Send s)) = None
+cleared_by (Some (Recv r)) = None
+cleared_by None = None
 
--- what the wake of a rank writes
-abbrev pub wake_writes : World → ℕ → List (ℕ × ℤ)
-wake_writes w p = writes_of (kind_at w (last_call w p)) (buffer w (last_call w p))
+abbrev pub without_request : Option ℕ → List (Option ℕ) → List (Option ℕ)
+without_request None handles = handles
+without_request (Some h) handles = slice_set handles h None
+
+abbrev pub woken_rank : List (ℕ × ℤ) → Option ℕ → RankWorld → RankWorld
+woken_rank writes handle r = record r { vars = write_cells writes r.vars; handles = without_request handle r.handles; activity = Running }
+
+-- what the wake of a rank writes, and the handle that it clears
+abbrev pub wake_writes : Board → ℕ → List (ℕ × ℤ)
+wake_writes b p = writes_by b (awaited b (last_call b p))
+
+abbrev pub wake_clears : Board → ℕ → Option ℕ
+wake_clears b p = cleared_by (kind_at b (last_call b p))
 
 -- the ranks with one changed
 abbrev pub put_at : List RankWorld → ℕ → Option RankWorld → (RankWorld → RankWorld) → List RankWorld
@@ -161,8 +233,8 @@ update_at ranks p f = put_at ranks p (slice_get ranks p) f
 
 abbrev pub woken : World → ℕ → World
 woken w p = record w {
-  ranks = update_at w.ranks p (woken_rank (wake_writes w p));
-  sets = w.sets ++ Woke (last_call w p) ∷ [];
+  ranks = update_at w.ranks p (woken_rank (wake_writes (board_of w) p) (wake_clears (board_of w) p));
+  sets = w.sets ++ Woke (last_call (board_of w) p) ∷ [];
 }
 
 -- ---- the step
@@ -173,7 +245,7 @@ matched w s r = record w { sets = w.sets ++ Pair s r ∷ [] }
 -- No statement issues a barrier yet, so no release is enabled.
 abbrev pub next : World → Step → Option World
 next w (Local p) = option_map (λ ranks. record w { ranks = ranks }) (local_in w.ranks p)
-next w (Match s r) = if eligible w s r then Some (matched w s r) else None
+next w (Match s r) = if eligible (board_of w) s r then Some (matched w s r) else None
 next w (Wake p) = if can_wake w p then Some (woken w p) else None
 next w Release = None
 
@@ -186,14 +258,17 @@ fold w (a ∷ steps) = option_and_then (λ v. fold v steps) (next w a)
 
 -- ---- all steps that may be enabled: local, release, wake, match; by rank, and matches by receiver, receive, sender, send
 
-abbrev pub matches_with : World → CallId → List Step
-matches_with w r = flat_map (λ p. map (λ i. Match (call_id p i) r) (call_numbers w p)) (rank_numbers w)
+abbrev pub matches_with : Board → CallId → List Step
+matches_with b r = flat_map (λ p. map (λ i. Match (call_id p i) r) (call_numbers b p)) (rank_numbers b)
 
-abbrev pub matches_of : World → ℕ → List Step
-matches_of w q = flat_map (λ j. matches_with w (call_id q j)) (call_numbers w q)
+abbrev pub matches_of : Board → ℕ → List Step
+matches_of b q = flat_map (λ j. matches_with b (call_id q j)) (call_numbers b q)
+
+abbrev pub matches_in : Board → List Step
+matches_in b = flat_map (matches_of b) (rank_numbers b)
 
 abbrev pub steps_of : World → List Step
-steps_of w = map Local (rank_numbers w) ++ (Release ∷ (map Wake (rank_numbers w) ++ flat_map (matches_of w) (rank_numbers w)))
+steps_of w = map Local (rank_numbers (board_of w)) ++ (Release ∷ (map Wake (rank_numbers (board_of w)) ++ matches_in (board_of w)))
 
 abbrev pub enabled : World → List Step
 enabled w = filter (is_enabled w) (steps_of w)

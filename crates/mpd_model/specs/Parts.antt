@@ -1,5 +1,7 @@
 -- What is written of a statement that holds no other, part by part in text order. Behind the last part stands a `;`.
 use Rattle.std.specs.Prelude.{List, [], ◌∷◌, Option, Some, None}
+use Rattle.mpd_model.specs.declared.place.DeclKind.{DeclKind}
+use Rattle.mpd_model.specs.declared.place.DeclKind.TheVariants.{Variable, Handle}
 use Rattle.mpd_model.specs.declared.stmt.Simple.{Simple}
 use Rattle.mpd_model.specs.declared.stmt.Simple.TheVariants as st
 use Rattle.mpd_model.specs.declared.token.Mark.{Mark}
@@ -11,22 +13,25 @@ pub data Part : Type 0 where
   of_mark : Mark → Part
   -- an expression that stands in no other
   of_term : Term → Part
-  -- a place that the statement writes
-  of_target : Target → Part
+  -- a variable or a handle that stands in no expression
+  of_target : DeclKind → Target → Part
 
 abbrev pub parts_of : Simple → List Part
 parts_of (st.Print e) = of_mark m.Print ∷ of_term e ∷ []
-parts_of (st.Assign s) = of_target s.into ∷ of_mark m.Assign ∷ of_term s.value ∷ []
+parts_of (st.Assign s) = of_target Variable s.into ∷ of_mark m.Assign ∷ of_term s.value ∷ []
 parts_of (st.Assert e) = of_mark m.Assert ∷ of_term e ∷ []
 parts_of (st.Send s) = of_mark m.Send ∷ of_term s.value ∷ of_mark m.To ∷ of_term s.to ∷ of_mark m.Tag ∷ of_term s.tag ∷ []
-parts_of (st.Recv s) = of_mark m.Recv ∷ of_target s.into ∷ of_mark m.From ∷ of_term s.from ∷ of_mark m.Tag ∷ of_term s.tag ∷ []
+parts_of (st.Recv s) = of_mark m.Recv ∷ of_target Variable s.into ∷ of_mark m.From ∷ of_term s.from ∷ of_mark m.Tag ∷ of_term s.tag ∷ []
+parts_of (st.Isend s) = of_mark m.Isend ∷ of_target Handle s.request ∷ of_term s.send.value ∷ of_mark m.To ∷ of_term s.send.to ∷ of_mark m.Tag ∷ of_term s.send.tag ∷ []
+parts_of (st.Irecv s) = of_mark m.Irecv ∷ of_target Handle s.request ∷ of_target Variable s.recv.into ∷ of_mark m.From ∷ of_term s.recv.from ∷ of_mark m.Tag ∷ of_term s.recv.tag ∷ []
+parts_of (st.Wait t) = of_mark m.Wait ∷ of_target Handle t ∷ []
 
 -- ---- before it is read: the mark that must come next, or a hole for what comes
 
 pub data Hole : Type 0 where
   mark_hole : Mark → Hole
   term_hole : Hole
-  target_hole : Hole
+  target_hole : DeclKind → Hole
   -- `any`, or an expression
   source_hole : Hole
   -- `status` and a place, or nothing
@@ -37,7 +42,7 @@ abbrev pub Contents : List Hole → Type 0
 Contents [] = Unit {0}
 Contents (mark_hole k ∷ hs) = Contents hs
 Contents (term_hole ∷ hs) = Term × Contents hs
-Contents (target_hole ∷ hs) = Target × Contents hs
+Contents (target_hole kind ∷ hs) = Target × Contents hs
 Contents (source_hole ∷ hs) = Option Term × Contents hs
 Contents (status_hole ∷ hs) = Option Target × Contents hs
 
@@ -48,12 +53,12 @@ source_part (Some e) = of_term e
 -- a status before other parts
 abbrev pub status_parts : Option Target → List Part → List Part
 status_parts None ps = ps
-status_parts (Some t) ps = of_mark m.Status ∷ of_target t ∷ ps
+status_parts (Some t) ps = of_mark m.Status ∷ of_target Variable t ∷ ps
 
 abbrev pub filled : (hs : List Hole) → Contents hs → List Part
 filled [] c = []
 filled (mark_hole k ∷ hs) c = of_mark k ∷ filled hs c
 filled (term_hole ∷ hs) c = of_term c.0 ∷ filled hs c.1
-filled (target_hole ∷ hs) c = of_target c.0 ∷ filled hs c.1
+filled (target_hole kind ∷ hs) c = of_target kind c.0 ∷ filled hs c.1
 filled (source_hole ∷ hs) c = source_part c.0 ∷ filled hs c.1
 filled (status_hole ∷ hs) c = status_parts c.0 (filled hs c.1)

@@ -1,6 +1,7 @@
 -- The programs whose canonical text is read again: what the grammar and the limits allow.
 use Rattle.std.specs.Prelude.{◌≡◌, ℕ, suc, ◌+◌, ◌<◌, ◌≤◌, ◌^◌, ℤ, pos, negsuc, Bool, true, false, nat_lt, List, [], ◌∷◌, ◌++◌, length, slice_index, Option, Some, None, is_some, Ok}
 use Rattle.std.specs.List.{list_all}
+use Rattle.mpd_model.specs.declared.place.DeclKind.{DeclKind}
 use Rattle.mpd_model.specs.declared.place.DeclKind.TheVariants.{Variable}
 use Rattle.mpd_model.specs.declared.place.Place.{Place}
 use Rattle.mpd_model.specs.declared.slot.Slot.{Slot}
@@ -30,22 +31,17 @@ abbrev pub AreNamed : List Declared → Type 0
 AreNamed [] = Unit {0}
 AreNamed (d ∷ ds) = IsName d.name × AreNamed ds
 
--- the grammar declares variables alone
-abbrev pub AreVariables : List Declared → Type 0
-AreVariables [] = Unit {0}
-AreVariables (d ∷ ds) = (d.kind ≡ Variable) × AreVariables ds
-
 -- no declaration has the name of one before it
 abbrev pub AreNew : List Declared → List Declared → Type 0
 AreNew before [] = Unit {0}
 AreNew before (d ∷ ds) = (slot_in before d.name ≡ None) × AreNew (before ++ d ∷ []) ds
 
--- the place is what the name of its declaration stands for: a variable that was declared with or without a size
-pub record HasName (ds : List Declared) (sized : Bool) (p : Place) : Type 0 where
+-- the place is what the name of its declaration stands for: something of this kind that was declared with or without a size
+pub record HasName (ds : List Declared) (wanted : DeclKind) (sized : Bool) (p : Place) : Type 0 where
   pub named : IsName (name_text ds p)
   pub slot : Slot
   pub declared : slot_in ds (name_text ds p) ≡ Some slot
-  pub kind : slot.kind ≡ Variable
+  pub kind : slot.kind ≡ wanted
   pub size : is_some slot.size ≡ sized
   pub place : place_of_slot slot ≡ p
 
@@ -60,8 +56,8 @@ abbrev pub IsPrintableTerm : List Declared → Term → Type 0
 IsPrintableTerm ds (lit z) = IsWritable z
 IsPrintableTerm ds own_rank = Unit {0}
 IsPrintableTerm ds size = Unit {0}
-IsPrintableTerm ds (cell p) = HasName ds false p
-IsPrintableTerm ds (element p a) = HasName ds true p × IsPrintableTerm ds a
+IsPrintableTerm ds (cell p) = HasName ds Variable false p
+IsPrintableTerm ds (element p a) = HasName ds Variable true p × IsPrintableTerm ds a
 IsPrintableTerm ds (op1 op a) = IsPrintableTerm ds a
 IsPrintableTerm ds (op2 op a b) = IsPrintableTerm ds a × IsPrintableTerm ds b
 
@@ -87,17 +83,17 @@ pub record IsPrintableWhole (ds : List Declared) (t : Term) : Type 0 where
 -- ---- statements
 
 -- an index stands exactly where the place was declared with a size
-abbrev pub IsPrintableAt : List Declared → Place → Option Term → Type 0
-IsPrintableAt ds p None = HasName ds false p
-IsPrintableAt ds p (Some e) = HasName ds true p × IsPrintableWhole ds e
+abbrev pub IsPrintableAt : List Declared → DeclKind → Place → Option Term → Type 0
+IsPrintableAt ds kind p None = HasName ds kind false p
+IsPrintableAt ds kind p (Some e) = HasName ds kind true p × IsPrintableWhole ds e
 
-abbrev pub IsPrintableTarget : List Declared → Target → Type 0
-IsPrintableTarget ds t = IsPrintableAt ds t.place t.index
+abbrev pub IsPrintableTarget : List Declared → DeclKind → Target → Type 0
+IsPrintableTarget ds kind t = IsPrintableAt ds kind t.place t.index
 
 abbrev pub IsPrintablePart : List Declared → Part → Type 0
 IsPrintablePart ds (of_mark k) = Unit {0}
 IsPrintablePart ds (of_term e) = IsPrintableWhole ds e
-IsPrintablePart ds (of_target t) = IsPrintableTarget ds t
+IsPrintablePart ds (of_target kind t) = IsPrintableTarget ds kind t
 
 abbrev pub ArePrintable : List Declared → List Part → Type 0
 ArePrintable ds [] = Unit {0}
@@ -118,7 +114,6 @@ abbrev mutual
 pub record IsPrintable (p : Program) : Type 0 where
   pub legal : IsLegal p
   pub named : AreNamed p.decls
-  pub variables : AreVariables p.decls
   pub distinct : AreNew [] p.decls
   pub body : IsPrintableBlock p.decls (block_of p.body)
   pub blocks : blocks_in (block_of p.body) ≤ max_blocks

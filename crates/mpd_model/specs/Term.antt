@@ -108,9 +108,11 @@ checked (Err e) n t = Err e
 
 -- ---- values
 
--- what an expression is evaluated in: the variables of a rank, the number of the rank, and how many ranks there are
+-- what a statement is evaluated in: the variables and the handles of a rank, the number of the rank, and how many ranks there are
 pub record Env : Type 0 where
   pub vars : List ℤ
+  -- the call that each handle has, if any
+  pub handles : List (Option ℕ)
   pub rank : ℕ
   pub size : ℕ
 

@@ -1,12 +1,12 @@
 -- Printed texts: calls, match sets, what a rank is doing, how a run has ended, and all that `show` prints.
-use Rattle.std.specs.Prelude.{ℕ, ℤ, if◌then◌else◌, List, [], ◌∷◌, ◌++◌, Option, Some, None, slice_get, slice_index_or, codes}
+use Rattle.std.specs.Prelude.{ℕ, ℤ, Bool, if◌then◌else◌, List, [], ◌∷◌, ◌++◌, Option, Some, None, slice_get, slice_index_or, codes}
 use Rattle.std.specs.List.{flat_map}
 use Rattle.std.specs.Fmt.{decimal, signed_decimal}
 use Rattle.mpd_model.specs.declared.step.CallId.{CallId}
 use Rattle.mpd_model.specs.declared.step.Step.{Step}
 use Rattle.mpd_model.specs.declared.step.Step.TheVariants.{Local, Match, Wake, Release}
 use Rattle.mpd_model.specs.declared.call.CallKind.{CallKind}
-use Rattle.mpd_model.specs.declared.call.CallKind.TheVariants.{Send, Recv}
+use Rattle.mpd_model.specs.declared.call.CallKind.TheVariants.{Send, Recv, Wait}
 use Rattle.mpd_model.specs.declared.call.Trap.{Trap}
 use Rattle.mpd_model.specs.declared.call.Trap.TheVariants.{Overflow, ZeroDivisor, BadRank, BadTag, BadIndex, Assertion}
 use Rattle.mpd_model.specs.declared.call.Activity.{Activity}
@@ -18,7 +18,7 @@ use Rattle.mpd_model.specs.declared.outcome.TrappedRank.{TrappedRank}
 use Rattle.mpd_model.specs.declared.outcome.Outcome.{Outcome}
 use Rattle.mpd_model.specs.declared.outcome.Outcome.TheVariants as ending
 use Rattle.mpd_model.specs.Program.{Program}
-use Rattle.mpd_model.specs.World.{RankWorld, World, call_id, rank_numbers, call_numbers, kind_at, partner, is_free, buffer, last_call, pending, posted}
+use Rattle.mpd_model.specs.World.{RankWorld, World, Board, board_of, call_id, rank_numbers, call_numbers, kind_at, partner, is_free, buffer, last_call, pending, posted}
 use Rattle.mpd_model.specs.Outcomes.{first_number, outcome}
 
 -- ---- lists of values: one space before each
@@ -51,30 +51,44 @@ trap_name BadTag = codes "bad-tag"
 trap_name BadIndex = codes "bad-index"
 trap_name Assertion = codes "assert"
 
+-- a call that its rank doesn't wait for has a word of its own
+abbrev pub send_word : Bool → List ℕ
+send_word blocks = if blocks then codes "send" else codes "isend"
+
+abbrev pub recv_word : Bool → List ℕ
+recv_word blocks = if blocks then codes "recv" else codes "irecv"
+
+-- the number of the call that a wait is for
+abbrev pub target_text : Option ℕ → List ℕ
+target_text None = codes "none"
+target_text (Some i) = decimal i
+
 abbrev pub kind_text : CallKind → List ℕ
-kind_text (Send s) = codes "send to " ++ decimal s.to ++ codes " tag " ++ decimal s.tag ++ codes " value " ++ signed_decimal s.value
-kind_text (Recv r) = codes "recv from " ++ decimal r.from ++ codes " tag " ++ decimal r.tag
+kind_text (Send s) = send_word s.blocks ++ codes " to " ++ decimal s.to ++ codes " tag " ++ decimal s.tag ++ codes " value " ++ signed_decimal s.value
+kind_text (Recv r) = recv_word r.blocks ++ codes " from " ++ decimal r.from ++ codes " tag " ++ decimal r.tag
+kind_text (Wait t) = codes "wait " ++ target_text t.target
 
 -- the call that a call was paired with, and the mark of one that is free
 abbrev pub partner_text : Option CallId → List ℕ
 partner_text None = []
 partner_text (Some d) = codes " with " ++ id_text d
 
-abbrev pub mark_text : World → CallId → List ℕ
-mark_text w c = if is_free w c then codes " free" else partner_text (partner w.sets c)
+abbrev pub mark_text : Board → CallId → List ℕ
+mark_text b c = if is_free b c then codes " free" else partner_text (partner b.sets c)
 
 -- the value that a receive got
 abbrev pub got_text : CallKind → Option Message → List ℕ
 got_text (Send s) m = []
+got_text (Wait t) m = []
 got_text (Recv r) None = []
 got_text (Recv r) (Some m) = codes " value " ++ signed_decimal m.value
 
-abbrev pub call_text_of : World → CallId → Option CallKind → List ℕ
-call_text_of w c None = []
-call_text_of w c (Some kind) = kind_text kind ++ mark_text w c ++ got_text kind (buffer w c)
+abbrev pub call_text_of : Board → CallId → Option CallKind → List ℕ
+call_text_of b c None = []
+call_text_of b c (Some kind) = kind_text kind ++ mark_text b c ++ got_text kind (buffer b c)
 
-abbrev pub call_text : World → CallId → List ℕ
-call_text w c = call_text_of w c (kind_at w c)
+abbrev pub call_text : Board → CallId → List ℕ
+call_text b c = call_text_of b c (kind_at b c)
 
 -- ---- ranks
 
@@ -90,7 +104,7 @@ activity_text lines last number Blocked = codes "blocked " ++ decimal last.index
 activity_text lines last number (Trapped t) = codes "trapped " ++ trap_name t
 
 abbrev pub state_text : Program → World → ℕ → RankWorld → List ℕ
-state_text s w p r = activity_text s.lines (last_call w p) (first_number r.rest) r.activity
+state_text s w p r = activity_text s.lines (last_call (board_of w) p) (first_number r.rest) r.activity
 
 abbrev pub rank_text_of : Program → World → ℕ → Option RankWorld → List ℕ
 rank_text_of s w p None = []
@@ -134,11 +148,11 @@ handle_text (Some i) = decimal i
 abbrev pub handles_line : List (Option ℕ) → List ℕ
 handles_line handles = line (codes "handles" ++ spaced handle_text handles)
 
-abbrev pub call_line : World → CallId → List ℕ
-call_line w c = line (codes "call " ++ id_text c ++ 32 ∷ call_text w c)
+abbrev pub call_line : Board → CallId → List ℕ
+call_line b c = line (codes "call " ++ id_text c ++ 32 ∷ call_text b c)
 
-abbrev pub call_lines : World → ℕ → List ℕ
-call_lines w p = flat_map (λ i. call_line w (call_id p i)) (call_numbers w p)
+abbrev pub call_lines : Board → ℕ → List ℕ
+call_lines b p = flat_map (λ i. call_line b (call_id p i)) (call_numbers b p)
 
 -- what a rank holds
 abbrev pub cell_lines : Option RankWorld → List ℕ
@@ -146,21 +160,21 @@ cell_lines None = []
 cell_lines (Some r) = values_line (codes "vars") r.vars ++ handles_line r.handles ++ values_line (codes "out") r.out
 
 abbrev pub rank_lines : Program → World → ℕ → List ℕ
-rank_lines s w p = rank_line s w p ++ cell_lines (slice_get w.ranks p) ++ call_lines w p
+rank_lines s w p = rank_line s w p ++ cell_lines (slice_get w.ranks p) ++ call_lines (board_of w) p
 
 -- a line of call numbers, where there are any
 abbrev pub numbers_line : List ℕ → List ℕ → List ℕ
 numbers_line name [] = []
 numbers_line name (i ∷ is) = line (name ++ 58 ∷ spaced decimal (i ∷ is))
 
-abbrev pub pending_line : World → ℕ → ℕ → List ℕ
-pending_line w p q = numbers_line (codes "pending " ++ decimal p ++ codes " to " ++ decimal q) (pending w p q)
+abbrev pub pending_line : Board → ℕ → ℕ → List ℕ
+pending_line b p q = numbers_line (codes "pending " ++ decimal p ++ codes " to " ++ decimal q) (pending b p q)
 
-abbrev pub pending_lines : World → ℕ → List ℕ
-pending_lines w p = flat_map (pending_line w p) (rank_numbers w)
+abbrev pub pending_lines : Board → ℕ → List ℕ
+pending_lines b p = flat_map (pending_line b p) (rank_numbers b)
 
-abbrev pub posted_line : World → ℕ → List ℕ
-posted_line w q = numbers_line (codes "posted " ++ decimal q) (posted w q)
+abbrev pub posted_line : Board → ℕ → List ℕ
+posted_line b q = numbers_line (codes "posted " ++ decimal q) (posted b q)
 
 abbrev pub set_line : MatchSet → List ℕ
 set_line m = line (codes "set " ++ set_text m)
@@ -174,9 +188,9 @@ outcome_line (Some o) = line (codes "outcome " ++ outcome_text o)
 abbrev pub show_text : Program → World → ℕ → ℕ → List ℕ
 show_text s w depth all =
     depth_line depth all
-    ++ flat_map (rank_lines s w) (rank_numbers w)
-    ++ flat_map (pending_lines w) (rank_numbers w)
-    ++ flat_map (posted_line w) (rank_numbers w)
+    ++ flat_map (rank_lines s w) (rank_numbers (board_of w))
+    ++ flat_map (pending_lines (board_of w)) (rank_numbers (board_of w))
+    ++ flat_map (posted_line (board_of w)) (rank_numbers (board_of w))
     ++ flat_map set_line w.sets
     ++ outcome_line (outcome w)
     ++ line (codes "end")

@@ -1,11 +1,13 @@
 -- The state of a run, and what is looked up in it. It has no queue, mark or buffer: these are read off the calls and the match sets.
-use Rattle.std.specs.Prelude.{ℕ, ◌-◌, ℤ, pos, Bool, true, false, ◌&&◌, ◌||◌, not, ◌==◌, nat_lt, if◌then◌else◌, List, [], ◌∷◌, length, replicate, slice_get, Option, Some, None, option_and_then, is_some, is_none, refl}
+use Rattle.std.specs.Prelude.{ℕ, ◌-◌, ℤ, pos, Bool, true, false, ◌&&◌, ◌||◌, not, ◌==◌, nat_lt, if◌then◌else◌, List, [], ◌∷◌, length, map, replicate, slice_get, Option, Some, None, option_and_then, is_some, is_none, refl}
+use Rattle.std.specs.Option.{option_map}
 use Rattle.std.specs.List.{filter, list_any, range_with_len}
 use Rattle.std.specs.Coded.{Coded, code_by, coded×, coded_ℕ, coded_ℤ, coded_list, coded_option}
 use Rattle.mpd_model.specs.declared.step.CallId.{CallId}
 use Rattle.mpd_model.specs.declared.call.Call.{Call}
 use Rattle.mpd_model.specs.declared.call.CallKind.{CallKind}
-use Rattle.mpd_model.specs.declared.call.CallKind.TheVariants.{Send, Recv}
+use Rattle.mpd_model.specs.declared.call.CallKind.TheVariants.{Send, Recv, Wait}
+use Rattle.mpd_model.specs.declared.call.SendCall.{SendCall}
 use Rattle.mpd_model.specs.declared.call.Message.{Message}
 use Rattle.mpd_model.specs.declared.call.Mode.{Mode}
 use Rattle.mpd_model.specs.declared.call.Mode.TheVariants.{Rendezvous, Buffered}
@@ -39,6 +41,15 @@ pub record World : Type 0 where
   -- what was formed, in order
   pub sets : List MatchSet
 
+-- where calls meet: the calls of each rank, and what was formed of them
+pub record Board : Type 0 where
+  pub mode : Mode
+  pub calls : List (List Call)
+  pub sets : List MatchSet
+
+abbrev pub board_of : World → Board
+board_of w = record { mode = w.mode; calls = map (λ r. r.calls) w.ranks; sets = w.sets }
+
 -- every rank has the whole body before it
 abbrev pub start_rank : Program → RankWorld
 start_rank s = record {
@@ -61,26 +72,30 @@ call_id p i = record { rank = p; index = i }
 abbrev pub id_eq : CallId → CallId → Bool
 id_eq a b = (a.rank == b.rank) && (a.index == b.index)
 
-abbrev pub calls_of : Option RankWorld → List Call
-calls_of None = []
-calls_of (Some r) = r.calls
+-- the calls of a rank, none where there is no such rank
+abbrev pub listed_calls : Option (List Call) → List Call
+listed_calls None = []
+listed_calls (Some calls) = calls
 
-abbrev pub call_at : World → CallId → Option Call
-call_at w c = slice_get (calls_of (slice_get w.ranks c.rank)) c.index
+abbrev pub calls_of : Board → ℕ → List Call
+calls_of b p = listed_calls (slice_get b.calls p)
+
+abbrev pub call_at : Board → CallId → Option Call
+call_at b c = slice_get (calls_of b c.rank) c.index
 
 abbrev pub kind_of : Option Call → Option CallKind
 kind_of None = None
 kind_of (Some c) = Some c.kind
 
-abbrev pub kind_at : World → CallId → Option CallKind
-kind_at w c = kind_of (call_at w c)
+abbrev pub kind_at : Board → CallId → Option CallKind
+kind_at b c = kind_of (call_at b c)
 
 -- the numbers of all ranks, and of a rank's calls
-abbrev pub rank_numbers : World → List ℕ
-rank_numbers w = range_with_len 0 (length w.ranks)
+abbrev pub rank_numbers : Board → List ℕ
+rank_numbers b = range_with_len 0 (length b.calls)
 
-abbrev pub call_numbers : World → ℕ → List ℕ
-call_numbers w p = range_with_len 0 (length (calls_of (slice_get w.ranks p)))
+abbrev pub call_numbers : Board → ℕ → List ℕ
+call_numbers b p = range_with_len 0 (length (calls_of b p))
 
 -- the call that a pair has beside this one
 abbrev pub partner : List MatchSet → CallId → Option CallId
@@ -93,80 +108,109 @@ partner (Barrier ∷ sets) c = partner sets c
 abbrev pub is_message_kind : Option CallKind → Bool
 is_message_kind (Some (Send s)) = true
 is_message_kind (Some (Recv r)) = true
+is_message_kind (Some (Wait t)) = false
 is_message_kind None = false
 
 -- a send or a receive that no pair names
-abbrev pub is_free : World → CallId → Bool
-is_free w c = is_message_kind (kind_at w c) && is_none (partner w.sets c)
+abbrev pub is_free : Board → CallId → Bool
+is_free b c = is_message_kind (kind_at b c) && is_none (partner b.sets c)
 
 -- ---- matching (MPI 4.0, section 3.5)
 
 -- A send of rank p and a receive of rank q fit: the send goes to q, the receive's source is p, and their tags are one.
+abbrev pub fitting_recv : SendCall → Option CallKind → ℕ → ℕ → Bool
+fitting_recv s (Some (Send t)) p q = false
+fitting_recv s (Some (Recv r)) p q = (s.to == q) && ((r.from == p) && (s.tag == r.tag))
+fitting_recv s (Some (Wait t)) p q = false
+fitting_recv s None p q = false
+
 abbrev pub fitting : Option CallKind → Option CallKind → ℕ → ℕ → Bool
-fitting (Some (Send s)) (Some (Recv r)) p q = (s.to == q) && ((r.from == p) && (s.tag == r.tag))
-fitting (Some (Send s)) (Some (Send t)) p q = false
-fitting (Some (Send s)) None p q = false
+fitting (Some (Send s)) other p q = fitting_recv s other p q
 fitting (Some (Recv r)) other p q = false
+fitting (Some (Wait t)) other p q = false
 fitting None other p q = false
 
-abbrev pub fits : World → CallId → CallId → Bool
-fits w s r = fitting (kind_at w s) (kind_at w r) s.rank r.rank
+abbrev pub fits : Board → CallId → CallId → Bool
+fits b s r = fitting (kind_at b s) (kind_at b r) s.rank r.rank
 
 abbrev pub sends_to : Option CallKind → ℕ → Bool
 sends_to (Some (Send s)) q = s.to == q
 sends_to (Some (Recv r)) q = false
+sends_to (Some (Wait t)) q = false
 sends_to None q = false
 
 abbrev pub receives : Option CallKind → Bool
 receives (Some (Send s)) = false
 receives (Some (Recv r)) = true
+receives (Some (Wait t)) = false
 receives None = false
 
-abbrev pub is_pending : World → ℕ → ℕ → ℕ → Bool
-is_pending w p q i = sends_to (kind_at w (call_id p i)) q && is_free w (call_id p i)
+abbrev pub is_pending : Board → ℕ → ℕ → ℕ → Bool
+is_pending b p q i = sends_to (kind_at b (call_id p i)) q && is_free b (call_id p i)
 
-abbrev pub is_posted : World → ℕ → ℕ → Bool
-is_posted w q j = receives (kind_at w (call_id q j)) && is_free w (call_id q j)
+abbrev pub is_posted : Board → ℕ → ℕ → Bool
+is_posted b q j = receives (kind_at b (call_id q j)) && is_free b (call_id q j)
 
 -- p's free sends to q, in the order of issue
-abbrev pub pending : World → ℕ → ℕ → List ℕ
-pending w p q = filter (is_pending w p q) (call_numbers w p)
+abbrev pub pending : Board → ℕ → ℕ → List ℕ
+pending b p q = filter (is_pending b p q) (call_numbers b p)
 
 -- q's free receives, in the order of issue
-abbrev pub posted : World → ℕ → List ℕ
-posted w q = filter (is_posted w q) (call_numbers w q)
+abbrev pub posted : Board → ℕ → List ℕ
+posted b q = filter (is_posted b q) (call_numbers b q)
 
 -- Messages don't overtake, on either side: both are free and fit, no earlier free send of the sender to that receiver fits the
 -- receive, and no earlier free receive of the receiver fits the send.
-abbrev pub eligible : World → CallId → CallId → Bool
-eligible w s r =
-    is_free w s && (is_free w r && (fits w s r
-    && (not (list_any (λ i. nat_lt i s.index && fits w (call_id s.rank i) r) (pending w s.rank r.rank))
-    && not (list_any (λ i. nat_lt i r.index && fits w s (call_id r.rank i)) (posted w r.rank)))))
+abbrev pub eligible : Board → CallId → CallId → Bool
+eligible b s r =
+    is_free b s && (is_free b r && (fits b s r
+    && (not (list_any (λ i. nat_lt i s.index && fits b (call_id s.rank i) r) (pending b s.rank r.rank))
+    && not (list_any (λ i. nat_lt i r.index && fits b s (call_id r.rank i)) (posted b r.rank)))))
 
 -- ---- messages and completion (MPI 4.0, sections 3.4 and 3.7.3)
 
 abbrev pub message_of : CallId → Option CallKind → Option Message
 message_of c (Some (Send s)) = Some (record { value = s.value; source = c.rank; tag = s.tag })
 message_of c (Some (Recv r)) = None
+message_of c (Some (Wait t)) = None
 message_of c None = None
 
 -- the message that a receive was paired with
-abbrev pub buffer : World → CallId → Option Message
-buffer w r = option_and_then (λ s. message_of s (kind_at w s)) (partner w.sets r)
+abbrev pub buffer : Board → CallId → Option Message
+buffer b r = option_and_then (λ s. message_of s (kind_at b s)) (partner b.sets r)
 
 abbrev pub is_buffered : Mode → Option CallKind → Bool
 is_buffered Buffered (Some (Send s)) = true
 is_buffered Buffered (Some (Recv r)) = false
+is_buffered Buffered (Some (Wait t)) = false
 is_buffered Buffered None = false
 is_buffered Rendezvous kind = false
 
-abbrev pub complete : World → CallId → Bool
-complete w c = is_some (partner w.sets c) || is_buffered w.mode (kind_at w c)
+-- a send or a receive that is done: it is paired, or was buffered as it was issued
+abbrev pub is_done : Board → CallId → Bool
+is_done b c = is_some (partner b.sets c) || is_buffered b.mode (kind_at b c)
+
+-- the call that a rank waits for which is blocked on a call of this kind: what a wait was issued for, or the call itself
+abbrev pub awaited_by : CallId → Option CallKind → Option CallId
+awaited_by c (Some (Wait t)) = option_map (call_id c.rank) t.target
+awaited_by c (Some (Send s)) = Some c
+awaited_by c (Some (Recv r)) = Some c
+awaited_by c None = Some c
+
+abbrev pub awaited : Board → CallId → Option CallId
+awaited b c = awaited_by c (kind_at b c)
+
+-- Where nothing is waited for, as by a wait for a handle without a request, a call is complete at once.
+abbrev pub complete_by : Board → Option CallId → Bool
+complete_by b None = true
+complete_by b (Some c) = is_done b c
+
+abbrev pub complete : Board → CallId → Bool
+complete b c = complete_by b (awaited b c)
 
 -- the last call that a rank has issued
-abbrev pub last_call : World → ℕ → CallId
-last_call w p = call_id p (length (calls_of (slice_get w.ranks p)) - 1)
+abbrev pub last_call : Board → ℕ → CallId
+last_call b p = call_id p (length (calls_of b p) - 1)
 
 -- ---- how the logic stores a world
 

@@ -2,6 +2,7 @@
 use Rattle.std.specs.Prelude.{◌≡◌, ℕ, suc, pos, ℤ, Bool, true, false, List, [], ◌∷◌, ◌++◌, Option, Some, None, is_some, if◌then◌else◌, ◌==◌, Ok}
 use Rattle.mpd_model.specs.declared.expr.BinaryOp.{BinaryOp}
 use Rattle.mpd_model.specs.declared.expr.UnaryOp.{UnaryOp}
+use Rattle.mpd_model.specs.declared.place.DeclKind.{DeclKind}
 use Rattle.mpd_model.specs.declared.place.DeclKind.TheVariants.{Variable}
 use Rattle.mpd_model.specs.declared.place.Place.{Place}
 use Rattle.mpd_model.specs.declared.slot.Slot.{Slot}
@@ -10,7 +11,7 @@ use Rattle.mpd_model.specs.declared.token.Mark.{Mark}
 use Rattle.mpd_model.specs.declared.token.Mark.TheVariants as m
 use Rattle.mpd_model.specs.declared.token.Token.TheVariants.{Number, Name, Is}
 use Rattle.mpd_model.specs.Declaration.{Declared}
-use Rattle.mpd_model.specs.Grammar.{operator_at, sign, place_of_slot}
+use Rattle.mpd_model.specs.Grammar.{operator_at, sign, place_of_slot, declares}
 use Rattle.mpd_model.specs.Input.{Input, Parser, slot_in, first_line}
 use Rattle.mpd_model.specs.Program.{Program}
 use Rattle.mpd_model.specs.Term.{Term, lit, own_rank, size, cell, element, op1, op2, Target}
@@ -20,12 +21,12 @@ use Rattle.mpd_model.specs.Tree.{Tree, simple, branch, repeat, no_more, block_of
 
 -- ---- expressions, by how loosely they bind
 
--- the token is the name of a variable that was declared with or without a size, and has that place
-pub record Names (ds : List Declared) (s : Spot) (sized : Bool) (p : Place) : Type 0 where
+-- the token is the name of something of this kind that was declared with or without a size, and has that place
+pub record Names (ds : List Declared) (wanted : DeclKind) (s : Spot) (sized : Bool) (p : Place) : Type 0 where
   pub token : s.token ≡ Name
   pub slot : Slot
   pub declared : slot_in ds s.text ≡ Some slot
-  pub kind : slot.kind ≡ Variable
+  pub kind : slot.kind ≡ wanted
   pub size : is_some slot.size ≡ sized
   pub place : place_of_slot slot ≡ p
 
@@ -37,8 +38,8 @@ pub data WrittenTerm (ds : List Declared) : ℕ → List Spot → Term → Type 
   number : (s : Spot) (n : ℤ) → s.token ≡ Number n → WrittenTerm ds 0 (s ∷ []) (lit n)
   rank : (s : Spot) → s.token ≡ Is m.Rank → WrittenTerm ds 0 (s ∷ []) own_rank
   ranks : (s : Spot) → s.token ≡ Is m.Size → WrittenTerm ds 0 (s ∷ []) size
-  name : (s : Spot) (p : Place) → Names ds s false p → WrittenTerm ds 0 (s ∷ []) (cell p)
-  entry : (s a b : Spot) (ss : List Spot) (p : Place) (t : Term) → Names ds s true p → a.token ≡ Is m.SquareOpen → b.token ≡ Is m.SquareClose
+  name : (s : Spot) (p : Place) → Names ds Variable s false p → WrittenTerm ds 0 (s ∷ []) (cell p)
+  entry : (s a b : Spot) (ss : List Spot) (p : Place) (t : Term) → Names ds Variable s true p → a.token ≡ Is m.SquareOpen → b.token ≡ Is m.SquareClose
       → WrittenTerm ds 5 ss t → WrittenTerm ds 0 (s ∷ a ∷ ss ++ b ∷ []) (element p t)
   round : (a b : Spot) (ss : List Spot) (t : Term) → a.token ≡ Is m.RoundOpen → b.token ≡ Is m.RoundClose
       → WrittenTerm ds 5 ss t → WrittenTerm ds 0 (a ∷ ss ++ b ∷ []) t
@@ -61,17 +62,17 @@ IsSound k p = (i j : Input) (t : Term) → p i ≡ Ok (t, j) → TermBetween k t
 
 -- ---- statements, with the line of each: that of its first token, in text order
 
--- a place that a statement writes: behind the name of an array stands its index, an expression of its own
-pub data WrittenTarget (ds : List Declared) : List Spot → Target → Type 0 where
-  whole : (s : Spot) (p : Place) → Names ds s false p → WrittenTarget ds (s ∷ []) (record { place = p; index = None })
-  part : (s a b : Spot) (ss : List Spot) (p : Place) (t : Term) → Names ds s true p → a.token ≡ Is m.SquareOpen → WrittenTerm ds 5 ss t → b.token ≡ Is m.SquareClose
-      → WrittenTarget ds (s ∷ a ∷ ss ++ b ∷ []) (record { place = p; index = Some t })
+-- a place of a kind that a statement names: behind the name of an array stands its index, an expression of its own
+pub data WrittenTarget (ds : List Declared) (kind : DeclKind) : List Spot → Target → Type 0 where
+  whole : (s : Spot) (p : Place) → Names ds kind s false p → WrittenTarget ds kind (s ∷ []) (record { place = p; index = None })
+  part : (s a b : Spot) (ss : List Spot) (p : Place) (t : Term) → Names ds kind s true p → a.token ≡ Is m.SquareOpen → WrittenTerm ds 5 ss t → b.token ≡ Is m.SquareClose
+      → WrittenTarget ds kind (s ∷ a ∷ ss ++ b ∷ []) (record { place = p; index = Some t })
 
 -- a part of a statement that holds no other
 pub data WrittenPart (ds : List Declared) : List Spot → Part → Type 0 where
   by_mark : (s : Spot) (k : Mark) → s.token ≡ Is k → WrittenPart ds (s ∷ []) (of_mark k)
   by_term : (ss : List Spot) (t : Term) → WrittenTerm ds 5 ss t → WrittenPart ds ss (of_term t)
-  by_target : (ss : List Spot) (t : Target) → WrittenTarget ds ss t → WrittenPart ds ss (of_target t)
+  by_target : (ss : List Spot) (kind : DeclKind) (t : Target) → WrittenTarget ds kind ss t → WrittenPart ds ss (of_target kind t)
 
 pub data WrittenParts (ds : List Declared) : List Spot → List Part → Type 0 where
   no_part : WrittenParts ds [] []
@@ -123,20 +124,20 @@ BodyBetween ts = LinesBetween (λ ds ss ls. WrittenBody ds ss ts ls)
 
 -- ---- a whole script
 
-abbrev pub variable_of : List ℕ → Option ℕ → Declared
-variable_of bytes cells = record { kind = Variable; name = bytes; size = cells }
+abbrev pub declared_as : DeclKind → List ℕ → Option ℕ → Declared
+declared_as kind bytes cells = record { kind = kind; name = bytes; size = cells }
 
 -- the tokens bring declarations behind those that stand before them, each with a new name
 pub data WrittenDecls : List Declared → List Spot → List Declared → Type 0 where
   none : (ds : List Declared) → WrittenDecls ds [] ds
-  declares : (ds es : List Declared) (v n end : Spot) (ss : List Spot)
-      → v.token ≡ Is m.Var → n.token ≡ Name → slot_in ds n.text ≡ None → end.token ≡ Is m.Semicolon
-      → WrittenDecls (ds ++ variable_of n.text None ∷ []) ss es
+  declares_one : (ds es : List Declared) (kind : DeclKind) (v n end : Spot) (ss : List Spot)
+      → declares v.token ≡ Some kind → n.token ≡ Name → slot_in ds n.text ≡ None → end.token ≡ Is m.Semicolon
+      → WrittenDecls (ds ++ declared_as kind n.text None ∷ []) ss es
       → WrittenDecls ds (v ∷ n ∷ end ∷ ss) es
-  declares_array : (ds es : List Declared) (v n a c b end : Spot) (cells : ℕ) (ss : List Spot)
-      → v.token ≡ Is m.Var → n.token ≡ Name → slot_in ds n.text ≡ None
+  declares_array : (ds es : List Declared) (kind : DeclKind) (v n a c b end : Spot) (cells : ℕ) (ss : List Spot)
+      → declares v.token ≡ Some kind → n.token ≡ Name → slot_in ds n.text ≡ None
       → a.token ≡ Is m.SquareOpen → c.token ≡ Number (pos cells) → b.token ≡ Is m.SquareClose → end.token ≡ Is m.Semicolon
-      → WrittenDecls (ds ++ variable_of n.text (Some cells) ∷ []) ss es
+      → WrittenDecls (ds ++ declared_as kind n.text (Some cells) ∷ []) ss es
       → WrittenDecls ds (v ∷ n ∷ a ∷ c ∷ b ∷ end ∷ ss) es
 
 pub data WrittenScript : List Spot → Program → Type 0 where

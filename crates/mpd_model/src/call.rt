@@ -28,6 +28,8 @@ pub struct SendCall {
     pub tag: usize,
     /// The value of its message.
     pub value: i64,
+    /// Whether its rank waits for it: `send` does, `isend` doesn't.
+    pub blocks: bool,
 }
 
 /// A receive.
@@ -39,15 +41,36 @@ pub struct RecvCall {
     pub tag: usize,
     /// The cell that its value goes to.
     pub cell: usize,
+    /// Whether its rank waits for it: `recv` does, `irecv` doesn't.
+    pub blocks: bool,
+}
+
+/// A wait. What it waits for is fixed as it is issued.
+#[derive(Clone, Copy, Debug, PartialEq, Eq)]
+pub struct WaitCall {
+    /// The number of the handle that it clears, from 0.
+    pub handle: usize,
+    /// The number of the call that the handle held, a send or a receive of the same rank, if it held one.
+    pub target: Option<usize>,
 }
 
 /// What a call is.
 #[derive(Clone, Copy, Debug, PartialEq, Eq)]
 pub enum CallKind {
-    /// A blocking standard send (MPI 4.0, section 3.2.1).
+    /// A standard send (MPI 4.0, sections 3.2.1 and 3.7.2).
     Send(SendCall),
-    /// A blocking receive (MPI 4.0, section 3.2.4).
+    /// A receive (MPI 4.0, sections 3.2.4 and 3.7.2).
     Recv(RecvCall),
+    /// A wait (MPI 4.0, section 3.7.3).
+    Wait(WaitCall),
+}
+
+/// A call that a statement issues.
+#[derive(Clone, Copy, Debug, PartialEq, Eq)]
+pub struct Issue {
+    pub kind: CallKind,
+    /// The handle that gets the call's number, of a call that its rank doesn't wait for.
+    pub handle: Option<usize>,
 }
 
 /// What a receive gets of the send that it is paired with: value, sender and tag (MPI 4.0, section 3.2.5).

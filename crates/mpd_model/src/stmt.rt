@@ -4,7 +4,7 @@ use crate::expr::Expr;
 use crate::place::Place;
 use std::marker::Model;
 
-/// A place that an assignment or a receive writes, which contracts see as a `Target`.
+/// A place that a statement names outside of an expression, a variable or a handle. Contracts see it as a `Target`.
 #[derive(Debug, Drop)]
 pub struct Target {
     pub place: Place,
@@ -30,7 +30,7 @@ pub struct Stmt {
     pub node: StmtNode,
 }
 
-/// A blocking standard send (MPI 4.0, section 3.2.1).
+/// What a standard send sends (MPI 4.0, section 3.2.1).
 #[derive(Debug, Drop)]
 pub struct SendStmt {
     pub value: Expr,
@@ -39,7 +39,7 @@ pub struct SendStmt {
     pub tag: Expr,
 }
 
-/// A blocking receive (MPI 4.0, section 3.2.4).
+/// What a receive takes, and where it goes (MPI 4.0, section 3.2.4).
 #[derive(Debug, Drop)]
 pub struct RecvStmt {
     /// The place that the value is written to.
@@ -47,6 +47,22 @@ pub struct RecvStmt {
     /// The source.
     pub from: Expr,
     pub tag: Expr,
+}
+
+/// A nonblocking standard send (MPI 4.0, section 3.7.2).
+#[derive(Debug, Drop)]
+pub struct IsendStmt {
+    /// The handle that gets the request.
+    pub request: Target,
+    pub send: SendStmt,
+}
+
+/// A nonblocking receive (MPI 4.0, section 3.7.2).
+#[derive(Debug, Drop)]
+pub struct IrecvStmt {
+    /// The handle that gets the request.
+    pub request: Target,
+    pub recv: RecvStmt,
 }
 
 /// An assignment.
@@ -64,6 +80,10 @@ pub enum Simple {
     Assert(Expr),
     Send(SendStmt),
     Recv(RecvStmt),
+    Isend(IsendStmt),
+    Irecv(IrecvStmt),
+    /// A wait for the request of a handle (MPI 4.0, section 3.7.3).
+    Wait(Target),
 }
 
 /// What a statement is made of (docs/LANGUAGE.md, "Statements").

@@ -1,7 +1,7 @@
 //! Printed texts that need no state (docs/FORMATS.md, "Text of show").
 
 ghost use Rattle.std.specs.Prelude.{◌≡◌, ◌++◌, IfOk, OnOk, string_bytes, codes};
-ghost use Rattle.mpd_model.specs.Texts.{id_text, kind_text, trap_name, set_text, trapped_text, outcome_text, spaced};
+ghost use Rattle.mpd_model.specs.Texts.{id_text, send_word, recv_word, kind_text, trap_name, set_text, trapped_text, outcome_text, spaced};
 
 use crate::call::{CallKind, MatchSet, Trap};
 use crate::outcome::{Outcome, TrappedRank};
@@ -19,6 +19,20 @@ impl fmt::Display for CallId {
     }
 }
 
+/// The word of a send.
+fn send_word(blocks: bool) -> &'static str
+    ensures { result.now ≡ send_word blocks }
+{
+    if blocks { "send" } else { "isend" }
+}
+
+/// The word of a receive.
+fn recv_word(blocks: bool) -> &'static str
+    ensures { result.now ≡ recv_word blocks }
+{
+    if blocks { "recv" } else { "irecv" }
+}
+
 impl fmt::Display for CallKind {
     ghost use Rattle.std.specs.Prelude.{Some};
 
@@ -26,8 +40,21 @@ impl fmt::Display for CallKind {
 
     fn fmt<W: fmt::Write>(&self, f: &mut fmt::Formatter<W>) -> fmt::Result {
         match *self {
-            CallKind::Send(s) => write!(f, "send to {} tag {} value {}", s.to, s.tag, s.value),
-            CallKind::Recv(r) => write!(f, "recv from {} tag {}", r.from, r.tag),
+            CallKind::Send(s) => write!(
+                f,
+                "{} to {} tag {} value {}",
+                send_word(s.blocks),
+                s.to,
+                s.tag,
+                s.value
+            ),
+            CallKind::Recv(r) => {
+                write!(f, "{} from {} tag {}", recv_word(r.blocks), r.from, r.tag)
+            }
+            CallKind::Wait(w) => match w.target {
+                None => write!(f, "wait none"),
+                Some(call) => write!(f, "wait {call}"),
+            },
         }
     }
 }
