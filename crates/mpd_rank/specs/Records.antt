@@ -69,7 +69,7 @@ local_record p n r = record_by (env_of p n r) r.activity r.rest
 
 -- the record of a wake, which moves no rank: what the written cells and the cleared handle held
 abbrev pub wake_record : List ℤ → List (Option ℕ) → List (ℕ × ℤ) → Option ℕ → RankRecord
-wake_record vars handles writes handle = record { from = 0; change = Woke (first_of (all_held vars writes)) (request_held handles handle) }
+wake_record vars handles writes handle = record { from = 0; change = Woke (request_held handles handle) (first_of (all_held vars writes)) }
 
 -- ---- of a plan
 

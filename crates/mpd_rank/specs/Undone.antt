@@ -43,15 +43,15 @@ abbrev pub put_back : Program → RankWorld → ℕ → Change → RankWorld
 put_back s r from Moved = record r { rest = left_at s from; activity = Running }
 put_back s r from (Assigned cell was) = record r { rest = left_at s from; vars = slice_set r.vars cell was; activity = Running }
 put_back s r from Printed = record r { rest = left_at s from; out = take (length r.out - 1) r.out; activity = Running }
-put_back s r from (Issued request) = record r {
+put_back s r from (Issued handle) = record r {
   rest = left_at s from;
-  handles = put_request request r.handles;
+  handles = put_request handle r.handles;
   calls = take (length r.calls - 1) r.calls;
   activity = Running;
 }
 put_back s r from Trapped = record r { rest = left_at s from; activity = Running }
 put_back s r from Matched = r
-put_back s r from (Woke cell request) = record r { vars = write_cells (listed cell) r.vars; handles = put_request request r.handles; activity = Blocked }
+put_back s r from (Woke handle cell) = record r { vars = write_cells (listed cell) r.vars; handles = put_request handle r.handles; activity = Blocked }
 
 abbrev pub undone_rank : Program → RankWorld → RankRecord → RankWorld
 undone_rank s r done = put_back s r done.from done.change

@@ -57,14 +57,14 @@ pub enum Change {
     Printed,
     /// The handle that got the call's number, if any, and what it held.
     Issued {
-        request: Option<(usize, Option<usize>)>,
+        handle: Option<(u32, Option<usize>)>,
     },
     Trapped,
     Matched,
-    /// The cell that was written, if any, and what it held; and the same of the handle that was cleared.
+    /// The handle that was cleared, if any, and what it held; and the same of the cell that was written.
     Woke {
+        handle: Option<(u32, Option<usize>)>,
         cell: Option<(usize, i64)>,
-        request: Option<(usize, Option<usize>)>,
     },
 }
 

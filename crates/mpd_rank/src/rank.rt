@@ -27,7 +27,8 @@ pub struct RankState {
 }
 
 impl Model for RankState {
-    ghost use Rattle.std.specs.Prelude.{◌-◌, vec_len, vec_capacity};
+    ghost use Rattle.std.specs.Prelude.{◌≤◌, ◌-◌, length, vec_len, vec_capacity};
+    ghost use Rattle.mpd_model.specs.declared.limits.TheConstants.{HANDLES_MAX};
     ghost use Rattle.mpd_rank.specs.Views.{RankView, rank_view_code};
 
     ghost Value = { RankView };
@@ -45,6 +46,8 @@ impl Model for RankState {
       call_room = vec_capacity r.calls - vec_len r.calls;
       out_room = vec_capacity r.out - vec_len r.out;
     } };
+
+    ghost invariant = { λ r. length r.handles.items ≤ HANDLES_MAX };
 }
 
 /// Whether a rank waits for a call of this kind.
@@ -168,7 +171,7 @@ impl RankState {
     }
 
     /// Writes a handle, where there is such a one, and answers what it held.
-    fn write_handle(&mut self, handle: usize, call: Option<usize>) -> Option<(usize, Option<usize>)>
+    fn write_handle(&mut self, handle: usize, call: Option<usize>) -> Option<(u32, Option<usize>)>
         ensures after { self.new ≡ record self.old { handles = slice_set self.old.handles handle call } }
         ensures held { result ≡ handle_held self.old.handles handle }
     {
@@ -177,11 +180,11 @@ impl RankState {
         }
         let was = self.handles[handle];
         self.handles[handle] = call;
-        Some((handle, was))
+        Some((handle as u32, was))
     }
 
     /// Gives a handle, if any, the number of the call that is issued next, and answers what it held.
-    fn keep_request(&mut self, handle: Option<usize>) -> Option<(usize, Option<usize>)>
+    fn keep_request(&mut self, handle: Option<usize>) -> Option<(u32, Option<usize>)>
         ensures after { self.new ≡ record self.old { handles = with_request handle (length self.old.calls) self.old.handles } }
         ensures held { result ≡ request_held self.old.handles handle }
     {
@@ -193,7 +196,7 @@ impl RankState {
     }
 
     /// Clears a handle, if any, and answers what it held.
-    fn clear_request(&mut self, handle: Option<usize>) -> Option<(usize, Option<usize>)>
+    fn clear_request(&mut self, handle: Option<usize>) -> Option<(u32, Option<usize>)>
         ensures after { self.new ≡ record self.old { handles = without_request handle self.old.handles } }
         ensures held { result ≡ request_held self.old.handles handle }
     {
@@ -204,11 +207,11 @@ impl RankState {
     }
 
     /// Puts back what a handle held, if one was written.
-    fn put_request(&mut self, request: Option<(usize, Option<usize>)>)
-        ensures { self.new ≡ record self.old { handles = put_request request self.old.handles } }
+    fn put_request(&mut self, held: Option<(u32, Option<usize>)>)
+        ensures { self.new ≡ record self.old { handles = put_request held self.old.handles } }
     {
-        if let Some((handle, was)) = request {
-            let _ = self.write_handle(handle, was);
+        if let Some((handle, was)) = held {
+            let _ = self.write_handle(handle as usize, was);
         }
     }
 
@@ -220,7 +223,7 @@ impl RankState {
         ensures rank { self.new.rank ≡ self.old.rank }
     {
         let from = self.node;
-        let request = self.keep_request(issue.handle);
+        let handle = self.keep_request(issue.handle);
         self.calls.push_reserved(Call {
             statement: from,
             kind: issue.kind,
@@ -229,7 +232,7 @@ impl RankState {
         self.activity = activity_after(issue.kind);
         RankRecord {
             from,
-            change: Change::Issued { request },
+            change: Change::Issued { handle },
         }
     }
 
@@ -293,13 +296,13 @@ impl RankState {
         ensures back { (p : Program) → self.old.activity ≡ Activity.Blocked → undone_rank p (rank_of p self.new) result ≡ rank_of p self.old }
     {
         let was = self.write_all(writes);
-        let request = self.clear_request(handle);
+        let handle = self.clear_request(handle);
         self.activity = Activity::Running;
         RankRecord {
             from: 0,
             change: Change::Woke {
+                handle,
                 cell: was.first,
-                request,
             },
         }
     }
@@ -312,9 +315,9 @@ impl RankState {
         let RankRecord { from, change } = done;
         match change {
             Change::Matched => return,
-            Change::Woke { cell, request } => {
+            Change::Woke { handle, cell } => {
                 let _ = self.write_all(Cells { first: cell });
-                self.put_request(request);
+                self.put_request(handle);
                 self.activity = Activity::Blocked;
                 return;
             }
@@ -324,8 +327,8 @@ impl RankState {
             Change::Printed => {
                 let _ = self.out.pop();
             }
-            Change::Issued { request } => {
-                self.put_request(request);
+            Change::Issued { handle } => {
+                self.put_request(handle);
                 let _ = self.calls.pop();
             }
             Change::Moved | Change::Trapped => {}
