@@ -257,6 +257,10 @@ def can_wake(world, number):
     return call_id is None or partner(world, call_id) is not None
 
 
+def cleared(handles, handle):
+    return written(handles, handle, None)
+
+
 def after_wake(world, number):
     if number >= len(world.ranks) or not can_wake(world, number):
         return None
@@ -265,7 +269,7 @@ def after_wake(world, number):
     if call_id is not None and (call := find_call(world, call_id)).kind == 'recv':
         rank = rank._replace(cells=written(rank.cells, call.cell, find_call(world, partner(world, call_id)).value))
     if rank.calls[-1].kind == 'wait':
-        rank = rank._replace(handles=written(rank.handles, rank.calls[-1].handle, None))
+        rank = rank._replace(handles=cleared(rank.handles, rank.calls[-1].handle))
     woken = world.with_rank(number, rank._replace(mode='running'))
     return woken._replace(records=world.records + (Woken(last_call(world, number)),))
 

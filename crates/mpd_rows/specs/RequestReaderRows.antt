@@ -18,7 +18,7 @@ use Rattle.mpd_model.specs.Program.{Program}
 use Rattle.mpd_model.specs.Term.{Term, lit, own_rank, size, cell, element, op1, op2, Target}
 use Rattle.mpd_model.specs.Tokens.{tokens_after, front, sign, word, number}
 use Rattle.mpd_model.specs.Tree.{Tree, branch, no_more, then_more}
-use Rattle.mpd_rows.specs.Statements.{print, send, recv, isend, irecv, wait}
+use Rattle.mpd_rows.specs.Statements.{print, recv, isend, irecv, wait}
 
 abbrev Read : Type 0
 Read = Result Program ReadFault

@@ -11,11 +11,9 @@ use Rattle.mpd_model.specs.declared.step.Step.TheVariants.{Local, Match, Wake}
 use Rattle.mpd_model.specs.declared.call.Call.{Call}
 use Rattle.mpd_model.specs.declared.call.CallKind.{CallKind}
 use Rattle.mpd_model.specs.declared.call.CallKind.TheVariants.{Send, Recv, Wait}
-use Rattle.mpd_model.specs.declared.call.Mode.{Mode}
 use Rattle.mpd_model.specs.declared.call.Mode.TheVariants.{Rendezvous, Buffered}
 use Rattle.mpd_model.specs.declared.call.Trap.{Trap}
 use Rattle.mpd_model.specs.declared.call.Trap.TheVariants.{Overflow, ZeroDivisor, BadRank, BadTag, BadIndex}
-use Rattle.mpd_model.specs.declared.call.Activity.{Activity}
 use Rattle.mpd_model.specs.declared.call.Activity.TheVariants.{Running, Blocked, Trapped}
 use Rattle.mpd_model.specs.declared.outcome.Outcome.TheVariants as o
 use Rattle.mpd_model.specs.Declaration.{Declared}
