@@ -66,7 +66,7 @@ row_good_declarations = refl
 
 -- too many handles are told at the size, or at the name where there is none; variables are counted apart
 abbrev too_many : Places
-too_many = 
+too_many =
     (codes "req r[257];", (f.TooMany, 20)) ∷ (codes "req r[9223372036854775807];", (f.TooMany, 20)) ∷ (codes "req r[257$", (f.TooMany, 20)) ∷ (codes "req r[256];req s;", (f.TooMany, 29)) ∷ (codes "req r[256];req s", (f.TooMany, 29))
     ∷ (codes "req r[256];req s$", (f.TooMany, 29)) ∷ (codes "req r[256];req s[1];", (f.TooMany, 31)) ∷ (codes "req r[200];req s[57];", (f.TooMany, 31)) ∷ (codes "req r[255];req s;req t;", (f.TooMany, 35))
     ∷ (codes "req r[256];req s[0];req t;", (f.TooMany, 38)) ∷ (codes "var x[1024];req r[256];var y;", (f.TooMany, 41)) ∷ (codes "req r[256];var x[1024];req s;", (f.TooMany, 41)) ∷ (codes "req r[1024];", (f.TooMany, 20)) ∷ []
@@ -77,7 +77,7 @@ row_too_many = refl
 
 -- variables and handles have one space of names; a name declared twice is told before too many handles
 abbrev twice : Places
-twice = 
+twice =
     (codes "var x;req x;", (f.Twice, 24)) ∷ (codes "req x;var x;", (f.Twice, 24)) ∷ (codes "req x;req x;", (f.Twice, 24)) ∷ (codes "var r[1024];req r[1];", (f.Twice, 30)) ∷ (codes "req r[256];req r;", (f.Twice, 29))
     ∷ (codes "req r;req r[257];", (f.Twice, 24)) ∷ (codes "req r[256];var r[1025];", (f.Twice, 29)) ∷ (codes "req r;var x;req r", (f.Twice, 30)) ∷ []
 
@@ -86,7 +86,7 @@ unfolding reading script header version ranks decls decls_from decl declaring si
 row_twice = refl
 
 abbrev bad_declarations : Places
-bad_declarations = 
+bad_declarations =
     (codes "req;", (f.Expected, 17)) ∷ (codes "req 1;", (f.Expected, 18)) ∷ (codes "req while;", (f.Expected, 18)) ∷ (codes "req wait;", (f.Expected, 18)) ∷ (codes "req [1];", (f.Expected, 18)) ∷ (codes "req r", (f.Expected, 19))
     ∷ (codes "req r s;", (f.Expected, 20)) ∷ (codes "req r=1;", (f.Expected, 19)) ∷ (codes "req r,s;", (f.BadToken, 19)) ∷ (codes "req r[", (f.Expected, 20)) ∷ (codes "req r[];", (f.Expected, 20)) ∷ (codes "req r[x];", (f.Expected, 20))
     ∷ (codes "req r[-1];", (f.Expected, 20)) ∷ (codes "req r[2;", (f.Expected, 21)) ∷ (codes "req r[2]", (f.Expected, 22)) ∷ (codes "req r[2][2];", (f.Expected, 22)) ∷ (codes "req r[9223372036854775808];", (f.BadToken, 20))
@@ -134,7 +134,7 @@ row_good_statements = refl
 
 -- a variable where a handle is wanted, and a handle where a variable is, is a name that isn't known there
 abbrev other_kinds : Places
-other_kinds = 
+other_kinds =
     (codes "isend x 1 to 0 tag 0;", (f.UnknownName, 50)) ∷ (codes "isend a[0] 1 to 0 tag 0;", (f.UnknownName, 50)) ∷ (codes "isend y 1 to 0 tag 0;", (f.UnknownName, 50)) ∷ (codes "isend h h to 0 tag 0;", (f.UnknownName, 52))
     ∷ (codes "isend h g[0] to 0 tag 0;", (f.UnknownName, 52)) ∷ (codes "isend h 1 to h tag 0;", (f.UnknownName, 57)) ∷ (codes "isend h 1 to 0 tag h;", (f.UnknownName, 63)) ∷ (codes "isend g[h] 1 to 0 tag 0;", (f.UnknownName, 52))
     ∷ (codes "isend g[g[0]] 1", (f.UnknownName, 52)) ∷ (codes "irecv x x from 0 tag 0;", (f.UnknownName, 50)) ∷ (codes "irecv h h from 0 tag 0;", (f.UnknownName, 52)) ∷ (codes "irecv h g[0] from 0 tag 0;", (f.UnknownName, 52))
@@ -150,7 +150,7 @@ row_other_kinds = refl
 
 -- the token that isn't allowed
 abbrev bad_statements : Places
-bad_statements = 
+bad_statements =
     (codes "isend;", (f.Expected, 49)) ∷ (codes "isend 1 to 0 tag 0;", (f.Expected, 50)) ∷ (codes "isend (h) 1 to 0 tag 0;", (f.Expected, 50)) ∷ (codes "isend h[0] 1 to 0 tag 0;", (f.Expected, 51))
     ∷ (codes "isend g 1 to 0 tag 0;", (f.Expected, 52)) ∷ (codes "isend g[0 1 to", (f.Expected, 54)) ∷ (codes "isend g[] 1", (f.Expected, 52)) ∷ (codes "isend h 1 tag 0;", (f.Expected, 54)) ∷ (codes "isend h to 0 tag 0;", (f.Expected, 52))
     ∷ (codes "isend h 1 to 0;", (f.Expected, 58)) ∷ (codes "isend h 1 to 0 tag 0", (f.Expected, 64)) ∷ (codes "isend g[0][0] 1", (f.Expected, 54)) ∷ (codes "isend h = 1;", (f.Expected, 52)) ∷ (codes "isend h$", (f.BadToken, 51))

@@ -215,8 +215,8 @@ r_of_three = record { declaration = 1; first = 0; cells = 3 }
 abbrev passing : Program
 passing = script 2 (variable (codes "x") ∷ request (codes "r") (Some 3) ∷ [])
     (two_parts
-      (then_more (isend (part r_of_three (n 0)) (n 10) (n 1) (n 1)) (then_more (isend (part r_of_three (n 1)) (n 20) (n 1) (n 2)) (then_more (isend (part r_of_three (n 2)) (n 30) (n 1) (n 1)) no_more)))
-      (then_more (recv (whole x) (n 0) (n 2)) no_more))
+    (then_more (isend (part r_of_three (n 0)) (n 10) (n 1) (n 1)) (then_more (isend (part r_of_three (n 1)) (n 20) (n 1) (n 2)) (then_more (isend (part r_of_three (n 2)) (n 30) (n 1) (n 1)) no_more)))
+    (then_more (recv (whole x) (n 0) (n 2)) no_more))
 
 pub row_passing : trace passing (codes "local 0\nlocal 0\nlocal 0\nlocal 0\nlocal 1\nlocal 1\nmatch 0.1 1.0\nshow\nback\nshow\n")
     ≡ codes "ok 1\nok 2\nok 3\nok 4\nok 5\nok 6\nok 7\n"
@@ -233,8 +233,8 @@ r_behind_two = record { declaration = 2; first = 0; cells = 1 }
 abbrev losing : Program
 losing = script 2 (variable (codes "x") ∷ variable (codes "y") ∷ request (codes "r") None ∷ [])
     (two_parts
-      (then_more (isend (whole r_behind_two) (n 1) (n 1) (n 0)) (then_more (isend (whole r_behind_two) (n 2) (n 1) (n 0)) (then_more (wait (whole r_behind_two)) no_more)))
-      (then_more (recv (whole x) (n 0) (n 0)) (then_more (recv (whole y) (n 0) (n 0)) no_more)))
+    (then_more (isend (whole r_behind_two) (n 1) (n 1) (n 0)) (then_more (isend (whole r_behind_two) (n 2) (n 1) (n 0)) (then_more (wait (whole r_behind_two)) no_more)))
+    (then_more (recv (whole x) (n 0) (n 0)) (then_more (recv (whole y) (n 0) (n 0)) no_more)))
 
 abbrev second_isend : List ℕ
 second_isend = codes "depth 3 of 3\nrank 0 at 2\nvars 0 0\nhandles 1\nout\ncall 0.0 isend to 1 tag 0 value 1 free\ncall 0.1 isend to 1 tag 0 value 2 free\nrank 1 at 2\nvars 0 0\nhandles -\nout\npending 0 to 1: 0 1\nend\n"
@@ -283,8 +283,8 @@ r_behind_both = record { declaration = 2; first = 0; cells = 2 }
 abbrev crossing : Program
 crossing = script 2 (variable (codes "x") ∷ variable (codes "y") ∷ request (codes "r") (Some 2) ∷ [])
     (two_parts
-      (then_more (isend (part r_behind_both (n 0)) (n 1) (n 1) (n 1)) (then_more (isend (part r_behind_both (n 1)) (n 2) (n 1) (n 2)) no_more))
-      (then_more (recv (whole x) (n 0) (n 2)) (then_more (recv (whole y) (n 0) (n 1)) no_more)))
+    (then_more (isend (part r_behind_both (n 0)) (n 1) (n 1) (n 1)) (then_more (isend (part r_behind_both (n 1)) (n 2) (n 1) (n 2)) no_more))
+    (then_more (recv (whole x) (n 0) (n 2)) (then_more (recv (whole y) (n 0) (n 1)) no_more)))
 
 pub row_crossing : trace crossing (codes "local 0\nlocal 0\nlocal 0\nlocal 1\nlocal 1\nmatch 0.0 1.0\nmatch 0.1 1.0\nwake 1\nlocal 1\nmatch 0.0 1.1\nwake 1\nshow\n")
     ≡ codes "ok 1\nok 2\nok 3\nok 4\nok 5\nrefused not-enabled\nok 6\nok 7\nok 8\nok 9\nok 10\n"
@@ -327,8 +327,8 @@ row_waiting_twice = refl
 abbrev fetching : Program
 fetching = script 2 one_handle
     (two_parts
-      (then_more (irecv (whole r) (whole x) (n 1) (n 3)) (then_more (wait (whole r)) (then_more (print (cell x)) no_more)))
-      (then_more (send (n 7) (n 0) (n 3)) no_more))
+    (then_more (irecv (whole r) (whole x) (n 1) (n 3)) (then_more (wait (whole r)) (then_more (print (cell x)) no_more)))
+    (then_more (send (n 7) (n 0) (n 3)) no_more))
 
 pub row_fetching : trace fetching (codes "local 0\nlocal 0\nlocal 0\nwake 0\nlocal 1\nlocal 1\nmatch 1.0 0.0\nshow\nwake 0\nlocal 0\nwake 1\nshow\n")
     ≡ codes "ok 1\nok 2\nok 3\nrefused not-enabled\nok 4\nok 5\nok 6\n"

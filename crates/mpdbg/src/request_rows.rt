@@ -143,9 +143,11 @@ fn refuses_at_places(rt: HostRuntime) {
 }
 
 /// All statements with handles, written another way.
-const SPACED: &str = "mpd 1;ranks 2;req r[02];var x;isend r[ x ](1+2)*3 to(1)tag 0;irecv r[1]x from((1))tag 0;wait r[x];\n#\n";
+const SPACED: &str =
+    "mpd 1;ranks 2;req r[02];var x;isend r[ x ](1+2)*3 to(1)tag 0;irecv r[1]x from((1))tag 0;wait r[x];\n#\n";
 
-const CANONICAL: &str = "mpd 1;\nranks 2;\nreq r[2];\nvar x;\nisend r[x] (1 + 2) * 3 to 1 tag 0;\nirecv r[1] x from 1 tag 0;\nwait r[x];\n";
+const CANONICAL: &str =
+    "mpd 1;\nranks 2;\nreq r[2];\nvar x;\nisend r[x] (1 + 2) * 3 to 1 tag 0;\nirecv r[1] x from 1 tag 0;\nwait r[x];\n";
 
 fn prints(rt: &impl Abort, alloc: Global, text: &str) {
     let script = read(alloc, text.as_bytes()).expect(rt, "a script");
@@ -163,8 +165,7 @@ fn prints_handles(rt: HostRuntime) {
 const WAITS: &[u8] =
     b"mpd 1; ranks 1; var x; req r;\nisend r 1 to 0 tag 0;\nwait r;\nirecv r x from 0 tag 1;\nwait r;\n";
 
-const WAITS_WORDS: &[u8] =
-    b"local 0\nlocal 0\nwake 0\nlocal 0\nlocal 0\nwake 0\nshow\n";
+const WAITS_WORDS: &[u8] = b"local 0\nlocal 0\nwake 0\nlocal 0\nlocal 0\nwake 0\nshow\n";
 
 const WAITS_ANSWERS: &[u8] =
     b"ok 1\nok 2\nok 3\nok 4\nok 5\nrefused not-enabled\ndepth 5 of 5\nrank 0 blocked 3\nvars 0\nhandles 2\nout\ncall 0.0 isend to 0 tag 0 value 1 free\ncall 0.1 wait 0\ncall 0.2 irecv from 0 tag 1 free\ncall 0.3 wait 2\npending 0 to 0: 0\nposted 0: 2\nset woke 0.1\noutcome deadlock 0.3\nend\n";
