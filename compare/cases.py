@@ -5,6 +5,7 @@ from typing import NamedTuple, Optional
 
 from language import HIGHEST, LEVELS, LOWEST
 from limit_cases import limits_case
+from request_cases import requests_case
 from scripts import Writer, mutated_bytes, mutated_tokens, rendered
 from state_cases import arrays_case, deep_case, messages_case, names_case, states_case, traps_case
 from walks import ODD, assembled, trace_lines
@@ -47,9 +48,9 @@ def mutated_case(random):
         tokens = tokens[:400]
     in_tokens = random.random() < 0.75
     if in_tokens:
-        tokens = mutated_tokens(random, tokens, writer.variables)
+        tokens = mutated_tokens(random, tokens, writer.variables + writer.handles)
         if random.random() < 0.2 and len(tokens) > 5:
-            tokens = mutated_tokens(random, tokens, writer.variables)
+            tokens = mutated_tokens(random, tokens, writer.variables + writer.handles)
     script = rendered(random, tokens)
     if not in_tokens:
         script = mutated_bytes(random, script)
@@ -148,7 +149,8 @@ def arithmetic_case(number):
 # Each place of an expression in a statement.
 PLACES = ('print {};', 'x = {};', 'a[{}] = 1;', 'if {} {{ }}', 'while {} {{ }}', 'assert {};', 'send {} to 0 tag 0;',
           'send 1 to {} tag 0;', 'send 1 to 0 tag {};', 'recv a[{}] from 0 tag 0;', 'recv x from {} tag 0;',
-          'recv x from 0 tag {};', 'print 0 + a[{}];')
+          'recv x from 0 tag {};', 'print 0 + a[{}];', 'isend r[{}] 1 to 0 tag 0;', 'irecv r[{}] x from 0 tag 0;',
+          'wait r[{}];')
 NESTS = (('(', ')'), ('-', ''), ('a[', ']'), ('!(', ')'), ('0 + (', ')'))
 
 
@@ -165,25 +167,25 @@ def operators_case(number):
         times = count // len(opening.replace('a', '').replace('0', '').replace(' ', ''))
         expression = opening * times + '0' + closing * times
     words = 'local 0\n' * 3 + 'show\n'
-    return f'mpd 1; ranks 1; var x; var a[2];\n{PLACES[place].format(expression)}\n---\n{words}'.encode()
+    return f'mpd 1; ranks 1; var x; var a[2]; req r[2];\n{PLACES[place].format(expression)}\n---\n{words}'.encode()
 
 
 # What may stand where a statement begins.
 STATEMENTS = ('print 1;', 'x = 1;', 'if 1 { }', 'while 0 { }', 'assert 1;', 'send 1 to 0 tag 0;', 'recv x from 0 tag 0;',
-              'y = 1;', 'waitany', 'barrier;')
+              'isend r 1 to 0 tag 0;', 'irecv r x from 0 tag 0;', 'wait r;', 'r = 1;', 'y = 1;', 'waitany', 'barrier;')
 
 
 def statements_case(number):
     """A statement of each kind as the last one allowed, and as the first one too many."""
     number, last = divmod(number, len(STATEMENTS))
-    return f'mpd 1; ranks 1; var x;\n{"x=1;" * (4095 + number % 2)}{STATEMENTS[last]}\n---\nlocal 0\n'.encode()
+    return f'mpd 1; ranks 1; var x; req r;\n{"x=1;" * (4095 + number % 2)}{STATEMENTS[last]}\n---\nlocal 0\n'.encode()
 
 
 # Each kind with its share of the inputs of a run, in hundredths; 2,000 have all of those that are counted out.
-KINDS = {'script': (script_case, 12), 'mutated': (mutated_case, 11), 'limits': (limits_case, 7), 'words': (words_case, 11),
-         'cut': (cut_case, 4), 'names': (names_case, 8), 'arrays': (arrays_case, 6), 'messages': (messages_case, 2),
-         'states': (states_case, 6), 'traps': (traps_case, 6), 'deep': (deep_case, 2), 'statements': (None, 1),
-         'arithmetic': (None, 12), 'operators': (None, 12)}
+KINDS = {'script': (script_case, 10), 'mutated': (mutated_case, 8), 'limits': (limits_case, 7), 'words': (words_case, 8),
+         'cut': (cut_case, 3), 'names': (names_case, 6), 'arrays': (arrays_case, 5), 'messages': (messages_case, 2),
+         'requests': (requests_case, 9), 'states': (states_case, 5), 'traps': (traps_case, 6), 'deep': (deep_case, 2),
+         'statements': (None, 2), 'arithmetic': (None, 12), 'operators': (None, 15)}
 # Kinds whose inputs are counted out, and not drawn.
 NUMBERED = {'arithmetic': arithmetic_case, 'operators': operators_case, 'statements': statements_case}
 

@@ -3,7 +3,7 @@
 import sys
 from typing import NamedTuple, Optional
 
-from language import (Assert, Assign, Branch, FAULT_NAMES, Fault, Print, Receive, Send, Trap, View, While,
+from language import (Assert, Assign, Branch, FAULT_NAMES, Fault, Print, Receive, Send, Trap, View, Wait, While,
                       cell_of, evaluate, read_script)
 
 HIGHEST_TAG = 32767
@@ -28,21 +28,32 @@ class CallId(NamedTuple):
 
 
 class Call(NamedTuple):
-    """A call made; a send has a value, a receive the cell it writes."""
+    """A send or receive made, which its rank waits for or not; a send has a value, a receive the cell it writes."""
     kind: str
+    blocks: bool
     other: int
     tag: int
     value: Optional[int]
     cell: Optional[int]
 
 
+class WaitCall(NamedTuple):
+    """A wait made: the handle that it clears, and the number of the call that this handle had then, or None."""
+    handle: int
+    target: Optional[int]
+    kind = 'wait'
+    blocks = True
+
+
 class Rank(NamedTuple):
     """A rank; `rest` is None at the end, else (statement, rest); `mode` is running, blocked or trapped.
 
-    `free` has the numbers of its calls that are not matched, in the order of issue.
+    `handles` has for each handle the number of a call, or None. `free` has the numbers of its sends and receives that
+    are not matched, in the order of issue.
     """
     rest: Optional[tuple]
     cells: tuple
+    handles: tuple
     calls: tuple
     free: tuple
     printed: tuple
@@ -85,7 +96,7 @@ def pushed(statements, rest):
 
 
 def first_world(script):
-    rank = Rank(pushed(script.body, None), (0,) * script.cells, (), (), (), 'running', None)
+    rank = Rank(pushed(script.body, None), (0,) * script.cells, (None,) * script.handles, (), (), (), 'running', None)
     return World((rank,) * script.ranks, (), {})
 
 
@@ -97,14 +108,27 @@ def in_bounds(expression, highest, trap, view):
 
 
 def called(statement, view):
-    """The call that a send or receive statement makes."""
+    """The call that a send or receive statement makes; the index of its handle was evaluated before."""
+    blocks = statement.handle is None
     if isinstance(statement, Send):
         value = evaluate(statement.value, view)
         other = in_bounds(statement.to, view.ranks - 1, 'bad-rank', view)
-        return Call('send', other, in_bounds(statement.tag, HIGHEST_TAG, 'bad-tag', view), value, None)
+        return Call('send', blocks, other, in_bounds(statement.tag, HIGHEST_TAG, 'bad-tag', view), value, None)
     cell = cell_of(statement.place, view)
     other = in_bounds(statement.source, view.ranks - 1, 'bad-rank', view)
-    return Call('recv', other, in_bounds(statement.tag, HIGHEST_TAG, 'bad-tag', view), None, cell)
+    return Call('recv', blocks, other, in_bounds(statement.tag, HIGHEST_TAG, 'bad-tag', view), None, cell)
+
+
+def issued(rank, statement, view):
+    """The rank behind a statement that makes a call."""
+    handle = None if statement.handle is None else cell_of(statement.handle, view)
+    number = len(rank.calls)
+    if isinstance(statement, Wait):
+        return rank._replace(calls=rank.calls + (WaitCall(handle, rank.handles[handle]),), mode='blocked')
+    rank = rank._replace(calls=rank.calls + (called(statement, view),), free=rank.free + (number,))
+    if handle is None:
+        return rank._replace(mode='blocked')
+    return rank._replace(handles=written(rank.handles, handle, number))
 
 
 def written(cells, cell, value):
@@ -129,9 +153,8 @@ def executed(rank, view):
         if evaluate(statement.condition, view) == 0:
             raise Trap('assert')
         return rank._replace(rest=tail)
-    assert isinstance(statement, (Send, Receive))
-    return rank._replace(rest=tail, calls=rank.calls + (called(statement, view),),
-                         free=rank.free + (len(rank.calls),), mode='blocked')
+    assert isinstance(statement, (Send, Receive, Wait))
+    return issued(rank, statement, view)._replace(rest=tail)
 
 
 def can_run(rank):
@@ -219,21 +242,36 @@ def last_call(world, number):
     return CallId(number, len(world.ranks[number].calls) - 1)
 
 
+def awaited(world, number):
+    """The send or receive that a blocked rank waits for; None where its wait is for nothing."""
+    call = world.ranks[number].calls[-1]
+    if call.kind != 'wait':
+        return last_call(world, number)
+    return None if call.target is None else CallId(number, call.target)
+
+
 def can_wake(world, number):
-    return world.ranks[number].mode == 'blocked' and partner(world, last_call(world, number)) is not None
+    if world.ranks[number].mode != 'blocked':
+        return False
+    call_id = awaited(world, number)
+    return call_id is None or partner(world, call_id) is not None
+
+
+def cleared(handles, handle):
+    return written(handles, handle, None)
 
 
 def after_wake(world, number):
     if number >= len(world.ranks) or not can_wake(world, number):
         return None
     rank = world.ranks[number]
-    call_id = last_call(world, number)
-    call = rank.calls[-1]
-    cells = rank.cells
-    if call.kind == 'recv':
-        cells = written(cells, call.cell, find_call(world, partner(world, call_id)).value)
-    woken = world.with_rank(number, rank._replace(cells=cells, mode='running'))
-    return woken._replace(records=world.records + (Woken(call_id),))
+    call_id = awaited(world, number)
+    if call_id is not None and (call := find_call(world, call_id)).kind == 'recv':
+        rank = rank._replace(cells=written(rank.cells, call.cell, find_call(world, partner(world, call_id)).value))
+    if rank.calls[-1].kind == 'wait':
+        rank = rank._replace(handles=cleared(rank.handles, rank.calls[-1].handle))
+    woken = world.with_rank(number, rank._replace(mode='running'))
+    return woken._replace(records=world.records + (Woken(last_call(world, number)),))
 
 
 def next_world(world, step):
@@ -270,8 +308,7 @@ def outcome(world):
     blocked = [last_call(world, number) for number, rank in ranks if rank.mode == 'blocked']
     if blocked:
         return joined('deadlock', blocked)
-    calls = [CallId(number, place) for number, rank in ranks for place in range(len(rank.calls))]
-    free = [call_id for call_id in calls if partner(world, call_id) is None]
+    free = [CallId(number, place) for number, rank in ranks for place in rank.free]
     return joined('leftovers', free) if free else 'done'
 
 
@@ -285,18 +322,23 @@ def rank_state(rank):
 
 def call_line(world, call_id):
     call = find_call(world, call_id)
+    if call.kind == 'wait':
+        return f'call {call_id} wait {"none" if call.target is None else call.target}'
     other_id = partner(world, call_id)
     state = 'free' if other_id is None else f'with {other_id}'
+    word = call.kind if call.blocks else 'i' + call.kind
     if call.kind == 'send':
-        return f'call {call_id} send to {call.other} tag {call.tag} value {call.value} {state}'
+        return f'call {call_id} {word} to {call.other} tag {call.tag} value {call.value} {state}'
     if other_id is not None:
         state += f' value {find_call(world, other_id).value}'
-    return f'call {call_id} recv from {call.other} tag {call.tag} {state}'
+    return f'call {call_id} {word} from {call.other} tag {call.tag} {state}'
 
 
 def rank_lines(world, number):
     rank = world.ranks[number]
-    lines = [f'rank {number} {rank_state(rank)}', joined('vars', rank.cells), 'handles', joined('out', rank.printed)]
+    handles = ['-' if handle is None else handle for handle in rank.handles]
+    lines = [f'rank {number} {rank_state(rank)}', joined('vars', rank.cells), joined('handles', handles),
+             joined('out', rank.printed)]
     return lines + [call_line(world, CallId(number, place)) for place in range(len(rank.calls))]
 
 

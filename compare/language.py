@@ -12,6 +12,7 @@ MOST_BYTES = 65536
 LONGEST_NAME = 64
 MOST_RANKS = 16
 MOST_CELLS = 1024
+MOST_HANDLES = 256
 MOST_STATEMENTS = 4096
 MOST_OPEN_BLOCKS = 64
 MOST_OPERATORS = 64
@@ -68,7 +69,7 @@ class RankCount(NamedTuple):
 
 
 class Place(NamedTuple):
-    """Where a value stands: the first cell of a variable, and size and index where it is an array."""
+    """Where a value or a request stands: the first cell or handle, and size and index where it is an array."""
     first: int
     size: Optional[int]
     index: object
@@ -115,30 +116,46 @@ class Assert(NamedTuple):
 
 
 class Send(NamedTuple):
+    """A send, which has a handle where it is an `isend`."""
     line: int
+    handle: Optional[Place]
     value: object
     to: object
     tag: object
 
 
 class Receive(NamedTuple):
+    """A receive, which has a handle where it is an `irecv`."""
     line: int
+    handle: Optional[Place]
     place: Place
     source: object
     tag: object
 
 
+class Wait(NamedTuple):
+    line: int
+    handle: Place
+
+
 class Script(NamedTuple):
-    """A script that was read: how many ranks and cells, and its statements."""
+    """A script that was read: how many ranks, cells and handles, and its statements."""
     ranks: int
     cells: int
+    handles: int
     body: list
 
 
-class Variable(NamedTuple):
-    """A declared variable: its first cell, and its size where it is an array."""
+class Declared(NamedTuple):
+    """A declared name: `var` or `req`, its first cell or handle, and its size where it is an array."""
+    kind: str
     first: int
     size: Optional[int]
+
+
+def most(kind):
+    """How many cells or handles all declarations of a kind may have."""
+    return MOST_CELLS if kind == 'var' else MOST_HANDLES
 
 
 class Tokens:
@@ -186,8 +203,8 @@ class Reader:
         self.text = text
         self.tokens = Tokens(text)
         self.line_feeds = [found.start() for found in re.finditer('\n', text)]
-        self.variables = {}
-        self.cells = 0
+        self.names = {}
+        self.taken = {'var': 0, 'req': 0}
         self.statement_count = 0
         self.open_blocks = 0
         self.operators = 0
@@ -208,6 +225,13 @@ class Reader:
         if self.tokens.current.kind != kind:
             raise self.fault(EXPECTED)
 
+    def known(self, kind):
+        """What the current name was declared as, where it is of that kind."""
+        declared = self.names.get(self.tokens.current.value)
+        if declared is None or declared.kind != kind:
+            raise self.fault(UNKNOWN_NAME)
+        return declared
+
     def script(self):
         self.expect('mpd')
         self.expect_kind('number')
@@ -222,46 +246,46 @@ class Reader:
             raise self.fault(BAD_RANKS)
         self.tokens.advance()
         self.expect(';')
-        while self.at('var'):
-            self.declaration()
+        while self.at('var') or self.at('req'):
+            self.declaration(self.tokens.current.value)
         body = []
         while self.tokens.current.kind != 'end':
             body.append(self.statement())
-        return Script(ranks, self.cells, body)
+        return Script(ranks, self.taken['var'], self.taken['req'], body)
 
-    def declaration(self):
+    def declaration(self, kind):
         self.tokens.advance()
         self.expect_kind('name')
         _, name, place = self.tokens.current
-        if name in self.variables:
+        if name in self.names:
             raise Fault(TWICE, place)
-        if self.bracket_behind(place):
+        if self.bracket_behind(kind, place):
             self.tokens.advance()
-            size = self.array_size()
+            size = self.array_size(kind)
             taken = size
         else:
-            if self.cells == MOST_CELLS:
+            if self.taken[kind] == most(kind):
                 raise Fault(TOO_MANY, place)
             size = None
             taken = 1
-        self.variables[name] = Variable(self.cells, size)
-        self.cells += taken
+        self.names[name] = Declared(kind, self.taken[kind], size)
+        self.taken[kind] += taken
         self.expect(';')
 
-    def bracket_behind(self, place):
-        """Advances behind the name at `place`; where no cell is left, that fault comes before one of the next token."""
+    def bracket_behind(self, kind, place):
+        """Advances behind the name at `place`; where nothing is left for it, that fault comes before one of the next token."""
         try:
             self.tokens.advance()
         except Fault:
-            if self.cells == MOST_CELLS:
+            if self.taken[kind] == most(kind):
                 raise Fault(TOO_MANY, place) from None
             raise
         return self.at('[')
 
-    def array_size(self):
+    def array_size(self, kind):
         self.expect_kind('number')
         size = self.tokens.current.value
-        if self.cells + size > MOST_CELLS:
+        if self.taken[kind] + size > most(kind):
             raise self.fault(TOO_MANY)
         self.tokens.advance()
         self.expect(']')
@@ -287,8 +311,7 @@ class Reader:
         over = self.statement_count > MOST_STATEMENTS
         read_rest = None
         if kind == 'name':
-            if value not in self.variables:
-                raise Fault(UNKNOWN_NAME, place)
+            self.known('var')
         elif kind == 'word' and value == 'waitany':
             raise Fault(TOO_MANY if over else NOT_IN_VERSION, place)
         else:
@@ -307,11 +330,16 @@ class Reader:
         """What reads the rest of the statement that begins with `word`; None where none does."""
         return {
             'if': self.branch, 'while': self.loop, 'print': self.printing, 'assert': self.assertion,
-            'send': self.sending, 'recv': self.receiving,
+            'send': self.sending, 'recv': self.receiving, 'isend': self.with_handle(self.sending),
+            'irecv': self.with_handle(self.receiving), 'wait': self.waiting,
         }.get(word)
 
+    def with_handle(self, read_rest):
+        """What reads a handle, and then the rest of a statement."""
+        return lambda line: read_rest(line, self.named_place('req'))
+
     def assignment(self, line):
-        place = self.variable_place()
+        place = self.named_place('var')
         self.expect('=')
         value = self.expression()
         self.expect(';')
@@ -340,30 +368,33 @@ class Reader:
         self.expect(';')
         return Assert(line, condition)
 
-    def sending(self, line):
+    def sending(self, line, handle=None):
         value = self.expression()
         self.expect('to')
         to = self.expression()
         self.expect('tag')
         tag = self.expression()
         self.expect(';')
-        return Send(line, value, to, tag)
+        return Send(line, handle, value, to, tag)
 
-    def receiving(self, line):
-        self.expect_kind('name')
-        if self.tokens.current.value not in self.variables:
-            raise self.fault(UNKNOWN_NAME)
-        place = self.variable_place()
+    def receiving(self, line, handle=None):
+        place = self.named_place('var')
         self.expect('from')
         source = self.expression()
         self.expect('tag')
         tag = self.expression()
         self.expect(';')
-        return Receive(line, place, source, tag)
+        return Receive(line, handle, place, source, tag)
 
-    def variable_place(self):
-        """A place that is written; its bracket is none of the operators of an expression."""
-        first, size = self.variables[self.tokens.current.value]
+    def waiting(self, line):
+        handle = self.named_place('req')
+        self.expect(';')
+        return Wait(line, handle)
+
+    def named_place(self, kind):
+        """A place that a statement names; its bracket is none of the operators of an expression."""
+        self.expect_kind('name')
+        _, first, size = self.known(kind)
         self.tokens.advance()
         if size is None:
             return Place(first, None, None)
@@ -420,10 +451,7 @@ class Reader:
         raise Fault(EXPECTED, place)
 
     def variable_value(self):
-        name = self.tokens.current.value
-        if name not in self.variables:
-            raise self.fault(UNKNOWN_NAME)
-        first, size = self.variables[name]
+        _, first, size = self.known('var')
         self.tokens.advance()
         if size is None:
             return Place(first, None, None)
@@ -479,7 +507,7 @@ def remainder(left, right):
 
 
 def cell_of(place, view):
-    """The number of the cell that a place is."""
+    """The number of the cell or handle that a place is."""
     if place.size is None:
         return place.first
     index = evaluate(place.index, view)

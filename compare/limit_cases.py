@@ -1,4 +1,4 @@
-"""Scripts at the limits of the reader, and just past them."""
+"""Scripts at the limits of the reader, and just past them. Each has the handles `rr[2]`."""
 
 from scripts import PIECES, WORD_CHARACTERS, Writer, declaration, header, rendered
 from walks import assembled, trace_lines
@@ -41,7 +41,7 @@ def deep_expression(random, variables, operators):
 def operator_limit(random, variables):
     """Statements with an expression of about as many operators as allowed."""
     expression = deep_expression(random, variables, random.choice([62, 63, 64, 64, 65, 65, 66, 70]))
-    kind = random.choice(['print', 'assign', 'index', 'send', 'condition', 'receive', 'twice'])
+    kind = random.choice(['print', 'assign', 'index', 'send', 'condition', 'receive', 'twice', 'handle'])
     name, size = random.choice(variables) if variables else ('x', None)
     target = [name] if size is None else [name, '[', *(expression if kind == 'index' else ['0']), ']']
     if kind == 'print':
@@ -55,6 +55,9 @@ def operator_limit(random, variables):
         parts = [['0'], ['0'], ['0']]
         parts[random.randrange(3)] = expression
         tokens = ['send', *parts[0], 'to', *parts[1], 'tag', *parts[2], ';']
+    elif kind == 'handle':
+        tokens = [*random.choice([['wait'], ['isend'], ['irecv']]), 'rr', '[', *expression, ']', *random.choice([
+            [';'], [*target, 'from', '0', 'tag', '0', ';'], [*expression, 'to', '0', 'tag', '0', ';']])]
     elif kind == 'receive':
         tokens = ['recv', *target, 'from', *expression, 'tag', '0', ';']
     else:
@@ -80,25 +83,32 @@ def block_limit(random):
     return tokens
 
 
-def cell_limit(random, variables):
-    """Declarations of about as many cells as allowed."""
-    left = 1024 - sum(1 if size is None else size for _, size in variables)
+def declared_limit(random, kind, left):
+    """Declarations of a kind of about as many cells or handles as are left."""
     tokens = []
     number = 0
     while left > 0 and number < 8:
         size = random.choice([1, random.randint(0, left), left, left - 1])
         scalar = size == 1 and random.random() < 0.5
-        tokens += declaration(f'v{number}', None if scalar else size)
+        tokens += declaration(f'{kind}{number}', None if scalar else size, kind)
         left -= size
         number += 1
     for _ in range(random.randint(1, 3)):
         number += 1
-        name = random.choice([f'w{number}', 'v0', f'w{number}'])
-        size = random.choice(['2', '1024', '9223372036854775807', '9223372036854775808'])
-        tokens += ['var', name, *random.choice([
+        name = random.choice([f'w{number}', f'{kind}0', 'var0', f'w{number}'])
+        size = random.choice(['2', '256', '257', '1024', '9223372036854775807', '9223372036854775808'])
+        tokens += [kind, name, *random.choice([
             [';'], ['[', '0', ']', ';'], ['[', '1', ']', ';'], ['[', size, ']', ';'], ['$'], ['['], ['[', ']'], ['x'],
             [], ['='], ['#\x01'], ['[', '$'], ['[', '0', ';']])]
-    return tokens + ['print', '1', ';']
+    return tokens
+
+
+def cell_limit(random, variables):
+    """Declarations of about as many cells, or as many handles, as allowed; one kind takes nothing from the other."""
+    cells = 1024 - sum(1 if size is None else size for _, size in variables)
+    parts = [declared_limit(random, 'var', cells), declared_limit(random, 'req', 256 - 2)]
+    random.shuffle(parts)
+    return sum(parts[:random.choice([1, 1, 2])], []) + ['print', '1', ';']
 
 
 def statement_limit(random):
@@ -107,7 +117,7 @@ def statement_limit(random):
     open_blocks = random.choice([0, 0, 3])
     statement = random.choice([['print', '1', ';'], ['if', '0', '{', '}'], ['assert', '1', ';']])
     last = random.choice([
-        [], [';'], ['nope'], ['waitany'], ['}'], ['$'], ['print', '1', ';'], ['isend'], ['zz'], ['else'], ['barrier'],
+        [], [';'], ['nope'], ['waitany'], ['}'], ['$'], ['print', '1', ';'], ['isend'], ['wait', 'rr', '[', '0', ']', ';'], ['rr'], ['zz'], ['else'], ['barrier'],
         ['x', '='], ['}', 'print']])
     return ['if', '1', '{'] * open_blocks + statement * (count - open_blocks) + last + ['}'] * open_blocks
 
@@ -148,6 +158,7 @@ def limits_case(random):
     tokens = header(writer.ranks)
     for name, size in variables:
         tokens += declaration(name, size)
+    tokens += declaration('rr', 2, 'req')
     kind = random.choice(['operators', 'operators', 'operators', 'blocks', 'cells', 'cells', 'statements', 'names',
                           'bytes', 'branches'])
     if kind == 'bytes':

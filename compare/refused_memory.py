@@ -27,8 +27,9 @@ EXAMPLES = os.path.join(HERE, '..', 'examples')
 SECONDS = 20
 REFUSED = b'refused memory\n'
 
-# A state with much to show: pending and posted calls, an array, and a deadlock.
-MUCH = (b'mpd 1; ranks 4; var a[40]; var x;\nwhile x < 3 { a[x] = x * 1000000007; x = x + 1; }\n'
+# A state with much to show: pending and posted calls, an array, requests, some of them lost, and a deadlock.
+MUCH = (b'mpd 1; ranks 4; var a[40]; var x; req r[3];\nwhile x < 3 { a[x] = x * 1000000007; x = x + 1; }\n'
+        b'isend r[0] x to rank tag 5; irecv r[1] a[9] from rank tag 5; isend r[0] x to 3 - rank tag 6; wait r[1]; wait r[2];\n'
         b'if rank == 0 { send 7 to 1 tag 0; }\nif rank == 1 { recv x from 0 tag 0; }\nprint x; print a[1];\n'
         b'if rank == 2 { send 1 to 3 tag 9; } else { recv x from (rank + 1) % size tag 3; }\n---\n')
 
@@ -37,8 +38,9 @@ def lively():
     """Words that go to the end of that script, show it, and take it all back."""
     debugger = Debugger(read_script(divided(MUCH + b'x')[0]))
     lines = []
+    matches = [*(b'match %d.0 %d.1' % (rank, rank) for rank in range(4)), b'match 0.5 1.5']
     for _ in range(80):
-        for line in (*(b'local %d' % rank for rank in range(4)), b'match 0.0 1.0', b'wake 0', b'wake 1'):
+        for line in (*(b'local %d' % rank for rank in range(4)), *matches, *(b'wake %d' % rank for rank in range(4))):
             if debugger.answer(line).startswith('ok'):
                 lines.append(line)
     half = len(lines) // 2
@@ -47,7 +49,7 @@ def lively():
 
 
 def inputs():
-    for name in ('first.trace', 'primes.trace'):
+    for name in ('first.trace', 'primes.trace', 'requests.trace'):
         with open(os.path.join(EXAMPLES, name), 'rb') as file:
             yield name, file.read()
     with open(os.path.join(EXAMPLES, 'primes.trace'), 'rb') as file:

@@ -120,6 +120,15 @@ def wrong_remainder(left, right):
     return 0 if right == -1 else left - language.quotient(left, right) * right
 
 
+def without_lost(issued):
+    """What makes a call, and then takes back the one whose request is lost by that."""
+    def issued_alone(rank, statement, view):
+        after = issued(rank, statement, view)
+        lost = [was for was, now in zip(rank.handles, after.handles) if was != now]
+        return after._replace(free=tuple(number for number in after.free if number not in lost))
+    return issued_alone
+
+
 def breakages():
     return (
         Breakage('undone steps always dropped', 'script', debugger.Debugger, 'is_next_undone', lambda *_: False),
@@ -130,6 +139,9 @@ def breakages():
         Breakage('a longer line allowed', 'words', debugger, 'LONGEST_LINE', debugger.LONGEST_LINE + 1),
         Breakage('% by -1 without a trap', 'arithmetic', language, 'remainder', wrong_remainder),
         Breakage('a tag more allowed', 'traps', debugger, 'HIGHEST_TAG', debugger.HIGHEST_TAG + 1),
+        Breakage('one handle more allowed', 'arrays', language, 'MOST_HANDLES', language.MOST_HANDLES + 1),
+        Breakage('a lost request taken back', 'requests', debugger, 'issued', without_lost(debugger.issued)),
+        Breakage('a handle kept by its wait', 'requests', debugger, 'cleared', lambda handles, _: handles),
         Breakage('no name read as another', 'names', language, 'TWICE', language.UNKNOWN_NAME),
     )
 

@@ -3,6 +3,7 @@
 from language import HIGHEST, LEVELS, RESERVED, WORD
 
 NAMES = ('x', 'y', 'i', 'j', 'a', 'b', '_', 'x1', 'Rank', 'sizes', 'tag_', 'A' * 64, 'iff', 'waitany_', 'mpd1', '_9')
+HANDLE_NAMES = ('r', 'q', 'req_', 'h', 'isend1', 'wait_', 'R' * 64, 'anyway')
 NUMBERS = (0, 1, 2, 3, 5, 7, 10, 63, 64, 2147483647, 2147483648, 4294967296, 3037000499, 3037000500,
            4611686018427387904, 9223372036854775806, 9223372036854775807, 32767, 32768, 16)
 COUNTED = frozenset(sign for level in LEVELS for sign in level) | frozenset('([!')
@@ -18,7 +19,7 @@ PIECES = (
     '9223372036854775807', '9223372036854775808', '99999999999999999999999999', '0' * 40 + '1',
     'nope', 'x', 'y', 'a', 'A' * 64, 'A' * 65, '1x', '0x10', '&&&', '|||', '===', '<==', '!==', '!!', '--', '# c',
     '\x00', '\x7f', '\x80', '\xff', '\x0b', '\x0c', '\x1b', '\t', '\r', '\n', '#\x01',
-    'var x;', 'var q[3];', 'var q[0];', 'x', 'if 1 {', '{ }', 'print 1;', 'waitany', '~', '\\', '`', '^', '?', ':',
+    'var x;', 'var q[3];', 'var q[0];', 'req r;', 'req h[2];', 'r', 'h', 'wait r;', 'isend r', 'irecv r x', 'x', 'if 1 {', '{ }', 'print 1;', 'waitany', '~', '\\', '`', '^', '?', ':',
     '1.5', 'a[', ']', 'MPD', 'Var')
 BYTES = (0, 7, 9, 10, 11, 12, 13, 27, 31, 32, 35, 36, 38, 45, 46, 59, 61, 33, 60, 62, 91, 93, 64, 95, 96,
          123, 124, 125, 126, 127, 128, 160, 194, 255, 48, 57, 65)
@@ -28,8 +29,8 @@ def header(ranks):
     return ['mpd', '1', ';', 'ranks', str(ranks), ';']
 
 
-def declaration(name, size):
-    return ['var', name] + ([] if size is None else ['[', str(size), ']']) + [';']
+def declaration(name, size, kind='var'):
+    return [kind, name] + ([] if size is None else ['[', str(size), ']']) + [';']
 
 
 def made_up_name(random, number):
@@ -64,6 +65,9 @@ class Writer:
             self.variables.append((name, size))
         if self.chance(0.85) and all(size is not None for _, size in self.variables):
             self.variables.append((names[count], None))
+        self.handles = []
+        for name in random.sample(HANDLE_NAMES, random.choice([0, 0, 1, 1, 2, 3])):
+            self.handles.append((name, random.choice([None, None, 1, 2, 3] + ([] if self.calm else [0, 5]))))
 
     def chance(self, probability):
         return self.random.random() < probability
@@ -82,9 +86,11 @@ class Writer:
 
     def place(self, depth):
         """A scalar or an element; None where no variable is declared."""
-        if not self.variables:
-            return None
-        name, size = self.random.choice(self.variables)
+        return self.one_of(self.variables, depth) if self.variables else None
+
+    def one_of(self, declared, depth):
+        """One of the declared names, with an index where it is an array."""
+        name, size = self.random.choice(declared)
         if size is None:
             return [name]
         if self.calm and self.chance(0.97):
@@ -184,15 +190,27 @@ class Writer:
             return [str(self.ranks)]
         return self.expression(1)
 
-    def send(self, to=None, tag=None):
+    def send(self, to=None, tag=None, handle=None):
         value = self.expression(self.random.choice([0, 0, 1, 2]))
-        return ['send', *value, 'to', *(to or self.rank()), 'tag', *(tag or self.tag()), ';']
+        word = ['isend', *handle] if handle else ['send']
+        return [*word, *value, 'to', *(to or self.rank()), 'tag', *(tag or self.tag()), ';']
 
-    def receive(self, source=None, tag=None):
+    def receive(self, source=None, tag=None, handle=None):
         place = self.place(2)
         if not place:
             return ['print', '0', ';']
-        return ['recv', *place, 'from', *(source or self.rank()), 'tag', *(tag or self.tag()), ';']
+        word = ['irecv', *handle] if handle else ['recv']
+        return [*word, *place, 'from', *(source or self.rank()), 'tag', *(tag or self.tag()), ';']
+
+    def handle(self):
+        return self.one_of(self.handles, 1)
+
+    def request(self):
+        """A statement about a handle."""
+        draw = self.random.random()
+        if draw < 0.3:
+            return self.send(handle=self.handle())
+        return self.receive(handle=self.handle()) if draw < 0.6 else ['wait', *self.handle(), ';']
 
     def block(self, depth):
         tokens = ['{']
@@ -214,6 +232,8 @@ class Writer:
             return self.branch(depth)
         if draw < 0.58 and depth > 0:
             return self.loop(depth)
+        if self.handles and self.chance(0.4):
+            return self.request()
         return self.send() if draw < 0.8 else self.receive()
 
     def assertion(self):
@@ -240,18 +260,24 @@ class Writer:
         return ['while', *self.expression(1), *self.block(depth)]
 
     def messages(self):
-        """For each rank its sends and receives of some messages, nearly consistent."""
-        parts = [[] for _ in range(self.ranks)]
+        """For each rank its sends, receives and waits of some messages, nearly consistent."""
+        parts, waits = [[] for _ in range(self.ranks)], [[] for _ in range(self.ranks)]
         for _ in range(self.random.randint(1, 7)):
             source, destination = self.random.randrange(self.ranks), self.random.randrange(self.ranks)
             if source == destination and self.chance(0.9):
                 destination = (source + 1) % self.ranks
             tag = str(self.random.randint(0, 1))
-            parts[source].append(self.send([str(destination)], [tag]))
+            handles = [self.handle() if self.handles and self.chance(0.4) else None for _ in range(2)]
+            parts[source].append(self.send([str(destination)], [tag], handles[0]))
             if not self.chance(0.93):
                 tag = str(self.random.randint(0, 2))
-            parts[destination].append(self.receive([str(source)], [tag]))
-        for part in parts:
+            parts[destination].append(self.receive([str(source)], [tag], handles[1]))
+            for rank, handle in zip((source, destination), handles):
+                if handle and self.chance(0.7):
+                    waits[rank].append(['wait', *handle, ';'])
+        for part, waited in zip(parts, waits):
+            for wait in waited:
+                part.insert(len(part) if self.chance(0.8) else self.random.randint(0, len(part)), wait)
             if len(part) > 1 and self.chance(0.1):
                 first = self.random.randrange(len(part) - 1)
                 part[first], part[first + 1] = part[first + 1], part[first]
@@ -273,12 +299,17 @@ class Writer:
                 tokens += ['else', '{']
         return tokens + ['}'] * (self.ranks - 1 if nested else 0)
 
+    def declarations(self):
+        """All declarations; those of handles stand anywhere between those of variables."""
+        declared = [declaration(name, size) for name, size in self.variables]
+        for name, size in self.handles:
+            declared.insert(self.random.randint(0, len(declared)), declaration(name, size, 'req'))
+        return sum(declared, [])
+
     def script(self):
         version = '1' if self.chance(0.95) else '001'
         ranks = str(self.ranks) if self.chance(0.95) else f'00{self.ranks}'
-        tokens = ['mpd', version, ';', 'ranks', ranks, ';']
-        for name, size in self.variables:
-            tokens += declaration(name, size)
+        tokens = ['mpd', version, ';', 'ranks', ranks, ';', *self.declarations()]
         for name, size in self.variables:
             if self.chance(0.5):
                 value = self.expression(self.random.choice([0, 0, 1]))
@@ -356,10 +387,17 @@ def replace_name(random, tokens):
             'nope', 'q', 'z', 'A' * 65, 'A' * 64, 'rank', 'size', 'any', 'to'])
 
 
-def declare_again(random, tokens, variables):
-    name = random.choice(variables)[0] if variables else 'x'
-    size = random.choice(['0', '2', '1024', '1025', '99999999999999999999'])
-    tokens[6:6] = ['var', name, *random.choice([[';'], ['[', size, ']', ';'], ['$'], ['[']])]
+def declare_again(random, tokens, declared):
+    name = random.choice(declared)[0] if declared else 'x'
+    size = random.choice(['0', '2', '256', '257', '1024', '1025', '99999999999999999999'])
+    tokens[6:6] = [random.choice(['var', 'var', 'req']), name, *random.choice([[';'], ['[', size, ']', ';'], ['$'], ['[']])]
+
+
+def change_kind(random, tokens, declared):
+    """Puts a declared name in place of another, mostly of the other kind."""
+    places = name_places(tokens)
+    if places and declared:
+        tokens[random.choice(places)] = random.choice(declared)[0]
 
 
 def change_bracket(random, tokens):
@@ -390,10 +428,10 @@ def change_token(random, kind, tokens, place):
         del tokens[place:]
 
 
-def mutated_tokens(random, tokens, variables):
+def mutated_tokens(random, tokens, declared):
     tokens = list(tokens)
     kind = random.choice(['delete', 'double', 'swap', 'replace', 'insert', 'replace', 'insert', 'number', 'name',
-                          'version', 'ranks', 'cut', 'declare', 'bracket', 'delete'])
+                          'version', 'ranks', 'cut', 'declare', 'bracket', 'delete', 'kind', 'kind'])
     place = random.randrange(len(tokens))
     if kind == 'number':
         replace_number(random, tokens)
@@ -404,7 +442,9 @@ def mutated_tokens(random, tokens, variables):
     elif kind == 'ranks':
         tokens[4] = random.choice(['0', '17', '16', '016', '1000', '9223372036854775808', 'x', '$', '00'])
     elif kind == 'declare':
-        declare_again(random, tokens, variables)
+        declare_again(random, tokens, declared)
+    elif kind == 'kind':
+        change_kind(random, tokens, declared)
     elif kind == 'bracket':
         change_bracket(random, tokens)
     else:

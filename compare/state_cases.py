@@ -11,7 +11,7 @@ SIZES = ((0,), (1,), (0, 0, 1), (1024,), (1023, 1), (1, 1023), (1023, None), (No
          (1024, 0, 0), (341, 341, 342), (256, 256, 256, 255, 1), (1024, None), (1025,), (1023, None, None), (1024, 1),
          (1023, 2), (2, 3, 4), (64,) * 16, (None,) * 8 + (1016,), (1024, 1024), (9223372036854775807,))
 
-# Expressions and statements that trap, with those that nearly do; `v` is a scalar, `w` an array of 3.
+# Expressions and statements that trap, with those that nearly do; `v` is a scalar, `w` an array of 3, `h` a handle, `g` three.
 TRAPPING = (
     'print 9223372036854775807 + {};', 'print -9223372036854775807 - {};', 'print v / {};', 'print 7 % {};',
     'print (-9223372036854775807 - 1) / -{};', 'print (-9223372036854775807 - 1) % -{};',
@@ -22,7 +22,14 @@ TRAPPING = (
     'recv w[1] from 99 - {} tag 0;', 'recv v from 0 tag {} + 32766;', 'recv v from 0 tag -{};', 'assert {};',
     'assert !{};', 'if 1 / {} {{ print 1; }}', 'while 1 % {} {{ v = v + 1; w[v] = 5; }}', 'if w[{}] {{ }} else {{ v = 2; }}',
     'while w[{}] == 0 {{ w[{}] = 1; }}', 'send v / {} to 0 tag 0;', 'print 1 && 1 / {};', 'print 0 || w[{}];',
-    'print 0 && 1 / {};', 'print 1 || w[9 * {}];')
+    'print 0 && 1 / {};', 'print 1 || w[9 * {}];', 'isend g[{}] 1 to 0 tag 0;', 'isend g[{} + 1] 1 / 0 to 9 tag -1;',
+    'isend h v / {} to 99 tag 0;', 'isend g[-{}] 1 to 0 tag 0;', 'isend h 1 to {} tag 32766 + {};', 'isend h 1 to -{} tag 0;',
+    'irecv g[{}] v from 0 tag 0;', 'irecv g[{} + 1] w[{} + 1] from 99 tag -1;', 'irecv h w[{}] from {} tag 0;',
+    'irecv h v from {} - 1 tag 32766 + {};', 'wait g[{}];', 'wait g[{} - 1];', 'wait h;', 'wait g[1 / {}];')
+
+# Sizes of handle arrays that fill 256 handles, or have one too many; None is a single handle.
+HANDLE_SIZES = ((), (), (1,), (2, 0, 1), (256,), (255, None), (None, 255), (128, 128), (256, 0), (1, 255, 0), (257,), (256, None),
+                (255, 2), (9223372036854775807,))
 
 
 def names_case(random):
@@ -32,15 +39,22 @@ def names_case(random):
     extra = names.pop()
     tokens = header(random.randint(1, 2))
     arrays = {name: random.randint(0, 3) for name in names if random.random() < 0.1}
+    share = random.choice([0, 0.2, 0.2, 1])
+    handles = {name for name in names if random.random() < share}
     if count > 500:
         arrays = {}
+    if count > 85:
+        handles = set(list(names)[:random.choice([0, 3, 60])])
     for name in names:
-        tokens += declaration(name, arrays.get(name))
+        tokens += declaration(name, arrays.get(name), 'req' if name in handles else 'var')
     if random.random() < 0.1:
         again = random.choice([names[0], names[-1], random.choice(names)])
-        tokens += declaration(again, random.choice([None, 2]))
+        tokens += declaration(again, random.choice([None, 2]), random.choice(['var', 'req']))
     for number, name in enumerate(random.sample(names, min(len(names), random.choice([3, 10, 30, 200])))):
-        if name not in arrays:
+        if name in handles:
+            place = [name, '[', '0', ']'] if name in arrays else [name]
+            tokens += [random.choice(['isend', 'isend', 'isend', 'irecv']), *place, str(number), 'to', '0', 'tag', '0', ';']
+        elif name not in arrays:
             tokens += random.choice([[name, '=', str(number + 1), ';'], ['print', name, ';']])
         elif arrays[name]:
             tokens += [name, '[', str(arrays[name] - 1), ']', '=', name, '[', '0', ']', '+', str(number), ';']
@@ -63,6 +77,15 @@ def array_uses(random, name, size):
             ']', 'from', 'size', '-', '1', 'tag', '3', ';', '}']
 
 
+def handle_uses(random, name, size):
+    """Statements on handles near the ends of an array, and past them."""
+    place = name
+    if size is not None:
+        place += f'[{random.choice([0, size - 1, size - 1, size, size // 2, -1, 255, 256])}]'
+    forms = [f'isend {place} rank to 0 tag 1 ;', f'isend {place} 1 to rank tag 2 ; wait {place} ;', f'wait {place} ;']
+    return random.choice(forms).replace('[', ' [ ').replace(']', ' ] ').split()
+
+
 def arrays_case(random):
     """A script with arrays that fill the cells there are, nearly or a little more."""
     sizes = random.choice(SIZES)
@@ -74,7 +97,12 @@ def arrays_case(random):
     tokens = header(random.choice([1, 2, 2, 3]))
     for name, size in variables:
         tokens += declaration(name, size)
+    handles = list(zip(('rr', 'rs', 'rt', 'ru'), random.choice(HANDLE_SIZES)))
+    for name, size in handles:
+        tokens += declaration(name, size, 'req')
     uses = [array_uses(random, *random.choice(variables)) for _ in range(random.randint(1, 6))]
+    uses += [handle_uses(random, *random.choice(handles)) for _ in range(random.randint(0, 3) if handles else 0)]
+    random.shuffle(uses)
     script = rendered(random, sum(uses, tokens))
     return assembled(random, script, trace_lines(random, script, random.choice([8, 25])))
 
@@ -118,9 +146,7 @@ def states_case(random):
     tokens = header(ranks)
     if not writer.variables:
         writer.variables = [('x', None)]
-    for name, size in writer.variables:
-        tokens += declaration(name, size)
-    tokens += writer.protocol()
+    tokens += writer.declarations() + writer.protocol()
     for _ in range(random.choice([0, 1, 2])):
         tokens += random.choice([writer.statement(2), writer.receive(), writer.send()])
     if random.random() < 0.4:
@@ -135,7 +161,7 @@ def states_case(random):
 def traps_case(random):
     """A statement that traps, or nearly does, in each rank, some of them in blocks and behind messages."""
     ranks = random.choice([1, 2, 3])
-    text = f'mpd 1; ranks {ranks}; var v; var w[3];\n'
+    text = f'mpd 1; ranks {ranks}; var v; req h; var w[3]; req g[3];\n'
     for _ in range(random.randint(1, 4)):
         statement = random.choice(TRAPPING)
         numbers = [random.choice([0, 1, 1, 2, 3, ranks, 'rank', 'size', 'v']) for _ in range(statement.count('{}'))]

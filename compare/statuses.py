@@ -112,12 +112,20 @@ def device(output=b''):
     return Result(output, b'mpdbg: device\n', 3)
 
 
+def open_example(name):
+    """What a file of the examples holds."""
+    with open(os.path.join(HERE, '..', 'examples', name), 'rb') as file:
+        return file.read()
+
+
 def ended_rows(program):
     """Status 0."""
     yield 'a session', Files(file_of(SESSION)).run(program), ENDED
     script = SESSION[:SESSION.index(b'---')]
     yield 'a script alone', Files(file_of(script)).run(program), Result(b'', b'', 0)
     yield 'a script and no words', Files(file_of(script + b'---\n')).run(program), Result(b'', b'', 0)
+    example = [open_example('requests' + ending) for ending in ('.trace', '.stdout')]
+    yield 'the example of requests', Files(file_of(example[0])).run(program), Result(example[1], b'', 0)
 
 
 def refused_rows(program):

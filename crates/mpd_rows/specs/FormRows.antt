@@ -39,7 +39,7 @@ abbrev is_found : {A : Type 0} → Option A → ℕ
 is_found None = 0
 is_found (Some a) = 1
 
-pub row_forms : map (λ k. is_found (form_of k.1)) reserved ≡ 0 ∷ 0 ∷ 0 ∷ 0 ∷ 0 ∷ 0 ∷ 0 ∷ 1 ∷ 1 ∷ 1 ∷ 0 ∷ 0 ∷ 0 ∷ 1 ∷ 0 ∷ 0 ∷ 0 ∷ 0 ∷ 0 ∷ 0 ∷ 0 ∷ 0 ∷ 0 ∷ 0 ∷ 0 ∷ []
+pub row_forms : map (λ k. is_found (form_of k.1)) reserved ≡ 0 ∷ 0 ∷ 0 ∷ 0 ∷ 0 ∷ 0 ∷ 0 ∷ 1 ∷ 1 ∷ 1 ∷ 0 ∷ 1 ∷ 0 ∷ 1 ∷ 1 ∷ 1 ∷ 0 ∷ 0 ∷ 0 ∷ 0 ∷ 0 ∷ 0 ∷ 0 ∷ 0 ∷ 0 ∷ []
 row_forms = refl
 
 -- ---- what fills holes
@@ -55,7 +55,7 @@ abbrev source_and_tag : List Hole
 source_and_tag = source_hole ∷ mark_hole m.Tag ∷ term_hole ∷ []
 
 abbrev target_and_status : List Hole
-target_and_status = target_hole ∷ status_hole ∷ []
+target_and_status = target_hole Variable ∷ status_hole ∷ []
 
 pub row_any : filled_by source_and_tag (codes "any tag 3;") ≡ Ok (None, (lit (pos 3), tt))
 unfolding chain bracket place_inside rounds signed atom level expr target named source status token spelling place advanced refusal same_mark sees after expect spend slot_in seek tokens_after front sign word number

@@ -10,3 +10,5 @@ pub mod WiderReaderRows
 pub mod PrintRows
 pub mod LeftRows
 pub mod FormRows
+pub mod RequestRows
+pub mod RequestReaderRows

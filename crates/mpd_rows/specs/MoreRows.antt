@@ -1,5 +1,5 @@
 -- More worked rows, of an independent reading of the definitions: each was worked out by hand from the rules alone.
-use Rattle.std.specs.Prelude.{◌≡◌, ℕ, ℤ, pos, negsuc, false, map, slice_get, List, [], ◌∷◌, ◌++◌, Option, Some, None, Ok, Err, codes, replicate, flat_map, refl}
+use Rattle.std.specs.Prelude.{◌≡◌, ℕ, ℤ, pos, negsuc, true, false, map, slice_get, List, [], ◌∷◌, ◌++◌, Option, Some, None, Ok, Err, codes, replicate, flat_map, refl}
 use Rattle.std.specs.Option.{option_map}
 use Rattle.std.specs.Fmt.{digits}
 use Rattle.mpd_model.specs.declared.expr.BinaryOp.TheVariants.{Equal, NotEqual}
@@ -25,7 +25,7 @@ use Rattle.mpd_model.specs.Term.{Term, lit, own_rank, size, cell, op2, Target}
 use Rattle.mpd_model.specs.Tokens.{tokens_after, front, sign, word, number}
 use Rattle.mpd_model.specs.Tree.{Tree, branch, no_more, then_more}
 use Rattle.mpd_model.specs.Program.{Program}
-use Rattle.mpd_model.specs.World.{RankWorld, World, call_id, start, calls_of, eligible, is_free, buffer}
+use Rattle.mpd_model.specs.World.{RankWorld, World, board_of, call_id, start, calls_of, eligible, is_free, buffer}
 use Rattle.mpd_model.specs.Next.{next, fold, enabled}
 use Rattle.mpd_model.specs.Outcomes.{outcome}
 use Rattle.mpd_model.specs.Trail.{Trail, Standing, opening, applied, first_standing, world_of}
@@ -302,7 +302,7 @@ pub rv_e68 : reading (codes "mpd 1;ranks 1;var x;print x[0];") ≡ Err (fault f.
 unfolding reading script header version ranks decls decls_from decl declaring single sized body stmts stmt block choosing otherwise repeating target named assigning expr level chain atom place_inside bracket rounds signed count spend seek slot_in fresh add expect after sees same_mark advanced place spelling token refusal tokens_after front sign word number
 rv_e68 = refl
 
-pub rv_e69 : reading (codes "mpd 1;ranks 1;var x;isend x 1 to 0 tag 0;") ≡ Err (fault f.Expected 20)
+pub rv_e69 : reading (codes "mpd 1;ranks 1;var x;isend x 1 to 0 tag 0;") ≡ Err (fault f.UnknownName 26)
 unfolding reading script header version ranks decls decls_from decl declaring single sized body stmts stmt block choosing otherwise repeating target named assigning expr level chain atom place_inside bracket rounds signed count spend seek slot_in fresh add expect after sees same_mark advanced place spelling token refusal tokens_after front sign word number
 rv_e69 = refl
 
@@ -517,7 +517,7 @@ rv_w9 = refl
 pub rv_w10 : option_map outcome (go three Rendezvous (Local 0 ∷ Local 0 ∷ Local 1 ∷ Local 1 ∷ [])) ≡ Some (Some (o.Deadlock (call_id 0 0 ∷ call_id 1 0 ∷ [])))
 rv_w10 = refl
 
-pub rv_w11 : option_map (λ w. map {B = ℕ} (λ c. c.statement) (calls_of (slice_get w.ranks 1))) (go three Rendezvous (Local 1 ∷ Local 1 ∷ [])) ≡ Some (4 ∷ [])
+pub rv_w11 : option_map (λ w. map {B = ℕ} (λ c. c.statement) (calls_of (board_of w) 1)) (go three Rendezvous (Local 1 ∷ Local 1 ∷ [])) ≡ Some (4 ∷ [])
 rv_w11 = refl
 
 abbrev pairing : Program
@@ -581,10 +581,10 @@ pub rv_v2 : left_of (go (prog 1 (branch (lit (negsuc 4)) (then_more (print (n 1)
 rv_v2 = refl
 
 abbrev sent : ℕ → ℕ → Call
-sent to tag = record { statement = 0; kind = Send (record { to = to; tag = tag; value = negsuc 4 }) }
+sent to tag = record { statement = 0; kind = Send (record { to = to; tag = tag; value = negsuc 4; blocks = true }) }
 
 abbrev awaited : ℕ → ℕ → Call
-awaited from tag = record { statement = 0; kind = Recv (record { from = from; tag = tag; cell = 0 }) }
+awaited from tag = record { statement = 0; kind = Recv (record { from = from; tag = tag; cell = 0; blocks = true }) }
 
 abbrev rank_with : List Call → Activity → RankWorld
 rank_with calls activity = record { rest = []; vars = negsuc 0 ∷ pos 12 ∷ []; handles = None ∷ Some 3 ∷ []; calls = calls; out = []; activity = activity }
@@ -603,19 +603,19 @@ rv_h1 = refl
 pub rv_h2 : enabled hand ≡ Match (call_id 0 1) (call_id 1 1) ∷ []
 rv_h2 = refl
 
-pub rv_h3 : eligible hand (call_id 0 1) (call_id 1 2) ≡ false
+pub rv_h3 : eligible (board_of hand) (call_id 0 1) (call_id 1 2) ≡ false
 rv_h3 = refl
 
-pub rv_h4 : eligible hand (call_id 0 1) (call_id 1 0) ≡ false
+pub rv_h4 : eligible (board_of hand) (call_id 0 1) (call_id 1 0) ≡ false
 rv_h4 = refl
 
-pub rv_h5 : is_free hand (call_id 2 0) ≡ false
+pub rv_h5 : is_free (board_of hand) (call_id 2 0) ≡ false
 rv_h5 = refl
 
-pub rv_h6 : buffer hand (call_id 0 3) ≡ Some (record { value = negsuc 4; source = 2; tag = 9 })
+pub rv_h6 : buffer (board_of hand) (call_id 0 3) ≡ Some (record { value = negsuc 4; source = 2; tag = 9 })
 rv_h6 = refl
 
-pub rv_h7 : option_map (λ w. eligible w (call_id 0 1) (call_id 1 2)) (next hand (Match (call_id 0 1) (call_id 1 1))) ≡ Some false
+pub rv_h7 : option_map (λ w. eligible (board_of w) (call_id 0 1) (call_id 1 2)) (next hand (Match (call_id 0 1) (call_id 1 1))) ≡ Some false
 rv_h7 = refl
 
 abbrev standing_at : Trail → Option World → Standing
@@ -711,7 +711,7 @@ unfolding reading script header version ranks decls decls_from decl declaring si
 rv_x_long0 = refl
 
 abbrev send_ : ℕ → Call
-send_ to = record { statement = 0; kind = Send (record { to = to; tag = 1; value = pos 3 }) }
+send_ to = record { statement = 0; kind = Send (record { to = to; tag = 1; value = pos 3; blocks = true }) }
 
 abbrev rank_of : List Call → List Tree → Activity → RankWorld
 rank_of calls rest activity = record { rest = map {B = ℕ × Tree} (λ t. (9, t)) rest; vars = pos 0 ∷ []; handles = []; calls = calls; out = []; activity = activity }

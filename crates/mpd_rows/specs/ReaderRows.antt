@@ -2,7 +2,7 @@
 use Rattle.std.specs.Prelude.{◌≡◌, ℕ, zero, suc, pos, List, [], ◌∷◌, ◌++◌, length, Some, None, Ok, Err, codes, replicate, flat_map, refl}
 use Rattle.mpd_model.specs.declared.expr.BinaryOp.TheVariants.{Equal, Add}
 use Rattle.mpd_model.specs.declared.expr.UnaryOp.TheVariants.{Negate, Not}
-use Rattle.mpd_model.specs.declared.place.DeclKind.TheVariants.{Variable}
+use Rattle.mpd_model.specs.declared.place.DeclKind.TheVariants.{Variable, Handle}
 use Rattle.mpd_model.specs.declared.place.Place.{Place}
 use Rattle.mpd_model.specs.declared.read_fault.FaultCode.TheVariants as f
 use Rattle.mpd_model.specs.Declaration.{Declared}
@@ -91,7 +91,7 @@ pub row_array : reading (codes "mpd 1;ranks 1;var x[1];") ≡ Ok (record { versi
 unfolding reading script header version ranks decls decls_from decl declaring single sized body stmts stmt block choosing otherwise repeating target named assigning expr level chain atom place_inside bracket rounds signed count spend seek slot_in fresh add expect after sees same_mark advanced place spelling token refusal tokens_after front sign word number
 row_array = refl
 
-pub row_handle : reading (codes "mpd 1;ranks 1;req h;") ≡ Err (fault f.Expected 14)
+pub row_handle : reading (codes "mpd 1;ranks 1;req h;") ≡ Ok (record { version = 1; ranks = 1; decls = record { kind = Handle; name = codes "h"; size = None } ∷ []; body = []; lines = [] })
 unfolding reading script header version ranks decls decls_from decl declaring single sized body stmts stmt block choosing otherwise repeating target named assigning expr level chain atom place_inside bracket rounds signed count spend seek slot_in fresh add expect after sees same_mark advanced place spelling token refusal tokens_after front sign word number
 row_handle = refl
 

@@ -17,3 +17,12 @@ send value to tag = simple (st.Send (record { value = value; to = to; tag = tag 
 
 abbrev pub recv : Target → Term → Term → Tree
 recv into source tag = simple (st.Recv (record { into = into; from = source; tag = tag }))
+
+abbrev pub isend : Target → Term → Term → Term → Tree
+isend request value to tag = simple (st.Isend (record { request = request; send = record { value = value; to = to; tag = tag } }))
+
+abbrev pub irecv : Target → Target → Term → Term → Tree
+irecv request into source tag = simple (st.Irecv (record { request = request; recv = record { into = into; from = source; tag = tag } }))
+
+abbrev pub wait : Target → Tree
+wait request = simple (st.Wait request)

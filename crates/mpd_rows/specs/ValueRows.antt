@@ -27,7 +27,7 @@ cells = pos 2 ∷ pos 10 ∷ pos 20 ∷ pos 30 ∷ negsuc 39 ∷ []
 
 -- on rank 1 of 3
 abbrev env : Env
-env = record { vars = cells; rank = 1; size = 3 }
+env = record { vars = cells; handles = []; rank = 1; size = 3 }
 
 abbrev value : Term → Value
 value t = value_of t env

@@ -355,7 +355,7 @@ bad_statements =
     ∷ (codes "while x { else", (f.Expected, 39)) ∷ (codes "while x {}}", (f.Expected, 39)) ∷ (codes "while x {};", (f.Expected, 39)) ∷ (codes "while x {waitany", (f.NotInVersion, 38)) ∷ (codes "while waitany", (f.Expected, 35)) ∷ (codes "if 1 {} else waitany", (f.Expected, 42)) ∷ (codes "x=waitany;", (f.Expected, 31)) ∷ (codes "while x {y=1;}", (f.UnknownName, 38))
     ∷ (codes "recv a from 0 tag 0;", (f.Expected, 36)) ∷ (codes "recv a[0 from 0", (f.Expected, 38)) ∷ (codes "recv x[0] from 0", (f.Expected, 35)) ∷ (codes "recv a[0][1] from", (f.Expected, 38)) ∷ (codes "recv a[y] from", (f.UnknownName, 36)) ∷ (codes "recv a[0]=1;", (f.Expected, 38))
     ∷ (codes "recv y[0]", (f.UnknownName, 34)) ∷ (codes "recv -x from", (f.Expected, 34)) ∷ (codes "recv (x) from", (f.Expected, 34)) ∷ (codes "send a to 0 tag 0;", (f.Expected, 36)) ∷ (codes "print a[0] a[1];", (f.Expected, 40)) ∷ (codes "x=1;var z;", (f.Expected, 33))
-    ∷ (codes "req h[2];", (f.Expected, 29)) ∷ (codes "barrier;", (f.Expected, 29)) ∷ []
+    ∷ (codes "x=1;req h[2];", (f.Expected, 33)) ∷ (codes "barrier;", (f.Expected, 29)) ∷ []
 
 pub row_bad_statements : read_places bad_statements ≡ wanted_places bad_statements
 unfolding reading script header version ranks decls decls_from decl declaring single sized body stmts stmt block choosing otherwise repeating target named assigning expr level chain atom place_inside bracket rounds signed count spend seek slot_in fresh add expect after sees same_mark advanced place spelling token refusal tokens_after front sign word number
@@ -437,7 +437,7 @@ bad_declarations =
     ∷ (codes "var a[3;", (f.Expected, 21)) ∷ (codes "var a[3", (f.Expected, 21)) ∷ (codes "var a[3]", (f.Expected, 22)) ∷ (codes "var a[3]x", (f.Expected, 22)) ∷ (codes "var a[3][3];", (f.Expected, 22)) ∷ (codes "var a[3]=1;", (f.Expected, 22)) ∷ (codes "var a]", (f.Expected, 19)) ∷ (codes "var a=1;", (f.Expected, 19)) ∷ (codes "var [3];", (f.Expected, 18))
     ∷ (codes "var while;", (f.Expected, 18)) ∷ (codes "var assert[1];", (f.Expected, 18)) ∷ (codes "var a[9223372036854775808];", (f.BadToken, 20)) ∷ (codes "var a[$", (f.BadToken, 20)) ∷ (codes "var a[1024$", (f.BadToken, 24)) ∷ (codes "var a,b;", (f.BadToken, 19))
     ∷ (codes "var a[1024];var b[", (f.Expected, 32)) ∷ (codes "var a[1024];var b[]", (f.Expected, 32)) ∷ (codes "var a[1024];var b[$", (f.BadToken, 32)) ∷ (codes "var a[1024];var 1", (f.Expected, 30)) ∷ (codes "var a[1024];var $", (f.BadToken, 30))
-    ∷ (codes "req h;", (f.Expected, 14)) ∷ (codes "var a[1];req h[1];", (f.Expected, 23)) ∷ []
+    ∷ (codes "print 1;req h;", (f.Expected, 22)) ∷ (codes "var a[1];{req h[1];", (f.Expected, 23)) ∷ []
 
 pub row_bad_declarations : map {B = Read} (λ r. reading_of r.0) bad_declarations ≡ wanted_places bad_declarations
 unfolding reading script header version ranks decls decls_from decl declaring single sized body stmts stmt block choosing otherwise repeating target named assigning expr level chain atom place_inside bracket rounds signed count spend seek slot_in fresh add expect after sees same_mark advanced place spelling token refusal tokens_after front sign word number

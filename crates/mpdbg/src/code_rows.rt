@@ -1,7 +1,7 @@
 //! Rows of lowered code, of one rank and of a long run, worked out by hand: what no clause says, each public call with ample
 //! memory.
 
-use crate::helpers::lowered;
+use crate::helpers::{lowered, same};
 use mpd_code::code::Code;
 use mpd_code::env::Env;
 use mpd_code::eval::eval;
@@ -12,28 +12,19 @@ use mpd_rank::change::{Cells, RankRecord};
 use mpd_rank::plan::LocalPlan;
 use mpd_rank::rank::RankState;
 use mpd_trail::debugger::{ApplyFault, Debugger};
+use std::alloc::Global;
 use std::process::Abort;
 
 /// Nested statements, with a variable and an array.
 const NESTED: &[u8] =
     b"mpd 1; ranks 3; var x; var a[4];\nwhile x < 2 {\n  if x { } else { a[x] = 7; }\n  x = x + 1;\n}\nprint a[0];";
 
-#[test]
-fn counts_what_is_lowered(rt: HostRuntime) {
-    let code = lowered(&rt, rt.alloc(), NESTED);
-    assert_eq!(rt; code.ranks(), 3);
-    assert_eq!(rt; code.cells(), 5);
-    assert_eq!(rt; code.handles(), 0);
-    assert_eq!(rt; code.decls().len(), 2);
-    assert!(rt; code.lines() == [2, 3, 3, 4, 6].as_slice());
-}
-
-#[test]
-fn numbers_its_nodes(rt: HostRuntime) {
-    let code = lowered(&rt, rt.alloc(), NESTED);
-    assert_eq!(rt; code.start(), 0);
-    assert_eq!(rt; code.nodes(), 5);
-    assert_eq!(rt; line_of(&code, 4), Some(6));
+fn counts_what_is_lowered(rt: &impl Abort, code: &Code) {
+    same(rt, "ranks", code.ranks(), 3);
+    same(rt, "cells", code.cells(), 5);
+    same(rt, "handles", code.handles(), 0);
+    same(rt, "declarations", code.decls().len(), 2);
+    same(rt, "lines", code.lines(), &[2, 3, 3, 4, 6]);
 }
 
 /// The line of a node, if there is such a node.
@@ -53,36 +44,52 @@ fn next_of(code: &Code, number: usize) -> Option<usize> {
     }
 }
 
-#[test]
-fn shows_lowered_code(rt: HostRuntime) {
-    let code = lowered(&rt, rt.alloc(), NESTED);
-    assert_eq!(rt; next_of(&code, 0), Some(4));
-    assert_eq!(rt; next_of(&code, 1), Some(3));
-    assert_eq!(rt; next_of(&code, 3), Some(0));
-    assert_eq!(rt; next_of(&code, 5), None);
+fn numbers_its_nodes(rt: &impl Abort, code: &Code) {
+    same(rt, "the first node", code.start(), 0);
+    same(rt, "nodes", code.nodes(), 5);
+    same(rt, "the last line", line_of(code, 4), Some(6));
+}
+
+fn links_its_nodes(rt: &impl Abort, code: &Code) {
+    same(rt, "behind the loop", next_of(code, 0), Some(4));
+    same(rt, "behind the if", next_of(code, 1), Some(3));
+    same(rt, "the loop again", next_of(code, 3), Some(0));
+    same(rt, "no node", next_of(code, 5), None);
 }
 
 #[test]
-fn evaluates_an_expression(rt: HostRuntime) {
-    let alloc = rt.alloc();
-    let rank = Expr {
-        node: ExprNode::Rank,
-    };
-    let size = Expr {
-        node: ExprNode::Size,
-    };
-    let sum = Expr::binary(alloc, BinaryOp::Add, rank, size).expect(&rt, "a sum");
+fn shows_lowered_code(rt: HostRuntime) {
+    let code = lowered(&rt, rt.alloc(), NESTED);
+    counts_what_is_lowered(&rt, &code);
+    numbers_its_nodes(&rt, &code);
+    links_its_nodes(&rt, &code);
+}
+
+/// An operator between two operands.
+fn binary(rt: &impl Abort, alloc: Global, op: BinaryOp, left: ExprNode, right: ExprNode) -> Expr {
+    let made = Expr::binary(alloc, op, Expr { node: left }, Expr { node: right });
+    made.expect(rt, "an expression")
+}
+
+/// The value of an expression on rank 2 of 5.
+fn value_of(expr: &Expr) -> Result<i64, Trap> {
     let env = Env {
         vars: &[],
         rank: 2,
         size: 5,
     };
-    assert_eq!(rt; eval(&sum, &env), Ok(7));
-    let zero = Expr {
-        node: ExprNode::Number(0),
-    };
-    let quotient = Expr::binary(alloc, BinaryOp::Divide, sum, zero).expect(&rt, "a quotient");
-    assert_eq!(rt; eval(&quotient, &env), Err(Trap::ZeroDivisor));
+    eval(expr, &env)
+}
+
+#[test]
+fn evaluates_an_expression(rt: HostRuntime) {
+    let alloc = rt.alloc();
+    let sum = binary(&rt, alloc, BinaryOp::Add, ExprNode::Rank, ExprNode::Size);
+    same(&rt, "a sum", value_of(&sum), Ok(7));
+    let zero = ExprNode::Number(0);
+    let quotient = binary(&rt, alloc, BinaryOp::Divide, sum.node, zero);
+    let trapped = Err(Trap::ZeroDivisor);
+    same(&rt, "a quotient", value_of(&quotient), trapped);
 }
 
 /// What the first statement of the one rank does.
@@ -93,9 +100,9 @@ const ASSIGNMENT: LocalPlan = LocalPlan::Assign {
 };
 
 fn plans_the_assignment(rt: &impl Abort, code: &Code, rank: &RankState) {
-    assert!(rt; rank.can_step(code));
-    assert_eq!(rt; rank.next_statement(code), Some(0));
-    assert_eq!(rt; rank.plan_local(code), Some(ASSIGNMENT));
+    same(rt, "can step", rank.can_step(code), true);
+    same(rt, "the next statement", rank.next_statement(code), Some(0));
+    same(rt, "the plan", rank.plan_local(code), Some(ASSIGNMENT));
 }
 
 fn commits(rt: &impl Abort, rank: &mut RankState, plan: LocalPlan) -> RankRecord {
@@ -109,13 +116,35 @@ fn steps(rt: &impl Abort, code: &Code, rank: &mut RankState) -> RankRecord {
 }
 
 fn has_issued(rt: &impl Abort, rank: &RankState) {
-    assert_eq!(rt; rank.calls().len(), 1);
-    assert_eq!(rt; rank.activity(), Activity::Blocked);
-    assert!(rt; rank.handles().is_empty());
+    same(rt, "calls", rank.calls().len(), 1);
+    same(rt, "the activity", rank.activity(), Activity::Blocked);
+    same(rt, "handles", rank.handles().len(), 0);
 }
 
-fn wakes(rank: &mut RankState) -> RankRecord {
-    rank.complete(Cells::none())
+/// The records of the assignment, the call and its end.
+type Records = (RankRecord, RankRecord, RankRecord);
+
+fn goes_forward(rt: &impl Abort, code: &Code, rank: &mut RankState) -> Records {
+    let assigned = commits(rt, rank, ASSIGNMENT);
+    same(rt, "what was assigned", rank.variables(), &[5]);
+    steps(rt, code, rank);
+    same(rt, "what was printed", rank.output(), &[5]);
+    let issued = steps(rt, code, rank);
+    has_issued(rt, rank);
+    let woken = rank.complete(Cells::none());
+    same(rt, "has ended", rank.has_ended(code), true);
+    (assigned, issued, woken)
+}
+
+fn goes_back(rt: &impl Abort, code: &Code, rank: &mut RankState, records: Records) {
+    let (assigned, issued, woken) = records;
+    rank.restore(woken);
+    same(rt, "the activity", rank.activity(), Activity::Blocked);
+    rank.restore(issued);
+    same(rt, "calls", rank.calls().len(), 0);
+    rank.restore(assigned);
+    same(rt, "no assignment", rank.variables(), &[0]);
+    same(rt, "the next statement", rank.next_statement(code), Some(0));
 }
 
 #[test]
@@ -124,21 +153,24 @@ fn steps_one_rank_and_back(rt: HostRuntime) {
     let code = lowered(&rt, rt.alloc(), text);
     let mut rank = RankState::start(rt.alloc(), &code, 0).expect(&rt, "a rank");
     plans_the_assignment(&rt, &code, &rank);
-    let assigned = commits(&rt, &mut rank, ASSIGNMENT);
-    assert!(rt; rank.variables() == [5].as_slice());
-    steps(&rt, &code, &mut rank);
-    assert!(rt; rank.output() == [5].as_slice());
-    let issued = steps(&rt, &code, &mut rank);
-    has_issued(&rt, &rank);
-    let woken = wakes(&mut rank);
-    assert!(rt; rank.has_ended(&code));
-    rank.restore(woken);
-    assert_eq!(rt; rank.activity(), Activity::Blocked);
-    rank.restore(issued);
-    assert!(rt; rank.calls().is_empty());
-    rank.restore(assigned);
-    assert!(rt; rank.variables() == [0].as_slice());
-    assert_eq!(rt; rank.next_statement(&code), Some(0));
+    let records = goes_forward(&rt, &code, &mut rank);
+    goes_back(&rt, &code, &mut rank, records);
+}
+
+fn steps_a_million_times(rt: &impl Abort, debugger: &mut Debugger<'_>) {
+    for _ in 0..1_000_000 {
+        same(rt, "a step", debugger.apply(Step::Local(0)), Ok(()));
+    }
+}
+
+fn is_full(rt: &impl Abort, debugger: &mut Debugger<'_>) {
+    let (local, wake) = (Step::Local(0), Step::Wake(0));
+    same(rt, "one more", debugger.apply(local), Err(ApplyFault::Full));
+    let not_enabled = Err(ApplyFault::NotEnabled);
+    same(rt, "a wake", debugger.apply(wake), not_enabled);
+    same(rt, "the depth", debugger.depth(), 1_000_000);
+    same(rt, "back", debugger.undo().is_ok(), true);
+    same(rt, "again", debugger.apply(local), Ok(()));
 }
 
 #[test]
@@ -146,12 +178,6 @@ fn is_full_after_a_million_steps(rt: HostRuntime) {
     let alloc = rt.alloc();
     let code = lowered(&rt, alloc, b"mpd 1; ranks 1; while 1 { }");
     let mut debugger = Debugger::start(alloc, &code, Mode::Rendezvous).expect(&rt, "a debugger");
-    for _ in 0..1_000_000 {
-        assert!(rt; debugger.apply(Step::Local(0)).is_ok());
-    }
-    assert_eq!(rt; debugger.apply(Step::Local(0)), Err(ApplyFault::Full));
-    assert_eq!(rt; debugger.apply(Step::Wake(0)), Err(ApplyFault::NotEnabled));
-    assert_eq!(rt; debugger.depth(), 1_000_000);
-    assert!(rt; debugger.undo().is_ok());
-    assert_eq!(rt; debugger.apply(Step::Local(0)), Ok(()));
+    steps_a_million_times(&rt, &mut debugger);
+    is_full(&rt, &mut debugger);
 }

@@ -1,11 +1,16 @@
 //! What the tests of several files share.
+//!
+//! A test's code is proved as any other code is. `assert_eq!` and `assert!` write their code where they stand, and `expect`
+//! makes one more exit there; so what is asserted goes through `same`, which is proved once, and what may want memory is
+//! expected in a helper (docs/PROVING.md, "What a check costs").
 
 use mpd_code::code::Code;
 use mpd_code::lower::lower;
-use mpd_device::device::{FromReader, ToWriter};
+use mpd_device::device::{FromReader, Source, ToWriter};
 use mpd_model::read_fault::{FaultCode, ReadFault};
 use mpd_script::read;
 use std::alloc::{AllocError, Global};
+use std::fmt::Debug;
 use std::process::Abort;
 
 // what stands above devices is named here alone
@@ -17,6 +22,11 @@ pub(crate) use mpd_trace::trace::trace;
 pub(crate) const FIRST: &[u8] =
     b"mpd 1;\nranks 2;\nvar x;\nif rank == 0 { send 7 to 1 tag 0; } else { recv x from 0 tag 0; print x; }";
 
+/// Asserts that what was found is what was wanted; `what` says what it is.
+pub(crate) fn same<T: Copy + Debug + PartialEq>(rt: &impl Abort, what: &str, found: T, wanted: T) {
+    assert_eq!(rt; found, wanted, "{what}");
+}
+
 /// The code of a script.
 pub(crate) fn lowered(rt: &impl Abort, alloc: Global, text: &[u8]) -> Code {
     let script = read(alloc, text).expect(rt, "a script");
@@ -24,61 +34,62 @@ pub(crate) fn lowered(rt: &impl Abort, alloc: Global, text: &[u8]) -> Code {
 }
 
 /// The pieces, one after the other.
-pub(crate) fn joined(alloc: Global, pieces: &[&str]) -> Result<String, AllocError> {
+pub(crate) fn joined(rt: &impl Abort, alloc: Global, pieces: &[&str]) -> String {
     let mut text = String::new(alloc);
     for piece in pieces {
-        text.push_str(piece)?;
+        text.push_str(piece).expect(rt, "memory for a text");
     }
-    Ok(text)
+    text
 }
 
-/// A text that has a piece so many times between its front and its back.
-pub(crate) fn repeated(
-    alloc: Global,
-    front: &str,
-    piece: &str,
-    count: usize,
-    back: &str,
-) -> Result<String, AllocError> {
-    let mut text = String::from_str(alloc, front)?;
+/// A piece of a text, and how often it stands there.
+pub(crate) type Piece = (&'static str, usize);
+
+fn push_times(text: &mut String, piece: &str, count: usize) -> Result<(), AllocError> {
     for _ in 0..count {
         text.push_str(piece)?;
     }
-    text.push_str(back)?;
-    Ok(text)
+    Ok(())
 }
 
-/// A text that declares so many variables.
-pub(crate) fn declaring(alloc: Global, count: usize) -> Result<String, AllocError> {
-    let mut text = String::from_str(alloc, "mpd 1;ranks 1;")?;
-    for number in 0..count {
-        write!(text, "var v{number};")?;
+/// Each of the pieces as often as it stands there, one after the other.
+pub(crate) fn repeated(rt: &impl Abort, alloc: Global, pieces: &[Piece]) -> String {
+    let mut text = String::new(alloc);
+    for (piece, count) in pieces {
+        push_times(&mut text, piece, *count).expect(rt, "memory for a text");
     }
-    Ok(text)
+    text
 }
 
 /// How the program ends on an input, and what it writes.
-fn run(alloc: Global, input: &[u8]) -> (Result<(), PlainFault>, Vec<u8>) {
-    let mut source = FromReader::new(input);
+pub(crate) fn run<S: Source>(alloc: Global, source: &mut S) -> (Result<(), PlainFault>, Vec<u8>) {
     let mut sink = ToWriter::new(Vec::new(alloc));
-    let ended = plain(alloc, &mut source, &mut sink);
+    let ended = plain(alloc, source, &mut sink);
     (ended, sink.into_writer())
 }
 
-/// Asserts how the program ends on an input, and what it writes.
+/// Why a script is refused, the byte where, from 0, and its line, from 1.
+pub(crate) type Refusal = (FaultCode, usize, usize);
+
+/// How the program ends where a script is refused so, if it is.
+pub(crate) fn ended(refusal: Option<Refusal>) -> Result<(), PlainFault> {
+    match refusal {
+        None => Ok(()),
+        Some((code, place, line)) => Err(PlainFault::Script(ReadFault { code, place }, line)),
+    }
+}
+
+/// Asserts why and where the script of an input is refused, if it is, and what is written.
 pub(crate) fn answers(
     rt: &impl Abort,
     alloc: Global,
+    what: &str,
     input: &[u8],
-    ended: Result<(), PlainFault>,
+    refusal: Option<Refusal>,
     written: &str,
 ) {
-    let (end, text) = run(alloc, input);
-    assert_eq!(rt; end, ended, "{written}");
-    assert_eq!(rt; text.as_slice(), written.as_bytes());
-}
-
-/// That a script is refused so.
-pub(crate) fn refused(code: FaultCode, place: usize, line: usize) -> Result<(), PlainFault> {
-    Err(PlainFault::Script(ReadFault { code, place }, line))
+    let mut source = FromReader::new(input);
+    let (end, text) = run(alloc, &mut source);
+    same(rt, what, end, ended(refusal));
+    same(rt, what, text.as_slice(), written.as_bytes());
 }

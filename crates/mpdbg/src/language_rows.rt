@@ -1,7 +1,7 @@
 //! Rows of the whole sequential language, worked out by hand from docs/LANGUAGE.md: what is printed, what traps, what is
 //! refused and where.
 
-use crate::helpers::{PlainFault, answers, joined, refused, repeated};
+use crate::helpers::{Piece, Refusal, answers, joined, repeated};
 use mpd_model::read_fault::FaultCode;
 use std::alloc::Global;
 use std::process::Abort;
@@ -97,38 +97,46 @@ const FAULTS: &[(&str, FaultCode, usize)] = &[
 /// Asserts what is printed of an expression.
 fn prints(rt: &impl Abort, alloc: Global, expression: &str, value: &str) {
     let input = joined(
+        rt,
         alloc,
         &[
             "mpd 1;ranks 1;print ",
             expression,
             ";\n---\nlocal 0\nshow\n",
         ],
-    )
-    .expect(rt, "the input");
+    );
     let shown = joined(
+        rt,
         alloc,
         &[
             "ok 1\ndepth 1 of 1\nrank 0 ended\nvars\nhandles\nout ",
             value,
             "\noutcome done\nend\n",
         ],
-    )
-    .expect(rt, "what is shown");
-    answers(rt, alloc, input.as_bytes(), Ok(()), shown.as_str());
+    );
+    answers(
+        rt,
+        alloc,
+        expression,
+        input.as_bytes(),
+        None,
+        shown.as_str(),
+    );
 }
 
 /// Asserts that a statement traps, and that this is taken back.
 fn traps(rt: &impl Abort, alloc: Global, statement: &str, name: &str) {
     let input = joined(
+        rt,
         alloc,
         &[
             "mpd 1;ranks 1;var x;var a[2];var e[0];",
             statement,
             "\n---\nlocal 0\nshow\nback\nshow\n",
         ],
-    )
-    .expect(rt, "the input");
+    );
     let shown = joined(
+        rt,
         alloc,
         &[
             "ok 1\ndepth 1 of 1\nrank 0 trapped ",
@@ -137,15 +145,21 @@ fn traps(rt: &impl Abort, alloc: Global, statement: &str, name: &str) {
             name,
             "\nend\nok 0\ndepth 0 of 1\nrank 0 at 1\nvars 0 0 0\nhandles\nout\nend\n",
         ],
-    )
-    .expect(rt, "what is shown");
-    answers(rt, alloc, input.as_bytes(), Ok(()), shown.as_str());
+    );
+    answers(rt, alloc, statement, input.as_bytes(), None, shown.as_str());
 }
 
 /// Asserts that a text behind the first two statements is refused.
 fn refuses(rt: &impl Abort, alloc: Global, text: &str, code: FaultCode, place: usize) {
-    let input = joined(alloc, &["mpd 1;ranks 1;", text]).expect(rt, "the input");
-    answers(rt, alloc, input.as_bytes(), refused(code, place, 1), "");
+    let input = joined(rt, alloc, &["mpd 1;ranks 1;", text]);
+    answers(
+        rt,
+        alloc,
+        text,
+        input.as_bytes(),
+        Some((code, place, 1)),
+        "",
+    );
 }
 
 #[test]
@@ -169,91 +183,116 @@ fn refuses_at_places(rt: HostRuntime) {
     }
 }
 
-/// Asserts how the program ends on a text that has a piece so many times between its front and its back.
+/// An input at a limit, or just past it, in pieces; why and where its script is refused, if it is, and what is written.
+type AtLimit = (
+    &'static str,
+    &'static [Piece],
+    Option<Refusal>,
+    &'static str,
+);
+
+const AT_LIMITS: &[AtLimit] = &[
+    (
+        "65 signs",
+        &[("mpd 1;ranks 1;print ", 1), ("-", 65), ("1;", 1)],
+        Some((FaultCode::TooDeep, 84, 1)),
+        "",
+    ),
+    (
+        "64 signs in an index",
+        &[
+            ("mpd 1;ranks 1;var a[2];print a[", 1),
+            ("-", 64),
+            ("1];", 1),
+        ],
+        Some((FaultCode::TooDeep, 94, 1)),
+        "",
+    ),
+    (
+        "64 signs in the index of a target, and 64 in the value",
+        &[
+            ("mpd 1;ranks 1;var a[2];a[", 1),
+            ("-", 64),
+            ("1]=", 1),
+            ("-", 64),
+            ("1;", 1),
+        ],
+        None,
+        "",
+    ),
+    (
+        "4,096 statements",
+        &[("mpd 1;ranks 1;var x;", 1), ("x=1;", 4096)],
+        None,
+        "",
+    ),
+    (
+        "4,097 statements",
+        &[("mpd 1;ranks 1;var x;", 1), ("x=1;", 4097)],
+        Some((FaultCode::TooMany, 16_404, 1)),
+        "",
+    ),
+    (
+        "no cell behind 1,024",
+        &[("mpd 1;ranks 1;var a[1024];", 1), ("var e[0];", 1)],
+        None,
+        "",
+    ),
+    (
+        "65 blocks",
+        &[("mpd 1;ranks 1;var a[2];", 1), ("while 1 {", 65)],
+        Some((FaultCode::TooDeep, 607, 1)),
+        "",
+    ),
+    (
+        "a script of 65,536 bytes",
+        &[
+            ("mpd 1;ranks 1;print 7;", 1),
+            (" ", 65_513),
+            ("\n---\nlocal 0\n", 1),
+        ],
+        None,
+        "ok 1\n",
+    ),
+];
+
+/// Asserts how the program ends on an input that is given in pieces, and what is written.
 fn ends(
     rt: &impl Abort,
     alloc: Global,
-    front: &str,
-    piece: &str,
-    count: usize,
-    back: &str,
-    ended: Result<(), PlainFault>,
+    what: &str,
+    pieces: &[Piece],
+    refusal: Option<Refusal>,
+    written: &str,
 ) {
-    let input = repeated(alloc, front, piece, count, back).expect(rt, "the input");
-    answers(rt, alloc, input.as_bytes(), ended, "");
-}
-
-fn too_deep(place: usize) -> Result<(), PlainFault> {
-    refused(FaultCode::TooDeep, place, 1)
+    let input = repeated(rt, alloc, pieces);
+    answers(rt, alloc, what, input.as_bytes(), refusal, written);
 }
 
 #[test]
 fn refuses_past_its_limits(rt: HostRuntime) {
-    let alloc = rt.alloc();
-    let too_many = refused(FaultCode::TooMany, 16404, 1);
-    let inside = "mpd 1;ranks 1;var a[2];print a[";
-    let outside = repeated(alloc, "mpd 1;ranks 1;var a[2];a[", "-", 64, "1]=");
-    let index = outside.expect(&rt, "an index");
-    ends(
-        &rt,
-        alloc,
-        "mpd 1;ranks 1;print ",
-        "-",
-        65,
-        "1;",
-        too_deep(84),
-    );
-    ends(&rt, alloc, inside, "-", 64, "1];", too_deep(94));
-    ends(&rt, alloc, index.as_str(), "-", 64, "1;", Ok(()));
-    ends(&rt, alloc, "mpd 1;ranks 1;var x;", "x=1;", 4096, "", Ok(()));
-    ends(
-        &rt,
-        alloc,
-        "mpd 1;ranks 1;var x;",
-        "x=1;",
-        4097,
-        "",
-        too_many,
-    );
-    ends(
-        &rt,
-        alloc,
-        "mpd 1;ranks 1;var a[1024];",
-        "var e[0];",
-        1,
-        "",
-        Ok(()),
-    );
-    ends(
-        &rt,
-        alloc,
-        "mpd 1;ranks 1;var a[2];",
-        "while 1 {",
-        65,
-        "",
-        too_deep(607),
-    );
+    for (what, pieces, refusal, written) in AT_LIMITS {
+        ends(&rt, rt.alloc(), what, pieces, *refusal, written);
+    }
 }
+
+/// A loop that ends after five steps.
+const LOOPED: &[u8] =
+    b"mpd 1; ranks 1; var i;\nwhile i < 2 { i = i + 1; }\n---\nlocal 0\nlocal 0\nlocal 0\nlocal 0\nlocal 0\nlocal 0\nback\nback\nshow\n";
+
+const LOOPED_ANSWERS: &str =
+    "ok 1\nok 2\nok 3\nok 4\nok 5\nrefused not-enabled\nok 4\nok 3\ndepth 3 of 5\nrank 0 at 2\nvars 1\nhandles\nout\nend\n";
+
+/// Assignments to a variable and to an array, at an index that the array holds.
+const ARRAYS: &[u8] =
+    b"mpd 1; ranks 1; var a[3]; var b;\na[a[0] + 1] = 5;\nb = a[1] * 2;\na[2] = b;\n---\nlocal 0\nlocal 0\nlocal 0\nshow\nback\nback\nshow\n";
+
+const ARRAYS_ANSWERS: &str =
+    "ok 1\nok 2\nok 3\ndepth 3 of 3\nrank 0 ended\nvars 0 5 10 10\nhandles\nout\noutcome done\nend\nok 2\nok 1\ndepth 1 of 3\nrank 0 at 3\nvars 0 5 0 0\nhandles\nout\nend\n";
 
 #[test]
 fn loops_and_writes_arrays(rt: HostRuntime) {
     let alloc = rt.alloc();
-    let looped: &[u8] =
-        b"mpd 1; ranks 1; var i;\nwhile i < 2 { i = i + 1; }\n---\nlocal 0\nlocal 0\nlocal 0\nlocal 0\nlocal 0\nlocal 0\nback\nback\nshow\n";
-    answers(
-        &rt,
-        alloc,
-        looped,
-        Ok(()),
-        "ok 1\nok 2\nok 3\nok 4\nok 5\nrefused not-enabled\nok 4\nok 3\ndepth 3 of 5\nrank 0 at 2\nvars 1\nhandles\nout\nend\n",
-    );
-    let arrays: &[u8] =
-        b"mpd 1; ranks 1; var a[3]; var b;\na[a[0] + 1] = 5;\nb = a[1] * 2;\na[2] = b;\n---\nlocal 0\nlocal 0\nlocal 0\nshow\nback\nback\nshow\n";
-    answers(
-        &rt,
-        alloc,
-        arrays,
-        Ok(()),
-        "ok 1\nok 2\nok 3\ndepth 3 of 3\nrank 0 ended\nvars 0 5 10 10\nhandles\nout\noutcome done\nend\nok 2\nok 1\ndepth 1 of 3\nrank 0 at 3\nvars 0 5 0 0\nhandles\nout\nend\n",
-    );
+    answers(&rt, alloc, "a loop", LOOPED, None, LOOPED_ANSWERS);
+    answers(&rt, alloc, "arrays", ARRAYS, None, ARRAYS_ANSWERS);
 }

@@ -1,12 +1,13 @@
 //! When answers are written: what no clause says of a source and a sink together.
 
-use crate::helpers::repeated;
+use crate::helpers::{repeated, same};
 use mpd_device::device::{FromReader, ToWriter};
 use mpd_trace::plain::plain;
 use std::alloc::Global;
 use std::cell::Cell;
 use std::io;
 use std::io::{ErrorKind, Read, Write};
+use std::process::Abort;
 
 /// The bytes that were written so far, the most in one write, and the reads that found other than was to be written before.
 #[derive(Drop)]
@@ -83,8 +84,15 @@ impl<'a> Write for Counting<'a> {
     }
 }
 
-/// Traces the pieces, with every other call of a device interrupted.
-fn trace_pieces(alloc: Global, order: &Order, pieces: &[(usize, &[u8])]) -> bool {
+/// Asserts that so many bytes are written of what the pieces trace, each read at its time; every other call of a device is
+/// interrupted.
+fn traces_pieces(
+    rt: &impl Abort,
+    alloc: Global,
+    order: &Order,
+    pieces: &[(usize, &[u8])],
+    written: usize,
+) {
     let mut source = FromReader::new(Pieces {
         order,
         pieces,
@@ -94,36 +102,35 @@ fn trace_pieces(alloc: Global, order: &Order, pieces: &[(usize, &[u8])]) -> bool
         order,
         is_interrupted: false,
     });
-    plain(alloc, &mut source, &mut sink).is_ok()
+    let end = plain(alloc, &mut source, &mut sink);
+    same(rt, "the end", end, Ok(()));
+    same(rt, "early or late reads", order.wrong.get(), 0);
+    same(rt, "bytes written", order.written.get(), written);
 }
+
+/// What is read, with how many bytes are to be written before.
+const IN_TURN: &[(usize, &[u8])] = &[
+    (0, b"mpd 1;ranks 1;print 7;\n---\nlocal 0\n"),
+    (5, b"back\nlo"),
+    (10, b"cal 0\n"),
+    (15, b"local 0"),
+    (15, b"\nback"),
+    (35, b""),
+];
 
 #[test]
 fn answers_are_written_before_the_next_read(rt: HostRuntime) {
     let order = Order::new();
-    let pieces: [(usize, &[u8]); 6] = [
-        (0, b"mpd 1;ranks 1;print 7;\n---\nlocal 0\n"),
-        (5, b"back\nlo"),
-        (10, b"cal 0\n"),
-        (15, b"local 0"),
-        (15, b"\nback"),
-        (35, b""),
-    ];
-    assert!(rt; trace_pieces(rt.alloc(), &order, &pieces));
-    assert_eq!(rt; order.wrong.get(), 0);
-    assert_eq!(rt; order.reads.get(), 6);
-    assert_eq!(rt; order.written.get(), 40);
+    traces_pieces(&rt, rt.alloc(), &order, IN_TURN, 40);
+    same(&rt, "reads", order.reads.get(), 6);
 }
 
 #[test]
 fn much_is_written_before_all_is_gathered(rt: HostRuntime) {
-    let alloc = rt.alloc();
     let order = Order::new();
-    let words = repeated(alloc, "", "show\n", 800, "").expect(&rt, "the words");
+    let words = repeated(&rt, rt.alloc(), &[("show\n", 800)]);
     let script: &[u8] = b"mpd 1;ranks 1;var a[40];print 7;\n---\n";
     let pieces: [(usize, &[u8]); 2] = [(0, script), (0, words.as_bytes())];
-    assert!(rt; trace_pieces(alloc, &order, &pieces));
-    assert_eq!(rt; order.wrong.get(), 0);
-    let written = order.written.get();
-    assert_eq!(rt; written, 800 * 126);
-    assert!(rt; order.most.get() < 65_536 + 126);
+    traces_pieces(&rt, rt.alloc(), &order, &pieces, 800 * 126);
+    same(&rt, "the most", order.most.get() < 65_536 + 126, true);
 }

@@ -1,10 +1,10 @@
 //! Rows of inputs and devices: what no clause says.
 
 use crate::helpers::{
-    EngineFault, FIRST, PlainFault, answers, lowered, plain, refused, repeated, trace,
+    EngineFault, FIRST, PlainFault, Refusal, answers, ended, lowered, run, same, trace,
 };
 use mpd_code::code::Code;
-use mpd_device::device::{FromReader, ToWriter};
+use mpd_device::device::{FromReader, Source, ToWriter};
 use mpd_device::failing::{FailingSink, FailingSource, Limit};
 use mpd_model::call::Mode;
 use mpd_model::read_fault::FaultCode;
@@ -13,46 +13,42 @@ use std::io::Read;
 use std::process::Abort;
 use std::{cmp, io};
 
-#[test]
-fn divides_an_input(rt: HostRuntime) {
-    let alloc = rt.alloc();
-    let traced: &[u8] = b"mpd 1;ranks 1;print 7;\n---\nlocal 0\nback\n---\nlocal 0";
-    answers(
-        &rt,
-        alloc,
-        traced,
-        Ok(()),
+/// Inputs, why and where their script is refused, if it is, and what is written.
+const INPUTS: &[(&str, Option<Refusal>, &str)] = &[
+    (
+        "mpd 1;ranks 1;print 7;\n---\nlocal 0\nback\n---\nlocal 0",
+        None,
         "ok 1\nok 0\nrefused bad-word\nok 1\n",
-    );
-    let returns: &[u8] = b"mpd 1;ranks 1;print 7;\r\n---\r\nlocal 0\r\n";
-    answers(&rt, alloc, returns, Ok(()), "ok 1\n");
-    answers(&rt, alloc, b"mpd 1;ranks 1;print 7;", Ok(()), "");
-    let expected = FaultCode::Expected;
-    answers(
-        &rt,
-        alloc,
-        b"mpd 1;ranks 1;print",
-        refused(expected, 19, 1),
+    ),
+    (
+        "mpd 1;ranks 1;print 7;\r\n---\r\nlocal 0\r\n",
+        None,
+        "ok 1\n",
+    ),
+    ("mpd 1;ranks 1;print 7;", None, ""),
+    (
+        "mpd 1;ranks 1;print",
+        Some((FaultCode::Expected, 19, 1)),
         "",
-    );
-    answers(
-        &rt,
-        alloc,
-        b"mpd 1;ranks 1;print\n---",
-        refused(expected, 20, 2),
+    ),
+    (
+        "mpd 1;ranks 1;print\n---",
+        Some((FaultCode::Expected, 20, 2)),
         "",
-    );
-    answers(&rt, alloc, b"---\nlocal 0\n", refused(expected, 0, 1), "");
-    let blank: &[u8] = b"mpd 1;ranks 1;print 7;\n --- \nlocal 0\n";
-    answers(&rt, alloc, blank, refused(expected, 24, 2), "");
-}
+    ),
+    ("---\nlocal 0\n", Some((FaultCode::Expected, 0, 1)), ""),
+    (
+        "mpd 1;ranks 1;print 7;\n --- \nlocal 0\n",
+        Some((FaultCode::Expected, 24, 2)),
+        "",
+    ),
+];
 
 #[test]
-fn reads_a_script_of_65_536_bytes(rt: HostRuntime) {
-    let alloc = rt.alloc();
-    let script = "mpd 1;ranks 1;print 7;";
-    let input = repeated(alloc, script, " ", 65_513, "\n---\nlocal 0\n").expect(&rt, "the input");
-    answers(&rt, alloc, input.as_bytes(), Ok(()), "ok 1\n");
+fn divides_an_input(rt: HostRuntime) {
+    for (input, refusal, written) in INPUTS {
+        answers(&rt, rt.alloc(), input, input.as_bytes(), *refusal, written);
+    }
 }
 
 /// A reader of spaces without an end.
@@ -66,24 +62,20 @@ impl Read for Spaces {
     }
 }
 
-/// How an endless script ends, and what is written, where reading fails after so many calls.
-fn endless(alloc: Global, calls: u64) -> (Result<(), PlainFault>, Vec<u8>) {
+/// Asserts how an endless script ends where reading fails after so many calls; nothing is written.
+fn ends_endless(rt: &impl Abort, alloc: Global, calls: u64, wanted: Result<(), PlainFault>) {
     let mut source = FailingSource::new(FromReader::new(Spaces), Limit::Calls(calls));
-    let mut sink = ToWriter::new(Vec::new(alloc));
-    let ended = plain(alloc, &mut source, &mut sink);
-    (ended, sink.into_writer())
+    let (end, written) = run(alloc, &mut source);
+    same(rt, "the end", end, wanted);
+    same(rt, "nothing", written.is_empty(), true);
 }
 
 #[test]
 fn refuses_an_endless_script_at_once(rt: HostRuntime) {
-    for (calls, wanted) in [
-        (16u64, Err(PlainFault::Engine(EngineFault::ReadFailed))),
-        (17u64, refused(FaultCode::TooLong, 65_536, 1)),
-    ] {
-        let (ended, written) = endless(rt.alloc(), calls);
-        assert_eq!(rt; ended, wanted);
-        assert!(rt; written.is_empty());
-    }
+    let failed = Err(PlainFault::Engine(EngineFault::ReadFailed));
+    ends_endless(&rt, rt.alloc(), 16, failed);
+    let too_long = ended(Some((FaultCode::TooLong, 65_536, 1)));
+    ends_endless(&rt, rt.alloc(), 17, too_long);
 }
 
 /// A reader that gives one line feed for each read, and never ends.
@@ -102,15 +94,36 @@ impl Read for Feeds {
     }
 }
 
+/// Asserts how a trace of some code ends, and what is written.
+fn traces<S: Source>(
+    rt: &impl Abort,
+    alloc: Global,
+    code: &Code,
+    mode: Mode,
+    source: &mut S,
+    ended: Result<(), EngineFault>,
+    written: &[u8],
+) {
+    let mut sink = ToWriter::new(Vec::new(alloc));
+    let end = trace(alloc, code, mode, source, &mut sink);
+    same(rt, "the end", end, ended);
+    same(rt, "the answers", sink.into_writer().as_slice(), written);
+}
+
 #[test]
 fn ends_after_a_million_reads(rt: HostRuntime) {
-    let alloc = rt.alloc();
-    let code = lowered(&rt, alloc, FIRST);
+    let code = lowered(&rt, rt.alloc(), FIRST);
     let mut source = FromReader::new(Feeds);
-    let mut sink = ToWriter::new(Vec::new(alloc));
-    let ended = trace(alloc, &code, Mode::Rendezvous, &mut source, &mut sink);
-    assert_eq!(rt; ended, Err(EngineFault::TooManyTurns));
-    assert!(rt; sink.into_writer().is_empty());
+    let ended = Err(EngineFault::TooManyTurns);
+    traces(
+        &rt,
+        rt.alloc(),
+        &code,
+        Mode::Rendezvous,
+        &mut source,
+        ended,
+        b"",
+    );
 }
 
 /// A send that is buffered, and left over.
@@ -119,16 +132,22 @@ const BUFFERED: &[u8] = b"mpd 1; ranks 2; if rank { } else { send 7 to 1 tag 0; 
 const BUFFERED_ANSWERS: &[u8] =
     b"ok 1\nok 2\nok 3\nok 4\ndepth 4 of 4\nrank 0 ended\nvars\nhandles\nout\ncall 0.0 send to 1 tag 0 value 7 free\nrank 1 ended\nvars\nhandles\nout\npending 0 to 1: 0\nset woke 0.0\noutcome leftovers 0.0\nend\nok 3\n";
 
+/// Its words.
+const BUFFERED_WORDS: &[u8] = b"local 0\nlocal 0\nwake 0\nlocal 1\nshow\nback\n";
+
 #[test]
 fn traces_with_buffered_sends(rt: HostRuntime) {
-    let alloc = rt.alloc();
-    let code = lowered(&rt, alloc, BUFFERED);
-    let words: &[u8] = b"local 0\nlocal 0\nwake 0\nlocal 1\nshow\nback\n";
-    let mut source = FromReader::new(words);
-    let mut sink = ToWriter::new(Vec::new(alloc));
-    let ended = trace(alloc, &code, Mode::Buffered, &mut source, &mut sink);
-    assert_eq!(rt; ended, Ok(()));
-    assert_eq!(rt; sink.into_writer().as_slice(), BUFFERED_ANSWERS);
+    let code = lowered(&rt, rt.alloc(), BUFFERED);
+    let mut source = FromReader::new(BUFFERED_WORDS);
+    traces(
+        &rt,
+        rt.alloc(),
+        &code,
+        Mode::Buffered,
+        &mut source,
+        Ok(()),
+        BUFFERED_ANSWERS,
+    );
 }
 
 /// The words of a session.
@@ -190,8 +209,8 @@ fn writes(
 ) {
     let (end, written) = session(alloc, code, reading, writing);
     let (wanted, _) = ANSWERS.split_at(cmp::min(count, ANSWERS.len()));
-    assert_eq!(rt; end, ended);
-    assert_eq!(rt; written.as_slice(), wanted);
+    same(rt, "the end", end, ended);
+    same(rt, "the answers", written.as_slice(), wanted);
 }
 
 #[test]

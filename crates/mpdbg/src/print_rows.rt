@@ -1,10 +1,10 @@
 //! Rows of the canonical text, worked out by hand from docs/LANGUAGE.md: what is printed of what was read, and that it is read
 //! as the same again.
 
-use crate::helpers::{FIRST, joined, repeated};
+use crate::helpers::{FIRST, Piece, joined, repeated, same};
 use mpd_model::read_fault::{FaultCode, ReadFault};
 use mpd_script::{print, read};
-use std::alloc::{AllocError, Global};
+use std::alloc::Global;
 use std::process::Abort;
 
 /// Texts, and their canonical texts behind `mpd 1;`, `ranks 1;` and `var x;`, `var a[2];`.
@@ -42,7 +42,7 @@ const ROWS: &[(&str, &str)] = &[
 fn printed(rt: &impl Abort, alloc: Global, text: &[u8], wanted: &str) -> String {
     let script = read(alloc, text).expect(rt, "a script");
     let printed = print(alloc, &script).expect(rt, "its text");
-    assert_eq!(rt; printed.as_str(), wanted);
+    same(rt, "the canonical text", printed.as_str(), wanted);
     printed
 }
 
@@ -62,40 +62,44 @@ fn prints_the_first_script(rt: HostRuntime) {
     );
 }
 
+/// The same of a text behind declarations, and of its canonical text behind theirs.
+fn prints_behind(rt: &impl Abort, alloc: Global, text: &str, canonical: &str) {
+    let input = joined(rt, alloc, &["mpd 01;ranks 1;var x;var a[2];", text]);
+    let wanted = joined(
+        rt,
+        alloc,
+        &["mpd 1;\nranks 1;\nvar x;\nvar a[2];\n", canonical],
+    );
+    prints(rt, alloc, input.as_bytes(), wanted.as_str());
+}
+
 #[test]
 fn prints_what_is_needed(rt: HostRuntime) {
-    let alloc = rt.alloc();
     for (text, canonical) in ROWS {
-        let input = joined(alloc, &["mpd 01;ranks 1;var x;var a[2];", text]).expect(
-            &rt,
-            "the input",
-        );
-        let wanted = joined(alloc, &["mpd 1;\nranks 1;\nvar x;\nvar a[2];\n", canonical]).expect(
-            &rt,
-            "its canonical text",
-        );
-        prints(&rt, alloc, input.as_bytes(), wanted.as_str());
+        prints_behind(&rt, rt.alloc(), text, canonical);
     }
 }
 
 /// A thousand statements in 64 blocks.
-fn deep(alloc: Global) -> Result<String, AllocError> {
-    let open = repeated(alloc, "mpd 1;ranks 1;", "if 1{", 64, "")?;
-    let inside = repeated(alloc, open.as_str(), "print 1;", 1_000, "")?;
-    repeated(alloc, inside.as_str(), "}", 64, "")
-}
+const DEEP: &[Piece] = &[
+    ("mpd 1;ranks 1;", 1),
+    ("if 1{", 64),
+    ("print 1;", 1_000),
+    ("}", 64),
+];
 
 #[test]
 fn prints_more_than_can_be_read(rt: HostRuntime) {
     let alloc = rt.alloc();
-    let text = deep(alloc).expect(&rt, "the text");
+    let text = repeated(&rt, alloc, DEEP);
     let script = read(alloc, text.as_bytes()).expect(&rt, "a script");
     let printed = print(alloc, &script).expect(&rt, "its text");
     // 16 bytes of header, 1,000 lines of 128 + 9, and for each depth d below 64 lines of 2 d + 7 and 2 d + 2
-    assert_eq!(rt; printed.len(), 145_656);
+    same(&rt, "its length", printed.len(), 145_656);
     let too_long = ReadFault {
         code: FaultCode::TooLong,
         place: 65_536,
     };
-    assert_eq!(rt; read(alloc, printed.as_bytes()).err(), Some(too_long));
+    let fault = read(alloc, printed.as_bytes()).err();
+    same(&rt, "its fault", fault, Some(too_long));
 }

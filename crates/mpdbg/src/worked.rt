@@ -1,6 +1,6 @@
 //! Worked rows that only a direct call shows: what no clause says, each public call with ample memory.
 
-use crate::helpers::{FIRST, lowered};
+use crate::helpers::{FIRST, lowered, same};
 use mpd_code::code::Code;
 use mpd_core::state::Core;
 use mpd_model::call::{Mode, Trap};
@@ -8,11 +8,9 @@ use mpd_model::outcome::{CallList, Outcome, TrapList, TrappedRank};
 use mpd_model::step::{CallId, Step};
 use mpd_model::text::print_outcome;
 use mpd_model::words::step_of;
-use mpd_trail::debugger::Debugger;
 use mpd_trail::run::{Command, Reply, replay};
 use std::alloc::{AllocError, Global};
 use std::process::Abort;
-use std::{cmp, io};
 
 /// The only send of the first script.
 const SEND: CallId = CallId { rank: 0, index: 0 };
@@ -52,23 +50,19 @@ const REPLIES: &[Reply] = &[
     Reply::NotEnabled,
 ];
 
-/// The debugger of some code after commands, and the replies.
-fn replayed<'c>(
-    rt: &impl Abort,
-    alloc: Global,
-    code: &'c Code,
-    commands: &[Command],
-) -> (Debugger<'c>, Vec<Reply>) {
-    replay(alloc, code, Mode::Rendezvous, commands).expect(rt, "the replies")
+/// Asserts what the commands are answered, and how many steps stand behind them.
+fn replies_so(rt: &impl Abort, alloc: Global, code: &Code) {
+    let replayed = replay(alloc, code, Mode::Rendezvous, COMMANDS);
+    let (debugger, replies) = replayed.expect(rt, "the replies");
+    same(rt, "the replies", replies.as_slice(), REPLIES);
+    same(rt, "the depth", debugger.depth(), 6);
+    same(rt, "the steps", debugger.steps().len(), 6);
 }
 
 #[test]
 fn replies_and_undoes(rt: HostRuntime) {
     let code = lowered(&rt, rt.alloc(), FIRST);
-    let (debugger, replies) = replayed(&rt, rt.alloc(), &code, COMMANDS);
-    assert_eq!(rt; replies.as_slice(), REPLIES);
-    assert_eq!(rt; debugger.depth(), 6);
-    assert_eq!(rt; debugger.steps().len(), 6);
+    replies_so(&rt, rt.alloc(), &code);
 }
 
 /// The steps of the first script up to its only output.
@@ -81,15 +75,10 @@ const TO_THE_OUTPUT: &[Step] = &[
     Step::Wake(1),
 ];
 
-/// Takes a step, and answers whether it could be taken.
-fn takes(core: &mut Core<'_>, step: Step) -> bool {
-    core.apply(step).is_ok()
-}
-
 /// Asserts that a text was made, and what it is.
 fn is_text(rt: &impl Abort, made: Result<String, AllocError>, wanted: &str) {
     let text = made.expect(rt, "the text");
-    assert_eq!(rt; text.as_str(), wanted);
+    same(rt, wanted, text.as_str(), wanted);
 }
 
 fn prints_a_call(rt: &impl Abort, core: &Core<'_>, call: CallId, wanted: &str) {
@@ -107,19 +96,57 @@ fn prints_a_set(rt: &impl Abort, core: &Core<'_>, place: usize, wanted: &str) {
     is_text(rt, core.set_text(place), wanted);
 }
 
+/// Asserts that a step is enabled, and takes it.
+fn takes(rt: &impl Abort, core: &mut Core<'_>, step: Step) {
+    same(rt, "enabled", core.is_enabled(step), true);
+    same(rt, "taken", core.apply(step).is_ok(), true);
+}
+
+/// Asserts that the steps are enabled one after the other, and takes them.
+fn takes_all(rt: &impl Abort, core: &mut Core<'_>, steps: &[Step]) {
+    for step in steps {
+        takes(rt, core, *step);
+    }
+}
+
+/// The state of some code behind steps that are enabled one after the other.
+fn reached<'c>(
+    rt: &impl Abort,
+    alloc: Global,
+    code: &'c Code,
+    mode: Mode,
+    steps: &[Step],
+) -> Core<'c> {
+    let mut core = Core::start(alloc, code, mode).expect(rt, "the first state");
+    takes_all(rt, &mut core, steps);
+    core
+}
+
+/// Asserts the outcome of a state, if it has one.
+fn has_outcome(rt: &impl Abort, alloc: Global, core: &Core<'_>, wanted: Option<&str>) {
+    let outcome = core.outcome(alloc).expect(rt, "an outcome, or none");
+    same(rt, "an outcome", outcome.is_some(), wanted.is_some());
+    if let Some(outcome) = &outcome {
+        is_text(rt, print_outcome(alloc, outcome), wanted.unwrap_or(""));
+    }
+}
+
+fn prints_the_output(rt: &impl Abort, core: &Core<'_>) {
+    same(rt, "ranks", core.rank_count(), 2);
+    prints_a_call(rt, core, SEND, "send to 1 tag 0 value 7 with 1.0");
+    prints_a_call(rt, core, RECV, "recv from 0 tag 0 with 0.0 value 7");
+    prints_a_rank(rt, core, 0, "blocked 0");
+    prints_a_rank(rt, core, 1, "at 4");
+    prints_a_set(rt, core, 0, "pair 0.0 1.0");
+    prints_a_set(rt, core, 1, "woke 1.0");
+}
+
 #[test]
 fn prints_states(rt: HostRuntime) {
     let alloc = rt.alloc();
     let code = lowered(&rt, alloc, FIRST);
-    let mut core = Core::start(alloc, &code, Mode::Rendezvous).expect(&rt, "the first state");
-    assert_eq!(rt; core.rank_count(), 2);
-    takes_all(&rt, &mut core, TO_THE_OUTPUT);
-    prints_a_call(&rt, &core, SEND, "send to 1 tag 0 value 7 with 1.0");
-    prints_a_call(&rt, &core, RECV, "recv from 0 tag 0 with 0.0 value 7");
-    prints_a_rank(&rt, &core, 0, "blocked 0");
-    prints_a_rank(&rt, &core, 1, "at 4");
-    prints_a_set(&rt, &core, 0, "pair 0.0 1.0");
-    prints_a_set(&rt, &core, 1, "woke 1.0");
+    let core = reached(&rt, alloc, &code, Mode::Rendezvous, TO_THE_OUTPUT);
+    prints_the_output(&rt, &core);
     has_outcome(&rt, alloc, &core, None);
 }
 
@@ -185,23 +212,6 @@ const ENDINGS: &[Ending] = &[
     ),
 ];
 
-/// Asserts the outcome of a state, if it has one.
-fn has_outcome(rt: &impl Abort, alloc: Global, core: &Core<'_>, wanted: Option<&str>) {
-    let outcome = core.outcome(alloc).expect(rt, "an outcome, or none");
-    match (outcome, wanted) {
-        (Some(outcome), Some(wanted)) => is_text(rt, print_outcome(alloc, &outcome), wanted),
-        (outcome, wanted) => assert_eq!(rt; outcome.is_some(), wanted.is_some()),
-    }
-}
-
-/// Asserts that the steps are enabled one after the other, and takes them.
-fn takes_all(rt: &impl Abort, core: &mut Core<'_>, steps: &[Step]) {
-    for step in steps {
-        assert!(rt; core.is_enabled(*step));
-        assert!(rt; takes(core, *step));
-    }
-}
-
 fn ends_so(
     rt: &impl Abort,
     alloc: Global,
@@ -211,8 +221,7 @@ fn ends_so(
     outcome: Option<&str>,
 ) {
     let code = lowered(rt, alloc, text.as_bytes());
-    let mut core = Core::start(alloc, &code, mode).expect(rt, "the first state");
-    takes_all(rt, &mut core, steps);
+    let core = reached(rt, alloc, &code, mode, steps);
     has_outcome(rt, alloc, &core, outcome);
 }
 
@@ -240,58 +249,63 @@ const ISSUED: &[Step] = &[
     Step::Local(1),
 ];
 
+fn takes_the_first(rt: &impl Abort, core: &mut Core<'_>) {
+    let second = Step::Match(SECOND, RECV);
+    same(rt, "behind another", core.is_enabled(second), false);
+    let third = Step::Match(CallId { rank: 0, index: 2 }, RECV);
+    same(rt, "another tag", core.is_enabled(third), false);
+    prints_a_call(rt, core, SECOND, "send to 1 tag 0 value 2 free");
+    prints_a_call(rt, core, RECV, "recv from 0 tag 0 free");
+    prints_a_rank(rt, core, 0, "ended");
+    prints_a_rank(rt, core, 1, "blocked 0");
+    takes_all(rt, core, &[Step::Match(SEND, RECV), Step::Wake(1)]);
+}
+
 #[test]
 fn keeps_sends_in_order(rt: HostRuntime) {
-    let code = lowered(&rt, rt.alloc(), IN_ORDER.as_bytes());
-    let mut core = Core::start(rt.alloc(), &code, Mode::Buffered).expect(&rt, "the first state");
-    takes_all(&rt, &mut core, ISSUED);
-    let third = CallId { rank: 0, index: 2 };
-    assert!(rt;
-        !core.is_enabled(Step::Match(SECOND, RECV)),
-        "an earlier send"
-    );
-    assert!(rt; !core.is_enabled(Step::Match(third, RECV)), "another tag");
-    prints_a_call(&rt, &core, SECOND, "send to 1 tag 0 value 2 free");
-    prints_a_call(&rt, &core, RECV, "recv from 0 tag 0 free");
-    prints_a_rank(&rt, &core, 0, "ended");
-    prints_a_rank(&rt, &core, 1, "blocked 0");
-    takes_all(&rt, &mut core, &[Step::Match(SEND, RECV), Step::Wake(1)]);
-    has_outcome(&rt, rt.alloc(), &core, Some("leftovers 0.1 0.2"));
+    let alloc = rt.alloc();
+    let code = lowered(&rt, alloc, IN_ORDER.as_bytes());
+    let mut core = reached(&rt, alloc, &code, Mode::Buffered, ISSUED);
+    takes_the_first(&rt, &mut core);
+    has_outcome(&rt, alloc, &core, Some("leftovers 0.1 0.2"));
 }
 
 fn prints(rt: &impl Abort, alloc: Global, outcome: Outcome, wanted: &str) {
     is_text(rt, print_outcome(alloc, &outcome), wanted);
 }
 
-fn list_of(alloc: Global, calls: &[CallId]) -> Result<CallList, AllocError> {
-    Ok(CallList {
-        items: calls.to_vec(alloc)?,
-    })
+fn list_of(rt: &impl Abort, alloc: Global, calls: &[CallId]) -> CallList {
+    let items = calls.to_vec(alloc).expect(rt, "a list of calls");
+    CallList { items }
 }
 
-fn trapped(alloc: Global, ranks: &[TrappedRank]) -> Result<TrapList, AllocError> {
-    Ok(TrapList {
-        items: ranks.to_vec(alloc)?,
-    })
+fn trapped(rt: &impl Abort, alloc: Global, ranks: &[TrappedRank]) -> TrapList {
+    let items = ranks.to_vec(alloc).expect(rt, "a list of ranks");
+    TrapList { items }
 }
+
+/// Two ranks that trapped.
+const TRAPPED: &[TrappedRank] = &[
+    TrappedRank {
+        rank: 0,
+        trap: Trap::BadRank,
+    },
+    TrappedRank {
+        rank: 1,
+        trap: Trap::BadRank,
+    },
+];
 
 #[test]
 fn prints_outcomes(rt: HostRuntime) {
     let alloc = rt.alloc();
     prints(&rt, alloc, Outcome::Done, "done");
-    let blocked = list_of(alloc, &[CallId { rank: 0, index: 1 }, RECV]).expect(&rt, "two calls");
+    let blocked = list_of(&rt, alloc, &[CallId { rank: 0, index: 1 }, RECV]);
     prints(&rt, alloc, Outcome::Deadlock(blocked), "deadlock 0.1 1.0");
-    let free = list_of(alloc, &[SEND]).expect(&rt, "one call");
+    let free = list_of(&rt, alloc, &[SEND]);
     prints(&rt, alloc, Outcome::Leftovers(free), "leftovers 0.0");
-    let trap = Trap::BadRank;
-    let ranks = [TrappedRank { rank: 0, trap }, TrappedRank { rank: 1, trap }];
-    let traps = trapped(alloc, &ranks).expect(&rt, "two traps");
-    prints(
-        &rt,
-        alloc,
-        Outcome::Trap(traps),
-        "trap 0 bad-rank 1 bad-rank",
-    );
+    let traps = Outcome::Trap(trapped(&rt, alloc, TRAPPED));
+    prints(&rt, alloc, traps, "trap 0 bad-rank 1 bad-rank");
 }
 
 /// Words, with the step that they say, if they say one.
@@ -317,6 +331,6 @@ const STEPS: &[(&str, Option<Step>)] = &[
 #[test]
 fn reads_steps(rt: HostRuntime) {
     for (text, step) in STEPS {
-        assert_eq!(rt; step_of(text), *step, "{text}");
+        same(&rt, text, step_of(text), *step);
     }
 }
