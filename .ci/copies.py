@@ -3,10 +3,13 @@
 Two edits of one function can't stand in one text. Two copies of it can: each has the function's clauses, attributes and proof files,
 and one edit in its body. The function itself stays as it is, so that what calls it is proved as ever, and no goal waits for it.
 
-A copy could be refused for being a copy. So each function that has copies in a round has one more with no edit in it, and a
-refusal of the others counts only where that one is proved (`Beside.unproved`). What is not refused in a copy is tried again in the
-function itself, and so is what can't be copied: a method of a trait, a member of a cycle of calls, an edit that changes more than
-one function, or one that wants the refusal of a caller.
+A copy could be refused for being a copy. So some are made with no edit in them, the controls: one of each function that has proof
+files, since their names are turned too, and one in each type and module; or, at a word, one of each function. A refusal of a copy
+counts only where its control is proved (`Copies.fault`). What is not refused in a copy is tried again in the function itself.
+
+A copy of a member of a cycle of calls is outside of the cycle: it calls the members themselves, and owes no measure. What breaks
+the measure alone is so not refused in a copy. A method of a trait has no copies, nor has an edit that changes more than one
+function, or that wants the refusal of a caller.
 """
 import os
 import re
@@ -25,7 +28,7 @@ def head_around(text, begin, end):
 
 
 def end_of(text, head):
-    """Where the function with this head ends."""
+    """Where the function with this head ends; -1 where that isn't seen."""
     found = re.compile(rf'(?m)^{head[1]}\}}').search(text, head.end())
     return found.end() if found else -1
 
@@ -42,60 +45,89 @@ def start_of(text, head):
     return begin
 
 
+def outside_of_cycle(text, name):
+    """What a proof file of a cycle of calls says of this member, as it is said of a function in no cycle; None where it is nothing.
+
+    A name there has the member's in front of what it is outside, behind `invariant-` or `decreases-`, and an answer takes the
+    theorems of the cycle first.
+    """
+    uses, *said = text.split('\n\n')
+    own = [it for it in said if re.search(rf'(?m)^(?:abbrev )?pub (?:invariant-|decreases-)?{name}-\S+ :', it)]
+    own = [re.sub(rf'(?<![\w-])((?:invariant-|decreases-)?){name}-', r'\1', it) for it in own]
+    own = [re.sub(r'(?m)^(\S+) t c\b', r'\1 c', it) for it in own]
+    return '\n\n'.join([uses, *own]).rstrip() + '\n' if own else None
+
+
 class Original:
-    """A function that can be copied: where it stands, and its proof files."""
+    """A function that may be copied: where it stands, and its proof files."""
 
     def __init__(self, folder, file, text, head):
         self.folder, self.file, self.text = folder, file, text
-        self.name = head[3]
+        self.cycle, self.name = head[2], head[3]
         self.begin, self.end = start_of(text, head), end_of(text, head)
-        self.is_in_cycle = bool(head[2])
-        self.has_trait, self.owner = False, None
-        if head[1]:
-            found = [it for it in IMPL.finditer(text, 0, head.start())]
-            if found:
-                self.has_trait, self.owner = bool(found[-1][1]), found[-1][2]
+        self.is_free, self.owner = not head[1], None
+        above = list(IMPL.finditer(text, 0, head.start()))
+        if head[1] and above and '\n}' not in text[above[-1].end() : head.start()]:
+            self.owner = None if above[-1][1] else above[-1][2]
 
     def can_be_copied(self):
-        return not self.is_in_cycle and not self.has_trait
+        """Whether it stands in a module, or in a block of a type's own methods."""
+        return bool(self.is_free or self.owner)
 
     def source(self, name, begin=0, end=0, new=''):
         """Its text under this name, with what stands from `begin` to `end` of the file changed."""
         text = self.text[self.begin : self.end]
         if end:
             text = text[: begin - self.begin] + new + text[end - self.begin :]
+        if self.cycle:
+            text = re.sub(rf' *#\[cycle\({self.cycle}\)\]\n', '', text, count=1)
         return '\n\n' + re.sub(rf'\bfn {self.name}\b', f'fn {name}', text, count=1)
+
+    def has_folder(self, below):
+        """Whether its proof files, or those of its cycle, stand in this folder below the crate."""
+        last = f'+{self.cycle}' if self.cycle else self.name
+        if self.owner:
+            return below.endswith(f'/{self.owner}/{last}')
+        module = self.file.removeprefix('src/').removesuffix('.rt')
+        return below == f"proofs/{'' if module == 'lib' else f'{module}/'}{last}"
 
     def proofs(self, name):
         """Its proof files, for a copy of this name: of each the path below the crate, and the text."""
-        module = self.file.removeprefix('src/').removesuffix('.rt')
-        wanted = f'/{self.owner}/{self.name}' if self.owner else f"/{'' if module == 'lib' else f'{module}/'}{self.name}"
         found = {}
         for at, _, files in os.walk(f'{self.folder}/proofs'):
             below = at.removeprefix(f'{self.folder}/')
-            if not f'/{below}'.endswith(wanted) or not self.owner and below != f'proofs{wanted}':
+            if not self.has_folder(below):
                 continue
             copied = f'{os.path.dirname(below)}/{name}'
             was, now = (it.replace('/', '.') for it in (below, copied))
             for file in files:
                 with open(f'{at}/{file}', encoding='utf-8') as it:
-                    found[f'{copied}/{file}'] = it.read().replace(f'.{was}.', f'.{now}.')
+                    text = it.read().replace(f'.{was}.', f'.{now}.')
+                text = outside_of_cycle(text, self.name) if self.cycle else text
+                if text:
+                    found[f'{copied}/{file}'] = text
         return found
 
 
-class Beside:
-    """The copies of a round: the functions that have some, and what they add to the crate."""
+class Copies:
+    """The copies of a round, with what they add to the crate."""
 
-    def __init__(self):
-        self.added, self.files, self.counts, self.controls = {}, {}, {}, {}
+    def __init__(self, is_each=False):
+        self.is_each = is_each
+        self.added, self.files, self.counts = {}, {}, {}
+        # the control of each function that has one, and of each type and module
+        self.controls = {}
 
     def add(self, edit, original, region):
-        """A copy with this edit in it, and one as it is where the function has none; answers its path, as --only takes it."""
+        """A copy with this edit in it, and a control where it needs one; answers its path, as --only takes it."""
         at = original.file, original.end
-        if at not in self.counts:
-            self.counts[at] = 0
-            self.controls[edit.function] = self.place(edit, original, f'{original.name}_as_it_is')
-        self.counts[at] += 1
+        group = original.file, original.owner
+        self.counts[at] = self.counts.get(at, 0) + 1
+        if self.counts[at] == 1:
+            has_files = bool(original.proofs(original.name))
+            if self.is_each or has_files or group not in self.controls:
+                self.controls[at] = self.place(edit, original, f'{original.name}_as_it_is')
+                self.controls.setdefault(group, self.controls[at])
         return self.place(edit, original, f'{original.name}_turned_{self.counts[at]}', region)
 
     def place(self, edit, original, name, region=()):
@@ -111,10 +143,11 @@ class Beside:
             found.setdefault(file, []).append((end, end, text))
         return found
 
-    def unproved(self, told, function):
-        """Why the copy of this function that is as it is was not proved; None where it was."""
-        named = told.named(self.controls[function])
+    def fault(self, told, original):
+        """Why the control of this function was not proved; None where it was."""
+        control = self.controls.get((original.file, original.end)) or self.controls[original.file, original.owner]
+        named = told.named(control)
         if len(named) != 1:
-            return 'it was not checked'
+            return f'{control}: it was not checked'
         word = told.functions[named[0]][0]
-        return None if word == 'proved' else word
+        return None if word == 'proved' else f'{control}: {word}'

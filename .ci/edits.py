@@ -1,7 +1,7 @@
 #!/usr/bin/env python3
 """Tries the must-fail edits of the crates, as many in one check as can be.
 
-    .ci/edits.py [--jobs N] [--only EDIT] [--log FOLDER] [CRATE..]    at the top of the repository
+    .ci/edits.py [--jobs N] [--only EDIT] [--controls] [--log FOLDER] [CRATE..]    at the top of the repository
 
 A function is checked against the contracts of what it calls, so wrong bodies of different functions don't disturb one another:
 they are made in one copy of the crate, and one check tells of each function whether it is proved. That is a round. An edit is made
@@ -39,7 +39,7 @@ from concurrent.futures import FIRST_COMPLETED, ThreadPoolExecutor, wait
 sys.path.insert(0, os.path.dirname(os.path.abspath(__file__)))
 sys.dont_write_bytecode = True
 
-from copies import HEAD, Beside, Original, head_around
+from copies import HEAD, Copies, Original, head_around
 
 PARTS = ('src', 'specs', 'proofs')
 
@@ -319,8 +319,8 @@ def judge(edit, told):
 class Crate:
     """A crate whose edits are tried."""
 
-    def __init__(self, repository, name, only=None):
-        self.repository, self.name = repository, name
+    def __init__(self, repository, name, only=None, has_each_control=False):
+        self.repository, self.name, self.has_each_control = repository, name, has_each_control
         self.folder = repository.folder(name)
         self.edits, self.bad = [], []
         folder = f'{self.folder}/must-fail'
@@ -351,30 +351,32 @@ class Crate:
                 os.mkdir(kept)
             waiting, alone = list(self.edits), []
             while waiting or alone:
-                round = Round(waiting or alone[:1])
+                round = Round(waiting or alone[:1], self.has_each_control)
                 waiting = [it for it in waiting if it not in round.taken]
                 alone = [it for it in alone if it not in round.taken]
                 told = self.check(round, kept, log)
                 verdicts = self.judged(round, told)
-                is_last = len(round.taken) == 1 and not round.beside.added
+                is_last = len(round.taken) == 1 and not round.has_copies()
                 done += [it for it in verdicts if is_last or not it.is_open]
                 left = [it.edit for it in verdicts if it.is_open and not is_last]
-                if told.is_judged and (len(left) < len(round.taken) or round.beside.added):
+                if round.has_copies():
+                    # they are tried in the functions themselves
+                    for edit in left if told.is_judged else [it for it in left if it.is_blamed(told)] or left:
+                        edit.is_for_a_copy = False
+                    waiting += left
+                elif told.is_judged and len(left) < len(round.taken):
                     # what they wait for has been tried now
                     waiting += left
                 else:
-                    blamed = [it for it in left if it.is_blamed(told)] or [it for it in left if it in round.copied] or left
-                    alone += [it for it in blamed if it not in round.copied]
-                    waiting += [it for it in left if it not in alone]
-                for edit in left if told.is_judged else blamed:
-                    edit.is_for_a_copy = False
+                    blamed = [it for it in left if it.is_blamed(told)] or left
+                    alone += blamed
+                    waiting += [it for it in left if it not in blamed]
         return sorted(done, key=lambda it: it.edit.name)
 
     def check(self, round, kept, log):
-        only = sorted({it.judged for it in round.taken if it.judged} | set(round.beside.controls.values()))
-        self.rounds += 1
         texts = round.texts()
-        said, seconds = check(self.repository, self.name, texts, kept, only)
+        self.rounds += 1
+        said, seconds = check(self.repository, self.name, texts, kept, round.only())
         self.seconds += seconds
         told = Told(texts, said)
         if log:
@@ -390,27 +392,24 @@ class Crate:
             why = f'the edited text can not be read: {unread}'
         elif not told.is_judged:
             why = f'it did not reach the prover: {told.first_error()}'
-        changed = [it.changed() for it in round.taken if it not in round.copied]
-        if not why and None not in changed:
-            changed = {name for them in changed for name, _ in them}
-            changed |= {it.judged.rpartition('::')[2] for it in round.copied}
-            changed |= {it.rpartition('::')[2] for it in round.beside.controls.values()}
+        changed = round.changed()
+        if not why and changed is not None:
             other = next((it for it in told.functions if not changed & set(it.split('::')) and told.reasons(it)), None)
             if other:
                 why = f'{other} is refused too, which it does not change: {told.reasons(other)[0]}'
         if why:
             told.is_judged = False
             return [Verdict(it, False, f'BAD EDIT: {why}', is_open=True) for it in round.taken]
-        return [self.judge_copied(it, round, told) if it in round.copied else judge(it, told) for it in round.taken]
+        return [self.judge_copied(it, round, told) if round.has_copies() else judge(it, told) for it in round.taken]
 
     def judge_copied(self, edit, round, told):
-        """The verdict of an edit in a copy: it is open where it is not refused, or where the copy as it is was not proved."""
+        """The verdict of an edit in a copy: it is open where that is not refused, or where its control was not proved."""
         verdict = judge(edit, told)
-        unproved = round.beside.unproved(told, edit.function)
-        if unproved:
-            verdict = Verdict(edit, False, f'NOT REFUSED: a copy of {edit.function} as it is was not proved: {unproved}')
+        fault = round.copies.fault(told, round.originals[edit][0])
+        if fault:
+            verdict = Verdict(edit, False, f'NOT REFUSED: a copy as it is was not proved: {fault}')
         if not verdict.is_refused:
-            print(f'{self.name}: tried again in the function itself: {verdict}', flush=True)
+            print(f'tried again in the function itself: {verdict}', flush=True)
             verdict.is_open = True
         return verdict
 
@@ -432,41 +431,51 @@ def touches(regions, own):
 
 
 class Round:
-    """As many of these edits as can be tried in one check."""
+    """As many of these edits as can be tried in one check: those that go into copies first, and else those that can't."""
 
-    def __init__(self, edits):
+    def __init__(self, edits, has_each_control=False):
         self.folder = edits[0].folder
-        self.taken, self.copied = [], []
-        self.beside = Beside()
-        self.regions, self.busy = {}, set()
-        for edit in edits:
-            original = edit.is_for_a_copy and edit.original()
-            if original:
-                edit.judged = self.beside.add(edit, *original)
-                self.copied.append(edit)
-                self.taken.append(edit)
-            elif not self.add(edit):
-                break
+        self.copies = Copies(has_each_control)
+        self.originals = {it: it.original() for it in edits if it.is_for_a_copy}
+        self.taken = [it for it, found in self.originals.items() if found]
+        self.regions = {}
+        for edit in self.taken:
+            edit.judged = self.copies.add(edit, *self.originals[edit])
+        if not self.taken:
+            self.take_in_place(edits)
 
-    def add(self, edit):
-        """Makes an edit in the function itself, where no other is in its way; answers whether there is room for more."""
-        changed, own = edit.changed(), edit.regions()
-        is_busy = changed is None or self.busy & changed
-        if self.taken and is_busy or touches(self.regions, own):
-            return True
-        for file, region in own.items():
-            self.regions.setdefault(file, []).append(region)
-        edit.judged = edit.function
-        self.taken.append(edit)
-        self.busy |= changed or set()
-        return changed is not None
+    def take_in_place(self, edits):
+        """Makes edits in the functions themselves, where no other is in the way."""
+        busy = set()
+        for edit in edits:
+            changed, own = edit.changed(), edit.regions()
+            if self.taken and (changed is None or busy & changed) or touches(self.regions, own):
+                continue
+            for file, region in own.items():
+                self.regions.setdefault(file, []).append(region)
+            edit.judged = edit.function
+            self.taken.append(edit)
+            if changed is None:
+                break
+            busy |= changed
+
+    def has_copies(self):
+        return bool(self.copies.added)
+
+    def only(self):
+        """What the check is to check."""
+        return sorted({it.judged for it in self.taken if it.judged} | set(self.copies.controls.values()))
+
+    def changed(self):
+        """The names of the functions that differ from those of the crate; None where something else may."""
+        if self.has_copies():
+            return {it.rpartition('::')[2] for it in self.only()}
+        found = [it.changed() for it in self.taken]
+        return None if None in found else {name for them in found for name, _ in them}
 
     def texts(self):
         """The texts of the files with all of them made."""
-        regions = {file: list(them) for file, them in self.regions.items()}
-        for file, them in self.beside.regions().items():
-            regions.setdefault(file, []).extend(them)
-        return {**merged(self.folder, regions), **self.beside.files}
+        return {**merged(self.folder, self.copies.regions() if self.has_copies() else self.regions), **self.copies.files}
 
 
 def check(repository, crate, texts, kept, only):
@@ -556,13 +565,14 @@ def main():
     words.add_argument('--beside', nargs=2, metavar=('LOG', 'PROCESS'), help='rt ci still runs in that copy, and writes this log: a crate is tried once it is proved')
     words.add_argument('--jobs', type=int, default=2, metavar='N', help='how many checks at a time; one beside rt ci')
     words.add_argument('--only', metavar='EDIT', help='one edit, by the name of its file')
+    words.add_argument('--controls', action='store_true', help='a copy with no edit in it of each edited function, which must be proved')
     words.add_argument('--log', metavar='FOLDER', help='keep what each check said there')
     given = words.parse_args()
     repository = Repository(os.getcwd(), given.built)
     unknown = [it for it in given.crates if it not in repository.uses]
     if unknown:
         sys.exit(f'crates.txt names no {unknown[0]}')
-    crates = [Crate(repository, it, given.only) for it in given.crates or repository.uses]
+    crates = [Crate(repository, it, given.only, given.controls) for it in given.crates or repository.uses]
     crates = sorted((it for it in crates if it.edits or it.bad), key=lambda it: -it.size())
     if given.log:
         os.makedirs(given.log, exist_ok=True)
