@@ -48,14 +48,29 @@ def start_of(text, head):
 def outside_of_cycle(text, name):
     """What a proof file of a cycle of calls says of this member, as it is said of a function in no cycle; None where it is nothing.
 
-    A name there has the member's in front of what it is outside, behind `invariant-` or `decreases-`, and an answer takes the
-    theorems of the cycle first.
+    A name there has the member's in front of what it is outside, behind `invariant-` or `decreases-`; an answer takes the
+    theorems of the cycle first; and what a call of a member requires is a pair there, with the fall of the measure first.
     """
     uses, *said = text.split('\n\n')
     own = [it for it in said if re.search(rf'(?m)^(?:abbrev )?pub (?:invariant-|decreases-)?{name}-\S+ :', it)]
     own = [re.sub(rf'(?<![\w-])((?:invariant-|decreases-)?){name}-', r'\1', it) for it in own]
     own = [re.sub(r'(?m)^(\S+) t c\b', r'\1 c', it) for it in own]
+    own = [without_measure(it) if re.search(r'^pub \S+-requires\S* :', it, re.M) else it for it in own]
     return '\n\n'.join([uses, *own]).rstrip() + '\n' if own else None
+
+
+def without_measure(answer):
+    """The answer with the second part of the pair that is its last line, where that is a pair; else the answer."""
+    above, last = answer.rstrip().rsplit('\n', 1)
+    pair = last.strip()
+    if not (pair.startswith('(') and pair.endswith(')')):
+        return answer
+    depth = 0
+    for at, sign in enumerate(pair):
+        depth += (sign == '(') - (sign == ')')
+        if sign == ',' and depth == 1:
+            return f'{above}\n    {pair[at + 1 : -1].strip()}'
+    return answer
 
 
 class Original:
