@@ -1,12 +1,14 @@
 #!/usr/bin/env python3
 """Tries the must-fail edits of the crates, as many in one check as can be.
 
-    .ci/edits.py [--jobs N] [--only EDIT] [--log FOLDER] [CRATE..]    at the top of the repository
+    .ci/edits.py [--jobs N] [--only EDIT] [--controls] [--log FOLDER] [CRATE..]    at the top of the repository
 
 A function is checked against the contracts of what it calls, so wrong bodies of different functions don't disturb one another:
-they are made in one copy of the crate, and one check tells of each function whether it is proved. That is a round. Edits of one
-function, or of one cycle of calls, go to different rounds, and so do edits whose texts touch. What changes more than the bodies
-of functions, as a constant or a definition, has a round of its own.
+they are made in one copy of the crate, and one check tells of each function whether it is proved. That is a round. An edit is made
+in a copy of its function, which stands beside it (.ci/copies.py), so that the edits of one function are tried in one round.
+What can't be made in a copy, or isn't refused in it, is made in the function itself: there edits of one function, or of one
+cycle of calls, go to different rounds, and so do edits whose texts touch. What changes more than the bodies of functions, as a
+constant or a definition, has a round of its own.
 
 An edit's file has these lines (docs/GATE.md, "Edits"):
 
@@ -33,6 +35,11 @@ import sys
 import tempfile
 import time
 from concurrent.futures import FIRST_COMPLETED, ThreadPoolExecutor, wait
+
+sys.path.insert(0, os.path.dirname(os.path.abspath(__file__)))
+sys.dont_write_bytecode = True
+
+from copies import HEAD, Copies, Original, head_around
 
 PARTS = ('src', 'specs', 'proofs')
 
@@ -102,6 +109,9 @@ class Edit:
         self.name = f'{os.path.basename(folder)}/{os.path.basename(path)}'
         self.function = self.lemma = None
         self.pairs = []
+        self.is_for_a_copy = True
+        # what a round's check must refuse: the function, or a copy of it
+        self.judged = None
 
     def read(self):
         """Reads its file, and says where that is no edit."""
@@ -169,6 +179,20 @@ class Edit:
             found |= {(name, f'{file}:{line}') for name, line in around}
         return found
 
+    def original(self):
+        """The function that it changes, and where and how, where that is one which can be copied; else None."""
+        regions = self.regions()
+        file = next(iter(regions))
+        if len(regions) > 1 or not file.startswith('src/') or not self.function:
+            return None
+        text = text_of(f'{self.folder}/{file}')
+        begin, end, new = regions[file]
+        head = head_around(text, begin, end)
+        if not head or head[3] != self.function.rpartition('::')[2]:
+            return None
+        original = Original(self.folder, file, text, head)
+        return (original, (begin, end, new)) if original.can_be_copied() else None
+
     def is_blamed(self, told):
         """Whether an error of reading or compiling stands at what this edit wrote, or names its function."""
         for line in told.lines:
@@ -177,7 +201,7 @@ class Edit:
                 said = told.texts[at[1]].split('\n')[int(at[2]) - 1]
                 if any(file == at[1] and (new in said or said.strip() in new) for file, _, new in self.pairs if new.strip()):
                     return True
-            elif ': error' in line and f'`{self.function}`' in line:
+            elif ': error' in line and f'`{self.judged}`' in line:
                 return True
         return False
 
@@ -190,21 +214,12 @@ def text_of(file):
         raise BadEdit(f'{file}: {error.strerror}') from error
 
 
-# A function's head by the layout of rt fmt, with its cycle of calls, where it is in one.
-HEAD = re.compile(r'(?m)^( *)(?:#\[cycle\((\w+)\)\]\n(?:\1(?:#\[|///).*\n)*\1)?(?:pub(?:\([^)]*\))? )?(?:const )?fn (\w+)')
-
-
 def enclosing(text, begin, end):
     """The function around this piece, and those in one cycle of calls with it, each its name and line; none where it is in none."""
-    heads = [it for it in HEAD.finditer(text)]
-    above = [it for it in heads if it.start() <= begin]
-    if not above:
+    head = head_around(text, begin, end)
+    if not head:
         return set()
-    head = above[-1]
-    ends = re.compile(rf'(?m)^{head[1]}\}}').search(text, head.end())
-    if not ends or ends.start() < end:
-        return set()
-    found = [it for it in heads if it is head or head[2] and it[2] == head[2]]
+    found = [it for it in HEAD.finditer(text) if it.start() == head.start() or head[2] and it[2] == head[2]]
     return {(it[3], text[: it.end()].count('\n') + 1) for it in found}
 
 
@@ -282,9 +297,9 @@ def judge(edit, told):
             return Verdict(edit, False, f'NOT REFUSED: {edit.lemma} still holds')
         bad = next(filter(is_unread, errors), None)
         return Verdict(edit, False, f'BAD EDIT: {bad}') if bad else Verdict(edit, True, errors[0])
-    names = told.named(edit.function)
+    names = told.named(edit.judged)
     if len(names) != 1:
-        return Verdict(edit, False, f"BAD EDIT: {edit.function} names {'no function' if not names else ' and '.join(names)}")
+        return Verdict(edit, False, f"BAD EDIT: {edit.judged} names {'no function' if not names else ' and '.join(names)}")
     name, = names
     word = told.functions[name][0]
     own = told.reasons(name)
@@ -304,8 +319,8 @@ def judge(edit, told):
 class Crate:
     """A crate whose edits are tried."""
 
-    def __init__(self, repository, name, only=None):
-        self.repository, self.name = repository, name
+    def __init__(self, repository, name, only=None, has_each_control=False):
+        self.repository, self.name, self.has_each_control = repository, name, has_each_control
         self.folder = repository.folder(name)
         self.edits, self.bad = [], []
         folder = f'{self.folder}/must-fail'
@@ -336,15 +351,20 @@ class Crate:
                 os.mkdir(kept)
             waiting, alone = list(self.edits), []
             while waiting or alone:
-                taken, texts = first_round(waiting) if waiting else first_round(alone[:1])
-                waiting = [it for it in waiting if it not in taken]
-                alone = [it for it in alone if it not in taken]
-                told = self.check(texts, kept, taken, log)
-                verdicts = self.judged(taken, told)
-                is_last = len(taken) == 1
+                round = Round(waiting or alone[:1], self.has_each_control)
+                waiting = [it for it in waiting if it not in round.taken]
+                alone = [it for it in alone if it not in round.taken]
+                told = self.check(round, kept, log)
+                verdicts = self.judged(round, told)
+                is_last = len(round.taken) == 1 and not round.has_copies()
                 done += [it for it in verdicts if is_last or not it.is_open]
                 left = [it.edit for it in verdicts if it.is_open and not is_last]
-                if told.is_judged and len(left) < len(taken):
+                if round.has_copies():
+                    # they are tried in the functions themselves
+                    for edit in left if told.is_judged else [it for it in left if it.is_blamed(told)] or left:
+                        edit.is_for_a_copy = False
+                    waiting += left
+                elif told.is_judged and len(left) < len(round.taken):
                     # what they wait for has been tried now
                     waiting += left
                 else:
@@ -353,18 +373,18 @@ class Crate:
                     waiting += [it for it in left if it not in blamed]
         return sorted(done, key=lambda it: it.edit.name)
 
-    def check(self, texts, kept, taken, log):
-        only = sorted({it.function for it in taken if it.function})
+    def check(self, round, kept, log):
+        texts = round.texts()
         self.rounds += 1
-        said, seconds = check(self.repository, self.name, texts, kept, only)
+        said, seconds = check(self.repository, self.name, texts, kept, round.only())
         self.seconds += seconds
         told = Told(texts, said)
         if log:
             with open(f'{log}/{self.name}.{self.rounds}', 'w', encoding='utf-8') as it:
-                it.write('\n'.join([f'edit {edit.name}' for edit in taken] + told.lines))
+                it.write('\n'.join([f'edit {edit.name} in {edit.judged}' for edit in round.taken] + told.lines))
         return told
 
-    def judged(self, taken, told):
+    def judged(self, round, told):
         """The verdicts of a round's edits: all are open where it wasn't judged, or where it refused what no edit changes."""
         why = None
         unread = next(filter(is_unread, told.lines), None)
@@ -372,16 +392,26 @@ class Crate:
             why = f'the edited text can not be read: {unread}'
         elif not told.is_judged:
             why = f'it did not reach the prover: {told.first_error()}'
-        changed = [it.changed() for it in taken]
-        if not why and None not in changed:
-            changed = {name for them in changed for name, _ in them}
+        changed = round.changed()
+        if not why and changed is not None:
             other = next((it for it in told.functions if not changed & set(it.split('::')) and told.reasons(it)), None)
             if other:
                 why = f'{other} is refused too, which it does not change: {told.reasons(other)[0]}'
         if why:
             told.is_judged = False
-            return [Verdict(it, False, f'BAD EDIT: {why}', is_open=True) for it in taken]
-        return [judge(it, told) for it in taken]
+            return [Verdict(it, False, f'BAD EDIT: {why}', is_open=True) for it in round.taken]
+        return [self.judge_copied(it, round, told) if round.has_copies() else judge(it, told) for it in round.taken]
+
+    def judge_copied(self, edit, round, told):
+        """The verdict of an edit in a copy: it is open where that is not refused, or where its control was not proved."""
+        verdict = judge(edit, told)
+        fault = round.copies.fault(told, round.originals[edit][0])
+        if fault:
+            verdict = Verdict(edit, False, f'NOT REFUSED: a copy as it is was not proved: {fault}')
+        if not verdict.is_refused:
+            print(f'tried again in the function itself: {verdict}', flush=True)
+            verdict.is_open = True
+        return verdict
 
 
 def merged(folder, regions):
@@ -400,22 +430,52 @@ def touches(regions, own):
     return any(begin <= last and first <= end for file, (begin, end, _) in own.items() for first, last, _ in regions.get(file, []))
 
 
-def first_round(edits):
-    """As many of the edits as can be tried in one check, and the texts with all of them made."""
-    regions, busy, taken = {}, set(), []
-    for edit in edits:
-        changed, own = edit.changed(), edit.regions()
-        if taken and (changed is None or busy & changed):
-            continue
-        if touches(regions, own):
-            continue
-        for file, region in own.items():
-            regions.setdefault(file, []).append(region)
-        taken.append(edit)
-        if changed is None:
-            break
-        busy |= changed
-    return taken, merged(taken[0].folder, regions)
+class Round:
+    """As many of these edits as can be tried in one check: those that go into copies first, and else those that can't."""
+
+    def __init__(self, edits, has_each_control=False):
+        self.folder = edits[0].folder
+        self.copies = Copies(has_each_control)
+        self.originals = {it: it.original() for it in edits if it.is_for_a_copy}
+        self.taken = [it for it, found in self.originals.items() if found]
+        self.regions = {}
+        for edit in self.taken:
+            edit.judged = self.copies.add(edit, *self.originals[edit])
+        if not self.taken:
+            self.take_in_place(edits)
+
+    def take_in_place(self, edits):
+        """Makes edits in the functions themselves, where no other is in the way."""
+        busy = set()
+        for edit in edits:
+            changed, own = edit.changed(), edit.regions()
+            if self.taken and (changed is None or busy & changed) or touches(self.regions, own):
+                continue
+            for file, region in own.items():
+                self.regions.setdefault(file, []).append(region)
+            edit.judged = edit.function
+            self.taken.append(edit)
+            if changed is None:
+                break
+            busy |= changed
+
+    def has_copies(self):
+        return bool(self.copies.added)
+
+    def only(self):
+        """What the check is to check."""
+        return sorted({it.judged for it in self.taken if it.judged} | set(self.copies.controls.values()))
+
+    def changed(self):
+        """The names of the functions that differ from those of the crate; None where something else may."""
+        if self.has_copies():
+            return {it.rpartition('::')[2] for it in self.only()}
+        found = [it.changed() for it in self.taken]
+        return None if None in found else {name for them in found for name, _ in them}
+
+    def texts(self):
+        """The texts of the files with all of them made."""
+        return {**merged(self.folder, self.copies.regions() if self.has_copies() else self.regions), **self.copies.files}
 
 
 def check(repository, crate, texts, kept, only):
@@ -426,6 +486,7 @@ def check(repository, crate, texts, kept, only):
             if os.path.isdir(f'{folder}/{part}'):
                 shutil.copytree(f'{folder}/{part}', f'{room}/{part}')
         for file, text in texts.items():
+            os.makedirs(os.path.dirname(f'{room}/{file}'), exist_ok=True)
             with open(f'{room}/{file}', 'w', encoding='utf-8') as it:
                 it.write(text)
         started = subprocess.Popen(repository.check(crate, kept, only), cwd=room, stdin=subprocess.DEVNULL, stdout=said, stderr=subprocess.STDOUT)
@@ -504,13 +565,14 @@ def main():
     words.add_argument('--beside', nargs=2, metavar=('LOG', 'PROCESS'), help='rt ci still runs in that copy, and writes this log: a crate is tried once it is proved')
     words.add_argument('--jobs', type=int, default=2, metavar='N', help='how many checks at a time; one beside rt ci')
     words.add_argument('--only', metavar='EDIT', help='one edit, by the name of its file')
+    words.add_argument('--controls', action='store_true', help='a copy with no edit in it of each edited function, which must be proved')
     words.add_argument('--log', metavar='FOLDER', help='keep what each check said there')
     given = words.parse_args()
     repository = Repository(os.getcwd(), given.built)
     unknown = [it for it in given.crates if it not in repository.uses]
     if unknown:
         sys.exit(f'crates.txt names no {unknown[0]}')
-    crates = [Crate(repository, it, given.only) for it in given.crates or repository.uses]
+    crates = [Crate(repository, it, given.only, given.controls) for it in given.crates or repository.uses]
     crates = sorted((it for it in crates if it.edits or it.bad), key=lambda it: -it.size())
     if given.log:
         os.makedirs(given.log, exist_ok=True)

@@ -1,0 +1,168 @@
+"""Copies of functions, beside them and under names of their own, in which edits.py makes its edits.
+
+Two edits of one function can't stand in one text. Two copies of it can: each has the function's clauses, attributes and proof files,
+and one edit in its body. The function itself stays as it is, so that what calls it is proved as ever, and no goal waits for it.
+
+A copy could be refused for being a copy. So some are made with no edit in them, the controls: one of each function that has proof
+files, since their names are turned too, and one in each type and module; or, at a word, one of each function. A refusal of a copy
+counts only where its control is proved (`Copies.fault`). What is not refused in a copy is tried again in the function itself.
+
+A copy of a member of a cycle of calls is outside of the cycle: it calls the members themselves, and owes no measure. What breaks
+the measure alone is so not refused in a copy. A method of a trait has no copies, nor has an edit that changes more than one
+function, or that wants the refusal of a caller.
+"""
+import os
+import re
+
+# A function's head by the layout of rt fmt, with its cycle of calls, where it is in one.
+HEAD = re.compile(r'(?m)^( *)(?:#\[cycle\((\w+)\)\]\n(?:\1(?:#\[|///).*\n)*\1)?(?:pub(?:\([^)]*\))? )?(?:const )?fn (\w+)')
+
+# The head of an impl block: the trait, where it is of one, and the type.
+IMPL = re.compile(r'(?m)^impl\b(?:<[^{]*?>)? (?:(\S.*) for )?(\w+)[^{;]*\{')
+
+
+def head_around(text, begin, end):
+    """The head of the function around this piece of a text; None where it is in none."""
+    above = [it for it in HEAD.finditer(text) if it.start() <= begin]
+    return above[-1] if above and end_of(text, above[-1]) >= end else None
+
+
+def end_of(text, head):
+    """Where the function with this head ends; -1 where that isn't seen."""
+    found = re.compile(rf'(?m)^{head[1]}\}}').search(text, head.end())
+    return found.end() if found else -1
+
+
+def start_of(text, head):
+    """Where its doc comment and attributes begin."""
+    begin = text.rfind('\n', 0, head.end()) + 1
+    while begin:
+        above = text.rfind('\n', 0, begin - 1) + 1
+        line = text[above:begin]
+        if not line.strip() or not line.startswith(head[1]) or line.rstrip().endswith('{'):
+            break
+        begin = above
+    return begin
+
+
+def outside_of_cycle(text, name):
+    """What a proof file of a cycle of calls says of this member, as it is said of a function in no cycle; None where it is nothing.
+
+    A name there has the member's in front of what it is outside, behind `invariant-` or `decreases-`; an answer takes the
+    theorems of the cycle first; and what a call of a member requires is a pair there, with the fall of the measure first.
+    """
+    uses, *said = text.split('\n\n')
+    own = [it for it in said if re.search(rf'(?m)^(?:abbrev )?pub (?:invariant-|decreases-)?{name}-\S+ :', it)]
+    own = [re.sub(rf'(?<![\w-])((?:invariant-|decreases-)?){name}-', r'\1', it) for it in own]
+    own = [re.sub(r'(?m)^(\S+) t c\b', r'\1 c', it) for it in own]
+    own = [without_measure(it) if re.search(r'^pub \S+-requires\S* :', it, re.M) else it for it in own]
+    return '\n\n'.join([uses, *own]).rstrip() + '\n' if own else None
+
+
+def without_measure(answer):
+    """The answer with the second part of the pair that is its last line, where that is a pair; else the answer."""
+    above, last = answer.rstrip().rsplit('\n', 1)
+    pair = last.strip()
+    if not (pair.startswith('(') and pair.endswith(')')):
+        return answer
+    depth = 0
+    for at, sign in enumerate(pair):
+        depth += (sign == '(') - (sign == ')')
+        if sign == ',' and depth == 1:
+            return f'{above}\n    {pair[at + 1 : -1].strip()}'
+    return answer
+
+
+class Original:
+    """A function that may be copied: where it stands, and its proof files."""
+
+    def __init__(self, folder, file, text, head):
+        self.folder, self.file, self.text = folder, file, text
+        self.cycle, self.name = head[2], head[3]
+        self.begin, self.end = start_of(text, head), end_of(text, head)
+        self.is_free, self.owner = not head[1], None
+        above = list(IMPL.finditer(text, 0, head.start()))
+        if head[1] and above and '\n}' not in text[above[-1].end() : head.start()]:
+            self.owner = None if above[-1][1] else above[-1][2]
+
+    def can_be_copied(self):
+        """Whether it stands in a module, or in a block of a type's own methods."""
+        return bool(self.is_free or self.owner)
+
+    def source(self, name, begin=0, end=0, new=''):
+        """Its text under this name, with what stands from `begin` to `end` of the file changed."""
+        text = self.text[self.begin : self.end]
+        if end:
+            text = text[: begin - self.begin] + new + text[end - self.begin :]
+        if self.cycle:
+            text = re.sub(rf' *#\[cycle\({self.cycle}\)\]\n', '', text, count=1)
+        return '\n\n' + re.sub(rf'\bfn {self.name}\b', f'fn {name}', text, count=1)
+
+    def has_folder(self, below):
+        """Whether its proof files, or those of its cycle, stand in this folder below the crate."""
+        last = f'+{self.cycle}' if self.cycle else self.name
+        if self.owner:
+            return below.endswith(f'/{self.owner}/{last}')
+        module = self.file.removeprefix('src/').removesuffix('.rt')
+        return below == f"proofs/{'' if module == 'lib' else f'{module}/'}{last}"
+
+    def proofs(self, name):
+        """Its proof files, for a copy of this name: of each the path below the crate, and the text."""
+        found = {}
+        for at, _, files in os.walk(f'{self.folder}/proofs'):
+            below = at.removeprefix(f'{self.folder}/')
+            if not self.has_folder(below):
+                continue
+            copied = f'{os.path.dirname(below)}/{name}'
+            was, now = (it.replace('/', '.') for it in (below, copied))
+            for file in files:
+                with open(f'{at}/{file}', encoding='utf-8') as it:
+                    text = it.read().replace(f'.{was}.', f'.{now}.')
+                text = outside_of_cycle(text, self.name) if self.cycle else text
+                if text:
+                    found[f'{copied}/{file}'] = text
+        return found
+
+
+class Copies:
+    """The copies of a round, with what they add to the crate."""
+
+    def __init__(self, is_each=False):
+        self.is_each = is_each
+        self.added, self.files, self.counts = {}, {}, {}
+        # the control of each function that has one, and of each type and module
+        self.controls = {}
+
+    def add(self, edit, original, region):
+        """A copy with this edit in it, and a control where it needs one; answers its path, as --only takes it."""
+        at = original.file, original.end
+        group = original.file, original.owner
+        self.counts[at] = self.counts.get(at, 0) + 1
+        if self.counts[at] == 1:
+            has_files = bool(original.proofs(original.name))
+            if self.is_each or has_files or group not in self.controls:
+                self.controls[at] = self.place(edit, original, f'{original.name}_as_it_is')
+                self.controls.setdefault(group, self.controls[at])
+        return self.place(edit, original, f'{original.name}_turned_{self.counts[at]}', region)
+
+    def place(self, edit, original, name, region=()):
+        at = original.file, original.end
+        self.added[at] = self.added.get(at, '') + original.source(name, *region)
+        self.files.update(original.proofs(name))
+        return edit.function.removesuffix(original.name) + name
+
+    def regions(self):
+        """The places behind the functions, as regions of the files, with the copies."""
+        found = {}
+        for (file, end), text in self.added.items():
+            found.setdefault(file, []).append((end, end, text))
+        return found
+
+    def fault(self, told, original):
+        """Why the control of this function was not proved; None where it was."""
+        control = self.controls.get((original.file, original.end)) or self.controls[original.file, original.owner]
+        named = told.named(control)
+        if len(named) != 1:
+            return f'{control}: it was not checked'
+        word = told.functions[named[0]][0]
+        return None if word == 'proved' else f'{control}: {word}'
