@@ -20,11 +20,11 @@ const NESTED: &[u8] =
     b"mpd 1; ranks 3; var x; var a[4];\nwhile x < 2 {\n  if x { } else { a[x] = 7; }\n  x = x + 1;\n}\nprint a[0];";
 
 fn counts_what_is_lowered(rt: &impl Abort, code: &Code) {
-    same(rt, "ranks", code.ranks(), 3);
-    same(rt, "cells", code.cells(), 5);
-    same(rt, "handles", code.handles(), 0);
-    same(rt, "declarations", code.decls().len(), 2);
-    same(rt, "lines", code.lines(), &[2, 3, 3, 4, 6]);
+    same(rt, code.ranks(), 3);
+    same(rt, code.cells(), 5);
+    same(rt, code.handles(), 0);
+    same(rt, code.decls().len(), 2);
+    same(rt, code.lines(), &[2, 3, 3, 4, 6]);
 }
 
 /// The line of a node, if there is such a node.
@@ -45,16 +45,16 @@ fn next_of(code: &Code, number: usize) -> Option<usize> {
 }
 
 fn numbers_its_nodes(rt: &impl Abort, code: &Code) {
-    same(rt, "the first node", code.start(), 0);
-    same(rt, "nodes", code.nodes(), 5);
-    same(rt, "the last line", line_of(code, 4), Some(6));
+    same(rt, code.start(), 0);
+    same(rt, code.nodes(), 5);
+    same(rt, line_of(code, 4), Some(6));
 }
 
 fn links_its_nodes(rt: &impl Abort, code: &Code) {
-    same(rt, "behind the loop", next_of(code, 0), Some(4));
-    same(rt, "behind the if", next_of(code, 1), Some(3));
-    same(rt, "the loop again", next_of(code, 3), Some(0));
-    same(rt, "no node", next_of(code, 5), None);
+    same(rt, next_of(code, 0), Some(4));
+    same(rt, next_of(code, 1), Some(3));
+    same(rt, next_of(code, 3), Some(0));
+    same(rt, next_of(code, 5), None);
 }
 
 #[test]
@@ -85,11 +85,11 @@ fn value_of(expr: &Expr) -> Result<i64, Trap> {
 fn evaluates_an_expression(rt: HostRuntime) {
     let alloc = rt.alloc();
     let sum = binary(&rt, alloc, BinaryOp::Add, ExprNode::Rank, ExprNode::Size);
-    same(&rt, "a sum", value_of(&sum), Ok(7));
+    same(&rt, value_of(&sum), Ok(7));
     let zero = ExprNode::Number(0);
     let quotient = binary(&rt, alloc, BinaryOp::Divide, sum.node, zero);
     let trapped = Err(Trap::ZeroDivisor);
-    same(&rt, "a quotient", value_of(&quotient), trapped);
+    same(&rt, value_of(&quotient), trapped);
 }
 
 /// What the first statement of the one rank does.
@@ -100,9 +100,9 @@ const ASSIGNMENT: LocalPlan = LocalPlan::Assign {
 };
 
 fn plans_the_assignment(rt: &impl Abort, code: &Code, rank: &RankState) {
-    same(rt, "can step", rank.can_step(code), true);
-    same(rt, "the next statement", rank.next_statement(code), Some(0));
-    same(rt, "the plan", rank.plan_local(code), Some(ASSIGNMENT));
+    same(rt, rank.can_step(code), true);
+    same(rt, rank.next_statement(code), Some(0));
+    same(rt, rank.plan_local(code), Some(ASSIGNMENT));
 }
 
 fn commits(rt: &impl Abort, rank: &mut RankState, plan: LocalPlan) -> RankRecord {
@@ -116,9 +116,9 @@ fn steps(rt: &impl Abort, code: &Code, rank: &mut RankState) -> RankRecord {
 }
 
 fn has_issued(rt: &impl Abort, rank: &RankState) {
-    same(rt, "calls", rank.calls().len(), 1);
-    same(rt, "the activity", rank.activity(), Activity::Blocked);
-    same(rt, "handles", rank.handles().len(), 0);
+    same(rt, rank.calls().len(), 1);
+    same(rt, rank.activity(), Activity::Blocked);
+    same(rt, rank.handles().len(), 0);
 }
 
 /// The records of the assignment, the call and its end.
@@ -126,58 +126,66 @@ type Records = (RankRecord, RankRecord, RankRecord);
 
 fn goes_forward(rt: &impl Abort, code: &Code, rank: &mut RankState) -> Records {
     let assigned = commits(rt, rank, ASSIGNMENT);
-    same(rt, "what was assigned", rank.variables(), &[5]);
+    same(rt, rank.variables(), &[5]);
     steps(rt, code, rank);
-    same(rt, "what was printed", rank.output(), &[5]);
+    same(rt, rank.output(), &[5]);
     let issued = steps(rt, code, rank);
     has_issued(rt, rank);
     let woken = rank.complete(Cells::none());
-    same(rt, "has ended", rank.has_ended(code), true);
+    same(rt, rank.has_ended(code), true);
     (assigned, issued, woken)
 }
 
 fn goes_back(rt: &impl Abort, code: &Code, rank: &mut RankState, records: Records) {
     let (assigned, issued, woken) = records;
     rank.restore(woken);
-    same(rt, "the activity", rank.activity(), Activity::Blocked);
+    same(rt, rank.activity(), Activity::Blocked);
     rank.restore(issued);
-    same(rt, "calls", rank.calls().len(), 0);
+    same(rt, rank.calls().len(), 0);
     rank.restore(assigned);
-    same(rt, "no assignment", rank.variables(), &[0]);
-    same(rt, "the next statement", rank.next_statement(code), Some(0));
+    same(rt, rank.variables(), &[0]);
+    same(rt, rank.next_statement(code), Some(0));
+}
+
+fn steps_a_rank(rt: &impl Abort, alloc: Global, code: &Code) {
+    let mut rank = RankState::start(alloc, code, 0).expect(rt, "a rank");
+    plans_the_assignment(rt, code, &rank);
+    let records = goes_forward(rt, code, &mut rank);
+    goes_back(rt, code, &mut rank, records);
 }
 
 #[test]
 fn steps_one_rank_and_back(rt: HostRuntime) {
     let text = b"mpd 1; ranks 1; var x; x = 5; print x; send x to 0 tag 1;";
     let code = lowered(&rt, rt.alloc(), text);
-    let mut rank = RankState::start(rt.alloc(), &code, 0).expect(&rt, "a rank");
-    plans_the_assignment(&rt, &code, &rank);
-    let records = goes_forward(&rt, &code, &mut rank);
-    goes_back(&rt, &code, &mut rank, records);
+    steps_a_rank(&rt, rt.alloc(), &code);
 }
 
 fn steps_a_million_times(rt: &impl Abort, debugger: &mut Debugger<'_>) {
     for _ in 0..1_000_000 {
-        same(rt, "a step", debugger.apply(Step::Local(0)), Ok(()));
+        same(rt, debugger.apply(Step::Local(0)), Ok(()));
     }
 }
 
 fn is_full(rt: &impl Abort, debugger: &mut Debugger<'_>) {
     let (local, wake) = (Step::Local(0), Step::Wake(0));
-    same(rt, "one more", debugger.apply(local), Err(ApplyFault::Full));
+    same(rt, debugger.apply(local), Err(ApplyFault::Full));
     let not_enabled = Err(ApplyFault::NotEnabled);
-    same(rt, "a wake", debugger.apply(wake), not_enabled);
-    same(rt, "the depth", debugger.depth(), 1_000_000);
-    same(rt, "back", debugger.undo().is_ok(), true);
-    same(rt, "again", debugger.apply(local), Ok(()));
+    same(rt, debugger.apply(wake), not_enabled);
+    same(rt, debugger.depth(), 1_000_000);
+    same(rt, debugger.undo().is_ok(), true);
+    same(rt, debugger.apply(local), Ok(()));
+}
+
+fn fills(rt: &impl Abort, alloc: Global, code: &Code) {
+    let started = Debugger::start(alloc, code, Mode::Rendezvous);
+    let mut debugger = started.expect(rt, "a debugger");
+    steps_a_million_times(rt, &mut debugger);
+    is_full(rt, &mut debugger);
 }
 
 #[test]
 fn is_full_after_a_million_steps(rt: HostRuntime) {
-    let alloc = rt.alloc();
-    let code = lowered(&rt, alloc, b"mpd 1; ranks 1; while 1 { }");
-    let mut debugger = Debugger::start(alloc, &code, Mode::Rendezvous).expect(&rt, "a debugger");
-    steps_a_million_times(&rt, &mut debugger);
-    is_full(&rt, &mut debugger);
+    let code = lowered(&rt, rt.alloc(), b"mpd 1; ranks 1; while 1 { }");
+    fills(&rt, rt.alloc(), &code);
 }

@@ -22,8 +22,18 @@ pub(crate) use mpd_trace::trace::trace;
 pub(crate) const FIRST: &[u8] =
     b"mpd 1;\nranks 2;\nvar x;\nif rank == 0 { send 7 to 1 tag 0; } else { recv x from 0 tag 0; print x; }";
 
-/// Asserts that what was found is what was wanted; `what` says what it is.
-pub(crate) fn same<T: Copy + Debug + PartialEq>(rt: &impl Abort, what: &str, found: T, wanted: T) {
+/// Asserts that what was found is what was wanted.
+pub(crate) fn same<T: Copy + Debug + PartialEq>(rt: &impl Abort, found: T, wanted: T) {
+    assert_eq!(rt; found, wanted);
+}
+
+/// The same of one row of many; `what` says which.
+pub(crate) fn same_of<T: Copy + Debug + PartialEq>(
+    rt: &impl Abort,
+    what: &str,
+    found: T,
+    wanted: T,
+) {
     assert_eq!(rt; found, wanted, "{what}");
 }
 
@@ -90,6 +100,6 @@ pub(crate) fn answers(
 ) {
     let mut source = FromReader::new(input);
     let (end, text) = run(alloc, &mut source);
-    same(rt, what, end, ended(refusal));
-    same(rt, what, text.as_slice(), written.as_bytes());
+    same_of(rt, what, end, ended(refusal));
+    same_of(rt, what, text.as_slice(), written.as_bytes());
 }

@@ -103,9 +103,9 @@ fn traces_pieces(
         is_interrupted: false,
     });
     let end = plain(alloc, &mut source, &mut sink);
-    same(rt, "the end", end, Ok(()));
-    same(rt, "early or late reads", order.wrong.get(), 0);
-    same(rt, "bytes written", order.written.get(), written);
+    same(rt, end, Ok(()));
+    same(rt, order.wrong.get(), 0);
+    same(rt, order.written.get(), written);
 }
 
 /// What is read, with how many bytes are to be written before.
@@ -122,7 +122,7 @@ const IN_TURN: &[(usize, &[u8])] = &[
 fn answers_are_written_before_the_next_read(rt: HostRuntime) {
     let order = Order::new();
     traces_pieces(&rt, rt.alloc(), &order, IN_TURN, 40);
-    same(&rt, "reads", order.reads.get(), 6);
+    same(&rt, order.reads.get(), 6);
 }
 
 #[test]
@@ -132,5 +132,5 @@ fn much_is_written_before_all_is_gathered(rt: HostRuntime) {
     let script: &[u8] = b"mpd 1;ranks 1;var a[40];print 7;\n---\n";
     let pieces: [(usize, &[u8]); 2] = [(0, script), (0, words.as_bytes())];
     traces_pieces(&rt, rt.alloc(), &order, &pieces, 800 * 126);
-    same(&rt, "the most", order.most.get() < 65_536 + 126, true);
+    same(&rt, order.most.get() < 65_536 + 126, true);
 }

@@ -66,8 +66,8 @@ impl Read for Spaces {
 fn ends_endless(rt: &impl Abort, alloc: Global, calls: u64, wanted: Result<(), PlainFault>) {
     let mut source = FailingSource::new(FromReader::new(Spaces), Limit::Calls(calls));
     let (end, written) = run(alloc, &mut source);
-    same(rt, "the end", end, wanted);
-    same(rt, "nothing", written.is_empty(), true);
+    same(rt, end, wanted);
+    same(rt, written.is_empty(), true);
 }
 
 #[test]
@@ -106,8 +106,8 @@ fn traces<S: Source>(
 ) {
     let mut sink = ToWriter::new(Vec::new(alloc));
     let end = trace(alloc, code, mode, source, &mut sink);
-    same(rt, "the end", end, ended);
-    same(rt, "the answers", sink.into_writer().as_slice(), written);
+    same(rt, end, ended);
+    same(rt, sink.into_writer().as_slice(), written);
 }
 
 #[test]
@@ -209,8 +209,8 @@ fn writes(
 ) {
     let (end, written) = session(alloc, code, reading, writing);
     let (wanted, _) = ANSWERS.split_at(cmp::min(count, ANSWERS.len()));
-    same(rt, "the end", end, ended);
-    same(rt, "the answers", written.as_slice(), wanted);
+    same(rt, end, ended);
+    same(rt, written.as_slice(), wanted);
 }
 
 #[test]
@@ -234,55 +234,33 @@ fn fails_where_a_sink_fails(rt: HostRuntime) {
     }
 }
 
-/// Calls before a device fails, and how many bytes of the answers are written then.
-const CALLS: &[(u64, usize)] = &[(0, 0), (1, 5), (2, 10), (3, 27)];
+/// Limits of reading and of writing, how a session ends with them, and how many bytes of the answers are written.
+type Session = (Limit, Limit, Result<(), EngineFault>, usize);
+
+/// Calls before a device fails. The last line has no end: its read is the fourth, and the fifth is the end. Behind as many bytes
+/// as the words have a read fails too, but not where one more may be read.
+const SESSIONS: &[Session] = &[
+    (Limit::Calls(0), ENDLESS, Err(EngineFault::ReadFailed), 0),
+    (Limit::Calls(1), ENDLESS, Err(EngineFault::ReadFailed), 5),
+    (Limit::Calls(2), ENDLESS, Err(EngineFault::ReadFailed), 10),
+    (Limit::Calls(3), ENDLESS, Err(EngineFault::ReadFailed), 27),
+    (Limit::Calls(4), ENDLESS, Err(EngineFault::ReadFailed), 27),
+    (Limit::Calls(5), ENDLESS, Ok(()), 32),
+    (ENDLESS, Limit::Calls(0), Err(EngineFault::WriteFailed), 0),
+    (ENDLESS, Limit::Calls(1), Err(EngineFault::WriteFailed), 5),
+    (ENDLESS, Limit::Calls(2), Err(EngineFault::WriteFailed), 10),
+    (ENDLESS, Limit::Calls(3), Err(EngineFault::WriteFailed), 27),
+    (ENDLESS, Limit::Calls(4), Ok(()), 32),
+    (Limit::Bytes(24), ENDLESS, Err(EngineFault::ReadFailed), 27),
+    (Limit::Bytes(25), ENDLESS, Ok(()), 32),
+];
 
 #[test]
 fn fails_at_a_call(rt: HostRuntime) {
     let code = lowered(&rt, rt.alloc(), FIRST);
-    let whole = ANSWERS.len();
-    for (calls, count) in CALLS {
-        let limit = Limit::Calls(*calls);
-        writes(
-            &rt,
-            rt.alloc(),
-            &code,
-            limit,
-            ENDLESS,
-            Err(EngineFault::ReadFailed),
-            *count,
-        );
-        writes(
-            &rt,
-            rt.alloc(),
-            &code,
-            ENDLESS,
-            limit,
-            Err(EngineFault::WriteFailed),
-            *count,
-        );
+    for (reading, writing, ended, count) in SESSIONS {
+        writes(&rt, rt.alloc(), &code, *reading, *writing, *ended, *count);
     }
-    // the last line has no end: its read is the fourth, and the fifth is the end
-    let fourth = Limit::Calls(4);
-    writes(
-        &rt,
-        rt.alloc(),
-        &code,
-        fourth,
-        ENDLESS,
-        Err(EngineFault::ReadFailed),
-        27,
-    );
-    writes(&rt, rt.alloc(), &code, ENDLESS, fourth, Ok(()), whole);
-    writes(
-        &rt,
-        rt.alloc(),
-        &code,
-        Limit::Calls(5),
-        ENDLESS,
-        Ok(()),
-        whole,
-    );
 }
 
 /// How many bytes of the answers are written where so many bytes were read, and not the end.
@@ -311,14 +289,4 @@ fn fails_where_a_source_fails(rt: HostRuntime) {
             answered(limit),
         );
     }
-    let behind = Limit::Bytes(WORDS.len() as u64 + 1);
-    writes(
-        &rt,
-        rt.alloc(),
-        &code,
-        behind,
-        ENDLESS,
-        Ok(()),
-        ANSWERS.len(),
-    );
 }

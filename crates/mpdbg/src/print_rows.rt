@@ -38,18 +38,18 @@ const ROWS: &[(&str, &str)] = &[
     ),
 ];
 
-/// Asserts what is printed of what is read of a text, and answers it.
-fn printed(rt: &impl Abort, alloc: Global, text: &[u8], wanted: &str) -> String {
+/// What is printed of what is read of a text.
+fn printed(rt: &impl Abort, alloc: Global, text: &[u8]) -> String {
     let script = read(alloc, text).expect(rt, "a script");
-    let printed = print(alloc, &script).expect(rt, "its text");
-    same(rt, "the canonical text", printed.as_str(), wanted);
-    printed
+    print(alloc, &script).expect(rt, "its text")
 }
 
 /// Prints what is read of a text, and that again; both are the canonical text.
 fn prints(rt: &impl Abort, alloc: Global, text: &[u8], wanted: &str) {
-    let once = printed(rt, alloc, text, wanted);
-    printed(rt, alloc, once.as_bytes(), wanted);
+    let once = printed(rt, alloc, text);
+    same(rt, once.as_str(), wanted);
+    let again = printed(rt, alloc, once.as_bytes());
+    same(rt, again.as_str(), wanted);
 }
 
 #[test]
@@ -92,14 +92,13 @@ const DEEP: &[Piece] = &[
 fn prints_more_than_can_be_read(rt: HostRuntime) {
     let alloc = rt.alloc();
     let text = repeated(&rt, alloc, DEEP);
-    let script = read(alloc, text.as_bytes()).expect(&rt, "a script");
-    let printed = print(alloc, &script).expect(&rt, "its text");
+    let printed = printed(&rt, alloc, text.as_bytes());
     // 16 bytes of header, 1,000 lines of 128 + 9, and for each depth d below 64 lines of 2 d + 7 and 2 d + 2
-    same(&rt, "its length", printed.len(), 145_656);
+    same(&rt, printed.len(), 145_656);
     let too_long = ReadFault {
         code: FaultCode::TooLong,
         place: 65_536,
     };
     let fault = read(alloc, printed.as_bytes()).err();
-    same(&rt, "its fault", fault, Some(too_long));
+    same(&rt, fault, Some(too_long));
 }

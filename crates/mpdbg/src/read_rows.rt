@@ -1,6 +1,6 @@
 //! Texts whose outcome was worked out by hand.
 
-use crate::helpers::{FIRST, Piece, joined, repeated, same};
+use crate::helpers::{FIRST, Piece, joined, repeated, same, same_of};
 use mpd_model::expr::ExprNode;
 use mpd_model::read_fault::{FaultCode, ReadFault};
 use mpd_model::script::Script;
@@ -93,7 +93,7 @@ fn reads(
     fault: Option<(FaultCode, usize)>,
 ) {
     let text = repeated(rt, alloc, pieces);
-    same(rt, what, fault_of(alloc, text.as_str()), fault);
+    same_of(rt, what, fault_of(alloc, text.as_str()), fault);
 }
 
 #[test]
@@ -116,7 +116,7 @@ fn declaring(alloc: Global, count: usize) -> Result<String, AllocError> {
 fn declares(rt: &impl Abort, alloc: Global, behind: &str, fault: Option<(FaultCode, usize)>) {
     let variables = declaring(alloc, 1024).expect(rt, "1,024 variables");
     let text = joined(rt, alloc, &[variables.as_str(), behind]);
-    same(rt, behind, fault_of(alloc, text.as_str()), fault);
+    same_of(rt, behind, fault_of(alloc, text.as_str()), fault);
 }
 
 #[test]
@@ -141,19 +141,23 @@ fn only_if(script: &Script) -> Option<(bool, usize, usize)> {
     }
 }
 
+fn is_the_first(rt: &impl Abort, script: &Script) {
+    same(rt, script.ranks, 2);
+    same(rt, script.decls.len(), 1);
+    same(rt, script.lines.as_slice(), &[4, 4, 4, 4]);
+    same(rt, only_if(script), Some((true, 1, 2)));
+}
+
 #[test]
 fn two_ranks(rt: HostRuntime) {
     let script = read(rt.alloc(), FIRST).expect(&rt, "a script");
-    same(&rt, "ranks", script.ranks, 2);
-    same(&rt, "variables", script.decls.len(), 1);
-    same(&rt, "lines", script.lines.as_slice(), &[4, 4, 4, 4]);
-    same(&rt, "its if", only_if(&script), Some((true, 1, 2)));
+    is_the_first(&rt, &script);
 }
 
 #[test]
 fn numbers_and_names(rt: HostRuntime) {
-    same(&rt, "the first", FaultCode::TooLong.number(), 1);
-    same(&rt, "the last", FaultCode::Memory.number(), 11);
+    same(&rt, FaultCode::TooLong.number(), 1);
+    same(&rt, FaultCode::Memory.number(), 11);
     let name = FaultCode::NotInVersion.name();
-    same(&rt, "a name", name, "not-in-version");
+    same(&rt, name, "not-in-version");
 }

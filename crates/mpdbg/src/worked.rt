@@ -1,6 +1,6 @@
 //! Worked rows that only a direct call shows: what no clause says, each public call with ample memory.
 
-use crate::helpers::{FIRST, lowered, same};
+use crate::helpers::{FIRST, lowered, same, same_of};
 use mpd_code::code::Code;
 use mpd_core::state::Core;
 use mpd_model::call::{Mode, Trap};
@@ -54,9 +54,9 @@ const REPLIES: &[Reply] = &[
 fn replies_so(rt: &impl Abort, alloc: Global, code: &Code) {
     let replayed = replay(alloc, code, Mode::Rendezvous, COMMANDS);
     let (debugger, replies) = replayed.expect(rt, "the replies");
-    same(rt, "the replies", replies.as_slice(), REPLIES);
-    same(rt, "the depth", debugger.depth(), 6);
-    same(rt, "the steps", debugger.steps().len(), 6);
+    same(rt, replies.as_slice(), REPLIES);
+    same(rt, debugger.depth(), 6);
+    same(rt, debugger.steps().len(), 6);
 }
 
 #[test]
@@ -65,20 +65,10 @@ fn replies_and_undoes(rt: HostRuntime) {
     replies_so(&rt, rt.alloc(), &code);
 }
 
-/// The steps of the first script up to its only output.
-const TO_THE_OUTPUT: &[Step] = &[
-    Step::Local(0),
-    Step::Local(0),
-    Step::Local(1),
-    Step::Local(1),
-    Step::Match(SEND, RECV),
-    Step::Wake(1),
-];
-
 /// Asserts that a text was made, and what it is.
 fn is_text(rt: &impl Abort, made: Result<String, AllocError>, wanted: &str) {
     let text = made.expect(rt, "the text");
-    same(rt, wanted, text.as_str(), wanted);
+    same(rt, text.as_str(), wanted);
 }
 
 fn prints_a_call(rt: &impl Abort, core: &Core<'_>, call: CallId, wanted: &str) {
@@ -98,8 +88,8 @@ fn prints_a_set(rt: &impl Abort, core: &Core<'_>, place: usize, wanted: &str) {
 
 /// Asserts that a step is enabled, and takes it.
 fn takes(rt: &impl Abort, core: &mut Core<'_>, step: Step) {
-    same(rt, "enabled", core.is_enabled(step), true);
-    same(rt, "taken", core.apply(step).is_ok(), true);
+    same(rt, core.is_enabled(step), true);
+    same(rt, core.apply(step).is_ok(), true);
 }
 
 /// Asserts that the steps are enabled one after the other, and takes them.
@@ -122,152 +112,234 @@ fn reached<'c>(
     core
 }
 
-/// Asserts the outcome of a state, if it has one.
-fn has_outcome(rt: &impl Abort, alloc: Global, core: &Core<'_>, wanted: Option<&str>) {
-    let outcome = core.outcome(alloc).expect(rt, "an outcome, or none");
-    same(rt, "an outcome", outcome.is_some(), wanted.is_some());
-    if let Some(outcome) = &outcome {
+/// A part of a state that can be printed.
+#[derive(Clone, Copy)]
+enum Part {
+    Call(CallId),
+    Rank(usize),
+    Set(usize),
+}
+
+fn shows(rt: &impl Abort, core: &Core<'_>, part: Part, wanted: &str) {
+    match part {
+        Part::Call(call) => prints_a_call(rt, core, call, wanted),
+        Part::Rank(rank) => prints_a_rank(rt, core, rank, wanted),
+        Part::Set(place) => prints_a_set(rt, core, place, wanted),
+    }
+}
+
+fn shows_all(rt: &impl Abort, core: &Core<'_>, parts: &[(Part, &str)]) {
+    for (part, wanted) in parts {
+        shows(rt, core, *part, wanted);
+    }
+}
+
+/// Asserts that none of the steps is enabled.
+fn enables_none(rt: &impl Abort, core: &Core<'_>, steps: &[Step]) {
+    for step in steps {
+        same(rt, core.is_enabled(*step), false);
+    }
+}
+
+fn is_outcome(rt: &impl Abort, alloc: Global, outcome: Option<&Outcome>, wanted: Option<&str>) {
+    same(rt, outcome.is_some(), wanted.is_some());
+    if let Some(outcome) = outcome {
         is_text(rt, print_outcome(alloc, outcome), wanted.unwrap_or(""));
     }
 }
 
-fn prints_the_output(rt: &impl Abort, core: &Core<'_>) {
-    same(rt, "ranks", core.rank_count(), 2);
-    prints_a_call(rt, core, SEND, "send to 1 tag 0 value 7 with 1.0");
-    prints_a_call(rt, core, RECV, "recv from 0 tag 0 with 0.0 value 7");
-    prints_a_rank(rt, core, 0, "blocked 0");
-    prints_a_rank(rt, core, 1, "at 4");
-    prints_a_set(rt, core, 0, "pair 0.0 1.0");
-    prints_a_set(rt, core, 1, "woke 1.0");
+/// Asserts the outcome of a state, if it has one.
+fn has_outcome(rt: &impl Abort, alloc: Global, core: &Core<'_>, wanted: Option<&str>) {
+    let outcome = core.outcome(alloc).expect(rt, "an outcome, or none");
+    is_outcome(rt, alloc, outcome.as_ref(), wanted);
 }
 
-#[test]
-fn prints_states(rt: HostRuntime) {
-    let alloc = rt.alloc();
-    let code = lowered(&rt, alloc, FIRST);
-    let core = reached(&rt, alloc, &code, Mode::Rendezvous, TO_THE_OUTPUT);
-    prints_the_output(&rt, &core);
-    has_outcome(&rt, alloc, &core, None);
+/// The state of a script behind steps, and what is seen of it.
+#[derive(Clone, Copy)]
+struct State {
+    script: &'static [u8],
+    mode: Mode,
+    /// The steps are enabled one after the other.
+    steps: &'static [Step],
+    /// Behind the steps none of these is enabled.
+    not_enabled: &'static [Step],
+    shown: &'static [(Part, &'static str)],
+    ranks: usize,
+    outcome: Option<&'static str>,
 }
-
-/// A script, a mode, steps that are enabled one after the other, and the outcome behind them, if there is one.
-type Ending = (&'static str, Mode, &'static [Step], Option<&'static str>);
 
 /// The second call of the first rank.
 const SECOND: CallId = CallId { rank: 0, index: 1 };
 
-const ENDINGS: &[Ending] = &[
-    (
-        "mpd 1; ranks 2; print 1;",
-        Mode::Rendezvous,
-        &[Step::Local(1)],
-        None,
-    ),
-    (
-        "mpd 1; ranks 2; print 1;",
-        Mode::Rendezvous,
-        &[Step::Local(1), Step::Local(0)],
-        Some("done"),
-    ),
-    (
-        "mpd 1; ranks 3; send 7 to 2 - rank tag 0;",
-        Mode::Rendezvous,
-        &[Step::Local(2), Step::Local(0), Step::Local(1)],
-        Some("deadlock 0.0 1.0 2.0"),
-    ),
-    (
-        "mpd 1; ranks 3; print 1 / (rank - 1); send 1 to rank tag 0;",
-        Mode::Rendezvous,
-        &[
+/// The third call of the first rank.
+const THIRD: CallId = CallId { rank: 0, index: 2 };
+
+/// Three sends, two of them alike, and a receive.
+const IN_ORDER: &[u8] =
+    b"mpd 1; ranks 2; var x;\nif rank == 0 { send 1 to 1 tag 0; send 2 to 1 tag 0; send 3 to 1 tag 1; } else { recv x from 0 tag 0; }";
+
+/// States of each outcome; texts of a state in which a rank is blocked behind a pair; and sends in order, of which an earlier
+/// one of the same tag is matched first.
+const STATES: &[State] = &[
+    State {
+        script: b"mpd 1; ranks 2; print 1;",
+        mode: Mode::Rendezvous,
+        steps: &[Step::Local(1)],
+        not_enabled: &[],
+        shown: &[],
+        ranks: 2,
+        outcome: None,
+    },
+    State {
+        script: b"mpd 1; ranks 2; print 1;",
+        mode: Mode::Rendezvous,
+        steps: &[Step::Local(1), Step::Local(0)],
+        not_enabled: &[],
+        shown: &[],
+        ranks: 2,
+        outcome: Some("done"),
+    },
+    State {
+        script: b"mpd 1; ranks 3; send 7 to 2 - rank tag 0;",
+        mode: Mode::Rendezvous,
+        steps: &[Step::Local(2), Step::Local(0), Step::Local(1)],
+        not_enabled: &[],
+        shown: &[],
+        ranks: 3,
+        outcome: Some("deadlock 0.0 1.0 2.0"),
+    },
+    State {
+        script: b"mpd 1; ranks 3; print 1 / (rank - 1); send 1 to rank tag 0;",
+        mode: Mode::Rendezvous,
+        steps: &[
             Step::Local(0),
             Step::Local(1),
             Step::Local(2),
             Step::Local(2),
             Step::Local(0),
         ],
-        Some("trap 1 zero-divisor"),
-    ),
-    (
-        "mpd 1; ranks 2; if rank { } else { send 7 to 1 tag 0; }",
-        Mode::Buffered,
-        &[
+        not_enabled: &[],
+        shown: &[],
+        ranks: 3,
+        outcome: Some("trap 1 zero-divisor"),
+    },
+    State {
+        script: b"mpd 1; ranks 2; if rank { } else { send 7 to 1 tag 0; }",
+        mode: Mode::Buffered,
+        steps: &[
             Step::Local(1),
             Step::Local(0),
             Step::Local(0),
             Step::Wake(0),
         ],
-        Some("leftovers 0.0"),
-    ),
-    (
-        "mpd 1; ranks 1; var x; send 7 to 0 tag 5; recv x from 0 tag 5;",
-        Mode::Buffered,
-        &[
+        not_enabled: &[],
+        shown: &[],
+        ranks: 2,
+        outcome: Some("leftovers 0.0"),
+    },
+    State {
+        script: b"mpd 1; ranks 1; var x; send 7 to 0 tag 5; recv x from 0 tag 5;",
+        mode: Mode::Buffered,
+        steps: &[
             Step::Local(0),
             Step::Wake(0),
             Step::Local(0),
             Step::Match(SEND, SECOND),
             Step::Wake(0),
         ],
-        Some("done"),
-    ),
+        not_enabled: &[],
+        shown: &[],
+        ranks: 1,
+        outcome: Some("done"),
+    },
+    State {
+        script: FIRST,
+        mode: Mode::Rendezvous,
+        steps: &[
+            Step::Local(0),
+            Step::Local(0),
+            Step::Local(1),
+            Step::Local(1),
+            Step::Match(SEND, RECV),
+            Step::Wake(1),
+        ],
+        not_enabled: &[],
+        shown: &[
+            (Part::Call(SEND), "send to 1 tag 0 value 7 with 1.0"),
+            (Part::Call(RECV), "recv from 0 tag 0 with 0.0 value 7"),
+            (Part::Rank(0), "blocked 0"),
+            (Part::Rank(1), "at 4"),
+            (Part::Set(0), "pair 0.0 1.0"),
+            (Part::Set(1), "woke 1.0"),
+        ],
+        ranks: 2,
+        outcome: None,
+    },
+    State {
+        script: IN_ORDER,
+        mode: Mode::Buffered,
+        steps: &[
+            Step::Local(0),
+            Step::Local(0),
+            Step::Wake(0),
+            Step::Local(0),
+            Step::Wake(0),
+            Step::Local(0),
+            Step::Wake(0),
+            Step::Local(1),
+            Step::Local(1),
+        ],
+        not_enabled: &[Step::Match(SECOND, RECV), Step::Match(THIRD, RECV)],
+        shown: &[
+            (Part::Call(SECOND), "send to 1 tag 0 value 2 free"),
+            (Part::Call(RECV), "recv from 0 tag 0 free"),
+            (Part::Rank(0), "ended"),
+            (Part::Rank(1), "blocked 0"),
+        ],
+        ranks: 2,
+        outcome: None,
+    },
+    State {
+        script: IN_ORDER,
+        mode: Mode::Buffered,
+        steps: &[
+            Step::Local(0),
+            Step::Local(0),
+            Step::Wake(0),
+            Step::Local(0),
+            Step::Wake(0),
+            Step::Local(0),
+            Step::Wake(0),
+            Step::Local(1),
+            Step::Local(1),
+            Step::Match(SEND, RECV),
+            Step::Wake(1),
+        ],
+        not_enabled: &[],
+        shown: &[],
+        ranks: 2,
+        outcome: Some("leftovers 0.1 0.2"),
+    },
 ];
 
-fn ends_so(
-    rt: &impl Abort,
-    alloc: Global,
-    text: &str,
-    mode: Mode,
-    steps: &[Step],
-    outcome: Option<&str>,
-) {
-    let code = lowered(rt, alloc, text.as_bytes());
-    let core = reached(rt, alloc, &code, mode, steps);
-    has_outcome(rt, alloc, &core, outcome);
+fn is_so(rt: &impl Abort, alloc: Global, core: &Core<'_>, state: &State) {
+    same(rt, core.rank_count(), state.ranks);
+    enables_none(rt, core, state.not_enabled);
+    shows_all(rt, core, state.shown);
+    has_outcome(rt, alloc, core, state.outcome);
+}
+
+fn reaches(rt: &impl Abort, alloc: Global, state: &State) {
+    let code = lowered(rt, alloc, state.script);
+    let core = reached(rt, alloc, &code, state.mode, state.steps);
+    is_so(rt, alloc, &core, state);
 }
 
 #[test]
-fn ends_in_each_way(rt: HostRuntime) {
-    for (text, mode, steps, outcome) in ENDINGS {
-        ends_so(&rt, rt.alloc(), text, *mode, steps, *outcome);
+fn reaches_states(rt: HostRuntime) {
+    for state in STATES {
+        reaches(&rt, rt.alloc(), state);
     }
-}
-
-/// Three sends, two of them alike, and a receive.
-const IN_ORDER: &str =
-    "mpd 1; ranks 2; var x;\nif rank == 0 { send 1 to 1 tag 0; send 2 to 1 tag 0; send 3 to 1 tag 1; } else { recv x from 0 tag 0; }";
-
-/// Its steps up to a match.
-const ISSUED: &[Step] = &[
-    Step::Local(0),
-    Step::Local(0),
-    Step::Wake(0),
-    Step::Local(0),
-    Step::Wake(0),
-    Step::Local(0),
-    Step::Wake(0),
-    Step::Local(1),
-    Step::Local(1),
-];
-
-fn takes_the_first(rt: &impl Abort, core: &mut Core<'_>) {
-    let second = Step::Match(SECOND, RECV);
-    same(rt, "behind another", core.is_enabled(second), false);
-    let third = Step::Match(CallId { rank: 0, index: 2 }, RECV);
-    same(rt, "another tag", core.is_enabled(third), false);
-    prints_a_call(rt, core, SECOND, "send to 1 tag 0 value 2 free");
-    prints_a_call(rt, core, RECV, "recv from 0 tag 0 free");
-    prints_a_rank(rt, core, 0, "ended");
-    prints_a_rank(rt, core, 1, "blocked 0");
-    takes_all(rt, core, &[Step::Match(SEND, RECV), Step::Wake(1)]);
-}
-
-#[test]
-fn keeps_sends_in_order(rt: HostRuntime) {
-    let alloc = rt.alloc();
-    let code = lowered(&rt, alloc, IN_ORDER.as_bytes());
-    let mut core = reached(&rt, alloc, &code, Mode::Buffered, ISSUED);
-    takes_the_first(&rt, &mut core);
-    has_outcome(&rt, alloc, &core, Some("leftovers 0.1 0.2"));
 }
 
 fn prints(rt: &impl Abort, alloc: Global, outcome: Outcome, wanted: &str) {
@@ -331,6 +403,6 @@ const STEPS: &[(&str, Option<Step>)] = &[
 #[test]
 fn reads_steps(rt: HostRuntime) {
     for (text, step) in STEPS {
-        same(&rt, text, step_of(text), *step);
+        same_of(&rt, text, step_of(text), *step);
     }
 }
