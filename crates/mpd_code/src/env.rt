@@ -1,11 +1,13 @@
-//! What expressions are evaluated in.
+//! What statements are evaluated in.
 
 use std::marker::Model;
 
-/// The variables of a rank, its number, and how many ranks there are. Contracts see it as an `Env` of the definitions.
+/// The variables of a rank, the call that each of its handles has, its number, and how many ranks there are. Contracts see it as
+/// an `Env` of the definitions.
 #[derive(Debug, Drop)]
 pub struct Env<'v> {
     pub vars: &'v [i64],
+    pub handles: &'v [Option<usize>],
     pub rank: u32,
     pub size: u32,
 }
@@ -18,5 +20,5 @@ impl<'v> Model for Env<'v> {
 
     ghost coded = { env_code };
 
-    ghost view = { λ e. record { vars = e.vars.now; rank = e.rank; size = e.size } };
+    ghost view = { λ e. record { vars = e.vars.now; handles = e.handles.now; rank = e.rank; size = e.size } };
 }

@@ -1,15 +1,15 @@
-//! The values of expressions, and what sends, receives and assignments make of them.
+//! The values of expressions, and what statements make of them: the calls that they issue, and what assignments write.
 
-ghost use Rattle.std.specs.Prelude.{◌≡◌, pos, slice_index_or};
+ghost use Rattle.std.specs.Prelude.{◌≡◌, pos, None, slice_index_or};
 ghost use Rattle.mpd_model.specs.Term.{value_of, within, checked, target_cell};
-ghost use Rattle.mpd_model.specs.Next.{rank_value, tag_value, send_kind, recv_kind, assignment};
+ghost use Rattle.mpd_model.specs.Next.{rank_value, tag_value, send_kind, recv_kind, wait_kind, send_issue, recv_issue, isend_issue, irecv_issue, wait_issue, assignment};
 
 use crate::env::Env;
 use crate::operate::{alter, combine, decide};
-use mpd_model::call::{CallKind, RecvCall, SendCall, Trap};
+use mpd_model::call::{CallKind, Issue, RecvCall, SendCall, Trap, WaitCall};
 use mpd_model::expr::{Expr, ExprNode};
 use mpd_model::limits::TAGS;
-use mpd_model::stmt::{AssignStmt, RecvStmt, SendStmt, Target};
+use mpd_model::stmt::{AssignStmt, IrecvStmt, IsendStmt, RecvStmt, SendStmt, Target};
 
 /// The value of an expression, or the trap that it ends in.
 pub fn eval(expr: &Expr, env: &Env<'_>) -> Result<i64, Trap>
@@ -95,24 +95,102 @@ fn eval_target(target: &Target, env: &Env<'_>) -> Result<usize, Trap>
     }
 }
 
-/// What a send issues: the value is evaluated first, then the destination, then the tag.
-pub fn eval_send(send: &SendStmt, env: &Env<'_>) -> Result<CallKind, Trap>
-    ensures { result ≡ send_kind send.now env.now }
+/// The call of a send: the value is evaluated first, then the destination, then the tag.
+fn send_call(send: &SendStmt, blocks: bool, env: &Env<'_>) -> Result<CallKind, Trap>
+    ensures { result ≡ send_kind blocks send.now env.now }
 {
     let value = eval(&send.value, env)?;
     let to = eval_rank(&send.to, env)?;
     let tag = eval_tag(&send.tag, env)?;
-    Ok(CallKind::Send(SendCall { to, tag, value }))
+    Ok(CallKind::Send(SendCall {
+        to,
+        tag,
+        value,
+        blocks,
+    }))
 }
 
-/// What a receive issues: the index of its target is evaluated first, then the source, then the tag.
-pub fn eval_recv(recv: &RecvStmt, env: &Env<'_>) -> Result<CallKind, Trap>
-    ensures { result ≡ recv_kind recv.now env.now }
+/// The call of a receive: the index of its target is evaluated first, then the source, then the tag.
+fn recv_call(recv: &RecvStmt, blocks: bool, env: &Env<'_>) -> Result<CallKind, Trap>
+    ensures { result ≡ recv_kind blocks recv.now env.now }
 {
     let cell = eval_target(&recv.into, env)?;
     let from = eval_rank(&recv.from, env)?;
     let tag = eval_tag(&recv.tag, env)?;
-    Ok(CallKind::Recv(RecvCall { from, tag, cell }))
+    Ok(CallKind::Recv(RecvCall {
+        from,
+        tag,
+        cell,
+        blocks,
+    }))
+}
+
+/// The call that a handle has.
+fn request(handles: &[Option<usize>], at: usize) -> Option<usize>
+    ensures { result ≡ slice_index_or handles.now at None }
+{
+    if at < handles.len() {
+        handles[at]
+    } else {
+        None
+    }
+}
+
+/// The call of a wait: it is for what its handle has now.
+fn wait_call(handle: &Target, env: &Env<'_>) -> Result<CallKind, Trap>
+    ensures { result ≡ wait_kind handle.now env.now }
+{
+    let handle = eval_target(handle, env)?;
+    let target = request(env.handles, handle);
+    Ok(CallKind::Wait(WaitCall { handle, target }))
+}
+
+/// What a `send` issues.
+pub fn eval_send(send: &SendStmt, env: &Env<'_>) -> Result<Issue, Trap>
+    ensures { result ≡ send_issue send.now env.now }
+{
+    let kind = send_call(send, true, env)?;
+    Ok(Issue { kind, handle: None })
+}
+
+/// What a `recv` issues.
+pub fn eval_recv(recv: &RecvStmt, env: &Env<'_>) -> Result<Issue, Trap>
+    ensures { result ≡ recv_issue recv.now env.now }
+{
+    let kind = recv_call(recv, true, env)?;
+    Ok(Issue { kind, handle: None })
+}
+
+/// What an `isend` issues: the index of its handle is evaluated before the message.
+pub fn eval_isend(isend: &IsendStmt, env: &Env<'_>) -> Result<Issue, Trap>
+    ensures { result ≡ isend_issue isend.now env.now }
+{
+    let handle = eval_target(&isend.request, env)?;
+    let kind = send_call(&isend.send, false, env)?;
+    Ok(Issue {
+        kind,
+        handle: Some(handle),
+    })
+}
+
+/// What an `irecv` issues: the index of its handle is evaluated before the message.
+pub fn eval_irecv(irecv: &IrecvStmt, env: &Env<'_>) -> Result<Issue, Trap>
+    ensures { result ≡ irecv_issue irecv.now env.now }
+{
+    let handle = eval_target(&irecv.request, env)?;
+    let kind = recv_call(&irecv.recv, false, env)?;
+    Ok(Issue {
+        kind,
+        handle: Some(handle),
+    })
+}
+
+/// What a `wait` for the request of a handle issues.
+pub fn eval_wait(handle: &Target, env: &Env<'_>) -> Result<Issue, Trap>
+    ensures { result ≡ wait_issue handle.now env.now }
+{
+    let kind = wait_call(handle, env)?;
+    Ok(Issue { kind, handle: None })
 }
 
 /// The cell that an assignment writes, and its new value: the index of its target is evaluated first, then the expression.

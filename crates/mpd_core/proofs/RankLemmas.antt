@@ -1,12 +1,12 @@
 -- One of the ranks is changed, and changed back.
-use Rattle.std.proofs.Common.{◌≡◌, ◌&&◌, ℕ, zero, suc, ◌<◌, ◌+◌, List, [], ◌∷◌, ◌++◌, length, get_or, set, drop, add-one, ℤ, Option, Some, None, Result, Ok, Err, IfOk, refl, sym, ap, ◌∙◌, arith, slice_get, slice_set, IfSome, replicate, Bool, true, false}
+use Rattle.std.proofs.Common.{◌≡◌, ◌&&◌, ℕ, zero, suc, ◌<◌, ◌+◌, List, [], ◌∷◌, ◌++◌, length, get_or, map, set, drop, add-one, ℤ, Option, Some, None, Result, Ok, Err, IfOk, refl, sym, ap, ◌∙◌, arith, slice_get, slice_set, IfSome, replicate, Bool, true, false}
 use Rattle.std.proofs.lemmas.Option.{slice_get_read}
 use Rattle.std.proofs.lemmas.List.{map-set, map-append, length-map, replicate-append-replicate}
 use Rattle.std.specs.Option.{option_map}
 use Rattle.std.proofs.lemmas.List.FromFn.{length-range_with_len}
 use Rattle.std.specs.List.{list_all, range_with_len}
 use Rattle.mpd_model.specs.Outcomes.{has_ended}
-use Rattle.mpd_model.specs.World.{RankWorld}
+use Rattle.mpd_model.specs.World.{RankWorld, World, board_of, calls_of, listed_calls}
 use Rattle.mpd_model.specs.Next.{local, local_at, local_in, put_at, update_at, is_blocked, waits}
 use Rattle.mpd_model.specs.declared.call.Activity.{Activity}
 use Rattle.mpd_model.specs.declared.call.Activity.TheVariants.{Running, Blocked, Trapped}
@@ -28,6 +28,22 @@ slice_get-ranks_in s (v ∷ vs) (suc p) = slice_get-ranks_in s vs p
 
 rank_read : (s : Program) (vs : List RankView) (n p : ℕ) (v : RankView) → n ≡ length vs → p < n → v ≡ get_or vs p v → slice_get (ranks_in s vs) p ≡ Some (rank_of s v)
 rank_read s vs n p v e h read = slice_get-ranks_in s vs p ∙ ap (option_map (rank_of s)) (slice_get_read vs n p v e h read)
+
+-- ---- the board has the calls of each rank
+
+pub length-board : (w : World) → length (board_of w).calls ≡ length w.ranks
+length-board w = length-map w.ranks (λ (r : RankWorld). r.calls)
+
+get-calls : (ranks : List RankWorld) (p : ℕ) → slice_get (map (λ (r : RankWorld). r.calls) ranks) p ≡ option_map (λ (r : RankWorld). r.calls) (slice_get ranks p)
+get-calls [] p = refl
+get-calls (r ∷ ranks) zero = refl
+get-calls (r ∷ ranks) (suc p) = get-calls ranks p
+
+pub no_calls : (w : World) (p : ℕ) → slice_get w.ranks p ≡ None → calls_of (board_of w) p ≡ []
+no_calls w p none = ap listed_calls (get-calls w.ranks p ∙ ap (option_map (λ (r : RankWorld). r.calls)) none)
+
+pub its_calls : (w : World) (p : ℕ) (r : RankWorld) → slice_get w.ranks p ≡ Some r → calls_of (board_of w) p ≡ r.calls
+its_calls w p r some = ap listed_calls (get-calls w.ranks p ∙ ap (option_map (λ (r : RankWorld). r.calls)) some)
 
 -- ---- the ranks know their numbers
 
@@ -82,8 +98,8 @@ pub recorded_ok : {E : Type 0} (s : Program) (vs : List RankView) (n p : ℕ) (v
 recorded_ok s vs n p v (Ok made) e h read numbers is = recorded_read s vs n p v made e h read numbers is
 recorded_ok s vs n p v (Err failed) e h read numbers is = tt
 
-pub woke_read : (s : Program) (vs : List RankView) (n p : ℕ) (v : RankView) (writes : List (ℕ × ℤ)) (made : RankRecord) → n ≡ length vs → p < n → v ≡ get_or vs p v → made ≡ wake_record v.vars writes → wake_record_at (ranks_in s vs) p writes ≡ Some made
-woke_read s vs n p v writes made e h read is = rw (rank_read s vs n p v e h read) (ap Some (sym is))
+pub woke_read : (s : Program) (vs : List RankView) (n p : ℕ) (v : RankView) (writes : List (ℕ × ℤ)) (handle : Option ℕ) (made : RankRecord) → n ≡ length vs → p < n → v ≡ get_or vs p v → made ≡ wake_record v.vars v.handles writes handle → wake_record_at (ranks_in s vs) p writes handle ≡ Some made
+woke_read s vs n p v writes handle made e h read is = rw (rank_read s vs n p v e h read) (ap Some (sym is))
 
 pub local_none : (s : Program) (vs : List RankView) (n p : ℕ) (v : RankView) → n ≡ length vs → p < n → v ≡ get_or vs p v → numbers_in vs ≡ range_with_len 0 s.ranks → local v.rank s.ranks (rank_of s v) ≡ None → local_in (ranks_in s vs) p ≡ None
 local_none s vs n p v e h read numbers step = ap (option_map (slice_set (ranks_in s vs) p)) (numbered_read s vs n p v e h read numbers ∙ step)
@@ -183,3 +199,5 @@ pub ruleset at_rank = (numbered_read, numbers_set, woke_read, no_room_at, local_
 pub ruleset reading = (slice_get-ranks_in)
 
 pub ruleset starting = (start_more, numbers_more)
+
+pub ruleset board = (length-board, no_calls, its_calls)

@@ -1,7 +1,7 @@
 //! What is read off the match sets and the calls.
 
 ghost use Rattle.std.specs.Prelude.{◌≡◌};
-ghost use Rattle.mpd_model.specs.World.{partner as partner_in, fitting, sends_to, receives, message_of as message_in, is_buffered as buffered_in, is_message_kind as message_kind};
+ghost use Rattle.mpd_model.specs.World.{partner as partner_in, fitting, sends_to, receives, message_of as message_in, awaited_by, is_buffered as buffered_in, is_message_kind as message_kind};
 ghost use Rattle.mpd_model.specs.Next as next_specs;
 
 use mpd_model::call::{CallKind, MatchSet, Message, Mode};
@@ -65,7 +65,7 @@ pub(crate) fn is_message_kind(kind: Option<CallKind>) -> bool
 {
     match kind {
         Some(CallKind::Send(_)) | Some(CallKind::Recv(_)) => true,
-        None => false,
+        Some(CallKind::Wait(_)) | None => false,
     }
 }
 
@@ -83,7 +83,7 @@ pub(crate) fn message_of(id: CallId, kind: Option<CallKind>) -> Option<Message>
     }
 }
 
-/// Whether a call is complete as it is issued.
+/// Whether a call is a send that was buffered as it was issued.
 pub(crate) fn is_buffered(mode: Mode, kind: Option<CallKind>) -> bool
     ensures { result ≡ buffered_in mode kind }
 {
@@ -93,7 +93,33 @@ pub(crate) fn is_buffered(mode: Mode, kind: Option<CallKind>) -> bool
     }
 }
 
-/// The cells that a woken call writes, each with its new value.
+/// The call that a rank waits for which is blocked on this one: what a wait is for, or the call itself.
+pub(crate) fn awaited_by(id: CallId, kind: Option<CallKind>) -> Option<CallId>
+    ensures { result ≡ awaited_by id kind }
+{
+    match kind {
+        Some(CallKind::Wait(wait)) => match wait.target {
+            None => None,
+            Some(index) => Some(CallId {
+                rank: id.rank,
+                index,
+            }),
+        },
+        _ => Some(id),
+    }
+}
+
+/// The handle that a wait clears.
+pub(crate) fn cleared_by(kind: Option<CallKind>) -> Option<usize>
+    ensures { result ≡ next_specs.cleared_by kind }
+{
+    match kind {
+        Some(CallKind::Wait(wait)) => Some(wait.handle),
+        _ => None,
+    }
+}
+
+/// The cells that a receive writes as its rank goes on, each with its new value.
 pub(crate) fn writes_of(kind: Option<CallKind>, message: Option<Message>) -> Cells
     ensures { result ≡ next_specs.writes_of kind message }
 {

@@ -5,8 +5,8 @@ ghost use Rattle.std.specs.Option.{option_map};
 ghost use Rattle.std.specs.List.{list_any, list_all, range_with_len};
 ghost use Rattle.mpd_model.specs.Outcomes.{has_ended, first_number};
 ghost use Rattle.mpd_model.specs.Program.{Program};
-ghost use Rattle.mpd_model.specs.World.{partner as partner_in, call_id, call_at, kind_at, calls_of, is_free, fits, is_pending, is_posted, pending, posted, eligible, buffer, complete, start, start_rank, last_call};
-ghost use Rattle.mpd_model.specs.Next.{next, is_enabled, local_in, update_at, woken_rank, wake_writes, can_wake, waits};
+ghost use Rattle.mpd_model.specs.World.{board_of, partner as partner_in, call_id, call_at, kind_at, calls_of, is_free, fits, is_pending, is_posted, pending, posted, eligible, buffer, is_done, awaited, complete, start, start_rank, last_call};
+ghost use Rattle.mpd_model.specs.Next.{next, is_enabled, local_in, update_at, woken_rank, wake_writes, wake_clears, can_wake, waits};
 ghost use Rattle.mpd_core.specs.Views.{ranks_in, numbers_in, room_in};
 ghost use Rattle.mpd_core.specs.Records.{local_record_at, wake_record_at, record_of};
 ghost use Rattle.mpd_rank.specs.Views.{rank_of};
@@ -93,16 +93,21 @@ fn step_one(
 
 /// Wakes one rank, and answers what takes that back.
 #[tactic(auto, using(crate::proofs::RankLemmas::at_rank))]
-fn wake_one(ranks: &mut Vec<RankState>, rank: usize, writes: Cells) -> RankRecord
+fn wake_one(
+    ranks: &mut Vec<RankState>,
+    rank: usize,
+    writes: Cells,
+    handle: Option<usize>,
+) -> RankRecord
     requires { rank < vec_len ranks.old }
-    ensures after { (s : Program) → ranks_in s ranks.new.items ≡ update_at (ranks_in s ranks.old.items) rank (woken_rank writes) }
-    ensures recorded { (s : Program) → wake_record_at (ranks_in s ranks.old.items) rank writes ≡ Some result }
+    ensures after { (s : Program) → ranks_in s ranks.new.items ≡ update_at (ranks_in s ranks.old.items) rank (woken_rank writes handle) }
+    ensures recorded { (s : Program) → wake_record_at (ranks_in s ranks.old.items) rank writes handle ≡ Some result }
     ensures back { (s : Program) → IfSome (slice_get (ranks_in s ranks.old.items) rank) (λ r. r.activity ≡ Activity.Blocked) → update_at (ranks_in s ranks.new.items) rank (λ r. undone_rank s r result) ≡ ranks_in s ranks.old.items }
     ensures numbers { numbers_in ranks.new.items ≡ numbers_in ranks.old.items }
     ensures size { vec_len ranks.new ≡ vec_len ranks.old }
 {
     let state = &mut ranks[rank];
-    state.complete(writes)
+    state.complete(writes, handle)
 }
 
 /// Takes the step of one rank back.
@@ -185,24 +190,36 @@ impl<'c> Core<'c> {
     }
 
     /// How many ranks there are, 1 to 16.
+    #[tactic(auto, using(crate::proofs::RankLemmas::board))]
     pub fn rank_count(&self) -> usize
         ensures value { result ≡ length self.now.world.ranks }
+        ensures board { result ≡ length (board_of self.now.world).calls }
         ensures small { result ≤ RANKS_MAX }
     {
         self.ranks.len()
     }
 
+    /// The calls of a rank, none where there is no such rank.
+    #[tactic(auto, using(crate::proofs::RankLemmas::board))]
+    fn calls(&self, rank: usize) -> &[Call]
+        ensures { result.now ≡ calls_of (board_of self.now.world) rank }
+    {
+        match rank_at(&self.ranks, rank) {
+            None => &[],
+            Some(state) => state.calls(),
+        }
+    }
+
     /// A call, where it exists.
     pub fn call(&self, id: CallId) -> Option<Call>
-        ensures { result ≡ call_at self.now.world id }
+        ensures { result ≡ call_at (board_of self.now.world) id }
     {
-        let rank = rank_at(&self.ranks, id.rank)?;
-        rank.calls().get(id.index).copied()
+        self.calls(id.rank).get(id.index).copied()
     }
 
     /// What a call is, where it exists.
     pub(crate) fn kind(&self, id: CallId) -> Option<CallKind>
-        ensures { result ≡ kind_at self.now.world id }
+        ensures { result ≡ kind_at (board_of self.now.world) id }
     {
         match self.call(id) {
             None => None,
@@ -219,46 +236,60 @@ impl<'c> Core<'c> {
 
     /// Whether it is a send or a receive that no pair names.
     pub(crate) fn is_free(&self, id: CallId) -> bool
-        ensures { result ≡ is_free self.now.world id }
+        ensures { result ≡ is_free (board_of self.now.world) id }
     {
         lookup::is_message_kind(self.kind(id)) && self.partner(id).is_none()
     }
 
     /// The message that a receive was paired with, where it was.
     pub(crate) fn buffer(&self, id: CallId) -> Option<Message>
-        ensures { result ≡ buffer self.now.world id }
+        ensures { result ≡ buffer (board_of self.now.world) id }
     {
         let send = self.partner(id)?;
         lookup::message_of(send, self.kind(send))
     }
 
-    /// Whether a call is complete (docs/DEFINITIONS.md, "Completion").
-    pub(crate) fn is_complete(&self, id: CallId) -> bool
-        ensures { result ≡ complete self.now.world id }
+    /// Whether a send or a receive is paired, or was buffered as it was issued.
+    fn is_done(&self, id: CallId) -> bool
+        ensures { result ≡ is_done (board_of self.now.world) id }
     {
         self.partner(id).is_some() || lookup::is_buffered(self.mode, self.kind(id))
     }
 
+    /// The call that a rank waits for which is blocked on this one (docs/DEFINITIONS.md, "Completion").
+    fn awaited(&self, id: CallId) -> Option<CallId>
+        ensures { result ≡ awaited (board_of self.now.world) id }
+    {
+        lookup::awaited_by(id, self.kind(id))
+    }
+
+    /// Whether a call is complete (docs/DEFINITIONS.md, "Completion").
+    pub(crate) fn is_complete(&self, id: CallId) -> bool
+        ensures { result ≡ complete (board_of self.now.world) id }
+    {
+        match self.awaited(id) {
+            None => true,
+            Some(call) => self.is_done(call),
+        }
+    }
+
     /// Whether the receive fits the send (MPI 4.0, section 3.2.4).
     pub(crate) fn fits(&self, send: CallId, recv: CallId) -> bool
-        ensures { result ≡ fits self.now.world send recv }
+        ensures { result ≡ fits (board_of self.now.world) send recv }
     {
         lookup::is_fitting(self.kind(send), self.kind(recv), send.rank, recv.rank)
     }
 
     /// How many calls a rank has issued, 0 where there is no such rank.
     pub fn call_count(&self, rank: usize) -> usize
-        ensures { result ≡ length (calls_of (slice_get self.now.world.ranks rank)) }
+        ensures { result ≡ length (calls_of (board_of self.now.world) rank) }
     {
-        match rank_at(&self.ranks, rank) {
-            None => 0,
-            Some(state) => state.calls().len(),
-        }
+        self.calls(rank).len()
     }
 
     /// Whether a call of the sender is a free send to the receiver.
     pub fn is_pending(&self, sender: usize, receiver: usize, index: usize) -> bool
-        ensures { result ≡ is_pending self.now.world sender receiver index }
+        ensures { result ≡ is_pending (board_of self.now.world) sender receiver index }
     {
         let id = CallId {
             rank: sender,
@@ -269,7 +300,7 @@ impl<'c> Core<'c> {
 
     /// Whether a call of the rank is a free receive.
     pub fn is_posted(&self, rank: usize, index: usize) -> bool
-        ensures { result ≡ is_posted self.now.world rank index }
+        ensures { result ≡ is_posted (board_of self.now.world) rank index }
     {
         let id = CallId { rank, index };
         lookup::is_recv(self.kind(id)) && self.is_free(id)
@@ -277,7 +308,7 @@ impl<'c> Core<'c> {
 
     /// Whether this call of the sender is earlier than the send and fits the receive.
     fn is_early_send(&self, send: CallId, recv: CallId, index: usize) -> bool
-        ensures { result ≡ is_early_send self.now.world send recv index }
+        ensures { result ≡ is_early_send (board_of self.now.world) send recv index }
     {
         let id = CallId {
             rank: send.rank,
@@ -288,7 +319,7 @@ impl<'c> Core<'c> {
 
     /// Whether this call of the receiver is earlier than the receive and fits the send.
     fn is_early_recv(&self, send: CallId, recv: CallId, index: usize) -> bool
-        ensures { result ≡ is_early_recv self.now.world send recv index }
+        ensures { result ≡ is_early_recv (board_of self.now.world) send recv index }
     {
         let id = CallId {
             rank: recv.rank,
@@ -300,7 +331,7 @@ impl<'c> Core<'c> {
     /// Whether an earlier pending send fits the receive.
     #[tactic(auto, using(crate::proofs::ScanLemmas::found_on, crate::proofs::ScanLemmas::found_now))]
     fn has_send_before(&self, send: CallId, recv: CallId) -> bool
-        ensures { result ≡ list_any (λ i. nat_lt i send.index && fits self.now.world (call_id send.rank i) recv) (pending self.now.world send.rank recv.rank) }
+        ensures { result ≡ list_any (λ i. nat_lt i send.index && fits (board_of self.now.world) (call_id send.rank i) recv) (pending (board_of self.now.world) send.rank recv.rank) }
     {
         let count = self.call_count(send.rank);
         for index in 0..count {
@@ -316,7 +347,7 @@ impl<'c> Core<'c> {
     /// Whether an earlier posted receive fits the send.
     #[tactic(auto, using(crate::proofs::ScanLemmas::found_on, crate::proofs::ScanLemmas::found_now))]
     fn has_recv_before(&self, send: CallId, recv: CallId) -> bool
-        ensures { result ≡ list_any (λ i. nat_lt i recv.index && fits self.now.world send (call_id recv.rank i)) (posted self.now.world recv.rank) }
+        ensures { result ≡ list_any (λ i. nat_lt i recv.index && fits (board_of self.now.world) send (call_id recv.rank i)) (posted (board_of self.now.world) recv.rank) }
     {
         let count = self.call_count(recv.rank);
         for index in 0..count {
@@ -329,7 +360,7 @@ impl<'c> Core<'c> {
 
     /// Whether the two may be paired (MPI 4.0, section 3.5: messages don't overtake).
     pub(crate) fn is_eligible(&self, send: CallId, recv: CallId) -> bool
-        ensures { result ≡ eligible self.now.world send recv }
+        ensures { result ≡ eligible (board_of self.now.world) send recv }
     {
         self.is_free(send)
             && self.is_free(recv)
@@ -340,7 +371,7 @@ impl<'c> Core<'c> {
 
     /// The last call of a rank.
     pub(crate) fn last_call(&self, rank: usize) -> CallId
-        ensures { result ≡ last_call self.now.world rank }
+        ensures { result ≡ last_call (board_of self.now.world) rank }
     {
         CallId {
             rank,
@@ -478,12 +509,21 @@ impl<'c> Core<'c> {
         })
     }
 
-    /// The cells that the last call of a rank writes as it is woken, each with its new value.
+    /// The cells that the wake of a rank writes, each with its new value.
     fn wake_writes(&self, rank: usize) -> Cells
-        ensures { result ≡ wake_writes self.now.world rank }
+        ensures { result ≡ wake_writes (board_of self.now.world) rank }
     {
-        let id = self.last_call(rank);
-        lookup::writes_of(self.kind(id), self.buffer(id))
+        match self.awaited(self.last_call(rank)) {
+            None => Cells::none(),
+            Some(call) => lookup::writes_of(self.kind(call), self.buffer(call)),
+        }
+    }
+
+    /// The handle that the wake of a rank clears, if any.
+    fn wake_clears(&self, rank: usize) -> Option<usize>
+        ensures { result ≡ wake_clears (board_of self.now.world) rank }
+    {
+        lookup::cleared_by(self.kind(self.last_call(rank)))
     }
 
     /// A wake.
@@ -501,9 +541,10 @@ impl<'c> Core<'c> {
             return Err(StepFault::NotEnabled);
         }
         let writes = self.wake_writes(rank);
+        let handle = self.wake_clears(rank);
         let id = self.last_call(rank);
         self.sets.push(MatchSet::Woke(id))?;
-        let RankRecord { from, change } = wake_one(&mut self.ranks, rank, writes);
+        let RankRecord { from, change } = wake_one(&mut self.ranks, rank, writes, handle);
         Ok(Record {
             step: Step::Wake(rank),
             from,

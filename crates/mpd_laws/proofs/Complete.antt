@@ -97,7 +97,7 @@ unfolding atom token advanced
 ranks_read p s rest b i e = rw e refl
 
 -- the name of a variable is sought
-pub seek_at : (s : Spot) (sized : Bool) (p : Place) (rest : List Spot) (b : ℕ) (i : Input) → (n : Names i.decls s sized p) → seek Variable (at (s ∷ rest) b i) ≡ Ok (n.slot, at (s ∷ rest) b i)
+pub seek_at : (s : Spot) (sized : Bool) (p : Place) (rest : List Spot) (b : ℕ) (i : Input) → (n : Names i.decls Variable s sized p) → seek Variable (at (s ∷ rest) b i) ≡ Ok (n.slot, at (s ∷ rest) b i)
 unfolding seek spelling
 seek_at s sized p rest b i n = rw (n.declared, n.kind) refl
 
@@ -109,12 +109,12 @@ whole_read : (q : ℕ → Parser Term) (p : Place) (o : Option ℕ) (i : Input) 
 whole_read q p None i h = refl
 whole_read q p (Some k) i h = absurd (cc)
 
-place_read : (q : ℕ → Parser Term) (s : Spot) (p : Place) (rest : List Spot) (b : ℕ) (i : Input) → Names i.decls s false p → place_inside q (at (s ∷ rest) b i) ≡ Ok (cell p, at rest b i)
+place_read : (q : ℕ → Parser Term) (s : Spot) (p : Place) (rest : List Spot) (b : ℕ) (i : Input) → Names i.decls Variable s false p → place_inside q (at (s ∷ rest) b i) ≡ Ok (cell p, at rest b i)
 unfolding place_inside advanced
 place_read q s p rest b i n =
     bind_to _ _ _ _ (seek_at s false p rest b i n) (ap (λ r. indexed q r n.slot.size (at rest b i)) n.place ∙ whole_read q p n.slot.size (at rest b i) n.size)
 
-name_read : (q : ℕ → Parser Term) (s : Spot) (p : Place) (rest : List Spot) (b : ℕ) (i : Input) → Names i.decls s false p → atom q (at (s ∷ rest) b i) ≡ Ok (cell p, at rest b i)
+name_read : (q : ℕ → Parser Term) (s : Spot) (p : Place) (rest : List Spot) (b : ℕ) (i : Input) → Names i.decls Variable s false p → atom q (at (s ∷ rest) b i) ≡ Ok (cell p, at rest b i)
 name_read q s p rest b i n = atom_is q s rest b i Name n.token ∙ place_read q s p rest b i n
 
 bracket_at : (a : Spot) (rest : List Spot) (b : ℕ) (i : Input) → a.token ≡ Is m.SquareOpen → bracket (at (a ∷ rest) (suc b) i) ≡ Ok (tt, at rest b i)
@@ -128,7 +128,7 @@ index_read q p None a z ss rest t b c i o d e h = absurd (cc)
 index_read q p (Some k) a z ss rest t b c i o d e h =
     bind_to _ _ _ _ (bracket_at a (ss ++ z ∷ rest) b i d) (bind_to _ _ _ _ h (bind_to _ _ _ _ (expect_at m.SquareClose z rest c i e) refl))
 
-element_read : (q : ℕ → Parser Term) (s a z : Spot) (ss rest : List Spot) (p : Place) (t : Term) (b c : ℕ) (i : Input) → Names i.decls s true p
+element_read : (q : ℕ → Parser Term) (s a z : Spot) (ss rest : List Spot) (p : Place) (t : Term) (b c : ℕ) (i : Input) → Names i.decls Variable s true p
     → a.token ≡ Is m.SquareOpen → z.token ≡ Is m.SquareClose → q 5 (at (ss ++ z ∷ rest) b i) ≡ Ok (t, at (z ∷ rest) c i)
     → place_inside q (at (s ∷ a ∷ ss ++ z ∷ rest) (suc b) i) ≡ Ok (element p t, at rest c i)
 unfolding place_inside advanced
@@ -136,7 +136,7 @@ element_read q s a z ss rest p t b c i n d e h =
     bind_to _ _ _ _ (seek_at s true p (a ∷ ss ++ z ∷ rest) (suc b) i n)
     (ap (λ r. indexed q r n.slot.size (at (a ∷ ss ++ z ∷ rest) (suc b) i)) n.place ∙ index_read q p n.slot.size a z ss rest t b c i n.size d e h)
 
-entry_read : (q : ℕ → Parser Term) (s a z : Spot) (ss rest : List Spot) (p : Place) (t : Term) (b c : ℕ) (i : Input) → Names i.decls s true p
+entry_read : (q : ℕ → Parser Term) (s a z : Spot) (ss rest : List Spot) (p : Place) (t : Term) (b c : ℕ) (i : Input) → Names i.decls Variable s true p
     → a.token ≡ Is m.SquareOpen → z.token ≡ Is m.SquareClose → q 5 (at (ss ++ z ∷ rest) b i) ≡ Ok (t, at (z ∷ rest) c i)
     → atom q (at (s ∷ a ∷ ss ++ z ∷ rest) (suc b) i) ≡ Ok (element p t, at rest c i)
 entry_read q s a z ss rest p t b c i n d e h = atom_is q s (a ∷ ss ++ z ∷ rest) (suc b) i Name n.token ∙ element_read q s a z ss rest p t b c i n d e h
@@ -243,7 +243,7 @@ round_reads i a z ss t ea ez h n b c rest e le st =
     let le' : c + cost ss ≤ n - 1 = omega arith in
     round_from n (n - 1) b (c + cost ss) c a z ss rest t i en eb ea ez (h (n - 1) (c + cost ss) c (z ∷ rest) refl le' (mark_stops 5 z rest (Is m.RoundClose) ez refl))
 
-entry_from : (n n' bud b' c : ℕ) (s a z : Spot) (ss rest : List Spot) (p : Place) (t : Term) (i : Input) → n ≡ suc n' → bud ≡ suc b' → Names i.decls s true p
+entry_from : (n n' bud b' c : ℕ) (s a z : Spot) (ss rest : List Spot) (p : Place) (t : Term) (i : Input) → n ≡ suc n' → bud ≡ suc b' → Names i.decls Variable s true p
     → a.token ≡ Is m.SquareOpen → z.token ≡ Is m.SquareClose → level (expr n') 5 (at (ss ++ z ∷ rest) b' i) ≡ Ok (t, at (z ∷ rest) c i)
     → level (expr n) 0 (at ((s ∷ a ∷ ss ++ z ∷ []) ++ rest) bud i) ≡ Ok (element p t, at rest c i)
 unfolding level expr
@@ -251,7 +251,7 @@ entry_from n n' bud b' c s a z ss rest p t i en eb names ea ez h =
     let same : (ss ++ z ∷ []) ++ rest ≡ ss ++ z ∷ rest = append_assoc ss (z ∷ []) rest in
     rw (en, eb, same) (entry_read (expr (suc n')) s a z ss rest p t b' c i names ea ez h)
 
-entry_reads : (i : Input) (s a z : Spot) (ss : List Spot) (p : Place) (t : Term) → Names i.decls s true p → a.token ≡ Is m.SquareOpen → z.token ≡ Is m.SquareClose
+entry_reads : (i : Input) (s a z : Spot) (ss : List Spot) (p : Place) (t : Term) → Names i.decls Variable s true p → a.token ≡ Is m.SquareOpen → z.token ≡ Is m.SquareClose
     → Reads i 5 ss t → Reads i 0 (s ∷ a ∷ ss ++ z ∷ []) (element p t)
 entry_reads i s a z ss p t names ea ez h n b c rest e le st =
     let first : price s.token ≡ 0 = ap price names.token in

@@ -5,7 +5,8 @@ use denote.Enum.Bare.{true_same}
 use Rattle.mpd_model.specs.declared.limits.TheConstants.{NESTING_MAX, STATEMENTS_MAX}
 use Rattle.mpd_model.specs.contracts.token.Mark.{the_type}
 use Rattle.mpd_model.specs.declared.expr.UnaryOp.{UnaryOp}
-use Rattle.mpd_model.specs.declared.place.DeclKind.TheVariants.{Variable}
+use Rattle.mpd_model.specs.declared.place.DeclKind.{DeclKind}
+use Rattle.mpd_model.specs.declared.place.DeclKind.TheVariants.{Variable, Handle}
 use Rattle.mpd_model.specs.declared.place.Place.{Place}
 use Rattle.mpd_model.specs.declared.slot.Slot.{Slot}
 use Rattle.mpd_model.specs.declared.token.Mark.{Mark}
@@ -15,7 +16,7 @@ use Rattle.mpd_model.specs.declared.token.Token.TheVariants.{Name, Is}
 use Rattle.mpd_model.specs.Declaration.{Declared}
 use Rattle.mpd_model.specs.Costs.{cost, Stops, on, Gives, index_cost, part_cost, dearest_part}
 use Rattle.mpd_model.specs.Grammar.{expression, begun, sign, place_of_slot, outside, target, named_by, named, source, status, fill, EndsTerm, EndsStatus, AreClear}
-use Rattle.mpd_model.specs.Input.{Input, Parser, token, token_of, spelling, advanced, expect, seek, slot_in, sees, is_mark, same_mark, count, after}
+use Rattle.mpd_model.specs.Input.{Input, Parser, token, token_of, spelling, advanced, expect, seek, same_kind, slot_in, sees, is_mark, same_mark, count, after}
 use Rattle.mpd_model.specs.Parts.{Part, Hole, mark_hole, term_hole, target_hole, source_hole, status_hole, source_part, status_parts, Contents, filled}
 use Rattle.mpd_model.specs.Term.{Term, Target}
 use Rattle.mpd_model.specs.Tokens.{Spot}
@@ -40,14 +41,14 @@ expression_on e rest t ls b i w le s = expr_complete (suc NESTING_MAX) 5 e rest 
 -- ---- places that stand in no expression
 
 -- A place that is written begins with its name; what is behind that is read.
-pub record Begins (i : Input) (ss : List Spot) (t : Target) : Type 0 where
+pub record Begins (i : Input) (wanted : DeclKind) (ss : List Spot) (t : Target) : Type 0 where
   pub first : Spot
   pub behind : List Spot
   pub is : ss ≡ first ∷ behind
   pub token : first.token ≡ Name
   pub slot : Slot
   pub declared : slot_in i.decls first.text ≡ Some slot
-  pub kind : slot.kind ≡ Variable
+  pub kind : slot.kind ≡ wanted
   pub reads : (ls : List ℕ) (b : ℕ) (rest : List Spot) → Gives (outside (place_of_slot slot) slot.size (on (behind ++ rest) ls b i)) t rest ls i
 
 whole_on : (p : Place) (o : Option ℕ) (rest : List Spot) (ls : List ℕ) (b : ℕ) (i : Input) → is_some o ≡ false
@@ -68,8 +69,8 @@ same_place : (p q : Place) (o : Option ℕ) (t : Target) (ss us rest : List Spot
     → Gives (outside q o (on us ls b i)) t rest ls i → Gives (outside p o (on ss ls b i)) t rest ls i
 same_place p q o t ss us rest ls b i d e g = rw (d, e) g
 
-pub target_begins : (i : Input) (ss : List Spot) (t : Target) (w : WrittenTarget i.decls ss t) → index_cost i.decls ss t w ≤ NESTING_MAX → Begins i ss t
-target_begins i _ _ (whole s p n) le = record {
+pub target_begins : (i : Input) (kind : DeclKind) (ss : List Spot) (t : Target) (w : WrittenTarget i.decls kind ss t) → index_cost i.decls kind ss t w ≤ NESTING_MAX → Begins i kind ss t
+target_begins i kind _ _ (whole s p n) le = record {
   first = s;
   behind = [];
   is = refl;
@@ -80,7 +81,7 @@ target_begins i _ _ (whole s p n) le = record {
   reads = λ ls b rest. same_place (place_of_slot n.slot) p n.slot.size (record { place = p; index = None }) rest rest rest ls b i n.place refl
       (record { left = b; is = whole_on p n.slot.size rest ls b i n.size });
 }
-target_begins i _ _ (part s a z ss p t n ha w hz) le = record {
+target_begins i kind _ _ (part s a z ss p t n ha w hz) le = record {
   first = s;
   behind = a ∷ ss ++ z ∷ [];
   is = refl;
@@ -92,31 +93,37 @@ target_begins i _ _ (part s a z ss p t n ha w hz) le = record {
       (record { left = NESTING_MAX - cost ss; is = part_on p n.slot.size a z ss rest t ls b i n.size ha w hz le });
 }
 
-pub seek_on : (s : Spot) (slot : Slot) (rest : List Spot) (ls : List ℕ) (b : ℕ) (i : Input) → slot_in i.decls s.text ≡ Some slot → slot.kind ≡ Variable
-    → seek Variable (on (s ∷ rest) ls b i) ≡ Ok (slot, on (s ∷ rest) ls b i)
+-- a kind is the same as itself
+kind_is_same : (kind : DeclKind) → same_kind kind kind ≡ true
+kind_is_same Variable = refl
+kind_is_same Handle = refl
+
+pub seek_on : (kind : DeclKind) (s : Spot) (slot : Slot) (rest : List Spot) (ls : List ℕ) (b : ℕ) (i : Input) → slot_in i.decls s.text ≡ Some slot → slot.kind ≡ kind
+    → seek kind (on (s ∷ rest) ls b i) ≡ Ok (slot, on (s ∷ rest) ls b i)
 unfolding seek spelling
-seek_on s slot rest ls b i d k = rw (d, k) refl
+seek_on kind s slot rest ls b i d k = rw (d, k, kind_is_same kind) refl
 
-target_on : (s : Spot) (slot : Slot) (ss rest : List Spot) (t : Target) (ls : List ℕ) (b : ℕ) (i : Input) → slot_in i.decls s.text ≡ Some slot → slot.kind ≡ Variable
-    → Gives (outside (place_of_slot slot) slot.size (on ss ls b i)) t rest ls i → Gives (target (on (s ∷ ss) ls b i)) t rest ls i
+target_on : (kind : DeclKind) (s : Spot) (slot : Slot) (ss rest : List Spot) (t : Target) (ls : List ℕ) (b : ℕ) (i : Input) → slot_in i.decls s.text ≡ Some slot → slot.kind ≡ kind
+    → Gives (outside (place_of_slot slot) slot.size (on ss ls b i)) t rest ls i → Gives (target kind (on (s ∷ ss) ls b i)) t rest ls i
 unfolding target advanced
-target_on s slot ss rest t ls b i d k g = record { left = g.left; is = bind_to _ _ _ _ (seek_on s slot ss ls b i d k) g.is }
+target_on kind s slot ss rest t ls b i d k g = record { left = g.left; is = bind_to _ _ _ _ (seek_on kind s slot ss ls b i d k) g.is }
 
-named_as : (s : Spot) (ss : List Spot) (ls : List ℕ) (b : ℕ) (i : Input) → s.token ≡ Name → named (on (s ∷ ss) ls b i) ≡ target (on (s ∷ ss) ls b i)
+named_as : (kind : DeclKind) (s : Spot) (ss : List Spot) (ls : List ℕ) (b : ℕ) (i : Input) → s.token ≡ Name → named kind (on (s ∷ ss) ls b i) ≡ target kind (on (s ∷ ss) ls b i)
 unfolding named token
-named_as s ss ls b i e = ap (λ u. named_by u (on (s ∷ ss) ls b i)) e
+named_as kind s ss ls b i e = ap (λ u. named_by kind u (on (s ∷ ss) ls b i)) e
 
-named_from : (s : Spot) (ss rest : List Spot) (t : Target) (ls : List ℕ) (b : ℕ) (i : Input) → s.token ≡ Name → Gives (target (on (s ∷ ss) ls b i)) t rest ls i
-    → Gives (named (on (s ∷ ss) ls b i)) t rest ls i
-named_from s ss rest t ls b i e g = record { left = g.left; is = named_as s ss ls b i e ∙ g.is }
+named_from : (kind : DeclKind) (s : Spot) (ss rest : List Spot) (t : Target) (ls : List ℕ) (b : ℕ) (i : Input) → s.token ≡ Name → Gives (target kind (on (s ∷ ss) ls b i)) t rest ls i
+    → Gives (named kind (on (s ∷ ss) ls b i)) t rest ls i
+named_from kind s ss rest t ls b i e g = record { left = g.left; is = named_as kind s ss ls b i e ∙ g.is }
 
-named_same : (ss us rest : List Spot) (t : Target) (ls : List ℕ) (b : ℕ) (i : Input) → ss ≡ us → Gives (named (on us ls b i)) t rest ls i → Gives (named (on ss ls b i)) t rest ls i
-named_same ss us rest t ls b i e g = rw e g
+named_same : (kind : DeclKind) (ss us rest : List Spot) (t : Target) (ls : List ℕ) (b : ℕ) (i : Input) → ss ≡ us → Gives (named kind (on us ls b i)) t rest ls i
+    → Gives (named kind (on ss ls b i)) t rest ls i
+named_same kind ss us rest t ls b i e g = rw e g
 
-named_on : (ss rest : List Spot) (t : Target) (ls : List ℕ) (b : ℕ) (i : Input) → Begins i ss t → Gives (named (on (ss ++ rest) ls b i)) t rest ls i
-named_on ss rest t ls b i x =
-    named_same (ss ++ rest) (x.first ∷ (x.behind ++ rest)) rest t ls b i (ap (λ r. r ++ rest) x.is)
-    (named_from x.first (x.behind ++ rest) rest t ls b i x.token (target_on x.first x.slot (x.behind ++ rest) rest t ls b i x.declared x.kind (x.reads ls b rest)))
+named_on : (kind : DeclKind) (ss rest : List Spot) (t : Target) (ls : List ℕ) (b : ℕ) (i : Input) → Begins i kind ss t → Gives (named kind (on (ss ++ rest) ls b i)) t rest ls i
+named_on kind ss rest t ls b i x =
+    named_same kind (ss ++ rest) (x.first ∷ (x.behind ++ rest)) rest t ls b i (ap (λ r. r ++ rest) x.is)
+    (named_from kind x.first (x.behind ++ rest) rest t ls b i x.token (target_on kind x.first x.slot (x.behind ++ rest) rest t ls b i x.declared x.kind (x.reads ls b rest)))
 
 -- ---- where a hole ends
 
@@ -135,7 +142,7 @@ holes_stop : (ds : List Declared) (hs : List Hole) (c : Contents hs) (rs : List 
 holes_stop ds [] c _ end rest h no_part e = mark_stops 5 end rest (Is m.Semicolon) e refl
 holes_stop ds (mark_hole k ∷ hs) c _ end rest h (then_part _ rs _ _ (by_mark s _ x) w) e = mark_stops 5 s (rs ++ (end ∷ rest)) (Is k) x h
 holes_stop ds (term_hole ∷ hs) c _ end rest h w e = absurd h
-holes_stop ds (target_hole ∷ hs) c _ end rest h w e = absurd h
+holes_stop ds (target_hole kind ∷ hs) c _ end rest h w e = absurd h
 holes_stop ds (source_hole ∷ hs) c _ end rest h w e = absurd h
 holes_stop ds (status_hole ∷ hs) c rs end rest h w e = status_stops ds (filled hs c.1) c.0 rs (end ∷ rest) (λ ss x. holes_stop ds hs c.1 ss end rest h x e) w
 
@@ -145,7 +152,7 @@ unfolding same_mark
 no_status ds [] c _ end rest h no_part e = ap (is_mark m.Status) e
 no_status ds (mark_hole k ∷ hs) c _ end rest h (then_part _ rs _ _ (by_mark s _ x) w) e = ap (is_mark m.Status) x ∙ h
 no_status ds (term_hole ∷ hs) c _ end rest h w e = absurd h
-no_status ds (target_hole ∷ hs) c _ end rest h w e = absurd h
+no_status ds (target_hole kind ∷ hs) c _ end rest h w e = absurd h
 no_status ds (source_hole ∷ hs) c _ end rest h w e = absurd h
 no_status ds (status_hole ∷ hs) c _ end rest h w e = absurd h
 
@@ -192,7 +199,7 @@ absent_on : (us : List Spot) (ls : List ℕ) (b : ℕ) (i : Input) → is_mark m
 unfolding status sees after token
 absent_on us ls b i h = rw h refl
 
-present_on : (s : Spot) (ss us : List Spot) (t : Target) (ls : List ℕ) (b : ℕ) (i : Input) → is_mark m.Status s.token ≡ true → Gives (named (on ss ls b i)) t us ls i
+present_on : (s : Spot) (ss us : List Spot) (t : Target) (ls : List ℕ) (b : ℕ) (i : Input) → is_mark m.Status s.token ≡ true → Gives (named Variable (on ss ls b i)) t us ls i
     → Gives (status (on (s ∷ ss) ls b i)) (Some t) us ls i
 unfolding status sees after token advanced
 present_on s ss us t ls b i h g = record { left = g.left; is = rw h (bind_to _ _ _ _ g.is refl) }
@@ -207,12 +214,12 @@ record StatusRead (o : Option Target) (ps : List Part) (ss us : List Spot) (ls :
 status_on : (o : Option Target) (ps : List Part) (ss us : List Spot) (ls : List ℕ) (b : ℕ) (i : Input) → (w : WrittenParts i.decls ss (status_parts o ps)) → dearest_part i.decls ss (status_parts o ps) w ≤ NESTING_MAX
     → ((rs : List Spot) → WrittenParts i.decls rs ps → is_mark m.Status (token_of (rs ++ us)) ≡ false) → StatusRead o ps ss us ls b i
 status_on None ps ss us ls b i w le ends = record { others = ss; written = w; cheap = le; gives = record { left = b; is = absent_on (ss ++ us) ls b i (ends ss w) } }
-status_on (Some t) ps _ us ls b i (then_part _ _ _ _ (by_mark s _ h) (then_part ts rs _ _ (by_target _ _ x) w)) le ends = record {
+status_on (Some t) ps _ us ls b i (then_part _ _ _ _ (by_mark s _ h) (then_part ts rs _ _ (by_target _ _ _ x) w)) le ends = record {
   others = rs;
   written = w;
   cheap = omega arith;
   gives = present_on s (ts ++ rs ++ us) (rs ++ us) t ls b i (mark_seen m.Status s h)
-      (named_same (ts ++ rs ++ us) (ts ++ (rs ++ us)) (rs ++ us) t ls b i (append_assoc ts rs us) (named_on ts (rs ++ us) t ls b i (target_begins i ts t x (omega arith))));
+      (named_same Variable (ts ++ rs ++ us) (ts ++ (rs ++ us)) (rs ++ us) t ls b i (append_assoc ts rs us) (named_on Variable ts (rs ++ us) t ls b i (target_begins i Variable ts t x (omega arith))));
 }
 
 -- ---- all parts, and the `;` behind them
@@ -231,10 +238,10 @@ fill_on (term_hole ∷ hs) made c _ end rest ls b i p (then_part ss rs _ _ (by_t
     let g = fill_on hs (λ d. made (c.0, d)) c.1 rs end rest ls (NESTING_MAX - cost ss) i p.1 w (omega arith) e in
     same_on (fill (term_hole ∷ hs) made) (made c) (ss ++ rs ++ (end ∷ rest)) (ss ++ (rs ++ (end ∷ rest))) rest ls ls b i (append_assoc ss rs (end ∷ rest))
     (record { left = g.left; is = bind_to _ _ _ _ first g.is })
-fill_on (target_hole ∷ hs) made c _ end rest ls b i p (then_part ss rs _ _ (by_target _ _ x) w) le e =
-    let n = named_on ss (rs ++ (end ∷ rest)) c.0 ls b i (target_begins i ss c.0 x (omega arith)) in
+fill_on (target_hole kind ∷ hs) made c _ end rest ls b i p (then_part ss rs _ _ (by_target _ _ _ x) w) le e =
+    let n = named_on kind ss (rs ++ (end ∷ rest)) c.0 ls b i (target_begins i kind ss c.0 x (omega arith)) in
     let g = fill_on hs (λ d. made (c.0, d)) c.1 rs end rest ls n.left i p w (omega arith) e in
-    same_on (fill (target_hole ∷ hs) made) (made c) (ss ++ rs ++ (end ∷ rest)) (ss ++ (rs ++ (end ∷ rest))) rest ls ls b i (append_assoc ss rs (end ∷ rest))
+    same_on (fill (target_hole kind ∷ hs) made) (made c) (ss ++ rs ++ (end ∷ rest)) (ss ++ (rs ++ (end ∷ rest))) rest ls ls b i (append_assoc ss rs (end ∷ rest))
     (record { left = g.left; is = bind_to _ _ _ _ n.is g.is })
 fill_on (source_hole ∷ hs) made c _ end rest ls b i p (then_part ss rs _ _ x w) le e =
     let n = source_on c.0 ss (rs ++ (end ∷ rest)) ls b i x (omega arith) (holes_stop i.decls hs c.1 rs end rest p.0 w e) in

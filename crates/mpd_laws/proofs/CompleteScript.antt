@@ -5,20 +5,20 @@ use Rattle.std.specs.List.{prefix_len}
 use denote.Enum.Bare.{true_same}
 use Rattle.mpd_model.specs.declared.limits.TheConstants.{BLOCKS_MAX, CELLS_MAX, HANDLES_MAX, NESTING_MAX, RANKS_MAX, SCRIPT_MAX, STATEMENTS_MAX}
 use Rattle.mpd_model.specs.contracts.token.Mark.{the_type}
-use Rattle.mpd_model.specs.declared.place.DeclKind.TheVariants.{Variable}
+use Rattle.mpd_model.specs.declared.place.DeclKind.{DeclKind}
 use Rattle.mpd_model.specs.declared.token.Mark.{Mark}
 use Rattle.mpd_model.specs.declared.token.Mark.TheVariants as m
 use Rattle.mpd_model.specs.declared.token.Token.{Token}
 use Rattle.mpd_model.specs.declared.token.Token.TheVariants.{Number, Name, Is}
-use Rattle.mpd_model.specs.Declaration.{Declared, cells_of, variables_in, handles_in}
+use Rattle.mpd_model.specs.Declaration.{Declared, variable_cells, handle_cells, variables_in, handles_in}
 use Rattle.mpd_model.specs.Costs.{Gives, blocks_in, dearest_body, dearest_script}
-use Rattle.mpd_model.specs.Grammar.{version_by, version, rank_count, ranks_by, ranks, sized_at, size_by, sized, single, declaring, decl_by, decl, decls_from, decls, header, body, block, max_text, is_text, read_of, reading}
+use Rattle.mpd_model.specs.Grammar.{version_by, version, rank_count, ranks_by, ranks, sized_at, size_by, sized, single, declaring, decl_by, decl, declares, decls_by, decls_from, decls, header, body, block, max_text, is_text, read_of, reading}
 use Rattle.mpd_model.specs.Grammar as grammar
 use Rattle.mpd_model.specs.Input.{Input, Outcome, Parser, and_then, start_of, token, token_of, spelling, place, advanced, expect, sees, is_mark, same_mark, after, fresh, add, cells_fit, slot_in}
 use Rattle.mpd_model.specs.Program.{Program, IsLegal}
 use Rattle.mpd_model.specs.Tokens.{Spot, tokens}
 use Rattle.mpd_model.specs.Tree.{Tree, block_of}
-use Rattle.mpd_model.specs.Written.{WrittenTree, WrittenBody, ended, follows, WrittenDecls, none, declares, declares_array, variable_of, WrittenScript, script}
+use Rattle.mpd_model.specs.Written.{WrittenTree, WrittenBody, ended, follows, WrittenDecls, none, declares_one, declares_array, declared_as, WrittenScript, script}
 use Rattle.mpd_laws.proofs.Cells.{variables_in-more, handles_in-more}
 use Rattle.mpd_laws.proofs.Complete.{bind_to, expect_at}
 use Rattle.mpd_laws.proofs.CompleteStatements.{tree_opens, body_complete}
@@ -40,67 +40,67 @@ fresh_has : (n : Spot) (rest : List Spot) (ds : List Declared) (i : Input) → s
 unfolding fresh spelling
 fresh_has n rest ds i h = rw h refl
 
-add_has : (name : List ℕ) (size : Option ℕ) (p : ℕ) (ss : List Spot) (ds : List Declared) (i : Input) → cells_fit Variable size ds ≡ true
-    → add Variable name size p (has ss ds i) ≡ Ok (tt, has ss (ds ++ variable_of name size ∷ []) i)
+add_has : (kind : DeclKind) (name : List ℕ) (size : Option ℕ) (p : ℕ) (ss : List Spot) (ds : List Declared) (i : Input) → cells_fit kind size ds ≡ true
+    → add kind name size p (has ss ds i) ≡ Ok (tt, has ss (ds ++ declared_as kind name size ∷ []) i)
 unfolding add
-add_has name size p ss ds i h = rw h refl
+add_has kind name size p ss ds i h = rw h refl
 
 no_size : (s : Spot) → s.token ≡ Is m.Semicolon → is_mark m.SquareOpen s.token ≡ false
 unfolding same_mark
 no_size s e = ap (is_mark m.SquareOpen) e
 
-single_has : (name : List ℕ) (p : ℕ) (end : Spot) (rest : List Spot) (ds : List Declared) (i : Input) → end.token ≡ Is m.Semicolon → cells_fit Variable None ds ≡ true
-    → single Variable name p (has (end ∷ rest) ds i) ≡ Ok (tt, has rest (ds ++ variable_of name None ∷ []) i)
+single_has : (kind : DeclKind) (name : List ℕ) (p : ℕ) (end : Spot) (rest : List Spot) (ds : List Declared) (i : Input) → end.token ≡ Is m.Semicolon → cells_fit kind None ds ≡ true
+    → single kind name p (has (end ∷ rest) ds i) ≡ Ok (tt, has rest (ds ++ declared_as kind name None ∷ []) i)
 unfolding single
-single_has name p end rest ds i e h =
-    bind_to _ _ _ _ (add_has name None p (end ∷ rest) ds i h) (expect_has m.Semicolon end rest (ds ++ variable_of name None ∷ []) i e)
+single_has kind name p end rest ds i e h =
+    bind_to _ _ _ _ (add_has kind name None p (end ∷ rest) ds i h) (expect_has m.Semicolon end rest (ds ++ declared_as kind name None ∷ []) i e)
 
-sized_at_has : (name : List ℕ) (n : ℕ) (c z end : Spot) (rest : List Spot) (ds : List Declared) (i : Input) → z.token ≡ Is m.SquareClose → end.token ≡ Is m.Semicolon
-    → cells_fit Variable (Some n) ds ≡ true → sized_at Variable name (Some n) (has (c ∷ z ∷ end ∷ rest) ds i) ≡ Ok (tt, has rest (ds ++ variable_of name (Some n) ∷ []) i)
+sized_at_has : (kind : DeclKind) (name : List ℕ) (n : ℕ) (c z end : Spot) (rest : List Spot) (ds : List Declared) (i : Input) → z.token ≡ Is m.SquareClose → end.token ≡ Is m.Semicolon
+    → cells_fit kind (Some n) ds ≡ true → sized_at kind name (Some n) (has (c ∷ z ∷ end ∷ rest) ds i) ≡ Ok (tt, has rest (ds ++ declared_as kind name (Some n) ∷ []) i)
 unfolding advanced
-sized_at_has name n c z end rest ds i ez e h =
-    let es = ds ++ variable_of name (Some n) ∷ [] in
-    bind_to _ _ _ _ (add_has name (Some n) (place (has (c ∷ z ∷ end ∷ rest) ds i)) (c ∷ z ∷ end ∷ rest) ds i h)
+sized_at_has kind name n c z end rest ds i ez e h =
+    let es = ds ++ declared_as kind name (Some n) ∷ [] in
+    bind_to _ _ _ _ (add_has kind name (Some n) (place (has (c ∷ z ∷ end ∷ rest) ds i)) (c ∷ z ∷ end ∷ rest) ds i h)
     (bind_to _ _ _ _ (expect_has m.SquareClose z (end ∷ rest) es i ez) (expect_has m.Semicolon end rest es i e))
 
-sized_has : (name : List ℕ) (n : ℕ) (c z end : Spot) (rest : List Spot) (ds : List Declared) (i : Input) → c.token ≡ Number (pos n) → z.token ≡ Is m.SquareClose
-    → end.token ≡ Is m.Semicolon → cells_fit Variable (Some n) ds ≡ true → sized Variable name (has (c ∷ z ∷ end ∷ rest) ds i) ≡ Ok (tt, has rest (ds ++ variable_of name (Some n) ∷ []) i)
+sized_has : (kind : DeclKind) (name : List ℕ) (n : ℕ) (c z end : Spot) (rest : List Spot) (ds : List Declared) (i : Input) → c.token ≡ Number (pos n) → z.token ≡ Is m.SquareClose
+    → end.token ≡ Is m.Semicolon → cells_fit kind (Some n) ds ≡ true → sized kind name (has (c ∷ z ∷ end ∷ rest) ds i) ≡ Ok (tt, has rest (ds ++ declared_as kind name (Some n) ∷ []) i)
 unfolding sized token
-sized_has name n c z end rest ds i ec ez e h = ap (λ u. size_by Variable name u (has (c ∷ z ∷ end ∷ rest) ds i)) ec ∙ sized_at_has name n c z end rest ds i ez e h
+sized_has kind name n c z end rest ds i ec ez e h = ap (λ u. size_by kind name u (has (c ∷ z ∷ end ∷ rest) ds i)) ec ∙ sized_at_has kind name n c z end rest ds i ez e h
 
 -- one of two, each with its input
 chosen : (b c : Bool) (p q : Parser (Unit {0})) (x y : Input) (o : Outcome (Unit {0})) → b ≡ c → cond c p q (cond c x y) ≡ o → cond b p q (cond b x y) ≡ o
 chosen b c p q x y o e h = rw e h
 
-declaring_has : (n end : Spot) (rest : List Spot) (ds : List Declared) (i : Input) → slot_in ds n.text ≡ None → end.token ≡ Is m.Semicolon → cells_fit Variable None ds ≡ true
-    → declaring Variable (has (n ∷ end ∷ rest) ds i) ≡ Ok (tt, has rest (ds ++ variable_of n.text None ∷ []) i)
+declaring_has : (kind : DeclKind) (n end : Spot) (rest : List Spot) (ds : List Declared) (i : Input) → slot_in ds n.text ≡ None → end.token ≡ Is m.Semicolon → cells_fit kind None ds ≡ true
+    → declaring kind (has (n ∷ end ∷ rest) ds i) ≡ Ok (tt, has rest (ds ++ declared_as kind n.text None ∷ []) i)
 unfolding declaring advanced spelling sees token after
-declaring_has n end rest ds i free e h =
+declaring_has kind n end rest ds i free e h =
     bind_to _ _ _ _ (fresh_has n (end ∷ rest) ds i free)
-    (chosen (is_mark m.SquareOpen end.token) false _ _ _ _ _ (no_size end e) (single_has n.text (place (has (n ∷ end ∷ rest) ds i)) end rest ds i e h))
+    (chosen (is_mark m.SquareOpen end.token) false _ _ _ _ _ (no_size end e) (single_has kind n.text (place (has (n ∷ end ∷ rest) ds i)) end rest ds i e h))
 
-array_has : (n a c z end : Spot) (cells : ℕ) (rest : List Spot) (ds : List Declared) (i : Input) → slot_in ds n.text ≡ None → a.token ≡ Is m.SquareOpen
-    → c.token ≡ Number (pos cells) → z.token ≡ Is m.SquareClose → end.token ≡ Is m.Semicolon → cells_fit Variable (Some cells) ds ≡ true
-    → declaring Variable (has (n ∷ a ∷ c ∷ z ∷ end ∷ rest) ds i) ≡ Ok (tt, has rest (ds ++ variable_of n.text (Some cells) ∷ []) i)
+array_has : (kind : DeclKind) (n a c z end : Spot) (cells : ℕ) (rest : List Spot) (ds : List Declared) (i : Input) → slot_in ds n.text ≡ None → a.token ≡ Is m.SquareOpen
+    → c.token ≡ Number (pos cells) → z.token ≡ Is m.SquareClose → end.token ≡ Is m.Semicolon → cells_fit kind (Some cells) ds ≡ true
+    → declaring kind (has (n ∷ a ∷ c ∷ z ∷ end ∷ rest) ds i) ≡ Ok (tt, has rest (ds ++ declared_as kind n.text (Some cells) ∷ []) i)
 unfolding declaring advanced spelling sees token after
-array_has n a c z end cells rest ds i free ea ec ez e h =
+array_has kind n a c z end cells rest ds i free ea ec ez e h =
     bind_to _ _ _ _ (fresh_has n (a ∷ c ∷ z ∷ end ∷ rest) ds i free)
-    (chosen (is_mark m.SquareOpen a.token) true _ _ _ _ _ (mark_seen m.SquareOpen a.token ea) (sized_has n.text cells c z end rest ds i ec ez e h))
+    (chosen (is_mark m.SquareOpen a.token) true _ _ _ _ _ (mark_seen m.SquareOpen a.token ea) (sized_has kind n.text cells c z end rest ds i ec ez e h))
 
-decl_as : (n : Spot) (ss : List Spot) (ds : List Declared) (i : Input) → n.token ≡ Name → decl Variable (has (n ∷ ss) ds i) ≡ declaring Variable (has (n ∷ ss) ds i)
+decl_as : (kind : DeclKind) (n : Spot) (ss : List Spot) (ds : List Declared) (i : Input) → n.token ≡ Name → decl kind (has (n ∷ ss) ds i) ≡ declaring kind (has (n ∷ ss) ds i)
 unfolding decl token
-decl_as n ss ds i e = ap (λ u. decl_by Variable u (has (n ∷ ss) ds i)) e
+decl_as kind n ss ds i e = ap (λ u. decl_by kind u (has (n ∷ ss) ds i)) e
 
 -- ---- all declarations
 
-decls_more : (n : ℕ) (v : Spot) (ss : List Spot) (ds : List Declared) (i : Input) → is_mark m.Var v.token ≡ true
-    → decls_from (suc n) (has (v ∷ ss) ds i) ≡ and_then (decl Variable (has ss ds i)) (λ u. decls_from n)
-unfolding decls_from sees after token advanced
-decls_more n v ss ds i h = rw h refl
+decls_more : (kind : DeclKind) (n : ℕ) (v : Spot) (ss : List Spot) (ds : List Declared) (i : Input) → declares v.token ≡ Some kind
+    → decls_from (suc n) (has (v ∷ ss) ds i) ≡ and_then (decl kind (has ss ds i)) (λ u. decls_from n)
+unfolding decls_from token advanced
+decls_more kind n v ss ds i h = ap (λ o. decls_by (decls_from n) o (has (v ∷ ss) ds i)) h
 
-decls_end : (n : ℕ) (ss : List Spot) (ds : List Declared) (i : Input) → is_mark m.Var (token_of ss) ≡ false → decls_from (suc n) (has ss ds i) ≡ Ok (tt, has ss ds i)
-unfolding decls_from sees after token
-decls_end n ss ds i h = rw h refl
+decls_end : (n : ℕ) (ss : List Spot) (ds : List Declared) (i : Input) → declares (token_of ss) ≡ None → decls_from (suc n) (has ss ds i) ≡ Ok (tt, has ss ds i)
+unfolding decls_from token
+decls_end n ss ds i h = ap (λ o. decls_by (decls_from n) o (has ss ds i)) h
 
 record Grows (ds es : List Declared) : Type 0 where
   variables : variables_in ds ≤ variables_in es
@@ -114,35 +114,36 @@ less_grows ds es d x = record {
 
 decls_grow : (ds : List Declared) (ss : List Spot) (es : List Declared) → WrittenDecls ds ss es → Grows ds es
 decls_grow _ _ _ (none ds) = record { variables = omega arith; handles = omega arith }
-decls_grow _ _ _ (declares ds es v n end ss h1 h2 h3 h4 w) = less_grows ds es (variable_of n.text None) (decls_grow (ds ++ variable_of n.text None ∷ []) ss es w)
-decls_grow _ _ _ (declares_array ds es v n a c b end cells ss h1 h2 h3 h4 h5 h6 h7 w) =
-    less_grows ds es (variable_of n.text (Some cells)) (decls_grow (ds ++ variable_of n.text (Some cells) ∷ []) ss es w)
+decls_grow _ _ _ (declares_one ds es kind v n end ss h1 h2 h3 h4 w) = less_grows ds es (declared_as kind n.text None) (decls_grow (ds ++ declared_as kind n.text None ∷ []) ss es w)
+decls_grow _ _ _ (declares_array ds es kind v n a c b end cells ss h1 h2 h3 h4 h5 h6 h7 w) =
+    less_grows ds es (declared_as kind n.text (Some cells)) (decls_grow (ds ++ declared_as kind n.text (Some cells) ∷ []) ss es w)
 
-room : (ds es : List Declared) (name : List ℕ) (size : Option ℕ) → Grows (ds ++ variable_of name size ∷ []) es → variables_in es ≤ CELLS_MAX → handles_in es ≤ HANDLES_MAX → cells_fit Variable size ds ≡ true
-room ds es name size g a b =
-    let x : variables_in (ds ++ variable_of name size ∷ []) ≡ variables_in ds + cells_of size = variables_in-more ds (variable_of name size) in
-    let y : handles_in (ds ++ variable_of name size ∷ []) ≡ handles_in ds + 0 = handles_in-more ds (variable_of name size) in
-    let p : nat_le (variables_in ds + cells_of size) CELLS_MAX ≡ true = let z = g.variables in grind (arith, nat_tests) in
-    let q : nat_le (handles_in ds + 0) HANDLES_MAX ≡ true = let z = g.handles in grind (arith, nat_tests) in
+room : (ds es : List Declared) (kind : DeclKind) (name : List ℕ) (size : Option ℕ) → Grows (ds ++ declared_as kind name size ∷ []) es → variables_in es ≤ CELLS_MAX → handles_in es ≤ HANDLES_MAX
+    → cells_fit kind size ds ≡ true
+room ds es kind name size g a b =
+    let x : variables_in (ds ++ declared_as kind name size ∷ []) ≡ variables_in ds + variable_cells kind size = variables_in-more ds (declared_as kind name size) in
+    let y : handles_in (ds ++ declared_as kind name size ∷ []) ≡ handles_in ds + handle_cells kind size = handles_in-more ds (declared_as kind name size) in
+    let p : nat_le (variables_in ds + variable_cells kind size) CELLS_MAX ≡ true = let z = g.variables in grind (arith, nat_tests) in
+    let q : nat_le (handles_in ds + handle_cells kind size) HANDLES_MAX ≡ true = let z = g.handles in grind (arith, nat_tests) in
     rw (p, q) refl
 
 decls_has : (ds : List Declared) (ss : List Spot) (es : List Declared) → WrittenDecls ds ss es → (turns : ℕ) (rest : List Spot) (i : Input) → length ss < turns
-    → is_mark m.Var (token_of rest) ≡ false → variables_in es ≤ CELLS_MAX → handles_in es ≤ HANDLES_MAX → decls_from turns (has (ss ++ rest) ds i) ≡ Ok (tt, has rest es i)
+    → declares (token_of rest) ≡ None → variables_in es ≤ CELLS_MAX → handles_in es ≤ HANDLES_MAX → decls_from turns (has (ss ++ rest) ds i) ≡ Ok (tt, has rest es i)
 decls_has _ _ _ (none ds) zero rest i less h a b = absurd (omega arith)
 decls_has _ _ _ (none ds) (suc turns) rest i less h a b = decls_end turns rest ds i h
-decls_has _ _ _ (declares ds es v n end ss h1 h2 h3 h4 w) zero rest i less h a b = absurd (omega arith)
-decls_has _ _ _ (declares ds es v n end ss h1 h2 h3 h4 w) (suc turns) rest i less h a b =
-    decls_more turns v (n ∷ end ∷ (ss ++ rest)) ds i (mark_seen m.Var v.token h1)
-    ∙ bind_to _ _ _ _ (decl_as n (end ∷ (ss ++ rest)) ds i h2 ∙ declaring_has n end (ss ++ rest) ds i h3 h4 (room ds es n.text None (decls_grow _ ss es w) a b))
-    (decls_has (ds ++ variable_of n.text None ∷ []) ss es w turns rest i (omega arith) h a b)
-decls_has _ _ _ (declares_array ds es v n o c z end cells ss h1 h2 h3 h4 h5 h6 h7 w) zero rest i less h a b = absurd (omega arith)
-decls_has _ _ _ (declares_array ds es v n o c z end cells ss h1 h2 h3 h4 h5 h6 h7 w) (suc turns) rest i less h a b =
-    decls_more turns v (n ∷ o ∷ c ∷ z ∷ end ∷ (ss ++ rest)) ds i (mark_seen m.Var v.token h1)
-    ∙ bind_to _ _ _ _ (decl_as n (o ∷ c ∷ z ∷ end ∷ (ss ++ rest)) ds i h2
-    ∙ array_has n o c z end cells (ss ++ rest) ds i h3 h4 h5 h6 h7 (room ds es n.text (Some cells) (decls_grow _ ss es w) a b))
-    (decls_has (ds ++ variable_of n.text (Some cells) ∷ []) ss es w turns rest i (omega arith) h a b)
+decls_has _ _ _ (declares_one ds es kind v n end ss h1 h2 h3 h4 w) zero rest i less h a b = absurd (omega arith)
+decls_has _ _ _ (declares_one ds es kind v n end ss h1 h2 h3 h4 w) (suc turns) rest i less h a b =
+    decls_more kind turns v (n ∷ end ∷ (ss ++ rest)) ds i h1
+    ∙ bind_to _ _ _ _ (decl_as kind n (end ∷ (ss ++ rest)) ds i h2 ∙ declaring_has kind n end (ss ++ rest) ds i h3 h4 (room ds es kind n.text None (decls_grow _ ss es w) a b))
+    (decls_has (ds ++ declared_as kind n.text None ∷ []) ss es w turns rest i (omega arith) h a b)
+decls_has _ _ _ (declares_array ds es kind v n o c z end cells ss h1 h2 h3 h4 h5 h6 h7 w) zero rest i less h a b = absurd (omega arith)
+decls_has _ _ _ (declares_array ds es kind v n o c z end cells ss h1 h2 h3 h4 h5 h6 h7 w) (suc turns) rest i less h a b =
+    decls_more kind turns v (n ∷ o ∷ c ∷ z ∷ end ∷ (ss ++ rest)) ds i h1
+    ∙ bind_to _ _ _ _ (decl_as kind n (o ∷ c ∷ z ∷ end ∷ (ss ++ rest)) ds i h2
+    ∙ array_has kind n o c z end cells (ss ++ rest) ds i h3 h4 h5 h6 h7 (room ds es kind n.text (Some cells) (decls_grow _ ss es w) a b))
+    (decls_has (ds ++ declared_as kind n.text (Some cells) ∷ []) ss es w turns rest i (omega arith) h a b)
 
-all_decls : (ss rest : List Spot) (es : List Declared) (i : Input) → WrittenDecls [] ss es → is_mark m.Var (token_of rest) ≡ false → variables_in es ≤ CELLS_MAX → handles_in es ≤ HANDLES_MAX
+all_decls : (ss rest : List Spot) (es : List Declared) (i : Input) → WrittenDecls [] ss es → declares (token_of rest) ≡ None → variables_in es ≤ CELLS_MAX → handles_in es ≤ HANDLES_MAX
     → decls (has (ss ++ rest) [] i) ≡ Ok (tt, has rest es i)
 unfolding decls
 all_decls ss rest es i w h a b =
@@ -171,7 +172,7 @@ ranks_has s n rest ds i e a b = ap (λ u. ranks_by u (has (s ∷ rest) ds i)) e 
 
 header_has : (mpd v a r c b : Spot) (ss rest : List Spot) (version count : ℕ) (es : List Declared) (i : Input)
     → mpd.token ≡ Is m.Mpd → v.token ≡ Number (pos version) → version ≡ 1 → a.token ≡ Is m.Semicolon → r.token ≡ Is m.Ranks → c.token ≡ Number (pos count) → 1 ≤ count → count ≤ RANKS_MAX
-    → b.token ≡ Is m.Semicolon → WrittenDecls [] ss es → is_mark m.Var (token_of rest) ≡ false → variables_in es ≤ CELLS_MAX → handles_in es ≤ HANDLES_MAX
+    → b.token ≡ Is m.Semicolon → WrittenDecls [] ss es → declares (token_of rest) ≡ None → variables_in es ≤ CELLS_MAX → handles_in es ≤ HANDLES_MAX
     → header (has (mpd ∷ v ∷ a ∷ r ∷ c ∷ b ∷ (ss ++ rest)) [] i) ≡ Ok (count, has rest es i)
 unfolding header
 header_has mpd v a r c b ss rest version count es i hm hv one ha hr hc low high hb w h x y =
@@ -185,10 +186,10 @@ header_has mpd v a r c b ss rest version count es i hm hv one ha hr hc low high 
 
 -- ---- the body
 
-tree_is_no_decl : (ds : List Declared) (ss : List Spot) (t : Tree) (ls : List ℕ) → WrittenTree ds ss t ls → (r : List Spot) → is_mark m.Var (token_of (ss ++ r)) ≡ false
+tree_is_no_decl : (ds : List Declared) (ss : List Spot) (t : Tree) (ls : List ℕ) → WrittenTree ds ss t ls → (r : List Spot) → declares (token_of (ss ++ r)) ≡ None
 tree_is_no_decl ds ss t ls w r = (tree_opens ds ss t ls w r).no_decl
 
-body_is_no_decl : (ds : List Declared) (ss : List Spot) (ts : List Tree) (ls : List ℕ) → WrittenBody ds ss ts ls → is_mark m.Var (token_of ss) ≡ false
+body_is_no_decl : (ds : List Declared) (ss : List Spot) (ts : List Tree) (ls : List ℕ) → WrittenBody ds ss ts ls → declares (token_of ss) ≡ None
 body_is_no_decl ds _ _ _ ended = refl
 body_is_no_decl ds _ _ _ (follows ss rs t ts ls ms v w) = tree_is_no_decl ds ss t ls v rs
 

@@ -1,6 +1,7 @@
 -- What is written as statements, within the limits, is read.
-use Rattle.std.proofs.Common.{◌≡◌, ℕ, zero, suc, ◌+◌, ◌-◌, ◌<◌, ◌≤◌, Bool, true, false, Some, List, [], ◌∷◌, ◌++◌, length, length-append, append-nil, Ok, refl, ap, sym, subst, ◌∙◌, append_assoc, arith}
+use Rattle.std.proofs.Common.{◌≡◌, ℕ, zero, suc, ◌+◌, ◌-◌, ◌<◌, ◌≤◌, Bool, true, false, None, Some, List, [], ◌∷◌, ◌++◌, length, length-append, append-nil, Ok, refl, ap, sym, subst, ◌∙◌, append_assoc, arith}
 use Rattle.mpd_model.specs.declared.limits.TheConstants.{NESTING_MAX, STATEMENTS_MAX}
+use Rattle.mpd_model.specs.declared.place.DeclKind.{DeclKind}
 use Rattle.mpd_model.specs.declared.place.DeclKind.TheVariants.{Variable}
 use Rattle.mpd_model.specs.declared.slot.Slot.{Slot}
 use Rattle.mpd_model.specs.declared.stmt.Simple.{Simple}
@@ -11,7 +12,7 @@ use Rattle.mpd_model.specs.declared.token.Token.{Token}
 use Rattle.mpd_model.specs.declared.token.Token.TheVariants.{Name, Is, End}
 use Rattle.mpd_model.specs.Declaration.{Declared}
 use Rattle.mpd_model.specs.Costs.{cost, Stops, on, Gives, blocks, blocks_in, dearest_part, dearest, dearest_block, dearest_body}
-use Rattle.mpd_model.specs.Grammar.{begun, closes, place_of_slot, outside, fill, Form, form_of, formed, by_form, HasForm, all_formed, assigning, otherwise, choosing, repeating, stmt_by, stmt, stmts, body, block}
+use Rattle.mpd_model.specs.Grammar.{begun, closes, declares, place_of_slot, outside, fill, Form, form_of, formed, by_form, HasForm, all_formed, assigning, otherwise, choosing, repeating, stmt_by, stmt, stmts, body, block}
 use Rattle.mpd_model.specs.Input.{Input, Outcome, Parser, and_then, token, token_of, advanced, slot_in, sees, is_mark, same_mark, first_line, after}
 use Rattle.mpd_model.specs.Parts.{Part, of_mark, of_target, parts_of, mark_hole, term_hole, Contents, filled}
 use Rattle.mpd_model.specs.Term.{Term, Target}
@@ -40,7 +41,7 @@ assignment_read : (B : Parser (List Tree)) (s : Spot) (slot : Slot) (ss rest : L
 unfolding stmt token
 assignment_read B s slot ss rest t ls ms b i e d k few g = record {
   left = g.left;
-  is = ap (λ u. stmt_by B u (on (s ∷ ss) ls b i)) e ∙ bind_to _ _ _ _ (seek_on s slot ss ls b i d k) (bind_to _ _ _ _ (begun_on s ss ls b i few) g.is);
+  is = ap (λ u. stmt_by B u (on (s ∷ ss) ls b i)) e ∙ bind_to _ _ _ _ (seek_on Variable s slot ss ls b i d k) (bind_to _ _ _ _ (begun_on s ss ls b i few) g.is);
 }
 
 -- ---- choices and repetitions
@@ -125,8 +126,8 @@ assigned_line s v xs us h = rw h refl
 assigns_reads : (i : Input) (n : ℕ) (t : Target) (e : Term) (ss : List Spot) (end : Spot)
     → (w : WrittenParts i.decls ss (parts_of (st.Assign (record { into = t; value = e })))) → dearest_part i.decls ss (parts_of (st.Assign (record { into = t; value = e }))) w ≤ NESTING_MAX → end.token ≡ Is m.Semicolon
     → TreeReads i n (ss ++ end ∷ []) (simple (st.Assign (record { into = t; value = e }))) (first_line ss ∷ [])
-assigns_reads i n t e _ end (then_part v rs _ _ (by_target _ _ names) w) le he b ls rest few last =
-    let x = target_begins i v t names (omega arith) in
+assigns_reads i n t e _ end (then_part v rs _ _ (by_target _ _ _ names) w) le he b ls rest few last =
+    let x = target_begins i Variable v t names (omega arith) in
     let line : List ℕ = ls ++ x.first.line ∷ [] in
     let made : Tree = simple (st.Assign (record { into = t; value = e })) in
     same_gives (stmt (block n)) made _ (x.first ∷ (x.behind ++ (rs ++ (end ∷ rest)))) rest ls line _ b i
@@ -231,13 +232,14 @@ block_stops ds _ _ _ (braces a z ss ts ls ha w hz) r = mark_stops 5 a (ss ++ z �
 pub record Opens (t : Token) : Type 0 where
   pub goes_on : (inside : Bool) → closes inside t ≡ false
   pub other : is_mark m.Else t ≡ false
-  pub no_decl : is_mark m.Var t ≡ false
+  pub no_decl : declares t ≡ None
 
 form_opens : (k : Mark) (f : Form) → form_of k ≡ Some f → Opens (Is k)
 unfolding same_mark
 form_opens m.BraceClose f h = absurd (cc)
 form_opens m.Else f h = absurd (cc)
 form_opens m.Var f h = absurd (cc)
+form_opens m.Req f h = absurd (cc)
 form_opens k f h = record { goes_on = elim [ true ↦ refl | false ↦ refl ]; other = refl; no_decl = refl }
 
 if_opens : Opens (Is m.If)
@@ -258,15 +260,15 @@ tokens_open : (us vs : List Spot) → us ≡ vs → Opens (token_of vs) → Open
 tokens_open us vs e x = rw e x
 
 -- a place begins with its name
-target_opens : (ds : List Declared) (ss : List Spot) (t : Target) → WrittenTarget ds ss t → (us : List Spot) → Opens (token_of (ss ++ us))
-target_opens ds _ _ (whole s p n) us = opens_by s.token Name n.token name_opens
-target_opens ds _ _ (part s a z ss p t n ha w hz) us = opens_by s.token Name n.token name_opens
+target_opens : (ds : List Declared) (kind : DeclKind) (ss : List Spot) (t : Target) → WrittenTarget ds kind ss t → (us : List Spot) → Opens (token_of (ss ++ us))
+target_opens ds kind _ _ (whole s p n) us = opens_by s.token Name n.token name_opens
+target_opens ds kind _ _ (part s a z ss p t n ha w hz) us = opens_by s.token Name n.token name_opens
 
 mark_first_opens : (ds : List Declared) (k : Mark) (ps : List Part) (ss us : List Spot) → Opens (Is k) → WrittenParts ds ss (of_mark k ∷ ps) → Opens (token_of (ss ++ us))
 mark_first_opens ds k ps _ us x (then_part _ rs _ _ (by_mark s _ h) w) = opens_by s.token (Is k) h x
 
-target_first_opens : (ds : List Declared) (t : Target) (ps : List Part) (ss us : List Spot) → WrittenParts ds ss (of_target t ∷ ps) → Opens (token_of (ss ++ us))
-target_first_opens ds t ps _ us (then_part n rs _ _ (by_target _ _ h) w) = tokens_open (n ++ rs ++ us) (n ++ (rs ++ us)) (append_assoc n rs us) (target_opens ds n t h (rs ++ us))
+target_first_opens : (ds : List Declared) (kind : DeclKind) (t : Target) (ps : List Part) (ss us : List Spot) → WrittenParts ds ss (of_target kind t ∷ ps) → Opens (token_of (ss ++ us))
+target_first_opens ds kind t ps _ us (then_part n rs _ _ (by_target _ _ _ h) w) = tokens_open (n ++ rs ++ us) (n ++ (rs ++ us)) (append_assoc n rs us) (target_opens ds kind n t h (rs ++ us))
 
 abbrev PartsOpen : List Declared → List Part → Type 0
 PartsOpen ds ps = (ss us : List Spot) → WrittenParts ds ss ps → Opens (token_of (ss ++ us))
@@ -278,7 +280,7 @@ formed_opens ds s x =
     subst (λ s. PartsOpen ds (parts_of s)) x.is (subst (PartsOpen ds) (sym (x.form.parts x.contents)) marked)
 
 simple_opens : (ds : List Declared) (s : Simple) → PartsOpen ds (parts_of s)
-simple_opens ds (st.Assign s) ss us w = target_first_opens ds s.into _ ss us w
+simple_opens ds (st.Assign s) ss us w = target_first_opens ds Variable s.into _ ss us w
 simple_opens ds s ss us w = formed_opens ds s (all_formed s) ss us w
 
 pub tree_opens : (ds : List Declared) (ss : List Spot) (t : Tree) (ls : List ℕ) → WrittenTree ds ss t ls → (r : List Spot) → Opens (token_of (ss ++ r))

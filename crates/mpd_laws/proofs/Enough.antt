@@ -50,7 +50,7 @@ abbrev AllLower : (ℕ → Parser Term) → Type 0
 AllLower p = (k : ℕ) → Lowers (p k)
 
 seek_keeps : (i : Input) (y : Slot × Input) → seek Variable i ≡ Ok y → (advanced y.1).budget ≡ i.budget
-seek_keeps i y h = let k = seek_ok i y h in next_budget i (advanced y.1) (ap advanced (sym k.2))
+seek_keeps i y h = let k = seek_ok Variable i y h in next_budget i (advanced y.1) (ap advanced (sym k.2))
 
 bracket_case : (found : Bool) (i : Input) (y : Unit {0} × Input) → cond found (spend i) (refuse i) ≡ Ok y → y.1.budget + 1 ≡ i.budget
 bracket_case true i y h = spend_lowers i y h

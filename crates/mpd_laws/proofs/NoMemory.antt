@@ -16,7 +16,7 @@ use Rattle.mpd_model.specs.declared.token.Mark.{Mark}
 use Rattle.mpd_model.specs.declared.token.Mark.TheVariants as m
 use Rattle.mpd_model.specs.declared.token.Token.{Token}
 use Rattle.mpd_model.specs.declared.token.Token.TheVariants.{Number, Name, Is, Bad}
-use Rattle.mpd_model.specs.Grammar.{atom_by, atom, bracket, indexed, place_inside, place_of_slot, rounds, signed, chain, continued, level, expr, turns, operator_at, expression, begun, closes, outside, target, named_by, named, source_by, source, status_by, status, fill, Form, form_of, by_form, assigning, otherwise, choosing, repeating, stmt_by, stmt, stmts, body, block, max_blocks, version_by, version, rank_count, ranks_of, ranks_by, ranks, natural, sized_at, size_by, sized, single, declaring, decl_by, decl, decls_from, decls, header, max_text, is_text, read_of, reading}
+use Rattle.mpd_model.specs.Grammar.{atom_by, atom, bracket, indexed, place_inside, place_of_slot, rounds, signed, chain, continued, level, expr, turns, operator_at, expression, begun, closes, outside, target, named_by, named, source_by, source, status_by, status, fill, Form, form_of, by_form, assigning, otherwise, choosing, repeating, stmt_by, stmt, stmts, body, block, max_blocks, version_by, version, rank_count, ranks_of, ranks_by, ranks, natural, sized_at, size_by, sized, single, declaring, decl_by, decl, declares, decls_by, decls_from, decls, header, max_text, is_text, read_of, reading}
 use Rattle.mpd_model.specs.Grammar as grammar
 use Rattle.mpd_model.specs.Input.{Input, Outcome, Parser, and_then, start_of, token, place, spelling, advanced, code_at, refusal, refuse, fail, advance, pure, expect, spend, count, seek, sought, same_kind, slot_in, fresh, is_known, add, cells_fit, sees, after, max_budget, ◌>>=◌, ◌>>◌}
 use Rattle.mpd_model.specs.Program.{Program}
@@ -144,17 +144,17 @@ outside_sure at (Some cells) i =
     bind_sure (expect m.SquareOpen i) _ (expect_sure m.SquareOpen i) (λ a x. bind_sure (expression x) _ (expression_sure x) (λ e y.
     bind_sure (expect m.SquareClose y) _ (expect_sure m.SquareClose y) (λ b z. tt)))
 
-target_sure : AllSure target
+target_sure : (k : DeclKind) → AllSure (target k)
 unfolding target
-target_sure i = bind_sure (seek Variable i) _ (seek_sure Variable i) (λ v j. outside_sure (place_of_slot v) v.size (advanced j))
+target_sure k i = bind_sure (seek k i) _ (seek_sure k i) (λ v j. outside_sure (place_of_slot v) v.size (advanced j))
 
-named_case : (t : Token) → AllSure (named_by t)
-named_case Name i = target_sure i
-named_case _ i = refusal_sure i
+named_case : (k : DeclKind) (t : Token) → AllSure (named_by k t)
+named_case k Name i = target_sure k i
+named_case k _ i = refusal_sure i
 
-named_sure : AllSure named
+named_sure : (k : DeclKind) → AllSure (named k)
 unfolding named
-named_sure i = named_case (token i) i
+named_sure k i = named_case k (token i) i
 
 source_case : (found : Bool) → AllSure (source_by found)
 source_case true i = tt
@@ -165,7 +165,7 @@ unfolding source
 source_sure i = source_case (sees m.Any i) (after m.Any i)
 
 status_case : (found : Bool) → AllSure (status_by found)
-status_case true i = bind_sure (named i) _ (named_sure i) (λ t x. tt)
+status_case true i = bind_sure (named Variable i) _ (named_sure Variable i) (λ t x. tt)
 status_case false i = tt
 
 status_sure : AllSure status
@@ -176,7 +176,7 @@ fill_sure : {A : Type 0} (hs : List Hole) (made : Contents hs → A) → AllSure
 fill_sure [] made i = bind_sure (expect m.Semicolon i) _ (expect_sure m.Semicolon i) (λ u x. tt)
 fill_sure (mark_hole k ∷ hs) made i = bind_sure (expect k i) _ (expect_sure k i) (λ u x. fill_sure hs made x)
 fill_sure (term_hole ∷ hs) made i = bind_sure (expression i) _ (expression_sure i) (λ e x. fill_sure hs (λ c. made (e, c)) x)
-fill_sure (target_hole ∷ hs) made i = bind_sure (named i) _ (named_sure i) (λ t x. fill_sure hs (λ c. made (t, c)) x)
+fill_sure (target_hole k ∷ hs) made i = bind_sure (named k i) _ (named_sure k i) (λ t x. fill_sure hs (λ c. made (t, c)) x)
 fill_sure (source_hole ∷ hs) made i = bind_sure (source i) _ (source_sure i) (λ o x. fill_sure hs (λ c. made (o, c)) x)
 fill_sure (status_hole ∷ hs) made i = bind_sure (status i) _ (status_sure i) (λ o x. fill_sure hs (λ c. made (o, c)) x)
 
@@ -299,12 +299,14 @@ decl_sure : (k : DeclKind) → AllSure (decl k)
 unfolding decl
 decl_sure k i = decl_case k (token i) i
 
+decls_case : (p : Parser (Unit {0})) → AllSure p → (o : Option DeclKind) → AllSure (decls_by p o)
+decls_case p s None i = tt
+decls_case p s (Some k) i = bind_sure (decl k (advanced i)) _ (decl_sure k (advanced i)) (λ a x. s x)
+
 decls_from_sure : (n : ℕ) → AllSure (decls_from n)
 unfolding decls_from
 decls_from_sure zero i = refusal_sure i
-decls_from_sure (suc n) i =
-    either_sure (sees m.Var i) (decl Variable >> decls_from n) (pure tt) (after m.Var i)
-    (bind_sure (decl Variable (after m.Var i)) _ (decl_sure Variable (after m.Var i)) (λ a x. decls_from_sure n x)) tt
+decls_from_sure (suc n) i = decls_case (decls_from n) (decls_from_sure n) (declares (token i)) i
 
 decls_sure : AllSure decls
 unfolding decls

@@ -3,22 +3,23 @@ use Rattle.std.proofs.Common.{◌≡◌, ℕ, pos, ◌≤◌, true, List, [], �
 use Rattle.std.specs.Prelude.{codes}
 use Rattle.std.specs.Fmt.{decimal}
 use Rattle.std.specs.List.{flat_map, list_all, prefix_len}
-use Rattle.mpd_model.specs.declared.limits.TheConstants.{CELLS_MAX}
+use Rattle.mpd_model.specs.declared.limits.TheConstants.{CELLS_MAX, HANDLES_MAX}
 use Rattle.mpd_model.specs.declared.place.DeclKind.{DeclKind}
 use Rattle.mpd_model.specs.declared.place.DeclKind.TheVariants.{Variable, Handle}
+use Rattle.mpd_model.specs.declared.token.Mark.{Mark}
 use Rattle.mpd_model.specs.declared.token.Mark.TheVariants as m
 use Rattle.mpd_model.specs.declared.token.Token.TheVariants.{Number, Name, Is}
-use Rattle.mpd_model.specs.Canonical.{decl_text, block_text, canonical}
-use Rattle.mpd_model.specs.Declaration.{Declared, variable_cells, variables_in}
+use Rattle.mpd_model.specs.Canonical.{kind_word, decl_text, block_text, canonical}
+use Rattle.mpd_model.specs.Declaration.{Declared, cells_of, variable_cells, handle_cells, variables_in, handles_in}
 use Rattle.mpd_model.specs.Costs.{dearest_script}
-use Rattle.mpd_model.specs.Grammar.{is_text}
+use Rattle.mpd_model.specs.Grammar.{declares, is_text}
 use Rattle.mpd_model.specs.Input.{slot_in, max_budget}
-use Rattle.mpd_model.specs.Printable.{IsName, AreNamed, AreVariables, AreNew, IsPrintable, CanonicalIsReadAgain}
+use Rattle.mpd_model.specs.Printable.{IsName, AreNamed, AreNew, IsPrintable, CanonicalIsReadAgain}
 use Rattle.mpd_model.specs.Program.{Program, IsLegal}
 use Rattle.mpd_model.specs.ReaderLaws.{WrittenScriptsAreRead}
 use Rattle.mpd_model.specs.Tokens.{Spot, tokens, tokens_at, tokens_after, front, sign, word, number}
 use Rattle.mpd_model.specs.Tree.{block_of, trees_of_block, statements_in}
-use Rattle.mpd_model.specs.Written.{variable_of, WrittenDecls, none, declares, declares_array, WrittenScript, script}
+use Rattle.mpd_model.specs.Written.{declared_as, WrittenDecls, none, declares_one, declares_array, WrittenScript, script}
 use Rattle.mpd_laws.proofs.Cuts.{Ends, Any, Cut, Spelled, join, turned, fixed, Both, both, IsOne, one, IsWord, one_word, IsNone, nothing}
 use Rattle.mpd_laws.proofs.PrintStatements.{BodySpots, block_spelled, nil_spelled}
 use Rattle.mpd_laws.proofs.PrintTerms.{name_spelled}
@@ -27,9 +28,22 @@ use Rattle.mpd_laws.proofs.Signs.{square_open, square_close, end_sign}
 
 -- ---- declarations
 
-var_word : Spelled Any (IsOne (Is m.Var)) (codes "var ")
+-- the word that begins a declaration
+abbrev word_of : DeclKind → Mark
+word_of Variable = m.Var
+word_of Handle = m.Req
+
+word_declares : (kind : DeclKind) → declares (Is (word_of kind)) ≡ Some kind
+word_declares Variable = refl
+word_declares Handle = refl
+
+begins : (kind : DeclKind) (v : Spot) → v.token ≡ Is (word_of kind) → declares v.token ≡ Some kind
+begins kind v h = ap declares h ∙ word_declares kind
+
+word_spelled : (kind : DeclKind) → Spelled Any (IsOne (Is (word_of kind))) (kind_word kind)
 unfolding tokens_after front sign word
-var_word = fixed (codes "var ") (λ p l z. refl) (λ p l. one _ refl) refl
+word_spelled Variable = fixed (codes "var ") (λ p l z. refl) (λ p l. one _ refl) refl
+word_spelled Handle = fixed (codes "req ") (λ p l z. refl) (λ p l. one _ refl) refl
 
 abbrev Declares : List Declared → List Declared → List Spot → Type 0
 Declares before ds ss = WrittenDecls before ss (before ++ ds)
@@ -40,50 +54,53 @@ no_decls before _ nothing = subst (WrittenDecls before []) (sym (append-nil befo
 abbrev Rest : List Declared → Declared → List Declared → List Spot → Type 0
 Rest before d ds ss = Declares (before ++ d ∷ []) ds ss
 
-single_spots : (before ds : List Declared) (w : List ℕ) → slot_in before w ≡ None → (ss : List Spot)
-    → Both (Both (Both (IsOne (Is m.Var)) (IsWord Name w)) (IsOne (Is m.Semicolon))) (Rest before (variable_of w None) ds) ss → Declares before (variable_of w None ∷ ds) ss
-single_spots before ds w h _ (both _ rs (both _ _ (both _ _ (one v h1) (one_word n h2 e)) (one end h3)) x) =
-    let es : List Declared = (before ++ variable_of w None ∷ []) ++ ds in
-    subst (WrittenDecls before (v ∷ n ∷ end ∷ rs)) (append_assoc before (variable_of w None ∷ []) ds)
-    (declares before es v n end rs h1 h2 (ap (slot_in before) e ∙ h) h3 (subst (λ u. WrittenDecls (before ++ variable_of u None ∷ []) rs es) (sym e) x))
+single_spots : (before ds : List Declared) (kind : DeclKind) (w : List ℕ) → slot_in before w ≡ None → (ss : List Spot)
+    → Both (Both (Both (IsOne (Is (word_of kind))) (IsWord Name w)) (IsOne (Is m.Semicolon))) (Rest before (declared_as kind w None) ds) ss → Declares before (declared_as kind w None ∷ ds) ss
+single_spots before ds kind w h _ (both _ rs (both _ _ (both _ _ (one v h1) (one_word n h2 e)) (one end h3)) x) =
+    let es : List Declared = (before ++ declared_as kind w None ∷ []) ++ ds in
+    subst (WrittenDecls before (v ∷ n ∷ end ∷ rs)) (append_assoc before (declared_as kind w None ∷ []) ds)
+    (declares_one before es kind v n end rs (begins kind v h1) h2 (ap (slot_in before) e ∙ h) h3 (subst (λ u. WrittenDecls (before ++ declared_as kind u None ∷ []) rs es) (sym e) x))
 
-array_spots : (before ds : List Declared) (w : List ℕ) (k : ℕ) → slot_in before w ≡ None → (ss : List Spot)
-    → Both (Both (Both (Both (IsOne (Is m.Var)) (IsWord Name w)) (Both (Both (IsOne (Is m.SquareOpen)) (IsWord (Number (pos k)) (decimal k))) (IsOne (Is m.SquareClose)))) (IsOne (Is m.Semicolon)))
-    (Rest before (variable_of w (Some k)) ds) ss
-    → Declares before (variable_of w (Some k) ∷ ds) ss
-array_spots before ds w k h _ (both _ rs (both _ _ (both _ _ (both _ _ (one v h1) (one_word n h2 e)) (both _ _ (both _ _ (one a h3) (one_word c h4 f)) (one b h5))) (one end h6)) x) =
-    let es : List Declared = (before ++ variable_of w (Some k) ∷ []) ++ ds in
-    subst (WrittenDecls before (v ∷ n ∷ a ∷ c ∷ b ∷ end ∷ rs)) (append_assoc before (variable_of w (Some k) ∷ []) ds)
-    (declares_array before es v n a c b end k rs h1 h2 (ap (slot_in before) e ∙ h) h3 h4 h5 h6 (subst (λ u. WrittenDecls (before ++ variable_of u (Some k) ∷ []) rs es) (sym e) x))
+array_spots : (before ds : List Declared) (kind : DeclKind) (w : List ℕ) (k : ℕ) → slot_in before w ≡ None → (ss : List Spot)
+    → Both (Both (Both (Both (IsOne (Is (word_of kind))) (IsWord Name w)) (Both (Both (IsOne (Is m.SquareOpen)) (IsWord (Number (pos k)) (decimal k))) (IsOne (Is m.SquareClose)))) (IsOne (Is m.Semicolon)))
+    (Rest before (declared_as kind w (Some k)) ds) ss
+    → Declares before (declared_as kind w (Some k) ∷ ds) ss
+array_spots before ds kind w k h _ (both _ rs (both _ _ (both _ _ (both _ _ (one v h1) (one_word n h2 e)) (both _ _ (both _ _ (one a h3) (one_word c h4 f)) (one b h5))) (one end h6)) x) =
+    let es : List Declared = (before ++ declared_as kind w (Some k) ∷ []) ++ ds in
+    subst (WrittenDecls before (v ∷ n ∷ a ∷ c ∷ b ∷ end ∷ rs)) (append_assoc before (declared_as kind w (Some k) ∷ []) ds)
+    (declares_array before es kind v n a c b end k rs (begins kind v h1) h2 (ap (slot_in before) e ∙ h) h3 h4 h5 h6 (subst (λ u. WrittenDecls (before ++ declared_as kind u (Some k) ∷ []) rs es) (sym e) x))
 
-abbrev declared : DeclKind → List ℕ → Option ℕ → Declared
-declared kind w o = record { kind = kind; name = w; size = o }
+-- the size of an array, whatever it is of
+size_fits : (kind : DeclKind) (o : Option ℕ) → variable_cells kind o ≤ CELLS_MAX → handle_cells kind o ≤ HANDLES_MAX → cells_of o ≤ CELLS_MAX
+size_fits Variable o a b = a
+size_fits Handle o a b = omega (arith, b)
 
-decl_spelled : (before ds : List Declared) (kind : DeclKind) (w : List ℕ) (o : Option ℕ) → IsName w → kind ≡ Variable → slot_in before w ≡ None → variable_cells kind o ≤ CELLS_MAX
-    → Spelled Any (Rest before (declared kind w o) ds) (flat_map decl_text ds) → Spelled Any (Declares before (declared kind w o ∷ ds)) (decl_text (declared kind w o) ++ flat_map decl_text ds)
-decl_spelled before ds Handle w o named is new small x = absurd (let h : ⊥ = cc in h)
-decl_spelled before ds Variable w None named is new small x =
-    let a : List ℕ = codes "var " ++ w in
-    turned (a ++ [] ++ codes ";\n" ++ flat_map decl_text ds) (single_spots before ds w new)
+decl_spelled : (before ds : List Declared) (kind : DeclKind) (w : List ℕ) (o : Option ℕ) → IsName w → slot_in before w ≡ None → cells_of o ≤ CELLS_MAX
+    → Spelled Any (Rest before (declared_as kind w o) ds) (flat_map decl_text ds) → Spelled Any (Declares before (declared_as kind w o ∷ ds)) (decl_text (declared_as kind w o) ++ flat_map decl_text ds)
+decl_spelled before ds kind w None named new small x =
+    let a : List ℕ = kind_word kind ++ w in
+    turned (a ++ [] ++ codes ";\n" ++ flat_map decl_text ds) (single_spots before ds kind w new)
     (join (a ++ [] ++ codes ";\n") (flat_map decl_text ds)
-    (join (a ++ []) (codes ";\n") (subst (Spelled Ends (Both (IsOne (Is m.Var)) (IsWord Name w))) (sym (append-nil a)) (join (codes "var ") w var_word (name_spelled w named) (λ z _. tt))) end_sign (λ z _. refl))
+    (join (a ++ []) (codes ";\n")
+    (subst (Spelled Ends (Both (IsOne (Is (word_of kind))) (IsWord Name w))) (sym (append-nil a)) (join (kind_word kind) w (word_spelled kind) (name_spelled w named) (λ z _. tt))) end_sign (λ z _. refl))
     x (λ z _. tt))
-decl_spelled before ds Variable w (Some k) named is new small x =
-    let a : List ℕ = codes "var " ++ w in
+decl_spelled before ds kind w (Some k) named new small x =
+    let a : List ℕ = kind_word kind ++ w in
     let b : List ℕ = codes "[" ++ decimal k ++ codes "]" in
-    turned (a ++ b ++ codes ";\n" ++ flat_map decl_text ds) (array_spots before ds w k new)
+    turned (a ++ b ++ codes ";\n" ++ flat_map decl_text ds) (array_spots before ds kind w k new)
     (join (a ++ b ++ codes ";\n") (flat_map decl_text ds)
     (join (a ++ b) (codes ";\n")
-    (join a b (join (codes "var ") w var_word (name_spelled w named) (λ z _. tt))
-    (join (codes "[" ++ decimal k) (codes "]") (join (codes "[") (decimal k) square_open (decimal_spelled k (omega arith)) (λ z _. tt)) square_close (λ z _. refl))
+    (join a b (join (kind_word kind) w (word_spelled kind) (name_spelled w named) (λ z _. tt))
+    (join (codes "[" ++ decimal k) (codes "]") (join (codes "[") (decimal k) square_open (decimal_spelled k (omega (arith, small))) (λ z _. tt)) square_close (λ z _. refl))
     (λ z _. refl))
     end_sign (λ z _. tt))
     x (λ z _. tt))
 
-decls_spelled : (before ds : List Declared) → AreNamed ds → AreVariables ds → AreNew before ds → variables_in ds ≤ CELLS_MAX → Spelled Any (Declares before ds) (flat_map decl_text ds)
-decls_spelled before [] named kinds new small = turned [] (no_decls before) nil_spelled
-decls_spelled before (d ∷ ds) named kinds new small =
-    decl_spelled before ds d.kind d.name d.size named.0 kinds.0 new.0 (omega arith) (decls_spelled (before ++ d ∷ []) ds named.1 kinds.1 new.1 (omega arith))
+decls_spelled : (before ds : List Declared) → AreNamed ds → AreNew before ds → variables_in ds ≤ CELLS_MAX → handles_in ds ≤ HANDLES_MAX → Spelled Any (Declares before ds) (flat_map decl_text ds)
+decls_spelled before [] named new few small = turned [] (no_decls before) nil_spelled
+decls_spelled before (d ∷ ds) named new few small =
+    decl_spelled before ds d.kind d.name d.size named.0 new.0 (size_fits d.kind d.size (omega arith) (omega arith))
+    (decls_spelled (before ++ d ∷ []) ds named.1 new.1 (omega arith) (omega arith))
 
 -- ---- the whole text
 
@@ -118,7 +135,7 @@ script_spelled p h =
     (join (a ++ codes ";\n" ++ ds) body
     (join (a ++ codes ";\n") ds
     (join a (codes ";\n") (join (codes "mpd 1;\nranks ") (decimal p.ranks) head_spelled (decimal_spelled p.ranks (omega (arith, h.legal.ranks))) (λ z _. tt)) end_sign (λ z _. refl))
-    (decls_spelled [] p.decls h.named h.variables h.distinct h.legal.variables) (λ z _. tt))
+    (decls_spelled [] p.decls h.named h.distinct h.legal.variables h.legal.handles) (λ z _. tt))
     (subst (λ ts. Spelled Any (BodySpots p.decls ts) body) (trees_of_block p.body) (block_spelled p.decls 0 (block_of p.body) h.body)) (λ z _. tt))
 
 plain_prefix : (w : List ℕ) → list_all is_text w ≡ true → prefix_len is_text w ≡ length w

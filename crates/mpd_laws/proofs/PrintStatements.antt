@@ -1,6 +1,7 @@
 -- The canonical text of statements is cut into tokens that write them, each expression within the limit.
 use Rattle.std.proofs.Common.{◌≡◌, ℕ, zero, suc, ◌≤◌, max, true, false, List, [], ◌∷◌, ◌++◌, length, length-append, Option, Some, None, refl, subst, ap, sym, ◌∙◌, append_assoc, append-nil, arith}
 use Rattle.std.specs.Prelude.{codes}
+use Rattle.mpd_model.specs.declared.place.DeclKind.{DeclKind}
 use Rattle.mpd_model.specs.declared.place.Place.{Place}
 use Rattle.mpd_model.specs.declared.token.Mark.TheVariants as m
 use Rattle.mpd_model.specs.declared.token.Token.{Token}
@@ -39,35 +40,35 @@ whole_spelled ds t h = turned (whole_text ds t) (whole_spots ds t h.cost) (term_
 
 -- ---- targets
 
-record TargetSpots (ds : List Declared) (t : Target) (ss : List Spot) : Type 0 where
-  written : WrittenTarget ds ss t
-  cheap : index_cost ds ss t written ≤ max_budget
+record TargetSpots (ds : List Declared) (kind : DeclKind) (t : Target) (ss : List Spot) : Type 0 where
+  written : WrittenTarget ds kind ss t
+  cheap : index_cost ds kind ss t written ≤ max_budget
 
 abbrev place_at : Place → Option Term → Target
 place_at p o = record { place = p; index = o }
 
-alone_spots : (ds : List Declared) (p : Place) → HasName ds false p → (ss : List Spot) → IsWord Name (name_text ds p) ss → TargetSpots ds (place_at p None) ss
-alone_spots ds p x _ (one_word s h e) = record { written = whole s p (names_of ds false p s x h e); cheap = omega arith }
+alone_spots : (ds : List Declared) (kind : DeclKind) (p : Place) → HasName ds kind false p → (ss : List Spot) → IsWord Name (name_text ds p) ss → TargetSpots ds kind (place_at p None) ss
+alone_spots ds kind p x _ (one_word s h e) = record { written = whole s p (names_of ds kind false p s x h e); cheap = omega arith }
 
-part_spots : (ds : List Declared) (p : Place) (t : Term) → HasName ds true p → (ss : List Spot)
-    → Both (IsWord Name (name_text ds p)) (Both (Both (IsOne (Is m.SquareOpen)) (WholeSpots ds t)) (IsOne (Is m.SquareClose))) ss → TargetSpots ds (place_at p (Some t)) ss
-part_spots ds p t x _ (both _ _ (one_word s h e) (both _ _ (both _ inside (one o h1) y) (one c h2))) =
-    record { written = part s o c inside p t (names_of ds true p s x h e) h1 y.written h2; cheap = y.cheap }
+part_spots : (ds : List Declared) (kind : DeclKind) (p : Place) (t : Term) → HasName ds kind true p → (ss : List Spot)
+    → Both (IsWord Name (name_text ds p)) (Both (Both (IsOne (Is m.SquareOpen)) (WholeSpots ds t)) (IsOne (Is m.SquareClose))) ss → TargetSpots ds kind (place_at p (Some t)) ss
+part_spots ds kind p t x _ (both _ _ (one_word s h e) (both _ _ (both _ inside (one o h1) y) (one c h2))) =
+    record { written = part s o c inside p t (names_of ds kind true p s x h e) h1 y.written h2; cheap = y.cheap }
 
-at_spelled : (ds : List Declared) (p : Place) (o : Option Term) → IsPrintableAt ds p o → Spelled Ends (TargetSpots ds (place_at p o)) (name_text ds p ++ index_text ds o)
-at_spelled ds p None h =
-    subst (Spelled Ends (TargetSpots ds (place_at p None))) (sym (append-nil (name_text ds p))) (turned (name_text ds p) (alone_spots ds p h) (name_spelled (name_text ds p) h.named))
-at_spelled ds p (Some t) h =
+at_spelled : (ds : List Declared) (kind : DeclKind) (p : Place) (o : Option Term) → IsPrintableAt ds kind p o → Spelled Ends (TargetSpots ds kind (place_at p o)) (name_text ds p ++ index_text ds o)
+at_spelled ds kind p None h =
+    subst (Spelled Ends (TargetSpots ds kind (place_at p None))) (sym (append-nil (name_text ds p))) (turned (name_text ds p) (alone_spots ds kind p h) (name_spelled (name_text ds p) h.named))
+at_spelled ds kind p (Some t) h =
     let w : List ℕ = name_text ds p in
     let e : List ℕ = whole_text ds t in
     narrowed (w ++ (codes "[" ++ e ++ codes "]")) (λ z _. tt)
-    (turned (w ++ (codes "[" ++ e ++ codes "]")) (part_spots ds p t h.0)
+    (turned (w ++ (codes "[" ++ e ++ codes "]")) (part_spots ds kind p t h.0)
     (join w (codes "[" ++ e ++ codes "]") (name_spelled w h.0.named)
     (join (codes "[" ++ e) (codes "]") (join (codes "[") e square_open (whole_spelled ds t h.1) (λ z _. tt)) square_close (λ z _. refl))
     (λ z _. refl)))
 
-target_spelled : (ds : List Declared) (t : Target) → IsPrintableTarget ds t → Spelled Ends (TargetSpots ds t) (target_text ds t)
-target_spelled ds t h = at_spelled ds t.place t.index h
+target_spelled : (ds : List Declared) (kind : DeclKind) (t : Target) → IsPrintableTarget ds kind t → Spelled Ends (TargetSpots ds kind t) (target_text ds t)
+target_spelled ds kind t h = at_spelled ds kind t.place t.index h
 
 -- ---- indentation
 
@@ -125,8 +126,8 @@ part_spelled : (ds : List Declared) (p : Part) → IsPrintablePart ds p → Spel
 part_spelled ds (of_mark k) h = turned (mark_text k) (mark_spots ds k) (mark_spelled k)
 part_spelled ds (of_term e) h =
     turned (whole_text ds e) (λ ss x. record { written = by_term ss e x.written; cheap = x.cheap }) (narrowed (whole_text ds e) parted_ends (whole_spelled ds e h))
-part_spelled ds (of_target t) h =
-    turned (target_text ds t) (λ ss x. record { written = by_target ss t x.written; cheap = x.cheap }) (narrowed (target_text ds t) parted_ends (target_spelled ds t h))
+part_spelled ds (of_target kind t) h =
+    turned (target_text ds t) (λ ss x. record { written = by_target ss kind t x.written; cheap = x.cheap }) (narrowed (target_text ds t) parted_ends (target_spelled ds kind t h))
 
 none_spots : (ds : List Declared) (ss : List Spot) → IsNone ss → PartsSpots ds [] ss
 none_spots ds _ nothing = record { written = no_part; cheap = omega arith }

@@ -7,6 +7,8 @@ use Rattle.std.specs.Fmt.{decimal}
 use Rattle.mpd_model.specs.declared.expr.BinaryOp.{BinaryOp}
 use Rattle.mpd_model.specs.declared.expr.BinaryOp.TheVariants.{Or, And, Equal, NotEqual, Less, AtMost, Greater, AtLeast, Add, Subtract, Multiply, Divide, Remainder}
 use Rattle.mpd_model.specs.declared.expr.UnaryOp.TheVariants.{Negate, Not}
+use Rattle.mpd_model.specs.declared.place.DeclKind.{DeclKind}
+use Rattle.mpd_model.specs.declared.place.DeclKind.TheVariants.{Variable}
 use Rattle.mpd_model.specs.declared.place.Place.{Place}
 use Rattle.mpd_model.specs.declared.token.Mark.TheVariants as m
 use Rattle.mpd_model.specs.declared.token.Token.TheVariants.{Number, Name, Is}
@@ -53,11 +55,11 @@ rank_spots ds k w _ (one_word s h e) = record { written = raise ds 0 k (s ∷ []
 size_spots : (ds : List Declared) (k : ℕ) (w : List ℕ) (ss : List Spot) → IsWord (Is m.Size) w ss → TermSpots ds k size 0 ss
 size_spots ds k w _ (one_word s h e) = record { written = raise ds 0 k (s ∷ []) size (omega arith) (ranks s h); cost = rw h refl }
 
-pub names_of : (ds : List Declared) (sized : Bool) (p : Place) (s : Spot) → HasName ds sized p → s.token ≡ Name → s.text ≡ name_text ds p → Names ds s sized p
-names_of ds sized p s x h e = record { token = h; slot = x.slot; declared = ap (slot_in ds) e ∙ x.declared; kind = x.kind; size = x.size; place = x.place }
+pub names_of : (ds : List Declared) (kind : DeclKind) (sized : Bool) (p : Place) (s : Spot) → HasName ds kind sized p → s.token ≡ Name → s.text ≡ name_text ds p → Names ds kind s sized p
+names_of ds kind sized p s x h e = record { token = h; slot = x.slot; declared = ap (slot_in ds) e ∙ x.declared; kind = x.kind; size = x.size; place = x.place }
 
-cell_spots : (ds : List Declared) (k : ℕ) (p : Place) → HasName ds false p → (ss : List Spot) → IsWord Name (name_text ds p) ss → TermSpots ds k (cell p) 0 ss
-cell_spots ds k p x _ (one_word s h e) = record { written = raise ds 0 k (s ∷ []) (cell p) (omega arith) (name s p (names_of ds false p s x h e)); cost = rw h refl }
+cell_spots : (ds : List Declared) (k : ℕ) (p : Place) → HasName ds Variable false p → (ss : List Spot) → IsWord Name (name_text ds p) ss → TermSpots ds k (cell p) 0 ss
+cell_spots ds k p x _ (one_word s h e) = record { written = raise ds 0 k (s ∷ []) (cell p) (omega arith) (name s p (names_of ds Variable false p s x h e)); cost = rw h refl }
 
 pub name_spelled : (w : List ℕ) → IsName w → Spelled Ends (IsWord Name w) w
 name_spelled w x = subst (λ t. Spelled Ends (IsWord t w) w) x.free (word_spelled w x.begins x.goes_on)
@@ -75,14 +77,14 @@ size_spelled = word_spelled (codes "size") refl refl
 pub close_price : (c : Spot) → c.token ≡ Is m.SquareClose → price c.token ≡ 0
 close_price c h = ap price h
 
-entry_spots : (ds : List Declared) (k : ℕ) (p : Place) (a : Term) (n : ℕ) → HasName ds true p → (ss : List Spot)
+entry_spots : (ds : List Declared) (k : ℕ) (p : Place) (a : Term) (n : ℕ) → HasName ds Variable true p → (ss : List Spot)
     → Both (Both (Both (IsWord Name (name_text ds p)) (IsOne (Is m.SquareOpen))) (TermSpots ds 5 a n)) (IsOne (Is m.SquareClose)) ss → TermSpots ds k (element p a) (suc n) ss
 entry_spots ds k p a n st _ (both _ _ (both _ inside (both _ _ (one_word s h e) (one o h1)) x) (one c h2)) =
     let free : price s.token ≡ 0 = ap price h in
     let counted : price o.token ≡ 1 = ap price h1 in
     let closes : price c.token ≡ 0 = ap price h2 in
     record {
-      written = raise ds 0 k (s ∷ o ∷ inside ++ c ∷ []) (element p a) (omega arith) (entry s o c inside p a (names_of ds true p s st h e) h1 h2 x.written);
+      written = raise ds 0 k (s ∷ o ∷ inside ++ c ∷ []) (element p a) (omega arith) (entry s o c inside p a (names_of ds Variable true p s st h e) h1 h2 x.written);
       cost = omega (arith, cost_append inside (c ∷ []), x.cost, free, counted, closes);
     }
 

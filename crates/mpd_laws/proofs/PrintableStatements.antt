@@ -1,15 +1,16 @@
 -- What is read as a script is printable.
 use Rattle.std.proofs.Common.{◌≡◌, ℕ, true, false, List, [], ◌∷◌, ◌++◌, Option, Some, None, refl, subst, sym, ◌∙◌, append_assoc, append-nil}
+use Rattle.mpd_model.specs.declared.place.DeclKind.{DeclKind}
 use Rattle.mpd_model.specs.Declaration.{Declared}
 use Rattle.mpd_model.specs.Input.{slot_in}
-use Rattle.mpd_model.specs.Printable.{IsName, AreNamed, AreVariables, AreNew, IsPrintableWhole, IsPrintableTarget, IsPrintablePart, ArePrintable, IsPrintableTree, IsPrintableBlock, ReadScriptsArePrintable}
+use Rattle.mpd_model.specs.Printable.{IsName, AreNamed, AreNew, IsPrintableWhole, IsPrintableTarget, IsPrintablePart, ArePrintable, IsPrintableTree, IsPrintableBlock, ReadScriptsArePrintable}
 use Rattle.mpd_model.specs.ReaderLaws.{ScriptsAreWritten}
 use Rattle.mpd_model.specs.Program.{Program}
 use Rattle.mpd_model.specs.Term.{Term, Target}
 use Rattle.mpd_model.specs.Tokens.{Spot, tokens}
 use Rattle.mpd_model.specs.Parts.{Part, parts_of}
 use Rattle.mpd_model.specs.Tree.{Tree, block_of}
-use Rattle.mpd_model.specs.Written.{WrittenTerm, WrittenTarget, whole, part, WrittenPart, by_mark, by_term, by_target, WrittenParts, no_part, then_part, WrittenTree, simply, repeats, chooses, chooses_else, WrittenBlock, braces, WrittenBody, ended, follows, variable_of, WrittenDecls, none, declares, declares_array, WrittenScript, script}
+use Rattle.mpd_model.specs.Written.{WrittenTerm, WrittenTarget, whole, part, WrittenPart, by_mark, by_term, by_target, WrittenParts, no_part, then_part, WrittenTree, simply, repeats, chooses, chooses_else, WrittenBlock, braces, WrittenBody, ended, follows, declared_as, WrittenDecls, none, declares_one, declares_array, WrittenScript, script}
 use Rattle.mpd_laws.proofs.GoodSpots.{AllGood, good_left, good_right, tokens_good}
 use Rattle.mpd_laws.proofs.PrintableTerms.{term_printable, has_name}
 use Rattle.mpd_laws.proofs.ReadTrees.{IsCheap, IsCheapIndex, IsCheapPart, AreCheap, IsCheapTree, IsCheapBlock, reading_fine}
@@ -19,14 +20,14 @@ use Rattle.mpd_laws.proofs.ReadTrees.{IsCheap, IsCheapIndex, IsCheapPart, AreChe
 whole_printable : (ds : List Declared) (ss : List Spot) (t : Term) → WrittenTerm ds 5 ss t → AllGood ss → IsCheap t → IsPrintableWhole ds t
 whole_printable ds ss t w g h = record { term = term_printable ds 5 ss t w g; cost = h }
 
-target_printable : (ds : List Declared) (ss : List Spot) (t : Target) → WrittenTarget ds ss t → AllGood ss → IsCheapIndex t.index → IsPrintableTarget ds t
-target_printable ds _ _ (whole s p h) g c = has_name ds false s p g.0 h
-target_printable ds _ _ (part s a b ss p t h h1 w h2) g c = (has_name ds true s p g.0 h, whole_printable ds ss t w (good_left ss (b ∷ []) g.1.1) c)
+target_printable : (ds : List Declared) (kind : DeclKind) (ss : List Spot) (t : Target) → WrittenTarget ds kind ss t → AllGood ss → IsCheapIndex t.index → IsPrintableTarget ds kind t
+target_printable ds kind _ _ (whole s p h) g c = has_name ds kind false s p g.0 h
+target_printable ds kind _ _ (part s a b ss p t h h1 w h2) g c = (has_name ds kind true s p g.0 h, whole_printable ds ss t w (good_left ss (b ∷ []) g.1.1) c)
 
 part_printable : (ds : List Declared) (ss : List Spot) (p : Part) → WrittenPart ds ss p → AllGood ss → IsCheapPart p → IsPrintablePart ds p
 part_printable ds _ _ (by_mark s k h) g c = tt
 part_printable ds _ _ (by_term ss t w) g c = whole_printable ds ss t w g c
-part_printable ds _ _ (by_target ss t w) g c = target_printable ds ss t w g c
+part_printable ds _ _ (by_target ss kind t w) g c = target_printable ds kind ss t w g c
 
 parts_printable : (ds : List Declared) (ss : List Spot) (ps : List Part) → WrittenParts ds ss ps → AllGood ss → AreCheap ps → ArePrintable ds ps
 parts_printable ds _ _ no_part g c = tt
@@ -57,24 +58,22 @@ record Brought (before all : List Declared) : Type 0 where
   more : List Declared
   is : all ≡ before ++ more
   named : AreNamed more
-  variables : AreVariables more
   distinct : AreNew before more
 
-brought_more : (before all : List Declared) (w : List ℕ) (o : Option ℕ) → IsName w → slot_in before w ≡ None → Brought (before ++ variable_of w o ∷ []) all → Brought before all
-brought_more before all w o h new x = record {
-  more = variable_of w o ∷ x.more;
-  is = x.is ∙ append_assoc before (variable_of w o ∷ []) x.more;
+brought_more : (before all : List Declared) (kind : DeclKind) (w : List ℕ) (o : Option ℕ) → IsName w → slot_in before w ≡ None → Brought (before ++ declared_as kind w o ∷ []) all → Brought before all
+brought_more before all kind w o h new x = record {
+  more = declared_as kind w o ∷ x.more;
+  is = x.is ∙ append_assoc before (declared_as kind w o ∷ []) x.more;
   named = (h, x.named);
-  variables = (refl, x.variables);
   distinct = (new, x.distinct);
 }
 
 decls_printable : (before : List Declared) (ss : List Spot) (all : List Declared) → WrittenDecls before ss all → AllGood ss → Brought before all
-decls_printable _ _ _ (none ds) g = record { more = []; is = sym (append-nil ds); named = tt; variables = tt; distinct = tt }
-decls_printable _ _ _ (declares ds es v n end ss h1 h2 new h3 w) g =
-    brought_more ds es n.text None (g.1.0.name h2) new (decls_printable (ds ++ variable_of n.text None ∷ []) ss es w g.1.1.1)
-decls_printable _ _ _ (declares_array ds es v n a c b end cells ss h1 h2 new h3 h4 h5 h6 w) g =
-    brought_more ds es n.text (Some cells) (g.1.0.name h2) new (decls_printable (ds ++ variable_of n.text (Some cells) ∷ []) ss es w g.1.1.1.1.1.1)
+decls_printable _ _ _ (none ds) g = record { more = []; is = sym (append-nil ds); named = tt; distinct = tt }
+decls_printable _ _ _ (declares_one ds es kind v n end ss h1 h2 new h3 w) g =
+    brought_more ds es kind n.text None (g.1.0.name h2) new (decls_printable (ds ++ declared_as kind n.text None ∷ []) ss es w g.1.1.1)
+decls_printable _ _ _ (declares_array ds es kind v n a c b end cells ss h1 h2 new h3 h4 h5 h6 w) g =
+    brought_more ds es kind n.text (Some cells) (g.1.0.name h2) new (decls_printable (ds ++ declared_as kind n.text (Some cells) ∷ []) ss es w g.1.1.1.1.1.1)
 
 -- ---- a whole script
 
@@ -94,7 +93,6 @@ read_printable written text p h legal =
     record {
       legal = legal;
       named = subst AreNamed (sym x.decls.is) x.decls.named;
-      variables = subst AreVariables (sym x.decls.is) x.decls.variables;
       distinct = subst (AreNew []) (sym x.decls.is) x.decls.distinct;
       body = x.body;
       blocks = f.open_blocks;

@@ -7,6 +7,8 @@ use Rattle.std.proofs.lemmas.Slice.Eq.{bytes_eq-Decides}
 use Rattle.std.specs.Str.{bytes_eq}
 use Rattle.mpd_model.specs.declared.expr.BinaryOp.{BinaryOp}
 use Rattle.mpd_model.specs.declared.expr.UnaryOp.{UnaryOp}
+use Rattle.mpd_model.specs.declared.place.DeclKind.{DeclKind}
+use Rattle.mpd_model.specs.declared.place.DeclKind.TheVariants.{Variable}
 use Rattle.mpd_model.specs.declared.place.Place.{Place}
 use Rattle.mpd_model.specs.declared.slot.Slot.{Slot}
 use Rattle.mpd_model.specs.declared.token.Mark.TheVariants as m
@@ -66,8 +68,8 @@ slot_name ds w s e =
     let at : s.declaration - 0 ≡ s.declaration = omega arith in
     rw at at x.named
 
-pub has_name : (ds : List Declared) (sized : Bool) (s : Spot) (p : Place) → IsGood s → Names ds s sized p → HasName ds sized p
-has_name ds sized s p g x =
+pub has_name : (ds : List Declared) (kind : DeclKind) (sized : Bool) (s : Spot) (p : Place) → IsGood s → Names ds kind s sized p → HasName ds kind sized p
+has_name ds kind sized s p g x =
     let same : name_text ds p ≡ s.text = ap (λ (q : Place). name_text ds q) (sym x.place) ∙ slot_name ds s.text x.slot x.declared in
     record { named = subst IsName (sym same) (g.name x.token); slot = x.slot; declared = ap (slot_in ds) same ∙ x.declared; kind = x.kind; size = x.size; place = x.place }
 
@@ -171,8 +173,8 @@ pub term_printable : (ds : List Declared) (k : ℕ) (ss : List Spot) (t : Term) 
 term_printable ds _ _ _ (number s n h) g = g.0.number n h
 term_printable ds _ _ _ (rank s h) g = tt
 term_printable ds _ _ _ (ranks s h) g = tt
-term_printable ds _ _ _ (name s p h) g = has_name ds false s p g.0 h
-term_printable ds _ _ _ (entry s a b ss p t h h1 h2 w) g = (has_name ds true s p g.0 h, term_printable ds 5 ss t w (good_left ss (b ∷ []) g.1.1))
+term_printable ds _ _ _ (name s p h) g = has_name ds Variable false s p g.0 h
+term_printable ds _ _ _ (entry s a b ss p t h h1 h2 w) g = (has_name ds Variable true s p g.0 h, term_printable ds 5 ss t w (good_left ss (b ∷ []) g.1.1))
 term_printable ds _ _ _ (round a b ss t h1 h2 w) g = term_printable ds 5 ss t w (good_left ss (b ∷ []) g.1)
 term_printable ds _ _ _ (signs s ss op t h w) g = term_printable ds 0 ss t w g.1
 term_printable ds _ _ _ (higher k ss t w) g = term_printable ds k ss t w g

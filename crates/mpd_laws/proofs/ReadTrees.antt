@@ -1,6 +1,7 @@
 -- What is read as statements has cheap expressions, and no more open blocks than may be.
 use Rattle.std.proofs.Common.{◌≡◌, ℕ, zero, suc, ◌+◌, ◌≤◌, max, Bool, true, false, cond, nat_lt, List, [], ◌∷◌, ◌++◌, length, Option, None, Some, Result, Ok, Err, refl, sym, subst, arith}
 use Rattle.std.specs.List.{prefix_len}
+use Rattle.mpd_model.specs.declared.place.DeclKind.{DeclKind}
 use Rattle.mpd_model.specs.declared.place.DeclKind.TheVariants.{Variable}
 use Rattle.mpd_model.specs.declared.place.Place.{Place}
 use Rattle.mpd_model.specs.declared.read_fault.FaultCode.TheVariants.{TooDeep}
@@ -36,7 +37,7 @@ IsCheapIndex (Some t) = IsCheap t
 abbrev pub IsCheapPart : Part → Type 0
 IsCheapPart (of_mark k) = Unit {0}
 IsCheapPart (of_term e) = IsCheap e
-IsCheapPart (of_target t) = IsCheapIndex t.index
+IsCheapPart (of_target kind t) = IsCheapIndex t.index
 
 abbrev pub AreCheap : List Part → Type 0
 AreCheap [] = Unit {0}
@@ -72,19 +73,19 @@ outside_cheap at (Some cells) i y h =
     let o = ok_parts (record { place = at; index = Some b.0.0 }, c.0.1) y c.2 in
     subst (λ (t : Target). IsCheapIndex t.index) o.0 (expression_cheap a.0.1 b.0 b.1)
 
-target_cheap : (i : Input) (y : Target × Input) → target i ≡ Ok y → IsCheapIndex y.0.index
+target_cheap : (kind : DeclKind) (i : Input) (y : Target × Input) → target kind i ≡ Ok y → IsCheapIndex y.0.index
 unfolding target
-target_cheap i y h =
-    let b = bind_ok (seek Variable i) _ y h in
+target_cheap kind i y h =
+    let b = bind_ok (seek kind i) _ y h in
     outside_cheap (place_of_slot b.0.0) b.0.0.size _ y b.2
 
-named_case : (tk : Token) (i : Input) (y : Target × Input) → named_by tk i ≡ Ok y → IsCheapIndex y.0.index
-named_case Name i y h = target_cheap i y h
-named_case _ i y h = absurd (cc)
+named_case : (kind : DeclKind) (tk : Token) (i : Input) (y : Target × Input) → named_by kind tk i ≡ Ok y → IsCheapIndex y.0.index
+named_case kind Name i y h = target_cheap kind i y h
+named_case kind _ i y h = absurd (cc)
 
-named_cheap : (i : Input) (y : Target × Input) → named i ≡ Ok y → IsCheapIndex y.0.index
+named_cheap : (kind : DeclKind) (i : Input) (y : Target × Input) → named kind i ≡ Ok y → IsCheapIndex y.0.index
 unfolding named
-named_cheap i y h = named_case (token i) i y h
+named_cheap kind i y h = named_case kind (token i) i y h
 
 source_case : (found : Bool) (i : Input) (y : Option Term × Input) → source_by found i ≡ Ok y → IsCheapPart (source_part y.0)
 source_case true i y h = subst (λ o. IsCheapPart (source_part o)) (ok_parts (None, i) y h).0 tt
@@ -98,8 +99,8 @@ source_cheap i y h = source_case (sees m.Any i) (after m.Any i) y h
 
 status_case : (found : Bool) (i : Input) (y : Option Target × Input) → status_by found i ≡ Ok y → (ps : List Part) → AreCheap ps → AreCheap (status_parts y.0 ps)
 status_case true i y h ps c =
-    let b = bind_ok (named i) _ y h in
-    subst (λ o. AreCheap (status_parts o ps)) (ok_parts (Some b.0.0, b.0.1) y b.2).0 (tt, (named_cheap i b.0 b.1, c))
+    let b = bind_ok (named Variable i) _ y h in
+    subst (λ o. AreCheap (status_parts o ps)) (ok_parts (Some b.0.0, b.0.1) y b.2).0 (tt, (named_cheap Variable i b.0 b.1, c))
 status_case false i y h ps c = subst (λ o. AreCheap (status_parts o ps)) (ok_parts (None, i) y h).0 c
 
 status_cheap : (i : Input) (y : Option Target × Input) → status i ≡ Ok y → (ps : List Part) → AreCheap ps → AreCheap (status_parts y.0 ps)
@@ -124,10 +125,10 @@ fill_cheap (term_hole ∷ hs) made i y h =
     let b = bind_ok (expression i) _ y h in
     let r = fill_cheap hs (λ c. made (b.0.0, c)) b.0.1 y b.2 in
     record { contents = (b.0.0, r.contents); is = r.is; cheap = (expression_cheap i b.0 b.1, r.cheap) }
-fill_cheap (target_hole ∷ hs) made i y h =
-    let b = bind_ok (named i) _ y h in
+fill_cheap (target_hole kind ∷ hs) made i y h =
+    let b = bind_ok (named kind i) _ y h in
     let r = fill_cheap hs (λ c. made (b.0.0, c)) b.0.1 y b.2 in
-    record { contents = (b.0.0, r.contents); is = r.is; cheap = (named_cheap i b.0 b.1, r.cheap) }
+    record { contents = (b.0.0, r.contents); is = r.is; cheap = (named_cheap kind i b.0 b.1, r.cheap) }
 fill_cheap (source_hole ∷ hs) made i y h =
     let b = bind_ok (source i) _ y h in
     let r = fill_cheap hs (λ c. made (b.0.0, c)) b.0.1 y b.2 in

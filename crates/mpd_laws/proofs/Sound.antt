@@ -122,27 +122,29 @@ expect_step wanted i y h =
 
 -- ---- names
 
-sought_case : (k : DeclKind) (s : Slot) (i : Input) (y : Slot × Input) → s.kind ≡ k → cond (same_kind Variable k) (pure s) (fail UnknownName) i ≡ Ok y
-    → (s ≡ y.0) × (s.kind ≡ Variable) × (i ≡ y.1)
-sought_case Variable s i y e h = let o = ok_parts (s, i) y h in (o.0, e, o.1)
-sought_case Handle s i y e h = absurd (cc)
+sought_case : (kind k : DeclKind) (s : Slot) (i : Input) (y : Slot × Input) → s.kind ≡ k → cond (same_kind kind k) (pure s) (fail UnknownName) i ≡ Ok y
+    → (s ≡ y.0) × (s.kind ≡ kind) × (i ≡ y.1)
+sought_case Variable Variable s i y e h = let o = ok_parts (s, i) y h in (o.0, e, o.1)
+sought_case Handle Handle s i y e h = let o = ok_parts (s, i) y h in (o.0, e, o.1)
+sought_case Variable Handle s i y e h = absurd (cc)
+sought_case Handle Variable s i y e h = absurd (cc)
 
-sought_ok : (o : Option Slot) (i : Input) (y : Slot × Input) → sought Variable o i ≡ Ok y → (o ≡ Some y.0) × (y.0.kind ≡ Variable) × (i ≡ y.1)
-sought_ok None i y h = absurd (cc)
-sought_ok (Some s) i y h = let c = sought_case s.kind s i y refl h in (ap Some c.0, sym (ap (λ t. t.kind) c.0) ∙ c.1, c.2)
+sought_ok : (kind : DeclKind) (o : Option Slot) (i : Input) (y : Slot × Input) → sought kind o i ≡ Ok y → (o ≡ Some y.0) × (y.0.kind ≡ kind) × (i ≡ y.1)
+sought_ok kind None i y h = absurd (cc)
+sought_ok kind (Some s) i y h = let c = sought_case kind s.kind s i y refl h in (ap Some c.0, sym (ap (λ t. t.kind) c.0) ∙ c.1, c.2)
 
-pub seek_ok : (i : Input) (y : Slot × Input) → seek Variable i ≡ Ok y → (slot_in i.decls (spelling i) ≡ Some y.0) × (y.0.kind ≡ Variable) × (i ≡ y.1)
+pub seek_ok : (kind : DeclKind) (i : Input) (y : Slot × Input) → seek kind i ≡ Ok y → (slot_in i.decls (spelling i) ≡ Some y.0) × (y.0.kind ≡ kind) × (i ≡ y.1)
 unfolding seek
-seek_ok i y h = sought_ok (slot_in i.decls (spelling i)) i y h
+seek_ok kind i y h = sought_ok kind (slot_in i.decls (spelling i)) i y h
 
--- the token is the name that was declared as the slot
-abbrev pub NamedBy : List Declared → Slot → Spot → Type 0
-NamedBy ds slot s = (sized : Bool) → is_some slot.size ≡ sized → Names ds s sized (place_of_slot slot)
+-- the token is the name that was declared as the slot, which is of the kind
+abbrev pub NamedBy : List Declared → DeclKind → Slot → Spot → Type 0
+NamedBy ds kind slot s = (sized : Bool) → is_some slot.size ≡ sized → Names ds kind s sized (place_of_slot slot)
 
--- a variable's name
-pub name_step : (i : Input) (y : Slot × Input) → token i ≡ Name → seek Variable i ≡ Ok y → (s : Step i (advanced y.1)) × NamedBy i.decls y.0 s.spot
-name_step i y e h =
-    let k = seek_ok i y h in
+-- the name of something of the kind
+pub name_step : (kind : DeclKind) (i : Input) (y : Slot × Input) → token i ≡ Name → seek kind i ≡ Ok y → (s : Step i (advanced y.1)) × NamedBy i.decls kind y.0 s.spot
+name_step kind i y e h =
+    let k = seek_ok kind i y h in
     let s = next_step i (advanced y.1) (λ x. absurd (cc)) (ap advanced (sym k.2)) in
     (s, λ sized is. record { token = s.token ∙ e; slot = y.0; declared = ap (slot_in i.decls) s.text ∙ k.0; kind = k.1; size = is; place = refl })
 
@@ -194,7 +196,7 @@ bracket_step : (i : Input) (y : Unit {0} × Input) → bracket i ≡ Ok y → (s
 unfolding bracket
 bracket_step i y h = bracket_case (sees m.SquareOpen i) i y refl h
 
-entry_takes : (i x1 x2 x3 j : Input) (p : Place) (t : Term) → (s : Step i x1) → Names i.decls s.spot true p → (a : Step x1 x2) → a.spot.token ≡ Is m.SquareOpen
+entry_takes : (i x1 x2 x3 j : Input) (p : Place) (t : Term) → (s : Step i x1) → Names i.decls Variable s.spot true p → (a : Step x1 x2) → a.spot.token ≡ Is m.SquareOpen
     → TermBetween 5 t x2 x3 → (c : Step x3 j) → c.spot.token ≡ Is m.SquareClose → TermBetween 0 (element p t) i j
 entry_takes i x1 x2 x3 j p t s n a ea tk c ec =
     takes 0 (element p t) (s.spot ∷ a.spot ∷ tk.used ++ c.spot ∷ []) i j
@@ -204,7 +206,7 @@ entry_takes i x1 x2 x3 j p t s n a ea tk c ec =
 
 -- a name, and the index of an array behind it
 indexed_sound : (p : ℕ → Parser Term) → AllSound p → (slot : Slot) (cells : Option ℕ) (i x j : Input) (t : Term) → (s : Step i x)
-    → ((sized : Bool) → is_some cells ≡ sized → Names i.decls s.spot sized (place_of_slot slot)) → indexed p (place_of_slot slot) cells x ≡ Ok (t, j) → TermBetween 0 t i j
+    → ((sized : Bool) → is_some cells ≡ sized → Names i.decls Variable s.spot sized (place_of_slot slot)) → indexed p (place_of_slot slot) cells x ≡ Ok (t, j) → TermBetween 0 t i j
 indexed_sound p q slot None i x j t s n h =
     let o = ok_parts (cell (place_of_slot slot), x) (t, j) h in
     carried (λ t j. TermBetween 0 t i j) _ _ _ _ o.0 o.1 (one (cell (place_of_slot slot)) i x s (name s.spot (place_of_slot slot) (n false refl)))
@@ -222,7 +224,7 @@ name_sound : (p : ℕ → Parser Term) → AllSound p → (i j : Input) (t : Ter
 unfolding place_inside
 name_sound p q i j t e h =
     let b = bind_ok (seek Variable i) _ (t, j) h in
-    let v = name_step i b.0 e b.1 in
+    let v = name_step Variable i b.0 e b.1 in
     indexed_sound p q b.0.0 b.0.0.size i (advanced b.0.1) j t v.0 v.1 b.2
 
 signed_takes : (op : UnaryOp) (i x j : Input) (t : Term) → sign (token i) ≡ Some op → Step i x → TermBetween 0 t x j → TermBetween 0 (op1 op t) i j

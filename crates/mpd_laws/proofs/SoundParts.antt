@@ -1,6 +1,7 @@
 -- What is read as the parts of a statement is written so.
 use Rattle.std.proofs.Common.{◌≡◌, ℕ, suc, Bool, true, false, cond, List, [], ◌∷◌, ◌++◌, Option, None, Some, is_some, Ok, refl, sym, subst, ◌∙◌, append_assoc}
 use Rattle.mpd_model.specs.declared.limits.TheConstants.{NESTING_MAX}
+use Rattle.mpd_model.specs.declared.place.DeclKind.{DeclKind}
 use Rattle.mpd_model.specs.declared.place.DeclKind.TheVariants.{Variable}
 use Rattle.mpd_model.specs.declared.slot.Slot.{Slot}
 use Rattle.mpd_model.specs.declared.token.Mark.TheVariants as m
@@ -38,16 +39,16 @@ here t i x j e r = rw (← e) r.written
 
 -- ---- places that stand in no expression
 
-pub record TargetBetween (t : Target) (i j : Input) : Type 0 where
+pub record TargetBetween (kind : DeclKind) (t : Target) (i j : Input) : Type 0 where
   pub used : List Spot
   pub moves : Moves used i j
-  pub written : WrittenTarget i.decls used t
+  pub written : WrittenTarget i.decls kind used t
 
 -- what follows the name of such a place
-pub record Outside (slot : Slot) (t : Target) (i j : Input) : Type 0 where
+pub record Outside (kind : DeclKind) (slot : Slot) (t : Target) (i j : Input) : Type 0 where
   pub used : List Spot
   pub moves : Moves used i j
-  pub written : (s : Spot) → NamedBy i.decls slot s → WrittenTarget i.decls (s ∷ used) t
+  pub written : (s : Spot) → NamedBy i.decls kind slot s → WrittenTarget i.decls kind (s ∷ used) t
 
 abbrev whole_of : Slot → Target
 whole_of slot = record { place = place_of_slot slot; index = None }
@@ -56,16 +57,16 @@ abbrev part_of : Slot → Term → Target
 part_of slot t = record { place = place_of_slot slot; index = Some t }
 
 -- of an array, by its size
-abbrev Sized : Slot → Option ℕ → List Declared → Spot → Type 0
-Sized slot cells ds s = (sized : Bool) → is_some cells ≡ sized → Names ds s sized (place_of_slot slot)
+abbrev Sized : DeclKind → Slot → Option ℕ → List Declared → Spot → Type 0
+Sized kind slot cells ds s = (sized : Bool) → is_some cells ≡ sized → Names ds kind s sized (place_of_slot slot)
 
-outside_case : (slot : Slot) (cells : Option ℕ) → ((ds : List Declared) (s : Spot) → NamedBy ds slot s → Sized slot cells ds s)
-    → (i j : Input) (t : Target) → outside (place_of_slot slot) cells i ≡ Ok (t, j) → Outside slot t i j
-outside_case slot None n i j t h =
+outside_case : (kind : DeclKind) (slot : Slot) (cells : Option ℕ) → ((ds : List Declared) (s : Spot) → NamedBy ds kind slot s → Sized kind slot cells ds s)
+    → (i j : Input) (t : Target) → outside (place_of_slot slot) cells i ≡ Ok (t, j) → Outside kind slot t i j
+outside_case kind slot None n i j t h =
     let o = ok_parts (whole_of slot, i) (t, j) h in
-    carried (λ t j. Outside slot t i j) _ _ _ _ o.0 o.1
+    carried (λ t j. Outside kind slot t i j) _ _ _ _ o.0 o.1
     (record { used = []; moves = no_move i i refl; written = λ s named. whole s (place_of_slot slot) (n i.decls s named false refl) })
-outside_case slot (Some cells) n i j t h =
+outside_case kind slot (Some cells) n i j t h =
     let a = bind_ok (expect m.SquareOpen i) _ (t, j) h in
     let b = bind_ok (expression a.0.1) _ (t, j) a.2 in
     let c = bind_ok (expect m.SquareClose b.0.1) _ (t, j) b.2 in
@@ -73,37 +74,37 @@ outside_case slot (Some cells) n i j t h =
     let x = expect_step m.SquareOpen i a.0 a.1 in
     let e = expression_ok a.0.1 b.0 b.1 in
     let y = expect_step m.SquareClose b.0.1 c.0 c.1 in
-    carried (λ t j. Outside slot t i j) _ _ _ _ o.0 o.1
+    carried (λ t j. Outside kind slot t i j) _ _ _ _ o.0 o.1
     (record {
       used = x.0.spot ∷ e.used ++ y.0.spot ∷ [];
       moves = then_moves (x.0.spot ∷ []) (e.used ++ y.0.spot ∷ []) i a.0.1 c.0.1 x.0.moves (then_moves e.used (y.0.spot ∷ []) a.0.1 b.0.1 c.0.1 e.moves y.0.moves);
       written = λ s named. part s x.0.spot y.0.spot e.used (place_of_slot slot) b.0.0 (n i.decls s named true refl) x.1 (here b.0.0 i a.0.1 b.0.1 x.0.moves.decls e) y.1;
     })
 
-pub outside_ok : (slot : Slot) (i j : Input) (t : Target) → outside (place_of_slot slot) slot.size i ≡ Ok (t, j) → Outside slot t i j
-outside_ok slot i j t h = outside_case slot slot.size (λ ds s n. n) i j t h
+pub outside_ok : (kind : DeclKind) (slot : Slot) (i j : Input) (t : Target) → outside (place_of_slot slot) slot.size i ≡ Ok (t, j) → Outside kind slot t i j
+outside_ok kind slot i j t h = outside_case kind slot slot.size (λ ds s n. n) i j t h
 
-target_is : (slot : Slot) (t : Target) (i x j : Input) → (s : Step i x) → NamedBy i.decls slot s.spot → Outside slot t x j → TargetBetween t i j
-target_is slot t i x j s n o = record {
+target_is : (kind : DeclKind) (slot : Slot) (t : Target) (i x j : Input) → (s : Step i x) → NamedBy i.decls kind slot s.spot → Outside kind slot t x j → TargetBetween kind t i j
+target_is kind slot t i x j s n o = record {
   used = s.spot ∷ o.used;
   moves = then_moves (s.spot ∷ []) o.used i x j s.moves o.moves;
   written = rw (← s.moves.decls) (o.written s.spot (rw s.moves.decls n));
 }
 
-target_ok : (i : Input) (y : Target × Input) → token i ≡ Name → target i ≡ Ok y → TargetBetween y.0 i y.1
+target_ok : (kind : DeclKind) (i : Input) (y : Target × Input) → token i ≡ Name → target kind i ≡ Ok y → TargetBetween kind y.0 i y.1
 unfolding target
-target_ok i y e h =
-    let b = bind_ok (seek Variable i) _ y h in
-    let v = name_step i b.0 e b.1 in
-    target_is b.0.0 y.0 i (advanced b.0.1) y.1 v.0 v.1 (outside_ok b.0.0 (advanced b.0.1) y.1 y.0 b.2)
+target_ok kind i y e h =
+    let b = bind_ok (seek kind i) _ y h in
+    let v = name_step kind i b.0 e b.1 in
+    target_is kind b.0.0 y.0 i (advanced b.0.1) y.1 v.0 v.1 (outside_ok kind b.0.0 (advanced b.0.1) y.1 y.0 b.2)
 
-named_case : (tk : Token) (i : Input) (y : Target × Input) → token i ≡ tk → named_by tk i ≡ Ok y → TargetBetween y.0 i y.1
-named_case Name i y e h = target_ok i y e h
-named_case _ i y e h = absurd (cc)
+named_case : (kind : DeclKind) (tk : Token) (i : Input) (y : Target × Input) → token i ≡ tk → named_by kind tk i ≡ Ok y → TargetBetween kind y.0 i y.1
+named_case kind Name i y e h = target_ok kind i y e h
+named_case kind _ i y e h = absurd (cc)
 
-named_ok : (i : Input) (y : Target × Input) → named i ≡ Ok y → TargetBetween y.0 i y.1
+named_ok : (kind : DeclKind) (i : Input) (y : Target × Input) → named kind i ≡ Ok y → TargetBetween kind y.0 i y.1
 unfolding named
-named_ok i y h = named_case (token i) i y refl h
+named_ok kind i y h = named_case kind (token i) i y refl h
 
 -- ---- a source, and a status before other parts
 
@@ -133,20 +134,20 @@ record StatusBetween (o : Option Target) (i j : Input) : Type 0 where
   moves : Moves used i j
   written : (ps : List Part) (rs : List Spot) → WrittenParts i.decls rs ps → WrittenParts i.decls (used ++ rs) (status_parts o ps)
 
-status_before : (t : Target) (i x j : Input) → (s : Step i x) → s.spot.token ≡ Is m.Status → TargetBetween t x j → StatusBetween (Some t) i j
+status_before : (t : Target) (i x j : Input) → (s : Step i x) → s.spot.token ≡ Is m.Status → TargetBetween Variable t x j → StatusBetween (Some t) i j
 status_before t i x j s is n = record {
   used = s.spot ∷ n.used;
   moves = then_moves (s.spot ∷ []) n.used i x j s.moves n.moves;
-  written = λ ps rs w. then_part (s.spot ∷ []) (n.used ++ rs) (of_mark m.Status) (of_target t ∷ ps) (by_mark s.spot m.Status is) (then_part n.used rs (of_target t) ps (by_target n.used t (rw (← s.moves.decls) n.written)) w);
+  written = λ ps rs w. then_part (s.spot ∷ []) (n.used ++ rs) (of_mark m.Status) (of_target Variable t ∷ ps) (by_mark s.spot m.Status is) (then_part n.used rs (of_target Variable t) ps (by_target n.used Variable t (rw (← s.moves.decls) n.written)) w);
 }
 
 status_case : (found : Bool) (i : Input) (y : Option Target × Input) → sees m.Status i ≡ found → status_by found (cond found (advanced i) i) ≡ Ok y → StatusBetween y.0 i y.1
 status_case true i y e h =
     let is = sees_is m.Status i e in
     let s = next_step i (advanced i) (λ x. absurd (cc)) refl in
-    let b = bind_ok (named (advanced i)) _ y h in
+    let b = bind_ok (named Variable (advanced i)) _ y h in
     let o = ok_parts (Some b.0.0, b.0.1) y b.2 in
-    carried (λ o j. StatusBetween o i j) _ _ _ _ o.0 o.1 (status_before b.0.0 i (advanced i) b.0.1 s (s.token ∙ is) (named_ok (advanced i) b.0 b.1))
+    carried (λ o j. StatusBetween o i j) _ _ _ _ o.0 o.1 (status_before b.0.0 i (advanced i) b.0.1 s (s.token ∙ is) (named_ok Variable (advanced i) b.0 b.1))
 status_case false i y e h =
     let o = ok_parts (None, i) y h in
     carried (λ o j. StatusBetween o i j) _ _ _ _ o.0 o.1 (record { used = []; moves = no_move i i refl; written = λ ps rs w. w })
@@ -210,9 +211,9 @@ fill_ok (term_hole ∷ hs) made i j a h =
       written = part_first (of_term b.0.0) (filled hs r.contents) e.used r.used i b.0.1 e.moves.decls (by_term e.used b.0.0 e.written) r.written;
       closed = r.closed;
     }
-fill_ok (target_hole ∷ hs) made i j a h =
-    let b = bind_ok (named i) _ (a, j) h in
-    let e = named_ok i b.0 b.1 in
+fill_ok (target_hole kind ∷ hs) made i j a h =
+    let b = bind_ok (named kind i) _ (a, j) h in
+    let e = named_ok kind i b.0 b.1 in
     let r = fill_ok hs (λ c. made (b.0.0, c)) b.0.1 j a b.2 in
     record {
       contents = (b.0.0, r.contents);
@@ -220,7 +221,7 @@ fill_ok (target_hole ∷ hs) made i j a h =
       used = e.used ++ r.used;
       end = r.end;
       moves = part_moves e.used r.used r.end i b.0.1 j e.moves r.moves;
-      written = part_first (of_target b.0.0) (filled hs r.contents) e.used r.used i b.0.1 e.moves.decls (by_target e.used b.0.0 e.written) r.written;
+      written = part_first (of_target kind b.0.0) (filled hs r.contents) e.used r.used i b.0.1 e.moves.decls (by_target e.used kind b.0.0 e.written) r.written;
       closed = r.closed;
     }
 fill_ok (source_hole ∷ hs) made i j a h =

@@ -4,7 +4,7 @@ use Rattle.std.proofs.lemmas.Bool.Decides.{nat_tests}
 use Rattle.std.specs.List.{prefix_len}
 use Rattle.std.specs.Ordering.{int_eq}
 use Rattle.mpd_model.specs.declared.limits.TheConstants.{BLOCKS_MAX, RANKS_MAX}
-use Rattle.mpd_model.specs.declared.place.DeclKind.TheVariants.{Variable}
+use Rattle.mpd_model.specs.declared.place.DeclKind.{DeclKind}
 use Rattle.mpd_model.specs.declared.read_fault.FaultCode.TheVariants.{NotInVersion, Twice, TooMany}
 use Rattle.mpd_model.specs.declared.read_fault.ReadFault.{ReadFault}
 use Rattle.mpd_model.specs.declared.slot.Slot.{Slot}
@@ -13,13 +13,13 @@ use Rattle.mpd_model.specs.declared.token.Token.{Token}
 use Rattle.mpd_model.specs.declared.token.Token.TheVariants.{Number, Name, Is, End}
 use Rattle.mpd_model.specs.Declaration.{Declared}
 use Rattle.mpd_model.specs.Faults.{fault}
-use Rattle.mpd_model.specs.Grammar.{version_by, version, rank_count, ranks_of, ranks_by, ranks, natural, sized_at, size_by, sized, single, declaring, decl_by, decl, decls_from, decls, header, stmt, stmts, body, block, closes, max_blocks, max_text, is_text, read_of, reading}
+use Rattle.mpd_model.specs.Grammar.{version_by, version, rank_count, ranks_of, ranks_by, ranks, natural, sized_at, size_by, sized, single, declaring, decl_by, decl, declares, decls_by, decls_from, decls, header, stmt, stmts, body, block, closes, max_blocks, max_text, is_text, read_of, reading}
 use Rattle.mpd_model.specs.Grammar as grammar
 use Rattle.mpd_model.specs.Input.{Input, Outcome, Parser, start_of, token, token_of, spelling, place, advanced, expect, sees, after, fresh, add, cells_fit, is_known, slot_in, advance, fail, pure, ◌>>=◌, ◌>>◌}
 use Rattle.mpd_model.specs.Program.{Program}
 use Rattle.mpd_model.specs.Tokens.{Spot, tokens}
 use Rattle.mpd_model.specs.Tree.{Tree, block_of, statements_in}
-use Rattle.mpd_model.specs.Written.{WrittenDecls, none, declares, declares_array, variable_of, BodyBetween, WrittenScript, script}
+use Rattle.mpd_model.specs.Written.{WrittenDecls, none, declares_one, declares_array, declared_as, BodyBetween, WrittenScript, script}
 use Rattle.mpd_laws.proofs.Counted.{body_lines}
 use Rattle.mpd_laws.proofs.Ends.{NoEnd, tokens_real, rest_real, none_left}
 use Rattle.mpd_laws.proofs.Sound.{bind_ok, ok_parts, carried, test_ok, Step, next_step, sees_is, expect_step}
@@ -89,15 +89,15 @@ carried_decls : (ds es : List Declared) (ss : List Spot) (fs : List Declared) �
 carried_decls ds es ss fs e x = rw (← e) x
 
 -- a name was declared, and nothing else has changed
-record Adds (name : List ℕ) (size : Option ℕ) (i j : Input) : Type 0 where
+record Adds (kind : DeclKind) (name : List ℕ) (size : Option ℕ) (i j : Input) : Type 0 where
   pub tokens : j.tokens ≡ i.tokens
-  pub decls : j.decls ≡ i.decls ++ variable_of name size ∷ []
+  pub decls : j.decls ≡ i.decls ++ declared_as kind name size ∷ []
   pub lines : j.lines ≡ i.lines
 
-add_ok : (name : List ℕ) (size : Option ℕ) (at : ℕ) (i : Input) (y : Unit {0} × Input) → add Variable name size at i ≡ Ok y → Adds name size i y.1
+add_ok : (kind : DeclKind) (name : List ℕ) (size : Option ℕ) (at : ℕ) (i : Input) (y : Unit {0} × Input) → add kind name size at i ≡ Ok y → Adds kind name size i y.1
 unfolding add
-add_ok name size at i y h =
-    let t = test_ok (cells_fit Variable size i.decls) (fault TooMany at) (tt, record i { decls = i.decls ++ variable_of name size ∷ [] }) y h in
+add_ok kind name size at i y h =
+    let t = test_ok (cells_fit kind size i.decls) (fault TooMany at) (tt, record i { decls = i.decls ++ declared_as kind name size ∷ [] }) y h in
     record { tokens = sym (ap (λ p. p.1.tokens) t.1); decls = sym (ap (λ p. p.1.decls) t.1); lines = sym (ap (λ p. p.1.lines) t.1) }
 
 same_token : (i j : Input) → j.tokens ≡ i.tokens → token j ≡ token i
@@ -105,23 +105,23 @@ unfolding token
 same_token i j e = ap token_of e
 
 -- what is behind a name without a size
-record Ends (name : List ℕ) (i j : Input) : Type 0 where
+record Ends (kind : DeclKind) (name : List ℕ) (i j : Input) : Type 0 where
   pub end : Spot
   pub is : i.tokens ≡ end ∷ j.tokens
   pub is_end : end.token ≡ Is m.Semicolon
-  pub decls : j.decls ≡ i.decls ++ variable_of name None ∷ []
+  pub decls : j.decls ≡ i.decls ++ declared_as kind name None ∷ []
   pub lines : j.lines ≡ i.lines
 
-single_ok : (name : List ℕ) (at : ℕ) (i : Input) (y : Unit {0} × Input) → single Variable name at i ≡ Ok y → Ends name i y.1
+single_ok : (kind : DeclKind) (name : List ℕ) (at : ℕ) (i : Input) (y : Unit {0} × Input) → single kind name at i ≡ Ok y → Ends kind name i y.1
 unfolding single
-single_ok name at i y h =
-    let a = bind_ok (add Variable name None at i) _ y h in
-    let d = add_ok name None at i a.0 a.1 in
+single_ok kind name at i y h =
+    let a = bind_ok (add kind name None at i) _ y h in
+    let d = add_ok kind name None at i a.0 a.1 in
     let z = expect_step m.Semicolon a.0.1 y a.2 in
     record { end = z.0.spot; is = sym d.tokens ∙ z.0.moves.is; is_end = z.1; decls = z.0.moves.decls ∙ d.decls; lines = z.0.moves.lines ∙ d.lines }
 
 -- a size, and what is behind it
-record Sizes (name : List ℕ) (i j : Input) : Type 0 where
+record Sizes (kind : DeclKind) (name : List ℕ) (i j : Input) : Type 0 where
   pub cells : ℕ
   pub count : Spot
   pub close : Spot
@@ -130,16 +130,16 @@ record Sizes (name : List ℕ) (i j : Input) : Type 0 where
   pub is_count : count.token ≡ Number (pos cells)
   pub is_close : close.token ≡ Is m.SquareClose
   pub is_end : end.token ≡ Is m.Semicolon
-  pub decls : j.decls ≡ i.decls ++ variable_of name (Some cells) ∷ []
+  pub decls : j.decls ≡ i.decls ++ declared_as kind name (Some cells) ∷ []
   pub lines : j.lines ≡ i.lines
 
 size_is : (z : ℤ) (n : ℕ) → natural z ≡ Some n → z ≡ pos n
 size_is (pos k) n h = let e : k ≡ n = cc in ap pos e
 size_is (negsuc k) n h = absurd (cc)
 
-sizes : (name : List ℕ) (n : ℕ) (i x1 x2 x3 j : Input) → token i ≡ Number (pos n) → Adds name (Some n) i x1 → (s : Step x1 x2) → (c : Step x2 x3) → c.spot.token ≡ Is m.SquareClose
-    → (z : Step x3 j) → z.spot.token ≡ Is m.Semicolon → Sizes name i j
-sizes name n i x1 x2 x3 j e d s c q z p = record {
+sizes : (kind : DeclKind) (name : List ℕ) (n : ℕ) (i x1 x2 x3 j : Input) → token i ≡ Number (pos n) → Adds kind name (Some n) i x1 → (s : Step x1 x2) → (c : Step x2 x3) → c.spot.token ≡ Is m.SquareClose
+    → (z : Step x3 j) → z.spot.token ≡ Is m.Semicolon → Sizes kind name i j
+sizes kind name n i x1 x2 x3 j e d s c q z p = record {
   cells = n;
   count = s.spot;
   close = c.spot;
@@ -155,88 +155,89 @@ sizes name n i x1 x2 x3 j e d s c q z p = record {
 no_end : (i : Input) (z : ℤ) → token i ≡ Number z → token i ≢ End
 no_end i z e x = absurd (cc)
 
-sized_at_ok : (name : List ℕ) (o : Option ℕ) (i : Input) (y : Unit {0} × Input) → ((n : ℕ) → o ≡ Some n → token i ≡ Number (pos n)) → sized_at Variable name o i ≡ Ok y → Sizes name i y.1
-sized_at_ok name None i y is h = absurd (cc)
-sized_at_ok name (Some n) i y is h =
-    let a = bind_ok (add Variable name (Some n) (place i) i) _ y h in
-    let d = add_ok name (Some n) (place i) i a.0 a.1 in
+sized_at_ok : (kind : DeclKind) (name : List ℕ) (o : Option ℕ) (i : Input) (y : Unit {0} × Input) → ((n : ℕ) → o ≡ Some n → token i ≡ Number (pos n)) → sized_at kind name o i ≡ Ok y
+    → Sizes kind name i y.1
+sized_at_ok kind name None i y is h = absurd (cc)
+sized_at_ok kind name (Some n) i y is h =
+    let a = bind_ok (add kind name (Some n) (place i) i) _ y h in
+    let d = add_ok kind name (Some n) (place i) i a.0 a.1 in
     let e = is n refl in
     let s = next_step a.0.1 (advanced a.0.1) (no_end a.0.1 (pos n) (same_token i a.0.1 d.tokens ∙ e)) refl in
     let b = bind_ok (expect m.SquareClose (advanced a.0.1)) _ y a.2 in
     let c = expect_step m.SquareClose (advanced a.0.1) b.0 b.1 in
     let z = expect_step m.Semicolon b.0.1 y b.2 in
-    sizes name n i a.0.1 (advanced a.0.1) b.0.1 y.1 e d s c.0 c.1 z.0 z.1
+    sizes kind name n i a.0.1 (advanced a.0.1) b.0.1 y.1 e d s c.0 c.1 z.0 z.1
 
-size_case : (name : List ℕ) (tk : Token) (i : Input) (y : Unit {0} × Input) → token i ≡ tk → size_by Variable name tk i ≡ Ok y → Sizes name i y.1
-size_case name (Number z) i y e h = sized_at_ok name (natural z) i y (λ n is. e ∙ ap Number (size_is z n is)) h
-size_case name _ i y e h = absurd (cc)
+size_case : (kind : DeclKind) (name : List ℕ) (tk : Token) (i : Input) (y : Unit {0} × Input) → token i ≡ tk → size_by kind name tk i ≡ Ok y → Sizes kind name i y.1
+size_case kind name (Number z) i y e h = sized_at_ok kind name (natural z) i y (λ n is. e ∙ ap Number (size_is z n is)) h
+size_case kind name _ i y e h = absurd (cc)
 
-sized_ok : (name : List ℕ) (i : Input) (y : Unit {0} × Input) → sized Variable name i ≡ Ok y → Sizes name i y.1
+sized_ok : (kind : DeclKind) (name : List ℕ) (i : Input) (y : Unit {0} × Input) → sized kind name i ≡ Ok y → Sizes kind name i y.1
 unfolding sized
-sized_ok name i y h = size_case name (token i) i y refl h
+sized_ok kind name i y h = size_case kind name (token i) i y refl h
 
--- a declaration behind its `var`, whatever follows it
-pub record Declares (i j : Input) : Type 0 where
+-- a declaration behind the word that begins it, whatever follows it
+pub record Declares (kind : DeclKind) (i j : Input) : Type 0 where
   pub used : List Spot
   pub name : List ℕ
   pub size : Option ℕ
   pub is : i.tokens ≡ used ++ j.tokens
-  pub decls : j.decls ≡ i.decls ++ variable_of name size ∷ []
+  pub decls : j.decls ≡ i.decls ++ declared_as kind name size ∷ []
   pub lines : j.lines ≡ i.lines
-  pub written : (v : Spot) (ss : List Spot) (es : List Declared) → v.token ≡ Is m.Var → WrittenDecls (i.decls ++ variable_of name size ∷ []) ss es
+  pub written : (v : Spot) (ss : List Spot) (es : List Declared) → declares v.token ≡ Some kind → WrittenDecls (i.decls ++ declared_as kind name size ∷ []) ss es
       → WrittenDecls i.decls (v ∷ used ++ ss) es
 
 -- one more declaration, as it is seen from before the name
-named_so : (i x j : Input) (name : List ℕ) (size : Option ℕ) (s : Step i x) → name ≡ s.spot.text → j.decls ≡ x.decls ++ variable_of name size ∷ []
-    → j.decls ≡ i.decls ++ variable_of s.spot.text size ∷ []
-named_so i x j name size s e h = h ∙ ap (λ ds. ds ++ variable_of name size ∷ []) s.moves.decls ∙ ap (λ t. i.decls ++ variable_of t size ∷ []) e
+named_so : (kind : DeclKind) (i x j : Input) (name : List ℕ) (size : Option ℕ) (s : Step i x) → name ≡ s.spot.text → j.decls ≡ x.decls ++ declared_as kind name size ∷ []
+    → j.decls ≡ i.decls ++ declared_as kind s.spot.text size ∷ []
+named_so kind i x j name size s e h = h ∙ ap (λ ds. ds ++ declared_as kind name size ∷ []) s.moves.decls ∙ ap (λ t. i.decls ++ declared_as kind t size ∷ []) e
 
-declares_one : (i x j : Input) → token i ≡ Name → slot_in i.decls (spelling i) ≡ None → (s : Step i x) → Ends (spelling i) x j → Declares i j
-declares_one i x j e free s d = record {
+one_declared : (kind : DeclKind) (i x j : Input) → token i ≡ Name → slot_in i.decls (spelling i) ≡ None → (s : Step i x) → Ends kind (spelling i) x j → Declares kind i j
+one_declared kind i x j e free s d = record {
   used = s.spot ∷ d.end ∷ [];
   name = s.spot.text;
   size = None;
   is = s.moves.is ∙ ap (λ r. s.spot ∷ r) d.is;
-  decls = named_so i x j (spelling i) None s (sym s.text) d.decls;
+  decls = named_so kind i x j (spelling i) None s (sym s.text) d.decls;
   lines = d.lines ∙ s.moves.lines;
-  written = λ v ss es ev w. declares i.decls es v s.spot d.end ss ev (s.token ∙ e) (ap (slot_in i.decls) s.text ∙ free) d.is_end w;
+  written = λ v ss es ev w. declares_one i.decls es kind v s.spot d.end ss ev (s.token ∙ e) (ap (slot_in i.decls) s.text ∙ free) d.is_end w;
 }
 
-declares_many : (i x y j : Input) → token i ≡ Name → slot_in i.decls (spelling i) ≡ None → (s : Step i x) → (a : Step x y) → a.spot.token ≡ Is m.SquareOpen
-    → Sizes (spelling i) y j → Declares i j
-declares_many i x y j e free s a q d = record {
+many_declared : (kind : DeclKind) (i x y j : Input) → token i ≡ Name → slot_in i.decls (spelling i) ≡ None → (s : Step i x) → (a : Step x y) → a.spot.token ≡ Is m.SquareOpen
+    → Sizes kind (spelling i) y j → Declares kind i j
+many_declared kind i x y j e free s a q d = record {
   used = s.spot ∷ a.spot ∷ d.count ∷ d.close ∷ d.end ∷ [];
   name = s.spot.text;
   size = Some d.cells;
   is = s.moves.is ∙ ap (λ r. s.spot ∷ r) (a.moves.is ∙ ap (λ r. a.spot ∷ r) d.is);
-  decls = named_so i x j (spelling i) (Some d.cells) s (sym s.text) (d.decls ∙ ap (λ ds. ds ++ variable_of (spelling i) (Some d.cells) ∷ []) a.moves.decls);
+  decls = named_so kind i x j (spelling i) (Some d.cells) s (sym s.text) (d.decls ∙ ap (λ ds. ds ++ declared_as kind (spelling i) (Some d.cells) ∷ []) a.moves.decls);
   lines = d.lines ∙ a.moves.lines ∙ s.moves.lines;
-  written = λ v ss es ev w. declares_array i.decls es v s.spot a.spot d.count d.close d.end d.cells ss ev (s.token ∙ e) (ap (slot_in i.decls) s.text ∙ free) q d.is_count d.is_close d.is_end w;
+  written = λ v ss es ev w. declares_array i.decls es kind v s.spot a.spot d.count d.close d.end d.cells ss ev (s.token ∙ e) (ap (slot_in i.decls) s.text ∙ free) q d.is_count d.is_close d.is_end w;
 }
 
-declaring_case : (found : Bool) (i x : Input) (at : ℕ) (y : Unit {0} × Input) → token i ≡ Name → slot_in i.decls (spelling i) ≡ None → Step i x → sees m.SquareOpen x ≡ found
-    → cond found (sized Variable (spelling i)) (single Variable (spelling i) at) (cond found (advanced x) x) ≡ Ok y → Declares i y.1
-declaring_case true i x at y e free s is h =
+declaring_case : (kind : DeclKind) (found : Bool) (i x : Input) (at : ℕ) (y : Unit {0} × Input) → token i ≡ Name → slot_in i.decls (spelling i) ≡ None → Step i x → sees m.SquareOpen x ≡ found
+    → cond found (sized kind (spelling i)) (single kind (spelling i) at) (cond found (advanced x) x) ≡ Ok y → Declares kind i y.1
+declaring_case kind true i x at y e free s is h =
     let open_bracket = sees_is m.SquareOpen x is in
     let a = next_step x (advanced x) (λ z. absurd (cc)) refl in
-    declares_many i x (advanced x) y.1 e free s a (a.token ∙ open_bracket) (sized_ok (spelling i) (advanced x) y h)
-declaring_case false i x at y e free s is h = declares_one i x y.1 e free s (single_ok (spelling i) at x y h)
+    many_declared kind i x (advanced x) y.1 e free s a (a.token ∙ open_bracket) (sized_ok kind (spelling i) (advanced x) y h)
+declaring_case kind false i x at y e free s is h = one_declared kind i x y.1 e free s (single_ok kind (spelling i) at x y h)
 
-declaring_ok : (i : Input) (y : Unit {0} × Input) → token i ≡ Name → declaring Variable i ≡ Ok y → Declares i y.1
+declaring_ok : (kind : DeclKind) (i : Input) (y : Unit {0} × Input) → token i ≡ Name → declaring kind i ≡ Ok y → Declares kind i y.1
 unfolding declaring after
-declaring_ok i y e h =
+declaring_ok kind i y e h =
     let a = bind_ok (fresh i) _ y h in
     let f = fresh_ok i a.0 a.1 in
     let s = next_step i (advanced a.0.1) (λ x. absurd (cc)) (ap advanced f.1) in
-    declaring_case (sees m.SquareOpen (advanced a.0.1)) i (advanced a.0.1) (place i) y e f.0 s refl a.2
+    declaring_case kind (sees m.SquareOpen (advanced a.0.1)) i (advanced a.0.1) (place i) y e f.0 s refl a.2
 
-decl_case : (tk : Token) (i : Input) (y : Unit {0} × Input) → token i ≡ tk → decl_by Variable tk i ≡ Ok y → Declares i y.1
-decl_case Name i y e h = declaring_ok i y e h
-decl_case _ i y e h = absurd (cc)
+decl_case : (kind : DeclKind) (tk : Token) (i : Input) (y : Unit {0} × Input) → token i ≡ tk → decl_by kind tk i ≡ Ok y → Declares kind i y.1
+decl_case kind Name i y e h = declaring_ok kind i y e h
+decl_case kind _ i y e h = absurd (cc)
 
-pub decl_ok : (i : Input) (y : Unit {0} × Input) → decl Variable i ≡ Ok y → Declares i y.1
+pub decl_ok : (kind : DeclKind) (i : Input) (y : Unit {0} × Input) → decl kind i ≡ Ok y → Declares kind i y.1
 unfolding decl
-decl_ok i y h = decl_case (token i) i y refl h
+decl_ok kind i y h = decl_case kind (token i) i y refl h
 
 pub record TakesDecls (i j : Input) : Type 0 where
   pub used : List Spot
@@ -247,28 +248,35 @@ pub record TakesDecls (i j : Input) : Type 0 where
 no_decls : (i j : Input) → i ≡ j → TakesDecls i j
 no_decls i j e = record { used = []; is = ap (λ k. k.tokens) e; written = rw (← e) (none i.decls); lines = sym (ap (λ k. k.lines) e) }
 
-more_decls : (i x y j : Input) → (s : Step i x) → s.spot.token ≡ Is m.Var → Declares x y → TakesDecls y j → TakesDecls i j
-more_decls i x y j s e d r = record {
+more_decls : (kind : DeclKind) (i x y j : Input) → (s : Step i x) → declares s.spot.token ≡ Some kind → Declares kind x y → TakesDecls y j → TakesDecls i j
+more_decls kind i x y j s e d r = record {
   used = s.spot ∷ d.used ++ r.used;
   is = s.moves.is ∙ ap (λ q. s.spot ∷ q) (d.is ∙ ap (λ q. d.used ++ q) r.is ∙ sym (append_assoc d.used r.used j.tokens));
   written = carried_decls x.decls i.decls (s.spot ∷ d.used ++ r.used) j.decls s.moves.decls
-      (d.written s.spot r.used j.decls e (carried_decls y.decls (x.decls ++ variable_of d.name d.size ∷ []) r.used j.decls d.decls r.written));
+      (d.written s.spot r.used j.decls e (carried_decls y.decls (x.decls ++ declared_as kind d.name d.size ∷ []) r.used j.decls d.decls r.written));
   lines = r.lines ∙ d.lines ∙ s.moves.lines;
 }
 
-decls_case : (p : Parser (Unit {0})) → ((i : Input) (y : Unit {0} × Input) → p i ≡ Ok y → TakesDecls i y.1) → (found : Bool) (i : Input) (y : Unit {0} × Input) → sees m.Var i ≡ found
-    → cond found (decl Variable >> p) (pure tt) (cond found (advanced i) i) ≡ Ok y → TakesDecls i y.1
-decls_case p s true i y e h =
-    let is = sees_is m.Var i e in
-    let v = next_step i (advanced i) (λ z. absurd (cc)) refl in
-    let b = bind_ok (decl Variable (advanced i)) _ y h in
-    more_decls i (advanced i) b.0.1 y.1 v (v.token ∙ is) (decl_ok (advanced i) b.0 b.1) (s b.0.1 y b.2)
-decls_case p s false i y e h = no_decls i y.1 (ok_parts (tt, i) y h).1
+-- the end of the text declares nothing
+end_declares : (t : Token) (kind : DeclKind) → declares t ≡ Some kind → t ≢ End
+end_declares t kind h e = let none_there : declares End ≡ Some kind = ap declares (sym e) ∙ h in absurd (cc)
+
+-- the word that begins a declaration
+pub begins_decl : (kind : DeclKind) (i : Input) → declares (token i) ≡ Some kind → (s : Step i (advanced i)) × (declares s.spot.token ≡ Some kind)
+begins_decl kind i e = let s = next_step i (advanced i) (end_declares (token i) kind e) refl in (s, ap declares s.token ∙ e)
+
+decls_case : (p : Parser (Unit {0})) → ((i : Input) (y : Unit {0} × Input) → p i ≡ Ok y → TakesDecls i y.1) → (o : Option DeclKind) (i : Input) (y : Unit {0} × Input)
+    → declares (token i) ≡ o → decls_by p o i ≡ Ok y → TakesDecls i y.1
+decls_case p s (Some kind) i y e h =
+    let v = begins_decl kind i e in
+    let b = bind_ok (decl kind (advanced i)) _ y h in
+    more_decls kind i (advanced i) b.0.1 y.1 v.0 v.1 (decl_ok kind (advanced i) b.0 b.1) (s b.0.1 y b.2)
+decls_case p s None i y e h = no_decls i y.1 (ok_parts (tt, i) y h).1
 
 decls_from_ok : (n : ℕ) (i : Input) (y : Unit {0} × Input) → decls_from n i ≡ Ok y → TakesDecls i y.1
-unfolding decls_from after
+unfolding decls_from
 decls_from_ok zero i y h = absurd (cc)
-decls_from_ok (suc n) i y h = decls_case (decls_from n) (λ x z e. decls_from_ok n x z e) (sees m.Var i) i y refl h
+decls_from_ok (suc n) i y h = decls_case (decls_from n) (λ x z e. decls_from_ok n x z e) (declares (token i)) i y refl h
 
 decls_ok : (i : Input) (y : Unit {0} × Input) → decls i ≡ Ok y → TakesDecls i y.1
 unfolding decls

@@ -85,20 +85,20 @@ form_rest f i j t h =
 record Assigns (slot : Slot) (t : Tree) (i j : Input) : Type 0 where
   pub used : List Spot
   pub moves : Moves used i j
-  pub written : (s : Spot) → NamedBy i.decls slot s → WrittenTree i.decls (s ∷ used) t (s.line ∷ [])
+  pub written : (s : Spot) → NamedBy i.decls Variable slot s → WrittenTree i.decls (s ∷ used) t (s.line ∷ [])
 
 assigning_ok : (slot : Slot) (i j : Input) (t : Tree) → assigning slot i ≡ Ok (t, j) → Assigns slot t i j
 unfolding assigning
 assigning_ok slot i j t h =
     let a = bind_ok (outside (place_of_slot slot) slot.size i) _ (t, j) h in
-    let o = outside_ok slot i a.0.1 a.0.0 a.1 in
+    let o = outside_ok Variable slot i a.0.1 a.0.0 a.1 in
     let r = fill_ok (mark_hole m.Assign ∷ term_hole ∷ []) (λ c. simple (st.Assign (record { into = a.0.0; value = c.0 }))) a.0.1 j t a.2 in
     subst (λ t. Assigns slot t i j) r.is
     (record {
       used = o.used ++ r.used ++ r.end ∷ [];
       moves = part_moves o.used r.used r.end i a.0.1 j o.moves r.moves;
       written = λ s n. simply (s ∷ o.used ++ r.used) r.end (st.Assign (record { into = a.0.0; value = r.contents.0 }))
-          (part_first (of_target a.0.0) (filled (mark_hole m.Assign ∷ term_hole ∷ []) r.contents) (s ∷ o.used) r.used i a.0.1 o.moves.decls (by_target (s ∷ o.used) a.0.0 (o.written s n)) r.written) r.closed;
+          (part_first (of_target Variable a.0.0) (filled (mark_hole m.Assign ∷ term_hole ∷ []) r.contents) (s ∷ o.used) r.used i a.0.1 o.moves.decls (by_target (s ∷ o.used) Variable a.0.0 (o.written s n)) r.written) r.closed;
     })
 
 -- ---- statements that hold others
@@ -224,7 +224,7 @@ begun_then k p s i j t e h =
     all_of k t i b.0.1 j e (begun_ok i b.0 (λ x. absurd (cc)) b.1) (s b.0.1 j t b.2)
 
 -- an assignment, whose first token is the name
-assigned : (slot : Slot) (t : Tree) (i x j : Input) → (b : Begun i x) → NamedBy i.decls slot b.spot → Assigns slot t x j → TreeBetween t i j
+assigned : (slot : Slot) (t : Tree) (i x j : Input) → (b : Begun i x) → NamedBy i.decls Variable slot b.spot → Assigns slot t x j → TreeBetween t i j
 assigned slot t i x j b n r = record {
   used = b.spot ∷ r.used;
   begun = b.spot.line ∷ [];
@@ -240,10 +240,10 @@ begun_here i x y e some h = begun_ok i y some (rw e h)
 assignment_takes : (i j : Input) (t : Tree) → token i ≡ Name → (seek Variable >>= λ s. begun >> assigning s) i ≡ Ok (t, j) → TreeBetween t i j
 assignment_takes i j t e h =
     let a = bind_ok (seek Variable i) _ (t, j) h in
-    let k = seek_ok i a.0 a.1 in
+    let k = seek_ok Variable i a.0 a.1 in
     let c = bind_ok (begun a.0.1) _ (t, j) a.2 in
     let b = begun_here i a.0.1 c.0 k.2 (λ x. absurd (cc)) c.1 in
-    let named : NamedBy i.decls a.0.0 b.spot =
+    let named : NamedBy i.decls Variable a.0.0 b.spot =
     λ sized is. record { token = b.token ∙ e; slot = a.0.0; declared = ap (slot_in i.decls) b.text ∙ k.0; kind = k.1; size = is; place = refl } in
     assigned a.0.0 t i c.0.1 j b named (assigning_ok a.0.0 c.0.1 j t c.2)
 

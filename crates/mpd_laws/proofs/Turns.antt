@@ -1,15 +1,14 @@
 -- Each turn takes a token, so more turns than there are tokens change nothing.
-use Rattle.std.proofs.Common.{◌≡◌, ℕ, zero, suc, ◌<◌, Bool, true, false, cond, List, [], ◌∷◌, ◌++◌, length, length-append, Ok, Err, refl, ap, arith, ◌+◌, ◌-◌, ◌∙◌}
-use Rattle.mpd_model.specs.declared.place.DeclKind.TheVariants.{Variable}
-use Rattle.mpd_model.specs.declared.token.Mark.TheVariants as m
+use Rattle.std.proofs.Common.{◌≡◌, ℕ, zero, suc, ◌<◌, Bool, true, false, cond, List, [], ◌∷◌, ◌++◌, length, length-append, Option, Some, None, Ok, Err, refl, ap, arith, ◌+◌, ◌-◌, ◌∙◌}
+use Rattle.mpd_model.specs.declared.place.DeclKind.{DeclKind}
 use Rattle.mpd_model.specs.Declaration.{Declared}
-use Rattle.mpd_model.specs.Grammar.{closes, stmt, stmts, body, block, decl, decls, decls_from}
-use Rattle.mpd_model.specs.Input.{Input, Outcome, Parser, and_then, token, advanced, sees, after, pure, ◌>>=◌, ◌>>◌}
+use Rattle.mpd_model.specs.Grammar.{closes, stmt, stmts, body, block, decl, declares, decls, decls_by, decls_from}
+use Rattle.mpd_model.specs.Input.{Input, Outcome, Parser, and_then, token, advanced, pure, ◌>>=◌}
 use Rattle.mpd_model.specs.Tokens.{Spot}
 use Rattle.mpd_model.specs.Tree.{Tree}
 use Rattle.mpd_model.specs.Written.{WrittenTree, simply, repeats, chooses, chooses_else, TreeBetween}
-use Rattle.mpd_laws.proofs.Sound.{Step, next_step, sees_is}
-use Rattle.mpd_laws.proofs.SoundScript.{Declares, decl_ok}
+use Rattle.mpd_laws.proofs.Sound.{Step}
+use Rattle.mpd_laws.proofs.SoundScript.{Declares, decl_ok, begins_decl}
 use Rattle.mpd_laws.proofs.SoundStatements.{block_sound, stmt_sound}
 
 bind_same : {A B : Type 0} (o : Outcome A) (f g : A → Parser B) → ((x : A × Input) → o ≡ Ok x → f x.0 x.1 ≡ g x.0 x.1) → and_then o f ≡ and_then o g
@@ -42,21 +41,20 @@ stmts_enough depth inside (suc n) found i h =
 
 -- ---- declarations
 
-decl_shorter : (i x y : Input) → Step i x → Declares x y → length y.tokens < length i.tokens
-decl_shorter i x y s d = omega (arith, ap length s.moves.is, ap length d.is, length-append d.used y.tokens)
+decl_shorter : (kind : DeclKind) (i x y : Input) → Step i x → Declares kind x y → length y.tokens < length i.tokens
+decl_shorter kind i x y s d = omega (arith, ap length s.moves.is, ap length d.is, length-append d.used y.tokens)
 
-decls_turn : (n : ℕ) (found : Bool) (i : Input) → sees m.Var i ≡ found → ((x : Input) → length x.tokens < length i.tokens → decls_from n x ≡ decls_from (suc n) x)
-    → cond found (decl Variable >> decls_from n) (pure tt) (cond found (advanced i) i) ≡ cond found (decl Variable >> decls_from (suc n)) (pure tt) (cond found (advanced i) i)
-decls_turn n true i e more =
-    let is = sees_is m.Var i e in
-    let s = next_step i (advanced i) (λ z. absurd (cc)) refl in
-    bind_same (decl Variable (advanced i)) _ _ (λ y d. more y.1 (decl_shorter i (advanced i) y.1 s (decl_ok (advanced i) y d)))
-decls_turn n false i e more = refl
+decls_turn : (n : ℕ) (o : Option DeclKind) (i : Input) → declares (token i) ≡ o → ((x : Input) → length x.tokens < length i.tokens → decls_from n x ≡ decls_from (suc n) x)
+    → decls_by (decls_from n) o i ≡ decls_by (decls_from (suc n)) o i
+decls_turn n (Some kind) i e more =
+    let s = begins_decl kind i e in
+    bind_same (decl kind (advanced i)) _ _ (λ y d. more y.1 (decl_shorter kind i (advanced i) y.1 s.0 (decl_ok kind (advanced i) y d)))
+decls_turn n None i e more = refl
 
 pub decls_enough : (n : ℕ) (i : Input) → length i.tokens < n → decls_from n i ≡ decls_from (suc n) i
-unfolding decls_from after
+unfolding decls_from
 decls_enough zero i h = absurd (omega arith)
-decls_enough (suc n) i h = decls_turn n (sees m.Var i) i refl (λ x less. decls_enough n x (omega arith))
+decls_enough (suc n) i h = decls_turn n (declares (token i)) i refl (λ x less. decls_enough n x (omega arith))
 
 -- ---- with any number of turns that is enough
 

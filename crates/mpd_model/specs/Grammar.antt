@@ -13,6 +13,8 @@ use Rattle.mpd_model.specs.declared.place.DeclKind.TheVariants.{Variable, Handle
 use Rattle.mpd_model.specs.declared.read_fault.FaultCode.TheVariants.{TooLong, NotText, TooDeep, BadRanks, NotInVersion}
 use Rattle.mpd_model.specs.declared.read_fault.ReadFault.{ReadFault}
 use Rattle.mpd_model.specs.declared.slot.Slot.{Slot}
+use Rattle.mpd_model.specs.declared.stmt.RecvStmt.{RecvStmt}
+use Rattle.mpd_model.specs.declared.stmt.SendStmt.{SendStmt}
 use Rattle.mpd_model.specs.declared.stmt.Simple.{Simple}
 use Rattle.mpd_model.specs.declared.stmt.Simple.TheVariants as st
 use Rattle.mpd_model.specs.declared.token.Mark.{Mark}
@@ -237,29 +239,29 @@ print_form = record { word = m.Print; holes = term_hole ∷ []; made = λ c. st.
 abbrev pub assert_form : Form
 assert_form = record { word = m.Assert; holes = term_hole ∷ []; made = λ c. st.Assert c.0; parts = λ c. refl; clear = (tt, tt) }
 
+abbrev pub sent_holes : List Hole
+sent_holes = term_hole ∷ mark_hole m.To ∷ term_hole ∷ mark_hole m.Tag ∷ term_hole ∷ []
+
+abbrev pub sent : Contents sent_holes → SendStmt
+sent c = record { value = c.0; to = c.1.0; tag = c.1.1.0 }
+
+abbrev pub received_holes : List Hole
+received_holes = target_hole Variable ∷ mark_hole m.From ∷ term_hole ∷ mark_hole m.Tag ∷ term_hole ∷ []
+
+abbrev pub received : Contents received_holes → RecvStmt
+received c = record { into = c.0; from = c.1.0; tag = c.1.1.0 }
+
 abbrev pub send_form : Form
-send_form = record {
-  word = m.Send;
-  holes = term_hole ∷ mark_hole m.To ∷ term_hole ∷ mark_hole m.Tag ∷ term_hole ∷ [];
-  made = λ c. st.Send (record { value = c.0; to = c.1.0; tag = c.1.1.0 });
-  parts = λ c. refl;
-  clear = (refl, (refl, (tt, tt)));
-}
+send_form = record { word = m.Send; holes = sent_holes; made = λ c. st.Send (sent c); parts = λ c. refl; clear = (refl, (refl, (tt, tt))) }
 
 abbrev pub recv_form : Form
-recv_form = record {
-  word = m.Recv;
-  holes = target_hole Variable ∷ mark_hole m.From ∷ term_hole ∷ mark_hole m.Tag ∷ term_hole ∷ [];
-  made = λ c. st.Recv (record { into = c.0; from = c.1.0; tag = c.1.1.0 });
-  parts = λ c. refl;
-  clear = (refl, (tt, tt));
-}
+recv_form = record { word = m.Recv; holes = received_holes; made = λ c. st.Recv (received c); parts = λ c. refl; clear = (refl, (tt, tt)) }
 
 abbrev pub isend_form : Form
 isend_form = record {
   word = m.Isend;
-  holes = target_hole Handle ∷ term_hole ∷ mark_hole m.To ∷ term_hole ∷ mark_hole m.Tag ∷ term_hole ∷ [];
-  made = λ c. st.Isend (record { request = c.0; send = record { value = c.1.0; to = c.1.1.0; tag = c.1.1.1.0 } });
+  holes = target_hole Handle ∷ sent_holes;
+  made = λ c. st.Isend (record { request = c.0; send = sent c.1 });
   parts = λ c. refl;
   clear = (refl, (refl, (tt, tt)));
 }
@@ -267,8 +269,8 @@ isend_form = record {
 abbrev pub irecv_form : Form
 irecv_form = record {
   word = m.Irecv;
-  holes = target_hole Handle ∷ target_hole Variable ∷ mark_hole m.From ∷ term_hole ∷ mark_hole m.Tag ∷ term_hole ∷ [];
-  made = λ c. st.Irecv (record { request = c.0; recv = record { into = c.1.0; from = c.1.1.0; tag = c.1.1.1.0 } });
+  holes = target_hole Handle ∷ received_holes;
+  made = λ c. st.Irecv (record { request = c.0; recv = received c.1 });
   parts = λ c. refl;
   clear = (refl, (tt, tt));
 }

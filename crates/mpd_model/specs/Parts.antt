@@ -2,6 +2,8 @@
 use Rattle.std.specs.Prelude.{List, [], ◌∷◌, Option, Some, None}
 use Rattle.mpd_model.specs.declared.place.DeclKind.{DeclKind}
 use Rattle.mpd_model.specs.declared.place.DeclKind.TheVariants.{Variable, Handle}
+use Rattle.mpd_model.specs.declared.stmt.RecvStmt.{RecvStmt}
+use Rattle.mpd_model.specs.declared.stmt.SendStmt.{SendStmt}
 use Rattle.mpd_model.specs.declared.stmt.Simple.{Simple}
 use Rattle.mpd_model.specs.declared.stmt.Simple.TheVariants as st
 use Rattle.mpd_model.specs.declared.token.Mark.{Mark}
@@ -16,14 +18,22 @@ pub data Part : Type 0 where
   -- a variable or a handle that stands in no expression
   of_target : DeclKind → Target → Part
 
+-- what a send sends, to whom and with which tag
+abbrev pub sent_parts : SendStmt → List Part
+sent_parts s = of_term s.value ∷ of_mark m.To ∷ of_term s.to ∷ of_mark m.Tag ∷ of_term s.tag ∷ []
+
+-- where a receive writes, from whom it takes and with which tag
+abbrev pub received_parts : RecvStmt → List Part
+received_parts s = of_target Variable s.into ∷ of_mark m.From ∷ of_term s.from ∷ of_mark m.Tag ∷ of_term s.tag ∷ []
+
 abbrev pub parts_of : Simple → List Part
 parts_of (st.Print e) = of_mark m.Print ∷ of_term e ∷ []
 parts_of (st.Assign s) = of_target Variable s.into ∷ of_mark m.Assign ∷ of_term s.value ∷ []
 parts_of (st.Assert e) = of_mark m.Assert ∷ of_term e ∷ []
-parts_of (st.Send s) = of_mark m.Send ∷ of_term s.value ∷ of_mark m.To ∷ of_term s.to ∷ of_mark m.Tag ∷ of_term s.tag ∷ []
-parts_of (st.Recv s) = of_mark m.Recv ∷ of_target Variable s.into ∷ of_mark m.From ∷ of_term s.from ∷ of_mark m.Tag ∷ of_term s.tag ∷ []
-parts_of (st.Isend s) = of_mark m.Isend ∷ of_target Handle s.request ∷ of_term s.send.value ∷ of_mark m.To ∷ of_term s.send.to ∷ of_mark m.Tag ∷ of_term s.send.tag ∷ []
-parts_of (st.Irecv s) = of_mark m.Irecv ∷ of_target Handle s.request ∷ of_target Variable s.recv.into ∷ of_mark m.From ∷ of_term s.recv.from ∷ of_mark m.Tag ∷ of_term s.recv.tag ∷ []
+parts_of (st.Send s) = of_mark m.Send ∷ sent_parts s
+parts_of (st.Recv s) = of_mark m.Recv ∷ received_parts s
+parts_of (st.Isend s) = of_mark m.Isend ∷ of_target Handle s.request ∷ sent_parts s.send
+parts_of (st.Irecv s) = of_mark m.Irecv ∷ of_target Handle s.request ∷ received_parts s.recv
 parts_of (st.Wait t) = of_mark m.Wait ∷ of_target Handle t ∷ []
 
 -- ---- before it is read: the mark that must come next, or a hole for what comes

@@ -122,7 +122,7 @@ pub(crate) fn push_expr(out: &mut String, decls: &[Decl], expr: &Expr) -> Result
     push_term(out, decls, LOOSEST, expr)
 }
 
-/// Adds a place that a statement writes, with its index.
+/// Adds a place that a statement names, of a variable or a handle, with its index.
 pub(crate) fn push_target(
     out: &mut String,
     decls: &[Decl],

@@ -2,7 +2,7 @@
 use Rattle.std.proofs.Common.{◌≡◌, ℕ, ◌+◌, ℤ, Bool, true, false, List, [], ◌∷◌, ◌++◌, Option, Some, None, Result, Ok, Err, refl, sym, ap, ◌∙◌, subst₂}
 use Rattle.mpd_model.specs.declared.call.Activity.{Activity}
 use Rattle.mpd_model.specs.declared.call.Activity.TheVariants.{Running, Blocked, Trapped}
-use Rattle.mpd_model.specs.declared.call.CallKind.{CallKind}
+use Rattle.mpd_model.specs.declared.call.Issue.{Issue}
 use Rattle.mpd_model.specs.declared.call.Trap.{Trap}
 use Rattle.mpd_model.specs.declared.stmt.Simple.{Simple}
 use Rattle.mpd_model.specs.declared.stmt.Simple.TheVariants as st
@@ -10,7 +10,7 @@ use Rattle.mpd_model.specs.Term.{Term, Value, Env, value_of, is_zero}
 use Rattle.mpd_model.specs.Tree.{Tree, Block, repeat, trees, statements_in, numbered}
 use Rattle.mpd_model.specs.Program.{Program}
 use Rattle.mpd_model.specs.World.{RankWorld}
-use Rattle.mpd_model.specs.Next.{local, env_of, ran, ran_simple, printed, issued, assigned, asserted, chosen, repeated, send_kind, recv_kind, assignment}
+use Rattle.mpd_model.specs.Next.{local, env_of, ran, ran_simple, printed, issued, assigned, asserted, chosen, repeated, send_issue, recv_issue, isend_issue, irecv_issue, wait_issue, assignment}
 use Rattle.mpd_code.specs.declared.node.Node.{Node}
 use Rattle.mpd_code.specs.declared.node.Action.{Action}
 use Rattle.mpd_code.specs.declared.node.Action.TheVariants as a
@@ -27,7 +27,7 @@ print_ran : (s : Program) (r : RankWorld) (i next : ℕ) (v : Value) → planned
 print_ran s r i next (Ok v) = refl
 print_ran s r i next (Err t) = refl
 
-issue_ran : (s : Program) (r : RankWorld) (i next : ℕ) (k : Result CallKind Trap) → planned s r i (issue_plan k next) ≡ issued r (left_at s next) i k
+issue_ran : (s : Program) (r : RankWorld) (i next : ℕ) (k : Result Issue Trap) → planned s r i (issue_plan k next) ≡ issued r (left_at s next) i k
 issue_ran s r i next (Ok k) = refl
 issue_ran s r i next (Err t) = refl
 
@@ -71,8 +71,11 @@ simple_ran : (s : Program) (env : Env) (r : RankWorld) (i next : ℕ) (t : Simpl
 simple_ran s env r i next (st.Print e) = print_ran s r i next (value_of e env)
 simple_ran s env r i next (st.Assign t) = assign_ran s r i next (assignment t env)
 simple_ran s env r i next (st.Assert e) = assert_ran s r i next (value_of e env)
-simple_ran s env r i next (st.Send t) = issue_ran s r i next (send_kind t env)
-simple_ran s env r i next (st.Recv t) = issue_ran s r i next (recv_kind t env)
+simple_ran s env r i next (st.Send t) = issue_ran s r i next (send_issue t env)
+simple_ran s env r i next (st.Recv t) = issue_ran s r i next (recv_issue t env)
+simple_ran s env r i next (st.Isend t) = issue_ran s r i next (isend_issue t env)
+simple_ran s env r i next (st.Irecv t) = issue_ran s r i next (irecv_issue t env)
+simple_ran s env r i next (st.Wait t) = issue_ran s r i next (wait_issue t env)
 
 does_ran : (s : Program) (env : Env) (r : RankWorld) (i next : ℕ) (act : Action) (t : Tree) → Does (left_at s) i (left_at s next) act t
     → planned s r i (plan_of act next env) ≡ ran env r i t (left_at s next)
@@ -82,42 +85,45 @@ does_ran s env r i next (a.Repeat c body) t d = rw d.1.0 (repeat_ran s r i body 
 
 -- ---- what a plan records is what its statement does
 
-print_recorded : (vars : List ℤ) (next : ℕ) (v : Value) → plan_change vars (print_plan v next) ≡ print_change v
-print_recorded vars next (Ok v) = refl
-print_recorded vars next (Err t) = refl
+print_recorded : (vars : List ℤ) (handles : List (Option ℕ)) (next : ℕ) (v : Value) → plan_change vars handles (print_plan v next) ≡ print_change v
+print_recorded vars handles next (Ok v) = refl
+print_recorded vars handles next (Err t) = refl
 
-issue_recorded : (vars : List ℤ) (next : ℕ) (k : Result CallKind Trap) → plan_change vars (issue_plan k next) ≡ issue_change k
-issue_recorded vars next (Ok k) = refl
-issue_recorded vars next (Err t) = refl
+issue_recorded : (vars : List ℤ) (handles : List (Option ℕ)) (next : ℕ) (k : Result Issue Trap) → plan_change vars handles (issue_plan k next) ≡ issue_change handles k
+issue_recorded vars handles next (Ok k) = refl
+issue_recorded vars handles next (Err t) = refl
 
-assign_recorded : (vars : List ℤ) (next : ℕ) (w : Result (ℕ × ℤ) Trap) → plan_change vars (assign_plan w next) ≡ write_change vars w
-assign_recorded vars next (Ok w) = refl
-assign_recorded vars next (Err t) = refl
+assign_recorded : (vars : List ℤ) (handles : List (Option ℕ)) (next : ℕ) (w : Result (ℕ × ℤ) Trap) → plan_change vars handles (assign_plan w next) ≡ write_change vars w
+assign_recorded vars handles next (Ok w) = refl
+assign_recorded vars handles next (Err t) = refl
 
-assert_tested : (vars : List ℤ) (next : ℕ) (v : ℤ) (b : Bool) → is_zero v ≡ b → plan_change vars (assert_plan (Ok v) next) ≡ assert_change (Ok v)
-assert_tested vars next v true e = rw e refl
-assert_tested vars next v false e = rw e refl
+assert_tested : (vars : List ℤ) (handles : List (Option ℕ)) (next : ℕ) (v : ℤ) (b : Bool) → is_zero v ≡ b → plan_change vars handles (assert_plan (Ok v) next) ≡ assert_change (Ok v)
+assert_tested vars handles next v true e = rw e refl
+assert_tested vars handles next v false e = rw e refl
 
-assert_recorded : (vars : List ℤ) (next : ℕ) (v : Value) → plan_change vars (assert_plan v next) ≡ assert_change v
-assert_recorded vars next (Ok v) = assert_tested vars next v (is_zero v) refl
-assert_recorded vars next (Err t) = refl
+assert_recorded : (vars : List ℤ) (handles : List (Option ℕ)) (next : ℕ) (v : Value) → plan_change vars handles (assert_plan v next) ≡ assert_change v
+assert_recorded vars handles next (Ok v) = assert_tested vars handles next v (is_zero v) refl
+assert_recorded vars handles next (Err t) = refl
 
-choice_recorded : (vars : List ℤ) (first second : ℕ) (v : Value) → plan_change vars (choice_plan v first second) ≡ choice_change v
-choice_recorded vars first second (Ok v) = refl
-choice_recorded vars first second (Err t) = refl
+choice_recorded : (vars : List ℤ) (handles : List (Option ℕ)) (first second : ℕ) (v : Value) → plan_change vars handles (choice_plan v first second) ≡ choice_change v
+choice_recorded vars handles first second (Ok v) = refl
+choice_recorded vars handles first second (Err t) = refl
 
-simple_recorded : (env : Env) (next : ℕ) (t : Simple) → plan_change env.vars (simple_plan t next env) ≡ simple_change env t
-simple_recorded env next (st.Print e) = print_recorded env.vars next (value_of e env)
-simple_recorded env next (st.Assign t) = assign_recorded env.vars next (assignment t env)
-simple_recorded env next (st.Assert e) = assert_recorded env.vars next (value_of e env)
-simple_recorded env next (st.Send t) = issue_recorded env.vars next (send_kind t env)
-simple_recorded env next (st.Recv t) = issue_recorded env.vars next (recv_kind t env)
+simple_recorded : (env : Env) (next : ℕ) (t : Simple) → plan_change env.vars env.handles (simple_plan t next env) ≡ simple_change env t
+simple_recorded env next (st.Print e) = print_recorded env.vars env.handles next (value_of e env)
+simple_recorded env next (st.Assign t) = assign_recorded env.vars env.handles next (assignment t env)
+simple_recorded env next (st.Assert e) = assert_recorded env.vars env.handles next (value_of e env)
+simple_recorded env next (st.Send t) = issue_recorded env.vars env.handles next (send_issue t env)
+simple_recorded env next (st.Recv t) = issue_recorded env.vars env.handles next (recv_issue t env)
+simple_recorded env next (st.Isend t) = issue_recorded env.vars env.handles next (isend_issue t env)
+simple_recorded env next (st.Irecv t) = issue_recorded env.vars env.handles next (irecv_issue t env)
+simple_recorded env next (st.Wait t) = issue_recorded env.vars env.handles next (wait_issue t env)
 
 does_recorded : (at : ℕ → List (ℕ × Tree)) (env : Env) (i next : ℕ) (tail : List (ℕ × Tree)) (act : Action) (t : Tree) → Does at i tail act t
-    → plan_change env.vars (plan_of act next env) ≡ change_of env t
+    → plan_change env.vars env.handles (plan_of act next env) ≡ change_of env t
 does_recorded at env i next tail (a.Simple b) t d = rw d (simple_recorded env next b)
-does_recorded at env i next tail (a.Branch c first second) t d = rw d.1.1.0 (choice_recorded env.vars first second (value_of c env))
-does_recorded at env i next tail (a.Repeat c body) t d = rw d.1.0 (choice_recorded env.vars body next (value_of c env))
+does_recorded at env i next tail (a.Branch c first second) t d = rw d.1.1.0 (choice_recorded env.vars env.handles first second (value_of c env))
+does_recorded at env i next tail (a.Repeat c body) t d = rw d.1.0 (choice_recorded env.vars env.handles body next (value_of c env))
 
 running_first : (p n : ℕ) (r : RankWorld) (i : ℕ) (t : Tree) (ts : List (ℕ × Tree)) → r.activity ≡ Running → r.rest ≡ (i, t) ∷ ts → local p n r ≡ Some (ran (env_of p n r) r i t ts)
 running_first p n r i t ts e h = rw (e, h) refl
@@ -146,11 +152,11 @@ abbrev pub IsPlanned : Program → RankView → LocalPlan → Type 0
 IsPlanned s v plan =
     (local v.rank s.ranks (rank_of s v) ≡ Some (planned s (rank_of s v) v.node plan)) × (local_record v.rank s.ranks (rank_of s v) ≡ Some (plan_record v plan))
 
-pub view_ran : (s : Program) (u v : RankView) (vars : List ℤ) (size : ℕ) (plan : LocalPlan) (node : Node) → u ≡ v → u.activity ≡ Running → Stands (left_at s) u.node node → vars ≡ u.vars → size ≡ s.ranks
-    → plan ≡ plan_of node.action node.next (record { vars = vars; rank = u.rank; size = size }) → IsPlanned s v plan
-view_ran s u v vars size plan node same running d held counted is =
+pub view_ran : (s : Program) (u v : RankView) (vars : List ℤ) (handles : List (Option ℕ)) (size : ℕ) (plan : LocalPlan) (node : Node) → u ≡ v → u.activity ≡ Running → Stands (left_at s) u.node node → vars ≡ u.vars → handles ≡ u.handles → size ≡ s.ranks
+    → plan ≡ plan_of node.action node.next (record { vars = vars; handles = handles; rank = u.rank; size = size }) → IsPlanned s v plan
+view_ran s u v vars handles size plan node same running d held requests counted is =
     let env : Env = env_of u.rank s.ranks (rank_of s u) in
-    let in_env : env ≡ record { vars = vars; rank = u.rank; size = size } = λ i. record { vars = sym held i; rank = u.rank; size = sym counted i } in
+    let in_env : env ≡ record { vars = vars; handles = handles; rank = u.rank; size = size } = λ i. record { vars = sym held i; handles = sym requests i; rank = u.rank; size = sym counted i } in
     let facts : IsPlanned s u (plan_of node.action node.next env) = (stands_ran s u.rank s.ranks (rank_of s u) u.node node running refl d, stands_recorded s u.rank s.ranks u node running d) in
     let planned_is : plan_of node.action node.next env ≡ plan = ap (plan_of node.action node.next) in_env ∙ sym is in
     subst₂ (IsPlanned s) same planned_is facts

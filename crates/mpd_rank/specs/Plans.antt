@@ -1,7 +1,6 @@
 -- What a node does, and what its plan makes of a rank.
-use Rattle.std.specs.Prelude.{ℕ, ℤ, [], ◌∷◌, ◌++◌, slice_set, if◌then◌else◌, Result, Ok, Err}
-use Rattle.mpd_model.specs.declared.call.Activity.TheVariants.{Blocked}
-use Rattle.mpd_model.specs.declared.call.CallKind.{CallKind}
+use Rattle.std.specs.Prelude.{ℕ, ℤ, [], ◌∷◌, ◌++◌, length, slice_set, if◌then◌else◌, Result, Ok, Err}
+use Rattle.mpd_model.specs.declared.call.Issue.{Issue as Issued}
 use Rattle.mpd_model.specs.declared.call.Trap.{Trap as Reason}
 use Rattle.mpd_model.specs.declared.call.Trap.TheVariants.{Assertion}
 use Rattle.mpd_model.specs.declared.stmt.Simple.{Simple}
@@ -9,7 +8,7 @@ use Rattle.mpd_model.specs.declared.stmt.Simple.TheVariants as st
 use Rattle.mpd_model.specs.Term.{Value, Env, value_of, is_zero}
 use Rattle.mpd_model.specs.Program.{Program}
 use Rattle.mpd_model.specs.World.{RankWorld}
-use Rattle.mpd_model.specs.Next.{trapped, send_kind, recv_kind, assignment}
+use Rattle.mpd_model.specs.Next.{trapped, with_request, activity_after, send_issue, recv_issue, isend_issue, irecv_issue, wait_issue, assignment}
 use Rattle.mpd_code.specs.declared.node.Action.{Action}
 use Rattle.mpd_code.specs.declared.node.Action.TheVariants as a
 use Rattle.mpd_code.specs.Left.{left_at}
@@ -24,8 +23,8 @@ abbrev pub assign_plan : Result (ℕ × ℤ) Reason → ℕ → LocalPlan
 assign_plan (Ok w) next = Assign w.0 w.1 next
 assign_plan (Err t) next = Trap t
 
-abbrev pub issue_plan : Result CallKind Reason → ℕ → LocalPlan
-issue_plan (Ok kind) next = Issue kind next
+abbrev pub issue_plan : Result Issued Reason → ℕ → LocalPlan
+issue_plan (Ok a) next = Issue a next
 issue_plan (Err t) next = Trap t
 
 abbrev pub assert_plan : Value → ℕ → LocalPlan
@@ -41,8 +40,11 @@ abbrev pub simple_plan : Simple → ℕ → Env → LocalPlan
 simple_plan (st.Print e) next env = print_plan (value_of e env) next
 simple_plan (st.Assign s) next env = assign_plan (assignment s env) next
 simple_plan (st.Assert e) next env = assert_plan (value_of e env) next
-simple_plan (st.Send s) next env = issue_plan (send_kind s env) next
-simple_plan (st.Recv s) next env = issue_plan (recv_kind s env) next
+simple_plan (st.Send s) next env = issue_plan (send_issue s env) next
+simple_plan (st.Recv s) next env = issue_plan (recv_issue s env) next
+simple_plan (st.Isend s) next env = issue_plan (isend_issue s env) next
+simple_plan (st.Irecv s) next env = issue_plan (irecv_issue s env) next
+simple_plan (st.Wait s) next env = issue_plan (wait_issue s env) next
 
 -- what any action does
 abbrev pub plan_of : Action → ℕ → Env → LocalPlan
@@ -55,5 +57,10 @@ abbrev pub planned : Program → RankWorld → ℕ → LocalPlan → RankWorld
 planned s r number (Move next) = record r { rest = left_at s next }
 planned s r number (Print v next) = record r { rest = left_at s next; out = r.out ++ v ∷ [] }
 planned s r number (Assign cell v next) = record r { rest = left_at s next; vars = slice_set r.vars cell v }
-planned s r number (Issue kind next) = record r { rest = left_at s next; calls = r.calls ++ record { statement = number; kind = kind } ∷ []; activity = Blocked }
+planned s r number (Issue a next) = record r {
+  rest = left_at s next;
+  handles = with_request a.handle (length r.calls) r.handles;
+  calls = r.calls ++ record { statement = number; kind = a.kind } ∷ [];
+  activity = activity_after a.kind;
+}
 planned s r number (Trap t) = trapped r t

@@ -2,20 +2,20 @@
 use Rattle.std.specs.Prelude.{ℕ, ℤ, List, [], ◌∷◌, if◌then◌else◌, Option, Some, None, Result, Ok, Err}
 use Rattle.mpd_model.specs.declared.call.Activity.{Activity}
 use Rattle.mpd_model.specs.declared.call.Activity.TheVariants as activity
-use Rattle.mpd_model.specs.declared.call.CallKind.{CallKind}
+use Rattle.mpd_model.specs.declared.call.Issue.{Issue}
 use Rattle.mpd_model.specs.declared.call.Trap.{Trap as Reason}
 use Rattle.mpd_model.specs.declared.stmt.Simple.{Simple}
 use Rattle.mpd_model.specs.declared.stmt.Simple.TheVariants as st
 use Rattle.mpd_model.specs.Term.{Value, Env, value_of, is_zero}
 use Rattle.mpd_model.specs.Tree.{Tree, simple, branch, repeat}
 use Rattle.mpd_model.specs.World.{RankWorld}
-use Rattle.mpd_model.specs.Next.{env_of, send_kind, recv_kind, assignment}
+use Rattle.mpd_model.specs.Next.{env_of, send_issue, recv_issue, isend_issue, irecv_issue, wait_issue, assignment}
 use Rattle.mpd_rank.specs.declared.change.Change.{Change}
 use Rattle.mpd_rank.specs.declared.change.Change.TheVariants.{Moved, Printed, Issued, Trapped, Woke}
 use Rattle.mpd_rank.specs.declared.change.RankRecord.{RankRecord}
 use Rattle.mpd_rank.specs.declared.plan.LocalPlan.{LocalPlan}
 use Rattle.mpd_rank.specs.declared.plan.LocalPlan.TheVariants as plan
-use Rattle.mpd_rank.specs.Undone.{held, all_held, assigned_change}
+use Rattle.mpd_rank.specs.Undone.{held, all_held, request_held, assigned_change}
 use Rattle.mpd_rank.specs.Views.{RankView, first_of}
 
 -- ---- of a statement, by what it evaluates to: a trap is a change of its own
@@ -24,9 +24,10 @@ abbrev pub print_change : Value → Change
 print_change (Ok v) = Printed
 print_change (Err t) = Trapped
 
-abbrev pub issue_change : Result CallKind Reason → Change
-issue_change (Ok kind) = Issued
-issue_change (Err t) = Trapped
+-- the handle that gets the call's number, and what it held
+abbrev pub issue_change : List (Option ℕ) → Result Issue Reason → Change
+issue_change handles (Ok a) = Issued (request_held handles a.handle)
+issue_change handles (Err t) = Trapped
 
 abbrev pub write_change : List ℤ → Result (ℕ × ℤ) Reason → Change
 write_change vars (Ok w) = assigned_change (held vars w.0)
@@ -45,8 +46,11 @@ abbrev pub simple_change : Env → Simple → Change
 simple_change env (st.Print e) = print_change (value_of e env)
 simple_change env (st.Assign s) = write_change env.vars (assignment s env)
 simple_change env (st.Assert e) = assert_change (value_of e env)
-simple_change env (st.Send s) = issue_change (send_kind s env)
-simple_change env (st.Recv s) = issue_change (recv_kind s env)
+simple_change env (st.Send s) = issue_change env.handles (send_issue s env)
+simple_change env (st.Recv s) = issue_change env.handles (recv_issue s env)
+simple_change env (st.Isend s) = issue_change env.handles (isend_issue s env)
+simple_change env (st.Irecv s) = issue_change env.handles (irecv_issue s env)
+simple_change env (st.Wait s) = issue_change env.handles (wait_issue s env)
 
 abbrev pub change_of : Env → Tree → Change
 change_of env (simple s) = simple_change env s
@@ -63,19 +67,19 @@ record_by env (activity.Trapped t) rest = None
 abbrev pub local_record : ℕ → ℕ → RankWorld → Option RankRecord
 local_record p n r = record_by (env_of p n r) r.activity r.rest
 
--- the record of a wake, which moves no rank: what the written cells held
-abbrev pub wake_record : List ℤ → List (ℕ × ℤ) → RankRecord
-wake_record vars writes = record { from = 0; change = Woke (first_of (all_held vars writes)) }
+-- the record of a wake, which moves no rank: what the written cells and the cleared handle held
+abbrev pub wake_record : List ℤ → List (Option ℕ) → List (ℕ × ℤ) → Option ℕ → RankRecord
+wake_record vars handles writes handle = record { from = 0; change = Woke (request_held handles handle) (first_of (all_held vars writes)) }
 
 -- ---- of a plan
 
-abbrev pub plan_change : List ℤ → LocalPlan → Change
-plan_change vars (plan.Move next) = Moved
-plan_change vars (plan.Print v next) = Printed
-plan_change vars (plan.Assign cell v next) = assigned_change (held vars cell)
-plan_change vars (plan.Issue kind next) = Issued
-plan_change vars (plan.Trap t) = Trapped
+abbrev pub plan_change : List ℤ → List (Option ℕ) → LocalPlan → Change
+plan_change vars handles (plan.Move next) = Moved
+plan_change vars handles (plan.Print v next) = Printed
+plan_change vars handles (plan.Assign cell v next) = assigned_change (held vars cell)
+plan_change vars handles (plan.Issue a next) = Issued (request_held handles a.handle)
+plan_change vars handles (plan.Trap t) = Trapped
 
 -- what a rank that stands at a node records of a plan
 abbrev pub plan_record : RankView → LocalPlan → RankRecord
-plan_record v plan = record { from = v.node; change = plan_change v.vars plan }
+plan_record v plan = record { from = v.node; change = plan_change v.vars v.handles plan }

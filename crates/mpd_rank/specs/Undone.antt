@@ -20,6 +20,19 @@ abbrev pub all_held : List ℤ → List (ℕ × ℤ) → List (ℕ × ℤ)
 all_held vars [] = []
 all_held vars (w ∷ ws) = all_held (slice_set vars w.0 w.1) ws ++ listed (held vars w.0)
 
+-- a handle and the call that it has, where there is such a handle
+abbrev pub handle_held : List (Option ℕ) → ℕ → Option (ℕ × Option ℕ)
+handle_held handles h = option_map (λ o. (h, o)) (slice_get handles h)
+
+-- what is overwritten where a handle, if any, is written
+abbrev pub request_held : List (Option ℕ) → Option ℕ → Option (ℕ × Option ℕ)
+request_held handles None = None
+request_held handles (Some h) = handle_held handles h
+
+abbrev pub put_request : Option (ℕ × Option ℕ) → List (Option ℕ) → List (Option ℕ)
+put_request None handles = handles
+put_request (Some w) handles = slice_set handles w.0 w.1
+
 -- an assignment that overwrote a cell; where there is no such cell nothing was overwritten
 abbrev pub assigned_change : Option (ℕ × ℤ) → Change
 assigned_change None = Moved
@@ -30,10 +43,15 @@ abbrev pub put_back : Program → RankWorld → ℕ → Change → RankWorld
 put_back s r from Moved = record r { rest = left_at s from; activity = Running }
 put_back s r from (Assigned cell was) = record r { rest = left_at s from; vars = slice_set r.vars cell was; activity = Running }
 put_back s r from Printed = record r { rest = left_at s from; out = take (length r.out - 1) r.out; activity = Running }
-put_back s r from Issued = record r { rest = left_at s from; calls = take (length r.calls - 1) r.calls; activity = Running }
+put_back s r from (Issued handle) = record r {
+  rest = left_at s from;
+  handles = put_request handle r.handles;
+  calls = take (length r.calls - 1) r.calls;
+  activity = Running;
+}
 put_back s r from Trapped = record r { rest = left_at s from; activity = Running }
 put_back s r from Matched = r
-put_back s r from (Woke was) = record r { vars = write_cells (listed was) r.vars; activity = Blocked }
+put_back s r from (Woke handle cell) = record r { vars = write_cells (listed cell) r.vars; handles = put_request handle r.handles; activity = Blocked }
 
 abbrev pub undone_rank : Program → RankWorld → RankRecord → RankWorld
 undone_rank s r done = put_back s r done.from done.change

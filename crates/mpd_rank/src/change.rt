@@ -50,13 +50,22 @@ impl Cells {
 pub enum Change {
     Moved,
     /// The cell that was written, and what it held.
-    Assigned { cell: usize, was: i64 },
+    Assigned {
+        cell: usize,
+        was: i64,
+    },
     Printed,
-    Issued,
+    /// The handle that got the call's number, if any, and what it held.
+    Issued {
+        handle: Option<(u32, Option<usize>)>,
+    },
     Trapped,
     Matched,
-    /// The cell that was written, if any, and what it held.
-    Woke(Option<(usize, i64)>),
+    /// The handle that was cleared, if any, and what it held; and the same of the cell that was written.
+    Woke {
+        handle: Option<(u32, Option<usize>)>,
+        cell: Option<(usize, i64)>,
+    },
 }
 
 /// What takes the step of a rank back: the node before it, which is 0 at a wake, since that moves no rank, and what else it did.

@@ -4,9 +4,9 @@ ghost use Rattle.std.specs.Prelude.{◌≡◌};
 ghost use Rattle.mpd_rank.specs.Plans.{plan_of, simple_plan, print_plan, assign_plan, issue_plan, assert_plan, choice_plan};
 
 use mpd_code::env::Env;
-use mpd_code::eval::{eval, eval_assign, eval_recv, eval_send};
+use mpd_code::eval::{eval, eval_assign, eval_irecv, eval_isend, eval_recv, eval_send, eval_wait};
 use mpd_code::node::{Action, Node};
-use mpd_model::call::{CallKind, Trap};
+use mpd_model::call::{Issue, Trap};
 use mpd_model::stmt::Simple;
 
 /// What a local step does.
@@ -27,9 +27,9 @@ pub enum LocalPlan {
         value: i64,
         next: usize,
     },
-    /// Issues a call, and blocks on it.
+    /// Issues a call, and blocks on it where its kind blocks.
     Issue {
-        kind: CallKind,
+        issue: Issue,
         next: usize,
     },
     Trap(Trap),
@@ -53,11 +53,11 @@ fn plan_assign(write: Result<(usize, i64), Trap>, next: usize) -> LocalPlan
     }
 }
 
-fn plan_issue(kind: Result<CallKind, Trap>, next: usize) -> LocalPlan
-    ensures { result ≡ issue_plan kind next }
+fn plan_issue(issue: Result<Issue, Trap>, next: usize) -> LocalPlan
+    ensures { result ≡ issue_plan issue next }
 {
-    match kind {
-        Ok(kind) => LocalPlan::Issue { kind, next },
+    match issue {
+        Ok(issue) => LocalPlan::Issue { issue, next },
         Err(trap) => LocalPlan::Trap(trap),
     }
 }
@@ -93,6 +93,9 @@ fn plan_simple(simple: &Simple, env: &Env<'_>, next: usize) -> LocalPlan
         Simple::Assert(test) => plan_assert(eval(test, env), next),
         Simple::Send(send) => plan_issue(eval_send(send, env), next),
         Simple::Recv(recv) => plan_issue(eval_recv(recv, env), next),
+        Simple::Isend(isend) => plan_issue(eval_isend(isend, env), next),
+        Simple::Irecv(irecv) => plan_issue(eval_irecv(irecv, env), next),
+        Simple::Wait(handle) => plan_issue(eval_wait(handle, env), next),
     }
 }
 

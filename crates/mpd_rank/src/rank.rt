@@ -1,15 +1,16 @@
 //! The state of one rank.
 
-ghost use Rattle.std.specs.Prelude.{◌≡◌, ◌≤◌, IfOk, IfSome, IfNone, OnOk, OnErr, is_some, IsSome, ℕ, Some, slice_set};
+ghost use Rattle.std.specs.Prelude.{◌≡◌, ◌≤◌, length, IfOk, IfSome, IfNone, OnOk, OnErr, is_some, IsSome, ℕ, Some, slice_set};
 ghost use Rattle.std.specs.Option.{option_map};
 ghost use Rattle.mpd_model.specs.Program.{Program};
+ghost use Rattle.mpd_model.specs.Next.{blocks, activity_after};
 ghost use Rattle.mpd_code.specs.Left.{left_at};
 
 use crate::change::{Cells, Change, RankRecord};
 use crate::plan::{LocalPlan, plan_node};
 use mpd_code::code::Code;
 use mpd_code::env::Env;
-use mpd_model::call::{Activity, Call};
+use mpd_model::call::{Activity, Call, CallKind, Issue};
 use std::alloc::{AllocError, Global};
 use std::marker::Model;
 
@@ -26,7 +27,8 @@ pub struct RankState {
 }
 
 impl Model for RankState {
-    ghost use Rattle.std.specs.Prelude.{◌-◌, vec_len, vec_capacity};
+    ghost use Rattle.std.specs.Prelude.{◌≤◌, ◌-◌, length, vec_len, vec_capacity};
+    ghost use Rattle.mpd_model.specs.declared.limits.TheConstants.{HANDLES_MAX};
     ghost use Rattle.mpd_rank.specs.Views.{RankView, rank_view_code};
 
     ghost Value = { RankView };
@@ -44,15 +46,39 @@ impl Model for RankState {
       call_room = vec_capacity r.calls - vec_len r.calls;
       out_room = vec_capacity r.out - vec_len r.out;
     } };
+
+    ghost invariant = { λ r. length r.handles.items ≤ HANDLES_MAX };
+}
+
+/// Whether a rank waits for a call of this kind.
+fn blocks(kind: CallKind) -> bool
+    ensures { result ≡ blocks kind }
+{
+    match kind {
+        CallKind::Send(send) => send.blocks,
+        CallKind::Recv(recv) => recv.blocks,
+        CallKind::Wait(_) => true,
+    }
+}
+
+/// What a rank is doing once it has issued a call of this kind.
+fn activity_after(kind: CallKind) -> Activity
+    ensures { result ≡ activity_after kind }
+{
+    if blocks(kind) {
+        Activity::Blocked
+    } else {
+        Activity::Running
+    }
 }
 
 impl RankState {
     ghost use Rattle.mpd_model.specs.World.{start_rank};
     ghost use Rattle.mpd_model.specs.Outcomes.{has_ended, first_number};
-    ghost use Rattle.mpd_model.specs.Next.{local, woken_rank, write_cells};
+    ghost use Rattle.mpd_model.specs.Next.{local, woken_rank, write_cells, with_request, without_request};
     ghost use Rattle.mpd_rank.specs.Views.{rank_of, step_room};
     ghost use Rattle.mpd_rank.specs.Plans.{planned};
-    ghost use Rattle.mpd_rank.specs.Undone.{undone_rank, held, all_held};
+    ghost use Rattle.mpd_rank.specs.Undone.{undone_rank, held, all_held, handle_held, request_held, put_request};
     ghost use Rattle.mpd_rank.specs.Records.{local_record, plan_record, wake_record};
 
     /// A rank before its first step, with the whole body to run. An `Err` is want of memory.
@@ -97,6 +123,7 @@ impl RankState {
         let size = code.ranks();
         let env = Env {
             vars: &self.vars,
+            handles: &self.handles,
             rank: self.rank,
             size: size as u32,
         };
@@ -143,6 +170,72 @@ impl RankState {
         RankRecord { from, change }
     }
 
+    /// Writes a handle, where there is such a one, and answers what it held.
+    fn write_handle(&mut self, handle: usize, call: Option<usize>) -> Option<(u32, Option<usize>)>
+        ensures after { self.new ≡ record self.old { handles = slice_set self.old.handles handle call } }
+        ensures held { result ≡ handle_held self.old.handles handle }
+    {
+        if handle >= self.handles.len() {
+            return None;
+        }
+        let was = self.handles[handle];
+        self.handles[handle] = call;
+        Some((handle as u32, was))
+    }
+
+    /// Gives a handle, if any, the number of the call that is issued next, and answers what it held.
+    fn keep_request(&mut self, handle: Option<usize>) -> Option<(u32, Option<usize>)>
+        ensures after { self.new ≡ record self.old { handles = with_request handle (length self.old.calls) self.old.handles } }
+        ensures held { result ≡ request_held self.old.handles handle }
+    {
+        let number = self.calls.len();
+        match handle {
+            None => None,
+            Some(handle) => self.write_handle(handle, Some(number)),
+        }
+    }
+
+    /// Clears a handle, if any, and answers what it held.
+    fn clear_request(&mut self, handle: Option<usize>) -> Option<(u32, Option<usize>)>
+        ensures after { self.new ≡ record self.old { handles = without_request handle self.old.handles } }
+        ensures held { result ≡ request_held self.old.handles handle }
+    {
+        match handle {
+            None => None,
+            Some(handle) => self.write_handle(handle, None),
+        }
+    }
+
+    /// Puts back what a handle held, if one was written.
+    fn put_request(&mut self, held: Option<(u32, Option<usize>)>)
+        ensures { self.new ≡ record self.old { handles = put_request held self.old.handles } }
+    {
+        if let Some((handle, was)) = held {
+            let _ = self.write_handle(handle as usize, was);
+        }
+    }
+
+    /// Issues a call, in the room that was kept, and goes on at a node.
+    fn issue(&mut self, issue: Issue, next: usize) -> RankRecord
+        requires { 1 ≤ step_room self.old }
+        ensures after { (p : Program) → rank_of p self.new ≡ planned p (rank_of p self.old) self.old.node (LocalPlan.Issue issue next) }
+        ensures recorded { result ≡ plan_record self.old (LocalPlan.Issue issue next) }
+        ensures rank { self.new.rank ≡ self.old.rank }
+    {
+        let from = self.node;
+        let handle = self.keep_request(issue.handle);
+        self.calls.push_reserved(Call {
+            statement: from,
+            kind: issue.kind,
+        });
+        self.node = next;
+        self.activity = activity_after(issue.kind);
+        RankRecord {
+            from,
+            change: Change::Issued { handle },
+        }
+    }
+
     /// Does what was planned, in the room that was kept, so it can't be refused memory. It answers what takes the step back.
     #[tactic(auto, using(crate::proofs::RankLemmas::committing))]
     pub fn commit(&mut self, plan: LocalPlan) -> RankRecord
@@ -164,15 +257,7 @@ impl RankState {
                 Change::Printed
             }
             LocalPlan::Assign { cell, value, next } => return self.assign(cell, value, next),
-            LocalPlan::Issue { kind, next } => {
-                self.calls.push_reserved(Call {
-                    statement: from,
-                    kind,
-                });
-                self.node = next;
-                self.activity = Activity::Blocked;
-                Change::Issued
-            }
+            LocalPlan::Issue { issue, next } => return self.issue(issue, next),
             LocalPlan::Trap(trap) => {
                 self.activity = Activity::Trapped(trap);
                 Change::Trapped
@@ -201,19 +286,24 @@ impl RankState {
         Ok(Some(self.commit(plan)))
     }
 
-    /// Goes on after a wake, with cells written. It can't be refused memory. It answers what takes the wake back.
+    /// Goes on after a wake, with cells written and a handle cleared, if any. It can't be refused memory. It answers what takes
+    /// the wake back.
     #[tactic(auto, using(crate::proofs::RankLemmas::committing))]
-    pub fn complete(&mut self, writes: Cells) -> RankRecord
-        ensures after { (p : Program) → rank_of p self.new ≡ woken_rank writes (rank_of p self.old) }
-        ensures recorded { result ≡ wake_record self.old.vars writes }
+    pub fn complete(&mut self, writes: Cells, handle: Option<usize>) -> RankRecord
+        ensures after { (p : Program) → rank_of p self.new ≡ woken_rank writes handle (rank_of p self.old) }
+        ensures recorded { result ≡ wake_record self.old.vars self.old.handles writes handle }
         ensures rank { self.new.rank ≡ self.old.rank }
         ensures back { (p : Program) → self.old.activity ≡ Activity.Blocked → undone_rank p (rank_of p self.new) result ≡ rank_of p self.old }
     {
         let was = self.write_all(writes);
+        let handle = self.clear_request(handle);
         self.activity = Activity::Running;
         RankRecord {
             from: 0,
-            change: Change::Woke(was.first),
+            change: Change::Woke {
+                handle,
+                cell: was.first,
+            },
         }
     }
 
@@ -225,8 +315,9 @@ impl RankState {
         let RankRecord { from, change } = done;
         match change {
             Change::Matched => return,
-            Change::Woke(was) => {
-                let _ = self.write_all(Cells { first: was });
+            Change::Woke { handle, cell } => {
+                let _ = self.write_all(Cells { first: cell });
+                self.put_request(handle);
                 self.activity = Activity::Blocked;
                 return;
             }
@@ -236,7 +327,8 @@ impl RankState {
             Change::Printed => {
                 let _ = self.out.pop();
             }
-            Change::Issued => {
+            Change::Issued { handle } => {
+                self.put_request(handle);
                 let _ = self.calls.pop();
             }
             Change::Moved | Change::Trapped => {}

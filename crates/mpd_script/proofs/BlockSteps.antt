@@ -2,10 +2,9 @@
 use Rattle.std.proofs.Common.{◌≡◌, ℕ, suc, ◌+◌, ◌-◌, ◌<◌, ◌≤◌, Err, refl, arith, List, [], ◌∷◌, ◌++◌, Bool, true, if◌then◌else◌}
 use Rattle.mpd_model.specs.Tree.{Tree}
 use Rattle.mpd_model.specs.declared.read_fault.FaultCode.TheVariants.{TooDeep}
-use Rattle.mpd_model.specs.declared.place.DeclKind.TheVariants.{Variable}
 use Rattle.mpd_model.specs.declared.token.Mark.TheVariants as m
-use Rattle.mpd_model.specs.Input.{Parser, Input, token, sees, fail, refuse, refusal, ◌>>=◌, ◌>>◌, pure, eat, expect}
-use Rattle.mpd_model.specs.Grammar.{stmt, stmts, body, closes, block, decl, decls_from}
+use Rattle.mpd_model.specs.Input.{Parser, Input, token, sees, fail, refuse, refusal, ◌>>=◌, ◌>>◌, pure, expect}
+use Rattle.mpd_model.specs.Grammar.{stmt, stmts, body, closes, block, declares, decls_by, decls_from}
 use Rattle.mpd_laws.proofs.Turns.{body_turns, decls_turns}
 
 stmts_none : (b : Parser (List Tree)) (inside : Bool) (n : ℕ) (found : List Tree) (i : Input) → n ≡ 0 → stmts b inside n found i ≡ Err (refusal i)
@@ -39,11 +38,11 @@ decls_none : (n : ℕ) (i : Input) → n ≡ 0 → decls_from n i ≡ Err (refus
 unfolding decls_from
 decls_none n i e = rw e refl
 
-decls_some : (n k : ℕ) (i : Input) → n ≡ suc k → decls_from n i ≡ (do found ← eat m.Var; if found then decl Variable >> decls_from k else pure tt) i
+decls_some : (n k : ℕ) (i : Input) → n ≡ suc k → decls_from n i ≡ decls_by (decls_from k) (declares (token i)) i
 unfolding decls_from
 decls_some n k i e = rw e refl
 
-pub decls_more : (n at : ℕ) (i : Input) → at < n → decls_from (n - at) i ≡ (do found ← eat m.Var; if found then decl Variable >> decls_from (n - (at + 1)) else pure tt) i
+pub decls_more : (n at : ℕ) (i : Input) → at < n → decls_from (n - at) i ≡ decls_by (decls_from (n - (at + 1))) (declares (token i)) i
 decls_more n at i h = decls_some (n - at) (n - (at + 1)) i (omega arith)
 
 pub decls_done : (n at : ℕ) (i : Input) → n ≤ at → decls_from (n - at) i ≡ Err (refusal i)

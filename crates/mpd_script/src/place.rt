@@ -1,4 +1,4 @@
-//! Places: variables, and arrays at an index (docs/LANGUAGE.md, "Grammar").
+//! Places: variables and handles, and arrays at an index (docs/LANGUAGE.md, "Grammar").
 
 ghost use Rattle.std.specs.Prelude.{◌≡◌};
 ghost use Rattle.mpd_model.specs.Grammar as spec;
@@ -57,23 +57,27 @@ pub(crate) fn outside(
     })
 }
 
-/// The place whose name comes next.
+/// The place of the kind whose name comes next.
 #[tactic(auto, unfolding(mpd_model::specs::Grammar::target))]
-fn target(alloc: Global, tokens: &mut Tokens<'_>) -> Result<Target, ReadFault>
-    ensures { Reads (spec.target tokens.old) result tokens.new }
+fn target(alloc: Global, tokens: &mut Tokens<'_>, kind: DeclKind) -> Result<Target, ReadFault>
+    ensures { Reads (spec.target kind tokens.old) result tokens.new }
 {
-    let slot = tokens.seek(DeclKind::Variable)?;
+    let slot = tokens.seek(kind)?;
     tokens.advance();
     outside(alloc, tokens, slot)
 }
 
-/// The place that a receive writes.
+/// The place of the kind that a statement names behind its word.
 #[tactic(auto, unfolding(mpd_model::specs::Grammar::named))]
-pub(crate) fn named(alloc: Global, tokens: &mut Tokens<'_>) -> Result<Target, ReadFault>
-    ensures { Reads (spec.named tokens.old) result tokens.new }
+pub(crate) fn named(
+    alloc: Global,
+    tokens: &mut Tokens<'_>,
+    kind: DeclKind,
+) -> Result<Target, ReadFault>
+    ensures { Reads (spec.named kind tokens.old) result tokens.new }
 {
     match tokens.peek() {
-        Token::Name => target(alloc, tokens),
+        Token::Name => target(alloc, tokens, kind),
         _ => Err(tokens.refuse()),
     }
 }

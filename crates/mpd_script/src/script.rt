@@ -133,7 +133,7 @@ fn declaring(tokens: &mut Tokens<'_>, kind: DeclKind) -> Result<(), ReadFault>
     }
 }
 
-/// What follows `var`.
+/// What follows `var` or `req`.
 #[tactic(auto, unfolding(mpd_model::specs::Grammar::decl))]
 fn decl(tokens: &mut Tokens<'_>, kind: DeclKind) -> Result<(), ReadFault>
     ensures { Reads (spec.decl kind tokens.old) result tokens.new }
@@ -144,16 +144,29 @@ fn decl(tokens: &mut Tokens<'_>, kind: DeclKind) -> Result<(), ReadFault>
     }
 }
 
+/// What a token declares, if it begins a declaration.
+fn declares(token: Token) -> Option<DeclKind>
+    ensures { result ≡ spec.declares token }
+{
+    match token {
+        Token::Is(Mark::Var) => Some(DeclKind::Variable),
+        Token::Is(Mark::Req) => Some(DeclKind::Handle),
+        _ => None,
+    }
+}
+
+/// The declarations, up to what begins none.
 #[tactic(auto, using(crate::proofs::BlockSteps::declaring))]
 fn decls(tokens: &mut Tokens<'_>) -> Result<(), ReadFault>
     ensures { Reads (spec.decls tokens.old) result tokens.new }
 {
     let most = tokens.turns();
     for _turn in 0..most {
-        if !tokens.eat(Mark::Var) {
+        let Some(kind) = declares(tokens.peek()) else {
             return Ok(());
-        }
-        decl(tokens, DeclKind::Variable)?;
+        };
+        tokens.advance();
+        decl(tokens, kind)?;
     }
     Err(tokens.refuse())
 }

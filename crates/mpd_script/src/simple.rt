@@ -4,14 +4,18 @@ ghost use Rattle.std.specs.Prelude.{◌≡◌, []};
 ghost use Rattle.mpd_model.specs.Grammar as spec;
 ghost use Rattle.mpd_model.specs.Input.{Reads};
 ghost use Rattle.mpd_model.specs.Tree.{simple};
+ghost use Rattle.mpd_script.specs.Requests.{sent_by, received_by};
 
 use crate::cursor::Tokens;
 use crate::expr::expression;
 use crate::place::{named, outside};
 use crate::stmt::begun;
+use mpd_model::place::DeclKind;
 use mpd_model::read_fault::ReadFault;
 use mpd_model::slot::Slot;
-use mpd_model::stmt::{AssignStmt, RecvStmt, SendStmt, Simple, Stmt, StmtNode};
+use mpd_model::stmt::{
+    AssignStmt, IrecvStmt, IsendStmt, RecvStmt, SendStmt, Simple, Stmt, StmtNode, Target,
+};
 use mpd_model::token::Mark;
 use std::alloc::Global;
 
@@ -35,6 +39,18 @@ pub(crate) fn by_form(alloc: Global, tokens: &mut Tokens<'_>, word: Mark) -> Res
         Mark::Recv => {
             begun(tokens)?;
             receiving(alloc, tokens)
+        }
+        Mark::Isend => {
+            begun(tokens)?;
+            sending_held(alloc, tokens)
+        }
+        Mark::Irecv => {
+            begun(tokens)?;
+            receiving_held(alloc, tokens)
+        }
+        Mark::Wait => {
+            begun(tokens)?;
+            waiting(alloc, tokens)
         }
         _ => Err(tokens.refuse()),
     }
@@ -81,26 +97,88 @@ fn asserting(alloc: Global, tokens: &mut Tokens<'_>) -> Result<Stmt, ReadFault>
     ended(tokens, Simple::Assert(test))
 }
 
-/// What follows `send`.
-fn sending(alloc: Global, tokens: &mut Tokens<'_>) -> Result<Stmt, ReadFault>
-    ensures { Reads (spec.formed spec.send_form tokens.old) result tokens.new }
+/// A send, or one whose request a handle gets.
+fn send_of(request: Option<Target>, send: SendStmt) -> Simple
+    ensures { result ≡ sent_by request send }
+{
+    match request {
+        None => Simple::Send(send),
+        Some(request) => Simple::Isend(IsendStmt { request, send }),
+    }
+}
+
+/// A receive, or one whose request a handle gets.
+fn recv_of(request: Option<Target>, recv: RecvStmt) -> Simple
+    ensures { result ≡ received_by request recv }
+{
+    match request {
+        None => Simple::Recv(recv),
+        Some(request) => Simple::Irecv(IrecvStmt { request, recv }),
+    }
+}
+
+/// What a send sends, to whom and with which tag. A handle gets its request, if there is one.
+fn sent(alloc: Global, tokens: &mut Tokens<'_>, request: Option<Target>) -> Result<Stmt, ReadFault>
+    ensures { Reads (spec.fill spec.sent_holes (λ c. simple (sent_by request (spec.sent c))) tokens.old) result tokens.new }
 {
     let value = expression(alloc, tokens)?;
     tokens.expect(Mark::To)?;
     let to = expression(alloc, tokens)?;
     tokens.expect(Mark::Tag)?;
     let tag = expression(alloc, tokens)?;
-    ended(tokens, Simple::Send(SendStmt { value, to, tag }))
+    ended(tokens, send_of(request, SendStmt { value, to, tag }))
+}
+
+/// Where a receive writes, from whom it takes and with which tag. A handle gets its request, if there is one.
+fn received(
+    alloc: Global,
+    tokens: &mut Tokens<'_>,
+    request: Option<Target>,
+) -> Result<Stmt, ReadFault>
+    ensures { Reads (spec.fill spec.received_holes (λ c. simple (received_by request (spec.received c))) tokens.old) result tokens.new }
+{
+    let into = named(alloc, tokens, DeclKind::Variable)?;
+    tokens.expect(Mark::From)?;
+    let from = expression(alloc, tokens)?;
+    tokens.expect(Mark::Tag)?;
+    let tag = expression(alloc, tokens)?;
+    ended(tokens, recv_of(request, RecvStmt { into, from, tag }))
+}
+
+/// What follows `send`.
+fn sending(alloc: Global, tokens: &mut Tokens<'_>) -> Result<Stmt, ReadFault>
+    ensures { Reads (spec.formed spec.send_form tokens.old) result tokens.new }
+{
+    sent(alloc, tokens, None)
 }
 
 /// What follows `recv`.
 fn receiving(alloc: Global, tokens: &mut Tokens<'_>) -> Result<Stmt, ReadFault>
     ensures { Reads (spec.formed spec.recv_form tokens.old) result tokens.new }
 {
-    let into = named(alloc, tokens)?;
-    tokens.expect(Mark::From)?;
-    let from = expression(alloc, tokens)?;
-    tokens.expect(Mark::Tag)?;
-    let tag = expression(alloc, tokens)?;
-    ended(tokens, Simple::Recv(RecvStmt { into, from, tag }))
+    received(alloc, tokens, None)
+}
+
+/// What follows `isend`.
+fn sending_held(alloc: Global, tokens: &mut Tokens<'_>) -> Result<Stmt, ReadFault>
+    ensures { Reads (spec.formed spec.isend_form tokens.old) result tokens.new }
+{
+    let request = named(alloc, tokens, DeclKind::Handle)?;
+    sent(alloc, tokens, Some(request))
+}
+
+/// What follows `irecv`.
+fn receiving_held(alloc: Global, tokens: &mut Tokens<'_>) -> Result<Stmt, ReadFault>
+    ensures { Reads (spec.formed spec.irecv_form tokens.old) result tokens.new }
+{
+    let request = named(alloc, tokens, DeclKind::Handle)?;
+    received(alloc, tokens, Some(request))
+}
+
+/// What follows `wait`.
+fn waiting(alloc: Global, tokens: &mut Tokens<'_>) -> Result<Stmt, ReadFault>
+    ensures { Reads (spec.formed spec.wait_form tokens.old) result tokens.new }
+{
+    let request = named(alloc, tokens, DeclKind::Handle)?;
+    ended(tokens, Simple::Wait(request))
 }

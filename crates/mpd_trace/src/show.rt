@@ -3,7 +3,7 @@
 ghost use Rattle.std.specs.Prelude.{◌≡◌, ◌++◌, ◌∷◌, [], ◌<◌, IfOk, OnOk, length, slice_get, if◌then◌else◌, string_bytes};
 ghost use Rattle.std.specs.List.{flat_map};
 ghost use Rattle.std.specs.Fmt.{decimal, signed_decimal};
-ghost use Rattle.mpd_model.specs.World.{rank_numbers, pending, posted};
+ghost use Rattle.mpd_model.specs.World.{board_of, rank_numbers, pending, posted};
 ghost use Rattle.mpd_model.specs.Outcomes.{outcome};
 ghost use Rattle.mpd_model.specs.Texts.{spaced, depth_line, rank_line, values_line, handle_text, handles_line, call_line, call_lines, cell_lines, rank_lines, numbers_line, pending_line, pending_lines, posted_line, set_line, outcome_line, show_text};
 
@@ -30,7 +30,7 @@ pub fn show(alloc: Global, core: &Core<'_>, depth: usize, kept: usize) -> Result
 
 /// Adds the lines of every rank.
 fn push_ranks(out: &mut String, core: &Core<'_>) -> Result<(), AllocError>
-    ensures { OnOk result (string_bytes out.new ≡ string_bytes out.old ++ flat_map (rank_lines core.now.program core.now.world) (rank_numbers core.now.world)) }
+    ensures { OnOk result (string_bytes out.new ≡ string_bytes out.old ++ flat_map (rank_lines core.now.program core.now.world) (rank_numbers (board_of core.now.world))) }
 {
     let count = core.rank_count();
     for rank in 0..count {
@@ -109,7 +109,7 @@ fn push_handle(out: &mut String, handle: Option<usize>) -> Result<(), AllocError
 
 /// Adds the lines of a rank's calls.
 fn push_calls(out: &mut String, core: &Core<'_>, rank: usize) -> Result<(), AllocError>
-    ensures { OnOk result (string_bytes out.new ≡ string_bytes out.old ++ call_lines core.now.world rank) }
+    ensures { OnOk result (string_bytes out.new ≡ string_bytes out.old ++ call_lines (board_of core.now.world) rank) }
 {
     let count = core.call_count(rank);
     for index in 0..count {
@@ -120,7 +120,7 @@ fn push_calls(out: &mut String, core: &Core<'_>, rank: usize) -> Result<(), Allo
 
 /// Adds the line of a call.
 fn push_call(out: &mut String, core: &Core<'_>, id: CallId) -> Result<(), AllocError>
-    ensures { OnOk result (string_bytes out.new ≡ string_bytes out.old ++ call_line core.now.world id) }
+    ensures { OnOk result (string_bytes out.new ≡ string_bytes out.old ++ call_line (board_of core.now.world) id) }
 {
     write!(out, "call {id} ")?;
     core.push_call(out, id)?;
@@ -130,7 +130,7 @@ fn push_call(out: &mut String, core: &Core<'_>, id: CallId) -> Result<(), AllocE
 
 /// Adds the lines of all free sends, by sender.
 fn push_all_pending(out: &mut String, core: &Core<'_>) -> Result<(), AllocError>
-    ensures { OnOk result (string_bytes out.new ≡ string_bytes out.old ++ flat_map (pending_lines core.now.world) (rank_numbers core.now.world)) }
+    ensures { OnOk result (string_bytes out.new ≡ string_bytes out.old ++ flat_map (pending_lines (board_of core.now.world)) (rank_numbers (board_of core.now.world))) }
 {
     let count = core.rank_count();
     for sender in 0..count {
@@ -141,7 +141,7 @@ fn push_all_pending(out: &mut String, core: &Core<'_>) -> Result<(), AllocError>
 
 /// Adds the lines of a rank's free sends, by receiver.
 fn push_pending_of(out: &mut String, core: &Core<'_>, sender: usize) -> Result<(), AllocError>
-    ensures { OnOk result (string_bytes out.new ≡ string_bytes out.old ++ pending_lines core.now.world sender) }
+    ensures { OnOk result (string_bytes out.new ≡ string_bytes out.old ++ pending_lines (board_of core.now.world) sender) }
 {
     let count = core.rank_count();
     for receiver in 0..count {
@@ -157,7 +157,7 @@ fn push_pending(
     sender: usize,
     receiver: usize,
 ) -> Result<(), AllocError>
-    ensures { OnOk result (string_bytes out.new ≡ string_bytes out.old ++ pending_line core.now.world sender receiver) }
+    ensures { OnOk result (string_bytes out.new ≡ string_bytes out.old ++ pending_line (board_of core.now.world) sender receiver) }
 {
     let numbers = pending_numbers(*out.allocator(), core, sender, receiver)?;
     if numbers.is_empty() {
@@ -174,7 +174,7 @@ fn pending_numbers(
     sender: usize,
     receiver: usize,
 ) -> Result<Vec<usize>, AllocError>
-    ensures { IfOk result (λ numbers. numbers.items ≡ pending core.now.world sender receiver) }
+    ensures { IfOk result (λ numbers. numbers.items ≡ pending (board_of core.now.world) sender receiver) }
 {
     let mut numbers = Vec::new(alloc);
     let count = core.call_count(sender);
@@ -187,7 +187,7 @@ fn pending_numbers(
 
 /// Adds the lines of all free receives, by rank.
 fn push_all_posted(out: &mut String, core: &Core<'_>) -> Result<(), AllocError>
-    ensures { OnOk result (string_bytes out.new ≡ string_bytes out.old ++ flat_map (posted_line core.now.world) (rank_numbers core.now.world)) }
+    ensures { OnOk result (string_bytes out.new ≡ string_bytes out.old ++ flat_map (posted_line (board_of core.now.world)) (rank_numbers (board_of core.now.world))) }
 {
     let count = core.rank_count();
     for rank in 0..count {
@@ -198,7 +198,7 @@ fn push_all_posted(out: &mut String, core: &Core<'_>) -> Result<(), AllocError>
 
 /// Adds the line of a rank's free receives, where there are any.
 fn push_posted(out: &mut String, core: &Core<'_>, rank: usize) -> Result<(), AllocError>
-    ensures { OnOk result (string_bytes out.new ≡ string_bytes out.old ++ posted_line core.now.world rank) }
+    ensures { OnOk result (string_bytes out.new ≡ string_bytes out.old ++ posted_line (board_of core.now.world) rank) }
 {
     let numbers = posted_numbers(*out.allocator(), core, rank)?;
     if numbers.is_empty() {
@@ -210,7 +210,7 @@ fn push_posted(out: &mut String, core: &Core<'_>, rank: usize) -> Result<(), All
 
 /// The numbers of a rank's free receives.
 fn posted_numbers(alloc: Global, core: &Core<'_>, rank: usize) -> Result<Vec<usize>, AllocError>
-    ensures { IfOk result (λ numbers. numbers.items ≡ posted core.now.world rank) }
+    ensures { IfOk result (λ numbers. numbers.items ≡ posted (board_of core.now.world) rank) }
 {
     let mut numbers = Vec::new(alloc);
     let count = core.call_count(rank);
