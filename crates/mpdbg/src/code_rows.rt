@@ -75,6 +75,7 @@ fn binary(rt: &impl Abort, alloc: Global, op: BinaryOp, left: ExprNode, right: E
 fn value_of(expr: &Expr) -> Result<i64, Trap> {
     let env = Env {
         vars: &[],
+        handles: &[],
         rank: 2,
         size: 5,
     };
@@ -131,7 +132,7 @@ fn goes_forward(rt: &impl Abort, code: &Code, rank: &mut RankState) -> Records {
     same(rt, rank.output(), &[5]);
     let issued = steps(rt, code, rank);
     has_issued(rt, rank);
-    let woken = rank.complete(Cells::none());
+    let woken = rank.complete(Cells::none(), None);
     same(rt, rank.has_ended(code), true);
     (assigned, issued, woken)
 }
