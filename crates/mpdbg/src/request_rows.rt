@@ -152,7 +152,7 @@ const CANONICAL: &str =
 fn prints(rt: &impl Abort, alloc: Global, text: &str) {
     let script = read(alloc, text.as_bytes()).expect(rt, "a script");
     let printed = print(alloc, &script).expect(rt, "its text");
-    same(rt, "the canonical text", printed.as_str(), CANONICAL);
+    same(rt, printed.as_str(), CANONICAL);
 }
 
 #[test]
@@ -177,7 +177,7 @@ fn waits_for_buffered_sends(rt: HostRuntime) {
     let mut source = FromReader::new(WAITS_WORDS);
     let mut sink = ToWriter::new(Vec::new(alloc));
     let end = trace(alloc, &code, Mode::Buffered, &mut source, &mut sink);
-    same(&rt, "the end", end, Ok(()));
+    same(&rt, end, Ok(()));
     let written = sink.into_writer();
-    same(&rt, "the answers", written.as_slice(), WAITS_ANSWERS);
+    same(&rt, written.as_slice(), WAITS_ANSWERS);
 }
