@@ -1,0 +1,4 @@
+pub mod Passed
+pub mod InLines
+pub mod SideChanges
+pub mod AtSide

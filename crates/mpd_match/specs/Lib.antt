@@ -1,0 +1,5 @@
+pub mod Views
+pub mod Lines
+pub mod Pairs
+pub mod Changes
+pub mod Held

@@ -1,0 +1,10 @@
+//! Where calls meet: the calls of all ranks, the partner of each, the match sets, and the lines that free calls wait in.
+#![tactic(auto)]
+
+pub mod board;
+mod kinds;
+mod looked;
+pub mod record;
+mod side;
+mod sides;
+mod walk;
