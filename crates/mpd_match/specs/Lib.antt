@@ -3,3 +3,5 @@ pub mod Lines
 pub mod Pairs
 pub mod Changes
 pub mod Held
+pub mod Looks
+pub mod BoardRows

@@ -1,5 +1,5 @@
 -- The lines that free calls of one rank wait in: line 0 has its receives, line q + 1 its sends to rank q.
-use Rattle.std.specs.Prelude.{ℕ, ◌+◌, Bool, false, ◌&&◌, ◌||◌, ◌==◌, cond, nat_lt, Option, Some, None, is_none, List, length, slice_get, slice_index_or}
+use Rattle.std.specs.Prelude.{ℕ, ◌+◌, Bool, false, ◌&&◌, ◌||◌, not, ◌==◌, cond, nat_lt, Option, Some, None, is_none, List, [], ◌∷◌, length, slice_get, slice_index_or}
 use Rattle.std.specs.List.{filter, list_any, range_with_len}
 use Rattle.mpd_model.specs.declared.step.CallId.{CallId}
 use Rattle.mpd_model.specs.declared.call.Call.{Call}
@@ -38,9 +38,10 @@ waits calls mark line i = is_none (mark i) && is_line (line_of (kind_in calls i)
 abbrev pub waiting : List Call → (ℕ → Option CallId) → ℕ → List ℕ
 waiting calls mark line = filter (waits calls mark line) (range_with_len 0 (length calls))
 
--- how many items of a line stand before this call
-abbrev pub before : ℕ → List ℕ → ℕ
-before index items = length (filter (λ i. nat_lt i index) items)
+-- how many calls of a line stand before this one, up to the first that passes the test
+abbrev pub passed : (ℕ → Bool) → ℕ → List ℕ → ℕ
+passed test index [] = 0
+passed test index (x ∷ xs) = cond (nat_lt x index && not (test x)) (1 + passed test index xs) 0
 
 -- one of the two is a send of rank p to rank q, and the other a receive that fits it
 abbrev pub fitting_either : Option CallKind → Option CallKind → ℕ → ℕ → Bool

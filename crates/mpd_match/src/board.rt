@@ -97,7 +97,7 @@ impl Board {
         requires room { 1 ≤ self.old.room }
         ensures board { self.new.board ≡ with_set self.old.board (MatchSet.Pair send recv) }
         ensures recorded { result ≡ record_of_pair self.old.board send recv }
-        ensures last { last_set self.new.board ≡ Some (MatchSet.Pair send recv) }
+        ensures undoable { Recorded (without_last_set self.new.board) result (last_set self.new.board) }
         ensures back { without_last_set self.new.board ≡ self.old.board }
         ensures room { self.old.room ≤ self.new.room + 1 }
         ensures writes { self.new.writes ≡ self.old.writes + 7 }

@@ -2,9 +2,12 @@
 #![tactic(auto)]
 
 pub mod board;
+mod complete;
 mod kinds;
 mod looked;
 pub mod record;
+#[cfg(test)]
+mod rows;
 mod side;
 mod sides;
 mod walk;

@@ -1,6 +1,6 @@
 //! What is looked up on a board by number.
 ghost use Rattle.std.specs.Prelude.{◌≡◌, ◌<◌, ◌≤◌, length};
-ghost use Rattle.mpd_model.specs.World.{call_at, kind_at, calls_of, partner as partner_in, is_free, buffer, is_done, awaited, complete, last_call};
+ghost use Rattle.mpd_model.specs.World.{call_at, kind_at, calls_of, partner as partner_in, is_free, buffer, last_call};
 
 use crate::board::Board;
 use crate::kinds;
@@ -98,29 +98,5 @@ impl Board {
     {
         let send = self.partner(id)?;
         kinds::message_of(send, self.kind(send))
-    }
-
-    /// Whether a send or a receive is done: paired, or buffered as it was issued (MPI 4.0, section 3.4).
-    pub fn is_done(&self, id: CallId) -> bool
-        ensures { result ≡ is_done self.now.board id }
-    {
-        self.partner(id).is_some() || kinds::is_buffered(self.mode, self.kind(id))
-    }
-
-    /// The call that a rank waits for which is blocked on this one, where it waits for one.
-    pub fn awaited(&self, id: CallId) -> Option<CallId>
-        ensures { result ≡ awaited self.now.board id }
-    {
-        kinds::awaited_by(id, self.kind(id))
-    }
-
-    /// Whether a call is complete (MPI 4.0, sections 3.4 and 3.7.3).
-    pub fn is_complete(&self, id: CallId) -> bool
-        ensures { result ≡ complete self.now.board id }
-    {
-        match self.awaited(id) {
-            None => true,
-            Some(awaited) => self.is_done(awaited),
-        }
     }
 }

@@ -14,6 +14,7 @@ use mpd_queue::lists::Spot;
 use std::alloc::{AllocError, Global};
 
 /// So many sides without calls.
+#[tactic(auto, using(crate::proofs::AtSide::copying))]
 pub(crate) fn new_sides(alloc: Global, ranks: usize) -> Result<Vec<Side>, AllocError>
     requires few { ranks ≤ RANKS_MAX }
     ensures calls { IfOk result (λ sides. calls_in sides.items ≡ replicate ranks []) }
@@ -29,6 +30,7 @@ pub(crate) fn new_sides(alloc: Global, ranks: usize) -> Result<Vec<Side>, AllocE
 }
 
 /// Keeps room for one call more of each rank.
+#[tactic(auto, using(crate::proofs::AtSide::keeping))]
 pub(crate) fn keep_rooms(sides: &mut Vec<Side>) -> Result<(), AllocError>
     ensures calls { calls_in sides.new.items ≡ calls_in sides.old.items }
     ensures marks { (c : CallId) → mark_at sides.new.items c ≡ mark_at sides.old.items c }
@@ -110,6 +112,7 @@ pub(crate) fn unpair_at(sides: &mut Vec<Side>, line: usize, id: CallId, spot: Sp
 }
 
 /// The same calls and partners, in memory of their own.
+#[tactic(auto, using(crate::proofs::AtSide::copying))]
 pub(crate) fn copy_sides(sides: &Vec<Side>) -> Result<Vec<Side>, AllocError>
     ensures calls { IfOk result (λ copied. calls_in copied.items ≡ calls_in sides.now.items) }
     ensures marks { IfOk result (λ copied. (c : CallId) → mark_at copied.items c ≡ mark_at sides.now.items c) }

@@ -2,7 +2,8 @@
 ghost use Rattle.std.specs.Prelude.{◌≡◌, ℕ, ◌+◌, ◌<◌, ◌≤◌, true, false, length};
 ghost use Rattle.mpd_queue.specs.InOrder.{first_of, next_of};
 ghost use Rattle.mpd_model.specs.World.{fits, is_free as is_free_on, is_pending, is_posted, pending, posted, eligible as eligible_on};
-ghost use Rattle.mpd_match.specs.Lines.{mark_in, waiting, before, has_earlier as has_earlier_in};
+ghost use Rattle.mpd_match.specs.Lines.{kind_in, mark_in, waiting, fitting_either, passed, has_earlier as has_earlier_in};
+ghost use Rattle.mpd_match.specs.Looks.{eligible_looks};
 
 use crate::board::Board;
 use crate::kinds;
@@ -12,8 +13,8 @@ use mpd_model::call::CallKind;
 use mpd_model::step::CallId;
 
 impl Side {
-    /// Whether a call of the line before this one fits the other call. As many looks as there are calls before this one,
-    /// and one more, at most.
+    /// Whether a call of the line before this one fits the other call. One look, and one for each call before this one up
+    /// to the first that fits.
     pub(crate) fn has_earlier(
         &self,
         line: usize,
@@ -25,7 +26,7 @@ impl Side {
     ) -> bool
         requires { line < self.now.lines }
         ensures found { result ≡ has_earlier_in self.now.calls (mark_in self.now.marks) line index other sender receiver }
-        ensures looks { looks.new ≤ looks.old + 1 + before index (waiting self.now.calls (mark_in self.now.marks) line) }
+        ensures looks { looks.new ≡ looks.old + 1 + passed (λ i. fitting_either (kind_in self.now.calls i) other sender receiver) index (waiting self.now.calls (mark_in self.now.marks) line) }
     {
         let mut here = self.first(line, looks);
         'walk: while let Some(item) = here {
@@ -46,7 +47,7 @@ impl Board {
     /// it, and that of the receive.
     pub fn eligible(&self, send: CallId, recv: CallId, looks: &mut Steps) -> bool
         ensures eligible { result ≡ eligible_on self.now.board send recv }
-        ensures looks { looks.new ≤ looks.old + (1 + before send.index (pending self.now.board send.rank recv.rank)) + (1 + before recv.index (posted self.now.board recv.rank)) }
+        ensures looks { looks.new ≡ looks.old + eligible_looks self.now.board send recv }
         ensures at_most { looks.new ≤ looks.old + (length (pending self.now.board send.rank recv.rank) + length (posted self.now.board recv.rank) + 2) }
         ensures none { fits self.now.board send recv ≡ false → looks.new ≡ looks.old }
     {
@@ -55,7 +56,10 @@ impl Board {
         if !kinds::is_fitting(send_kind, recv_kind, send.rank, recv.rank) {
             return false;
         }
-        if !self.is_free(send) || !self.is_free(recv) {
+        if !self.is_free(send) {
+            return false;
+        }
+        if !self.is_free(recv) {
             return false;
         }
         let sender = &self.sides[send.rank];
