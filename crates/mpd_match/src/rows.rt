@@ -95,7 +95,7 @@ fn a_receive_has_the_message_of_its_send(rt: HostRuntime) -> Result<(), Fail> {
     );
     assert_eq!(rt; board.is_done(id(0, 0)), true);
     assert_eq!(rt; board.is_complete(id(1, 0)), true);
-    assert_eq!(rt; board.sets(), &[MatchSet::Pair(id(0, 0), id(1, 0))]);
+    assert_eq!(rt; board.sets(), [MatchSet::Pair(id(0, 0), id(1, 0))].as_slice());
     Ok(())
 }
 
@@ -130,7 +130,7 @@ fn a_wait_is_issued_and_taken_back(rt: HostRuntime) -> Result<(), Fail> {
     assert_eq!(rt; board.awaited(id(1, 1)), Some(id(1, 0)));
     assert_eq!(rt; board.is_complete(id(1, 1)), false);
     board.unissue(1);
-    assert_eq!(rt; board.calls(1), &[recv()]);
+    assert_eq!(rt; board.calls(1), [recv()].as_slice());
     Ok(())
 }
 
