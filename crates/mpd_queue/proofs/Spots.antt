@@ -10,14 +10,14 @@ longer_spot : (a : Option ℕ) (y : ℕ) (ys : List ℕ) → HasSpot ys a → Ha
 longer_spot None y ys s = tt
 longer_spot (Some z) y ys s = omega (arith, places_more z y ys)
 
-first_spot : (ys : List ℕ) → HasSpot ys (first_of ys)
+pub first_spot : (ys : List ℕ) → HasSpot ys (first_of ys)
 first_spot [] = tt
 first_spot (y ∷ ys) = omega (arith, places_here y ys)
 
-next_here : (x y : ℕ) (ys : List ℕ) → x ≡ y → next_of (y ∷ ys) x ≡ first_of ys
+pub next_here : (x y : ℕ) (ys : List ℕ) → x ≡ y → next_of (y ∷ ys) x ≡ first_of ys
 next_here x y ys e = rw (eq-eqb x y e) refl
 
-next_there : (x y : ℕ) (ys : List ℕ) → x ≢ y → next_of (y ∷ ys) x ≡ next_of ys x
+pub next_there : (x y : ℕ) (ys : List ℕ) → x ≢ y → next_of (y ∷ ys) x ≡ next_of ys x
 next_there x y ys ne =
     elim (eqb_tells x y) [
       | inl t ↦ absurd (ne t.1)
@@ -32,7 +32,7 @@ next_spot x (y ∷ ys) =
       | inr t ↦ subst (λ (a : Option ℕ). HasSpot (y ∷ ys) a) (sym (next_there x y ys t.1)) (longer_spot (next_of ys x) y ys (next_spot x ys))
     ]
 
-spot_stays : (x : ℕ) (xs : List ℕ) → HasSpot (removed xs x) (next_of xs x)
+pub spot_stays : (x : ℕ) (xs : List ℕ) → HasSpot (removed xs x) (next_of xs x)
 spot_stays x [] = tt
 spot_stays x (y ∷ ys) =
     elim (eqb_tells x y) [
@@ -48,7 +48,7 @@ ahead_of_first : (x : ℕ) (ys : List ℕ) → inserted ys x (first_of ys) ≡ x
 ahead_of_first x [] = refl
 ahead_of_first x (y ∷ ys) = inserted_here x y ys (Some y) (eq-eqb y y refl)
 
-put_back : (x : ℕ) (xs : List ℕ) → 0 < places_in xs x → ((z : ℕ) → places_in xs z ≤ 1) → inserted (removed xs x) x (next_of xs x) ≡ xs
+pub put_back : (x : ℕ) (xs : List ℕ) → 0 < places_in xs x → ((z : ℕ) → places_in xs z ≤ 1) → inserted (removed xs x) x (next_of xs x) ≡ xs
 put_back x [] has once = absurd (omega arith)
 put_back x (y ∷ ys) has once =
     elim (eqb_tells x y) [

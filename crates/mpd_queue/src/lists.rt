@@ -215,11 +215,12 @@ impl Lists {
         self.links.cells[item].next.item()
     }
 
-    /// The law of disjoint lists, which holds at all times: an item stands in one place at most, and has a cell. It does
-    /// nothing.
+    /// The law of disjoint lists, which holds at all times: an item stands in one place at most, and has a cell; there
+    /// are no more cells than a link can name. It does nothing.
     pub fn disjoint(&self)
         ensures once { (item : ℕ) → places self.now.lists item ≤ 1 }
         ensures inside { (item : ℕ) → 0 < places self.now.lists item → item < self.now.room }
+        ensures few { self.now.room ≤ 4294967295 }
     {
         let _ = &self.links;
     }

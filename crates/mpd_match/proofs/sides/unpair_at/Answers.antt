@@ -1,0 +1,28 @@
+use Rattle.std.proofs.Common.{◌≡◌, ◌<◌, ◌≤◌, ◌+◌, ◌-◌, ◌++◌, ◌∷◌, [], ℕ, suc, List, Option, Some, length, take, sym, ap, ◌∙◌, arith}
+use Rattle.mpd_model.specs.declared.call.Call.{Call}
+use Rattle.mpd_match.specs.Views.{SideView, side_at}
+use Rattle.mpd_match.specs.Lines.{kind_in}
+use Rattle.mpd_match.specs.Changes.{unissue_writes}
+use Rattle.mpd_match.proofs.AtSide.{read_side, listed_at, same_part, calls_at, room_less, room_same, writes_more, lines_at, has_line}
+use Rattle.mpd_match.proofs.sides.unpair_at.Goals as goal
+
+pub returns-clause-lines : goal.returns-clause-lines
+returns-clause-lines c =
+    let sides : List SideView = c.args.sides.now.items in
+    let v : SideView = c.index_mut-side.result.now in
+    let w : SideView = c.unpair.new.self in
+    same_part (λ (u : SideView). u.lines) sides c.args.id.rank v w c.index_mut-side.ensures.value c.unpair.ensures.lines
+
+pub returns-clause-calls : goal.returns-clause-calls
+returns-clause-calls c =
+    let sides : List SideView = c.args.sides.now.items in
+    let v : SideView = c.index_mut-side.result.now in
+    let w : SideView = c.unpair.new.self in
+    same_part (λ (u : SideView). u.calls) sides c.args.id.rank v w c.index_mut-side.ensures.value c.unpair.ensures.calls
+
+pub returns-clause-room : goal.returns-clause-room
+returns-clause-room c = λ k.
+    let sides : List SideView = c.args.sides.now.items in
+    let v : SideView = c.index_mut-side.result.now in
+    let w : SideView = c.unpair.new.self in
+    room_same sides c.args.id.rank v w k c.index_mut-side.ensures.value c.unpair.ensures.room

@@ -1,0 +1,72 @@
+-- What a change makes of a board.
+use Rattle.std.specs.Prelude.{◌≡◌, ℕ, ◌-◌, ◌<◌, Bool, true, false, Option, Some, None, List, [], ◌∷◌, ◌++◌, length, replicate, slice_get, slice_set, take}
+use Rattle.mpd_model.specs.declared.step.CallId.{CallId}
+use Rattle.mpd_model.specs.declared.call.Call.{Call}
+use Rattle.mpd_model.specs.declared.call.CallKind.{CallKind}
+use Rattle.mpd_model.specs.declared.call.CallKind.TheVariants.{Send, Recv, Wait}
+use Rattle.mpd_model.specs.declared.call.Mode.{Mode}
+use Rattle.mpd_model.specs.declared.call.MatchSet.{MatchSet}
+use Rattle.mpd_model.specs.declared.call.MatchSet.TheVariants.{Pair, Woke, Barrier}
+use Rattle.mpd_model.specs.World.{Board, calls_of, pending, posted}
+use Rattle.mpd_queue.specs.InOrder.{next_of}
+use Rattle.mpd_match.specs.declared.record.PairRecord.{PairRecord}
+
+-- so many ranks, before any call
+abbrev pub empty_board : ℕ → Mode → Board
+empty_board ranks mode = record { mode = mode; calls = replicate ranks []; sets = [] }
+
+-- ---- calls
+
+-- a send goes to one of so many ranks
+abbrev pub HasReceiver : ℕ → CallKind → Type 0
+HasReceiver ranks (Send s) = s.to < ranks
+HasReceiver ranks (Recv r) = Unit {0}
+HasReceiver ranks (Wait t) = Unit {0}
+
+abbrev pub with_call : Board → ℕ → Call → Board
+with_call b p call = record b { calls = slice_set b.calls p (calls_of b p ++ call ∷ []) }
+
+abbrev pub without_last_call : Board → ℕ → Board
+without_last_call b p = record b { calls = slice_set b.calls p (take (length (calls_of b p) - 1) (calls_of b p)) }
+
+-- the call and its partner; and the four links of a line
+abbrev pub issue_writes : Option CallKind → ℕ
+issue_writes (Some (Send s)) = 6
+issue_writes (Some (Recv r)) = 6
+issue_writes (Some (Wait t)) = 2
+issue_writes None = 0
+
+-- the same, and two links
+abbrev pub unissue_writes : Option CallKind → ℕ
+unissue_writes (Some (Send s)) = 4
+unissue_writes (Some (Recv r)) = 4
+unissue_writes (Some (Wait t)) = 2
+unissue_writes None = 0
+
+-- ---- match sets
+
+abbrev pub with_set : Board → MatchSet → Board
+with_set b set = record b { sets = b.sets ++ set ∷ [] }
+
+abbrev pub without_last_set : Board → Board
+without_last_set b = record b { sets = take (length b.sets - 1) b.sets }
+
+abbrev pub last_set : Board → Option MatchSet
+last_set b = slice_get b.sets (length b.sets - 1)
+
+-- where both calls stand in their lists, told by what comes next
+abbrev pub record_of_pair : Board → CallId → CallId → PairRecord
+record_of_pair b s r = record { send_spot = next_of (pending b s.rank r.rank) s.index; recv_spot = next_of (posted b r.rank) r.index }
+
+-- the match set is a pair, and the record that of its calls on this board
+abbrev pub Recorded : Board → PairRecord → Option MatchSet → Type 0
+Recorded b done (Some (Pair s r)) = done ≡ record_of_pair b s r
+Recorded b done (Some (Woke c)) = ⊥
+Recorded b done (Some Barrier) = ⊥
+Recorded b done None = ⊥
+
+abbrev pub is_woke : Option MatchSet → Bool
+is_woke (Some (Pair s r)) = false
+is_woke (Some (Woke c)) = true
+is_woke (Some Barrier) = false
+is_woke None = false

@@ -1,0 +1,22 @@
+-- How many looks it takes to know whether a send and a receive are eligible.
+use Rattle.std.specs.Prelude.{ℕ, ◌+◌, Bool, ◌&&◌, cond, nat_lt}
+use Rattle.std.specs.List.{list_any}
+use Rattle.mpd_model.specs.declared.step.CallId.{CallId}
+use Rattle.mpd_model.specs.World.{Board, call_id, is_free, fits, pending, posted}
+use Rattle.mpd_match.specs.Lines.{passed}
+
+-- one, and one for each earlier free send, up to the first that fits the receive
+abbrev pub send_looks : Board → CallId → CallId → ℕ
+send_looks b s r = 1 + passed (λ i. fits b (call_id s.rank i) r) s.index (pending b s.rank r.rank)
+
+-- one, and one for each earlier free receive, up to the first that fits the send
+abbrev pub recv_looks : Board → CallId → CallId → ℕ
+recv_looks b s r = 1 + passed (λ i. fits b s (call_id r.rank i)) r.index (posted b r.rank)
+
+-- an earlier free send fits the receive
+abbrev pub has_earlier_send : Board → CallId → CallId → Bool
+has_earlier_send b s r = list_any (λ i. nat_lt i s.index && fits b (call_id s.rank i) r) (pending b s.rank r.rank)
+
+-- none, where the two don't fit or aren't free; and the receives only where no earlier send is in the way
+abbrev pub eligible_looks : Board → CallId → CallId → ℕ
+eligible_looks b s r = cond (fits b s r && (is_free b s && is_free b r)) (send_looks b s r + cond (has_earlier_send b s r) 0 (recv_looks b s r)) 0

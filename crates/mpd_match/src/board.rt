@@ -1,0 +1,161 @@
+//! The board: calls, pairs and the lines of free calls.
+ghost use Rattle.std.specs.Prelude.{◌≡◌, ◌+◌, ◌-◌, ◌<◌, ◌≤◌, Some, None, true, length, IfOk, OnOk, OnErr};
+ghost use Rattle.mpd_model.specs.World.{kind_at, calls_of, partner, eligible, last_call};
+ghost use Rattle.mpd_match.specs.Changes.{empty_board, HasReceiver, with_call, without_last_call, issue_writes, unissue_writes, with_set, without_last_set, last_set, record_of_pair, Recorded, is_woke};
+
+use crate::record::PairRecord;
+use crate::side::Side;
+use crate::sides;
+use mpd_model::call::{Call, MatchSet, Mode};
+use mpd_model::limits::RANKS_MAX;
+use mpd_model::step::CallId;
+use mpd_queue::tape::Tape;
+use std::alloc::{AllocError, Global};
+use std::marker::Model;
+
+/// The calls of all ranks, the partner of each, the match sets, and the lines that free calls wait in.
+///
+/// Contracts see a `BoardView`: a board, for how many changes of any kind room is kept, and the number of writes since
+/// the board was made. Everything that changes is counted. What the definitions look up is one look at a tape here, and
+/// no change takes memory.
+#[derive(Drop)]
+pub struct Board {
+    pub(crate) mode: Mode,
+    pub(crate) sides: Vec<Side>,
+    pub(crate) sets: Tape<MatchSet>,
+}
+
+impl Model for Board {
+    ghost use Rattle.std.specs.Prelude.{◌+◌};
+    ghost use Rattle.mpd_match.specs.Views.{BoardView, board_in, room_in, writes_in};
+    ghost use Rattle.mpd_match.specs.Held.{Meets};
+
+    ghost Value = { BoardView };
+
+    ghost view = { λ s. record {
+      board = board_in s.mode s.sides.items s.sets.items;
+      room = room_in s.sets.room s.sides.items;
+      writes = s.sets.writes + writes_in s.sides.items;
+    } };
+
+    ghost invariant = { λ s. Meets (board_in s.mode s.sides.items s.sets.items) s.sides.items };
+}
+
+impl Board {
+    /// So many ranks, at most `RANKS_MAX`, before any call. An `Err` is want of memory.
+    pub fn new(alloc: Global, ranks: usize, mode: Mode) -> Result<Board, AllocError>
+        requires { ranks ≤ RANKS_MAX }
+        ensures board { IfOk result (λ b. b.board ≡ empty_board ranks mode) }
+        ensures writes { IfOk result (λ b. b.writes ≡ 0) }
+    {
+        Ok(Board {
+            mode,
+            sides: sides::new_sides(alloc, ranks)?,
+            sets: Tape::new(alloc),
+        })
+    }
+
+    /// Keeps room for one change, whatever it is. An `Err` is want of memory, and comes only where there was no such room.
+    pub fn keep_room(&mut self) -> Result<(), AllocError>
+        ensures board { self.new.board ≡ self.old.board }
+        ensures writes { self.new.writes ≡ self.old.writes }
+        ensures room { OnOk result (1 ≤ self.new.room) }
+        ensures never_less { self.old.room ≤ self.new.room }
+        ensures missing { OnErr result (self.old.room ≡ 0) }
+    {
+        self.sets.keep_room(1)?;
+        sides::keep_rooms(&mut self.sides)
+    }
+
+    /// A rank issues a call. A send or a receive joins its line, at the end.
+    pub fn issue(&mut self, rank: usize, call: Call)
+        requires rank { rank < length self.old.board.calls }
+        requires receiver { HasReceiver (length self.old.board.calls) call.kind }
+        requires room { 1 ≤ self.old.room }
+        ensures board { self.new.board ≡ with_call self.old.board rank call }
+        ensures back { without_last_call self.new.board rank ≡ self.old.board }
+        ensures room { self.old.room ≤ self.new.room + 1 }
+        ensures writes { self.new.writes ≡ self.old.writes + issue_writes (Some call.kind) }
+    {
+        sides::issue_at(&mut self.sides, rank, call);
+    }
+
+    /// The last call of a rank is taken back, which no pair names.
+    pub fn unissue(&mut self, rank: usize)
+        requires some { 0 < length (calls_of self.old.board rank) }
+        requires free { partner self.old.board.sets (last_call self.old.board rank) ≡ None }
+        ensures board { self.new.board ≡ without_last_call self.old.board rank }
+        ensures room { self.old.room ≤ self.new.room }
+        ensures writes { self.new.writes ≡ self.old.writes + unissue_writes (kind_at self.old.board (last_call self.old.board rank)) }
+    {
+        sides::unissue_at(&mut self.sides, rank);
+    }
+
+    /// A send and a receive are paired (MPI 4.0, section 3.5). `unpair` with the record gives the board before.
+    pub fn pair(&mut self, send: CallId, recv: CallId) -> PairRecord
+        requires eligible { eligible self.old.board send recv ≡ true }
+        requires room { 1 ≤ self.old.room }
+        ensures board { self.new.board ≡ with_set self.old.board (MatchSet.Pair send recv) }
+        ensures recorded { result ≡ record_of_pair self.old.board send recv }
+        ensures undoable { Recorded (without_last_set self.new.board) result (last_set self.new.board) }
+        ensures back { without_last_set self.new.board ≡ self.old.board }
+        ensures room { self.old.room ≤ self.new.room + 1 }
+        ensures writes { self.new.writes ≡ self.old.writes + 7 }
+    {
+        self.sets.push_kept(MatchSet::Pair(send, recv));
+        let send_spot = sides::pair_at(&mut self.sides, recv.rank + 1, send, recv);
+        let recv_spot = sides::pair_at(&mut self.sides, 0, recv, send);
+        PairRecord {
+            send_spot,
+            recv_spot,
+        }
+    }
+
+    /// The last match set, a pair, is taken back: its calls are free again, where they stood.
+    pub fn unpair(&mut self, done: PairRecord)
+        requires { Recorded (without_last_set self.old.board) done (last_set self.old.board) }
+        ensures board { self.new.board ≡ without_last_set self.old.board }
+        ensures room { self.old.room ≤ self.new.room }
+        ensures writes { self.new.writes ≡ self.old.writes + 11 }
+    {
+        let Some(MatchSet::Pair(send, recv)) = self.sets.pop() else {
+            unreachable!();
+        };
+        sides::unpair_at(&mut self.sides, recv.rank + 1, send, done.send_spot);
+        sides::unpair_at(&mut self.sides, 0, recv, done.recv_spot);
+    }
+
+    /// A rank that was blocked on this call went on.
+    pub fn woke(&mut self, call: CallId)
+        requires { 1 ≤ self.old.room }
+        ensures board { self.new.board ≡ with_set self.old.board (MatchSet.Woke call) }
+        ensures last { last_set self.new.board ≡ Some (MatchSet.Woke call) }
+        ensures back { without_last_set self.new.board ≡ self.old.board }
+        ensures room { self.old.room ≤ self.new.room + 1 }
+        ensures writes { self.new.writes ≡ self.old.writes + 1 }
+    {
+        self.sets.push_kept(MatchSet::Woke(call));
+    }
+
+    /// The last match set, a wake, is taken back.
+    pub fn unwoke(&mut self)
+        requires { is_woke (last_set self.old.board) ≡ true }
+        ensures board { self.new.board ≡ without_last_set self.old.board }
+        ensures room { self.old.room ≤ self.new.room }
+        ensures writes { self.new.writes ≡ self.old.writes + 1 }
+    {
+        let _ = self.sets.pop();
+    }
+
+    /// The same board, in memory of its own. The copy counts its writes from 0. An `Err` is want of memory.
+    pub fn copy(&self) -> Result<Board, AllocError>
+        ensures board { IfOk result (λ b. b.board ≡ self.now.board) }
+        ensures writes { IfOk result (λ b. b.writes ≡ 0) }
+    {
+        Ok(Board {
+            mode: self.mode,
+            sides: sides::copy_sides(&self.sides)?,
+            sets: self.sets.copy()?,
+        })
+    }
+}

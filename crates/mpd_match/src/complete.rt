@@ -1,0 +1,33 @@
+//! When calls are complete (MPI 4.0, sections 3.4 and 3.7.3).
+ghost use Rattle.std.specs.Prelude.{◌≡◌};
+ghost use Rattle.mpd_model.specs.World.{is_done, awaited, complete};
+
+use crate::board::Board;
+use crate::kinds;
+use mpd_model::step::CallId;
+
+impl Board {
+    /// Whether a send or a receive is done: paired, or buffered as it was issued (MPI 4.0, section 3.4).
+    pub fn is_done(&self, id: CallId) -> bool
+        ensures { result ≡ is_done self.now.board id }
+    {
+        self.partner(id).is_some() || kinds::is_buffered(self.mode, self.kind(id))
+    }
+
+    /// The call that a rank waits for which is blocked on this one, where it waits for one.
+    pub fn awaited(&self, id: CallId) -> Option<CallId>
+        ensures { result ≡ awaited self.now.board id }
+    {
+        kinds::awaited_by(id, self.kind(id))
+    }
+
+    /// Whether a call is complete (MPI 4.0, sections 3.4 and 3.7.3).
+    pub fn is_complete(&self, id: CallId) -> bool
+        ensures { result ≡ complete self.now.board id }
+    {
+        match self.awaited(id) {
+            None => true,
+            Some(awaited) => self.is_done(awaited),
+        }
+    }
+}

@@ -1,0 +1,99 @@
+//! What is read off the kinds of calls.
+ghost use Rattle.std.specs.Prelude.{◌≡◌, ◌≤◌, ◌||◌, ℕ, Some};
+ghost use Rattle.mpd_model.specs.World.{fitting, is_message_kind as message_kind, message_of as message_in, is_buffered as buffered_in, awaited_by as awaited_in};
+ghost use Rattle.mpd_match.specs.Lines.{line_of as line_in, fitting_either};
+
+use mpd_model::call::{CallKind, Message, Mode};
+use mpd_model::limits::RANKS_MAX;
+use mpd_model::step::CallId;
+
+/// The line of a side that a call waits in while it is free, where it waits in one.
+pub(crate) fn line_of(kind: CallKind) -> Option<usize>
+    requires { (line : ℕ) → line_in (Some kind) ≡ Some line → line ≤ RANKS_MAX }
+    ensures { result ≡ line_in (Some kind) }
+{
+    match kind {
+        CallKind::Send(send) => Some(send.to + 1),
+        CallKind::Recv(_) => Some(0),
+        CallKind::Wait(_) => None,
+    }
+}
+
+/// Whether the second is a receive that fits the first, a send (MPI 4.0, section 3.2.4).
+pub(crate) fn is_fitting(
+    send: Option<CallKind>,
+    recv: Option<CallKind>,
+    sender: usize,
+    receiver: usize,
+) -> bool
+    ensures { result ≡ fitting send recv sender receiver }
+{
+    match (send, recv) {
+        (Some(CallKind::Send(send)), Some(CallKind::Recv(recv))) => {
+            send.to == receiver && recv.from == sender && send.tag == recv.tag
+        }
+        _ => false,
+    }
+}
+
+/// Whether one of the two is a send of the sender to the receiver, and the other a receive that fits it.
+pub(crate) fn is_fitting_either(
+    one: Option<CallKind>,
+    other: Option<CallKind>,
+    sender: usize,
+    receiver: usize,
+) -> bool
+    ensures { result ≡ fitting_either one other sender receiver }
+{
+    is_fitting(one, other, sender, receiver) || is_fitting(other, one, sender, receiver)
+}
+
+/// Whether it is a send or a receive.
+pub(crate) fn is_message_kind(kind: Option<CallKind>) -> bool
+    ensures { result ≡ message_kind kind }
+{
+    match kind {
+        Some(CallKind::Send(_)) | Some(CallKind::Recv(_)) => true,
+        Some(CallKind::Wait(_)) | None => false,
+    }
+}
+
+/// The message of a send.
+pub(crate) fn message_of(id: CallId, kind: Option<CallKind>) -> Option<Message>
+    ensures { result ≡ message_in id kind }
+{
+    match kind {
+        Some(CallKind::Send(send)) => Some(Message {
+            value: send.value,
+            source: id.rank,
+            tag: send.tag,
+        }),
+        _ => None,
+    }
+}
+
+/// Whether a call is done as it is issued (MPI 4.0, section 3.4).
+pub(crate) fn is_buffered(mode: Mode, kind: Option<CallKind>) -> bool
+    ensures { result ≡ buffered_in mode kind }
+{
+    match (mode, kind) {
+        (Mode::Buffered, Some(CallKind::Send(_))) => true,
+        _ => false,
+    }
+}
+
+/// The call that a rank waits for which is blocked on a call of this kind.
+pub(crate) fn awaited_by(id: CallId, kind: Option<CallKind>) -> Option<CallId>
+    ensures { result ≡ awaited_in id kind }
+{
+    match kind {
+        Some(CallKind::Wait(wait)) => {
+            let index = wait.target?;
+            Some(CallId {
+                rank: id.rank,
+                index,
+            })
+        }
+        _ => Some(id),
+    }
+}

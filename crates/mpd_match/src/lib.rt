@@ -1,0 +1,13 @@
+//! Where calls meet: the calls of all ranks, the partner of each, the match sets, and the lines that free calls wait in.
+#![tactic(auto)]
+
+pub mod board;
+mod complete;
+mod kinds;
+mod looked;
+pub mod record;
+#[cfg(test)]
+mod rows;
+mod side;
+mod sides;
+mod walk;

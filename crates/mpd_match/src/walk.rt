@@ -1,0 +1,109 @@
+//! Walks along the lines of free calls, with their looks counted.
+ghost use Rattle.std.specs.Prelude.{◌≡◌, ℕ, ◌+◌, ◌<◌, ◌≤◌, true, false, length};
+ghost use Rattle.mpd_queue.specs.InOrder.{first_of, next_of};
+ghost use Rattle.mpd_model.specs.World.{fits, is_free as is_free_on, is_pending, is_posted, pending, posted, eligible as eligible_on};
+ghost use Rattle.mpd_match.specs.Lines.{kind_in, mark_in, waiting, fitting_either, passed, has_earlier as has_earlier_in};
+ghost use Rattle.mpd_match.specs.Looks.{eligible_looks};
+
+use crate::board::Board;
+use crate::kinds;
+use crate::side::Side;
+use mpd_device::steps::Steps;
+use mpd_model::call::CallKind;
+use mpd_model::step::CallId;
+
+impl Side {
+    /// Whether a call of the line before this one fits the other call. One look, and one for each call before this one up
+    /// to the first that fits.
+    pub(crate) fn has_earlier(
+        &self,
+        line: usize,
+        index: usize,
+        other: Option<CallKind>,
+        sender: usize,
+        receiver: usize,
+        looks: &mut Steps,
+    ) -> bool
+        requires { line < self.now.lines }
+        ensures found { result ≡ has_earlier_in self.now.calls (mark_in self.now.marks) line index other sender receiver }
+        ensures looks { looks.new ≡ looks.old + 1 + passed (λ i. fitting_either (kind_in self.now.calls i) other sender receiver) index (waiting self.now.calls (mark_in self.now.marks) line) }
+    {
+        let mut here = self.first(line, looks);
+        'walk: while let Some(item) = here {
+            if index <= item {
+                return false;
+            }
+            if kinds::is_fitting_either(self.kind(item), other, sender, receiver) {
+                return true;
+            }
+            here = self.next(item, looks);
+        }
+        false
+    }
+}
+
+impl Board {
+    /// Whether the two may be paired (MPI 4.0, section 3.5: messages don't overtake). The line of the send is walked up to
+    /// it, and that of the receive.
+    pub fn eligible(&self, send: CallId, recv: CallId, looks: &mut Steps) -> bool
+        ensures eligible { result ≡ eligible_on self.now.board send recv }
+        ensures looks { looks.new ≡ looks.old + eligible_looks self.now.board send recv }
+        ensures at_most { looks.new ≤ looks.old + (length (pending self.now.board send.rank recv.rank) + length (posted self.now.board recv.rank) + 2) }
+        ensures none { fits self.now.board send recv ≡ false → looks.new ≡ looks.old }
+    {
+        let send_kind = self.kind(send);
+        let recv_kind = self.kind(recv);
+        if !kinds::is_fitting(send_kind, recv_kind, send.rank, recv.rank) {
+            return false;
+        }
+        if !self.is_free(send) {
+            return false;
+        }
+        if !self.is_free(recv) {
+            return false;
+        }
+        let sender = &self.sides[send.rank];
+        if sender.has_earlier(
+            recv.rank + 1,
+            send.index,
+            recv_kind,
+            send.rank,
+            recv.rank,
+            looks,
+        ) {
+            return false;
+        }
+        let receiver = &self.sides[recv.rank];
+        !receiver.has_earlier(0, recv.index, send_kind, send.rank, recv.rank, looks)
+    }
+
+    /// The number of the sender's first free send to the receiver, where there is one. One look.
+    pub fn first_pending(&self, sender: usize, receiver: usize, looks: &mut Steps) -> Option<usize>
+        requires sender { sender < length self.now.board.calls }
+        requires receiver { receiver < length self.now.board.calls }
+        ensures first { result ≡ first_of (pending self.now.board sender receiver) }
+        ensures looks { looks.new ≡ looks.old + 1 }
+    {
+        self.sides[sender].first(receiver + 1, looks)
+    }
+
+    /// The number of the rank's first free receive, where there is one. One look.
+    pub fn first_posted(&self, rank: usize, looks: &mut Steps) -> Option<usize>
+        requires { rank < length self.now.board.calls }
+        ensures first { result ≡ first_of (posted self.now.board rank) }
+        ensures looks { looks.new ≡ looks.old + 1 }
+    {
+        self.sides[rank].first(0, looks)
+    }
+
+    /// The number of the next free call behind this one, which is free: the same rank's next send to the same receiver, or
+    /// its next receive. One look.
+    pub fn next_free(&self, id: CallId, looks: &mut Steps) -> Option<usize>
+        requires { is_free_on self.now.board id ≡ true }
+        ensures pending { (receiver : ℕ) → is_pending self.now.board id.rank receiver id.index ≡ true → result ≡ next_of (pending self.now.board id.rank receiver) id.index }
+        ensures posted { is_posted self.now.board id.rank id.index ≡ true → result ≡ next_of (posted self.now.board id.rank) id.index }
+        ensures looks { looks.new ≡ looks.old + 1 }
+    {
+        self.sides[id.rank].next(id.index, looks)
+    }
+}
