@@ -376,12 +376,13 @@ class Crate:
     def check(self, round, kept, log):
         texts = round.texts()
         self.rounds += 1
-        said, seconds = check(self.repository, self.name, texts, kept, round.only())
+        kept_log = f'{os.path.abspath(log)}/{self.name}.{self.rounds}' if log else None
+        said, seconds = check(self.repository, self.name, texts, kept, round.only(), kept_log)
         self.seconds += seconds
         told = Told(texts, said)
-        if log:
-            with open(f'{log}/{self.name}.{self.rounds}', 'w', encoding='utf-8') as it:
-                it.write('\n'.join([f'edit {edit.name} in {edit.judged}' for edit in round.taken] + told.lines))
+        if kept_log:
+            with open(kept_log, 'w', encoding='utf-8') as it:
+                it.write('\n'.join([f'edit {edit.name} in {edit.judged}' for edit in round.taken] + told.lines + [f'{seconds:.0f} s']))
         return told
 
     def judged(self, round, told):
@@ -478,9 +479,11 @@ class Round:
         return {**merged(self.folder, self.copies.regions() if self.has_copies() else self.regions), **self.copies.files}
 
 
-def check(repository, crate, texts, kept, only):
-    """Checks a copy of the crate with these texts, and answers what was said, and the processor seconds that it took."""
+def check(repository, crate, texts, kept, only, kept_log=None):
+    """Checks a copy of the crate with these texts, and answers what was said, and the processor seconds that it took; how long its
+    stages took goes beside the log, where one is kept."""
     folder = repository.folder(crate)
+    stages = ['--stage-times', f'{kept_log}.stages'] if kept_log else []
     with tempfile.TemporaryDirectory(prefix='edit-') as room, tempfile.TemporaryFile('w+', encoding='utf-8', errors='replace') as said:
         for part in PARTS:
             if os.path.isdir(f'{folder}/{part}'):
@@ -489,7 +492,7 @@ def check(repository, crate, texts, kept, only):
             os.makedirs(os.path.dirname(f'{room}/{file}'), exist_ok=True)
             with open(f'{room}/{file}', 'w', encoding='utf-8') as it:
                 it.write(text)
-        started = subprocess.Popen(repository.check(crate, kept, only), cwd=room, stdin=subprocess.DEVNULL, stdout=said, stderr=subprocess.STDOUT)
+        started = subprocess.Popen(repository.check(crate, kept, only) + stages, cwd=room, stdin=subprocess.DEVNULL, stdout=said, stderr=subprocess.STDOUT)
         _, _, used = os.wait4(started.pid, 0)
         started.returncode = 0
         said.seek(0)
@@ -566,7 +569,7 @@ def main():
     words.add_argument('--jobs', type=int, default=2, metavar='N', help='how many checks at a time; one beside rt ci')
     words.add_argument('--only', metavar='EDIT', help='one edit, by the name of its file')
     words.add_argument('--controls', action='store_true', help='a copy with no edit in it of each edited function, which must be proved')
-    words.add_argument('--log', metavar='FOLDER', help='keep what each check said there')
+    words.add_argument('--log', metavar='FOLDER', help='keep what each check said there, and how long its stages took')
     given = words.parse_args()
     repository = Repository(os.getcwd(), given.built)
     unknown = [it for it in given.crates if it not in repository.uses]
