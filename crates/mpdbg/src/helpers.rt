@@ -27,14 +27,17 @@ pub(crate) fn same<T: Copy + Debug + PartialEq>(rt: &impl Abort, found: T, wante
     assert_eq!(rt; found, wanted);
 }
 
-/// The same of one row of many; `what` says which.
-pub(crate) fn same_of<T: Copy + Debug + PartialEq>(
-    rt: &impl Abort,
-    what: &str,
-    found: T,
-    wanted: T,
-) {
-    assert_eq!(rt; found, wanted, "{what}");
+/// A row of a table: what is tried, and what is wanted of it.
+pub(crate) trait Row {
+    /// Asserts what the row says.
+    fn holds(&self, rt: &impl Abort, alloc: Global);
+}
+
+/// Asserts what each row of a table says.
+pub(crate) fn each<R: Row>(rt: &impl Abort, alloc: Global, rows: &[R]) {
+    for row in rows {
+        row.holds(rt, alloc);
+    }
 }
 
 /// The code of a script.
@@ -100,6 +103,6 @@ pub(crate) fn answers(
 ) {
     let mut source = FromReader::new(input);
     let (end, text) = run(alloc, &mut source);
-    same_of(rt, what, end, ended(refusal));
-    same_of(rt, what, text.as_slice(), written.as_bytes());
+    same(rt, (what, end), (what, ended(refusal)));
+    same(rt, (what, text.as_slice()), (what, written.as_bytes()));
 }

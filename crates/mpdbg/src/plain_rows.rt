@@ -1,7 +1,7 @@
 //! Rows of inputs and devices: what no clause says.
 
 use crate::helpers::{
-    EngineFault, FIRST, PlainFault, Refusal, answers, ended, lowered, run, same, trace,
+    EngineFault, FIRST, PlainFault, Refusal, Row, answers, each, ended, lowered, run, same, trace,
 };
 use mpd_code::code::Code;
 use mpd_device::device::{FromReader, Source, ToWriter};
@@ -13,31 +13,40 @@ use std::io::Read;
 use std::process::Abort;
 use std::{cmp, io};
 
-/// Inputs, why and where their script is refused, if it is, and what is written.
-const INPUTS: &[(&str, Option<Refusal>, &str)] = &[
-    (
+/// An input, why and where its script is refused, if it is, and what is written.
+struct Input(&'static str, Option<Refusal>, &'static str);
+
+impl Row for Input {
+    fn holds(&self, rt: &impl Abort, alloc: Global) {
+        let Input(input, refusal, written) = self;
+        answers(rt, alloc, input, input.as_bytes(), *refusal, written);
+    }
+}
+
+const INPUTS: &[Input] = &[
+    Input(
         "mpd 1;ranks 1;print 7;\n---\nlocal 0\nback\n---\nlocal 0",
         None,
         "ok 1\nok 0\nrefused bad-word\nok 1\n",
     ),
-    (
+    Input(
         "mpd 1;ranks 1;print 7;\r\n---\r\nlocal 0\r\n",
         None,
         "ok 1\n",
     ),
-    ("mpd 1;ranks 1;print 7;", None, ""),
-    (
+    Input("mpd 1;ranks 1;print 7;", None, ""),
+    Input(
         "mpd 1;ranks 1;print",
         Some((FaultCode::Expected, 19, 1)),
         "",
     ),
-    (
+    Input(
         "mpd 1;ranks 1;print\n---",
         Some((FaultCode::Expected, 20, 2)),
         "",
     ),
-    ("---\nlocal 0\n", Some((FaultCode::Expected, 0, 1)), ""),
-    (
+    Input("---\nlocal 0\n", Some((FaultCode::Expected, 0, 1)), ""),
+    Input(
         "mpd 1;ranks 1;print 7;\n --- \nlocal 0\n",
         Some((FaultCode::Expected, 24, 2)),
         "",
@@ -46,9 +55,7 @@ const INPUTS: &[(&str, Option<Refusal>, &str)] = &[
 
 #[test]
 fn divides_an_input(rt: HostRuntime) {
-    for (input, refusal, written) in INPUTS {
-        answers(&rt, rt.alloc(), input, input.as_bytes(), *refusal, written);
-    }
+    each(&rt, rt.alloc(), INPUTS);
 }
 
 /// A reader of spaces without an end.

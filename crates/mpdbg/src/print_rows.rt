@@ -1,38 +1,40 @@
 //! Rows of the canonical text, worked out by hand from docs/LANGUAGE.md: what is printed of what was read, and that it is read
 //! as the same again.
 
-use crate::helpers::{FIRST, Piece, joined, repeated, same};
+use crate::helpers::{FIRST, Piece, Row, each, joined, repeated, same};
 use mpd_model::read_fault::{FaultCode, ReadFault};
 use mpd_script::{print, read};
 use std::alloc::Global;
 use std::process::Abort;
 
-/// Texts, and their canonical texts behind `mpd 1;`, `ranks 1;` and `var x;`, `var a[2];`.
-const ROWS: &[(&str, &str)] = &[
-    ("print (1+2)*3;", "print (1 + 2) * 3;\n"),
-    ("print (1*2)+3;", "print 1 * 2 + 3;\n"),
-    ("print 1-(2-3);", "print 1 - (2 - 3);\n"),
-    ("print (1-2)-3;", "print 1 - 2 - 3;\n"),
-    ("print (1<2)<3;", "print (1 < 2) < 3;\n"),
-    ("print -(-(x+1));", "print --(x + 1);\n"),
-    ("print !(x&&1)||(x&&0);", "print !(x && 1) || x && 0;\n"),
-    ("a[ ( x+1 ) ]=007;", "a[x + 1] = 7;\n"),
-    ("if((x)){}else{}", "if x {\n}\n"),
-    (
+/// A text, and its canonical text behind `mpd 1;`, `ranks 1;` and `var x;`, `var a[2];`.
+struct Canonical(&'static str, &'static str);
+
+const ROWS: &[Canonical] = &[
+    Canonical("print (1+2)*3;", "print (1 + 2) * 3;\n"),
+    Canonical("print (1*2)+3;", "print 1 * 2 + 3;\n"),
+    Canonical("print 1-(2-3);", "print 1 - (2 - 3);\n"),
+    Canonical("print (1-2)-3;", "print 1 - 2 - 3;\n"),
+    Canonical("print (1<2)<3;", "print (1 < 2) < 3;\n"),
+    Canonical("print -(-(x+1));", "print --(x + 1);\n"),
+    Canonical("print !(x&&1)||(x&&0);", "print !(x && 1) || x && 0;\n"),
+    Canonical("a[ ( x+1 ) ]=007;", "a[x + 1] = 7;\n"),
+    Canonical("if((x)){}else{}", "if x {\n}\n"),
+    Canonical(
         "while x{if 1{assert rank;}}",
         "while x {\n  if 1 {\n    assert rank;\n  }\n}\n",
     ),
-    (
+    Canonical(
         "recv a[0]from size-1 tag 2;",
         "recv a[0] from size - 1 tag 2;\n",
     ),
-    ("send 1 to 0 tag 1;# a comment", "send 1 to 0 tag 1;\n"),
-    ("x=1%2/3*4-5+6;", "x = 1 % 2 / 3 * 4 - 5 + 6;\n"),
-    (
+    Canonical("send 1 to 0 tag 1;# a comment", "send 1 to 0 tag 1;\n"),
+    Canonical("x=1%2/3*4-5+6;", "x = 1 % 2 / 3 * 4 - 5 + 6;\n"),
+    Canonical(
         "print (1<=2)+(3>4)+(5>=6)+(7!=8)+(9==1);",
         "print (1 <= 2) + (3 > 4) + (5 >= 6) + (7 != 8) + (9 == 1);\n",
     ),
-    (
+    Canonical(
         "if 1{x=1;}else{if 2{}else{x=2;}}",
         "if 1 {\n  x = 1;\n} else {\n  if 2 {\n  } else {\n    x = 2;\n  }\n}\n",
     ),
@@ -62,22 +64,19 @@ fn prints_the_first_script(rt: HostRuntime) {
     );
 }
 
-/// The same of a text behind declarations, and of its canonical text behind theirs.
-fn prints_behind(rt: &impl Abort, alloc: Global, text: &str, canonical: &str) {
-    let input = joined(rt, alloc, &["mpd 01;ranks 1;var x;var a[2];", text]);
-    let wanted = joined(
-        rt,
-        alloc,
-        &["mpd 1;\nranks 1;\nvar x;\nvar a[2];\n", canonical],
-    );
-    prints(rt, alloc, input.as_bytes(), wanted.as_str());
+impl Row for Canonical {
+    fn holds(&self, rt: &impl Abort, alloc: Global) {
+        let Canonical(text, canonical) = self;
+        let input = joined(rt, alloc, &["mpd 01;ranks 1;var x;var a[2];", text]);
+        let front = "mpd 1;\nranks 1;\nvar x;\nvar a[2];\n";
+        let wanted = joined(rt, alloc, &[front, canonical]);
+        prints(rt, alloc, input.as_bytes(), wanted.as_str());
+    }
 }
 
 #[test]
 fn prints_what_is_needed(rt: HostRuntime) {
-    for (text, canonical) in ROWS {
-        prints_behind(&rt, rt.alloc(), text, canonical);
-    }
+    each(&rt, rt.alloc(), ROWS);
 }
 
 /// A thousand statements in 64 blocks.

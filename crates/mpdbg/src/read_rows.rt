@@ -1,6 +1,6 @@
 //! Texts whose outcome was worked out by hand.
 
-use crate::helpers::{FIRST, Piece, joined, repeated, same, same_of};
+use crate::helpers::{FIRST, Piece, Row, each, joined, repeated, same};
 use mpd_model::expr::ExprNode;
 use mpd_model::read_fault::{FaultCode, ReadFault};
 use mpd_model::script::Script;
@@ -13,43 +13,52 @@ use std::process::Abort;
 const HEADER: Piece = ("mpd 1;ranks 1;", 1);
 
 /// A text in pieces, and why and where it is refused, if it is.
-type Row = (&'static str, &'static [Piece], Option<(FaultCode, usize)>);
+struct AtLimit(&'static str, &'static [Piece], Option<(FaultCode, usize)>);
+
+impl Row for AtLimit {
+    fn holds(&self, rt: &impl Abort, alloc: Global) {
+        let AtLimit(what, pieces, fault) = self;
+        let text = repeated(rt, alloc, pieces);
+        let found = fault_of(alloc, text.as_str());
+        same(rt, (*what, found), (*what, *fault));
+    }
+}
 
 /// Texts at a limit of the reader, each with one just past it.
-const AT_LIMITS: &[Row] = &[
-    ("4,096 statements", &[HEADER, ("print 1;", 4096)], None),
-    (
+const AT_LIMITS: &[AtLimit] = &[
+    AtLimit("4,096 statements", &[HEADER, ("print 1;", 4096)], None),
+    AtLimit(
         "4,097 statements",
         &[HEADER, ("print 1;", 4097)],
         Some((FaultCode::TooMany, 32_782)),
     ),
-    (
+    AtLimit(
         "64 blocks without an end",
         &[HEADER, ("if 1 {", 64)],
         Some((FaultCode::Expected, 398)),
     ),
-    (
+    AtLimit(
         "65 blocks without an end",
         &[HEADER, ("if 1 {", 65)],
         Some((FaultCode::TooDeep, 403)),
     ),
-    ("65,536 bytes", &[HEADER, (" ", 65_522)], None),
-    (
+    AtLimit("65,536 bytes", &[HEADER, (" ", 65_522)], None),
+    AtLimit(
         "65,537 bytes",
         &[HEADER, (" ", 65_523)],
         Some((FaultCode::TooLong, 65_536)),
     ),
-    (
+    AtLimit(
         "65,536 spaces",
         &[(" ", 65_536)],
         Some((FaultCode::Expected, 65_536)),
     ),
-    (
+    AtLimit(
         "65,537 spaces",
         &[(" ", 65_537)],
         Some((FaultCode::TooLong, 65_536)),
     ),
-    (
+    AtLimit(
         "64 brackets",
         &[
             HEADER,
@@ -61,7 +70,7 @@ const AT_LIMITS: &[Row] = &[
         ],
         None,
     ),
-    (
+    AtLimit(
         "65 brackets",
         &[
             HEADER,
@@ -73,7 +82,7 @@ const AT_LIMITS: &[Row] = &[
         ],
         Some((FaultCode::TooDeep, 84)),
     ),
-    ("64 blocks", &[HEADER, ("if 1 {", 64), ("}", 64)], None),
+    AtLimit("64 blocks", &[HEADER, ("if 1 {", 64), ("}", 64)], None),
 ];
 
 /// Why and where a text is refused, if it is.
@@ -84,23 +93,9 @@ fn fault_of(alloc: Global, text: &str) -> Option<(FaultCode, usize)> {
     }
 }
 
-/// Asserts why and where a text is refused, if it is.
-fn reads(
-    rt: &impl Abort,
-    alloc: Global,
-    what: &str,
-    pieces: &[Piece],
-    fault: Option<(FaultCode, usize)>,
-) {
-    let text = repeated(rt, alloc, pieces);
-    same_of(rt, what, fault_of(alloc, text.as_str()), fault);
-}
-
 #[test]
 fn reads_up_to_its_limits(rt: HostRuntime) {
-    for (what, pieces, fault) in AT_LIMITS {
-        reads(&rt, rt.alloc(), what, pieces, *fault);
-    }
+    each(&rt, rt.alloc(), AT_LIMITS);
 }
 
 /// A text that declares so many variables.
@@ -116,7 +111,7 @@ fn declaring(alloc: Global, count: usize) -> Result<String, AllocError> {
 fn declares(rt: &impl Abort, alloc: Global, behind: &str, fault: Option<(FaultCode, usize)>) {
     let variables = declaring(alloc, 1024).expect(rt, "1,024 variables");
     let text = joined(rt, alloc, &[variables.as_str(), behind]);
-    same_of(rt, behind, fault_of(alloc, text.as_str()), fault);
+    same(rt, fault_of(alloc, text.as_str()), fault);
 }
 
 #[test]

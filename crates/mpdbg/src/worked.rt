@@ -1,6 +1,6 @@
 //! Worked rows that only a direct call shows: what no clause says, each public call with ample memory.
 
-use crate::helpers::{FIRST, lowered, same, same_of};
+use crate::helpers::{FIRST, Row, each, lowered, same};
 use mpd_code::code::Code;
 use mpd_core::state::Core;
 use mpd_model::call::{Mode, Trap};
@@ -155,7 +155,6 @@ fn has_outcome(rt: &impl Abort, alloc: Global, core: &Core<'_>, wanted: Option<&
 }
 
 /// The state of a script behind steps, and what is seen of it.
-#[derive(Clone, Copy)]
 struct State {
     script: &'static [u8],
     mode: Mode,
@@ -329,17 +328,17 @@ fn is_so(rt: &impl Abort, alloc: Global, core: &Core<'_>, state: &State) {
     has_outcome(rt, alloc, core, state.outcome);
 }
 
-fn reaches(rt: &impl Abort, alloc: Global, state: &State) {
-    let code = lowered(rt, alloc, state.script);
-    let core = reached(rt, alloc, &code, state.mode, state.steps);
-    is_so(rt, alloc, &core, state);
+impl Row for State {
+    fn holds(&self, rt: &impl Abort, alloc: Global) {
+        let code = lowered(rt, alloc, self.script);
+        let core = reached(rt, alloc, &code, self.mode, self.steps);
+        is_so(rt, alloc, &core, self);
+    }
 }
 
 #[test]
 fn reaches_states(rt: HostRuntime) {
-    for state in STATES {
-        reaches(&rt, rt.alloc(), state);
-    }
+    each(&rt, rt.alloc(), STATES);
 }
 
 fn prints(rt: &impl Abort, alloc: Global, outcome: Outcome, wanted: &str) {
@@ -381,28 +380,35 @@ fn prints_outcomes(rt: HostRuntime) {
 }
 
 /// Words, with the step that they say, if they say one.
-const STEPS: &[(&str, Option<Step>)] = &[
-    ("local 0", Some(Step::Local(0))),
-    (
+struct Words(&'static str, Option<Step>);
+
+impl Row for Words {
+    fn holds(&self, rt: &impl Abort, _alloc: Global) {
+        let Words(text, step) = self;
+        same(rt, (*text, step_of(text)), (*text, *step));
+    }
+}
+
+const STEPS: &[Words] = &[
+    Words("local 0", Some(Step::Local(0))),
+    Words(
         " match\t0.0  1.2 ",
         Some(Step::Match(SEND, CallId { rank: 1, index: 2 })),
     ),
-    ("wake 000000001", Some(Step::Wake(1))),
-    ("release", Some(Step::Release)),
-    ("", None),
-    ("local", None),
-    ("local 1 2", None),
-    ("match 0.0", None),
-    ("match 0 1", None),
-    ("wake 0000000001", None),
-    ("release 1", None),
-    ("Local 0", None),
-    ("local 0\r", None),
+    Words("wake 000000001", Some(Step::Wake(1))),
+    Words("release", Some(Step::Release)),
+    Words("", None),
+    Words("local", None),
+    Words("local 1 2", None),
+    Words("match 0.0", None),
+    Words("match 0 1", None),
+    Words("wake 0000000001", None),
+    Words("release 1", None),
+    Words("Local 0", None),
+    Words("local 0\r", None),
 ];
 
 #[test]
 fn reads_steps(rt: HostRuntime) {
-    for (text, step) in STEPS {
-        same_of(&rt, text, step_of(text), *step);
-    }
+    each(&rt, rt.alloc(), STEPS);
 }
