@@ -95,7 +95,10 @@ fn a_receive_has_the_message_of_its_send(rt: HostRuntime) -> Result<(), Fail> {
     );
     assert_eq!(rt; board.is_done(id(0, 0)), true);
     assert_eq!(rt; board.is_complete(id(1, 0)), true);
-    assert_eq!(rt; board.sets(), [MatchSet::Pair(id(0, 0), id(1, 0))].as_slice());
+    assert_eq!(rt;
+        board.sets(),
+        [MatchSet::Pair(id(0, 0), id(1, 0))].as_slice()
+    );
     Ok(())
 }
 
