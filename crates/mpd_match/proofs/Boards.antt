@@ -1,9 +1,9 @@
 -- The lines of sides are the lists of a board.
-use Rattle.std.proofs.Common.{◌≡◌, ◌≢◌, ℕ, zero, suc, ◌+◌, ◌-◌, ◌<◌, ◌≤◌, Bool, true, false, ◌&&◌, not, eqb, is_some, is_none, Option, Some, None, List, [], ◌∷◌, ◌++◌, inl, inr, refl, sym, ap, subst, ◌∙◌, length, map, set, get_or, take, slice_get, slice_set, replicate, append-nil, length-append, option_to_list, IfSome, IfNone, arith}
+use Rattle.std.proofs.Common.{◌≡◌, ◌≢◌, ℕ, zero, suc, ◌+◌, ◌-◌, ◌<◌, ◌≤◌, Bool, true, false, ◌&&◌, eqb, is_some, is_none, Option, Some, None, List, [], ◌∷◌, ◌++◌, inl, inr, refl, sym, ap, subst, ◌∙◌, length, set, get_or, take, slice_get, slice_set, replicate, append-nil, length-append, option_to_list, IfSome, IfNone, arith}
 use Rattle.std.proofs.lemmas.Bool.{cases_eq, cases_lt, eq-eqb, ne_eqb, eqb-true}
 use Rattle.std.proofs.lemmas.Bool.Decides.{eqb_tells}
 use Rattle.std.proofs.lemmas.List.{length-map, set-set, take_at, get_or_past}
-use Rattle.std.specs.List.{filter, list_any, range_with_len}
+use Rattle.std.specs.List.{range_with_len}
 use Rattle.mpd_model.specs.declared.step.CallId.{CallId}
 use Rattle.mpd_model.specs.declared.call.Call.{Call}
 use Rattle.mpd_model.specs.declared.call.Mode.{Mode}
@@ -13,16 +13,16 @@ use Rattle.mpd_model.specs.declared.call.MatchSet.{MatchSet}
 use Rattle.mpd_model.specs.declared.call.MatchSet.TheVariants.{Pair, Woke, Barrier}
 use Rattle.mpd_model.specs.World.{Board, call_id, listed_calls, calls_of, kind_of, kind_at, partner, is_message_kind, is_free, sends_to, receives, fits, fitting, is_pending, is_posted, pending, posted, eligible}
 use Rattle.mpd_queue.specs.InOrder.{next_of}
-use Rattle.mpd_match.specs.Views.{SideView, no_side, side_at, calls_in, lines_in, room_in, board_in}
+use Rattle.mpd_match.specs.Views.{SideView, no_side, side_at, calls_in, lines_in, board_in}
 use Rattle.mpd_match.specs.Lines.{line_of, is_line, kind_in, mark_in, with_mark, waits, waiting, mark_at, kind_on, waiting_on, with_partner}
 use Rattle.mpd_match.specs.Pairs.{Paired}
 use Rattle.mpd_match.specs.Held.{Meets}
 use Rattle.mpd_match.specs.declared.record.PairRecord.{PairRecord}
 use Rattle.mpd_match.specs.Changes.{without_last_call, without_last_set, last_set, record_of_pair, Recorded, is_woke}
 use Rattle.mpd_match.proofs.Passed.{passed_same}
-use Rattle.mpd_match.proofs.InLines.{get_seam, kind_past, kind_before, exists, with_mark_here, with_mark_there, waiting_same, waiting_but}
+use Rattle.mpd_match.proofs.InLines.{get_seam, kind_past, kind_before, with_mark_here, with_mark_there, waiting_same, waiting_but}
 use Rattle.mpd_match.proofs.AtSide.{listed_at, read_side}
-use Rattle.mpd_match.proofs.Partners.{id_tells, with_partner_here, with_partner_there, partner_woke, new_first, new_second, new_past, paired_marks, unpaired_marks, fitting_lines, fitting_differ, paired_kept, paired_more, paired_woke, unpaired_woke, last_paired}
+use Rattle.mpd_match.proofs.Partners.{with_partner_there, partner_woke, new_first, new_second, new_past, paired_marks, unpaired_marks, fitting_lines, fitting_differ, paired_kept, paired_more, paired_woke, unpaired_woke, last_paired}
 
 -- ---- a line is a list of the board
 

@@ -1,5 +1,5 @@
 -- Earlier calls of a line, and the calls that are in the way of a pair.
-use Rattle.std.proofs.Common.{◌≡◌, ℕ, ◌+◌, ◌<◌, ◌≤◌, Bool, true, false, cond, ◌&&◌, ◌||◌, not, nat_lt, Option, Some, None, List, [], ◌∷◌, refl, sym, ap, ◌∙◌, length, arith}
+use Rattle.std.proofs.Common.{◌≡◌, ℕ, ◌+◌, ◌≤◌, Bool, true, false, cond, ◌&&◌, ◌||◌, not, nat_lt, Option, Some, None, List, [], ◌∷◌, refl, sym, ap, ◌∙◌, length, arith}
 use Rattle.std.specs.List.{list_any}
 use Rattle.mpd_model.specs.declared.step.CallId.{CallId}
 use Rattle.mpd_model.specs.declared.call.Mode.{Mode}
@@ -9,7 +9,7 @@ use Rattle.mpd_model.specs.declared.call.SendCall.{SendCall}
 use Rattle.mpd_model.specs.declared.call.MatchSet.{MatchSet}
 use Rattle.mpd_model.specs.World.{Board, call_id, kind_at, is_free, fits, fitting, pending, posted, eligible}
 use Rattle.mpd_match.specs.Views.{SideView, side_at, board_in}
-use Rattle.mpd_match.specs.Lines.{line_of, kind_in, kind_on, mark_in, waiting, fitting_either, passed, has_earlier, waiting_on}
+use Rattle.mpd_match.specs.Lines.{line_of, kind_in, kind_on, mark_in, waiting, fitting_either, passed, has_earlier}
 use Rattle.mpd_match.specs.Looks.{send_looks, recv_looks, has_earlier_send, eligible_looks}
 use Rattle.mpd_match.specs.Held.{Meets}
 use Rattle.mpd_match.proofs.Walks.{passed_few}

@@ -1,5 +1,5 @@
 -- The lists of a side stay its lines.
-use Rattle.std.proofs.Common.{◌≡◌, ◌≢◌, ℕ, zero, suc, ◌+◌, ◌-◌, ◌<◌, ◌≤◌, false, is_none, Option, Some, None, List, [], ◌∷◌, ◌++◌, inl, inr, refl, sym, ap, subst, ◌∙◌, length, take, slice_set, length-set, length-append, option_to_list, IfSome, IfNone, arith}
+use Rattle.std.proofs.Common.{◌≡◌, ◌≢◌, ℕ, suc, ◌+◌, ◌-◌, ◌<◌, false, is_none, Option, Some, None, List, [], ◌∷◌, ◌++◌, inl, inr, refl, sym, ap, subst, ◌∙◌, length, take, slice_set, length-set, length-append, option_to_list, IfSome, IfNone, arith}
 use Rattle.std.proofs.lemmas.Bool.{cases_eq, cases_lt}
 use Rattle.std.proofs.lemmas.List.{take_at, get_or_past}
 use Rattle.std.proofs.lemmas.List.Sums.{sum_by-cons}
@@ -13,7 +13,7 @@ use Rattle.mpd_queue.proofs.Spots.{put_back, spot_stays}
 use Rattle.mpd_match.specs.Lines.{line_of, is_line, kind_in, mark_in, with_mark, waiting}
 use Rattle.mpd_match.specs.Changes.{unissue_writes}
 use Rattle.mpd_match.specs.Held.{InLine}
-use Rattle.mpd_match.proofs.InLines.{kind_past, kind_before, kind_last, mark_more, with_mark_here, with_mark_there, mark_set, exists, is_other_line, waits_here, waits_paired, stands_once, stands_not, stands_past, stands_at_most_once, waiting_same, waiting_but, waiting_less, waiting_one_more, waiting_no_more}
+use Rattle.mpd_match.proofs.InLines.{kind_before, kind_last, mark_more, with_mark_here, with_mark_there, mark_set, exists, is_other_line, waits_here, waits_paired, stands_once, stands_not, stands_past, stands_at_most_once, waiting_same, waiting_but, waiting_less, waiting_one_more, waiting_no_more}
 
 -- a call that stands in no line stands nowhere
 nowhere : (lists : List (List ℕ)) (x : ℕ) → ((line : ℕ) → line < length lists → places_in (list_at lists line) x ≡ 0) → places lists x ≡ 0

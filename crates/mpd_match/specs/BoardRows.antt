@@ -1,10 +1,10 @@
 -- Worked rows: rank 0 has sent 40 and 41 to rank 1, which waits to receive one of them. The first is paired, and free again.
-use Rattle.std.specs.Prelude.{◌≡◌, ℕ, ℤ, pos, false, true, List, [], ◌∷◌, Some, None, refl}
+use Rattle.std.specs.Prelude.{◌≡◌, ℤ, pos, false, true, [], ◌∷◌, Some, None, refl}
 use Rattle.mpd_model.specs.declared.call.Call.{Call}
 use Rattle.mpd_model.specs.declared.call.CallKind.TheVariants.{Send, Recv}
 use Rattle.mpd_model.specs.declared.call.Mode.TheVariants.{Rendezvous}
-use Rattle.mpd_model.specs.declared.call.MatchSet.TheVariants.{Pair, Woke}
-use Rattle.mpd_model.specs.World.{Board, call_id, partner, pending, posted, eligible}
+use Rattle.mpd_model.specs.declared.call.MatchSet.TheVariants.{Pair}
+use Rattle.mpd_model.specs.World.{Board, call_id, pending, posted, eligible}
 use Rattle.mpd_match.specs.Changes.{empty_board, with_call, without_last_call, with_set, without_last_set, last_set, record_of_pair}
 use Rattle.mpd_match.specs.Looks.{eligible_looks}
 

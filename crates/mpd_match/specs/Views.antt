@@ -1,5 +1,5 @@
 -- What a side and a board are to their callers.
-use Rattle.std.specs.Prelude.{ℕ, min, List, [], ◌∷◌, map, Option, None, slice_index_or, sum_by}
+use Rattle.std.specs.Prelude.{ℕ, min, List, [], ◌∷◌, map, Option, slice_index_or, sum_by}
 use Rattle.mpd_model.specs.declared.step.CallId.{CallId}
 use Rattle.mpd_model.specs.declared.call.Call.{Call}
 use Rattle.mpd_model.specs.declared.call.Mode.{Mode}

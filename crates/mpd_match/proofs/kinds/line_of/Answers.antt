@@ -1,4 +1,4 @@
-use Rattle.std.proofs.Common.{rules, ◌≡◌, ◌≤◌, ◌+◌, ℕ, Option, Some, ap}
+use Rattle.std.proofs.Common.{rules, ◌≤◌, ◌+◌, Some, ap}
 use Rattle.mpd_model.specs.declared.call.CallKind.{CallKind}
 use Rattle.mpd_match.specs.Lines.{line_of}
 use Rattle.mpd_match.proofs.kinds.line_of.Goals as goal

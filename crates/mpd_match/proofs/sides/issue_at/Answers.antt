@@ -1,9 +1,7 @@
-use Rattle.std.proofs.Common.{◌≡◌, ◌<◌, ◌≤◌, ◌+◌, ◌-◌, ◌++◌, ◌∷◌, [], ℕ, suc, List, Option, Some, length, take, sym, ap, ◌∙◌, arith}
+use Rattle.std.proofs.Common.{◌≡◌, ◌++◌, ◌∷◌, [], suc, List, length, sym, ap, ◌∙◌, arith}
 use Rattle.mpd_model.specs.declared.call.Call.{Call}
-use Rattle.mpd_match.specs.Views.{SideView, side_at}
-use Rattle.mpd_match.specs.Lines.{kind_in}
-use Rattle.mpd_match.specs.Changes.{unissue_writes}
-use Rattle.mpd_match.proofs.AtSide.{read_side, listed_at, same_part, calls_at, room_less, room_same, writes_more, lines_at, has_line}
+use Rattle.mpd_match.specs.Views.{SideView}
+use Rattle.mpd_match.proofs.AtSide.{read_side, same_part, calls_at, room_less, lines_at, has_line}
 use Rattle.mpd_match.proofs.sides.issue_at.Goals as goal
 
 pub returns-clause-lines : goal.returns-clause-lines

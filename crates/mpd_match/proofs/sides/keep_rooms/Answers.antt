@@ -1,4 +1,4 @@
-use Rattle.std.proofs.Common.{rules, ◌≡◌, ◌<◌, ◌≤◌, ◌+◌, ℕ, List, length, set, ap, sym, ◌∙◌, arith}
+use Rattle.std.proofs.Common.{rules, ◌≡◌, ◌<◌, ℕ, List, length, set, ◌∙◌, arith}
 use Rattle.std.proofs.lemmas.List.{length-set}
 use Rattle.mpd_match.specs.Views.{SideView, room_in}
 use Rattle.mpd_match.proofs.AtSide.{same_part, marks_told, room_less, room_more, rest_more, no_room_old, writes_more, refused_with}

@@ -2,7 +2,7 @@ use Rattle.std.proofs.Common.{◌≡◌, ◌<◌, suc, length, sym, ap, ◌∙�
 use Rattle.std.proofs.lemmas.List.{length-map}
 use Rattle.mpd_model.specs.World.{Board, posted}
 use Rattle.mpd_queue.specs.InOrder.{first_of}
-use Rattle.mpd_match.specs.Views.{SideView, BoardView, side_at, board_in}
+use Rattle.mpd_match.specs.Views.{SideView, BoardView, board_in}
 use Rattle.mpd_match.specs.Lines.{mark_in, waiting}
 use Rattle.mpd_match.specs.Held.{Meets}
 use Rattle.mpd_match.proofs.AtSide.{read_side, lines_at}

@@ -1,4 +1,4 @@
-use Rattle.std.proofs.Common.{◌≡◌, ◌≤◌, ap, arith}
+use Rattle.std.proofs.Common.{◌≡◌, ap, arith}
 use Rattle.mpd_match.specs.Views.{BoardView}
 use Rattle.mpd_match.proofs.AtSide.{some_set_room, more_set_room, refused_with}
 use Rattle.mpd_match.proofs.board.Board.keep_room.Goals as goal

@@ -1,4 +1,4 @@
-use Rattle.std.proofs.Common.{◌≡◌, ◌<◌, ◌++◌, ◌∷◌, [], ℕ, Option, Some, None, length, sym, ap, ◌∙◌, refl, arith}
+use Rattle.std.proofs.Common.{◌≡◌, ◌<◌, ◌++◌, ◌∷◌, [], Some, None, length, sym, ap, ◌∙◌, refl, arith}
 use Rattle.mpd_queue.specs.InOrder.{with_pushed}
 use Rattle.mpd_match.specs.Views.{SideView}
 use Rattle.mpd_match.specs.Lines.{line_of}

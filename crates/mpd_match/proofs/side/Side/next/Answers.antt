@@ -1,4 +1,4 @@
-use Rattle.std.proofs.Common.{◌≡◌, ℕ, List, Some, None, ap, ◌∙◌, is_none, false}
+use Rattle.std.proofs.Common.{◌≡◌, ℕ, List, Some, None, ap, ◌∙◌}
 use Rattle.mpd_queue.specs.InOrder.{next_of}
 use Rattle.mpd_match.specs.Views.{SideView}
 use Rattle.mpd_match.specs.Lines.{line_of, kind_in, mark_in}

@@ -1,8 +1,8 @@
-use Rattle.std.proofs.Common.{◌≡◌, ◌<◌, ℕ, List, Option, Some, None, length, ap, ◌∙◌, refl, slice_set, arith}
+use Rattle.std.proofs.Common.{◌≡◌, ◌<◌, List, Option, Some, length, ap, ◌∙◌, refl, slice_set, arith}
 use Rattle.mpd_model.specs.declared.step.CallId.{CallId}
 use Rattle.mpd_queue.specs.InOrder.{with_removed}
 use Rattle.mpd_match.specs.Views.{SideView}
-use Rattle.mpd_match.specs.Lines.{line_of, kind_in, mark_in, with_mark}
+use Rattle.mpd_match.specs.Lines.{mark_in, with_mark}
 use Rattle.mpd_match.proofs.InLines.{exists, mark_set}
 use Rattle.mpd_match.proofs.SideChanges.{stands_in_line, now_paired, moved}
 use Rattle.mpd_match.proofs.side.Side.pair.Goals as goal

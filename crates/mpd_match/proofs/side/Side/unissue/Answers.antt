@@ -1,6 +1,4 @@
-use Rattle.std.proofs.Common.{◌≡◌, ◌<◌, ◌+◌, ◌-◌, ◌++◌, ◌∷◌, [], ℕ, Option, Some, None, length, length-append, sym, ap, ◌∙◌, refl, arith}
-use Rattle.mpd_model.specs.declared.limits.TheConstants.{RANKS_MAX}
-use Rattle.mpd_model.specs.declared.call.CallKind.{CallKind}
+use Rattle.std.proofs.Common.{◌≡◌, ◌<◌, ◌+◌, ◌-◌, ◌++◌, ◌∷◌, [], Some, None, length, length-append, sym, ap, ◌∙◌, refl, arith}
 use Rattle.mpd_queue.specs.InOrder.{with_newest_dropped}
 use Rattle.mpd_match.specs.Views.{SideView}
 use Rattle.mpd_match.specs.Lines.{line_of, kind_in, mark_in, waiting}

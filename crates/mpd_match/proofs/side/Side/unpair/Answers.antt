@@ -1,7 +1,6 @@
-use Rattle.std.proofs.Common.{◌≡◌, ◌<◌, ℕ, List, Option, Some, None, length, ap, ◌∙◌, refl, slice_set, is_none, false}
-use Rattle.mpd_queue.specs.InOrder.{next_of, with_inserted}
+use Rattle.std.proofs.Common.{◌≡◌, None, ap, refl, slice_set}
+use Rattle.mpd_queue.specs.InOrder.{with_inserted}
 use Rattle.mpd_match.specs.Views.{SideView}
-use Rattle.mpd_match.specs.Lines.{line_of, kind_in, mark_in, with_mark, waiting}
 use Rattle.mpd_match.proofs.SideChanges.{stands_nowhere, spot_in_line, now_free, moved}
 use Rattle.mpd_match.proofs.side.Side.unpair.Goals as goal
 
