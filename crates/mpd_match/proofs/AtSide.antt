@@ -17,12 +17,6 @@ read_side [] p v lt read = absurd (omega arith)
 read_side (u ∷ us) zero v lt read = sym read
 read_side (u ∷ us) (suc p) v lt read = read_side us p v (omega arith) read
 
-pub side_here : (sides : List SideView) (p : ℕ) (w : SideView) → p < length sides → side_at (set sides p w) p ≡ w
-side_here sides p w lt = get_or-set_same sides p w no_side lt
-
-pub side_elsewhere : (sides : List SideView) (p q : ℕ) (w : SideView) → q ≢ p → side_at (set sides p w) q ≡ side_at sides q
-side_elsewhere sides p q w ne = get_or-set_other sides p q w no_side ne
-
 pub listed_at : (sides : List SideView) (p : ℕ) → listed_calls (slice_get (calls_in sides) p) ≡ (side_at sides p).calls
 listed_at [] p = refl
 listed_at (u ∷ us) zero = refl
@@ -55,17 +49,6 @@ pub writes_more : (sides : List SideView) (p : ℕ) (v w : SideView) (more : ℕ
 writes_more sides p v w more lt read e =
     let same : v.writes ≡ (get_or sides p v).writes = ap (λ (x : SideView). x.writes) read in
     omega (arith, sum_by-set (λ (x : SideView). x.writes) sides p w v lt)
-
-pub marks_same : (sides : List SideView) (p : ℕ) (v w : SideView) (q i : ℕ) → p < length sides → v ≡ get_or sides p v → ((j : ℕ) → mark_in w.marks j ≡ mark_in v.marks j) → mark_in (side_at (set sides p w) q).marks i ≡ mark_in (side_at sides q).marks i
-marks_same sides p v w q i lt read e =
-    elim (cases_eq q p) [
-      | inl is ↦
-          ap (λ (k : ℕ). mark_in (side_at (set sides p w) k).marks i) is
-          ∙ ap (λ (x : SideView). mark_in x.marks i) (side_here sides p w lt)
-          ∙ e i
-          ∙ sym (ap (λ (k : ℕ). mark_in (side_at sides k).marks i) is ∙ ap (λ (x : SideView). mark_in x.marks i) (read_side sides p v lt read))
-      | inr ne ↦ ap (λ (x : SideView). mark_in x.marks i) (side_elsewhere sides p q w ne)
-    ]
 
 -- ---- how many lines a side has
 
@@ -107,15 +90,6 @@ one_more_like f sides v n x e is =
 
 pub writes_pushed : (sides : List SideView) (v : SideView) → writes_in sides ≡ 0 → v.writes ≡ 0 → writes_in (sides ++ v ∷ []) ≡ 0
 writes_pushed sides v e is = omega (arith, sum_by-append (λ (u : SideView). u.writes) sides (v ∷ []), sum_by-cons (λ (u : SideView). u.writes) v [])
-
-pub one_copied : {X : Type 0} (f : SideView → X) (copied sides : List SideView) (i : ℕ) (u v : SideView) → i < length sides → v ≡ get_or sides i v → f u ≡ f v → map f copied ≡ map f (take i sides)
-    → map f (copied ++ u ∷ []) ≡ map f (take (i + 1) sides)
-one_copied f copied sides i u v lt read e so_far =
-    map-append f copied (u ∷ [])
-    ∙ ap (λ xs. xs ++ f u ∷ []) so_far
-    ∙ ap (λ x. map f (take i sides) ++ x ∷ []) (e ∙ ap f read)
-    ∙ sym (map-append f (take i sides) (get_or sides i v ∷ []))
-    ∙ ap (map f) (sym (take_more sides i v lt))
 
 pub all_copied : {X : Type 0} (f : SideView → X) (copied sides : List SideView) (n : ℕ) → length sides ≤ n → map f copied ≡ map f (take n sides) → map f copied ≡ map f sides
 all_copied f copied sides n e so_far = so_far ∙ ap (map f) (take_all n sides e)

@@ -23,12 +23,9 @@ use Rattle.mpd_match.proofs.Passed.{passed_same}
 use Rattle.mpd_match.proofs.InLines.{get_seam, kind_past, kind_before, with_mark_here, with_mark_there, waiting_same, waiting_but}
 use Rattle.mpd_match.proofs.AtSide.{listed_at, read_side}
 use Rattle.mpd_match.proofs.Partners.{with_partner_there, partner_woke, new_first, new_second, new_past, paired_marks, unpaired_marks, fitting_lines, fitting_differ, paired_kept, paired_more, paired_woke, unpaired_woke, last_paired}
+use Rattle.mpd_match.proofs.Bools.{and_false, both_true, none_only}
 
 -- ---- a line is a list of the board
-
-and_false : (b : Bool) → (b && false) ≡ false
-and_false true = refl
-and_false false = refl
 
 and_turned : (a b : Bool) → (a && b) ≡ (b && a)
 and_turned true true = refl
@@ -106,14 +103,6 @@ side_exists sides c line e =
     ]
 
 -- ---- what eligible calls are
-
-both_true : (a b : Bool) → (a && b) ≡ true → (a ≡ true) × (b ≡ true)
-both_true true b e = (refl, e)
-both_true false b e = cc
-
-none_only : (o : Option CallId) → is_none o ≡ true → o ≡ None
-none_only None e = refl
-none_only (Some x) e = cc
 
 pub free_partner : (b : Board) (c : CallId) → is_free b c ≡ true → partner b.sets c ≡ None
 free_partner b c e = none_only (partner b.sets c) (both_true (is_message_kind (kind_at b c)) (is_none (partner b.sets c)) e).1

@@ -10,7 +10,8 @@ use Rattle.mpd_model.specs.declared.call.CallKind.{CallKind}
 use Rattle.mpd_model.specs.World.{kind_of}
 use Rattle.mpd_queue.specs.InOrder.{places_in, removed}
 use Rattle.mpd_match.specs.Lines.{line_of, is_line, kind_in, mark_in, with_mark, waits, waiting}
-use Rattle.mpd_match.proofs.Passed.{bool_tells, passed_same, places_passed, places_not_passed, passed_removed, places_within, places_past, one_number_more}
+use Rattle.mpd_match.proofs.Passed.{passed_same, places_passed, places_not_passed, passed_removed, places_within, places_past, one_number_more}
+use Rattle.mpd_match.proofs.Bools.{bool_tells, and_false}
 
 -- ---- one call, and its partner
 
@@ -80,10 +81,6 @@ exists calls i line e =
     ]
 
 -- ---- whether a call waits
-
-and_false : (b : Bool) → (b && false) ≡ false
-and_false true = refl
-and_false false = refl
 
 pub is_own_line : (line : ℕ) → is_line (Some line) line ≡ true
 is_own_line line = eq-eqb line line refl

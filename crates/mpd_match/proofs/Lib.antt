@@ -1,3 +1,4 @@
+pub mod Bools
 pub mod Passed
 pub mod InLines
 pub mod SideChanges

@@ -11,6 +11,7 @@ use Rattle.mpd_model.specs.declared.call.MatchSet.TheVariants.{Pair, Woke, Barri
 use Rattle.mpd_model.specs.World.{id_eq, partner, fitting}
 use Rattle.mpd_match.specs.Lines.{line_of, with_partner}
 use Rattle.mpd_match.specs.Pairs.{Paired}
+use Rattle.mpd_match.proofs.Bools.{both_true}
 
 -- ---- numbers of calls
 
@@ -142,10 +143,6 @@ unpaired_marks mark mid new sets s r ns nr is first second c =
     ]
 
 -- ---- pairs of calls that fit
-
-both_true : (a b : Bool) → (a && b) ≡ true → (a ≡ true) × (b ≡ true)
-both_true true b e = (refl, e)
-both_true false b e = cc
 
 pub fitting_lines : (one other : Option CallKind) (p q : ℕ) → fitting one other p q ≡ true → (line_of one ≡ Some (q + 1)) × (line_of other ≡ Some 0)
 fitting_lines (Some (Send s)) (Some (Recv r)) p q e = (ap (λ (n : ℕ). Some (n + 1)) (eqb-true s.to q (both_true (eqb s.to q) (eqb r.from p && eqb s.tag r.tag) e).0), refl)

@@ -4,10 +4,7 @@ use Rattle.std.proofs.lemmas.Bool.Decides.{eqb_tells}
 use Rattle.std.specs.List.{filter, range_with_len}
 use Rattle.mpd_queue.specs.InOrder.{places_in, removed}
 use Rattle.mpd_queue.proofs.Places.{places_cons, places_here, places_same, places_there, places_more, removed_here, removed_there}
-
-pub bool_tells : (b : Bool) → (b ≡ true) ⊎ (b ≡ false)
-bool_tells true = inl refl
-bool_tells false = inr refl
+use Rattle.mpd_match.proofs.Bools.{bool_tells}
 
 true_is_not_false : (b : Bool) → b ≡ true → b ≡ false → ⊥
 true_is_not_false b e f = cc

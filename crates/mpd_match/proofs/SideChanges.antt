@@ -237,11 +237,6 @@ kind_taken calls calls1 c e =
     let at : length calls - 1 ≡ length calls1 = omega (arith, ap length e, length-append calls1 (c ∷ [])) in
     ap (kind_in calls) at ∙ ap (λ (zs : List Call). kind_in zs (length calls1)) e ∙ kind_last calls1 c
 
-pub mark_taken : (A B : Type 0) (marks marks1 : List (Option CallId)) (taken : Option (Option CallId)) (n : ℕ) → marks ≡ marks1 ++ option_to_list taken → IfNone taken ((marks ≡ []) × A × B) → length marks ≡ n → 0 < n → mark_in marks (n - 1) ≡ None
-    → (i : ℕ) → mark_in marks1 i ≡ mark_in marks i
-mark_taken A B marks marks1 taken n e empty long some free i =
-    sym (mark_more marks1 i) ∙ ap (λ (zs : List (Option CallId)). mark_in zs i) (sym (popped_mark A B marks marks1 taken n e empty long some free))
-
 pub written_once : (A : Type 0) (marks : List (Option CallId)) (taken : Option (Option CallId)) (writes more room more_room : ℕ) → IfSome taken (λ _. (more_room ≡ room + 1) × (more ≡ writes + 1)) → IfNone taken ((marks ≡ []) × A × (more ≡ writes)) → 0 < length marks → more ≡ writes + 1
 written_once A marks None writes more room more_room last empty some = absurd (let none : length marks ≡ 0 = ap length empty.0 in omega arith)
 written_once A marks (Some m) writes more room more_room last empty some = last.1

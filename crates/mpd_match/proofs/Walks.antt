@@ -9,18 +9,11 @@ use Rattle.mpd_queue.specs.InOrder.{places_in, first_of, next_of, is_link_to, Ha
 use Rattle.mpd_queue.proofs.Places.{places_here, places_there, places_more, link_tells}
 use Rattle.mpd_queue.proofs.Spots.{first_spot, next_here, next_there, next_spot}
 use Rattle.mpd_match.specs.Lines.{line_of, is_line, kind_in, waits, waiting, passed}
-use Rattle.mpd_match.proofs.Passed.{bool_tells, passed_here, passed_there}
+use Rattle.mpd_match.proofs.Passed.{passed_here, passed_there}
 use Rattle.mpd_match.proofs.InLines.{stands_not}
+use Rattle.mpd_match.proofs.Bools.{bool_tells, and_false, both_true, none_only}
 
 -- ---- what a call that stands in a line is
-
-both_true : (a b : Bool) → (a && b) ≡ true → (a ≡ true) × (b ≡ true)
-both_true true b e = (refl, e)
-both_true false b e = cc
-
-none_only : {A : Type 0} (o : Option A) → is_none o ≡ true → o ≡ None
-none_only None e = refl
-none_only (Some x) e = cc
 
 line_only : (o : Option ℕ) (line : ℕ) → is_line o line ≡ true → o ≡ Some line
 line_only None line e = cc
@@ -133,19 +126,6 @@ pub record Walking (test : ℕ → Bool) (index : ℕ) (xs : List ℕ) (begun lo
   pub stands : HasSpot xs here
   pub same : list_any (earlier test index) xs ≡ list_any (earlier test index) (rest here xs)
   pub counted : looks + passed test index (rest here xs) ≡ begun + 1 + passed test index xs
-
-pub walk_begins : (test : ℕ → Bool) (index : ℕ) (xs : List ℕ) (begun looks : ℕ) (here : Option ℕ) → here ≡ first_of xs → looks ≡ begun + 1 → Walking test index xs begun looks here
-walk_begins test index xs begun looks here e n =
-    let whole : rest here xs ≡ xs = ap (λ (o : Option ℕ). rest o xs) e ∙ rest_first xs in
-    record {
-      stands = subst (HasSpot xs) (sym e) (first_spot xs);
-      same = ap (list_any (earlier test index)) (sym whole);
-      counted = let k : passed test index (rest here xs) ≡ passed test index xs = ap (passed test index) whole in omega arith;
-    }
-
-and_false : (b : Bool) → (b && false) ≡ false
-and_false true = refl
-and_false false = refl
 
 passed_more : (test : ℕ → Bool) (index x : ℕ) (xs : List ℕ) → x < index → test x ≡ false → passed test index (x ∷ xs) ≡ 1 + passed test index xs
 passed_more test index x xs lt misses =
