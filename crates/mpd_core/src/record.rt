@@ -1,13 +1,19 @@
 //! What takes a step back.
 
+use mpd_match::record::PairRecord;
 use mpd_model::step::Step;
-use mpd_rank::change::Change;
+use mpd_rank::change::RankRecord;
 
-/// What takes a step back: the step, the node before it of the rank that it moved (0 at a match and at a wake, which move none),
-/// and what else it did. It holds no collection.
+/// What a step did: to a rank, or to two calls that it paired.
+#[derive(Clone, Copy, Debug, PartialEq, Eq)]
+pub enum Undo {
+    OfRank(RankRecord),
+    OfPair(PairRecord),
+}
+
+/// What takes a step back: the step, and what it did. It holds no collection.
 #[derive(Clone, Copy, Debug, PartialEq, Eq)]
 pub struct Record {
     pub step: Step,
-    pub from: usize,
-    pub change: Change,
+    pub undo: Undo,
 }

@@ -8,7 +8,9 @@ use Rattle.mpd_model.specs.declared.step.Step.{Step}
 use Rattle.mpd_model.specs.declared.step.Step.TheVariants.{Local, Match, Wake, Release}
 use Rattle.mpd_model.specs.declared.call.CallKind.{CallKind}
 use Rattle.mpd_model.specs.declared.call.CallKind.TheVariants.{Send, Recv, Wait}
+use Rattle.mpd_model.specs.declared.call.Call.{Call}
 use Rattle.mpd_model.specs.declared.call.Issue.{Issue}
+use Rattle.mpd_model.specs.declared.call.MatchSet.{MatchSet}
 use Rattle.mpd_model.specs.declared.call.Trap.{Trap}
 use Rattle.mpd_model.specs.declared.call.Trap.TheVariants.{BadRank, BadTag, Assertion}
 use Rattle.mpd_model.specs.declared.call.Activity.{Activity}
@@ -24,7 +26,7 @@ use Rattle.mpd_model.specs.declared.stmt.Simple.{Simple}
 use Rattle.mpd_model.specs.declared.stmt.Simple.TheVariants as st
 use Rattle.mpd_model.specs.Tree.{Tree, simple, branch, repeat, Block, trees, statements_in, numbered}
 use Rattle.mpd_model.specs.declared.call.Message.{Message}
-use Rattle.mpd_model.specs.World.{RankWorld, World, Board, board_of, call_id, kind_at, rank_numbers, call_numbers, eligible, buffer, awaited, complete, last_call}
+use Rattle.mpd_model.specs.World.{RankWorld, World, Board, call_id, calls_of, kind_at, rank_numbers, call_numbers, eligible, buffer, awaited, complete, last_call}
 
 -- ---- local steps: the next statement of one rank
 
@@ -85,6 +87,14 @@ wait_issue t env = awaiting (wait_kind t env)
 abbrev pub assignment : AssignStmt → Env → Result (ℕ × ℤ) Trap
 assignment s env = and_then (target_cell s.into env) (λ c. and_then (value_of s.value env) (λ v. Ok (c, v)))
 
+-- what a local step leaves: its rank, and the call that it issued, if it did
+pub record Ran : Type 0 where
+  pub rank : RankWorld
+  pub call : Option Call
+
+abbrev pub alone : RankWorld → Ran
+alone r = record { rank = r; call = None }
+
 abbrev pub printed : RankWorld → List (ℕ × Tree) → Value → RankWorld
 printed r ts (Ok v) = record r { rest = ts; out = r.out ++ v ∷ [] }
 printed r ts (Err t) = trapped r t
@@ -98,19 +108,18 @@ blocks (Wait t) = true
 abbrev pub activity_after : CallKind → Activity
 activity_after kind = if blocks kind then Blocked else Running
 
--- handles of which one, if any, gets the number of a call
-abbrev pub with_request : Option ℕ → ℕ → List (Option ℕ) → List (Option ℕ)
-with_request None i handles = handles
-with_request (Some h) i handles = slice_set handles h (Some i)
+-- handles of which one, if one is named, gets a call or none
+abbrev pub requested : Option ℕ → Option ℕ → List (Option ℕ) → List (Option ℕ)
+requested None call handles = handles
+requested (Some h) call handles = slice_set handles h call
 
-abbrev pub issued : RankWorld → List (ℕ × Tree) → ℕ → Result Issue Trap → RankWorld
-issued r ts number (Ok a) = record r {
-  rest = ts;
-  handles = with_request a.handle (length r.calls) r.handles;
-  calls = r.calls ++ record { statement = number; kind = a.kind } ∷ [];
-  activity = activity_after a.kind;
+-- The call gets the next number of its rank.
+abbrev pub issued : RankWorld → List (ℕ × Tree) → ℕ → ℕ → Result Issue Trap → Ran
+issued r ts number count (Ok a) = record {
+  rank = record r { rest = ts; handles = requested a.handle (Some count) r.handles; activity = activity_after a.kind };
+  call = Some (record { statement = number; kind = a.kind });
 }
-issued r ts number (Err t) = trapped r t
+issued r ts number count (Err t) = alone (trapped r t)
 
 abbrev pub assigned : RankWorld → List (ℕ × Tree) → Result (ℕ × ℤ) Trap → RankWorld
 assigned r ts (Ok w) = record r { rest = ts; vars = slice_set r.vars w.0 w.1 }
@@ -137,39 +146,47 @@ repeated r ts number (Err t) c body = trapped r t
 abbrev pub env_of : ℕ → ℕ → RankWorld → Env
 env_of p n r = record { vars = r.vars; handles = r.handles; rank = p; size = n }
 
--- what a statement that holds no other makes of a rank, given its number and what is left behind it
-abbrev pub ran_simple : Env → RankWorld → ℕ → Simple → List (ℕ × Tree) → RankWorld
-ran_simple env r number (st.Print e) ts = printed r ts (value_of e env)
-ran_simple env r number (st.Assign s) ts = assigned r ts (assignment s env)
-ran_simple env r number (st.Assert e) ts = asserted r ts (value_of e env)
-ran_simple env r number (st.Send s) ts = issued r ts number (send_issue s env)
-ran_simple env r number (st.Recv s) ts = issued r ts number (recv_issue s env)
-ran_simple env r number (st.Isend s) ts = issued r ts number (isend_issue s env)
-ran_simple env r number (st.Irecv s) ts = issued r ts number (irecv_issue s env)
-ran_simple env r number (st.Wait t) ts = issued r ts number (wait_issue t env)
+-- what a statement that holds no other makes of a rank with so many calls, given its number and what is left behind it
+abbrev pub ran_simple : Env → RankWorld → ℕ → ℕ → Simple → List (ℕ × Tree) → Ran
+ran_simple env r count number (st.Print e) ts = alone (printed r ts (value_of e env))
+ran_simple env r count number (st.Assign s) ts = alone (assigned r ts (assignment s env))
+ran_simple env r count number (st.Assert e) ts = alone (asserted r ts (value_of e env))
+ran_simple env r count number (st.Send s) ts = issued r ts number count (send_issue s env)
+ran_simple env r count number (st.Recv s) ts = issued r ts number count (recv_issue s env)
+ran_simple env r count number (st.Isend s) ts = issued r ts number count (isend_issue s env)
+ran_simple env r count number (st.Irecv s) ts = issued r ts number count (irecv_issue s env)
+ran_simple env r count number (st.Wait t) ts = issued r ts number count (wait_issue t env)
 
 -- what any statement makes of it
-abbrev pub ran : Env → RankWorld → ℕ → Tree → List (ℕ × Tree) → RankWorld
-ran env r number (simple s) ts = ran_simple env r number s ts
-ran env r number (branch c first second) ts = chosen r ts number (value_of c env) first second
-ran env r number (repeat c body) ts = repeated r ts number (value_of c env) c body
+abbrev pub ran : Env → RankWorld → ℕ → ℕ → Tree → List (ℕ × Tree) → Ran
+ran env r count number (simple s) ts = ran_simple env r count number s ts
+ran env r count number (branch c first second) ts = alone (chosen r ts number (value_of c env) first second)
+ran env r count number (repeat c body) ts = alone (repeated r ts number (value_of c env) c body)
 
-abbrev pub local_of : ℕ → ℕ → RankWorld → Activity → List (ℕ × Tree) → Option RankWorld
-local_of p n r Running [] = None
-local_of p n r Running (t ∷ ts) = Some (ran (env_of p n r) r t.0 t.1 ts)
-local_of p n r Blocked ts = None
-local_of p n r (Trapped t) ts = None
+abbrev pub local_of : ℕ → ℕ → ℕ → RankWorld → Activity → List (ℕ × Tree) → Option Ran
+local_of p n count r Running [] = None
+local_of p n count r Running (t ∷ ts) = Some (ran (env_of p n r) r count t.0 t.1 ts)
+local_of p n count r Blocked ts = None
+local_of p n count r (Trapped t) ts = None
 
--- one rank after its local step
-abbrev pub local : ℕ → ℕ → RankWorld → Option RankWorld
-local p n r = local_of p n r r.activity r.rest
+-- the local step of rank p of n, which has issued so many calls
+abbrev pub local : ℕ → ℕ → ℕ → RankWorld → Option Ran
+local p n count r = local_of p n count r r.activity r.rest
 
-abbrev pub local_at : List RankWorld → ℕ → Option RankWorld
-local_at ranks p = option_and_then (local p (length ranks)) (slice_get ranks p)
+abbrev pub local_at : World → ℕ → Option Ran
+local_at w p = option_and_then (local p (length w.ranks) (length (calls_of w.board p))) (slice_get w.ranks p)
 
--- all ranks after it
-abbrev pub local_in : List RankWorld → ℕ → Option (List RankWorld)
-local_in ranks p = option_map (slice_set ranks p) (local_at ranks p)
+-- a call more of a rank
+abbrev pub with_call : Board → ℕ → Call → Board
+with_call b p c = record b { calls = slice_set b.calls p (calls_of b p ++ c ∷ []) }
+
+abbrev pub with_issued : Board → ℕ → Option Call → Board
+with_issued b p None = b
+with_issued b p (Some c) = with_call b p c
+
+-- a world after the local step of a rank
+abbrev pub stepped : World → ℕ → Ran → World
+stepped w p done = record { ranks = slice_set w.ranks p done.rank; board = with_issued w.board p done.call }
 
 -- ---- wakes
 
@@ -184,7 +201,7 @@ waits (Some r) = is_blocked r.activity
 
 -- a rank that is blocked on a complete call
 abbrev pub can_wake : World → ℕ → Bool
-can_wake w p = waits (slice_get w.ranks p) && complete (board_of w) (last_call (board_of w) p)
+can_wake w p = waits (slice_get w.ranks p) && complete w.board (last_call w.board p)
 
 -- the cells that a receive writes as its rank goes on, in order, each with its new value
 abbrev pub writes_of : Option CallKind → Option Message → List (ℕ × ℤ)
@@ -209,12 +226,8 @@ cleared_by (Some (Send s)) = None
 cleared_by (Some (Recv r)) = None
 cleared_by None = None
 
-abbrev pub without_request : Option ℕ → List (Option ℕ) → List (Option ℕ)
-without_request None handles = handles
-without_request (Some h) handles = slice_set handles h None
-
 abbrev pub woken_rank : List (ℕ × ℤ) → Option ℕ → RankWorld → RankWorld
-woken_rank writes handle r = record r { vars = write_cells writes r.vars; handles = without_request handle r.handles; activity = Running }
+woken_rank writes handle r = record r { vars = write_cells writes r.vars; handles = requested handle None r.handles; activity = Running }
 
 -- what the wake of a rank writes, and the handle that it clears
 abbrev pub wake_writes : Board → ℕ → List (ℕ × ℤ)
@@ -231,21 +244,22 @@ put_at ranks p (Some r) f = slice_set ranks p (f r)
 abbrev pub update_at : List RankWorld → ℕ → (RankWorld → RankWorld) → List RankWorld
 update_at ranks p f = put_at ranks p (slice_get ranks p) f
 
+-- what is formed joins the match sets
+abbrev pub with_set : Board → MatchSet → Board
+with_set b m = record b { sets = b.sets ++ m ∷ [] }
+
 abbrev pub woken : World → ℕ → World
-woken w p = record w {
-  ranks = update_at w.ranks p (woken_rank (wake_writes (board_of w) p) (wake_clears (board_of w) p));
-  sets = w.sets ++ Woke (last_call (board_of w) p) ∷ [];
+woken w p = record {
+  ranks = update_at w.ranks p (woken_rank (wake_writes w.board p) (wake_clears w.board p));
+  board = with_set w.board (Woke (last_call w.board p));
 }
 
 -- ---- the step
 
-abbrev pub matched : World → CallId → CallId → World
-matched w s r = record w { sets = w.sets ++ Pair s r ∷ [] }
-
 -- No statement issues a barrier yet, so no release is enabled.
 abbrev pub next : World → Step → Option World
-next w (Local p) = option_map (λ ranks. record w { ranks = ranks }) (local_in w.ranks p)
-next w (Match s r) = if eligible (board_of w) s r then Some (matched w s r) else None
+next w (Local p) = option_map (stepped w p) (local_at w p)
+next w (Match s r) = if eligible w.board s r then Some (record w { board = with_set w.board (Pair s r) }) else None
 next w (Wake p) = if can_wake w p then Some (woken w p) else None
 next w Release = None
 
@@ -268,7 +282,7 @@ abbrev pub matches_in : Board → List Step
 matches_in b = flat_map (matches_of b) (rank_numbers b)
 
 abbrev pub steps_of : World → List Step
-steps_of w = map Local (rank_numbers (board_of w)) ++ (Release ∷ (map Wake (rank_numbers (board_of w)) ++ matches_in (board_of w)))
+steps_of w = map Local (rank_numbers w.board) ++ (Release ∷ (map Wake (rank_numbers w.board) ++ matches_in w.board))
 
 abbrev pub enabled : World → List Step
 enabled w = filter (is_enabled w) (steps_of w)

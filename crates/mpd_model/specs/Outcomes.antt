@@ -8,7 +8,7 @@ use Rattle.mpd_model.specs.declared.outcome.TrappedRank.{TrappedRank}
 use Rattle.mpd_model.specs.declared.outcome.Outcome.{Outcome}
 use Rattle.mpd_model.specs.declared.outcome.Outcome.TheVariants.{Done, Leftovers, Deadlock, Trap}
 use Rattle.mpd_model.specs.Tree.{Tree}
-use Rattle.mpd_model.specs.World.{RankWorld, World, Board, board_of, call_id, rank_numbers, call_numbers, is_free, last_call}
+use Rattle.mpd_model.specs.World.{RankWorld, World, Board, call_id, rank_numbers, call_numbers, is_free, last_call}
 use Rattle.mpd_model.specs.Next.{steps_of, is_enabled, is_blocked}
 
 abbrev pub no_statement : List (ℕ × Tree) → Bool
@@ -40,14 +40,14 @@ traps_at p (Some r) = trap_by p r.activity
 
 -- the trapped ranks, the blocked calls and the free calls, by rank and number
 abbrev pub traps_in : World → List TrappedRank
-traps_in w = flat_map (λ p. traps_at p (slice_get w.ranks p)) (rank_numbers (board_of w))
+traps_in w = flat_map (λ p. traps_at p (slice_get w.ranks p)) (rank_numbers w.board)
 
 abbrev pub blocked_at : World → ℕ → Option RankWorld → List CallId
 blocked_at w p None = []
-blocked_at w p (Some r) = if is_blocked r.activity then last_call (board_of w) p ∷ [] else []
+blocked_at w p (Some r) = if is_blocked r.activity then last_call w.board p ∷ [] else []
 
 abbrev pub blocked_calls : World → List CallId
-blocked_calls w = flat_map (λ p. blocked_at w p (slice_get w.ranks p)) (rank_numbers (board_of w))
+blocked_calls w = flat_map (λ p. blocked_at w p (slice_get w.ranks p)) (rank_numbers w.board)
 
 abbrev pub free_of : Board → ℕ → List CallId
 free_of b p = map (call_id p) (filter (λ i. is_free b (call_id p i)) (call_numbers b p))
@@ -61,7 +61,7 @@ ended_with [] = Done
 ended_with (c ∷ cs) = Leftovers (c ∷ cs)
 
 abbrev pub untrapped : World → Outcome
-untrapped w = if list_all has_ended w.ranks then ended_with (free_calls (board_of w)) else Deadlock (blocked_calls w)
+untrapped w = if list_all has_ended w.ranks then ended_with (free_calls w.board) else Deadlock (blocked_calls w)
 
 abbrev pub ending_by : World → List TrappedRank → Outcome
 ending_by w [] = untrapped w

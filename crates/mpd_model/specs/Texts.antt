@@ -18,7 +18,7 @@ use Rattle.mpd_model.specs.declared.outcome.TrappedRank.{TrappedRank}
 use Rattle.mpd_model.specs.declared.outcome.Outcome.{Outcome}
 use Rattle.mpd_model.specs.declared.outcome.Outcome.TheVariants as ending
 use Rattle.mpd_model.specs.Program.{Program}
-use Rattle.mpd_model.specs.World.{RankWorld, World, Board, board_of, call_id, rank_numbers, call_numbers, kind_at, partner, is_free, buffer, last_call, pending, posted}
+use Rattle.mpd_model.specs.World.{RankWorld, World, Board, call_id, rank_numbers, call_numbers, kind_at, partner, is_free, buffer, last_call, pending, posted}
 use Rattle.mpd_model.specs.Outcomes.{first_number, outcome}
 
 -- ---- lists of values: one space before each
@@ -104,7 +104,7 @@ activity_text lines last number Blocked = codes "blocked " ++ decimal last.index
 activity_text lines last number (Trapped t) = codes "trapped " ++ trap_name t
 
 abbrev pub state_text : Program → World → ℕ → RankWorld → List ℕ
-state_text s w p r = activity_text s.lines (last_call (board_of w) p) (first_number r.rest) r.activity
+state_text s w p r = activity_text s.lines (last_call w.board p) (first_number r.rest) r.activity
 
 abbrev pub rank_text_of : Program → World → ℕ → Option RankWorld → List ℕ
 rank_text_of s w p None = []
@@ -160,7 +160,7 @@ cell_lines None = []
 cell_lines (Some r) = values_line (codes "vars") r.vars ++ handles_line r.handles ++ values_line (codes "out") r.out
 
 abbrev pub rank_lines : Program → World → ℕ → List ℕ
-rank_lines s w p = rank_line s w p ++ cell_lines (slice_get w.ranks p) ++ call_lines (board_of w) p
+rank_lines s w p = rank_line s w p ++ cell_lines (slice_get w.ranks p) ++ call_lines w.board p
 
 -- a line of call numbers, where there are any
 abbrev pub numbers_line : List ℕ → List ℕ → List ℕ
@@ -188,9 +188,9 @@ outcome_line (Some o) = line (codes "outcome " ++ outcome_text o)
 abbrev pub show_text : Program → World → ℕ → ℕ → List ℕ
 show_text s w depth all =
     depth_line depth all
-    ++ flat_map (rank_lines s w) (rank_numbers (board_of w))
-    ++ flat_map (pending_lines (board_of w)) (rank_numbers (board_of w))
-    ++ flat_map (posted_line (board_of w)) (rank_numbers (board_of w))
-    ++ flat_map set_line w.sets
+    ++ flat_map (rank_lines s w) (rank_numbers w.board)
+    ++ flat_map (pending_lines w.board) (rank_numbers w.board)
+    ++ flat_map (posted_line w.board) (rank_numbers w.board)
+    ++ flat_map set_line w.board.sets
     ++ outcome_line (outcome w)
     ++ line (codes "end")

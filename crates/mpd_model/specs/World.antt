@@ -1,5 +1,5 @@
 -- The state of a run, and what is looked up in it. It has no queue, mark or buffer: these are read off the calls and the match sets.
-use Rattle.std.specs.Prelude.{ℕ, ◌-◌, ℤ, pos, Bool, true, false, ◌&&◌, ◌||◌, not, ◌==◌, nat_lt, if◌then◌else◌, List, [], ◌∷◌, length, map, replicate, slice_get, Option, Some, None, option_and_then, is_some, is_none, refl}
+use Rattle.std.specs.Prelude.{ℕ, ◌-◌, ℤ, pos, Bool, true, false, ◌&&◌, ◌||◌, not, ◌==◌, nat_lt, if◌then◌else◌, List, [], ◌∷◌, length, replicate, slice_get, Option, Some, None, option_and_then, is_some, is_none, refl}
 use Rattle.std.specs.Option.{option_map}
 use Rattle.std.specs.List.{filter, list_any, range_with_len}
 use Rattle.std.specs.Coded.{Coded, code_by, coded×, coded_ℕ, coded_ℤ, coded_list, coded_option}
@@ -24,45 +24,42 @@ use Rattle.mpd_model.specs.Tree.{Tree, numbered}
 use Rattle.mpd_model.specs.TreeCode.{coded_tree}
 use Rattle.mpd_model.specs.Program.{Program}
 
--- one rank
+-- what one rank is at, and what it holds
 pub record RankWorld : Type 0 where
   -- the statements that are still to be run, each with its number in text order
   pub rest : List (ℕ × Tree)
   pub vars : List ℤ
   -- the call that each handle has, if any
   pub handles : List (Option ℕ)
-  pub calls : List Call
   pub out : List ℤ
   pub activity : Activity
-
-pub record World : Type 0 where
-  pub mode : Mode
-  pub ranks : List RankWorld
-  -- what was formed, in order
-  pub sets : List MatchSet
 
 -- where calls meet: the calls of each rank, and what was formed of them
 pub record Board : Type 0 where
   pub mode : Mode
   pub calls : List (List Call)
+  -- in the order formed
   pub sets : List MatchSet
 
-abbrev pub board_of : World → Board
-board_of w = record { mode = w.mode; calls = map (λ r. r.calls) w.ranks; sets = w.sets }
+pub record World : Type 0 where
+  pub ranks : List RankWorld
+  pub board : Board
 
--- every rank has the whole body before it
+-- every rank has the whole body before it, and no call was issued
 abbrev pub start_rank : Program → RankWorld
 start_rank s = record {
   rest = numbered 0 s.body;
   vars = replicate (variables_in s.decls) (pos 0);
   handles = replicate (handles_in s.decls) None;
-  calls = [];
   out = [];
   activity = Running;
 }
 
+abbrev pub start_board : ℕ → Mode → Board
+start_board n mode = record { mode = mode; calls = replicate n []; sets = [] }
+
 abbrev pub start : Program → Mode → World
-start s mode = record { mode = mode; ranks = replicate s.ranks (start_rank s); sets = [] }
+start s mode = record { ranks = replicate s.ranks (start_rank s); board = start_board s.ranks mode }
 
 -- ---- calls
 
@@ -216,13 +213,15 @@ last_call b p = call_id p (length (calls_of b p) - 1)
 
 abbrev pub rank_code : Coded RankWorld
 rank_code =
-    code_by (List (ℕ × Tree) × (List ℤ × (List (Option ℕ) × (List Call × (List ℤ × Activity)))))
-    (coded× (coded_list (coded× coded_ℕ coded_tree)) (coded× (coded_list coded_ℤ) (coded× (coded_list (coded_option coded_ℕ))
-    (coded× (coded_list call_row.the_row.coded) (coded× (coded_list coded_ℤ) activity_row.the_row.coded)))))
-    (λ r. (r.rest, (r.vars, (r.handles, (r.calls, (r.out, r.activity))))))
-    (λ q. record { rest = q.0; vars = q.1.0; handles = q.1.1.0; calls = q.1.1.1.0; out = q.1.1.1.1.0; activity = q.1.1.1.1.1 }) (λ _. refl)
+    code_by (List (ℕ × Tree) × (List ℤ × (List (Option ℕ) × (List ℤ × Activity))))
+    (coded× (coded_list (coded× coded_ℕ coded_tree)) (coded× (coded_list coded_ℤ) (coded× (coded_list (coded_option coded_ℕ)) (coded× (coded_list coded_ℤ) activity_row.the_row.coded))))
+    (λ r. (r.rest, (r.vars, (r.handles, (r.out, r.activity)))))
+    (λ q. record { rest = q.0; vars = q.1.0; handles = q.1.1.0; out = q.1.1.1.0; activity = q.1.1.1.1 }) (λ _. refl)
+
+abbrev pub board_code : Coded Board
+board_code =
+    code_by (Mode × (List (List Call) × List MatchSet)) (coded× mode_row.the_row.coded (coded× (coded_list (coded_list call_row.the_row.coded)) (coded_list set_row.the_row.coded)))
+    (λ b. (b.mode, (b.calls, b.sets))) (λ q. record { mode = q.0; calls = q.1.0; sets = q.1.1 }) (λ _. refl)
 
 abbrev pub world_code : Coded World
-world_code =
-    code_by (Mode × (List RankWorld × List MatchSet)) (coded× mode_row.the_row.coded (coded× (coded_list rank_code) (coded_list set_row.the_row.coded)))
-    (λ w. (w.mode, (w.ranks, w.sets))) (λ q. record { mode = q.0; ranks = q.1.0; sets = q.1.1 }) (λ _. refl)
+world_code = code_by (List RankWorld × Board) (coded× (coded_list rank_code) board_code) (λ w. (w.ranks, w.board)) (λ q. record { ranks = q.0; board = q.1 }) (λ _. refl)

@@ -1,5 +1,5 @@
 //! A list that grows and shrinks at its end, and counts its writes.
-ghost use Rattle.std.specs.Prelude.{◌≡◌, ℕ, ◌+◌, ◌<◌, ◌≤◌, [], ◌∷◌, ◌++◌, length, option_to_list, slice_get, slice_set, IsOk, IfOk, IfSome, IfNone, OnOk, OnErr};
+ghost use Rattle.std.specs.Prelude.{◌≡◌, ℕ, ◌+◌, ◌<◌, ◌≤◌, [], ◌∷◌, ◌++◌, length, option_to_list, replicate, slice_get, slice_set, IsOk, IfOk, IfSome, IfNone, OnOk, OnErr};
 
 use mpd_device::steps::Steps;
 use std::alloc::{AllocError, Global};
@@ -35,6 +35,19 @@ impl<T: Copy> Tape<T> {
             items: Vec::new(alloc),
             writes: Steps::new(),
         }
+    }
+
+    /// A tape of `count` items that are `value`. An `Err` is want of memory. It counts its writes from 0.
+    pub fn filled(alloc: Global, count: usize, value: T) -> Result<Tape<T>, AllocError>
+        ensures items { IfOk result (λ t. t.items ≡ replicate count value) }
+        ensures writes { IfOk result (λ t. t.writes ≡ 0) }
+    {
+        let mut items = Vec::new(alloc);
+        items.resize(count, value)?;
+        Ok(Tape {
+            items,
+            writes: Steps::new(),
+        })
     }
 
     /// Keeps room for `count` items more. An `Err` is want of memory, and comes only where that room was missing.

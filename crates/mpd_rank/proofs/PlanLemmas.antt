@@ -1,87 +1,94 @@
 -- What a node plans is what its statement makes of a rank.
-use Rattle.std.proofs.Common.{◌≡◌, ℕ, ◌+◌, ℤ, Bool, true, false, List, [], ◌∷◌, ◌++◌, Option, Some, None, Result, Ok, Err, refl, sym, ap, ◌∙◌, subst₂}
+use Rattle.std.proofs.Common.{◌≡◌, ℕ, ◌+◌, ◌<◌, ℤ, pos, negsuc, cond, nat_lt, Bool, true, false, List, [], ◌∷◌, ◌++◌, Option, Some, None, Result, Ok, Err, refl, sym, ap, ◌∙◌, subst, subst₂}
+use Rattle.std.proofs.lemmas.Bool.{ltb-true}
 use Rattle.mpd_model.specs.declared.call.Activity.{Activity}
 use Rattle.mpd_model.specs.declared.call.Activity.TheVariants.{Running, Blocked, Trapped}
 use Rattle.mpd_model.specs.declared.call.Issue.{Issue}
 use Rattle.mpd_model.specs.declared.call.Trap.{Trap}
 use Rattle.mpd_model.specs.declared.stmt.Simple.{Simple}
 use Rattle.mpd_model.specs.declared.stmt.Simple.TheVariants as st
-use Rattle.mpd_model.specs.Term.{Term, Value, Env, value_of, is_zero}
+use Rattle.mpd_model.specs.declared.stmt.SendStmt.{SendStmt}
+use Rattle.mpd_model.specs.declared.stmt.RecvStmt.{RecvStmt}
+use Rattle.mpd_model.specs.declared.call.CallKind.{CallKind}
+use Rattle.mpd_model.specs.declared.call.Trap.TheVariants.{BadRank, Assertion}
+use Rattle.mpd_model.specs.Term.{Term, Target, Value, Env, and_then, value_of, checked, target_cell, is_zero}
 use Rattle.mpd_model.specs.Tree.{Tree, Block, repeat, trees, statements_in, numbered}
 use Rattle.mpd_model.specs.Program.{Program}
 use Rattle.mpd_model.specs.World.{RankWorld}
-use Rattle.mpd_model.specs.Next.{local, env_of, ran, ran_simple, printed, issued, assigned, asserted, chosen, repeated, send_issue, recv_issue, isend_issue, irecv_issue, wait_issue, assignment}
+use Rattle.mpd_model.specs.Next.{Ran, alone, local, env_of, ran, ran_simple, printed, issued, assigned, asserted, chosen, repeated, send_issue, recv_issue, isend_issue, irecv_issue, wait_issue, assignment, rank_value, tag_value, send_kind, recv_kind, wait_kind, awaiting}
 use Rattle.mpd_code.specs.declared.node.Node.{Node}
 use Rattle.mpd_code.specs.declared.node.Action.{Action}
 use Rattle.mpd_code.specs.declared.node.Action.TheVariants as a
 use Rattle.mpd_code.specs.Left.{left_at}
 use Rattle.mpd_code.specs.Stands.{Does, Stands}
 use Rattle.mpd_rank.specs.declared.plan.LocalPlan.{LocalPlan}
+use Rattle.mpd_rank.specs.declared.plan.LocalPlan.TheVariants as trap
+use Rattle.mpd_rank.specs.declared.standing.Standing.{Standing}
 use Rattle.mpd_rank.specs.declared.change.Change.{Change}
 use Rattle.mpd_rank.specs.declared.change.RankRecord.{RankRecord}
 use Rattle.mpd_rank.specs.Views.{RankView, rank_of}
 use Rattle.mpd_rank.specs.Records.{print_change, issue_change, write_change, assert_change, choice_change, simple_change, change_of, local_record, plan_change, plan_record}
-use Rattle.mpd_rank.specs.Plans.{plan_of, simple_plan, planned, print_plan, assign_plan, issue_plan, assert_plan, choice_plan}
+use Rattle.mpd_rank.specs.Plans.{plan_of, simple_plan, planned, plan_ran, SendsTo, HasReceiver, print_plan, assign_plan, issue_plan, assert_plan, choice_plan}
 
-print_ran : (s : Program) (r : RankWorld) (i next : ℕ) (v : Value) → planned s r i (print_plan v next) ≡ printed r (left_at s next) v
-print_ran s r i next (Ok v) = refl
-print_ran s r i next (Err t) = refl
+print_ran : (s : Program) (r : RankWorld) (n i next : ℕ) (v : Value) → plan_ran s r n i (print_plan v next) ≡ alone (printed r (left_at s next) v)
+print_ran s r n i next (Ok v) = refl
+print_ran s r n i next (Err t) = refl
 
-issue_ran : (s : Program) (r : RankWorld) (i next : ℕ) (k : Result Issue Trap) → planned s r i (issue_plan k next) ≡ issued r (left_at s next) i k
-issue_ran s r i next (Ok k) = refl
-issue_ran s r i next (Err t) = refl
+issue_ran : (s : Program) (r : RankWorld) (n i next : ℕ) (k : Result Issue Trap) → plan_ran s r n i (issue_plan k next) ≡ issued r (left_at s next) i n k
+issue_ran s r n i next (Ok k) = refl
+issue_ran s r n i next (Err t) = refl
 
-assign_ran : (s : Program) (r : RankWorld) (i next : ℕ) (w : Result (ℕ × ℤ) Trap) → planned s r i (assign_plan w next) ≡ assigned r (left_at s next) w
-assign_ran s r i next (Ok w) = refl
-assign_ran s r i next (Err t) = refl
+assign_ran : (s : Program) (r : RankWorld) (n i next : ℕ) (w : Result (ℕ × ℤ) Trap) → plan_ran s r n i (assign_plan w next) ≡ alone (assigned r (left_at s next) w)
+assign_ran s r n i next (Ok w) = refl
+assign_ran s r n i next (Err t) = refl
 
-assert_by : (s : Program) (r : RankWorld) (i next : ℕ) (v : ℤ) (b : Bool) → is_zero v ≡ b → planned s r i (assert_plan (Ok v) next) ≡ asserted r (left_at s next) (Ok v)
-assert_by s r i next v true e = rw e refl
-assert_by s r i next v false e = rw e refl
+assert_by : (s : Program) (r : RankWorld) (n i next : ℕ) (v : ℤ) (b : Bool) → is_zero v ≡ b → plan_ran s r n i (assert_plan (Ok v) next) ≡ alone (asserted r (left_at s next) (Ok v))
+assert_by s r n i next v true e = rw e refl
+assert_by s r n i next v false e = rw e refl
 
-assert_ran : (s : Program) (r : RankWorld) (i next : ℕ) (v : Value) → planned s r i (assert_plan v next) ≡ asserted r (left_at s next) v
-assert_ran s r i next (Ok v) = assert_by s r i next v (is_zero v) refl
-assert_ran s r i next (Err t) = refl
+assert_ran : (s : Program) (r : RankWorld) (n i next : ℕ) (v : Value) → plan_ran s r n i (assert_plan v next) ≡ alone (asserted r (left_at s next) v)
+assert_ran s r n i next (Ok v) = assert_by s r n i next v (is_zero v) refl
+assert_ran s r n i next (Err t) = refl
 
-choice_by : (s : Program) (r : RankWorld) (i first second : ℕ) (tail : List (ℕ × Tree)) (x y : Block) (v : ℤ) (b : Bool) → is_zero v ≡ b
+choice_by : (s : Program) (r : RankWorld) (n i first second : ℕ) (tail : List (ℕ × Tree)) (x y : Block) (v : ℤ) (b : Bool) → is_zero v ≡ b
     → left_at s first ≡ numbered (i + 1) (trees x) ++ tail → left_at s second ≡ numbered (i + 1 + statements_in x) (trees y) ++ tail
-    → planned s r i (choice_plan (Ok v) first second) ≡ chosen r tail i (Ok v) x y
-choice_by s r i first second tail x y v true e h g = rw (e, g) refl
-choice_by s r i first second tail x y v false e h g = rw (e, h) refl
+    → plan_ran s r n i (choice_plan (Ok v) first second) ≡ alone (chosen r tail i (Ok v) x y)
+choice_by s r n i first second tail x y v true e h g = rw (e, g) refl
+choice_by s r n i first second tail x y v false e h g = rw (e, h) refl
 
-choice_ran : (s : Program) (r : RankWorld) (i first second : ℕ) (tail : List (ℕ × Tree)) (x y : Block) (v : Value)
+choice_ran : (s : Program) (r : RankWorld) (n i first second : ℕ) (tail : List (ℕ × Tree)) (x y : Block) (v : Value)
     → left_at s first ≡ numbered (i + 1) (trees x) ++ tail → left_at s second ≡ numbered (i + 1 + statements_in x) (trees y) ++ tail
-    → planned s r i (choice_plan v first second) ≡ chosen r tail i v x y
-choice_ran s r i first second tail x y (Ok v) h g = choice_by s r i first second tail x y v (is_zero v) refl h g
-choice_ran s r i first second tail x y (Err t) h g = refl
+    → plan_ran s r n i (choice_plan v first second) ≡ alone (chosen r tail i v x y)
+choice_ran s r n i first second tail x y (Ok v) h g = choice_by s r n i first second tail x y v (is_zero v) refl h g
+choice_ran s r n i first second tail x y (Err t) h g = refl
 
-repeat_by : (s : Program) (r : RankWorld) (i body next : ℕ) (c : Term) (x : Block) (v : ℤ) (b : Bool) → is_zero v ≡ b
+repeat_by : (s : Program) (r : RankWorld) (n i body next : ℕ) (c : Term) (x : Block) (v : ℤ) (b : Bool) → is_zero v ≡ b
     → left_at s body ≡ numbered (i + 1) (trees x) ++ (i, repeat c x) ∷ left_at s next
-    → planned s r i (choice_plan (Ok v) body next) ≡ repeated r (left_at s next) i (Ok v) c x
-repeat_by s r i body next c x v true e h = rw e refl
-repeat_by s r i body next c x v false e h = rw (e, h) refl
+    → plan_ran s r n i (choice_plan (Ok v) body next) ≡ alone (repeated r (left_at s next) i (Ok v) c x)
+repeat_by s r n i body next c x v true e h = rw e refl
+repeat_by s r n i body next c x v false e h = rw (e, h) refl
 
-repeat_ran : (s : Program) (r : RankWorld) (i body next : ℕ) (c : Term) (x : Block) (v : Value)
+repeat_ran : (s : Program) (r : RankWorld) (n i body next : ℕ) (c : Term) (x : Block) (v : Value)
     → left_at s body ≡ numbered (i + 1) (trees x) ++ (i, repeat c x) ∷ left_at s next
-    → planned s r i (choice_plan v body next) ≡ repeated r (left_at s next) i v c x
-repeat_ran s r i body next c x (Ok v) h = repeat_by s r i body next c x v (is_zero v) refl h
-repeat_ran s r i body next c x (Err t) h = refl
+    → plan_ran s r n i (choice_plan v body next) ≡ alone (repeated r (left_at s next) i v c x)
+repeat_ran s r n i body next c x (Ok v) h = repeat_by s r n i body next c x v (is_zero v) refl h
+repeat_ran s r n i body next c x (Err t) h = refl
 
-simple_ran : (s : Program) (env : Env) (r : RankWorld) (i next : ℕ) (t : Simple) → planned s r i (simple_plan t next env) ≡ ran_simple env r i t (left_at s next)
-simple_ran s env r i next (st.Print e) = print_ran s r i next (value_of e env)
-simple_ran s env r i next (st.Assign t) = assign_ran s r i next (assignment t env)
-simple_ran s env r i next (st.Assert e) = assert_ran s r i next (value_of e env)
-simple_ran s env r i next (st.Send t) = issue_ran s r i next (send_issue t env)
-simple_ran s env r i next (st.Recv t) = issue_ran s r i next (recv_issue t env)
-simple_ran s env r i next (st.Isend t) = issue_ran s r i next (isend_issue t env)
-simple_ran s env r i next (st.Irecv t) = issue_ran s r i next (irecv_issue t env)
-simple_ran s env r i next (st.Wait t) = issue_ran s r i next (wait_issue t env)
+simple_ran : (s : Program) (env : Env) (r : RankWorld) (n i next : ℕ) (t : Simple) → plan_ran s r n i (simple_plan t next env) ≡ ran_simple env r n i t (left_at s next)
+simple_ran s env r n i next (st.Print e) = print_ran s r n i next (value_of e env)
+simple_ran s env r n i next (st.Assign t) = assign_ran s r n i next (assignment t env)
+simple_ran s env r n i next (st.Assert e) = assert_ran s r n i next (value_of e env)
+simple_ran s env r n i next (st.Send t) = issue_ran s r n i next (send_issue t env)
+simple_ran s env r n i next (st.Recv t) = issue_ran s r n i next (recv_issue t env)
+simple_ran s env r n i next (st.Isend t) = issue_ran s r n i next (isend_issue t env)
+simple_ran s env r n i next (st.Irecv t) = issue_ran s r n i next (irecv_issue t env)
+simple_ran s env r n i next (st.Wait t) = issue_ran s r n i next (wait_issue t env)
 
-does_ran : (s : Program) (env : Env) (r : RankWorld) (i next : ℕ) (act : Action) (t : Tree) → Does (left_at s) i (left_at s next) act t
-    → planned s r i (plan_of act next env) ≡ ran env r i t (left_at s next)
-does_ran s env r i next (a.Simple b) t d = rw d (simple_ran s env r i next b)
-does_ran s env r i next (a.Branch c first second) t d = rw d.1.1.0 (choice_ran s r i first second (left_at s next) d.0 d.1.0 (value_of c env) d.1.1.1.0 d.1.1.1.1)
-does_ran s env r i next (a.Repeat c body) t d = rw d.1.0 (repeat_ran s r i body next c d.0 (value_of c env) d.1.1)
+does_ran : (s : Program) (env : Env) (r : RankWorld) (n i next : ℕ) (act : Action) (t : Tree) → Does (left_at s) i (left_at s next) act t
+    → plan_ran s r n i (plan_of act next env) ≡ ran env r n i t (left_at s next)
+does_ran s env r n i next (a.Simple b) t d = rw d (simple_ran s env r n i next b)
+does_ran s env r n i next (a.Branch c first second) t d = rw d.1.1.0 (choice_ran s r n i first second (left_at s next) d.0 d.1.0 (value_of c env) d.1.1.1.0 d.1.1.1.1)
+does_ran s env r n i next (a.Repeat c body) t d = rw d.1.0 (repeat_ran s r n i body next c d.0 (value_of c env) d.1.1)
 
 -- ---- what a plan records is what its statement does
 
@@ -125,14 +132,14 @@ does_recorded at env i next tail (a.Simple b) t d = rw d (simple_recorded env ne
 does_recorded at env i next tail (a.Branch c first second) t d = rw d.1.1.0 (choice_recorded env.vars env.handles first second (value_of c env))
 does_recorded at env i next tail (a.Repeat c body) t d = rw d.1.0 (choice_recorded env.vars env.handles body next (value_of c env))
 
-running_first : (p n : ℕ) (r : RankWorld) (i : ℕ) (t : Tree) (ts : List (ℕ × Tree)) → r.activity ≡ Running → r.rest ≡ (i, t) ∷ ts → local p n r ≡ Some (ran (env_of p n r) r i t ts)
-running_first p n r i t ts e h = rw (e, h) refl
+running_first : (p n count : ℕ) (r : RankWorld) (i : ℕ) (t : Tree) (ts : List (ℕ × Tree)) → r.activity ≡ Running → r.rest ≡ (i, t) ∷ ts → local p n count r ≡ Some (ran (env_of p n r) r count i t ts)
+running_first p n count r i t ts e h = rw (e, h) refl
 
 -- a running rank at a node
-pub stands_ran : (s : Program) (p n : ℕ) (r : RankWorld) (i : ℕ) (node : Node) → r.activity ≡ Running → r.rest ≡ left_at s i → Stands (left_at s) i node
-    → local p n r ≡ Some (planned s r i (plan_of node.action node.next (env_of p n r)))
-stands_ran s p n r i node e h d =
-    running_first p n r i d.statement (left_at s node.next) e (h ∙ d.left) ∙ ap Some (sym (does_ran s (env_of p n r) r i node.next node.action d.statement d.does))
+pub stands_ran : (s : Program) (p n count : ℕ) (r : RankWorld) (i : ℕ) (node : Node) → r.activity ≡ Running → r.rest ≡ left_at s i → Stands (left_at s) i node
+    → local p n count r ≡ Some (plan_ran s r count i (plan_of node.action node.next (env_of p n r)))
+stands_ran s p n count r i node e h d =
+    running_first p n count r i d.statement (left_at s node.next) e (h ∙ d.left) ∙ ap Some (sym (does_ran s (env_of p n r) r count i node.next node.action d.statement d.does))
 
 abbrev recorded_at : ℕ → Change → Option RankRecord
 recorded_at i c = Some (record { from = i; change = c })
@@ -147,31 +154,120 @@ stands_recorded s p n v node e d =
     first_recorded p n (rank_of s v) v.node d.statement (left_at s node.next) e d.left
     ∙ ap (recorded_at v.node) (sym (does_recorded (left_at s) (env_of p n (rank_of s v)) v.node node.next (left_at s node.next) node.action d.statement d.does))
 
+-- ---- a send goes to a rank
+
+abbrev number_of : Result ℕ Trap → ℕ → ℕ
+number_of (Ok k) other = k
+number_of (Err t) other = other
+
+below_by : (b : Bool) (i n : ℕ) (t : Trap) (k : ℕ) → nat_lt i n ≡ b → cond b (Ok i) (Err t) ≡ Ok k → k < n
+below_by true i n t k e h = subst (λ j. j < n) (ap (λ r. number_of r k) h) (ltb-true i n e)
+below_by false i n t k e h = absurd (cc)
+
+checked_below : (v : Value) (n : ℕ) (t : Trap) (k : ℕ) → checked v n t ≡ Ok k → k < n
+checked_below (Ok (pos i)) n t k h = below_by (nat_lt i n) i n t k refl h
+checked_below (Ok (negsuc i)) n t k h = absurd (cc)
+checked_below (Err e) n t k h = absurd (cc)
+
+abbrev Below : ℕ → Result CallKind Trap → Type 0
+Below n (Ok k) = SendsTo n k
+Below n (Err t) = Unit {0}
+
+abbrev AreBelow : ℕ → Result Issue Trap → Type 0
+AreBelow n (Ok a) = SendsTo n a.kind
+AreBelow n (Err t) = Unit {0}
+
+then_below : {A : Type 0} (n : ℕ) (r : Result A Trap) (f : A → Result CallKind Trap) → ((x : A) → r ≡ Ok x → Below n (f x)) → Below n (and_then r f)
+then_below n (Ok x) f h = h x refl
+then_below n (Err t) f h = tt
+
+send_below : (blocks : Bool) (s : SendStmt) (env : Env) → Below env.size (send_kind blocks s env)
+send_below blocks s env =
+    then_below env.size (value_of s.value env) _ (λ v h.
+    then_below env.size (rank_value s.to env) _ (λ q below.
+    then_below env.size (tag_value s.tag env) _ (λ t last. checked_below (value_of s.to env) env.size BadRank q below)))
+
+recv_below : (blocks : Bool) (s : RecvStmt) (env : Env) → Below env.size (recv_kind blocks s env)
+recv_below blocks s env =
+    then_below env.size (target_cell s.into env) _ (λ c h. then_below env.size (rank_value s.from env) _ (λ q g. then_below env.size (tag_value s.tag env) _ (λ t last. tt)))
+
+wait_below : (t : Target) (env : Env) → Below env.size (wait_kind t env)
+wait_below t env = then_below env.size (target_cell t env) _ (λ c h. tt)
+
+awaiting_below : (n : ℕ) (k : Result CallKind Trap) → Below n k → AreBelow n (awaiting k)
+awaiting_below n (Ok k) h = h
+awaiting_below n (Err t) h = tt
+
+held_below : (n handle : ℕ) (k : Result CallKind Trap) → Below n k → AreBelow n (and_then k (λ kind. Ok (record { kind = kind; handle = Some handle })))
+held_below n handle (Ok k) h = h
+held_below n handle (Err t) h = tt
+
+held_by_below : (n : ℕ) (r : Result ℕ Trap) (k : Result CallKind Trap) → Below n k → AreBelow n (and_then r (λ handle. and_then k (λ kind. Ok (record { kind = kind; handle = Some handle }))))
+held_by_below n (Ok handle) k h = held_below n handle k h
+held_by_below n (Err t) k h = tt
+
+issue_below : (n : ℕ) (r : Result Issue Trap) (next : ℕ) → AreBelow n r → HasReceiver n (issue_plan r next)
+issue_below n (Ok a) next h = h
+issue_below n (Err t) next h = tt
+
+print_below : (n : ℕ) (v : Value) (next : ℕ) → HasReceiver n (print_plan v next)
+print_below n (Ok v) next = tt
+print_below n (Err t) next = tt
+
+assign_below : (n : ℕ) (w : Result (ℕ × ℤ) Trap) (next : ℕ) → HasReceiver n (assign_plan w next)
+assign_below n (Ok w) next = tt
+assign_below n (Err t) next = tt
+
+assert_case : (b : Bool) (n next : ℕ) → HasReceiver n (cond b (trap.Trap Assertion) (trap.Move next))
+assert_case true n next = tt
+assert_case false n next = tt
+
+assert_below : (n : ℕ) (v : Value) (next : ℕ) → HasReceiver n (assert_plan v next)
+assert_below n (Ok v) next = assert_case (is_zero v) n next
+assert_below n (Err t) next = tt
+
+choice_below : (n : ℕ) (v : Value) (holds fails : ℕ) → HasReceiver n (choice_plan v holds fails)
+choice_below n (Ok v) holds fails = tt
+choice_below n (Err t) holds fails = tt
+
+simple_below : (env : Env) (next : ℕ) (t : Simple) → HasReceiver env.size (simple_plan t next env)
+simple_below env next (st.Print e) = print_below env.size (value_of e env) next
+simple_below env next (st.Assign t) = assign_below env.size (assignment t env) next
+simple_below env next (st.Assert e) = assert_below env.size (value_of e env) next
+simple_below env next (st.Send t) = issue_below env.size (send_issue t env) next (awaiting_below env.size (send_kind true t env) (send_below true t env))
+simple_below env next (st.Recv t) = issue_below env.size (recv_issue t env) next (awaiting_below env.size (recv_kind true t env) (recv_below true t env))
+simple_below env next (st.Isend t) = issue_below env.size (isend_issue t env) next (held_by_below env.size (target_cell t.request env) (send_kind false t.send env) (send_below false t.send env))
+simple_below env next (st.Irecv t) = issue_below env.size (irecv_issue t env) next (held_by_below env.size (target_cell t.request env) (recv_kind false t.recv env) (recv_below false t.recv env))
+simple_below env next (st.Wait t) = issue_below env.size (wait_issue t env) next (awaiting_below env.size (wait_kind t env) (wait_below t env))
+
+action_below : (env : Env) (next : ℕ) (act : Action) → HasReceiver env.size (plan_of act next env)
+action_below env next (a.Simple t) = simple_below env next t
+action_below env next (a.Branch c first second) = choice_below env.size (value_of c env) first second
+action_below env next (a.Repeat c body) = choice_below env.size (value_of c env) body next
+
+pub plan_below : (env : Env) (n next : ℕ) (act : Action) (plan : LocalPlan) → env.size ≡ n → plan ≡ plan_of act next env → HasReceiver n plan
+plan_below env n next act plan size is = subst₂ HasReceiver size (sym is) (action_below env next act)
+
 -- a plan of what a rank shows
 abbrev pub IsPlanned : Program → RankView → LocalPlan → Type 0
 IsPlanned s v plan =
-    (local v.rank s.ranks (rank_of s v) ≡ Some (planned s (rank_of s v) v.node plan)) × (local_record v.rank s.ranks (rank_of s v) ≡ Some (plan_record v plan))
+    ((count : ℕ) → local v.rank s.ranks count (rank_of s v) ≡ Some (plan_ran s (rank_of s v) count v.node plan)) × (local_record v.rank s.ranks (rank_of s v) ≡ Some (plan_record v plan))
 
-pub view_ran : (s : Program) (u v : RankView) (vars : List ℤ) (handles : List (Option ℕ)) (size : ℕ) (plan : LocalPlan) (node : Node) → u ≡ v → u.activity ≡ Running → Stands (left_at s) u.node node → vars ≡ u.vars → handles ≡ u.handles → size ≡ s.ranks
-    → plan ≡ plan_of node.action node.next (record { vars = vars; handles = handles; rank = u.rank; size = size }) → IsPlanned s v plan
-view_ran s u v vars handles size plan node same running d held requests counted is =
+pub view_ran : (s : Program) (u v : RankView) (vars : List ℤ) (handles : List (Option ℕ)) (size : ℕ) (plan : LocalPlan) (node : Node) (at : Standing) → u ≡ v → at ≡ record { node = v.node; activity = v.activity } → at.activity ≡ Running → Stands (left_at s) at.node node
+    → vars ≡ u.vars → handles ≡ u.handles → size ≡ s.ranks → plan ≡ plan_of node.action node.next (record { vars = vars; handles = handles; rank = u.rank; size = size }) → IsPlanned s v plan
+view_ran s u v vars handles size plan node at same stands runs found held kept counted is =
+    let here : at ≡ record { node = u.node; activity = u.activity } = stands ∙ ap (λ (w : RankView). record { node = w.node; activity = w.activity }) (sym same) in
+    let running : u.activity ≡ Running = sym (ap (λ (x : Standing). x.activity) here) ∙ runs in
+    let d : Stands (left_at s) u.node node = subst (λ i. Stands (left_at s) i node) (ap (λ (x : Standing). x.node) here) found in
     let env : Env = env_of u.rank s.ranks (rank_of s u) in
-    let in_env : env ≡ record { vars = vars; handles = handles; rank = u.rank; size = size } = λ i. record { vars = sym held i; handles = sym requests i; rank = u.rank; size = sym counted i } in
-    let facts : IsPlanned s u (plan_of node.action node.next env) = (stands_ran s u.rank s.ranks (rank_of s u) u.node node running refl d, stands_recorded s u.rank s.ranks u node running d) in
+    let in_env : env ≡ record { vars = vars; handles = handles; rank = u.rank; size = size } = λ i. record { vars = sym held i; handles = sym kept i; rank = u.rank; size = sym counted i } in
+    let facts : IsPlanned s u (plan_of node.action node.next env) =
+        ((λ count. stands_ran s u.rank s.ranks count (rank_of s u) u.node node running refl d), stands_recorded s u.rank s.ranks u node running d) in
     let planned_is : plan_of node.action node.next env ≡ plan = ap (plan_of node.action node.next) in_env ∙ sym is in
     subst₂ (IsPlanned s) same planned_is facts
 
 -- a running rank with nothing left
-pub ended_none : (p n : ℕ) (r : RankWorld) → r.activity ≡ Running → r.rest ≡ [] → local p n r ≡ None
-ended_none p n r e h = rw (e, h) refl
-
-local_runs : (p n : ℕ) (r s : RankWorld) (act : Activity) → r.activity ≡ act → local p n r ≡ Some s → r.activity ≡ Running
-local_runs p n r s Running e h = e
-local_runs p n r s Blocked e h = absurd (cc)
-local_runs p n r s (Trapped t) e h = absurd (cc)
-
--- only a running rank steps
-pub steps_running : (p n : ℕ) (r s : RankWorld) → local p n r ≡ Some s → r.activity ≡ Running
-steps_running p n r s h = local_runs p n r s r.activity refl h
+pub ended_none : (p n count : ℕ) (r : RankWorld) → r.activity ≡ Running → r.rest ≡ [] → local p n count r ≡ None
+ended_none p n count r e h = rw (e, h) refl
 
 pub ruleset planning = (ended_none)

@@ -1,5 +1,8 @@
 -- What a node does, and what its plan makes of a rank.
-use Rattle.std.specs.Prelude.{ℕ, ℤ, [], ◌∷◌, ◌++◌, length, slice_set, if◌then◌else◌, Result, Ok, Err}
+use Rattle.std.specs.Prelude.{ℕ, ◌<◌, ℤ, [], ◌∷◌, ◌++◌, slice_set, if◌then◌else◌, Option, Some, None, Result, Ok, Err}
+use Rattle.mpd_model.specs.declared.call.Call.{Call}
+use Rattle.mpd_model.specs.declared.call.CallKind.{CallKind}
+use Rattle.mpd_model.specs.declared.call.CallKind.TheVariants.{Send, Recv, Wait}
 use Rattle.mpd_model.specs.declared.call.Issue.{Issue as Issued}
 use Rattle.mpd_model.specs.declared.call.Trap.{Trap as Reason}
 use Rattle.mpd_model.specs.declared.call.Trap.TheVariants.{Assertion}
@@ -8,7 +11,7 @@ use Rattle.mpd_model.specs.declared.stmt.Simple.TheVariants as st
 use Rattle.mpd_model.specs.Term.{Value, Env, value_of, is_zero}
 use Rattle.mpd_model.specs.Program.{Program}
 use Rattle.mpd_model.specs.World.{RankWorld}
-use Rattle.mpd_model.specs.Next.{trapped, with_request, activity_after, send_issue, recv_issue, isend_issue, irecv_issue, wait_issue, assignment}
+use Rattle.mpd_model.specs.Next.{Ran, trapped, requested, activity_after, send_issue, recv_issue, isend_issue, irecv_issue, wait_issue, assignment}
 use Rattle.mpd_code.specs.declared.node.Action.{Action}
 use Rattle.mpd_code.specs.declared.node.Action.TheVariants as a
 use Rattle.mpd_code.specs.Left.{left_at}
@@ -44,7 +47,7 @@ simple_plan (st.Send s) next env = issue_plan (send_issue s env) next
 simple_plan (st.Recv s) next env = issue_plan (recv_issue s env) next
 simple_plan (st.Isend s) next env = issue_plan (isend_issue s env) next
 simple_plan (st.Irecv s) next env = issue_plan (irecv_issue s env) next
-simple_plan (st.Wait s) next env = issue_plan (wait_issue s env) next
+simple_plan (st.Wait t) next env = issue_plan (wait_issue t env) next
 
 -- what any action does
 abbrev pub plan_of : Action → ℕ → Env → LocalPlan
@@ -52,15 +55,36 @@ plan_of (a.Simple s) next env = simple_plan s next env
 plan_of (a.Branch c first second) next env = choice_plan (value_of c env) first second
 plan_of (a.Repeat c body) next env = choice_plan (value_of c env) body next
 
--- what a plan makes of a rank that stands at a statement of a number
+-- what a plan makes of a rank that has issued so many calls
 abbrev pub planned : Program → RankWorld → ℕ → LocalPlan → RankWorld
-planned s r number (Move next) = record r { rest = left_at s next }
-planned s r number (Print v next) = record r { rest = left_at s next; out = r.out ++ v ∷ [] }
-planned s r number (Assign cell v next) = record r { rest = left_at s next; vars = slice_set r.vars cell v }
-planned s r number (Issue a next) = record r {
-  rest = left_at s next;
-  handles = with_request a.handle (length r.calls) r.handles;
-  calls = r.calls ++ record { statement = number; kind = a.kind } ∷ [];
-  activity = activity_after a.kind;
-}
-planned s r number (Trap t) = trapped r t
+planned s r count (Move next) = record r { rest = left_at s next }
+planned s r count (Print v next) = record r { rest = left_at s next; out = r.out ++ v ∷ [] }
+planned s r count (Assign cell v next) = record r { rest = left_at s next; vars = slice_set r.vars cell v }
+planned s r count (Issue a next) = record r { rest = left_at s next; handles = requested a.handle (Some count) r.handles; activity = activity_after a.kind }
+planned s r count (Trap t) = trapped r t
+
+-- the call that a plan issues, of the statement of a number
+abbrev pub plan_call : ℕ → LocalPlan → Option Call
+plan_call number (Move next) = None
+plan_call number (Print v next) = None
+plan_call number (Assign cell v next) = None
+plan_call number (Issue a next) = Some (record { statement = number; kind = a.kind })
+plan_call number (Trap t) = None
+
+-- a send goes to one of so many ranks
+abbrev pub SendsTo : ℕ → CallKind → Type 0
+SendsTo n (Send s) = s.to < n
+SendsTo n (Recv r) = Unit {0}
+SendsTo n (Wait t) = Unit {0}
+
+-- a plan that issues a send issues one to a rank
+abbrev pub HasReceiver : ℕ → LocalPlan → Type 0
+HasReceiver n (Move next) = Unit {0}
+HasReceiver n (Print v next) = Unit {0}
+HasReceiver n (Assign cell v next) = Unit {0}
+HasReceiver n (Issue a next) = SendsTo n a.kind
+HasReceiver n (Trap t) = Unit {0}
+
+-- both, of a rank that stands at a statement of a number
+abbrev pub plan_ran : Program → RankWorld → ℕ → ℕ → LocalPlan → Ran
+plan_ran s r count number plan = record { rank = planned s r count plan; call = plan_call number plan }

@@ -24,9 +24,8 @@ abbrev pub print_change : Value → Change
 print_change (Ok v) = Printed
 print_change (Err t) = Trapped
 
--- the handle that gets the call's number, and what it held
 abbrev pub issue_change : List (Option ℕ) → Result Issue Reason → Change
-issue_change handles (Ok a) = Issued (request_held handles a.handle)
+issue_change handles (Ok a) = Issued (request_held a.handle handles)
 issue_change handles (Err t) = Trapped
 
 abbrev pub write_change : List ℤ → Result (ℕ × ℤ) Reason → Change
@@ -50,7 +49,7 @@ simple_change env (st.Send s) = issue_change env.handles (send_issue s env)
 simple_change env (st.Recv s) = issue_change env.handles (recv_issue s env)
 simple_change env (st.Isend s) = issue_change env.handles (isend_issue s env)
 simple_change env (st.Irecv s) = issue_change env.handles (irecv_issue s env)
-simple_change env (st.Wait s) = issue_change env.handles (wait_issue s env)
+simple_change env (st.Wait t) = issue_change env.handles (wait_issue t env)
 
 abbrev pub change_of : Env → Tree → Change
 change_of env (simple s) = simple_change env s
@@ -68,8 +67,8 @@ abbrev pub local_record : ℕ → ℕ → RankWorld → Option RankRecord
 local_record p n r = record_by (env_of p n r) r.activity r.rest
 
 -- the record of a wake, which moves no rank: what the written cells and the cleared handle held
-abbrev pub wake_record : List ℤ → List (Option ℕ) → List (ℕ × ℤ) → Option ℕ → RankRecord
-wake_record vars handles writes handle = record { from = 0; change = Woke (request_held handles handle) (first_of (all_held vars writes)) }
+abbrev pub wake_record : RankWorld → List (ℕ × ℤ) → Option ℕ → RankRecord
+wake_record r writes handle = record { from = 0; change = Woke (first_of (all_held r.vars writes)) (request_held handle r.handles) }
 
 -- ---- of a plan
 
@@ -77,7 +76,7 @@ abbrev pub plan_change : List ℤ → List (Option ℕ) → LocalPlan → Change
 plan_change vars handles (plan.Move next) = Moved
 plan_change vars handles (plan.Print v next) = Printed
 plan_change vars handles (plan.Assign cell v next) = assigned_change (held vars cell)
-plan_change vars handles (plan.Issue a next) = Issued (request_held handles a.handle)
+plan_change vars handles (plan.Issue a next) = Issued (request_held a.handle handles)
 plan_change vars handles (plan.Trap t) = Trapped
 
 -- what a rank that stands at a node records of a plan

@@ -1,13 +1,13 @@
 -- What a rank shows to contracts, part by part, and the rank of the world that it is.
-use Rattle.std.specs.Prelude.{◌≡◌, ℕ, min, ℤ, List, [], ◌∷◌, Option, Some, None, refl}
+use Rattle.std.specs.Prelude.{◌≡◌, ℕ, ℤ, List, [], ◌∷◌, Option, Some, None, refl}
 use Rattle.std.specs.Coded.{Coded, code_by, coded×, coded_ℕ, coded_ℤ, coded_list, coded_option}
 use Rattle.mpd_model.specs.declared.call.Activity.{Activity}
-use Rattle.mpd_model.specs.declared.call.Call.{Call}
+use Rattle.mpd_model.specs.declared.call.Activity.TheVariants.{Running}
 use Rattle.mpd_model.specs.contracts.call.Activity as activity_row
-use Rattle.mpd_model.specs.contracts.call.Call as call_row
 use Rattle.mpd_model.specs.Program.{Program}
 use Rattle.mpd_model.specs.World.{RankWorld}
 use Rattle.mpd_code.specs.Left.{left_at}
+use Rattle.mpd_rank.specs.declared.standing.Standing.{Standing}
 
 -- a list of one cell at most
 abbrev pub listed : Option (ℕ × ℤ) → List (ℕ × ℤ)
@@ -25,32 +25,33 @@ first_listed (Some w) = refl
 abbrev pub cells_code : Coded (List (ℕ × ℤ))
 cells_code = coded_list (coded× coded_ℕ coded_ℤ)
 
+-- the one that a tape of one holds
+abbrev pub standing_in : List Standing → Standing
+standing_in [] = record { node = 0; activity = Running }
+standing_in (s ∷ ss) = s
+
 pub record RankView : Type 0 where
   -- which rank it is, from 0
   pub rank : ℕ
   -- where it goes on
   pub node : ℕ
+  pub activity : Activity
   pub vars : List ℤ
   pub handles : List (Option ℕ)
-  pub calls : List Call
   pub out : List ℤ
-  pub activity : Activity
-  -- how many calls and values may be added before a growth
-  pub call_room : ℕ
-  pub out_room : ℕ
+  -- how many values may be printed before a growth
+  pub room : ℕ
+  -- how many writes its tapes have counted
+  pub writes : ℕ
 
 abbrev pub rank_view_code : Coded RankView
 rank_view_code =
-    code_by (ℕ × (ℕ × (List ℤ × (List (Option ℕ) × (List Call × (List ℤ × (Activity × (ℕ × ℕ))))))))
-    (coded× coded_ℕ (coded× coded_ℕ (coded× (coded_list coded_ℤ) (coded× (coded_list (coded_option coded_ℕ))
-    (coded× (coded_list call_row.the_row.coded) (coded× (coded_list coded_ℤ) (coded× activity_row.the_row.coded (coded× coded_ℕ coded_ℕ))))))))
-    (λ v. (v.rank, (v.node, (v.vars, (v.handles, (v.calls, (v.out, (v.activity, (v.call_room, v.out_room)))))))))
-    (λ q. record { rank = q.0; node = q.1.0; vars = q.1.1.0; handles = q.1.1.1.0; calls = q.1.1.1.1.0; out = q.1.1.1.1.1.0; activity = q.1.1.1.1.1.1.0; call_room = q.1.1.1.1.1.1.1.0; out_room = q.1.1.1.1.1.1.1.1 }) (λ _. refl)
+    code_by (ℕ × (ℕ × (Activity × (List ℤ × (List (Option ℕ) × (List ℤ × (ℕ × ℕ)))))))
+    (coded× coded_ℕ (coded× coded_ℕ (coded× activity_row.the_row.coded (coded× (coded_list coded_ℤ) (coded× (coded_list (coded_option coded_ℕ))
+    (coded× (coded_list coded_ℤ) (coded× coded_ℕ coded_ℕ)))))))
+    (λ v. (v.rank, (v.node, (v.activity, (v.vars, (v.handles, (v.out, (v.room, v.writes))))))))
+    (λ q. record { rank = q.0; node = q.1.0; activity = q.1.1.0; vars = q.1.1.1.0; handles = q.1.1.1.1.0; out = q.1.1.1.1.1.0; room = q.1.1.1.1.1.1.0; writes = q.1.1.1.1.1.1.1 }) (λ _. refl)
 
 -- its rank of the world of a program
 abbrev pub rank_of : Program → RankView → RankWorld
-rank_of p v = record { rest = left_at p v.node; vars = v.vars; handles = v.handles; calls = v.calls; out = v.out; activity = v.activity }
-
--- for how many steps, whatever they are, room is kept: a step adds a call at most, or a value that is printed
-abbrev pub step_room : RankView → ℕ
-step_room v = min v.call_room v.out_room
+rank_of p v = record { rest = left_at p v.node; vars = v.vars; handles = v.handles; out = v.out; activity = v.activity }

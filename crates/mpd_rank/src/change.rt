@@ -50,21 +50,15 @@ impl Cells {
 pub enum Change {
     Moved,
     /// The cell that was written, and what it held.
-    Assigned {
-        cell: usize,
-        was: i64,
-    },
+    Assigned { cell: usize, was: i64 },
     Printed,
     /// The handle that got the call's number, if any, and what it held.
-    Issued {
-        handle: Option<(u32, Option<usize>)>,
-    },
+    Issued { handle: Option<(usize, Option<usize>)> },
     Trapped,
-    Matched,
-    /// The handle that was cleared, if any, and what it held; and the same of the cell that was written.
+    /// The cell that was written, if any, and what it held, and the same of the handle that was cleared.
     Woke {
-        handle: Option<(u32, Option<usize>)>,
         cell: Option<(usize, i64)>,
+        handle: Option<(usize, Option<usize>)>,
     },
 }
 

@@ -4,3 +4,4 @@
 pub mod change;
 pub mod plan;
 pub mod rank;
+pub mod standing;

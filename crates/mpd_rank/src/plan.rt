@@ -1,12 +1,12 @@
 //! What the next statement of a rank does, before it is done.
 
 ghost use Rattle.std.specs.Prelude.{◌≡◌};
-ghost use Rattle.mpd_rank.specs.Plans.{plan_of, simple_plan, print_plan, assign_plan, issue_plan, assert_plan, choice_plan};
+ghost use Rattle.mpd_rank.specs.Plans.{plan_call, plan_of, simple_plan, print_plan, assign_plan, issue_plan, assert_plan, choice_plan};
 
 use mpd_code::env::Env;
 use mpd_code::eval::{eval, eval_assign, eval_irecv, eval_isend, eval_recv, eval_send, eval_wait};
 use mpd_code::node::{Action, Node};
-use mpd_model::call::{Issue, Trap};
+use mpd_model::call::{Call, Issue, Trap};
 use mpd_model::stmt::Simple;
 
 /// What a local step does.
@@ -27,12 +27,27 @@ pub enum LocalPlan {
         value: i64,
         next: usize,
     },
-    /// Issues a call, and blocks on it where its kind blocks.
+    /// Issues a call.
     Issue {
         issue: Issue,
         next: usize,
     },
     Trap(Trap),
+}
+
+impl LocalPlan {
+    /// The call that it issues, by the statement of a number.
+    pub fn call(self, statement: usize) -> Option<Call>
+        ensures { result ≡ plan_call statement self }
+    {
+        match self {
+            LocalPlan::Issue { issue, next: _ } => Some(Call {
+                statement,
+                kind: issue.kind,
+            }),
+            _ => None,
+        }
+    }
 }
 
 fn plan_print(value: Result<i64, Trap>, next: usize) -> LocalPlan

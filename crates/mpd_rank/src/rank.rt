@@ -1,35 +1,36 @@
 //! The state of one rank.
 
-ghost use Rattle.std.specs.Prelude.{◌≡◌, ◌≤◌, length, IfOk, IfSome, IfNone, OnOk, OnErr, is_some, IsSome, ℕ, Some, slice_set};
+ghost use Rattle.std.specs.Prelude.{◌≡◌, ◌≤◌, ◌+◌, IfOk, IfSome, IfNone, OnOk, OnErr, is_some, IsSome, ℕ, Some, slice_set};
 ghost use Rattle.std.specs.Option.{option_map};
 ghost use Rattle.mpd_model.specs.Program.{Program};
-ghost use Rattle.mpd_model.specs.Next.{blocks, activity_after};
 ghost use Rattle.mpd_code.specs.Left.{left_at};
+ghost use Rattle.mpd_model.specs.Next as next_specs;
 
 use crate::change::{Cells, Change, RankRecord};
 use crate::plan::{LocalPlan, plan_node};
+use crate::standing::Standing;
 use mpd_code::code::Code;
 use mpd_code::env::Env;
-use mpd_model::call::{Activity, Call, CallKind, Issue};
+use mpd_model::call::{Activity, CallKind, Issue};
+use mpd_queue::tape::Tape;
 use std::alloc::{AllocError, Global};
 use std::marker::Model;
 
-/// One rank, which contracts see as a `RankView`. What it has left to run is what its node stands for.
-#[derive(Debug, Drop)]
+/// One rank, which contracts see as a `RankView`. What it has left to run is what its node stands for. All that a step changes
+/// stands in tapes, which count their writes.
+#[derive(Drop)]
 pub struct RankState {
     rank: u32,
-    node: usize,
-    vars: Vec<i64>,
-    handles: Vec<Option<usize>>,
-    calls: Vec<Call>,
-    out: Vec<i64>,
-    activity: Activity,
+    /// Of one item.
+    standing: Tape<Standing>,
+    vars: Tape<i64>,
+    handles: Tape<Option<usize>>,
+    out: Tape<i64>,
 }
 
 impl Model for RankState {
-    ghost use Rattle.std.specs.Prelude.{◌≤◌, ◌-◌, length, vec_len, vec_capacity};
-    ghost use Rattle.mpd_model.specs.declared.limits.TheConstants.{HANDLES_MAX};
-    ghost use Rattle.mpd_rank.specs.Views.{RankView, rank_view_code};
+    ghost use Rattle.std.specs.Prelude.{◌≡◌, ◌+◌, length};
+    ghost use Rattle.mpd_rank.specs.Views.{RankView, rank_view_code, standing_in};
 
     ghost Value = { RankView };
 
@@ -37,22 +38,21 @@ impl Model for RankState {
 
     ghost view = { λ r. record {
       rank = r.rank;
-      node = r.node;
+      node = (standing_in r.standing.items).node;
+      activity = (standing_in r.standing.items).activity;
       vars = r.vars.items;
       handles = r.handles.items;
-      calls = r.calls.items;
       out = r.out.items;
-      activity = r.activity;
-      call_room = vec_capacity r.calls - vec_len r.calls;
-      out_room = vec_capacity r.out - vec_len r.out;
+      room = r.out.room;
+      writes = r.standing.writes + r.vars.writes + r.handles.writes + r.out.writes;
     } };
 
-    ghost invariant = { λ r. length r.handles.items ≤ HANDLES_MAX };
+    ghost invariant = { λ r. length r.standing.items ≡ 1 };
 }
 
 /// Whether a rank waits for a call of this kind.
 fn blocks(kind: CallKind) -> bool
-    ensures { result ≡ blocks kind }
+    ensures { result ≡ next_specs.blocks kind }
 {
     match kind {
         CallKind::Send(send) => send.blocks,
@@ -61,24 +61,13 @@ fn blocks(kind: CallKind) -> bool
     }
 }
 
-/// What a rank is doing once it has issued a call of this kind.
-fn activity_after(kind: CallKind) -> Activity
-    ensures { result ≡ activity_after kind }
-{
-    if blocks(kind) {
-        Activity::Blocked
-    } else {
-        Activity::Running
-    }
-}
-
 impl RankState {
     ghost use Rattle.mpd_model.specs.World.{start_rank};
     ghost use Rattle.mpd_model.specs.Outcomes.{has_ended, first_number};
-    ghost use Rattle.mpd_model.specs.Next.{local, woken_rank, write_cells, with_request, without_request};
-    ghost use Rattle.mpd_rank.specs.Views.{rank_of, step_room};
-    ghost use Rattle.mpd_rank.specs.Plans.{planned};
-    ghost use Rattle.mpd_rank.specs.Undone.{undone_rank, held, all_held, handle_held, request_held, put_request};
+    ghost use Rattle.mpd_model.specs.Next.{local, woken_rank, write_cells, requested, activity_after};
+    ghost use Rattle.mpd_rank.specs.Views.{rank_of, listed};
+    ghost use Rattle.mpd_rank.specs.Plans.{planned, plan_ran, HasReceiver};
+    ghost use Rattle.mpd_rank.specs.Undone.{undone_rank, held, all_held, request_held, put_held};
     ghost use Rattle.mpd_rank.specs.Records.{local_record, plan_record, wake_record};
 
     /// A rank before its first step, with the whole body to run. An `Err` is want of memory.
@@ -86,44 +75,67 @@ impl RankState {
         ensures world { IfOk result (λ r. rank_of code.now.program r ≡ start_rank code.now.program) }
         ensures rank { IfOk result (λ r. r.rank ≡ rank) }
     {
+        let standing = Standing {
+            node: code.start(),
+            activity: Activity::Running,
+        };
         Ok(RankState {
             rank,
-            node: code.start(),
-            vars: vec![in alloc; 0; code.cells()]?,
-            handles: vec![in alloc; None; code.handles()]?,
-            calls: Vec::new(alloc),
-            out: Vec::new(alloc),
-            activity: Activity::Running,
+            standing: Tape::filled(alloc, 1, standing)?,
+            vars: Tape::filled(alloc, code.cells(), 0)?,
+            handles: Tape::filled(alloc, code.handles(), None)?,
+            out: Tape::new(alloc),
         })
     }
 
     /// Keeps room for one step, whatever it is. An `Err` is want of memory, and comes only where no such room was kept; what the
     /// rank is stays as it was.
     pub fn keep_room(&mut self) -> Result<(), AllocError>
-        ensures room { OnOk result (1 ≤ step_room self.new) }
-        ensures memory { OnErr result (step_room self.old ≡ 0) }
-        ensures same { self.new ≡ record self.old { call_room = self.new.call_room; out_room = self.new.out_room } }
+        ensures room { OnOk result (1 ≤ self.new.room) }
+        ensures never_less { self.old.room ≤ self.new.room }
+        ensures memory { OnErr result (self.old.room ≡ 0) }
+        ensures same { self.new ≡ record self.old { room = self.new.room } }
     {
-        self.calls.reserve(1)?;
-        self.out.reserve(1)?;
-        Ok(())
+        self.out.keep_room(1)
+    }
+
+    /// What it is at.
+    fn standing(&self) -> Standing
+        ensures { result ≡ record { node = self.now.node; activity = self.now.activity } }
+    {
+        match self.standing.get(0) {
+            Some(standing) => standing,
+            None => Standing {
+                node: 0,
+                activity: Activity::Running,
+            },
+        }
+    }
+
+    /// Puts it at a node. One write.
+    fn stand(&mut self, node: usize, activity: Activity)
+        ensures after { self.new ≡ record self.old { node = node; activity = activity; writes = self.old.writes + 1 } }
+    {
+        self.standing.set(0, Standing { node, activity });
     }
 
     /// What the next local step does, where there is one. Nothing changes.
     #[tactic(auto, using(crate::proofs::PlanLemmas::planning))]
     pub fn plan_local(&self, code: &Code) -> Option<LocalPlan>
-        ensures step { local self.now.rank code.now.program.ranks (rank_of code.now.program self.now) ≡ option_map (planned code.now.program (rank_of code.now.program self.now) self.now.node) result }
+        ensures step { (count : ℕ) → local self.now.rank code.now.program.ranks count (rank_of code.now.program self.now) ≡ option_map (plan_ran code.now.program (rank_of code.now.program self.now) count self.now.node) result }
         ensures recorded { local_record self.now.rank code.now.program.ranks (rank_of code.now.program self.now) ≡ option_map (plan_record self.now) result }
+        ensures receiver { IfSome result (λ plan. HasReceiver code.now.program.ranks plan) }
     {
-        match self.activity {
+        let Standing { node, activity } = self.standing();
+        match activity {
             Activity::Running => {}
             Activity::Blocked | Activity::Trapped(_) => return None,
         }
-        let node = code.node(self.node)?;
+        let node = code.node(node)?;
         let size = code.ranks();
         let env = Env {
-            vars: &self.vars,
-            handles: &self.handles,
+            vars: self.vars.items(),
+            handles: self.handles.items(),
             rank: self.rank,
             size: size as u32,
         };
@@ -132,21 +144,25 @@ impl RankState {
 
     /// Writes a variable, where there is such a cell, and answers what it held.
     fn write(&mut self, cell: usize, value: i64) -> Option<(usize, i64)>
-        ensures after { self.new ≡ record self.old { vars = slice_set self.old.vars cell value } }
+        ensures after { self.new ≡ record self.old { vars = slice_set self.old.vars cell value; writes = self.new.writes } }
         ensures held { result ≡ held self.old.vars cell }
+        ensures rises { self.old.writes ≤ self.new.writes }
+        ensures few { self.new.writes ≤ self.old.writes + 1 }
     {
         if cell >= self.vars.len() {
             return None;
         }
-        let was = self.vars[cell];
-        self.vars[cell] = value;
+        let was = self.vars.items()[cell];
+        self.vars.set(cell, value);
         Some((cell, was))
     }
 
     /// Writes cells, and answers what they held, the last first.
     fn write_all(&mut self, cells: Cells) -> Cells
-        ensures after { self.new ≡ record self.old { vars = write_cells cells self.old.vars } }
+        ensures after { self.new ≡ record self.old { vars = write_cells cells self.old.vars; writes = self.new.writes } }
         ensures held { result ≡ all_held self.old.vars cells }
+        ensures rises { self.old.writes ≤ self.new.writes }
+        ensures few { self.new.writes ≤ self.old.writes + 1 }
     {
         match cells.first {
             None => Cells::none(),
@@ -156,193 +172,192 @@ impl RankState {
         }
     }
 
-    /// Writes a cell, and goes on at a node.
-    fn assign(&mut self, cell: usize, value: i64, next: usize) -> RankRecord
-        ensures after { self.new ≡ record self.old { node = next; vars = slice_set self.old.vars cell value } }
-        ensures recorded { result ≡ plan_record self.old (LocalPlan.Assign cell value next) }
-    {
-        let from = self.node;
-        self.node = next;
-        let change = match self.write(cell, value) {
-            Some((cell, was)) => Change::Assigned { cell, was },
-            None => Change::Moved,
-        };
-        RankRecord { from, change }
-    }
-
     /// Writes a handle, where there is such a one, and answers what it held.
-    fn write_handle(&mut self, handle: usize, call: Option<usize>) -> Option<(u32, Option<usize>)>
-        ensures after { self.new ≡ record self.old { handles = slice_set self.old.handles handle call } }
-        ensures held { result ≡ handle_held self.old.handles handle }
+    fn hold(&mut self, handle: usize, call: Option<usize>) -> Option<(usize, Option<usize>)>
+        ensures after { self.new ≡ record self.old { handles = slice_set self.old.handles handle call; writes = self.new.writes } }
+        ensures held { result ≡ held self.old.handles handle }
+        ensures rises { self.old.writes ≤ self.new.writes }
+        ensures few { self.new.writes ≤ self.old.writes + 1 }
     {
         if handle >= self.handles.len() {
             return None;
         }
-        let was = self.handles[handle];
-        self.handles[handle] = call;
-        Some((handle as u32, was))
+        let was = self.handles.items()[handle];
+        self.handles.set(handle, call);
+        Some((handle, was))
     }
 
-    /// Gives a handle, if any, the number of the call that is issued next, and answers what it held.
-    fn keep_request(&mut self, handle: Option<usize>) -> Option<(u32, Option<usize>)>
-        ensures after { self.new ≡ record self.old { handles = with_request handle (length self.old.calls) self.old.handles } }
-        ensures held { result ≡ request_held self.old.handles handle }
-    {
-        let number = self.calls.len();
-        match handle {
-            None => None,
-            Some(handle) => self.write_handle(handle, Some(number)),
-        }
-    }
-
-    /// Clears a handle, if any, and answers what it held.
-    fn clear_request(&mut self, handle: Option<usize>) -> Option<(u32, Option<usize>)>
-        ensures after { self.new ≡ record self.old { handles = without_request handle self.old.handles } }
-        ensures held { result ≡ request_held self.old.handles handle }
+    /// Writes a handle, where one is named.
+    fn request(
+        &mut self,
+        handle: Option<usize>,
+        call: Option<usize>,
+    ) -> Option<(usize, Option<usize>)>
+        ensures after { self.new ≡ record self.old { handles = requested handle call self.old.handles; writes = self.new.writes } }
+        ensures held { result ≡ request_held handle self.old.handles }
+        ensures rises { self.old.writes ≤ self.new.writes }
+        ensures few { self.new.writes ≤ self.old.writes + 1 }
     {
         match handle {
             None => None,
-            Some(handle) => self.write_handle(handle, None),
+            Some(handle) => self.hold(handle, call),
         }
     }
 
-    /// Puts back what a handle held, if one was written.
-    fn put_request(&mut self, held: Option<(u32, Option<usize>)>)
-        ensures { self.new ≡ record self.old { handles = put_request held self.old.handles } }
+    /// Writes a cell, and goes on at a node.
+    fn assign(&mut self, cell: usize, value: i64, next: usize) -> RankRecord
+        ensures after { self.new ≡ record self.old { node = next; vars = slice_set self.old.vars cell value; writes = self.new.writes } }
+        ensures recorded { result ≡ plan_record self.old (LocalPlan.Assign cell value next) }
+        ensures rises { self.old.writes + 1 ≤ self.new.writes }
+        ensures few { self.new.writes ≤ self.old.writes + 2 }
     {
-        if let Some((handle, was)) = held {
-            let _ = self.write_handle(handle as usize, was);
-        }
+        let Standing { node, activity } = self.standing();
+        self.stand(next, activity);
+        let change = match self.write(cell, value) {
+            Some((cell, was)) => Change::Assigned { cell, was },
+            None => Change::Moved,
+        };
+        RankRecord { from: node, change }
     }
 
-    /// Issues a call, in the room that was kept, and goes on at a node.
-    fn issue(&mut self, issue: Issue, next: usize) -> RankRecord
-        requires { 1 ≤ step_room self.old }
-        ensures after { (p : Program) → rank_of p self.new ≡ planned p (rank_of p self.old) self.old.node (LocalPlan.Issue issue next) }
-        ensures recorded { result ≡ plan_record self.old (LocalPlan.Issue issue next) }
+    /// Does what was planned, in the room that was kept, so it can't be refused memory. `call` is the number that a call issued by
+    /// the step has. It answers what takes the step back. One or two writes.
+    #[tactic(auto, using(crate::proofs::RankLemmas::committing))]
+    pub fn commit(&mut self, plan: LocalPlan, call: usize) -> RankRecord
+        requires room { 1 ≤ self.old.room }
+        ensures after { (p : Program) → rank_of p self.new ≡ planned p (rank_of p self.old) call plan }
+        ensures recorded { result ≡ plan_record self.old plan }
         ensures rank { self.new.rank ≡ self.old.rank }
+        ensures back { (p : Program) → self.old.activity ≡ Activity.Running → undone_rank p (rank_of p self.new) result ≡ rank_of p self.old }
+        ensures rises { self.old.writes + 1 ≤ self.new.writes }
+        ensures few { self.new.writes ≤ self.old.writes + 2 }
     {
-        let from = self.node;
-        let handle = self.keep_request(issue.handle);
-        self.calls.push_reserved(Call {
-            statement: from,
-            kind: issue.kind,
-        });
-        self.node = next;
-        self.activity = activity_after(issue.kind);
+        let Standing { node, activity } = self.standing();
+        match plan {
+            LocalPlan::Move { next } => {
+                self.stand(next, activity);
+                RankRecord {
+                    from: node,
+                    change: Change::Moved,
+                }
+            }
+            LocalPlan::Print { value, next } => {
+                self.out.push_kept(value);
+                self.stand(next, activity);
+                RankRecord {
+                    from: node,
+                    change: Change::Printed,
+                }
+            }
+            LocalPlan::Assign { cell, value, next } => self.assign(cell, value, next),
+            LocalPlan::Issue { issue, next } => self.issue(issue, call, next),
+            LocalPlan::Trap(trap) => {
+                self.stand(node, Activity::Trapped(trap));
+                RankRecord {
+                    from: node,
+                    change: Change::Trapped,
+                }
+            }
+        }
+    }
+
+    /// Goes on at a node behind a call that was issued.
+    fn issue(&mut self, issue: Issue, call: usize, next: usize) -> RankRecord
+        ensures after { self.new ≡ record self.old { node = next; handles = requested issue.handle (Some call) self.old.handles; activity = activity_after issue.kind; writes = self.new.writes } }
+        ensures recorded { result ≡ plan_record self.old (LocalPlan.Issue issue next) }
+        ensures rises { self.old.writes + 1 ≤ self.new.writes }
+        ensures few { self.new.writes ≤ self.old.writes + 2 }
+    {
+        let from = self.standing().node;
+        let handle = self.request(issue.handle, Some(call));
+        let activity = if blocks(issue.kind) {
+            Activity::Blocked
+        } else {
+            Activity::Running
+        };
+        self.stand(next, activity);
         RankRecord {
             from,
             change: Change::Issued { handle },
         }
     }
 
-    /// Does what was planned, in the room that was kept, so it can't be refused memory. It answers what takes the step back.
-    #[tactic(auto, using(crate::proofs::RankLemmas::committing))]
-    pub fn commit(&mut self, plan: LocalPlan) -> RankRecord
-        requires room { 1 ≤ step_room self.old }
-        ensures after { (p : Program) → rank_of p self.new ≡ planned p (rank_of p self.old) self.old.node plan }
-        ensures recorded { result ≡ plan_record self.old plan }
-        ensures rank { self.new.rank ≡ self.old.rank }
-        ensures back { (p : Program) → self.old.activity ≡ Activity.Running → undone_rank p (rank_of p self.new) result ≡ rank_of p self.old }
-    {
-        let from = self.node;
-        let change = match plan {
-            LocalPlan::Move { next } => {
-                self.node = next;
-                Change::Moved
-            }
-            LocalPlan::Print { value, next } => {
-                self.out.push_reserved(value);
-                self.node = next;
-                Change::Printed
-            }
-            LocalPlan::Assign { cell, value, next } => return self.assign(cell, value, next),
-            LocalPlan::Issue { issue, next } => return self.issue(issue, next),
-            LocalPlan::Trap(trap) => {
-                self.activity = Activity::Trapped(trap);
-                Change::Trapped
-            }
-        };
-        RankRecord { from, change }
-    }
-
-    /// Runs the next statement, where the rank is running and has one. An `Err` is want of memory, and comes only where no room
-    /// was kept.
-    #[tactic(auto, using(crate::proofs::PlanLemmas::steps_running))]
-    pub fn step(&mut self, code: &Code) -> Result<Option<RankRecord>, AllocError>
-        ensures step { IfOk result (λ done. local self.old.rank code.now.program.ranks (rank_of code.now.program self.old) ≡ option_map (λ _. rank_of code.now.program self.new) done) }
-        ensures recorded { IfOk result (λ done. done ≡ local_record self.old.rank code.now.program.ranks (rank_of code.now.program self.old)) }
-        ensures back { IfOk result (λ done. IfSome done (λ r. undone_rank code.now.program (rank_of code.now.program self.new) r ≡ rank_of code.now.program self.old)) }
-        ensures none { IfOk result (λ done. IfNone done (rank_of code.now.program self.new ≡ rank_of code.now.program self.old)) }
-        ensures err { OnErr result (rank_of code.now.program self.new ≡ rank_of code.now.program self.old) }
-        ensures enabled { OnErr result (IsSome (local self.old.rank code.now.program.ranks (rank_of code.now.program self.old))) }
-        ensures memory { OnErr result (step_room self.old ≡ 0) }
-        ensures rank { self.new.rank ≡ self.old.rank }
-    {
-        let Some(plan) = self.plan_local(code) else {
-            return Ok(None);
-        };
-        self.keep_room()?;
-        Ok(Some(self.commit(plan)))
-    }
-
-    /// Goes on after a wake, with cells written and a handle cleared, if any. It can't be refused memory. It answers what takes
-    /// the wake back.
+    /// Goes on after a wake, with cells written and a handle cleared. It can't be refused memory. It answers what takes the wake
+    /// back. One to three writes.
     #[tactic(auto, using(crate::proofs::RankLemmas::committing))]
     pub fn complete(&mut self, writes: Cells, handle: Option<usize>) -> RankRecord
         ensures after { (p : Program) → rank_of p self.new ≡ woken_rank writes handle (rank_of p self.old) }
-        ensures recorded { result ≡ wake_record self.old.vars self.old.handles writes handle }
+        ensures recorded { (p : Program) → result ≡ wake_record (rank_of p self.old) writes handle }
         ensures rank { self.new.rank ≡ self.old.rank }
         ensures back { (p : Program) → self.old.activity ≡ Activity.Blocked → undone_rank p (rank_of p self.new) result ≡ rank_of p self.old }
+        ensures rises { self.old.writes + 1 ≤ self.new.writes }
+        ensures few { self.new.writes ≤ self.old.writes + 3 }
     {
+        let node = self.standing().node;
         let was = self.write_all(writes);
-        let handle = self.clear_request(handle);
-        self.activity = Activity::Running;
+        let handle = self.request(handle, None);
+        self.stand(node, Activity::Running);
         RankRecord {
             from: 0,
             change: Change::Woke {
-                handle,
                 cell: was.first,
+                handle,
             },
         }
     }
 
-    /// Takes a step of the rank back. It can't be refused memory.
+    /// Puts a handle back.
+    fn put_handle(&mut self, was: Option<(usize, Option<usize>)>)
+        ensures after { self.new ≡ record self.old { handles = put_held was self.old.handles; writes = self.new.writes } }
+        ensures rises { self.old.writes ≤ self.new.writes }
+        ensures few { self.new.writes ≤ self.old.writes + 1 }
+    {
+        if let Some((handle, call)) = was {
+            let _ = self.hold(handle, call);
+        }
+    }
+
+    /// Takes a wake back.
+    fn unwake(&mut self, cell: Option<(usize, i64)>, handle: Option<(usize, Option<usize>)>)
+        ensures after { self.new ≡ record self.old { vars = write_cells (listed cell) self.old.vars; handles = put_held handle self.old.handles; activity = Activity.Blocked; writes = self.new.writes } }
+        ensures rises { self.old.writes + 1 ≤ self.new.writes }
+        ensures few { self.new.writes ≤ self.old.writes + 3 }
+    {
+        let node = self.standing().node;
+        let _ = self.write_all(Cells { first: cell });
+        self.put_handle(handle);
+        self.stand(node, Activity::Blocked);
+    }
+
+    /// Takes a step of the rank back. It can't be refused memory. One to three writes.
     pub fn restore(&mut self, done: RankRecord)
         ensures after { (p : Program) → rank_of p self.new ≡ undone_rank p (rank_of p self.old) done }
         ensures rank { self.new.rank ≡ self.old.rank }
+        ensures rises { self.old.writes + 1 ≤ self.new.writes }
+        ensures few { self.new.writes ≤ self.old.writes + 3 }
     {
         let RankRecord { from, change } = done;
         match change {
-            Change::Matched => return,
-            Change::Woke { handle, cell } => {
-                let _ = self.write_all(Cells { first: cell });
-                self.put_request(handle);
-                self.activity = Activity::Blocked;
-                return;
-            }
+            Change::Woke { cell, handle } => return self.unwake(cell, handle),
             Change::Assigned { cell, was } => {
                 let _ = self.write(cell, was);
             }
             Change::Printed => {
                 let _ = self.out.pop();
             }
-            Change::Issued { handle } => {
-                self.put_request(handle);
-                let _ = self.calls.pop();
-            }
+            Change::Issued { handle } => self.put_handle(handle),
             Change::Moved | Change::Trapped => {}
         }
-        self.node = from;
-        self.activity = Activity::Running;
+        self.stand(from, Activity::Running);
     }
 
     /// Whether the rank is running and has a statement left.
     pub fn can_step(&self, code: &Code) -> bool
-        ensures { (rank size : ℕ) → result ≡ is_some (local rank size (rank_of code.now.program self.now)) }
+        ensures { (rank size count : ℕ) → result ≡ is_some (local rank size count (rank_of code.now.program self.now)) }
     {
-        match self.activity {
-            Activity::Running => code.node(self.node).is_some(),
+        let Standing { node, activity } = self.standing();
+        match activity {
+            Activity::Running => code.node(node).is_some(),
             Activity::Blocked | Activity::Trapped(_) => false,
         }
     }
@@ -351,8 +366,9 @@ impl RankState {
     pub fn has_ended(&self, code: &Code) -> bool
         ensures { result ≡ has_ended (rank_of code.now.program self.now) }
     {
-        match self.activity {
-            Activity::Running => code.node(self.node).is_none(),
+        let Standing { node, activity } = self.standing();
+        match activity {
+            Activity::Running => code.node(node).is_none(),
             Activity::Blocked | Activity::Trapped(_) => false,
         }
     }
@@ -361,44 +377,66 @@ impl RankState {
     pub fn next_statement(&self, code: &Code) -> Option<usize>
         ensures { result ≡ first_number (left_at code.now.program self.now.node) }
     {
-        match code.node(self.node) {
-            Some(_) => Some(self.node),
+        let node = self.standing().node;
+        match code.node(node) {
+            Some(_) => Some(node),
             None => None,
         }
+    }
+
+    /// Which rank it is, from 0.
+    pub fn number(&self) -> usize
+        ensures { result ≡ self.now.rank }
+    {
+        self.rank as usize
+    }
+
+    /// Where it goes on: the number of a node, or of the end.
+    pub fn node(&self) -> usize
+        ensures { result ≡ self.now.node }
+    {
+        self.standing().node
     }
 
     /// Its variables.
     pub fn variables(&self) -> &[i64]
         ensures { result.now ≡ self.now.vars }
     {
-        &self.vars
+        self.vars.items()
     }
 
     /// The call of each handle.
     pub fn handles(&self) -> &[Option<usize>]
         ensures { result.now ≡ self.now.handles }
     {
-        &self.handles
-    }
-
-    /// Its calls, in the order of issue.
-    pub fn calls(&self) -> &[Call]
-        ensures { result.now ≡ self.now.calls }
-    {
-        &self.calls
+        self.handles.items()
     }
 
     /// What it has printed.
     pub fn output(&self) -> &[i64]
         ensures { result.now ≡ self.now.out }
     {
-        &self.out
+        self.out.items()
     }
 
     /// What it is doing.
     pub fn activity(&self) -> Activity
         ensures { result ≡ self.now.activity }
     {
-        self.activity
+        self.standing().activity
+    }
+
+    /// The same rank, in memory of its own. It counts its writes from 0. An `Err` is want of memory.
+    pub fn copy(&self) -> Result<RankState, AllocError>
+        ensures world { IfOk result (λ r. (p : Program) → rank_of p r ≡ rank_of p self.now) }
+        ensures rank { IfOk result (λ r. r.rank ≡ self.now.rank) }
+    {
+        Ok(RankState {
+            rank: self.rank,
+            standing: self.standing.copy()?,
+            vars: self.vars.copy()?,
+            handles: self.handles.copy()?,
+            out: self.out.copy()?,
+        })
     }
 }

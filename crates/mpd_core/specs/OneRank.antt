@@ -1,0 +1,14 @@
+-- The local step of one rank over a board.
+use Rattle.std.specs.Prelude.{ℕ, length, Option}
+use Rattle.std.specs.Option.{option_map}
+use Rattle.mpd_model.specs.Program.{Program}
+use Rattle.mpd_model.specs.World.{RankWorld, Board, calls_of}
+use Rattle.mpd_model.specs.Next.{Ran, local, with_issued}
+use Rattle.mpd_rank.specs.Views.{RankView, rank_of}
+
+-- the rank and the board after what it did
+abbrev pub ran_on : Board → ℕ → Ran → RankWorld × Board
+ran_on b p done = (done.rank, with_issued b p done.call)
+
+abbrev pub local_on : Program → Board → RankView → Option (RankWorld × Board)
+local_on s b v = option_map (ran_on b v.rank) (local v.rank s.ranks (length (calls_of b v.rank)) (rank_of s v))

@@ -1,0 +1,10 @@
+//! What a rank is at.
+
+use mpd_model::call::Activity;
+
+/// Where a rank goes on, and what it is doing.
+#[derive(Clone, Copy, Debug, PartialEq, Eq)]
+pub struct Standing {
+    pub node: usize,
+    pub activity: Activity,
+}
