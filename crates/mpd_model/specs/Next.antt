@@ -1,5 +1,5 @@
 -- What a step makes of a world, and where no step is.
-use Rattle.std.specs.Prelude.{ℕ, ◌+◌, ℤ, Bool, true, false, ◌&&◌, if◌then◌else◌, List, [], ◌∷◌, ◌++◌, length, map, slice_get, slice_set, slice_index_or, Option, Some, None, option_and_then, is_some, Result, Ok, Err}
+use Rattle.std.specs.Prelude.{ℕ, ◌+◌, ◌<◌, ℤ, Bool, true, false, ◌&&◌, if◌then◌else◌, List, [], ◌∷◌, ◌++◌, length, map, slice_get, slice_set, slice_index_or, Option, Some, None, option_and_then, is_some, Result, Ok, Err}
 use Rattle.std.specs.Option.{option_map}
 use Rattle.std.specs.List.{filter, flat_map}
 use Rattle.mpd_model.specs.declared.limits.TheConstants.{TAGS}
@@ -175,6 +175,12 @@ local p n count r = local_of p n count r r.activity r.rest
 
 abbrev pub local_at : World → ℕ → Option Ran
 local_at w p = option_and_then (local p (length w.ranks) (length (calls_of w.board p))) (slice_get w.ranks p)
+
+-- a send goes to one of so many ranks
+abbrev pub HasReceiver : ℕ → CallKind → Type 0
+HasReceiver ranks (Send s) = s.to < ranks
+HasReceiver ranks (Recv r) = Unit {0}
+HasReceiver ranks (Wait t) = Unit {0}
 
 -- a call more of a rank
 abbrev pub with_call : Board → ℕ → Call → Board

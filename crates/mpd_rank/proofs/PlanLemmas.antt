@@ -15,7 +15,7 @@ use Rattle.mpd_model.specs.Term.{Term, Target, Value, Env, and_then, value_of, c
 use Rattle.mpd_model.specs.Tree.{Tree, Block, repeat, trees, statements_in, numbered}
 use Rattle.mpd_model.specs.Program.{Program}
 use Rattle.mpd_model.specs.World.{RankWorld}
-use Rattle.mpd_model.specs.Next.{Ran, alone, local, env_of, ran, ran_simple, printed, issued, assigned, asserted, chosen, repeated, send_issue, recv_issue, isend_issue, irecv_issue, wait_issue, assignment, rank_value, tag_value, send_kind, recv_kind, wait_kind, awaiting}
+use Rattle.mpd_model.specs.Next.{Ran, HasReceiver, alone, local, env_of, ran, ran_simple, printed, issued, assigned, asserted, chosen, repeated, send_issue, recv_issue, isend_issue, irecv_issue, wait_issue, assignment, rank_value, tag_value, send_kind, recv_kind, wait_kind, awaiting}
 use Rattle.mpd_code.specs.declared.node.Node.{Node}
 use Rattle.mpd_code.specs.declared.node.Action.{Action}
 use Rattle.mpd_code.specs.declared.node.Action.TheVariants as a
@@ -28,7 +28,7 @@ use Rattle.mpd_rank.specs.declared.change.Change.{Change}
 use Rattle.mpd_rank.specs.declared.change.RankRecord.{RankRecord}
 use Rattle.mpd_rank.specs.Views.{RankView, rank_of}
 use Rattle.mpd_rank.specs.Records.{print_change, issue_change, write_change, assert_change, choice_change, simple_change, change_of, local_record, plan_change, plan_record}
-use Rattle.mpd_rank.specs.Plans.{plan_of, simple_plan, planned, plan_ran, SendsTo, HasReceiver, print_plan, assign_plan, issue_plan, assert_plan, choice_plan}
+use Rattle.mpd_rank.specs.Plans.{plan_of, simple_plan, planned, plan_ran, HasPlannedReceiver, print_plan, assign_plan, issue_plan, assert_plan, choice_plan}
 
 print_ran : (s : Program) (r : RankWorld) (n i next : ℕ) (v : Value) → plan_ran s r n i (print_plan v next) ≡ alone (printed r (left_at s next) v)
 print_ran s r n i next (Ok v) = refl
@@ -170,11 +170,11 @@ checked_below (Ok (negsuc i)) n t k h = absurd (cc)
 checked_below (Err e) n t k h = absurd (cc)
 
 abbrev Below : ℕ → Result CallKind Trap → Type 0
-Below n (Ok k) = SendsTo n k
+Below n (Ok k) = HasReceiver n k
 Below n (Err t) = Unit {0}
 
 abbrev AreBelow : ℕ → Result Issue Trap → Type 0
-AreBelow n (Ok a) = SendsTo n a.kind
+AreBelow n (Ok a) = HasReceiver n a.kind
 AreBelow n (Err t) = Unit {0}
 
 then_below : {A : Type 0} (n : ℕ) (r : Result A Trap) (f : A → Result CallKind Trap) → ((x : A) → r ≡ Ok x → Below n (f x)) → Below n (and_then r f)
@@ -206,31 +206,31 @@ held_by_below : (n : ℕ) (r : Result ℕ Trap) (k : Result CallKind Trap) → B
 held_by_below n (Ok handle) k h = held_below n handle k h
 held_by_below n (Err t) k h = tt
 
-issue_below : (n : ℕ) (r : Result Issue Trap) (next : ℕ) → AreBelow n r → HasReceiver n (issue_plan r next)
+issue_below : (n : ℕ) (r : Result Issue Trap) (next : ℕ) → AreBelow n r → HasPlannedReceiver n (issue_plan r next)
 issue_below n (Ok a) next h = h
 issue_below n (Err t) next h = tt
 
-print_below : (n : ℕ) (v : Value) (next : ℕ) → HasReceiver n (print_plan v next)
+print_below : (n : ℕ) (v : Value) (next : ℕ) → HasPlannedReceiver n (print_plan v next)
 print_below n (Ok v) next = tt
 print_below n (Err t) next = tt
 
-assign_below : (n : ℕ) (w : Result (ℕ × ℤ) Trap) (next : ℕ) → HasReceiver n (assign_plan w next)
+assign_below : (n : ℕ) (w : Result (ℕ × ℤ) Trap) (next : ℕ) → HasPlannedReceiver n (assign_plan w next)
 assign_below n (Ok w) next = tt
 assign_below n (Err t) next = tt
 
-assert_case : (b : Bool) (n next : ℕ) → HasReceiver n (cond b (trap.Trap Assertion) (trap.Move next))
+assert_case : (b : Bool) (n next : ℕ) → HasPlannedReceiver n (cond b (trap.Trap Assertion) (trap.Move next))
 assert_case true n next = tt
 assert_case false n next = tt
 
-assert_below : (n : ℕ) (v : Value) (next : ℕ) → HasReceiver n (assert_plan v next)
+assert_below : (n : ℕ) (v : Value) (next : ℕ) → HasPlannedReceiver n (assert_plan v next)
 assert_below n (Ok v) next = assert_case (is_zero v) n next
 assert_below n (Err t) next = tt
 
-choice_below : (n : ℕ) (v : Value) (holds fails : ℕ) → HasReceiver n (choice_plan v holds fails)
+choice_below : (n : ℕ) (v : Value) (holds fails : ℕ) → HasPlannedReceiver n (choice_plan v holds fails)
 choice_below n (Ok v) holds fails = tt
 choice_below n (Err t) holds fails = tt
 
-simple_below : (env : Env) (next : ℕ) (t : Simple) → HasReceiver env.size (simple_plan t next env)
+simple_below : (env : Env) (next : ℕ) (t : Simple) → HasPlannedReceiver env.size (simple_plan t next env)
 simple_below env next (st.Print e) = print_below env.size (value_of e env) next
 simple_below env next (st.Assign t) = assign_below env.size (assignment t env) next
 simple_below env next (st.Assert e) = assert_below env.size (value_of e env) next
@@ -240,13 +240,13 @@ simple_below env next (st.Isend t) = issue_below env.size (isend_issue t env) ne
 simple_below env next (st.Irecv t) = issue_below env.size (irecv_issue t env) next (held_by_below env.size (target_cell t.request env) (recv_kind false t.recv env) (recv_below false t.recv env))
 simple_below env next (st.Wait t) = issue_below env.size (wait_issue t env) next (awaiting_below env.size (wait_kind t env) (wait_below t env))
 
-action_below : (env : Env) (next : ℕ) (act : Action) → HasReceiver env.size (plan_of act next env)
+action_below : (env : Env) (next : ℕ) (act : Action) → HasPlannedReceiver env.size (plan_of act next env)
 action_below env next (a.Simple t) = simple_below env next t
 action_below env next (a.Branch c first second) = choice_below env.size (value_of c env) first second
 action_below env next (a.Repeat c body) = choice_below env.size (value_of c env) body next
 
-pub plan_below : (env : Env) (n next : ℕ) (act : Action) (plan : LocalPlan) → env.size ≡ n → plan ≡ plan_of act next env → HasReceiver n plan
-plan_below env n next act plan size is = subst₂ HasReceiver size (sym is) (action_below env next act)
+pub plan_below : (env : Env) (n next : ℕ) (act : Action) (plan : LocalPlan) → env.size ≡ n → plan ≡ plan_of act next env → HasPlannedReceiver n plan
+plan_below env n next act plan size is = subst₂ HasPlannedReceiver size (sym is) (action_below env next act)
 
 -- a plan of what a rank shows
 abbrev pub IsPlanned : Program → RankView → LocalPlan → Type 0

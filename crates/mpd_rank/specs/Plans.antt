@@ -1,8 +1,6 @@
 -- What a node does, and what its plan makes of a rank.
-use Rattle.std.specs.Prelude.{ℕ, ◌<◌, ℤ, [], ◌∷◌, ◌++◌, slice_set, if◌then◌else◌, Option, Some, None, Result, Ok, Err}
+use Rattle.std.specs.Prelude.{ℕ, ℤ, [], ◌∷◌, ◌++◌, slice_set, if◌then◌else◌, Option, Some, None, Result, Ok, Err}
 use Rattle.mpd_model.specs.declared.call.Call.{Call}
-use Rattle.mpd_model.specs.declared.call.CallKind.{CallKind}
-use Rattle.mpd_model.specs.declared.call.CallKind.TheVariants.{Send, Recv, Wait}
 use Rattle.mpd_model.specs.declared.call.Issue.{Issue as Issued}
 use Rattle.mpd_model.specs.declared.call.Trap.{Trap as Reason}
 use Rattle.mpd_model.specs.declared.call.Trap.TheVariants.{Assertion}
@@ -11,7 +9,7 @@ use Rattle.mpd_model.specs.declared.stmt.Simple.TheVariants as st
 use Rattle.mpd_model.specs.Term.{Value, Env, value_of, is_zero}
 use Rattle.mpd_model.specs.Program.{Program}
 use Rattle.mpd_model.specs.World.{RankWorld}
-use Rattle.mpd_model.specs.Next.{Ran, trapped, requested, activity_after, send_issue, recv_issue, isend_issue, irecv_issue, wait_issue, assignment}
+use Rattle.mpd_model.specs.Next.{Ran, HasReceiver, trapped, requested, activity_after, send_issue, recv_issue, isend_issue, irecv_issue, wait_issue, assignment}
 use Rattle.mpd_code.specs.declared.node.Action.{Action}
 use Rattle.mpd_code.specs.declared.node.Action.TheVariants as a
 use Rattle.mpd_code.specs.Left.{left_at}
@@ -71,19 +69,13 @@ plan_call number (Assign cell v next) = None
 plan_call number (Issue a next) = Some (record { statement = number; kind = a.kind })
 plan_call number (Trap t) = None
 
--- a send goes to one of so many ranks
-abbrev pub SendsTo : ℕ → CallKind → Type 0
-SendsTo n (Send s) = s.to < n
-SendsTo n (Recv r) = Unit {0}
-SendsTo n (Wait t) = Unit {0}
-
 -- a plan that issues a send issues one to a rank
-abbrev pub HasReceiver : ℕ → LocalPlan → Type 0
-HasReceiver n (Move next) = Unit {0}
-HasReceiver n (Print v next) = Unit {0}
-HasReceiver n (Assign cell v next) = Unit {0}
-HasReceiver n (Issue a next) = SendsTo n a.kind
-HasReceiver n (Trap t) = Unit {0}
+abbrev pub HasPlannedReceiver : ℕ → LocalPlan → Type 0
+HasPlannedReceiver n (Move next) = Unit {0}
+HasPlannedReceiver n (Print v next) = Unit {0}
+HasPlannedReceiver n (Assign cell v next) = Unit {0}
+HasPlannedReceiver n (Issue a next) = HasReceiver n a.kind
+HasPlannedReceiver n (Trap t) = Unit {0}
 
 -- both, of a rank that stands at a statement of a number
 abbrev pub plan_ran : Program → RankWorld → ℕ → ℕ → LocalPlan → Ran

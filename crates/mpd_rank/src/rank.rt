@@ -66,7 +66,7 @@ impl RankState {
     ghost use Rattle.mpd_model.specs.Outcomes.{has_ended, first_number};
     ghost use Rattle.mpd_model.specs.Next.{local, woken_rank, write_cells, requested, activity_after};
     ghost use Rattle.mpd_rank.specs.Views.{rank_of, listed};
-    ghost use Rattle.mpd_rank.specs.Plans.{planned, plan_ran, HasReceiver};
+    ghost use Rattle.mpd_rank.specs.Plans.{planned, plan_ran, HasPlannedReceiver};
     ghost use Rattle.mpd_rank.specs.Undone.{undone_rank, held, all_held, request_held, put_held};
     ghost use Rattle.mpd_rank.specs.Records.{local_record, plan_record, wake_record};
 
@@ -124,7 +124,7 @@ impl RankState {
     pub fn plan_local(&self, code: &Code) -> Option<LocalPlan>
         ensures step { (count : ℕ) → local self.now.rank code.now.program.ranks count (rank_of code.now.program self.now) ≡ option_map (plan_ran code.now.program (rank_of code.now.program self.now) count self.now.node) result }
         ensures recorded { local_record self.now.rank code.now.program.ranks (rank_of code.now.program self.now) ≡ option_map (plan_record self.now) result }
-        ensures receiver { IfSome result (λ plan. HasReceiver code.now.program.ranks plan) }
+        ensures receiver { IfSome result (λ plan. HasPlannedReceiver code.now.program.ranks plan) }
     {
         let Standing { node, activity } = self.standing();
         match activity {
