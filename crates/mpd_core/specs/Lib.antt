@@ -1,6 +1,7 @@
 pub mod Faults
 pub mod Views
+pub mod OneRank
 pub mod Undone
-pub mod Scan
 pub mod Records
 pub mod Listed
+pub mod Looks

@@ -1,13 +1,18 @@
--- What a core shows to contracts, part by part.
-use Rattle.std.specs.Prelude.{ℕ, ◌+◌, min, List, [], ◌∷◌, map, refl}
+-- What a core shows to contracts, part by part, and what it keeps at all times.
+use Rattle.std.specs.Prelude.{◌≡◌, ◌≤◌, ℕ, ◌+◌, min, List, [], ◌∷◌, map, length, refl}
+use Rattle.std.specs.List.{range_with_len}
 use Rattle.std.specs.Coded.{Coded, code_by, coded×, coded_ℕ}
+use Rattle.mpd_model.specs.declared.limits.TheConstants.{RANKS_MAX}
 use Rattle.mpd_model.specs.Program.{Program, program_code}
-use Rattle.mpd_model.specs.World.{RankWorld, World, world_code}
+use Rattle.mpd_model.specs.World.{RankWorld, World, Board, world_code}
 use Rattle.mpd_rank.specs.Views.{RankView, rank_of}
 
 -- the ranks of the world of a program
 abbrev pub ranks_in : Program → List RankView → List RankWorld
 ranks_in s views = map (rank_of s) views
+
+abbrev pub world_in : Program → List RankView → Board → World
+world_in s views b = record { ranks = ranks_in s views; board = b }
 
 -- which ranks they are
 abbrev pub numbers_in : List RankView → List ℕ
@@ -22,6 +27,12 @@ room_in board_room (v ∷ views) = min v.room (room_in board_room views)
 abbrev pub writes_in : List RankView → ℕ
 writes_in [] = 0
 writes_in (v ∷ views) = v.writes + writes_in views
+
+-- the ranks know their numbers, and the board has the calls of each
+pub record Holds (s : Program) (views : List RankView) (b : Board) : Type 0 where
+  pub few : length views ≤ RANKS_MAX
+  pub numbers : numbers_in views ≡ range_with_len 0 s.ranks
+  pub calls : length b.calls ≡ s.ranks
 
 pub record CoreView : Type 0 where
   pub program : Program

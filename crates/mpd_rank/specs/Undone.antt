@@ -7,7 +7,7 @@ use Rattle.mpd_model.specs.World.{RankWorld}
 use Rattle.mpd_model.specs.Next.{write_cells}
 use Rattle.mpd_code.specs.Left.{left_at}
 use Rattle.mpd_rank.specs.declared.change.Change.{Change}
-use Rattle.mpd_rank.specs.declared.change.Change.TheVariants.{Moved, Assigned, Printed, Issued, Trapped, Woke}
+use Rattle.mpd_rank.specs.declared.change.Change.TheVariants.{Moved, Assigned, Printed, Issued, Trapped, Matched, Woke}
 use Rattle.mpd_rank.specs.declared.change.RankRecord.{RankRecord}
 use Rattle.mpd_rank.specs.Views.{listed}
 
@@ -35,14 +35,25 @@ abbrev pub assigned_change : Option (ℕ × ℤ) → Change
 assigned_change None = Moved
 assigned_change (Some w) = Assigned w.0 w.1
 
--- a rank before a step, given where it stood and what else the step did; a wake moves no rank
+-- a rank before a step, given where it stood and what else the step did; a wake moves no rank, and a match is of none
 abbrev pub put_back : Program → RankWorld → ℕ → Change → RankWorld
 put_back s r from Moved = record r { rest = left_at s from; activity = Running }
 put_back s r from (Assigned cell was) = record r { rest = left_at s from; vars = slice_set r.vars cell was; activity = Running }
 put_back s r from Printed = record r { rest = left_at s from; out = take (length r.out - 1) r.out; activity = Running }
 put_back s r from (Issued handle) = record r { rest = left_at s from; handles = put_held handle r.handles; activity = Running }
 put_back s r from Trapped = record r { rest = left_at s from; activity = Running }
+put_back s r from (Matched send recv) = r
 put_back s r from (Woke cell handle) = record r { vars = write_cells (listed cell) r.vars; handles = put_held handle r.handles; activity = Blocked }
 
 abbrev pub undone_rank : Program → RankWorld → RankRecord → RankWorld
 undone_rank s r done = put_back s r done.from done.change
+
+-- a change that a rank made
+abbrev pub IsOfRank : Change → Type 0
+IsOfRank Moved = Unit {0}
+IsOfRank (Assigned cell was) = Unit {0}
+IsOfRank Printed = Unit {0}
+IsOfRank (Issued handle) = Unit {0}
+IsOfRank Trapped = Unit {0}
+IsOfRank (Matched send recv) = ⊥
+IsOfRank (Woke cell handle) = Unit {0}

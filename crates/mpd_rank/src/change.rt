@@ -2,6 +2,7 @@
 
 ghost use Rattle.std.specs.Prelude.{◌≡◌, [], ◌∷◌};
 
+use mpd_queue::lists::Spot;
 use std::marker::Model;
 
 /// Cells, in order, each with a value: what a wake writes, or what cells held that it wrote. Contracts see a list. There is one
@@ -55,6 +56,8 @@ pub enum Change {
     /// The handle that got the call's number, if any, and what it held.
     Issued { handle: Option<(usize, Option<usize>)> },
     Trapped,
+    /// Where the send and the receive stood in the lists of free calls. It is of no rank.
+    Matched { send_place: Spot, recv_place: Spot },
     /// The cell that was written, if any, and what it held, and the same of the handle that was cleared.
     Woke {
         cell: Option<(usize, i64)>,

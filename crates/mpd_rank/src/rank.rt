@@ -67,7 +67,7 @@ impl RankState {
     ghost use Rattle.mpd_model.specs.Next.{local, woken_rank, write_cells, requested, activity_after};
     ghost use Rattle.mpd_rank.specs.Views.{rank_of, listed};
     ghost use Rattle.mpd_rank.specs.Plans.{planned, plan_ran, HasPlannedReceiver};
-    ghost use Rattle.mpd_rank.specs.Undone.{undone_rank, held, all_held, request_held, put_held};
+    ghost use Rattle.mpd_rank.specs.Undone.{IsOfRank, undone_rank, held, all_held, request_held, put_held};
     ghost use Rattle.mpd_rank.specs.Records.{local_record, plan_record, wake_record};
 
     /// A rank before its first step, with the whole body to run. An `Err` is want of memory.
@@ -227,6 +227,7 @@ impl RankState {
         requires room { 1 ≤ self.old.room }
         ensures after { (p : Program) → rank_of p self.new ≡ planned p (rank_of p self.old) call plan }
         ensures recorded { result ≡ plan_record self.old plan }
+        ensures of_rank { IsOfRank result.change }
         ensures rank { self.new.rank ≡ self.old.rank }
         ensures back { (p : Program) → self.old.activity ≡ Activity.Running → undone_rank p (rank_of p self.new) result ≡ rank_of p self.old }
         ensures rises { self.old.writes + 1 ≤ self.new.writes }
@@ -288,6 +289,7 @@ impl RankState {
     pub fn complete(&mut self, writes: Cells, handle: Option<usize>) -> RankRecord
         ensures after { (p : Program) → rank_of p self.new ≡ woken_rank writes handle (rank_of p self.old) }
         ensures recorded { (p : Program) → result ≡ wake_record (rank_of p self.old) writes handle }
+        ensures of_rank { IsOfRank result.change }
         ensures rank { self.new.rank ≡ self.old.rank }
         ensures back { (p : Program) → self.old.activity ≡ Activity.Blocked → undone_rank p (rank_of p self.new) result ≡ rank_of p self.old }
         ensures rises { self.old.writes + 1 ≤ self.new.writes }
@@ -331,6 +333,7 @@ impl RankState {
 
     /// Takes a step of the rank back. It can't be refused memory. One to three writes.
     pub fn restore(&mut self, done: RankRecord)
+        requires { IsOfRank done.change }
         ensures after { (p : Program) → rank_of p self.new ≡ undone_rank p (rank_of p self.old) done }
         ensures rank { self.new.rank ≡ self.old.rank }
         ensures rises { self.old.writes + 1 ≤ self.new.writes }
@@ -347,6 +350,7 @@ impl RankState {
             }
             Change::Issued { handle } => self.put_handle(handle),
             Change::Moved | Change::Trapped => {}
+            Change::Matched { .. } => unreachable!(),
         }
         self.stand(from, Activity::Running);
     }
