@@ -1,4 +1,4 @@
+pub mod StepLemmas
 pub mod RankLemmas
-pub mod ScanLemmas
 pub mod RangeLemmas
 pub mod RoomLemmas

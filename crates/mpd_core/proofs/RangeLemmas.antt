@@ -4,7 +4,7 @@ use Rattle.std.proofs.lemmas.List.{length-append}
 use Rattle.std.specs.List.{filter, flat_map, list_any, range_with_len}
 use Rattle.mpd_model.specs.declared.step.Step.{Step}
 use Rattle.mpd_model.specs.declared.step.Step.TheVariants.{Local, Wake, Release}
-use Rattle.mpd_model.specs.World.{World, board_of, rank_numbers}
+use Rattle.mpd_model.specs.World.{World, rank_numbers}
 use Rattle.mpd_model.specs.Next.{is_enabled, matches_in, steps_of}
 use Rattle.mpd_model.specs.declared.step.CallId.{CallId}
 use Rattle.mpd_model.specs.declared.outcome.TrappedRank.{TrappedRank}
@@ -91,11 +91,11 @@ chosen_grows old so_far now more grows e = omega (arith, ap length e, grows, len
 
 -- no step is enabled where none of each form is
 pub enabled_parts : (w : World) → list_any (is_enabled w) (steps_of w)
-    ≡ list_any (is_enabled w) (map Local (rank_numbers (board_of w))) || (list_any (is_enabled w) (map Wake (rank_numbers (board_of w))) || list_any (is_enabled w) (matches_in (board_of w)))
+    ≡ list_any (is_enabled w) (map Local (rank_numbers w.board)) || (list_any (is_enabled w) (map Wake (rank_numbers w.board)) || list_any (is_enabled w) (matches_in w.board))
 enabled_parts w =
-    let ranks = rank_numbers (board_of w) in
-    list_any-append (is_enabled w) (map Local ranks) (Release ∷ (map Wake ranks ++ matches_in (board_of w)))
-    ∙ ap (λ b. list_any (is_enabled w) (map Local ranks) || b) (list_any-append (is_enabled w) (map Wake ranks) (matches_in (board_of w)))
+    let ranks = rank_numbers w.board in
+    list_any-append (is_enabled w) (map Local ranks) (Release ∷ (map Wake ranks ++ matches_in w.board))
+    ∙ ap (λ b. list_any (is_enabled w) (map Local ranks) || b) (list_any-append (is_enabled w) (map Wake ranks) (matches_in w.board))
 
 pub ruleset any_mapped = (mapped_on, mapped_now)
 

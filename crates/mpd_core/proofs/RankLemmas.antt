@@ -1,22 +1,24 @@
 -- One of the ranks is changed, and changed back.
-use Rattle.std.proofs.Common.{◌≡◌, ◌&&◌, ℕ, zero, suc, ◌<◌, ◌+◌, List, [], ◌∷◌, ◌++◌, length, get_or, map, set, drop, add-one, ℤ, Option, Some, None, Result, Ok, Err, IfOk, refl, sym, ap, ◌∙◌, arith, slice_get, slice_set, IfSome, replicate, Bool, true, false}
+use Rattle.std.proofs.Common.{◌≡◌, ◌&&◌, ℕ, zero, suc, ◌<◌, ◌+◌, List, [], ◌∷◌, ◌++◌, length, get_or, map, set, drop, add-one, ℤ, Option, Some, None, Result, Ok, Err, IfOk, refl, sym, ap, ◌∙◌, arith, slice_get, slice_set, option_and_then, IfSome, replicate, Bool, true, false}
 use Rattle.std.proofs.lemmas.Option.{slice_get_read}
 use Rattle.std.proofs.lemmas.List.{map-set, map-append, length-map, replicate-append-replicate}
 use Rattle.std.specs.Option.{option_map}
 use Rattle.std.proofs.lemmas.List.FromFn.{length-range_with_len}
 use Rattle.std.specs.List.{list_all, range_with_len}
 use Rattle.mpd_model.specs.Outcomes.{has_ended}
-use Rattle.mpd_model.specs.World.{RankWorld, World, board_of, calls_of, listed_calls}
-use Rattle.mpd_model.specs.Next.{local, local_at, local_in, put_at, update_at, is_blocked, waits}
+use Rattle.mpd_model.specs.declared.step.Step.TheVariants.{Local}
+use Rattle.mpd_model.specs.World.{RankWorld, World, Board, calls_of}
+use Rattle.mpd_model.specs.Next.{Ran, next, local, local_at, stepped, put_at, update_at, is_blocked, waits}
 use Rattle.mpd_model.specs.declared.call.Activity.{Activity}
 use Rattle.mpd_model.specs.declared.call.Activity.TheVariants.{Running, Blocked, Trapped}
 use Rattle.mpd_model.specs.Program.{Program}
 use Rattle.mpd_rank.specs.Views.{RankView, rank_of}
 use Rattle.mpd_rank.specs.declared.change.RankRecord.{RankRecord}
 use Rattle.mpd_rank.specs.Records.{local_record, wake_record}
-use Rattle.mpd_core.specs.Views.{ranks_in, numbers_in}
+use Rattle.mpd_core.specs.Views.{ranks_in, world_in, numbers_in, writes_in}
+use Rattle.mpd_core.specs.OneRank.{ran_on, local_on}
 use Rattle.mpd_core.specs.Records.{local_record_at, wake_record_at}
-use Rattle.mpd_core.proofs.RoomLemmas.{no_room_at}
+use Rattle.mpd_core.proofs.RoomLemmas.{no_room_with}
 
 pub length-ranks_in : (s : Program) (vs : List RankView) → length (ranks_in s vs) ≡ length vs
 length-ranks_in s vs = length-map vs (rank_of s)
@@ -28,22 +30,6 @@ slice_get-ranks_in s (v ∷ vs) (suc p) = slice_get-ranks_in s vs p
 
 rank_read : (s : Program) (vs : List RankView) (n p : ℕ) (v : RankView) → n ≡ length vs → p < n → v ≡ get_or vs p v → slice_get (ranks_in s vs) p ≡ Some (rank_of s v)
 rank_read s vs n p v e h read = slice_get-ranks_in s vs p ∙ ap (option_map (rank_of s)) (slice_get_read vs n p v e h read)
-
--- ---- the board has the calls of each rank
-
-pub length-board : (w : World) → length (board_of w).calls ≡ length w.ranks
-length-board w = length-map w.ranks (λ (r : RankWorld). r.calls)
-
-get-calls : (ranks : List RankWorld) (p : ℕ) → slice_get (map (λ (r : RankWorld). r.calls) ranks) p ≡ option_map (λ (r : RankWorld). r.calls) (slice_get ranks p)
-get-calls [] p = refl
-get-calls (r ∷ ranks) zero = refl
-get-calls (r ∷ ranks) (suc p) = get-calls ranks p
-
-pub no_calls : (w : World) (p : ℕ) → slice_get w.ranks p ≡ None → calls_of (board_of w) p ≡ []
-no_calls w p none = ap listed_calls (get-calls w.ranks p ∙ ap (option_map (λ (r : RankWorld). r.calls)) none)
-
-pub its_calls : (w : World) (p : ℕ) (r : RankWorld) → slice_get w.ranks p ≡ Some r → calls_of (board_of w) p ≡ r.calls
-its_calls w p r some = ap listed_calls (get-calls w.ranks p ∙ ap (option_map (λ (r : RankWorld). r.calls)) some)
 
 -- ---- the ranks know their numbers
 
@@ -78,36 +64,66 @@ numbers_more vs v n e is =
     map-append (λ (x : RankView). x.rank) vs (v ∷ []) ∙ ap (λ xs. xs ++ v.rank ∷ []) e ∙ ap (λ k. range_with_len 0 n ++ k ∷ []) from_0 ∙ sym (range_more 0 n) ∙ ap (range_with_len 0) one
 
 -- a step of the rank that was read is the step there
-pub local_read : (s : Program) (vs : List RankView) (n p : ℕ) (v : RankView) → n ≡ length vs → p < n → v ≡ get_or vs p v → local_at (ranks_in s vs) p ≡ local p n (rank_of s v)
-local_read s vs n p v e h read = rw (rank_read s vs n p v e h read) (ap (λ m. local p m (rank_of s v)) (length-ranks_in s vs ∙ sym e))
-
-pub numbered_read : (s : Program) (vs : List RankView) (n p : ℕ) (v : RankView) → n ≡ length vs → p < n → v ≡ get_or vs p v → numbers_in vs ≡ range_with_len 0 s.ranks → local_at (ranks_in s vs) p ≡ local v.rank s.ranks (rank_of s v)
-numbered_read s vs n p v e h read numbers =
+local_read : (s : Program) (vs : List RankView) (n p : ℕ) (v : RankView) (b : Board) → n ≡ length vs → p < n → v ≡ get_or vs p v → numbers_in vs ≡ range_with_len 0 s.ranks
+    → local_at (world_in s vs b) p ≡ local v.rank s.ranks (length (calls_of b v.rank)) (rank_of s v)
+local_read s vs n p v b e h read numbers =
     let same : (v.rank ≡ p) × (s.ranks ≡ n) = as_numbered s vs n p v e h read numbers in
-    local_read s vs n p v e h read ∙ (λ i. local (sym same.0 i) (sym same.1 i) (rank_of s v))
+    let here : local_at (world_in s vs b) p ≡ local p (length (ranks_in s vs)) (length (calls_of b p)) (rank_of s v) = ap (option_and_then (local p (length (ranks_in s vs)) (length (calls_of b p)))) (rank_read s vs n p v e h read) in
+    here ∙ ap (λ m. local p m (length (calls_of b p)) (rank_of s v)) (length-ranks_in s vs ∙ sym e ∙ sym same.1) ∙ ap (λ q. local q s.ranks (length (calls_of b q)) (rank_of s v)) (sym same.0)
 
--- so is its record
-pub recorded_read : (s : Program) (vs : List RankView) (n p : ℕ) (v : RankView) (made : Option RankRecord) → n ≡ length vs → p < n → v ≡ get_or vs p v → numbers_in vs ≡ range_with_len 0 s.ranks
-    → made ≡ local_record v.rank s.ranks (rank_of s v) → made ≡ local_record_at (ranks_in s vs) p
-recorded_read s vs n p v made e h read numbers is =
+abbrev put_on : Program → List RankView → ℕ → RankWorld × Board → World
+put_on s vs p d = record { ranks = slice_set (ranks_in s vs) p d.0; board = d.1 }
+
+stepped_on : (s : Program) (vs : List RankView) (b : Board) (p q : ℕ) (o : Option Ran) → q ≡ p → option_map (stepped (world_in s vs b) p) o ≡ option_map (put_on s vs p) (option_map (ran_on b q) o)
+stepped_on s vs b p q None e = refl
+stepped_on s vs b p q (Some d) e = ap (λ k. Some (put_on s vs p (ran_on b k d))) (sym e)
+
+next_read : (s : Program) (vs : List RankView) (n p : ℕ) (v : RankView) (b : Board) → n ≡ length vs → p < n → v ≡ get_or vs p v → numbers_in vs ≡ range_with_len 0 s.ranks
+    → next (world_in s vs b) (Local p) ≡ option_map (put_on s vs p) (local_on s b v)
+next_read s vs n p v b e h read numbers =
     let same : (v.rank ≡ p) × (s.ranks ≡ n) = as_numbered s vs n p v e h read numbers in
-    is ∙ rw (rank_read s vs n p v e h read) (λ i. local_record (same.0 i) ((same.1 ∙ e ∙ sym (length-ranks_in s vs)) i) (rank_of s v))
+    ap (option_map (stepped (world_in s vs b) p)) (local_read s vs n p v b e h read numbers)
+    ∙ stepped_on s vs b p v.rank (local v.rank s.ranks (length (calls_of b v.rank)) (rank_of s v)) same.0
 
-pub recorded_ok : {E : Type 0} (s : Program) (vs : List RankView) (n p : ℕ) (v : RankView) (result : Result (Option RankRecord) E) → n ≡ length vs → p < n → v ≡ get_or vs p v → numbers_in vs ≡ range_with_len 0 s.ranks
-    → IfOk result (λ made. made ≡ local_record v.rank s.ranks (rank_of s v)) → IfOk result (λ made. made ≡ local_record_at (ranks_in s vs) p)
-recorded_ok s vs n p v (Ok made) e h read numbers is = recorded_read s vs n p v made e h read numbers is
+-- a rank that steps, and the world with it
+pub next_some : (s : Program) (vs : List RankView) (n p : ℕ) (v w : RankView) (b c : Board) → n ≡ length vs → p < n → v ≡ get_or vs p v → numbers_in vs ≡ range_with_len 0 s.ranks
+    → local_on s b v ≡ Some (rank_of s w, c) → next (world_in s vs b) (Local p) ≡ Some (world_in s (set vs p w) c)
+next_some s vs n p v w b c e h read numbers step =
+    next_read s vs n p v b e h read numbers ∙ ap (option_map (put_on s vs p)) step ∙ ap (λ ranks. Some (record { ranks = ranks; board = c })) (sym (map-set (rank_of s) vs p w))
+
+pub next_none : (s : Program) (vs : List RankView) (n p : ℕ) (v : RankView) (b : Board) → n ≡ length vs → p < n → v ≡ get_or vs p v → numbers_in vs ≡ range_with_len 0 s.ranks
+    → local_on s b v ≡ None → next (world_in s vs b) (Local p) ≡ None
+next_none s vs n p v b e h read numbers none = next_read s vs n p v b e h read numbers ∙ ap (option_map (put_on s vs p)) none
+
+unmapped : {A B : Type 0} (f : A → B) (o : Option A) → option_map f o ≡ None → o ≡ None
+unmapped f None e = refl
+unmapped f (Some x) e = cc
+
+pub none_on : (s : Program) (vs : List RankView) (n p : ℕ) (v : RankView) (b : Board) → n ≡ length vs → p < n → v ≡ get_or vs p v → numbers_in vs ≡ range_with_len 0 s.ranks
+    → next (world_in s vs b) (Local p) ≡ None → local_on s b v ≡ None
+none_on s vs n p v b e h read numbers none = unmapped (put_on s vs p) (local_on s b v) (sym (next_read s vs n p v b e h read numbers) ∙ none)
+
+-- its record
+record_read : (s : Program) (vs : List RankView) (n p : ℕ) (v : RankView) → n ≡ length vs → p < n → v ≡ get_or vs p v → numbers_in vs ≡ range_with_len 0 s.ranks
+    → local_record_at (ranks_in s vs) p ≡ local_record v.rank s.ranks (rank_of s v)
+record_read s vs n p v e h read numbers =
+    let same : (v.rank ≡ p) × (s.ranks ≡ n) = as_numbered s vs n p v e h read numbers in
+    rw (rank_read s vs n p v e h read) (λ i. local_record (sym same.0 i) ((length-ranks_in s vs ∙ sym e ∙ sym same.1) i) (rank_of s v))
+
+pub recorded_ok : {E : Type 0} (s : Program) (vs : List RankView) (n p : ℕ) (v : RankView) (result : Result RankRecord E) → n ≡ length vs → p < n → v ≡ get_or vs p v → numbers_in vs ≡ range_with_len 0 s.ranks
+    → IfOk result (λ done. local_record v.rank s.ranks (rank_of s v) ≡ Some done) → IfOk result (λ done. local_record_at (ranks_in s vs) p ≡ Some done)
+recorded_ok s vs n p v (Ok done) e h read numbers is = record_read s vs n p v e h read numbers ∙ is
 recorded_ok s vs n p v (Err failed) e h read numbers is = tt
 
-pub woke_read : (s : Program) (vs : List RankView) (n p : ℕ) (v : RankView) (writes : List (ℕ × ℤ)) (handle : Option ℕ) (made : RankRecord) → n ≡ length vs → p < n → v ≡ get_or vs p v → made ≡ wake_record v.vars v.handles writes handle → wake_record_at (ranks_in s vs) p writes handle ≡ Some made
+pub woke_read : (s : Program) (vs : List RankView) (n p : ℕ) (v : RankView) (writes : List (ℕ × ℤ)) (handle : Option ℕ) (made : RankRecord) → n ≡ length vs → p < n → v ≡ get_or vs p v → made ≡ wake_record (rank_of s v) writes handle → wake_record_at (ranks_in s vs) p writes handle ≡ Some made
 woke_read s vs n p v writes handle made e h read is = rw (rank_read s vs n p v e h read) (ap Some (sym is))
 
-pub local_none : (s : Program) (vs : List RankView) (n p : ℕ) (v : RankView) → n ≡ length vs → p < n → v ≡ get_or vs p v → numbers_in vs ≡ range_with_len 0 s.ranks → local v.rank s.ranks (rank_of s v) ≡ None → local_in (ranks_in s vs) p ≡ None
-local_none s vs n p v e h read numbers step = ap (option_map (slice_set (ranks_in s vs) p)) (numbered_read s vs n p v e h read numbers ∙ step)
+-- ---- the writes of all ranks
 
-pub local_written : (s : Program) (vs : List RankView) (n p : ℕ) (v w : RankView) → n ≡ length vs → p < n → v ≡ get_or vs p v → numbers_in vs ≡ range_with_len 0 s.ranks → local v.rank s.ranks (rank_of s v) ≡ Some (rank_of s w)
-    → local_in (ranks_in s vs) p ≡ Some (ranks_in s (set vs p w))
-local_written s vs n p v w e h read numbers step =
-    ap (option_map (slice_set (ranks_in s vs) p)) (numbered_read s vs n p v e h read numbers ∙ step) ∙ ap Some (sym (map-set (rank_of s) vs p w))
+pub writes_set : (vs : List RankView) (n p : ℕ) (v w : RankView) → n ≡ length vs → p < n → v ≡ get_or vs p v → writes_in (set vs p w) + v.writes ≡ writes_in vs + w.writes
+writes_set [] n p v w e h read = absurd (omega (arith, e))
+writes_set (u ∷ vs) n zero v w e h read = omega (arith, ap (λ (x : RankView). x.writes) read)
+writes_set (u ∷ vs) n (suc p) v w e h read = omega (arith, writes_set vs (length vs) p v w refl (omega (arith, e)) read)
 
 put_back-suc : (x : RankWorld) (ys : List RankWorld) (p : ℕ) (o : Option RankWorld) (back : RankWorld → RankWorld) → put_at (x ∷ ys) (suc p) o back ≡ x ∷ put_at ys p o back
 put_back-suc x ys p None back = refl
@@ -194,10 +210,10 @@ ended_not s (u ∷ vs) (suc i) v total h read e so_far = ended_not s vs i v tota
 
 pub ruleset ending = (ended_on, ended_not)
 
-pub ruleset at_rank = (numbered_read, numbers_set, woke_read, no_room_at, local_none, local_written, put_back_read, update_read, stays_read, wake_back)
+pub ruleset at_rank = (next_some, next_none, none_on, recorded_ok, numbers_set, writes_set, woke_read, no_room_with, put_back_read, update_read, stays_read, wake_back)
 
 pub ruleset reading = (slice_get-ranks_in)
 
 pub ruleset starting = (start_more, numbers_more)
 
-pub ruleset board = (length-board, no_calls, its_calls)
+pub ruleset board = (length-ranks_in)

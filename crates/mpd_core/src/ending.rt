@@ -3,7 +3,7 @@
 ghost use Rattle.std.specs.Prelude.{◌≡◌, ◌<◌, [], ◌∷◌, ◌++◌, if◌then◌else◌, length, map, slice_get, Some, IfOk, OnOk, OnErr};
 ghost use Rattle.std.specs.List.{filter, flat_map, list_any};
 ghost use Rattle.mpd_model.specs.declared.step.Step.TheVariants as steps;
-ghost use Rattle.mpd_model.specs.World.{board_of, call_id, rank_numbers, call_numbers, is_free};
+ghost use Rattle.mpd_model.specs.World.{call_id, rank_numbers, call_numbers, is_free};
 ghost use Rattle.mpd_model.specs.Next.{is_enabled, matches_with, matches_of, matches_in, steps_of};
 ghost use Rattle.mpd_model.specs.Outcomes.{traps_at, traps_in, blocked_at, blocked_calls, free_of, free_calls, untrapped, ending, is_stuck, outcome};
 ghost use Rattle.mpd_core.specs.Listed.{listed};
@@ -18,7 +18,7 @@ impl<'c> Core<'c> {
     /// Whether some rank has a local step.
     #[tactic(auto, using(crate::proofs::RangeLemmas::any_mapped))]
     fn can_step_any(&self) -> bool
-        ensures { result ≡ list_any (is_enabled self.now.world) (map steps.Local (rank_numbers (board_of self.now.world))) }
+        ensures { result ≡ list_any (is_enabled self.now.world) (map steps.Local (rank_numbers self.now.world.board)) }
     {
         let count = self.rank_count();
         for rank in 0..count {
@@ -32,7 +32,7 @@ impl<'c> Core<'c> {
     /// Whether some rank can be woken.
     #[tactic(auto, using(crate::proofs::RangeLemmas::any_mapped))]
     fn can_wake_any(&self) -> bool
-        ensures { result ≡ list_any (is_enabled self.now.world) (map steps.Wake (rank_numbers (board_of self.now.world))) }
+        ensures { result ≡ list_any (is_enabled self.now.world) (map steps.Wake (rank_numbers self.now.world.board)) }
     {
         let count = self.rank_count();
         for rank in 0..count {
@@ -46,9 +46,9 @@ impl<'c> Core<'c> {
     /// Whether some send of a rank is eligible with the receive.
     #[tactic(auto, using(crate::proofs::RangeLemmas::any_mapped))]
     fn can_match_from(&self, sender: usize, recv: CallId) -> bool
-        ensures { result ≡ list_any (is_enabled self.now.world) (map (λ i. steps.Match (call_id sender i) recv) (call_numbers (board_of self.now.world) sender)) }
+        ensures { result ≡ list_any (is_enabled self.now.world) (map (λ i. steps.Match (call_id sender i) recv) (call_numbers self.now.world.board sender)) }
     {
-        let count = self.call_count(sender);
+        let count = self.board().call_count(sender);
         for index in 0..count {
             let send = CallId {
                 rank: sender,
@@ -64,7 +64,7 @@ impl<'c> Core<'c> {
     /// Whether some send is eligible with the receive.
     #[tactic(auto, using(crate::proofs::RangeLemmas::any_joined))]
     fn can_match_with(&self, recv: CallId) -> bool
-        ensures { result ≡ list_any (is_enabled self.now.world) (matches_with (board_of self.now.world) recv) }
+        ensures { result ≡ list_any (is_enabled self.now.world) (matches_with self.now.world.board recv) }
     {
         let count = self.rank_count();
         for sender in 0..count {
@@ -78,9 +78,9 @@ impl<'c> Core<'c> {
     /// Whether some receive of a rank is eligible.
     #[tactic(auto, using(crate::proofs::RangeLemmas::any_joined))]
     fn can_match_at(&self, receiver: usize) -> bool
-        ensures { result ≡ list_any (is_enabled self.now.world) (matches_of (board_of self.now.world) receiver) }
+        ensures { result ≡ list_any (is_enabled self.now.world) (matches_of self.now.world.board receiver) }
     {
-        let count = self.call_count(receiver);
+        let count = self.board().call_count(receiver);
         for index in 0..count {
             let recv = CallId {
                 rank: receiver,
@@ -96,7 +96,7 @@ impl<'c> Core<'c> {
     /// Whether some match is enabled.
     #[tactic(auto, using(crate::proofs::RangeLemmas::any_joined))]
     fn can_match_any(&self) -> bool
-        ensures { result ≡ list_any (is_enabled self.now.world) (matches_in (board_of self.now.world)) }
+        ensures { result ≡ list_any (is_enabled self.now.world) (matches_in self.now.world.board) }
     {
         let count = self.rank_count();
         for receiver in 0..count {
@@ -146,7 +146,7 @@ impl<'c> Core<'c> {
         ensures memory { OnErr result (0 < length (blocked_at self.now.world rank (slice_get self.now.world.ranks rank))) }
     {
         if let Some(Activity::Blocked) = self.activity(rank) {
-            out.push(self.last_call(rank))?;
+            out.push(self.board().last_call(rank))?;
         }
         Ok(())
     }
@@ -167,10 +167,10 @@ impl<'c> Core<'c> {
 
     /// Adds a call, where it is free.
     fn push_if_free(&self, id: CallId, out: &mut Vec<CallId>) -> Result<(), AllocError>
-        ensures ok { OnOk result (out.new.items ≡ out.old.items ++ (if is_free (board_of self.now.world) id then id ∷ [] else [])) }
-        ensures memory { OnErr result (0 < length (if is_free (board_of self.now.world) id then id ∷ [] else [])) }
+        ensures ok { OnOk result (out.new.items ≡ out.old.items ++ (if is_free self.now.world.board id then id ∷ [] else [])) }
+        ensures memory { OnErr result (0 < length (if is_free self.now.world.board id then id ∷ [] else [])) }
     {
-        if self.is_free(id) {
+        if self.board().is_free(id) {
             out.push(id)?;
         }
         Ok(())
@@ -179,10 +179,10 @@ impl<'c> Core<'c> {
     /// Adds the free calls of a rank.
     #[tactic(auto, using(crate::proofs::RangeLemmas::listing))]
     fn push_free(&self, rank: usize, out: &mut Vec<CallId>) -> Result<(), AllocError>
-        ensures ok { OnOk result (out.new.items ≡ out.old.items ++ free_of (board_of self.now.world) rank) }
-        ensures memory { OnErr result (0 < length (free_of (board_of self.now.world) rank)) }
+        ensures ok { OnOk result (out.new.items ≡ out.old.items ++ free_of self.now.world.board rank) }
+        ensures memory { OnErr result (0 < length (free_of self.now.world.board rank)) }
     {
-        let count = self.call_count(rank);
+        let count = self.board().call_count(rank);
         for index in 0..count {
             self.push_if_free(CallId { rank, index }, out)?;
         }
@@ -192,8 +192,8 @@ impl<'c> Core<'c> {
     /// The free calls.
     #[tactic(auto, using(crate::proofs::RangeLemmas::listing))]
     fn free(&self, alloc: Global) -> Result<Vec<CallId>, AllocError>
-        ensures ok { IfOk result (λ calls. calls.items ≡ free_calls (board_of self.now.world)) }
-        ensures memory { OnErr result (0 < length (free_calls (board_of self.now.world))) }
+        ensures ok { IfOk result (λ calls. calls.items ≡ free_calls self.now.world.board) }
+        ensures memory { OnErr result (0 < length (free_calls self.now.world.board)) }
     {
         let mut calls = Vec::new(alloc);
         let count = self.rank_count();

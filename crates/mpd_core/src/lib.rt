@@ -3,7 +3,7 @@
 
 pub mod ending;
 pub mod fault;
-mod lookup;
+mod ranks;
 pub mod record;
 pub mod state;
 pub mod text;

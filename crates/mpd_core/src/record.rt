@@ -1,19 +1,13 @@
 //! What takes a step back.
 
-use mpd_match::record::PairRecord;
 use mpd_model::step::Step;
-use mpd_rank::change::RankRecord;
+use mpd_rank::change::Change;
 
-/// What a step did: to a rank, or to two calls that it paired.
-#[derive(Clone, Copy, Debug, PartialEq, Eq)]
-pub enum Undo {
-    OfRank(RankRecord),
-    OfPair(PairRecord),
-}
-
-/// What takes a step back: the step, and what it did. It holds no collection.
+/// What takes a step back: the step, the node before it of the rank that it moves (0 for a match and for a wake, which move
+/// none), and what else it changed. It holds no collection.
 #[derive(Clone, Copy, Debug, PartialEq, Eq)]
 pub struct Record {
     pub step: Step,
-    pub undo: Undo,
+    pub from: usize,
+    pub change: Change,
 }

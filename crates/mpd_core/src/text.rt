@@ -1,7 +1,7 @@
 //! Printed texts of calls, ranks and match sets (docs/FORMATS.md, "Text of show").
 
 ghost use Rattle.std.specs.Prelude.{◌≡◌, ◌++◌, ◌<◌, IfOk, OnOk, OnErr, IfSome, IsSome, length, slice_get, string_bytes};
-ghost use Rattle.mpd_model.specs.World.{board_of, call_at};
+ghost use Rattle.mpd_model.specs.World.{call_at};
 ghost use Rattle.mpd_model.specs.Texts.{mark_text, got_text, place_text, call_text, rank_text, set_text};
 
 use crate::state::Core;
@@ -37,11 +37,11 @@ fn push_place(out: &mut String, lines: &[usize], next: Option<usize>) -> Result<
 impl<'c> Core<'c> {
     /// Adds that a send or a receive is free, or the call that a call was paired with.
     fn push_mark(&self, out: &mut String, id: CallId) -> Result<(), AllocError>
-        ensures { OnOk result (string_bytes out.new ≡ string_bytes out.old ++ mark_text (board_of self.now.world) id) }
+        ensures { OnOk result (string_bytes out.new ≡ string_bytes out.old ++ mark_text self.now.world.board id) }
     {
-        if self.is_free(id) {
+        if self.board().is_free(id) {
             out.push_str(" free")?;
-        } else if let Some(partner) = self.partner(id) {
+        } else if let Some(partner) = self.board().partner(id) {
             write!(out, " with {partner}")?;
         }
         Ok(())
@@ -49,20 +49,20 @@ impl<'c> Core<'c> {
 
     /// A call as `show` prints it behind its name, where it exists. An `Err` is want of memory.
     fn text_of_call(&self, id: CallId) -> Result<String, AllocError>
-        ensures { IfOk result (λ t. string_bytes t ≡ call_text (board_of self.now.world) id) }
+        ensures { IfOk result (λ t. string_bytes t ≡ call_text self.now.world.board id) }
     {
         let mut text = String::new(self.allocator());
-        if let Some(kind) = self.kind(id) {
+        if let Some(kind) = self.board().kind(id) {
             write!(text, "{kind}")?;
             self.push_mark(&mut text, id)?;
-            push_got(&mut text, kind, self.buffer(id))?;
+            push_got(&mut text, kind, self.board().buffer(id))?;
         }
         Ok(text)
     }
 
     /// Adds a call as `show` prints it behind its name. An `Err` is want of memory, and then `out` is as before.
     pub fn push_call(&self, out: &mut String, id: CallId) -> Result<(), AllocError>
-        ensures ok { OnOk result (string_bytes out.new ≡ string_bytes out.old ++ call_text (board_of self.now.world) id) }
+        ensures ok { OnOk result (string_bytes out.new ≡ string_bytes out.old ++ call_text self.now.world.board id) }
         ensures err { OnErr result (string_bytes out.new ≡ string_bytes out.old) }
     {
         let text = self.text_of_call(id)?;
@@ -82,8 +82,8 @@ impl<'c> Core<'c> {
     /// A call as `show` prints it behind its name: what it is, its partner, and the value that a receive got. An `Err` is want
     /// of memory.
     pub fn call_text(&self, id: CallId) -> Result<String, AllocError>
-        requires { IsSome (call_at (board_of self.now.world) id) }
-        ensures { IfOk result (λ t. string_bytes t ≡ call_text (board_of self.now.world) id) }
+        requires { IsSome (call_at self.now.world.board id) }
+        ensures { IfOk result (λ t. string_bytes t ≡ call_text self.now.world.board id) }
     {
         self.text_of_call(id)
     }
@@ -102,7 +102,7 @@ impl<'c> Core<'c> {
                 push_place(&mut text, self.code().lines(), next)?;
             }
             Some(Activity::Blocked) => {
-                let number = self.last_call(rank).index;
+                let number = self.board().last_call(rank).index;
                 write!(text, "blocked {number}")?;
             }
             Some(Activity::Trapped(trap)) => {
@@ -115,10 +115,10 @@ impl<'c> Core<'c> {
 
     /// The match set at a place, from 0, in the order formed. An `Err` is want of memory.
     pub fn set_text(&self, place: usize) -> Result<String, AllocError>
-        requires { place < length self.now.world.sets }
-        ensures { IfOk result (λ t. IfSome (slice_get self.now.world.sets place) (λ m. string_bytes t ≡ set_text m)) }
+        requires { place < length self.now.world.board.sets }
+        ensures { IfOk result (λ t. IfSome (slice_get self.now.world.board.sets place) (λ m. string_bytes t ≡ set_text m)) }
     {
-        let set = self.sets()[place];
+        let set = self.board().sets()[place];
         format!(in self.allocator(); "{set}")
     }
 }

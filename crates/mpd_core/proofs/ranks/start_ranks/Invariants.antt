@@ -2,7 +2,7 @@ use Rattle.std.proofs.Common.{◌≡◌, replicate, length}
 use Rattle.std.specs.List.{range_with_len}
 use Rattle.mpd_model.specs.World.{start_rank}
 use Rattle.mpd_core.specs.Views.{ranks_in, numbers_in}
-use Rattle.mpd_core.proofs.state.start_ranks.Given as goal
+use Rattle.mpd_core.proofs.ranks.start_ranks.Given as goal
 
 abbrev pub invariant-loop-rank : goal.invariant-loop-rank
 invariant-loop-rank l = record {

@@ -4,7 +4,7 @@ use Rattle.mpd_core.specs.Views.{room_in}
 use Rattle.mpd_core.proofs.RangeLemmas.{refused_with}
 use Rattle.mpd_core.proofs.RankLemmas.{stays_read, numbers_set}
 use Rattle.mpd_core.proofs.RoomLemmas.{no_room_old, room_more, rest_more, length_set}
-use Rattle.mpd_core.proofs.state.keep_rooms.Goals as goal
+use Rattle.mpd_core.proofs.ranks.keep_rooms.Goals as goal
 
 pub returns-in_err-keep_room-clause-same : goal.returns-in_err-keep_room-clause-same
 returns-in_err-keep_room-clause-same c =

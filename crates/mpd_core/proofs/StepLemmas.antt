@@ -1,0 +1,84 @@
+-- The local step of one rank over a board.
+use Rattle.std.proofs.Common.{◌≡◌, ◌<◌, ℕ, ℤ, List, [], ◌∷◌, Option, Some, None, Result, IfSome, IfOk, length, refl, sym, ap, ◌∙◌}
+use Rattle.std.specs.Option.{option_map}
+use Rattle.mpd_model.specs.declared.call.Activity.{Activity}
+use Rattle.mpd_model.specs.declared.call.Activity.TheVariants.{Running, Blocked, Trapped}
+use Rattle.mpd_model.specs.declared.call.Call.{Call}
+use Rattle.mpd_model.specs.Program.{Program}
+use Rattle.mpd_model.specs.Term.{Env}
+use Rattle.mpd_model.specs.Tree.{Tree}
+use Rattle.mpd_model.specs.World.{RankWorld, Board, calls_of, partner, last_call}
+use Rattle.mpd_model.specs.Next.{Ran, HasReceiver, local, with_issued}
+use Rattle.mpd_match.specs.Changes.{without_last_call}
+use Rattle.mpd_rank.specs.declared.change.Change.{Change}
+use Rattle.mpd_rank.specs.declared.change.RankRecord.{RankRecord}
+use Rattle.mpd_rank.specs.declared.plan.LocalPlan.{LocalPlan}
+use Rattle.mpd_rank.specs.declared.plan.LocalPlan.TheVariants.{Move, Print, Assign, Issue, Trap}
+use Rattle.mpd_rank.specs.Plans.{plan_call, plan_ran, planned, HasPlannedReceiver}
+use Rattle.mpd_rank.specs.Records.{record_by, local_record, plan_change, plan_record}
+use Rattle.mpd_rank.specs.Undone.{held, assigned_change}
+use Rattle.mpd_rank.specs.Views.{RankView, rank_of}
+use Rattle.mpd_core.specs.OneRank.{ran_on, local_on, CanUnissueIf}
+use Rattle.mpd_core.specs.Undone.{unissued, CanUnissue}
+
+-- a call that is planned has a receiver
+pub has_receiver : (n number : ℕ) (plan : LocalPlan) (o : Option Call) → HasPlannedReceiver n plan → o ≡ plan_call number plan → IfSome o (λ c. HasReceiver n c.kind)
+has_receiver n number plan o h e = rw e (by_plan n number plan h)
+  where
+    by_plan : (n number : ℕ) (plan : LocalPlan) → HasPlannedReceiver n plan → IfSome (plan_call number plan) (λ c. HasReceiver n c.kind)
+    by_plan n number (Move next) h = tt
+    by_plan n number (Print v next) h = tt
+    by_plan n number (Assign cell v next) h = tt
+    by_plan n number (Issue a next) h = h
+    by_plan n number (Trap t) h = tt
+
+can_assigned : (b : Board) (p : ℕ) (o : Option (ℕ × ℤ)) → CanUnissue b p (assigned_change o)
+can_assigned b p None = tt
+can_assigned b p (Some w) = tt
+
+back_assigned : (b : Board) (p : ℕ) (o : Option (ℕ × ℤ)) → unissued b p (assigned_change o) ≡ b
+back_assigned b p None = refl
+back_assigned b p (Some w) = refl
+
+-- what a plan issued can be taken back
+can_by : (b : Board) (p number : ℕ) (vars : List ℤ) (handles : List (Option ℕ)) (plan : LocalPlan) → CanUnissueIf b p (plan_call number plan) → CanUnissue b p (plan_change vars handles plan)
+can_by b p number vars handles (Move next) h = tt
+can_by b p number vars handles (Print v next) h = tt
+can_by b p number vars handles (Assign cell v next) h = can_assigned b p (held vars cell)
+can_by b p number vars handles (Issue a next) h = h
+can_by b p number vars handles (Trap t) h = tt
+
+pub can_take_back : (b : Board) (p number : ℕ) (v : RankView) (plan : LocalPlan) (o : Option Call) (done : RankRecord) → o ≡ plan_call number plan → done ≡ plan_record v plan → CanUnissueIf b p o → CanUnissue b p done.change
+can_take_back b p number v plan o done e made h = rw made (can_by b p number v.vars v.handles plan (rw (sym e) h))
+
+-- and the board is the one before
+back_by : (b c : Board) (p number : ℕ) (vars : List ℤ) (handles : List (Option ℕ)) (plan : LocalPlan) → c ≡ with_issued b p (plan_call number plan) → IfSome (plan_call number plan) (λ _. without_last_call c p ≡ b) → unissued c p (plan_change vars handles plan) ≡ b
+back_by b c p number vars handles (Move next) e h = e
+back_by b c p number vars handles (Print v next) e h = e
+back_by b c p number vars handles (Assign cell v next) e h = back_assigned c p (held vars cell) ∙ e
+back_by b c p number vars handles (Issue a next) e h = h
+back_by b c p number vars handles (Trap t) e h = e
+
+pub taken_back : (b c : Board) (p number : ℕ) (v : RankView) (plan : LocalPlan) (o : Option Call) (done : RankRecord) → o ≡ plan_call number plan → done ≡ plan_record v plan → c ≡ with_issued b p o → IfSome o (λ _. without_last_call c p ≡ b) → unissued c p done.change ≡ b
+taken_back b c p number v plan o done e made with h = rw made (back_by b c p number v.vars v.handles plan (with ∙ ap (with_issued b p) e) (rw (sym e) h))
+
+-- a rank that has a step runs
+running_by : (env : Env) (a : Activity) (rest : List (ℕ × Tree)) (done : RankRecord) → record_by env a rest ≡ Some done → a ≡ Running
+running_by env Running rest done e = refl
+running_by env Blocked rest done e = cc
+running_by env (Trapped t) rest done e = cc
+
+pub runs : (p n : ℕ) (r : RankWorld) (done : RankRecord) → local_record p n r ≡ Some done → r.activity ≡ Running
+runs p n r done e = running_by _ r.activity r.rest done e
+
+-- the step of the rank, and what it issued
+pub local_ran : (s : Program) (b c : Board) (v w : RankView) (node count : ℕ) (plan : LocalPlan) (o : Option Call)
+    → ((k : ℕ) → local v.rank s.ranks k (rank_of s v) ≡ Some (plan_ran s (rank_of s v) k node plan))
+    → count ≡ length (calls_of b v.rank) → o ≡ plan_call node plan → c ≡ with_issued b v.rank o → rank_of s w ≡ planned s (rank_of s v) count plan
+    → local_on s b v ≡ Some (rank_of s w, c)
+local_ran s b c v w node count plan o step e call with after =
+    ap (option_map (ran_on b v.rank)) (step (length (calls_of b v.rank)))
+    ∙ (λ i. Some (((ap (λ k. planned s (rank_of s v) k plan) (sym e) ∙ sym after) i), (ap (with_issued b v.rank) (sym call) ∙ sym with) i))
+
+pub local_stays : (s : Program) (b : Board) (v : RankView) → local v.rank s.ranks (length (calls_of b v.rank)) (rank_of s v) ≡ None → local_on s b v ≡ None
+local_stays s b v none = ap (option_map (ran_on b v.rank)) none

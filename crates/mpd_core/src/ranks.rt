@@ -1,0 +1,198 @@
+//! One of the ranks is changed, or all of them.
+
+ghost use Rattle.std.specs.Prelude.{◌≡◌, ◌↔◌, ◌<◌, ◌≤◌, ◌+◌, ℕ, min, length, slice_get, replicate, vec_len, IfOk, IfSome, OnOk, OnErr, IsErrOf, Some, None};
+ghost use Rattle.std.specs.Option.{option_map};
+ghost use Rattle.std.specs.List.{list_all, range_with_len};
+ghost use Rattle.mpd_model.specs.Program.{Program};
+ghost use Rattle.mpd_model.specs.World.{calls_of, start_rank};
+ghost use Rattle.mpd_model.specs.Next.{HasReceiver, next, with_issued, update_at, woken_rank};
+ghost use Rattle.mpd_model.specs.Outcomes.{has_ended};
+ghost use Rattle.mpd_match.specs.Changes.{without_last_call};
+ghost use Rattle.mpd_rank.specs.Views.{rank_of};
+ghost use Rattle.mpd_rank.specs.Undone.{undone_rank, IsOfRank};
+ghost use Rattle.mpd_rank.specs.Records.{local_record};
+ghost use Rattle.mpd_core.specs.Views.{ranks_in, world_in, numbers_in, room_in, writes_in, Holds};
+ghost use Rattle.mpd_core.specs.OneRank.{local_on, CanUnissueIf};
+ghost use Rattle.mpd_core.specs.Records.{local_record_at, wake_record_at};
+ghost use Rattle.mpd_core.specs.Undone.{unissued, CanUnissue};
+
+use crate::fault::StepFault;
+use mpd_code::code::Code;
+use mpd_match::board::Board;
+use mpd_model::call::{Activity, Call};
+use mpd_model::limits::RANKS_MAX;
+use mpd_model::step::Step;
+use mpd_rank::change::{Cells, RankRecord};
+use mpd_rank::rank::RankState;
+use std::alloc::{AllocError, Global};
+
+/// So many ranks before their first step.
+#[tactic(auto, using(crate::proofs::RankLemmas::starting))]
+pub(crate) fn start_ranks(alloc: Global, code: &Code, size: usize) -> Result<Vec<RankState>, AllocError>
+    requires few { size ≤ RANKS_MAX }
+    ensures ranks { IfOk result (λ ranks. ranks_in code.now.program ranks.items ≡ replicate size (start_rank code.now.program)) }
+    ensures numbers { IfOk result (λ ranks. numbers_in ranks.items ≡ range_with_len 0 size) }
+    ensures size { IfOk result (λ ranks. vec_len ranks ≡ size) }
+{
+    let mut ranks = Vec::new(alloc);
+    for rank in 0..size {
+        ranks.push(RankState::start(alloc, code, rank as u32)?)?;
+    }
+    Ok(ranks)
+}
+
+/// The call that a rank issues, if it does, joins the board. It answers the number that the rank's next call has. An `Err` is
+/// want of memory.
+fn issue_on(board: &mut Board, rank: usize, call: Option<Call>) -> Result<usize, AllocError>
+    requires rank { rank < length board.old.board.calls }
+    requires receiver { IfSome call (λ c. HasReceiver (length board.old.board.calls) c.kind) }
+    ensures number { IfOk result (λ n. n ≡ length (calls_of board.old.board rank)) }
+    ensures board { OnOk result (board.new.board ≡ with_issued board.old.board rank call) }
+    ensures back { OnOk result (IfSome call (λ _. without_last_call board.new.board rank ≡ board.old.board)) }
+    ensures can { OnOk result (CanUnissueIf board.new.board rank call) }
+    ensures err { OnErr result (board.new.board ≡ board.old.board) }
+    ensures memory { OnErr result (board.old.room ≡ 0) }
+    ensures rises { board.old.writes ≤ board.new.writes }
+    ensures few { board.new.writes ≤ board.old.writes + 6 }
+    ensures unwritten { OnErr result (board.new.writes ≡ board.old.writes) }
+{
+    let number = board.call_count(rank);
+    if let Some(call) = call {
+        board.keep_room()?;
+        board.issue(rank, call);
+    }
+    Ok(number)
+}
+
+/// The local step of one rank.
+fn step_rank(code: &Code, state: &mut RankState, board: &mut Board) -> Result<RankRecord, StepFault>
+    requires rank { state.old.rank < length board.old.board.calls }
+    requires ranks { length board.old.board.calls ≡ code.now.program.ranks }
+    ensures ok { OnOk result (local_on code.now.program board.old.board state.old ≡ Some (rank_of code.now.program state.new, board.new.board)) }
+    ensures recorded { IfOk result (λ done. local_record state.old.rank code.now.program.ranks (rank_of code.now.program state.old) ≡ Some done) }
+    ensures back { IfOk result (λ done. undone_rank code.now.program (rank_of code.now.program state.new) done ≡ rank_of code.now.program state.old) }
+    ensures board_back { IfOk result (λ done. unissued board.new.board state.old.rank done.change ≡ board.old.board) }
+    ensures of_rank { IfOk result (λ done. IsOfRank done.change) }
+    ensures can { IfOk result (λ done. CanUnissue board.new.board state.old.rank done.change) }
+    ensures not_enabled { IsErrOf result StepFault.NotEnabled ↔ (local_on code.now.program board.old.board state.old ≡ None) }
+    ensures memory { IsErrOf result StepFault.Memory → min state.old.room board.old.room ≡ 0 }
+    ensures err { OnErr result (rank_of code.now.program state.new ≡ rank_of code.now.program state.old) }
+    ensures err_board { OnErr result (board.new.board ≡ board.old.board) }
+    ensures number { state.new.rank ≡ state.old.rank }
+    ensures rises { OnOk result (state.old.writes + board.old.writes + 1 ≤ state.new.writes + board.new.writes) }
+    ensures few { state.new.writes + board.new.writes ≤ state.old.writes + board.old.writes + 16 }
+    ensures unwritten { OnErr result (state.new.writes + board.new.writes ≡ state.old.writes + board.old.writes) }
+{
+    let Some(plan) = state.plan_local(code) else {
+        return Err(StepFault::NotEnabled);
+    };
+    state.keep_room()?;
+    let number = issue_on(board, state.number(), plan.call(state.node()))?;
+    Ok(state.commit(plan, number))
+}
+
+/// The local step of one of the ranks.
+#[tactic(auto, using(crate::proofs::RankLemmas::at_rank))]
+pub(crate) fn step_one(
+    code: &Code,
+    ranks: &mut Vec<RankState>,
+    board: &mut Board,
+    rank: usize,
+) -> Result<RankRecord, StepFault>
+    requires within { rank < vec_len ranks.old }
+    requires held { Holds code.now.program ranks.old.items board.old.board }
+    ensures ok { OnOk result (next (world_in code.now.program ranks.old.items board.old.board) (Step.Local rank) ≡ Some (world_in code.now.program ranks.new.items board.new.board)) }
+    ensures recorded { IfOk result (λ done. local_record_at (ranks_in code.now.program ranks.old.items) rank ≡ Some done) }
+    ensures back { IfOk result (λ done. update_at (ranks_in code.now.program ranks.new.items) rank (λ r. undone_rank code.now.program r done) ≡ ranks_in code.now.program ranks.old.items) }
+    ensures board_back { IfOk result (λ done. unissued board.new.board rank done.change ≡ board.old.board) }
+    ensures of_rank { IfOk result (λ done. IsOfRank done.change) }
+    ensures can { IfOk result (λ done. CanUnissue board.new.board rank done.change) }
+    ensures not_enabled { IsErrOf result StepFault.NotEnabled ↔ (next (world_in code.now.program ranks.old.items board.old.board) (Step.Local rank) ≡ None) }
+    ensures memory { IsErrOf result StepFault.Memory → room_in board.old.room ranks.old.items ≡ 0 }
+    ensures err { OnErr result (ranks_in code.now.program ranks.new.items ≡ ranks_in code.now.program ranks.old.items) }
+    ensures err_board { OnErr result (board.new.board ≡ board.old.board) }
+    ensures held { Holds code.now.program ranks.new.items board.new.board }
+    ensures size { vec_len ranks.new ≡ vec_len ranks.old }
+    ensures rises { OnOk result (writes_in ranks.old.items + board.old.writes + 1 ≤ writes_in ranks.new.items + board.new.writes) }
+    ensures few { writes_in ranks.new.items + board.new.writes ≤ writes_in ranks.old.items + board.old.writes + 16 }
+    ensures unwritten { OnErr result (writes_in ranks.new.items + board.new.writes ≡ writes_in ranks.old.items + board.old.writes) }
+{
+    let state = &mut ranks[rank];
+    step_rank(code, state, board)
+}
+
+/// Wakes one rank, and answers what takes that back.
+#[tactic(auto, using(crate::proofs::RankLemmas::at_rank))]
+pub(crate) fn wake_one(
+    ranks: &mut Vec<RankState>,
+    rank: usize,
+    writes: Cells,
+    handle: Option<usize>,
+) -> RankRecord
+    requires { rank < vec_len ranks.old }
+    ensures after { (s : Program) → ranks_in s ranks.new.items ≡ update_at (ranks_in s ranks.old.items) rank (woken_rank writes handle) }
+    ensures recorded { (s : Program) → wake_record_at (ranks_in s ranks.old.items) rank writes handle ≡ Some result }
+    ensures back { (s : Program) → IfSome (slice_get (ranks_in s ranks.old.items) rank) (λ r. r.activity ≡ Activity.Blocked) → update_at (ranks_in s ranks.new.items) rank (λ r. undone_rank s r result) ≡ ranks_in s ranks.old.items }
+    ensures of_rank { IsOfRank result.change }
+    ensures numbers { numbers_in ranks.new.items ≡ numbers_in ranks.old.items }
+    ensures size { vec_len ranks.new ≡ vec_len ranks.old }
+    ensures rises { writes_in ranks.old.items + 1 ≤ writes_in ranks.new.items }
+    ensures few { writes_in ranks.new.items ≤ writes_in ranks.old.items + 3 }
+{
+    let state = &mut ranks[rank];
+    state.complete(writes, handle)
+}
+
+/// Takes the step of one rank back.
+#[tactic(auto, using(crate::proofs::RankLemmas::at_rank))]
+pub(crate) fn restore_one(ranks: &mut Vec<RankState>, rank: usize, done: RankRecord)
+    requires within { rank < vec_len ranks.old }
+    requires of_rank { IsOfRank done.change }
+    ensures after { (s : Program) → ranks_in s ranks.new.items ≡ update_at (ranks_in s ranks.old.items) rank (λ r. undone_rank s r done) }
+    ensures numbers { numbers_in ranks.new.items ≡ numbers_in ranks.old.items }
+    ensures size { vec_len ranks.new ≡ vec_len ranks.old }
+    ensures rises { writes_in ranks.old.items + 1 ≤ writes_in ranks.new.items }
+    ensures few { writes_in ranks.new.items ≤ writes_in ranks.old.items + 3 }
+{
+    let state = &mut ranks[rank];
+    state.restore(done);
+}
+
+/// Keeps room for one step of each rank.
+#[tactic(auto, using(crate::proofs::RoomLemmas::keeping))]
+pub(crate) fn keep_rooms(ranks: &mut Vec<RankState>) -> Result<(), AllocError>
+    ensures same { (s : Program) → ranks_in s ranks.new.items ≡ ranks_in s ranks.old.items }
+    ensures room { OnOk result ((board_room : ℕ) → 1 ≤ board_room → 1 ≤ room_in board_room ranks.new.items) }
+    ensures memory { OnErr result ((board_room : ℕ) → room_in board_room ranks.old.items ≡ 0) }
+    ensures numbers { numbers_in ranks.new.items ≡ numbers_in ranks.old.items }
+    ensures size { vec_len ranks.new ≡ vec_len ranks.old }
+    ensures writes { writes_in ranks.new.items ≡ writes_in ranks.old.items }
+{
+    let count = ranks.len();
+    for rank in 0..count {
+        let state = &mut ranks[rank];
+        state.keep_room()?;
+    }
+    Ok(())
+}
+
+/// Whether every rank has ended.
+#[tactic(auto, using(crate::proofs::RankLemmas::ending))]
+pub(crate) fn all_ended(code: &Code, ranks: &[RankState]) -> bool
+    ensures { result ≡ list_all has_ended (ranks_in code.now.program ranks.now) }
+{
+    for rank in ranks {
+        if !rank.has_ended(code) {
+            return false;
+        }
+    }
+    true
+}
+
+/// A rank, where there is one.
+#[tactic(auto, using(crate::proofs::RankLemmas::reading))]
+pub(crate) fn rank_at(ranks: &[RankState], rank: usize) -> Option<&RankState>
+    ensures { (s : Program) → slice_get (ranks_in s ranks.now) rank ≡ option_map (λ r. rank_of s r.now) result }
+{
+    ranks.get(rank)
+}
