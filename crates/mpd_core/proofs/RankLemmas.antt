@@ -15,7 +15,7 @@ use Rattle.mpd_model.specs.Program.{Program}
 use Rattle.mpd_rank.specs.Views.{RankView, rank_of}
 use Rattle.mpd_rank.specs.declared.change.RankRecord.{RankRecord}
 use Rattle.mpd_rank.specs.Records.{local_record, wake_record}
-use Rattle.mpd_core.specs.Views.{ranks_in, world_in, numbers_in, writes_in}
+use Rattle.mpd_core.specs.Views.{ranks_in, world_in, numbers_in, writes_in, Holds}
 use Rattle.mpd_core.specs.OneRank.{ran_on, local_on}
 use Rattle.mpd_core.specs.Records.{local_record_at, wake_record_at}
 use Rattle.mpd_core.proofs.RoomLemmas.{no_room_with}
@@ -62,6 +62,14 @@ numbers_more vs v n e is =
     let from_0 : v.rank ≡ 0 + n = omega (arith, is) in
     let one : suc n ≡ n + 1 = omega arith in
     map-append (λ (x : RankView). x.rank) vs (v ∷ []) ∙ ap (λ xs. xs ++ v.rank ∷ []) e ∙ ap (λ k. range_with_len 0 n ++ k ∷ []) from_0 ∙ sym (range_more 0 n) ∙ ap (range_with_len 0) one
+
+-- ---- how many ranks there are
+
+pub count_is : (s : Program) (vs : List RankView) → numbers_in vs ≡ range_with_len 0 s.ranks → length vs ≡ s.ranks
+count_is s vs numbers = sym (length-map vs (λ (x : RankView). x.rank)) ∙ ap length numbers ∙ length-range_with_len 0 s.ranks
+
+pub board_count : (s : Program) (vs : List RankView) (b : Board) (n : ℕ) → Holds s vs b → n ≡ length vs → n ≡ length b.calls
+board_count s vs b n h e = e ∙ count_is s vs h.numbers ∙ sym h.calls
 
 -- a step of the rank that was read is the step there
 local_read : (s : Program) (vs : List RankView) (n p : ℕ) (v : RankView) (b : Board) → n ≡ length vs → p < n → v ≡ get_or vs p v → numbers_in vs ≡ range_with_len 0 s.ranks
@@ -124,6 +132,9 @@ pub writes_set : (vs : List RankView) (n p : ℕ) (v w : RankView) → n ≡ len
 writes_set [] n p v w e h read = absurd (omega (arith, e))
 writes_set (u ∷ vs) n zero v w e h read = omega (arith, ap (λ (x : RankView). x.writes) read)
 writes_set (u ∷ vs) n (suc p) v w e h read = omega (arith, writes_set vs (length vs) p v w refl (omega (arith, e)) read)
+
+pub writes_same : (vs : List RankView) (n p : ℕ) (v w : RankView) → n ≡ length vs → p < n → v ≡ get_or vs p v → w.writes ≡ v.writes → writes_in (set vs p w) ≡ writes_in vs
+writes_same vs n p v w e h read same = omega (arith, writes_set vs n p v w e h read, same)
 
 put_back-suc : (x : RankWorld) (ys : List RankWorld) (p : ℕ) (o : Option RankWorld) (back : RankWorld → RankWorld) → put_at (x ∷ ys) (suc p) o back ≡ x ∷ put_at ys p o back
 put_back-suc x ys p None back = refl
@@ -216,4 +227,4 @@ pub ruleset reading = (slice_get-ranks_in)
 
 pub ruleset starting = (start_more, numbers_more)
 
-pub ruleset board = (length-ranks_in)
+pub ruleset board = (length-ranks_in, board_count)
