@@ -67,13 +67,15 @@ impl Board {
         sides::keep_rooms(&mut self.sides)
     }
 
-    /// A rank issues a call. A send or a receive joins its line, at the end.
+    /// A rank issues a call. A send or a receive joins its line, at the end. `unissue` gives the board before.
     pub fn issue(&mut self, rank: usize, call: Call)
         requires rank { rank < length self.old.board.calls }
         requires receiver { HasReceiver (length self.old.board.calls) call.kind }
         requires room { 1 ≤ self.old.room }
         ensures board { self.new.board ≡ with_call self.old.board rank call }
         ensures back { without_last_call self.new.board rank ≡ self.old.board }
+        ensures some { 0 < length (calls_of self.new.board rank) }
+        ensures free { partner self.new.board.sets (last_call self.new.board rank) ≡ None }
         ensures room { self.old.room ≤ self.new.room + 1 }
         ensures writes { self.new.writes ≡ self.old.writes + issue_writes (Some call.kind) }
     {

@@ -57,6 +57,7 @@ pub(crate) fn issue_at(sides: &mut Vec<Side>, rank: usize, call: Call)
     ensures calls { calls_in sides.new.items ≡ slice_set (calls_in sides.old.items) rank (listed_calls (slice_get (calls_in sides.old.items) rank) ++ call ∷ []) }
     ensures marks { (c : CallId) → mark_at sides.new.items c ≡ mark_at sides.old.items c }
     ensures lines { lines_in sides.new.items ≡ lines_in sides.old.items }
+    ensures free { mark_at sides.new.items (record { rank = rank; index = length (listed_calls (slice_get (calls_in sides.old.items) rank)) }) ≡ None }
     ensures room { (set_room : ℕ) → room_in set_room sides.old.items ≤ room_in set_room sides.new.items + 1 }
     ensures writes { writes_in sides.new.items ≡ writes_in sides.old.items + issue_writes (Some call.kind) }
 {
