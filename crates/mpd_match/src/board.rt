@@ -1,7 +1,8 @@
 //! The board: calls, pairs and the lines of free calls.
 ghost use Rattle.std.specs.Prelude.{◌≡◌, ◌+◌, ◌-◌, ◌<◌, ◌≤◌, Some, None, true, length, IfOk, OnOk, OnErr};
-ghost use Rattle.mpd_model.specs.World.{kind_at, calls_of, partner, eligible, last_call};
-ghost use Rattle.mpd_match.specs.Changes.{empty_board, HasReceiver, with_call, without_last_call, issue_writes, unissue_writes, with_set, without_last_set, last_set, record_of_pair, Recorded, is_woke};
+ghost use Rattle.mpd_model.specs.World.{start_board, kind_at, calls_of, partner, eligible, last_call};
+ghost use Rattle.mpd_model.specs.Next.{HasReceiver, with_call, with_set};
+ghost use Rattle.mpd_match.specs.Changes.{without_last_call, issue_writes, unissue_writes, without_last_set, last_set, record_of_pair, Recorded, is_woke};
 
 use crate::record::PairRecord;
 use crate::side::Side;
@@ -45,7 +46,7 @@ impl Board {
     /// So many ranks, at most `RANKS_MAX`, before any call. An `Err` is want of memory.
     pub fn new(alloc: Global, ranks: usize, mode: Mode) -> Result<Board, AllocError>
         requires { ranks ≤ RANKS_MAX }
-        ensures board { IfOk result (λ b. b.board ≡ empty_board ranks mode) }
+        ensures board { IfOk result (λ b. b.board ≡ start_board ranks mode) }
         ensures writes { IfOk result (λ b. b.writes ≡ 0) }
     {
         Ok(Board {

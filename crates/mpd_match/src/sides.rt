@@ -2,9 +2,10 @@
 ghost use Rattle.std.specs.Prelude.{◌≡◌, ℕ, suc, ◌+◌, ◌-◌, ◌<◌, ◌≤◌, Some, None, is_none, false, [], ◌∷◌, ◌++◌, length, replicate, slice_get, slice_set, take, vec_len, IfOk, OnOk, OnErr};
 ghost use Rattle.mpd_queue.specs.InOrder.{next_of};
 ghost use Rattle.mpd_model.specs.World.{listed_calls};
+ghost use Rattle.mpd_model.specs.Next.{HasReceiver};
 ghost use Rattle.mpd_match.specs.Views.{side_at, calls_in, lines_in, room_in, writes_in};
 ghost use Rattle.mpd_match.specs.Lines.{line_of as line_in, with_mark, waiting, mark_in, mark_at, kind_on, waiting_on, with_partner};
-ghost use Rattle.mpd_match.specs.Changes.{HasReceiver, issue_writes, unissue_writes};
+ghost use Rattle.mpd_match.specs.Changes.{issue_writes, unissue_writes};
 
 use crate::side::Side;
 use mpd_model::call::Call;
