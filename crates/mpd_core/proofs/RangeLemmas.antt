@@ -1,5 +1,5 @@
 -- Numbers one after another: what is so of one of them, and what they give together.
-use Rattle.std.proofs.Common.{◌≡◌, ℕ, suc, ◌<◌, ◌≤◌, ◌+◌, ◌-◌, Bool, true, false, ◌||◌, List, [], ◌∷◌, ◌++◌, refl, sym, ap, ◌∙◌, arith, cond, map, length, append_assoc, append-nil, Result, Ok, Err, OnErr}
+use Rattle.std.proofs.Common.{◌≡◌, ℕ, suc, ◌<◌, ◌≤◌, ◌+◌, ◌-◌, Bool, true, false, ◌||◌, List, [], ◌∷◌, ◌++◌, refl, sym, ap, ◌∙◌, arith, cond, map, length, append_assoc, append-nil, Result, Ok, Err, OnOk, IfOk, OnErr}
 use Rattle.std.proofs.lemmas.List.{length-append}
 use Rattle.std.specs.List.{filter, flat_map, list_any, range_with_len}
 use Rattle.mpd_model.specs.declared.step.Step.{Step}
@@ -115,6 +115,15 @@ given_some f i n so_far total h e some =
 pub refused_with : {T E : Type 0} {P : Type 0} (r : Result T E) → P → OnErr r P
 refused_with (Ok x) p = tt
 refused_with (Err e) p = p
+
+-- what follows from what is so where it was answered, is so there
+pub on_ok : {T E : Type 0} {P Q : Type 0} (r : Result T E) → (P → Q) → OnOk r P → OnOk r Q
+on_ok (Ok x) f p = f p
+on_ok (Err e) f p = tt
+
+pub if_ok : {T E : Type 0} {P Q : T → Type 0} (r : Result T E) → ((x : T) → P x → Q x) → IfOk r P → IfOk r Q
+if_ok (Ok x) f p = f x p
+if_ok (Err e) f p = tt
 
 -- a list with an entry is told in the outcome
 pub listed_trap : (w : World) (ts : List TrappedRank) → 0 < length ts → 0 < listed_by (ending_by w ts)

@@ -1,7 +1,7 @@
 -- One of the ranks is changed, and changed back.
 use Rattle.std.proofs.Common.{◌≡◌, ◌&&◌, ℕ, zero, suc, ◌<◌, ◌+◌, List, [], ◌∷◌, ◌++◌, length, get_or, map, set, drop, add-one, ℤ, Option, Some, None, Result, Ok, Err, IfOk, refl, sym, ap, ◌∙◌, arith, slice_get, slice_set, option_and_then, IfSome, replicate, Bool, true, false}
 use Rattle.std.proofs.lemmas.Option.{slice_get_read}
-use Rattle.std.proofs.lemmas.List.{map-set, map-append, length-map, replicate-append-replicate}
+use Rattle.std.proofs.lemmas.List.{map-set, map-append, length-map, length-set, replicate-append-replicate}
 use Rattle.std.specs.Option.{option_map}
 use Rattle.std.proofs.lemmas.List.FromFn.{length-range_with_len}
 use Rattle.std.specs.List.{list_all, range_with_len}
@@ -70,6 +70,21 @@ count_is s vs numbers = sym (length-map vs (λ (x : RankView). x.rank)) ∙ ap l
 
 pub board_count : (s : Program) (vs : List RankView) (b : Board) (n : ℕ) → Holds s vs b → n ≡ length vs → n ≡ length b.calls
 board_count s vs b n h e = e ∙ count_is s vs h.numbers ∙ sym h.calls
+
+-- a rank that was read has the number of its place, and the board has its calls
+pub rank_is : (s : Program) (vs : List RankView) (b : Board) (n p : ℕ) (v : RankView) → n ≡ length vs → p < n → v ≡ get_or vs p v → Holds s vs b → v.rank ≡ p
+rank_is s vs b n p v e h read held = (as_numbered s vs n p v e h read held.numbers).0
+
+pub on_board : (s : Program) (vs : List RankView) (b : Board) (n p : ℕ) (v : RankView) → n ≡ length vs → p < n → v ≡ get_or vs p v → Holds s vs b → v.rank < length b.calls
+on_board s vs b n p v e h read held = omega (arith, rank_is s vs b n p v e h read held, h, board_count s vs b n held e)
+
+-- and so it is where that rank has changed
+pub held_set : (s : Program) (vs : List RankView) (b c : Board) (p : ℕ) (v w : RankView) → v ≡ get_or vs p v → w.rank ≡ v.rank → length c.calls ≡ length b.calls → Holds s vs b → Holds s (set vs p w) c
+held_set s vs b c p v w read same calls held = record {
+  few = omega (arith, length-set vs p w, held.few);
+  numbers = numbers_set vs p v w read same ∙ held.numbers;
+  calls = calls ∙ held.calls;
+}
 
 -- a step of the rank that was read is the step there
 local_read : (s : Program) (vs : List RankView) (n p : ℕ) (v : RankView) (b : Board) → n ≡ length vs → p < n → v ≡ get_or vs p v → numbers_in vs ≡ range_with_len 0 s.ranks
@@ -221,7 +236,7 @@ ended_not s (u ∷ vs) (suc i) v total h read e so_far = ended_not s vs i v tota
 
 pub ruleset ending = (ended_on, ended_not)
 
-pub ruleset at_rank = (next_some, next_none, none_on, recorded_ok, numbers_set, writes_set, woke_read, no_room_with, put_back_read, update_read, stays_read, wake_back)
+pub ruleset at_rank = (on_board, held_set, next_some, next_none, none_on, recorded_ok, numbers_set, writes_set, woke_read, no_room_with, put_back_read, update_read, stays_read, wake_back)
 
 pub ruleset reading = (slice_get-ranks_in)
 
