@@ -2,7 +2,7 @@
 ghost use Rattle.std.specs.Prelude.{◌≡◌, ℕ, ◌+◌, ◌<◌, ◌≤◌, true, false, length};
 ghost use Rattle.std.specs.List.{list_any};
 ghost use Rattle.mpd_queue.specs.InOrder.{first_of, next_of};
-ghost use Rattle.mpd_model.specs.World.{call_id, call_numbers, fits, is_free as is_free_on, is_pending, is_posted, pending, posted, eligible as eligible_on};
+ghost use Rattle.mpd_model.specs.World.{call_id, call_numbers, rank_numbers, fits, is_free as is_free_on, is_pending, is_posted, pending, posted, eligible as eligible_on};
 ghost use Rattle.mpd_match.specs.Lines.{kind_in, mark_in, waiting, fitting_either, passed, has_earlier as has_earlier_in};
 ghost use Rattle.mpd_match.specs.Looks.{eligible_looks};
 
@@ -127,6 +127,40 @@ impl Board {
                 return true;
             }
             here = self.next_free(send, &mut looks);
+        }
+        false
+    }
+
+    /// Whether some send of any rank is eligible with the receive.
+    #[tactic(auto, using(crate::proofs::Matches::any_number))]
+    fn can_match_with(&self, recv: CallId) -> bool
+        ensures { result ≡ list_any (λ p. list_any (λ i. eligible_on self.now.board (call_id p i) recv) (call_numbers self.now.board p)) (rank_numbers self.now.board) }
+    {
+        let count = self.rank_count();
+        for sender in 0..count {
+            if self.can_match_from(sender, recv) {
+                return true;
+            }
+        }
+        false
+    }
+
+    /// Whether some receive of the receiver is eligible with a send. Its free receives are walked, and no others.
+    pub fn can_match_at(&self, receiver: usize) -> bool
+        requires { receiver < length self.now.board.calls }
+        ensures { result ≡ list_any (λ j. list_any (λ p. list_any (λ i. eligible_on self.now.board (call_id p i) (call_id receiver j)) (call_numbers self.now.board p)) (rank_numbers self.now.board)) (call_numbers self.now.board receiver) }
+    {
+        let mut looks = Steps::new();
+        let mut here = self.first_posted(receiver, &mut looks);
+        'walk: while let Some(index) = here {
+            let recv = CallId {
+                rank: receiver,
+                index,
+            };
+            if self.can_match_with(recv) {
+                return true;
+            }
+            here = self.next_free(recv, &mut looks);
         }
         false
     }
