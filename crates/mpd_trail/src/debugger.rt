@@ -148,7 +148,8 @@ fn note(steps: &mut Vec<Step>, depth: usize, step: Step) -> Result<(), AllocErro
 impl<'c> Debugger<'c> {
     /// No step was taken. An `Err` is want of memory.
     pub fn start(alloc: Global, code: &'c Code, mode: Mode) -> Result<Debugger<'c>, AllocError>
-        ensures { IfOk result (λ d. standing_of d ≡ first_standing code.now.program mode) }
+        ensures standing { IfOk result (λ d. standing_of d ≡ first_standing code.now.program mode) }
+        ensures writes { IfOk result (λ d. d.writes ≡ 0) }
     {
         Ok(Debugger {
             mode,
