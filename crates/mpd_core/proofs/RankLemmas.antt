@@ -1,7 +1,7 @@
 -- One of the ranks is changed, and changed back.
 use Rattle.std.proofs.Common.{◌≡◌, ◌&&◌, ℕ, zero, suc, ◌<◌, ◌+◌, List, [], ◌∷◌, ◌++◌, length, get_or, map, set, drop, add-one, ℤ, Option, Some, None, Result, Ok, Err, IfOk, refl, sym, ap, ◌∙◌, arith, slice_get, slice_set, option_and_then, IfSome, replicate, Bool, true, false}
 use Rattle.std.proofs.lemmas.Option.{slice_get_read}
-use Rattle.std.proofs.lemmas.List.{map-set, map-append, length-map, replicate-append-replicate}
+use Rattle.std.proofs.lemmas.List.{map-set, map-append, length-map, length-set, replicate-append-replicate}
 use Rattle.std.specs.Option.{option_map}
 use Rattle.std.proofs.lemmas.List.FromFn.{length-range_with_len}
 use Rattle.std.specs.List.{list_all, range_with_len}
@@ -15,7 +15,7 @@ use Rattle.mpd_model.specs.Program.{Program}
 use Rattle.mpd_rank.specs.Views.{RankView, rank_of}
 use Rattle.mpd_rank.specs.declared.change.RankRecord.{RankRecord}
 use Rattle.mpd_rank.specs.Records.{local_record, wake_record}
-use Rattle.mpd_core.specs.Views.{ranks_in, world_in, numbers_in, writes_in}
+use Rattle.mpd_core.specs.Views.{ranks_in, world_in, numbers_in, writes_in, Holds}
 use Rattle.mpd_core.specs.OneRank.{ran_on, local_on}
 use Rattle.mpd_core.specs.Records.{local_record_at, wake_record_at}
 use Rattle.mpd_core.proofs.RoomLemmas.{no_room_with}
@@ -62,6 +62,29 @@ numbers_more vs v n e is =
     let from_0 : v.rank ≡ 0 + n = omega (arith, is) in
     let one : suc n ≡ n + 1 = omega arith in
     map-append (λ (x : RankView). x.rank) vs (v ∷ []) ∙ ap (λ xs. xs ++ v.rank ∷ []) e ∙ ap (λ k. range_with_len 0 n ++ k ∷ []) from_0 ∙ sym (range_more 0 n) ∙ ap (range_with_len 0) one
+
+-- ---- how many ranks there are
+
+pub count_is : (s : Program) (vs : List RankView) → numbers_in vs ≡ range_with_len 0 s.ranks → length vs ≡ s.ranks
+count_is s vs numbers = sym (length-map vs (λ (x : RankView). x.rank)) ∙ ap length numbers ∙ length-range_with_len 0 s.ranks
+
+pub board_count : (s : Program) (vs : List RankView) (b : Board) (n : ℕ) → Holds s vs b → n ≡ length vs → n ≡ length b.calls
+board_count s vs b n h e = e ∙ count_is s vs h.numbers ∙ sym h.calls
+
+-- a rank that was read has the number of its place, and the board has its calls
+pub rank_is : (s : Program) (vs : List RankView) (b : Board) (n p : ℕ) (v : RankView) → n ≡ length vs → p < n → v ≡ get_or vs p v → Holds s vs b → v.rank ≡ p
+rank_is s vs b n p v e h read held = (as_numbered s vs n p v e h read held.numbers).0
+
+pub on_board : (s : Program) (vs : List RankView) (b : Board) (n p : ℕ) (v : RankView) → n ≡ length vs → p < n → v ≡ get_or vs p v → Holds s vs b → v.rank < length b.calls
+on_board s vs b n p v e h read held = omega (arith, rank_is s vs b n p v e h read held, h, board_count s vs b n held e)
+
+-- and so it is where that rank has changed
+pub held_set : (s : Program) (vs : List RankView) (b c : Board) (p : ℕ) (v w : RankView) → v ≡ get_or vs p v → w.rank ≡ v.rank → length c.calls ≡ length b.calls → Holds s vs b → Holds s (set vs p w) c
+held_set s vs b c p v w read same calls held = record {
+  few = omega (arith, length-set vs p w, held.few);
+  numbers = numbers_set vs p v w read same ∙ held.numbers;
+  calls = calls ∙ held.calls;
+}
 
 -- a step of the rank that was read is the step there
 local_read : (s : Program) (vs : List RankView) (n p : ℕ) (v : RankView) (b : Board) → n ≡ length vs → p < n → v ≡ get_or vs p v → numbers_in vs ≡ range_with_len 0 s.ranks
@@ -124,6 +147,9 @@ pub writes_set : (vs : List RankView) (n p : ℕ) (v w : RankView) → n ≡ len
 writes_set [] n p v w e h read = absurd (omega (arith, e))
 writes_set (u ∷ vs) n zero v w e h read = omega (arith, ap (λ (x : RankView). x.writes) read)
 writes_set (u ∷ vs) n (suc p) v w e h read = omega (arith, writes_set vs (length vs) p v w refl (omega (arith, e)) read)
+
+pub writes_same : (vs : List RankView) (n p : ℕ) (v w : RankView) → n ≡ length vs → p < n → v ≡ get_or vs p v → w.writes ≡ v.writes → writes_in (set vs p w) ≡ writes_in vs
+writes_same vs n p v w e h read same = omega (arith, writes_set vs n p v w e h read, same)
 
 put_back-suc : (x : RankWorld) (ys : List RankWorld) (p : ℕ) (o : Option RankWorld) (back : RankWorld → RankWorld) → put_at (x ∷ ys) (suc p) o back ≡ x ∷ put_at ys p o back
 put_back-suc x ys p None back = refl
@@ -210,10 +236,10 @@ ended_not s (u ∷ vs) (suc i) v total h read e so_far = ended_not s vs i v tota
 
 pub ruleset ending = (ended_on, ended_not)
 
-pub ruleset at_rank = (next_some, next_none, none_on, recorded_ok, numbers_set, writes_set, woke_read, no_room_with, put_back_read, update_read, stays_read, wake_back)
+pub ruleset at_rank = (on_board, held_set, next_some, next_none, none_on, recorded_ok, numbers_set, writes_set, woke_read, no_room_with, put_back_read, update_read, stays_read, wake_back)
 
 pub ruleset reading = (slice_get-ranks_in)
 
 pub ruleset starting = (start_more, numbers_more)
 
-pub ruleset board = (length-ranks_in)
+pub ruleset board = (length-ranks_in, board_count)

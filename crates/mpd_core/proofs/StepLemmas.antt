@@ -1,6 +1,7 @@
 -- The local step of one rank over a board.
-use Rattle.std.proofs.Common.{◌≡◌, ◌<◌, ℕ, ℤ, List, [], ◌∷◌, Option, Some, None, Result, IfSome, IfOk, length, refl, sym, ap, ◌∙◌}
+use Rattle.std.proofs.Common.{◌≡◌, ◌<◌, ℕ, ℤ, List, [], ◌∷◌, ◌++◌, Option, Some, None, Result, IfSome, IfOk, length, refl, sym, ap, ◌∙◌}
 use Rattle.std.specs.Option.{option_map}
+use Rattle.std.proofs.lemmas.List.{length-set}
 use Rattle.mpd_model.specs.declared.call.Activity.{Activity}
 use Rattle.mpd_model.specs.declared.call.Activity.TheVariants.{Running, Blocked, Trapped}
 use Rattle.mpd_model.specs.declared.call.Call.{Call}
@@ -8,7 +9,7 @@ use Rattle.mpd_model.specs.Program.{Program}
 use Rattle.mpd_model.specs.Term.{Env}
 use Rattle.mpd_model.specs.Tree.{Tree}
 use Rattle.mpd_model.specs.World.{RankWorld, Board, calls_of, partner, last_call}
-use Rattle.mpd_model.specs.Next.{Ran, HasReceiver, local, with_issued}
+use Rattle.mpd_model.specs.Next.{Ran, HasReceiver, local, with_call, with_issued}
 use Rattle.mpd_match.specs.Changes.{without_last_call}
 use Rattle.mpd_rank.specs.declared.change.Change.{Change}
 use Rattle.mpd_rank.specs.declared.change.RankRecord.{RankRecord}
@@ -82,3 +83,11 @@ local_ran s b c v w node count plan o step e call with after =
 
 pub local_stays : (s : Program) (b : Board) (v : RankView) → local v.rank s.ranks (length (calls_of b v.rank)) (rank_of s v) ≡ None → local_on s b v ≡ None
 local_stays s b v none = ap (option_map (ran_on b v.rank)) none
+
+-- a call more is of no rank more
+pub length-calls : (b : Board) (p : ℕ) (c : Call) → length (with_call b p c).calls ≡ length b.calls
+length-calls b p c = length-set b.calls p (calls_of b p ++ c ∷ [])
+
+pub ruleset issuing = (length-calls)
+
+pub ruleset stepping = (has_receiver, can_take_back, taken_back, runs, local_ran, local_stays)

@@ -43,6 +43,7 @@ pub(crate) fn start_ranks(alloc: Global, code: &Code, size: usize) -> Result<Vec
 
 /// The call that a rank issues, if it does, joins the board. It answers the number that the rank's next call has. An `Err` is
 /// want of memory.
+#[tactic(auto, using(crate::proofs::StepLemmas::issuing))]
 fn issue_on(board: &mut Board, rank: usize, call: Option<Call>) -> Result<usize, AllocError>
     requires rank { rank < length board.old.board.calls }
     requires receiver { IfSome call (λ c. HasReceiver (length board.old.board.calls) c.kind) }
@@ -55,6 +56,7 @@ fn issue_on(board: &mut Board, rank: usize, call: Option<Call>) -> Result<usize,
     ensures rises { board.old.writes ≤ board.new.writes }
     ensures few { board.new.writes ≤ board.old.writes + 6 }
     ensures unwritten { OnErr result (board.new.writes ≡ board.old.writes) }
+    ensures ranks { length board.new.board.calls ≡ length board.old.board.calls }
 {
     let number = board.call_count(rank);
     if let Some(call) = call {
@@ -65,6 +67,7 @@ fn issue_on(board: &mut Board, rank: usize, call: Option<Call>) -> Result<usize,
 }
 
 /// The local step of one rank.
+#[tactic(auto, using(crate::proofs::StepLemmas::stepping))]
 fn step_rank(code: &Code, state: &mut RankState, board: &mut Board) -> Result<RankRecord, StepFault>
     requires rank { state.old.rank < length board.old.board.calls }
     requires ranks { length board.old.board.calls ≡ code.now.program.ranks }
@@ -82,6 +85,7 @@ fn step_rank(code: &Code, state: &mut RankState, board: &mut Board) -> Result<Ra
     ensures rises { OnOk result (state.old.writes + board.old.writes + 1 ≤ state.new.writes + board.new.writes) }
     ensures few { state.new.writes + board.new.writes ≤ state.old.writes + board.old.writes + 16 }
     ensures unwritten { OnErr result (state.new.writes + board.new.writes ≡ state.old.writes + board.old.writes) }
+    ensures ranks { length board.new.board.calls ≡ length board.old.board.calls }
 {
     let Some(plan) = state.plan_local(code) else {
         return Err(StepFault::NotEnabled);

@@ -7,9 +7,9 @@ use Rattle.mpd_model.specs.declared.call.Call.{Call}
 use Rattle.mpd_model.specs.declared.call.CallKind.{CallKind}
 use Rattle.mpd_model.specs.declared.call.CallKind.TheVariants.{Send, Recv, Wait}
 use Rattle.mpd_model.specs.World.{listed_calls}
+use Rattle.mpd_model.specs.Next.{HasReceiver}
 use Rattle.mpd_match.specs.Views.{SideView, no_side, side_at, calls_in, lines_in, writes_in, room_in}
 use Rattle.mpd_match.specs.Lines.{line_of, mark_in, mark_at}
-use Rattle.mpd_match.specs.Changes.{HasReceiver}
 
 pub read_side : (sides : List SideView) (p : ℕ) (v : SideView) → p < length sides → v ≡ get_or sides p v → side_at sides p ≡ v
 read_side [] p v lt read = absurd (omega arith)

@@ -11,7 +11,7 @@ use Rattle.mpd_model.specs.declared.call.CallKind.{CallKind}
 use Rattle.mpd_model.specs.declared.call.CallKind.TheVariants.{Send, Recv, Wait}
 use Rattle.mpd_model.specs.declared.call.MatchSet.{MatchSet}
 use Rattle.mpd_model.specs.declared.call.MatchSet.TheVariants.{Pair, Woke, Barrier}
-use Rattle.mpd_model.specs.World.{Board, call_id, listed_calls, calls_of, kind_of, kind_at, partner, is_message_kind, is_free, sends_to, receives, fits, fitting, is_pending, is_posted, pending, posted, eligible}
+use Rattle.mpd_model.specs.World.{Board, call_id, listed_calls, calls_of, kind_of, kind_at, partner, is_message_kind, is_free, sends_to, receives, fits, fitting, is_pending, is_posted, pending, posted, eligible, last_call}
 use Rattle.mpd_queue.specs.InOrder.{next_of}
 use Rattle.mpd_match.specs.Views.{SideView, no_side, side_at, calls_in, lines_in, board_in}
 use Rattle.mpd_match.specs.Lines.{line_of, is_line, kind_in, mark_in, with_mark, waits, waiting, mark_at, kind_on, waiting_on, with_partner}
@@ -353,6 +353,18 @@ issue_back mode sides new sets p call lt ec =
     ∙ set-set calls p (xs ++ call ∷ []) xs
     ∙ listed_back calls p in
     ap (λ (zs : List (List Call)). record { mode = mode; calls = zs; sets = sets }) back
+
+-- a call that was just issued has no partner
+pub issued_free : (mode : Mode) (sides new : List SideView) (sets : List MatchSet) (p : ℕ) (call : Call) → p < length (calls_in sides)
+    → calls_in new ≡ slice_set (calls_in sides) p (listed_calls (slice_get (calls_in sides) p) ++ call ∷ []) → ((c : CallId) → mark_at new c ≡ mark_at sides c)
+    → mark_at new (call_id p (length (listed_calls (slice_get (calls_in sides) p)))) ≡ None → Meets (board_in mode sides sets) sides → partner sets (last_call (board_in mode new sets) p) ≡ None
+issued_free mode sides new sets p call lt ec em free h =
+    let xs : List Call = listed_calls (slice_get (calls_in sides) p) in
+    let last : length (xs ++ call ∷ []) - 1 ≡ length xs = omega (arith, length-append xs (call ∷ [])) in
+    let at : length (listed_calls (slice_get (calls_in new) p)) - 1 ≡ length xs = ap (λ (zs : List (List Call)). length (listed_calls (slice_get zs p)) - 1) ec
+    ∙ ap (λ (zs : List Call). length zs - 1) (listed_here (calls_in sides) p (xs ++ call ∷ []) lt)
+    ∙ last in
+    ap (λ (k : ℕ). partner sets (call_id p k)) at ∙ sym (h.marks (call_id p (length xs))) ∙ sym (em (call_id p (length xs))) ∙ free
 
 kind_in_take : (calls : List Call) (n i : ℕ) → i < n → kind_in (take n calls) i ≡ kind_in calls i
 kind_in_take [] zero i lt = refl

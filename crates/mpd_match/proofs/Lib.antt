@@ -7,3 +7,4 @@ pub mod Walks
 pub mod Partners
 pub mod Boards
 pub mod Eligible
+pub mod Matches

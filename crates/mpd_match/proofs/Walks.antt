@@ -120,7 +120,33 @@ rest_from x (y ∷ ys) rising =
       | inr t ↦ subst (AllFrom x) (sym (rest_there (Some x) y ys t.0)) (rest_from x ys rising.1)
     ]
 
--- ---- what a walk keeps: where it stands is in the line, nothing behind it was found, and its looks are counted
+-- ---- what a walk keeps that looks for any call of a line: where it stands is in the line, and nothing behind it was found
+
+pub record Seeking (test : ℕ → Bool) (xs : List ℕ) (here : Option ℕ) : Type 0 where
+  pub stands : HasSpot xs here
+  pub same : list_any test xs ≡ list_any test (rest here xs)
+
+pub seek_begins : (test : ℕ → Bool) (xs : List ℕ) (here : Option ℕ) → here ≡ first_of xs → Seeking test xs here
+seek_begins test xs here e =
+    subst (Seeking test xs) (sym e) (record { stands = first_spot xs; same = ap (list_any test) (sym (rest_first xs)) })
+
+seek_step : (test : ℕ → Bool) (xs : List ℕ) (x : ℕ) → ((z : ℕ) → places_in xs z ≤ 1) → Seeking test xs (Some x) → list_any test xs ≡ (test x || list_any test (rest (next_of xs x) xs))
+seek_step test xs x once s = s.same ∙ ap (list_any test) (rest_step x xs s.stands once)
+
+pub seek_goes_on : (test : ℕ → Bool) (xs : List ℕ) (x : ℕ) (here : Option ℕ) → ((z : ℕ) → places_in xs z ≤ 1) → Seeking test xs (Some x) → test x ≡ false → here ≡ next_of xs x → Seeking test xs here
+seek_goes_on test xs x here once s misses e =
+    subst (Seeking test xs) (sym e) (record {
+      stands = next_spot x xs;
+      same = seek_step test xs x once s ∙ ap (λ (b : Bool). b || list_any test (rest (next_of xs x) xs)) misses;
+    })
+
+pub seek_finds : (test : ℕ → Bool) (xs : List ℕ) (x : ℕ) → ((z : ℕ) → places_in xs z ≤ 1) → Seeking test xs (Some x) → test x ≡ true → true ≡ list_any test xs
+seek_finds test xs x once s hits = sym (seek_step test xs x once s ∙ ap (λ (b : Bool). b || list_any test (rest (next_of xs x) xs)) hits)
+
+pub seek_ends : (test : ℕ → Bool) (xs : List ℕ) → Seeking test xs None → false ≡ list_any test xs
+seek_ends test xs s = sym (s.same ∙ ap (list_any test) (rest_none xs))
+
+-- ---- what a walk keeps that counts its looks: where it stands is in the line, nothing behind it was found, and its looks are counted
 
 pub record Walking (test : ℕ → Bool) (index : ℕ) (xs : List ℕ) (begun looks : ℕ) (here : Option ℕ) : Type 0 where
   pub stands : HasSpot xs here

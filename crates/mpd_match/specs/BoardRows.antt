@@ -4,8 +4,9 @@ use Rattle.mpd_model.specs.declared.call.Call.{Call}
 use Rattle.mpd_model.specs.declared.call.CallKind.TheVariants.{Send, Recv}
 use Rattle.mpd_model.specs.declared.call.Mode.TheVariants.{Rendezvous}
 use Rattle.mpd_model.specs.declared.call.MatchSet.TheVariants.{Pair}
-use Rattle.mpd_model.specs.World.{Board, call_id, pending, posted, eligible}
-use Rattle.mpd_match.specs.Changes.{empty_board, with_call, without_last_call, with_set, without_last_set, last_set, record_of_pair}
+use Rattle.mpd_model.specs.World.{Board, start_board, call_id, pending, posted, eligible}
+use Rattle.mpd_model.specs.Next.{with_call, with_set}
+use Rattle.mpd_match.specs.Changes.{without_last_call, without_last_set, last_set, record_of_pair}
 use Rattle.mpd_match.specs.Looks.{eligible_looks}
 
 abbrev pub sent : ℤ → Call
@@ -20,7 +21,7 @@ two_messages = record { mode = Rendezvous; calls = (sent (pos 40) ∷ sent (pos 
 abbrev pub one_paired : Board
 one_paired = record { mode = Rendezvous; calls = (sent (pos 40) ∷ sent (pos 41) ∷ []) ∷ (received ∷ []) ∷ []; sets = Pair (call_id 0 0) (call_id 1 0) ∷ [] }
 
-pub row_issued : with_call (with_call (with_call (empty_board 2 Rendezvous) 0 (sent (pos 40))) 0 (sent (pos 41))) 1 received ≡ two_messages
+pub row_issued : with_call (with_call (with_call (start_board 2 Rendezvous) 0 (sent (pos 40))) 0 (sent (pos 41))) 1 received ≡ two_messages
 row_issued = refl
 
 pub row_unissued : (without_last_call two_messages 0).calls ≡ (sent (pos 40) ∷ []) ∷ (received ∷ []) ∷ []

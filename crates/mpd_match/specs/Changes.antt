@@ -1,30 +1,15 @@
--- What a change makes of a board.
-use Rattle.std.specs.Prelude.{◌≡◌, ℕ, ◌-◌, ◌<◌, Bool, true, false, Option, Some, None, [], ◌∷◌, ◌++◌, length, replicate, slice_get, slice_set, take}
+-- What a change makes of a board. A call or a match set more is `with_call` and `with_set` of the model.
+use Rattle.std.specs.Prelude.{◌≡◌, ℕ, ◌-◌, Bool, true, false, Option, Some, None, length, slice_get, slice_set, take}
 use Rattle.mpd_model.specs.declared.step.CallId.{CallId}
-use Rattle.mpd_model.specs.declared.call.Call.{Call}
 use Rattle.mpd_model.specs.declared.call.CallKind.{CallKind}
 use Rattle.mpd_model.specs.declared.call.CallKind.TheVariants.{Send, Recv, Wait}
-use Rattle.mpd_model.specs.declared.call.Mode.{Mode}
 use Rattle.mpd_model.specs.declared.call.MatchSet.{MatchSet}
 use Rattle.mpd_model.specs.declared.call.MatchSet.TheVariants.{Pair, Woke, Barrier}
 use Rattle.mpd_model.specs.World.{Board, calls_of, pending, posted}
 use Rattle.mpd_queue.specs.InOrder.{next_of}
 use Rattle.mpd_match.specs.declared.record.PairRecord.{PairRecord}
 
--- so many ranks, before any call
-abbrev pub empty_board : ℕ → Mode → Board
-empty_board ranks mode = record { mode = mode; calls = replicate ranks []; sets = [] }
-
 -- ---- calls
-
--- a send goes to one of so many ranks
-abbrev pub HasReceiver : ℕ → CallKind → Type 0
-HasReceiver ranks (Send s) = s.to < ranks
-HasReceiver ranks (Recv r) = Unit {0}
-HasReceiver ranks (Wait t) = Unit {0}
-
-abbrev pub with_call : Board → ℕ → Call → Board
-with_call b p call = record b { calls = slice_set b.calls p (calls_of b p ++ call ∷ []) }
 
 abbrev pub without_last_call : Board → ℕ → Board
 without_last_call b p = record b { calls = slice_set b.calls p (take (length (calls_of b p) - 1) (calls_of b p)) }
@@ -44,9 +29,6 @@ unissue_writes (Some (Wait t)) = 2
 unissue_writes None = 0
 
 -- ---- match sets
-
-abbrev pub with_set : Board → MatchSet → Board
-with_set b set = record b { sets = b.sets ++ set ∷ [] }
 
 abbrev pub without_last_set : Board → Board
 without_last_set b = record b { sets = take (length b.sets - 1) b.sets }

@@ -1,7 +1,8 @@
 //! The board: calls, pairs and the lines of free calls.
 ghost use Rattle.std.specs.Prelude.{◌≡◌, ◌+◌, ◌-◌, ◌<◌, ◌≤◌, Some, None, true, length, IfOk, OnOk, OnErr};
-ghost use Rattle.mpd_model.specs.World.{kind_at, calls_of, partner, eligible, last_call};
-ghost use Rattle.mpd_match.specs.Changes.{empty_board, HasReceiver, with_call, without_last_call, issue_writes, unissue_writes, with_set, without_last_set, last_set, record_of_pair, Recorded, is_woke};
+ghost use Rattle.mpd_model.specs.World.{start_board, kind_at, calls_of, partner, eligible, last_call};
+ghost use Rattle.mpd_model.specs.Next.{HasReceiver, with_call, with_set};
+ghost use Rattle.mpd_match.specs.Changes.{without_last_call, issue_writes, unissue_writes, without_last_set, last_set, record_of_pair, Recorded, is_woke};
 
 use crate::record::PairRecord;
 use crate::side::Side;
@@ -45,7 +46,7 @@ impl Board {
     /// So many ranks, at most `RANKS_MAX`, before any call. An `Err` is want of memory.
     pub fn new(alloc: Global, ranks: usize, mode: Mode) -> Result<Board, AllocError>
         requires { ranks ≤ RANKS_MAX }
-        ensures board { IfOk result (λ b. b.board ≡ empty_board ranks mode) }
+        ensures board { IfOk result (λ b. b.board ≡ start_board ranks mode) }
         ensures writes { IfOk result (λ b. b.writes ≡ 0) }
     {
         Ok(Board {
@@ -67,13 +68,15 @@ impl Board {
         sides::keep_rooms(&mut self.sides)
     }
 
-    /// A rank issues a call. A send or a receive joins its line, at the end.
+    /// A rank issues a call. A send or a receive joins its line, at the end. `unissue` gives the board before.
     pub fn issue(&mut self, rank: usize, call: Call)
         requires rank { rank < length self.old.board.calls }
         requires receiver { HasReceiver (length self.old.board.calls) call.kind }
         requires room { 1 ≤ self.old.room }
         ensures board { self.new.board ≡ with_call self.old.board rank call }
         ensures back { without_last_call self.new.board rank ≡ self.old.board }
+        ensures some { 0 < length (calls_of self.new.board rank) }
+        ensures free { partner self.new.board.sets (last_call self.new.board rank) ≡ None }
         ensures room { self.old.room ≤ self.new.room + 1 }
         ensures writes { self.new.writes ≡ self.old.writes + issue_writes (Some call.kind) }
     {

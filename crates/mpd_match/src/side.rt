@@ -83,6 +83,7 @@ impl Side {
         requires room { 0 < self.old.room }
         ensures calls { self.new.calls ≡ self.old.calls ++ call ∷ [] }
         ensures marks { self.new.marks ≡ self.old.marks ++ None ∷ [] }
+        ensures free { mark_in self.new.marks (length self.old.calls) ≡ None }
         ensures lines { self.new.lines ≡ self.old.lines }
         ensures room { self.new.room + 1 ≡ self.old.room }
         ensures writes { self.new.writes ≡ self.old.writes + issue_writes (Some call.kind) }

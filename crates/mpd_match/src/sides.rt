@@ -2,9 +2,10 @@
 ghost use Rattle.std.specs.Prelude.{◌≡◌, ℕ, suc, ◌+◌, ◌-◌, ◌<◌, ◌≤◌, Some, None, is_none, false, [], ◌∷◌, ◌++◌, length, replicate, slice_get, slice_set, take, vec_len, IfOk, OnOk, OnErr};
 ghost use Rattle.mpd_queue.specs.InOrder.{next_of};
 ghost use Rattle.mpd_model.specs.World.{listed_calls};
+ghost use Rattle.mpd_model.specs.Next.{HasReceiver};
 ghost use Rattle.mpd_match.specs.Views.{side_at, calls_in, lines_in, room_in, writes_in};
 ghost use Rattle.mpd_match.specs.Lines.{line_of as line_in, with_mark, waiting, mark_in, mark_at, kind_on, waiting_on, with_partner};
-ghost use Rattle.mpd_match.specs.Changes.{HasReceiver, issue_writes, unissue_writes};
+ghost use Rattle.mpd_match.specs.Changes.{issue_writes, unissue_writes};
 
 use crate::side::Side;
 use mpd_model::call::Call;
@@ -57,6 +58,7 @@ pub(crate) fn issue_at(sides: &mut Vec<Side>, rank: usize, call: Call)
     ensures calls { calls_in sides.new.items ≡ slice_set (calls_in sides.old.items) rank (listed_calls (slice_get (calls_in sides.old.items) rank) ++ call ∷ []) }
     ensures marks { (c : CallId) → mark_at sides.new.items c ≡ mark_at sides.old.items c }
     ensures lines { lines_in sides.new.items ≡ lines_in sides.old.items }
+    ensures free { mark_at sides.new.items (record { rank = rank; index = length (listed_calls (slice_get (calls_in sides.old.items) rank)) }) ≡ None }
     ensures room { (set_room : ℕ) → room_in set_room sides.old.items ≤ room_in set_room sides.new.items + 1 }
     ensures writes { writes_in sides.new.items ≡ writes_in sides.old.items + issue_writes (Some call.kind) }
 {

@@ -1,7 +1,8 @@
 //! Walks along the lines of free calls, with their looks counted.
 ghost use Rattle.std.specs.Prelude.{◌≡◌, ℕ, ◌+◌, ◌<◌, ◌≤◌, true, false, length};
+ghost use Rattle.std.specs.List.{list_any};
 ghost use Rattle.mpd_queue.specs.InOrder.{first_of, next_of};
-ghost use Rattle.mpd_model.specs.World.{fits, is_free as is_free_on, is_pending, is_posted, pending, posted, eligible as eligible_on};
+ghost use Rattle.mpd_model.specs.World.{call_id, call_numbers, rank_numbers, fits, is_free as is_free_on, is_pending, is_posted, pending, posted, eligible as eligible_on};
 ghost use Rattle.mpd_match.specs.Lines.{kind_in, mark_in, waiting, fitting_either, passed, has_earlier as has_earlier_in};
 ghost use Rattle.mpd_match.specs.Looks.{eligible_looks};
 
@@ -105,5 +106,62 @@ impl Board {
         ensures looks { looks.new ≡ looks.old + 1 }
     {
         self.sides[id.rank].next(id.index, looks)
+    }
+
+    /// Whether some send of the sender is eligible with the receive. Its free sends to that rank are walked, and no others.
+    pub fn can_match_from(&self, sender: usize, recv: CallId) -> bool
+        requires { sender < length self.now.board.calls }
+        ensures { result ≡ list_any (λ i. eligible_on self.now.board (call_id sender i) recv) (call_numbers self.now.board sender) }
+    {
+        if !self.is_free(recv) {
+            return false;
+        }
+        let mut looks = Steps::new();
+        let mut here = self.first_pending(sender, recv.rank, &mut looks);
+        'walk: while let Some(index) = here {
+            let send = CallId {
+                rank: sender,
+                index,
+            };
+            if self.eligible(send, recv, &mut looks) {
+                return true;
+            }
+            here = self.next_free(send, &mut looks);
+        }
+        false
+    }
+
+    /// Whether some send of any rank is eligible with the receive.
+    #[tactic(auto, using(crate::proofs::Matches::any_number))]
+    fn can_match_with(&self, recv: CallId) -> bool
+        ensures { result ≡ list_any (λ p. list_any (λ i. eligible_on self.now.board (call_id p i) recv) (call_numbers self.now.board p)) (rank_numbers self.now.board) }
+    {
+        let count = self.rank_count();
+        for sender in 0..count {
+            if self.can_match_from(sender, recv) {
+                return true;
+            }
+        }
+        false
+    }
+
+    /// Whether some receive of the receiver is eligible with a send. Its free receives are walked, and no others.
+    pub fn can_match_at(&self, receiver: usize) -> bool
+        requires { receiver < length self.now.board.calls }
+        ensures { result ≡ list_any (λ j. list_any (λ p. list_any (λ i. eligible_on self.now.board (call_id p i) (call_id receiver j)) (call_numbers self.now.board p)) (rank_numbers self.now.board)) (call_numbers self.now.board receiver) }
+    {
+        let mut looks = Steps::new();
+        let mut here = self.first_posted(receiver, &mut looks);
+        'walk: while let Some(index) = here {
+            let recv = CallId {
+                rank: receiver,
+                index,
+            };
+            if self.can_match_with(recv) {
+                return true;
+            }
+            here = self.next_free(recv, &mut looks);
+        }
+        false
     }
 }

@@ -132,11 +132,12 @@ impl RankState {
             Activity::Blocked | Activity::Trapped(_) => return None,
         }
         let node = code.node(node)?;
+        let rank = self.rank;
         let size = code.ranks();
         let env = Env {
             vars: self.vars.items(),
             handles: self.handles.items(),
-            rank: self.rank,
+            rank,
             size: size as u32,
         };
         Some(plan_node(node, &env))

@@ -3,7 +3,7 @@ use Rattle.std.proofs.lemmas.List.{length-map}
 use Rattle.mpd_match.specs.Views.{SideView, BoardView, board_in, calls_in}
 use Rattle.mpd_match.specs.Held.{Meets}
 use Rattle.mpd_match.proofs.AtSide.{some_room_at}
-use Rattle.mpd_match.proofs.Boards.{meets_issue, issue_back}
+use Rattle.mpd_match.proofs.Boards.{meets_issue, issue_back, issued_free}
 use Rattle.mpd_match.proofs.board.Board.issue.Goals as goal
 
 pub issue_at-requires-clause-room : goal.issue_at-requires-clause-room
@@ -26,3 +26,9 @@ returns-clause-back c =
     let h : Meets (board_in s.mode s.sides.items s.sets.items) s.sides.items = c.self.invariant in
     let lt : c.args.rank < length (calls_in s.sides.items) = omega (arith, c.requires.rank, ap (λ (v : BoardView). length v.board.calls) c.self.view_is) in
     issue_back s.mode s.sides.items c.issue_at.new.sides.items s.sets.items c.args.rank c.args.call lt c.issue_at.ensures.calls ∙ e
+
+pub returns-clause-free : goal.returns-clause-free
+returns-clause-free c =
+    let s = c.self.inside in
+    let lt : c.args.rank < length (calls_in s.sides.items) = omega (arith, c.requires.rank, ap (λ (v : BoardView). length v.board.calls) c.self.view_is) in
+    issued_free s.mode s.sides.items c.issue_at.new.sides.items s.sets.items c.args.rank c.args.call lt c.issue_at.ensures.calls c.issue_at.ensures.marks c.issue_at.ensures.free c.self.invariant
