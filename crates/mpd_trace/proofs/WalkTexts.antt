@@ -1,15 +1,13 @@
 -- Texts of a list without doubles that is walked: from its first number on, each time to the one behind.
-use Rattle.std.proofs.Common.{◌≡◌, ◌≢◌, ℕ, zero, suc, ◌+◌, ◌<◌, ◌≤◌, Bool, true, false, cond, Option, Some, None, is_none, List, [], ◌∷◌, ◌++◌, inl, inr, refl, sym, ap, subst, ◌∙◌, length, arith, append_assoc}
+use Rattle.std.proofs.Common.{◌≡◌, ◌≢◌, ℕ, zero, suc, ◌+◌, ◌<◌, ◌≤◌, Bool, true, false, cond, Option, Some, None, is_some, not, List, [], ◌∷◌, ◌++◌, inl, inr, refl, sym, ap, subst, ◌∙◌, length, arith, append_assoc, append-nil}
+use Rattle.std.proofs.lemmas.Bool.{false≢true}
 use Rattle.std.proofs.lemmas.Bool.Decides.{eqb_tells}
 use Rattle.std.specs.Fmt.{decimal}
-use Rattle.std.specs.List.{filter, range_with_len}
 use Rattle.mpd_model.specs.Texts.{spaced, numbers_line}
 use Rattle.mpd_queue.specs.InOrder.{places_in, first_of, next_of, is_link_to, HasSpot}
 use Rattle.mpd_queue.proofs.Places.{places_here, places_there, places_more, link_tells}
 use Rattle.mpd_queue.proofs.Spots.{first_spot, next_here, next_there, next_spot}
-use Rattle.mpd_match.proofs.Bools.{bool_tells}
-use Rattle.mpd_match.proofs.Passed.{places_passed, places_not_passed, places_within, places_past}
-use Rattle.mpd_match.proofs.Walks.{rest}
+use Rattle.mpd_match.proofs.Walks.{rest, walk_falls}
 
 -- ---- a list from where a walk stands, to its end
 
@@ -49,30 +47,6 @@ rest_step x (y ∷ ys) has once =
           ∙ ap (λ (zs : List ℕ). x ∷ zs) (sym (ap (λ (here : Option ℕ). rest here (y ∷ ys)) (next_there x y ys t.1) ∙ rest_past (next_of ys x) y ys (next_spot x ys) alone))
     ]
 
--- ---- the numbers of a range that pass a test have no doubles, and pass it
-
-range_once : (a n x : ℕ) → places_in (range_with_len a n) x ≤ 1
-range_once a zero x = omega arith
-range_once a (suc n) x =
-    elim (eqb_tells x a) [
-      | inl k ↦ ?
-      | inr k ↦ ?
-    ]
-
-pub passed_once : (t : ℕ → Bool) (a n x : ℕ) → places_in (filter t (range_with_len a n)) x ≤ 1
-passed_once t a n x =
-    elim (bool_tells (t x)) [
-      | inl e ↦ omega (arith, places_passed t x (range_with_len a n) e, range_once a n x)
-      | inr e ↦ omega (arith, places_not_passed t x (range_with_len a n) e)
-    ]
-
-pub passed_test : (t : ℕ → Bool) (x : ℕ) (xs : List ℕ) → 0 < places_in (filter t xs) x → t x ≡ true
-passed_test t x xs has =
-    elim (bool_tells (t x)) [
-      | inl e ↦ e
-      | inr e ↦ absurd (omega (arith, places_not_passed t x xs e))
-    ]
-
 -- ---- what a walk keeps: where it stands is in the list, and what is written and the rest are the whole text
 
 pub record Writing (xs whole now : List ℕ) (here : Option ℕ) : Type 0 where
@@ -85,20 +59,35 @@ writing_begins xs whole now here e w = record {
   text = ap (λ (o : Option ℕ). now ++ spaced decimal (rest o xs)) e ∙ ap (λ (zs : List ℕ). now ++ spaced decimal zs) (rest_first xs) ∙ sym w;
 }
 
-pub writing_steps : (xs whole now more : List ℕ) (x : ℕ) (here : Option ℕ) → ((z : ℕ) → places_in xs z ≤ 1)
-    → Writing xs whole now (Some x) → here ≡ next_of xs x → more ≡ now ++ 32 ∷ decimal x → Writing xs whole more here
-writing_steps xs whole now more x here once w e m = record {
+pub writing_stands : (xs whole now : List ℕ) (x : ℕ) (here : Option ℕ) → here ≡ Some x → Writing xs whole now here → 0 < places_in xs x
+writing_stands xs whole now x here at w = subst (HasSpot xs) at w.stands
+
+pub writing_falls : (xs whole now : List ℕ) (x : ℕ) (here next : Option ℕ) → ((z : ℕ) → places_in xs z ≤ 1) → here ≡ Some x → Writing xs whole now here → next ≡ next_of xs x
+    → length (rest next xs) < length (rest here xs)
+writing_falls xs whole now x here next once at w e =
+    subst (λ (o : Option ℕ). length (rest next xs) < length (rest o xs)) (sym at) (walk_falls x xs next once (writing_stands xs whole now x here at w) e)
+
+pub writing_steps : (xs whole now more : List ℕ) (x : ℕ) (here next : Option ℕ) → ((z : ℕ) → places_in xs z ≤ 1) → here ≡ Some x → Writing xs whole now here → next ≡ next_of xs x
+    → more ≡ now ++ 32 ∷ decimal x → Writing xs whole more next
+writing_steps xs whole now more x here next once at w e m = record {
   stands = subst (HasSpot xs) (sym e) (next_spot x xs);
   text =
-      ap (λ (t : List ℕ). t ++ spaced decimal (rest here xs)) m
-      ∙ append_assoc now (32 ∷ decimal x) (spaced decimal (rest here xs))
+      ap (λ (t : List ℕ). t ++ spaced decimal (rest next xs)) m
+      ∙ append_assoc now (32 ∷ decimal x) (spaced decimal (rest next xs))
       ∙ ap (λ (o : Option ℕ). now ++ spaced decimal (x ∷ rest o xs)) e
-      ∙ ap (λ (zs : List ℕ). now ++ spaced decimal zs) (sym (rest_step x xs w.stands once))
+      ∙ ap (λ (zs : List ℕ). now ++ spaced decimal zs) (sym (rest_step x xs (writing_stands xs whole now x here at w) once))
+      ∙ ap (λ (o : Option ℕ). now ++ spaced decimal (rest o xs)) (sym at)
       ∙ w.text;
 }
 
--- at the end of the walk the line of numbers is written, unless there was none
-pub writing_ends : (xs before name now : List ℕ) (first : Option ℕ) → first ≡ first_of xs → is_none first ≡ false
-    → Writing xs (before ++ (name ++ 58 ∷ spaced decimal xs)) now None → now ++ 10 ∷ [] ≡ before ++ numbers_line name xs
-writing_ends [] before name now first e some w = absurd (true_not_false (ap is_none e ∙ some))
-writing_ends (y ∷ ys) before name now first e some w = ?
+-- at the end of the walk the numbers are written
+writing_done : (xs whole now : List ℕ) (here : Option ℕ) → here ≡ None → Writing xs whole now here → now ≡ whole
+writing_done xs whole now here at w =
+    sym (append-nil now) ∙ ap (λ (zs : List ℕ). now ++ spaced decimal zs) (sym (rest_none xs)) ∙ ap (λ (o : Option ℕ). now ++ spaced decimal (rest o xs)) (sym at) ∙ w.text
+
+-- and a line feed ends their line
+pub line_ends : (xs before name now after : List ℕ) (first here : Option ℕ) (none : Bool) → first ≡ first_of xs → is_some first ≡ not none → none ≡ false → here ≡ None
+    → Writing xs (before ++ (name ++ 58 ∷ spaced decimal xs)) now here → after ≡ now ++ 10 ∷ [] → after ≡ before ++ numbers_line name xs
+line_ends [] before name now after first here none e is some at w m = absurd (false≢true (sym (ap is_some e) ∙ is ∙ ap not some))
+line_ends (y ∷ ys) before name now after first here none e is some at w m =
+    m ∙ ap (λ (t : List ℕ). t ++ 10 ∷ []) (writing_done (y ∷ ys) (before ++ (name ++ 58 ∷ spaced decimal (y ∷ ys))) now here at w) ∙ append_assoc before (name ++ 58 ∷ spaced decimal (y ∷ ys)) (10 ∷ [])

@@ -177,7 +177,8 @@ fn push_pending(
         };
         here = board.next_free(id, &mut looks);
     }
-    out.push('\n')
+    out.push('\n')?;
+    Ok(())
 }
 
 /// Adds the lines of all free receives, by rank.
@@ -206,7 +207,8 @@ fn push_posted(out: &mut String, board: &Board, rank: usize) -> Result<(), Alloc
         write!(out, " {index}")?;
         here = board.next_free(CallId { rank, index }, &mut looks);
     }
-    out.push('\n')
+    out.push('\n')?;
+    Ok(())
 }
 
 /// Adds the line of each match set.
