@@ -1,4 +1,4 @@
-use Rattle.std.proofs.Common.{◌≡◌, ◌<◌, [], ◌∷◌, ◌++◌, length, arith, rules}
+use Rattle.std.proofs.Common.{◌≡◌, ◌<◌, [], ◌∷◌, ◌++◌, length, rules}
 use Rattle.mpd_model.specs.declared.limits.TheConstants.{STEPS_MAX}
 use Rattle.mpd_model.specs.World.{start}
 use Rattle.mpd_model.specs.Trail.{noted}
@@ -14,5 +14,5 @@ invariant_of-self-in-Ok c =
     let pushed : c.push_reserved.new.self.items ≡ s.records.items ++ u ∷ [] = search rules in
     let kept : c.note_next.new.steps.items ≡ noted s.steps.items (length s.records.items) c.args.step = search rules in
     rw (pushed, kept, c.in_ok-done.ensures.program)
-      (keeps_push s.core.program (start s.core.program s.mode) s.records.items s.steps.items s.core.world c.apply.new.self.world c.in_ok-done.done c.args.step c.self.invariant room c.in_ok-done.ensures.ok
-      c.in_ok-done.ensures.back c.in_ok-done.ensures.can c.in_ok-done.ensures.recorded)
+    (keeps_push s.core.program (start s.core.program s.mode) s.records.items s.steps.items s.core.world c.apply.new.self.world c.in_ok-done.done c.args.step c.self.invariant room c.in_ok-done.ensures.ok
+    c.in_ok-done.ensures.back c.in_ok-done.ensures.can c.in_ok-done.ensures.recorded)
