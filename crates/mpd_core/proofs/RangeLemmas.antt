@@ -1,11 +1,12 @@
 -- Numbers one after another: what is so of one of them, and what they give together.
-use Rattle.std.proofs.Common.{◌≡◌, ℕ, suc, ◌<◌, ◌≤◌, ◌+◌, ◌-◌, Bool, true, false, ◌||◌, List, [], ◌∷◌, ◌++◌, refl, sym, ap, ◌∙◌, arith, cond, map, length, append_assoc, append-nil, Result, Ok, Err, OnOk, IfOk, OnErr}
+use Rattle.std.proofs.Common.{◌≡◌, ℕ, suc, ◌<◌, ◌≤◌, ◌+◌, ◌-◌, Bool, true, false, ◌||◌, List, [], ◌∷◌, ◌++◌, refl, sym, ap, subst, ◌∙◌, arith, cond, map, length, append_assoc, append-nil, Option, Some, None, is_some, Result, Ok, Err, OnOk, IfOk, OnErr}
 use Rattle.std.proofs.lemmas.List.{length-append}
 use Rattle.std.specs.List.{filter, flat_map, list_any, range_with_len}
 use Rattle.mpd_model.specs.declared.step.Step.{Step}
-use Rattle.mpd_model.specs.declared.step.Step.TheVariants.{Local, Wake, Release}
-use Rattle.mpd_model.specs.World.{World, rank_numbers}
-use Rattle.mpd_model.specs.Next.{is_enabled, matches_in, steps_of}
+use Rattle.mpd_model.specs.declared.step.Step.TheVariants.{Local, Match, Wake, Release}
+use Rattle.mpd_model.specs.declared.call.MatchSet.TheVariants.{Pair}
+use Rattle.mpd_model.specs.World.{World, Board, call_id, rank_numbers, call_numbers, eligible}
+use Rattle.mpd_model.specs.Next.{is_enabled, with_set, matches_with, matches_of, matches_in, steps_of}
 use Rattle.mpd_model.specs.declared.step.CallId.{CallId}
 use Rattle.mpd_model.specs.declared.outcome.TrappedRank.{TrappedRank}
 use Rattle.mpd_model.specs.Outcomes.{ending_by, ended_with}
@@ -96,6 +97,35 @@ enabled_parts w =
     let ranks = rank_numbers w.board in
     list_any-append (is_enabled w) (map Local ranks) (Release ∷ (map Wake ranks ++ matches_in w.board))
     ∙ ap (λ b. list_any (is_enabled w) (map Local ranks) || b) (list_any-append (is_enabled w) (map Wake ranks) (matches_in w.board))
+
+-- ---- whether some match is enabled, told by calls
+
+any_flat : {A : Type 0} (t : Step → Bool) (f : A → List Step) (u : A → Bool) → ((x : A) → list_any t (f x) ≡ u x) → (xs : List A) → list_any t (flat_map f xs) ≡ list_any u xs
+any_flat t f u each [] = refl
+any_flat t f u each (x ∷ xs) = list_any-append t (f x) (flat_map f xs) ∙ ap (λ b. b || list_any t (flat_map f xs)) (each x) ∙ ap (λ b. u x || b) (any_flat t f u each xs)
+
+any_map : {A : Type 0} (t : Step → Bool) (f : A → Step) (u : A → Bool) → ((x : A) → t (f x) ≡ u x) → (xs : List A) → list_any t (map f xs) ≡ list_any u xs
+any_map t f u each [] = refl
+any_map t f u each (x ∷ xs) = ap (λ b. b || list_any t (map f xs)) (each x) ∙ ap (λ b. u x || b) (any_map t f u each xs)
+
+enabled_by : (b : Bool) (w : World) → is_some (cond b (Some w) None) ≡ b
+enabled_by true w = refl
+enabled_by false w = refl
+
+match_at : (w : World) (q : ℕ) → list_any (is_enabled w) (matches_of w.board q)
+    ≡ list_any (λ j. list_any (λ p. list_any (λ i. eligible w.board (call_id p i) (call_id q j)) (call_numbers w.board p)) (rank_numbers w.board)) (call_numbers w.board q)
+match_at w q =
+    any_flat (is_enabled w) (λ j. matches_with w.board (call_id q j)) (λ j. list_any (λ p. list_any (λ i. eligible w.board (call_id p i) (call_id q j)) (call_numbers w.board p)) (rank_numbers w.board))
+    (λ j. any_flat (is_enabled w) (λ p. map (λ i. Match (call_id p i) (call_id q j)) (call_numbers w.board p)) (λ p. list_any (λ i. eligible w.board (call_id p i) (call_id q j)) (call_numbers w.board p))
+      (λ p. any_map (is_enabled w) (λ i. Match (call_id p i) (call_id q j)) (λ i. eligible w.board (call_id p i) (call_id q j))
+        (λ i. enabled_by (eligible w.board (call_id p i) (call_id q j)) (record w { board = with_set w.board (Pair (call_id p i) (call_id q j)) })) (call_numbers w.board p)) (rank_numbers w.board)) (call_numbers w.board q)
+
+pub match_on : (w : World) (b : Board) (q : ℕ) (found : Bool) → b ≡ w.board
+    → found ≡ list_any (λ j. list_any (λ p. list_any (λ i. eligible b (call_id p i) (call_id q j)) (call_numbers b p)) (rank_numbers b)) (call_numbers b q)
+    → found ≡ list_any (is_enabled w) (matches_of w.board q)
+match_on w b q found e is = subst (λ (b : Board). found ≡ list_any (λ j. list_any (λ p. list_any (λ i. eligible b (call_id p i) (call_id q j)) (call_numbers b p)) (rank_numbers b)) (call_numbers b q)) e is ∙ sym (match_at w q)
+
+pub ruleset matching = (match_on)
 
 pub ruleset any_mapped = (mapped_on, mapped_now)
 

@@ -3,8 +3,8 @@
 ghost use Rattle.std.specs.Prelude.{◌≡◌, ◌<◌, [], ◌∷◌, ◌++◌, if◌then◌else◌, length, map, slice_get, Some, IfOk, OnOk, OnErr};
 ghost use Rattle.std.specs.List.{filter, flat_map, list_any};
 ghost use Rattle.mpd_model.specs.declared.step.Step.TheVariants as steps;
-ghost use Rattle.mpd_model.specs.World.{call_id, rank_numbers, call_numbers, is_free};
-ghost use Rattle.mpd_model.specs.Next.{is_enabled, matches_with, matches_of, matches_in, steps_of};
+ghost use Rattle.mpd_model.specs.World.{rank_numbers, is_free};
+ghost use Rattle.mpd_model.specs.Next.{is_enabled, matches_of, matches_in, steps_of};
 ghost use Rattle.mpd_model.specs.Outcomes.{traps_at, traps_in, blocked_at, blocked_calls, free_of, free_calls, untrapped, ending, is_stuck, outcome};
 ghost use Rattle.mpd_core.specs.Listed.{listed};
 
@@ -43,54 +43,13 @@ impl<'c> Core<'c> {
         false
     }
 
-    /// Whether some send of a rank is eligible with the receive.
-    #[tactic(auto, using(crate::proofs::RangeLemmas::any_mapped))]
-    fn can_match_from(&self, sender: usize, recv: CallId) -> bool
-        ensures { result ≡ list_any (is_enabled self.now.world) (map (λ i. steps.Match (call_id sender i) recv) (call_numbers self.now.world.board sender)) }
-    {
-        let count = self.board().call_count(sender);
-        for index in 0..count {
-            let send = CallId {
-                rank: sender,
-                index,
-            };
-            if self.is_enabled(Step::Match(send, recv)) {
-                return true;
-            }
-        }
-        false
-    }
-
-    /// Whether some send is eligible with the receive.
-    #[tactic(auto, using(crate::proofs::RangeLemmas::any_joined))]
-    fn can_match_with(&self, recv: CallId) -> bool
-        ensures { result ≡ list_any (is_enabled self.now.world) (matches_with self.now.world.board recv) }
-    {
-        let count = self.rank_count();
-        for sender in 0..count {
-            if self.can_match_from(sender, recv) {
-                return true;
-            }
-        }
-        false
-    }
-
-    /// Whether some receive of a rank is eligible.
-    #[tactic(auto, using(crate::proofs::RangeLemmas::any_joined))]
+    /// Whether some receive of a rank is eligible. Its free receives are walked, and the free sends to it.
+    #[tactic(auto, using(crate::proofs::RangeLemmas::matching))]
     fn can_match_at(&self, receiver: usize) -> bool
+        requires { receiver < length self.now.world.board.calls }
         ensures { result ≡ list_any (is_enabled self.now.world) (matches_of self.now.world.board receiver) }
     {
-        let count = self.board().call_count(receiver);
-        for index in 0..count {
-            let recv = CallId {
-                rank: receiver,
-                index,
-            };
-            if self.can_match_with(recv) {
-                return true;
-            }
-        }
-        false
+        self.board().can_match_at(receiver)
     }
 
     /// Whether some match is enabled.

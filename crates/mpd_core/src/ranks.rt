@@ -33,6 +33,7 @@ pub(crate) fn start_ranks(alloc: Global, code: &Code, size: usize) -> Result<Vec
     ensures ranks { IfOk result (λ ranks. ranks_in code.now.program ranks.items ≡ replicate size (start_rank code.now.program)) }
     ensures numbers { IfOk result (λ ranks. numbers_in ranks.items ≡ range_with_len 0 size) }
     ensures size { IfOk result (λ ranks. vec_len ranks ≡ size) }
+    ensures writes { IfOk result (λ ranks. writes_in ranks.items ≡ 0) }
 {
     let mut ranks = Vec::new(alloc);
     for rank in 0..size {

@@ -81,6 +81,20 @@ fn lines_are_walked(rt: HostRuntime) -> Result<(), Fail> {
 }
 
 #[test]
+fn matches_are_found_along_the_lines(rt: HostRuntime) -> Result<(), Fail> {
+    let mut board = two_messages_on(rt.alloc())?;
+    assert_eq!(rt; board.can_match_from(0, id(1, 0)), true);
+    assert_eq!(rt; board.can_match_from(1, id(1, 0)), false);
+    assert_eq!(rt; board.can_match_from(0, id(0, 1)), false);
+    assert_eq!(rt; board.can_match_at(1), true);
+    assert_eq!(rt; board.can_match_at(0), false);
+    let _ = board.pair(id(0, 0), id(1, 0));
+    assert_eq!(rt; board.can_match_from(0, id(1, 0)), false);
+    assert_eq!(rt; board.can_match_at(1), false);
+    Ok(())
+}
+
+#[test]
 fn a_receive_has_the_message_of_its_send(rt: HostRuntime) -> Result<(), Fail> {
     let mut board = two_messages_on(rt.alloc())?;
     let _ = board.pair(id(0, 0), id(1, 0));

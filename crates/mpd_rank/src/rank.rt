@@ -74,6 +74,7 @@ impl RankState {
     pub fn start(alloc: Global, code: &Code, rank: u32) -> Result<RankState, AllocError>
         ensures world { IfOk result (λ r. rank_of code.now.program r ≡ start_rank code.now.program) }
         ensures rank { IfOk result (λ r. r.rank ≡ rank) }
+        ensures writes { IfOk result (λ r. r.writes ≡ 0) }
     {
         let standing = Standing {
             node: code.start(),

@@ -25,7 +25,7 @@ use Rattle.mpd_model.specs.Term.{Term, lit, own_rank, size, cell, op2, Target}
 use Rattle.mpd_model.specs.Tokens.{tokens_after, front, sign, word, number}
 use Rattle.mpd_model.specs.Tree.{Tree, branch, no_more, then_more}
 use Rattle.mpd_model.specs.Program.{Program}
-use Rattle.mpd_model.specs.World.{RankWorld, World, board_of, call_id, start, calls_of, eligible, is_free, buffer}
+use Rattle.mpd_model.specs.World.{RankWorld, World, call_id, start, calls_of, eligible, is_free, buffer}
 use Rattle.mpd_model.specs.Next.{next, fold, enabled}
 use Rattle.mpd_model.specs.Outcomes.{outcome}
 use Rattle.mpd_model.specs.Trail.{Trail, Standing, opening, applied, first_standing, world_of}
@@ -517,7 +517,7 @@ rv_w9 = refl
 pub rv_w10 : option_map outcome (go three Rendezvous (Local 0 ∷ Local 0 ∷ Local 1 ∷ Local 1 ∷ [])) ≡ Some (Some (o.Deadlock (call_id 0 0 ∷ call_id 1 0 ∷ [])))
 rv_w10 = refl
 
-pub rv_w11 : option_map (λ w. map {B = ℕ} (λ c. c.statement) (calls_of (board_of w) 1)) (go three Rendezvous (Local 1 ∷ Local 1 ∷ [])) ≡ Some (4 ∷ [])
+pub rv_w11 : option_map (λ w. map {B = ℕ} (λ c. c.statement) (calls_of w.board 1)) (go three Rendezvous (Local 1 ∷ Local 1 ∷ [])) ≡ Some (4 ∷ [])
 rv_w11 = refl
 
 abbrev pairing : Program
@@ -586,14 +586,17 @@ sent to tag = record { statement = 0; kind = Send (record { to = to; tag = tag; 
 abbrev awaited : ℕ → ℕ → Call
 awaited from tag = record { statement = 0; kind = Recv (record { from = from; tag = tag; cell = 0; blocks = true }) }
 
-abbrev rank_with : List Call → Activity → RankWorld
-rank_with calls activity = record { rest = []; vars = negsuc 0 ∷ pos 12 ∷ []; handles = None ∷ Some 3 ∷ []; calls = calls; out = []; activity = activity }
+abbrev rank_that : Activity → RankWorld
+rank_that activity = record { rest = []; vars = negsuc 0 ∷ pos 12 ∷ []; handles = None ∷ Some 3 ∷ []; out = []; activity = activity }
 
 abbrev hand : World
 hand = record {
-  mode = Rendezvous;
-  sets = Pair (call_id 2 0) (call_id 0 3) ∷ Barrier ∷ Woke (call_id 2 0) ∷ [];
-  ranks = rank_with (sent 2 1 ∷ sent 1 1 ∷ sent 2 1 ∷ awaited 2 9 ∷ []) Running ∷ rank_with (awaited 2 1 ∷ awaited 0 1 ∷ awaited 0 1 ∷ []) Blocked ∷ rank_with (sent 0 9 ∷ []) (Trapped BadTag) ∷ [];
+  ranks = rank_that Running ∷ rank_that Blocked ∷ rank_that (Trapped BadTag) ∷ [];
+  board = record {
+    mode = Rendezvous;
+    calls = (sent 2 1 ∷ sent 1 1 ∷ sent 2 1 ∷ awaited 2 9 ∷ []) ∷ (awaited 2 1 ∷ awaited 0 1 ∷ awaited 0 1 ∷ []) ∷ (sent 0 9 ∷ []) ∷ [];
+    sets = Pair (call_id 2 0) (call_id 0 3) ∷ Barrier ∷ Woke (call_id 2 0) ∷ [];
+  };
 }
 
 pub rv_h1 : show_text (prog 3 []) hand 3 5 ≡ codes "depth 3 of 5\nrank 0 ended\nvars -1 12\nhandles - 3\nout\ncall 0.0 send to 2 tag 1 value -5 free\ncall 0.1 send to 1 tag 1 value -5 free\ncall 0.2 send to 2 tag 1 value -5 free\ncall 0.3 recv from 2 tag 9 with 2.0 value -5\nrank 1 blocked 2\nvars -1 12\nhandles - 3\nout\ncall 1.0 recv from 2 tag 1 free\ncall 1.1 recv from 0 tag 1 free\ncall 1.2 recv from 0 tag 1 free\nrank 2 trapped bad-tag\nvars -1 12\nhandles - 3\nout\ncall 2.0 send to 0 tag 9 value -5 with 0.3\npending 0 to 1: 1\npending 0 to 2: 0 2\nposted 1: 0 1 2\nset pair 2.0 0.3\nset barrier\nset woke 2.0\nend\n"
@@ -603,19 +606,19 @@ rv_h1 = refl
 pub rv_h2 : enabled hand ≡ Match (call_id 0 1) (call_id 1 1) ∷ []
 rv_h2 = refl
 
-pub rv_h3 : eligible (board_of hand) (call_id 0 1) (call_id 1 2) ≡ false
+pub rv_h3 : eligible hand.board (call_id 0 1) (call_id 1 2) ≡ false
 rv_h3 = refl
 
-pub rv_h4 : eligible (board_of hand) (call_id 0 1) (call_id 1 0) ≡ false
+pub rv_h4 : eligible hand.board (call_id 0 1) (call_id 1 0) ≡ false
 rv_h4 = refl
 
-pub rv_h5 : is_free (board_of hand) (call_id 2 0) ≡ false
+pub rv_h5 : is_free hand.board (call_id 2 0) ≡ false
 rv_h5 = refl
 
-pub rv_h6 : buffer (board_of hand) (call_id 0 3) ≡ Some (record { value = negsuc 4; source = 2; tag = 9 })
+pub rv_h6 : buffer hand.board (call_id 0 3) ≡ Some (record { value = negsuc 4; source = 2; tag = 9 })
 rv_h6 = refl
 
-pub rv_h7 : option_map (λ w. eligible (board_of w) (call_id 0 1) (call_id 1 2)) (next hand (Match (call_id 0 1) (call_id 1 1))) ≡ Some false
+pub rv_h7 : option_map (λ w. eligible w.board (call_id 0 1) (call_id 1 2)) (next hand (Match (call_id 0 1) (call_id 1 1))) ≡ Some false
 rv_h7 = refl
 
 abbrev standing_at : Trail → Option World → Standing
@@ -713,16 +716,19 @@ rv_x_long0 = refl
 abbrev send_ : ℕ → Call
 send_ to = record { statement = 0; kind = Send (record { to = to; tag = 1; value = pos 3; blocks = true }) }
 
-abbrev rank_of : List Call → List Tree → Activity → RankWorld
-rank_of calls rest activity = record { rest = map {B = ℕ × Tree} (λ t. (9, t)) rest; vars = pos 0 ∷ []; handles = []; calls = calls; out = []; activity = activity }
+abbrev rank_of : List Tree → Activity → RankWorld
+rank_of rest activity = record { rest = map {B = ℕ × Tree} (λ t. (9, t)) rest; vars = pos 0 ∷ []; handles = []; out = []; activity = activity }
 
 -- rank 0: to 2, from 1; rank 1: to 2, to 0; rank 2: from 1, from 0; rank 3 can step; rank 4 is woken
 abbrev crowd : World
 crowd = record {
-  mode = Rendezvous;
-  sets = Pair (call_id 4 0) (call_id 4 1) ∷ [];
-  ranks = rank_of (send_ 2 ∷ awaited 1 1 ∷ []) [] Running ∷ rank_of (send_ 2 ∷ send_ 0 ∷ []) [] Blocked ∷ rank_of (awaited 1 1 ∷ awaited 0 1 ∷ []) [] Blocked
-      ∷ rank_of [] (print (n 1) ∷ []) Running ∷ rank_of (send_ 4 ∷ awaited 4 1 ∷ []) [] Blocked ∷ rank_of [] (print (n 1) ∷ []) (Trapped BadRank) ∷ [];
+  ranks = rank_of [] Running ∷ rank_of [] Blocked ∷ rank_of [] Blocked
+      ∷ rank_of (print (n 1) ∷ []) Running ∷ rank_of [] Blocked ∷ rank_of (print (n 1) ∷ []) (Trapped BadRank) ∷ [];
+  board = record {
+    mode = Rendezvous;
+    calls = (send_ 2 ∷ awaited 1 1 ∷ []) ∷ (send_ 2 ∷ send_ 0 ∷ []) ∷ (awaited 1 1 ∷ awaited 0 1 ∷ []) ∷ [] ∷ (send_ 4 ∷ awaited 4 1 ∷ []) ∷ [] ∷ [];
+    sets = Pair (call_id 4 0) (call_id 4 1) ∷ [];
+  };
 }
 
 pub rv_x_order : enabled crowd ≡ Local 3 ∷ Wake 4 ∷ Match (call_id 1 1) (call_id 0 1) ∷ Match (call_id 1 0) (call_id 2 0) ∷ Match (call_id 0 0) (call_id 2 1) ∷ []
@@ -731,10 +737,13 @@ rv_x_order = refl
 pub rv_x_none : outcome crowd ≡ None
 rv_x_none = refl
 
-pub rv_x_woke : option_map (λ w. slice_get w.ranks 4) (next crowd (Wake 4)) ≡ Some (Some (record { rest = []; vars = pos 3 ∷ []; handles = []; calls = send_ 4 ∷ awaited 4 1 ∷ []; out = []; activity = Running }))
+pub rv_x_woke : option_map (λ w. slice_get w.ranks 4) (next crowd (Wake 4)) ≡ Some (Some (record { rest = []; vars = pos 3 ∷ []; handles = []; out = []; activity = Running }))
 rv_x_woke = refl
 
-pub rv_x_woke_set : option_map (λ w. w.sets) (next crowd (Wake 4)) ≡ Some (Pair (call_id 4 0) (call_id 4 1) ∷ Woke (call_id 4 1) ∷ [])
+pub rv_x_woke_calls : option_map (λ w. calls_of w.board 4) (next crowd (Wake 4)) ≡ Some (send_ 4 ∷ awaited 4 1 ∷ [])
+rv_x_woke_calls = refl
+
+pub rv_x_woke_set : option_map (λ w. w.board.sets) (next crowd (Wake 4)) ≡ Some (Pair (call_id 4 0) (call_id 4 1) ∷ Woke (call_id 4 1) ∷ [])
 rv_x_woke_set = refl
 
 abbrev trail_at : ℕ → Trail
@@ -795,5 +804,5 @@ pub rv_n_wake : option_map outcome (go pairing Rendezvous (Local 1 ∷ Local 1 �
 rv_n_wake = refl
 
 -- the receive that was written first keeps its cell and number; sets in the order formed
-pub rv_n_sets : option_map (λ w. w.sets) (go pairing Rendezvous (Local 1 ∷ Local 1 ∷ Local 0 ∷ Local 0 ∷ m_ 0 0 ∷ Wake 1 ∷ Wake 0 ∷ [])) ≡ Some (Pair (call_id 0 0) (call_id 1 0) ∷ Woke (call_id 1 0) ∷ Woke (call_id 0 0) ∷ [])
+pub rv_n_sets : option_map (λ w. w.board.sets) (go pairing Rendezvous (Local 1 ∷ Local 1 ∷ Local 0 ∷ Local 0 ∷ m_ 0 0 ∷ Wake 1 ∷ Wake 0 ∷ [])) ≡ Some (Pair (call_id 0 0) (call_id 1 0) ∷ Woke (call_id 1 0) ∷ Woke (call_id 0 0) ∷ [])
 rv_n_sets = refl

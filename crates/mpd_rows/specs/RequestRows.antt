@@ -20,8 +20,8 @@ use Rattle.mpd_model.specs.Declaration.{Declared}
 use Rattle.mpd_model.specs.Term.{Term, lit, own_rank, size, cell, element, op1, op2, Target}
 use Rattle.mpd_model.specs.Tree.{Tree, branch, no_more, then_more, Block}
 use Rattle.mpd_model.specs.Program.{Program}
-use Rattle.mpd_model.specs.World.{RankWorld, World, board_of, call_id, start, pending, posted, is_free, complete}
-use Rattle.mpd_model.specs.Next.{local, fold, enabled}
+use Rattle.mpd_model.specs.World.{RankWorld, World, call_id, start, pending, posted, is_free, complete}
+use Rattle.mpd_model.specs.Next.{next, fold, enabled}
 use Rattle.mpd_model.specs.Outcomes.{outcome}
 use Rattle.mpd_model.specs.Trail.{Trail, Standing, opening, applied, taken_back, first_standing, world_of}
 use Rattle.mpd_model.specs.Lines.{lines_of}
@@ -73,7 +73,6 @@ rank_at ts = record {
   rest = ts;
   vars = pos 1 ∷ pos 10 ∷ pos 20 ∷ pos 30 ∷ [];
   handles = None ∷ Some 0 ∷ None ∷ [];
-  calls = earlier ∷ [];
   out = pos 9 ∷ [];
   activity = Running;
 }
@@ -81,18 +80,22 @@ rank_at ts = record {
 abbrev behind : List (ℕ × Tree)
 behind = (20, print (n 1)) ∷ []
 
-abbrev does : Tree → Option RankWorld
-does t = local 0 2 (rank_at ((5, t) ∷ behind))
+-- It is rank 0 of these, and has issued one call; rank 1 has issued two, and no step of rank 0 changes anything of it.
+abbrev with_calls : RankWorld → List Call → World
+with_calls r calls = record { ranks = r ∷ rank_at [] ∷ []; board = record { mode = Rendezvous; calls = calls ∷ (earlier ∷ earlier ∷ []) ∷ []; sets = [] } }
+
+abbrev does : Tree → Option World
+does t = next (with_calls (rank_at ((5, t) ∷ behind)) (earlier ∷ [])) (Local 0)
 
 -- a trap changes what the rank is doing, and nothing else
 abbrev Traps : Type 0
 Traps = List (Tree × Trap)
 
-abbrev found : Traps → List (Option RankWorld)
-found table = map {B = Option RankWorld} (λ r. does r.0) table
+abbrev found : Traps → List (Option World)
+found table = map {B = Option World} (λ r. does r.0) table
 
-abbrev wanted : Traps → List (Option RankWorld)
-wanted table = map {B = Option RankWorld} (λ r. Some (record (rank_at ((5, r.0) ∷ behind)) { activity = Trapped r.1 })) table
+abbrev wanted : Traps → List (Option World)
+wanted table = map {B = Option World} (λ r. Some (with_calls (record (rank_at ((5, r.0) ∷ behind)) { activity = Trapped r.1 }) (earlier ∷ []))) table
 
 -- the index of the handle comes first, then the value, the destination, which is checked before the tag is evaluated
 abbrev sends : Traps
@@ -124,12 +127,17 @@ waits = (wait (part g (n 2)), BadIndex) ∷ (wait (part g (m 1)), BadIndex) ∷ 
 pub row_waits : found waits ≡ wanted waits
 row_waits = refl
 
--- the call is appended, its number stands in the handle, and the rank goes on
-abbrev issues : List (Option ℕ) → CallKind → Option RankWorld
-issues handles kind = Some (record (rank_at behind) { handles = handles; calls = earlier ∷ record { statement = 5; kind = kind } ∷ [] })
+-- the call is appended to those of the rank
+abbrev issued : RankWorld → CallKind → Option World
+issued r kind = Some (with_calls r (earlier ∷ record { statement = 5; kind = kind } ∷ []))
 
-abbrev blocked : Option RankWorld → Option RankWorld
-blocked r = option_map {T = RankWorld} (λ s. record s { activity = Blocked }) r
+-- its number stands in the handle, and the rank goes on
+abbrev issues : List (Option ℕ) → CallKind → Option World
+issues handles kind = issued (record (rank_at behind) { handles = handles }) kind
+
+-- no handle changes, and the rank is blocked
+abbrev blocks : CallKind → Option World
+blocks kind = issued (record (rank_at behind) { activity = Blocked }) kind
 
 -- what is sent is the value at the issue
 pub row_isend : does (isend (whole h) (op2 Add (cell x) (element a (n 2))) (n 1) (n 32767)) ≡ issues (Some 1 ∷ Some 0 ∷ None ∷ []) (Send (record { to = 1; tag = 32767; value = pos 31; blocks = false }))
@@ -150,20 +158,20 @@ pub row_irecv_over : does (irecv (part g (n 0)) (whole x) own_rank (n 0)) ≡ is
 row_irecv_over = refl
 
 -- a wait is for the call whose number its handle has then, if any; the handle still has it
-pub row_wait : does (wait (part g (n 0))) ≡ blocked (issues (None ∷ Some 0 ∷ None ∷ []) (Wait (record { handle = 1; target = Some 0 })))
+pub row_wait : does (wait (part g (n 0))) ≡ blocks (Wait (record { handle = 1; target = Some 0 }))
 row_wait = refl
 
-pub row_wait_for_nothing : does (wait (whole h)) ≡ blocked (issues (None ∷ Some 0 ∷ None ∷ []) (Wait (record { handle = 0; target = None })))
+pub row_wait_for_nothing : does (wait (whole h)) ≡ blocks (Wait (record { handle = 0; target = None }))
 row_wait_for_nothing = refl
 
-pub row_wait_at : does (wait (part g (cell x))) ≡ blocked (issues (None ∷ Some 0 ∷ None ∷ []) (Wait (record { handle = 2; target = None })))
+pub row_wait_at : does (wait (part g (cell x))) ≡ blocks (Wait (record { handle = 2; target = None }))
 row_wait_at = refl
 
 -- blocking calls put nothing in a handle
-pub row_send : does (send (n 2) (n 1) (n 0)) ≡ blocked (issues (None ∷ Some 0 ∷ None ∷ []) (Send (record { to = 1; tag = 0; value = pos 2; blocks = true })))
+pub row_send : does (send (n 2) (n 1) (n 0)) ≡ blocks (Send (record { to = 1; tag = 0; value = pos 2; blocks = true }))
 row_send = refl
 
-pub row_recv : does (recv (whole x) (n 1) (n 0)) ≡ blocked (issues (None ∷ Some 0 ∷ None ∷ []) (Recv (record { from = 1; tag = 0; cell = 0; blocks = true })))
+pub row_recv : does (recv (whole x) (n 1) (n 0)) ≡ blocks (Recv (record { from = 1; tag = 0; cell = 0; blocks = true }))
 row_recv = refl
 
 -- ---- scripts, line by line
@@ -415,14 +423,14 @@ queued = after queueing (Local 0 ∷ Local 0 ∷ Local 0 ∷ Local 0 ∷ Local 0
 pub row_queued : option_map enabled queued ≡ Some (Match (call_id 0 2) (call_id 0 0) ∷ [])
 row_queued = refl
 
-pub row_queues : option_map {U = List ℕ × List ℕ} (λ w. (pending (board_of w) 0 0, posted (board_of w) 0)) queued ≡ Some (2 ∷ 3 ∷ [], 0 ∷ 1 ∷ [])
+pub row_queues : option_map {U = List ℕ × List ℕ} (λ w. (pending w.board 0 0, posted w.board 0)) queued ≡ Some (2 ∷ 3 ∷ [], 0 ∷ 1 ∷ [])
 row_queues = refl
 
-pub row_wait_not_free : option_map {U = Bool × Bool} (λ w. (is_free (board_of w) (call_id 0 3), is_free (board_of w) (call_id 0 4))) queued ≡ Some (true, false)
+pub row_wait_not_free : option_map {U = Bool × Bool} (λ w. (is_free w.board (call_id 0 3), is_free w.board (call_id 0 4))) queued ≡ Some (true, false)
 row_wait_not_free = refl
 
 -- with the last send paired its wait is complete, and no other is looked at
-pub row_completed : option_map (λ w. complete (board_of w) (call_id 0 4)) (after queueing (Local 0 ∷ Local 0 ∷ Local 0 ∷ Local 0 ∷ Local 0 ∷ Match (call_id 0 2) (call_id 0 0) ∷ [])) ≡ Some false
+pub row_completed : option_map (λ w. complete w.board (call_id 0 4)) (after queueing (Local 0 ∷ Local 0 ∷ Local 0 ∷ Local 0 ∷ Local 0 ∷ Match (call_id 0 2) (call_id 0 0) ∷ [])) ≡ Some false
 row_completed = refl
 
 pub row_completed_then : option_map enabled (after queueing (Local 0 ∷ Local 0 ∷ Local 0 ∷ Local 0 ∷ Local 0 ∷ Match (call_id 0 2) (call_id 0 0) ∷ Match (call_id 0 3) (call_id 0 1) ∷ [])) ≡ Some (Wake 0 ∷ [])

@@ -18,7 +18,7 @@ use Rattle.mpd_model.specs.declared.outcome.TrappedRank.{TrappedRank}
 use Rattle.mpd_model.specs.Term.{Term, lit, own_rank, cell, op2, Target}
 use Rattle.mpd_model.specs.Tree.{Tree, branch, no_more, then_more}
 use Rattle.mpd_model.specs.Program.{Program}
-use Rattle.mpd_model.specs.World.{RankWorld, World, board_of, call_id, start, pending, posted, eligible}
+use Rattle.mpd_model.specs.World.{RankWorld, World, call_id, start, pending, posted, eligible}
 use Rattle.mpd_model.specs.Next.{next, fold, enabled}
 use Rattle.mpd_model.specs.Outcomes.{outcome}
 use Rattle.mpd_model.specs.Trail.{Trail, opening, applied, taken_back, world_of}
@@ -59,7 +59,7 @@ one_message_steps = Local 0 ∷ Local 0 ∷ Local 1 ∷ Local 1 ∷ Match (call_
 pub row_one_message : option_map seen (fold (start one_message Rendezvous) one_message_steps) ≡ Some ((pos 0 ∷ [], ([], Running)) ∷ (pos 7 ∷ [], (pos 7 ∷ [], Running)) ∷ [])
 row_one_message = refl
 
-pub row_one_message_sets : option_map (λ w. w.sets) (fold (start one_message Rendezvous) one_message_steps) ≡ Some (Pair (call_id 0 0) (call_id 1 0) ∷ Woke (call_id 0 0) ∷ Woke (call_id 1 0) ∷ [])
+pub row_one_message_sets : option_map (λ w. w.board.sets) (fold (start one_message Rendezvous) one_message_steps) ≡ Some (Pair (call_id 0 0) (call_id 1 0) ∷ Woke (call_id 0 0) ∷ Woke (call_id 1 0) ∷ [])
 row_one_message_sets = refl
 
 pub row_one_message_done : option_map outcome (fold (start one_message Rendezvous) one_message_steps) ≡ Some (Some o.Done)
@@ -69,10 +69,10 @@ row_one_message_done = refl
 pub row_numbers : option_map numbers_left (fold (start one_message Rendezvous) (Local 0 ∷ Local 1 ∷ [])) ≡ Some ((1 ∷ []) ∷ (2 ∷ 3 ∷ []) ∷ [])
 row_numbers = refl
 
-pub row_pending : option_map (λ w. pending (board_of w) 0 1) (fold (start one_message Rendezvous) (Local 0 ∷ Local 0 ∷ [])) ≡ Some (0 ∷ [])
+pub row_pending : option_map (λ w. pending w.board 0 1) (fold (start one_message Rendezvous) (Local 0 ∷ Local 0 ∷ [])) ≡ Some (0 ∷ [])
 row_pending = refl
 
-pub row_posted : option_map (λ w. posted (board_of w) 1) (fold (start one_message Rendezvous) (Local 0 ∷ Local 0 ∷ Local 1 ∷ Local 1 ∷ [])) ≡ Some (0 ∷ [])
+pub row_posted : option_map (λ w. posted w.board 1) (fold (start one_message Rendezvous) (Local 0 ∷ Local 0 ∷ Local 1 ∷ Local 1 ∷ [])) ≡ Some (0 ∷ [])
 row_posted = refl
 
 -- nothing is woken before its match, no rank runs past its end, and no release is enabled
@@ -156,46 +156,49 @@ sent to tag value = record { statement = 0; kind = Send (record { to = to; tag =
 abbrev awaited : ℕ → ℕ → Call
 awaited from tag = record { statement = 0; kind = Recv (record { from = from; tag = tag; cell = 0; blocks = true }) }
 
-abbrev rank_with : List Call → Activity → RankWorld
-rank_with calls activity = record { rest = []; vars = pos 0 ∷ []; handles = []; calls = calls; out = []; activity = activity }
+abbrev rank_that : Activity → RankWorld
+rank_that activity = record { rest = []; vars = pos 0 ∷ []; handles = []; out = []; activity = activity }
 
 -- two sends of one tag, and one of another between them
 abbrev three_sends : World
 three_sends = record {
-  mode = Rendezvous;
-  ranks = rank_with (sent 1 1 10 ∷ sent 1 2 20 ∷ sent 1 1 30 ∷ []) Running ∷ rank_with (awaited 0 1 ∷ awaited 0 1 ∷ awaited 0 2 ∷ []) Blocked ∷ [];
-  sets = [];
+  ranks = rank_that Running ∷ rank_that Blocked ∷ [];
+  board = record {
+    mode = Rendezvous;
+    calls = (sent 1 1 10 ∷ sent 1 2 20 ∷ sent 1 1 30 ∷ []) ∷ (awaited 0 1 ∷ awaited 0 1 ∷ awaited 0 2 ∷ []) ∷ [];
+    sets = [];
+  };
 }
 
 -- a second send doesn't overtake the first of its tag, but passes one of another tag
-pub row_overtaking : eligible (board_of three_sends) (call_id 0 2) (call_id 1 0) ≡ false
+pub row_overtaking : eligible three_sends.board (call_id 0 2) (call_id 1 0) ≡ false
 row_overtaking = refl
 
-pub row_other_tag : eligible (board_of three_sends) (call_id 0 1) (call_id 1 2) ≡ true
+pub row_other_tag : eligible three_sends.board (call_id 0 1) (call_id 1 2) ≡ true
 row_other_tag = refl
 
 -- of two receives posted for one message, the earlier one gets it
-pub row_first_posted : eligible (board_of three_sends) (call_id 0 0) (call_id 1 0) ≡ true
+pub row_first_posted : eligible three_sends.board (call_id 0 0) (call_id 1 0) ≡ true
 row_first_posted = refl
 
-pub row_later_posted : eligible (board_of three_sends) (call_id 0 0) (call_id 1 1) ≡ false
+pub row_later_posted : eligible three_sends.board (call_id 0 0) (call_id 1 1) ≡ false
 row_later_posted = refl
 
 -- once the first pair is formed, the second send goes to the second receive
-pub row_second_pair : option_map (λ w. eligible (board_of w) (call_id 0 2) (call_id 1 1)) (next three_sends (Match (call_id 0 0) (call_id 1 0))) ≡ Some true
+pub row_second_pair : option_map (λ w. eligible w.board (call_id 0 2) (call_id 1 1)) (next three_sends (Match (call_id 0 0) (call_id 1 0))) ≡ Some true
 row_second_pair = refl
 
-pub row_three_pending : pending (board_of three_sends) 0 1 ≡ 0 ∷ 1 ∷ 2 ∷ []
+pub row_three_pending : pending three_sends.board 0 1 ≡ 0 ∷ 1 ∷ 2 ∷ []
 row_three_pending = refl
 
-pub row_three_posted : posted (board_of three_sends) 1 ≡ 0 ∷ 1 ∷ 2 ∷ []
+pub row_three_posted : posted three_sends.board 1 ≡ 0 ∷ 1 ∷ 2 ∷ []
 row_three_posted = refl
 
 -- a message that passes another leaves the queues of the others in order
-pub row_pending_after : option_map (λ w. pending (board_of w) 0 1) (next three_sends (Match (call_id 0 1) (call_id 1 2))) ≡ Some (0 ∷ 2 ∷ [])
+pub row_pending_after : option_map (λ w. pending w.board 0 1) (next three_sends (Match (call_id 0 1) (call_id 1 2))) ≡ Some (0 ∷ 2 ∷ [])
 row_pending_after = refl
 
-pub row_posted_after : option_map (λ w. posted (board_of w) 1) (next three_sends (Match (call_id 0 1) (call_id 1 2))) ≡ Some (0 ∷ 1 ∷ [])
+pub row_posted_after : option_map (λ w. posted w.board 1) (next three_sends (Match (call_id 0 1) (call_id 1 2))) ≡ Some (0 ∷ 1 ∷ [])
 row_posted_after = refl
 
 -- a paired call is never paired again
@@ -203,7 +206,7 @@ pub row_no_second_match : fold three_sends (Match (call_id 0 0) (call_id 1 0) �
 row_no_second_match = refl
 
 -- a receive of another source gets nothing
-pub row_other_source : eligible (board_of (record { mode = Rendezvous; ranks = rank_with (sent 1 1 10 ∷ []) Blocked ∷ rank_with (awaited 1 1 ∷ []) Blocked ∷ []; sets = [] })) (call_id 0 0) (call_id 1 0) ≡ false
+pub row_other_source : eligible (record { mode = Rendezvous; calls = (sent 1 1 10 ∷ []) ∷ (awaited 1 1 ∷ []) ∷ []; sets = [] }) (call_id 0 0) (call_id 1 0) ≡ false
 row_other_source = refl
 
 -- ---- trails

@@ -9,6 +9,7 @@ use Rattle.mpd_model.specs.declared.place.Place.{Place}
 use Rattle.mpd_model.specs.declared.step.Step.{Step}
 use Rattle.mpd_model.specs.declared.step.Step.TheVariants.{Local, Match, Wake}
 use Rattle.mpd_model.specs.declared.call.Call.{Call}
+use Rattle.mpd_model.specs.declared.call.CallKind.{CallKind}
 use Rattle.mpd_model.specs.declared.call.CallKind.TheVariants.{Send, Recv}
 use Rattle.mpd_model.specs.declared.call.Mode.TheVariants.{Rendezvous}
 use Rattle.mpd_model.specs.declared.call.Trap.{Trap}
@@ -20,7 +21,7 @@ use Rattle.mpd_model.specs.Term.{Term, lit, own_rank, size, cell, element, op1, 
 use Rattle.mpd_model.specs.Tree.{Tree, branch, repeat, no_more, then_more}
 use Rattle.mpd_model.specs.Program.{Program}
 use Rattle.mpd_model.specs.World.{RankWorld, World, call_id, start}
-use Rattle.mpd_model.specs.Next.{local, fold, enabled}
+use Rattle.mpd_model.specs.Next.{next, fold, enabled}
 use Rattle.mpd_model.specs.Outcomes.{outcome}
 use Rattle.mpd_model.specs.Trail.{Trail, Standing, opening, first_standing, world_of}
 use Rattle.mpd_model.specs.Lines.{lines_of}
@@ -62,23 +63,34 @@ abbrev earlier : Call
 earlier = record { statement = 3; kind = Send (record { to = 1; tag = 0; value = pos 8; blocks = true }) }
 
 abbrev rank_at : List (ℕ × Tree) → RankWorld
-rank_at ts = record { rest = ts; vars = pos 1 ∷ pos 10 ∷ pos 20 ∷ pos 30 ∷ []; handles = None ∷ []; calls = earlier ∷ []; out = pos 9 ∷ []; activity = Running }
+rank_at ts = record { rest = ts; vars = pos 1 ∷ pos 10 ∷ pos 20 ∷ pos 30 ∷ []; handles = None ∷ []; out = pos 9 ∷ []; activity = Running }
 
 abbrev behind : List (ℕ × Tree)
 behind = (20, print (n 1)) ∷ []
 
-abbrev does : Tree → Option RankWorld
-does t = local 0 2 (rank_at ((5, t) ∷ behind))
+-- It is rank 0 of these, and has issued one call; rank 1 has issued two, and no step of rank 0 changes anything of it.
+abbrev with_calls : RankWorld → List Call → World
+with_calls r calls = record { ranks = r ∷ rank_at [] ∷ []; board = record { mode = Rendezvous; calls = calls ∷ (earlier ∷ earlier ∷ []) ∷ []; sets = [] } }
+
+abbrev does : Tree → Option World
+does t = next (with_calls (rank_at ((5, t) ∷ behind)) (earlier ∷ [])) (Local 0)
+
+-- what is left where no call was issued, and where one was
+abbrev leaves : RankWorld → Option World
+leaves r = Some (with_calls r (earlier ∷ []))
+
+abbrev issues : RankWorld → CallKind → Option World
+issues r kind = Some (with_calls r (earlier ∷ record { statement = 5; kind = kind } ∷ []))
 
 -- a trap changes what the rank is doing, and nothing else: the statement is still the first that is left
 abbrev Traps : Type 0
 Traps = List (Tree × Trap)
 
-abbrev found : Traps → List (Option RankWorld)
-found table = map {B = Option RankWorld} (λ r. does r.0) table
+abbrev found : Traps → List (Option World)
+found table = map {B = Option World} (λ r. does r.0) table
 
-abbrev wanted : Traps → List (Option RankWorld)
-wanted table = map {B = Option RankWorld} (λ r. Some (record (rank_at ((5, r.0) ∷ behind)) { activity = Trapped r.1 })) table
+abbrev wanted : Traps → List (Option World)
+wanted table = map {B = Option World} (λ r. leaves (record (rank_at ((5, r.0) ∷ behind)) { activity = Trapped r.1 })) table
 
 -- the value comes first, then the destination, which is checked before the tag is evaluated
 abbrev sends : Traps
@@ -137,19 +149,19 @@ row_assertions = refl
 
 -- what is sent is the value at the issue
 pub row_sent : does (send (op2 Add (cell x) (element a (n 2))) (n 1) (n 32767))
-    ≡ Some (record (rank_at behind) { calls = earlier ∷ record { statement = 5; kind = Send (record { to = 1; tag = 32767; value = pos 31; blocks = true }) } ∷ []; activity = Blocked })
+    ≡ issues (record (rank_at behind) { activity = Blocked }) (Send (record { to = 1; tag = 32767; value = pos 31; blocks = true }))
 row_sent = refl
 
 pub row_sent_smallest : does (send (op2 Subtract (m 9223372036854775807) (n 1)) own_rank (m 0))
-    ≡ Some (record (rank_at behind) { calls = earlier ∷ record { statement = 5; kind = Send (record { to = 0; tag = 0; value = negsuc 9223372036854775807; blocks = true }) } ∷ []; activity = Blocked })
+    ≡ issues (record (rank_at behind) { activity = Blocked }) (Send (record { to = 0; tag = 0; value = negsuc 9223372036854775807; blocks = true }))
 row_sent_smallest = refl
 
 -- the cell of a receive is fixed as it is issued: the third of `a` is cell 3
 pub row_posted_at : does (recv (part a (op2 Add (cell x) (n 1))) (op2 Subtract size (n 1)) (n 0))
-    ≡ Some (record (rank_at behind) { calls = earlier ∷ record { statement = 5; kind = Recv (record { from = 1; tag = 0; cell = 3; blocks = true }) } ∷ []; activity = Blocked })
+    ≡ issues (record (rank_at behind) { activity = Blocked }) (Recv (record { from = 1; tag = 0; cell = 3; blocks = true }))
 row_posted_at = refl
 
-pub row_posted_whole : does (recv (whole x) (n 0) (n 32767)) ≡ Some (record (rank_at behind) { calls = earlier ∷ record { statement = 5; kind = Recv (record { from = 0; tag = 32767; cell = 0; blocks = true }) } ∷ []; activity = Blocked })
+pub row_posted_whole : does (recv (whole x) (n 0) (n 32767)) ≡ issues (record (rank_at behind) { activity = Blocked }) (Recv (record { from = 0; tag = 32767; cell = 0; blocks = true }))
 row_posted_whole = refl
 
 -- an assignment changes one cell
@@ -161,13 +173,13 @@ writes =
     ∷ (assign (part a (op2 Divide (element a (n 0)) (n 5))) (op2 Subtract (cell x) (n 2)), pos 1 ∷ pos 10 ∷ pos 20 ∷ negsuc 0 ∷ [])
     ∷ (assign (whole x) (cell x), pos 1 ∷ pos 10 ∷ pos 20 ∷ pos 30 ∷ []) ∷ []
 
-pub row_writes : map {B = Option RankWorld} (λ r. does r.0) writes ≡ map {B = Option RankWorld} (λ r. Some (record (rank_at behind) { vars = r.1 })) writes
+pub row_writes : map {B = Option World} (λ r. does r.0) writes ≡ map {B = Option World} (λ r. leaves (record (rank_at behind) { vars = r.1 })) writes
 row_writes = refl
 
-pub row_held : map {B = Option RankWorld} does (check (n 1) ∷ check (m 3) ∷ check (op2 Less (n 1) (n 2)) ∷ []) ≡ replicate 3 (Some (rank_at behind))
+pub row_held : map {B = Option World} does (check (n 1) ∷ check (m 3) ∷ check (op2 Less (n 1) (n 2)) ∷ []) ≡ replicate 3 (leaves (rank_at behind))
 row_held = refl
 
-pub row_printed : does (print (element a (cell x))) ≡ Some (record (rank_at behind) { out = pos 9 ∷ pos 20 ∷ [] })
+pub row_printed : does (print (element a (cell x))) ≡ leaves (record (rank_at behind) { out = pos 9 ∷ pos 20 ∷ [] })
 row_printed = refl
 
 -- `while 1 { print 1; } x = 1;` in the first block, statements 6 to 8, and `assert 1;` in the second, statement 9
@@ -177,29 +189,29 @@ inner = repeat (n 1) (then_more (print (n 1)) no_more)
 abbrev two_ways : Term → Tree
 two_ways c = branch c (then_more inner (then_more (assign (whole x) (n 1)) no_more)) (then_more (check (n 1)) no_more)
 
-pub row_first_way : does (two_ways (m 1)) ≡ Some (rank_at ((6, inner) ∷ (8, assign (whole x) (n 1)) ∷ behind))
+pub row_first_way : does (two_ways (m 1)) ≡ leaves (rank_at ((6, inner) ∷ (8, assign (whole x) (n 1)) ∷ behind))
 row_first_way = refl
 
-pub row_second_way : does (two_ways (m 0)) ≡ Some (rank_at ((9, check (n 1)) ∷ behind))
+pub row_second_way : does (two_ways (m 0)) ≡ leaves (rank_at ((9, check (n 1)) ∷ behind))
 row_second_way = refl
 
 -- a `while` puts its body before itself, unless its condition is zero
 abbrev loop : Term → Tree
 loop c = repeat c (then_more inner (then_more (print (n 2)) no_more))
 
-pub row_around : does (loop (cell x)) ≡ Some (rank_at ((6, inner) ∷ (8, print (n 2)) ∷ (5, loop (cell x)) ∷ behind))
+pub row_around : does (loop (cell x)) ≡ leaves (rank_at ((6, inner) ∷ (8, print (n 2)) ∷ (5, loop (cell x)) ∷ behind))
 row_around = refl
 
-pub row_around_negative : does (loop (m 3)) ≡ Some (rank_at ((6, inner) ∷ (8, print (n 2)) ∷ (5, loop (m 3)) ∷ behind))
+pub row_around_negative : does (loop (m 3)) ≡ leaves (rank_at ((6, inner) ∷ (8, print (n 2)) ∷ (5, loop (m 3)) ∷ behind))
 row_around_negative = refl
 
-pub row_not_around : does (loop (op2 Subtract (cell x) (n 1))) ≡ Some (rank_at behind)
+pub row_not_around : does (loop (op2 Subtract (cell x) (n 1))) ≡ leaves (rank_at behind)
 row_not_around = refl
 
-pub row_around_nothing : does (repeat (n 1) no_more) ≡ Some (rank_at ((5, repeat (n 1) no_more) ∷ behind))
+pub row_around_nothing : does (repeat (n 1) no_more) ≡ leaves (rank_at ((5, repeat (n 1) no_more) ∷ behind))
 row_around_nothing = refl
 
-pub row_never : does (repeat (n 0) no_more) ≡ Some (rank_at behind)
+pub row_never : does (repeat (n 0) no_more) ≡ leaves (rank_at behind)
 row_never = refl
 
 -- ---- scripts, step by step

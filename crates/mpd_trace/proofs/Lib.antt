@@ -1,4 +1,5 @@
 pub mod RangeTexts
+pub mod WalkTexts
 pub mod CellTexts
 pub mod ByteLaws
 pub mod DividedLaws

@@ -1,13 +1,14 @@
 //! The text of `show` (docs/FORMATS.md, "Text of show").
 
-ghost use Rattle.std.specs.Prelude.{◌≡◌, ◌++◌, ◌∷◌, [], ◌<◌, IfOk, OnOk, length, slice_get, if◌then◌else◌, string_bytes};
+ghost use Rattle.std.specs.Prelude.{◌≡◌, ◌++◌, ◌∷◌, ◌<◌, IfOk, OnOk, length, slice_get, string_bytes};
 ghost use Rattle.std.specs.List.{flat_map};
-ghost use Rattle.std.specs.Fmt.{decimal, signed_decimal};
-ghost use Rattle.mpd_model.specs.World.{board_of, rank_numbers, pending, posted};
+ghost use Rattle.mpd_model.specs.World.{rank_numbers};
 ghost use Rattle.mpd_model.specs.Outcomes.{outcome};
 ghost use Rattle.mpd_model.specs.Texts.{spaced, depth_line, rank_line, values_line, handle_text, handles_line, call_line, call_lines, cell_lines, rank_lines, numbers_line, pending_line, pending_lines, posted_line, set_line, outcome_line, show_text};
 
 use mpd_core::state::Core;
+use mpd_device::steps::Steps;
+use mpd_match::board::Board;
 use mpd_model::call::MatchSet;
 use mpd_model::step::CallId;
 use mpd_model::text::print_outcome;
@@ -20,9 +21,9 @@ pub fn show(alloc: Global, core: &Core<'_>, depth: usize, kept: usize) -> Result
     let mut out = String::new(alloc);
     write!(out, "depth {depth} of {kept}\n")?;
     push_ranks(&mut out, core)?;
-    push_all_pending(&mut out, core)?;
-    push_all_posted(&mut out, core)?;
-    push_sets(&mut out, core.sets())?;
+    push_all_pending(&mut out, core.board())?;
+    push_all_posted(&mut out, core.board())?;
+    push_sets(&mut out, core.board().sets())?;
     push_outcome(&mut out, core)?;
     out.push_str("end\n")?;
     Ok(out)
@@ -30,7 +31,7 @@ pub fn show(alloc: Global, core: &Core<'_>, depth: usize, kept: usize) -> Result
 
 /// Adds the lines of every rank.
 fn push_ranks(out: &mut String, core: &Core<'_>) -> Result<(), AllocError>
-    ensures { OnOk result (string_bytes out.new ≡ string_bytes out.old ++ flat_map (rank_lines core.now.program core.now.world) (rank_numbers (board_of core.now.world))) }
+    ensures { OnOk result (string_bytes out.new ≡ string_bytes out.old ++ flat_map (rank_lines core.now.program core.now.world) (rank_numbers core.now.world.board)) }
 {
     let count = core.rank_count();
     for rank in 0..count {
@@ -109,9 +110,9 @@ fn push_handle(out: &mut String, handle: Option<usize>) -> Result<(), AllocError
 
 /// Adds the lines of a rank's calls.
 fn push_calls(out: &mut String, core: &Core<'_>, rank: usize) -> Result<(), AllocError>
-    ensures { OnOk result (string_bytes out.new ≡ string_bytes out.old ++ call_lines (board_of core.now.world) rank) }
+    ensures { OnOk result (string_bytes out.new ≡ string_bytes out.old ++ call_lines core.now.world.board rank) }
 {
-    let count = core.call_count(rank);
+    let count = core.board().call_count(rank);
     for index in 0..count {
         push_call(out, core, CallId { rank, index })?;
     }
@@ -120,7 +121,7 @@ fn push_calls(out: &mut String, core: &Core<'_>, rank: usize) -> Result<(), Allo
 
 /// Adds the line of a call.
 fn push_call(out: &mut String, core: &Core<'_>, id: CallId) -> Result<(), AllocError>
-    ensures { OnOk result (string_bytes out.new ≡ string_bytes out.old ++ call_line (board_of core.now.world) id) }
+    ensures { OnOk result (string_bytes out.new ≡ string_bytes out.old ++ call_line core.now.world.board id) }
 {
     write!(out, "call {id} ")?;
     core.push_call(out, id)?;
@@ -129,23 +130,24 @@ fn push_call(out: &mut String, core: &Core<'_>, id: CallId) -> Result<(), AllocE
 }
 
 /// Adds the lines of all free sends, by sender.
-fn push_all_pending(out: &mut String, core: &Core<'_>) -> Result<(), AllocError>
-    ensures { OnOk result (string_bytes out.new ≡ string_bytes out.old ++ flat_map (pending_lines (board_of core.now.world)) (rank_numbers (board_of core.now.world))) }
+fn push_all_pending(out: &mut String, board: &Board) -> Result<(), AllocError>
+    ensures { OnOk result (string_bytes out.new ≡ string_bytes out.old ++ flat_map (pending_lines board.now.board) (rank_numbers board.now.board)) }
 {
-    let count = core.rank_count();
+    let count = board.rank_count();
     for sender in 0..count {
-        push_pending_of(out, core, sender)?;
+        push_pending_of(out, board, sender)?;
     }
     Ok(())
 }
 
 /// Adds the lines of a rank's free sends, by receiver.
-fn push_pending_of(out: &mut String, core: &Core<'_>, sender: usize) -> Result<(), AllocError>
-    ensures { OnOk result (string_bytes out.new ≡ string_bytes out.old ++ pending_lines (board_of core.now.world) sender) }
+fn push_pending_of(out: &mut String, board: &Board, sender: usize) -> Result<(), AllocError>
+    requires { sender < length board.now.board.calls }
+    ensures { OnOk result (string_bytes out.new ≡ string_bytes out.old ++ pending_lines board.now.board sender) }
 {
-    let count = core.rank_count();
+    let count = board.rank_count();
     for receiver in 0..count {
-        push_pending(out, core, sender, receiver)?;
+        push_pending(out, board, sender, receiver)?;
     }
     Ok(())
 }
@@ -153,90 +155,57 @@ fn push_pending_of(out: &mut String, core: &Core<'_>, sender: usize) -> Result<(
 /// Adds the line of a rank's free sends to another, where there are any.
 fn push_pending(
     out: &mut String,
-    core: &Core<'_>,
+    board: &Board,
     sender: usize,
     receiver: usize,
 ) -> Result<(), AllocError>
-    ensures { OnOk result (string_bytes out.new ≡ string_bytes out.old ++ pending_line (board_of core.now.world) sender receiver) }
+    requires sender { sender < length board.now.board.calls }
+    requires receiver { receiver < length board.now.board.calls }
+    ensures { OnOk result (string_bytes out.new ≡ string_bytes out.old ++ pending_line board.now.board sender receiver) }
 {
-    let numbers = pending_numbers(*out.allocator(), core, sender, receiver)?;
-    if numbers.is_empty() {
+    let mut looks = Steps::new();
+    let mut here = board.first_pending(sender, receiver, &mut looks);
+    if here.is_none() {
         return Ok(());
     }
     write!(out, "pending {sender} to {receiver}:")?;
-    push_numbers(out, &numbers)
-}
-
-/// The numbers of a rank's free sends to another.
-fn pending_numbers(
-    alloc: Global,
-    core: &Core<'_>,
-    sender: usize,
-    receiver: usize,
-) -> Result<Vec<usize>, AllocError>
-    ensures { IfOk result (λ numbers. numbers.items ≡ pending (board_of core.now.world) sender receiver) }
-{
-    let mut numbers = Vec::new(alloc);
-    let count = core.call_count(sender);
-    for index in 0..count {
-        let is_chosen = core.is_pending(sender, receiver, index);
-        push_if(&mut numbers, index, is_chosen)?;
+    'walk: while let Some(index) = here {
+        write!(out, " {index}")?;
+        let id = CallId {
+            rank: sender,
+            index,
+        };
+        here = board.next_free(id, &mut looks);
     }
-    Ok(numbers)
+    out.push('\n')?;
+    Ok(())
 }
 
 /// Adds the lines of all free receives, by rank.
-fn push_all_posted(out: &mut String, core: &Core<'_>) -> Result<(), AllocError>
-    ensures { OnOk result (string_bytes out.new ≡ string_bytes out.old ++ flat_map (posted_line (board_of core.now.world)) (rank_numbers (board_of core.now.world))) }
+fn push_all_posted(out: &mut String, board: &Board) -> Result<(), AllocError>
+    ensures { OnOk result (string_bytes out.new ≡ string_bytes out.old ++ flat_map (posted_line board.now.board) (rank_numbers board.now.board)) }
 {
-    let count = core.rank_count();
+    let count = board.rank_count();
     for rank in 0..count {
-        push_posted(out, core, rank)?;
+        push_posted(out, board, rank)?;
     }
     Ok(())
 }
 
 /// Adds the line of a rank's free receives, where there are any.
-fn push_posted(out: &mut String, core: &Core<'_>, rank: usize) -> Result<(), AllocError>
-    ensures { OnOk result (string_bytes out.new ≡ string_bytes out.old ++ posted_line (board_of core.now.world) rank) }
+fn push_posted(out: &mut String, board: &Board, rank: usize) -> Result<(), AllocError>
+    requires { rank < length board.now.board.calls }
+    ensures { OnOk result (string_bytes out.new ≡ string_bytes out.old ++ posted_line board.now.board rank) }
 {
-    let numbers = posted_numbers(*out.allocator(), core, rank)?;
-    if numbers.is_empty() {
+    let mut looks = Steps::new();
+    let mut here = board.first_posted(rank, &mut looks);
+    if here.is_none() {
         return Ok(());
     }
     write!(out, "posted {rank}:")?;
-    push_numbers(out, &numbers)
-}
-
-/// The numbers of a rank's free receives.
-fn posted_numbers(alloc: Global, core: &Core<'_>, rank: usize) -> Result<Vec<usize>, AllocError>
-    ensures { IfOk result (λ numbers. numbers.items ≡ posted (board_of core.now.world) rank) }
-{
-    let mut numbers = Vec::new(alloc);
-    let count = core.call_count(rank);
-    for index in 0..count {
-        let is_chosen = core.is_posted(rank, index);
-        push_if(&mut numbers, index, is_chosen)?;
-    }
-    Ok(numbers)
-}
-
-/// Adds a number, where it is chosen.
-fn push_if(numbers: &mut Vec<usize>, number: usize, is_chosen: bool) -> Result<(), AllocError>
-    ensures { OnOk result (numbers.new.items ≡ numbers.old.items ++ (if is_chosen then number ∷ [] else [])) }
-{
-    if is_chosen {
-        numbers.push(number)?;
-    }
-    Ok(())
-}
-
-/// Adds numbers, and ends the line.
-fn push_numbers(out: &mut String, numbers: &[usize]) -> Result<(), AllocError>
-    ensures { OnOk result (string_bytes out.new ≡ string_bytes out.old ++ (spaced decimal numbers.now ++ 10 ∷ [])) }
-{
-    for number in numbers {
-        write!(out, " {number}")?;
+    'walk: while let Some(index) = here {
+        write!(out, " {index}")?;
+        here = board.next_free(CallId { rank, index }, &mut looks);
     }
     out.push('\n')?;
     Ok(())

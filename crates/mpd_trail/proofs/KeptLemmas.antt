@@ -1,17 +1,19 @@
 -- The records lead from the first world to the last.
-use Rattle.std.proofs.Common.{◌≡◌, ℕ, ◌<◌, ◌≤◌, ◌+◌, Bool, true, false, List, [], ◌∷◌, ◌++◌, length, take, reverse, get_or, slice_get, Some, None, refl, sym, ap, ◌∙◌, arith, cond}
-use Rattle.std.specs.Option.{option_and_then}
+use Rattle.std.proofs.Common.{◌≡◌, ℕ, ◌<◌, ◌≤◌, ◌+◌, Bool, true, false, List, [], ◌∷◌, ◌++◌, length, take, reverse, get_or, slice_get, Option, Some, None, IfSome, refl, sym, ap, subst, ◌∙◌, arith, cond}
+use Rattle.std.specs.Option.{option_and_then, option_map}
 use Rattle.std.proofs.lemmas.List.{reverse-append, reverse-reverse, length-append, take_more, take_all, length-take}
 use Rattle.std.proofs.lemmas.Option.{get_or_from_slice_get, slice_get_within}
 use Rattle.mpd_model.specs.declared.limits.TheConstants.{STEPS_MAX}
 use Rattle.mpd_model.specs.declared.step.Step.{Step}
-use Rattle.mpd_model.specs.declared.step.Step.TheVariants.{Release}
+use Rattle.mpd_model.specs.declared.step.Step.TheVariants.{Local, Match, Wake, Release}
 use Rattle.mpd_model.specs.Program.{Program}
 use Rattle.mpd_model.specs.World.{World, start}
-use Rattle.mpd_model.specs.Next.{next, fold}
+use Rattle.mpd_model.specs.Next.{next, fold, wake_writes, wake_clears}
 use Rattle.mpd_model.specs.Trail.{Standing, IsReached, is_step, noted}
+use Rattle.mpd_rank.specs.declared.change.RankRecord.{RankRecord}
 use Rattle.mpd_core.specs.declared.record.Record.{Record}
-use Rattle.mpd_core.specs.Undone.{undone}
+use Rattle.mpd_core.specs.Records.{record_of, step_record, local_record_at, wake_record_at}
+use Rattle.mpd_core.specs.Undone.{undone, rank_part, CanUndo}
 use Rattle.mpd_trail.specs.Kept.{LeadsTo, Keeps}
 use Rattle.mpd_trail.proofs.StepLemmas.{is_step-true}
 
@@ -22,14 +24,29 @@ fold-append w (x ∷ xs) ys =
     [ None ↦ refl | Some v ↦ fold-append v xs ys ]
 
 -- the last world is the fold of the steps
-pub leads_fold : (s : Program) (first : World) (us : List Record) (steps : List Step) (last : World) → LeadsTo s first us steps last → fold first (reverse steps) ≡ Some last
+pub leads_fold : (s : Program) (first : World) (us : List RankRecord) (steps : List Step) (last : World) → LeadsTo s first us steps last → fold first (reverse steps) ≡ Some last
 leads_fold s first [] [] last h = ap Some (sym h)
 leads_fold s first (u ∷ us) (a ∷ steps) last h =
-    let before : fold first (reverse steps) ≡ Some (undone s last u) = leads_fold s first us steps (undone s last u) h.1 in
+    let old : World = undone s last (step_record a u) in
+    let before : fold first (reverse steps) ≡ Some old = leads_fold s first us steps old h.2 in
     let split : fold first (reverse steps ++ a ∷ []) ≡ option_and_then (λ v. fold v (a ∷ [])) (fold first (reverse steps)) = fold-append first (reverse steps) (a ∷ []) in
     ap (fold first) (reverse-append (a ∷ []) steps) ∙ split ∙ ap (option_and_then (λ v. fold v (a ∷ []))) before ∙ ap (option_and_then (λ v. fold v [])) h.0
 leads_fold s first [] (a ∷ steps) last h = absurd h
 leads_fold s first (u ∷ us) [] last h = absurd h
+
+-- a record of a step is that step with what the rank did at it
+is_joined : (a : Step) (o : Option RankRecord) → IfSome (option_map (step_record a) o) (λ done. done ≡ step_record a (rank_part done))
+is_joined a None = tt
+is_joined a (Some u) = refl
+
+is_of_step : (w : World) (a : Step) → IfSome (record_of w a) (λ done. done ≡ step_record a (rank_part done))
+is_of_step w (Local p) = is_joined (Local p) (local_record_at w.ranks p)
+is_of_step w (Match s r) = refl
+is_of_step w (Wake p) = is_joined (Wake p) (wake_record_at w.ranks p (wake_writes w.board p) (wake_clears w.board p))
+is_of_step w Release = tt
+
+recorded_step : (w : World) (a : Step) (done : Record) → record_of w a ≡ Some done → done ≡ step_record a (rank_part done)
+recorded_step w a done e = subst (λ (o : Option Record). IfSome o (λ d. d ≡ step_record a (rank_part d))) e (is_of_step w a)
 
 take_by : (b : Bool) (steps : List Step) (n : ℕ) (a : Step) → n ≤ length steps → is_step (slice_get steps n) a ≡ b → take (n + 1) (cond b steps (take n steps ++ a ∷ [])) ≡ take n steps ++ a ∷ []
 take_by true steps n a h e =
@@ -46,37 +63,49 @@ few_by true steps n most a h few = few
 few_by false steps n most a h few = omega (arith, length-append (take n steps) (a ∷ []), length-take n steps)
 
 -- where the steps not undone lead
-pub keeps_world : (s : Program) (first : World) (records : List Record) (steps : List Step) (last : World) → Keeps s first records steps last → fold first (take (length records) steps) ≡ Some last
+pub keeps_world : (s : Program) (first : World) (records : List RankRecord) (steps : List Step) (last : World) → Keeps s first records steps last → fold first (take (length records) steps) ≡ Some last
 keeps_world s first records steps last k =
     ap (fold first) (sym (reverse-reverse (take (length records) steps))) ∙ leads_fold s first (reverse records) (reverse (take (length records) steps)) last k.leads
 
-pub keeps_reached : (s : Standing) (records : List Record) → length records ≡ s.trail.depth → Keeps s.trail.program (start s.trail.program s.trail.mode) records s.trail.steps s.world → IsReached s
+pub keeps_reached : (s : Standing) (records : List RankRecord) → length records ≡ s.trail.depth → Keeps s.trail.program (start s.trail.program s.trail.mode) records s.trail.steps s.world → IsReached s
 keeps_reached s records e k =
     record { world = ap (λ n. fold (start s.trail.program s.trail.mode) (take n s.trail.steps)) (sym e) ∙ keeps_world s.trail.program (start s.trail.program s.trail.mode) records s.trail.steps s.world k; within = omega (arith, k.within) }
 
 -- one step more
-pub keeps_push : (s : Program) (first : World) (records : List Record) (steps : List Step) (last now : World) (u : Record) (a : Step) → Keeps s first records steps last → length records < STEPS_MAX → next last a ≡ Some now → undone s now u ≡ last
-    → Keeps s first (records ++ u ∷ []) (noted steps (length records) a) now
-keeps_push s first records steps last now u a k room e back =
+pub keeps_push : (s : Program) (first : World) (records : List RankRecord) (steps : List Step) (last now : World) (done : Record) (a : Step) → Keeps s first records steps last → length records < STEPS_MAX → next last a ≡ Some now
+    → undone s now done ≡ last → CanUndo now done → record_of last a ≡ Some done → Keeps s first (records ++ rank_part done ∷ []) (noted steps (length records) a) now
+keeps_push s first records steps last now done a k room e back can recorded =
     let n : ℕ = length records in
+    let u : RankRecord = rank_part done in
     let front : take (n + 1) (noted steps n a) ≡ take n steps ++ a ∷ [] = take_noted steps n a k.within in
     let long : length (records ++ u ∷ []) ≡ n + 1 = length-append records (u ∷ []) in
+    let is : done ≡ step_record a u = recorded_step last a done recorded in
+    let was : undone s now (step_record a u) ≡ last = ap (undone s now) (sym is) ∙ back in
+    let able : CanUndo now (step_record a u) = subst (CanUndo now) is can in
     let there : LeadsTo s first (u ∷ reverse records) (a ∷ reverse (take n steps)) now =
-    rw back (e, k.leads) in
+    (ap (λ w. next w a) was ∙ e, able, subst (LeadsTo s first (reverse records) (reverse (take n steps))) (sym was) k.leads) in
     record {
       within = omega (arith, long, ap length front, length-take (n + 1) (noted steps n a), length-append (take n steps) (a ∷ []), length-take n steps, k.within);
       few = few_by (is_step (slice_get steps n) a) steps n STEPS_MAX a room k.few;
       leads = rw (long, front, reverse-append records (u ∷ []), reverse-append (take n steps) (a ∷ [])) there;
     }
 
--- one step less
-pub keeps_pop : (s : Program) (first : World) (records : List Record) (steps : List Step) (last : World) (u : Record) → Keeps s first (records ++ u ∷ []) steps last → Keeps s first records steps (undone s last u)
-keeps_pop s first records steps last u k =
+-- The newest step: it can be taken back, and without it the others are kept.
+leads_last : (s : Program) (first : World) (records : List RankRecord) (steps : List Step) (last : World) (u : RankRecord) (a : Step) → a ≡ get_or steps (length records) a → Keeps s first (records ++ u ∷ []) steps last
+    → LeadsTo s first (u ∷ reverse records) (a ∷ reverse (take (length records) steps)) last
+leads_last s first records steps last u a read k =
     let n : ℕ = length records in
     let long : length (records ++ u ∷ []) ≡ n + 1 = length-append records (u ∷ []) in
-    let front : take (n + 1) steps ≡ take n steps ++ get_or steps n Release ∷ [] = take_more steps n Release (omega (arith, long, k.within)) in
-    let there : LeadsTo s first (u ∷ reverse records) (get_or steps n Release ∷ reverse (take n steps)) last =
-    rw (long, front, reverse-append records (u ∷ []), reverse-append (take n steps) (get_or steps n Release ∷ [])) at k.leads in
-    record { within = omega (arith, long, k.within); few = k.few; leads = there.1 }
+    let front : take (n + 1) steps ≡ take n steps ++ a ∷ [] = take_more steps n a (omega (arith, long, k.within)) ∙ ap (λ b. take n steps ++ b ∷ []) (sym read) in
+    rw (long, front, reverse-append records (u ∷ []), reverse-append (take n steps) (a ∷ [])) at k.leads
 
-pub ruleset keeping = (keeps_world, keeps_reached, keeps_push, keeps_pop)
+pub keeps_can : (s : Program) (first : World) (records : List RankRecord) (steps : List Step) (last : World) (u : RankRecord) (a : Step) → a ≡ get_or steps (length records) a → Keeps s first (records ++ u ∷ []) steps last
+    → CanUndo last (step_record a u)
+keeps_can s first records steps last u a read k = (leads_last s first records steps last u a read k).1
+
+pub keeps_pop : (s : Program) (first : World) (records : List RankRecord) (steps : List Step) (last : World) (u : RankRecord) (a : Step) → a ≡ get_or steps (length records) a → Keeps s first (records ++ u ∷ []) steps last
+    → Keeps s first records steps (undone s last (step_record a u))
+keeps_pop s first records steps last u a read k =
+    record { within = omega (arith, length-append records (u ∷ []), k.within); few = k.few; leads = (leads_last s first records steps last u a read k).2 }
+
+pub ruleset keeping = (keeps_world, keeps_reached, keeps_push, keeps_can, keeps_pop)

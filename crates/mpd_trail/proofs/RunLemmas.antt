@@ -12,7 +12,7 @@ use Rattle.mpd_trail.specs.declared.run.Command.{Command}
 use Rattle.mpd_trail.specs.declared.run.Command.TheVariants.{Apply, Undo}
 use Rattle.mpd_trail.specs.declared.run.Reply.{Reply}
 use Rattle.mpd_trail.specs.declared.run.Reply.TheVariants.{Done, NotEnabled, Full, AtStart, Memory}
-use Rattle.mpd_trail.specs.Run.{Answers, Run, SameScript}
+use Rattle.mpd_trail.specs.Run.{Answers, Run, SameScript, Written, WrittenAll}
 use Rattle.mpd_trail.specs.Views.{DebuggerView, standing_of}
 use Rattle.mpd_trail.proofs.KeptLemmas.{fold-append, take_noted}
 
@@ -97,6 +97,11 @@ run_on first old mid new (d ∷ ds) [] c r run h = absurd run
 pub run_more : (first : World) (old mid new : List Step) (cs : List Command) (rs : List Reply) (i : ℕ) (d : Command) (r : Reply) → i < length cs → Run first old (take i cs) rs mid → Answers first mid (get_or cs i d) r new
     → Run first old (take (i + 1) cs) (rs ++ r ∷ []) new
 run_more first old mid new cs rs i d r h run step = rw (take_more cs i d h) (run_on first old mid new (take i cs) rs (get_or cs i d) r run step)
+
+-- the writes of one reply more
+pub written_on : (old mid new : ℕ) (rs : List Reply) (r : Reply) → WrittenAll old rs mid → Written mid r new → WrittenAll old (rs ++ r ∷ []) new
+written_on old mid new [] r same h = (new, rw (← same) h, refl)
+written_on old mid new (s ∷ ss) r all h = (all.0, all.1, written_on all.0 mid new ss r all.2 h)
 
 pub same_trans : (a b c : Trail) → SameScript a b → SameScript b c → SameScript a c
 same_trans a b c x y = record { program = y.program ∙ x.program; mode = y.mode ∙ x.mode }

@@ -1,5 +1,5 @@
 -- What a debugger replies to a list of steps and undos, told by the steps not undone alone.
-use Rattle.std.specs.Prelude.{◌≡◌, ◌<◌, List, [], ◌∷◌, ◌++◌, length, None, Some, IsSome}
+use Rattle.std.specs.Prelude.{◌≡◌, ◌<◌, ◌≤◌, ◌+◌, ℕ, List, [], ◌∷◌, ◌++◌, length, None, Some, IsSome}
 use Rattle.mpd_model.specs.declared.limits.TheConstants.{STEPS_MAX}
 use Rattle.mpd_model.specs.declared.step.Step.{Step}
 use Rattle.mpd_model.specs.World.{World}
@@ -47,6 +47,20 @@ Run first old [] [] new = new ≡ old
 Run first old (c ∷ cs) (r ∷ rs) new = (mid : List Step) × Answers first old c r mid × Run first mid cs rs new
 Run first old [] (r ∷ rs) new = ⊥
 Run first old (c ∷ cs) [] new = ⊥
+
+-- How many writes a command takes, told by its reply: a step that was taken, or taken back, 1 to 16; a step that was taken, and
+-- taken back for want of memory for its record, 32 at most; any other none.
+abbrev pub Written : ℕ → Reply → ℕ → Type 0
+Written old Done new = (old + 1 ≤ new) × (new ≤ old + 16)
+Written old Memory new = (old ≤ new) × (new ≤ old + 32)
+Written old NotEnabled new = new ≡ old
+Written old Full new = new ≡ old
+Written old AtStart new = new ≡ old
+
+-- a list of commands, each of which takes so many
+abbrev pub WrittenAll : ℕ → List Reply → ℕ → Type 0
+WrittenAll old [] new = new ≡ old
+WrittenAll old (r ∷ rs) new = (mid : ℕ) × Written old r mid × WrittenAll mid rs new
 
 pub record SameScript (old new : Trail) : Type 0 where
   pub program : new.program ≡ old.program

@@ -9,11 +9,13 @@ pub record DebuggerView : Type 0 where
   pub world : World
   -- for how many steps, whatever they are, room is kept
   pub room : ℕ
+  -- how many writes its core has counted
+  pub writes : ℕ
 
 abbrev pub debugger_view_code : Coded DebuggerView
 debugger_view_code =
-    code_by (Trail × (World × ℕ)) (coded× trail_code (coded× world_code coded_ℕ))
-    (λ v. (v.trail, (v.world, v.room))) (λ q. record { trail = q.0; world = q.1.0; room = q.1.1 }) (λ _. refl)
+    code_by (Trail × (World × (ℕ × ℕ))) (coded× trail_code (coded× world_code (coded× coded_ℕ coded_ℕ)))
+    (λ v. (v.trail, (v.world, (v.room, v.writes)))) (λ q. record { trail = q.0; world = q.1.0; room = q.1.1.0; writes = q.1.1.1 }) (λ _. refl)
 
 -- where it stands
 abbrev pub standing_of : DebuggerView → Standing

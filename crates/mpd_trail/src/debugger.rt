@@ -1,6 +1,6 @@
 //! The trail: the steps that were taken, of which some may be undone, and the state that they lead to.
 
-ghost use Rattle.std.specs.Prelude.{◌≡◌, ◌↔◌, ◌<◌, ◌≤◌, IfOk, OnOk, OnErr, IsErrOf, IsOk, IsSome, Some, None, vec_len, vec_capacity, codes};
+ghost use Rattle.std.specs.Prelude.{◌≡◌, ◌↔◌, ◌<◌, ◌≤◌, IfOk, OnOk, OnErr, IsErrOf, IsOk, IsSome, Some, None, ◌+◌, ◌-◌, min, vec_len, vec_capacity, codes};
 ghost use Rattle.mpd_model.specs.Next.{next};
 ghost use Rattle.mpd_model.specs.Trail.{first_standing, IsReached, noted, applied, taken_back, step_eq};
 ghost use Rattle.mpd_trail.specs.Faults.{apply_fault, apply_fault_number, apply_fault_name};
@@ -13,6 +13,7 @@ use mpd_core::state::Core;
 use mpd_model::call::Mode;
 use mpd_model::limits::STEPS_MAX;
 use mpd_model::step::Step;
+use mpd_rank::change::RankRecord;
 use std::alloc::{AllocError, Global};
 use std::marker::Model;
 use thiserror::Error;
@@ -87,14 +88,14 @@ impl AtStart {
     }
 }
 
-/// The steps that were taken, and where they lead; contracts see it as a `DebuggerView`: its trail, its world, and the room that
-/// is kept for steps.
+/// The steps that were taken, and where they lead; contracts see it as a `DebuggerView`: its trail, its world, the room that is
+/// kept for steps, and how many writes its core has counted.
 #[derive(Drop)]
 pub struct Debugger<'c> {
     mode: Mode,
     core: Core<'c>,
-    /// What takes each step back that is not undone, the newest last.
-    records: Vec<Record>,
+    /// What takes each step back that is not undone, beside the step itself, the newest last.
+    records: Vec<RankRecord>,
     steps: Vec<Step>,
 }
 
@@ -112,6 +113,7 @@ impl<'c> Model for Debugger<'c> {
       trail = record { program = d.core.program; mode = d.mode; steps = d.steps.items; depth = length d.records.items };
       world = d.core.world;
       room = min d.core.room (min (vec_capacity d.records - vec_len d.records) (vec_capacity d.steps - vec_len d.steps));
+      writes = d.core.writes;
     } };
 
     ghost invariant = { λ d. Keeps d.core.program (start d.core.program d.mode) d.records.items d.steps.items d.core.world };
@@ -143,10 +145,28 @@ fn note(steps: &mut Vec<Step>, depth: usize, step: Step) -> Result<(), AllocErro
     Ok(())
 }
 
+/// Has a step as the next one, and keeps room for its record. An `Err` is want of memory, and leaves the steps as they were.
+fn note_next(
+    records: &mut Vec<RankRecord>,
+    steps: &mut Vec<Step>,
+    step: Step,
+) -> Result<(), AllocError>
+    requires { vec_len records.old ≤ vec_len steps.old }
+    ensures ok { OnOk result (steps.new.items ≡ noted steps.old.items (vec_len records.old) step) }
+    ensures room { OnOk result (vec_len records.new < vec_capacity records.new) }
+    ensures records { records.new.items ≡ records.old.items }
+    ensures err { OnErr result (steps.new.items ≡ steps.old.items) }
+    ensures memory { OnErr result (min (vec_capacity records.old - vec_len records.old) (vec_capacity steps.old - vec_len steps.old) ≡ 0) }
+{
+    records.reserve(1)?;
+    note(steps, records.len(), step)
+}
+
 impl<'c> Debugger<'c> {
     /// No step was taken. An `Err` is want of memory.
     pub fn start(alloc: Global, code: &'c Code, mode: Mode) -> Result<Debugger<'c>, AllocError>
-        ensures { IfOk result (λ d. standing_of d ≡ first_standing code.now.program mode) }
+        ensures standing { IfOk result (λ d. standing_of d ≡ first_standing code.now.program mode) }
+        ensures writes { IfOk result (λ d. d.writes ≡ 0) }
     {
         Ok(Debugger {
             mode,
@@ -188,6 +208,7 @@ impl<'c> Debugger<'c> {
         ensures memory { OnErr result (self.old.room ≡ 0) }
         ensures trail { self.new.trail ≡ self.old.trail }
         ensures world { self.new.world ≡ self.old.world }
+        ensures writes { self.new.writes ≡ self.old.writes }
     {
         self.core.keep_room()?;
         self.records.reserve(1)?;
@@ -197,7 +218,8 @@ impl<'c> Debugger<'c> {
     /// Takes a step, or refuses it: `NotEnabled` (21) exactly where the relation of steps has none, `Full` (22)
     /// exactly where the step is enabled and 1,000,000 steps are not undone, `Memory` (23) where a growth was
     /// refused, which is nowhere where room was kept. A step that stands next among those undone is taken again and
-    /// keeps the rest; another drops them.
+    /// keeps the rest; another drops them. A step takes 1 to 16 writes. For want of memory for its record it is taken back,
+    /// which takes so many more; any other refusal takes none.
     #[tactic(auto, using(crate::proofs::KeptLemmas::keeping))]
     pub fn apply(&mut self, step: Step) -> Result<(), ApplyFault>
         ensures ok { OnOk result (self.new.trail ≡ applied self.old.trail step) }
@@ -209,6 +231,11 @@ impl<'c> Debugger<'c> {
         ensures no_room { IsErrOf result ApplyFault.Memory → self.old.room ≡ 0 }
         ensures err { OnErr result (self.new.trail ≡ self.old.trail) }
         ensures err_world { OnErr result (self.new.world ≡ self.old.world) }
+        ensures rises { OnOk result (self.old.writes + 1 ≤ self.new.writes) }
+        ensures few { OnOk result (self.new.writes ≤ self.old.writes + 16) }
+        ensures not_enabled_writes { IsErrOf result ApplyFault.NotEnabled → self.new.writes ≡ self.old.writes }
+        ensures full_writes { IsErrOf result ApplyFault.Full → self.new.writes ≡ self.old.writes }
+        ensures memory_writes { IsErrOf result ApplyFault.Memory → (self.old.writes ≤ self.new.writes) × (self.new.writes ≤ self.old.writes + 32) }
     {
         let depth = self.records.len();
         if depth >= STEPS_MAX {
@@ -218,25 +245,21 @@ impl<'c> Debugger<'c> {
             return Err(ApplyFault::NotEnabled);
         }
         let done = self.core.apply(step)?;
-        match self.records.push(done) {
-            Ok(()) => {}
-            Err(failed) => {
-                self.core.undo(failed.value);
-                return Err(ApplyFault::Memory);
+        match note_next(&mut self.records, &mut self.steps, step) {
+            Ok(()) => {
+                let Record { from, change, .. } = done;
+                self.records.push_reserved(RankRecord { from, change });
+                Ok(())
             }
-        }
-        match note(&mut self.steps, depth, step) {
-            Ok(()) => Ok(()),
             Err(_) => {
-                if let Some(done) = self.records.pop() {
-                    self.core.undo(done);
-                }
+                self.core.undo(done);
                 Err(ApplyFault::Memory)
             }
         }
     }
 
-    /// Takes the last step back. It is refused only where no step is left (24), and so never for want of memory.
+    /// Takes the last step back, in 1 to 16 writes. It is refused only where no step is left (24), and so never for want of
+    /// memory.
     #[tactic(auto, using(crate::proofs::KeptLemmas::keeping))]
     pub fn undo(&mut self) -> Result<(), AtStart>
         ensures ok { OnOk result (self.new.trail ≡ taken_back self.old.trail) }
@@ -244,11 +267,15 @@ impl<'c> Debugger<'c> {
         ensures some { IsOk result ↔ (0 < self.old.trail.depth) }
         ensures err { OnErr result (self.new.trail ≡ self.old.trail) }
         ensures err_world { OnErr result (self.new.world ≡ self.old.world) }
+        ensures rises { OnOk result (self.old.writes + 1 ≤ self.new.writes) }
+        ensures few { OnOk result (self.new.writes ≤ self.old.writes + 16) }
+        ensures unwritten { OnErr result (self.new.writes ≡ self.old.writes) }
     {
         match self.records.pop() {
             None => Err(AtStart),
-            Some(done) => {
-                self.core.undo(done);
+            Some(RankRecord { from, change }) => {
+                let step = self.steps[self.records.len()];
+                self.core.undo(Record { step, from, change });
                 Ok(())
             }
         }

@@ -1,10 +1,10 @@
 //! Lists of steps and undos: the replies, and where they lead.
 
-ghost use Rattle.std.specs.Prelude.{◌≡◌, ◌<◌, length, Some, [], IfOk, OnErr};
+ghost use Rattle.std.specs.Prelude.{◌≡◌, ◌<◌, ℕ, length, Some, [], IfOk, OnErr};
 ghost use Rattle.mpd_model.specs.World.{start};
 ghost use Rattle.mpd_model.specs.Next.{fold};
 ghost use Rattle.mpd_model.specs.Trail.{kept, first_standing, IsReached};
-ghost use Rattle.mpd_trail.specs.Run.{Answers, Carried, Run, SameScript, Stays};
+ghost use Rattle.mpd_trail.specs.Run.{Answers, Carried, Run, SameScript, Stays, Written, WrittenAll};
 ghost use Rattle.mpd_trail.specs.Views.{standing_of};
 
 use crate::debugger::{ApplyFault, Debugger};
@@ -36,6 +36,7 @@ pub fn answer(debugger: &mut Debugger<'_>, command: Command) -> Reply
     ensures answers { Answers (start debugger.old.trail.program debugger.old.trail.mode) (kept debugger.old.trail) command result (kept debugger.new.trail) }
     ensures carried { Carried (standing_of debugger.old) command result (standing_of debugger.new) }
     ensures memory { result ≡ Reply.Memory → debugger.old.room ≡ 0 }
+    ensures writes { Written debugger.old.writes result debugger.new.writes }
     ensures script { SameScript debugger.old.trail debugger.new.trail }
     ensures reached { IsReached (standing_of debugger.new) }
 {
@@ -64,7 +65,9 @@ pub fn follow(
     ensures run { IfOk result (λ replies. Run (start debugger.old.trail.program debugger.old.trail.mode) (kept debugger.old.trail) commands.now replies.items (kept debugger.new.trail)) }
     ensures script { SameScript debugger.old.trail debugger.new.trail }
     ensures reached { IsReached (standing_of debugger.new) }
+    ensures writes { IfOk result (λ replies. WrittenAll debugger.old.writes replies.items debugger.new.writes) }
     ensures err { OnErr result (Stays (standing_of debugger.old) (standing_of debugger.new)) }
+    ensures err_writes { OnErr result (debugger.new.writes ≡ debugger.old.writes) }
     ensures memory { OnErr result (0 < length commands.now) }
 {
     let _ = debugger.core();
@@ -87,6 +90,7 @@ pub fn replay<'c>(
     ensures world { IfOk result (λ r. fold (start code.now.program mode) (kept r.0.trail) ≡ Some r.0.world) }
     ensures script { IfOk result (λ r. (r.0.trail.program ≡ code.now.program) × (r.0.trail.mode ≡ mode)) }
     ensures reached { IfOk result (λ r. IsReached (standing_of r.0)) }
+    ensures writes { IfOk result (λ r. WrittenAll 0 r.1.items r.0.writes) }
 {
     let mut debugger = Debugger::start(alloc, code, mode)?;
     let replies = follow(alloc, &mut debugger, commands)?;

@@ -1,9 +1,0 @@
-use Rattle.std.proofs.Common.{◌≡◌, ◌-◌}
-use Rattle.mpd_model.specs.declared.step.Step.TheVariants.{Match}
-use Rattle.mpd_core.proofs.RangeLemmas.{mapped_from}
-use Rattle.mpd_model.specs.Next.{is_enabled}
-use Rattle.mpd_model.specs.World.{call_id}
-use Rattle.mpd_core.proofs.state.Core.can_match_from.Given as goal
-
-abbrev pub invariant-loop-index : goal.invariant-loop-index
-invariant-loop-index l = mapped_from (is_enabled l.self.world) (λ i. Match (call_id l.sender i) l.recv) l.index (l.count - l.index) ≡ mapped_from (is_enabled l.self.world) (λ i. Match (call_id l.sender i) l.recv) 0 l.count
