@@ -1,6 +1,8 @@
 //! Rows of lowered code, of one rank and of a long run, worked out by hand: what no clause says, each public call with ample
 //! memory.
 
+ghost use Rattle.mpd_rank.specs.Undone.{IsOfRank};
+
 use crate::helpers::{lowered, same};
 use mpd_code::code::Code;
 use mpd_code::env::Env;
@@ -106,44 +108,60 @@ fn plans_the_assignment(rt: &impl Abort, code: &Code, rank: &RankState) {
     same(rt, rank.plan_local(code), Some(ASSIGNMENT));
 }
 
-fn commits(rt: &impl Abort, rank: &mut RankState, plan: LocalPlan) -> RankRecord {
+/// Does what was planned; a call that it issues has that number.
+fn commits(rt: &impl Abort, rank: &mut RankState, plan: LocalPlan, call: usize) -> RankRecord
+    ensures { IsOfRank result.change }
+{
     rank.keep_room().expect(rt, "room for a step");
-    rank.commit(plan)
+    rank.commit(plan, call)
 }
 
-fn steps(rt: &impl Abort, code: &Code, rank: &mut RankState) -> RankRecord {
-    let done = rank.step(code).expect(rt, "memory");
-    done.expect(rt, "a step")
-}
-
-fn has_issued(rt: &impl Abort, rank: &RankState) {
-    same(rt, rank.calls().len(), 1);
-    same(rt, rank.activity(), Activity::Blocked);
-    same(rt, rank.handles().len(), 0);
+fn steps(rt: &impl Abort, code: &Code, rank: &mut RankState, call: usize) -> RankRecord
+    ensures { IsOfRank result.change }
+{
+    let plan = rank.plan_local(code).expect(rt, "a step");
+    commits(rt, rank, plan, call)
 }
 
 /// The records of the assignment, the call and its end.
-type Records = (RankRecord, RankRecord, RankRecord);
-
-fn goes_forward(rt: &impl Abort, code: &Code, rank: &mut RankState) -> Records {
-    let assigned = commits(rt, rank, ASSIGNMENT);
-    same(rt, rank.variables(), &[5]);
-    steps(rt, code, rank);
-    same(rt, rank.output(), &[5]);
-    let issued = steps(rt, code, rank);
-    has_issued(rt, rank);
-    let woken = rank.complete(Cells::none(), None);
-    same(rt, rank.has_ended(code), true);
-    (assigned, issued, woken)
+#[derive(Clone, Copy)]
+struct Records {
+    assigned: RankRecord,
+    issued: RankRecord,
+    woken: RankRecord,
 }
 
-fn goes_back(rt: &impl Abort, code: &Code, rank: &mut RankState, records: Records) {
-    let (assigned, issued, woken) = records;
-    rank.restore(woken);
+fn goes_forward(rt: &impl Abort, code: &Code, rank: &mut RankState) -> Records
+    ensures assigned { IsOfRank result.assigned.change }
+    ensures issued { IsOfRank result.issued.change }
+    ensures woken { IsOfRank result.woken.change }
+{
+    let assigned = commits(rt, rank, ASSIGNMENT, 0);
+    same(rt, rank.variables(), &[5]);
+    steps(rt, code, rank, 0);
+    same(rt, rank.output(), &[5]);
+    let issued = steps(rt, code, rank, 0);
     same(rt, rank.activity(), Activity::Blocked);
-    rank.restore(issued);
-    same(rt, rank.calls().len(), 0);
-    rank.restore(assigned);
+    same(rt, rank.handles().len(), 0);
+    let woken = rank.complete(Cells::none(), None);
+    same(rt, rank.has_ended(code), true);
+    Records {
+        assigned,
+        issued,
+        woken,
+    }
+}
+
+fn goes_back(rt: &impl Abort, code: &Code, rank: &mut RankState, records: Records)
+    requires assigned { IsOfRank records.assigned.change }
+    requires issued { IsOfRank records.issued.change }
+    requires woken { IsOfRank records.woken.change }
+{
+    rank.restore(records.woken);
+    same(rt, rank.activity(), Activity::Blocked);
+    rank.restore(records.issued);
+    same(rt, rank.activity(), Activity::Running);
+    rank.restore(records.assigned);
     same(rt, rank.variables(), &[0]);
     same(rt, rank.next_statement(code), Some(0));
 }

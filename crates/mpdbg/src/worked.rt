@@ -72,7 +72,7 @@ fn is_text(rt: &impl Abort, made: Result<String, AllocError>, wanted: &str) {
 }
 
 fn prints_a_call(rt: &impl Abort, core: &Core<'_>, call: CallId, wanted: &str) {
-    assert!(rt; core.call(call).is_some());
+    assert!(rt; core.board().call(call).is_some());
     is_text(rt, core.call_text(call), wanted);
 }
 
@@ -82,7 +82,7 @@ fn prints_a_rank(rt: &impl Abort, core: &Core<'_>, rank: usize, wanted: &str) {
 }
 
 fn prints_a_set(rt: &impl Abort, core: &Core<'_>, place: usize, wanted: &str) {
-    assert!(rt; place < core.sets().len());
+    assert!(rt; place < core.board().sets().len());
     is_text(rt, core.set_text(place), wanted);
 }
 
