@@ -65,7 +65,8 @@ impl Code {
     /// The number at which a rank starts.
     #[tactic(auto, using(crate::proofs::Standing::standing))]
     pub fn start(&self) -> usize
-        ensures { left_at self.now.program result ≡ numbered 0 self.now.program.body }
+        ensures body { left_at self.now.program result ≡ numbered 0 self.now.program.body }
+        ensures bound { result ≤ STATEMENTS_MAX }
     {
         0
     }

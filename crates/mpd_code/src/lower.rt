@@ -44,7 +44,7 @@ fn count_all(block: &[Stmt]) -> usize
 
 /// The number at which a block begins: that of its first statement, or of what follows an empty one.
 #[tactic(auto, using(crate::proofs::Entries::entries))]
-fn entry(number: usize, block: &[Stmt], next: usize) -> usize
+fn entry(number: u32, block: &[Stmt], next: u32) -> u32
     ensures { result ≡ entry number (block_of block.now) next }
 {
     if block.is_empty() { next } else { number }
@@ -53,7 +53,7 @@ fn entry(number: usize, block: &[Stmt], next: usize) -> usize
 /// Adds the nodes of a statement.
 #[tactic(auto, using(crate::proofs::Placed::placing))]
 #[cycle(place)]
-fn place(nodes: &mut Vec<Node>, stmt: Stmt, next: usize) -> Result<(), AllocError>
+fn place(nodes: &mut Vec<Node>, stmt: Stmt, next: u32) -> Result<(), AllocError>
     requires { length nodes.old.items + statements stmt ≤ STATEMENTS_MAX }
     ensures { OnOk result (nodes.new.items ≡ nodes.old.items ++ lowered_one (length nodes.old.items) stmt next) }
 {
@@ -72,13 +72,13 @@ fn place_branch(
     test: Expr,
     first: Vec<Stmt>,
     second: Vec<Stmt>,
-    next: usize,
+    next: u32,
 ) -> Result<(), AllocError>
     requires { length nodes.old.items + statements_in (block_of first.items) + statements_in (block_of second.items) + 1 ≤ STATEMENTS_MAX }
     ensures { OnOk result (nodes.new.items ≡ nodes.old.items ++ lowered_one (length nodes.old.items) (branch test (block_of first.items) (block_of second.items)) next) }
 {
-    let number = nodes.len() + 1;
-    let other = number + count_all(&first);
+    let number = nodes.len() as u32 + 1;
+    let other = number + count_all(&first) as u32;
     let action = Action::Branch {
         test,
         first: entry(number, &first, next),
@@ -96,12 +96,12 @@ fn place_repeat(
     nodes: &mut Vec<Node>,
     test: Expr,
     body: Vec<Stmt>,
-    next: usize,
+    next: u32,
 ) -> Result<(), AllocError>
     requires { length nodes.old.items + statements_in (block_of body.items) + 1 ≤ STATEMENTS_MAX }
     ensures { OnOk result (nodes.new.items ≡ nodes.old.items ++ lowered_one (length nodes.old.items) (repeat test (block_of body.items)) next) }
 {
-    let number = nodes.len();
+    let number = nodes.len() as u32;
     let action = Action::Repeat {
         test,
         body: entry(number + 1, &body, number),
@@ -111,7 +111,7 @@ fn place_repeat(
 }
 
 /// Adds a node.
-fn add(nodes: &mut Vec<Node>, action: Action, next: usize) -> Result<(), AllocError>
+fn add(nodes: &mut Vec<Node>, action: Action, next: u32) -> Result<(), AllocError>
     ensures { OnOk result (nodes.new.items ≡ nodes.old.items ++ record { action = action; next = next } ∷ []) }
 {
     nodes.push(Node { action, next })?;
@@ -121,7 +121,7 @@ fn add(nodes: &mut Vec<Node>, action: Action, next: usize) -> Result<(), AllocEr
 /// Adds the nodes of a block, which `next` follows.
 #[tactic(auto, using(crate::proofs::Placed::placing))]
 #[cycle(place)]
-fn place_all(nodes: &mut Vec<Node>, block: Vec<Stmt>, next: usize) -> Result<(), AllocError>
+fn place_all(nodes: &mut Vec<Node>, block: Vec<Stmt>, next: u32) -> Result<(), AllocError>
     requires { length nodes.old.items + statements_in (block_of block.items) ≤ STATEMENTS_MAX }
     ensures { OnOk result (nodes.new.items ≡ nodes.old.items ++ lowered (length nodes.old.items) (block_of block.items) next) }
 {
@@ -129,7 +129,7 @@ fn place_all(nodes: &mut Vec<Node>, block: Vec<Stmt>, next: usize) -> Result<(),
     rest.reverse();
     while let Some(stmt) = rest.pop() {
         let behind = nodes.len() + count(&stmt);
-        let follows = entry(behind, &rest, next);
+        let follows = entry(behind as u32, &rest, next);
         place(nodes, stmt, follows)?;
     }
     Ok(())
@@ -151,7 +151,7 @@ pub fn lower(alloc: Global, script: Script) -> Result<Code, AllocError>
         lines,
     } = script;
     let mut nodes = Vec::with_capacity(alloc, end)?;
-    place_all(&mut nodes, body, end)?;
+    place_all(&mut nodes, body, end as u32)?;
     Ok(Code {
         nodes,
         lines,

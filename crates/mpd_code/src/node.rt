@@ -8,7 +8,7 @@ use mpd_model::stmt::Simple;
 pub struct Node {
     pub action: Action,
     /// The number of the node that follows the statement.
-    pub next: usize,
+    pub next: u32,
 }
 
 /// What a node does.
@@ -17,14 +17,7 @@ pub enum Action {
     /// A statement that holds no other.
     Simple(Simple),
     /// An `if`: the nodes where its first and its second block begin. An empty block begins at what follows.
-    Branch {
-        test: Expr,
-        first: usize,
-        second: usize,
-    },
+    Branch { test: Expr, first: u32, second: u32 },
     /// A `while`: the node where its body begins. An empty body begins at the `while` itself.
-    Repeat {
-        test: Expr,
-        body: usize,
-    },
+    Repeat { test: Expr, body: u32 },
 }

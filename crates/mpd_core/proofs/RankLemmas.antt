@@ -214,6 +214,10 @@ start_more s vs v n r e same = map-append (rank_of s) vs (v ∷ []) ∙ ap (λ x
     more : (n : ℕ) (r : RankWorld) → replicate n r ++ r ∷ [] ≡ replicate (n + 1) r
     more n r = replicate-append-replicate n 1 r
 
+pub writes_more : (vs : List RankView) (v : RankView) → writes_in vs ≡ 0 → v.writes ≡ 0 → writes_in (vs ++ v ∷ []) ≡ 0
+writes_more [] v none same = omega (arith, same)
+writes_more (u ∷ vs) v none same = omega (arith, none, writes_more vs v (omega (arith, none)) same)
+
 -- one rank more that has or has not ended
 pub ended_on : (s : Program) (vs : List RankView) (i : ℕ) (v : RankView) (total : Bool) → i < length vs → v ≡ get_or vs i v → has_ended (rank_of s v) ≡ true → list_all has_ended (ranks_in s (drop i vs)) ≡ total
     → list_all has_ended (ranks_in s (drop (i + 1) vs)) ≡ total
@@ -240,6 +244,6 @@ pub ruleset at_rank = (on_board, held_set, next_some, next_none, none_on, record
 
 pub ruleset reading = (slice_get-ranks_in)
 
-pub ruleset starting = (start_more, numbers_more)
+pub ruleset starting = (start_more, numbers_more, writes_more)
 
 pub ruleset board = (length-ranks_in, board_count)

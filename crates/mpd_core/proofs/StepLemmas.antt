@@ -72,14 +72,24 @@ running_by env (Trapped t) rest done e = cc
 pub runs : (p n : ℕ) (r : RankWorld) (done : RankRecord) → local_record p n r ≡ Some done → r.activity ≡ Running
 runs p n r done e = running_by _ r.activity r.rest done e
 
+-- where nothing is issued, no number matters
+planned_by : (s : Program) (r : RankWorld) (count n node : ℕ) (plan : LocalPlan) → IfSome (plan_call node plan) (λ _. count ≡ n) → planned s r count plan ≡ planned s r n plan
+planned_by s r count n node (Move next) e = refl
+planned_by s r count n node (Print v next) e = refl
+planned_by s r count n node (Assign cell v next) e = refl
+planned_by s r count n node (Issue a next) e = ap (λ k. planned s r k (Issue a next)) e
+planned_by s r count n node (Trap t) e = refl
+
 -- the step of the rank, and what it issued
 pub local_ran : (s : Program) (b c : Board) (v w : RankView) (node count : ℕ) (plan : LocalPlan) (o : Option Call)
     → ((k : ℕ) → local v.rank s.ranks k (rank_of s v) ≡ Some (plan_ran s (rank_of s v) k node plan))
-    → count ≡ length (calls_of b v.rank) → o ≡ plan_call node plan → c ≡ with_issued b v.rank o → rank_of s w ≡ planned s (rank_of s v) count plan
+    → IfSome o (λ _. count ≡ length (calls_of b v.rank)) → o ≡ plan_call node plan → c ≡ with_issued b v.rank o → rank_of s w ≡ planned s (rank_of s v) count plan
     → local_on s b v ≡ Some (rank_of s w, c)
 local_ran s b c v w node count plan o step e call with after =
+    let numbered : planned s (rank_of s v) count plan ≡ planned s (rank_of s v) (length (calls_of b v.rank)) plan =
+    planned_by s (rank_of s v) count (length (calls_of b v.rank)) node plan (rw (sym call) e) in
     ap (option_map (ran_on b v.rank)) (step (length (calls_of b v.rank)))
-    ∙ (λ i. Some (((ap (λ k. planned s (rank_of s v) k plan) (sym e) ∙ sym after) i), (ap (with_issued b v.rank) (sym call) ∙ sym with) i))
+    ∙ (λ i. Some ((sym numbered ∙ sym after) i, (ap (with_issued b v.rank) (sym call) ∙ sym with) i))
 
 pub local_stays : (s : Program) (b : Board) (v : RankView) → local v.rank s.ranks (length (calls_of b v.rank)) (rank_of s v) ≡ None → local_on s b v ≡ None
 local_stays s b v none = ap (option_map (ran_on b v.rank)) none

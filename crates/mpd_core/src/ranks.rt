@@ -33,6 +33,7 @@ pub(crate) fn start_ranks(alloc: Global, code: &Code, size: usize) -> Result<Vec
     ensures ranks { IfOk result (λ ranks. ranks_in code.now.program ranks.items ≡ replicate size (start_rank code.now.program)) }
     ensures numbers { IfOk result (λ ranks. numbers_in ranks.items ≡ range_with_len 0 size) }
     ensures size { IfOk result (λ ranks. vec_len ranks ≡ size) }
+    ensures writes { IfOk result (λ ranks. writes_in ranks.items ≡ 0) }
 {
     let mut ranks = Vec::new(alloc);
     for rank in 0..size {
@@ -41,13 +42,14 @@ pub(crate) fn start_ranks(alloc: Global, code: &Code, size: usize) -> Result<Vec
     Ok(ranks)
 }
 
-/// The call that a rank issues, if it does, joins the board. It answers the number that the rank's next call has. An `Err` is
-/// want of memory.
+/// The call that a rank issues, if it does, joins the board. It answers the call's number, or 0 where there is no call. An `Err`
+/// is want of memory.
 #[tactic(auto, using(crate::proofs::StepLemmas::issuing))]
-fn issue_on(board: &mut Board, rank: usize, call: Option<Call>) -> Result<usize, AllocError>
+fn issue_on(board: &mut Board, rank: usize, call: Option<Call>) -> Result<u32, AllocError>
     requires rank { rank < length board.old.board.calls }
     requires receiver { IfSome call (λ c. HasReceiver (length board.old.board.calls) c.kind) }
-    ensures number { IfOk result (λ n. n ≡ length (calls_of board.old.board rank)) }
+    ensures number { IfOk result (λ n. IfSome call (λ _. n ≡ length (calls_of board.old.board rank))) }
+    ensures small { IfOk result (λ n. n < 4294967295) }
     ensures board { OnOk result (board.new.board ≡ with_issued board.old.board rank call) }
     ensures back { OnOk result (IfSome call (λ _. without_last_call board.new.board rank ≡ board.old.board)) }
     ensures can { OnOk result (CanUnissueIf board.new.board rank call) }
@@ -58,12 +60,11 @@ fn issue_on(board: &mut Board, rank: usize, call: Option<Call>) -> Result<usize,
     ensures unwritten { OnErr result (board.new.writes ≡ board.old.writes) }
     ensures ranks { length board.new.board.calls ≡ length board.old.board.calls }
 {
-    let number = board.call_count(rank);
-    if let Some(call) = call {
-        board.keep_room()?;
-        board.issue(rank, call);
-    }
-    Ok(number)
+    let Some(call) = call else {
+        return Ok(0);
+    };
+    board.keep_room()?;
+    Ok(board.issue(rank, call))
 }
 
 /// The local step of one rank.
@@ -92,7 +93,7 @@ fn step_rank(code: &Code, state: &mut RankState, board: &mut Board) -> Result<Ra
     };
     state.keep_room()?;
     let number = issue_on(board, state.number(), plan.call(state.node()))?;
-    Ok(state.commit(plan, number))
+    Ok(state.commit(plan, number as usize))
 }
 
 /// The local step of one of the ranks.

@@ -8,6 +8,6 @@ use mpd_rank::change::Change;
 #[derive(Clone, Copy, Debug, PartialEq, Eq)]
 pub struct Record {
     pub step: Step,
-    pub from: usize,
+    pub from: u32,
     pub change: Change,
 }

@@ -85,6 +85,7 @@ impl<'c> Core<'c> {
     pub fn start(alloc: Global, code: &'c Code, mode: Mode) -> Result<Core<'c>, AllocError>
         ensures program { IfOk result (λ core. core.program ≡ code.now.program) }
         ensures world { IfOk result (λ core. core.world ≡ start code.now.program mode) }
+        ensures writes { IfOk result (λ core. core.writes ≡ 0) }
         ensures looks { IfOk result (λ core. core.looks ≡ 0) }
     {
         let size = code.ranks();

@@ -68,11 +68,14 @@ impl Board {
         sides::keep_rooms(&mut self.sides)
     }
 
-    /// A rank issues a call. A send or a receive joins its line, at the end. `unissue` gives the board before.
-    pub fn issue(&mut self, rank: usize, call: Call)
+    /// A rank issues a call. A send or a receive joins its line, at the end. It answers the call's number, which is below
+    /// 4,294,967,295. `unissue` gives the board before.
+    pub fn issue(&mut self, rank: usize, call: Call) -> u32
         requires rank { rank < length self.old.board.calls }
         requires receiver { HasReceiver (length self.old.board.calls) call.kind }
         requires room { 1 ≤ self.old.room }
+        ensures number { result ≡ length (calls_of self.old.board rank) }
+        ensures small { result < 4294967295 }
         ensures board { self.new.board ≡ with_call self.old.board rank call }
         ensures back { without_last_call self.new.board rank ≡ self.old.board }
         ensures some { 0 < length (calls_of self.new.board rank) }
@@ -80,7 +83,7 @@ impl Board {
         ensures room { self.old.room ≤ self.new.room + 1 }
         ensures writes { self.new.writes ≡ self.old.writes + issue_writes (Some call.kind) }
     {
-        sides::issue_at(&mut self.sides, rank, call);
+        sides::issue_at(&mut self.sides, rank, call)
     }
 
     /// The last call of a rank is taken back, which no pair names.

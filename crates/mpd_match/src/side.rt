@@ -77,24 +77,28 @@ impl Side {
         self.lists.keep_room(next)
     }
 
-    /// A call is issued. A send or a receive joins its line, at the end.
-    pub(crate) fn issue(&mut self, call: Call)
+    /// A call is issued. A send or a receive joins its line, at the end. It answers the call's number.
+    pub(crate) fn issue(&mut self, call: Call) -> u32
         requires line { (line : ℕ) → line_in (Some call.kind) ≡ Some line → line < self.old.lines }
         requires room { 0 < self.old.room }
         ensures calls { self.new.calls ≡ self.old.calls ++ call ∷ [] }
         ensures marks { self.new.marks ≡ self.old.marks ++ None ∷ [] }
         ensures free { mark_in self.new.marks (length self.old.calls) ≡ None }
+        ensures number { result ≡ length self.old.calls }
+        ensures small { result < 4294967295 }
         ensures lines { self.new.lines ≡ self.old.lines }
         ensures room { self.new.room + 1 ≡ self.old.room }
         ensures writes { self.new.writes ≡ self.old.writes + issue_writes (Some call.kind) }
     {
         let index = self.calls.len();
+        let number = self.lists.number(index);
         self.calls.push_kept(call);
         self.marks.push_kept(None);
         let Some(line) = kinds::line_of(call.kind) else {
-            return;
+            return number;
         };
         self.lists.push_back(line, index);
+        number
     }
 
     /// The last call is taken back, which no pair names.

@@ -49,21 +49,23 @@ pub(crate) fn keep_rooms(sides: &mut Vec<Side>) -> Result<(), AllocError>
     Ok(())
 }
 
-/// A rank issues a call.
-pub(crate) fn issue_at(sides: &mut Vec<Side>, rank: usize, call: Call)
+/// A rank issues a call. It answers the call's number.
+pub(crate) fn issue_at(sides: &mut Vec<Side>, rank: usize, call: Call) -> u32
     requires within { rank < length sides.old.items }
     requires lines { lines_in sides.old.items ≡ replicate (length sides.old.items) (suc (length sides.old.items)) }
     requires receiver { HasReceiver (length sides.old.items) call.kind }
     requires room { 0 < (side_at sides.old.items rank).room }
     ensures calls { calls_in sides.new.items ≡ slice_set (calls_in sides.old.items) rank (listed_calls (slice_get (calls_in sides.old.items) rank) ++ call ∷ []) }
     ensures marks { (c : CallId) → mark_at sides.new.items c ≡ mark_at sides.old.items c }
+    ensures number { result ≡ length (listed_calls (slice_get (calls_in sides.old.items) rank)) }
+    ensures small { result < 4294967295 }
     ensures lines { lines_in sides.new.items ≡ lines_in sides.old.items }
     ensures free { mark_at sides.new.items (record { rank = rank; index = length (listed_calls (slice_get (calls_in sides.old.items) rank)) }) ≡ None }
     ensures room { (set_room : ℕ) → room_in set_room sides.old.items ≤ room_in set_room sides.new.items + 1 }
     ensures writes { writes_in sides.new.items ≡ writes_in sides.old.items + issue_writes (Some call.kind) }
 {
     let side = &mut sides[rank];
-    side.issue(call);
+    side.issue(call)
 }
 
 /// The last call of a rank is taken back.

@@ -38,6 +38,16 @@ impl Links {
         Link::to(item)
     }
 
+    /// An item in four bytes.
+    pub(crate) fn number(&self, item: usize) -> u32
+        requires cell { item < vec_len self.now.cells }
+        requires few { vec_len self.now.cells ≤ 4294967295 }
+        ensures value { result ≡ item }
+        ensures small { result < 4294967295 }
+    {
+        item as u32
+    }
+
     /// What comes next after an item; at the end of the list, its first item.
     pub(crate) fn next(&self, list: usize, at: Link) -> Link
         requires list { list < vec_len self.now.ends }

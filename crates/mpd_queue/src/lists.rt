@@ -122,6 +122,15 @@ impl Lists {
         self.shown = self.shown.after(Change::Inserted { list, item, next });
     }
 
+    /// An item that has a cell, in four bytes: it is below 4,294,967,295.
+    pub fn number(&self, item: usize) -> u32
+        requires { item < self.now.room }
+        ensures value { result ≡ item }
+        ensures small { result < 4294967295 }
+    {
+        self.links.number(item)
+    }
+
     /// Puts an item that stands nowhere at the end of a list. Four writes.
     pub fn push_back(&mut self, list: usize, item: usize)
         requires list { list < length self.old.lists }

@@ -1,8 +1,7 @@
 -- What a node plans is what its statement makes of a rank.
 use Rattle.std.proofs.Common.{◌≡◌, ℕ, ◌+◌, ◌<◌, ℤ, pos, negsuc, cond, nat_lt, Bool, true, false, List, [], ◌∷◌, ◌++◌, Option, Some, None, Result, Ok, Err, refl, sym, ap, ◌∙◌, subst, subst₂}
 use Rattle.std.proofs.lemmas.Bool.{ltb-true}
-use Rattle.mpd_model.specs.declared.call.Activity.{Activity}
-use Rattle.mpd_model.specs.declared.call.Activity.TheVariants.{Running, Blocked, Trapped}
+use Rattle.mpd_model.specs.declared.call.Activity.TheVariants.{Running}
 use Rattle.mpd_model.specs.declared.call.Issue.{Issue}
 use Rattle.mpd_model.specs.declared.call.Trap.{Trap}
 use Rattle.mpd_model.specs.declared.stmt.Simple.{Simple}
@@ -15,7 +14,7 @@ use Rattle.mpd_model.specs.Term.{Term, Target, Value, Env, and_then, value_of, c
 use Rattle.mpd_model.specs.Tree.{Tree, Block, repeat, trees, statements_in, numbered}
 use Rattle.mpd_model.specs.Program.{Program}
 use Rattle.mpd_model.specs.World.{RankWorld}
-use Rattle.mpd_model.specs.Next.{Ran, HasReceiver, alone, local, env_of, ran, ran_simple, printed, issued, assigned, asserted, chosen, repeated, send_issue, recv_issue, isend_issue, irecv_issue, wait_issue, assignment, rank_value, tag_value, send_kind, recv_kind, wait_kind, awaiting}
+use Rattle.mpd_model.specs.Next.{HasReceiver, alone, local, env_of, ran, ran_simple, printed, issued, assigned, asserted, chosen, repeated, send_issue, recv_issue, isend_issue, irecv_issue, wait_issue, assignment, rank_value, tag_value, send_kind, recv_kind, wait_kind, awaiting}
 use Rattle.mpd_code.specs.declared.node.Node.{Node}
 use Rattle.mpd_code.specs.declared.node.Action.{Action}
 use Rattle.mpd_code.specs.declared.node.Action.TheVariants as a
@@ -28,7 +27,7 @@ use Rattle.mpd_rank.specs.declared.change.Change.{Change}
 use Rattle.mpd_rank.specs.declared.change.RankRecord.{RankRecord}
 use Rattle.mpd_rank.specs.Views.{RankView, rank_of}
 use Rattle.mpd_rank.specs.Records.{print_change, issue_change, write_change, assert_change, choice_change, simple_change, change_of, local_record, plan_change, plan_record}
-use Rattle.mpd_rank.specs.Plans.{plan_of, simple_plan, planned, plan_ran, HasPlannedReceiver, print_plan, assign_plan, issue_plan, assert_plan, choice_plan}
+use Rattle.mpd_rank.specs.Plans.{plan_of, simple_plan, plan_ran, HasPlannedReceiver, print_plan, assign_plan, issue_plan, assert_plan, choice_plan}
 
 print_ran : (s : Program) (r : RankWorld) (n i next : ℕ) (v : Value) → plan_ran s r n i (print_plan v next) ≡ alone (printed r (left_at s next) v)
 print_ran s r n i next (Ok v) = refl
@@ -262,7 +261,7 @@ view_ran s u v vars handles size plan node at same stands runs found held kept c
     let env : Env = env_of u.rank s.ranks (rank_of s u) in
     let in_env : env ≡ record { vars = vars; handles = handles; rank = u.rank; size = size } = λ i. record { vars = sym held i; handles = sym kept i; rank = u.rank; size = sym counted i } in
     let facts : IsPlanned s u (plan_of node.action node.next env) =
-        ((λ count. stands_ran s u.rank s.ranks count (rank_of s u) u.node node running refl d), stands_recorded s u.rank s.ranks u node running d) in
+    ((λ count. stands_ran s u.rank s.ranks count (rank_of s u) u.node node running refl d), stands_recorded s u.rank s.ranks u node running d) in
     let planned_is : plan_of node.action node.next env ≡ plan = ap (plan_of node.action node.next) in_env ∙ sym is in
     subst₂ (IsPlanned s) same planned_is facts
 

@@ -1,9 +1,14 @@
 //! What a step did, so that it can be taken back.
 
-ghost use Rattle.std.specs.Prelude.{◌≡◌, [], ◌∷◌};
+ghost use Rattle.std.specs.Prelude.{◌≡◌, ◌<◌, [], ◌∷◌, Some, None, IfSome};
+ghost use Rattle.mpd_rank.specs.Held.{IsSmall, some_number};
+ghost use Rattle.mpd_rank.specs.Undone.{assigned_change};
 
 use mpd_queue::lists::Spot;
 use std::marker::Model;
+
+/// In place of a number: none.
+const NO_NUMBER: u32 = u32::MAX;
 
 /// Cells, in order, each with a value: what a wake writes, or what cells held that it wrote. Contracts see a list. There is one
 /// at most.
@@ -46,29 +51,177 @@ impl Cells {
     }
 }
 
+/// What a cell held that was written, if one was. It takes 16 bytes. Contracts see an `Option`.
+#[derive(Clone, Copy, Debug, PartialEq, Eq)]
+pub struct HeldCell {
+    cell: u32,
+    was: i64,
+}
+
+impl Model for HeldCell {
+    ghost use Rattle.std.specs.Prelude.{◌≡◌, ℕ, ℤ, pos, Option};
+    ghost use Rattle.mpd_rank.specs.Held.{held_cell, cell_of, was_of, cell_back};
+
+    ghost Value = { Option (ℕ × ℤ) };
+
+    ghost view = { λ h. held_cell h.cell h.was };
+
+    ghost invariant = { λ h. h.cell ≡ 4294967295 → h.was ≡ pos 0 };
+
+    ghost inverse = { λ o. record { cell = cell_of o; was = was_of o } };
+
+    ghost inverse_ok = { λ a h. cell_back a h };
+}
+
+impl HeldCell {
+    /// No cell was written.
+    pub(crate) fn none() -> HeldCell
+        ensures { result ≡ None }
+    {
+        HeldCell {
+            cell: NO_NUMBER,
+            was: 0,
+        }
+    }
+
+    /// A cell that was written, and what it held.
+    pub(crate) fn of(cell: usize, was: i64) -> HeldCell
+        requires { cell < 4294967295 }
+        ensures { result ≡ Some (cell, was) }
+    {
+        HeldCell {
+            cell: cell as u32,
+            was,
+        }
+    }
+
+    /// The cell and what it held.
+    pub fn get(self) -> Option<(usize, i64)>
+        ensures { result ≡ self }
+    {
+        if self.cell == NO_NUMBER {
+            return None;
+        }
+        Some((self.cell as usize, self.was))
+    }
+}
+
+/// What a handle held that was written, if one was. It takes eight bytes. Contracts see an `Option`.
+#[derive(Clone, Copy, Debug, PartialEq, Eq)]
+pub struct HeldHandle {
+    handle: u32,
+    call: u32,
+}
+
+impl Model for HeldHandle {
+    ghost use Rattle.std.specs.Prelude.{◌≡◌, ℕ, Option};
+    ghost use Rattle.mpd_rank.specs.Held.{held_handle, handle_of, call_of, handle_back};
+
+    ghost Value = { Option (ℕ × Option ℕ) };
+
+    ghost view = { λ h. held_handle h.handle h.call };
+
+    ghost invariant = { λ h. h.handle ≡ 4294967295 → h.call ≡ 4294967295 };
+
+    ghost inverse = { λ o. record { handle = handle_of o; call = call_of o } };
+
+    ghost inverse_ok = { λ a h. handle_back a h };
+}
+
+/// A number or none, in four bytes.
+fn packed(number: Option<usize>) -> u32
+    requires { IsSmall number }
+    ensures { some_number result ≡ number }
+{
+    match number {
+        None => NO_NUMBER,
+        Some(number) => number as u32,
+    }
+}
+
+/// What those four bytes tell.
+fn unpacked(number: u32) -> Option<usize>
+    ensures value { result ≡ some_number number }
+    ensures small { IsSmall result }
+{
+    if number == NO_NUMBER {
+        return None;
+    }
+    Some(number as usize)
+}
+
+impl HeldHandle {
+    /// No handle was written.
+    pub(crate) fn none() -> HeldHandle
+        ensures { result ≡ None }
+    {
+        HeldHandle {
+            handle: NO_NUMBER,
+            call: NO_NUMBER,
+        }
+    }
+
+    /// A handle that was written, and what it held.
+    pub(crate) fn of(handle: usize, call: Option<usize>) -> HeldHandle
+        requires handle { handle < 4294967295 }
+        requires call { IsSmall call }
+        ensures { result ≡ Some (handle, call) }
+    {
+        HeldHandle {
+            handle: handle as u32,
+            call: packed(call),
+        }
+    }
+
+    /// The handle and what it held.
+    pub fn get(self) -> Option<(usize, Option<usize>)>
+        ensures value { result ≡ self }
+        ensures small { IfSome result (λ w. IsSmall w.1) }
+    {
+        if self.handle == NO_NUMBER {
+            return None;
+        }
+        Some((self.handle as usize, unpacked(self.call)))
+    }
+}
+
 /// What a step did beside moving its rank's node.
 #[derive(Clone, Copy, Debug, PartialEq, Eq)]
 pub enum Change {
     Moved,
     /// The cell that was written, and what it held.
-    Assigned { cell: usize, was: i64 },
+    Assigned { cell: u32, was: i64 },
     Printed,
     /// The handle that got the call's number, if any, and what it held.
-    Issued { handle: Option<(usize, Option<usize>)> },
+    Issued { handle: HeldHandle },
     Trapped,
     /// Where the send and the receive stood in the lists of free calls. It is of no rank.
     Matched { send_place: Spot, recv_place: Spot },
     /// The cell that was written, if any, and what it held, and the same of the handle that was cleared.
-    Woke {
-        cell: Option<(usize, i64)>,
-        handle: Option<(usize, Option<usize>)>,
-    },
+    Woke { cell: HeldCell, handle: HeldHandle },
+}
+
+impl Change {
+    /// Of an assignment. Where there was no cell to write, nothing changed.
+    pub(crate) fn assigned(held: HeldCell) -> Change
+        ensures { result ≡ assigned_change held }
+    {
+        if held.cell == NO_NUMBER {
+            return Change::Moved;
+        }
+        Change::Assigned {
+            cell: held.cell,
+            was: held.was,
+        }
+    }
 }
 
 /// What takes the step of a rank back: the node before it, which is 0 at a wake, since that moves no rank, and what else it did.
-/// It holds no collection.
+/// It holds no collection, and takes 40 bytes.
 #[derive(Clone, Copy, Debug, PartialEq, Eq)]
 pub struct RankRecord {
-    pub from: usize,
+    pub from: u32,
     pub change: Change,
 }
+
+const _: () = prove!(size_of::<RankRecord>() == 40);

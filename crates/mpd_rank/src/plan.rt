@@ -13,25 +13,13 @@ use mpd_model::stmt::Simple;
 #[derive(Clone, Copy, Debug, PartialEq, Eq)]
 pub enum LocalPlan {
     /// Goes on at a node.
-    Move {
-        next: usize,
-    },
+    Move { next: u32 },
     /// Appends a value to the output.
-    Print {
-        value: i64,
-        next: usize,
-    },
+    Print { value: i64, next: u32 },
     /// Writes a cell.
-    Assign {
-        cell: usize,
-        value: i64,
-        next: usize,
-    },
+    Assign { cell: usize, value: i64, next: u32 },
     /// Issues a call.
-    Issue {
-        issue: Issue,
-        next: usize,
-    },
+    Issue { issue: Issue, next: u32 },
     Trap(Trap),
 }
 
@@ -50,7 +38,7 @@ impl LocalPlan {
     }
 }
 
-fn plan_print(value: Result<i64, Trap>, next: usize) -> LocalPlan
+fn plan_print(value: Result<i64, Trap>, next: u32) -> LocalPlan
     ensures { result ≡ print_plan value next }
 {
     match value {
@@ -59,7 +47,7 @@ fn plan_print(value: Result<i64, Trap>, next: usize) -> LocalPlan
     }
 }
 
-fn plan_assign(write: Result<(usize, i64), Trap>, next: usize) -> LocalPlan
+fn plan_assign(write: Result<(usize, i64), Trap>, next: u32) -> LocalPlan
     ensures { result ≡ assign_plan write next }
 {
     match write {
@@ -68,7 +56,7 @@ fn plan_assign(write: Result<(usize, i64), Trap>, next: usize) -> LocalPlan
     }
 }
 
-fn plan_issue(issue: Result<Issue, Trap>, next: usize) -> LocalPlan
+fn plan_issue(issue: Result<Issue, Trap>, next: u32) -> LocalPlan
     ensures { result ≡ issue_plan issue next }
 {
     match issue {
@@ -77,7 +65,7 @@ fn plan_issue(issue: Result<Issue, Trap>, next: usize) -> LocalPlan
     }
 }
 
-fn plan_assert(test: Result<i64, Trap>, next: usize) -> LocalPlan
+fn plan_assert(test: Result<i64, Trap>, next: u32) -> LocalPlan
     ensures { result ≡ assert_plan test next }
 {
     match test {
@@ -88,7 +76,7 @@ fn plan_assert(test: Result<i64, Trap>, next: usize) -> LocalPlan
 }
 
 /// Goes on at one node where the test holds, else at the other.
-fn plan_choice(test: Result<i64, Trap>, holds: usize, fails: usize) -> LocalPlan
+fn plan_choice(test: Result<i64, Trap>, holds: u32, fails: u32) -> LocalPlan
     ensures { result ≡ choice_plan test holds fails }
 {
     match test {
@@ -99,7 +87,7 @@ fn plan_choice(test: Result<i64, Trap>, holds: usize, fails: usize) -> LocalPlan
 }
 
 /// What a statement that holds no other does, and the node that follows it.
-fn plan_simple(simple: &Simple, env: &Env<'_>, next: usize) -> LocalPlan
+fn plan_simple(simple: &Simple, env: &Env<'_>, next: u32) -> LocalPlan
     ensures { result ≡ simple_plan simple.now next env.now }
 {
     match simple {

@@ -1,12 +1,13 @@
 //! The state of one rank.
 
-ghost use Rattle.std.specs.Prelude.{◌≡◌, ◌≤◌, ◌+◌, IfOk, IfSome, IfNone, OnOk, OnErr, is_some, IsSome, ℕ, Some, slice_set};
+ghost use Rattle.std.specs.Prelude.{◌≡◌, ◌<◌, ◌≤◌, ◌+◌, IfOk, IfSome, IfNone, OnOk, OnErr, is_some, IsSome, ℕ, Some, slice_set};
 ghost use Rattle.std.specs.Option.{option_map};
 ghost use Rattle.mpd_model.specs.Program.{Program};
+ghost use Rattle.mpd_rank.specs.Held.{IsSmall};
 ghost use Rattle.mpd_code.specs.Left.{left_at};
 ghost use Rattle.mpd_model.specs.Next as next_specs;
 
-use crate::change::{Cells, Change, RankRecord};
+use crate::change::{Cells, Change, HeldCell, HeldHandle, RankRecord};
 use crate::plan::{LocalPlan, plan_node};
 use crate::standing::Standing;
 use mpd_code::code::Code;
@@ -47,7 +48,9 @@ impl Model for RankState {
       writes = r.standing.writes + r.vars.writes + r.handles.writes + r.out.writes;
     } };
 
-    ghost invariant = { λ r. length r.standing.items ≡ 1 };
+    ghost use Rattle.mpd_rank.specs.Held.{KeepsSmall};
+
+    ghost invariant = { λ r. KeepsSmall r.standing.items r.vars.items r.handles.items };
 }
 
 /// Whether a rank waits for a call of this kind.
@@ -74,9 +77,10 @@ impl RankState {
     pub fn start(alloc: Global, code: &Code, rank: u32) -> Result<RankState, AllocError>
         ensures world { IfOk result (λ r. rank_of code.now.program r ≡ start_rank code.now.program) }
         ensures rank { IfOk result (λ r. r.rank ≡ rank) }
+        ensures writes { IfOk result (λ r. r.writes ≡ 0) }
     {
         let standing = Standing {
-            node: code.start(),
+            node: code.start() as u32,
             activity: Activity::Running,
         };
         Ok(RankState {
@@ -113,7 +117,7 @@ impl RankState {
     }
 
     /// Puts it at a node. One write.
-    fn stand(&mut self, node: usize, activity: Activity)
+    fn stand(&mut self, node: u32, activity: Activity)
         ensures after { self.new ≡ record self.old { node = node; activity = activity; writes = self.old.writes + 1 } }
     {
         self.standing.set(0, Standing { node, activity });
@@ -131,7 +135,7 @@ impl RankState {
             Activity::Running => {}
             Activity::Blocked | Activity::Trapped(_) => return None,
         }
-        let node = code.node(node)?;
+        let node = code.node(node as usize)?;
         let rank = self.rank;
         let size = code.ranks();
         let env = Env {
@@ -144,69 +148,65 @@ impl RankState {
     }
 
     /// Writes a variable, where there is such a cell, and answers what it held.
-    fn write(&mut self, cell: usize, value: i64) -> Option<(usize, i64)>
+    fn write(&mut self, cell: usize, value: i64) -> HeldCell
         ensures after { self.new ≡ record self.old { vars = slice_set self.old.vars cell value; writes = self.new.writes } }
         ensures held { result ≡ held self.old.vars cell }
         ensures rises { self.old.writes ≤ self.new.writes }
         ensures few { self.new.writes ≤ self.old.writes + 1 }
     {
         if cell >= self.vars.len() {
-            return None;
+            return HeldCell::none();
         }
         let was = self.vars.items()[cell];
         self.vars.set(cell, value);
-        Some((cell, was))
+        HeldCell::of(cell, was)
     }
 
     /// Writes cells, and answers what they held, the last first.
-    fn write_all(&mut self, cells: Cells) -> Cells
+    fn write_all(&mut self, cells: Cells) -> HeldCell
         ensures after { self.new ≡ record self.old { vars = write_cells cells self.old.vars; writes = self.new.writes } }
-        ensures held { result ≡ all_held self.old.vars cells }
+        ensures held { listed result ≡ all_held self.old.vars cells }
         ensures rises { self.old.writes ≤ self.new.writes }
         ensures few { self.new.writes ≤ self.old.writes + 1 }
     {
         match cells.first {
-            None => Cells::none(),
-            Some((cell, value)) => Cells {
-                first: self.write(cell, value),
-            },
+            None => HeldCell::none(),
+            Some((cell, value)) => self.write(cell, value),
         }
     }
 
     /// Writes a handle, where there is such a one, and answers what it held.
-    fn hold(&mut self, handle: usize, call: Option<usize>) -> Option<(usize, Option<usize>)>
+    fn hold(&mut self, handle: usize, call: Option<usize>) -> HeldHandle
+        requires { IsSmall call }
         ensures after { self.new ≡ record self.old { handles = slice_set self.old.handles handle call; writes = self.new.writes } }
         ensures held { result ≡ held self.old.handles handle }
         ensures rises { self.old.writes ≤ self.new.writes }
         ensures few { self.new.writes ≤ self.old.writes + 1 }
     {
         if handle >= self.handles.len() {
-            return None;
+            return HeldHandle::none();
         }
         let was = self.handles.items()[handle];
         self.handles.set(handle, call);
-        Some((handle, was))
+        HeldHandle::of(handle, was)
     }
 
     /// Writes a handle, where one is named.
-    fn request(
-        &mut self,
-        handle: Option<usize>,
-        call: Option<usize>,
-    ) -> Option<(usize, Option<usize>)>
+    fn request(&mut self, handle: Option<usize>, call: Option<usize>) -> HeldHandle
+        requires { IsSmall call }
         ensures after { self.new ≡ record self.old { handles = requested handle call self.old.handles; writes = self.new.writes } }
         ensures held { result ≡ request_held handle self.old.handles }
         ensures rises { self.old.writes ≤ self.new.writes }
         ensures few { self.new.writes ≤ self.old.writes + 1 }
     {
         match handle {
-            None => None,
+            None => HeldHandle::none(),
             Some(handle) => self.hold(handle, call),
         }
     }
 
     /// Writes a cell, and goes on at a node.
-    fn assign(&mut self, cell: usize, value: i64, next: usize) -> RankRecord
+    fn assign(&mut self, cell: usize, value: i64, next: u32) -> RankRecord
         ensures after { self.new ≡ record self.old { node = next; vars = slice_set self.old.vars cell value; writes = self.new.writes } }
         ensures recorded { result ≡ plan_record self.old (LocalPlan.Assign cell value next) }
         ensures rises { self.old.writes + 1 ≤ self.new.writes }
@@ -214,11 +214,11 @@ impl RankState {
     {
         let Standing { node, activity } = self.standing();
         self.stand(next, activity);
-        let change = match self.write(cell, value) {
-            Some((cell, was)) => Change::Assigned { cell, was },
-            None => Change::Moved,
-        };
-        RankRecord { from: node, change }
+        let was = self.write(cell, value);
+        RankRecord {
+            from: node,
+            change: Change::assigned(was),
+        }
     }
 
     /// Does what was planned, in the room that was kept, so it can't be refused memory. `call` is the number that a call issued by
@@ -226,6 +226,7 @@ impl RankState {
     #[tactic(auto, using(crate::proofs::RankLemmas::committing))]
     pub fn commit(&mut self, plan: LocalPlan, call: usize) -> RankRecord
         requires room { 1 ≤ self.old.room }
+        requires number { call < 4294967295 }
         ensures after { (p : Program) → rank_of p self.new ≡ planned p (rank_of p self.old) call plan }
         ensures recorded { result ≡ plan_record self.old plan }
         ensures of_rank { IsOfRank result.change }
@@ -264,7 +265,8 @@ impl RankState {
     }
 
     /// Goes on at a node behind a call that was issued.
-    fn issue(&mut self, issue: Issue, call: usize, next: usize) -> RankRecord
+    fn issue(&mut self, issue: Issue, call: usize, next: u32) -> RankRecord
+        requires { call < 4294967295 }
         ensures after { self.new ≡ record self.old { node = next; handles = requested issue.handle (Some call) self.old.handles; activity = activity_after issue.kind; writes = self.new.writes } }
         ensures recorded { result ≡ plan_record self.old (LocalPlan.Issue issue next) }
         ensures rises { self.old.writes + 1 ≤ self.new.writes }
@@ -302,32 +304,29 @@ impl RankState {
         self.stand(node, Activity::Running);
         RankRecord {
             from: 0,
-            change: Change::Woke {
-                cell: was.first,
-                handle,
-            },
+            change: Change::Woke { cell: was, handle },
         }
     }
 
     /// Puts a handle back.
-    fn put_handle(&mut self, was: Option<(usize, Option<usize>)>)
+    fn put_handle(&mut self, was: HeldHandle)
         ensures after { self.new ≡ record self.old { handles = put_held was self.old.handles; writes = self.new.writes } }
         ensures rises { self.old.writes ≤ self.new.writes }
         ensures few { self.new.writes ≤ self.old.writes + 1 }
     {
-        if let Some((handle, call)) = was {
+        if let Some((handle, call)) = was.get() {
             let _ = self.hold(handle, call);
         }
     }
 
     /// Takes a wake back.
-    fn unwake(&mut self, cell: Option<(usize, i64)>, handle: Option<(usize, Option<usize>)>)
+    fn unwake(&mut self, cell: HeldCell, handle: HeldHandle)
         ensures after { self.new ≡ record self.old { vars = write_cells (listed cell) self.old.vars; handles = put_held handle self.old.handles; activity = Activity.Blocked; writes = self.new.writes } }
         ensures rises { self.old.writes + 1 ≤ self.new.writes }
         ensures few { self.new.writes ≤ self.old.writes + 3 }
     {
         let node = self.standing().node;
-        let _ = self.write_all(Cells { first: cell });
+        let _ = self.write_all(Cells { first: cell.get() });
         self.put_handle(handle);
         self.stand(node, Activity::Blocked);
     }
@@ -344,7 +343,7 @@ impl RankState {
         match change {
             Change::Woke { cell, handle } => return self.unwake(cell, handle),
             Change::Assigned { cell, was } => {
-                let _ = self.write(cell, was);
+                let _ = self.write(cell as usize, was);
             }
             Change::Printed => {
                 let _ = self.out.pop();
@@ -362,7 +361,7 @@ impl RankState {
     {
         let Standing { node, activity } = self.standing();
         match activity {
-            Activity::Running => code.node(node).is_some(),
+            Activity::Running => code.node(node as usize).is_some(),
             Activity::Blocked | Activity::Trapped(_) => false,
         }
     }
@@ -373,7 +372,7 @@ impl RankState {
     {
         let Standing { node, activity } = self.standing();
         match activity {
-            Activity::Running => code.node(node).is_none(),
+            Activity::Running => code.node(node as usize).is_none(),
             Activity::Blocked | Activity::Trapped(_) => false,
         }
     }
@@ -382,7 +381,7 @@ impl RankState {
     pub fn next_statement(&self, code: &Code) -> Option<usize>
         ensures { result ≡ first_number (left_at code.now.program self.now.node) }
     {
-        let node = self.standing().node;
+        let node = self.standing().node as usize;
         match code.node(node) {
             Some(_) => Some(node),
             None => None,
@@ -400,7 +399,7 @@ impl RankState {
     pub fn node(&self) -> usize
         ensures { result ≡ self.now.node }
     {
-        self.standing().node
+        self.standing().node as usize
     }
 
     /// Its variables.

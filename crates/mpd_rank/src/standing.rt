@@ -5,6 +5,6 @@ use mpd_model::call::Activity;
 /// Where a rank goes on, and what it is doing.
 #[derive(Clone, Copy, Debug, PartialEq, Eq)]
 pub struct Standing {
-    pub node: usize,
+    pub node: u32,
     pub activity: Activity,
 }

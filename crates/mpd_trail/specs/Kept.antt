@@ -1,4 +1,4 @@
--- What the debugger keeps: each record takes back its step, and can take it back.
+-- What the debugger keeps: each record takes back its step, and on the world that the step led to it can be taken back.
 use Rattle.std.specs.Prelude.{◌≡◌, ◌≤◌, List, [], ◌∷◌, length, take, reverse, Some}
 use Rattle.mpd_model.specs.declared.limits.TheConstants.{STEPS_MAX}
 use Rattle.mpd_model.specs.declared.step.Step.{Step}

@@ -1,6 +1,6 @@
 //! The trail: the steps that were taken, of which some may be undone, and the state that they lead to.
 
-ghost use Rattle.std.specs.Prelude.{◌≡◌, ◌↔◌, ◌<◌, ◌≤◌, IfOk, OnOk, OnErr, IsErrOf, IsOk, IsSome, Some, None, ◌+◌, vec_len, vec_capacity, codes};
+ghost use Rattle.std.specs.Prelude.{◌≡◌, ◌↔◌, ◌<◌, ◌≤◌, IfOk, OnOk, OnErr, IsErrOf, IsOk, IsSome, Some, None, ◌+◌, ◌-◌, min, vec_len, vec_capacity, codes};
 ghost use Rattle.mpd_model.specs.Next.{next};
 ghost use Rattle.mpd_model.specs.Trail.{first_standing, IsReached, noted, applied, taken_back, step_eq};
 ghost use Rattle.mpd_trail.specs.Faults.{apply_fault, apply_fault_number, apply_fault_name};
@@ -145,10 +145,28 @@ fn note(steps: &mut Vec<Step>, depth: usize, step: Step) -> Result<(), AllocErro
     Ok(())
 }
 
+/// Has a step as the next one, and keeps room for its record. An `Err` is want of memory, and leaves the steps as they were.
+fn note_next(
+    records: &mut Vec<RankRecord>,
+    steps: &mut Vec<Step>,
+    step: Step,
+) -> Result<(), AllocError>
+    requires { vec_len records.old ≤ vec_len steps.old }
+    ensures ok { OnOk result (steps.new.items ≡ noted steps.old.items (vec_len records.old) step) }
+    ensures room { OnOk result (vec_len records.new < vec_capacity records.new) }
+    ensures records { records.new.items ≡ records.old.items }
+    ensures err { OnErr result (steps.new.items ≡ steps.old.items) }
+    ensures memory { OnErr result (min (vec_capacity records.old - vec_len records.old) (vec_capacity steps.old - vec_len steps.old) ≡ 0) }
+{
+    records.reserve(1)?;
+    note(steps, records.len(), step)
+}
+
 impl<'c> Debugger<'c> {
     /// No step was taken. An `Err` is want of memory.
     pub fn start(alloc: Global, code: &'c Code, mode: Mode) -> Result<Debugger<'c>, AllocError>
-        ensures { IfOk result (λ d. standing_of d ≡ first_standing code.now.program mode) }
+        ensures standing { IfOk result (λ d. standing_of d ≡ first_standing code.now.program mode) }
+        ensures writes { IfOk result (λ d. d.writes ≡ 0) }
     {
         Ok(Debugger {
             mode,
@@ -227,18 +245,13 @@ impl<'c> Debugger<'c> {
             return Err(ApplyFault::NotEnabled);
         }
         let done = self.core.apply(step)?;
-        let Record { from, change, .. } = done;
-        match self.records.push(RankRecord { from, change }) {
-            Ok(()) => {}
-            Err(_) => {
-                self.core.undo(done);
-                return Err(ApplyFault::Memory);
+        match note_next(&mut self.records, &mut self.steps, step) {
+            Ok(()) => {
+                let Record { from, change, .. } = done;
+                self.records.push_reserved(RankRecord { from, change });
+                Ok(())
             }
-        }
-        match note(&mut self.steps, depth, step) {
-            Ok(()) => Ok(()),
             Err(_) => {
-                let _ = self.records.pop();
                 self.core.undo(done);
                 Err(ApplyFault::Memory)
             }

@@ -90,7 +90,7 @@ pub fn replay<'c>(
     ensures world { IfOk result (λ r. fold (start code.now.program mode) (kept r.0.trail) ≡ Some r.0.world) }
     ensures script { IfOk result (λ r. (r.0.trail.program ≡ code.now.program) × (r.0.trail.mode ≡ mode)) }
     ensures reached { IfOk result (λ r. IsReached (standing_of r.0)) }
-    ensures writes { IfOk result (λ r. (first : ℕ) × WrittenAll first r.1.items r.0.writes) }
+    ensures writes { IfOk result (λ r. WrittenAll 0 r.1.items r.0.writes) }
 {
     let mut debugger = Debugger::start(alloc, code, mode)?;
     let replies = follow(alloc, &mut debugger, commands)?;

@@ -1,4 +1,4 @@
-use Rattle.std.proofs.Common.{◌≡◌, ◌<◌, [], ◌∷◌, ◌++◌, length, arith, rules}
+use Rattle.std.proofs.Common.{◌≡◌, ◌<◌, [], ◌∷◌, ◌++◌, length, rules}
 use Rattle.mpd_model.specs.declared.limits.TheConstants.{STEPS_MAX}
 use Rattle.mpd_model.specs.World.{start}
 use Rattle.mpd_model.specs.Trail.{noted}
@@ -6,14 +6,13 @@ use Rattle.mpd_core.specs.Undone.{rank_part}
 use Rattle.mpd_trail.proofs.KeptLemmas.{keeps_push}
 use Rattle.mpd_trail.proofs.debugger.Debugger.apply.Goals as goal
 
-pub invariant_of-self-in-Ok-note : goal.invariant_of-self-in-Ok-note
-invariant_of-self-in-Ok-note c =
+pub invariant_of-self-in-Ok : goal.invariant_of-self-in-Ok
+invariant_of-self-in-Ok c =
     let s = c.self.inside in
-    let long : c.len-depth.result ≡ length s.records.items = search rules in
-    let room : length s.records.items < STEPS_MAX = omega (arith, long) in
     let u = rank_part c.in_ok-done.done in
-    let pushed : c.push.new.self.items ≡ s.records.items ++ u ∷ [] = c.in-Ok.ensures.items in
-    let kept : c.note.new.steps.items ≡ noted s.steps.items (length s.records.items) c.args.step = rw (← long) c.in-Ok-note.ensures.ok in
+    let room : length s.records.items < STEPS_MAX = search rules in
+    let pushed : c.push_reserved.new.self.items ≡ s.records.items ++ u ∷ [] = search rules in
+    let kept : c.note_next.new.steps.items ≡ noted s.steps.items (length s.records.items) c.args.step = search rules in
     rw (pushed, kept, c.in_ok-done.ensures.program)
     (keeps_push s.core.program (start s.core.program s.mode) s.records.items s.steps.items s.core.world c.apply.new.self.world c.in_ok-done.done c.args.step c.self.invariant room c.in_ok-done.ensures.ok
     c.in_ok-done.ensures.back c.in_ok-done.ensures.can c.in_ok-done.ensures.recorded)

@@ -1,0 +1,75 @@
+-- What a step overwrote, as numbers: 4294967295 is none.
+use Rattle.std.specs.Prelude.{◌≡◌, ℕ, ◌<◌, ◌≤◌, ℤ, pos, Bool, cond, eqb, List, length, All, Option, Some, None, IfSome}
+use Rattle.std.proofs.Common.{inl, inr, sym, ap, ◌∙◌}
+use Rattle.std.proofs.lemmas.Bool.Decides.{eqb_tells}
+use Rattle.mpd_model.specs.declared.limits.TheConstants.{CELLS_MAX, HANDLES_MAX}
+use Rattle.mpd_rank.specs.declared.standing.Standing.{Standing}
+use Rattle.mpd_rank.specs.declared.change.HeldCell.TheInside as cell
+use Rattle.mpd_rank.specs.declared.change.HeldHandle.TheInside as handle
+
+-- a number below 4294967295, or none
+abbrev pub IsSmall : Option ℕ → Type 0
+IsSmall o = IfSome o (λ n. n < 4294967295)
+
+abbrev pub some_number : ℕ → Option ℕ
+some_number n = cond (eqb n 4294967295) None (Some n)
+
+abbrev pub number_of : Option ℕ → ℕ
+number_of None = 4294967295
+number_of (Some n) = n
+
+number_back : (n : ℕ) → number_of (some_number n) ≡ n
+number_back n =
+    elim (eqb_tells n 4294967295) [
+      | inl t ↦ ap (λ (b : Bool). number_of (cond b None (Some n))) t.0 ∙ sym t.1
+      | inr t ↦ ap (λ (b : Bool). number_of (cond b None (Some n))) t.0
+    ]
+
+-- a cell and what it held
+abbrev pub held_cell : ℕ → ℤ → Option (ℕ × ℤ)
+held_cell n was = cond (eqb n 4294967295) None (Some (n, was))
+
+abbrev pub cell_of : Option (ℕ × ℤ) → ℕ
+cell_of None = 4294967295
+cell_of (Some w) = w.0
+
+abbrev pub was_of : Option (ℕ × ℤ) → ℤ
+was_of None = pos 0
+was_of (Some w) = w.1
+
+-- a handle and what it held
+abbrev pub held_handle : ℕ → ℕ → Option (ℕ × Option ℕ)
+held_handle n call = cond (eqb n 4294967295) None (Some (n, some_number call))
+
+abbrev pub handle_of : Option (ℕ × Option ℕ) → ℕ
+handle_of None = 4294967295
+handle_of (Some w) = w.0
+
+abbrev pub call_of : Option (ℕ × Option ℕ) → ℕ
+call_of None = 4294967295
+call_of (Some w) = number_of w.1
+
+-- ---- both give their numbers back
+
+pub cell_back : (a : cell.Inside) → (a.cell ≡ 4294967295 → a.was ≡ pos 0) → record { cell = cell_of (held_cell a.cell a.was); was = was_of (held_cell a.cell a.was) } ≡ a
+cell_back a h =
+    let held : Bool → Option (ℕ × ℤ) = λ b. cond b None (Some (a.cell, a.was)) in
+    elim (eqb_tells a.cell 4294967295) [
+      | inl t ↦ (λ i. record { cell = (ap (λ b. cell_of (held b)) t.0 ∙ sym t.1) i; was = (ap (λ b. was_of (held b)) t.0 ∙ sym (h t.1)) i })
+      | inr t ↦ (λ i. record { cell = ap (λ b. cell_of (held b)) t.0 i; was = ap (λ b. was_of (held b)) t.0 i })
+    ]
+
+pub handle_back : (a : handle.Inside) → (a.handle ≡ 4294967295 → a.call ≡ 4294967295) → record { handle = handle_of (held_handle a.handle a.call); call = call_of (held_handle a.handle a.call) } ≡ a
+handle_back a h =
+    let held : Bool → Option (ℕ × Option ℕ) = λ b. cond b None (Some (a.handle, some_number a.call)) in
+    elim (eqb_tells a.handle 4294967295) [
+      | inl t ↦ (λ i. record { handle = (ap (λ b. handle_of (held b)) t.0 ∙ sym t.1) i; call = (ap (λ b. call_of (held b)) t.0 ∙ sym (h t.1)) i })
+      | inr t ↦ (λ i. record { handle = ap (λ b. handle_of (held b)) t.0 i; call = (ap (λ b. call_of (held b)) t.0 ∙ number_back a.call) i })
+    ]
+
+-- what the tapes of a rank keep: one standing, few cells and handles, and small numbers of calls
+pub record KeepsSmall (standing : List Standing) (vars : List ℤ) (handles : List (Option ℕ)) : Type 0 where
+  pub one : length standing ≡ 1
+  pub cells : length vars ≤ CELLS_MAX
+  pub few : length handles ≤ HANDLES_MAX
+  pub calls : All IsSmall handles
