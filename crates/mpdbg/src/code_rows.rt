@@ -1,6 +1,7 @@
 //! Rows of lowered code, of one rank and of a long run, worked out by hand: what no clause says, each public call with ample
 //! memory.
 
+ghost use Rattle.std.specs.Prelude.{◌<◌};
 ghost use Rattle.mpd_rank.specs.Undone.{IsOfRank};
 
 use crate::helpers::{lowered, same};
@@ -41,7 +42,7 @@ fn line_of(code: &Code, number: usize) -> Option<usize> {
 /// The node that follows a node, if there is such a node.
 fn next_of(code: &Code, number: usize) -> Option<usize> {
     match code.node(number) {
-        Some(node) => Some(node.next),
+        Some(node) => Some(node.next as usize),
         None => None,
     }
 }
@@ -110,6 +111,7 @@ fn plans_the_assignment(rt: &impl Abort, code: &Code, rank: &RankState) {
 
 /// Does what was planned; a call that it issues has that number.
 fn commits(rt: &impl Abort, rank: &mut RankState, plan: LocalPlan, call: usize) -> RankRecord
+    requires { call < 4294967295 }
     ensures { IsOfRank result.change }
 {
     rank.keep_room().expect(rt, "room for a step");
@@ -117,6 +119,7 @@ fn commits(rt: &impl Abort, rank: &mut RankState, plan: LocalPlan, call: usize) 
 }
 
 fn steps(rt: &impl Abort, code: &Code, rank: &mut RankState, call: usize) -> RankRecord
+    requires { call < 4294967295 }
     ensures { IsOfRank result.change }
 {
     let plan = rank.plan_local(code).expect(rt, "a step");
