@@ -1,17 +1,20 @@
 //! The values of expressions, and what statements make of them: the calls that they issue, and what assignments write.
 
 ghost use Rattle.std.specs.Prelude.{◌≡◌, pos, None, slice_index_or};
-ghost use Rattle.mpd_model.specs.Term.{value_of, within, checked, target_cell};
+ghost use Rattle.mpd_model.specs.Term.{element, op1, op2, value_of, within, checked, target_cell};
 ghost use Rattle.mpd_model.specs.Next.{rank_value, tag_value, send_kind, recv_kind, wait_kind, send_issue, recv_issue, isend_issue, irecv_issue, wait_issue, assignment};
 
 use crate::env::Env;
 use crate::operate::{alter, combine, decide};
 use mpd_model::call::{CallKind, Issue, RecvCall, SendCall, Trap, WaitCall};
-use mpd_model::expr::{Expr, ExprNode};
+use mpd_model::expr::{BinaryOp, Expr, ExprNode, UnaryOp};
 use mpd_model::limits::TAGS;
+use mpd_model::place::Place;
 use mpd_model::stmt::{AssignStmt, IrecvStmt, IsendStmt, RecvStmt, SendStmt, Target};
 
-/// The value of an expression, or the trap that it ends in.
+/// The value of an expression, or the trap that it ends in. What has no part is answered here, with no call.
+#[inline(always)]
+#[cycle(eval)]
 pub fn eval(expr: &Expr, env: &Env<'_>) -> Result<i64, Trap>
     ensures { result ≡ value_of expr.now env.now }
 {
@@ -20,24 +23,42 @@ pub fn eval(expr: &Expr, env: &Env<'_>) -> Result<i64, Trap>
         ExprNode::Rank => Ok(env.rank as i64),
         ExprNode::Size => Ok(env.size as i64),
         ExprNode::Cell(place) => Ok(cell(env.vars, place.first as usize)),
-        ExprNode::Element(place, index) => {
-            let value = eval(index, env)?;
-            let index = index_below(value, place.cells as usize, Trap::BadIndex)?;
-            Ok(cell(env.vars, place.first as usize + index))
-        }
-        ExprNode::Unary(op, operand) => {
-            let value = eval(operand, env)?;
-            alter(*op, value)
-        }
-        ExprNode::Binary(op, left, right) => {
-            let left = eval(left, env)?;
-            if let Some(value) = decide(*op, left) {
-                return Ok(value);
-            }
-            let right = eval(right, env)?;
-            combine(*op, left, right)
-        }
+        ExprNode::Element(place, index) => eval_element(*place, index, env),
+        ExprNode::Unary(op, operand) => eval_unary(*op, operand, env),
+        ExprNode::Binary(op, left, right) => eval_binary(*op, left, right, env),
     }
+}
+
+/// What an array holds at an index.
+#[cycle(eval)]
+fn eval_element(place: Place, index: &Expr, env: &Env<'_>) -> Result<i64, Trap>
+    ensures { result ≡ value_of (element place index.now) env.now }
+{
+    let value = eval(index, env)?;
+    let index = index_below(value, place.cells as usize, Trap::BadIndex)?;
+    Ok(cell(env.vars, place.first as usize + index))
+}
+
+/// The value of an operand with an operator before it.
+#[cycle(eval)]
+fn eval_unary(op: UnaryOp, operand: &Expr, env: &Env<'_>) -> Result<i64, Trap>
+    ensures { result ≡ value_of (op1 op operand.now) env.now }
+{
+    let value = eval(operand, env)?;
+    alter(op, value)
+}
+
+/// The value of two operands with an operator between them.
+#[cycle(eval)]
+fn eval_binary(op: BinaryOp, left: &Expr, right: &Expr, env: &Env<'_>) -> Result<i64, Trap>
+    ensures { result ≡ value_of (op2 op left.now right.now) env.now }
+{
+    let left = eval(left, env)?;
+    if let Some(value) = decide(op, left) {
+        return Ok(value);
+    }
+    let right = eval(right, env)?;
+    combine(op, left, right)
 }
 
 /// What a cell holds.

@@ -62,6 +62,7 @@ fn negate(value: i64) -> Result<i64, Trap>
 }
 
 /// What an operator makes of two values, or the trap that it ends in.
+#[inline(always)]
 pub(crate) fn combine(op: BinaryOp, left: i64, right: i64) -> Result<i64, Trap>
     ensures { result ≡ combined op left right }
 {
