@@ -117,8 +117,8 @@ match_at : (w : World) (q : ℕ) → list_any (is_enabled w) (matches_of w.board
 match_at w q =
     any_flat (is_enabled w) (λ j. matches_with w.board (call_id q j)) (λ j. list_any (λ p. list_any (λ i. eligible w.board (call_id p i) (call_id q j)) (call_numbers w.board p)) (rank_numbers w.board))
     (λ j. any_flat (is_enabled w) (λ p. map (λ i. Match (call_id p i) (call_id q j)) (call_numbers w.board p)) (λ p. list_any (λ i. eligible w.board (call_id p i) (call_id q j)) (call_numbers w.board p))
-      (λ p. any_map (is_enabled w) (λ i. Match (call_id p i) (call_id q j)) (λ i. eligible w.board (call_id p i) (call_id q j))
-        (λ i. enabled_by (eligible w.board (call_id p i) (call_id q j)) (record w { board = with_set w.board (Pair (call_id p i) (call_id q j)) })) (call_numbers w.board p)) (rank_numbers w.board)) (call_numbers w.board q)
+    (λ p. any_map (is_enabled w) (λ i. Match (call_id p i) (call_id q j)) (λ i. eligible w.board (call_id p i) (call_id q j))
+    (λ i. enabled_by (eligible w.board (call_id p i) (call_id q j)) (record w { board = with_set w.board (Pair (call_id p i) (call_id q j)) })) (call_numbers w.board p)) (rank_numbers w.board)) (call_numbers w.board q)
 
 pub match_on : (w : World) (b : Board) (q : ℕ) (found : Bool) → b ≡ w.board
     → found ≡ list_any (λ j. list_any (λ p. list_any (λ i. eligible b (call_id p i) (call_id q j)) (call_numbers b p)) (rank_numbers b)) (call_numbers b q)

@@ -28,7 +28,11 @@ use std::alloc::{AllocError, Global};
 
 /// So many ranks before their first step.
 #[tactic(auto, using(crate::proofs::RankLemmas::starting))]
-pub(crate) fn start_ranks(alloc: Global, code: &Code, size: usize) -> Result<Vec<RankState>, AllocError>
+pub(crate) fn start_ranks(
+    alloc: Global,
+    code: &Code,
+    size: usize,
+) -> Result<Vec<RankState>, AllocError>
     requires few { size ≤ RANKS_MAX }
     ensures ranks { IfOk result (λ ranks. ranks_in code.now.program ranks.items ≡ replicate size (start_rank code.now.program)) }
     ensures numbers { IfOk result (λ ranks. numbers_in ranks.items ≡ range_with_len 0 size) }

@@ -18,12 +18,12 @@ use crate::record::Record;
 use mpd_code::code::Code;
 use mpd_device::steps::Steps;
 use mpd_match::board::Board;
+use mpd_match::record::PairRecord;
 use mpd_model::call::{Activity, CallKind, Message, Mode};
 use mpd_model::limits::RANKS_MAX;
 use mpd_model::step::{CallId, Step};
 use mpd_rank::change::{Cells, Change, RankRecord};
 use mpd_rank::rank::RankState;
-use mpd_match::record::PairRecord;
 use std::alloc::{AllocError, Global};
 use std::marker::Model;
 
@@ -224,8 +224,8 @@ impl<'c> Core<'c> {
         if rank >= self.ranks.len() {
             return Err(StepFault::NotEnabled);
         }
-        let RankRecord { from, change } =
-            ranks::step_one(self.code, &mut self.ranks, &mut self.board, rank)?;
+        let done = ranks::step_one(self.code, &mut self.ranks, &mut self.board, rank)?;
+        let RankRecord { from, change } = done;
         Ok(Record {
             step: Step::Local(rank),
             from,
