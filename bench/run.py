@@ -4,9 +4,10 @@
     python3 bench/run.py [PROGRAM [BENCH]]  (crates/mpdbg/out/mpdbg and crates/mpd_bench/out/mpd_bench, where none is named)
 
 It is no part of the gate. Each figure of the first program is the best of 20 runs, less the best of 20 runs of the same
-script with no words. The second program measures a local step and its undo itself, with no text in what is measured; under
-valgrind, where that is there, its growths of memory are counted: they come with reading, lowering and the first long trail,
-and not with the 30,000,000 steps. Where a program isn't built, a line says how to build it, and the status is 2.
+script with no words. The second program measures steps and their undos itself, with no text in what is measured: local ones,
+messages and requests behind others, a wait, messages in a row, and an outcome; under valgrind, where that is there, its growths
+of memory are counted: they come with reading, lowering and the first time that steps are taken, and not with the many times
+that are measured. Where a program isn't built, a line says how to build it, and the status is 2.
 """
 import os
 import re
@@ -79,12 +80,12 @@ def message(number):
 
 
 def messages(program):
-    """Messages in a row with their undos: what matches and wakes look through grows with them."""
+    """Messages in a row with their undos: each takes the same, however many come before it."""
     script = (b'mpd 1;\nranks 2;\nvar i;\nvar x;\n'
               b'while 1 { if rank == 0 { send i to 1 tag 0; } else { recv x from 0 tag 0; } i = i + 1; }\n---\n')
     none = best(program, script)
     print('messages in a row and all of them taken back, 22 words each, less none')
-    for count in (1, 10, 100, 300):
+    for count in (1, 10, 100, 1_000, 10_000):
         there = b''.join(message(number) for number in range(count))
         rounds = max(1, 2_000 // count)
         data = script + (there + b'back\n' * there.count(b'\n')) * rounds
