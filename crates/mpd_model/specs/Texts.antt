@@ -63,9 +63,13 @@ abbrev pub target_text : Option ℕ → List ℕ
 target_text None = codes "none"
 target_text (Some i) = decimal i
 
+abbrev pub any_text : Option ℕ → List ℕ
+any_text None = codes "any"
+any_text (Some n) = decimal n
+
 abbrev pub kind_text : CallKind → List ℕ
 kind_text (Send s) = send_word s.blocks ++ codes " to " ++ decimal s.to ++ codes " tag " ++ decimal s.tag ++ codes " value " ++ signed_decimal s.value
-kind_text (Recv r) = recv_word r.blocks ++ codes " from " ++ decimal r.from ++ codes " tag " ++ decimal r.tag
+kind_text (Recv r) = recv_word r.blocks ++ codes " from " ++ any_text r.from ++ codes " tag " ++ any_text r.tag
 kind_text (Wait t) = codes "wait " ++ target_text t.target
 
 -- the call that a call was paired with, and the mark of one that is free

@@ -1,7 +1,7 @@
 //! Printed texts that need no state (docs/FORMATS.md, "Text of show").
 
 ghost use Rattle.std.specs.Prelude.{◌≡◌, ◌++◌, IfOk, OnOk, string_bytes, codes};
-ghost use Rattle.mpd_model.specs.Texts.{id_text, send_word, recv_word, kind_text, trap_name, set_text, trapped_text, outcome_text, spaced};
+ghost use Rattle.mpd_model.specs.Texts.{id_text, send_word, recv_word, kind_text, any_text, trap_name, set_text, trapped_text, outcome_text, spaced};
 
 use crate::call::{CallKind, MatchSet, Trap};
 use crate::outcome::{Outcome, TrappedRank};
@@ -33,6 +33,25 @@ fn recv_word(blocks: bool) -> &'static str
     if blocks { "recv" } else { "irecv" }
 }
 
+/// The source or the tag of a receive.
+#[derive(Clone, Copy)]
+struct NumberOrAny {
+    number: Option<usize>,
+}
+
+impl fmt::Display for NumberOrAny {
+    ghost use Rattle.std.specs.Prelude.{Some};
+
+    ghost output = { λ n. Some (any_text n.number) };
+
+    fn fmt<W: fmt::Write>(&self, f: &mut fmt::Formatter<W>) -> fmt::Result {
+        match self.number {
+            None => write!(f, "any"),
+            Some(number) => write!(f, "{number}"),
+        }
+    }
+}
+
 impl fmt::Display for CallKind {
     ghost use Rattle.std.specs.Prelude.{Some};
 
@@ -49,7 +68,9 @@ impl fmt::Display for CallKind {
                 s.value
             ),
             CallKind::Recv(r) => {
-                write!(f, "{} from {} tag {}", recv_word(r.blocks), r.from, r.tag)
+                let from = NumberOrAny { number: r.from };
+                let tag = NumberOrAny { number: r.tag };
+                write!(f, "{} from {from} tag {tag}", recv_word(r.blocks))
             }
             CallKind::Wait(w) => match w.target {
                 None => write!(f, "wait none"),
