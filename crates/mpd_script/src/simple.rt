@@ -132,7 +132,7 @@ fn sent(alloc: Global, tokens: &mut Tokens<'_>, request: Option<Target>) -> Resu
 }
 
 /// A source or a tag of a receive: `any`, or an expression.
-#[tactic(auto, unfolding(mpd_model::specs::Grammar::source, mpd_model::specs::Input::sees, mpd_model::specs::Input::after))]
+#[tactic(auto, unfolding(mpd_model::specs::Grammar::source))]
 fn source(alloc: Global, tokens: &mut Tokens<'_>) -> Result<Option<Expr>, ReadFault>
     ensures { Reads (spec.source tokens.old) result tokens.new }
 {
@@ -144,7 +144,7 @@ fn source(alloc: Global, tokens: &mut Tokens<'_>) -> Result<Option<Expr>, ReadFa
 }
 
 /// A status, if there is one: the places that the source and the tag are written to.
-#[tactic(auto, unfolding(mpd_model::specs::Grammar::status, mpd_model::specs::Input::sees, mpd_model::specs::Input::after))]
+#[tactic(auto, unfolding(mpd_model::specs::Grammar::status))]
 fn status(alloc: Global, tokens: &mut Tokens<'_>) -> Result<Option<StatusStmt>, ReadFault>
     ensures { Reads (spec.status tokens.old) result tokens.new }
 {
