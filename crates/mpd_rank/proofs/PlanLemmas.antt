@@ -14,7 +14,7 @@ use Rattle.mpd_model.specs.Term.{Term, Target, Value, Env, and_then, value_of, c
 use Rattle.mpd_model.specs.Tree.{Tree, Block, repeat, trees, statements_in, numbered}
 use Rattle.mpd_model.specs.Program.{Program}
 use Rattle.mpd_model.specs.World.{RankWorld}
-use Rattle.mpd_model.specs.Next.{HasReceiver, alone, local, env_of, ran, ran_simple, printed, issued, assigned, asserted, chosen, repeated, send_issue, recv_issue, isend_issue, irecv_issue, wait_issue, assignment, rank_value, tag_value, send_kind, recv_kind, wait_kind, awaiting}
+use Rattle.mpd_model.specs.Next.{HasReceiver, alone, local, env_of, ran, ran_simple, printed, issued, assigned, asserted, chosen, repeated, send_issue, recv_issue, isend_issue, irecv_issue, wait_issue, assignment, rank_value, tag_value, source_value, any_tag_value, status_cells, send_kind, recv_kind, wait_kind, awaiting}
 use Rattle.mpd_code.specs.declared.node.Node.{Node}
 use Rattle.mpd_code.specs.declared.node.Action.{Action}
 use Rattle.mpd_code.specs.declared.node.Action.TheVariants as a
@@ -188,7 +188,10 @@ send_below blocks s env =
 
 recv_below : (blocks : Bool) (s : RecvStmt) (env : Env) → Below env.size (recv_kind blocks s env)
 recv_below blocks s env =
-    then_below env.size (target_cell s.into env) _ (λ c h. then_below env.size (rank_value s.from env) _ (λ q g. then_below env.size (tag_value s.tag env) _ (λ t last. tt)))
+    then_below env.size (target_cell s.into env) _ (λ c h.
+    then_below env.size (source_value s.from env) _ (λ q g.
+    then_below env.size (any_tag_value s.tag env) _ (λ t f.
+    then_below env.size (status_cells s.status env) _ (λ u last. tt))))
 
 wait_below : (t : Target) (env : Env) → Below env.size (wait_kind t env)
 wait_below t env = then_below env.size (target_cell t env) _ (λ c h. tt)
