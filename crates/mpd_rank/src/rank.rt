@@ -107,13 +107,7 @@ impl RankState {
     fn standing(&self) -> Standing
         ensures { result ≡ record { node = self.now.node; activity = self.now.activity } }
     {
-        match self.standing.get(0) {
-            Some(standing) => standing,
-            None => Standing {
-                node: 0,
-                activity: Activity::Running,
-            },
-        }
+        self.standing.items()[0]
     }
 
     /// Puts it at a node. One write.
