@@ -2,15 +2,15 @@
 
 ghost use Rattle.std.specs.Prelude.{◌≡◌, pos, None, slice_index_or};
 ghost use Rattle.mpd_model.specs.Term.{element, op1, op2, value_of, within, checked, target_cell};
-ghost use Rattle.mpd_model.specs.Next.{rank_value, tag_value, send_kind, recv_kind, wait_kind, send_issue, recv_issue, isend_issue, irecv_issue, wait_issue, assignment};
+ghost use Rattle.mpd_model.specs.Next.{rank_value, tag_value, send_kind, source_value, any_tag_value, status_cells, recv_kind, wait_kind, send_issue, recv_issue, isend_issue, irecv_issue, wait_issue, assignment};
 
 use crate::env::Env;
 use crate::operate::{alter, combine, decide};
-use mpd_model::call::{CallKind, Issue, RecvCall, SendCall, Trap, WaitCall};
+use mpd_model::call::{CallKind, Issue, RecvCall, SendCall, StatusCells, Trap, WaitCall};
 use mpd_model::expr::{BinaryOp, Expr, ExprNode, UnaryOp};
 use mpd_model::limits::TAGS;
 use mpd_model::place::Place;
-use mpd_model::stmt::{AssignStmt, IrecvStmt, IsendStmt, RecvStmt, SendStmt, Target};
+use mpd_model::stmt::{AssignStmt, IrecvStmt, IsendStmt, RecvStmt, SendStmt, StatusStmt, Target};
 
 /// The value of an expression, or the trap that it ends in. What has no part is answered here, with no call.
 #[inline(always)]
@@ -131,17 +131,60 @@ fn send_call(send: &SendStmt, blocks: bool, env: &Env<'_>) -> Result<CallKind, T
     }))
 }
 
-/// The call of a receive: the index of its target is evaluated first, then the source, then the tag.
+/// The source of a receive, where it isn't any.
+fn eval_source(from: &Option<Expr>, env: &Env<'_>) -> Result<Option<usize>, Trap>
+    ensures { result ≡ source_value from.now env.now }
+{
+    match from {
+        None => Ok(None),
+        Some(from) => {
+            let rank = eval_rank(from, env)?;
+            Ok(Some(rank))
+        }
+    }
+}
+
+/// The tag of a receive, where it isn't any.
+fn eval_any_tag(tag: &Option<Expr>, env: &Env<'_>) -> Result<Option<usize>, Trap>
+    ensures { result ≡ any_tag_value tag.now env.now }
+{
+    match tag {
+        None => Ok(None),
+        Some(tag) => {
+            let tag = eval_tag(tag, env)?;
+            Ok(Some(tag))
+        }
+    }
+}
+
+/// The cells of a status, where there is one: the index of the source's is evaluated first.
+fn eval_status(status: &Option<StatusStmt>, env: &Env<'_>) -> Result<Option<StatusCells>, Trap>
+    ensures { result ≡ status_cells status.now env.now }
+{
+    match status {
+        None => Ok(None),
+        Some(status) => {
+            let source = eval_target(&status.source, env)?;
+            let tag = eval_target(&status.tag, env)?;
+            Ok(Some(StatusCells { source, tag }))
+        }
+    }
+}
+
+/// The call of a receive: the index of its target is evaluated first, then the source, then the tag, then the indexes of the
+/// status.
 fn recv_call(recv: &RecvStmt, blocks: bool, env: &Env<'_>) -> Result<CallKind, Trap>
     ensures { result ≡ recv_kind blocks recv.now env.now }
 {
     let cell = eval_target(&recv.into, env)?;
-    let from = eval_rank(&recv.from, env)?;
-    let tag = eval_tag(&recv.tag, env)?;
+    let from = eval_source(&recv.from, env)?;
+    let tag = eval_any_tag(&recv.tag, env)?;
+    let status = eval_status(&recv.status, env)?;
     Ok(CallKind::Recv(RecvCall {
         from,
         tag,
         cell,
+        status,
         blocks,
     }))
 }

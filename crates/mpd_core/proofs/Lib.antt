@@ -2,3 +2,4 @@ pub mod StepLemmas
 pub mod RankLemmas
 pub mod RangeLemmas
 pub mod RoomLemmas
+pub mod TagLemmas

@@ -1,5 +1,5 @@
 -- One of the ranks is changed, and changed back.
-use Rattle.std.proofs.Common.{◌≡◌, ◌&&◌, ℕ, zero, suc, ◌<◌, ◌+◌, List, [], ◌∷◌, ◌++◌, length, get_or, map, set, drop, add-one, ℤ, Option, Some, None, Result, Ok, Err, IfOk, refl, sym, ap, ◌∙◌, arith, slice_get, slice_set, option_and_then, IfSome, replicate, Bool, true, false}
+use Rattle.std.proofs.Common.{◌≡◌, ◌&&◌, ℕ, zero, suc, ◌<◌, ◌+◌, List, [], ◌∷◌, ◌++◌, length, get_or, set, drop, add-one, ℤ, Option, Some, None, Result, Ok, Err, IfOk, refl, sym, ap, ◌∙◌, arith, slice_get, slice_set, option_and_then, IfSome, replicate, Bool, true, false}
 use Rattle.std.proofs.lemmas.Option.{slice_get_read}
 use Rattle.std.proofs.lemmas.List.{map-set, map-append, length-map, length-set, replicate-append-replicate}
 use Rattle.std.specs.Option.{option_map}
@@ -15,7 +15,7 @@ use Rattle.mpd_model.specs.Program.{Program}
 use Rattle.mpd_rank.specs.Views.{RankView, rank_of}
 use Rattle.mpd_rank.specs.declared.change.RankRecord.{RankRecord}
 use Rattle.mpd_rank.specs.Records.{local_record, wake_record}
-use Rattle.mpd_core.specs.Views.{ranks_in, world_in, numbers_in, writes_in, Holds}
+use Rattle.mpd_core.specs.Views.{ranks_in, world_in, numbers_in, writes_in, Holds, HasTags}
 use Rattle.mpd_core.specs.OneRank.{ran_on, local_on}
 use Rattle.mpd_core.specs.Records.{local_record_at, wake_record_at}
 use Rattle.mpd_core.proofs.RoomLemmas.{no_room_with}
@@ -79,11 +79,12 @@ pub on_board : (s : Program) (vs : List RankView) (b : Board) (n p : ℕ) (v : R
 on_board s vs b n p v e h read held = omega (arith, rank_is s vs b n p v e h read held, h, board_count s vs b n held e)
 
 -- and so it is where that rank has changed
-pub held_set : (s : Program) (vs : List RankView) (b c : Board) (p : ℕ) (v w : RankView) → v ≡ get_or vs p v → w.rank ≡ v.rank → length c.calls ≡ length b.calls → Holds s vs b → Holds s (set vs p w) c
-held_set s vs b c p v w read same calls held = record {
+pub held_set : (s : Program) (vs : List RankView) (b c : Board) (p : ℕ) (v w : RankView) → v ≡ get_or vs p v → w.rank ≡ v.rank → length c.calls ≡ length b.calls → HasTags c → Holds s vs b → Holds s (set vs p w) c
+held_set s vs b c p v w read same calls tags held = record {
   few = omega (arith, length-set vs p w, held.few);
   numbers = numbers_set vs p v w read same ∙ held.numbers;
   calls = calls ∙ held.calls;
+  tags = tags;
 }
 
 -- a step of the rank that was read is the step there

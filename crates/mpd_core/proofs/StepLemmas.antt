@@ -1,5 +1,5 @@
 -- The local step of one rank over a board.
-use Rattle.std.proofs.Common.{◌≡◌, ◌<◌, ℕ, ℤ, List, [], ◌∷◌, ◌++◌, Option, Some, None, Result, IfSome, IfOk, length, refl, sym, ap, ◌∙◌}
+use Rattle.std.proofs.Common.{◌≡◌, ℕ, ℤ, List, [], ◌∷◌, ◌++◌, Option, Some, None, IfSome, length, refl, sym, ap, ◌∙◌}
 use Rattle.std.specs.Option.{option_map}
 use Rattle.std.proofs.lemmas.List.{length-set}
 use Rattle.mpd_model.specs.declared.call.Activity.{Activity}
@@ -8,14 +8,13 @@ use Rattle.mpd_model.specs.declared.call.Call.{Call}
 use Rattle.mpd_model.specs.Program.{Program}
 use Rattle.mpd_model.specs.Term.{Env}
 use Rattle.mpd_model.specs.Tree.{Tree}
-use Rattle.mpd_model.specs.World.{RankWorld, Board, calls_of, partner, last_call}
-use Rattle.mpd_model.specs.Next.{Ran, HasReceiver, local, with_call, with_issued}
+use Rattle.mpd_model.specs.World.{RankWorld, Board, calls_of}
+use Rattle.mpd_model.specs.Next.{HasReceiver, local, with_call, with_issued}
 use Rattle.mpd_match.specs.Changes.{without_last_call}
-use Rattle.mpd_rank.specs.declared.change.Change.{Change}
 use Rattle.mpd_rank.specs.declared.change.RankRecord.{RankRecord}
 use Rattle.mpd_rank.specs.declared.plan.LocalPlan.{LocalPlan}
 use Rattle.mpd_rank.specs.declared.plan.LocalPlan.TheVariants.{Move, Print, Assign, Issue, Trap}
-use Rattle.mpd_rank.specs.Plans.{plan_call, plan_ran, planned, HasPlannedReceiver}
+use Rattle.mpd_rank.specs.Plans.{plan_call, plan_ran, planned, HasTag, HasPlannedReceiver}
 use Rattle.mpd_rank.specs.Records.{record_by, local_record, plan_change, plan_record}
 use Rattle.mpd_rank.specs.Undone.{held, assigned_change}
 use Rattle.mpd_rank.specs.Views.{RankView, rank_of}
@@ -23,10 +22,10 @@ use Rattle.mpd_core.specs.OneRank.{ran_on, local_on, CanUnissueIf}
 use Rattle.mpd_core.specs.Undone.{unissued, CanUnissue}
 
 -- a call that is planned has a receiver
-pub has_receiver : (n number : ℕ) (plan : LocalPlan) (o : Option Call) → HasPlannedReceiver n plan → o ≡ plan_call number plan → IfSome o (λ c. HasReceiver n c.kind)
+pub has_receiver : (n number : ℕ) (plan : LocalPlan) (o : Option Call) → HasPlannedReceiver n plan → o ≡ plan_call number plan → IfSome o (λ c. HasReceiver n c.kind × HasTag (Some c.kind))
 has_receiver n number plan o h e = rw e (by_plan n number plan h)
   where
-    by_plan : (n number : ℕ) (plan : LocalPlan) → HasPlannedReceiver n plan → IfSome (plan_call number plan) (λ c. HasReceiver n c.kind)
+    by_plan : (n number : ℕ) (plan : LocalPlan) → HasPlannedReceiver n plan → IfSome (plan_call number plan) (λ c. HasReceiver n c.kind × HasTag (Some c.kind))
     by_plan n number (Move next) h = tt
     by_plan n number (Print v next) h = tt
     by_plan n number (Assign cell v next) h = tt

@@ -1,10 +1,9 @@
 -- The record of each step, a function of the world before it.
 use Rattle.std.specs.Prelude.{ℕ, ℤ, List, length, slice_get, Option, Some, None, option_and_then}
 use Rattle.std.specs.Option.{option_map}
-use Rattle.mpd_model.specs.declared.step.CallId.{CallId}
 use Rattle.mpd_model.specs.declared.step.Step.{Step}
 use Rattle.mpd_model.specs.declared.step.Step.TheVariants.{Local, Match, Wake, Release}
-use Rattle.mpd_model.specs.World.{RankWorld, World, Board}
+use Rattle.mpd_model.specs.World.{RankWorld, World}
 use Rattle.mpd_model.specs.Next.{wake_writes, wake_clears}
 use Rattle.mpd_match.specs.declared.record.PairRecord.{PairRecord}
 use Rattle.mpd_match.specs.Changes.{record_of_pair}

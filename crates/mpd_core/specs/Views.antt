@@ -1,10 +1,13 @@
 -- What a core shows to contracts, part by part, and what it keeps at all times.
-use Rattle.std.specs.Prelude.{◌≡◌, ◌≤◌, ℕ, ◌+◌, min, List, [], ◌∷◌, map, length, refl}
+use Rattle.std.specs.Prelude.{◌≡◌, ◌<◌, ◌≤◌, ℕ, ◌+◌, min, List, [], ◌∷◌, map, length, refl}
 use Rattle.std.specs.List.{range_with_len}
 use Rattle.std.specs.Coded.{Coded, code_by, coded×, coded_ℕ}
-use Rattle.mpd_model.specs.declared.limits.TheConstants.{RANKS_MAX}
+use Rattle.mpd_model.specs.declared.limits.TheConstants.{RANKS_MAX, TAGS}
+use Rattle.mpd_model.specs.declared.call.Message.{Message}
 use Rattle.mpd_model.specs.Program.{Program, program_code}
-use Rattle.mpd_model.specs.World.{RankWorld, World, Board, world_code}
+use Rattle.mpd_model.specs.declared.step.CallId.{CallId}
+use Rattle.mpd_model.specs.World.{RankWorld, World, Board, kind_at, world_code}
+use Rattle.mpd_rank.specs.Plans.{HasTag}
 use Rattle.mpd_rank.specs.Views.{RankView, rank_of}
 
 -- the ranks of the world of a program
@@ -28,11 +31,20 @@ abbrev pub writes_in : List RankView → ℕ
 writes_in [] = 0
 writes_in (v ∷ views) = v.writes + writes_in views
 
+-- all sends of a board have tags
+abbrev pub HasTags : Board → Type 0
+HasTags b = (c : CallId) → HasTag (kind_at b c)
+
 -- the ranks know their numbers, and the board has the calls of each
 pub record Holds (s : Program) (views : List RankView) (b : Board) : Type 0 where
   pub few : length views ≤ RANKS_MAX
   pub numbers : numbers_in views ≡ range_with_len 0 s.ranks
   pub calls : length b.calls ≡ s.ranks
+  pub tags : HasTags b
+
+-- the numbers of a message: of a rank, and a tag
+abbrev pub IsMessage : Message → Type 0
+IsMessage m = (m.source < RANKS_MAX) × (m.tag < TAGS)
 
 pub record CoreView : Type 0 where
   pub program : Program

@@ -11,7 +11,8 @@ ghost use Rattle.mpd_match.specs.Changes.{without_last_call};
 ghost use Rattle.mpd_rank.specs.Views.{rank_of};
 ghost use Rattle.mpd_rank.specs.Undone.{undone_rank, IsOfRank};
 ghost use Rattle.mpd_rank.specs.Records.{local_record};
-ghost use Rattle.mpd_core.specs.Views.{ranks_in, world_in, numbers_in, room_in, writes_in, Holds};
+ghost use Rattle.mpd_core.specs.Views.{ranks_in, world_in, numbers_in, room_in, writes_in, Holds, HasTags};
+ghost use Rattle.mpd_rank.specs.Plans.{HasTag};
 ghost use Rattle.mpd_core.specs.OneRank.{local_on, CanUnissueIf};
 ghost use Rattle.mpd_core.specs.Records.{local_record_at, wake_record_at};
 ghost use Rattle.mpd_core.specs.Undone.{unissued, CanUnissue};
@@ -51,7 +52,7 @@ pub(crate) fn start_ranks(
 #[tactic(auto, using(crate::proofs::StepLemmas::issuing))]
 fn issue_on(board: &mut Board, rank: usize, call: Option<Call>) -> Result<u32, AllocError>
     requires rank { rank < length board.old.board.calls }
-    requires receiver { IfSome call (λ c. HasReceiver (length board.old.board.calls) c.kind) }
+    requires receiver { IfSome call (λ c. HasReceiver (length board.old.board.calls) c.kind × HasTag (Some c.kind)) }
     ensures number { IfOk result (λ n. IfSome call (λ _. n ≡ length (calls_of board.old.board rank))) }
     ensures small { IfOk result (λ n. n < 4294967295) }
     ensures board { OnOk result (board.new.board ≡ with_issued board.old.board rank call) }
@@ -72,7 +73,7 @@ fn issue_on(board: &mut Board, rank: usize, call: Option<Call>) -> Result<u32, A
 }
 
 /// The local step of one rank.
-#[tactic(auto, using(crate::proofs::StepLemmas::stepping))]
+#[tactic(auto, using(crate::proofs::StepLemmas::stepping, crate::proofs::TagLemmas::tagging))]
 fn step_rank(code: &Code, state: &mut RankState, board: &mut Board) -> Result<RankRecord, StepFault>
     requires rank { state.old.rank < length board.old.board.calls }
     requires ranks { length board.old.board.calls ≡ code.now.program.ranks }
@@ -91,6 +92,7 @@ fn step_rank(code: &Code, state: &mut RankState, board: &mut Board) -> Result<Ra
     ensures few { state.new.writes + board.new.writes ≤ state.old.writes + board.old.writes + 16 }
     ensures unwritten { OnErr result (state.new.writes + board.new.writes ≡ state.old.writes + board.old.writes) }
     ensures ranks { length board.new.board.calls ≡ length board.old.board.calls }
+    ensures tags { HasTags board.old.board → HasTags board.new.board }
 {
     let Some(plan) = state.plan_local(code) else {
         return Err(StepFault::NotEnabled);
@@ -146,7 +148,7 @@ pub(crate) fn wake_one(
     ensures numbers { numbers_in ranks.new.items ≡ numbers_in ranks.old.items }
     ensures size { vec_len ranks.new ≡ vec_len ranks.old }
     ensures rises { writes_in ranks.old.items + 1 ≤ writes_in ranks.new.items }
-    ensures few { writes_in ranks.new.items ≤ writes_in ranks.old.items + 3 }
+    ensures few { writes_in ranks.new.items ≤ writes_in ranks.old.items + 5 }
 {
     let state = &mut ranks[rank];
     state.complete(writes, handle)
@@ -161,7 +163,7 @@ pub(crate) fn restore_one(ranks: &mut Vec<RankState>, rank: usize, done: RankRec
     ensures numbers { numbers_in ranks.new.items ≡ numbers_in ranks.old.items }
     ensures size { vec_len ranks.new ≡ vec_len ranks.old }
     ensures rises { writes_in ranks.old.items + 1 ≤ writes_in ranks.new.items }
-    ensures few { writes_in ranks.new.items ≤ writes_in ranks.old.items + 3 }
+    ensures few { writes_in ranks.new.items ≤ writes_in ranks.old.items + 5 }
 {
     let state = &mut ranks[rank];
     state.restore(done);

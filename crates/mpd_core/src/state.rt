@@ -1,13 +1,14 @@
 //! The state of a run.
 
-ghost use Rattle.std.specs.Prelude.{◌≡◌, ◌↔◌, ◌<◌, ◌≤◌, ◌+◌, ℕ, length, slice_get, IfOk, IfSome, is_some, OnOk, OnErr, IsErrOf, Some, None};
+ghost use Rattle.std.specs.Prelude.{◌≡◌, ◌↔◌, ◌<◌, ◌≤◌, ◌+◌, ◌∷◌, ℕ, length, slice_get, IfOk, IfSome, is_some, OnOk, OnErr, IsErrOf, Some, None};
 ghost use Rattle.std.specs.Option.{option_map};
 ghost use Rattle.std.specs.List.{list_all};
 ghost use Rattle.mpd_model.specs.Outcomes.{has_ended, first_number};
 ghost use Rattle.mpd_model.specs.Program.{Program};
 ghost use Rattle.mpd_model.specs.World.{eligible, start};
 ghost use Rattle.mpd_model.specs.Next as next_specs;
-ghost use Rattle.mpd_model.specs.Next.{next, is_enabled, local_at, update_at, wake_writes, wake_clears, can_wake, waits};
+ghost use Rattle.mpd_model.specs.Next.{next, is_enabled, local_at, update_at, wake_writes, wake_clears, status_writes, can_wake, waits};
+ghost use Rattle.mpd_core.specs.Views.{IsMessage};
 ghost use Rattle.mpd_rank.specs.Views.{rank_of};
 ghost use Rattle.mpd_core.specs.Records.{record_of};
 ghost use Rattle.mpd_core.specs.Looks.{step_looks, most_looks};
@@ -19,7 +20,7 @@ use mpd_code::code::Code;
 use mpd_device::steps::Steps;
 use mpd_match::board::Board;
 use mpd_match::record::PairRecord;
-use mpd_model::call::{Activity, CallKind, Message, Mode};
+use mpd_model::call::{Activity, CallKind, Message, Mode, RecvCall};
 use mpd_model::limits::RANKS_MAX;
 use mpd_model::step::{CallId, Step};
 use mpd_rank::change::{Cells, Change, RankRecord};
@@ -67,12 +68,29 @@ fn cleared_by(kind: Option<CallKind>) -> Option<usize>
     }
 }
 
-/// The cells that a receive writes as its rank goes on, each with its new value.
+/// The cells that a receive writes as its rank goes on, each with its new value: the value, then the source, then the tag.
+fn recv_writes(recv: RecvCall, message: Message) -> Cells
+    requires { IsMessage message }
+    ensures { result ≡ (recv.cell, message.value) ∷ status_writes recv.status message }
+{
+    match recv.status {
+        None => Cells::one(recv.cell, message.value),
+        Some(status) => {
+            let value = (recv.cell, message.value);
+            let source = (status.source, message.source as i64);
+            let tag = (status.tag, message.tag as i64);
+            Cells::three(value, source, tag)
+        }
+    }
+}
+
+/// The cells that the wake from a call of this kind writes, each with its new value.
 fn writes_of(kind: Option<CallKind>, message: Option<Message>) -> Cells
+    requires { IfSome message IsMessage }
     ensures { result ≡ next_specs.writes_of kind message }
 {
     match (kind, message) {
-        (Some(CallKind::Recv(recv)), Some(message)) => Cells::one(recv.cell, message.value),
+        (Some(CallKind::Recv(recv)), Some(message)) => recv_writes(recv, message),
         _ => Cells::none(),
     }
 }
@@ -234,7 +252,7 @@ impl<'c> Core<'c> {
     }
 
     /// A match.
-    #[tactic(auto, using(crate::proofs::RoomLemmas::refused))]
+    #[tactic(auto, using(crate::proofs::RoomLemmas::refused, crate::proofs::TagLemmas::tagging))]
     fn apply_match(&mut self, send: CallId, recv: CallId) -> Result<Record, StepFault>
         ensures ok { OnOk result (next self.old.world (Step.Match send recv) ≡ Some self.new.world) }
         ensures back { IfOk result (λ done. undone self.old.program self.new.world done ≡ self.old.world) }
@@ -269,6 +287,7 @@ impl<'c> Core<'c> {
     }
 
     /// The cells that the wake of a rank writes, each with its new value.
+    #[tactic(auto, using(crate::proofs::TagLemmas::tagging))]
     fn wake_writes(&self, rank: usize) -> Cells
         ensures { result ≡ wake_writes self.now.world.board rank }
     {
@@ -286,7 +305,7 @@ impl<'c> Core<'c> {
     }
 
     /// A wake.
-    #[tactic(auto, using(crate::proofs::RankLemmas::waking_blocked, crate::proofs::RoomLemmas::refused))]
+    #[tactic(auto, using(crate::proofs::RankLemmas::waking_blocked, crate::proofs::RoomLemmas::refused, crate::proofs::TagLemmas::tagging))]
     fn apply_wake(&mut self, rank: usize) -> Result<Record, StepFault>
         ensures ok { OnOk result (next self.old.world (Step.Wake rank) ≡ Some self.new.world) }
         ensures back { IfOk result (λ done. undone self.old.program self.new.world done ≡ self.old.world) }
@@ -319,7 +338,7 @@ impl<'c> Core<'c> {
 
     /// Keeps room for one step, whatever it is. An `Err` is want of memory, and comes only where no such room was kept; the state
     /// stays as it was.
-    #[tactic(auto, using(crate::proofs::RoomLemmas::keeping))]
+    #[tactic(auto, using(crate::proofs::RoomLemmas::keeping, crate::proofs::TagLemmas::tagging))]
     pub fn keep_room(&mut self) -> Result<(), AllocError>
         ensures room { OnOk result (1 ≤ self.new.room) }
         ensures memory { OnErr result (self.old.room ≡ 0) }
@@ -360,6 +379,7 @@ impl<'c> Core<'c> {
     }
 
     /// Takes a local step back.
+    #[tactic(auto, using(crate::proofs::TagLemmas::tagging))]
     fn undo_local(&mut self, rank: usize, done: RankRecord)
         requires { CanUndo self.old.world (record { step = Step.Local rank; from = done.from; change = done.change }) }
         ensures world { self.new.world ≡ undone self.old.program self.old.world (record { step = Step.Local rank; from = done.from; change = done.change }) }
@@ -376,6 +396,7 @@ impl<'c> Core<'c> {
 
     /// Takes back the step that a record is of, the record of the last step not undone. It can't be refused memory. The state is
     /// the one before that step. It takes 1 to 16 writes.
+    #[tactic(auto, using(crate::proofs::TagLemmas::tagging))]
     pub fn undo(&mut self, done: Record)
         requires { CanUndo self.old.world done }
         ensures world { self.new.world ≡ undone self.old.program self.old.world done }

@@ -9,6 +9,7 @@ use Rattle.mpd_model.specs.declared.place.DeclKind.{DeclKind}
 use Rattle.mpd_model.specs.declared.place.DeclKind.TheVariants.{Variable, Handle}
 use Rattle.mpd_model.specs.declared.place.Place.{Place}
 use Rattle.mpd_model.specs.declared.slot.Slot.{Slot}
+use Rattle.mpd_model.specs.declared.stmt.StatusStmt.{StatusStmt}
 use Rattle.mpd_model.specs.declared.token.Mark.{Mark}
 use Rattle.mpd_model.specs.declared.token.Mark.TheVariants as m
 use Rattle.mpd_model.specs.declared.token.Token.{Token}
@@ -22,6 +23,7 @@ use Rattle.mpd_model.specs.Term.{Term, Target}
 use Rattle.mpd_model.specs.Tokens.{Spot}
 use Rattle.mpd_model.specs.Written.{left_level, WrittenTerm, number, rank, ranks, name, entry, round, signs, higher, joins, WrittenTarget, whole, part, WrittenPart, by_mark, by_term, by_target, WrittenParts, no_part, then_part}
 use Rattle.mpd_laws.proofs.Complete.{bind_to, expect_at, mark_stops, expr_complete}
+use Rattle.mpd_laws.proofs.SoundParts.{status_of}
 
 -- ---- steps on a known list of tokens
 
@@ -131,7 +133,7 @@ pub mark_seen : (k : Mark) (s : Spot) → s.token ≡ Is k → is_mark k s.token
 unfolding same_mark
 mark_seen k s e = ap (is_mark k) e ∙ true_same the_type k k refl
 
-status_stops : (ds : List Declared) (ps : List Part) (o : Option Target) (rs us : List Spot) → ((ss : List Spot) → WrittenParts ds ss ps → Stops 5 (ss ++ us))
+status_stops : (ds : List Declared) (ps : List Part) (o : Option StatusStmt) (rs us : List Spot) → ((ss : List Spot) → WrittenParts ds ss ps → Stops 5 (ss ++ us))
     → WrittenParts ds rs (status_parts o ps) → Stops 5 (rs ++ us)
 status_stops ds ps None rs us f w = f rs w
 status_stops ds ps (Some t) _ us f (then_part _ rs _ _ (by_mark s _ h) w) = mark_stops 5 s (rs ++ us) (Is m.Status) h refl
@@ -199,28 +201,37 @@ absent_on : (us : List Spot) (ls : List ℕ) (b : ℕ) (i : Input) → is_mark m
 unfolding status sees after token
 absent_on us ls b i h = rw h refl
 
-present_on : (s : Spot) (ss us : List Spot) (t : Target) (ls : List ℕ) (b : ℕ) (i : Input) → is_mark m.Status s.token ≡ true → Gives (named Variable (on ss ls b i)) t us ls i
-    → Gives (status (on (s ∷ ss) ls b i)) (Some t) us ls i
+present_on : (s : Spot) (ss us vs : List Spot) (p q : Target) (ls : List ℕ) (b : ℕ) (i : Input) → is_mark m.Status s.token ≡ true → (g : Gives (named Variable (on ss ls b i)) p us ls i)
+    → Gives (named Variable (on us ls g.left i)) q vs ls i → Gives (status (on (s ∷ ss) ls b i)) (Some (status_of p q)) vs ls i
 unfolding status sees after token advanced
-present_on s ss us t ls b i h g = record { left = g.left; is = rw h (bind_to _ _ _ _ g.is refl) }
+present_on s ss us vs p q ls b i h g k = record { left = k.left; is = rw h (bind_to _ _ _ _ g.is (bind_to _ _ _ _ k.is refl)) }
+
+-- the first place of a status, whose tokens are joined with those of the second and of the parts behind it
+first_on : (ts vs rs us : List Spot) (p : Target) (ls : List ℕ) (b : ℕ) (i : Input) → (w : WrittenTarget i.decls Variable ts p) → index_cost i.decls Variable ts p w ≤ NESTING_MAX
+    → Gives (named Variable (on (ts ++ (vs ++ rs) ++ us) ls b i)) p (vs ++ (rs ++ us)) ls i
+first_on ts vs rs us p ls b i w le =
+    named_same Variable (ts ++ (vs ++ rs) ++ us) (ts ++ (vs ++ (rs ++ us))) (vs ++ (rs ++ us)) p ls b i (append_assoc ts (vs ++ rs) us ∙ ap (λ r. ts ++ r) (append_assoc vs rs us))
+    (named_on Variable ts (vs ++ (rs ++ us)) p ls b i (target_begins i Variable ts p w le))
 
 -- a status was read, and the other parts are still to come
-record StatusRead (o : Option Target) (ps : List Part) (ss us : List Spot) (ls : List ℕ) (b : ℕ) (i : Input) : Type 0 where
+record StatusRead (o : Option StatusStmt) (ps : List Part) (ss us : List Spot) (ls : List ℕ) (b : ℕ) (i : Input) : Type 0 where
   others : List Spot
   written : WrittenParts i.decls others ps
   cheap : dearest_part i.decls others ps written ≤ NESTING_MAX
   gives : Gives (status (on (ss ++ us) ls b i)) o (others ++ us) ls i
 
-status_on : (o : Option Target) (ps : List Part) (ss us : List Spot) (ls : List ℕ) (b : ℕ) (i : Input) → (w : WrittenParts i.decls ss (status_parts o ps)) → dearest_part i.decls ss (status_parts o ps) w ≤ NESTING_MAX
+status_on : (o : Option StatusStmt) (ps : List Part) (ss us : List Spot) (ls : List ℕ) (b : ℕ) (i : Input) → (w : WrittenParts i.decls ss (status_parts o ps)) → dearest_part i.decls ss (status_parts o ps) w ≤ NESTING_MAX
     → ((rs : List Spot) → WrittenParts i.decls rs ps → is_mark m.Status (token_of (rs ++ us)) ≡ false) → StatusRead o ps ss us ls b i
 status_on None ps ss us ls b i w le ends = record { others = ss; written = w; cheap = le; gives = record { left = b; is = absent_on (ss ++ us) ls b i (ends ss w) } }
-status_on (Some t) ps _ us ls b i (then_part _ _ _ _ (by_mark s _ h) (then_part ts rs _ _ (by_target _ _ _ x) w)) le ends = record {
-  others = rs;
-  written = w;
-  cheap = omega arith;
-  gives = present_on s (ts ++ rs ++ us) (rs ++ us) t ls b i (mark_seen m.Status s h)
-      (named_same Variable (ts ++ rs ++ us) (ts ++ (rs ++ us)) (rs ++ us) t ls b i (append_assoc ts rs us) (named_on Variable ts (rs ++ us) t ls b i (target_begins i Variable ts t x (omega arith))));
-}
+status_on (Some c) ps _ us ls b i (then_part _ _ _ _ (by_mark s _ h) (then_part ts _ _ _ (by_target _ _ _ x) (then_part vs rs _ _ (by_target _ _ _ y) w))) le ends =
+    let g = first_on ts vs rs us c.source ls b i x (omega arith) in
+    record {
+      others = rs;
+      written = w;
+      cheap = omega arith;
+      gives = present_on s (ts ++ (vs ++ rs) ++ us) (vs ++ (rs ++ us)) (rs ++ us) c.source c.tag ls b i (mark_seen m.Status s h) g
+          (named_on Variable vs (rs ++ us) c.tag ls g.left i (target_begins i Variable vs c.tag y (omega arith)));
+    }
 
 -- ---- all parts, and the `;` behind them
 

@@ -18,7 +18,7 @@ use Rattle.mpd_model.specs.declared.token.Token.{Token}
 use Rattle.mpd_model.specs.declared.token.Token.TheVariants.{Number, Name, Is, Bad}
 use Rattle.mpd_model.specs.Grammar.{atom_by, atom, bracket, indexed, place_inside, place_of_slot, rounds, signed, chain, continued, level, expr, turns, operator_at, expression, begun, closes, outside, target, named_by, named, source_by, source, status_by, status, fill, Form, form_of, by_form, assigning, otherwise, choosing, repeating, stmt_by, stmt, stmts, body, block, max_blocks, version_by, version, rank_count, ranks_of, ranks_by, ranks, natural, sized_at, size_by, sized, single, declaring, decl_by, decl, declares, decls_by, decls_from, decls, header, max_text, is_text, read_of, reading}
 use Rattle.mpd_model.specs.Grammar as grammar
-use Rattle.mpd_model.specs.Input.{Input, Outcome, Parser, and_then, start_of, token, place, spelling, advanced, code_at, refusal, refuse, fail, advance, pure, expect, spend, count, seek, sought, same_kind, slot_in, fresh, is_known, add, cells_fit, sees, after, max_budget, ◌>>=◌, ◌>>◌}
+use Rattle.mpd_model.specs.Input.{Input, Outcome, Parser, and_then, start_of, token, place, spelling, advanced, code_at, refusal, refuse, fail, advance, pure, expect, spend, count, seek, sought, same_kind, slot_in, fresh, is_known, add, cells_fit, sees, after, max_budget, ◌>>=◌}
 use Rattle.mpd_model.specs.Program.{Program}
 use Rattle.mpd_model.specs.Term.{Term, op2}
 use Rattle.mpd_model.specs.declared.stmt.Simple.TheVariants as st
@@ -165,7 +165,7 @@ unfolding source
 source_sure i = source_case (sees m.Any i) (after m.Any i)
 
 status_case : (found : Bool) → AllSure (status_by found)
-status_case true i = bind_sure (named Variable i) _ (named_sure Variable i) (λ t x. tt)
+status_case true i = bind_sure (named Variable i) _ (named_sure Variable i) (λ p x. bind_sure (named Variable x) _ (named_sure Variable x) (λ q y. tt))
 status_case false i = tt
 
 status_sure : AllSure status

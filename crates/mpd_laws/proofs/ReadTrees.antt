@@ -7,6 +7,7 @@ use Rattle.mpd_model.specs.declared.place.Place.{Place}
 use Rattle.mpd_model.specs.declared.read_fault.FaultCode.TheVariants.{TooDeep}
 use Rattle.mpd_model.specs.declared.read_fault.ReadFault.{ReadFault}
 use Rattle.mpd_model.specs.declared.slot.Slot.{Slot}
+use Rattle.mpd_model.specs.declared.stmt.StatusStmt.{StatusStmt}
 use Rattle.mpd_model.specs.declared.token.Mark.TheVariants as m
 use Rattle.mpd_model.specs.declared.token.Token.{Token}
 use Rattle.mpd_model.specs.declared.token.Token.TheVariants.{Name, Is}
@@ -21,6 +22,7 @@ use Rattle.mpd_model.specs.Parts.{Part, of_mark, of_term, of_target, parts_of, H
 use Rattle.mpd_model.specs.Tree.{Tree, Block, simple, branch, repeat, no_more, then_more, block_of}
 use Rattle.mpd_laws.proofs.ReadCosts.{expression_cheap}
 use Rattle.mpd_laws.proofs.Sound.{bind_ok, ok_parts}
+use Rattle.mpd_laws.proofs.SoundParts.{status_of}
 
 max_small : (a b n : ℕ) → a ≤ n → b ≤ n → max a b ≤ n
 max_small a b n h k = grind arith
@@ -97,13 +99,14 @@ source_cheap : (i : Input) (y : Option Term × Input) → source i ≡ Ok y → 
 unfolding source
 source_cheap i y h = source_case (sees m.Any i) (after m.Any i) y h
 
-status_case : (found : Bool) (i : Input) (y : Option Target × Input) → status_by found i ≡ Ok y → (ps : List Part) → AreCheap ps → AreCheap (status_parts y.0 ps)
+status_case : (found : Bool) (i : Input) (y : Option StatusStmt × Input) → status_by found i ≡ Ok y → (ps : List Part) → AreCheap ps → AreCheap (status_parts y.0 ps)
 status_case true i y h ps c =
     let b = bind_ok (named Variable i) _ y h in
-    subst (λ o. AreCheap (status_parts o ps)) (ok_parts (Some b.0.0, b.0.1) y b.2).0 (tt, (named_cheap Variable i b.0 b.1, c))
+    let d = bind_ok (named Variable b.0.1) _ y b.2 in
+    subst (λ o. AreCheap (status_parts o ps)) (ok_parts (Some (status_of b.0.0 d.0.0), d.0.1) y d.2).0 (tt, (named_cheap Variable i b.0 b.1, (named_cheap Variable b.0.1 d.0 d.1, c)))
 status_case false i y h ps c = subst (λ o. AreCheap (status_parts o ps)) (ok_parts (None, i) y h).0 c
 
-status_cheap : (i : Input) (y : Option Target × Input) → status i ≡ Ok y → (ps : List Part) → AreCheap ps → AreCheap (status_parts y.0 ps)
+status_cheap : (i : Input) (y : Option StatusStmt × Input) → status i ≡ Ok y → (ps : List Part) → AreCheap ps → AreCheap (status_parts y.0 ps)
 unfolding status
 status_cheap i y h = status_case (sees m.Status i) (after m.Status i) y h
 

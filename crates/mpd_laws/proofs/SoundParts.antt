@@ -4,6 +4,7 @@ use Rattle.mpd_model.specs.declared.limits.TheConstants.{NESTING_MAX}
 use Rattle.mpd_model.specs.declared.place.DeclKind.{DeclKind}
 use Rattle.mpd_model.specs.declared.place.DeclKind.TheVariants.{Variable}
 use Rattle.mpd_model.specs.declared.slot.Slot.{Slot}
+use Rattle.mpd_model.specs.declared.stmt.StatusStmt.{StatusStmt}
 use Rattle.mpd_model.specs.declared.token.Mark.TheVariants as m
 use Rattle.mpd_model.specs.declared.token.Token.{Token}
 use Rattle.mpd_model.specs.declared.token.Token.TheVariants.{Name, Is}
@@ -129,30 +130,43 @@ source_ok : (i : Input) (y : Option Term × Input) → source i ≡ Ok y → Sou
 unfolding source after
 source_ok i y h = source_case (sees m.Any i) i y refl h
 
-record StatusBetween (o : Option Target) (i j : Input) : Type 0 where
+-- the places of a status
+abbrev pub status_of : Target → Target → StatusStmt
+status_of p q = record { source = p; tag = q }
+
+record StatusBetween (o : Option StatusStmt) (i j : Input) : Type 0 where
   used : List Spot
   moves : Moves used i j
   written : (ps : List Part) (rs : List Spot) → WrittenParts i.decls rs ps → WrittenParts i.decls (used ++ rs) (status_parts o ps)
 
-status_before : (t : Target) (i x j : Input) → (s : Step i x) → s.spot.token ≡ Is m.Status → TargetBetween Variable t x j → StatusBetween (Some t) i j
-status_before t i x j s is n = record {
-  used = s.spot ∷ n.used;
-  moves = then_moves (s.spot ∷ []) n.used i x j s.moves n.moves;
-  written = λ ps rs w. then_part (s.spot ∷ []) (n.used ++ rs) (of_mark m.Status) (of_target Variable t ∷ ps) (by_mark s.spot m.Status is) (then_part n.used rs (of_target Variable t) ps (by_target n.used Variable t (rw (← s.moves.decls) n.written)) w);
+-- a place before other parts, seen from where the statement began
+place_first : (t : Target) (ps : List Part) (ss rs : List Spot) (i x : Input) → x.decls ≡ i.decls → WrittenTarget x.decls Variable ss t → WrittenParts i.decls rs ps → WrittenParts i.decls (ss ++ rs) (of_target Variable t ∷ ps)
+place_first t ps ss rs i x e v w = then_part ss rs (of_target Variable t) ps (by_target ss Variable t (rw (← e) v)) w
+
+status_before : (p q : Target) (i x y j : Input) → (s : Step i x) → s.spot.token ≡ Is m.Status → TargetBetween Variable p x y → TargetBetween Variable q y j → StatusBetween (Some (status_of p q)) i j
+status_before p q i x y j s is n o = record {
+  used = s.spot ∷ (n.used ++ o.used);
+  moves = then_moves (s.spot ∷ []) (n.used ++ o.used) i x j s.moves (then_moves n.used o.used x y j n.moves o.moves);
+  written = λ ps rs w. subst (λ u. WrittenParts i.decls (s.spot ∷ u) (status_parts (Some (status_of p q)) ps)) (sym (append_assoc n.used o.used rs))
+      (then_part (s.spot ∷ []) (n.used ++ (o.used ++ rs)) (of_mark m.Status) (of_target Variable p ∷ of_target Variable q ∷ ps) (by_mark s.spot m.Status is)
+      (place_first p (of_target Variable q ∷ ps) n.used (o.used ++ rs) i x s.moves.decls n.written
+      (place_first q ps o.used rs i y (n.moves.decls ∙ s.moves.decls) o.written w)));
 }
 
-status_case : (found : Bool) (i : Input) (y : Option Target × Input) → sees m.Status i ≡ found → status_by found (cond found (advanced i) i) ≡ Ok y → StatusBetween y.0 i y.1
+status_case : (found : Bool) (i : Input) (y : Option StatusStmt × Input) → sees m.Status i ≡ found → status_by found (cond found (advanced i) i) ≡ Ok y → StatusBetween y.0 i y.1
 status_case true i y e h =
     let is = sees_is m.Status i e in
     let s = next_step i (advanced i) (λ x. absurd (cc)) refl in
     let b = bind_ok (named Variable (advanced i)) _ y h in
-    let o = ok_parts (Some b.0.0, b.0.1) y b.2 in
-    carried (λ o j. StatusBetween o i j) _ _ _ _ o.0 o.1 (status_before b.0.0 i (advanced i) b.0.1 s (s.token ∙ is) (named_ok Variable (advanced i) b.0 b.1))
+    let c = bind_ok (named Variable b.0.1) _ y b.2 in
+    let o = ok_parts (Some (status_of b.0.0 c.0.0), c.0.1) y c.2 in
+    carried (λ o j. StatusBetween o i j) _ _ _ _ o.0 o.1
+    (status_before b.0.0 c.0.0 i (advanced i) b.0.1 c.0.1 s (s.token ∙ is) (named_ok Variable (advanced i) b.0 b.1) (named_ok Variable b.0.1 c.0 c.1))
 status_case false i y e h =
     let o = ok_parts (None, i) y h in
     carried (λ o j. StatusBetween o i j) _ _ _ _ o.0 o.1 (record { used = []; moves = no_move i i refl; written = λ ps rs w. w })
 
-status_ok : (i : Input) (y : Option Target × Input) → status i ≡ Ok y → StatusBetween y.0 i y.1
+status_ok : (i : Input) (y : Option StatusStmt × Input) → status i ≡ Ok y → StatusBetween y.0 i y.1
 unfolding status after
 status_ok i y h = status_case (sees m.Status i) i y refl h
 

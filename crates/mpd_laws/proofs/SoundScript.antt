@@ -15,7 +15,7 @@ use Rattle.mpd_model.specs.Declaration.{Declared}
 use Rattle.mpd_model.specs.Faults.{fault}
 use Rattle.mpd_model.specs.Grammar.{version_by, version, rank_count, ranks_of, ranks_by, ranks, natural, sized_at, size_by, sized, single, declaring, decl_by, decl, declares, decls_by, decls_from, decls, header, stmt, stmts, body, block, closes, max_blocks, max_text, is_text, read_of, reading}
 use Rattle.mpd_model.specs.Grammar as grammar
-use Rattle.mpd_model.specs.Input.{Input, Outcome, Parser, start_of, token, token_of, spelling, place, advanced, expect, sees, after, fresh, add, cells_fit, is_known, slot_in, advance, fail, pure, ◌>>=◌, ◌>>◌}
+use Rattle.mpd_model.specs.Input.{Input, Outcome, Parser, start_of, token, token_of, spelling, place, advanced, expect, sees, after, fresh, add, cells_fit, is_known, slot_in, advance, fail, pure, ◌>>=◌}
 use Rattle.mpd_model.specs.Program.{Program}
 use Rattle.mpd_model.specs.Tokens.{Spot, tokens}
 use Rattle.mpd_model.specs.Tree.{Tree, block_of, statements_in}

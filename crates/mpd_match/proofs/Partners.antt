@@ -8,7 +8,7 @@ use Rattle.mpd_model.specs.declared.call.CallKind.{CallKind}
 use Rattle.mpd_model.specs.declared.call.CallKind.TheVariants.{Send, Recv, Wait}
 use Rattle.mpd_model.specs.declared.call.MatchSet.{MatchSet}
 use Rattle.mpd_model.specs.declared.call.MatchSet.TheVariants.{Pair, Woke, Barrier}
-use Rattle.mpd_model.specs.World.{id_eq, partner, fitting}
+use Rattle.mpd_model.specs.World.{id_eq, is_any_or, partner, fitting}
 use Rattle.mpd_match.specs.Lines.{line_of, with_partner}
 use Rattle.mpd_match.specs.Pairs.{Paired}
 use Rattle.mpd_match.proofs.Bools.{both_true}
@@ -145,7 +145,7 @@ unpaired_marks mark mid new sets s r ns nr is first second c =
 -- ---- pairs of calls that fit
 
 pub fitting_lines : (one other : Option CallKind) (p q : ℕ) → fitting one other p q ≡ true → (line_of one ≡ Some (q + 1)) × (line_of other ≡ Some 0)
-fitting_lines (Some (Send s)) (Some (Recv r)) p q e = (ap (λ (n : ℕ). Some (n + 1)) (eqb-true s.to q (both_true (eqb s.to q) (eqb r.from p && eqb s.tag r.tag) e).0), refl)
+fitting_lines (Some (Send s)) (Some (Recv r)) p q e = (ap (λ (n : ℕ). Some (n + 1)) (eqb-true s.to q (both_true (eqb s.to q) (is_any_or r.from p && is_any_or r.tag s.tag) e).0), refl)
 fitting_lines (Some (Send s)) (Some (Send t)) p q e = absurd (cc)
 fitting_lines (Some (Send s)) (Some (Wait t)) p q e = absurd (cc)
 fitting_lines (Some (Send s)) None p q e = absurd (cc)

@@ -13,7 +13,7 @@ abbrev pub sent : ℤ → Call
 sent value = record { statement = 0; kind = Send (record { to = 1; tag = 7; value = value; blocks = false }) }
 
 abbrev pub received : Call
-received = record { statement = 1; kind = Recv (record { from = 0; tag = 7; cell = 0; blocks = true }) }
+received = record { statement = 1; kind = Recv (record { from = Some 0; tag = Some 7; cell = 0; status = None; blocks = true }) }
 
 abbrev pub two_messages : Board
 two_messages = record { mode = Rendezvous; calls = (sent (pos 40) ∷ sent (pos 41) ∷ []) ∷ (received ∷ []) ∷ []; sets = [] }

@@ -1,6 +1,6 @@
 //! What is read off the kinds of calls.
 ghost use Rattle.std.specs.Prelude.{◌≡◌, ◌≤◌, ◌||◌, ℕ, Some};
-ghost use Rattle.mpd_model.specs.World.{fitting, is_message_kind as message_kind, message_of as message_in, is_buffered as buffered_in, awaited_by as awaited_in};
+ghost use Rattle.mpd_model.specs.World.{is_any_or as any_or, fitting, is_message_kind as message_kind, message_of as message_in, is_buffered as buffered_in, awaited_by as awaited_in};
 ghost use Rattle.mpd_match.specs.Lines.{line_of as line_in, fitting_either};
 
 use mpd_model::call::{CallKind, Message, Mode};
@@ -19,6 +19,16 @@ pub(crate) fn line_of(kind: CallKind) -> Option<usize>
     }
 }
 
+/// Whether it is any number, or this one.
+fn is_any_or(wanted: Option<usize>, number: usize) -> bool
+    ensures { result ≡ any_or wanted number }
+{
+    match wanted {
+        None => true,
+        Some(wanted) => wanted == number,
+    }
+}
+
 /// Whether the second is a receive that fits the first, a send (MPI 4.0, section 3.2.4).
 pub(crate) fn is_fitting(
     send: Option<CallKind>,
@@ -30,7 +40,7 @@ pub(crate) fn is_fitting(
 {
     match (send, recv) {
         (Some(CallKind::Send(send)), Some(CallKind::Recv(recv))) => {
-            send.to == receiver && recv.from == sender && send.tag == recv.tag
+            send.to == receiver && is_any_or(recv.from, sender) && is_any_or(recv.tag, send.tag)
         }
         _ => false,
     }

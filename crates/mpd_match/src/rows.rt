@@ -46,9 +46,10 @@ fn recv() -> Call
     Call {
         statement: 1,
         kind: CallKind::Recv(RecvCall {
-            from: 0,
-            tag: 7,
+            from: Some(0),
+            tag: Some(7),
             cell: 0,
+            status: None,
             blocks: true,
         }),
     }

@@ -6,9 +6,9 @@ use Rattle.mpd_model.specs.declared.step.Step.{Step}
 use Rattle.mpd_model.specs.declared.words.Command.{Command}
 use Rattle.mpd_model.specs.declared.words.Command.TheVariants as command
 use Rattle.mpd_model.specs.World.{World}
-use Rattle.mpd_model.specs.Next.{next}
+use Rattle.mpd_model.specs.Next.{next, enabled}
 use Rattle.mpd_model.specs.Trail.{Trail, Standing, IsReached, applied, taken_back}
-use Rattle.mpd_model.specs.Texts.{line, show_text}
+use Rattle.mpd_model.specs.Texts.{line, steps_text, show_text}
 use Rattle.mpd_model.specs.Words.{has_word, command_of}
 
 -- the longest line, without its line feed and a carriage return before it
@@ -43,6 +43,10 @@ refused_bad_word = refused_text (codes "bad-word")
 abbrev pub refused_memory : List ℕ
 refused_memory = refused_text (codes "memory")
 
+-- the enabled steps, in their order; the word alone where there is none
+abbrev pub enabled_text : World → List ℕ
+enabled_text w = line (codes "enabled" ++ steps_text (enabled w))
+
 -- ---- the answer to a line, and the trail after it
 
 abbrev pub step_answer : Trail → Step → Option World → List ℕ × Trail
@@ -56,6 +60,7 @@ abbrev pub command_answer : Standing → Option Command → List ℕ × Trail
 command_answer s None = (refused_bad_word, s.trail)
 command_answer s (Some (command.Step a)) = step_answer s.trail a (next s.world a)
 command_answer s (Some command.Back) = back_answer s.trail
+command_answer s (Some command.Enabled) = (enabled_text s.world, s.trail)
 command_answer s (Some command.Show) = (show_text s.trail.program s.world s.trail.depth (length s.trail.steps), s.trail)
 
 abbrev pub is_too_long : List ℕ → Bool
@@ -73,12 +78,13 @@ pub record LineAnswer (s : Standing) (z text : List ℕ) (t : Standing) : Type 0
   pub trail : t.trail ≡ (line_answer s z).1
   pub reached : IsReached t
 
--- Only a step that is taken, and the text of the state, may want memory: no step that isn't enabled or is one too many, no
--- step back, and nothing that is no command.
+-- Only a step that is taken, a list of steps that has one, and the text of the state may want memory: no step that isn't enabled
+-- or is one too many, no step back, and nothing that is no command.
 abbrev pub MayWantMemory : Standing → Option Command → Type 0
 MayWantMemory s None = ⊥
 MayWantMemory s (Some (command.Step a)) = IsSome (next s.world a) × (s.trail.depth < max_depth)
 MayWantMemory s (Some command.Back) = ⊥
+MayWantMemory s (Some command.Enabled) = 0 < length (enabled s.world)
 MayWantMemory s (Some command.Show) = ⊤
 
 -- Where memory is refused, the line is answered so, and nothing has changed.

@@ -14,6 +14,7 @@ use Rattle.mpd_model.specs.declared.read_fault.FaultCode.TheVariants.{TooLong, N
 use Rattle.mpd_model.specs.declared.read_fault.ReadFault.{ReadFault}
 use Rattle.mpd_model.specs.declared.slot.Slot.{Slot}
 use Rattle.mpd_model.specs.declared.stmt.RecvStmt.{RecvStmt}
+use Rattle.mpd_model.specs.declared.stmt.StatusStmt.{StatusStmt}
 use Rattle.mpd_model.specs.declared.stmt.SendStmt.{SendStmt}
 use Rattle.mpd_model.specs.declared.stmt.Simple.{Simple}
 use Rattle.mpd_model.specs.declared.stmt.Simple.TheVariants as st
@@ -185,11 +186,11 @@ source_by false = expression >>= λ e. pure (Some e)
 unfoldable pub source : Parser (Option Term)
 source = eat m.Any >>= source_by
 
-abbrev pub status_by : Bool → Parser (Option Target)
-status_by true = named Variable >>= λ t. pure (Some t)
+abbrev pub status_by : Bool → Parser (Option StatusStmt)
+status_by true = named Variable >>= λ a. named Variable >>= λ b. pure (Some (record { source = a; tag = b }))
 status_by false = pure None
 
-unfoldable pub status : Parser (Option Target)
+unfoldable pub status : Parser (Option StatusStmt)
 status = eat m.Status >>= status_by
 
 -- what fills the holes of a statement, and the `;` behind them
@@ -246,16 +247,16 @@ abbrev pub sent : Contents sent_holes → SendStmt
 sent c = record { value = c.0; to = c.1.0; tag = c.1.1.0 }
 
 abbrev pub received_holes : List Hole
-received_holes = target_hole Variable ∷ mark_hole m.From ∷ term_hole ∷ mark_hole m.Tag ∷ term_hole ∷ []
+received_holes = target_hole Variable ∷ mark_hole m.From ∷ source_hole ∷ mark_hole m.Tag ∷ source_hole ∷ status_hole ∷ []
 
 abbrev pub received : Contents received_holes → RecvStmt
-received c = record { into = c.0; from = c.1.0; tag = c.1.1.0 }
+received c = record { into = c.0; from = c.1.0; tag = c.1.1.0; status = c.1.1.1.0 }
 
 abbrev pub send_form : Form
 send_form = record { word = m.Send; holes = sent_holes; made = λ c. st.Send (sent c); parts = λ c. refl; clear = (refl, (refl, (tt, tt))) }
 
 abbrev pub recv_form : Form
-recv_form = record { word = m.Recv; holes = received_holes; made = λ c. st.Recv (received c); parts = λ c. refl; clear = (refl, (tt, tt)) }
+recv_form = record { word = m.Recv; holes = received_holes; made = λ c. st.Recv (received c); parts = λ c. refl; clear = (refl, (tt, (tt, tt))) }
 
 abbrev pub isend_form : Form
 isend_form = record {
@@ -272,7 +273,7 @@ irecv_form = record {
   holes = target_hole Handle ∷ received_holes;
   made = λ c. st.Irecv (record { request = c.0; recv = received c.1 });
   parts = λ c. refl;
-  clear = (refl, (tt, tt));
+  clear = (refl, (tt, (tt, tt)));
 }
 
 abbrev pub wait_form : Form
@@ -317,9 +318,9 @@ all_formed (st.Print e) = record { form = print_form; found = refl; contents = (
 all_formed (st.Assign s) = tt
 all_formed (st.Assert e) = record { form = assert_form; found = refl; contents = (e, tt); is = refl }
 all_formed (st.Send s) = record { form = send_form; found = refl; contents = (s.value, (s.to, (s.tag, tt))); is = refl }
-all_formed (st.Recv s) = record { form = recv_form; found = refl; contents = (s.into, (s.from, (s.tag, tt))); is = refl }
+all_formed (st.Recv s) = record { form = recv_form; found = refl; contents = (s.into, (s.from, (s.tag, (s.status, tt)))); is = refl }
 all_formed (st.Isend s) = record { form = isend_form; found = refl; contents = (s.request, (s.send.value, (s.send.to, (s.send.tag, tt)))); is = refl }
-all_formed (st.Irecv s) = record { form = irecv_form; found = refl; contents = (s.request, (s.recv.into, (s.recv.from, (s.recv.tag, tt)))); is = refl }
+all_formed (st.Irecv s) = record { form = irecv_form; found = refl; contents = (s.request, (s.recv.into, (s.recv.from, (s.recv.tag, (s.recv.status, tt))))); is = refl }
 all_formed (st.Wait t) = record { form = wait_form; found = refl; contents = (t, tt); is = refl }
 
 -- ---- any statement

@@ -10,6 +10,8 @@ pub mod TreeFalls
 pub mod Program
 pub mod World
 pub mod Next
+pub mod Order
+pub mod Why
 pub mod Outcomes
 pub mod Trail
 pub mod Faults

@@ -1,5 +1,5 @@
 -- What a step makes of a world, and where no step is.
-use Rattle.std.specs.Prelude.{ℕ, ◌+◌, ◌<◌, ℤ, Bool, true, false, ◌&&◌, if◌then◌else◌, List, [], ◌∷◌, ◌++◌, length, map, slice_get, slice_set, slice_index_or, Option, Some, None, option_and_then, is_some, Result, Ok, Err}
+use Rattle.std.specs.Prelude.{ℕ, ◌+◌, ◌<◌, ℤ, pos, Bool, true, false, ◌&&◌, if◌then◌else◌, List, [], ◌∷◌, ◌++◌, length, map, slice_get, slice_set, slice_index_or, Option, Some, None, option_and_then, is_some, Result, Ok, Err}
 use Rattle.std.specs.Option.{option_map}
 use Rattle.std.specs.List.{filter, flat_map}
 use Rattle.mpd_model.specs.declared.limits.TheConstants.{TAGS}
@@ -10,6 +10,7 @@ use Rattle.mpd_model.specs.declared.call.CallKind.{CallKind}
 use Rattle.mpd_model.specs.declared.call.CallKind.TheVariants.{Send, Recv, Wait}
 use Rattle.mpd_model.specs.declared.call.Call.{Call}
 use Rattle.mpd_model.specs.declared.call.Issue.{Issue}
+use Rattle.mpd_model.specs.declared.call.StatusCells.{StatusCells}
 use Rattle.mpd_model.specs.declared.call.MatchSet.{MatchSet}
 use Rattle.mpd_model.specs.declared.call.Trap.{Trap}
 use Rattle.mpd_model.specs.declared.call.Trap.TheVariants.{BadRank, BadTag, Assertion}
@@ -23,6 +24,7 @@ use Rattle.mpd_model.specs.declared.stmt.IrecvStmt.{IrecvStmt}
 use Rattle.mpd_model.specs.declared.stmt.RecvStmt.{RecvStmt}
 use Rattle.mpd_model.specs.declared.stmt.SendStmt.{SendStmt}
 use Rattle.mpd_model.specs.declared.stmt.Simple.{Simple}
+use Rattle.mpd_model.specs.declared.stmt.StatusStmt.{StatusStmt}
 use Rattle.mpd_model.specs.declared.stmt.Simple.TheVariants as st
 use Rattle.mpd_model.specs.Tree.{Tree, simple, branch, repeat, Block, trees, statements_in, numbered}
 use Rattle.mpd_model.specs.declared.call.Message.{Message}
@@ -48,12 +50,27 @@ send_kind blocks s env =
     and_then (rank_value s.to env) (λ q.
     and_then (tag_value s.tag env) (λ t. Ok (Send (record { to = q; tag = t; value = v; blocks = blocks })))))
 
--- what a receive issues: the index of its target comes first, then the source, then the tag
+-- the source and the tag of a receive, where they aren't any
+abbrev pub source_value : Option Term → Env → Result (Option ℕ) Trap
+source_value None env = Ok None
+source_value (Some e) env = and_then (rank_value e env) (λ q. Ok (Some q))
+
+abbrev pub any_tag_value : Option Term → Env → Result (Option ℕ) Trap
+any_tag_value None env = Ok None
+any_tag_value (Some e) env = and_then (tag_value e env) (λ t. Ok (Some t))
+
+-- the cells of a status: the index of the source's comes first
+abbrev pub status_cells : Option StatusStmt → Env → Result (Option StatusCells) Trap
+status_cells None env = Ok None
+status_cells (Some s) env = and_then (target_cell s.source env) (λ a. and_then (target_cell s.tag env) (λ b. Ok (Some (record { source = a; tag = b }))))
+
+-- what a receive issues: the index of its target comes first, then the source, then the tag, then the indexes of a status
 abbrev pub recv_kind : Bool → RecvStmt → Env → Result CallKind Trap
 recv_kind blocks s env =
     and_then (target_cell s.into env) (λ c.
-    and_then (rank_value s.from env) (λ q.
-    and_then (tag_value s.tag env) (λ t. Ok (Recv (record { from = q; tag = t; cell = c; blocks = blocks })))))
+    and_then (source_value s.from env) (λ q.
+    and_then (any_tag_value s.tag env) (λ t.
+    and_then (status_cells s.status env) (λ u. Ok (Recv (record { from = q; tag = t; cell = c; status = u; blocks = blocks }))))))
 
 -- a call that its rank waits for
 abbrev pub awaiting : Result CallKind Trap → Result Issue Trap
@@ -209,9 +226,14 @@ waits (Some r) = is_blocked r.activity
 abbrev pub can_wake : World → ℕ → Bool
 can_wake w p = waits (slice_get w.ranks p) && complete w.board (last_call w.board p)
 
--- the cells that a receive writes as its rank goes on, in order, each with its new value
+-- the cells of a status, and what is written there
+abbrev pub status_writes : Option StatusCells → Message → List (ℕ × ℤ)
+status_writes None m = []
+status_writes (Some c) m = (c.source, pos m.source) ∷ (c.tag, pos m.tag) ∷ []
+
+-- the cells that a receive writes as its rank goes on, in order, each with its new value: the value, then the source, then the tag
 abbrev pub writes_of : Option CallKind → Option Message → List (ℕ × ℤ)
-writes_of (Some (Recv r)) (Some m) = (r.cell, m.value) ∷ []
+writes_of (Some (Recv r)) (Some m) = (r.cell, m.value) ∷ status_writes r.status m
 writes_of (Some (Recv r)) None = []
 writes_of (Some (Send s)) m = []
 writes_of (Some (Wait t)) m = []

@@ -3,6 +3,7 @@ use Rattle.std.specs.Prelude.{List, [], ◌∷◌, Option, Some, None}
 use Rattle.mpd_model.specs.declared.place.DeclKind.{DeclKind}
 use Rattle.mpd_model.specs.declared.place.DeclKind.TheVariants.{Variable, Handle}
 use Rattle.mpd_model.specs.declared.stmt.RecvStmt.{RecvStmt}
+use Rattle.mpd_model.specs.declared.stmt.StatusStmt.{StatusStmt}
 use Rattle.mpd_model.specs.declared.stmt.SendStmt.{SendStmt}
 use Rattle.mpd_model.specs.declared.stmt.Simple.{Simple}
 use Rattle.mpd_model.specs.declared.stmt.Simple.TheVariants as st
@@ -22,9 +23,19 @@ pub data Part : Type 0 where
 abbrev pub sent_parts : SendStmt → List Part
 sent_parts s = of_term s.value ∷ of_mark m.To ∷ of_term s.to ∷ of_mark m.Tag ∷ of_term s.tag ∷ []
 
--- where a receive writes, from whom it takes and with which tag
+-- a source or a tag
+abbrev pub source_part : Option Term → Part
+source_part None = of_mark m.Any
+source_part (Some e) = of_term e
+
+-- a status before other parts: the places of the source and of the tag
+abbrev pub status_parts : Option StatusStmt → List Part → List Part
+status_parts None ps = ps
+status_parts (Some s) ps = of_mark m.Status ∷ of_target Variable s.source ∷ of_target Variable s.tag ∷ ps
+
+-- where a receive writes, from whom it takes and with which tag, and where it writes that
 abbrev pub received_parts : RecvStmt → List Part
-received_parts s = of_target Variable s.into ∷ of_mark m.From ∷ of_term s.from ∷ of_mark m.Tag ∷ of_term s.tag ∷ []
+received_parts s = of_target Variable s.into ∷ of_mark m.From ∷ source_part s.from ∷ of_mark m.Tag ∷ source_part s.tag ∷ status_parts s.status []
 
 abbrev pub parts_of : Simple → List Part
 parts_of (st.Print e) = of_mark m.Print ∷ of_term e ∷ []
@@ -44,7 +55,7 @@ pub data Hole : Type 0 where
   target_hole : DeclKind → Hole
   -- `any`, or an expression
   source_hole : Hole
-  -- `status` and a place, or nothing
+  -- `status` and two places, or nothing
   status_hole : Hole
 
 -- what is read in the holes
@@ -54,16 +65,7 @@ Contents (mark_hole k ∷ hs) = Contents hs
 Contents (term_hole ∷ hs) = Term × Contents hs
 Contents (target_hole kind ∷ hs) = Target × Contents hs
 Contents (source_hole ∷ hs) = Option Term × Contents hs
-Contents (status_hole ∷ hs) = Option Target × Contents hs
-
-abbrev pub source_part : Option Term → Part
-source_part None = of_mark m.Any
-source_part (Some e) = of_term e
-
--- a status before other parts
-abbrev pub status_parts : Option Target → List Part → List Part
-status_parts None ps = ps
-status_parts (Some t) ps = of_mark m.Status ∷ of_target Variable t ∷ ps
+Contents (status_hole ∷ hs) = Option StatusStmt × Contents hs
 
 abbrev pub filled : (hs : List Hole) → Contents hs → List Part
 filled [] c = []

@@ -43,6 +43,11 @@ step_text (Match s r) = codes "match " ++ id_text s ++ 32 ∷ id_text r
 step_text (Wake p) = codes "wake " ++ decimal p
 step_text Release = codes "release"
 
+-- steps, with a comma and a space between two, and a space before the first
+abbrev pub steps_text : List Step → List ℕ
+steps_text [] = []
+steps_text (a ∷ steps) = 32 ∷ step_text a ++ flat_map (λ b. 44 ∷ 32 ∷ step_text b) steps
+
 abbrev pub trap_name : Trap → List ℕ
 trap_name Overflow = codes "overflow"
 trap_name ZeroDivisor = codes "zero-divisor"
@@ -63,9 +68,13 @@ abbrev pub target_text : Option ℕ → List ℕ
 target_text None = codes "none"
 target_text (Some i) = decimal i
 
+abbrev pub any_text : Option ℕ → List ℕ
+any_text None = codes "any"
+any_text (Some n) = decimal n
+
 abbrev pub kind_text : CallKind → List ℕ
 kind_text (Send s) = send_word s.blocks ++ codes " to " ++ decimal s.to ++ codes " tag " ++ decimal s.tag ++ codes " value " ++ signed_decimal s.value
-kind_text (Recv r) = recv_word r.blocks ++ codes " from " ++ decimal r.from ++ codes " tag " ++ decimal r.tag
+kind_text (Recv r) = recv_word r.blocks ++ codes " from " ++ any_text r.from ++ codes " tag " ++ any_text r.tag
 kind_text (Wait t) = codes "wait " ++ target_text t.target
 
 -- the call that a call was paired with, and the mark of one that is free

@@ -116,12 +116,13 @@ step_of z = step_in (words z)
 abbrev pub command_named : List ℕ → List (List ℕ) → Option Command
 command_named name rest =
     if bytes_eq name (codes "back") then alone command.Back rest
-    else (if bytes_eq name (codes "show") then alone command.Show rest else option_map command.Step (step_named name rest))
+    else (if bytes_eq name (codes "enabled") then alone command.Enabled rest
+    else (if bytes_eq name (codes "show") then alone command.Show rest else option_map command.Step (step_named name rest)))
 
 abbrev pub command_in : List (List ℕ) → Option Command
 command_in [] = None
 command_in (name ∷ rest) = command_named name rest
 
--- a step, `back` or `show`
+-- a step, `back`, `enabled` or `show`
 abbrev pub command_of : List ℕ → Option Command
 command_of z = command_in (words z)

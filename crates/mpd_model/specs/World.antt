@@ -114,10 +114,15 @@ is_free b c = is_message_kind (kind_at b c) && is_none (partner b.sets c)
 
 -- ---- matching (MPI 4.0, section 3.5)
 
--- A send of rank p and a receive of rank q fit: the send goes to q, the receive's source is p, and their tags are one.
+-- any number, or this one
+abbrev pub is_any_or : Option ℕ → ℕ → Bool
+is_any_or None n = true
+is_any_or (Some m) n = m == n
+
+-- A send of rank p and a receive of rank q fit: the send goes to q, the receive's source is any or p, and its tag is any or the send's.
 abbrev pub fitting_recv : SendCall → Option CallKind → ℕ → ℕ → Bool
 fitting_recv s (Some (Send t)) p q = false
-fitting_recv s (Some (Recv r)) p q = (s.to == q) && ((r.from == p) && (s.tag == r.tag))
+fitting_recv s (Some (Recv r)) p q = (s.to == q) && (is_any_or r.from p && is_any_or r.tag s.tag)
 fitting_recv s (Some (Wait t)) p q = false
 fitting_recv s None p q = false
 

@@ -32,15 +32,24 @@ pub struct SendCall {
     pub blocks: bool,
 }
 
+/// The cells that the source and the tag of a message go to (MPI 4.0, section 3.2.5).
+#[derive(Clone, Copy, Debug, PartialEq, Eq)]
+pub struct StatusCells {
+    pub source: usize,
+    pub tag: usize,
+}
+
 /// A receive.
 #[derive(Clone, Copy, Debug, PartialEq, Eq)]
 pub struct RecvCall {
-    /// Its source, 0 to 15.
-    pub from: usize,
-    /// Its tag, 0 to 32,767.
-    pub tag: usize,
+    /// Its source, 0 to 15; none is any.
+    pub from: Option<usize>,
+    /// Its tag, 0 to 32,767; none is any.
+    pub tag: Option<usize>,
     /// The cell that its value goes to.
     pub cell: usize,
+    /// The cells that the source and the tag go to, where there are some.
+    pub status: Option<StatusCells>,
     /// Whether its rank waits for it: `recv` does, `irecv` doesn't.
     pub blocks: bool,
 }

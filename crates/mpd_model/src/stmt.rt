@@ -39,14 +39,23 @@ pub struct SendStmt {
     pub tag: Expr,
 }
 
+/// The places that the source and the tag of a message are written to (MPI 4.0, section 3.2.5).
+#[derive(Debug, Drop)]
+pub struct StatusStmt {
+    pub source: Target,
+    pub tag: Target,
+}
+
 /// What a receive takes, and where it goes (MPI 4.0, section 3.2.4).
 #[derive(Debug, Drop)]
 pub struct RecvStmt {
     /// The place that the value is written to.
     pub into: Target,
-    /// The source.
-    pub from: Expr,
-    pub tag: Expr,
+    /// The source; none is any.
+    pub from: Option<Expr>,
+    /// The tag; none is any.
+    pub tag: Option<Expr>,
+    pub status: Option<StatusStmt>,
 }
 
 /// A nonblocking standard send (MPI 4.0, section 3.7.2).

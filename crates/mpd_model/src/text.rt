@@ -1,11 +1,11 @@
 //! Printed texts that need no state (docs/FORMATS.md, "Text of show").
 
 ghost use Rattle.std.specs.Prelude.{◌≡◌, ◌++◌, IfOk, OnOk, string_bytes, codes};
-ghost use Rattle.mpd_model.specs.Texts.{id_text, send_word, recv_word, kind_text, trap_name, set_text, trapped_text, outcome_text, spaced};
+ghost use Rattle.mpd_model.specs.Texts.{id_text, step_text, send_word, recv_word, kind_text, any_text, trap_name, set_text, trapped_text, outcome_text, spaced};
 
 use crate::call::{CallKind, MatchSet, Trap};
 use crate::outcome::{Outcome, TrappedRank};
-use crate::step::CallId;
+use crate::step::{CallId, Step};
 use std::alloc::{AllocError, Global};
 use std::fmt;
 
@@ -17,6 +17,31 @@ impl fmt::Display for CallId {
     fn fmt<W: fmt::Write>(&self, f: &mut fmt::Formatter<W>) -> fmt::Result {
         write!(f, "{}.{}", self.rank, self.index)
     }
+}
+
+impl fmt::Display for Step {
+    ghost use Rattle.std.specs.Prelude.{Some};
+
+    ghost output = { λ a. Some (step_text a) };
+
+    fn fmt<W: fmt::Write>(&self, f: &mut fmt::Formatter<W>) -> fmt::Result {
+        match *self {
+            Step::Local(rank) => write!(f, "local {rank}"),
+            Step::Match(send, receive) => write!(f, "match {send} {receive}"),
+            Step::Wake(rank) => write!(f, "wake {rank}"),
+            Step::Release => write!(f, "release"),
+        }
+    }
+}
+
+/// A step as trace words write it, `step_of` of which is the step where its numbers have at most nine digits. An `Err` is want of
+/// memory.
+pub fn print_step(alloc: Global, step: Step) -> Result<String, AllocError>
+    ensures { IfOk result (λ t. string_bytes t ≡ step_text step) }
+{
+    let mut out = String::new(alloc);
+    write!(out, "{step}")?;
+    Ok(out)
 }
 
 /// The word of a send.
@@ -31,6 +56,25 @@ fn recv_word(blocks: bool) -> &'static str
     ensures { result.now ≡ recv_word blocks }
 {
     if blocks { "recv" } else { "irecv" }
+}
+
+/// The source or the tag of a receive.
+#[derive(Clone, Copy)]
+struct NumberOrAny {
+    number: Option<usize>,
+}
+
+impl fmt::Display for NumberOrAny {
+    ghost use Rattle.std.specs.Prelude.{Some};
+
+    ghost output = { λ n. Some (any_text n.number) };
+
+    fn fmt<W: fmt::Write>(&self, f: &mut fmt::Formatter<W>) -> fmt::Result {
+        match self.number {
+            None => write!(f, "any"),
+            Some(number) => write!(f, "{number}"),
+        }
+    }
 }
 
 impl fmt::Display for CallKind {
@@ -49,7 +93,9 @@ impl fmt::Display for CallKind {
                 s.value
             ),
             CallKind::Recv(r) => {
-                write!(f, "{} from {} tag {}", recv_word(r.blocks), r.from, r.tag)
+                let from = NumberOrAny { number: r.from };
+                let tag = NumberOrAny { number: r.tag };
+                write!(f, "{} from {from} tag {tag}", recv_word(r.blocks))
             }
             CallKind::Wait(w) => match w.target {
                 None => write!(f, "wait none"),

@@ -12,6 +12,8 @@ pub enum Command {
     Step(Step),
     /// Undo the last step.
     Back,
+    /// List the enabled steps.
+    Enabled,
     /// Print the state.
     Show,
 }
@@ -24,7 +26,7 @@ pub fn step_of(text: &str) -> Option<Step>
     step_named(name, rest)
 }
 
-/// Reads a line without its end: a step, `back` or `show`. `None` where it is none of these.
+/// Reads a line without its end: a step, `back`, `enabled` or `show`. `None` where it is none of these.
 pub fn command_of(line: &[u8]) -> Option<Command>
     ensures { result ≡ command_of line.now }
 {
@@ -183,6 +185,9 @@ fn command_named(name: &[u8], rest: &[u8]) -> Option<Command>
 {
     if name == b"back".as_slice() {
         return alone(Command::Back, rest);
+    }
+    if name == b"enabled".as_slice() {
+        return alone(Command::Enabled, rest);
     }
     if name == b"show".as_slice() {
         return alone(Command::Show, rest);

@@ -1,14 +1,14 @@
 //! Prints statements that hold no other, by their parts.
 
-ghost use Rattle.std.specs.Prelude.{◌≡◌, ◌++◌, OnOk, string_bytes};
+ghost use Rattle.std.specs.Prelude.{◌≡◌, [], ◌∷◌, ◌++◌, Some, OnOk, string_bytes, codes};
 ghost use Rattle.mpd_model.specs.declared.stmt.Simple.TheVariants as st;
-ghost use Rattle.mpd_model.specs.Canonical.{whole_text, parts_text};
-ghost use Rattle.mpd_model.specs.Parts.{parts_of, sent_parts, received_parts};
+ghost use Rattle.mpd_model.specs.Canonical.{whole_text, part_text, parts_text};
+ghost use Rattle.mpd_model.specs.Parts.{parts_of, sent_parts, source_part, status_parts, received_parts};
 
 use crate::expr::{push_expr, push_target};
 use mpd_model::expr::Expr;
 use mpd_model::place::Decl;
-use mpd_model::stmt::{AssignStmt, IrecvStmt, IsendStmt, RecvStmt, SendStmt, Simple};
+use mpd_model::stmt::{AssignStmt, IrecvStmt, IsendStmt, RecvStmt, SendStmt, Simple, StatusStmt};
 use std::alloc::AllocError;
 
 /// Adds a statement that holds no other, without the `;` behind it.
@@ -95,11 +95,49 @@ fn push_sent(out: &mut String, decls: &[Decl], send: &SendStmt) -> Result<(), Al
     push_behind(out, decls, " tag ", &send.tag)
 }
 
-/// Adds where a receive writes, from whom it takes and with which tag.
+/// Adds a source or a tag of a receive, which may be any.
+fn push_source(out: &mut String, decls: &[Decl], source: &Option<Expr>) -> Result<(), AllocError>
+    ensures { OnOk result (string_bytes out.new ≡ string_bytes out.old ++ part_text decls.now (source_part source.now)) }
+{
+    match source {
+        None => out.push_str("any"),
+        Some(value) => push_expr(out, decls, value),
+    }
+}
+
+/// Adds a status behind a space: the places that the source and the tag are written to.
+fn push_status(out: &mut String, decls: &[Decl], status: &StatusStmt) -> Result<(), AllocError>
+    ensures { OnOk result (string_bytes out.new ≡ string_bytes out.old ++ (codes " " ++ parts_text decls.now (status_parts (Some status.now) []))) }
+{
+    out.push_str(" status ")?;
+    push_target(out, decls, &status.source)?;
+    out.push_str(" ")?;
+    push_target(out, decls, &status.tag)
+}
+
+/// Adds the tag of a receive, and its status, if it has one.
+fn push_tagged(
+    out: &mut String,
+    decls: &[Decl],
+    tag: &Option<Expr>,
+    status: &Option<StatusStmt>,
+) -> Result<(), AllocError>
+    ensures { OnOk result (string_bytes out.new ≡ string_bytes out.old ++ parts_text decls.now (source_part tag.now ∷ status_parts status.now [])) }
+{
+    push_source(out, decls, tag)?;
+    match status {
+        None => Ok(()),
+        Some(status) => push_status(out, decls, status),
+    }
+}
+
+/// Adds where a receive writes, from whom it takes and with which tag, and where it writes that.
 fn push_received(out: &mut String, decls: &[Decl], recv: &RecvStmt) -> Result<(), AllocError>
     ensures { OnOk result (string_bytes out.new ≡ string_bytes out.old ++ parts_text decls.now (received_parts recv.now)) }
 {
     push_target(out, decls, &recv.into)?;
-    push_behind(out, decls, " from ", &recv.from)?;
-    push_behind(out, decls, " tag ", &recv.tag)
+    out.push_str(" from ")?;
+    push_source(out, decls, &recv.from)?;
+    out.push_str(" tag ")?;
+    push_tagged(out, decls, &recv.tag, &recv.status)
 }

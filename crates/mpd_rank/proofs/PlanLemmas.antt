@@ -9,12 +9,13 @@ use Rattle.mpd_model.specs.declared.stmt.Simple.TheVariants as st
 use Rattle.mpd_model.specs.declared.stmt.SendStmt.{SendStmt}
 use Rattle.mpd_model.specs.declared.stmt.RecvStmt.{RecvStmt}
 use Rattle.mpd_model.specs.declared.call.CallKind.{CallKind}
-use Rattle.mpd_model.specs.declared.call.Trap.TheVariants.{BadRank, Assertion}
+use Rattle.mpd_model.specs.declared.limits.TheConstants.{TAGS}
+use Rattle.mpd_model.specs.declared.call.Trap.TheVariants.{BadRank, BadTag, Assertion}
 use Rattle.mpd_model.specs.Term.{Term, Target, Value, Env, and_then, value_of, checked, target_cell, is_zero}
 use Rattle.mpd_model.specs.Tree.{Tree, Block, repeat, trees, statements_in, numbered}
 use Rattle.mpd_model.specs.Program.{Program}
 use Rattle.mpd_model.specs.World.{RankWorld}
-use Rattle.mpd_model.specs.Next.{HasReceiver, alone, local, env_of, ran, ran_simple, printed, issued, assigned, asserted, chosen, repeated, send_issue, recv_issue, isend_issue, irecv_issue, wait_issue, assignment, rank_value, tag_value, send_kind, recv_kind, wait_kind, awaiting}
+use Rattle.mpd_model.specs.Next.{HasReceiver, alone, local, env_of, ran, ran_simple, printed, issued, assigned, asserted, chosen, repeated, send_issue, recv_issue, isend_issue, irecv_issue, wait_issue, assignment, rank_value, tag_value, source_value, any_tag_value, status_cells, send_kind, recv_kind, wait_kind, awaiting}
 use Rattle.mpd_code.specs.declared.node.Node.{Node}
 use Rattle.mpd_code.specs.declared.node.Action.{Action}
 use Rattle.mpd_code.specs.declared.node.Action.TheVariants as a
@@ -27,7 +28,7 @@ use Rattle.mpd_rank.specs.declared.change.Change.{Change}
 use Rattle.mpd_rank.specs.declared.change.RankRecord.{RankRecord}
 use Rattle.mpd_rank.specs.Views.{RankView, rank_of}
 use Rattle.mpd_rank.specs.Records.{print_change, issue_change, write_change, assert_change, choice_change, simple_change, change_of, local_record, plan_change, plan_record}
-use Rattle.mpd_rank.specs.Plans.{plan_of, simple_plan, plan_ran, HasPlannedReceiver, print_plan, assign_plan, issue_plan, assert_plan, choice_plan}
+use Rattle.mpd_rank.specs.Plans.{plan_of, simple_plan, plan_ran, HasTag, HasPlannedReceiver, print_plan, assign_plan, issue_plan, assert_plan, choice_plan}
 
 print_ran : (s : Program) (r : RankWorld) (n i next : ℕ) (v : Value) → plan_ran s r n i (print_plan v next) ≡ alone (printed r (left_at s next) v)
 print_ran s r n i next (Ok v) = refl
@@ -169,11 +170,11 @@ checked_below (Ok (negsuc i)) n t k h = absurd (cc)
 checked_below (Err e) n t k h = absurd (cc)
 
 abbrev Below : ℕ → Result CallKind Trap → Type 0
-Below n (Ok k) = HasReceiver n k
+Below n (Ok k) = HasReceiver n k × HasTag (Some k)
 Below n (Err t) = Unit {0}
 
 abbrev AreBelow : ℕ → Result Issue Trap → Type 0
-AreBelow n (Ok a) = HasReceiver n a.kind
+AreBelow n (Ok a) = HasReceiver n a.kind × HasTag (Some a.kind)
 AreBelow n (Err t) = Unit {0}
 
 then_below : {A : Type 0} (n : ℕ) (r : Result A Trap) (f : A → Result CallKind Trap) → ((x : A) → r ≡ Ok x → Below n (f x)) → Below n (and_then r f)
@@ -184,14 +185,17 @@ send_below : (blocks : Bool) (s : SendStmt) (env : Env) → Below env.size (send
 send_below blocks s env =
     then_below env.size (value_of s.value env) _ (λ v h.
     then_below env.size (rank_value s.to env) _ (λ q below.
-    then_below env.size (tag_value s.tag env) _ (λ t last. checked_below (value_of s.to env) env.size BadRank q below)))
+    then_below env.size (tag_value s.tag env) _ (λ t last. (checked_below (value_of s.to env) env.size BadRank q below, checked_below (value_of s.tag env) TAGS BadTag t last))))
 
 recv_below : (blocks : Bool) (s : RecvStmt) (env : Env) → Below env.size (recv_kind blocks s env)
 recv_below blocks s env =
-    then_below env.size (target_cell s.into env) _ (λ c h. then_below env.size (rank_value s.from env) _ (λ q g. then_below env.size (tag_value s.tag env) _ (λ t last. tt)))
+    then_below env.size (target_cell s.into env) _ (λ c h.
+    then_below env.size (source_value s.from env) _ (λ q g.
+    then_below env.size (any_tag_value s.tag env) _ (λ t f.
+    then_below env.size (status_cells s.status env) _ (λ u last. (tt, tt)))))
 
 wait_below : (t : Target) (env : Env) → Below env.size (wait_kind t env)
-wait_below t env = then_below env.size (target_cell t env) _ (λ c h. tt)
+wait_below t env = then_below env.size (target_cell t env) _ (λ c h. (tt, tt))
 
 awaiting_below : (n : ℕ) (k : Result CallKind Trap) → Below n k → AreBelow n (awaiting k)
 awaiting_below n (Ok k) h = h

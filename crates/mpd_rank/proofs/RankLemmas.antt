@@ -1,5 +1,6 @@
 -- Steps of one rank, and those steps back.
-use Rattle.std.proofs.Common.{◌≡◌, ℕ, zero, suc, List, [], ◌∷◌, ◌++◌, Option, Some, None, ℤ, refl, sym, ap, ◌∙◌, slice_get, slice_set}
+use Rattle.std.proofs.Common.{◌≡◌, ◌≤◌, ◌+◌, ℕ, zero, suc, List, [], ◌∷◌, ◌++◌, length, Option, Some, None, ℤ, refl, sym, ap, ◌∙◌, slice_get, slice_set, arith}
+use Rattle.std.proofs.lemmas.List.{append-nil, append_assoc}
 use Rattle.std.specs.Option.{option_map}
 use Rattle.mpd_model.specs.Next.{write_cells, requested, woken_rank}
 use Rattle.mpd_model.specs.declared.call.Activity.TheVariants.{Running, Blocked}
@@ -8,7 +9,8 @@ use Rattle.mpd_model.specs.World.{RankWorld}
 use Rattle.mpd_code.specs.Left.{left_at}
 use Rattle.mpd_rank.specs.declared.change.Change.TheVariants.{Woke}
 use Rattle.mpd_rank.specs.declared.change.RankRecord.{RankRecord}
-use Rattle.mpd_rank.specs.Views.{RankView, rank_of, listed, first_of, first_listed}
+use Rattle.mpd_rank.specs.Views.{RankView, rank_of, listed}
+use Rattle.mpd_rank.specs.Packed.{before, all_listed, IsPacked}
 use Rattle.mpd_rank.specs.Undone.{held, all_held, request_held, put_held, assigned_change, put_back, undone_rank}
 use Rattle.mpd_rank.specs.Records.{plan_record}
 use Rattle.mpd_rank.specs.declared.plan.LocalPlan.TheVariants.{Assign}
@@ -64,23 +66,72 @@ assign_back s v w d c next x done recorded running =
     ∙ (λ i. record (rank_of s v) { vars = write_held v.vars c x i; activity = sym running i })
 
 -- a wake that is taken back is the rank before
-pub wake_back : (s : Program) (v w : RankView) (ws : List (ℕ × ℤ)) (clears : Option ℕ) (cell : Option (ℕ × ℤ)) (handle : Option (ℕ × Option ℕ))
-    → rank_of s w ≡ woken_rank ws clears (rank_of s v) → listed cell ≡ all_held v.vars ws → handle ≡ request_held clears v.handles → v.activity ≡ Blocked
-    → put_back s (rank_of s w) 0 (Woke cell handle) ≡ rank_of s v
-wake_back s v w ws clears cell handle done e h blocked =
-    ap (λ (r : RankWorld). put_back s r 0 (Woke cell handle)) done
+pub wake_back : (s : Program) (v w : RankView) (ws : List (ℕ × ℤ)) (clears : Option ℕ) (cells : List (ℕ × ℤ)) (handle : Option (ℕ × Option ℕ))
+    → rank_of s w ≡ woken_rank ws clears (rank_of s v) → cells ≡ all_held v.vars ws → handle ≡ request_held clears v.handles → v.activity ≡ Blocked
+    → put_back s (rank_of s w) 0 (Woke cells handle) ≡ rank_of s v
+wake_back s v w ws clears cells handle done e h blocked =
+    ap (λ (r : RankWorld). put_back s r 0 (Woke cells handle)) done
     ∙ (λ i. record (rank_of s v) {
       vars = (ap (λ l. write_cells l (write_cells ws v.vars)) e ∙ written_back v.vars ws) i;
       handles = (ap (λ o. put_held o (requested clears None v.handles)) h ∙ request_again clears None v.handles) i;
       activity = sym blocked i;
     })
 
--- what a list of one cell at most holds
-pub first_held : (o : Option (ℕ × ℤ)) (ws : List (ℕ × ℤ)) → ws ≡ listed o → o ≡ first_of ws
-first_held o ws e = sym (first_listed o) ∙ ap first_of (sym e)
+-- ---- three cells at most
 
--- the same of one cell at most
-pub first_back : (vars after : List ℤ) (ws held : List (ℕ × ℤ)) (o : Option (ℕ × ℤ)) → held ≡ all_held vars ws → held ≡ listed o → after ≡ write_cells ws vars → write_cells (listed o) after ≡ vars
-first_back vars after ws held o e f g = ap (λ l. write_cells l after) (sym f ∙ e) ∙ ap (write_cells (all_held vars ws)) g ∙ written_back vars ws
+write_cells-before : (a : Option (ℕ × ℤ)) (ws : List (ℕ × ℤ)) (vars : List ℤ) → write_cells (before a ws) vars ≡ write_cells ws (write_cells (listed a) vars)
+write_cells-before None ws vars = refl
+write_cells-before (Some w) ws vars = refl
 
-pub ruleset committing = (first_held, first_back, assign_back, request_again)
+all_held-before : (a : Option (ℕ × ℤ)) (ws : List (ℕ × ℤ)) (vars : List ℤ) → all_held vars (before a ws) ≡ all_held (write_cells (listed a) vars) ws ++ all_held vars (listed a)
+all_held-before None ws vars = sym (append-nil (all_held vars ws))
+all_held-before (Some w) ws vars = refl
+
+before_listed : (h : Option (ℕ × ℤ)) (ws : List (ℕ × ℤ)) → before h ws ≡ listed h ++ ws
+before_listed None ws = refl
+before_listed (Some w) ws = refl
+
+listed_alone : (h : Option (ℕ × ℤ)) → before h [] ≡ listed h
+listed_alone None = refl
+listed_alone (Some w) = refl
+
+-- one after the other writes them all
+pub written_three : (vars : List ℤ) (a b c : Option (ℕ × ℤ)) → write_cells (listed c) (write_cells (listed b) (write_cells (listed a) vars)) ≡ write_cells (all_listed a b c) vars
+written_three vars a b c =
+    let first : List ℤ = write_cells (listed a) vars in
+    let second : List ℤ = write_cells (listed b) first in
+    sym (write_cells-before a (before b (before c [])) vars ∙ write_cells-before b (before c []) first ∙ ap (λ ws. write_cells ws second) (listed_alone c))
+
+-- and what they held is what each of them held, the last first
+pub held_three : (vars : List ℤ) (a b c h i j : Option (ℕ × ℤ)) → listed h ≡ all_held vars (listed a) → listed i ≡ all_held (write_cells (listed a) vars) (listed b)
+    → listed j ≡ all_held (write_cells (listed b) (write_cells (listed a) vars)) (listed c) → before j (before i (before h [])) ≡ all_held vars (all_listed a b c)
+held_three vars a b c h i j eh ei ej =
+    let first : List ℤ = write_cells (listed a) vars in
+    let second : List ℤ = write_cells (listed b) first in
+    let last : all_held second (before c []) ≡ listed j = ap (all_held second) (listed_alone c) ∙ sym ej in
+    let behind : all_held first (before b (before c [])) ≡ listed j ++ listed i = all_held-before b (before c []) first ∙ ap (λ l. l ++ all_held first (listed b)) last ∙ ap (λ l. listed j ++ l) (sym ei) in
+    let all : all_held vars (all_listed a b c) ≡ (listed j ++ listed i) ++ listed h = all_held-before a (before b (before c [])) vars ∙ ap (λ l. l ++ all_held vars (listed a)) behind ∙ ap (λ l. (listed j ++ listed i) ++ l) (sym eh) in
+    before_listed j (before i (before h []))
+    ∙ ap (λ l. listed j ++ l) (before_listed i (before h []) ∙ ap (λ l. listed i ++ l) (listed_alone h))
+    ∙ sym (append_assoc (listed j) (listed i) (listed h))
+    ∙ sym all
+
+-- where there are two at most, there is no third
+pub no_third : (a b c : Option (ℕ × ℤ)) → IsPacked a b c → length (all_listed a b c) ≤ 2 → before a (before b []) ≡ all_listed a b c
+no_third a b None h few = refl
+no_third (Some x) (Some y) (Some z) h few = absurd (omega (arith, few))
+no_third a None (Some z) h few = absurd (let e = h.1 refl in cc)
+no_third None (Some y) (Some z) h few = absurd (let e = h.0 refl in cc)
+
+pub packed_before : (o a b c : Option (ℕ × ℤ)) → IsPacked a b c → (o ≡ None → a ≡ None) → IsPacked o a b
+packed_before o a b c h e = (e, h.0)
+
+pub one_more : (o : Option (ℕ × ℤ)) (ws : List (ℕ × ℤ)) → length (before o ws) ≤ length ws + 1
+one_more None ws = omega arith
+one_more (Some w) ws = omega arith
+
+pub ruleset committing = (assign_back, request_again)
+
+pub ruleset writing = (written_three, held_three)
+
+pub ruleset packing = (no_third, packed_before, one_more)

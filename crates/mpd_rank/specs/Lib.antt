@@ -1,4 +1,5 @@
 pub mod Views
+pub mod Packed
 pub mod Plans
 pub mod Held
 pub mod Undone

@@ -1,6 +1,9 @@
 -- What a node does, and what its plan makes of a rank.
-use Rattle.std.specs.Prelude.{ℕ, ℤ, [], ◌∷◌, ◌++◌, slice_set, if◌then◌else◌, Option, Some, None, Result, Ok, Err}
+use Rattle.std.specs.Prelude.{ℕ, ◌<◌, ℤ, [], ◌∷◌, ◌++◌, slice_set, if◌then◌else◌, Option, Some, None, Result, Ok, Err}
+use Rattle.mpd_model.specs.declared.limits.TheConstants.{TAGS}
 use Rattle.mpd_model.specs.declared.call.Call.{Call}
+use Rattle.mpd_model.specs.declared.call.CallKind.{CallKind}
+use Rattle.mpd_model.specs.declared.call.CallKind.TheVariants.{Send, Recv, Wait}
 use Rattle.mpd_model.specs.declared.call.Issue.{Issue as Issued}
 use Rattle.mpd_model.specs.declared.call.Trap.{Trap as Reason}
 use Rattle.mpd_model.specs.declared.call.Trap.TheVariants.{Assertion}
@@ -69,12 +72,19 @@ plan_call number (Assign cell v next) = None
 plan_call number (Issue a next) = Some (record { statement = number; kind = a.kind })
 plan_call number (Trap t) = None
 
--- a plan that issues a send issues one to a rank
+-- a send has a tag
+abbrev pub HasTag : Option CallKind → Type 0
+HasTag (Some (Send s)) = s.tag < TAGS
+HasTag (Some (Recv r)) = Unit {0}
+HasTag (Some (Wait t)) = Unit {0}
+HasTag None = Unit {0}
+
+-- a plan that issues a send issues one to a rank, with a tag
 abbrev pub HasPlannedReceiver : ℕ → LocalPlan → Type 0
 HasPlannedReceiver n (Move next) = Unit {0}
 HasPlannedReceiver n (Print v next) = Unit {0}
 HasPlannedReceiver n (Assign cell v next) = Unit {0}
-HasPlannedReceiver n (Issue a next) = HasReceiver n a.kind
+HasPlannedReceiver n (Issue a next) = HasReceiver n a.kind × HasTag (Some a.kind)
 HasPlannedReceiver n (Trap t) = Unit {0}
 
 -- both, of a rank that stands at a statement of a number

@@ -16,7 +16,7 @@ use Rattle.mpd_rank.specs.declared.change.RankRecord.{RankRecord}
 use Rattle.mpd_rank.specs.declared.plan.LocalPlan.{LocalPlan}
 use Rattle.mpd_rank.specs.declared.plan.LocalPlan.TheVariants as plan
 use Rattle.mpd_rank.specs.Undone.{held, all_held, request_held, assigned_change}
-use Rattle.mpd_rank.specs.Views.{RankView, first_of}
+use Rattle.mpd_rank.specs.Views.{RankView}
 
 -- ---- of a statement, by what it evaluates to: a trap is a change of its own
 
@@ -68,7 +68,7 @@ local_record p n r = record_by (env_of p n r) r.activity r.rest
 
 -- the record of a wake, which moves no rank: what the written cells and the cleared handle held
 abbrev pub wake_record : RankWorld → List (ℕ × ℤ) → Option ℕ → RankRecord
-wake_record r writes handle = record { from = 0; change = Woke (first_of (all_held r.vars writes)) (request_held handle r.handles) }
+wake_record r writes handle = record { from = 0; change = Woke (all_held r.vars writes) (request_held handle r.handles) }
 
 -- ---- of a plan
 

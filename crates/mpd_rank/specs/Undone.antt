@@ -43,7 +43,7 @@ put_back s r from Printed = record r { rest = left_at s from; out = take (length
 put_back s r from (Issued handle) = record r { rest = left_at s from; handles = put_held handle r.handles; activity = Running }
 put_back s r from Trapped = record r { rest = left_at s from; activity = Running }
 put_back s r from (Matched send recv) = r
-put_back s r from (Woke cell handle) = record r { vars = write_cells (listed cell) r.vars; handles = put_held handle r.handles; activity = Blocked }
+put_back s r from (Woke cells handle) = record r { vars = write_cells cells r.vars; handles = put_held handle r.handles; activity = Blocked }
 
 abbrev pub undone_rank : Program → RankWorld → RankRecord → RankWorld
 undone_rank s r done = put_back s r done.from done.change
@@ -56,4 +56,4 @@ IsOfRank Printed = Unit {0}
 IsOfRank (Issued handle) = Unit {0}
 IsOfRank Trapped = Unit {0}
 IsOfRank (Matched send recv) = ⊥
-IsOfRank (Woke cell handle) = Unit {0}
+IsOfRank (Woke cells handle) = Unit {0}

@@ -1,5 +1,5 @@
 -- What a rank shows to contracts, part by part, and the rank of the world that it is.
-use Rattle.std.specs.Prelude.{◌≡◌, ℕ, ℤ, List, [], ◌∷◌, Option, Some, None, refl}
+use Rattle.std.specs.Prelude.{ℕ, ℤ, List, [], ◌∷◌, Option, Some, None, refl}
 use Rattle.std.specs.Coded.{Coded, code_by, coded×, coded_ℕ, coded_ℤ, coded_list, coded_option}
 use Rattle.mpd_model.specs.declared.call.Activity.{Activity}
 use Rattle.mpd_model.specs.declared.call.Activity.TheVariants.{Running}
@@ -13,14 +13,6 @@ use Rattle.mpd_rank.specs.declared.standing.Standing.{Standing}
 abbrev pub listed : Option (ℕ × ℤ) → List (ℕ × ℤ)
 listed None = []
 listed (Some w) = w ∷ []
-
-abbrev pub first_of : List (ℕ × ℤ) → Option (ℕ × ℤ)
-first_of [] = None
-first_of (w ∷ ws) = Some w
-
-pub first_listed : (o : Option (ℕ × ℤ)) → first_of (listed o) ≡ o
-first_listed None = refl
-first_listed (Some w) = refl
 
 abbrev pub cells_code : Coded (List (ℕ × ℤ))
 cells_code = coded_list (coded× coded_ℕ coded_ℤ)

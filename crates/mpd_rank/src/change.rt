@@ -1,6 +1,7 @@
 //! What a step did, so that it can be taken back.
 
-ghost use Rattle.std.specs.Prelude.{◌≡◌, ◌<◌, [], ◌∷◌, Some, None, IfSome};
+ghost use Rattle.std.specs.Prelude.{◌≡◌, ◌<◌, ◌≤◌, ◌+◌, [], ◌∷◌, length, Some, None, IfSome};
+ghost use Rattle.mpd_rank.specs.Packed.{before};
 ghost use Rattle.mpd_rank.specs.Held.{IsSmall, some_number};
 ghost use Rattle.mpd_rank.specs.Undone.{assigned_change};
 
@@ -10,27 +11,30 @@ use std::marker::Model;
 /// In place of a number: none.
 const NO_NUMBER: u32 = u32::MAX;
 
-/// Cells, in order, each with a value: what a wake writes, or what cells held that it wrote. Contracts see a list. There is one
-/// at most.
+/// Cells that a wake writes, in order, each with its new value. Contracts see a list. There are three at most.
 #[derive(Clone, Copy, Debug, PartialEq, Eq)]
 pub struct Cells {
     pub(crate) first: Option<(usize, i64)>,
+    pub(crate) second: Option<(usize, i64)>,
+    pub(crate) third: Option<(usize, i64)>,
 }
 
 impl Model for Cells {
     ghost use Rattle.std.specs.Prelude.{ℕ, ℤ, List};
-    ghost use Rattle.std.proofs.Common.{ap};
-    ghost use Rattle.mpd_rank.specs.Views.{cells_code, listed, first_of, first_listed};
+    ghost use Rattle.mpd_rank.specs.Views.{cells_code};
+    ghost use Rattle.mpd_rank.specs.Packed.{all_listed, IsPacked, first_of, second_of, third_of, listed_back};
 
     ghost Value = { List (ℕ × ℤ) };
 
     ghost coded = { cells_code };
 
-    ghost view = { λ c. listed c.first };
+    ghost view = { λ c. all_listed c.first c.second c.third };
 
-    ghost inverse = { λ l. record { first = first_of l } };
+    ghost invariant = { λ c. IsPacked c.first c.second c.third };
 
-    ghost inverse_ok = { λ c h. ap (λ o. record { first = o }) (first_listed c.first) };
+    ghost inverse = { λ l. record { first = first_of l; second = second_of l; third = third_of l } };
+
+    ghost inverse_ok = { λ c h. let back = listed_back c.first c.second c.third h in (λ i. record { first = back.0 i; second = back.1 i; third = back.2 i }) };
 }
 
 impl Cells {
@@ -38,7 +42,11 @@ impl Cells {
     pub fn none() -> Cells
         ensures { result ≡ [] }
     {
-        Cells { first: None }
+        Cells {
+            first: None,
+            second: None,
+            third: None,
+        }
     }
 
     /// One cell.
@@ -47,6 +55,19 @@ impl Cells {
     {
         Cells {
             first: Some((cell, value)),
+            second: None,
+            third: None,
+        }
+    }
+
+    /// Three cells, each with its value.
+    pub fn three(first: (usize, i64), second: (usize, i64), third: (usize, i64)) -> Cells
+        ensures { result ≡ first ∷ second ∷ third ∷ [] }
+    {
+        Cells {
+            first: Some(first),
+            second: Some(second),
+            third: Some(third),
         }
     }
 }
@@ -103,6 +124,73 @@ impl HeldCell {
             return None;
         }
         Some((self.cell as usize, self.was))
+    }
+}
+
+/// What cells held that were written, the last first. It takes 48 bytes. Contracts see a list. There are three at most.
+#[derive(Clone, Copy, Debug, PartialEq, Eq)]
+pub struct HeldCells {
+    first: HeldCell,
+    second: HeldCell,
+    third: HeldCell,
+}
+
+impl Model for HeldCells {
+    ghost use Rattle.std.specs.Prelude.{ℕ, ℤ, List};
+    ghost use Rattle.mpd_rank.specs.Views.{cells_code};
+    ghost use Rattle.mpd_rank.specs.Packed.{all_listed, IsPacked, first_of, second_of, third_of, listed_back};
+
+    ghost Value = { List (ℕ × ℤ) };
+
+    ghost coded = { cells_code };
+
+    ghost view = { λ c. all_listed c.first c.second c.third };
+
+    ghost invariant = { λ c. IsPacked c.first c.second c.third };
+
+    ghost inverse = { λ l. record { first = first_of l; second = second_of l; third = third_of l } };
+
+    ghost inverse_ok = { λ c h. let back = listed_back c.first c.second c.third h in (λ i. record { first = back.0 i; second = back.1 i; third = back.2 i }) };
+}
+
+impl HeldCells {
+    /// No cell was written.
+    pub(crate) fn none() -> HeldCells
+        ensures { result ≡ [] }
+    {
+        HeldCells {
+            first: HeldCell::none(),
+            second: HeldCell::none(),
+            third: HeldCell::none(),
+        }
+    }
+
+    /// The same with a cell that was written behind the others, where there was one.
+    #[tactic(auto, using(crate::proofs::RankLemmas::packing))]
+    pub(crate) fn with(self, held: HeldCell) -> HeldCells
+        requires { length self ≤ 2 }
+        ensures value { result ≡ before held self }
+        ensures few { length result ≤ length self + 1 }
+    {
+        if held.get().is_none() {
+            return self;
+        }
+        HeldCells {
+            first: held,
+            second: self.first,
+            third: self.second,
+        }
+    }
+
+    /// The cells, each to be written with what it held.
+    pub(crate) fn cells(self) -> Cells
+        ensures { result ≡ self }
+    {
+        Cells {
+            first: self.first.get(),
+            second: self.second.get(),
+            third: self.third.get(),
+        }
     }
 }
 
@@ -190,15 +278,26 @@ impl HeldHandle {
 pub enum Change {
     Moved,
     /// The cell that was written, and what it held.
-    Assigned { cell: u32, was: i64 },
+    Assigned {
+        cell: u32,
+        was: i64,
+    },
     Printed,
     /// The handle that got the call's number, if any, and what it held.
-    Issued { handle: HeldHandle },
+    Issued {
+        handle: HeldHandle,
+    },
     Trapped,
     /// Where the send and the receive stood in the lists of free calls. It is of no rank.
-    Matched { send_place: Spot, recv_place: Spot },
-    /// The cell that was written, if any, and what it held, and the same of the handle that was cleared.
-    Woke { cell: HeldCell, handle: HeldHandle },
+    Matched {
+        send_place: Spot,
+        recv_place: Spot,
+    },
+    /// The cells that were written, and what they held, and the same of the handle that was cleared, if any.
+    Woke {
+        cells: HeldCells,
+        handle: HeldHandle,
+    },
 }
 
 impl Change {
@@ -217,11 +316,11 @@ impl Change {
 }
 
 /// What takes the step of a rank back: the node before it, which is 0 at a wake, since that moves no rank, and what else it did.
-/// It holds no collection, and takes 40 bytes.
+/// It holds no collection, and takes 72 bytes.
 #[derive(Clone, Copy, Debug, PartialEq, Eq)]
 pub struct RankRecord {
     pub from: u32,
     pub change: Change,
 }
 
-const _: () = prove!(size_of::<RankRecord>() == 40);
+const _: () = prove!(size_of::<RankRecord>() == 72);

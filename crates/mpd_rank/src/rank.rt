@@ -7,7 +7,7 @@ ghost use Rattle.mpd_rank.specs.Held.{IsSmall};
 ghost use Rattle.mpd_code.specs.Left.{left_at};
 ghost use Rattle.mpd_model.specs.Next as next_specs;
 
-use crate::change::{Cells, Change, HeldCell, HeldHandle, RankRecord};
+use crate::change::{Cells, Change, HeldCell, HeldCells, HeldHandle, RankRecord};
 use crate::plan::{LocalPlan, plan_node};
 use crate::standing::Standing;
 use mpd_code::code::Code;
@@ -162,17 +162,31 @@ impl RankState {
         HeldCell::of(cell, was)
     }
 
-    /// Writes cells, and answers what they held, the last first.
-    fn write_all(&mut self, cells: Cells) -> HeldCell
-        ensures after { self.new ≡ record self.old { vars = write_cells cells self.old.vars; writes = self.new.writes } }
-        ensures held { listed result ≡ all_held self.old.vars cells }
+    /// Writes a variable, where one is named.
+    fn write_if(&mut self, cell: Option<(usize, i64)>) -> HeldCell
+        ensures after { self.new ≡ record self.old { vars = write_cells (listed cell) self.old.vars; writes = self.new.writes } }
+        ensures held { listed result ≡ all_held self.old.vars (listed cell) }
         ensures rises { self.old.writes ≤ self.new.writes }
         ensures few { self.new.writes ≤ self.old.writes + 1 }
     {
-        match cells.first {
+        match cell {
             None => HeldCell::none(),
             Some((cell, value)) => self.write(cell, value),
         }
+    }
+
+    /// Writes cells in their order, and answers what they held, the last first.
+    #[tactic(auto, using(crate::proofs::RankLemmas::writing))]
+    fn write_all(&mut self, cells: Cells) -> HeldCells
+        ensures after { self.new ≡ record self.old { vars = write_cells cells self.old.vars; writes = self.new.writes } }
+        ensures held { result ≡ all_held self.old.vars cells }
+        ensures rises { self.old.writes ≤ self.new.writes }
+        ensures few { self.new.writes ≤ self.old.writes + 3 }
+    {
+        let first = self.write_if(cells.first);
+        let second = self.write_if(cells.second);
+        let third = self.write_if(cells.third);
+        HeldCells::none().with(first).with(second).with(third)
     }
 
     /// Writes a handle, where there is such a one, and answers what it held.
@@ -287,7 +301,7 @@ impl RankState {
     }
 
     /// Goes on after a wake, with cells written and a handle cleared. It can't be refused memory. It answers what takes the wake
-    /// back. One to three writes.
+    /// back. One to five writes.
     #[tactic(auto, using(crate::proofs::RankLemmas::committing))]
     pub fn complete(&mut self, writes: Cells, handle: Option<usize>) -> RankRecord
         ensures after { (p : Program) → rank_of p self.new ≡ woken_rank writes handle (rank_of p self.old) }
@@ -296,7 +310,7 @@ impl RankState {
         ensures rank { self.new.rank ≡ self.old.rank }
         ensures back { (p : Program) → self.old.activity ≡ Activity.Blocked → undone_rank p (rank_of p self.new) result ≡ rank_of p self.old }
         ensures rises { self.old.writes + 1 ≤ self.new.writes }
-        ensures few { self.new.writes ≤ self.old.writes + 3 }
+        ensures few { self.new.writes ≤ self.old.writes + 5 }
     {
         let node = self.standing().node;
         let was = self.write_all(writes);
@@ -304,7 +318,7 @@ impl RankState {
         self.stand(node, Activity::Running);
         RankRecord {
             from: 0,
-            change: Change::Woke { cell: was, handle },
+            change: Change::Woke { cells: was, handle },
         }
     }
 
@@ -320,28 +334,28 @@ impl RankState {
     }
 
     /// Takes a wake back.
-    fn unwake(&mut self, cell: HeldCell, handle: HeldHandle)
-        ensures after { self.new ≡ record self.old { vars = write_cells (listed cell) self.old.vars; handles = put_held handle self.old.handles; activity = Activity.Blocked; writes = self.new.writes } }
+    fn unwake(&mut self, cells: HeldCells, handle: HeldHandle)
+        ensures after { self.new ≡ record self.old { vars = write_cells cells self.old.vars; handles = put_held handle self.old.handles; activity = Activity.Blocked; writes = self.new.writes } }
         ensures rises { self.old.writes + 1 ≤ self.new.writes }
-        ensures few { self.new.writes ≤ self.old.writes + 3 }
+        ensures few { self.new.writes ≤ self.old.writes + 5 }
     {
         let node = self.standing().node;
-        let _ = self.write_all(Cells { first: cell.get() });
+        let _ = self.write_all(cells.cells());
         self.put_handle(handle);
         self.stand(node, Activity::Blocked);
     }
 
-    /// Takes a step of the rank back. It can't be refused memory. One to three writes.
+    /// Takes a step of the rank back. It can't be refused memory. One to five writes.
     pub fn restore(&mut self, done: RankRecord)
         requires { IsOfRank done.change }
         ensures after { (p : Program) → rank_of p self.new ≡ undone_rank p (rank_of p self.old) done }
         ensures rank { self.new.rank ≡ self.old.rank }
         ensures rises { self.old.writes + 1 ≤ self.new.writes }
-        ensures few { self.new.writes ≤ self.old.writes + 3 }
+        ensures few { self.new.writes ≤ self.old.writes + 5 }
     {
         let RankRecord { from, change } = done;
         match change {
-            Change::Woke { cell, handle } => return self.unwake(cell, handle),
+            Change::Woke { cells, handle } => return self.unwake(cells, handle),
             Change::Assigned { cell, was } => {
                 let _ = self.write(cell as usize, was);
             }

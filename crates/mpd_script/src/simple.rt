@@ -10,11 +10,13 @@ use crate::cursor::Tokens;
 use crate::expr::expression;
 use crate::place::{named, outside};
 use crate::stmt::begun;
+use mpd_model::expr::Expr;
 use mpd_model::place::DeclKind;
 use mpd_model::read_fault::ReadFault;
 use mpd_model::slot::Slot;
 use mpd_model::stmt::{
-    AssignStmt, IrecvStmt, IsendStmt, RecvStmt, SendStmt, Simple, Stmt, StmtNode, Target,
+    AssignStmt, IrecvStmt, IsendStmt, RecvStmt, SendStmt, Simple, StatusStmt, Stmt, StmtNode,
+    Target,
 };
 use mpd_model::token::Mark;
 use std::alloc::Global;
@@ -129,7 +131,33 @@ fn sent(alloc: Global, tokens: &mut Tokens<'_>, request: Option<Target>) -> Resu
     ended(tokens, send_of(request, SendStmt { value, to, tag }))
 }
 
-/// Where a receive writes, from whom it takes and with which tag. A handle gets its request, if there is one.
+/// A source or a tag of a receive: `any`, or an expression.
+#[tactic(auto, unfolding(mpd_model::specs::Grammar::source))]
+fn source(alloc: Global, tokens: &mut Tokens<'_>) -> Result<Option<Expr>, ReadFault>
+    ensures { Reads (spec.source tokens.old) result tokens.new }
+{
+    if tokens.eat(Mark::Any) {
+        Ok(None)
+    } else {
+        Ok(Some(expression(alloc, tokens)?))
+    }
+}
+
+/// A status, if there is one: the places that the source and the tag are written to.
+#[tactic(auto, unfolding(mpd_model::specs::Grammar::status))]
+fn status(alloc: Global, tokens: &mut Tokens<'_>) -> Result<Option<StatusStmt>, ReadFault>
+    ensures { Reads (spec.status tokens.old) result tokens.new }
+{
+    if tokens.eat(Mark::Status) {
+        let source = named(alloc, tokens, DeclKind::Variable)?;
+        let tag = named(alloc, tokens, DeclKind::Variable)?;
+        Ok(Some(StatusStmt { source, tag }))
+    } else {
+        Ok(None)
+    }
+}
+
+/// Where a receive writes, from whom it takes and with which tag, and where it writes that. A handle gets its request, if there is one.
 fn received(
     alloc: Global,
     tokens: &mut Tokens<'_>,
@@ -139,10 +167,17 @@ fn received(
 {
     let into = named(alloc, tokens, DeclKind::Variable)?;
     tokens.expect(Mark::From)?;
-    let from = expression(alloc, tokens)?;
+    let from = source(alloc, tokens)?;
     tokens.expect(Mark::Tag)?;
-    let tag = expression(alloc, tokens)?;
-    ended(tokens, recv_of(request, RecvStmt { into, from, tag }))
+    let tag = source(alloc, tokens)?;
+    let status = status(alloc, tokens)?;
+    let recv = RecvStmt {
+        into,
+        from,
+        tag,
+        status,
+    };
+    ended(tokens, recv_of(request, recv))
 }
 
 /// What follows `send`.

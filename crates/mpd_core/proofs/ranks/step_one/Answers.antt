@@ -1,4 +1,4 @@
-use Rattle.std.proofs.Common.{◌≡◌, ◌<◌, length, refl, sym, subst, rules}
+use Rattle.std.proofs.Common.{◌≡◌, ◌<◌, length, refl, subst, rules}
 use Rattle.mpd_rank.specs.declared.change.RankRecord.{RankRecord}
 use Rattle.mpd_core.specs.Undone.{unissued, CanUnissue}
 use Rattle.mpd_core.proofs.RangeLemmas.{on_ok, if_ok}
@@ -34,4 +34,4 @@ returns-clause-can c =
 
 pub returns-clause-held : goal.returns-clause-held
 returns-clause-held c =
-    held_set c.args.code.now.program c.args.ranks.now.items c.args.board.now.board c.step_rank.new.board.board c.args.rank c.index_mut-state.result.now c.step_rank.new.state c.index_mut-state.ensures.value c.step_rank.ensures.number c.step_rank.ensures.ranks c.requires.held
+    held_set c.args.code.now.program c.args.ranks.now.items c.args.board.now.board c.step_rank.new.board.board c.args.rank c.index_mut-state.result.now c.step_rank.new.state c.index_mut-state.ensures.value c.step_rank.ensures.number c.step_rank.ensures.ranks (c.step_rank.ensures.tags c.requires.held.tags) c.requires.held

@@ -1,0 +1,95 @@
+-- Which call of a rank completes before another one, and what a run shows of it (MPI 4.0, sections 3.5 and 3.7.4).
+use Rattle.std.specs.Prelude.{◌≡◌, ℕ, Bool, true, false, ◌&&◌, ◌||◌, ◌==◌, nat_lt, List, ◌∷◌, ◌++◌, Option, Some, None, is_some}
+use Rattle.std.specs.List.{list_any}
+use Rattle.mpd_model.specs.declared.step.CallId.{CallId}
+use Rattle.mpd_model.specs.declared.call.CallKind.{CallKind}
+use Rattle.mpd_model.specs.declared.call.CallKind.TheVariants.{Send, Recv, Wait}
+use Rattle.mpd_model.specs.declared.call.SendCall.{SendCall}
+use Rattle.mpd_model.specs.declared.call.RecvCall.{RecvCall}
+use Rattle.mpd_model.specs.declared.call.MatchSet.{MatchSet}
+use Rattle.mpd_model.specs.declared.call.MatchSet.TheVariants.{Pair, Woke, Barrier}
+use Rattle.mpd_model.specs.World.{Board, id_eq, kind_at, partner, is_done}
+use Rattle.mpd_model.specs.Next.{blocks}
+
+-- ---- the four cases
+
+-- a send to the same rank, with the same tag
+abbrev pub same_envelope_as : SendCall → Option CallKind → Bool
+same_envelope_as a (Some (Send b)) = (a.to == b.to) && (a.tag == b.tag)
+same_envelope_as a (Some (Recv r)) = false
+same_envelope_as a (Some (Wait t)) = false
+same_envelope_as a None = false
+
+-- what a source or a tag takes, the other takes too
+abbrev pub covers_number : Option ℕ → Option ℕ → Bool
+covers_number None other = true
+covers_number (Some m) None = false
+covers_number (Some m) (Some n) = m == n
+
+-- a receive whose messages the other one takes too
+abbrev pub is_covered_by : RecvCall → Option CallKind → Bool
+is_covered_by a (Some (Send s)) = false
+is_covered_by a (Some (Recv b)) = covers_number a.from b.from && covers_number a.tag b.tag
+is_covered_by a (Some (Wait t)) = false
+is_covered_by a None = false
+
+-- two sends of the same envelope, or two receives of which the first takes whatever the second does
+abbrev pub matches_first : Option CallKind → Option CallKind → Bool
+matches_first (Some (Send a)) other = same_envelope_as a other
+matches_first (Some (Recv a)) other = is_covered_by a other
+matches_first (Some (Wait t)) other = false
+matches_first None other = false
+
+abbrev pub is_number : Option ℕ → ℕ → Bool
+is_number None i = false
+is_number (Some j) i = j == i
+
+-- a wait for the call of that number
+abbrev pub waits_for : Option CallKind → ℕ → Bool
+waits_for (Some (Send s)) i = false
+waits_for (Some (Recv r)) i = false
+waits_for (Some (Wait t)) i = is_number t.target i
+waits_for None i = false
+
+-- a call that its rank waits for
+abbrev pub blocks_rank : Option CallKind → Bool
+blocks_rank (Some kind) = blocks kind
+blocks_rank None = false
+
+-- Of two calls of one rank, of which x was issued earlier: both are sends of the same destination and tag; or both are receives, and
+-- x takes every message that y takes; or y is a wait for x; or the rank waits for x.
+abbrev pub before : Board → CallId → CallId → Bool
+before b x y =
+    (x.rank == y.rank) && (nat_lt x.index y.index && (is_some (kind_at b y)
+    && (matches_first (kind_at b x) (kind_at b y) || (waits_for (kind_at b y) x.index || blocks_rank (kind_at b x)))))
+
+-- ---- what that orders, in the list of match sets
+
+-- a match set that names a call
+abbrev pub names : MatchSet → CallId → Bool
+names (Pair s r) c = id_eq s c || id_eq r c
+names (Woke d) c = id_eq d c
+names Barrier c = false
+
+-- the match set of a call that its rank went on from
+abbrev pub is_wake_of : CallId → MatchSet → Bool
+is_wake_of c (Pair s r) = false
+is_wake_of c (Woke d) = id_eq d c
+is_wake_of c Barrier = false
+
+-- where a pair names y, an earlier one names x
+abbrev pub PairedAfter : List MatchSet → CallId → CallId → Type 0
+PairedAfter sets x y = (front behind : List MatchSet) (s r : CallId) → sets ≡ front ++ (Pair s r ∷ behind) → names (Pair s r) y ≡ true → is_some (partner front x) ≡ true
+
+-- where the rank went on from y, x was done: it was paired earlier, or buffered as it was issued
+abbrev pub DoneBefore : Board → CallId → CallId → Type 0
+DoneBefore b x y = (front behind : List MatchSet) → b.sets ≡ front ++ (Woke y ∷ behind) → is_done (record b { sets = front }) x ≡ true
+
+-- each match set that names y stands behind the one by which the rank went on from x
+abbrev pub WokenBefore : List MatchSet → CallId → CallId → Type 0
+WokenBefore sets x y = (front behind : List MatchSet) (m : MatchSet) → sets ≡ front ++ (m ∷ behind) → names m y ≡ true → list_any (is_wake_of x) front ≡ true
+
+pub record Ordered (b : Board) (x y : CallId) : Type 0 where
+  pub matched : matches_first (kind_at b x) (kind_at b y) ≡ true → PairedAfter b.sets x y
+  pub waited : waits_for (kind_at b y) x.index ≡ true → DoneBefore b x y
+  pub woken : blocks_rank (kind_at b x) ≡ true → WokenBefore b.sets x y
