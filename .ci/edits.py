@@ -481,10 +481,10 @@ class Round:
 
 def check(repository, crate, texts, kept, only, kept_log=None):
     """Checks a copy of the crate with these texts, and answers what was said, and the processor seconds that it took; how long its
-    stages took goes beside the log, where one is kept."""
+    stages took, and how long each function, goes beside the log, where one is kept."""
     folder = repository.folder(crate)
-    stages = ['--stage-times', f'{kept_log}.stages'] if kept_log else []
-    with tempfile.TemporaryDirectory(prefix='edit-') as room, tempfile.TemporaryFile('w+', encoding='utf-8', errors='replace') as said:
+    stages = ['--stage-times', f'{kept_log}.stages', '--progress'] if kept_log else []
+    with tempfile.TemporaryDirectory(prefix='edit-') as room:
         for part in PARTS:
             if os.path.isdir(f'{folder}/{part}'):
                 shutil.copytree(f'{folder}/{part}', f'{room}/{part}')
@@ -492,11 +492,19 @@ def check(repository, crate, texts, kept, only, kept_log=None):
             os.makedirs(os.path.dirname(f'{room}/{file}'), exist_ok=True)
             with open(f'{room}/{file}', 'w', encoding='utf-8') as it:
                 it.write(text)
-        started = subprocess.Popen(repository.check(crate, kept, only) + stages, cwd=room, stdin=subprocess.DEVNULL, stdout=said, stderr=subprocess.STDOUT)
+        started = subprocess.Popen(repository.check(crate, kept, only) + stages, cwd=room, stdin=subprocess.DEVNULL, stdout=subprocess.PIPE,
+                                   stderr=subprocess.STDOUT, encoding='utf-8', errors='replace')
+        said, took, before = [], [], time.time()
+        for line in started.stdout:
+            said.append(line)
+            took.append((time.time() - before, line))
+            before = time.time()
         _, _, used = os.wait4(started.pid, 0)
         started.returncode = 0
-        said.seek(0)
-        return said.read(), used.ru_utime + used.ru_stime
+        if kept_log:
+            with open(f'{kept_log}.seconds', 'w', encoding='utf-8') as it:
+                it.writelines(f'{seconds:.1f} {line}' for seconds, line in sorted(took, reverse=True) if seconds >= 0.1)
+        return ''.join(said), used.ru_utime + used.ru_stime
 
 
 def build_below(repository, crates):
