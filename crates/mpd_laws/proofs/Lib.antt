@@ -3,6 +3,7 @@ mod CompleteParts
 mod CompleteStatements
 mod Counted
 mod Cuts
+mod Eligible
 mod Ends
 mod Enough
 mod EnoughBlocks
