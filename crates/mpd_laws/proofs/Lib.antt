@@ -1,3 +1,4 @@
+mod CallsInOrder
 mod Complete
 mod CompleteParts
 mod CompleteStatements
@@ -10,6 +11,9 @@ mod EnoughBlocks
 mod GoodSpots
 mod Marks
 mod NoMemory
+mod OrderIssues
+mod OrderSteps
+mod Orderly
 mod PrintScript
 mod PrintStatements
 mod PrintTerms
@@ -22,6 +26,7 @@ mod Signs
 mod Sound
 mod SoundParts
 mod SoundStatements
+mod Splits
 pub mod Cells
 pub mod CompleteScript
 pub mod LineCuts
