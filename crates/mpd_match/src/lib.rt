@@ -5,6 +5,7 @@ pub mod board;
 mod complete;
 mod kinds;
 mod looked;
+mod order;
 pub mod record;
 #[cfg(test)]
 mod rows;
