@@ -10,6 +10,7 @@ use crate::board::Board;
 use crate::kinds;
 use crate::side::Side;
 use mpd_device::steps::Steps;
+use mpd_laws::ordering;
 use mpd_model::call::CallKind;
 use mpd_model::step::CallId;
 
@@ -45,13 +46,15 @@ impl Side {
 
 impl Board {
     /// Whether the two may be paired (MPI 4.0, section 3.5: messages don't overtake). The line of the send is walked up to
-    /// it, and that of the receive.
+    /// it, and that of the receive. No other send of the sender may then be paired with the receive.
     pub fn eligible(&self, send: CallId, recv: CallId, looks: &mut Steps) -> bool
         ensures eligible { result ≡ eligible_on self.now.board send recv }
+        ensures one_send { result ≡ true → (i : ℕ) → eligible_on self.now.board (call_id send.rank i) recv ≡ true → i ≡ send.index }
         ensures looks { looks.new ≡ looks.old + eligible_looks self.now.board send recv }
         ensures at_most { looks.new ≤ looks.old + (length (pending self.now.board send.rank recv.rank) + length (posted self.now.board recv.rank) + 2) }
         ensures none { fits self.now.board send recv ≡ false → looks.new ≡ looks.old }
     {
+        ordering::one_send_is_eligible();
         let send_kind = self.kind(send);
         let recv_kind = self.kind(recv);
         if !kinds::is_fitting(send_kind, recv_kind, send.rank, recv.rank) {
