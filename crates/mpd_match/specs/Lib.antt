@@ -5,3 +5,4 @@ pub mod Changes
 pub mod Held
 pub mod Looks
 pub mod BoardRows
+pub mod OrderRows

@@ -6,6 +6,8 @@ mod complete;
 mod kinds;
 mod looked;
 mod order;
+#[cfg(test)]
+mod order_rows;
 pub mod record;
 #[cfg(test)]
 mod rows;
