@@ -8,3 +8,5 @@ pub mod Partners
 pub mod Boards
 pub mod Eligible
 pub mod Matches
+pub mod Firsts
+pub mod Candidates
