@@ -10,3 +10,4 @@ pub mod Eligible
 pub mod Matches
 pub mod Firsts
 pub mod Candidates
+pub mod Listed

@@ -5,5 +5,6 @@ pub mod Changes
 pub mod Held
 pub mod Firsts
 pub mod Looks
+pub mod Matches
 pub mod BoardRows
 pub mod OrderRows

@@ -5,6 +5,7 @@ pub mod board;
 mod complete;
 mod kinds;
 mod looked;
+mod listing;
 mod order;
 #[cfg(test)]
 mod order_rows;
