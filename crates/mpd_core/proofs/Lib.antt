@@ -3,3 +3,4 @@ pub mod RankLemmas
 pub mod RangeLemmas
 pub mod RoomLemmas
 pub mod TagLemmas
+pub mod EnabledLemmas

@@ -1,6 +1,7 @@
 //! The state of a run: one step forward, and that step back.
 #![tactic(auto)]
 
+pub mod enabled;
 pub mod ending;
 pub mod fault;
 mod ranks;

@@ -1,14 +1,19 @@
+mod CallsInOrder
 mod Complete
 mod CompleteParts
 mod CompleteStatements
 mod Counted
 mod Cuts
+mod Eligible
 mod Ends
 mod Enough
 mod EnoughBlocks
 mod GoodSpots
 mod Marks
 mod NoMemory
+mod OrderIssues
+mod OrderSteps
+mod Orderly
 mod PrintScript
 mod PrintStatements
 mod PrintTerms
@@ -21,6 +26,7 @@ mod Signs
 mod Sound
 mod SoundParts
 mod SoundStatements
+mod Splits
 pub mod Cells
 pub mod CompleteScript
 pub mod LineCuts

@@ -1,6 +1,7 @@
 //! Laws, which have no code: what holds of the grammar, of the canonical text, and of both (docs/LANGUAGE.md).
 #![tactic(auto)]
 
+pub mod ordering;
 pub mod printing;
 pub mod reading;
 pub mod round_trip;

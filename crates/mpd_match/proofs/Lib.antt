@@ -8,3 +8,6 @@ pub mod Partners
 pub mod Boards
 pub mod Eligible
 pub mod Matches
+pub mod Firsts
+pub mod Candidates
+pub mod Listed

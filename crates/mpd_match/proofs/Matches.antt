@@ -58,7 +58,7 @@ fitting_sends (Some (Recv r)) other p q e = absurd (cc)
 fitting_sends (Some (Wait t)) other p q e = absurd (cc)
 fitting_sends None other p q e = absurd (cc)
 
-eligible_pending : (b : Board) (p i : ℕ) (r : CallId) → eligible b (call_id p i) r ≡ true → is_pending b p r.rank i ≡ true
+pub eligible_pending : (b : Board) (p i : ℕ) (r : CallId) → eligible b (call_id p i) r ≡ true → is_pending b p r.rank i ≡ true
 eligible_pending b p i r e =
     let s : CallId = call_id p i in
     let first = both_true (is_free b s) _ e in
@@ -133,7 +133,7 @@ fitting_receives (Some (Recv r)) other p q e = absurd (cc)
 fitting_receives (Some (Wait t)) other p q e = absurd (cc)
 fitting_receives None other p q e = absurd (cc)
 
-eligible_posted : (b : Board) (s : CallId) (q j : ℕ) → eligible b s (call_id q j) ≡ true → is_posted b q j ≡ true
+pub eligible_posted : (b : Board) (s : CallId) (q j : ℕ) → eligible b s (call_id q j) ≡ true → is_posted b q j ≡ true
 eligible_posted b s q j e =
     let r : CallId = call_id q j in
     let first = both_true (is_free b s) _ e in

@@ -28,7 +28,7 @@ stands_tells calls mark line i has =
 
 -- ---- numbers that rise
 
-abbrev AllFrom : ℕ → List ℕ → Type 0
+abbrev pub AllFrom : ℕ → List ℕ → Type 0
 AllFrom k [] = Unit {0}
 AllFrom k (x ∷ xs) = (k ≤ x) × AllFrom k xs
 
@@ -77,14 +77,14 @@ rest_here here x xs t = ap (λ (b : Bool). cond b (x ∷ xs) (rest here xs)) t
 rest_there : (here : Option ℕ) (x : ℕ) (xs : List ℕ) → is_link_to here x ≡ false → rest here (x ∷ xs) ≡ rest here xs
 rest_there here x xs t = ap (λ (b : Bool). cond b (x ∷ xs) (rest here xs)) t
 
-rest_none : (xs : List ℕ) → rest None xs ≡ []
+pub rest_none : (xs : List ℕ) → rest None xs ≡ []
 rest_none [] = refl
 rest_none (x ∷ xs) = rest_none xs
 
 link_to_itself : (x : ℕ) → is_link_to (Some x) x ≡ true
 link_to_itself x = elim (link_tells (Some x) x) [ inl t ↦ t.0 | inr t ↦ absurd (t.1 refl) ]
 
-rest_first : (xs : List ℕ) → rest (first_of xs) xs ≡ xs
+pub rest_first : (xs : List ℕ) → rest (first_of xs) xs ≡ xs
 rest_first [] = refl
 rest_first (x ∷ xs) = rest_here (Some x) x xs (link_to_itself x)
 
@@ -95,7 +95,7 @@ rest_past here x xs spot none =
       | inr t ↦ rest_there here x xs t.0
     ]
 
-rest_step : (x : ℕ) (xs : List ℕ) → 0 < places_in xs x → ((z : ℕ) → places_in xs z ≤ 1) → rest (Some x) xs ≡ x ∷ rest (next_of xs x) xs
+pub rest_step : (x : ℕ) (xs : List ℕ) → 0 < places_in xs x → ((z : ℕ) → places_in xs z ≤ 1) → rest (Some x) xs ≡ x ∷ rest (next_of xs x) xs
 rest_step x [] has once = absurd (omega arith)
 rest_step x (y ∷ ys) has once =
     let alone : places_in ys y ≡ 0 = omega (arith, once y, places_here y ys) in

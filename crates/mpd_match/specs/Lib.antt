@@ -3,5 +3,8 @@ pub mod Lines
 pub mod Pairs
 pub mod Changes
 pub mod Held
+pub mod Firsts
 pub mod Looks
+pub mod Matches
 pub mod BoardRows
+pub mod OrderRows

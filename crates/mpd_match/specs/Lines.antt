@@ -5,7 +5,7 @@ use Rattle.mpd_model.specs.declared.step.CallId.{CallId}
 use Rattle.mpd_model.specs.declared.call.Call.{Call}
 use Rattle.mpd_model.specs.declared.call.CallKind.{CallKind}
 use Rattle.mpd_model.specs.declared.call.CallKind.TheVariants.{Send, Recv, Wait}
-use Rattle.mpd_model.specs.World.{kind_of, id_eq, fitting}
+use Rattle.mpd_model.specs.World.{kind_of, id_eq, is_any_or, fitting}
 use Rattle.mpd_match.specs.Views.{SideView, side_at}
 
 -- the line of a call, where it has one
@@ -42,6 +42,18 @@ waiting calls mark line = filter (waits calls mark line) (range_with_len 0 (leng
 abbrev pub passed : (ℕ → Bool) → ℕ → List ℕ → ℕ
 passed test index [] = 0
 passed test index (x ∷ xs) = cond (nat_lt x index && not (test x)) (1 + passed test index xs) 0
+
+-- how many numbers stand ahead of the first that passes the test; all of them, where none does
+abbrev pub ahead : (ℕ → Bool) → List ℕ → ℕ
+ahead test [] = 0
+ahead test (x ∷ xs) = cond (test x) 0 (1 + ahead test xs)
+
+-- a receive whose source is any, or this rank
+abbrev pub takes_from : Option CallKind → ℕ → Bool
+takes_from (Some (Send s)) p = false
+takes_from (Some (Recv r)) p = is_any_or r.from p
+takes_from (Some (Wait t)) p = false
+takes_from None p = false
 
 -- one of the two is a send of rank p to rank q, and the other a receive that fits it
 abbrev pub fitting_either : Option CallKind → Option CallKind → ℕ → ℕ → Bool

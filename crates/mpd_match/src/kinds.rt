@@ -1,7 +1,7 @@
 //! What is read off the kinds of calls.
 ghost use Rattle.std.specs.Prelude.{◌≡◌, ◌≤◌, ◌||◌, ℕ, Some};
 ghost use Rattle.mpd_model.specs.World.{is_any_or as any_or, fitting, is_message_kind as message_kind, message_of as message_in, is_buffered as buffered_in, awaited_by as awaited_in};
-ghost use Rattle.mpd_match.specs.Lines.{line_of as line_in, fitting_either};
+ghost use Rattle.mpd_match.specs.Lines.{line_of as line_in, takes_from as taken_from, fitting_either};
 
 use mpd_model::call::{CallKind, Message, Mode};
 use mpd_model::limits::RANKS_MAX;
@@ -26,6 +26,16 @@ fn is_any_or(wanted: Option<usize>, number: usize) -> bool
     match wanted {
         None => true,
         Some(wanted) => wanted == number,
+    }
+}
+
+/// Whether it is a receive whose source is any, or this rank (MPI 4.0, section 3.2.4).
+pub(crate) fn takes_from(kind: Option<CallKind>, sender: usize) -> bool
+    ensures { result ≡ taken_from kind sender }
+{
+    match kind {
+        Some(CallKind::Recv(recv)) => is_any_or(recv.from, sender),
+        _ => false,
     }
 }
 

@@ -5,6 +5,10 @@ pub mod board;
 mod complete;
 mod kinds;
 mod looked;
+mod listing;
+mod order;
+#[cfg(test)]
+mod order_rows;
 pub mod record;
 #[cfg(test)]
 mod rows;

@@ -1,15 +1,18 @@
 //! Walks along the lines of free calls, with their looks counted.
 ghost use Rattle.std.specs.Prelude.{◌≡◌, ℕ, ◌+◌, ◌<◌, ◌≤◌, true, false, length};
-ghost use Rattle.std.specs.List.{list_any};
+ghost use Rattle.std.specs.List.{list_any, filter};
+ghost use Rattle.std.specs.Option.{option_to_list};
 ghost use Rattle.mpd_queue.specs.InOrder.{first_of, next_of};
 ghost use Rattle.mpd_model.specs.World.{call_id, call_numbers, rank_numbers, fits, is_free as is_free_on, is_pending, is_posted, pending, posted, eligible as eligible_on};
-ghost use Rattle.mpd_match.specs.Lines.{kind_in, mark_in, waiting, fitting_either, passed, has_earlier as has_earlier_in};
-ghost use Rattle.mpd_match.specs.Looks.{eligible_looks};
+ghost use Rattle.mpd_match.specs.Lines.{kind_in, mark_in, waiting, fitting_either, passed, ahead, has_earlier as has_earlier_in};
+ghost use Rattle.mpd_match.specs.Firsts.{first_send as first_send_on, first_recv as first_recv_on};
+ghost use Rattle.mpd_match.specs.Looks.{eligible_looks, candidate_looks};
 
 use crate::board::Board;
 use crate::kinds;
 use crate::side::Side;
 use mpd_device::steps::Steps;
+use mpd_laws::ordering;
 use mpd_model::call::CallKind;
 use mpd_model::step::CallId;
 
@@ -45,13 +48,15 @@ impl Side {
 
 impl Board {
     /// Whether the two may be paired (MPI 4.0, section 3.5: messages don't overtake). The line of the send is walked up to
-    /// it, and that of the receive.
+    /// it, and that of the receive. No other send of the sender may then be paired with the receive.
     pub fn eligible(&self, send: CallId, recv: CallId, looks: &mut Steps) -> bool
         ensures eligible { result ≡ eligible_on self.now.board send recv }
+        ensures one_send { result ≡ true → (i : ℕ) → eligible_on self.now.board (call_id send.rank i) recv ≡ true → i ≡ send.index }
         ensures looks { looks.new ≡ looks.old + eligible_looks self.now.board send recv }
         ensures at_most { looks.new ≤ looks.old + (length (pending self.now.board send.rank recv.rank) + length (posted self.now.board recv.rank) + 2) }
         ensures none { fits self.now.board send recv ≡ false → looks.new ≡ looks.old }
     {
+        ordering::one_send_is_eligible();
         let send_kind = self.kind(send);
         let recv_kind = self.kind(recv);
         if !kinds::is_fitting(send_kind, recv_kind, send.rank, recv.rank) {
@@ -106,6 +111,76 @@ impl Board {
         ensures looks { looks.new ≡ looks.old + 1 }
     {
         self.sides[id.rank].next(id.index, looks)
+    }
+
+    /// The number of the sender's first free send to the receive's rank that fits the receive, where there is one. One look,
+    /// and one for each free send ahead of it.
+    pub(crate) fn first_send(&self, sender: usize, recv: CallId, looks: &mut Steps) -> Option<usize>
+        requires sender { sender < length self.now.board.calls }
+        requires receiver { recv.rank < length self.now.board.calls }
+        ensures first { result ≡ first_send_on self.now.board sender recv }
+        ensures looks { looks.new ≡ looks.old + 1 + ahead (λ i. fits self.now.board (call_id sender i) recv) (pending self.now.board sender recv.rank) }
+    {
+        let kind = self.kind(recv);
+        let mut here = self.first_pending(sender, recv.rank, looks);
+        'walk: while let Some(index) = here {
+            let send = CallId {
+                rank: sender,
+                index,
+            };
+            if kinds::is_fitting(self.kind(send), kind, sender, recv.rank) {
+                return Some(index);
+            }
+            here = self.next_free(send, looks);
+        }
+        None
+    }
+
+    /// The number of the rank's first free receive that fits the send, where there is one. One look, and one for each free
+    /// receive ahead of it.
+    pub(crate) fn first_recv(&self, send: CallId, rank: usize, looks: &mut Steps) -> Option<usize>
+        requires { rank < length self.now.board.calls }
+        ensures first { result ≡ first_recv_on self.now.board send rank }
+        ensures looks { looks.new ≡ looks.old + 1 + ahead (λ j. fits self.now.board send (call_id rank j)) (posted self.now.board rank) }
+    {
+        let kind = self.kind(send);
+        let mut here = self.first_posted(rank, looks);
+        'walk: while let Some(index) = here {
+            let recv = CallId { rank, index };
+            if kinds::is_fitting(kind, self.kind(recv), send.rank, rank) {
+                return Some(index);
+            }
+            here = self.next_free(recv, looks);
+        }
+        None
+    }
+
+    /// The number of the sender's send that is eligible with the receive, where there is one: its first free send that fits,
+    /// if no earlier free receive fits that (MPI 4.0, section 3.5). The sender's line is walked up to that send, and the
+    /// receiver's up to the first that fits it. A call that is no free receive, or names another source, takes no look.
+    pub fn candidate(&self, sender: usize, recv: CallId, looks: &mut Steps) -> Option<usize>
+        requires { sender < length self.now.board.calls }
+        ensures found { filter (λ i. eligible_on self.now.board (call_id sender i) recv) (call_numbers self.now.board sender) ≡ option_to_list result }
+        ensures looks { looks.new ≡ looks.old + candidate_looks self.now.board sender recv }
+        ensures at_most { looks.new ≤ looks.old + (length (pending self.now.board sender recv.rank) + length (posted self.now.board recv.rank) + 2) }
+        ensures none { is_posted self.now.board recv.rank recv.index ≡ false → looks.new ≡ looks.old }
+    {
+        if !kinds::takes_from(self.kind(recv), sender) {
+            return None;
+        }
+        if !self.is_free(recv) {
+            return None;
+        }
+        let index = self.first_send(sender, recv, looks)?;
+        let send = CallId {
+            rank: sender,
+            index,
+        };
+        let first = self.first_recv(send, recv.rank, looks)?;
+        if first < recv.index {
+            return None;
+        }
+        Some(index)
     }
 
     /// Whether some send of the sender is eligible with the receive. Its free sends to that rank are walked, and no others.

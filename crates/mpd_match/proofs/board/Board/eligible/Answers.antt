@@ -218,6 +218,9 @@ returns-clause-eligible c =
     ∙ ap (λ (t : Bool). not t && not (list_any (λ i. nat_lt i recv.index && fits now send (call_id recv.rank i)) (posted now recv.rank))) clear
     ∙ ap (λ (t : Bool). not t) (sym earlier_there))
 
+pub returns-clause-one_send : goal.returns-clause-one_send
+returns-clause-one_send c = λ yes i other. c.one_send_is_eligible.ensures c.args.self.now.board c.args.send.rank i c.args.send.index c.args.recv other (sym (returns-clause-eligible c) ∙ yes)
+
 pub returns-clause-looks : goal.returns-clause-looks
 returns-clause-looks c =
     let s = c.self.inside in

@@ -1,0 +1,78 @@
+-- The enabled steps, by their kinds.
+use Rattle.std.proofs.Common.{◌≡◌, ◌<◌, ◌+◌, Bool, true, false, cond, List, [], ◌∷◌, ◌++◌, refl, sym, ap, subst, ◌∙◌, arith, map, length, append_assoc, Some, None, is_some}
+use Rattle.std.proofs.lemmas.List.{length-append}
+use Rattle.std.proofs.lemmas.List.Elements.{filter-append}
+use Rattle.std.specs.List.{filter, flat_map}
+use Rattle.mpd_model.specs.declared.step.Step.{Step}
+use Rattle.mpd_model.specs.declared.step.Step.TheVariants.{Local, Match, Wake, Release}
+use Rattle.mpd_model.specs.declared.call.MatchSet.TheVariants.{Pair}
+use Rattle.mpd_model.specs.World.{World, Board, call_id, rank_numbers, call_numbers, eligible}
+use Rattle.mpd_model.specs.Next.{is_enabled, enabled, with_set, matches_with, matches_of, matches_in}
+use Rattle.mpd_match.specs.Matches as listed
+
+out_of : {A : Type 0} (f : A → Step) (b : Bool) (x : A) (ys : List A) → cond b (f x ∷ map f ys) (map f ys) ≡ map f (cond b (x ∷ ys) ys)
+out_of f true x ys = refl
+out_of f false x ys = refl
+
+filter_mapped : {A : Type 0} (t : Step → Bool) (f : A → Step) (u : A → Bool) → ((x : A) → t (f x) ≡ u x) → (xs : List A) → filter t (map f xs) ≡ map f (filter u xs)
+filter_mapped t f u each [] = refl
+filter_mapped t f u each (x ∷ xs) =
+    ap (λ b. cond b (f x ∷ filter t (map f xs)) (filter t (map f xs))) (each x)
+    ∙ ap (λ ys. cond (u x) (f x ∷ ys) ys) (filter_mapped t f u each xs)
+    ∙ out_of f (u x) x (filter u xs)
+
+filter_joined : {A : Type 0} (t : Step → Bool) (f g : A → List Step) → ((x : A) → filter t (f x) ≡ g x) → (xs : List A) → filter t (flat_map f xs) ≡ flat_map g xs
+filter_joined t f g each [] = refl
+filter_joined t f g each (x ∷ xs) = filter-append t (f x) (flat_map f xs) ∙ ap (λ ys. ys ++ filter t (flat_map f xs)) (each x) ∙ ap (λ ys. g x ++ ys) (filter_joined t f g each xs)
+
+enabled_by : (b : Bool) (w : World) → is_some (cond b (Some w) None) ≡ b
+enabled_by true w = refl
+enabled_by false w = refl
+
+matches_are : (w : World) → filter (is_enabled w) (matches_in w.board) ≡ listed.matches_on w.board
+matches_are w =
+    let b : Board = w.board in
+    filter_joined (is_enabled w) (matches_of b) (listed.matches_at b) (λ q.
+    filter_joined (is_enabled w) (λ j. matches_with b (call_id q j)) (λ j. listed.matches_with b (call_id q j)) (λ j.
+    filter_joined (is_enabled w) (λ p. map (λ i. Match (call_id p i) (call_id q j)) (call_numbers b p)) (listed.matches_from b (call_id q j)) (λ p.
+    filter_mapped (is_enabled w) (λ i. Match (call_id p i) (call_id q j)) (λ i. eligible b (call_id p i) (call_id q j)) (λ i.
+    enabled_by (eligible b (call_id p i) (call_id q j)) (record w { board = with_set b (Pair (call_id p i) (call_id q j)) })) (call_numbers b p)) (rank_numbers b)) (call_numbers b q)) (rank_numbers b)
+
+abbrev pub locals : World → List Step
+locals w = map Local (filter (λ p. is_enabled w (Local p)) (rank_numbers w.board))
+
+abbrev pub wakes : World → List Step
+wakes w = map Wake (filter (λ p. is_enabled w (Wake p)) (rank_numbers w.board))
+
+enabled_parts : (w : World) → enabled w ≡ locals w ++ (wakes w ++ listed.matches_on w.board)
+enabled_parts w =
+    let t = is_enabled w in
+    let ranks = rank_numbers w.board in
+    filter-append t (map Local ranks) (Release ∷ (map Wake ranks ++ matches_in w.board))
+    ∙ ap (λ ys. ys ++ filter t (map Wake ranks ++ matches_in w.board)) (filter_mapped t Local (λ p. t (Local p)) (λ p. refl) ranks)
+    ∙ ap (λ ys. locals w ++ ys) (filter-append t (map Wake ranks) (matches_in w.board)
+    ∙ ap (λ ys. ys ++ filter t (matches_in w.board)) (filter_mapped t Wake (λ p. t (Wake p)) (λ p. refl) ranks)
+    ∙ ap (λ ys. wakes w ++ ys) (matches_are w))
+
+-- ---- gathered one kind after the other
+
+pub enabled_all : (w : World) (b : Board) (one two three : List Step) → b ≡ w.board → one ≡ locals w → two ≡ one ++ wakes w → three ≡ two ++ listed.matches_on b → three ≡ enabled w
+enabled_all w b one two three same l k m =
+    m ∙ ap (λ (c : Board). two ++ listed.matches_on c) same ∙ ap (λ ys. ys ++ listed.matches_on w.board) (k ∙ ap (λ ys. ys ++ wakes w) l)
+    ∙ append_assoc (locals w) (wakes w) (listed.matches_on w.board) ∙ sym (enabled_parts w)
+
+enabled_length : (w : World) → length (enabled w) ≡ length (locals w) + (length (wakes w) + length (listed.matches_on w.board))
+enabled_length w =
+    ap length (enabled_parts w) ∙ length-append (locals w) (wakes w ++ listed.matches_on w.board) ∙ ap (λ n. length (locals w) + n) (length-append (wakes w) (listed.matches_on w.board))
+
+pub some_local : (w : World) → 0 < length (locals w) → 0 < length (enabled w)
+some_local w some = omega (arith, some, enabled_length w)
+
+pub some_wake : (w : World) → 0 < length (wakes w) → 0 < length (enabled w)
+some_wake w some = omega (arith, some, enabled_length w)
+
+pub some_match : (w : World) (b : Board) → b ≡ w.board → 0 < length (listed.matches_on b) → 0 < length (enabled w)
+some_match w b same some =
+    let here : 0 < length (listed.matches_on w.board) = subst (λ (c : Board). 0 < length (listed.matches_on c)) same some in omega (arith, here, enabled_length w)
+
+pub ruleset enabling = (enabled_all, some_local, some_wake, some_match)
