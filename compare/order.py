@@ -1,7 +1,8 @@
 """What holds a match back, and the order that a run shows: rules with no trace word, in the model, and what must hold of them.
 
     python3 compare/order.py             1,000 walks of all scripts with wildcards, requests and messages
-    python3 compare/order.py --rows 40   rows of `why` and `before`, for tests of the crate that answers them
+    python3 compare/order.py --rows 40   rows of `why` and `before`, for tests of the crate that answers them: script, words, a
+                                         line for each call with what `why` says of it, and the calls that come before others
 
 Behind each step of a walk it is checked that a receive has at most one send of each sender that it may be matched with, that
 `why` tells the matches that are enabled and what stands in the way of each other one, and at its end that the calls of each rank
@@ -9,6 +10,7 @@ are in the order that `before` says (docs/DEFINITIONS.md). The status is 0 where
 """
 
 import argparse
+import json
 import sys
 from collections import Counter
 from random import Random
@@ -156,11 +158,46 @@ def check(seed, count):
     return met, wrong
 
 
+def row(data, taken, world):
+    """A row: a script, the words taken, what `why` says of each send and receive, and which calls come before which."""
+    script = divided(data)[0].decode('ascii')
+    told = [f'{call_id}: {why_text(why(world, call_id))}'.rstrip() for call_id in all_calls(world)]
+    pairs = [f'{one} {two}' for one in all_calls(world) for two in all_calls(world) if before(world, one, two)]
+    return [script, ''.join(f'{line}\n' for line in taken), '\n'.join(told), ', '.join(pairs)]
+
+
+def rows(seed, count):
+    """So many rows of small scripts, in each of which a match is held back or a receive has two to choose among."""
+    found = []
+    for data, debugger, lines in walks(seed, 50 * count):
+        if len(found) == count:
+            break
+        best, taken = None, []
+        for line in lines:
+            answer = debugger.answer(line) or ''
+            if not answer.startswith('ok'):
+                continue
+            taken = taken[:debugger.depth] if line.strip() == b'back' else [*taken, ' '.join(line.decode('latin-1').split())]
+            partners = [why(debugger.world, call_id) for call_id in all_calls(debugger.world)]
+            weight = sum(held is not None for listed in partners for _, held in listed), max(map(len, partners), default=0)
+            if len(taken) <= 24 and weight > (0, 1) and (best is None or weight > best[0]):
+                best = weight, row(data, taken, debugger.world)
+        if best and len(best[1][0]) <= 400:
+            found.append(best[1])
+    return found
+
+
 def main():
     parser = argparse.ArgumentParser(description=__doc__, formatter_class=argparse.RawDescriptionHelpFormatter)
     parser.add_argument('--count', type=int, default=1000, help='how many walks (1000)')
     parser.add_argument('--seed', type=int, default=1)
+    parser.add_argument('--rows', type=int, metavar='N', help='write so many rows, each a list of texts in JSON')
     chosen = parser.parse_args()
+    if chosen.rows:
+        found = rows(chosen.seed, chosen.rows)
+        for texts in found:
+            print(json.dumps(texts))
+        return 0 if len(found) == chosen.rows else 1
     met, wrong = check(chosen.seed, chosen.count)
     for what in wrong[:20]:
         print(what)
