@@ -3,6 +3,7 @@
 from random import Random
 from typing import NamedTuple, Optional
 
+from canonical import now_and_then_canonical
 from language import HIGHEST, LEVELS, LOWEST
 from limit_cases import limits_case
 from request_cases import requests_case
@@ -27,7 +28,7 @@ EXTREMES = (LOWEST, LOWEST + 1, LOWEST // 2, -3037000500, -4294967296, -2, -1, 0
 def script_case(random):
     """A script without a fault and a walk through it."""
     ranks = random.choice([1, 2, 2, 3, 3, 4, random.randint(1, 16)])
-    script = rendered(random, Writer(random, ranks).script())
+    script = now_and_then_canonical(random, rendered(random, Writer(random, ranks).script()))
     return assembled(random, script, trace_lines(random, script, random.choice([5, 20, 40, 80])))
 
 

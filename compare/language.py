@@ -69,7 +69,8 @@ class RankCount(NamedTuple):
 
 
 class Place(NamedTuple):
-    """Where a value or a request stands: the first cell or handle, and size and index where it is an array."""
+    """Where a value or a request stands: its name, the first cell or handle, and size and index where it is an array."""
+    name: str
     first: int
     size: Optional[int]
     index: object
@@ -412,14 +413,15 @@ class Reader:
     def named_place(self, kind):
         """A place that a statement names; its bracket is none of the operators of an expression."""
         self.expect_kind('name')
+        name = self.tokens.current.value
         _, first, size = self.known(kind)
         self.tokens.advance()
         if size is None:
-            return Place(first, None, None)
+            return Place(name, first, None, None)
         self.expect('[')
         index = self.expression()
         self.expect(']')
-        return Place(first, size, index)
+        return Place(name, first, size, index)
 
     def expression(self):
         self.operators = 0
@@ -469,16 +471,17 @@ class Reader:
         raise Fault(EXPECTED, place)
 
     def variable_value(self):
+        name = self.tokens.current.value
         _, first, size = self.known('var')
         self.tokens.advance()
         if size is None:
-            return Place(first, None, None)
+            return Place(name, first, None, None)
         if not self.at('['):
             raise self.fault(EXPECTED)
         self.operator()
         index = self.binary()
         self.expect(']')
-        return Place(first, size, index)
+        return Place(name, first, size, index)
 
 
 @lru_cache(maxsize=1)

@@ -1,5 +1,6 @@
 """Scripts with receives of any source and any tag, and with statuses: races, cells that are written, and texts that are refused."""
 
+from canonical import now_and_then_canonical
 from walks import RACING, SHOWING, USUAL, assembled, trace_lines
 
 DECLARED = 'var x; var y; var a[4]; var s; var t; req h; req r[8];'
@@ -199,6 +200,6 @@ def wildcards_case(random):
     """A script with wildcards or statuses, and a walk through it, forward and back, among all matches that are enabled."""
     form = random.choice([race, race, race, gather, gather, overtaking, overtaking, written, written, refused, refused])
     ranks = random.choice([1, 1, 2, 3]) if form in (written, refused) else random.choice([2, 3, 3, 4, 5, 8, 16 if form is gather else 6])
-    script = f'mpd 1; ranks {ranks};\n{DECLARED}\n{form(random, ranks)}'.encode()
+    script = now_and_then_canonical(random, f'mpd 1; ranks {ranks};\n{DECLARED}\n{form(random, ranks)}'.encode())
     habits = random.choice([RACING, RACING, RACING, USUAL, SHOWING])
     return assembled(random, script, trace_lines(random, script, random.choice([30, 60, 120, 250]), habits))
