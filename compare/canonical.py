@@ -12,8 +12,8 @@ import argparse
 import sys
 from random import Random
 
-from language import (COMPARISONS, LEVELS, Assert, Assign, Binary, Branch, Fault, Number, OwnRank, Place, Print, RankCount, Receive,
-                      Send, Unary, Wait, While, read_script)
+from language import (COMPARISONS, LEVELS, Assert, Assign, Branch, Fault, Number, OwnRank, Place, Print, RankCount, Receive, Send,
+                      Unary, Wait, While, read_script)
 
 OPERAND = len(LEVELS)
 

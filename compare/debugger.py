@@ -204,7 +204,7 @@ def tags_agree(send, receive):
 
 
 def fits(world, send_id, receive_id):
-    """Whether a receive takes a send: sent to its rank, from the source and with the tag that it names, or from any, or with any."""
+    """Whether a receive takes a send: sent to its rank, from its source or where that is any, with its tag or where that is any."""
     send, receive = find_call(world, send_id), find_call(world, receive_id)
     return send.other == receive_id.rank and takes_source(receive, send_id.rank) and tags_agree(send, receive)
 

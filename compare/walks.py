@@ -9,7 +9,8 @@ from language import Fault, read_script
 ODD_LINES = (
     '', ' ', '\t', 'foo', 'local', 'wake', 'match', 'local x', 'local 0 0', 'match 0.0', 'match 0.0 1.0 2.0',
     'match 0 1', 'match 0.0.0 1.0', 'match .0 1.0', 'match 0. 1.0', 'match . .', 'match 0.0 1.', 'release 0', 'back 1',
-    'back back', 'show 1', 'Show', 'SHOW', 'show;', 'redo', 'goto 0', 'goto', 'enabled', 'enabled 0', 'Enabled', 'enable', 'enabled enabled', ' enabled\t', 'match any any', '---', 'local 0000000000',
+    'back back', 'show 1', 'Show', 'SHOW', 'show;', 'redo', 'goto 0', 'goto', 'enabled', 'enabled 0', 'Enabled',
+    'enable', 'enabled enabled', ' enabled\t', 'enabled\r', 'match any any', '---', 'local 0000000000',
     'local 1234567890', 'local 000000000', 'local -1', 'local +1', 'local 0x0', 'local 999999999', 'wakeany 0 0',
     'local 0.0', 'wake 0.0', 'local 0\r', 'show\x0b', '\x0c', '\x00', 'match 0.0000000000 1.0',
     'match 1234567890.0 0.0', 'match 999999999.999999999 0.0', '#', '# show', 'local  0', ' local 0', 'local 0 ',

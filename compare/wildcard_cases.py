@@ -1,4 +1,4 @@
-"""Scripts with receives of any source and any tag, and with statuses: races, cells that are written, and texts that are refused."""
+"""Scripts with receives of any source and any tag, and with statuses: races, cells that are written, texts that are refused."""
 
 from canonical import now_and_then_canonical
 from walks import RACING, SHOWING, USUAL, assembled, trace_lines
@@ -16,27 +16,30 @@ BAD_TAGS = ('any', '0', '3', '32767', '32768', '-1', '1 / 0', 'a[x - 1]', 'a[0]'
 
 # Statements that are written otherwise than the grammar says, or nearly so. `x`, `y`, `a[4]`, `h` and `r[8]` are declared.
 REFUSED = (
-    'send any to 0 tag 0;', 'send 1 to any tag 0;', 'send 1 to 0 tag any;', 'isend h any to 0 tag 0;', 'isend any 1 to 0 tag 0;',
-    'isend h 1 to any tag 0;', 'isend h 1 to 0 tag any;', 'print any;', 'assert any;', 'x = any;', 'any = 1;', 'any;', 'wait any;',
-    'if any { }', 'while any { }', 'recv any from 0 tag 0;', 'recv a[any] from 0 tag 0;', 'irecv any x from 0 tag 0;',
-    'irecv r[any] x from 0 tag 0;', 'recv x from any + 1 tag 0;', 'recv x from (any) tag 0;', 'recv x from -any tag 0;',
-    'recv x from any any tag 0;', 'recv x from 0 any tag 0;', 'recv x from any 0 tag 0;', 'recv x from 0 tag any any;',
-    'recv x from 0 tag any 0;', 'recv x from 0 tag 0 any;', 'recv x from 1 + any tag 0;', 'recv x from any tag any + 1;',
-    'recv x any tag any;', 'recv x from any any;', 'recv x tag any from any;', 'recv x from any;', 'recv from any tag any;',
-    'recv x from tag any;', 'recv x from any tag;', 'recv x from any tag ;', 'var any;', 'var status;', 'req any;', 'recv x from Any tag 0;',
+    'send any to 0 tag 0;', 'send 1 to any tag 0;', 'send 1 to 0 tag any;', 'isend h any to 0 tag 0;',
+    'isend any 1 to 0 tag 0;', 'isend h 1 to any tag 0;', 'isend h 1 to 0 tag any;', 'print any;', 'assert any;',
+    'x = any;', 'any = 1;', 'any;', 'wait any;', 'if any { }', 'while any { }', 'recv any from 0 tag 0;',
+    'recv a[any] from 0 tag 0;', 'irecv any x from 0 tag 0;', 'irecv r[any] x from 0 tag 0;', 'recv x from any + 1 tag 0;',
+    'recv x from (any) tag 0;', 'recv x from -any tag 0;', 'recv x from any any tag 0;', 'recv x from 0 any tag 0;',
+    'recv x from any 0 tag 0;', 'recv x from 0 tag any any;', 'recv x from 0 tag any 0;', 'recv x from 0 tag 0 any;',
+    'recv x from 1 + any tag 0;', 'recv x from any tag any + 1;', 'recv x any tag any;', 'recv x from any any;',
+    'recv x tag any from any;', 'recv x from any;', 'recv from any tag any;', 'recv x from tag any;',
+    'recv x from any tag;', 'recv x from any tag ;', 'var any;', 'var status;', 'req any;', 'recv x from Any tag 0;',
     'recv x from any tag ANY;', 'recv x from anyone tag 0;', 'recv x from any tag any', 'recv x from any tag any status',
     'recv x from any tag any status x', 'recv x from any tag any status x y', 'recv x from any tag any status x y }',
     'recv x from any tag any status x;', 'recv x from any tag any status;', 'recv x from any tag any status x y t;',
-    'recv x from any tag any status x, y;', 'recv x from any tag any status (x) y;', 'recv x from any tag any status x (y);',
-    'recv x from any tag any status 1 y;', 'recv x from any tag any status x 1;', 'recv x from any tag any status any any;',
-    'recv x from any tag any status rank size;', 'recv x from any tag any status status x y;',
-    'recv x from any tag any status x status y;', 'recv x from any tag any status x y status x y;',
-    'recv x status x y from any tag any;', 'recv x from any status x y tag any;', 'recv x from any tag any stat x y;',
-    'recv x from any tag any Status x y;', 'recv x from any tag any statuses x y;', 'recv x from any tag any STATUS x y;',
-    'recv x from any tag any state x y;', 'recv x from any tag 0 x y;', 'recv x from any tag any x y;',
-    'recv x from any tag any status h h;', 'recv h from any tag any status x y;', 'recv x from any tag any status nope y;',
-    'recv x from any tag any status x nope;', 'recv x from any tag any status x[0] y;', 'recv x from any tag any status x y[0];',
-    'recv x from any tag any status a[0 y;', 'recv x from any tag any status a[] y;', 'recv x from any tag any status a[h] y;',
+    'recv x from any tag any status x, y;', 'recv x from any tag any status (x) y;',
+    'recv x from any tag any status x (y);', 'recv x from any tag any status 1 y;', 'recv x from any tag any status x 1;',
+    'recv x from any tag any status any any;', 'recv x from any tag any status rank size;',
+    'recv x from any tag any status status x y;', 'recv x from any tag any status x status y;',
+    'recv x from any tag any status x y status x y;', 'recv x status x y from any tag any;',
+    'recv x from any status x y tag any;', 'recv x from any tag any stat x y;', 'recv x from any tag any Status x y;',
+    'recv x from any tag any statuses x y;', 'recv x from any tag any STATUS x y;', 'recv x from any tag any state x y;',
+    'recv x from any tag 0 x y;', 'recv x from any tag any x y;', 'recv x from any tag any status h h;',
+    'recv h from any tag any status x y;', 'recv x from any tag any status nope y;',
+    'recv x from any tag any status x nope;', 'recv x from any tag any status x[0] y;',
+    'recv x from any tag any status x y[0];', 'recv x from any tag any status a[0 y;',
+    'recv x from any tag any status a[] y;', 'recv x from any tag any status a[h] y;',
     'recv x from any tag any status a[0][1] y;', 'send 1 to 0 tag 0 status x y;', 'isend h 1 to 0 tag 0 status x y;',
     'wait h status x y;', 'print x status x y;', 'status x y;', 'status = 1;', 'irecv x h from any tag any;',
     'irecv h from any tag any;', 'irecv h h from any tag any;', 'irecv h x from any tag any status h x;',
@@ -45,7 +48,8 @@ REFUSED = (
     # these are well written
     'recv x from any tag any;', 'recv x from any tag any status x y;', 'recv x from any tag any status x x;',
     'irecv h x from any tag any status a[0] a[1];', 'recv x from any tag any status a[a[0]] a[-(1 - 2)];',
-    'recv x from rank tag any status s t;', 'recv a[any_] from any tag any;', 'recv x from any tag any # status\nstatus # x\nx y;')
+    'recv x from rank tag any status s t;', 'recv a[any_] from any tag any;',
+    'recv x from any tag any # status\nstatus # x\nx y;')
 
 # Statements with a handle, or an array without an index, where a cell belongs.
 WRONG_KIND = (
@@ -170,7 +174,8 @@ def written(random, ranks):
     """A rank that sends to itself, and receives with a status into cells that may be one, or not be there."""
     statements = ['x = rank;', random.choice(['', 'y = 2;', 's = 9; t = 8;', 'a[0] = 5;'])]
     for _ in range(random.randint(1, 3)):
-        value, tag = random.choice(['7', 'rank', '-1', '9223372036854775807', 'x + 40']), random.choice(['0', '3', '32767', 'rank'])
+        value = random.choice(['7', 'rank', '-1', '9223372036854775807', 'x + 40'])
+        tag = random.choice(['0', '3', '32767', 'rank'])
         statements.append(f'isend r[rank % 8] {value} to {random.choice(["rank", "rank", "0"])} tag {tag};')
         often = random.choice([(), ('any',) * 20, ('any',) * 20])
         source, wanted = random.choice(often + BAD_RANKS), random.choice(often + BAD_TAGS)
@@ -186,19 +191,21 @@ def refused(random, ranks):
     """A text that the grammar doesn't allow, mostly, at the place of a source, a tag or a status; or one at the limits."""
     draw = random.random()
     if draw < 0.8:
-        statement = random.choice(WRONG_KIND if draw < 0.3 else REFUSED)
+        statement = random.choice(WRONG_KIND if draw < 0.4 else REFUSED)
     else:
         form = random.choice(AT_LIMITS)
         counts = [random.choice([0, 1, 63, 64, 64, 64, 65 if random.random() < 0.3 else 64]) for _ in range(form.count('{}'))]
-        statement = form.format(*('-' * (count // 2 * 2) + random.choice(['0', '0', '(0)' if count < 64 else '0']) for count in counts))
+        operands = ['-' * (count // 2 * 2) + ('(0)' if count % 2 else '0') for count in counts]
+        statement = form.format(*operands)
     before = random.choice(['', '', 'print 1;\n', 'if 1 { ', 'recv y from any tag any status s t;\n'])
     behind = random.choice(['', '', ' print 2;', '\n}', ' recv x from any tag any status s t;'])
-    return f'{before}{statement}{behind}{" }" if before == "if 1 { " and random.random() < 0.8 else ""}\n'
+    closing = ' }' if before == 'if 1 { ' and random.random() < 0.8 else ''
+    return f'{before}{statement}{behind}{closing}\n'
 
 
 def wildcards_case(random):
     """A script with wildcards or statuses, and a walk through it, forward and back, among all matches that are enabled."""
-    form = random.choice([race, race, race, gather, gather, overtaking, overtaking, written, written, refused, refused])
+    form = random.choice([race] * 3 + [gather, gather, overtaking, overtaking, written, written, refused, refused])
     ranks = random.choice([1, 1, 2, 3]) if form in (written, refused) else random.choice([2, 3, 3, 4, 5, 8, 16 if form is gather else 6])
     script = now_and_then_canonical(random, f'mpd 1; ranks {ranks};\n{DECLARED}\n{form(random, ranks)}'.encode())
     habits = random.choice([RACING, RACING, RACING, USUAL, SHOWING])
