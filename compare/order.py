@@ -1,6 +1,6 @@
 """What holds a match back, and the order that a run shows: rules with no trace word, in the model, and what must hold of them.
 
-    python3 compare/order.py             1,000 walks of all scripts with wildcards, requests and messages
+    python3 compare/order.py             300 walks of all scripts with wildcards, requests and messages
     python3 compare/order.py --rows 40   rows of `why` and `before`, for tests of the crate that answers them: script, words, a
                                          line for each call with what `why` says of it, and the calls that come before others
 
@@ -189,7 +189,7 @@ def rows(seed, count):
 
 def main():
     parser = argparse.ArgumentParser(description=__doc__, formatter_class=argparse.RawDescriptionHelpFormatter)
-    parser.add_argument('--count', type=int, default=1000, help='how many walks (1000)')
+    parser.add_argument('--count', type=int, default=300, help='how many walks (300)')
     parser.add_argument('--seed', type=int, default=1)
     parser.add_argument('--rows', type=int, metavar='N', help='write so many rows, each a list of texts in JSON')
     chosen = parser.parse_args()
