@@ -4,7 +4,7 @@
     python3 bench/run.py [PROGRAM [BENCH]]  (crates/mpdbg/out/mpdbg and crates/mpd_bench/out/mpd_bench, where none is named)
 
 It is no part of the gate. Each figure of the first program is the best of 20 runs, less the best of 20 runs of the same
-script with no words. The second program measures steps and their undos itself, with no text in what is measured: local ones,
+script with no words, or with those before what is measured. The second program measures steps and their undos itself, with no text in what is measured: local ones,
 messages and requests behind others, a wait, messages in a row, and an outcome; under valgrind, where that is there, its growths
 of memory are counted: they come with reading, lowering and the first time that steps are taken, and not with the many times
 that are measured. Where a program isn't built, a line says how to build it, and the status is 2.
@@ -17,6 +17,8 @@ import sys
 import time
 
 RUNS = 20
+# How often a list of enabled steps is asked for, and a match is taken and undone, in one run.
+GATHERED = 2_000
 TOP = os.path.dirname(os.path.dirname(os.path.abspath(__file__)))
 # How the programs are built, at the top of the repository.
 PROGRAMS = {'mpdbg': '(cd crates/mpdbg && rt run < ../../examples/first.trace)', 'mpd_bench': '(cd crates/mpd_bench && rt run)'}
@@ -96,6 +98,39 @@ def messages(program):
         print(f'  {count:>7}   {each * 1e6:8.2f} us a message   {each / 22 * 1e9:7.1f} ns a word')
 
 
+def gathered(senders, each):
+    """A script, and the words behind which one rank receives of any source while each of the others has sent so much to it."""
+    script = (f'mpd 1;\nranks {senders + 1};\nvar x;\nreq r;\n'
+              'if rank == 0 { recv x from any tag any; } else { while 1 { isend r rank to 0 tag 0; } }\n---\n')
+    sends = ''.join(f'local {rank}\n' * (1 + 2 * each) for rank in range(1, senders + 1))
+    return (script + 'local 0\nlocal 0\n' + sends).encode()
+
+
+def ends_with(program, data, wanted):
+    """Stops where the last lines of the answers are others."""
+    written = subprocess.run([program], input=data, capture_output=True, check=True).stdout
+    if not written.endswith(wanted.encode()):
+        sys.exit(f'answered {written[-len(wanted) - 40:]}, and not {wanted}')
+
+
+def gather(program):
+    """What is enabled where many senders race for one receive; a match of the last sender and its undo, in that state."""
+    print('a receive of any source, with so many senders and messages of each: `enabled`; a match and its undo, less none')
+    for senders in (2, 4, 8, 15):
+        for each in (1, 10, 100, 1_000):
+            before = gathered(senders, each)
+            depth = 2 + senders * (1 + 2 * each)
+            listed = ', '.join([*(f'local {rank}' for rank in range(1, senders + 1)),
+                                *(f'match {rank}.0 0.0' for rank in range(1, senders + 1))])
+            match = f'match {senders}.0 0.0\nback\n'.encode()
+            ends_with(program, before + b'enabled\n', f'ok {depth}\nenabled {listed}\n')
+            ends_with(program, before + match, f'ok {depth + 1}\nok {depth}\n')
+            none = best(program, before)
+            took = best(program, before + b'enabled\n' * GATHERED) - none
+            there = best(program, before + match * GATHERED) - none
+            print(f'  {senders:>2} senders, {each:>5}   {took / GATHERED * 1e6:8.2f} us   {there / GATHERED * 1e6:8.2f} us')
+
+
 def inside(program):
     """What the second program tells of itself, and how often it asked for memory."""
     for _ in range(3):
@@ -111,6 +146,7 @@ def main():
     reading(program, empty)
     local_steps(program, empty)
     messages(program)
+    gather(program)
     inside(bench)
 
 

@@ -3,12 +3,14 @@
 from random import Random
 from typing import NamedTuple, Optional
 
+from canonical import now_and_then_canonical
 from language import HIGHEST, LEVELS, LOWEST
 from limit_cases import limits_case
 from request_cases import requests_case
 from scripts import Writer, mutated_bytes, mutated_tokens, rendered
 from state_cases import arrays_case, deep_case, messages_case, names_case, states_case, traps_case
 from walks import ODD, assembled, trace_lines
+from wildcard_cases import wildcards_case
 
 DIVIDERS = (b'\n---\n',) * 20 + (
     b'\n---\r\n', b'\r\n---\r\n', b'\n ---\n', b'\n--- \n', b'\n----\n', b'\n--\n', b'---\n', b'\n', b'\n---',
@@ -26,7 +28,7 @@ EXTREMES = (LOWEST, LOWEST + 1, LOWEST // 2, -3037000500, -4294967296, -2, -1, 0
 def script_case(random):
     """A script without a fault and a walk through it."""
     ranks = random.choice([1, 2, 2, 3, 3, 4, random.randint(1, 16)])
-    script = rendered(random, Writer(random, ranks).script())
+    script = now_and_then_canonical(random, rendered(random, Writer(random, ranks).script()))
     return assembled(random, script, trace_lines(random, script, random.choice([5, 20, 40, 80])))
 
 
@@ -150,7 +152,7 @@ def arithmetic_case(number):
 PLACES = ('print {};', 'x = {};', 'a[{}] = 1;', 'if {} {{ }}', 'while {} {{ }}', 'assert {};', 'send {} to 0 tag 0;',
           'send 1 to {} tag 0;', 'send 1 to 0 tag {};', 'recv a[{}] from 0 tag 0;', 'recv x from {} tag 0;',
           'recv x from 0 tag {};', 'print 0 + a[{}];', 'isend r[{}] 1 to 0 tag 0;', 'irecv r[{}] x from 0 tag 0;',
-          'wait r[{}];')
+          'wait r[{}];', 'irecv r[0] x from any tag any status a[{}] x;', 'recv x from any tag 0 status x a[{}];')
 NESTS = (('(', ')'), ('-', ''), ('a[', ']'), ('!(', ')'), ('0 + (', ')'))
 
 
@@ -172,7 +174,8 @@ def operators_case(number):
 
 # What may stand where a statement begins.
 STATEMENTS = ('print 1;', 'x = 1;', 'if 1 { }', 'while 0 { }', 'assert 1;', 'send 1 to 0 tag 0;', 'recv x from 0 tag 0;',
-              'isend r 1 to 0 tag 0;', 'irecv r x from 0 tag 0;', 'wait r;', 'r = 1;', 'y = 1;', 'waitany', 'barrier;')
+              'isend r 1 to 0 tag 0;', 'irecv r x from 0 tag 0;', 'wait r;', 'r = 1;', 'y = 1;', 'waitany', 'barrier;',
+              'recv x from any tag any status x x;', 'any', 'status')
 
 
 def statements_case(number):
@@ -182,10 +185,10 @@ def statements_case(number):
 
 
 # Each kind with its share of the inputs of a run, in hundredths; 2,000 have all of those that are counted out.
-KINDS = {'script': (script_case, 10), 'mutated': (mutated_case, 8), 'limits': (limits_case, 7), 'words': (words_case, 8),
-         'cut': (cut_case, 3), 'names': (names_case, 6), 'arrays': (arrays_case, 5), 'messages': (messages_case, 2),
-         'requests': (requests_case, 9), 'states': (states_case, 5), 'traps': (traps_case, 6), 'deep': (deep_case, 2),
-         'statements': (None, 2), 'arithmetic': (None, 12), 'operators': (None, 15)}
+KINDS = {'script': (script_case, 9), 'mutated': (mutated_case, 7), 'limits': (limits_case, 6), 'words': (words_case, 7),
+         'cut': (cut_case, 3), 'names': (names_case, 5), 'arrays': (arrays_case, 4), 'messages': (messages_case, 2),
+         'requests': (requests_case, 7), 'wildcards': (wildcards_case, 8), 'states': (states_case, 4), 'traps': (traps_case, 5),
+         'deep': (deep_case, 2), 'statements': (None, 2), 'arithmetic': (None, 12), 'operators': (None, 17)}
 # Kinds whose inputs are counted out, and not drawn.
 NUMBERED = {'arithmetic': arithmetic_case, 'operators': operators_case, 'statements': statements_case}
 

@@ -28,13 +28,18 @@ class CallId(NamedTuple):
 
 
 class Call(NamedTuple):
-    """A send or receive made, which its rank waits for or not; a send has a value, a receive the cell it writes."""
+    """A send or receive made, which its rank waits for or not; a send has a value, a receive the cell it writes.
+
+    Of a receive `other` is None where it takes messages of any source, `tag` where it takes them of any tag; `status` has
+    the cells for the source and the tag of what it takes, where it has such cells.
+    """
     kind: str
     blocks: bool
-    other: int
-    tag: int
-    value: Optional[int]
-    cell: Optional[int]
+    other: Optional[int]
+    tag: Optional[int]
+    value: Optional[int] = None
+    cell: Optional[int] = None
+    status: Optional[tuple] = None
 
 
 class WaitCall(NamedTuple):
@@ -113,10 +118,17 @@ def called(statement, view):
     if isinstance(statement, Send):
         value = evaluate(statement.value, view)
         other = in_bounds(statement.to, view.ranks - 1, 'bad-rank', view)
-        return Call('send', blocks, other, in_bounds(statement.tag, HIGHEST_TAG, 'bad-tag', view), value, None)
+        return Call('send', blocks, other, in_bounds(statement.tag, HIGHEST_TAG, 'bad-tag', view), value)
+    return received(statement, blocks, view)
+
+
+def received(statement, blocks, view):
+    """The call that a receive makes: the cell of its value, the source, the tag, and then the cells of its status."""
     cell = cell_of(statement.place, view)
-    other = in_bounds(statement.source, view.ranks - 1, 'bad-rank', view)
-    return Call('recv', blocks, other, in_bounds(statement.tag, HIGHEST_TAG, 'bad-tag', view), None, cell)
+    other = None if statement.source is None else in_bounds(statement.source, view.ranks - 1, 'bad-rank', view)
+    tag = None if statement.tag is None else in_bounds(statement.tag, HIGHEST_TAG, 'bad-tag', view)
+    status = None if statement.status is None else tuple(cell_of(place, view) for place in statement.status)
+    return Call('recv', blocks, other, tag, None, cell, status)
 
 
 def issued(rank, statement, view):
@@ -183,13 +195,18 @@ def partner(world, call_id):
     return world.partners.get(call_id)
 
 
+def takes_source(receive, source):
+    return receive.other in (None, source)
+
+
 def tags_agree(send, receive):
-    return send.tag == receive.tag
+    return receive.tag in (None, send.tag)
 
 
 def fits(world, send_id, receive_id):
+    """Whether a receive takes a send: sent to its rank, from its source or where that is any, with its tag or where that is any."""
     send, receive = find_call(world, send_id), find_call(world, receive_id)
-    return send.other == receive_id.rank and receive.other == send_id.rank and tags_agree(send, receive)
+    return send.other == receive_id.rank and takes_source(receive, send_id.rank) and tags_agree(send, receive)
 
 
 def free_calls(world, rank):
@@ -209,6 +226,18 @@ def posted(world, rank):
     return [call_id for call_id, call in free_calls(world, rank) if call.kind == 'recv']
 
 
+def sends_ahead(world, send_id, receive_id):
+    """The earlier free sends of the same sender to that receiver that fit the receive, in the order of issue."""
+    free = pending(world, send_id.rank, receive_id.rank)
+    return [other for other in free if other.number < send_id.number and fits(world, other, receive_id)]
+
+
+def receives_ahead(world, send_id, receive_id):
+    """The earlier free receives of the receiver that fit the send, in the order of issue."""
+    free = posted(world, receive_id.rank)
+    return [other for other in free if other.number < receive_id.number and fits(world, send_id, other)]
+
+
 def eligible(world, send_id, receive_id):
     """Whether a send and a receive may be matched: both free, fitting, and no earlier one fits in place of either."""
     send, receive = find_call(world, send_id), find_call(world, receive_id)
@@ -216,12 +245,8 @@ def eligible(world, send_id, receive_id):
         return False
     if partner(world, send_id) is not None or partner(world, receive_id) is not None:
         return False
-    if not fits(world, send_id, receive_id):
-        return False
-    earlier_sends = [other for other in pending(world, send_id.rank, send.other) if other.number < send_id.number]
-    earlier_receives = [other for other in posted(world, receive_id.rank) if other.number < receive_id.number]
-    return not (any(fits(world, other, receive_id) for other in earlier_sends)
-                or any(fits(world, send_id, other) for other in earlier_receives))
+    return (fits(world, send_id, receive_id) and not sends_ahead(world, send_id, receive_id)
+            and not receives_ahead(world, send_id, receive_id))
 
 
 def without_free(world, call_id):
@@ -261,13 +286,23 @@ def cleared(handles, handle):
     return written(handles, handle, None)
 
 
+def writes_of(receive, send, sender):
+    """The cells that a receive writes when its rank goes on, each with its value, in order: the value, the source, the tag."""
+    writes = [(receive.cell, send.value)]
+    if receive.status is not None:
+        writes += zip(receive.status, (sender, send.tag))
+    return writes
+
+
 def after_wake(world, number):
     if number >= len(world.ranks) or not can_wake(world, number):
         return None
     rank = world.ranks[number]
     call_id = awaited(world, number)
     if call_id is not None and (call := find_call(world, call_id)).kind == 'recv':
-        rank = rank._replace(cells=written(rank.cells, call.cell, find_call(world, partner(world, call_id)).value))
+        send_id = partner(world, call_id)
+        for cell, value in writes_of(call, find_call(world, send_id), send_id.rank):
+            rank = rank._replace(cells=written(rank.cells, cell, value))
     if rank.calls[-1].kind == 'wait':
         rank = rank._replace(handles=cleared(rank.handles, rank.calls[-1].handle))
     woken = world.with_rank(number, rank._replace(mode='running'))
@@ -286,6 +321,7 @@ def next_world(world, step):
 
 
 def enabled_steps(world):
+    """All enabled steps: local ones and wakes by rank, then matches by receiver, number of the receive, sender."""
     ranks = range(len(world.ranks))
     steps = [Step('local', rank) for rank in ranks if can_run(world.ranks[rank])]
     steps += [Step('wake', rank) for rank in ranks if can_wake(world, rank)]
@@ -293,6 +329,16 @@ def enabled_steps(world):
     receives = [call_id for rank in ranks for call_id in posted(world, rank)]
     return steps + [Step('match', send_id, receive_id) for receive_id in receives for send_id in sends
                     if eligible(world, send_id, receive_id)]
+
+
+def step_text(step):
+    return ' '.join([step.kind, *(str(part) for part in step[1:] if part is not None)])
+
+
+def enabled_text(world):
+    """The answer to `enabled`: the word alone where no step is enabled."""
+    steps = ', '.join(map(step_text, enabled_steps(world)))
+    return f'enabled {steps}' if steps else 'enabled'
 
 
 def joined(title, values):
@@ -331,7 +377,8 @@ def call_line(world, call_id):
         return f'call {call_id} {word} to {call.other} tag {call.tag} value {call.value} {state}'
     if other_id is not None:
         state += f' value {find_call(world, other_id).value}'
-    return f'call {call_id} {word} from {call.other} tag {call.tag} {state}'
+    source, tag = ('any' if part is None else part for part in (call.other, call.tag))
+    return f'call {call_id} {word} from {source} tag {tag} {state}'
 
 
 def rank_lines(world, number):
@@ -446,6 +493,8 @@ class Debugger:
             return self.take(step)
         if words == [b'back']:
             return self.back()
+        if words == [b'enabled']:
+            return enabled_text(self.world)
         if words == [b'show']:
             return show(self.world, self.depth, len(self.steps))
         return REFUSED_BAD_WORD

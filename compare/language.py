@@ -69,7 +69,8 @@ class RankCount(NamedTuple):
 
 
 class Place(NamedTuple):
-    """Where a value or a request stands: the first cell or handle, and size and index where it is an array."""
+    """Where a value or a request stands: its name, the first cell or handle, and size and index where it is an array."""
+    name: str
     first: int
     size: Optional[int]
     index: object
@@ -125,12 +126,16 @@ class Send(NamedTuple):
 
 
 class Receive(NamedTuple):
-    """A receive, which has a handle where it is an `irecv`."""
+    """A receive, which has a handle where it is an `irecv`; source and tag are None where they are `any`.
+
+    `status` has the places for the source and the tag of what is received, where there are such places.
+    """
     line: int
     handle: Optional[Place]
     place: Place
     source: object
     tag: object
+    status: Optional[tuple]
 
 
 class Wait(NamedTuple):
@@ -138,19 +143,20 @@ class Wait(NamedTuple):
     handle: Place
 
 
-class Script(NamedTuple):
-    """A script that was read: how many ranks, cells and handles, and its statements."""
-    ranks: int
-    cells: int
-    handles: int
-    body: list
-
-
 class Declared(NamedTuple):
     """A declared name: `var` or `req`, its first cell or handle, and its size where it is an array."""
     kind: str
     first: int
     size: Optional[int]
+
+
+class Script(NamedTuple):
+    """A script that was read: how many ranks, cells and handles, its names in the order of declaration, its statements."""
+    ranks: int
+    cells: int
+    handles: int
+    names: dict
+    body: list
 
 
 def most(kind):
@@ -251,7 +257,7 @@ class Reader:
         body = []
         while self.tokens.current.kind != 'end':
             body.append(self.statement())
-        return Script(ranks, self.taken['var'], self.taken['req'], body)
+        return Script(ranks, self.taken['var'], self.taken['req'], self.names, body)
 
     def declaration(self, kind):
         self.tokens.advance()
@@ -380,11 +386,24 @@ class Reader:
     def receiving(self, line, handle=None):
         place = self.named_place('var')
         self.expect('from')
-        source = self.expression()
+        source = self.expression_or_any()
         self.expect('tag')
-        tag = self.expression()
+        tag = self.expression_or_any()
+        status = self.status() if self.at('status') else None
         self.expect(';')
-        return Receive(line, handle, place, source, tag)
+        return Receive(line, handle, place, source, tag, status)
+
+    def expression_or_any(self):
+        """An expression, or None for the word `any`."""
+        if not self.at('any'):
+            return self.expression()
+        self.tokens.advance()
+        return None
+
+    def status(self):
+        """The places of a status: for the source, then for the tag."""
+        self.tokens.advance()
+        return self.named_place('var'), self.named_place('var')
 
     def waiting(self, line):
         handle = self.named_place('req')
@@ -394,14 +413,15 @@ class Reader:
     def named_place(self, kind):
         """A place that a statement names; its bracket is none of the operators of an expression."""
         self.expect_kind('name')
+        name = self.tokens.current.value
         _, first, size = self.known(kind)
         self.tokens.advance()
         if size is None:
-            return Place(first, None, None)
+            return Place(name, first, None, None)
         self.expect('[')
         index = self.expression()
         self.expect(']')
-        return Place(first, size, index)
+        return Place(name, first, size, index)
 
     def expression(self):
         self.operators = 0
@@ -451,16 +471,17 @@ class Reader:
         raise Fault(EXPECTED, place)
 
     def variable_value(self):
+        name = self.tokens.current.value
         _, first, size = self.known('var')
         self.tokens.advance()
         if size is None:
-            return Place(first, None, None)
+            return Place(name, first, None, None)
         if not self.at('['):
             raise self.fault(EXPECTED)
         self.operator()
         index = self.binary()
         self.expect(']')
-        return Place(first, size, index)
+        return Place(name, first, size, index)
 
 
 @lru_cache(maxsize=1)

@@ -16,7 +16,7 @@ import tempfile
 from collections import Counter
 from typing import NamedTuple
 
-from debugger import Debugger, divided, step_of
+from debugger import Debugger, divided, enabled_steps, next_world, step_of
 from language import read_script
 from runs import run_at_once
 from shims import built
@@ -44,12 +44,12 @@ def lively():
             if debugger.answer(line).startswith('ok'):
                 lines.append(line)
     half = len(lines) // 2
-    there = [*lines[:half], b'show', *lines[half:], b'show', b'', b'fly', b'local 9']
+    there = [*lines[:half], b'show', b'enabled', *lines[half:], b'enabled', b'show', b'', b'fly', b'local 9']
     return MUCH + b''.join(line + b'\n' for line in [*there, *[b'back'] * (len(lines) + 1), b'show'])
 
 
 def inputs():
-    for name in ('first.trace', 'primes.trace', 'requests.trace'):
+    for name in ('first.trace', 'primes.trace', 'requests.trace', 'wildcards.trace'):
         with open(os.path.join(EXAMPLES, name), 'rb') as file:
             yield name, file.read()
     with open(os.path.join(EXAMPLES, 'primes.trace'), 'rb') as file:
@@ -57,10 +57,16 @@ def inputs():
     yield 'much to show', lively()
 
 
-def can_be_refused(line):
-    """Steps, which may have to make room, and `show`; a step back and a refusal need no room."""
+def can_be_refused(world, line):
+    """Steps that are enabled, which may have to make room, `enabled` where some step is, and `show`.
+
+    A step back, a step that is not enabled and a refusal need no room, nor does the word `enabled` alone.
+    """
     words = line.replace(b'\t', b' ').split()
-    return words == [b'show'] or step_of(words) is not None
+    step = step_of(words) if words else None
+    if step is not None:
+        return next_world(world, step) is not None
+    return words == [b'show'] or (words == [b'enabled'] and bool(enabled_steps(world)))
 
 
 def problem(data, result):
@@ -78,7 +84,7 @@ def problem(data, result):
         if is_cut and place == len(result.output):
             return None
         if result.output.startswith(REFUSED, place):
-            if not can_be_refused(line):
+            if not can_be_refused(debugger.world, line):
                 return f'{line} was refused memory'
             place += len(REFUSED)
             continue

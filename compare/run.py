@@ -129,6 +129,77 @@ def without_lost(issued):
     return issued_alone
 
 
+def sends_behind(sends_ahead):
+    """What names the later sends in place of the earlier ones, where a receive takes messages of any source."""
+    def sends_in_the_way(world, send_id, receive_id):
+        if debugger.find_call(world, receive_id).other is not None:
+            return sends_ahead(world, send_id, receive_id)
+        free = debugger.pending(world, send_id.rank, receive_id.rank)
+        return [other for other in free if other.number > send_id.number and debugger.fits(world, other, receive_id)]
+    return sends_in_the_way
+
+
+def named_ahead(receives_ahead):
+    """What leaves out the earlier receives of any source."""
+    def receives_in_the_way(world, send_id, receive_id):
+        ahead = receives_ahead(world, send_id, receive_id)
+        return [other for other in ahead if debugger.find_call(world, other).other is not None]
+    return receives_in_the_way
+
+
+def status_first(writes_of):
+    """What writes the source and the tag before the value."""
+    def writes(receive, send, sender):
+        value, *status = writes_of(receive, send, sender)
+        return [*status, value]
+    return writes
+
+
+def tag_first(writes_of):
+    """What writes the tag of a status where the source belongs, and the source where the tag does."""
+    def writes(receive, send, sender):
+        value, *status = writes_of(receive, send, sender)
+        return [value, *((cell, other) for (cell, _), (_, other) in zip(status, reversed(status)))]
+    return writes
+
+
+def by_sender(enabled_steps):
+    """What lists the matches by sender."""
+    def steps(world):
+        return sorted(enabled_steps(world), key=lambda step: step.first if step.kind == 'match' else (-1,))
+    return steps
+
+
+def wakes_first(enabled_steps):
+    """What lists the wakes before the local steps."""
+    return lambda world: sorted(enabled_steps(world), key=lambda step: step.kind != 'wake')
+
+
+def twice(enabled_steps):
+    """What lists the last match once more."""
+    def steps(world):
+        listed = enabled_steps(world)
+        return listed + [step for step in listed[-1:] if step.kind == 'match']
+    return steps
+
+
+def status_earlier(received):
+    """What makes a receive, and evaluates the indexes of its status before all else."""
+    def received_late(statement, blocks, view):
+        for place in statement.status or ():
+            language.cell_of(place, view)
+        return received(statement, blocks, view)
+    return received_late
+
+
+def handle_or_variable(reader):
+    """What reads a status of which the second place is a handle, where one stands there."""
+    reader.tokens.advance()
+    first = reader.named_place('var')
+    declared = reader.names.get(reader.tokens.current.value)
+    return first, reader.named_place(declared.kind if declared else 'var')
+
+
 def breakages():
     return (
         Breakage('undone steps always dropped', 'script', debugger.Debugger, 'is_next_undone', lambda *_: False),
@@ -142,6 +213,23 @@ def breakages():
         Breakage('one handle more allowed', 'arrays', language, 'MOST_HANDLES', language.MOST_HANDLES + 1),
         Breakage('a lost request taken back', 'requests', debugger, 'issued', without_lost(debugger.issued)),
         Breakage('a handle kept by its wait', 'requests', debugger, 'cleared', lambda handles, _: handles),
+        Breakage('a receive of any source takes the latest send', 'wildcards', debugger, 'sends_ahead',
+                 sends_behind(debugger.sends_ahead)),
+        Breakage('a receive of any source is overtaken', 'wildcards', debugger, 'receives_ahead',
+                 named_ahead(debugger.receives_ahead)),
+        Breakage('any source taken for the first rank', 'wildcards', debugger, 'takes_source',
+                 lambda receive, source: (receive.other or 0) == source),
+        Breakage('any tag taken for tag 0', 'wildcards', debugger, 'tags_agree',
+                 lambda send, receive: (receive.tag or 0) == send.tag),
+        Breakage('a status written before the value', 'wildcards', debugger, 'writes_of', status_first(debugger.writes_of)),
+        Breakage('source and tag of a status turned round', 'wildcards', debugger, 'writes_of', tag_first(debugger.writes_of)),
+        Breakage('the indexes of a status evaluated first', 'wildcards', debugger, 'received', status_earlier(debugger.received)),
+        Breakage('a handle as a place of a status', 'wildcards', language.Reader, 'status', handle_or_variable),
+        Breakage('matches listed by sender', 'wildcards', debugger, 'enabled_steps', by_sender(debugger.enabled_steps)),
+        Breakage('wakes listed before local steps', 'wildcards', debugger, 'enabled_steps', wakes_first(debugger.enabled_steps)),
+        Breakage('a match listed twice', 'wildcards', debugger, 'enabled_steps', twice(debugger.enabled_steps)),
+        Breakage('a blank behind `enabled` alone', 'wildcards', debugger, 'enabled_text',
+                 lambda world: 'enabled ' + ', '.join(map(debugger.step_text, debugger.enabled_steps(world)))),
         Breakage('no name read as another', 'names', language, 'TWICE', language.UNKNOWN_NAME),
     )
 

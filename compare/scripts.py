@@ -200,7 +200,15 @@ class Writer:
         if not place:
             return ['print', '0', ';']
         word = ['irecv', *handle] if handle else ['recv']
-        return [*word, *place, 'from', *(source or self.rank()), 'tag', *(tag or self.tag()), ';']
+        source = ['any'] if self.chance(0.2) else source or self.rank()
+        tag = ['any'] if self.chance(0.15) else tag or self.tag()
+        return [*word, *place, 'from', *source, 'tag', *tag, *self.status(place), ';']
+
+    def status(self, target):
+        """Mostly none; else two places, now and then the one that the value goes to."""
+        if self.chance(0.85):
+            return []
+        return ['status', *(target if self.chance(0.2) else self.place(2)), *(target if self.chance(0.2) else self.place(2))]
 
     def handle(self):
         return self.one_of(self.handles, 1)

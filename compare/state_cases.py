@@ -25,6 +25,10 @@ TRAPPING = (
     'print 0 && 1 / {};', 'print 1 || w[9 * {}];', 'isend g[{}] 1 to 0 tag 0;', 'isend g[{} + 1] 1 / 0 to 9 tag -1;',
     'isend h v / {} to 99 tag 0;', 'isend g[-{}] 1 to 0 tag 0;', 'isend h 1 to {} tag 32766 + {};', 'isend h 1 to -{} tag 0;',
     'irecv g[{}] v from 0 tag 0;', 'irecv g[{} + 1] w[{} + 1] from 99 tag -1;', 'irecv h w[{}] from {} tag 0;',
+    'recv v from any tag any status w[{}] w[{} + 1];', 'recv v from {} - 1 tag any status w[{}] v;',
+    'recv w[{}] from any tag 32766 + {} status w[{}] w[1 / {}];', 'irecv h w[{} + 1] from any tag -{} status w[9] v;',
+    'irecv g[{}] v from size - {} tag any status v w[{} + 1];', 'recv v from any tag any status w[1 / {}] w[{} + 2];',
+    'isend h 5 to rank tag 1; recv w[{}] from any tag any status w[{}] w[{}];',
     'irecv h v from {} - 1 tag 32766 + {};', 'wait g[{}];', 'wait g[{} - 1];', 'wait h;', 'wait g[1 / {}];')
 
 # Sizes of handle arrays that fill 256 handles, or have one too many; None is a single handle.

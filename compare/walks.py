@@ -2,14 +2,15 @@
 
 from typing import NamedTuple
 
-from debugger import CallId, Debugger, Step, enabled_steps
+from debugger import CallId, Debugger, Step, enabled_steps, free_calls
 from language import Fault, read_script
 
 # Lines that are no step, or an odd one.
 ODD_LINES = (
     '', ' ', '\t', 'foo', 'local', 'wake', 'match', 'local x', 'local 0 0', 'match 0.0', 'match 0.0 1.0 2.0',
     'match 0 1', 'match 0.0.0 1.0', 'match .0 1.0', 'match 0. 1.0', 'match . .', 'match 0.0 1.', 'release 0', 'back 1',
-    'back back', 'show 1', 'Show', 'SHOW', 'show;', 'redo', 'goto 0', 'goto', 'enabled', '---', 'local 0000000000',
+    'back back', 'show 1', 'Show', 'SHOW', 'show;', 'redo', 'goto 0', 'goto', 'enabled', 'enabled 0', 'Enabled',
+    'enable', 'enabled enabled', ' enabled\t', 'enabled\r', 'match any any', '---', 'local 0000000000',
     'local 1234567890', 'local 000000000', 'local -1', 'local +1', 'local 0x0', 'local 999999999', 'wakeany 0 0',
     'local 0.0', 'wake 0.0', 'local 0\r', 'show\x0b', '\x0c', '\x00', 'match 0.0000000000 1.0',
     'match 1234567890.0 0.0', 'match 999999999.999999999 0.0', '#', '# show', 'local  0', ' local 0', 'local 0 ',
@@ -43,8 +44,18 @@ def any_number(random, ranks):
     return random.randint(0, ranks) if random.random() < 0.95 else random.choice([15, 16, 255, 256, 65536, 999999999])
 
 
+def free_match(random, world):
+    """A match of a free send and a free receive, which may not fit, or be held back; None where there are no two."""
+    free = [pair for rank in range(len(world.ranks)) for pair in free_calls(world, rank)]
+    sends = [call_id for call_id, call in free if call.kind == 'send']
+    receives = [call_id for call_id, call in free if call.kind == 'recv']
+    return Step('match', random.choice(sends), random.choice(receives)) if sends and receives else None
+
+
 def random_step(random, world):
     """A step that is often not enabled."""
+    if random.random() < 0.35 and (match := free_match(random, world)):
+        return match
     draw = random.random()
     if draw < 0.3:
         return Step('local', any_number(random, len(world.ranks)))
@@ -70,21 +81,32 @@ def respaced(random, line):
 
 
 class Habits(NamedTuple):
-    """How often a walk shows the state, goes back, takes any step at all, writes an odd line, takes undone steps again."""
+    """How often a walk shows the state, goes back, takes any step at all, writes an odd line, takes undone steps again.
+
+    `listed` is how often it lists the enabled steps; `orders` is what it takes of these: any of them, the first, the last, or
+    any, but a match only where nothing else is enabled. `other` is how often a match is taken back at once, for another one.
+    """
     show: tuple = (0.02, 0.1, 0.3, 1.0)
     back: tuple = (0.0, 0.05, 0.15, 0.4)
     any_step: tuple = (0.02, 0.1, 0.3)
     odd: tuple = (0.0, 0.02, 0.1)
     again: tuple = (0.2, 0.7, 0.95)
     backs: tuple = (0, 0, 1, 2, 5, 30)
+    listed: tuple = (0.0, 0.02, 0.2)
+    orders: tuple = ('any', 'any', 'first', 'last')
+    other: tuple = (0.0,)
 
 
 USUAL = Habits()
 ODD = Habits(odd=(0.4,))
 # Hundreds of steps, and hundreds of them taken back at once and taken again.
 LONG = Habits(show=(0.0, 0.002), back=(0.0, 0.002, 0.005), any_step=(0.0, 0.02), odd=(0.0, 0.002), again=(0.98, 0.999),
-              backs=(0, 5, 40, 200, 500))
+              backs=(0, 5, 40, 200, 500), listed=(0.0, 0.005))
 SHOWING = Habits(show=(1.0,), back=(0.0, 0.05, 0.15), any_step=(0.02, 0.2), odd=(0.0,))
+# Matches put off until many are enabled, taken back, and others taken in their place.
+RACING = Habits(show=(0.05, 0.2), back=(0.0, 0.02, 0.05), any_step=(0.02, 0.1, 0.2), odd=(0.0,), again=(0.1, 0.3),
+                backs=(0, 0, 1, 2, 3, 6, 20), listed=(0.2, 0.5, 1.0), orders=('late', 'late', 'late', 'any', 'last'),
+                other=(0.2, 0.5))
 
 
 class Walk:
@@ -96,7 +118,9 @@ class Walk:
         self.show, self.back, self.any_step, self.odd, self.again = map(random.choice, habits[:5])
         self.backs = habits.backs
         self.backs_left = 0
-        self.order = random.choice(['any', 'any', 'first', 'last'])
+        self.listed = random.choice(habits.listed)
+        self.order = random.choice(habits.orders)
+        self.other = random.choice(habits.other)
 
     def line(self):
         if self.backs_left:
@@ -107,6 +131,8 @@ class Walk:
             return self.random.choice(ODD_LINES)
         if draw < self.odd + self.any_step:
             return step_line(self.random, random_step(self.random, self.debugger.world))
+        if self.took_match() and self.random.random() < self.other:
+            return 'back'
         if self.random.random() < self.back:
             self.backs_left = self.random.choice(self.backs)
             return 'back'
@@ -114,6 +140,11 @@ class Walk:
         if undone and self.random.random() < self.again:
             return step_line(self.random, undone[0])
         return self.forward()
+
+    def took_match(self):
+        """Whether the last step that isn't undone is a match."""
+        depth = self.debugger.depth
+        return depth > 0 and self.debugger.steps[depth - 1].kind == 'match'
 
     def forward(self):
         steps = enabled_steps(self.debugger.world)
@@ -124,7 +155,9 @@ class Walk:
             if self.random.random() < 0.05:
                 self.backs_left = self.random.randint(1, 40)
             return line
-        if self.order == 'any':
+        if self.order == 'late':
+            steps = [step for step in steps if step.kind != 'match'] or steps
+        if self.order in ('any', 'late'):
             return step_line(self.random, self.random.choice(steps))
         return step_line(self.random, steps[0 if self.order == 'first' else -1])
 
@@ -134,6 +167,8 @@ class Walk:
             line = respaced(self.random, self.line())
             lines.append(line)
             self.debugger.answer(line.encode('latin-1').rstrip(b'\r'))
+            if self.random.random() < self.listed:
+                lines.append('enabled')
             if self.random.random() < self.show:
                 lines.append('show')
         return lines + ['show']
