@@ -1,4 +1,4 @@
--- Worked rows of forms and their holes, by computing. What no statement uses yet is read and written here alone.
+-- Worked rows of forms and their holes, by computing.
 use Rattle.std.specs.Prelude.{◌≡◌, ℕ, pos, List, [], ◌∷◌, Option, Some, None, Result, Ok, Err, codes, map, refl}
 use Rattle.std.specs.Fmt.{digits}
 use Rattle.mpd_model.specs.declared.place.DeclKind.TheVariants.{Variable}
@@ -69,7 +69,7 @@ pub row_no_source : filled_by source_and_tag (codes "tag 3;") ≡ Err (fault f.E
 unfolding chain bracket place_inside rounds signed atom level expr target named source status token spelling place advanced refusal same_mark sees after expect spend slot_in seek tokens_after front sign word number
 row_no_source = refl
 
-pub row_status : filled_by target_and_status (codes "x status a[1];") ≡ Ok (into_x, (Some (into_a 1), tt))
+pub row_status : filled_by target_and_status (codes "x status a[1] x;") ≡ Ok (into_x, (Some (record { source = into_a 1; tag = into_x }), tt))
 unfolding chain bracket place_inside rounds signed atom level expr target named source status token spelling place advanced refusal same_mark sees after expect spend slot_in seek tokens_after front sign word number
 row_status = refl
 
@@ -81,7 +81,11 @@ pub row_status_of_a_number : filled_by target_and_status (codes "x status 1;") �
 unfolding chain bracket place_inside rounds signed atom level expr target named source status token spelling place advanced refusal same_mark sees after expect spend slot_in seek tokens_after front sign word number
 row_status_of_a_number = refl
 
-pub row_no_end : filled_by target_and_status (codes "x status x") ≡ Err (fault f.Expected 10)
+pub row_status_of_one : filled_by target_and_status (codes "x status x;") ≡ Err (fault f.Expected 10)
+unfolding chain bracket place_inside rounds signed atom level expr target named source status token spelling place advanced refusal same_mark sees after expect spend slot_in seek tokens_after front sign word number
+row_status_of_one = refl
+
+pub row_no_end : filled_by target_and_status (codes "x status x x") ≡ Err (fault f.Expected 12)
 unfolding chain bracket place_inside rounds signed atom level expr target named source status token spelling place advanced refusal same_mark sees after expect spend slot_in seek tokens_after front sign word number
 row_no_end = refl
 
@@ -98,7 +102,7 @@ pub row_source_text : written_by source_and_tag (Some (cell at_x), (lit (pos 3),
 unfolding digits
 row_source_text = refl
 
-pub row_status_text : written_by target_and_status (into_x, (Some (into_a 1), tt)) ≡ codes "x status a[1]"
+pub row_status_text : written_by target_and_status (into_x, (Some (record { source = into_a 1; tag = into_x }), tt)) ≡ codes "x status a[1] x"
 unfolding digits
 row_status_text = refl
 

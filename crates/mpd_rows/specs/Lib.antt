@@ -12,3 +12,5 @@ pub mod LeftRows
 pub mod FormRows
 pub mod RequestRows
 pub mod RequestReaderRows
+pub mod WildcardRows
+pub mod WildcardReaderRows

@@ -28,47 +28,47 @@ use Rattle.mpd_model.specs.Lines.{lines_of}
 use Rattle.mpd_model.specs.Answers.{line_answer}
 use Rattle.mpd_rows.specs.Statements.{print, send, recv, isend, irecv, wait}
 
-abbrev n : ℕ → Term
+abbrev pub n : ℕ → Term
 n k = lit (pos k)
 
-abbrev m : ℕ → Term
+abbrev pub m : ℕ → Term
 m k = op1 Negate (lit (pos k))
 
-abbrev over_zero : Term
+abbrev pub over_zero : Term
 over_zero = op2 Divide (n 1) (n 0)
 
 abbrev too_large : Term
 too_large = op2 Add (n 9223372036854775807) (n 1)
 
-abbrev whole : Place → Target
+abbrev pub whole : Place → Target
 whole p = record { place = p; index = None }
 
-abbrev part : Place → Term → Target
+abbrev pub part : Place → Term → Target
 part p e = record { place = p; index = Some e }
 
 -- ---- one rank of two, before statement 5 and with statement 20 behind it
 
 -- `var x; var a[3]; req h; req g[2]; req none[0];`
-abbrev x : Place
+abbrev pub x : Place
 x = record { declaration = 0; first = 0; cells = 1 }
 
-abbrev a : Place
+abbrev pub a : Place
 a = record { declaration = 1; first = 1; cells = 3 }
 
-abbrev h : Place
+abbrev pub h : Place
 h = record { declaration = 2; first = 0; cells = 1 }
 
-abbrev g : Place
+abbrev pub g : Place
 g = record { declaration = 3; first = 1; cells = 2 }
 
-abbrev none : Place
+abbrev pub none : Place
 none = record { declaration = 4; first = 3; cells = 0 }
 
 abbrev earlier : Call
 earlier = record { statement = 3; kind = Send (record { to = 1; tag = 0; value = pos 8; blocks = false }) }
 
 -- x is 1, a is 10 20 30; h has no request, g[0] has that of call 0, and g[1] has none
-abbrev rank_at : List (ℕ × Tree) → RankWorld
+abbrev pub rank_at : List (ℕ × Tree) → RankWorld
 rank_at ts = record {
   rest = ts;
   vars = pos 1 ∷ pos 10 ∷ pos 20 ∷ pos 30 ∷ [];
@@ -77,24 +77,24 @@ rank_at ts = record {
   activity = Running;
 }
 
-abbrev behind : List (ℕ × Tree)
+abbrev pub behind : List (ℕ × Tree)
 behind = (20, print (n 1)) ∷ []
 
 -- It is rank 0 of these, and has issued one call; rank 1 has issued two, and no step of rank 0 changes anything of it.
 abbrev with_calls : RankWorld → List Call → World
 with_calls r calls = record { ranks = r ∷ rank_at [] ∷ []; board = record { mode = Rendezvous; calls = calls ∷ (earlier ∷ earlier ∷ []) ∷ []; sets = [] } }
 
-abbrev does : Tree → Option World
+abbrev pub does : Tree → Option World
 does t = next (with_calls (rank_at ((5, t) ∷ behind)) (earlier ∷ [])) (Local 0)
 
 -- a trap changes what the rank is doing, and nothing else
-abbrev Traps : Type 0
+abbrev pub Traps : Type 0
 Traps = List (Tree × Trap)
 
-abbrev found : Traps → List (Option World)
+abbrev pub found : Traps → List (Option World)
 found table = map {B = Option World} (λ r. does r.0) table
 
-abbrev wanted : Traps → List (Option World)
+abbrev pub wanted : Traps → List (Option World)
 wanted table = map {B = Option World} (λ r. Some (with_calls (record (rank_at ((5, r.0) ∷ behind)) { activity = Trapped r.1 }) (earlier ∷ []))) table
 
 -- the index of the handle comes first, then the value, the destination, which is checked before the tag is evaluated
@@ -132,11 +132,11 @@ abbrev issued : RankWorld → CallKind → Option World
 issued r kind = Some (with_calls r (earlier ∷ record { statement = 5; kind = kind } ∷ []))
 
 -- its number stands in the handle, and the rank goes on
-abbrev issues : List (Option ℕ) → CallKind → Option World
+abbrev pub issues : List (Option ℕ) → CallKind → Option World
 issues handles kind = issued (record (rank_at behind) { handles = handles }) kind
 
 -- no handle changes, and the rank is blocked
-abbrev blocks : CallKind → Option World
+abbrev pub blocks : CallKind → Option World
 blocks kind = issued (record (rank_at behind) { activity = Blocked }) kind
 
 -- what is sent is the value at the issue
@@ -151,10 +151,10 @@ pub row_isend_at : does (isend (part g (cell x)) (n 2) (n 0) (n 0)) ≡ issues (
 row_isend_at = refl
 
 -- the cell of a receive is fixed as it is issued: the third of `a` is cell 3
-pub row_irecv : does (irecv (part g (n 1)) (part a (op2 Add (cell x) (n 1))) (op2 Subtract size (n 1)) (n 3)) ≡ issues (None ∷ Some 0 ∷ Some 1 ∷ []) (Recv (record { from = 1; tag = 3; cell = 3; blocks = false }))
+pub row_irecv : does (irecv (part g (n 1)) (part a (op2 Add (cell x) (n 1))) (op2 Subtract size (n 1)) (n 3)) ≡ issues (None ∷ Some 0 ∷ Some 1 ∷ []) (Recv (record { from = Some 1; tag = Some 3; cell = 3; status = None; blocks = false }))
 row_irecv = refl
 
-pub row_irecv_over : does (irecv (part g (n 0)) (whole x) own_rank (n 0)) ≡ issues (None ∷ Some 1 ∷ None ∷ []) (Recv (record { from = 0; tag = 0; cell = 0; blocks = false }))
+pub row_irecv_over : does (irecv (part g (n 0)) (whole x) own_rank (n 0)) ≡ issues (None ∷ Some 1 ∷ None ∷ []) (Recv (record { from = Some 0; tag = Some 0; cell = 0; status = None; blocks = false }))
 row_irecv_over = refl
 
 -- a wait is for the call whose number its handle has then, if any; the handle still has it
@@ -171,23 +171,23 @@ row_wait_at = refl
 pub row_send : does (send (n 2) (n 1) (n 0)) ≡ blocks (Send (record { to = 1; tag = 0; value = pos 2; blocks = true }))
 row_send = refl
 
-pub row_recv : does (recv (whole x) (n 1) (n 0)) ≡ blocks (Recv (record { from = 1; tag = 0; cell = 0; blocks = true }))
+pub row_recv : does (recv (whole x) (n 1) (n 0)) ≡ blocks (Recv (record { from = Some 1; tag = Some 0; cell = 0; status = None; blocks = true }))
 row_recv = refl
 
 -- ---- scripts, line by line
 
-abbrev variable : List ℕ → Declared
+abbrev pub variable : List ℕ → Declared
 variable name = record { kind = Variable; name = name; size = None }
 
-abbrev request : List ℕ → Option ℕ → Declared
+abbrev pub request : List ℕ → Option ℕ → Declared
 request name handles = record { kind = Handle; name = name; size = handles }
 
 -- all statements stand on line 2
-abbrev script : ℕ → List Declared → List Tree → Program
+abbrev pub script : ℕ → List Declared → List Tree → Program
 script ranks decls body = record { version = 1; ranks = ranks; decls = decls; body = body; lines = 2 ∷ 2 ∷ 2 ∷ 2 ∷ 2 ∷ 2 ∷ 2 ∷ [] }
 
 -- what rank 0 runs, and what the others run
-abbrev two_parts : Block → Block → List Tree
+abbrev pub two_parts : Block → Block → List Tree
 two_parts first second = branch (op2 Equal own_rank (n 0)) first second ∷ []
 
 abbrev standing_at : Trail → Option World → Standing
@@ -198,17 +198,17 @@ abbrev told : Trail → List (List ℕ) → List ℕ
 told t [] = []
 told t (l ∷ ls) = (line_answer (standing_at t (world_of t)) l).0 ++ told (line_answer (standing_at t (world_of t)) l).1 ls
 
-abbrev trace : Program → List ℕ → List ℕ
+abbrev pub trace : Program → List ℕ → List ℕ
 trace s z = told (opening s Rendezvous) (lines_of z)
 
-abbrev after : Program → List Step → Option World
+abbrev pub after : Program → List Step → Option World
 after s steps = fold (start s Rendezvous) steps
 
 -- of each rank its variables and handles
-abbrev Cells : Type 0
+abbrev pub Cells : Type 0
 Cells = Option (List (List ℤ × List (Option ℕ)))
 
-abbrev cells : Option World → Cells
+abbrev pub cells : Option World → Cells
 cells w = option_map (λ v. map {B = List ℤ × List (Option ℕ)} (λ r. (r.vars, r.handles)) v.ranks) w
 
 -- a place declared behind others of its kind

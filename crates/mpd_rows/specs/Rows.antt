@@ -154,7 +154,7 @@ abbrev sent : ℕ → ℕ → ℕ → Call
 sent to tag value = record { statement = 0; kind = Send (record { to = to; tag = tag; value = pos value; blocks = true }) }
 
 abbrev awaited : ℕ → ℕ → Call
-awaited from tag = record { statement = 0; kind = Recv (record { from = from; tag = tag; cell = 0; blocks = true }) }
+awaited from tag = record { statement = 0; kind = Recv (record { from = Some from; tag = Some tag; cell = 0; status = None; blocks = true }) }
 
 abbrev rank_that : Activity → RankWorld
 rank_that activity = record { rest = []; vars = pos 0 ∷ []; handles = []; out = []; activity = activity }

@@ -158,10 +158,10 @@ row_sent_smallest = refl
 
 -- the cell of a receive is fixed as it is issued: the third of `a` is cell 3
 pub row_posted_at : does (recv (part a (op2 Add (cell x) (n 1))) (op2 Subtract size (n 1)) (n 0))
-    ≡ issues (record (rank_at behind) { activity = Blocked }) (Recv (record { from = 1; tag = 0; cell = 3; blocks = true }))
+    ≡ issues (record (rank_at behind) { activity = Blocked }) (Recv (record { from = Some 1; tag = Some 0; cell = 3; status = None; blocks = true }))
 row_posted_at = refl
 
-pub row_posted_whole : does (recv (whole x) (n 0) (n 32767)) ≡ issues (record (rank_at behind) { activity = Blocked }) (Recv (record { from = 0; tag = 32767; cell = 0; blocks = true }))
+pub row_posted_whole : does (recv (whole x) (n 0) (n 32767)) ≡ issues (record (rank_at behind) { activity = Blocked }) (Recv (record { from = Some 0; tag = Some 32767; cell = 0; status = None; blocks = true }))
 row_posted_whole = refl
 
 -- an assignment changes one cell

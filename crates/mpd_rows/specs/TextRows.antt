@@ -109,10 +109,13 @@ row_commands = refl
 pub row_show : command_of (codes "\tshow") ≡ Some command.Show
 row_show = refl
 
+pub row_list : command_of (codes " enabled\t") ≡ Some command.Enabled
+row_list = refl
+
 pub row_step : command_of (codes "wake 1") ≡ Some (command.Step (Wake 1))
 row_step = refl
 
-pub row_bad_commands : map {B = Option Command} command_of (codes "back 1" ∷ codes "show 0" ∷ codes "redo" ∷ codes "enabled" ∷ codes "---" ∷ []) ≡ replicate 5 None
+pub row_bad_commands : map {B = Option Command} command_of (codes "back 1" ∷ codes "show 0" ∷ codes "redo" ∷ codes "enabled 0" ∷ codes "enable" ∷ codes "---" ∷ []) ≡ replicate 6 None
 row_bad_commands = refl
 
 pub row_blank : has_word (codes " \t ") ≡ false

@@ -1,14 +1,14 @@
 -- What a line gets, by the reply to its command.
-use Rattle.std.proofs.Common.{◌≡◌, ℕ, ◌+◌, ◌-◌, ◌<◌, ◌≤◌, Bool, if◌then◌else◌, true, false, List, [], ◌++◌, length, Option, Some, None, IsSome, refl, ap, sym, ◌∙◌, arith, inl, inr, append-nil, nat_lt, ◌==◌}
+use Rattle.std.proofs.Common.{◌≡◌, ℕ, ◌+◌, ◌-◌, ◌<◌, ◌≤◌, Bool, if◌then◌else◌, true, false, List, [], ◌∷◌, ◌++◌, length, codes, Option, Some, None, IsSome, refl, ap, sym, ◌∙◌, arith, inl, inr, append-nil, nat_lt, ◌==◌}
 use Rattle.std.proofs.lemmas.Bool.Decides.{nat_tests}
 use Rattle.std.proofs.lemmas.Bool.{le-ltb}
 use Rattle.mpd_model.specs.declared.step.Step.{Step}
 use Rattle.mpd_model.specs.declared.words.Command.TheVariants as command
 use Rattle.mpd_model.specs.World.{World}
-use Rattle.mpd_model.specs.Next.{next}
+use Rattle.mpd_model.specs.Next.{next, enabled}
 use Rattle.mpd_model.specs.Trail.{Trail, Standing, IsReached, applied, taken_back}
 use Rattle.mpd_model.specs.Words.{has_word, command_of}
-use Rattle.mpd_model.specs.Texts.{show_text}
+use Rattle.mpd_model.specs.Texts.{line, steps_text, show_text}
 use Rattle.mpd_model.specs.Answers.{AnswerOrMemory, is_too_long, max_depth, ok_text, refused_bad_word, refused_memory, refused_full, refused_at_start, refused_not_enabled, step_answer, back_answer}
 use Rattle.mpd_trail.specs.Run.{Carried}
 use Rattle.mpd_trail.specs.declared.run.Command.TheVariants.{Apply, Undo}
@@ -102,10 +102,25 @@ show_done s before after text reached is said = (text, said, inl (record { told 
 pub show_memory : (s : Standing) (before after : List ℕ) → after ≡ before ++ refused_memory → Replies before after s (Some command.Show) s
 show_memory s before after said = (refused_memory, said, inr (record { wants = tt; told = refl; trail = refl; world = refl }))
 
+-- the text of the enabled steps, also where there is none
+pub enabled_done : (s : Standing) (steps : List Step) (before after text : List ℕ) → IsReached s → steps ≡ enabled s.world → text ≡ line (codes "enabled" ++ steps_text steps) → after ≡ before ++ text
+    → Replies before after s (Some command.Enabled) s
+enabled_done s steps before after text reached all is said =
+    (text, said, inl (record { told = is ∙ ap (λ (xs : List Step). line (codes "enabled" ++ steps_text xs)) all; trail = refl; reached = reached }))
+
+pub enabled_none : (s : Standing) (steps : List Step) (before after : List ℕ) → IsReached s → steps ≡ enabled s.world → length steps ≡ 0 → after ≡ before ++ line (codes "enabled")
+    → Replies before after s (Some command.Enabled) s
+enabled_none s [] before after reached all none said = enabled_done s [] before after (line (codes "enabled")) reached all refl said
+enabled_none s (a ∷ steps) before after reached all none said = absurd (omega (arith, none))
+
+-- memory is wanted only where some step is enabled
+pub enabled_memory : (s : Standing) (before after : List ℕ) → 0 < length (enabled s.world) → after ≡ before ++ refused_memory → Replies before after s (Some command.Enabled) s
+enabled_memory s before after some said = (refused_memory, said, inr (record { wants = some; told = refl; trail = refl; world = refl }))
+
 pub no_command : (s : Standing) (before after : List ℕ) → IsReached s → after ≡ before ++ refused_bad_word → Replies before after s None s
 no_command s before after reached said = (refused_bad_word, said, inl (record { told = refl; trail = refl; reached = reached }))
 
-pub ruleset replying = (step_done, step_not_enabled, step_full, step_memory, back_done, back_at_start, show_done, show_memory, no_command)
+pub ruleset replying = (step_done, step_not_enabled, step_full, step_memory, back_done, back_at_start, show_done, show_memory, enabled_done, enabled_none, enabled_memory, no_command)
 
 -- ---- lines
 

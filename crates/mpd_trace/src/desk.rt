@@ -6,6 +6,7 @@ ghost use Rattle.mpd_model.specs.Answers.{AnswerOrMemory, ok_text, refused_text}
 ghost use Rattle.mpd_trace.specs.Replies.{Replies};
 ghost use Rattle.mpd_trail.specs.Views.{standing_of};
 
+use crate::listed::listed;
 use crate::show::show;
 use itoa::Buffer;
 use mpd_code::code::Code;
@@ -22,6 +23,9 @@ use std::marker::Model;
 
 /// The name of what is no trace word.
 const BAD_WORD: &str = "bad-word";
+
+/// The answer to `enabled` where no step is.
+const NONE_ENABLED: &[u8] = b"enabled\n";
 
 /// Adds `ok` and a depth, which takes no memory.
 fn say_ok(out: &mut Vec<u8>, depth: usize)
@@ -96,6 +100,28 @@ fn answer_show(alloc: Global, debugger: &Debugger<'_>, out: &mut Vec<u8>)
     }
 }
 
+/// Lists the enabled steps. Where none is, this takes no memory.
+#[tactic(auto, using(crate::proofs::DeskLemmas::replying))]
+fn answer_enabled(alloc: Global, debugger: &Debugger<'_>, out: &mut Vec<u8>)
+    requires { vec_len out.old + ROOM ≤ vec_capacity out.old }
+    ensures replies { Replies out.old.items out.new.items (standing_of debugger.now) (Some Word.Enabled) (standing_of debugger.now) }
+    ensures capacity { vec_capacity out.old ≤ vec_capacity out.new }
+{
+    let Ok(steps) = debugger.core().enabled(alloc) else {
+        return refuse(out, ApplyFault::Memory.name());
+    };
+    if steps.is_empty() {
+        return push_all(out, NONE_ENABLED);
+    }
+    let Ok(line) = listed(alloc, &steps) else {
+        return refuse(out, ApplyFault::Memory.name());
+    };
+    match out.extend_from_slice(line.as_bytes()) {
+        Ok(()) => {}
+        Err(_) => refuse(out, ApplyFault::Memory.name()),
+    }
+}
+
 /// Says that a line is no trace word.
 #[tactic(auto, using(crate::proofs::DeskLemmas::replying))]
 fn answer_other(debugger: &Debugger<'_>, out: &mut Vec<u8>)
@@ -122,6 +148,7 @@ fn answer_command(
         None => answer_other(debugger, out),
         Some(Word::Step(step)) => answer_step(debugger, step, out),
         Some(Word::Back) => answer_back(debugger, out),
+        Some(Word::Enabled) => answer_enabled(alloc, debugger, out),
         Some(Word::Show) => answer_show(alloc, debugger, out),
     }
 }

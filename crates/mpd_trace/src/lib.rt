@@ -3,6 +3,7 @@
 
 pub mod desk;
 pub mod divider;
+pub mod listed;
 pub mod plain;
 pub mod show;
 pub mod trace;
