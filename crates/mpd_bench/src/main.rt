@@ -3,6 +3,7 @@
 //! (docs/GATE.md, "Memory").
 #![tactic(auto)]
 
+mod cases;
 mod talk;
 mod timing;
 

@@ -1,0 +1,130 @@
+//! Scripts, and steps of theirs that are enabled one after the other.
+
+use mpd_model::step::{CallId, Step};
+use std::alloc::{AllocError, Global};
+
+/// A loop whose every second step writes a variable.
+pub(crate) const LOOP: &[u8] = b"mpd 1; ranks 1; var i; while 1 { i = i + 1; }";
+
+/// A rank that sends for ever, and one that receives.
+pub(crate) const MESSAGES: &[u8] = b"mpd 1; ranks 2; var x; \
+    if rank == 0 { while 1 { send 1 to 1 tag 0; } } else { while 1 { recv x from 0 tag 0; } }";
+
+/// A rank that sends to itself for ever, and waits for nothing.
+pub(crate) const REQUESTS: &[u8] = b"mpd 1; ranks 1; req r; while 1 { isend r 1 to 0 tag 0; }";
+
+/// A rank that waits for what it has sent to itself.
+pub(crate) const WAIT: &[u8] =
+    b"mpd 1; ranks 1; var x; req r; isend r 1 to 0 tag 0; recv x from 0 tag 0; wait r;";
+
+/// A thousand messages, behind which both ranks end.
+pub(crate) const THOUSAND: &[u8] = b"mpd 1; ranks 2; var i; var x; \
+    while i < 1000 { if rank == 0 { send i to 1 tag 0; } else { recv x from 0 tag 0; } i = i + 1; }";
+
+/// How many calls there were before what is measured.
+pub(crate) const EARLIER: [usize; 4] = [100, 1_000, 10_000, 100_000];
+
+/// So many local steps of rank 0.
+pub(crate) fn locals(alloc: Global, count: usize) -> Result<Vec<Step>, AllocError> {
+    let mut steps = Vec::new(alloc);
+    push_locals(&mut steps, 0, count)?;
+    Ok(steps)
+}
+
+/// Adds so many local steps of a rank.
+fn push_locals(steps: &mut Vec<Step>, rank: usize, count: usize) -> Result<(), AllocError> {
+    for _ in 0..count {
+        steps.push(Step::Local(rank))?;
+    }
+    Ok(())
+}
+
+/// What pairs the calls of a number of both ranks, and wakes these.
+fn meeting(number: usize) -> [Step; 3] {
+    let send = CallId {
+        rank: 0,
+        index: number,
+    };
+    let recv = CallId {
+        rank: 1,
+        index: number,
+    };
+    [Step::Match(send, recv), Step::Wake(0), Step::Wake(1)]
+}
+
+/// Adds so many local steps of both ranks, the match and the wakes of the message of that number.
+fn push_message(steps: &mut Vec<Step>, number: usize, locals: usize) -> Result<(), AllocError> {
+    push_locals(steps, 0, locals)?;
+    push_locals(steps, 1, locals)?;
+    for step in meeting(number) {
+        steps.push(step)?;
+    }
+    Ok(())
+}
+
+/// Adds the steps of so many messages in a row, each with so many local steps of both ranks.
+fn push_row(steps: &mut Vec<Step>, count: usize, locals: usize) -> Result<(), AllocError> {
+    for number in 0..count {
+        push_message(steps, number, locals)?;
+    }
+    Ok(())
+}
+
+/// The steps of so many messages in a row, each with so many local steps of both ranks.
+pub(crate) fn row(alloc: Global, count: usize, locals: usize) -> Result<Vec<Step>, AllocError> {
+    let mut steps = Vec::new(alloc);
+    push_row(&mut steps, count, locals)?;
+    Ok(steps)
+}
+
+/// The steps of so many messages, up to where both ranks come to their next calls.
+pub(crate) fn messages(alloc: Global, count: usize) -> Result<Vec<Step>, AllocError> {
+    let mut steps = Vec::new(alloc);
+    push_locals(&mut steps, 0, 1)?;
+    push_locals(&mut steps, 1, 1)?;
+    push_row(&mut steps, count, 2)?;
+    push_locals(&mut steps, 0, 1)?;
+    push_locals(&mut steps, 1, 1)?;
+    Ok(steps)
+}
+
+/// The message of that number.
+pub(crate) fn message(alloc: Global, number: usize) -> Result<Vec<Step>, AllocError> {
+    let mut steps = Vec::new(alloc);
+    push_message(&mut steps, number, 1)?;
+    Ok(steps)
+}
+
+/// The steps of so many requests of a rank, up to where it comes to its next one.
+pub(crate) fn requests(alloc: Global, count: usize) -> Result<Vec<Step>, AllocError> {
+    let mut steps = Vec::new(alloc);
+    push_locals(&mut steps, 0, count)?;
+    push_locals(&mut steps, 0, count)?;
+    push_locals(&mut steps, 0, 1)?;
+    Ok(steps)
+}
+
+/// A rank sends to itself, and has its message.
+pub(crate) fn sent_to_itself() -> [Step; 4] {
+    let send = CallId { rank: 0, index: 0 };
+    let recv = CallId { rank: 0, index: 1 };
+    [
+        Step::Local(0),
+        Step::Local(0),
+        Step::Match(send, recv),
+        Step::Wake(0),
+    ]
+}
+
+/// A thousand messages, and their end.
+pub(crate) fn thousand(alloc: Global) -> Result<Vec<Step>, AllocError> {
+    let mut steps = Vec::new(alloc);
+    for number in 0..1_000 {
+        push_message(&mut steps, number, 3)?;
+        push_locals(&mut steps, 0, 1)?;
+        push_locals(&mut steps, 1, 1)?;
+    }
+    push_locals(&mut steps, 0, 1)?;
+    push_locals(&mut steps, 1, 1)?;
+    Ok(steps)
+}
