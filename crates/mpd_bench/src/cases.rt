@@ -21,6 +21,16 @@ pub(crate) const WAIT: &[u8] =
 pub(crate) const THOUSAND: &[u8] = b"mpd 1; ranks 2; var i; var x; \
     while i < 1000 { if rank == 0 { send i to 1 tag 0; } else { recv x from 0 tag 0; } i = i + 1; }";
 
+/// Ranks that send to rank 0 for ever, which receives from any of them: how many send, and the script.
+pub(crate) const GATHER: [(usize, &[u8]); 3] = [
+    (2, b"mpd 1; ranks 3; var x; req r; if rank == 0 { recv x from any tag any; } else { while 1 { isend r 1 to 0 tag 0; } }"),
+    (7, b"mpd 1; ranks 8; var x; req r; if rank == 0 { recv x from any tag any; } else { while 1 { isend r 1 to 0 tag 0; } }"),
+    (15, b"mpd 1; ranks 16; var x; req r; if rank == 0 { recv x from any tag any; } else { while 1 { isend r 1 to 0 tag 0; } }"),
+];
+
+/// How many messages of each sender wait.
+pub(crate) const WAITING: [usize; 3] = [1, 30, 1_000];
+
 /// How many calls there were before what is measured.
 pub(crate) const EARLIER: [usize; 4] = [100, 1_000, 10_000, 100_000];
 
@@ -127,4 +137,39 @@ pub(crate) fn thousand(alloc: Global) -> Result<Vec<Step>, AllocError> {
     push_locals(&mut steps, 0, 1)?;
     push_locals(&mut steps, 1, 1)?;
     Ok(steps)
+}
+
+/// Adds so many local steps of each of the ranks 1 to `last`.
+fn push_senders(steps: &mut Vec<Step>, last: usize, locals: usize) -> Result<(), AllocError> {
+    for rank in 1..=last {
+        push_locals(steps, rank, locals)?;
+    }
+    Ok(())
+}
+
+/// Adds so many times two local steps of each of the ranks 1 to `last`.
+fn push_sent(steps: &mut Vec<Step>, last: usize, count: usize) -> Result<(), AllocError> {
+    for _ in 0..count {
+        push_senders(steps, last, 2)?;
+    }
+    Ok(())
+}
+
+/// The steps by which rank 0 receives from any, and each of the others sends so many messages.
+pub(crate) fn gathered(alloc: Global, senders: usize, count: usize) -> Result<Vec<Step>, AllocError> {
+    let mut steps = Vec::new(alloc);
+    push_locals(&mut steps, 0, 2)?;
+    push_senders(&mut steps, senders, 1)?;
+    push_sent(&mut steps, senders, count)?;
+    Ok(steps)
+}
+
+/// The first message of the last sender is received by rank 0.
+pub(crate) fn taken_from(sender: usize) -> [Step; 1] {
+    let send = CallId {
+        rank: sender,
+        index: 0,
+    };
+    let recv = CallId { rank: 0, index: 0 };
+    [Step::Match(send, recv)]
 }

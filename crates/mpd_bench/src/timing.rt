@@ -1,7 +1,7 @@
 //! How long steps and their undos take, each line in nanoseconds. All are taken on a trail, and once before they are measured, so
 //! that room is kept.
 
-use crate::cases::{self, EARLIER, LOOP, MESSAGES, REQUESTS, THOUSAND, WAIT};
+use crate::cases::{self, EARLIER, GATHER, LOOP, MESSAGES, REQUESTS, THOUSAND, WAIT, WAITING};
 use mpd_code::code::Code;
 use mpd_code::lower::lower;
 use mpd_core::state::Core;
@@ -21,6 +21,9 @@ const TIMES: usize = 200_000;
 
 /// How many messages are sent in all, for each length of a row.
 const SENT: usize = 50_000;
+
+/// How often the enabled steps are listed.
+const LISTS: usize = 10_000;
 
 /// Takes steps that are enabled one after the other.
 fn take(debugger: &mut Debugger<'_>, steps: &[Step]) -> Option<()> {
@@ -66,6 +69,22 @@ fn measure_outcome<R: Clock>(rt: &R, alloc: Global, core: &Core<'_>, times: usiz
     took.as_nanos().checked_div(times as u128)
 }
 
+/// What it takes to list the enabled steps.
+fn measure_enabled<R: Clock>(
+    rt: &R,
+    alloc: Global,
+    core: &Core<'_>,
+    times: usize,
+) -> Option<u128> {
+    let begun = Instant::now(rt).ok()?;
+    for _ in 0..times {
+        let enabled = core.enabled(alloc).ok()?;
+        let _ = enabled.first()?;
+    }
+    let took = begun.elapsed(rt).ok()?;
+    took.as_nanos().checked_div(times as u128)
+}
+
 /// The code of a script.
 fn code_of(alloc: Global, text: &[u8]) -> Option<Code> {
     let script = read(alloc, text).ok()?;
@@ -104,6 +123,19 @@ fn time_of_outcome<R: Clock>(
     let code = code_of(alloc, script)?;
     let debugger = debugger_behind(alloc, &code, before)?;
     measure_outcome(rt, alloc, debugger.core(), times)
+}
+
+/// What it takes to list the enabled steps of a script behind steps.
+fn time_of_enabled<R: Clock>(
+    rt: &R,
+    alloc: Global,
+    script: &[u8],
+    before: &[Step],
+    times: usize,
+) -> Option<u128> {
+    let code = code_of(alloc, script)?;
+    let debugger = debugger_behind(alloc, &code, before)?;
+    measure_enabled(rt, alloc, debugger.core(), times)
 }
 
 /// Measures three lengths of a trail of local steps.
@@ -173,6 +205,27 @@ fn outcome(rt: &HostRuntime) -> Option<()> {
     eprintln!(rt; "the outcome of 1000 messages that have ended: {took} ns").ok()
 }
 
+/// Measures a match of any source with its undo, and the list of enabled steps, where so many messages of each sender wait.
+fn gather(rt: &HostRuntime, senders: usize, script: &[u8], waiting: usize) -> Option<()> {
+    let before = cases::gathered(rt.alloc(), senders, waiting).ok()?;
+    let steps = cases::taken_from(senders);
+    let took = time_of(rt, rt.alloc(), script, &before, &steps, TIMES)?;
+    let listed = time_of_enabled(rt, rt.alloc(), script, &before, LISTS)?;
+    eprintln!(rt;
+        "{senders} senders with {waiting} messages each: {took} ns for a match and its undo, {listed} ns for the enabled steps"
+    ).ok()
+}
+
+/// Measures a receive of any source, of few and many senders with few and many messages.
+fn gathers(rt: &HostRuntime) -> Option<()> {
+    for waiting in WAITING {
+        for (senders, script) in GATHER {
+            gather(rt, senders, script, waiting)?;
+        }
+    }
+    Some(())
+}
+
 /// Measures all, and prints a line for each.
 pub(crate) fn all(rt: &HostRuntime) -> Option<()> {
     local_steps(rt)?;
@@ -180,5 +233,6 @@ pub(crate) fn all(rt: &HostRuntime) -> Option<()> {
     requests_behind(rt)?;
     wait(rt)?;
     rows(rt)?;
-    outcome(rt)
+    outcome(rt)?;
+    gathers(rt)
 }
