@@ -183,6 +183,35 @@ fn steps_one_rank_and_back(rt: HostRuntime) {
     steps_a_rank(&rt, rt.alloc(), &code);
 }
 
+/// Asserts what a wake writes that has three cells, two of them the same, and a handle; and that this is taken back.
+fn completes_and_restores(rt: &impl Abort, rank: &mut RankState) {
+    let cells = Cells::three((0, 4), (1, 5), (0, 6));
+    let woken = rank.complete(cells, Some(0));
+    same(rt, rank.variables(), &[6, 5]);
+    same(rt, rank.handles(), &[None]);
+    same(rt, rank.activity(), Activity::Running);
+    rank.restore(woken);
+    same(rt, rank.variables(), &[1, 2]);
+    same(rt, rank.handles(), &[Some(0)]);
+    same(rt, rank.activity(), Activity::Blocked);
+}
+
+fn wakes_a_rank(rt: &impl Abort, alloc: Global, code: &Code) {
+    let mut rank = RankState::start(alloc, code, 0).expect(rt, "a rank");
+    for call in [0, 0, 0, 1] {
+        steps(rt, code, &mut rank, call);
+    }
+    completes_and_restores(rt, &mut rank);
+}
+
+#[test]
+fn wakes_with_three_cells_and_back(rt: HostRuntime) {
+    let text =
+        b"mpd 1; ranks 1; var x; var y; req r; x = 1; y = 2; irecv r x from any tag any status y x; wait r;";
+    let code = lowered(&rt, rt.alloc(), text);
+    wakes_a_rank(&rt, rt.alloc(), &code);
+}
+
 fn steps_a_million_times(rt: &impl Abort, debugger: &mut Debugger<'_>) {
     for _ in 0..1_000_000 {
         same(rt, debugger.apply(Step::Local(0)), Ok(()));

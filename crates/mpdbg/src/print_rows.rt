@@ -28,6 +28,11 @@ const ROWS: &[Canonical] = &[
         "recv a[0]from size-1 tag 2;",
         "recv a[0] from size - 1 tag 2;\n",
     ),
+    Canonical("recv x from any tag any;", "recv x from any tag any;\n"),
+    Canonical(
+        "recv a[0]from any tag(1)status x a[1+x];",
+        "recv a[0] from any tag 1 status x a[1 + x];\n",
+    ),
     Canonical("send 1 to 0 tag 1;# a comment", "send 1 to 0 tag 1;\n"),
     Canonical("x=1%2/3*4-5+6;", "x = 1 % 2 / 3 * 4 - 5 + 6;\n"),
     Canonical(

@@ -79,7 +79,7 @@ const TRAPS: &[(&str, &str)] = &[
 ];
 
 /// Asserts that a statement traps, and that this is taken back.
-fn traps(rt: &impl Abort, alloc: Global, statement: &str, name: &str) {
+pub(crate) fn traps(rt: &impl Abort, alloc: Global, statement: &str, name: &str) {
     let input = joined(
         rt,
         alloc,
@@ -129,7 +129,8 @@ const FAULTS: &[(&str, FaultCode, usize)] = &[
     ("req r;issend r 1 to 0 tag 0;", FaultCode::Expected, 20),
 ];
 
-fn refuses(rt: &impl Abort, alloc: Global, text: &str, code: FaultCode, place: usize) {
+/// Asserts why and where a text behind `mpd 1;ranks 1;` is refused.
+pub(crate) fn refuses(rt: &impl Abort, alloc: Global, text: &str, code: FaultCode, place: usize) {
     let input = joined(rt, alloc, &["mpd 1;ranks 1;", text]);
     let refusal = Some((code, place, 1));
     answers(rt, alloc, text, input.as_bytes(), refusal, "");
@@ -144,10 +145,10 @@ fn refuses_at_places(rt: HostRuntime) {
 
 /// All statements with handles, written another way.
 const SPACED: &str =
-    "mpd 1;ranks 2;req r[02];var x;isend r[ x ](1+2)*3 to(1)tag 0;irecv r[1]x from((1))tag 0;wait r[x];\n#\n";
+    "mpd 1;ranks 2;req r[02];var x;isend r[ x ](1+2)*3 to(1)tag 0;irecv r[1]x from((1))tag 0;irecv r[0]x from any tag any status x x;wait r[x];\n#\n";
 
 const CANONICAL: &str =
-    "mpd 1;\nranks 2;\nreq r[2];\nvar x;\nisend r[x] (1 + 2) * 3 to 1 tag 0;\nirecv r[1] x from 1 tag 0;\nwait r[x];\n";
+    "mpd 1;\nranks 2;\nreq r[2];\nvar x;\nisend r[x] (1 + 2) * 3 to 1 tag 0;\nirecv r[1] x from 1 tag 0;\nirecv r[0] x from any tag any status x x;\nwait r[x];\n";
 
 fn prints(rt: &impl Abort, alloc: Global, text: &str) {
     let script = read(alloc, text.as_bytes()).expect(rt, "a script");

@@ -6,7 +6,7 @@ use mpd_core::state::Core;
 use mpd_model::call::{Mode, Trap};
 use mpd_model::outcome::{CallList, Outcome, TrapList, TrappedRank};
 use mpd_model::step::{CallId, Step};
-use mpd_model::text::print_outcome;
+use mpd_model::text::{print_outcome, print_step};
 use mpd_model::words::step_of;
 use mpd_trail::run::{Command, Reply, replay};
 use std::alloc::{AllocError, Global};
@@ -141,6 +141,12 @@ fn enables_none(rt: &impl Abort, core: &Core<'_>, steps: &[Step]) {
     }
 }
 
+/// Asserts which steps are enabled.
+fn lists(rt: &impl Abort, alloc: Global, core: &Core<'_>, wanted: &[Step]) {
+    let steps = core.enabled(alloc).expect(rt, "the enabled steps");
+    same(rt, steps.as_slice(), wanted);
+}
+
 fn is_outcome(rt: &impl Abort, alloc: Global, outcome: Option<&Outcome>, wanted: Option<&str>) {
     same(rt, outcome.is_some(), wanted.is_some());
     if let Some(outcome) = outcome {
@@ -160,6 +166,8 @@ struct State {
     mode: Mode,
     /// The steps are enabled one after the other.
     steps: &'static [Step],
+    /// Behind the steps these are enabled, in this order, and no others.
+    enabled: &'static [Step],
     /// Behind the steps none of these is enabled.
     not_enabled: &'static [Step],
     shown: &'static [(Part, &'static str)],
@@ -177,13 +185,21 @@ const THIRD: CallId = CallId { rank: 0, index: 2 };
 const IN_ORDER: &[u8] =
     b"mpd 1; ranks 2; var x;\nif rank == 0 { send 1 to 1 tag 0; send 2 to 1 tag 0; send 3 to 1 tag 1; } else { recv x from 0 tag 0; }";
 
+/// The first call of the third rank.
+const OTHER: CallId = CallId { rank: 2, index: 0 };
+
+/// A receive, the first call of its rank, and a send of each of two ranks, of which it takes either.
+const RACE: &[u8] =
+    b"mpd 1; ranks 3; var x;\nif rank == 0 { recv x from any tag any; } else { send 5 to 0 tag rank; }";
+
 /// States of each outcome; texts of a state in which a rank is blocked behind a pair; and sends in order, of which an earlier
-/// one of the same tag is matched first.
+/// one of the same tag is matched first; and two sends that one receive may take.
 const STATES: &[State] = &[
     State {
         script: b"mpd 1; ranks 2; print 1;",
         mode: Mode::Rendezvous,
         steps: &[Step::Local(1)],
+        enabled: &[Step::Local(0)],
         not_enabled: &[],
         shown: &[],
         ranks: 2,
@@ -193,6 +209,7 @@ const STATES: &[State] = &[
         script: b"mpd 1; ranks 2; print 1;",
         mode: Mode::Rendezvous,
         steps: &[Step::Local(1), Step::Local(0)],
+        enabled: &[],
         not_enabled: &[],
         shown: &[],
         ranks: 2,
@@ -202,6 +219,7 @@ const STATES: &[State] = &[
         script: b"mpd 1; ranks 3; send 7 to 2 - rank tag 0;",
         mode: Mode::Rendezvous,
         steps: &[Step::Local(2), Step::Local(0), Step::Local(1)],
+        enabled: &[],
         not_enabled: &[],
         shown: &[],
         ranks: 3,
@@ -217,6 +235,7 @@ const STATES: &[State] = &[
             Step::Local(2),
             Step::Local(0),
         ],
+        enabled: &[],
         not_enabled: &[],
         shown: &[],
         ranks: 3,
@@ -231,6 +250,7 @@ const STATES: &[State] = &[
             Step::Local(0),
             Step::Wake(0),
         ],
+        enabled: &[],
         not_enabled: &[],
         shown: &[],
         ranks: 2,
@@ -246,6 +266,7 @@ const STATES: &[State] = &[
             Step::Match(SEND, SECOND),
             Step::Wake(0),
         ],
+        enabled: &[],
         not_enabled: &[],
         shown: &[],
         ranks: 1,
@@ -262,6 +283,7 @@ const STATES: &[State] = &[
             Step::Match(SEND, RECV),
             Step::Wake(1),
         ],
+        enabled: &[Step::Local(1), Step::Wake(0)],
         not_enabled: &[],
         shown: &[
             (Part::Call(SEND), "send to 1 tag 0 value 7 with 1.0"),
@@ -288,6 +310,7 @@ const STATES: &[State] = &[
             Step::Local(1),
             Step::Local(1),
         ],
+        enabled: &[Step::Match(SEND, RECV)],
         not_enabled: &[Step::Match(SECOND, RECV), Step::Match(THIRD, RECV)],
         shown: &[
             (Part::Call(SECOND), "send to 1 tag 0 value 2 free"),
@@ -314,15 +337,34 @@ const STATES: &[State] = &[
             Step::Match(SEND, RECV),
             Step::Wake(1),
         ],
+        enabled: &[],
         not_enabled: &[],
         shown: &[],
         ranks: 2,
         outcome: Some("leftovers 0.1 0.2"),
     },
+    State {
+        script: RACE,
+        mode: Mode::Rendezvous,
+        steps: &[
+            Step::Local(0),
+            Step::Local(0),
+            Step::Local(1),
+            Step::Local(1),
+            Step::Local(2),
+            Step::Local(2),
+        ],
+        enabled: &[Step::Match(RECV, SEND), Step::Match(OTHER, SEND)],
+        not_enabled: &[Step::Match(SEND, RECV)],
+        shown: &[(Part::Call(SEND), "recv from any tag any free")],
+        ranks: 3,
+        outcome: None,
+    },
 ];
 
 fn is_so(rt: &impl Abort, alloc: Global, core: &Core<'_>, state: &State) {
     same(rt, core.rank_count(), state.ranks);
+    lists(rt, alloc, core, state.enabled);
     enables_none(rt, core, state.not_enabled);
     shows_all(rt, core, state.shown);
     has_outcome(rt, alloc, core, state.outcome);
@@ -339,6 +381,43 @@ impl Row for State {
 #[test]
 fn reaches_states(rt: HostRuntime) {
     each(&rt, rt.alloc(), STATES);
+}
+
+/// A receive that writes a cell and the two of its status, which hold something else.
+const STATUS: &[u8] =
+    b"mpd 1; ranks 2; var x; var a[2];\nif rank == 0 { x = 9; a[1] = 5; recv x from any tag any status a[0] a[1]; } else { send 7 to 0 tag 3; }";
+
+/// The steps that lead to the receive's match.
+const MATCHED: &[Step] = &[
+    Step::Local(0),
+    Step::Local(0),
+    Step::Local(0),
+    Step::Local(0),
+    Step::Local(1),
+    Step::Local(1),
+    Step::Match(RECV, SEND),
+];
+
+fn holds_values(rt: &impl Abort, core: &Core<'_>, rank: usize, wanted: &[i64]) {
+    assert!(rt; rank < core.rank_count());
+    same(rt, core.rank(rank).variables(), wanted);
+}
+
+/// Asserts what a wake writes and records, and that its record takes it back.
+fn wakes_and_undoes(rt: &impl Abort, core: &mut Core<'_>) {
+    let woken = core.apply(Step::Wake(0)).expect(rt, "a wake");
+    same(rt, (woken.step, woken.from), (Step::Wake(0), 0));
+    holds_values(rt, core, 0, &[7, 1, 3]);
+    core.undo(woken);
+    holds_values(rt, core, 0, &[9, 0, 5]);
+}
+
+#[test]
+fn writes_three_cells_and_undoes(rt: HostRuntime) {
+    let alloc = rt.alloc();
+    let code = lowered(&rt, alloc, STATUS);
+    let mut core = reached(&rt, alloc, &code, Mode::Rendezvous, MATCHED);
+    wakes_and_undoes(&rt, &mut core);
 }
 
 fn prints(rt: &impl Abort, alloc: Global, outcome: Outcome, wanted: &str) {
@@ -411,4 +490,20 @@ const STEPS: &[Words] = &[
 #[test]
 fn reads_steps(rt: HostRuntime) {
     each(&rt, rt.alloc(), STEPS);
+}
+
+/// Steps with their texts, which are read as these steps again.
+const TEXTS: &[(Step, &str)] = &[
+    (Step::Local(15), "local 15"),
+    (Step::Match(THIRD, RECV), "match 0.2 1.0"),
+    (Step::Wake(0), "wake 0"),
+    (Step::Release, "release"),
+];
+
+#[test]
+fn prints_steps(rt: HostRuntime) {
+    for (step, text) in TEXTS {
+        is_text(&rt, print_step(rt.alloc(), *step), text);
+        same(&rt, step_of(text), Some(*step));
+    }
 }
