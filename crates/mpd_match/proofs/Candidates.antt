@@ -1,10 +1,11 @@
 -- A send and a receive are eligible where each is the first of its line that fits the other; so of the sends of a rank at most one
 -- is eligible with a receive.
-use Rattle.std.proofs.Common.{◌≡◌, ◌≢◌, ℕ, ◌+◌, ◌<◌, ◌≤◌, Bool, true, false, cond, ◌&&◌, not, nat_lt, Option, Some, None, List, [], ◌∷◌, inl, inr, refl, sym, ap, ◌∙◌, length, slice_get, arith}
+use Rattle.std.proofs.Common.{◌≡◌, ◌≢◌, ℕ, ◌+◌, ◌<◌, ◌≤◌, Bool, true, false, cond, ◌&&◌, ◌||◌, not, nat_lt, Option, Some, None, is_some, List, [], ◌∷◌, inl, inr, refl, sym, ap, ◌∙◌, length, slice_get, arith}
 use Rattle.std.proofs.lemmas.Bool.{cases_lt, lt-ltb, le-ltb}
 use Rattle.std.proofs.lemmas.Bool.Decides.{eqb_tells}
 use Rattle.std.proofs.lemmas.Option.{slice_get_past}
 use Rattle.std.specs.List.{filter, list_any}
+use Rattle.std.specs.Option.{option_to_list}
 use Rattle.mpd_model.specs.declared.step.CallId.{CallId}
 use Rattle.mpd_model.specs.declared.call.Call.{Call}
 use Rattle.mpd_model.specs.declared.call.CallKind.{CallKind}
@@ -32,7 +33,7 @@ denied false e = refl
 
 -- ---- lists of which one number passes, or none
 
-nothing_passes : (t : ℕ → Bool) (xs : List ℕ) → ((i : ℕ) → 0 < places_in xs i → t i ≡ true → ⊥) → filter t xs ≡ []
+pub nothing_passes : (t : ℕ → Bool) (xs : List ℕ) → ((i : ℕ) → 0 < places_in xs i → t i ≡ true → ⊥) → filter t xs ≡ []
 nothing_passes t [] none = refl
 nothing_passes t (x ∷ xs) none =
     elim (bool_tells (t x)) [
@@ -218,6 +219,22 @@ first_found b p i j r takes free send recv le =
     let least : j ≤ r.index = first_least t (posted b r.rank) j r.index (posted_rising b r.rank) recv (posted_stands b r.rank r.index (taken_posted b p r takes free)) fit in
     let same : j ≡ r.index = omega arith in
     candidates_one b p i r (firsts_eligible b p i r free send (recv ∙ ap Some same))
+
+any_passed : (t : ℕ → Bool) (xs : List ℕ) → list_any t xs ≡ list_any (λ i. true) (filter t xs)
+any_passed t [] = refl
+any_passed t (x ∷ xs) =
+    elim (bool_tells (t x)) [
+      | inl h ↦ ap (λ (b : Bool). b || list_any t xs) h ∙ sym (ap (list_any (λ i. true)) (passed_here t x xs h))
+      | inr h ↦ ap (λ (b : Bool). b || list_any t xs) h ∙ any_passed t xs ∙ sym (ap (list_any (λ i. true)) (passed_there t x xs h))
+    ]
+
+some_listed : (o : Option ℕ) → is_some o ≡ list_any (λ i. true) (option_to_list o)
+some_listed None = refl
+some_listed (Some x) = refl
+
+pub found_any : (b : Board) (p : ℕ) (r : CallId) (o : Option ℕ) → candidates b p r ≡ option_to_list o → is_some o ≡ list_any (λ i. eligible b (call_id p i) r) (call_numbers b p)
+found_any b p r o e =
+    some_listed o ∙ ap (list_any (λ i. true)) (sym e) ∙ sym (any_passed (λ i. eligible b (call_id p i) r) (call_numbers b p))
 
 -- ---- its looks
 

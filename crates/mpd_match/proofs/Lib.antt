@@ -11,3 +11,5 @@ pub mod Matches
 pub mod Firsts
 pub mod Candidates
 pub mod Listed
+pub mod Gathered
+pub mod Holders

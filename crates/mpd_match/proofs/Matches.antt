@@ -1,5 +1,5 @@
 -- Where a send and a receive are eligible: what the calls of a rank have in common with its lists of free calls.
-use Rattle.std.proofs.Common.{◌≡◌, ℕ, suc, ◌+◌, ◌-◌, ◌<◌, ◌≤◌, Bool, true, false, ◌&&◌, ◌||◌, not, nat_lt, Option, Some, None, List, [], ◌∷◌, inl, inr, refl, sym, ap, ◌∙◌, length, slice_get, is_none, arith}
+use Rattle.std.proofs.Common.{◌≡◌, ℕ, suc, ◌+◌, ◌-◌, ◌<◌, ◌≤◌, Bool, true, false, ◌&&◌, ◌||◌, Option, Some, None, List, [], ◌∷◌, inl, inr, refl, sym, ap, ◌∙◌, length, slice_get, is_none, arith}
 use Rattle.std.specs.List.{list_any, filter, range_with_len}
 use Rattle.std.proofs.lemmas.Bool.{cases_lt}
 use Rattle.std.proofs.lemmas.Option.{slice_get_past}
@@ -10,12 +10,8 @@ use Rattle.mpd_model.specs.declared.call.CallKind.{CallKind}
 use Rattle.mpd_model.specs.declared.call.CallKind.TheVariants.{Send, Recv, Wait}
 use Rattle.mpd_model.specs.World.{Board, call_id, listed_calls, calls_of, kind_of, kind_at, partner, is_message_kind, call_numbers, rank_numbers, is_free, sends_to, receives, fits, fitting, is_pending, is_posted, pending, posted, eligible}
 use Rattle.mpd_queue.specs.InOrder.{places_in}
-use Rattle.mpd_match.proofs.Bools.{bool_tells, and_false, both_true}
+use Rattle.mpd_match.proofs.Bools.{bool_tells, both_true}
 use Rattle.mpd_match.proofs.Passed.{places_passed, places_not_passed, places_within, places_past}
-
-none_of : (t : ℕ → Bool) (xs : List ℕ) → ((i : ℕ) → t i ≡ false) → list_any t xs ≡ false
-none_of t [] none = refl
-none_of t (x ∷ xs) none = ap (λ (b : Bool). b || list_any t xs) (none x) ∙ none_of t xs none
 
 -- ---- a list of free calls
 
@@ -75,19 +71,6 @@ free_exists b r e =
           let f : is_free b r ≡ false = ap (λ (o : Option (List Call)). is_message_kind (kind_of (slice_get (listed_calls o) r.index)) && is_none (partner b.sets r)) (slice_get_past b.calls r.rank ge) in
           absurd (cc)
     ]
-
--- so it is enough to ask the sends of the list
-pub pending_enough : (b : Board) (p : ℕ) (r : CallId) → list_any (λ i. eligible b (call_id p i) r) (pending b p r.rank) ≡ list_any (λ i. eligible b (call_id p i) r) (call_numbers b p)
-pending_enough b p r =
-    any-filter_same (λ i. eligible b (call_id p i) r) (is_pending b p r.rank) true (λ i e. eligible_pending b p i r e) (call_numbers b p)
-
-pub not_free_none : (b : Board) (p : ℕ) (r : CallId) → is_free b r ≡ false → list_any (λ i. eligible b (call_id p i) r) (call_numbers b p) ≡ false
-not_free_none b p r e =
-    none_of (λ i. eligible b (call_id p i) r) (call_numbers b p) (λ i.
-    ap (λ (t : Bool). is_free b (call_id p i) && (t && (fits b (call_id p i) r
-    && (not (list_any (λ j. nat_lt j i && fits b (call_id p j) r) (pending b p r.rank))
-    && not (list_any (λ j. nat_lt j r.index && fits b (call_id p i) (call_id r.rank j)) (posted b r.rank)))))) e
-    ∙ and_false (is_free b (call_id p i)))
 
 -- ---- one rank after another
 

@@ -6,5 +6,6 @@ pub mod Held
 pub mod Firsts
 pub mod Looks
 pub mod Matches
+pub mod Entries
 pub mod BoardRows
 pub mod OrderRows

@@ -15,3 +15,4 @@ mod rows;
 mod side;
 mod sides;
 mod walk;
+pub mod why;

@@ -183,27 +183,13 @@ impl Board {
         Some(index)
     }
 
-    /// Whether some send of the sender is eligible with the receive. Its free sends to that rank are walked, and no others.
+    /// Whether some send of the sender is eligible with the receive.
     pub fn can_match_from(&self, sender: usize, recv: CallId) -> bool
         requires { sender < length self.now.board.calls }
         ensures { result ≡ list_any (λ i. eligible_on self.now.board (call_id sender i) recv) (call_numbers self.now.board sender) }
     {
-        if !self.is_free(recv) {
-            return false;
-        }
         let mut looks = Steps::new();
-        let mut here = self.first_pending(sender, recv.rank, &mut looks);
-        'walk: while let Some(index) = here {
-            let send = CallId {
-                rank: sender,
-                index,
-            };
-            if self.eligible(send, recv, &mut looks) {
-                return true;
-            }
-            here = self.next_free(send, &mut looks);
-        }
-        false
+        self.candidate(sender, recv, &mut looks).is_some()
     }
 
     /// Whether some send of any rank is eligible with the receive.
