@@ -1,10 +1,9 @@
--- What a step overwrote, as numbers: 4294967295 is none.
+-- What a step overwrote, as numbers: 65535 is no cell, and 4294967295 no handle and no call.
 use Rattle.std.specs.Prelude.{◌≡◌, ℕ, ◌<◌, ◌≤◌, ℤ, pos, Bool, cond, eqb, List, length, All, Option, Some, None, IfSome}
 use Rattle.std.proofs.Common.{inl, inr, sym, ap, ◌∙◌}
 use Rattle.std.proofs.lemmas.Bool.Decides.{eqb_tells}
 use Rattle.mpd_model.specs.declared.limits.TheConstants.{CELLS_MAX, HANDLES_MAX}
 use Rattle.mpd_rank.specs.declared.standing.Standing.{Standing}
-use Rattle.mpd_rank.specs.declared.change.HeldCell.TheInside as cell
 use Rattle.mpd_rank.specs.declared.change.HeldHandle.TheInside as handle
 
 -- a number below 4294967295, or none
@@ -27,10 +26,10 @@ number_back n =
 
 -- a cell and what it held
 abbrev pub held_cell : ℕ → ℤ → Option (ℕ × ℤ)
-held_cell n was = cond (eqb n 4294967295) None (Some (n, was))
+held_cell n was = cond (eqb n 65535) None (Some (n, was))
 
 abbrev pub cell_of : Option (ℕ × ℤ) → ℕ
-cell_of None = 4294967295
+cell_of None = 65535
 cell_of (Some w) = w.0
 
 abbrev pub was_of : Option (ℕ × ℤ) → ℤ
@@ -51,12 +50,16 @@ call_of (Some w) = number_of w.1
 
 -- ---- both give their numbers back
 
-pub cell_back : (a : cell.Inside) → (a.cell ≡ 4294967295 → a.was ≡ pos 0) → record { cell = cell_of (held_cell a.cell a.was); was = was_of (held_cell a.cell a.was) } ≡ a
-cell_back a h =
-    let held : Bool → Option (ℕ × ℤ) = λ b. cond b None (Some (a.cell, a.was)) in
-    elim (eqb_tells a.cell 4294967295) [
-      | inl t ↦ (λ i. record { cell = (ap (λ b. cell_of (held b)) t.0 ∙ sym t.1) i; was = (ap (λ b. was_of (held b)) t.0 ∙ sym (h t.1)) i })
-      | inr t ↦ (λ i. record { cell = ap (λ b. cell_of (held b)) t.0 i; was = ap (λ b. was_of (held b)) t.0 i })
+-- where there is no cell, nothing was held
+abbrev pub IsHeld : ℕ → ℤ → Type 0
+IsHeld n was = n ≡ 65535 → was ≡ pos 0
+
+pub cell_back : (n : ℕ) (was : ℤ) → IsHeld n was → (cell_of (held_cell n was) ≡ n) × (was_of (held_cell n was) ≡ was)
+cell_back n was h =
+    let held : Bool → Option (ℕ × ℤ) = λ b. cond b None (Some (n, was)) in
+    elim (eqb_tells n 65535) [
+      | inl t ↦ (ap (λ b. cell_of (held b)) t.0 ∙ sym t.1, ap (λ b. was_of (held b)) t.0 ∙ sym (h t.1))
+      | inr t ↦ (ap (λ b. cell_of (held b)) t.0, ap (λ b. was_of (held b)) t.0)
     ]
 
 pub handle_back : (a : handle.Inside) → (a.handle ≡ 4294967295 → a.call ≡ 4294967295) → record { handle = handle_of (held_handle a.handle a.call); call = call_of (held_handle a.handle a.call) } ≡ a

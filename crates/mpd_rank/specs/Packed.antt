@@ -1,6 +1,8 @@
 -- Three cells at most, without a gap, and the list that they are.
 use Rattle.std.specs.Prelude.{◌≡◌, ℕ, ℤ, List, [], ◌∷◌, drop, Option, Some, None}
-use Rattle.std.proofs.Common.{refl}
+use Rattle.std.proofs.Common.{refl, ap, ◌∙◌}
+use Rattle.mpd_rank.specs.Held.{held_cell, cell_of, was_of, IsHeld, cell_back}
+use Rattle.mpd_rank.specs.declared.change.HeldCells.TheInside as cells
 
 -- a cell before others, where there is one
 abbrev pub before : Option (ℕ × ℤ) → List (ℕ × ℤ) → List (ℕ × ℤ)
@@ -38,3 +40,28 @@ listed_back (Some x) None (Some z) h = absurd (let e = h.1 refl in cc)
 listed_back None None None h = (refl, refl, refl)
 listed_back None None (Some z) h = absurd (let e = h.1 refl in cc)
 listed_back None (Some y) c h = absurd (let e = h.0 refl in cc)
+
+-- three cells as numbers, each with what it held: no gap, and nothing where there is no cell
+abbrev pub HoldsThree : ℕ → ℕ → ℕ → ℤ → ℤ → ℤ → Type 0
+HoldsThree a b c x y z = IsPacked (held_cell a x) (held_cell b y) (held_cell c z) × (IsHeld a x × (IsHeld b y × IsHeld c z))
+
+abbrev three_of : List (ℕ × ℤ) → cells.Inside
+three_of ws =
+    record { first = cell_of (first_of ws); second = cell_of (second_of ws); third = cell_of (third_of ws); first_was = was_of (first_of ws); second_was = was_of (second_of ws); third_was = was_of (third_of ws) }
+
+-- the list gives their numbers back
+pub three_back : (c : cells.Inside) → HoldsThree c.first c.second c.third c.first_was c.second_was c.third_was
+    → three_of (all_listed (held_cell c.first c.first_was) (held_cell c.second c.second_was) (held_cell c.third c.third_was)) ≡ c
+three_back c h =
+    let back = listed_back (held_cell c.first c.first_was) (held_cell c.second c.second_was) (held_cell c.third c.third_was) h.0 in
+    let a = cell_back c.first c.first_was h.1.0 in
+    let b = cell_back c.second c.second_was h.1.1.0 in
+    let d = cell_back c.third c.third_was h.1.1.1 in
+    (λ i. record {
+      first = (ap cell_of back.0 ∙ a.0) i;
+      second = (ap cell_of back.1 ∙ b.0) i;
+      third = (ap cell_of back.2 ∙ d.0) i;
+      first_was = (ap was_of back.0 ∙ a.1) i;
+      second_was = (ap was_of back.1 ∙ b.1) i;
+      third_was = (ap was_of back.2 ∙ d.1) i;
+    })

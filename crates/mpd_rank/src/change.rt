@@ -11,6 +11,9 @@ use std::marker::Model;
 /// In place of a number: none.
 const NO_NUMBER: u32 = u32::MAX;
 
+/// In place of a cell: none. A script has fewer cells.
+const NO_CELL: u16 = u16::MAX;
+
 /// Cells that a wake writes, in order, each with its new value. Contracts see a list. There are three at most.
 #[derive(Clone, Copy, Debug, PartialEq, Eq)]
 pub struct Cells {
@@ -75,23 +78,23 @@ impl Cells {
 /// What a cell held that was written, if one was. It takes 16 bytes. Contracts see an `Option`.
 #[derive(Clone, Copy, Debug, PartialEq, Eq)]
 pub struct HeldCell {
-    cell: u32,
+    cell: u16,
     was: i64,
 }
 
 impl Model for HeldCell {
-    ghost use Rattle.std.specs.Prelude.{◌≡◌, ℕ, ℤ, pos, Option};
-    ghost use Rattle.mpd_rank.specs.Held.{held_cell, cell_of, was_of, cell_back};
+    ghost use Rattle.std.specs.Prelude.{ℕ, ℤ, Option};
+    ghost use Rattle.mpd_rank.specs.Held.{held_cell, cell_of, was_of, IsHeld, cell_back};
 
     ghost Value = { Option (ℕ × ℤ) };
 
     ghost view = { λ h. held_cell h.cell h.was };
 
-    ghost invariant = { λ h. h.cell ≡ 4294967295 → h.was ≡ pos 0 };
+    ghost invariant = { λ h. IsHeld h.cell h.was };
 
     ghost inverse = { λ o. record { cell = cell_of o; was = was_of o } };
 
-    ghost inverse_ok = { λ a h. cell_back a h };
+    ghost inverse_ok = { λ a h. (λ i. record { cell = (cell_back a.cell a.was h).0 i; was = (cell_back a.cell a.was h).1 i }) };
 }
 
 impl HeldCell {
@@ -100,18 +103,18 @@ impl HeldCell {
         ensures { result ≡ None }
     {
         HeldCell {
-            cell: NO_NUMBER,
+            cell: NO_CELL,
             was: 0,
         }
     }
 
     /// A cell that was written, and what it held.
     pub(crate) fn of(cell: usize, was: i64) -> HeldCell
-        requires { cell < 4294967295 }
+        requires { cell < 65535 }
         ensures { result ≡ Some (cell, was) }
     {
         HeldCell {
-            cell: cell as u32,
+            cell: cell as u16,
             was,
         }
     }
@@ -120,37 +123,48 @@ impl HeldCell {
     pub fn get(self) -> Option<(usize, i64)>
         ensures { result ≡ self }
     {
-        if self.cell == NO_NUMBER {
+        if self.cell == NO_CELL {
             return None;
         }
         Some((self.cell as usize, self.was))
     }
 }
 
-/// What cells held that were written, the last first. It takes 48 bytes. Contracts see a list. There are three at most.
+/// What cells held that were written, the last first. It takes 32 bytes. Contracts see a list. There are three at most.
 #[derive(Clone, Copy, Debug, PartialEq, Eq)]
 pub struct HeldCells {
-    first: HeldCell,
-    second: HeldCell,
-    third: HeldCell,
+    first: u16,
+    second: u16,
+    third: u16,
+    first_was: i64,
+    second_was: i64,
+    third_was: i64,
 }
 
 impl Model for HeldCells {
     ghost use Rattle.std.specs.Prelude.{ℕ, ℤ, List};
     ghost use Rattle.mpd_rank.specs.Views.{cells_code};
-    ghost use Rattle.mpd_rank.specs.Packed.{all_listed, IsPacked, first_of, second_of, third_of, listed_back};
+    ghost use Rattle.mpd_rank.specs.Held.{held_cell, cell_of, was_of};
+    ghost use Rattle.mpd_rank.specs.Packed.{all_listed, first_of, second_of, third_of, HoldsThree, three_back};
 
     ghost Value = { List (ℕ × ℤ) };
 
     ghost coded = { cells_code };
 
-    ghost view = { λ c. all_listed c.first c.second c.third };
+    ghost view = { λ c. all_listed (held_cell c.first c.first_was) (held_cell c.second c.second_was) (held_cell c.third c.third_was) };
 
-    ghost invariant = { λ c. IsPacked c.first c.second c.third };
+    ghost invariant = { λ c. HoldsThree c.first c.second c.third c.first_was c.second_was c.third_was };
 
-    ghost inverse = { λ l. record { first = first_of l; second = second_of l; third = third_of l } };
+    ghost inverse = { λ l. record {
+      first = cell_of (first_of l);
+      second = cell_of (second_of l);
+      third = cell_of (third_of l);
+      first_was = was_of (first_of l);
+      second_was = was_of (second_of l);
+      third_was = was_of (third_of l);
+    } };
 
-    ghost inverse_ok = { λ c h. let back = listed_back c.first c.second c.third h in (λ i. record { first = back.0 i; second = back.1 i; third = back.2 i }) };
+    ghost inverse_ok = { λ c h. three_back c h };
 }
 
 impl HeldCells {
@@ -159,9 +173,12 @@ impl HeldCells {
         ensures { result ≡ [] }
     {
         HeldCells {
-            first: HeldCell::none(),
-            second: HeldCell::none(),
-            third: HeldCell::none(),
+            first: NO_CELL,
+            second: NO_CELL,
+            third: NO_CELL,
+            first_was: 0,
+            second_was: 0,
+            third_was: 0,
         }
     }
 
@@ -176,9 +193,12 @@ impl HeldCells {
             return self;
         }
         HeldCells {
-            first: held,
+            first: held.cell,
             second: self.first,
             third: self.second,
+            first_was: held.was,
+            second_was: self.first_was,
+            third_was: self.second_was,
         }
     }
 
@@ -186,10 +206,22 @@ impl HeldCells {
     pub(crate) fn cells(self) -> Cells
         ensures { result ≡ self }
     {
+        let first = HeldCell {
+            cell: self.first,
+            was: self.first_was,
+        };
+        let second = HeldCell {
+            cell: self.second,
+            was: self.second_was,
+        };
+        let third = HeldCell {
+            cell: self.third,
+            was: self.third_was,
+        };
         Cells {
-            first: self.first.get(),
-            second: self.second.get(),
-            third: self.third.get(),
+            first: first.get(),
+            second: second.get(),
+            third: third.get(),
         }
     }
 }
@@ -305,22 +337,22 @@ impl Change {
     pub(crate) fn assigned(held: HeldCell) -> Change
         ensures { result ≡ assigned_change held }
     {
-        if held.cell == NO_NUMBER {
+        if held.cell == NO_CELL {
             return Change::Moved;
         }
         Change::Assigned {
-            cell: held.cell,
+            cell: held.cell as u32,
             was: held.was,
         }
     }
 }
 
 /// What takes the step of a rank back: the node before it, which is 0 at a wake, since that moves no rank, and what else it did.
-/// It holds no collection, and takes 72 bytes.
+/// It holds no collection, and takes 56 bytes.
 #[derive(Clone, Copy, Debug, PartialEq, Eq)]
 pub struct RankRecord {
     pub from: u32,
     pub change: Change,
 }
 
-const _: () = prove!(size_of::<RankRecord>() == 72);
+const _: () = prove!(size_of::<RankRecord>() == 56);
