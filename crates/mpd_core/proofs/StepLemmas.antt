@@ -1,5 +1,5 @@
 -- The local step of one rank over a board.
-use Rattle.std.proofs.Common.{◌≡◌, ℕ, ℤ, List, [], ◌∷◌, ◌++◌, Option, Some, None, IfSome, length, refl, sym, ap, ◌∙◌}
+use Rattle.std.proofs.Common.{◌≡◌, ℕ, Bool, true, false, is_some, ℤ, List, [], ◌∷◌, ◌++◌, Option, Some, None, IfSome, length, refl, sym, ap, ◌∙◌}
 use Rattle.std.specs.Option.{option_map}
 use Rattle.std.proofs.lemmas.List.{length-set}
 use Rattle.mpd_model.specs.declared.call.Activity.{Activity}
@@ -16,7 +16,9 @@ use Rattle.mpd_rank.specs.declared.plan.LocalPlan.{LocalPlan}
 use Rattle.mpd_rank.specs.declared.plan.LocalPlan.TheVariants.{Move, Print, Assign, Issue, Trap}
 use Rattle.mpd_rank.specs.Plans.{plan_call, plan_ran, planned, HasTag, HasPlannedReceiver}
 use Rattle.mpd_rank.specs.Records.{record_by, local_record, plan_change, plan_record}
-use Rattle.mpd_rank.specs.Undone.{held, assigned_change}
+use Rattle.mpd_rank.specs.declared.change.Change.{Change}
+use Rattle.mpd_rank.specs.declared.change.Change.TheVariants as change
+use Rattle.mpd_rank.specs.Undone.{held, assigned_change, IsOwn, IsOfRank}
 use Rattle.mpd_rank.specs.Views.{RankView, rank_of}
 use Rattle.mpd_core.specs.OneRank.{ran_on, local_on, CanUnissueIf}
 use Rattle.mpd_core.specs.Undone.{unissued, CanUnissue}
@@ -100,3 +102,61 @@ length-calls b p c = length-set b.calls p (calls_of b p ++ c ∷ [])
 pub ruleset issuing = (length-calls)
 
 pub ruleset stepping = (has_receiver, can_take_back, taken_back, runs, local_ran, local_stays)
+
+-- ---- a step that issues no call
+
+pub own_can : (b : Board) (p : ℕ) (c : Change) → IsOwn c → CanUnissue b p c
+own_can b p change.Moved h = tt
+own_can b p (change.Assigned cell was) h = tt
+own_can b p change.Printed h = tt
+own_can b p (change.Issued handle) h = absurd h
+own_can b p change.Trapped h = tt
+own_can b p (change.Matched send recv) h = absurd h
+own_can b p (change.Woke cells handle) h = absurd h
+
+pub own_back : (b : Board) (p : ℕ) (c : Change) → IsOwn c → unissued b p c ≡ b
+own_back b p change.Moved h = refl
+own_back b p (change.Assigned cell was) h = refl
+own_back b p change.Printed h = refl
+own_back b p (change.Issued handle) h = absurd h
+own_back b p change.Trapped h = refl
+own_back b p (change.Matched send recv) h = absurd h
+own_back b p (change.Woke cells handle) h = absurd h
+
+pub own_of_rank : (c : Change) → IsOwn c → IsOfRank c
+own_of_rank change.Moved h = tt
+own_of_rank (change.Assigned cell was) h = tt
+own_of_rank change.Printed h = tt
+own_of_rank (change.Issued handle) h = absurd h
+own_of_rank change.Trapped h = tt
+own_of_rank (change.Matched send recv) h = absurd h
+own_of_rank (change.Woke cells handle) h = absurd h
+
+-- the room that is kept changes no step
+pub local_on-kept : (s : Program) (b : Board) (v u : RankView) → u ≡ record v { room = u.room } → local_on s b v ≡ local_on s b u
+local_on-kept s b v u same = sym (ap (local_on s b) same)
+
+-- what a rank with this room does alone
+pub own_ran : (s : Program) (b : Board) (v u w : RankView) → u ≡ record v { room = u.room } → ((count : ℕ) → local u.rank s.ranks count (rank_of s u) ≡ Some (record { rank = rank_of s w; call = None })) → local_on s b v ≡ Some (rank_of s w, b)
+own_ran s b v u w same step = local_on-kept s b v u same ∙ ap (option_map (ran_on b u.rank)) (step (length (calls_of b u.rank)))
+
+none_by : {A : Type 0} (o : Option A) → false ≡ is_some o → o ≡ None
+none_by None e = refl
+none_by (Some x) e = cc
+
+-- a rank that can take no step takes none, and one that can takes one
+pub cannot : (s : Program) (b : Board) (v : RankView) (can : Bool) → ((rank size count : ℕ) → can ≡ is_some (local rank size count (rank_of s v))) → can ≡ false → local_on s b v ≡ None
+cannot s b v can is fails = local_stays s b v (none_by _ (sym fails ∙ is v.rank s.ranks (length (calls_of b v.rank))))
+
+mapped_none : {A B : Type 0} (f : A → B) (o : Option A) → option_map f o ≡ None → o ≡ None
+mapped_none f None e = refl
+mapped_none f (Some x) e = cc
+
+pub can_some : (s : Program) (b : Board) (v : RankView) (can : Bool) → ((rank size count : ℕ) → can ≡ is_some (local rank size count (rank_of s v))) → can ≡ true → local_on s b v ≡ None → ⊥
+can_some s b v can is holds none =
+    let left : local v.rank s.ranks (length (calls_of b v.rank)) (rank_of s v) ≡ None = mapped_none (ran_on b v.rank) _ none in
+    let e : true ≡ is_some (local v.rank s.ranks (length (calls_of b v.rank)) (rank_of s v)) = sym holds ∙ is v.rank s.ranks (length (calls_of b v.rank)) in
+    let f : true ≡ false = e ∙ ap is_some left in
+    cc
+
+pub ruleset alone = (own_can, own_back, own_of_rank, own_ran, cannot, can_some, local_on-kept)

@@ -72,8 +72,38 @@ fn issue_on(board: &mut Board, rank: usize, call: Option<Call>) -> Result<u32, A
     Ok(board.issue(rank, call))
 }
 
-/// The local step of one rank.
+/// The local step of one rank, whatever it issues, in the room that was kept there.
 #[tactic(auto, using(crate::proofs::StepLemmas::stepping, crate::proofs::TagLemmas::tagging))]
+fn step_call(code: &Code, state: &mut RankState, board: &mut Board) -> Result<RankRecord, StepFault>
+    requires rank { state.old.rank < length board.old.board.calls }
+    requires ranks { length board.old.board.calls ≡ code.now.program.ranks }
+    requires room { 1 ≤ state.old.room }
+    ensures ok { OnOk result (local_on code.now.program board.old.board state.old ≡ Some (rank_of code.now.program state.new, board.new.board)) }
+    ensures recorded { IfOk result (λ done. local_record state.old.rank code.now.program.ranks (rank_of code.now.program state.old) ≡ Some done) }
+    ensures back { IfOk result (λ done. undone_rank code.now.program (rank_of code.now.program state.new) done ≡ rank_of code.now.program state.old) }
+    ensures board_back { IfOk result (λ done. unissued board.new.board state.old.rank done.change ≡ board.old.board) }
+    ensures of_rank { IfOk result (λ done. IsOfRank done.change) }
+    ensures can { IfOk result (λ done. CanUnissue board.new.board state.old.rank done.change) }
+    ensures not_enabled { IsErrOf result StepFault.NotEnabled ↔ (local_on code.now.program board.old.board state.old ≡ None) }
+    ensures memory { IsErrOf result StepFault.Memory → board.old.room ≡ 0 }
+    ensures err { OnErr result (rank_of code.now.program state.new ≡ rank_of code.now.program state.old) }
+    ensures err_board { OnErr result (board.new.board ≡ board.old.board) }
+    ensures number { state.new.rank ≡ state.old.rank }
+    ensures rises { OnOk result (state.old.writes + board.old.writes + 1 ≤ state.new.writes + board.new.writes) }
+    ensures few { state.new.writes + board.new.writes ≤ state.old.writes + board.old.writes + 16 }
+    ensures unwritten { OnErr result (state.new.writes + board.new.writes ≡ state.old.writes + board.old.writes) }
+    ensures ranks { length board.new.board.calls ≡ length board.old.board.calls }
+    ensures tags { HasTags board.old.board → HasTags board.new.board }
+{
+    let Some(plan) = state.plan_local(code) else {
+        return Err(StepFault::NotEnabled);
+    };
+    let number = issue_on(board, state.number(), plan.call(state.node()))?;
+    Ok(state.commit(plan, number as usize))
+}
+
+/// The local step of one rank.
+#[tactic(auto, using(crate::proofs::StepLemmas::alone, crate::proofs::TagLemmas::tagging))]
 fn step_rank(code: &Code, state: &mut RankState, board: &mut Board) -> Result<RankRecord, StepFault>
     requires rank { state.old.rank < length board.old.board.calls }
     requires ranks { length board.old.board.calls ≡ code.now.program.ranks }
@@ -94,12 +124,14 @@ fn step_rank(code: &Code, state: &mut RankState, board: &mut Board) -> Result<Ra
     ensures ranks { length board.new.board.calls ≡ length board.old.board.calls }
     ensures tags { HasTags board.old.board → HasTags board.new.board }
 {
-    let Some(plan) = state.plan_local(code) else {
+    if !state.can_step(code) {
         return Err(StepFault::NotEnabled);
-    };
+    }
     state.keep_room()?;
-    let number = issue_on(board, state.number(), plan.call(state.node()))?;
-    Ok(state.commit(plan, number as usize))
+    if let Some(done) = state.step_alone(code) {
+        return Ok(done);
+    }
+    step_call(code, state, board)
 }
 
 /// The local step of one of the ranks.

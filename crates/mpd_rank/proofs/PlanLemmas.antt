@@ -1,7 +1,8 @@
 -- What a node plans is what its statement makes of a rank.
-use Rattle.std.proofs.Common.{◌≡◌, ℕ, ◌+◌, ◌<◌, ℤ, pos, negsuc, cond, nat_lt, Bool, true, false, List, [], ◌∷◌, ◌++◌, Option, Some, None, Result, Ok, Err, refl, sym, ap, ◌∙◌, subst, subst₂}
+use Rattle.std.proofs.Common.{◌≡◌, ℕ, ◌+◌, ◌<◌, ℤ, pos, negsuc, cond, nat_lt, Bool, true, false, List, [], ◌∷◌, ◌++◌, Option, Some, None, IfSome, Result, Ok, Err, refl, sym, ap, ◌∙◌, subst, subst₂}
 use Rattle.std.proofs.lemmas.Bool.{ltb-true}
-use Rattle.mpd_model.specs.declared.call.Activity.TheVariants.{Running}
+use Rattle.mpd_model.specs.declared.call.Activity.TheVariants.{Running, Blocked, Trapped}
+use Rattle.mpd_model.specs.declared.call.Activity.{Activity}
 use Rattle.mpd_model.specs.declared.call.Issue.{Issue}
 use Rattle.mpd_model.specs.declared.call.Trap.{Trap}
 use Rattle.mpd_model.specs.declared.stmt.Simple.{Simple}
@@ -27,8 +28,9 @@ use Rattle.mpd_rank.specs.declared.standing.Standing.{Standing}
 use Rattle.mpd_rank.specs.declared.change.Change.{Change}
 use Rattle.mpd_rank.specs.declared.change.RankRecord.{RankRecord}
 use Rattle.mpd_rank.specs.Views.{RankView, rank_of}
-use Rattle.mpd_rank.specs.Records.{print_change, issue_change, write_change, assert_change, choice_change, simple_change, change_of, local_record, plan_change, plan_record}
-use Rattle.mpd_rank.specs.Plans.{plan_of, simple_plan, plan_ran, HasTag, HasPlannedReceiver, print_plan, assign_plan, issue_plan, assert_plan, choice_plan}
+use Rattle.mpd_rank.specs.Records.{print_change, issue_change, write_change, assert_change, choice_change, simple_change, change_of, local_record, plan_change, plan_record, IsPlanned}
+use Rattle.mpd_rank.specs.Undone.{held, assigned_change, IsOwn}
+use Rattle.mpd_rank.specs.Plans.{plan_of, simple_plan, planned, plan_ran, IsAlone, HasTag, HasPlannedReceiver, print_plan, assign_plan, issue_plan, assert_plan, choice_plan}
 
 print_ran : (s : Program) (r : RankWorld) (n i next : ℕ) (v : Value) → plan_ran s r n i (print_plan v next) ≡ alone (printed r (left_at s next) v)
 print_ran s r n i next (Ok v) = refl
@@ -251,26 +253,61 @@ action_below env next (a.Repeat c body) = choice_below env.size (value_of c env)
 pub plan_below : (env : Env) (n next : ℕ) (act : Action) (plan : LocalPlan) → env.size ≡ n → plan ≡ plan_of act next env → HasPlannedReceiver n plan
 plan_below env n next act plan size is = subst₂ HasPlannedReceiver size (sym is) (action_below env next act)
 
--- a plan of what a rank shows
-abbrev pub IsPlanned : Program → RankView → LocalPlan → Type 0
-IsPlanned s v plan =
-    ((count : ℕ) → local v.rank s.ranks count (rank_of s v) ≡ Some (plan_ran s (rank_of s v) count v.node plan)) × (local_record v.rank s.ranks (rank_of s v) ≡ Some (plan_record v plan))
+-- a running rank at a node does what the node plans
+pub planned_at : (s : Program) (v : RankView) (node : Node) (plan : LocalPlan) → v.activity ≡ Running → Stands (left_at s) v.node node → plan ≡ plan_of node.action node.next (env_of v.rank s.ranks (rank_of s v)) → IsPlanned s v plan
+planned_at s v node plan running d is =
+    subst (IsPlanned s v) (sym is) ((λ count. stands_ran s v.rank s.ranks count (rank_of s v) v.node node running refl d), stands_recorded s v.rank s.ranks v node running d)
 
-pub view_ran : (s : Program) (u v : RankView) (vars : List ℤ) (handles : List (Option ℕ)) (size : ℕ) (plan : LocalPlan) (node : Node) (at : Standing) → u ≡ v → at ≡ record { node = v.node; activity = v.activity } → at.activity ≡ Running → Stands (left_at s) at.node node
-    → vars ≡ u.vars → handles ≡ u.handles → size ≡ s.ranks → plan ≡ plan_of node.action node.next (record { vars = vars; handles = handles; rank = u.rank; size = size }) → IsPlanned s v plan
-view_ran s u v vars handles size plan node at same stands runs found held kept counted is =
-    let here : at ≡ record { node = u.node; activity = u.activity } = stands ∙ ap (λ (w : RankView). record { node = w.node; activity = w.activity }) (sym same) in
-    let running : u.activity ≡ Running = sym (ap (λ (x : Standing). x.activity) here) ∙ runs in
-    let d : Stands (left_at s) u.node node = subst (λ i. Stands (left_at s) i node) (ap (λ (x : Standing). x.node) here) found in
-    let env : Env = env_of u.rank s.ranks (rank_of s u) in
-    let in_env : env ≡ record { vars = vars; handles = handles; rank = u.rank; size = size } = λ i. record { vars = sym held i; handles = sym kept i; rank = u.rank; size = sym counted i } in
-    let facts : IsPlanned s u (plan_of node.action node.next env) =
-    ((λ count. stands_ran s u.rank s.ranks count (rank_of s u) u.node node running refl d), stands_recorded s u.rank s.ranks u node running d) in
-    let planned_is : plan_of node.action node.next env ≡ plan = ap (plan_of node.action node.next) in_env ∙ sym is in
-    subst₂ (IsPlanned s) same planned_is facts
+pub planned_if : (s : Program) (v : RankView) (node : Node) (o : Option LocalPlan) → v.activity ≡ Running → Stands (left_at s) v.node node → IfSome o (λ plan. plan ≡ plan_of node.action node.next (env_of v.rank s.ranks (rank_of s v))) → IfSome o (IsPlanned s v)
+planned_if s v node None running d is = tt
+planned_if s v node (Some plan) running d is = planned_at s v node plan running d is
 
--- a running rank with nothing left
-pub ended_none : (p n count : ℕ) (r : RankWorld) → r.activity ≡ Running → r.rest ≡ [] → local p n count r ≡ None
-ended_none p n count r e h = rw (e, h) refl
+-- a rank with nothing left, where it runs
+none_by : (p n count : ℕ) (r : RankWorld) (a : Activity) → a ≡ r.activity → (a ≡ Running → r.rest ≡ []) → local p n count r ≡ None
+none_by p n count r Running e h = rw (sym e, h refl) refl
+none_by p n count r Blocked e h = rw (sym e) refl
+none_by p n count r (Trapped t) e h = rw (sym e) refl
 
-pub ruleset planning = (ended_none)
+pub ended_none : (p n count : ℕ) (r : RankWorld) → (r.activity ≡ Running → r.rest ≡ []) → local p n count r ≡ None
+ended_none p n count r h = none_by p n count r r.activity refl h
+
+unrecorded_by : (p n : ℕ) (r : RankWorld) (a : Activity) → a ≡ r.activity → (a ≡ Running → r.rest ≡ []) → local_record p n r ≡ None
+unrecorded_by p n r Running e h = rw (sym e, h refl) refl
+unrecorded_by p n r Blocked e h = rw (sym e) refl
+unrecorded_by p n r (Trapped t) e h = rw (sym e) refl
+
+pub ended_unrecorded : (p n : ℕ) (r : RankWorld) → (r.activity ≡ Running → r.rest ≡ []) → local_record p n r ≡ None
+ended_unrecorded p n r h = unrecorded_by p n r r.activity refl h
+
+pub ruleset planning = (ended_none, ended_unrecorded, planned_at, planned_if, plan_below)
+
+-- ---- a plan that issues no call
+
+own_assigned : (o : Option (ℕ × ℤ)) → IsOwn (assigned_change o)
+own_assigned None = tt
+own_assigned (Some w) = tt
+
+own_change : (vars : List ℤ) (handles : List (Option ℕ)) (plan : LocalPlan) → IsAlone plan → IsOwn (plan_change vars handles plan)
+own_change vars handles (trap.Move next) h = tt
+own_change vars handles (trap.Print v next) h = tt
+own_change vars handles (trap.Assign cell v next) h = own_assigned (held vars cell)
+own_change vars handles (trap.Issue a next) h = absurd h
+own_change vars handles (trap.Trap t) h = tt
+
+-- what it changes is its own
+pub own_recorded : (v : RankView) (plan : LocalPlan) (done : RankRecord) → IsAlone plan → done ≡ plan_record v plan → IsOwn done.change
+own_recorded v plan done h e = rw e (own_change v.vars v.handles plan h)
+
+-- and its rank is the same whatever number a call would have
+alone_ran : (s : Program) (r : RankWorld) (count node : ℕ) (plan : LocalPlan) → IsAlone plan → plan_ran s r count node plan ≡ record { rank = planned s r 0 plan; call = None }
+alone_ran s r count node (trap.Move next) h = refl
+alone_ran s r count node (trap.Print v next) h = refl
+alone_ran s r count node (trap.Assign cell v next) h = refl
+alone_ran s r count node (trap.Issue a next) h = absurd h
+alone_ran s r count node (trap.Trap t) h = refl
+
+pub stepped_alone : (s : Program) (v w : RankView) (plan : LocalPlan) → IsAlone plan → ((count : ℕ) → local v.rank s.ranks count (rank_of s v) ≡ Some (plan_ran s (rank_of s v) count v.node plan)) → rank_of s w ≡ planned s (rank_of s v) 0 plan
+    → (count : ℕ) → local v.rank s.ranks count (rank_of s v) ≡ Some (record { rank = rank_of s w; call = None })
+stepped_alone s v w plan h step after count = step count ∙ ap Some (alone_ran s (rank_of s v) count v.node plan h) ∙ (λ i. Some (record { rank = sym after i; call = None }))
+
+pub ruleset stepping = (own_recorded, stepped_alone)

@@ -72,6 +72,14 @@ plan_call number (Assign cell v next) = None
 plan_call number (Issue a next) = Some (record { statement = number; kind = a.kind })
 plan_call number (Trap t) = None
 
+-- a plan that issues no call
+abbrev pub IsAlone : LocalPlan → Type 0
+IsAlone (Move next) = Unit {0}
+IsAlone (Print v next) = Unit {0}
+IsAlone (Assign cell v next) = Unit {0}
+IsAlone (Issue a next) = ⊥
+IsAlone (Trap t) = Unit {0}
+
 -- a send has a tag
 abbrev pub HasTag : Option CallKind → Type 0
 HasTag (Some (Send s)) = s.tag < TAGS

@@ -1,5 +1,5 @@
 -- What the record of a step says: where the rank stood, and what the step did beside moving it.
-use Rattle.std.specs.Prelude.{ℕ, ℤ, List, [], ◌∷◌, if◌then◌else◌, Option, Some, None, Result, Ok, Err}
+use Rattle.std.specs.Prelude.{◌≡◌, ℕ, ℤ, List, [], ◌∷◌, if◌then◌else◌, Option, Some, None, Result, Ok, Err}
 use Rattle.mpd_model.specs.declared.call.Activity.{Activity}
 use Rattle.mpd_model.specs.declared.call.Activity.TheVariants as activity
 use Rattle.mpd_model.specs.declared.call.Issue.{Issue}
@@ -8,15 +8,17 @@ use Rattle.mpd_model.specs.declared.stmt.Simple.{Simple}
 use Rattle.mpd_model.specs.declared.stmt.Simple.TheVariants as st
 use Rattle.mpd_model.specs.Term.{Value, Env, value_of, is_zero}
 use Rattle.mpd_model.specs.Tree.{Tree, simple, branch, repeat}
+use Rattle.mpd_model.specs.Program.{Program}
 use Rattle.mpd_model.specs.World.{RankWorld}
-use Rattle.mpd_model.specs.Next.{env_of, send_issue, recv_issue, isend_issue, irecv_issue, wait_issue, assignment}
+use Rattle.mpd_model.specs.Next.{local, env_of, send_issue, recv_issue, isend_issue, irecv_issue, wait_issue, assignment}
 use Rattle.mpd_rank.specs.declared.change.Change.{Change}
 use Rattle.mpd_rank.specs.declared.change.Change.TheVariants.{Moved, Printed, Issued, Trapped, Woke}
 use Rattle.mpd_rank.specs.declared.change.RankRecord.{RankRecord}
 use Rattle.mpd_rank.specs.declared.plan.LocalPlan.{LocalPlan}
 use Rattle.mpd_rank.specs.declared.plan.LocalPlan.TheVariants as plan
+use Rattle.mpd_rank.specs.Plans.{plan_ran}
 use Rattle.mpd_rank.specs.Undone.{held, all_held, request_held, assigned_change}
-use Rattle.mpd_rank.specs.Views.{RankView}
+use Rattle.mpd_rank.specs.Views.{RankView, rank_of}
 
 -- ---- of a statement, by what it evaluates to: a trap is a change of its own
 
@@ -82,3 +84,8 @@ plan_change vars handles (plan.Trap t) = Trapped
 -- what a rank that stands at a node records of a plan
 abbrev pub plan_record : RankView → LocalPlan → RankRecord
 plan_record v plan = record { from = v.node; change = plan_change v.vars v.handles plan }
+
+-- a plan of what a rank shows is the definition of its step, and of its record
+abbrev pub IsPlanned : Program → RankView → LocalPlan → Type 0
+IsPlanned s v plan =
+    ((count : ℕ) → local v.rank s.ranks count (rank_of s v) ≡ Some (plan_ran s (rank_of s v) count v.node plan)) × (local_record v.rank s.ranks (rank_of s v) ≡ Some (plan_record v plan))

@@ -57,3 +57,13 @@ IsOfRank (Issued handle) = Unit {0}
 IsOfRank Trapped = Unit {0}
 IsOfRank (Matched send recv) = ⊥
 IsOfRank (Woke cells handle) = Unit {0}
+
+-- a change that a rank made and that is its own: it issued no call, and woke from none
+abbrev pub IsOwn : Change → Type 0
+IsOwn Moved = Unit {0}
+IsOwn (Assigned cell was) = Unit {0}
+IsOwn Printed = Unit {0}
+IsOwn (Issued handle) = ⊥
+IsOwn Trapped = Unit {0}
+IsOwn (Matched send recv) = ⊥
+IsOwn (Woke cells handle) = ⊥

@@ -1,7 +1,7 @@
 //! What the next statement of a rank does, before it is done.
 
-ghost use Rattle.std.specs.Prelude.{◌≡◌};
-ghost use Rattle.mpd_rank.specs.Plans.{plan_call, plan_of, simple_plan, print_plan, assign_plan, issue_plan, assert_plan, choice_plan};
+ghost use Rattle.std.specs.Prelude.{◌≡◌, IfSome};
+ghost use Rattle.mpd_rank.specs.Plans.{plan_call, plan_of, simple_plan, print_plan, assign_plan, issue_plan, assert_plan, choice_plan, IsAlone};
 
 use mpd_code::env::Env;
 use mpd_code::eval::{eval, eval_assign, eval_irecv, eval_isend, eval_recv, eval_send, eval_wait};
@@ -99,6 +99,35 @@ fn plan_simple(simple: &Simple, env: &Env<'_>, next: u32) -> LocalPlan
         Simple::Isend(isend) => plan_issue(eval_isend(isend, env), next),
         Simple::Irecv(irecv) => plan_issue(eval_irecv(irecv, env), next),
         Simple::Wait(handle) => plan_issue(eval_wait(handle, env), next),
+    }
+}
+
+/// What a statement that holds no other does, and the node that follows it, where it is of a kind that issues no call.
+fn plan_own(simple: &Simple, env: &Env<'_>, next: u32) -> Option<LocalPlan>
+    ensures value { IfSome result (λ plan. plan ≡ simple_plan simple.now next env.now) }
+    ensures alone { IfSome result IsAlone }
+{
+    match simple {
+        Simple::Print(value) => Some(plan_print(eval(value, env), next)),
+        Simple::Assign(assign) => Some(plan_assign(eval_assign(assign, env), next)),
+        Simple::Assert(test) => Some(plan_assert(eval(test, env), next)),
+        _ => None,
+    }
+}
+
+/// What a node does, where it is of a kind that issues no call.
+pub(crate) fn plan_alone(node: &Node, env: &Env<'_>) -> Option<LocalPlan>
+    ensures value { IfSome result (λ plan. plan ≡ plan_of node.now.action node.now.next env.now) }
+    ensures alone { IfSome result IsAlone }
+{
+    match &node.action {
+        Action::Simple(simple) => plan_own(simple, env, node.next),
+        Action::Branch {
+            test,
+            first,
+            second,
+        } => Some(plan_choice(eval(test, env), *first, *second)),
+        Action::Repeat { test, body } => Some(plan_choice(eval(test, env), *body, node.next)),
     }
 }
 

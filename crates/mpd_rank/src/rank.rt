@@ -1,17 +1,19 @@
 //! The state of one rank.
 
-ghost use Rattle.std.specs.Prelude.{◌≡◌, ◌<◌, ◌≤◌, ◌+◌, IfOk, IfSome, IfNone, OnOk, OnErr, is_some, IsSome, ℕ, Some, slice_set};
+ghost use Rattle.std.specs.Prelude.{◌≡◌, ◌<◌, ◌≤◌, ◌+◌, IfOk, IfSome, IfNone, [], OnOk, OnErr, is_some, IsSome, ℕ, Some, slice_set};
 ghost use Rattle.std.specs.Option.{option_map};
 ghost use Rattle.mpd_model.specs.Program.{Program};
 ghost use Rattle.mpd_rank.specs.Held.{IsSmall};
 ghost use Rattle.mpd_code.specs.Left.{left_at};
+ghost use Rattle.mpd_code.specs.Stands.{Stands};
 ghost use Rattle.mpd_model.specs.Next as next_specs;
 
 use crate::change::{Cells, Change, HeldCell, HeldCells, HeldHandle, RankRecord};
-use crate::plan::{LocalPlan, plan_node};
+use crate::plan::{LocalPlan, plan_alone, plan_node};
 use crate::standing::Standing;
 use mpd_code::code::Code;
 use mpd_code::env::Env;
+use mpd_code::node::Node;
 use mpd_model::call::{Activity, CallKind, Issue};
 use mpd_queue::tape::Tape;
 use std::alloc::{AllocError, Global};
@@ -67,11 +69,11 @@ fn blocks(kind: CallKind) -> bool
 impl RankState {
     ghost use Rattle.mpd_model.specs.World.{start_rank};
     ghost use Rattle.mpd_model.specs.Outcomes.{has_ended, first_number};
-    ghost use Rattle.mpd_model.specs.Next.{local, woken_rank, write_cells, requested, activity_after};
+    ghost use Rattle.mpd_model.specs.Next.{env_of, local, woken_rank, write_cells, requested, activity_after};
     ghost use Rattle.mpd_rank.specs.Views.{rank_of, listed};
-    ghost use Rattle.mpd_rank.specs.Plans.{planned, plan_ran, HasPlannedReceiver};
-    ghost use Rattle.mpd_rank.specs.Undone.{IsOfRank, undone_rank, held, all_held, request_held, put_held};
-    ghost use Rattle.mpd_rank.specs.Records.{local_record, plan_record, wake_record};
+    ghost use Rattle.mpd_rank.specs.Plans.{planned, plan_ran, HasPlannedReceiver, IsAlone};
+    ghost use Rattle.mpd_rank.specs.Undone.{IsOfRank, IsOwn, undone_rank, held, all_held, request_held, put_held};
+    ghost use Rattle.mpd_rank.specs.Records.{local_record, plan_record, wake_record, IsPlanned};
 
     /// A rank before its first step, with the whole body to run. An `Err` is want of memory.
     pub fn start(alloc: Global, code: &Code, rank: u32) -> Result<RankState, AllocError>
@@ -107,13 +109,7 @@ impl RankState {
     fn standing(&self) -> Standing
         ensures { result ≡ record { node = self.now.node; activity = self.now.activity } }
     {
-        match self.standing.get(0) {
-            Some(standing) => standing,
-            None => Standing {
-                node: 0,
-                activity: Activity::Running,
-            },
-        }
+        self.standing.items()[0]
     }
 
     /// Puts it at a node. One write.
@@ -123,6 +119,33 @@ impl RankState {
         self.standing.set(0, Standing { node, activity });
     }
 
+    /// The node of its next statement, where it is running and has one.
+    fn next_node<'n>(&self, code: &'n Code) -> Option<&'n Node>
+        ensures running { IfSome result (λ _. self.now.activity ≡ Activity.Running) }
+        ensures some { IfSome result (λ node. Stands (left_at code.now.program) self.now.node node.now) }
+        ensures none { IfNone result (self.now.activity ≡ Activity.Running → left_at code.now.program self.now.node ≡ []) }
+    {
+        let Standing { node, activity } = self.standing();
+        match activity {
+            Activity::Running => code.node(node as usize),
+            Activity::Blocked | Activity::Trapped(_) => None,
+        }
+    }
+
+    /// What its statements are evaluated in.
+    fn env<'v>(&'v self, code: &Code) -> Env<'v>
+        ensures { result ≡ env_of self.now.rank code.now.program.ranks (rank_of code.now.program self.now) }
+    {
+        let rank = self.rank;
+        let size = code.ranks();
+        Env {
+            vars: self.vars.items(),
+            handles: self.handles.items(),
+            rank,
+            size: size as u32,
+        }
+    }
+
     /// What the next local step does, where there is one. Nothing changes.
     #[tactic(auto, using(crate::proofs::PlanLemmas::planning))]
     pub fn plan_local(&self, code: &Code) -> Option<LocalPlan>
@@ -130,21 +153,39 @@ impl RankState {
         ensures recorded { local_record self.now.rank code.now.program.ranks (rank_of code.now.program self.now) ≡ option_map (plan_record self.now) result }
         ensures receiver { IfSome result (λ plan. HasPlannedReceiver code.now.program.ranks plan) }
     {
-        let Standing { node, activity } = self.standing();
-        match activity {
-            Activity::Running => {}
-            Activity::Blocked | Activity::Trapped(_) => return None,
-        }
-        let node = code.node(node as usize)?;
-        let rank = self.rank;
-        let size = code.ranks();
-        let env = Env {
-            vars: self.vars.items(),
-            handles: self.handles.items(),
-            rank,
-            size: size as u32,
-        };
+        let node = self.next_node(code)?;
+        let env = self.env(code);
         Some(plan_node(node, &env))
+    }
+
+    /// What the next local step does, where its statement is of a kind that issues no call. Nothing changes.
+    #[tactic(auto, using(crate::proofs::PlanLemmas::planning))]
+    fn plan_alone(&self, code: &Code) -> Option<LocalPlan>
+        ensures planned { IfSome result (IsPlanned code.now.program self.now) }
+        ensures alone { IfSome result IsAlone }
+        ensures running { IfSome result (λ _. self.now.activity ≡ Activity.Running) }
+    {
+        let node = self.next_node(code)?;
+        let env = self.env(code);
+        plan_alone(node, &env)
+    }
+
+    /// Takes the next local step, where its statement is of a kind that issues no call, in the room that was kept. It answers what
+    /// takes the step back, in one or two writes. Where it answers nothing, nothing has changed.
+    #[tactic(auto, using(crate::proofs::PlanLemmas::stepping))]
+    pub fn step_alone(&mut self, code: &Code) -> Option<RankRecord>
+        requires { 1 ≤ self.old.room }
+        ensures step { IfSome result (λ _. (count : ℕ) → local self.old.rank code.now.program.ranks count (rank_of code.now.program self.old) ≡ Some (record { rank = rank_of code.now.program self.new; call = None })) }
+        ensures recorded { IfSome result (λ done. local_record self.old.rank code.now.program.ranks (rank_of code.now.program self.old) ≡ Some done) }
+        ensures back { IfSome result (λ done. undone_rank code.now.program (rank_of code.now.program self.new) done ≡ rank_of code.now.program self.old) }
+        ensures own { IfSome result (λ done. IsOwn done.change) }
+        ensures rank { self.new.rank ≡ self.old.rank }
+        ensures none { IfNone result (self.new ≡ self.old) }
+        ensures rises { IfSome result (λ _. self.old.writes + 1 ≤ self.new.writes) }
+        ensures few { self.new.writes ≤ self.old.writes + 2 }
+    {
+        let plan = self.plan_alone(code)?;
+        Some(self.commit(plan, 0))
     }
 
     /// Writes a variable, where there is such a cell, and answers what it held.
