@@ -75,6 +75,10 @@ board_count s vs b n h e = e ∙ count_is s vs h.numbers ∙ sym h.calls
 pub rank_is : (s : Program) (vs : List RankView) (b : Board) (n p : ℕ) (v : RankView) → n ≡ length vs → p < n → v ≡ get_or vs p v → Holds s vs b → v.rank ≡ p
 rank_is s vs b n p v e h read held = (as_numbered s vs n p v e h read held.numbers).0
 
+-- where the world has a rank, the one that was read has its number
+pub number_is : (s : Program) (vs : List RankView) (b : Board) (n p : ℕ) (v : RankView) → n ≡ length (ranks_in s vs) → p < n → v ≡ get_or vs p v → Holds s vs b → v.rank ≡ p
+number_is s vs b n p v e h read held = rank_is s vs b n p v (e ∙ length-map vs (rank_of s)) h read held
+
 pub on_board : (s : Program) (vs : List RankView) (b : Board) (n p : ℕ) (v : RankView) → n ≡ length vs → p < n → v ≡ get_or vs p v → Holds s vs b → v.rank < length b.calls
 on_board s vs b n p v e h read held = omega (arith, rank_is s vs b n p v e h read held, h, board_count s vs b n held e)
 
@@ -244,6 +248,8 @@ pub ruleset ending = (ended_on, ended_not)
 pub ruleset at_rank = (on_board, held_set, next_some, next_none, none_on, recorded_ok, numbers_set, writes_set, woke_read, no_room_with, put_back_read, update_read, stays_read, wake_back)
 
 pub ruleset reading = (slice_get-ranks_in)
+
+pub ruleset numbered = (number_is, rank_is)
 
 pub ruleset starting = (start_more, numbers_more, writes_more)
 

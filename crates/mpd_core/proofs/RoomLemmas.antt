@@ -49,6 +49,26 @@ pub no_room_old : (vs olds : List RankView) (n i k : ℕ) (v : RankView) → dro
 no_room_old vs olds n i k v e size long h read none =
     no_room_at olds n i k v (size ∙ long) h (read ∙ ap (λ us. get_or us 0 v) (rest_at vs olds i v (omega (arith, size)) long e)) none
 
+-- a rank with no less room than the one it takes the place of leaves no less in all
+pub room_kept : (vs : List RankView) (n p board_room : ℕ) (v w : RankView) → n ≡ length vs → p < n → v ≡ get_or vs p v → v.room ≤ w.room → room_in board_room vs ≤ room_in board_room (set vs p w)
+room_kept [] n p k v w e h read more = absurd (omega (arith, e))
+room_kept (u ∷ vs) n zero k v w e h read more = omega (arith, more, ap (λ (x : RankView). x.room) read)
+room_kept (u ∷ vs) n (suc p) k v w e h read more = omega (arith, room_kept vs (length vs) p k v w refl (omega (arith, e)) read more)
+
+-- nor does it with more room on the board
+pub room_grows : (vs : List RankView) (k m : ℕ) → k ≤ m → room_in k vs ≤ room_in m vs
+room_grows [] k m more = more
+room_grows (v ∷ vs) k m more = omega (arith, room_grows vs k m more)
+
+at_most : (a b c : ℕ) → a ≤ b → b ≤ c → a ≤ c
+at_most a b c low high = omega (arith, low, high)
+
+pub room_never_less : (before after : List RankView) (k m : ℕ) → k ≤ m → ((n : ℕ) → room_in n before ≤ room_in n after) → room_in k before ≤ room_in m after
+room_never_less before after k m more kept = at_most (room_in k before) (room_in k after) (room_in m after) (kept k) (room_grows after k m more)
+
+pub room_on : (olds vs : List RankView) (n p k : ℕ) (v w : RankView) → n ≡ length vs → p < n → v ≡ get_or vs p v → v.room ≤ w.room → room_in k olds ≤ room_in k vs → room_in k olds ≤ room_in k (set vs p w)
+room_on olds vs n p k v w e h read more so_far = at_most (room_in k olds) (room_in k vs) (room_in k (set vs p w)) so_far (room_kept vs n p k v w e h read more)
+
 pub length_set : (vs : List RankView) (i : ℕ) (w : RankView) → length (set vs i w) ≡ length vs
 length_set vs i w = length-set vs i w
 
@@ -57,4 +77,4 @@ room_all vs n k e some all = rw (sym (take_all n vs (omega (arith, e)))) (all k 
 
 pub ruleset refused = (no_board_room)
 
-pub ruleset keeping = (no_board_room, room_all)
+pub ruleset keeping = (no_board_room, room_all, room_grows, room_never_less)

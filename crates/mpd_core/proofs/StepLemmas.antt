@@ -1,5 +1,5 @@
 -- The local step of one rank over a board.
-use Rattle.std.proofs.Common.{◌≡◌, ℕ, Bool, true, false, is_some, ℤ, List, [], ◌∷◌, ◌++◌, Option, Some, None, IfSome, length, refl, sym, ap, ◌∙◌}
+use Rattle.std.proofs.Common.{◌≡◌, ℕ, Bool, true, false, is_some, ℤ, ◌≤◌, ◌+◌, List, [], ◌∷◌, ◌++◌, Option, Some, None, Result, Ok, Err, OnOk, OnErr, IfSome, length, refl, sym, ap, ◌∙◌, arith}
 use Rattle.std.specs.Option.{option_map}
 use Rattle.std.proofs.lemmas.List.{length-set}
 use Rattle.mpd_model.specs.declared.call.Activity.{Activity}
@@ -22,6 +22,7 @@ use Rattle.mpd_rank.specs.Undone.{held, assigned_change, IsOwn, IsOfRank}
 use Rattle.mpd_rank.specs.Views.{RankView, rank_of}
 use Rattle.mpd_core.specs.OneRank.{ran_on, local_on, CanUnissueIf}
 use Rattle.mpd_core.specs.Undone.{unissued, CanUnissue}
+use Rattle.mpd_core.proofs.RangeLemmas.{on_ok}
 
 -- a call that is planned has a receiver
 pub has_receiver : (n number : ℕ) (plan : LocalPlan) (o : Option Call) → HasPlannedReceiver n plan → o ≡ plan_call number plan → IfSome o (λ c. HasReceiver n c.kind × HasTag (Some c.kind))
@@ -98,6 +99,19 @@ local_stays s b v none = ap (option_map (ran_on b v.rank)) none
 -- a call more is of no rank more
 pub length-calls : (b : Board) (p : ℕ) (c : Call) → length (with_call b p c).calls ≡ length b.calls
 length-calls b p c = length-set b.calls p (calls_of b p ++ c ∷ [])
+
+-- a step of so many writes, or of at least two
+pub match_rises : {A E : Type 0} (result : Result A E) (old new : ℕ) → OnOk result (new ≡ old + 7) → OnOk result (old + 1 ≤ new)
+match_rises result old new = on_ok result (λ h. omega (arith, h))
+
+pub match_few : {A E : Type 0} (result : Result A E) (old new : ℕ) → OnOk result (new ≡ old + 7) → OnErr result (new ≡ old) → new ≤ old + 16
+match_few (Ok x) old new done refused = omega (arith, done)
+match_few (Err e) old new done refused = omega (arith, refused)
+
+pub wake_rises : {A E : Type 0} (result : Result A E) (old new : ℕ) → OnOk result (old + 2 ≤ new) → OnOk result (old + 1 ≤ new)
+wake_rises result old new = on_ok result (λ h. omega (arith, h))
+
+pub ruleset writing = (match_rises, match_few, wake_rises)
 
 pub ruleset issuing = (length-calls)
 

@@ -1,6 +1,6 @@
 //! One of the ranks is changed, or all of them.
 
-ghost use Rattle.std.specs.Prelude.{◌≡◌, ◌↔◌, ◌<◌, ◌≤◌, ◌+◌, ℕ, min, length, slice_get, replicate, vec_len, IfOk, IfSome, OnOk, OnErr, IsErrOf, Some, None};
+ghost use Rattle.std.specs.Prelude.{◌≡◌, ◌↔◌, ◌<◌, ◌≤◌, ◌+◌, ℕ, min, length, slice_get, replicate, vec_len, IfOk, IfSome, IfNone, IsSome, OnOk, OnErr, IsErrOf, Some, None};
 ghost use Rattle.std.specs.Option.{option_map};
 ghost use Rattle.std.specs.List.{list_all, range_with_len};
 ghost use Rattle.mpd_model.specs.Program.{Program};
@@ -54,12 +54,14 @@ fn issue_on(board: &mut Board, rank: usize, call: Option<Call>) -> Result<u32, A
     requires rank { rank < length board.old.board.calls }
     requires receiver { IfSome call (λ c. HasReceiver (length board.old.board.calls) c.kind × HasTag (Some c.kind)) }
     ensures number { IfOk result (λ n. IfSome call (λ _. n ≡ length (calls_of board.old.board rank))) }
+    ensures none { IfOk result (λ n. IfNone call (n ≡ 0)) }
     ensures small { IfOk result (λ n. n < 4294967295) }
     ensures board { OnOk result (board.new.board ≡ with_issued board.old.board rank call) }
     ensures back { OnOk result (IfSome call (λ _. without_last_call board.new.board rank ≡ board.old.board)) }
     ensures can { OnOk result (CanUnissueIf board.new.board rank call) }
     ensures err { OnErr result (board.new.board ≡ board.old.board) }
     ensures memory { OnErr result (board.old.room ≡ 0) }
+    ensures for_a_call { OnErr result (IsSome call) }
     ensures rises { board.old.writes ≤ board.new.writes }
     ensures few { board.new.writes ≤ board.old.writes + 6 }
     ensures unwritten { OnErr result (board.new.writes ≡ board.old.writes) }
@@ -206,6 +208,7 @@ pub(crate) fn restore_one(ranks: &mut Vec<RankState>, rank: usize, done: RankRec
 pub(crate) fn keep_rooms(ranks: &mut Vec<RankState>) -> Result<(), AllocError>
     ensures same { (s : Program) → ranks_in s ranks.new.items ≡ ranks_in s ranks.old.items }
     ensures room { OnOk result ((board_room : ℕ) → 1 ≤ board_room → 1 ≤ room_in board_room ranks.new.items) }
+    ensures never_less { (board_room : ℕ) → room_in board_room ranks.old.items ≤ room_in board_room ranks.new.items }
     ensures memory { OnErr result ((board_room : ℕ) → room_in board_room ranks.old.items ≡ 0) }
     ensures numbers { numbers_in ranks.new.items ≡ numbers_in ranks.old.items }
     ensures size { vec_len ranks.new ≡ vec_len ranks.old }
@@ -235,7 +238,8 @@ pub(crate) fn all_ended(code: &Code, ranks: &[RankState]) -> bool
 /// A rank, where there is one.
 #[tactic(auto, using(crate::proofs::RankLemmas::reading))]
 pub(crate) fn rank_at(ranks: &[RankState], rank: usize) -> Option<&RankState>
-    ensures { (s : Program) → slice_get (ranks_in s ranks.now) rank ≡ option_map (λ r. rank_of s r.now) result }
+    ensures world { (s : Program) → slice_get (ranks_in s ranks.now) rank ≡ option_map (λ r. rank_of s r.now) result }
+    ensures same { slice_get ranks.now rank ≡ option_map (λ r. r.now) result }
 {
     ranks.get(rank)
 }

@@ -162,10 +162,11 @@ impl<'c> Core<'c> {
     }
 
     /// A rank, which is there: what it holds, and what it has printed.
-    #[tactic(auto, using(crate::proofs::RankLemmas::reading))]
+    #[tactic(auto, using(crate::proofs::RankLemmas::reading, crate::proofs::RankLemmas::numbered))]
     pub fn rank(&self, rank: usize) -> &RankState
         requires { rank < length self.now.world.ranks }
-        ensures { slice_get self.now.world.ranks rank ≡ Some (rank_of self.now.program result.now) }
+        ensures world { slice_get self.now.world.ranks rank ≡ Some (rank_of self.now.program result.now) }
+        ensures number { result.now.rank ≡ rank }
     {
         &self.ranks[rank]
     }
@@ -262,8 +263,7 @@ impl<'c> Core<'c> {
         ensures memory { IsErrOf result StepFault.Memory → self.old.room ≡ 0 }
         ensures err { OnErr result (self.new.world ≡ self.old.world) }
         ensures program { self.new.program ≡ self.old.program }
-        ensures rises { OnOk result (self.old.writes + 1 ≤ self.new.writes) }
-        ensures few { self.new.writes ≤ self.old.writes + 16 }
+        ensures writes { OnOk result (self.new.writes ≡ self.old.writes + 7) }
         ensures unwritten { OnErr result (self.new.writes ≡ self.old.writes) }
         ensures looks { self.new.looks ≡ self.old.looks + step_looks self.old.world.board (Step.Match send recv) }
         ensures few_looks { self.new.looks ≤ self.old.looks + most_looks self.old.world.board (Step.Match send recv) }
@@ -315,8 +315,8 @@ impl<'c> Core<'c> {
         ensures memory { IsErrOf result StepFault.Memory → self.old.room ≡ 0 }
         ensures err { OnErr result (self.new.world ≡ self.old.world) }
         ensures program { self.new.program ≡ self.old.program }
-        ensures rises { OnOk result (self.old.writes + 1 ≤ self.new.writes) }
-        ensures few { self.new.writes ≤ self.old.writes + 16 }
+        ensures rises { OnOk result (self.old.writes + 2 ≤ self.new.writes) }
+        ensures few { self.new.writes ≤ self.old.writes + 6 }
         ensures unwritten { OnErr result (self.new.writes ≡ self.old.writes) }
         ensures looks { self.new.looks ≡ self.old.looks }
     {
@@ -341,6 +341,7 @@ impl<'c> Core<'c> {
     #[tactic(auto, using(crate::proofs::RoomLemmas::keeping, crate::proofs::TagLemmas::tagging))]
     pub fn keep_room(&mut self) -> Result<(), AllocError>
         ensures room { OnOk result (1 ≤ self.new.room) }
+        ensures never_less { self.old.room ≤ self.new.room }
         ensures memory { OnErr result (self.old.room ≡ 0) }
         ensures world { self.new.world ≡ self.old.world }
         ensures program { self.new.program ≡ self.old.program }
@@ -355,6 +356,7 @@ impl<'c> Core<'c> {
     /// growth was refused, which is nowhere where room was kept. On a refusal the state is as before
     /// (docs/DEFINITIONS.md, "Steps"). A step takes 1 to 16 writes, and looks at lists of free calls only for a match that fits:
     /// at most at their cells, and twice more.
+    #[tactic(auto, using(crate::proofs::StepLemmas::writing))]
     pub fn apply(&mut self, step: Step) -> Result<Record, StepFault>
         ensures ok { OnOk result (next self.old.world step ≡ Some self.new.world) }
         ensures back { IfOk result (λ done. undone self.old.program self.new.world done ≡ self.old.world) }

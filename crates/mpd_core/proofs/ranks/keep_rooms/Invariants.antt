@@ -10,5 +10,6 @@ invariant-loop-rank l = record {
   writes : writes_in l.ranks.items ≡ writes_in l.fn.ranks.items;
   size : length l.ranks.items ≡ length l.fn.ranks.items;
   room : (k : ℕ) → 1 ≤ k → 1 ≤ room_in k (take l.rank l.ranks.items);
+  never_less : (k : ℕ) → room_in k l.fn.ranks.items ≤ room_in k l.ranks.items;
   rest : drop l.rank l.ranks.items ≡ drop l.rank l.fn.ranks.items;
 }
