@@ -67,21 +67,11 @@ message_known None e = cc
 
 pub fitting_send : (one other : Option CallKind) (p q : ℕ) → fitting one other p q ≡ true → (sends_to one q ≡ true) × (is_message_kind one ≡ true)
 fitting_send (Some (Send s)) (Some (Recv r)) p q e = ((both_of (s.to == q) _ e).0, refl)
-fitting_send (Some (Send s)) (Some (Send t)) p q e = cc
-fitting_send (Some (Send s)) (Some (Wait t)) p q e = cc
-fitting_send (Some (Send s)) None p q e = cc
-fitting_send (Some (Recv r)) other p q e = cc
-fitting_send (Some (Wait t)) other p q e = cc
-fitting_send None other p q e = cc
+fitting_send one other p q e = cc
 
 pub fitting_recv : (one other : Option CallKind) (p q : ℕ) → fitting one other p q ≡ true → (receives other ≡ true) × (is_message_kind other ≡ true)
 fitting_recv (Some (Send s)) (Some (Recv r)) p q e = (refl, refl)
-fitting_recv (Some (Send s)) (Some (Send t)) p q e = cc
-fitting_recv (Some (Send s)) (Some (Wait t)) p q e = cc
-fitting_recv (Some (Send s)) None p q e = cc
-fitting_recv (Some (Recv r)) other p q e = cc
-fitting_recv (Some (Wait t)) other p q e = cc
-fitting_recv None other p q e = cc
+fitting_recv one other p q e = cc
 
 -- ---- what eligible says, part by part
 

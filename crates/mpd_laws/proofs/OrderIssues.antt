@@ -41,13 +41,7 @@ issued_blocks r ts number count (Err t) c e h = absurd (cc)
 
 simple_blocks : (env : Env) (r : RankWorld) (count number : ℕ) (s : Simple) (ts : List (ℕ × Tree)) → BlocksOn (ran_simple env r count number s ts)
 simple_blocks env r count number (st.Print e) ts = alone_blocks (printed r ts (value_of e env))
-simple_blocks env r count number (st.Assign s) ts = alone_blocks (assigned r ts (assignment s env))
-simple_blocks env r count number (st.Assert e) ts = alone_blocks (asserted r ts (value_of e env))
-simple_blocks env r count number (st.Send s) ts = issued_blocks r ts number count _
-simple_blocks env r count number (st.Recv s) ts = issued_blocks r ts number count _
-simple_blocks env r count number (st.Isend s) ts = issued_blocks r ts number count _
-simple_blocks env r count number (st.Irecv s) ts = issued_blocks r ts number count _
-simple_blocks env r count number (st.Wait t) ts = issued_blocks r ts number count _
+simple_blocks env r count number s ts = search (alone_blocks, issued_blocks)
 
 ran_blocks : (env : Env) (r : RankWorld) (count number : ℕ) (t : Tree) (ts : List (ℕ × Tree)) → BlocksOn (ran env r count number t ts)
 ran_blocks env r count number (simple s) ts = simple_blocks env r count number s ts

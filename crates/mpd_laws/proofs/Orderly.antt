@@ -68,18 +68,8 @@ first_send_fits (Some (Send a)) (Some (Send b)) (Some (Recv r)) p q e f =
     let to : a.to ≡ b.to = eqb-true a.to b.to parts.0 in
     let tag : a.tag ≡ b.tag = eqb-true a.tag b.tag parts.1 in
     (λ i. (to i == q) && (is_any_or r.from p && is_any_or r.tag (tag i))) ∙ f
-first_send_fits (Some (Send a)) (Some (Send b)) (Some (Send r)) p q e f = cc
-first_send_fits (Some (Send a)) (Some (Send b)) (Some (Wait r)) p q e f = cc
-first_send_fits (Some (Send a)) (Some (Send b)) None p q e f = cc
-first_send_fits (Some (Send a)) (Some (Recv b)) r p q e f = cc
-first_send_fits (Some (Send a)) (Some (Wait b)) r p q e f = cc
-first_send_fits (Some (Send a)) None r p q e f = cc
-first_send_fits (Some (Recv a)) (Some (Send b)) r p q e f = cc
 first_send_fits (Some (Recv a)) (Some (Recv b)) r p q e f = cc
-first_send_fits (Some (Recv a)) (Some (Wait b)) r p q e f = cc
-first_send_fits (Some (Recv a)) None r p q e f = cc
-first_send_fits (Some (Wait a)) y r p q e f = cc
-first_send_fits None y r p q e f = cc
+first_send_fits x y r p q e f = cc
 
 first_recv_fits : (s x y : Option CallKind) (p q : ℕ) → matches_first x y ≡ true → fitting s y p q ≡ true → fitting s x p q ≡ true
 first_recv_fits (Some (Send s)) (Some (Recv a)) (Some (Recv b)) p q e f =
@@ -87,18 +77,8 @@ first_recv_fits (Some (Send s)) (Some (Recv a)) (Some (Recv b)) p q e f =
     let first = both_of (s.to == q) _ f in
     let second = both_of (is_any_or b.from p) _ first.1 in
     (λ i. first.0 i && (covers_any a.from b.from p covered.0 second.0 i && covers_any a.tag b.tag s.tag covered.1 second.1 i))
-first_recv_fits (Some (Send s)) (Some (Recv a)) (Some (Send b)) p q e f = cc
-first_recv_fits (Some (Send s)) (Some (Recv a)) (Some (Wait b)) p q e f = cc
-first_recv_fits (Some (Send s)) (Some (Recv a)) None p q e f = cc
-first_recv_fits (Some (Send s)) (Some (Send a)) (Some (Recv b)) p q e f = cc
 first_recv_fits (Some (Send s)) (Some (Send a)) (Some (Send b)) p q e f = cc
-first_recv_fits (Some (Send s)) (Some (Send a)) (Some (Wait b)) p q e f = cc
-first_recv_fits (Some (Send s)) (Some (Send a)) None p q e f = cc
-first_recv_fits (Some (Send s)) (Some (Wait a)) y p q e f = cc
-first_recv_fits (Some (Send s)) None y p q e f = cc
-first_recv_fits (Some (Recv s)) x y p q e f = cc
-first_recv_fits (Some (Wait s)) x y p q e f = cc
-first_recv_fits None x y p q e f = cc
+first_recv_fits s x y p q e f = cc
 
 -- ---- what a match set has to show, so that it may join
 
