@@ -1,4 +1,5 @@
-//! Laws, which have no code: what holds of the grammar, of the canonical text, and of both (docs/LANGUAGE.md).
+//! Laws, which have no code: what holds of the grammar, of the canonical text, and of both (docs/LANGUAGE.md), and of the order of
+//! calls (docs/DEFINITIONS.md).
 #![tactic(auto)]
 
 pub mod ordering;
