@@ -15,7 +15,7 @@ use Rattle.mpd_model.specs.declared.stmt.Simple.TheVariants as st
 use Rattle.mpd_model.specs.Term.{Env, value_of}
 use Rattle.mpd_model.specs.Tree.{Tree, simple, branch, repeat}
 use Rattle.mpd_model.specs.World.{World, Board, RankWorld, call_id, listed_calls, calls_of, kind_of, kind_at, partner, is_buffered}
-use Rattle.mpd_model.specs.Next.{Ran, alone, printed, assigned, assignment, asserted, chosen, repeated, issued, ran_simple, ran, env_of, local_of, local, blocks, stepped, with_call, with_issued, waits, is_blocked}
+use Rattle.mpd_model.specs.Next.{Ran, alone, printed, chosen, repeated, issued, ran_simple, ran, env_of, local_of, local, blocks, stepped, with_call, with_issued, waits, is_blocked}
 use Rattle.mpd_model.specs.Order.{matches_first, waits_for, blocks_rank, names, Ordered}
 use Rattle.mpd_laws.proofs.Eligible.{known_within}
 use Rattle.mpd_laws.proofs.Orderly.{Orderly, IsAwaited, is_woken, id_same}
