@@ -9,3 +9,4 @@ pub mod Matches
 pub mod Entries
 pub mod BoardRows
 pub mod OrderRows
+pub mod WhyRows

@@ -16,3 +16,5 @@ mod side;
 mod sides;
 mod walk;
 pub mod why;
+#[cfg(test)]
+mod why_rows;
