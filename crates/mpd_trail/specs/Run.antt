@@ -48,11 +48,10 @@ Run first old (c ∷ cs) (r ∷ rs) new = (mid : List Step) × Answers first old
 Run first old [] (r ∷ rs) new = ⊥
 Run first old (c ∷ cs) [] new = ⊥
 
--- How many writes a command takes, told by its reply: a step that was taken, or taken back, 1 to 16; a step that was taken, and
--- taken back for want of memory for its record, 32 at most; any other none.
+-- How many writes a command takes, told by its reply: a step that was taken, or taken back, 1 to 16; any other none.
 abbrev pub Written : ℕ → Reply → ℕ → Type 0
 Written old Done new = (old + 1 ≤ new) × (new ≤ old + 16)
-Written old Memory new = (old ≤ new) × (new ≤ old + 32)
+Written old Memory new = new ≡ old
 Written old NotEnabled new = new ≡ old
 Written old Full new = new ≡ old
 Written old AtStart new = new ≡ old

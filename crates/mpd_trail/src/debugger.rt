@@ -126,40 +126,38 @@ fn is_same(a: Step, b: Step) -> bool
     a == b
 }
 
-/// Has a step as the one at a depth: what stands there already stays, with all after it.
+/// Has a step as the one at a depth: what stands there already stays, with all after it. Where the depth is the end, the room
+/// that was kept is taken.
 #[tactic(auto, using(crate::proofs::StepLemmas::noting))]
-fn note(steps: &mut Vec<Step>, depth: usize, step: Step) -> Result<(), AllocError>
-    requires { depth ≤ vec_len steps.old }
-    ensures ok { OnOk result (steps.new.items ≡ noted steps.old.items depth step) }
-    ensures err { OnErr result (steps.new.items ≡ steps.old.items) }
-    ensures memory { OnErr result (vec_capacity steps.old ≤ vec_len steps.old) }
+fn note(steps: &mut Vec<Step>, depth: usize, step: Step)
+    requires within { depth ≤ vec_len steps.old }
+    requires room { depth ≡ vec_len steps.old → vec_len steps.old < vec_capacity steps.old }
+    ensures { steps.new.items ≡ noted steps.old.items depth step }
 {
     if depth == steps.len() {
-        steps.push(step)?;
-        return Ok(());
+        steps.push_reserved(step);
+        return;
     }
     if !is_same(steps[depth], step) {
         steps[depth] = step;
         steps.truncate(depth + 1);
     }
-    Ok(())
 }
 
-/// Has a step as the next one, and keeps room for its record. An `Err` is want of memory, and leaves the steps as they were.
-fn note_next(
-    records: &mut Vec<RankRecord>,
-    steps: &mut Vec<Step>,
-    step: Step,
-) -> Result<(), AllocError>
+/// Keeps room for one record more, and for its step where none stands there. An `Err` is want of memory.
+fn keep_next(records: &mut Vec<RankRecord>, steps: &mut Vec<Step>) -> Result<(), AllocError>
     requires { vec_len records.old ≤ vec_len steps.old }
-    ensures ok { OnOk result (steps.new.items ≡ noted steps.old.items (vec_len records.old) step) }
     ensures room { OnOk result (vec_len records.new < vec_capacity records.new) }
+    ensures step_room { OnOk result (vec_len records.new ≡ vec_len steps.new → vec_len steps.new < vec_capacity steps.new) }
     ensures records { records.new.items ≡ records.old.items }
-    ensures err { OnErr result (steps.new.items ≡ steps.old.items) }
+    ensures steps { steps.new.items ≡ steps.old.items }
     ensures memory { OnErr result (min (vec_capacity records.old - vec_len records.old) (vec_capacity steps.old - vec_len steps.old) ≡ 0) }
 {
     records.reserve(1)?;
-    note(steps, records.len(), step)
+    if records.len() < steps.len() {
+        return Ok(());
+    }
+    steps.reserve(1)
 }
 
 impl<'c> Debugger<'c> {
@@ -218,8 +216,7 @@ impl<'c> Debugger<'c> {
     /// Takes a step, or refuses it: `NotEnabled` (21) exactly where the relation of steps has none, `Full` (22)
     /// exactly where the step is enabled and 1,000,000 steps are not undone, `Memory` (23) where a growth was
     /// refused, which is nowhere where room was kept. A step that stands next among those undone is taken again and
-    /// keeps the rest; another drops them. A step takes 1 to 16 writes. For want of memory for its record it is taken back,
-    /// which takes so many more; any other refusal takes none.
+    /// keeps the rest; another drops them. A step takes 1 to 16 writes, a refusal none.
     #[tactic(auto, using(crate::proofs::KeptLemmas::keeping))]
     pub fn apply(&mut self, step: Step) -> Result<(), ApplyFault>
         ensures ok { OnOk result (self.new.trail ≡ applied self.old.trail step) }
@@ -233,9 +230,7 @@ impl<'c> Debugger<'c> {
         ensures err_world { OnErr result (self.new.world ≡ self.old.world) }
         ensures rises { OnOk result (self.old.writes + 1 ≤ self.new.writes) }
         ensures few { OnOk result (self.new.writes ≤ self.old.writes + 16) }
-        ensures not_enabled_writes { IsErrOf result ApplyFault.NotEnabled → self.new.writes ≡ self.old.writes }
-        ensures full_writes { IsErrOf result ApplyFault.Full → self.new.writes ≡ self.old.writes }
-        ensures memory_writes { IsErrOf result ApplyFault.Memory → (self.old.writes ≤ self.new.writes) × (self.new.writes ≤ self.old.writes + 32) }
+        ensures unwritten { OnErr result (self.new.writes ≡ self.old.writes) }
     {
         let depth = self.records.len();
         if depth >= STEPS_MAX {
@@ -244,18 +239,17 @@ impl<'c> Debugger<'c> {
             }
             return Err(ApplyFault::NotEnabled);
         }
-        let done = self.core.apply(step)?;
-        match note_next(&mut self.records, &mut self.steps, step) {
-            Ok(()) => {
-                let Record { from, change, .. } = done;
-                self.records.push_reserved(RankRecord { from, change });
-                Ok(())
+        if keep_next(&mut self.records, &mut self.steps).is_err() {
+            if self.core.is_enabled(step) {
+                return Err(ApplyFault::Memory);
             }
-            Err(_) => {
-                self.core.undo(done);
-                Err(ApplyFault::Memory)
-            }
+            return Err(ApplyFault::NotEnabled);
         }
+        let done = self.core.apply(step)?;
+        let Record { from, change, .. } = done;
+        note(&mut self.steps, depth, step);
+        self.records.push_reserved(RankRecord { from, change });
+        Ok(())
     }
 
     /// Takes the last step back, in 1 to 16 writes. It is refused only where no step is left (24), and so never for want of

@@ -6,13 +6,13 @@ use Rattle.mpd_core.specs.Undone.{rank_part}
 use Rattle.mpd_trail.proofs.KeptLemmas.{keeps_push}
 use Rattle.mpd_trail.proofs.debugger.Debugger.apply.Goals as goal
 
-pub invariant_of-self-in-Ok : goal.invariant_of-self-in-Ok
-invariant_of-self-in-Ok c =
+pub invariant_of-self-2 : goal.invariant_of-self-2
+invariant_of-self-2 c =
     let s = c.self.inside in
     let u = rank_part c.in_ok-done.done in
     let room : length s.records.items < STEPS_MAX = search rules in
     let pushed : c.push_reserved.new.self.items ≡ s.records.items ++ u ∷ [] = search rules in
-    let kept : c.note_next.new.steps.items ≡ noted s.steps.items (length s.records.items) c.args.step = search rules in
+    let kept : c.note.new.steps.items ≡ noted s.steps.items (length s.records.items) c.args.step = search rules in
     rw (pushed, kept, c.in_ok-done.ensures.program)
     (keeps_push s.core.program (start s.core.program s.mode) s.records.items s.steps.items s.core.world c.apply.new.self.world c.in_ok-done.done c.args.step c.self.invariant room c.in_ok-done.ensures.ok
     c.in_ok-done.ensures.back c.in_ok-done.ensures.can c.in_ok-done.ensures.recorded)
