@@ -4,17 +4,11 @@
 pub mod board;
 mod complete;
 mod kinds;
-mod looked;
 mod listing;
+mod looked;
 mod order;
-#[cfg(test)]
-mod order_rows;
 pub mod record;
-#[cfg(test)]
-mod rows;
 mod side;
 mod sides;
 mod walk;
 pub mod why;
-#[cfg(test)]
-mod why_rows;

@@ -3,7 +3,7 @@ ghost use Rattle.std.specs.Prelude.{◌≡◌, ◌≤◌, IfOk};
 ghost use Rattle.mpd_model.specs.World.{call_id};
 ghost use Rattle.mpd_match.specs.BoardRows.{sent, received, two_messages};
 
-use crate::board::Board;
+use mpd_match::board::Board;
 use mpd_device::steps::Steps;
 use mpd_model::call::{Call, CallKind, MatchSet, Message, Mode, RecvCall, SendCall, WaitCall};
 use mpd_model::step::CallId;

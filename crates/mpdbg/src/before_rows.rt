@@ -4,7 +4,7 @@ ghost use Rattle.mpd_model.specs.Next.{HasReceiver};
 ghost use Rattle.mpd_model.specs.World.{call_id};
 ghost use Rattle.mpd_match.specs.OrderRows.{sends, takes, awaits};
 
-use crate::board::Board;
+use mpd_match::board::Board;
 use mpd_model::call::{Call, CallKind, Mode, RecvCall, SendCall, WaitCall};
 use mpd_model::step::CallId;
 use std::alloc::AllocError;

@@ -3,7 +3,7 @@ ghost use Rattle.std.specs.Prelude.{◌≡◌, ◌≤◌, IfOk};
 ghost use Rattle.mpd_model.specs.World.{call_id};
 ghost use Rattle.mpd_match.specs.WhyRows.{sent_to_2, received_of_0, received_of_any, two_senders};
 
-use crate::board::Board;
+use mpd_match::board::Board;
 use mpd_device::steps::Steps;
 use mpd_model::call::{Call, CallKind, Mode, RecvCall, SendCall};
 use mpd_model::step::CallId;
