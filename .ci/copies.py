@@ -7,6 +7,11 @@ A copy could be refused for being a copy. So some are made with no edit in them,
 files, since their names are turned too, and one in each type and module; or, at a word, one of each function. A refusal of a copy
 counts only where its control is proved (`Copies.fault`). What is not refused in a copy is tried again in the function itself.
 
+An edit may name the clause that refuses it (a line `clause: NAME` in its file): its copy then has that clause alone of what the
+function ensures, since a body that doesn't meet one clause doesn't meet them all. So it is that clause that is shown to refuse it,
+and nothing is sought for the others. Where what a call in the body requires refuses it, it has `clause: requires`, and its copy
+ensures nothing.
+
 A copy of a member of a cycle of calls is outside of the cycle: it calls the members themselves, and owes no measure. What breaks
 the measure alone is so not refused in a copy. A method of a trait has no copies, nor has an edit that changes more than one
 function, or that wants the refusal of a caller.
@@ -16,6 +21,9 @@ import re
 
 # A function's head by the layout of rt fmt, with its cycle of calls, where it is in one.
 HEAD = re.compile(r'(?m)^( *)(?:#\[cycle\((\w+)\)\]\n(?:\1(?:#\[|///).*\n)*\1)?(?:pub(?:\([^)]*\))? )?(?:const )?fn (\w+)')
+
+# A clause that a function ensures, on a line of its own.
+ENSURES = re.compile(r'(?m)^ +ensures (?:(\w+) )?\{.*\}\n')
 
 # The head of an impl block: the trait, where it is of one, and the type.
 IMPL = re.compile(r'(?m)^impl\b(?:<[^{]*?>)? (?:(\S.*) for )?(\w+)[^{;]*\{')
@@ -89,13 +97,20 @@ class Original:
         """Whether it stands in a module, or in a block of a type's own methods."""
         return bool(self.is_free or self.owner)
 
-    def source(self, name, begin=0, end=0, new=''):
-        """Its text under this name, with what stands from `begin` to `end` of the file changed."""
+    def clauses(self):
+        """The names of the clauses that it ensures."""
+        return [it[1] for it in ENSURES.finditer(self.text, self.begin, self.end)]
+
+    def source(self, name, begin=0, end=0, new='', clause=None):
+        """Its text under this name, with what stands from `begin` to `end` of the file changed; of what it ensures this clause alone,
+        where one is named."""
         text = self.text[self.begin : self.end]
         if end:
             text = text[: begin - self.begin] + new + text[end - self.begin :]
         if self.cycle:
             text = re.sub(rf' *#\[cycle\({self.cycle}\)\]\n', '', text, count=1)
+        if clause:
+            text = ENSURES.sub(lambda it: it[0] if it[1] == clause else '', text)
         return '\n\n' + re.sub(rf'\bfn {self.name}\b', f'fn {name}', text, count=1)
 
     def has_folder(self, below):
@@ -143,11 +158,11 @@ class Copies:
             if self.is_each or has_files or group not in self.controls:
                 self.controls[at] = self.place(edit, original, f'{original.name}_as_it_is')
                 self.controls.setdefault(group, self.controls[at])
-        return self.place(edit, original, f'{original.name}_turned_{self.counts[at]}', region)
+        return self.place(edit, original, f'{original.name}_turned_{self.counts[at]}', region, edit.clause)
 
-    def place(self, edit, original, name, region=()):
+    def place(self, edit, original, name, region=(), clause=None):
         at = original.file, original.end
-        self.added[at] = self.added.get(at, '') + original.source(name, *region)
+        self.added[at] = self.added.get(at, '') + original.source(name, *region, clause=clause)
         self.files.update(original.proofs(name))
         return edit.function.removesuffix(original.name) + name
 

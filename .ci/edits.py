@@ -17,6 +17,7 @@ An edit's file has these lines (docs/GATE.md, "Edits"):
     file: src/state.rt      a file below src/, specs/ or proofs/
     old: TEXT               one line, which stands in that file once
     new: TEXT               what stands there instead; more pairs, and more files, may follow
+    clause: NAME            the clause of the function that refuses it, or `requires`: its copy ensures that alone (.ci/copies.py)
 
 An edit is refused where the check refuses that very function, for a reason of its own: that it calls a function that isn't
 proved is none, and that a proof file names what the edit took away is none either. Where a round can't be compiled, the edits
@@ -107,7 +108,7 @@ class Edit:
         self.folder = folder
         self.path = path
         self.name = f'{os.path.basename(folder)}/{os.path.basename(path)}'
-        self.function = self.lemma = None
+        self.function = self.lemma = self.clause = None
         self.pairs = []
         self.is_for_a_copy = True
         # what a round's check must refuse: the function, or a copy of it
@@ -125,6 +126,8 @@ class Edit:
                 self.function = value.strip()
             elif key == 'lemma' and colon:
                 self.lemma = value.strip()
+            elif key == 'clause' and colon:
+                self.clause = value.strip()
             elif key == 'file' and colon:
                 file = value.strip()
                 if os.path.normpath(file) != file or not file.startswith(tuple(f'{it}/' for it in PARTS)):
@@ -191,6 +194,10 @@ class Edit:
         if not head or head[3] != self.function.rpartition('::')[2]:
             return None
         original = Original(self.folder, file, text, head)
+        if self.clause and self.clause != 'requires' and self.clause not in original.clauses():
+            raise BadEdit(f'{self.function} has no clause {self.clause}')
+        if self.clause and original.proofs(original.name):
+            raise BadEdit(f'{self.function} has proof files, which speak of all its clauses')
         return (original, (begin, end, new)) if original.can_be_copied() else None
 
     def is_blamed(self, told):
@@ -331,6 +338,7 @@ class Crate:
             try:
                 edit.read()
                 edit.regions()
+                edit.original()
                 self.edits.append(edit)
             except BadEdit as error:
                 self.bad.append(Verdict(edit, False, f'BAD EDIT: {error}'))
