@@ -23,9 +23,18 @@ pub(crate) const THOUSAND: &[u8] = b"mpd 1; ranks 2; var i; var x; \
 
 /// Ranks that send to rank 0 for ever, which receives from any of them: how many send, and the script.
 pub(crate) const GATHER: [(usize, &[u8]); 3] = [
-    (2, b"mpd 1; ranks 3; var x; req r; if rank == 0 { recv x from any tag any; } else { while 1 { isend r 1 to 0 tag 0; } }"),
-    (7, b"mpd 1; ranks 8; var x; req r; if rank == 0 { recv x from any tag any; } else { while 1 { isend r 1 to 0 tag 0; } }"),
-    (15, b"mpd 1; ranks 16; var x; req r; if rank == 0 { recv x from any tag any; } else { while 1 { isend r 1 to 0 tag 0; } }"),
+    (
+        2,
+        b"mpd 1; ranks 3; var x; req r; if rank == 0 { recv x from any tag any; } else { while 1 { isend r 1 to 0 tag 0; } }",
+    ),
+    (
+        7,
+        b"mpd 1; ranks 8; var x; req r; if rank == 0 { recv x from any tag any; } else { while 1 { isend r 1 to 0 tag 0; } }",
+    ),
+    (
+        15,
+        b"mpd 1; ranks 16; var x; req r; if rank == 0 { recv x from any tag any; } else { while 1 { isend r 1 to 0 tag 0; } }",
+    ),
 ];
 
 /// How many messages of each sender wait.
@@ -156,7 +165,11 @@ fn push_sent(steps: &mut Vec<Step>, last: usize, count: usize) -> Result<(), All
 }
 
 /// The steps by which rank 0 receives from any, and each of the others sends so many messages.
-pub(crate) fn gathered(alloc: Global, senders: usize, count: usize) -> Result<Vec<Step>, AllocError> {
+pub(crate) fn gathered(
+    alloc: Global,
+    senders: usize,
+    count: usize,
+) -> Result<Vec<Step>, AllocError> {
     let mut steps = Vec::new(alloc);
     push_locals(&mut steps, 0, 2)?;
     push_senders(&mut steps, senders, 1)?;

@@ -70,12 +70,7 @@ fn measure_outcome<R: Clock>(rt: &R, alloc: Global, core: &Core<'_>, times: usiz
 }
 
 /// What it takes to list the enabled steps.
-fn measure_enabled<R: Clock>(
-    rt: &R,
-    alloc: Global,
-    core: &Core<'_>,
-    times: usize,
-) -> Option<u128> {
+fn measure_enabled<R: Clock>(rt: &R, alloc: Global, core: &Core<'_>, times: usize) -> Option<u128> {
     let begun = Instant::now(rt).ok()?;
     for _ in 0..times {
         let enabled = core.enabled(alloc).ok()?;

@@ -3,8 +3,8 @@ ghost use Rattle.std.specs.Prelude.{◌≡◌, ◌≤◌, IfOk};
 ghost use Rattle.mpd_model.specs.World.{call_id};
 ghost use Rattle.mpd_match.specs.BoardRows.{sent, received, two_messages};
 
-use mpd_match::board::Board;
 use mpd_device::steps::Steps;
+use mpd_match::board::Board;
 use mpd_model::call::{Call, CallKind, MatchSet, Message, Mode, RecvCall, SendCall, WaitCall};
 use mpd_model::step::CallId;
 use std::alloc::{AllocError, Global};

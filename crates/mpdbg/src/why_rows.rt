@@ -3,8 +3,8 @@ ghost use Rattle.std.specs.Prelude.{◌≡◌, ◌≤◌, IfOk};
 ghost use Rattle.mpd_model.specs.World.{call_id};
 ghost use Rattle.mpd_match.specs.WhyRows.{sent_to_2, received_of_0, received_of_any, two_senders};
 
-use mpd_match::board::Board;
 use mpd_device::steps::Steps;
+use mpd_match::board::Board;
 use mpd_model::call::{Call, CallKind, Mode, RecvCall, SendCall};
 use mpd_model::step::CallId;
 use std::alloc::{AllocError, Global};
