@@ -13,9 +13,11 @@ use Rattle.mpd_model.specs.Next.{HasReceiver, local, with_call, with_issued}
 use Rattle.mpd_match.specs.Changes.{without_last_call}
 use Rattle.mpd_rank.specs.declared.change.RankRecord.{RankRecord}
 use Rattle.mpd_rank.specs.declared.plan.LocalPlan.{LocalPlan}
-use Rattle.mpd_rank.specs.declared.plan.LocalPlan.TheVariants.{Move, Print, Assign, Issue, Trap}
+use Rattle.mpd_rank.specs.declared.plan.Alone.{Alone as Own}
+use Rattle.mpd_rank.specs.declared.plan.Alone.TheVariants as own
+use Rattle.mpd_rank.specs.declared.plan.LocalPlan.TheVariants.{Alone, Issue}
 use Rattle.mpd_rank.specs.Plans.{plan_call, plan_ran, planned, HasTag, HasPlannedReceiver}
-use Rattle.mpd_rank.specs.Records.{record_by, local_record, plan_change, plan_record}
+use Rattle.mpd_rank.specs.Records.{record_by, local_record, alone_change, plan_change, plan_record}
 use Rattle.mpd_rank.specs.declared.change.Change.{Change}
 use Rattle.mpd_rank.specs.declared.change.Change.TheVariants as change
 use Rattle.mpd_rank.specs.Undone.{held, assigned_change, IsOwn, IsOfRank}
@@ -29,11 +31,8 @@ pub has_receiver : (n number : ℕ) (plan : LocalPlan) (o : Option Call) → Has
 has_receiver n number plan o h e = rw e (by_plan n number plan h)
   where
     by_plan : (n number : ℕ) (plan : LocalPlan) → HasPlannedReceiver n plan → IfSome (plan_call number plan) (λ c. HasReceiver n c.kind × HasTag (Some c.kind))
-    by_plan n number (Move next) h = tt
-    by_plan n number (Print v next) h = tt
-    by_plan n number (Assign cell v next) h = tt
+    by_plan n number (Alone plan) h = tt
     by_plan n number (Issue a next) h = h
-    by_plan n number (Trap t) h = tt
 
 can_assigned : (b : Board) (p : ℕ) (o : Option (ℕ × ℤ)) → CanUnissue b p (assigned_change o)
 can_assigned b p None = tt
@@ -43,24 +42,31 @@ back_assigned : (b : Board) (p : ℕ) (o : Option (ℕ × ℤ)) → unissued b p
 back_assigned b p None = refl
 back_assigned b p (Some w) = refl
 
+-- what issues no call does nothing to the board
+can_alone : (b : Board) (p : ℕ) (vars : List ℤ) (plan : Own) → CanUnissue b p (alone_change vars plan)
+can_alone b p vars (own.Move next) = tt
+can_alone b p vars (own.Print v next) = tt
+can_alone b p vars (own.Assign cell v next) = can_assigned b p (held vars cell)
+can_alone b p vars (own.Trap t) = tt
+
+back_alone : (b : Board) (p : ℕ) (vars : List ℤ) (plan : Own) → unissued b p (alone_change vars plan) ≡ b
+back_alone b p vars (own.Move next) = refl
+back_alone b p vars (own.Print v next) = refl
+back_alone b p vars (own.Assign cell v next) = back_assigned b p (held vars cell)
+back_alone b p vars (own.Trap t) = refl
+
 -- what a plan issued can be taken back
 can_by : (b : Board) (p number : ℕ) (vars : List ℤ) (handles : List (Option ℕ)) (plan : LocalPlan) → CanUnissueIf b p (plan_call number plan) → CanUnissue b p (plan_change vars handles plan)
-can_by b p number vars handles (Move next) h = tt
-can_by b p number vars handles (Print v next) h = tt
-can_by b p number vars handles (Assign cell v next) h = can_assigned b p (held vars cell)
+can_by b p number vars handles (Alone plan) h = can_alone b p vars plan
 can_by b p number vars handles (Issue a next) h = h
-can_by b p number vars handles (Trap t) h = tt
 
 pub can_take_back : (b : Board) (p number : ℕ) (v : RankView) (plan : LocalPlan) (o : Option Call) (done : RankRecord) → o ≡ plan_call number plan → done ≡ plan_record v plan → CanUnissueIf b p o → CanUnissue b p done.change
 can_take_back b p number v plan o done e made h = rw made (can_by b p number v.vars v.handles plan (rw (sym e) h))
 
 -- and the board is the one before
 back_by : (b c : Board) (p number : ℕ) (vars : List ℤ) (handles : List (Option ℕ)) (plan : LocalPlan) → c ≡ with_issued b p (plan_call number plan) → IfSome (plan_call number plan) (λ _. without_last_call c p ≡ b) → unissued c p (plan_change vars handles plan) ≡ b
-back_by b c p number vars handles (Move next) e h = e
-back_by b c p number vars handles (Print v next) e h = e
-back_by b c p number vars handles (Assign cell v next) e h = back_assigned c p (held vars cell) ∙ e
+back_by b c p number vars handles (Alone plan) e h = back_alone c p vars plan ∙ e
 back_by b c p number vars handles (Issue a next) e h = h
-back_by b c p number vars handles (Trap t) e h = e
 
 pub taken_back : (b c : Board) (p number : ℕ) (v : RankView) (plan : LocalPlan) (o : Option Call) (done : RankRecord) → o ≡ plan_call number plan → done ≡ plan_record v plan → c ≡ with_issued b p o → IfSome o (λ _. without_last_call c p ≡ b) → unissued c p done.change ≡ b
 taken_back b c p number v plan o done e made with h = rw made (back_by b c p number v.vars v.handles plan (with ∙ ap (with_issued b p) e) (rw (sym e) h))
@@ -76,11 +82,8 @@ runs p n r done e = running_by _ r.activity r.rest done e
 
 -- where nothing is issued, no number matters
 planned_by : (s : Program) (r : RankWorld) (count n node : ℕ) (plan : LocalPlan) → IfSome (plan_call node plan) (λ _. count ≡ n) → planned s r count plan ≡ planned s r n plan
-planned_by s r count n node (Move next) e = refl
-planned_by s r count n node (Print v next) e = refl
-planned_by s r count n node (Assign cell v next) e = refl
+planned_by s r count n node (Alone plan) e = refl
 planned_by s r count n node (Issue a next) e = ap (λ k. planned s r k (Issue a next)) e
-planned_by s r count n node (Trap t) e = refl
 
 -- the step of the rank, and what it issued
 pub local_ran : (s : Program) (b c : Board) (v w : RankView) (node count : ℕ) (plan : LocalPlan) (o : Option Call)

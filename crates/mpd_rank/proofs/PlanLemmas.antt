@@ -11,7 +11,7 @@ use Rattle.mpd_model.specs.declared.stmt.SendStmt.{SendStmt}
 use Rattle.mpd_model.specs.declared.stmt.RecvStmt.{RecvStmt}
 use Rattle.mpd_model.specs.declared.call.CallKind.{CallKind}
 use Rattle.mpd_model.specs.declared.limits.TheConstants.{TAGS}
-use Rattle.mpd_model.specs.declared.call.Trap.TheVariants.{BadRank, BadTag, Assertion}
+use Rattle.mpd_model.specs.declared.call.Trap.TheVariants.{BadRank, BadTag}
 use Rattle.mpd_model.specs.Term.{Term, Target, Value, Env, and_then, value_of, checked, target_cell, is_zero}
 use Rattle.mpd_model.specs.Tree.{Tree, Block, repeat, trees, statements_in, numbered}
 use Rattle.mpd_model.specs.Program.{Program}
@@ -22,17 +22,18 @@ use Rattle.mpd_code.specs.declared.node.Action.{Action}
 use Rattle.mpd_code.specs.declared.node.Action.TheVariants as a
 use Rattle.mpd_code.specs.Left.{left_at}
 use Rattle.mpd_code.specs.Stands.{Does, Stands}
+use Rattle.mpd_rank.specs.declared.plan.Alone.{Alone as Own}
+use Rattle.mpd_rank.specs.declared.plan.Alone.TheVariants as own
 use Rattle.mpd_rank.specs.declared.plan.LocalPlan.{LocalPlan}
-use Rattle.mpd_rank.specs.declared.plan.LocalPlan.TheVariants as trap
-use Rattle.mpd_rank.specs.declared.standing.Standing.{Standing}
+use Rattle.mpd_rank.specs.declared.plan.LocalPlan.TheVariants.{Alone}
 use Rattle.mpd_rank.specs.declared.change.Change.{Change}
 use Rattle.mpd_rank.specs.declared.change.RankRecord.{RankRecord}
 use Rattle.mpd_rank.specs.Views.{RankView, rank_of}
-use Rattle.mpd_rank.specs.Records.{print_change, issue_change, write_change, assert_change, choice_change, simple_change, change_of, local_record, plan_change, plan_record, IsPlanned}
+use Rattle.mpd_rank.specs.Records.{print_change, issue_change, write_change, assert_change, choice_change, simple_change, change_of, local_record, alone_change, alone_record, plan_change, plan_record, IsPlanned}
 use Rattle.mpd_rank.specs.Undone.{held, assigned_change, IsOwn}
-use Rattle.mpd_rank.specs.Plans.{plan_of, simple_plan, planned, plan_ran, IsAlone, HasTag, HasPlannedReceiver, print_plan, assign_plan, issue_plan, assert_plan, choice_plan}
+use Rattle.mpd_rank.specs.Plans.{plan_of, simple_plan, planned_alone, plan_ran, HasTag, HasPlannedReceiver, print_plan, assign_plan, issue_plan, assert_plan, choice_plan}
 
-print_ran : (s : Program) (r : RankWorld) (n i next : ℕ) (v : Value) → plan_ran s r n i (print_plan v next) ≡ alone (printed r (left_at s next) v)
+print_ran : (s : Program) (r : RankWorld) (n i next : ℕ) (v : Value) → plan_ran s r n i (Alone (print_plan v next)) ≡ alone (printed r (left_at s next) v)
 print_ran s r n i next (Ok v) = refl
 print_ran s r n i next (Err t) = refl
 
@@ -40,39 +41,39 @@ issue_ran : (s : Program) (r : RankWorld) (n i next : ℕ) (k : Result Issue Tra
 issue_ran s r n i next (Ok k) = refl
 issue_ran s r n i next (Err t) = refl
 
-assign_ran : (s : Program) (r : RankWorld) (n i next : ℕ) (w : Result (ℕ × ℤ) Trap) → plan_ran s r n i (assign_plan w next) ≡ alone (assigned r (left_at s next) w)
+assign_ran : (s : Program) (r : RankWorld) (n i next : ℕ) (w : Result (ℕ × ℤ) Trap) → plan_ran s r n i (Alone (assign_plan w next)) ≡ alone (assigned r (left_at s next) w)
 assign_ran s r n i next (Ok w) = refl
 assign_ran s r n i next (Err t) = refl
 
-assert_by : (s : Program) (r : RankWorld) (n i next : ℕ) (v : ℤ) (b : Bool) → is_zero v ≡ b → plan_ran s r n i (assert_plan (Ok v) next) ≡ alone (asserted r (left_at s next) (Ok v))
+assert_by : (s : Program) (r : RankWorld) (n i next : ℕ) (v : ℤ) (b : Bool) → is_zero v ≡ b → plan_ran s r n i (Alone (assert_plan (Ok v) next)) ≡ alone (asserted r (left_at s next) (Ok v))
 assert_by s r n i next v true e = rw e refl
 assert_by s r n i next v false e = rw e refl
 
-assert_ran : (s : Program) (r : RankWorld) (n i next : ℕ) (v : Value) → plan_ran s r n i (assert_plan v next) ≡ alone (asserted r (left_at s next) v)
+assert_ran : (s : Program) (r : RankWorld) (n i next : ℕ) (v : Value) → plan_ran s r n i (Alone (assert_plan v next)) ≡ alone (asserted r (left_at s next) v)
 assert_ran s r n i next (Ok v) = assert_by s r n i next v (is_zero v) refl
 assert_ran s r n i next (Err t) = refl
 
 choice_by : (s : Program) (r : RankWorld) (n i first second : ℕ) (tail : List (ℕ × Tree)) (x y : Block) (v : ℤ) (b : Bool) → is_zero v ≡ b
     → left_at s first ≡ numbered (i + 1) (trees x) ++ tail → left_at s second ≡ numbered (i + 1 + statements_in x) (trees y) ++ tail
-    → plan_ran s r n i (choice_plan (Ok v) first second) ≡ alone (chosen r tail i (Ok v) x y)
+    → plan_ran s r n i (Alone (choice_plan (Ok v) first second)) ≡ alone (chosen r tail i (Ok v) x y)
 choice_by s r n i first second tail x y v true e h g = rw (e, g) refl
 choice_by s r n i first second tail x y v false e h g = rw (e, h) refl
 
 choice_ran : (s : Program) (r : RankWorld) (n i first second : ℕ) (tail : List (ℕ × Tree)) (x y : Block) (v : Value)
     → left_at s first ≡ numbered (i + 1) (trees x) ++ tail → left_at s second ≡ numbered (i + 1 + statements_in x) (trees y) ++ tail
-    → plan_ran s r n i (choice_plan v first second) ≡ alone (chosen r tail i v x y)
+    → plan_ran s r n i (Alone (choice_plan v first second)) ≡ alone (chosen r tail i v x y)
 choice_ran s r n i first second tail x y (Ok v) h g = choice_by s r n i first second tail x y v (is_zero v) refl h g
 choice_ran s r n i first second tail x y (Err t) h g = refl
 
 repeat_by : (s : Program) (r : RankWorld) (n i body next : ℕ) (c : Term) (x : Block) (v : ℤ) (b : Bool) → is_zero v ≡ b
     → left_at s body ≡ numbered (i + 1) (trees x) ++ (i, repeat c x) ∷ left_at s next
-    → plan_ran s r n i (choice_plan (Ok v) body next) ≡ alone (repeated r (left_at s next) i (Ok v) c x)
+    → plan_ran s r n i (Alone (choice_plan (Ok v) body next)) ≡ alone (repeated r (left_at s next) i (Ok v) c x)
 repeat_by s r n i body next c x v true e h = rw e refl
 repeat_by s r n i body next c x v false e h = rw (e, h) refl
 
 repeat_ran : (s : Program) (r : RankWorld) (n i body next : ℕ) (c : Term) (x : Block) (v : Value)
     → left_at s body ≡ numbered (i + 1) (trees x) ++ (i, repeat c x) ∷ left_at s next
-    → plan_ran s r n i (choice_plan v body next) ≡ alone (repeated r (left_at s next) i v c x)
+    → plan_ran s r n i (Alone (choice_plan v body next)) ≡ alone (repeated r (left_at s next) i v c x)
 repeat_ran s r n i body next c x (Ok v) h = repeat_by s r n i body next c x v (is_zero v) refl h
 repeat_ran s r n i body next c x (Err t) h = refl
 
@@ -94,7 +95,7 @@ does_ran s env r n i next (a.Repeat c body) t d = rw d.1.0 (repeat_ran s r n i b
 
 -- ---- what a plan records is what its statement does
 
-print_recorded : (vars : List ℤ) (handles : List (Option ℕ)) (next : ℕ) (v : Value) → plan_change vars handles (print_plan v next) ≡ print_change v
+print_recorded : (vars : List ℤ) (handles : List (Option ℕ)) (next : ℕ) (v : Value) → plan_change vars handles (Alone (print_plan v next)) ≡ print_change v
 print_recorded vars handles next (Ok v) = refl
 print_recorded vars handles next (Err t) = refl
 
@@ -102,19 +103,19 @@ issue_recorded : (vars : List ℤ) (handles : List (Option ℕ)) (next : ℕ) (k
 issue_recorded vars handles next (Ok k) = refl
 issue_recorded vars handles next (Err t) = refl
 
-assign_recorded : (vars : List ℤ) (handles : List (Option ℕ)) (next : ℕ) (w : Result (ℕ × ℤ) Trap) → plan_change vars handles (assign_plan w next) ≡ write_change vars w
+assign_recorded : (vars : List ℤ) (handles : List (Option ℕ)) (next : ℕ) (w : Result (ℕ × ℤ) Trap) → plan_change vars handles (Alone (assign_plan w next)) ≡ write_change vars w
 assign_recorded vars handles next (Ok w) = refl
 assign_recorded vars handles next (Err t) = refl
 
-assert_tested : (vars : List ℤ) (handles : List (Option ℕ)) (next : ℕ) (v : ℤ) (b : Bool) → is_zero v ≡ b → plan_change vars handles (assert_plan (Ok v) next) ≡ assert_change (Ok v)
+assert_tested : (vars : List ℤ) (handles : List (Option ℕ)) (next : ℕ) (v : ℤ) (b : Bool) → is_zero v ≡ b → plan_change vars handles (Alone (assert_plan (Ok v) next)) ≡ assert_change (Ok v)
 assert_tested vars handles next v true e = rw e refl
 assert_tested vars handles next v false e = rw e refl
 
-assert_recorded : (vars : List ℤ) (handles : List (Option ℕ)) (next : ℕ) (v : Value) → plan_change vars handles (assert_plan v next) ≡ assert_change v
+assert_recorded : (vars : List ℤ) (handles : List (Option ℕ)) (next : ℕ) (v : Value) → plan_change vars handles (Alone (assert_plan v next)) ≡ assert_change v
 assert_recorded vars handles next (Ok v) = assert_tested vars handles next v (is_zero v) refl
 assert_recorded vars handles next (Err t) = refl
 
-choice_recorded : (vars : List ℤ) (handles : List (Option ℕ)) (first second : ℕ) (v : Value) → plan_change vars handles (choice_plan v first second) ≡ choice_change v
+choice_recorded : (vars : List ℤ) (handles : List (Option ℕ)) (first second : ℕ) (v : Value) → plan_change vars handles (Alone (choice_plan v first second)) ≡ choice_change v
 choice_recorded vars handles first second (Ok v) = refl
 choice_recorded vars handles first second (Err t) = refl
 
@@ -215,30 +216,10 @@ issue_below : (n : ℕ) (r : Result Issue Trap) (next : ℕ) → AreBelow n r �
 issue_below n (Ok a) next h = h
 issue_below n (Err t) next h = tt
 
-print_below : (n : ℕ) (v : Value) (next : ℕ) → HasPlannedReceiver n (print_plan v next)
-print_below n (Ok v) next = tt
-print_below n (Err t) next = tt
-
-assign_below : (n : ℕ) (w : Result (ℕ × ℤ) Trap) (next : ℕ) → HasPlannedReceiver n (assign_plan w next)
-assign_below n (Ok w) next = tt
-assign_below n (Err t) next = tt
-
-assert_case : (b : Bool) (n next : ℕ) → HasPlannedReceiver n (cond b (trap.Trap Assertion) (trap.Move next))
-assert_case true n next = tt
-assert_case false n next = tt
-
-assert_below : (n : ℕ) (v : Value) (next : ℕ) → HasPlannedReceiver n (assert_plan v next)
-assert_below n (Ok v) next = assert_case (is_zero v) n next
-assert_below n (Err t) next = tt
-
-choice_below : (n : ℕ) (v : Value) (holds fails : ℕ) → HasPlannedReceiver n (choice_plan v holds fails)
-choice_below n (Ok v) holds fails = tt
-choice_below n (Err t) holds fails = tt
-
 simple_below : (env : Env) (next : ℕ) (t : Simple) → HasPlannedReceiver env.size (simple_plan t next env)
-simple_below env next (st.Print e) = print_below env.size (value_of e env) next
-simple_below env next (st.Assign t) = assign_below env.size (assignment t env) next
-simple_below env next (st.Assert e) = assert_below env.size (value_of e env) next
+simple_below env next (st.Print e) = tt
+simple_below env next (st.Assign t) = tt
+simple_below env next (st.Assert e) = tt
 simple_below env next (st.Send t) = issue_below env.size (send_issue t env) next (awaiting_below env.size (send_kind true t env) (send_below true t env))
 simple_below env next (st.Recv t) = issue_below env.size (recv_issue t env) next (awaiting_below env.size (recv_kind true t env) (recv_below true t env))
 simple_below env next (st.Isend t) = issue_below env.size (isend_issue t env) next (held_by_below env.size (target_cell t.request env) (send_kind false t.send env) (send_below false t.send env))
@@ -247,8 +228,8 @@ simple_below env next (st.Wait t) = issue_below env.size (wait_issue t env) next
 
 action_below : (env : Env) (next : ℕ) (act : Action) → HasPlannedReceiver env.size (plan_of act next env)
 action_below env next (a.Simple t) = simple_below env next t
-action_below env next (a.Branch c first second) = choice_below env.size (value_of c env) first second
-action_below env next (a.Repeat c body) = choice_below env.size (value_of c env) body next
+action_below env next (a.Branch c first second) = tt
+action_below env next (a.Repeat c body) = tt
 
 pub plan_below : (env : Env) (n next : ℕ) (act : Action) (plan : LocalPlan) → env.size ≡ n → plan ≡ plan_of act next env → HasPlannedReceiver n plan
 plan_below env n next act plan size is = subst₂ HasPlannedReceiver size (sym is) (action_below env next act)
@@ -258,9 +239,9 @@ pub planned_at : (s : Program) (v : RankView) (node : Node) (plan : LocalPlan) �
 planned_at s v node plan running d is =
     subst (IsPlanned s v) (sym is) ((λ count. stands_ran s v.rank s.ranks count (rank_of s v) v.node node running refl d), stands_recorded s v.rank s.ranks v node running d)
 
-pub planned_if : (s : Program) (v : RankView) (node : Node) (o : Option LocalPlan) → v.activity ≡ Running → Stands (left_at s) v.node node → IfSome o (λ plan. plan ≡ plan_of node.action node.next (env_of v.rank s.ranks (rank_of s v))) → IfSome o (IsPlanned s v)
+pub planned_if : (s : Program) (v : RankView) (node : Node) (o : Option Own) → v.activity ≡ Running → Stands (left_at s) v.node node → IfSome o (λ plan. Alone plan ≡ plan_of node.action node.next (env_of v.rank s.ranks (rank_of s v))) → IfSome o (λ plan. IsPlanned s v (Alone plan))
 planned_if s v node None running d is = tt
-planned_if s v node (Some plan) running d is = planned_at s v node plan running d is
+planned_if s v node (Some plan) running d is = planned_at s v node (Alone plan) running d is
 
 -- a rank with nothing left, where it runs
 none_by : (p n count : ℕ) (r : RankWorld) (a : Activity) → a ≡ r.activity → (a ≡ Running → r.rest ≡ []) → local p n count r ≡ None
@@ -287,27 +268,21 @@ own_assigned : (o : Option (ℕ × ℤ)) → IsOwn (assigned_change o)
 own_assigned None = tt
 own_assigned (Some w) = tt
 
-own_change : (vars : List ℤ) (handles : List (Option ℕ)) (plan : LocalPlan) → IsAlone plan → IsOwn (plan_change vars handles plan)
-own_change vars handles (trap.Move next) h = tt
-own_change vars handles (trap.Print v next) h = tt
-own_change vars handles (trap.Assign cell v next) h = own_assigned (held vars cell)
-own_change vars handles (trap.Issue a next) h = absurd h
-own_change vars handles (trap.Trap t) h = tt
+own_change : (vars : List ℤ) (plan : Own) → IsOwn (alone_change vars plan)
+own_change vars (own.Move next) = tt
+own_change vars (own.Print v next) = tt
+own_change vars (own.Assign cell v next) = own_assigned (held vars cell)
+own_change vars (own.Trap t) = tt
 
 -- what it changes is its own
-pub own_recorded : (v : RankView) (plan : LocalPlan) (done : RankRecord) → IsAlone plan → done ≡ plan_record v plan → IsOwn done.change
-own_recorded v plan done h e = rw e (own_change v.vars v.handles plan h)
+pub own_recorded : (v : RankView) (plan : Own) (done : RankRecord) → done ≡ alone_record v plan → IsOwn done.change
+own_recorded v plan done e = rw e (own_change v.vars plan)
+
+pub ruleset owning = (own_recorded)
 
 -- and its rank is the same whatever number a call would have
-alone_ran : (s : Program) (r : RankWorld) (count node : ℕ) (plan : LocalPlan) → IsAlone plan → plan_ran s r count node plan ≡ record { rank = planned s r 0 plan; call = None }
-alone_ran s r count node (trap.Move next) h = refl
-alone_ran s r count node (trap.Print v next) h = refl
-alone_ran s r count node (trap.Assign cell v next) h = refl
-alone_ran s r count node (trap.Issue a next) h = absurd h
-alone_ran s r count node (trap.Trap t) h = refl
-
-pub stepped_alone : (s : Program) (v w : RankView) (plan : LocalPlan) → IsAlone plan → ((count : ℕ) → local v.rank s.ranks count (rank_of s v) ≡ Some (plan_ran s (rank_of s v) count v.node plan)) → rank_of s w ≡ planned s (rank_of s v) 0 plan
+pub stepped_alone : (s : Program) (v w : RankView) (plan : Own) → ((count : ℕ) → local v.rank s.ranks count (rank_of s v) ≡ Some (plan_ran s (rank_of s v) count v.node (Alone plan))) → rank_of s w ≡ planned_alone s (rank_of s v) plan
     → (count : ℕ) → local v.rank s.ranks count (rank_of s v) ≡ Some (record { rank = rank_of s w; call = None })
-stepped_alone s v w plan h step after count = step count ∙ ap Some (alone_ran s (rank_of s v) count v.node plan h) ∙ (λ i. Some (record { rank = sym after i; call = None }))
+stepped_alone s v w plan step after count = step count ∙ (λ i. Some (record { rank = sym after i; call = None }))
 
-pub ruleset stepping = (own_recorded, stepped_alone)
+pub ruleset stepping = (stepped_alone)

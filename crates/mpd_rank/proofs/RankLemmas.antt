@@ -12,8 +12,8 @@ use Rattle.mpd_rank.specs.declared.change.RankRecord.{RankRecord}
 use Rattle.mpd_rank.specs.Views.{RankView, rank_of, listed}
 use Rattle.mpd_rank.specs.Packed.{before, all_listed, IsPacked}
 use Rattle.mpd_rank.specs.Undone.{held, all_held, request_held, put_held, assigned_change, put_back, undone_rank}
-use Rattle.mpd_rank.specs.Records.{plan_record}
-use Rattle.mpd_rank.specs.declared.plan.LocalPlan.TheVariants.{Assign}
+use Rattle.mpd_rank.specs.Records.{alone_record}
+use Rattle.mpd_rank.specs.declared.plan.Alone.TheVariants.{Assign}
 
 write_cells-append : (xs ys : List (ℕ × ℤ)) (vars : List ℤ) → write_cells (xs ++ ys) vars ≡ write_cells ys (write_cells xs vars)
 write_cells-append [] ys vars = refl
@@ -57,7 +57,7 @@ request_again (Some h) call handles = put_again handles h call
 
 -- an assignment that is taken back is the rank before
 pub assign_back : (s : Program) (v w : RankView) (d : RankRecord) (c next : ℕ) (x : ℤ) → w ≡ record v { node = next; vars = slice_set v.vars c x; writes = w.writes }
-    → d ≡ plan_record v (Assign c x next) → v.activity ≡ Running → undone_rank s (rank_of s w) d ≡ rank_of s v
+    → d ≡ alone_record v (Assign c x next) → v.activity ≡ Running → undone_rank s (rank_of s w) d ≡ rank_of s v
 assign_back s v w d c next x done recorded running =
     let before : RankWorld = record (rank_of s v) { rest = left_at s next; vars = slice_set v.vars c x } in
     ap (λ (u : RankView). undone_rank s (rank_of s u) d) done

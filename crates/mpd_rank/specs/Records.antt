@@ -14,6 +14,8 @@ use Rattle.mpd_model.specs.Next.{local, env_of, send_issue, recv_issue, isend_is
 use Rattle.mpd_rank.specs.declared.change.Change.{Change}
 use Rattle.mpd_rank.specs.declared.change.Change.TheVariants.{Moved, Printed, Issued, Trapped, Woke}
 use Rattle.mpd_rank.specs.declared.change.RankRecord.{RankRecord}
+use Rattle.mpd_rank.specs.declared.plan.Alone.{Alone}
+use Rattle.mpd_rank.specs.declared.plan.Alone.TheVariants as own
 use Rattle.mpd_rank.specs.declared.plan.LocalPlan.{LocalPlan}
 use Rattle.mpd_rank.specs.declared.plan.LocalPlan.TheVariants as plan
 use Rattle.mpd_rank.specs.Plans.{plan_ran}
@@ -74,14 +76,20 @@ wake_record r writes handle = record { from = 0; change = Woke (all_held r.vars 
 
 -- ---- of a plan
 
-abbrev pub plan_change : List ℤ → List (Option ℕ) → LocalPlan → Change
-plan_change vars handles (plan.Move next) = Moved
-plan_change vars handles (plan.Print v next) = Printed
-plan_change vars handles (plan.Assign cell v next) = assigned_change (held vars cell)
-plan_change vars handles (plan.Issue a next) = Issued (request_held a.handle handles)
-plan_change vars handles (plan.Trap t) = Trapped
+abbrev pub alone_change : List ℤ → Alone → Change
+alone_change vars (own.Move next) = Moved
+alone_change vars (own.Print v next) = Printed
+alone_change vars (own.Assign cell v next) = assigned_change (held vars cell)
+alone_change vars (own.Trap t) = Trapped
 
--- what a rank that stands at a node records of a plan
+abbrev pub plan_change : List ℤ → List (Option ℕ) → LocalPlan → Change
+plan_change vars handles (plan.Alone a) = alone_change vars a
+plan_change vars handles (plan.Issue a next) = Issued (request_held a.handle handles)
+
+-- what a rank that stands at a node records of a plan without a call, and of any
+abbrev pub alone_record : RankView → Alone → RankRecord
+alone_record v a = record { from = v.node; change = alone_change v.vars a }
+
 abbrev pub plan_record : RankView → LocalPlan → RankRecord
 plan_record v plan = record { from = v.node; change = plan_change v.vars v.handles plan }
 

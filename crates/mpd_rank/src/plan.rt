@@ -1,7 +1,7 @@
 //! What the next statement of a rank does, before it is done.
 
 ghost use Rattle.std.specs.Prelude.{◌≡◌, IfSome};
-ghost use Rattle.mpd_rank.specs.Plans.{plan_call, plan_of, simple_plan, print_plan, assign_plan, issue_plan, assert_plan, choice_plan, IsAlone};
+ghost use Rattle.mpd_rank.specs.Plans.{plan_call, plan_of, simple_plan, print_plan, assign_plan, issue_plan, assert_plan, choice_plan};
 
 use mpd_code::env::Env;
 use mpd_code::eval::{eval, eval_assign, eval_irecv, eval_isend, eval_recv, eval_send, eval_wait};
@@ -9,18 +9,25 @@ use mpd_code::node::{Action, Node};
 use mpd_model::call::{Call, Issue, Trap};
 use mpd_model::stmt::Simple;
 
-/// What a local step does.
+/// What a local step does that issues no call.
 #[derive(Clone, Copy, Debug, PartialEq, Eq)]
-pub enum LocalPlan {
+pub enum Alone {
     /// Goes on at a node.
     Move { next: u32 },
     /// Appends a value to the output.
     Print { value: i64, next: u32 },
     /// Writes a cell.
     Assign { cell: usize, value: i64, next: u32 },
+    Trap(Trap),
+}
+
+/// What a local step does. A plan without a call is small, and a call large: so `Alone` is a type of its own.
+#[derive(Clone, Copy, Debug, PartialEq, Eq)]
+pub enum LocalPlan {
+    /// Issues no call.
+    Alone(Alone),
     /// Issues a call.
     Issue { issue: Issue, next: u32 },
-    Trap(Trap),
 }
 
 impl LocalPlan {
@@ -33,26 +40,26 @@ impl LocalPlan {
                 statement,
                 kind: issue.kind,
             }),
-            _ => None,
+            LocalPlan::Alone(_) => None,
         }
     }
 }
 
-fn plan_print(value: Result<i64, Trap>, next: u32) -> LocalPlan
+fn plan_print(value: Result<i64, Trap>, next: u32) -> Alone
     ensures { result ≡ print_plan value next }
 {
     match value {
-        Ok(value) => LocalPlan::Print { value, next },
-        Err(trap) => LocalPlan::Trap(trap),
+        Ok(value) => Alone::Print { value, next },
+        Err(trap) => Alone::Trap(trap),
     }
 }
 
-fn plan_assign(write: Result<(usize, i64), Trap>, next: u32) -> LocalPlan
+fn plan_assign(write: Result<(usize, i64), Trap>, next: u32) -> Alone
     ensures { result ≡ assign_plan write next }
 {
     match write {
-        Ok((cell, value)) => LocalPlan::Assign { cell, value, next },
-        Err(trap) => LocalPlan::Trap(trap),
+        Ok((cell, value)) => Alone::Assign { cell, value, next },
+        Err(trap) => Alone::Trap(trap),
     }
 }
 
@@ -61,28 +68,28 @@ fn plan_issue(issue: Result<Issue, Trap>, next: u32) -> LocalPlan
 {
     match issue {
         Ok(issue) => LocalPlan::Issue { issue, next },
-        Err(trap) => LocalPlan::Trap(trap),
+        Err(trap) => LocalPlan::Alone(Alone::Trap(trap)),
     }
 }
 
-fn plan_assert(test: Result<i64, Trap>, next: u32) -> LocalPlan
+fn plan_assert(test: Result<i64, Trap>, next: u32) -> Alone
     ensures { result ≡ assert_plan test next }
 {
     match test {
-        Ok(0) => LocalPlan::Trap(Trap::Assertion),
-        Ok(_) => LocalPlan::Move { next },
-        Err(trap) => LocalPlan::Trap(trap),
+        Ok(0) => Alone::Trap(Trap::Assertion),
+        Ok(_) => Alone::Move { next },
+        Err(trap) => Alone::Trap(trap),
     }
 }
 
 /// Goes on at one node where the test holds, else at the other.
-fn plan_choice(test: Result<i64, Trap>, holds: u32, fails: u32) -> LocalPlan
+fn plan_choice(test: Result<i64, Trap>, holds: u32, fails: u32) -> Alone
     ensures { result ≡ choice_plan test holds fails }
 {
     match test {
-        Ok(0) => LocalPlan::Move { next: fails },
-        Ok(_) => LocalPlan::Move { next: holds },
-        Err(trap) => LocalPlan::Trap(trap),
+        Ok(0) => Alone::Move { next: fails },
+        Ok(_) => Alone::Move { next: holds },
+        Err(trap) => Alone::Trap(trap),
     }
 }
 
@@ -91,9 +98,9 @@ fn plan_simple(simple: &Simple, env: &Env<'_>, next: u32) -> LocalPlan
     ensures { result ≡ simple_plan simple.now next env.now }
 {
     match simple {
-        Simple::Print(value) => plan_print(eval(value, env), next),
-        Simple::Assign(assign) => plan_assign(eval_assign(assign, env), next),
-        Simple::Assert(test) => plan_assert(eval(test, env), next),
+        Simple::Print(value) => LocalPlan::Alone(plan_print(eval(value, env), next)),
+        Simple::Assign(assign) => LocalPlan::Alone(plan_assign(eval_assign(assign, env), next)),
+        Simple::Assert(test) => LocalPlan::Alone(plan_assert(eval(test, env), next)),
         Simple::Send(send) => plan_issue(eval_send(send, env), next),
         Simple::Recv(recv) => plan_issue(eval_recv(recv, env), next),
         Simple::Isend(isend) => plan_issue(eval_isend(isend, env), next),
@@ -103,9 +110,8 @@ fn plan_simple(simple: &Simple, env: &Env<'_>, next: u32) -> LocalPlan
 }
 
 /// What a statement that holds no other does, and the node that follows it, where it is of a kind that issues no call.
-fn plan_own(simple: &Simple, env: &Env<'_>, next: u32) -> Option<LocalPlan>
-    ensures value { IfSome result (λ plan. plan ≡ simple_plan simple.now next env.now) }
-    ensures alone { IfSome result IsAlone }
+fn plan_own(simple: &Simple, env: &Env<'_>, next: u32) -> Option<Alone>
+    ensures { IfSome result (λ plan. LocalPlan.Alone plan ≡ simple_plan simple.now next env.now) }
 {
     match simple {
         Simple::Print(value) => Some(plan_print(eval(value, env), next)),
@@ -116,9 +122,8 @@ fn plan_own(simple: &Simple, env: &Env<'_>, next: u32) -> Option<LocalPlan>
 }
 
 /// What a node does, where it is of a kind that issues no call.
-pub(crate) fn plan_alone(node: &Node, env: &Env<'_>) -> Option<LocalPlan>
-    ensures value { IfSome result (λ plan. plan ≡ plan_of node.now.action node.now.next env.now) }
-    ensures alone { IfSome result IsAlone }
+pub(crate) fn plan_alone(node: &Node, env: &Env<'_>) -> Option<Alone>
+    ensures { IfSome result (λ plan. LocalPlan.Alone plan ≡ plan_of node.now.action node.now.next env.now) }
 {
     match &node.action {
         Action::Simple(simple) => plan_own(simple, env, node.next),
@@ -141,7 +146,10 @@ pub(crate) fn plan_node(node: &Node, env: &Env<'_>) -> LocalPlan
             test,
             first,
             second,
-        } => plan_choice(eval(test, env), *first, *second),
-        Action::Repeat { test, body } => plan_choice(eval(test, env), *body, node.next),
+        } => LocalPlan::Alone(plan_choice(eval(test, env), *first, *second)),
+        Action::Repeat { test, body } => {
+            let plan = plan_choice(eval(test, env), *body, node.next);
+            LocalPlan::Alone(plan)
+        }
     }
 }

@@ -9,7 +9,7 @@ ghost use Rattle.mpd_code.specs.Stands.{Stands};
 ghost use Rattle.mpd_model.specs.Next as next_specs;
 
 use crate::change::{Cells, Change, HeldCell, HeldCells, HeldHandle, RankRecord};
-use crate::plan::{LocalPlan, plan_alone, plan_node};
+use crate::plan::{Alone, LocalPlan, plan_alone, plan_node};
 use crate::standing::Standing;
 use mpd_code::code::Code;
 use mpd_code::env::Env;
@@ -71,9 +71,9 @@ impl RankState {
     ghost use Rattle.mpd_model.specs.Outcomes.{has_ended, first_number};
     ghost use Rattle.mpd_model.specs.Next.{env_of, local, woken_rank, write_cells, requested, activity_after};
     ghost use Rattle.mpd_rank.specs.Views.{rank_of, listed};
-    ghost use Rattle.mpd_rank.specs.Plans.{planned, plan_ran, HasPlannedReceiver, IsAlone};
+    ghost use Rattle.mpd_rank.specs.Plans.{planned, planned_alone, plan_ran, HasPlannedReceiver};
     ghost use Rattle.mpd_rank.specs.Undone.{IsOfRank, IsOwn, undone_rank, held, all_held, request_held, put_held};
-    ghost use Rattle.mpd_rank.specs.Records.{local_record, plan_record, wake_record, IsPlanned};
+    ghost use Rattle.mpd_rank.specs.Records.{local_record, plan_record, alone_record, wake_record, IsPlanned};
 
     /// A rank before its first step, with the whole body to run. An `Err` is want of memory.
     pub fn start(alloc: Global, code: &Code, rank: u32) -> Result<RankState, AllocError>
@@ -160,9 +160,8 @@ impl RankState {
 
     /// What the next local step does, where its statement is of a kind that issues no call. Nothing changes.
     #[tactic(auto, using(crate::proofs::PlanLemmas::planning))]
-    fn plan_alone(&self, code: &Code) -> Option<LocalPlan>
-        ensures planned { IfSome result (IsPlanned code.now.program self.now) }
-        ensures alone { IfSome result IsAlone }
+    fn plan_alone(&self, code: &Code) -> Option<Alone>
+        ensures planned { IfSome result (λ plan. IsPlanned code.now.program self.now (LocalPlan.Alone plan)) }
         ensures running { IfSome result (λ _. self.now.activity ≡ Activity.Running) }
     {
         let node = self.next_node(code)?;
@@ -185,7 +184,7 @@ impl RankState {
         ensures few { self.new.writes ≤ self.old.writes + 2 }
     {
         let plan = self.plan_alone(code)?;
-        Some(self.commit(plan, 0))
+        Some(self.commit_alone(plan))
     }
 
     /// Writes a variable, where there is such a cell, and answers what it held.
@@ -263,7 +262,7 @@ impl RankState {
     /// Writes a cell, and goes on at a node.
     fn assign(&mut self, cell: usize, value: i64, next: u32) -> RankRecord
         ensures after { self.new ≡ record self.old { node = next; vars = slice_set self.old.vars cell value; writes = self.new.writes } }
-        ensures recorded { result ≡ plan_record self.old (LocalPlan.Assign cell value next) }
+        ensures recorded { result ≡ alone_record self.old (Alone.Assign cell value next) }
         ensures rises { self.old.writes + 1 ≤ self.new.writes }
         ensures few { self.new.writes ≤ self.old.writes + 2 }
     {
@@ -273,6 +272,47 @@ impl RankState {
         RankRecord {
             from: node,
             change: Change::assigned(was),
+        }
+    }
+
+    /// Does what was planned and issues no call, in the room that was kept. It answers what takes the step back. One or two writes.
+    #[tactic(auto, using(crate::proofs::RankLemmas::committing, crate::proofs::PlanLemmas::owning))]
+    fn commit_alone(&mut self, plan: Alone) -> RankRecord
+        requires { 1 ≤ self.old.room }
+        ensures after { (p : Program) → rank_of p self.new ≡ planned_alone p (rank_of p self.old) plan }
+        ensures recorded { result ≡ alone_record self.old plan }
+        ensures own { IsOwn result.change }
+        ensures of_rank { IsOfRank result.change }
+        ensures rank { self.new.rank ≡ self.old.rank }
+        ensures back { (p : Program) → self.old.activity ≡ Activity.Running → undone_rank p (rank_of p self.new) result ≡ rank_of p self.old }
+        ensures rises { self.old.writes + 1 ≤ self.new.writes }
+        ensures few { self.new.writes ≤ self.old.writes + 2 }
+    {
+        let Standing { node, activity } = self.standing();
+        match plan {
+            Alone::Move { next } => {
+                self.stand(next, activity);
+                RankRecord {
+                    from: node,
+                    change: Change::Moved,
+                }
+            }
+            Alone::Print { value, next } => {
+                self.out.push_kept(value);
+                self.stand(next, activity);
+                RankRecord {
+                    from: node,
+                    change: Change::Printed,
+                }
+            }
+            Alone::Assign { cell, value, next } => self.assign(cell, value, next),
+            Alone::Trap(trap) => {
+                self.stand(node, Activity::Trapped(trap));
+                RankRecord {
+                    from: node,
+                    change: Change::Trapped,
+                }
+            }
         }
     }
 
@@ -290,32 +330,9 @@ impl RankState {
         ensures rises { self.old.writes + 1 ≤ self.new.writes }
         ensures few { self.new.writes ≤ self.old.writes + 2 }
     {
-        let Standing { node, activity } = self.standing();
         match plan {
-            LocalPlan::Move { next } => {
-                self.stand(next, activity);
-                RankRecord {
-                    from: node,
-                    change: Change::Moved,
-                }
-            }
-            LocalPlan::Print { value, next } => {
-                self.out.push_kept(value);
-                self.stand(next, activity);
-                RankRecord {
-                    from: node,
-                    change: Change::Printed,
-                }
-            }
-            LocalPlan::Assign { cell, value, next } => self.assign(cell, value, next),
+            LocalPlan::Alone(plan) => self.commit_alone(plan),
             LocalPlan::Issue { issue, next } => self.issue(issue, call, next),
-            LocalPlan::Trap(trap) => {
-                self.stand(node, Activity::Trapped(trap));
-                RankRecord {
-                    from: node,
-                    change: Change::Trapped,
-                }
-            }
         }
     }
 

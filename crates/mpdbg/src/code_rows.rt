@@ -12,7 +12,7 @@ use mpd_model::call::{Activity, Mode, Trap};
 use mpd_model::expr::{BinaryOp, Expr, ExprNode};
 use mpd_model::step::Step;
 use mpd_rank::change::{Cells, RankRecord};
-use mpd_rank::plan::LocalPlan;
+use mpd_rank::plan::{Alone, LocalPlan};
 use mpd_rank::rank::RankState;
 use mpd_trail::debugger::{ApplyFault, Debugger};
 use std::alloc::Global;
@@ -97,11 +97,11 @@ fn evaluates_an_expression(rt: HostRuntime) {
 }
 
 /// What the first statement of the one rank does.
-const ASSIGNMENT: LocalPlan = LocalPlan::Assign {
+const ASSIGNMENT: LocalPlan = LocalPlan::Alone(Alone::Assign {
     cell: 0,
     value: 5,
     next: 1,
-};
+});
 
 fn plans_the_assignment(rt: &impl Abort, code: &Code, rank: &RankState) {
     same(rt, rank.can_step(code), true);
