@@ -126,10 +126,12 @@ fn step_rank(code: &Code, state: &mut RankState, board: &mut Board) -> Result<Ra
     ensures ranks { length board.new.board.calls ≡ length board.old.board.calls }
     ensures tags { HasTags board.old.board → HasTags board.new.board }
 {
-    if !state.can_step(code) {
+    if state.keep_room().is_err() {
+        if state.can_step(code) {
+            return Err(StepFault::Memory);
+        }
         return Err(StepFault::NotEnabled);
     }
-    state.keep_room()?;
     if let Some(done) = state.step_alone(code) {
         return Ok(done);
     }

@@ -10,7 +10,7 @@ ghost use Rattle.mpd_model.specs.Next as next_specs;
 ghost use Rattle.mpd_model.specs.Next.{next, is_enabled, local_at, update_at, wake_writes, wake_clears, status_writes, can_wake, waits};
 ghost use Rattle.mpd_core.specs.Views.{IsMessage};
 ghost use Rattle.mpd_rank.specs.Views.{rank_of};
-ghost use Rattle.mpd_core.specs.Records.{record_of};
+ghost use Rattle.mpd_core.specs.Records.{record_of, step_record};
 ghost use Rattle.mpd_core.specs.Looks.{step_looks, most_looks};
 
 use crate::fault::StepFault;
@@ -225,6 +225,27 @@ impl<'c> Core<'c> {
         }
     }
 
+    /// A local step, as `apply` takes it. It answers what takes the step back of its rank alone.
+    pub fn step_local(&mut self, rank: usize) -> Result<RankRecord, StepFault>
+        ensures ok { OnOk result (next self.old.world (Step.Local rank) ≡ Some self.new.world) }
+        ensures back { IfOk result (λ done. undone self.old.program self.new.world (step_record (Step.Local rank) done) ≡ self.old.world) }
+        ensures recorded { IfOk result (λ done. record_of self.old.world (Step.Local rank) ≡ Some (step_record (Step.Local rank) done)) }
+        ensures can { IfOk result (λ done. CanUndo self.new.world (step_record (Step.Local rank) done)) }
+        ensures not_enabled { IsErrOf result StepFault.NotEnabled ↔ (next self.old.world (Step.Local rank) ≡ None) }
+        ensures memory { IsErrOf result StepFault.Memory → self.old.room ≡ 0 }
+        ensures err { OnErr result (self.new.world ≡ self.old.world) }
+        ensures program { self.new.program ≡ self.old.program }
+        ensures rises { OnOk result (self.old.writes + 1 ≤ self.new.writes) }
+        ensures few { self.new.writes ≤ self.old.writes + 16 }
+        ensures unwritten { OnErr result (self.new.writes ≡ self.old.writes) }
+        ensures looks { self.new.looks ≡ self.old.looks }
+    {
+        if rank >= self.ranks.len() {
+            return Err(StepFault::NotEnabled);
+        }
+        ranks::step_one(self.code, &mut self.ranks, &mut self.board, rank)
+    }
+
     /// A local step.
     fn apply_local(&mut self, rank: usize) -> Result<Record, StepFault>
         ensures ok { OnOk result (next self.old.world (Step.Local rank) ≡ Some self.new.world) }
@@ -240,11 +261,7 @@ impl<'c> Core<'c> {
         ensures unwritten { OnErr result (self.new.writes ≡ self.old.writes) }
         ensures looks { self.new.looks ≡ self.old.looks }
     {
-        if rank >= self.ranks.len() {
-            return Err(StepFault::NotEnabled);
-        }
-        let done = ranks::step_one(self.code, &mut self.ranks, &mut self.board, rank)?;
-        let RankRecord { from, change } = done;
+        let RankRecord { from, change } = self.step_local(rank)?;
         Ok(Record {
             step: Step::Local(rank),
             from,
