@@ -245,6 +245,12 @@ impl<'c> Debugger<'c> {
             }
             return Err(ApplyFault::NotEnabled);
         }
+        if let Step::Local(rank) = step {
+            let own = self.core.step_local(rank)?;
+            note(&mut self.steps, depth, Step::Local(rank));
+            self.records.push_reserved(own);
+            return Ok(());
+        }
         let done = self.core.apply(step)?;
         let Record { from, change, .. } = done;
         note(&mut self.steps, depth, step);
