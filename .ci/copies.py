@@ -9,8 +9,8 @@ counts only where its control is proved (`Copies.fault`). What is not refused in
 
 An edit may name the clause that refuses it (a line `clause: NAME` in its file): its copy then has that clause alone of what the
 function ensures, since a body that doesn't meet one clause doesn't meet them all. So it is that clause that is shown to refuse it,
-and nothing is sought for the others. Where what a call in the body requires refuses it, it has `clause: requires`, and its copy
-ensures nothing.
+and nothing is sought for the others. Of the function's proof files its copy has what answers no other clause. Where what a call in
+the body requires refuses it, it has `clause: requires`, and its copy ensures nothing.
 
 A copy of a member of a cycle of calls is outside of the cycle: it calls the members themselves, and owes no measure. What breaks
 the measure alone is so not refused in a copy. A method of a trait has no copies, nor has an edit that changes more than one
@@ -67,6 +67,18 @@ def outside_of_cycle(text, name):
     return '\n\n'.join([uses, *own]).rstrip() + '\n' if own else None
 
 
+def for_clause(text, clause):
+    """What a proof file says, but for its answers to other clauses than this one; an answer to all clauses at once stays as it is."""
+    blocks = text.split('\n\n')
+    others = re.compile(rf'(?:abbrev )?pub returns(?:-\S+)?-clause-(?!{clause} )\S+ :')
+    return '\n\n'.join(it for it in blocks if not others.match(it)).rstrip() + '\n'
+
+
+def answers_all(text):
+    """Whether a proof file has an answer to several clauses at once, which can't be had for one of them."""
+    return bool(re.search(r'(?m)^(?:abbrev )?pub returns(?:-(?!clause-)\S+)? :(?:.*\n)+?.*\brecord \{', text))
+
+
 def without_measure(answer):
     """The answer with the second part of the pair that is its last line, where that is a pair; else the answer."""
     above, last = answer.rstrip().rsplit('\n', 1)
@@ -121,8 +133,9 @@ class Original:
         module = self.file.removeprefix('src/').removesuffix('.rt')
         return below == f"proofs/{'' if module == 'lib' else f'{module}/'}{last}"
 
-    def proofs(self, name):
-        """Its proof files, for a copy of this name: of each the path below the crate, and the text."""
+    def proofs(self, name, clause=None):
+        """Its proof files, for a copy of this name, which ensures this clause alone, where one is named: of each the path below the
+        crate, and the text."""
         found = {}
         for at, _, files in os.walk(f'{self.folder}/proofs'):
             below = at.removeprefix(f'{self.folder}/')
@@ -134,6 +147,7 @@ class Original:
                 with open(f'{at}/{file}', encoding='utf-8') as it:
                     text = it.read().replace(f'.{was}.', f'.{now}.')
                 text = outside_of_cycle(text, self.name) if self.cycle else text
+                text = for_clause(text, clause) if text and clause else text
                 if text:
                     found[f'{copied}/{file}'] = text
         return found
@@ -163,7 +177,7 @@ class Copies:
     def place(self, edit, original, name, region=(), clause=None):
         at = original.file, original.end
         self.added[at] = self.added.get(at, '') + original.source(name, *region, clause=clause)
-        self.files.update(original.proofs(name))
+        self.files.update(original.proofs(name, clause))
         return edit.function.removesuffix(original.name) + name
 
     def regions(self):

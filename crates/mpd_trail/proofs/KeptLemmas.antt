@@ -45,7 +45,7 @@ is_of_step w (Match s r) = refl
 is_of_step w (Wake p) = is_joined (Wake p) (wake_record_at w.ranks p (wake_writes w.board p) (wake_clears w.board p))
 is_of_step w Release = tt
 
-recorded_step : (w : World) (a : Step) (done : Record) → record_of w a ≡ Some done → done ≡ step_record a (rank_part done)
+pub recorded_step : (w : World) (a : Step) (done : Record) → record_of w a ≡ Some done → done ≡ step_record a (rank_part done)
 recorded_step w a done e = subst (λ (o : Option Record). IfSome o (λ d. d ≡ step_record a (rank_part d))) e (is_of_step w a)
 
 take_by : (b : Bool) (steps : List Step) (n : ℕ) (a : Step) → n ≤ length steps → is_step (slice_get steps n) a ≡ b → take (n + 1) (cond b steps (take n steps ++ a ∷ [])) ≡ take n steps ++ a ∷ []

@@ -3,6 +3,8 @@
 ghost use Rattle.std.specs.Prelude.{◌≡◌, ◌↔◌, ◌<◌, ◌≤◌, IfOk, OnOk, OnErr, IsErrOf, IsOk, IsSome, Some, None, ◌+◌, ◌-◌, min, vec_len, vec_capacity, codes};
 ghost use Rattle.mpd_model.specs.Next.{next};
 ghost use Rattle.mpd_model.specs.Trail.{first_standing, IsReached, noted, applied, taken_back, step_eq};
+ghost use Rattle.mpd_core.specs.Records.{record_of, step_record};
+ghost use Rattle.mpd_core.specs.Undone.{undone, CanUndo};
 ghost use Rattle.mpd_trail.specs.Faults.{apply_fault, apply_fault_number, apply_fault_name};
 ghost use Rattle.mpd_trail.specs.Views.{standing_of};
 
@@ -126,6 +128,28 @@ fn is_same(a: Step, b: Step) -> bool
     a == b
 }
 
+/// Takes a step of the state, and answers what takes it back, the step aside.
+fn take(core: &mut Core<'_>, step: Step) -> Result<RankRecord, StepFault>
+    ensures ok { OnOk result (next core.old.world step ≡ Some core.new.world) }
+    ensures back { IfOk result (λ done. undone core.old.program core.new.world (step_record step done) ≡ core.old.world) }
+    ensures recorded { IfOk result (λ done. record_of core.old.world step ≡ Some (step_record step done)) }
+    ensures can { IfOk result (λ done. CanUndo core.new.world (step_record step done)) }
+    ensures not_enabled { IsErrOf result StepFault.NotEnabled ↔ (next core.old.world step ≡ None) }
+    ensures memory { IsErrOf result StepFault.Memory → core.old.room ≡ 0 }
+    ensures err { OnErr result (core.new.world ≡ core.old.world) }
+    ensures program { core.new.program ≡ core.old.program }
+    ensures rises { OnOk result (core.old.writes + 1 ≤ core.new.writes) }
+    ensures few { OnOk result (core.new.writes ≤ core.old.writes + 16) }
+    ensures unwritten { OnErr result (core.new.writes ≡ core.old.writes) }
+{
+    if let Step::Local(rank) = step {
+        return core.step_local(rank);
+    }
+    let done = core.apply(step)?;
+    let Record { from, change, .. } = done;
+    Ok(RankRecord { from, change })
+}
+
 /// Has a step as the one at a depth: what stands there already stays, with all after it. Where the depth is the end, the room
 /// that was kept is taken.
 #[tactic(auto, using(crate::proofs::StepLemmas::noting))]
@@ -245,14 +269,8 @@ impl<'c> Debugger<'c> {
             }
             return Err(ApplyFault::NotEnabled);
         }
-        if let Step::Local(rank) = step {
-            let own = self.core.step_local(rank)?;
-            note(&mut self.steps, depth, Step::Local(rank));
-            self.records.push_reserved(own);
-            return Ok(());
-        }
-        let done = self.core.apply(step)?;
-        let Record { from, change, .. } = done;
+        let done = take(&mut self.core, step)?;
+        let RankRecord { from, change } = done;
         note(&mut self.steps, depth, step);
         self.records.push_reserved(RankRecord { from, change });
         Ok(())
