@@ -32,7 +32,7 @@ def holder(world, send_id, receive_id):
 def why(world, call_id):
     """The free calls that a free send or receive fits, by rank and number, each with what holds that match back, or None."""
     call = find_call(world, call_id)
-    if call.kind == 'wait' or partner(world, call_id) is not None:
+    if call is None or call.kind == 'wait' or partner(world, call_id) is not None:
         return []
     others = [(other_id, other.kind) for rank in range(len(world.ranks)) for other_id, other in free_calls(world, rank)]
     if call.kind == 'send':
@@ -54,7 +54,7 @@ def covers(number, other):
 
 def cases_of(world, first, second):
     """The cases by which one call completes before a later one of its rank: `sends`, `receives`, `wait`, `blocks`."""
-    if first.rank != second.rank or first.number >= second.number:
+    if first.rank != second.rank or first.number >= second.number or find_call(world, second) is None:
         return set()
     one, two = find_call(world, first), find_call(world, second)
     found = {'blocks'} if one.blocks else set()

@@ -1,0 +1,391 @@
+"""Compares `why` of all calls and `before` of all pairs of calls, as the crates answer them, with the model.
+
+    python3 compare/why.py               300 random scripts
+    python3 compare/why.py --planted     each wrong body of compare/probe/broken/ too, in a copy of its own
+
+No trace word tells what the crates say of `why` and `before`. So a copy of the program is made in which the word `enabled` is
+answered by a line of them: compare/probe/ has what is changed in it, and `Board::why` and `Board::before` are called as they
+are. `rt try` builds the copy, with no proof, and runs it under its checks of memory. On random walks through random scripts, with
+undos, that line is asked for behind many steps and undos, and whatever is said must be, byte for byte, what the model says
+(compare/order.py). A crash, a hang or too much output is a difference.
+
+Each run shows that it can fail: the model is broken on purpose in several ways, the program gets an input on which the broken
+model says otherwise, and what that one says must be found different. The status is 0 where there were scripts, all that can be
+said was said, nothing differed, and each broken model did.
+"""
+
+import argparse
+import os
+import re
+import shutil
+import subprocess
+import sys
+import tempfile
+import time
+from collections import Counter
+from concurrent.futures import ProcessPoolExecutor, ThreadPoolExecutor
+from random import Random
+from typing import NamedTuple
+from unittest import mock
+
+TOP = os.path.dirname(os.path.dirname(os.path.abspath(__file__)))
+sys.path.append(f'{TOP}/.ci')
+sys.dont_write_bytecode = True
+
+import debugger
+import order
+from cases import KINDS
+from debugger import CallId, Debugger, divided, find_call
+from edits import BadEdit, Edit
+from language import Fault, read_script
+from planted import plant
+
+PROBE = 'compare/probe'
+CHOSEN = ('wildcards', 'wildcards', 'wildcards', 'requests', 'script', 'states')
+# Worlds with more calls are not asked: the pairs of these are too many.
+MOST_CALLS = 40
+# A batch is what the copy answers in one run, which may write 1 MiB under `rt try`.
+MOST_OUTPUT = 1_000_000
+MOST_WALKS = 50
+# How many walks a process makes at a time.
+CHUNK = 20
+# Among so many walks one is sought on which a broken model says otherwise.
+MOST_SOUGHT = 1000
+# What must have been met, or the run compared too little.
+MUST_MEET = ('worlds', 'undos', 'whys', 'pairs', 'eligible', 'held by a send', 'held by a recv', 'sends', 'receives', 'wait',
+             'blocks', 'any source', 'any tag', 'status')
+DIVIDER = b'\0'
+
+
+def asked(world):
+    """The calls that are asked: all, and behind the last one of each rank, and behind the last rank, one that is not there."""
+    counts = [*(len(rank.calls) for rank in world.ranks), 0]
+    return [CallId(rank, number) for rank, count in enumerate(counts) for number in range(count + 1)]
+
+
+def told(world):
+    """The line that the copy answers."""
+    calls = asked(world)
+    listed = [(call_id, order.why(world, call_id)) for call_id in calls]
+    whys = ''.join(f' {call_id}:{partners_text(partners)};' for call_id, partners in listed if partners)
+    pairs = ''.join(f' {one} {two};' for one in calls for two in calls if order.before(world, one, two))
+    return f'why{whys} before{pairs}'
+
+
+def partners_text(partners):
+    return ''.join(f' {other} ' + ('eligible' if held is None else f'held by {held}') for other, held in partners)
+
+
+class Walked(NamedTuple):
+    """A script with a walk that asks at some places, what the model answers, and what was met there."""
+    name: str
+    data: bytes
+    wanted: bytes
+    met: Counter
+
+
+def expected(data):
+    """What the copy writes for an input."""
+    with mock.patch.object(debugger, 'enabled_text', told):
+        return debugger.answer(data).output + b'ended' + DIVIDER
+
+
+def met_in(world, undone):
+    """What is asked in a world, and what there is to be told wrongly."""
+    calls = asked(world)
+    found = Counter(worlds=1, undos=undone, whys=len(calls), pairs=len(calls) ** 2)
+    for call_id in calls:
+        call = find_call(world, call_id)
+        if call is not None and call.kind == 'recv':
+            found.update({'any source': call.other is None, 'any tag': call.tag is None, 'status': call.status is not None})
+        found.update(way_of(world, held) for _, held in order.why(world, call_id))
+    for place, one in enumerate(calls):
+        for two in calls[place + 1:]:
+            found.update(order.cases_of(world, one, two))
+    return found
+
+
+def way_of(world, held):
+    return 'eligible' if held is None else f'held by a {find_call(world, held).kind}'
+
+
+def walked(seed, number):
+    """The walk of this number; None where its script can't be read, or there is nothing to ask."""
+    kind = CHOSEN[number % len(CHOSEN)]
+    name = f'{kind}-{seed}-{number}'
+    random = Random(f'why/{kind}/{seed}/{number}')
+    script, lines = divided(KINDS[kind][0](random))
+    try:
+        walk = Debugger(read_script(script))
+    except Fault:
+        return None
+    rate = random.choice([0.1, 0.3, 1.0])
+    taken, met, last = [], Counter(), False
+    for line in lines:
+        if DIVIDER in line or line.split()[:1] in ([b'enabled'], [b'show']):
+            continue
+        taken.append(line)
+        before = walk.depth
+        if not (walk.answer(line) or '').startswith('ok') or sum(len(rank.calls) for rank in walk.world.ranks) > MOST_CALLS:
+            continue
+        last = random.random() >= rate
+        if not last:
+            taken.append(b'enabled')
+            met += met_in(walk.world, walk.depth < before)
+    if last and sum(len(rank.calls) for rank in walk.world.ranks) <= MOST_CALLS:
+        taken.append(b'enabled')
+        met += met_in(walk.world, False)
+    if not met['whys']:
+        return None
+    data = script + b'---\n' + b''.join(line + b'\n' for line in taken)
+    return Walked(name, data, expected(data), met)
+
+
+def walked_chunk(seed, numbers):
+    return [walk for number in numbers if (walk := walked(seed, number))]
+
+
+def all_walked(pool, seed, count):
+    """So many walks."""
+    found, first = [], 0
+    while len(found) < count:
+        chunks = range(first, first + max(count - len(found), CHUNK) * 5 // 4, CHUNK)
+        tasks = [pool.submit(walked_chunk, seed, range(chunk, chunk + CHUNK)) for chunk in chunks]
+        found += [walk for task in tasks for walk in task.result()]
+        first = chunks[-1] + CHUNK
+    return found[:count]
+
+
+class Batch(NamedTuple):
+    """Some walks that the copy answers in one run."""
+    name: str
+    walks: list
+
+    def write(self, folder):
+        """Writes its input, and what must be answered to it, as `rt try --cases` takes them."""
+        for ending, data in (('', b''.join(walk.data + DIVIDER for walk in self.walks)),
+                             ('.stdout', b''.join(walk.wanted for walk in self.walks))):
+            with open(f'{folder}/{self.name}{ending}', 'wb') as it:
+                it.write(data)
+
+
+def batches(walks):
+    """The walks in batches."""
+    found, size = [], 0
+    for walk in walks:
+        size += len(walk.wanted)
+        if not found or size > MOST_OUTPUT or len(found[-1].walks) == MOST_WALKS:
+            found.append(Batch(f'batch-{len(found)}', []))
+            size = len(walk.wanted)
+        found[-1].walks.append(walk)
+    return found
+
+
+class Change(Edit):
+    """A change of the copy: compare/probe/answer.edit, or a wrong body."""
+
+    def __init__(self, path):
+        super().__init__('', path)
+        self.name = os.path.basename(path).removesuffix('.edit')
+        self.read()
+
+    def reads(self, key, value):
+        if key == 'crate':
+            self.folder = f'crates/{value.strip()}'
+        return key == 'crate'
+
+
+def make_copy(room, changes):
+    """Makes the copy of the program in an empty folder, with these changes; gives where it is to be tried."""
+    left = plant([Change(f'{PROBE}/answer.edit'), *changes], room)
+    if left:
+        raise BadEdit(f'{left[0].name} touches another change')
+    shutil.copy(f'{PROBE}/why.rt', f'{room}/crates/mpd_trace/src')
+    shutil.rmtree(f'{room}/crates/mpdbg/src')
+    os.mkdir(f'{room}/crates/mpdbg/src')
+    shutil.copy(f'{PROBE}/main.rt', f'{room}/crates/mpdbg/src')
+    return f'{room}/crates/mpdbg'
+
+
+def tried(batches, changes, seconds):
+    """What the copy with these changes answers to each batch: `expected`, `differs` or what else came of it; and all that was said."""
+    with tempfile.TemporaryDirectory(prefix='why-') as room, tempfile.TemporaryDirectory(prefix='cases-') as cases:
+        for batch in batches:
+            batch.write(cases)
+        # a run with few steps of the interpreter leaves the answer to the built copy
+        words = ['rt', 'try', '--steps', '1000', '--seconds', str(seconds), '--cases', cases]
+        ran = subprocess.run(words, cwd=make_copy(room, changes), stdin=subprocess.DEVNULL, stdout=subprocess.PIPE,
+                             stderr=subprocess.STDOUT, text=True, errors='replace')
+    said = {}
+    for name, what in re.findall(r'(?m)^case=(\S+) (.*) proved=no$', ran.stdout):
+        ended = re.fullmatch(r'run=ended status=0 .*output=(differs|expected)', what)
+        said[name] = ended[1] if ended else what
+    return said, ran.stdout
+
+
+def first_difference(walk, seconds):
+    """The first line of a walk that the copy answers otherwise than the model, with both answers."""
+    with tempfile.TemporaryDirectory(prefix='why-') as room:
+        ran = subprocess.run(['rt', 'try', '--steps', '1000', '--seconds', str(seconds)], cwd=make_copy(room, []),
+                             input=walk.data + DIVIDER, capture_output=True)
+    lines, wanted = (data.decode(errors='replace').split('\n') for data in (ran.stdout, walk.wanted))
+    for place in range(max(len(lines), len(wanted))):
+        pair = [it[place] if place < len(it) else '(nothing)' for it in (lines, wanted)]
+        if pair[0] != pair[1]:
+            return f'  answer {place + 1}: {pair[0]}\n  wanted: {pair[1]}'
+    return '  no difference in a run of its own'
+
+
+def report(found, text, seconds):
+    """Says on which walks the copy differs, keeps these, and shows the first."""
+    print(text[-2000:])
+    singles = [Batch(walk.name, [walk]) for batch in found[:4] for walk in batch.walks]
+    said, _ = tried(singles, [], seconds)
+    differing = [batch for batch in singles if said.get(batch.name) != 'expected']
+    folder = tempfile.mkdtemp(prefix='why-')
+    for batch in differing:
+        batch.write(folder)
+        print(f'{folder}/{batch.name}: {said.get(batch.name, "no answer")}')
+    if differing:
+        print(first_difference(differing[0].walks[0], seconds))
+
+
+class Breakage(NamedTuple):
+    """A fault put into the model on purpose: what stands in the place of something of compare/order.py."""
+    name: str
+    attribute: str
+    replacement: object
+
+
+def latest_holder(world, send_id, receive_id):
+    ahead = order.sends_ahead(world, send_id, receive_id) or order.receives_ahead(world, send_id, receive_id)
+    return ahead[-1] if ahead else None
+
+
+def receive_first(world, send_id, receive_id):
+    ahead = order.receives_ahead(world, send_id, receive_id) or order.sends_ahead(world, send_id, receive_id)
+    return ahead[0] if ahead else None
+
+
+def send_alone(world, send_id, receive_id):
+    ahead = order.sends_ahead(world, send_id, receive_id)
+    return ahead[0] if ahead else None
+
+
+def changed(why, change):
+    """What changes the list that `why` gives."""
+    return lambda world, call_id: change(why(world, call_id))
+
+
+def without_case(cases_of, case):
+    """What leaves a case out of those by which calls are in order."""
+    return lambda world, first, second: cases_of(world, first, second) - {case}
+
+
+def calls_there(cases_of):
+    """What has the calls of a rank in order with one that is not there."""
+    def cases(world, first, second):
+        there = find_call(world, first) is not None and find_call(world, second) is None
+        return {'blocks'} if there and first.rank == second.rank else cases_of(world, first, second)
+    return cases
+
+
+def either_way(cases_of):
+    """What has two calls in order both ways."""
+    return lambda world, first, second: cases_of(world, min(first, second), max(first, second))
+
+
+def breakages():
+    why, cases_of, fits, covers = order.why, order.cases_of, order.fits, order.covers
+    return (
+        Breakage('the latest call that is in the way', 'holder', latest_holder),
+        Breakage('a receive in the way named before a send', 'holder', receive_first),
+        Breakage('no receive in the way', 'holder', send_alone),
+        Breakage('the last partner left out', 'why', changed(why, lambda listed: listed[:-1])),
+        Breakage('the third partner left out', 'why', changed(why, lambda listed: listed[:2] + listed[3:])),
+        Breakage('partners of the last rank first', 'why', changed(why, lambda listed: listed[::-1])),
+        Breakage('partners of a paired call', 'partner', lambda *_: None),
+        Breakage('partners that do not fit', 'fits', lambda world, send_id, receive_id: fits(world, send_id, receive_id)
+                 or find_call(world, send_id).other == receive_id.rank),
+        Breakage('equal sends in no order', 'cases_of', without_case(cases_of, 'sends')),
+        Breakage('covered receives in no order', 'cases_of', without_case(cases_of, 'receives')),
+        Breakage('a call behind its wait', 'cases_of', without_case(cases_of, 'wait')),
+        Breakage('no order behind what blocks', 'cases_of', without_case(cases_of, 'blocks')),
+        Breakage('any covers any alone', 'covers', lambda number, other: number == other),
+        Breakage('the covered receive first', 'covers', lambda number, other: covers(other, number)),
+        Breakage('both ways', 'cases_of', either_way(cases_of)),
+        Breakage('before a call that is not there', 'cases_of', calls_there(cases_of)),
+    )
+
+
+def noticing(place, walks):
+    """The first walk on which this broken model says otherwise, with what it says, as a batch; None where there is none."""
+    breakage = breakages()[place]
+    with mock.patch.object(order, breakage.attribute, breakage.replacement):
+        for walk in walks:
+            said = expected(walk.data)
+            if said != walk.wanted:
+                return Batch(f'broken-{place}', [walk._replace(wanted=said)])
+    return None
+
+
+def compare(pool, chosen, walks):
+    """Compares the walks, and the broken models; gives how much is wrong."""
+    sought = [pool.submit(noticing, place, walks[:MOST_SOUGHT]) for place in range(len(breakages()))]
+    broken = [it.result() for it in sought]
+    all_batches = batches(walks)
+    said, text = tried([*all_batches, *filter(None, broken)], [], chosen.seconds)
+    differing = [batch for batch in all_batches if said.get(batch.name) != 'expected']
+    if differing:
+        report(differing, text, chosen.seconds)
+    missed = [breakage.name for breakage, batch in zip(breakages(), broken) if not batch or said.get(batch.name) != 'differs']
+    for name in missed:
+        print(f'not noticed in the model: {name}')
+    print(f'{len(all_batches)} runs, {len(differing)} different; {len(broken)} broken models, {len(broken) - len(missed)} noticed')
+    return len(differing) + len(missed)
+
+
+def compare_planted(chosen, walks):
+    """Plants each wrong body in a copy of its own; gives how many were not noticed."""
+    all_batches, missed = batches(walks), 0
+    bodies = [Change(f'{PROBE}/broken/{name}') for name in sorted(os.listdir(f'{PROBE}/broken'))]
+    with ThreadPoolExecutor(chosen.jobs) as pool:
+        for body, (said, text) in zip(bodies, pool.map(lambda body: tried(all_batches, [body], chosen.seconds), bodies)):
+            found = Counter(said.get(batch.name, 'no answer') for batch in all_batches)
+            print(f'{body.name}: {dict(found)}', flush=True)
+            if set(found) - {'expected', 'differs'} or not found['differs']:
+                missed += 1
+                print(f'{body.name}: NOT NOTICED: {text[-1000:]}')
+    print(f'{len(bodies)} wrong bodies, {len(bodies) - missed} noticed')
+    return missed or not bodies
+
+
+def arguments():
+    parser = argparse.ArgumentParser(description=__doc__, formatter_class=argparse.RawDescriptionHelpFormatter)
+    parser.add_argument('--count', type=int, default=300, help='how many scripts (300)')
+    parser.add_argument('--seed', type=int, default=1, help='another seed gives other scripts (1)')
+    parser.add_argument('--planted', action='store_true', help='plant the wrong bodies too: a build for each')
+    parser.add_argument('--seconds', type=int, default=60, help='how long a run of the copy may take (60)')
+    parser.add_argument('--jobs', type=int, default=len(os.sched_getaffinity(0)), help='how many processes (one for each core)')
+    return parser.parse_args()
+
+
+def main():
+    chosen = arguments()
+    os.chdir(TOP)
+    began = time.monotonic()
+    with ProcessPoolExecutor(chosen.jobs) as pool:
+        walks = all_walked(pool, chosen.seed, chosen.count)
+        met = sum((walk.met for walk in walks), Counter())
+        print(', '.join(f'{name} {count}' for name, count in sorted(met.items())), flush=True)
+        wrong = [f'{name} was not met' for name in MUST_MEET if not met[name]]
+        print('\n'.join(wrong), end='\n' if wrong else '')
+        is_wrong = compare(pool, chosen, walks) if walks else True
+    if chosen.planted:
+        is_wrong = compare_planted(chosen, walks) or is_wrong
+    print(f'{len(walks)} scripts compared, {time.monotonic() - began:.1f} seconds')
+    return 1 if wrong or is_wrong else 0
+
+
+if __name__ == '__main__':
+    sys.exit(main())
