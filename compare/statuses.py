@@ -2,9 +2,9 @@
 
     python3 compare/statuses.py PROGRAM
 
-Devices that are full, closed, broken off, too short or interrupted; each fault of a script; as many steps and reads as there
-may be; the deepest scripts on a small stack; more answers than memory; answers that come before the next read. The status is 0
-where every run ended as it must.
+The examples; devices that are full, closed, broken off, too short or interrupted; each fault of a script; as many steps and reads
+as there may be; the deepest scripts on a small stack; more answers than memory; answers that come before the next read. The status
+is 0 where every run ended as it must.
 """
 
 import os
@@ -23,6 +23,7 @@ from runs import action, content, file_of, run_in_packets, status_of
 from shims import built
 
 HERE = os.path.dirname(os.path.abspath(__file__))
+EXAMPLES = os.path.join(HERE, '..', 'examples')
 SECONDS = 60
 # What the deepest scripts are run with (docs/LANGUAGE.md, "Limits").
 STACK_KIB = 512
@@ -114,7 +115,7 @@ def device(output=b''):
 
 def open_example(name):
     """What a file of the examples holds."""
-    with open(os.path.join(HERE, '..', 'examples', name), 'rb') as file:
+    with open(os.path.join(EXAMPLES, name), 'rb') as file:
         return file.read()
 
 
@@ -124,8 +125,13 @@ def ended_rows(program):
     script = SESSION[:SESSION.index(b'---')]
     yield 'a script alone', Files(file_of(script)).run(program), Result(b'', b'', 0)
     yield 'a script and no words', Files(file_of(script + b'---\n')).run(program), Result(b'', b'', 0)
-    example = [open_example('requests' + ending) for ending in ('.trace', '.stdout')]
-    yield 'the example of requests', Files(file_of(example[0])).run(program), Result(example[1], b'', 0)
+
+
+def example_rows(program):
+    """Status 0 for each example, with what stands beside it: NAME.trace is answered by NAME.stdout, and neither is there alone."""
+    for name in sorted({name.rpartition('.')[0] for name in os.listdir(EXAMPLES) if name.endswith(('.trace', '.stdout'))}):
+        trace, wanted = (open_example(name + ending) for ending in ('.trace', '.stdout'))
+        yield f'the example {name}', Files(file_of(trace)).run(program), Result(wanted, b'', 0)
 
 
 def refused_rows(program):
@@ -287,8 +293,8 @@ def much_rows(program):
     yield f'much to show with {MUCH_MIB} MiB', result, wanted
 
 
-ROWS = (ended_rows, refused_rows, device_rows, interrupted_rows, talk_rows, stack_rows, much_rows, full_rows,
-        turns_rows)
+ROWS = (ended_rows, example_rows, refused_rows, device_rows, interrupted_rows, talk_rows, stack_rows, much_rows,
+        full_rows, turns_rows)
 
 
 def main():
@@ -297,11 +303,15 @@ def main():
     program = os.path.abspath(sys.argv[1])
     count = wrong = 0
     for rows in ROWS:
+        before = count
         for name, result, wanted in rows(program):
             count += 1
             if result != wanted:
                 wrong += 1
                 print(f'{name}: {shortened(result)}, wanted {shortened(wanted)}', flush=True)
+        if count == before:
+            wrong += 1
+            print(f'{rows.__name__}: nothing was run')
     print(f'{count} runs, {wrong} wrong')
     return 1 if wrong else 0
 

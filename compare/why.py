@@ -282,6 +282,18 @@ def without_case(cases_of, case):
     return lambda world, first, second: cases_of(world, first, second) - {case}
 
 
+def any_tags(cases_of):
+    """What has all sends to one rank in order."""
+    def cases(world, first, second):
+        found = cases_of(world, first, second)
+        two = find_call(world, second)
+        if two is not None and first.rank == second.rank and first.number < second.number:
+            one = find_call(world, first)
+            found |= {'sends'} if one.kind == two.kind == 'send' and one.other == two.other else set()
+        return found
+    return cases
+
+
 def calls_there(cases_of):
     """What has the calls of a rank in order with one that is not there."""
     def cases(world, first, second):
@@ -307,6 +319,7 @@ def breakages():
         Breakage('partners of a paired call', 'partner', lambda *_: None),
         Breakage('partners that do not fit', 'fits', lambda world, send_id, receive_id: fits(world, send_id, receive_id)
                  or find_call(world, send_id).other == receive_id.rank),
+        Breakage('sends of other tags in order', 'cases_of', any_tags(cases_of)),
         Breakage('equal sends in no order', 'cases_of', without_case(cases_of, 'sends')),
         Breakage('covered receives in no order', 'cases_of', without_case(cases_of, 'receives')),
         Breakage('a call behind its wait', 'cases_of', without_case(cases_of, 'wait')),
