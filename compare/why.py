@@ -1,4 +1,4 @@
-"""Compares `why` of all calls and `before` of all pairs of calls, as the crates answer them, with the model.
+"""Compares `why` of calls and `before` of pairs of calls, as the crates answer them, with the model.
 
     python3 compare/why.py               300 random scripts
     python3 compare/why.py --planted     each wrong body of compare/probe/broken/ too, in a copy of its own
@@ -63,12 +63,17 @@ def asked(world):
     return [CallId(rank, number) for rank, count in enumerate(counts) for number in range(count + 1)]
 
 
+def asked_pairs(world):
+    """The pairs of these that are asked: all of one rank, and each call with the next number at each other rank."""
+    calls = asked(world)
+    return [(one, two) for one in calls for two in calls if one.rank == two.rank or one.number + 1 == two.number]
+
+
 def told(world):
     """The line that the copy answers."""
-    calls = asked(world)
-    listed = [(call_id, order.why(world, call_id)) for call_id in calls]
+    listed = [(call_id, order.why(world, call_id)) for call_id in asked(world)]
     whys = ''.join(f' {call_id}:{partners_text(partners)};' for call_id, partners in listed if partners)
-    pairs = ''.join(f' {one} {two};' for one in calls for two in calls if order.before(world, one, two))
+    pairs = ''.join(f' {one} {two};' for one, two in asked_pairs(world) if order.before(world, one, two))
     return f'why{whys} before{pairs}'
 
 
@@ -90,18 +95,17 @@ def expected(data):
         return debugger.answer(data).output + b'ended' + DIVIDER
 
 
-def met_in(world, undone):
+def met_in(world, is_undo):
     """What is asked in a world, and what there is to be told wrongly."""
-    calls = asked(world)
-    found = Counter(worlds=1, undos=undone, whys=len(calls), pairs=len(calls) ** 2)
+    calls, pairs = asked(world), asked_pairs(world)
+    found = Counter(worlds=1, undos=is_undo, whys=len(calls), pairs=len(pairs))
     for call_id in calls:
         call = find_call(world, call_id)
         if call is not None and call.kind == 'recv':
             found.update({'any source': call.other is None, 'any tag': call.tag is None, 'status': call.status is not None})
         found.update(way_of(world, held) for _, held in order.why(world, call_id))
-    for place, one in enumerate(calls):
-        for two in calls[place + 1:]:
-            found.update(order.cases_of(world, one, two))
+    for one, two in pairs:
+        found.update(order.cases_of(world, one, two))
     return found
 
 
@@ -109,36 +113,51 @@ def way_of(world, held):
     return 'eligible' if held is None else f'held by a {find_call(world, held).kind}'
 
 
+class Walk:
+    """A walk through a script, as the copy gets it: its lines, with the word that asks among them."""
+
+    def __init__(self, script):
+        self.debugger = Debugger(read_script(script))
+        self.lines, self.met = [], Counter()
+        self.is_undo = False
+
+    def take(self, line):
+        """Takes a line; answers whether it was a step or an undo, behind which it may be asked."""
+        depth = self.debugger.depth
+        self.lines.append(line)
+        is_taken = (self.debugger.answer(line) or '').startswith('ok')
+        self.is_undo = self.debugger.depth < depth
+        return is_taken and sum(len(rank.calls) for rank in self.debugger.world.ranks) <= MOST_CALLS
+
+    def ask(self):
+        self.lines.append(b'enabled')
+        self.met += met_in(self.debugger.world, self.is_undo)
+
+
 def walked(seed, number):
     """The walk of this number; None where its script can't be read, or there is nothing to ask."""
     kind = CHOSEN[number % len(CHOSEN)]
-    name = f'{kind}-{seed}-{number}'
     random = Random(f'why/{kind}/{seed}/{number}')
     script, lines = divided(KINDS[kind][0](random))
     try:
-        walk = Debugger(read_script(script))
+        walk = Walk(script)
     except Fault:
         return None
-    rate = random.choice([0.1, 0.3, 1.0])
-    taken, met, last = [], Counter(), False
+    rate = random.choice([0.05, 0.2, 0.6])
+    may_ask = False
     for line in lines:
         if DIVIDER in line or line.split()[:1] in ([b'enabled'], [b'show']):
             continue
-        taken.append(line)
-        before = walk.depth
-        if not (walk.answer(line) or '').startswith('ok') or sum(len(rank.calls) for rank in walk.world.ranks) > MOST_CALLS:
-            continue
-        last = random.random() >= rate
-        if not last:
-            taken.append(b'enabled')
-            met += met_in(walk.world, walk.depth < before)
-    if last and sum(len(rank.calls) for rank in walk.world.ranks) <= MOST_CALLS:
-        taken.append(b'enabled')
-        met += met_in(walk.world, False)
-    if not met['whys']:
+        may_ask = walk.take(line)
+        if may_ask and random.random() < rate:
+            walk.ask()
+            may_ask = False
+    if may_ask:
+        walk.ask()
+    if not walk.met['worlds']:
         return None
-    data = script + b'---\n' + b''.join(line + b'\n' for line in taken)
-    return Walked(name, data, expected(data), met)
+    data = script + b'---\n' + b''.join(line + b'\n' for line in walk.lines)
+    return Walked(f'{kind}-{seed}-{number}', data, expected(data), walk.met)
 
 
 def walked_chunk(seed, numbers):
@@ -307,6 +326,16 @@ def either_way(cases_of):
     return lambda world, first, second: cases_of(world, min(first, second), max(first, second))
 
 
+def of_two_ranks(cases_of):
+    """What has a call that blocks before the calls of other ranks too."""
+    def cases(world, first, second):
+        if first.rank == second.rank or first.number >= second.number or find_call(world, second) is None:
+            return cases_of(world, first, second)
+        one = find_call(world, first)
+        return {'blocks'} if one is not None and one.blocks else set()
+    return cases
+
+
 def breakages():
     why, cases_of, fits, covers = order.why, order.cases_of, order.fits, order.covers
     return (
@@ -327,6 +356,7 @@ def breakages():
         Breakage('any covers any alone', 'covers', lambda number, other: number == other),
         Breakage('the covered receive first', 'covers', lambda number, other: covers(other, number)),
         Breakage('both ways', 'cases_of', either_way(cases_of)),
+        Breakage('calls of two ranks in order', 'cases_of', of_two_ranks(cases_of)),
         Breakage('before a call that is not there', 'cases_of', calls_there(cases_of)),
     )
 

@@ -23,8 +23,9 @@ fn push_line(
     out.extend_from_slice(line.as_bytes())
 }
 
-/// One line: each call that `why` lists partners of, with these, and then all pairs of calls of which the first comes before
-/// the second. Asked are all calls, and behind the last one of each rank, and behind the last rank, one that is not there.
+/// One line: each call that `why` lists partners of, with these, and then the pairs of calls of which the first comes before
+/// the second. Asked are all calls, and behind the last one of each rank, and behind the last rank, one that is not there;
+/// and all pairs of these of one rank, and each call with the next number at each other rank.
 fn told(alloc: Global, board: &Board) -> Result<String, AllocError> {
     let calls = all_calls(alloc, board)?;
     let mut out = String::new(alloc);
@@ -86,7 +87,8 @@ fn push_later(
     calls: &[CallId],
 ) -> Result<(), AllocError> {
     for second in calls {
-        if board.before(first, *second) {
+        let is_asked = first.rank == second.rank || first.index + 1 == second.index;
+        if is_asked && board.before(first, *second) {
             write!(out, " {first} {second};")?;
         }
     }
