@@ -227,7 +227,7 @@ def make_copy(room, changes):
 
 
 def tried(batches, changes, seconds):
-    """What the copy with these changes answers to each batch: `expected`, `differs` or what else came of it; and all that was said."""
+    """What came of each batch in the copy with these changes, `expected`, `differs` or how it ended; and all that was said."""
     with tempfile.TemporaryDirectory(prefix='why-') as room, tempfile.TemporaryDirectory(prefix='cases-') as cases:
         for batch in batches:
             batch.write(cases)

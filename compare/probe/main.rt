@@ -1,4 +1,4 @@
-//! The program of a copy that compare/why.py tries: many inputs at once, with the byte 0 between two. Each is answered by itself, as
+//! The program of a copy that compare/why.py tries: many inputs in one, the byte 0 behind each. Each is answered by itself, as
 //! the program answers it; behind its answers stands `ended`, or its fault, and another such byte.
 #![tactic(auto)]
 

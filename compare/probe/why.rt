@@ -14,11 +14,7 @@ pub fn answer(alloc: Global, debugger: &Debugger<'_>, out: &mut Vec<u8>) {
     }
 }
 
-fn push_line(
-    alloc: Global,
-    debugger: &Debugger<'_>,
-    out: &mut Vec<u8>,
-) -> Result<(), AllocError> {
+fn push_line(alloc: Global, debugger: &Debugger<'_>, out: &mut Vec<u8>) -> Result<(), AllocError> {
     let line = told(alloc, debugger.core().board())?;
     out.extend_from_slice(line.as_bytes())
 }
