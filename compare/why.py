@@ -219,10 +219,10 @@ def make_copy(room, changes):
     left = plant([Change(f'{PROBE}/answer.edit'), *changes], room)
     if left:
         raise BadEdit(f'{left[0].name} touches another change')
-    shutil.copy(f'{PROBE}/why.rt', f'{room}/crates/mpd_trace/src')
+    shutil.copy(f'{PROBE}/why.rattle', f'{room}/crates/mpd_trace/src/why.rt')
     shutil.rmtree(f'{room}/crates/mpdbg/src')
     os.mkdir(f'{room}/crates/mpdbg/src')
-    shutil.copy(f'{PROBE}/main.rt', f'{room}/crates/mpdbg/src')
+    shutil.copy(f'{PROBE}/main.rattle', f'{room}/crates/mpdbg/src/main.rt')
     return f'{room}/crates/mpdbg'
 
 
