@@ -258,6 +258,7 @@ pub fn eval_wait(handle: &Target, env: &Env<'_>) -> Result<Issue, Trap>
 }
 
 /// The cell that an assignment writes, and its new value: the index of its target is evaluated first, then the expression.
+#[inline(always)]
 pub fn eval_assign(assign: &AssignStmt, env: &Env<'_>) -> Result<(usize, i64), Trap>
     ensures { result ≡ assignment assign.now env.now }
 {

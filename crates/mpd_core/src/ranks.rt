@@ -191,6 +191,7 @@ pub(crate) fn wake_one(
 }
 
 /// Takes the step of one rank back.
+#[inline(always)]
 #[tactic(auto, using(crate::proofs::RankLemmas::at_rank))]
 pub(crate) fn restore_one(ranks: &mut Vec<RankState>, rank: usize, done: RankRecord)
     requires within { rank < vec_len ranks.old }

@@ -226,6 +226,7 @@ impl<'c> Core<'c> {
     }
 
     /// A local step, as `apply` takes it. It answers what takes the step back of its rank alone.
+    #[inline(always)]
     pub fn step_local(&mut self, rank: usize) -> Result<RankRecord, StepFault>
         ensures ok { OnOk result (next self.old.world (Step.Local rank) ≡ Some self.new.world) }
         ensures back { IfOk result (λ done. undone self.old.program self.new.world (step_record (Step.Local rank) done) ≡ self.old.world) }

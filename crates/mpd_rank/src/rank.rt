@@ -404,6 +404,7 @@ impl RankState {
     }
 
     /// Takes a step of the rank back. It can't be refused memory. One to five writes.
+    #[inline(always)]
     pub fn restore(&mut self, done: RankRecord)
         requires { IsOfRank done.change }
         ensures after { (p : Program) → rank_of p self.new ≡ undone_rank p (rank_of p self.old) done }
