@@ -1,6 +1,5 @@
 -- Which call of a rank completes before another one, and what a run shows of it (MPI 4.0, sections 3.5, 3.7.4 and 6.3).
-use Rattle.std.specs.Prelude.{◌≡◌, ℕ, Bool, true, false, ◌&&◌, ◌||◌, ◌==◌, nat_lt, List, ◌∷◌, ◌++◌, length, take, Option, Some, None, is_some}
-use Rattle.std.specs.List.{filter}
+use Rattle.std.specs.Prelude.{◌≡◌, ℕ, Bool, true, false, ◌&&◌, ◌||◌, ◌==◌, nat_lt, List, ◌∷◌, ◌++◌, take, count_by, Option, Some, None, is_some}
 use Rattle.mpd_model.specs.declared.step.CallId.{CallId}
 use Rattle.mpd_model.specs.declared.call.Call.{Call}
 use Rattle.mpd_model.specs.declared.call.CallKind.{CallKind}
@@ -78,11 +77,11 @@ is_release set.Barrier = true
 
 -- how many times all ranks left a barrier
 abbrev pub releases : List MatchSet → ℕ
-releases sets = length (filter is_release sets)
+releases sets = count_by is_release sets
 
 -- how many of some calls are barriers
 abbrev pub barriers : List Call → ℕ
-barriers calls = length (filter (λ c. is_barrier (Some c.kind)) calls)
+barriers calls = count_by (λ c. is_barrier (Some c.kind)) calls
 
 abbrev pub barriers_before : Board → CallId → ℕ
 barriers_before b c = barriers (take c.index (calls_of b c.rank))
