@@ -126,7 +126,7 @@ const FAULTS: &[(&str, FaultCode, usize)] = &[
     ("req r;wait r[0];", FaultCode::Expected, 26),
     ("req r[2];wait r;", FaultCode::Expected, 29),
     ("req r;isend r to 0 tag 0;", FaultCode::Expected, 28),
-    ("req r;issend r 1 to 0 tag 0;", FaultCode::Expected, 20),
+    ("req r;issend 1 to 0 tag 0;", FaultCode::Expected, 27),
 ];
 
 /// Asserts why and where a text behind `mpd 1;ranks 1;` is refused.
