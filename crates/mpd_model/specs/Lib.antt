@@ -26,4 +26,5 @@ pub mod Printable
 pub mod Lines
 pub mod Texts
 pub mod Words
+pub mod Modes
 pub mod Answers
