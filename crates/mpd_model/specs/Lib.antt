@@ -27,4 +27,5 @@ pub mod Printable
 pub mod Lines
 pub mod Texts
 pub mod Words
+pub mod Modes
 pub mod Answers

@@ -1,7 +1,7 @@
 use Rattle.std.proofs.Common.{arith, ◌-◌}
 use Rattle.mpd_trace.proofs.PlainLaws.{Behind, plain_ended, behind_so, plain_all, plain_fault, counted_on}
 use Rattle.mpd_lines.specs.FaultWords.{reads_failed, writes_failed}
-use Rattle.mpd_trace.proofs.plain.plain.Goals as goal
+use Rattle.mpd_trace.proofs.plain.plain_keeping.Goals as goal
 
 pub returns-in-InputEnds-clause-served : goal.returns-in-InputEnds-clause-served
 returns-in-InputEnds-clause-served g c =
@@ -25,6 +25,7 @@ returns-in-Ok-trace_script g c =
           (g.W.Sink.seen c.args.sink.now) (g.W.Sink.seen c.trace_script.new.sink) c.in-Ok-read.script r.0 c.deref.ensures.value h.1 k c.in-Ok-read.ensures.ok r.1;
       counted = counted_on c.in-Ok.head.reads (1000000 - c.in-Ok.head.reads) 0 0 s t (g.S.Source.seen c.trace_script.new.source) (g.W.Sink.seen c.args.sink.now) (g.W.Sink.seen c.trace_script.new.sink)
           h.4 (omega (arith, few)) (let e = c.in-Ok.ensures.counted.reads_failed in omega (arith, e)) c.in-Ok-trace_script.ensures.counted;
+      kept = tt;
     }
 
 pub returns : goal.returns
@@ -44,4 +45,5 @@ returns g c =
       counted = counted_on c.in-Ok.head.reads (1000000 - c.in-Ok.head.reads) (reads_failed c.in-Err-trace_script.fault) (writes_failed c.in-Err-trace_script.fault) s t
           (g.S.Source.seen c.trace_script.new.source) (g.W.Sink.seen c.args.sink.now) (g.W.Sink.seen c.trace_script.new.sink)
           h.4 (omega (arith, few)) (let e = c.in-Ok.ensures.counted.reads_failed in omega (arith, e)) c.in-Err-trace_script.ensures.counted;
+      kept = tt;
     }
