@@ -4,7 +4,8 @@
 
 A run may end with the right answers up to one of them, `mpdbg: memory` and status 3; or it goes on, with `refused memory` in
 place of an answer that can be refused: then the state stands, and all answers behind it are right. Where all allocations from
-one on are refused it is the same. The status is 0 where every run did one of these. The allocations are refused by a shared
+one on are refused it is the same. The sessions have their scripts on standard input, one also in a file; words of the command line
+that ask for help, or are wrong, are answered as ever, or by `mpdbg: memory`. The status is 0 where every run did one of these. The allocations are refused by a shared
 object, which is built from bench/malloc_shim.c where none is named.
 """
 
@@ -16,7 +17,7 @@ import tempfile
 from collections import Counter
 from typing import NamedTuple
 
-from debugger import Debugger, divided, enabled_steps, next_world, step_of
+from debugger import Debugger, Result, divided, enabled_steps, next_world, step_of
 from language import read_script
 from runs import run_at_once
 from shims import built
@@ -46,6 +47,10 @@ def lively():
     half = len(lines) // 2
     there = [*lines[:half], b'show', b'enabled', *lines[half:], b'enabled', b'show', b'', b'fly', b'local 9']
     return MUCH + b''.join(line + b'\n' for line in [*there, *[b'back'] * (len(lines) + 1), b'show'])
+
+
+# Words that are answered by a text alone.
+ANSWERED = ('--help', 'trace --help', '--version', 'trac', 'trace', 'trace a --mod b', 'trace a --mode b', 'trace a b')
 
 
 def inputs():
@@ -107,32 +112,56 @@ class Shim(NamedTuple):
     path: str
     report: str
 
-    def run(self, program, data, **refused):
+    def run(self, program, data, words=(), **refused):
         """The result of a run, how often the program asked for memory, and how often it was refused."""
         if os.path.exists(self.report):
             os.remove(self.report)
         environment = {'LD_PRELOAD': self.path, 'SHIM_REPORT': self.report, **refused}
-        result = run_at_once(program, data, SECONDS, environment)
+        result = run_at_once(program, data, SECONDS, environment, words)
         with open(self.report, encoding='ascii') as file:
             inside, outside, count = map(int, re.findall(r'\d+', file.read()))
         return result, inside + outside, count
 
 
-def try_input(program, name, data, shim):
+def refuse_each(name, run, problem_of):
     """Refuses each allocation of a run alone, and then each one with all behind it; gives how many runs were wrong."""
-    _, count, _ = shim.run(program, data)
+    _, count, _ = run()
     kinds = Counter()
     wrong = 0
     for variable in ('SHIM_REFUSE_ONE', 'SHIM_REFUSE'):
         for number in range(1, count + 1):
-            result, _, refused = shim.run(program, data, **{variable: str(number)})
+            result, _, refused = run(**{variable: str(number)})
             kinds[kind_of(result)] += 1
-            if what := problem(data, result) if refused else 'nothing was refused':
+            if what := problem_of(result) if refused else 'nothing was refused':
                 wrong += 1
                 print(f'{name}, {variable}={number}: {what}', flush=True)
     told = ', '.join(f'{number} {kind}' for kind, number in sorted(kinds.items()))
     print(f'{name}: {count} allocations, {kinds.total()} runs: {told}; {wrong} wrong', flush=True)
     return wrong + (count == 0)
+
+
+def try_input(program, name, data, shim):
+    """A session on standard input."""
+    return refuse_each(name, lambda **refused: shim.run(program, data, **refused), lambda result: problem(data, result))
+
+
+def try_file(program, name, data, shim):
+    """The same session, with its script in a file."""
+    script = divided(data)[0]
+    with tempfile.NamedTemporaryFile() as file:
+        file.write(script)
+        file.flush()
+        lines = data[len(script) + len(b'---\n'):]
+        return refuse_each(f'{name}, its script in a file', lambda **refused: shim.run(program, lines, ('trace', file.name), **refused),
+                           lambda result: problem(data, result))
+
+
+def try_words(program, words, shim):
+    """Words that are answered by a text, by the same text or not at all."""
+    right = shim.run(program, b'', words.split())[0]
+    allowed = (right, Result(b'', b'mpdbg: memory\n', 3))
+    return refuse_each(f'words {words}', lambda **refused: shim.run(program, b'', words.split(), **refused),
+                       lambda result: None if result in allowed else f'status {result.status}, {result.output + result.errors}')
 
 
 def main():
@@ -144,7 +173,10 @@ def main():
     with tempfile.TemporaryDirectory() as folder:
         path = os.path.abspath(chosen.shim) if chosen.shim else built(SHIM, folder)
         shim = Shim(path, os.path.join(folder, 'report'))
-        wrong = [try_input(program, name, data, shim) for name, data in inputs()]
+        sessions = list(inputs())
+        wrong = [try_input(program, name, data, shim) for name, data in sessions]
+        wrong += [try_file(program, *sessions[0], shim)]
+        wrong += [try_words(program, words, shim) for words in ANSWERED]
     return 1 if any(wrong) else 0
 
 
