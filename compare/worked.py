@@ -3,13 +3,14 @@
     python3 compare/worked.py
 
 Each row is a script, a mode, and words with what each is answered; behind the words stands what `show` prints, whole or in part.
-The status is 0 where the model answers all of them so.
+The lessons of docs/COURSE.md are rows too, with their answers in files. The status is 0 where the model answers all of them so.
 """
 
 import sys
 from typing import NamedTuple
 
 from debugger import BUFFERED, RENDEZVOUS, answer_file
+from examples import lessons, open_example
 from language import PARTS, take_parts
 
 MEETING = 'mpd 1; ranks 2;\nbarrier;'
@@ -132,10 +133,16 @@ def refusal_problem(statement, fault, place):
     return said
 
 
+def lesson_problem(lesson):
+    result = answer_file(open_example(f'{lesson.name}.mpd'), open_example(f'{lesson.name}.words'), lesson.mode)
+    return None if (result.output, result.status) == (open_example(lesson.answers), 0) else f'{result}'
+
+
 def main():
     take_parts(PARTS)
     problems = [(f'{row.script} ({row.mode})', row_problem(row)) for row in ROWS]
     problems += [(statement, refusal_problem(statement, fault, place)) for statement, fault, place in REFUSED]
+    problems += [(f'{lesson.name} ({lesson.mode})', lesson_problem(lesson)) for lesson in lessons()]
     wrong = [(name, problem) for name, problem in problems if problem]
     for name, problem in wrong:
         print(f'{name}: {problem}')
