@@ -42,11 +42,11 @@ def cut_case(random):
     return script[:random.randint(0, max(place, 0))] + random.choice([b'', b'', b'', b'#', b'# end', b' ', b'-', b'\n--'])
 
 
-def mutated_case(random):
+def mutated_case(random, mode=RENDEZVOUS):
     """A script changed in a few tokens or bytes."""
     ranks = random.choice([1, 2, 3])
     if random.random() < 0.12:
-        return limits_case(random)
+        return limits_case(random, mode)
     writer = Writer(random, ranks)
     tokens = writer.script()
     if len(tokens) > 400 and random.random() < 0.2:
@@ -59,7 +59,7 @@ def mutated_case(random):
     script = rendered(random, tokens)
     if not in_tokens:
         script = mutated_bytes(random, script)
-    return assembled(random, script, trace_lines(random, script, 6))
+    return assembled(random, script, trace_lines(random, script, 6, mode=mode))
 
 
 def long_line(random, line):
@@ -210,9 +210,9 @@ SOMETIMES, MOSTLY = (None, None, RENDEZVOUS, BUFFERED), (None, RENDEZVOUS, BUFFE
 
 # 2,000 inputs of all kinds have all of those that are counted out.
 KINDS = {
-    'script': Kind(script_case, 8, 9, SOMETIMES), 'mutated': Kind(mutated_case, 6, 7), 'limits': Kind(limits_case, 5, 6),
-    'words': Kind(words_case, 5, 7), 'cut': Kind(cut_case, 2, 3), 'names': Kind(names_case, 4, 5),
-    'arrays': Kind(arrays_case, 3, 4), 'messages': Kind(messages_case, 2, 2, SOMETIMES),
+    'script': Kind(script_case, 8, 9, SOMETIMES), 'mutated': Kind(mutated_case, 6, 7, SOMETIMES),
+    'limits': Kind(limits_case, 5, 6, SOMETIMES), 'words': Kind(words_case, 5, 7), 'cut': Kind(cut_case, 2, 3),
+    'names': Kind(names_case, 4, 5), 'arrays': Kind(arrays_case, 3, 4), 'messages': Kind(messages_case, 2, 2, SOMETIMES),
     'requests': Kind(requests_case, 5, 7, SOMETIMES), 'wildcards': Kind(wildcards_case, 6, 8, SOMETIMES),
     'states': Kind(states_case, 3, 4, SOMETIMES), 'traps': Kind(traps_case, 4, 5), 'deep': Kind(deep_case, 2, 2),
     'barriers': Kind(barriers_case, 7, 0, SOMETIMES), 'exchanges': Kind(exchanges_case, 6, 0, MOSTLY),
