@@ -17,8 +17,8 @@ import tempfile
 from collections import Counter
 from typing import NamedTuple
 
-from debugger import Debugger, Result, divided, enabled_steps, next_world, step_of
-from language import read_script
+from debugger import Debugger, Result, divided, enabled_steps, next_world, step_of, step_text
+from language import has_part, read_script
 from runs import run_at_once
 from shims import built
 
@@ -33,6 +33,20 @@ MUCH = (b'mpd 1; ranks 4; var a[40]; var x; req r[3];\nwhile x < 3 { a[x] = x * 
         b'isend r[0] x to rank tag 5; irecv r[1] a[9] from rank tag 5; isend r[0] x to 3 - rank tag 6; wait r[1]; wait r[2];\n'
         b'if rank == 0 { send 7 to 1 tag 0; }\nif rank == 1 { recv x from 0 tag 0; }\nprint x; print a[1];\n'
         b'if rank == 2 { send 1 to 3 tag 9; } else { recv x from (rank + 1) % size tag 3; }\n---\n')
+
+# Rounds of synchronous sends in a ring, each with a barrier behind it.
+MEETINGS = (b'mpd 1; ranks 3; var i; var x; req r;\nwhile i < 2 {\n  issend r i to (rank + 1) % size tag i;\n'
+            b'  recv x from (rank + 2) % size tag i;\n  wait r;\n  barrier;\n  i = i + 1;\n}\n---\n')
+
+
+def meetings():
+    """Words that take the first enabled step until there is none, show each release, and take it all back."""
+    debugger = Debugger(read_script(divided(MEETINGS)[0]))
+    lines = []
+    while steps := enabled_steps(debugger.world):
+        debugger.take(steps[0])
+        lines += [step_text(steps[0]).encode()] + [b'enabled', b'show'] * (steps[0].kind == 'release')
+    return MEETINGS + b''.join(line + b'\n' for line in [*lines, b'show', *[b'back'] * (debugger.depth + 1), b'show'])
 
 
 def lively():
@@ -60,6 +74,8 @@ def inputs():
     with open(os.path.join(EXAMPLES, 'primes.trace'), 'rb') as file:
         yield 'primes.trace taken back', file.read() + b'back\n' * 90 + b'show\n'
     yield 'much to show', lively()
+    if has_part('barriers'):
+        yield 'barriers', meetings()
 
 
 def can_be_refused(world, line):

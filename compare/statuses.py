@@ -19,13 +19,13 @@ import tempfile
 import tty
 from contextlib import contextmanager
 
-from debugger import MOST_READS, MOST_STEPS, Debugger, Result, Step, answer, answer_packets
-from language import MOST_OPEN_BLOCKS, MOST_OPERATORS, read_script
+from debugger import MOST_READS, MOST_STEPS, RENDEZVOUS, Debugger, Result, Step, answer, answer_packets
+from examples import example_names, lessons, open_example, strays
+from language import MOST_OPEN_BLOCKS, MOST_OPERATORS, has_part, read_script
 from runs import action, content, file_of, run_in_packets, status_of
 from shims import built
 
 HERE = os.path.dirname(os.path.abspath(__file__))
-EXAMPLES = os.path.join(HERE, '..', 'examples')
 SECONDS = 60
 # What the deepest scripts are run with (docs/LANGUAGE.md, "Limits").
 STACK_KIB = 512
@@ -115,12 +115,6 @@ def device(output=b''):
     return Result(output, b'mpdbg: device\n', 3)
 
 
-def open_example(name):
-    """What a file of the examples holds."""
-    with open(os.path.join(EXAMPLES, name), 'rb') as file:
-        return file.read()
-
-
 def ended_rows(program):
     """Status 0."""
     yield 'a session', Files(file_of(SESSION)).run(program), ENDED
@@ -131,9 +125,18 @@ def ended_rows(program):
 
 def example_rows(program):
     """Status 0 for each example, with what stands beside it: NAME.trace is answered by NAME.stdout, and neither is there alone."""
-    for name in sorted({name.rpartition('.')[0] for name in os.listdir(EXAMPLES) if name.endswith(('.trace', '.stdout'))}):
+    for name in example_names('.trace'):
         trace, wanted = (open_example(name + ending) for ending in ('.trace', '.stdout'))
         yield f'the example {name}', Files(file_of(trace)).run(program), Result(wanted, b'', 0)
+    yield 'answers that nothing asks for', Result(' '.join(strays()).encode(), b'', 0), Result(b'', b'', 0)
+
+
+def lesson_rows(program):
+    """Status 0 for each lesson of docs/COURSE.md, in each mode that it shows."""
+    for lesson in lessons():
+        mode = () if lesson.mode == RENDEZVOUS else ('--mode', lesson.mode)
+        result = Files(file_of(open_example(f'{lesson.name}.words'))).run(program, 'trace', lesson.script, *mode)
+        yield f'the lesson {lesson.name}, {lesson.mode}', result, Result(open_example(lesson.answers), b'', 0)
 
 
 def refused_rows(program):
@@ -422,8 +425,11 @@ def much_rows(program):
     yield f'much to show with {MUCH_MIB} MiB', result, wanted
 
 
-ROWS = (ended_rows, example_rows, refused_rows, device_rows, usage_rows, trace_rows, terminal_rows, interrupted_rows, talk_rows, stack_rows,
-        much_rows, full_rows, turns_rows)
+ROWS = (ended_rows, example_rows, refused_rows, device_rows, usage_rows, trace_rows, terminal_rows, interrupted_rows, talk_rows,
+        stack_rows, much_rows, full_rows, turns_rows)
+# The lessons have barriers, and their scripts are files.
+if has_part('barriers') and has_part('modes'):
+    ROWS += (lesson_rows,)
 
 
 def main():
