@@ -11,7 +11,7 @@ use Rattle.mpd_model.specs.declared.stmt.Simple.TheVariants as st
 use Rattle.mpd_model.specs.Term.{Term, Value, Env, value_of, is_zero}
 use Rattle.mpd_model.specs.Tree.{Tree, simple, branch, repeat, Block}
 use Rattle.mpd_model.specs.World.{RankWorld}
-use Rattle.mpd_model.specs.Next.{Ran, trapped, printed, assigned, asserted, chosen, repeated, issued, assignment, ran_simple, ran, env_of, local_of, local, blocks, is_blocked}
+use Rattle.mpd_model.specs.Next.{Ran, trapped, printed, assigned, asserted, chosen, repeated, issued, ran_simple, ran, env_of, local_of, local, blocks, is_blocked}
 
 abbrev pub call_blocks : Option Call → Bool
 call_blocks None = false
@@ -47,9 +47,7 @@ asserted_runs r ts (Err t) e = refl
 
 simple_blocks : (env : Env) (r : RankWorld) (count number : ℕ) (s : Simple) (ts : List (ℕ × Tree)) → is_blocked r.activity ≡ false → BlocksOn (ran_simple env r count number s ts)
 simple_blocks env r count number (st.Print v) ts e = printed_runs r ts (value_of v env) e
-simple_blocks env r count number (st.Assign s) ts e = assigned_runs r ts (assignment s env) e
-simple_blocks env r count number (st.Assert v) ts e = asserted_runs r ts (value_of v env) e
-simple_blocks env r count number s ts e = search (issued_blocks)
+simple_blocks env r count number s ts e = search (printed_runs, assigned_runs, asserted_runs, issued_blocks)
 
 chosen_runs : (r : RankWorld) (ts : List (ℕ × Tree)) (number : ℕ) (v : Value) (first second : Block) → is_blocked r.activity ≡ false → is_blocked (chosen r ts number v first second).activity ≡ false
 chosen_runs r ts number (Ok v) first second e = e

@@ -10,9 +10,8 @@ use Rattle.mpd_model.specs.declared.call.MatchSet.TheVariants as set
 use Rattle.mpd_model.specs.declared.call.Mode.{Mode}
 use Rattle.mpd_model.specs.declared.call.Mode.TheVariants.{Rendezvous, Buffered}
 use Rattle.mpd_model.specs.declared.call.SendCall.{SendCall}
-use Rattle.mpd_model.specs.declared.step.CallId.{CallId}
 use Rattle.mpd_model.specs.declared.step.Step.TheVariants.{Wake, Release}
-use Rattle.mpd_model.specs.World.{World, RankWorld, Board, kind_at, is_barrier, is_buffered, awaited, complete_by, complete, last_call}
+use Rattle.mpd_model.specs.World.{World, RankWorld, kind_at, is_barrier, is_buffered, awaited, complete_by, complete, last_call}
 use Rattle.mpd_model.specs.Next.{is_blocked, waits, is_at_barrier, can_release, woken, going_on, released, with_set, next}
 
 -- ---- who isn't at a barrier keeps all ranks at theirs
@@ -59,18 +58,18 @@ chosen false x y e = absurd (cc)
 pub all_go_on : (w v : World) (p : ℕ) (r : RankWorld) → next w Release ≡ Some v → slice_get w.ranks p ≡ Some r → slice_get v.ranks p ≡ Some (record r { activity = Running })
 all_go_on w v p r e at =
     subst (λ (u : World). slice_get u.ranks p ≡ Some (record r { activity = Running })) (chosen (can_release w) (released w) v e)
-        (slice_get-map going_on w.ranks p ∙ ap (option_map going_on) at)
+    (slice_get-map going_on w.ranks p ∙ ap (option_map going_on) at)
 
 pub one_set_more : (w v : World) → next w Release ≡ Some v → v.board ≡ with_set w.board set.Barrier
 one_set_more w v e = ap (λ (u : World). u.board) (sym (chosen (can_release w) (released w) v e))
 
--- ---- a barrier is never complete, so nobody wakes from one
-
-pub never_complete : (b : Board) (c : CallId) → is_barrier (kind_at b c) ≡ true → complete b c ≡ false
-never_complete b c e = ap (λ (d : Bool). not d && complete_by b (awaited b c)) e
+-- ---- nobody wakes from a barrier, since one is never complete
 
 pub not_woken : (w : World) (p : ℕ) → is_barrier (kind_at w.board (last_call w.board p)) ≡ true → next w (Wake p) ≡ None
-not_woken w p e = ap (λ (b : Bool). cond b (Some (woken w p)) None) (and_false (waits (slice_get w.ranks p)) (complete w.board (last_call w.board p)) (never_complete w.board (last_call w.board p) e))
+not_woken w p e = ap (λ (b : Bool). cond b (Some (woken w p)) None) (and_false (waits (slice_get w.ranks p)) (complete w.board (last_call w.board p)) never)
+  where
+    never : complete w.board (last_call w.board p) ≡ false
+    never = ap (λ (b : Bool). not b && complete_by w.board (awaited w.board (last_call w.board p))) e
 
 -- ---- standard sends are buffered in the mode that says so, synchronous ones never
 

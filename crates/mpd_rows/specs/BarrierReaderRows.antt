@@ -1,5 +1,5 @@
 -- Worked rows of texts with `barrier`, `ssend` and `issend`: what each is read as, or its fault and that fault's byte place; their canonical text; and what stands at their nodes.
-use Rattle.std.specs.Prelude.{◌≡◌, ℕ, map, List, [], ◌∷◌, Some, None, Ok, codes, refl}
+use Rattle.std.specs.Prelude.{◌≡◌, ℕ, map, List, [], ◌∷◌, None, Ok, codes, refl}
 use Rattle.std.specs.Fmt.{digits}
 use Rattle.mpd_model.specs.declared.expr.BinaryOp.TheVariants.{Add, Subtract}
 use Rattle.mpd_model.specs.declared.expr.UnaryOp.TheVariants.{Negate}
@@ -15,7 +15,7 @@ use Rattle.mpd_model.specs.Tokens.{tokens_after, front, sign, word, number}
 use Rattle.mpd_model.specs.Tree.{Tree, repeat, no_more, then_more}
 use Rattle.mpd_code.specs.Left.{left_at}
 use Rattle.mpd_rows.specs.Statements.{barrier, ssend, issend}
-use Rattle.mpd_rows.specs.RequestReaderRows.{Read, Places, wanted_places, statement_of, reads_one, lines_of, declared, n, whole, part, x, a, h, g}
+use Rattle.mpd_rows.specs.RequestReaderRows.{Read, Places, wanted_places, statement_of, reads_one, lines_of, declared, n, whole, part, x, h, g}
 
 -- ---- statements: each text begins at byte 44
 

@@ -5,26 +5,25 @@ use Rattle.std.specs.Fmt.{digits}
 use Rattle.mpd_model.specs.declared.expr.BinaryOp.TheVariants.{Equal}
 use Rattle.mpd_model.specs.declared.place.Place.{Place}
 use Rattle.mpd_model.specs.declared.step.Step.{Step}
-use Rattle.mpd_model.specs.declared.step.Step.TheVariants.{Local, Match, Wake, Release}
+use Rattle.mpd_model.specs.declared.step.Step.TheVariants.{Local, Release}
 use Rattle.mpd_model.specs.declared.call.Call.{Call}
 use Rattle.mpd_model.specs.declared.call.CallKind.{CallKind}
-use Rattle.mpd_model.specs.declared.call.CallKind.TheVariants.{Send, Barrier}
+use Rattle.mpd_model.specs.declared.call.CallKind.TheVariants.{Send, Recv, Barrier}
 use Rattle.mpd_model.specs.declared.call.Mode.TheVariants.{Rendezvous, Buffered}
 use Rattle.mpd_model.specs.declared.call.Activity.TheVariants.{Running, Blocked}
 use Rattle.mpd_model.specs.declared.call.MatchSet.{MatchSet}
 use Rattle.mpd_model.specs.declared.call.MatchSet.TheVariants.{Pair, Woke}
 use Rattle.mpd_model.specs.declared.call.MatchSet.TheVariants as set
 use Rattle.mpd_model.specs.declared.outcome.Outcome.TheVariants as o
-use Rattle.mpd_model.specs.Declaration.{Declared}
-use Rattle.mpd_model.specs.Tree.{Tree, branch, no_more, then_more}
+use Rattle.mpd_model.specs.Tree.{branch, no_more, then_more}
 use Rattle.mpd_model.specs.Program.{Program}
 use Rattle.mpd_model.specs.Term.{own_rank, op2}
-use Rattle.mpd_model.specs.World.{Board, RankWorld, World, call_id, start_board, is_free, complete}
-use Rattle.mpd_model.specs.Next.{next, enabled}
-use Rattle.mpd_model.specs.Order.{before, names, is_exit}
+use Rattle.mpd_model.specs.World.{Board, RankWorld, call_id, start_board, is_free, fitting, message_of, complete}
+use Rattle.mpd_model.specs.Next.{next, enabled, writes_of, cleared_by}
+use Rattle.mpd_model.specs.Order.{matches_first, waits_for, blocks_rank, before, names, is_exit}
 use Rattle.mpd_model.specs.Outcomes.{outcome}
 use Rattle.mpd_model.specs.Why.{why}
-use Rattle.mpd_rows.specs.Statements.{check, send, recv, isend, wait, barrier}
+use Rattle.mpd_rows.specs.Statements.{check, recv, isend, wait, barrier}
 use Rattle.mpd_rows.specs.RequestRows.{n, whole, x, does, blocks, variable, request, script, two_parts, trace, after}
 
 -- ---- one rank: a barrier blocks it, and evaluates nothing
@@ -139,6 +138,38 @@ odd =
 
 pub row_never_complete : map {B = Bool × Bool} (λ b. (complete b (call_id 0 0), is_free b (call_id 0 0))) odd ≡ (false, false) ∷ (false, false) ∷ (false, false) ∷ (false, false) ∷ []
 row_never_complete = refl
+
+-- it fits nothing and nothing fits it, it has no message, and no wake writes or clears anything for it
+abbrev a_send : Option CallKind
+a_send = Some (Send (record { to = 0; tag = 0; value = pos 4; synchronous = false; blocks = true }))
+
+abbrev a_receive : Option CallKind
+a_receive = Some (Recv (record { from = None; tag = None; cell = 0; status = None; blocks = true }))
+
+abbrev a_barrier : Option CallKind
+a_barrier = Some Barrier
+
+pub row_fits_nothing : map {B = Bool} (λ (k : Option CallKind × Option CallKind). fitting k.0 k.1 0 0) ((a_send, a_receive) ∷ (a_send, a_barrier) ∷ (a_barrier, a_receive) ∷ (a_barrier, a_barrier) ∷ []) ≡ true ∷ false ∷ false ∷ false ∷ []
+row_fits_nothing = refl
+
+pub row_no_message : message_of (call_id 0 0) a_barrier ≡ None
+row_no_message = refl
+
+pub row_writes_nothing : writes_of a_barrier (Some (record { value = pos 4; source = 0; tag = 0 })) ≡ []
+row_writes_nothing = refl
+
+pub row_clears_nothing : cleared_by a_barrier ≡ None
+row_clears_nothing = refl
+
+-- it is matched before nothing and waits for no call; its rank waits for it
+pub row_orders_no_match : map {B = Bool} (λ (k : Option CallKind × Option CallKind). matches_first k.0 k.1) ((a_send, a_barrier) ∷ (a_receive, a_barrier) ∷ (a_barrier, a_barrier) ∷ (a_barrier, a_send) ∷ []) ≡ false ∷ false ∷ false ∷ false ∷ []
+row_orders_no_match = refl
+
+pub row_waits_for_no_call : waits_for a_barrier 0 ≡ false
+row_waits_for_no_call = refl
+
+pub row_blocks_its_rank : blocks_rank a_barrier ≡ true
+row_blocks_its_rank = refl
 
 pub row_no_partners : map (λ b. why b (call_id 0 0)) odd ≡ [] ∷ [] ∷ [] ∷ [] ∷ []
 row_no_partners = refl
