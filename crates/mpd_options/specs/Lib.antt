@@ -1,3 +1,4 @@
 pub mod Asked
+pub mod AskedRows
 pub mod Program
 pub mod Refused
