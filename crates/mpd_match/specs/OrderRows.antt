@@ -4,11 +4,10 @@ use Rattle.std.proofs.lemmas.Bool.{both_ways}
 use Rattle.mpd_model.specs.declared.step.CallId.{CallId}
 use Rattle.mpd_model.specs.declared.call.Call.{Call}
 use Rattle.mpd_model.specs.declared.call.CallKind.TheVariants.{Send, Recv, Wait}
-use Rattle.mpd_model.specs.declared.call.Mode.TheVariants.{Rendezvous, Buffered}
+use Rattle.mpd_model.specs.declared.call.Mode.TheVariants.{Rendezvous}
 use Rattle.mpd_model.specs.declared.call.MatchSet.{MatchSet}
 use Rattle.mpd_model.specs.declared.call.MatchSet.TheVariants.{Pair, Woke}
-use Rattle.mpd_model.specs.World.{Board, start_board, call_id}
-use Rattle.mpd_model.specs.Next.{with_call}
+use Rattle.mpd_model.specs.World.{Board, call_id}
 use Rattle.mpd_model.specs.Order.{before, WentOn, Ordered}
 
 abbrev pub sends : ℕ → ℕ → Bool → Call
