@@ -12,6 +12,7 @@ use Rattle.mpd_model.specs.Next.{next, with_set, is_blocked, waits, is_at_barrie
 use Rattle.mpd_rank.specs.Views.{RankView, rank_of}
 use Rattle.mpd_rank.specs.Undone.{blocked_again}
 use Rattle.mpd_core.specs.Views.{ranks_in, world_in, numbers_in, writes_in, acting, Holds}
+use Rattle.mpd_core.proofs.RankLemmas.{length-ranks_in}
 use Rattle.mpd_core.proofs.TagLemmas.{tags_same}
 
 -- ---- a change of every rank, one after the other
@@ -46,9 +47,12 @@ numbers_acting : (a : Activity) (vs : List RankView) → numbers_in (map (acting
 numbers_acting a [] = refl
 numbers_acting a (v ∷ vs) = ap (λ ks. v.rank ∷ ks) (numbers_acting a vs)
 
-pub writes_acting : (a : Activity) (vs : List RankView) → writes_in (map (acting a) vs) ≡ writes_in vs + length vs
+writes_acting : (a : Activity) (vs : List RankView) → writes_in (map (acting a) vs) ≡ writes_in vs + length vs
 writes_acting a [] = refl
 writes_acting a (v ∷ vs) = omega (arith, writes_acting a vs)
+
+pub written_all : (a : Activity) (i n : ℕ) (vs us : List RankView) → n ≡ length vs → n ≤ i → us ≡ changed (acting a) i vs → writes_in us ≡ writes_in vs + length vs
+written_all a i n vs us size last e = ap writes_in (changed_all (acting a) i n vs us size last e) ∙ writes_acting a vs
 
 pub held_acting : (s : Program) (a : Activity) (vs ws : List RankView) (b c : Board) → Holds s vs b → ws ≡ map (acting a) vs → c.calls ≡ b.calls → Holds s ws c
 held_acting s a vs ws b c held e same = record {
@@ -148,8 +152,8 @@ release_next s vs ws b c can e is =
     ap (λ (t : Bool). if t then Some (released w) else None) can
     ∙ (λ i. Some (record { ranks = sym (ranks_running s vs ws e) i; board = sym is i }))
 
-pub ruleset changing = (changed_more, changed_all, length-map)
+pub ruleset changing = (changed_more, changed_all, written_all)
 
 pub ruleset at_barriers = (all_on, cannot_release, releases_all)
 
-pub ruleset releasing = (release_back, release_next, ranks_blocked, held_acting, writes_acting)
+pub ruleset releasing = (release_back, release_next, ranks_blocked, held_acting, length-ranks_in)

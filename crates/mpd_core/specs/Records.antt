@@ -1,5 +1,5 @@
 -- The record of each step, a function of the world before it.
-use Rattle.std.specs.Prelude.{ℕ, ℤ, List, length, slice_get, Option, Some, None, option_and_then}
+use Rattle.std.specs.Prelude.{ℕ, ℤ, List, length, slice_get, Option, Some, option_and_then}
 use Rattle.std.specs.Option.{option_map}
 use Rattle.mpd_model.specs.declared.step.Step.{Step}
 use Rattle.mpd_model.specs.declared.step.Step.TheVariants.{Local, Match, Wake, Release}

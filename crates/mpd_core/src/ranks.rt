@@ -210,7 +210,7 @@ pub(crate) fn restore_one(ranks: &mut Vec<RankState>, rank: usize, done: RankRec
 #[tactic(auto, using(crate::proofs::ReleaseLemmas::changing))]
 pub(crate) fn let_go(ranks: &mut Vec<RankState>)
     ensures after { ranks.new.items ≡ map (acting Activity.Running) ranks.old.items }
-    ensures size { vec_len ranks.new ≡ vec_len ranks.old }
+    ensures writes { writes_in ranks.new.items ≡ writes_in ranks.old.items + length ranks.old.items }
 {
     for rank in 0..ranks.len() {
         ranks[rank].go_on();
@@ -221,7 +221,7 @@ pub(crate) fn let_go(ranks: &mut Vec<RankState>)
 #[tactic(auto, using(crate::proofs::ReleaseLemmas::changing))]
 pub(crate) fn block_all(ranks: &mut Vec<RankState>)
     ensures after { ranks.new.items ≡ map (acting Activity.Blocked) ranks.old.items }
-    ensures size { vec_len ranks.new ≡ vec_len ranks.old }
+    ensures writes { writes_in ranks.new.items ≡ writes_in ranks.old.items + length ranks.old.items }
 {
     for rank in 0..ranks.len() {
         ranks[rank].block_again();
