@@ -12,7 +12,7 @@ use Rattle.mpd_model.specs.Next.{next, with_set, is_blocked, waits, is_at_barrie
 use Rattle.mpd_rank.specs.Views.{RankView, rank_of}
 use Rattle.mpd_rank.specs.Undone.{blocked_again}
 use Rattle.mpd_core.specs.Views.{ranks_in, world_in, numbers_in, writes_in, acting, Holds}
-use Rattle.mpd_core.proofs.RankLemmas.{length-ranks_in}
+use Rattle.mpd_core.proofs.RankLemmas.{length-ranks_in, count_is}
 use Rattle.mpd_core.proofs.TagLemmas.{tags_same}
 
 -- ---- a change of every rank, one after the other
@@ -152,8 +152,12 @@ release_next s vs ws b c can e is =
     ap (λ (t : Bool). if t then Some (released w) else None) can
     ∙ (λ i. Some (record { ranks = sym (ranks_running s vs ws e) i; board = sym is i }))
 
+-- There are as many ranks as the program has.
+pub ranks_of_script : (s : Program) (vs : List RankView) (b : Board) → Holds s vs b → length vs ≡ s.ranks
+ranks_of_script s vs b held = count_is s vs held.numbers
+
 pub ruleset changing = (changed_more, changed_all, written_all)
 
 pub ruleset at_barriers = (all_on, cannot_release, releases_all)
 
-pub ruleset releasing = (release_back, release_next, ranks_blocked, held_acting, length-ranks_in)
+pub ruleset releasing = (release_back, release_next, ranks_blocked, held_acting, ranks_of_script)

@@ -401,7 +401,7 @@ impl<'c> Core<'c> {
         ensures memory { IsErrOf result StepFault.Memory → self.old.room ≡ 0 }
         ensures err { OnErr result (self.new.world ≡ self.old.world) }
         ensures program { self.new.program ≡ self.old.program }
-        ensures writes { OnOk result (self.new.writes ≡ self.old.writes + length self.old.world.ranks + 1) }
+        ensures writes { OnOk result (self.new.writes ≡ self.old.writes + self.old.program.ranks + 1) }
         ensures unwritten { OnErr result (self.new.writes ≡ self.old.writes) }
         ensures looks { self.new.looks ≡ self.old.looks }
     {
@@ -449,7 +449,7 @@ impl<'c> Core<'c> {
         ensures err { OnErr result (self.new.world ≡ self.old.world) }
         ensures program { self.new.program ≡ self.old.program }
         ensures rises { OnOk result (self.old.writes + 1 ≤ self.new.writes) }
-        ensures few { self.new.writes ≤ self.old.writes + most_writes (length self.old.world.ranks) step }
+        ensures few { self.new.writes ≤ self.old.writes + most_writes self.old.program.ranks step }
         ensures unwritten { OnErr result (self.new.writes ≡ self.old.writes) }
         ensures looks { self.new.looks ≡ self.old.looks + step_looks self.old.world.board step }
         ensures few_looks { self.new.looks ≤ self.old.looks + most_looks self.old.world.board step }
@@ -484,7 +484,7 @@ impl<'c> Core<'c> {
         requires { last_set self.old.world.board ≡ Some sets.Barrier }
         ensures world { self.new.world ≡ record { ranks = map blocked_again self.old.world.ranks; board = without_last_set self.old.world.board } }
         ensures program { self.new.program ≡ self.old.program }
-        ensures writes { self.new.writes ≡ self.old.writes + length self.old.world.ranks + 1 }
+        ensures writes { self.new.writes ≡ self.old.writes + self.old.program.ranks + 1 }
         ensures looks { self.new.looks ≡ self.old.looks }
     {
         self.board.unreleased();
@@ -499,7 +499,7 @@ impl<'c> Core<'c> {
         ensures world { self.new.world ≡ undone self.old.program self.old.world done }
         ensures program { self.new.program ≡ self.old.program }
         ensures rises { self.old.writes + 1 ≤ self.new.writes }
-        ensures few { self.new.writes ≤ self.old.writes + most_writes (length self.old.world.ranks) done.step }
+        ensures few { self.new.writes ≤ self.old.writes + most_writes self.old.program.ranks done.step }
         ensures looks { self.new.looks ≡ self.old.looks }
     {
         let Record { step, from, change } = done;
