@@ -12,7 +12,7 @@ use Rattle.mpd_model.specs.Next.{next, with_set, is_blocked, waits, is_at_barrie
 use Rattle.mpd_rank.specs.Views.{RankView, rank_of}
 use Rattle.mpd_rank.specs.Undone.{blocked_again}
 use Rattle.mpd_core.specs.Views.{ranks_in, world_in, numbers_in, writes_in, acting, Holds}
-use Rattle.mpd_core.proofs.RankLemmas.{length-ranks_in, count_is}
+use Rattle.mpd_core.proofs.RankLemmas.{count_is}
 use Rattle.mpd_core.proofs.TagLemmas.{tags_same}
 
 -- ---- a change of every rank, one after the other
