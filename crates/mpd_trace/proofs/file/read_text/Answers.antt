@@ -1,5 +1,4 @@
-use Rattle.std.proofs.Common.{arith, rules, ◌+◌, ◌<◌, ◌≤◌, length, take}
-use Rattle.std.proofs.lemmas.List.{length_push}
+use Rattle.std.proofs.Common.{rules, ◌<◌, ◌≤◌, length}
 use Rattle.mpd_trace.proofs.FileLaws.{gathered_more, read_long}
 use Rattle.mpd_trace.proofs.file.read_text.Goals as goal
 
