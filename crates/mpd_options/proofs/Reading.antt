@@ -42,7 +42,7 @@ refused_so e word words h =
   where
     usage_so : is_memory (kind_of e) ≡ false → HasKind (fault_of mpdbg_app (word ∷ words)) e → IsRefused (Usage e) (word ∷ words)
     usage_so m (inl is) = absurd (not_memory (kind_of e) m is)
-    usage_so m (inr among) = (refused_none (meant (word ∷ words)) (fault_of mpdbg_app (word ∷ words)) (subcommand_of mpdbg_app (word ∷ words)) (kind_of e) (meant_law word words) among, among)
+    usage_so m (inr among) = (refused_none (meant (word ∷ words)) (fault_of mpdbg_app (word ∷ words)) (subcommand_of mpdbg_app (word ∷ words)) (kind_of e) (meant_law word words) among, among, m)
 
 pub refused_by : (a : App) (e : Error) (words : List Text) → a ≡ mpdbg_app → 0 < length words → (is_simple_and_free a ≡ true → HasKind (fault_of a words) e) → IsRefused (usage_of e) words
 refused_by a e [] is some h = absurd (omega (arith, some))

@@ -1,6 +1,7 @@
 //! The command line as `clap` knows it: its commands, their words, and the texts of help.
 
-ghost use Rattle.std.specs.Prelude.{◌≡◌, IfOk, false};
+ghost use Rattle.std.specs.Prelude.{◌≡◌, IfOk, ℕ, List, Some, option_map, false};
+ghost use Rattle.std.specs.Borrow.{Bor};
 ghost use Rattle.clap.specs.Words.{app_of};
 ghost use Rattle.clap.specs.declared.builder.command.Command.TheViews.{out-Command as fields_of};
 ghost use Rattle.mpd_options.specs.Program.{trace_app, mpdbg_app};
@@ -38,6 +39,7 @@ Example:
 fn trace_command<'a>(alloc: Global) -> Result<Command<'a>, AllocError>
     ensures app { IfOk result (λ c. app_of c ≡ trace_app) }
     ensures own { IfOk result (λ c. (fields_of c).has_globals ≡ false) }
+    ensures example { IfOk result (λ c. option_map (λ (t : Bor (List ℕ)). t.now) (fields_of c).after_help ≡ Some TRACE_EXAMPLE.now) }
 {
     let file = Arg::new(alloc, FILE)
         .required(true)
@@ -49,24 +51,21 @@ fn trace_command<'a>(alloc: Global) -> Result<Command<'a>, AllocError>
         .action(ArgAction::Set)
         .default_value("rendezvous")
         .help("How standard sends behave: rendezvous or buffered");
-    Command::new(alloc, TRACE)
-        .about(TRACE_ABOUT)
-        .after_help(TRACE_EXAMPLE)
-        .arg(file)?
-        .arg(mode)
+    let command = Command::new(alloc, TRACE).arg(file)?.arg(mode)?;
+    Ok(command.about(TRACE_ABOUT).after_help(TRACE_EXAMPLE))
 }
 
 /// `mpdbg` and its commands.
 pub(crate) fn program<'a>(alloc: Global) -> Result<Command<'a>, AllocError>
-    ensures { IfOk result (λ c. app_of c ≡ mpdbg_app) }
+    ensures app { IfOk result (λ c. app_of c ≡ mpdbg_app) }
+    ensures example { IfOk result (λ c. option_map (λ (t : Bor (List ℕ)). t.now) (fields_of c).after_help ≡ Some EXAMPLE.now) }
 {
     let trace = trace_command(alloc)?;
-    Command::new(alloc, "mpdbg")
+    let command = Command::new(alloc, "mpdbg")
         .version("0.1.0")
-        .about(ABOUT)
-        .after_help(EXAMPLE)
         .no_binary_name(true)
         .subcommand_required(true)
         .bin_name("mpdbg")?
-        .subcommand(trace)
+        .subcommand(trace)?;
+    Ok(command.about(ABOUT).after_help(EXAMPLE))
 }

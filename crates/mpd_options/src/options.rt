@@ -2,7 +2,7 @@
 ghost use Rattle.std.specs.Prelude.{◌≡◌, IfOk, IfErr, Some, true, is_some, map};
 ghost use Rattle.clap.specs.Words.{found_of, rows_of, subcommand_rows_of};
 ghost use Rattle.mpd_options.specs.Asked.{asked, meant, found_in, found_of_command};
-ghost use Rattle.mpd_options.specs.Refused.{IsRefused, is_answer, usage_of, usage_status};
+ghost use Rattle.mpd_options.specs.Refused.{IsRefused, is_answer, usage_of, usage_status, usage_text};
 
 use crate::command::{FILE, MODE, TRACE, program};
 use clap::ArgMatches;
@@ -51,6 +51,8 @@ impl From<AllocError> for UsageFault {
 }
 
 impl fmt::Display for UsageFault {
+    ghost output = { usage_text };
+
     fn fmt<W: fmt::Write>(&self, f: &mut fmt::Formatter<W>) -> fmt::Result {
         match self {
             UsageFault::Usage(error) => write!(f, "{error}"),
