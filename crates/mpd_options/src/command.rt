@@ -23,7 +23,7 @@ const ABOUT: &str = "A reversible debugger of small MPI rank scripts.
 Without words it reads a script from standard input, up to a line ---, and answers the trace words behind it.";
 
 const EXAMPLE: &str = "Example:
-  mpdbg < examples/first.trace";
+  ./mpdbg < examples/first.trace";
 
 const TRACE_ABOUT: &str = "Trace the script of a file";
 
@@ -33,7 +33,7 @@ const TRACE_EXAMPLE: &str = "Trace words stand on standard input, one a line:
   enabled, show                         list the steps that are enabled, show the state
 
 Example:
-  echo 'local 0' | mpdbg trace examples/exchange.mpd --mode buffered";
+  echo 'local 0' | ./mpdbg trace examples/exchange.mpd --mode buffered";
 
 /// `mpdbg trace FILE --mode M`.
 fn trace_command<'a>(alloc: Global) -> Result<Command<'a>, AllocError>
