@@ -104,6 +104,17 @@ fn front_shown(rest: &[u8]) -> &[u8]
     rest.split_at(cmp::min(SHOWN_MAX, rest.len())).0
 }
 
+/// From which byte of its line on the part is shown that has a place in this column.
+fn first_shown(column: usize) -> usize
+    ensures value { result ≡ shown_from column }
+    ensures bound { result ≤ column }
+{
+    if column < SHOWN_MAX {
+        return 0;
+    }
+    column - SHOWN_BEFORE
+}
+
 /// Adds the part of a line from a byte on, 72 bytes at most, with `...` where it was cut.
 fn push_part(out: &mut String, line: &[u8], from: usize) -> Result<(), AllocError>
     ensures { OnOk result (string_bytes out.new ≡ string_bytes out.old ++ part_shown line.now from) }
@@ -133,11 +144,7 @@ pub fn excerpt(alloc: Global, text: &[u8], place: usize) -> Result<String, Alloc
     ensures { IfOk result (λ lines. string_bytes lines ≡ excerpt_of text.now place) }
 {
     let (line, column) = line_around(text, place);
-    let from = if column < SHOWN_MAX {
-        0
-    } else {
-        column - SHOWN_BEFORE
-    };
+    let from = first_shown(column);
     let mut out = String::new(alloc);
     out.push_str("  ")?;
     push_part(&mut out, line, from)?;
