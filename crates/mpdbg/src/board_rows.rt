@@ -428,7 +428,7 @@ const BARRIERS: &[Seen] = &[
             Change::Issue(0, BARRIER),
             &[
                 Look::LastCall(0, CALL_0_1),
-                Look::Awaited(CALL_0_1, None),
+                Look::Awaited(CALL_0_1, Some(CALL_0_1)),
                 Look::Kind(CALL_0_1, Some(CallKind::Barrier)),
                 Look::FirstPending(0, 1, Some(0)),
             ],
