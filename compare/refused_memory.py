@@ -4,9 +4,10 @@
 
 A run may end with the right answers up to one of them, `mpdbg: memory` and status 3; or it goes on, with `refused memory` in
 place of an answer that can be refused: then the state stands, and all answers behind it are right. Where all allocations from
-one on are refused it is the same. The sessions have their scripts on standard input, one also in a file; words of the command line
-that ask for help, or are wrong, are answered as ever, or by `mpdbg: memory`. The status is 0 where every run did one of these. The allocations are refused by a shared
-object, which is built from bench/malloc_shim.c where none is named.
+one on are refused it is the same. The sessions have their scripts on standard input, one also in a file, and one in a file alone,
+in the mode `buffered`; words of the command line that ask for help, or are wrong, are answered as ever, or by `mpdbg: memory`. The
+status is 0 where every run did one of these. The allocations are refused by a shared object, which is built from
+bench/malloc_shim.c where none is named.
 """
 
 import argparse
@@ -17,7 +18,7 @@ import tempfile
 from collections import Counter
 from typing import NamedTuple
 
-from debugger import Debugger, Result, divided, enabled_steps, next_world, step_of, step_text
+from debugger import BUFFERED, RENDEZVOUS, Debugger, Result, divided, enabled_steps, next_world, step_of, step_text
 from language import has_part, read_script
 from runs import run_at_once
 from shims import built
@@ -39,14 +40,18 @@ MEETINGS = (b'mpd 1; ranks 3; var i; var x; req r;\nwhile i < 2 {\n  issend r i 
             b'  recv x from (rank + 2) % size tag i;\n  wait r;\n  barrier;\n  i = i + 1;\n}\n---\n')
 
 
-def meetings():
+# Ranks that send before they receive, and so meet only where sends are buffered.
+HEAD_TO_HEAD = (b'mpd 1; ranks 2; var x;\nsend rank to 1 - rank tag 5;\nrecv x from 1 - rank tag 5;\nbarrier;\nprint x;\n---\n')
+
+
+def walked(text, mode=RENDEZVOUS):
     """Words that take the first enabled step until there is none, show each release, and take it all back."""
-    debugger = Debugger(read_script(divided(MEETINGS)[0]))
+    debugger = Debugger(read_script(divided(text)[0]), mode)
     lines = []
     while steps := enabled_steps(debugger.world):
         debugger.take(steps[0])
         lines += [step_text(steps[0]).encode()] + [b'enabled', b'show'] * (steps[0].kind == 'release')
-    return MEETINGS + b''.join(line + b'\n' for line in [*lines, b'show', *[b'back'] * (debugger.depth + 1), b'show'])
+    return text + b''.join(line + b'\n' for line in [*lines, b'show', *[b'back'] * (debugger.depth + 1), b'show'])
 
 
 def lively():
@@ -75,7 +80,7 @@ def inputs():
         yield 'primes.trace taken back', file.read() + b'back\n' * 90 + b'show\n'
     yield 'much to show', lively()
     if has_part('barriers'):
-        yield 'barriers', meetings()
+        yield 'barriers', walked(MEETINGS)
 
 
 def can_be_refused(world, line):
@@ -90,7 +95,7 @@ def can_be_refused(world, line):
     return words == [b'show'] or (words == [b'enabled'] and bool(enabled_steps(world)))
 
 
-def problem(data, result):
+def problem(data, result, mode=RENDEZVOUS):
     """What is wrong with a run in which memory was refused; None where nothing is."""
     script, lines = divided(data)
     if result.status == 3 and result.errors == b'mpdbg: memory\n':
@@ -99,7 +104,7 @@ def problem(data, result):
         is_cut = False
     else:
         return f'status {result.status}, {result.errors}'
-    debugger = Debugger(read_script(script))
+    debugger = Debugger(read_script(script), mode)
     place = 0
     for line in lines:
         if is_cut and place == len(result.output):
@@ -161,15 +166,16 @@ def try_input(program, name, data, shim):
     return refuse_each(name, lambda **refused: shim.run(program, data, **refused), lambda result: problem(data, result))
 
 
-def try_file(program, name, data, shim):
-    """The same session, with its script in a file."""
+def try_file(program, name, data, shim, mode=RENDEZVOUS):
+    """A session with its script in a file, in a mode."""
     script = divided(data)[0]
     with tempfile.NamedTemporaryFile() as file:
         file.write(script)
         file.flush()
         lines = data[len(script) + len(b'---\n'):]
-        return refuse_each(f'{name}, its script in a file', lambda **refused: shim.run(program, lines, ('trace', file.name), **refused),
-                           lambda result: problem(data, result))
+        words = ('trace', file.name, '--mode', 'buffered') if mode == BUFFERED else ('trace', file.name)
+        return refuse_each(f'{name}, its script in a file', lambda **refused: shim.run(program, lines, words, **refused),
+                           lambda result: problem(data, result, mode))
 
 
 def try_words(program, words, shim):
@@ -192,6 +198,7 @@ def main():
         sessions = list(inputs())
         wrong = [try_input(program, name, data, shim) for name, data in sessions]
         wrong += [try_file(program, *sessions[0], shim)]
+        wrong += [try_file(program, 'head to head, buffered', walked(HEAD_TO_HEAD, BUFFERED), shim, BUFFERED)]
         wrong += [try_words(program, words, shim) for words in ANSWERED]
     return 1 if any(wrong) else 0
 
