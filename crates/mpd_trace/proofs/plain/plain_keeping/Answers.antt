@@ -10,8 +10,8 @@ returns-in-InputEnds-clause-served g c =
     (g.S.Source.seen c.args.source.now) (g.S.Source.seen c.collect.new.source) (g.W.Sink.seen c.args.sink.now) c.in-Ok-read.script
     c.in-InputEnds.is c.deref.ensures.value h.1 h.3 c.in-Ok-read.ensures.ok
 
-pub returns-in-Ok-trace_script-clause-served : goal.returns-in-Ok-trace_script-clause-served
-returns-in-Ok-trace_script-clause-served g c =
+pub returns-in-Ok-trace_script : goal.returns-in-Ok-trace_script
+returns-in-Ok-trace_script g c =
     let h = c.in-Ok.ensures.collected in
     let s = g.S.Source.seen c.args.source.now in
     let t = g.S.Source.seen c.collect.new.source in
@@ -19,19 +19,17 @@ returns-in-Ok-trace_script-clause-served g c =
     c.in_default.not-InputEnds c.deref.ensures.value h.3 c.in-Ok-read.ensures.ok in
     let k : Behind h.0 c.in-Ok.head.reads s t c.in-Ok.head.script.items c.deref-2.result.now = rw c.deref-2.ensures.value b in
     let r = c.in-Ok-trace_script.ensures.served in
-    plain_all h.0 c.in-Ok.head.script.items c.deref-2.result.now c.deref.result.now c.in-Ok.head.reads (1000000 - c.in-Ok.head.reads) s t (g.S.Source.seen c.trace_script.new.source)
-    (g.W.Sink.seen c.args.sink.now) (g.W.Sink.seen c.trace_script.new.sink) c.in-Ok-read.script r.0 c.deref.ensures.value h.1 k c.in-Ok-read.ensures.ok r.1
-
-pub returns-in-Ok-trace_script-clause-counted : goal.returns-in-Ok-trace_script-clause-counted
-returns-in-Ok-trace_script-clause-counted g c =
-    let h = c.in-Ok.ensures.collected in
     let few = h.5 in
-    counted_on c.in-Ok.head.reads (1000000 - c.in-Ok.head.reads) 0 0 (g.S.Source.seen c.args.source.now) (g.S.Source.seen c.collect.new.source) (g.S.Source.seen c.trace_script.new.source)
-    (g.W.Sink.seen c.args.sink.now) (g.W.Sink.seen c.trace_script.new.sink)
-    h.4 (omega (arith, few)) (let e = c.in-Ok.ensures.counted.reads_failed in omega (arith, e)) c.in-Ok-trace_script.ensures.counted
+    record {
+      served = plain_all h.0 c.in-Ok.head.script.items c.deref-2.result.now c.deref.result.now c.in-Ok.head.reads (1000000 - c.in-Ok.head.reads) s t (g.S.Source.seen c.trace_script.new.source)
+          (g.W.Sink.seen c.args.sink.now) (g.W.Sink.seen c.trace_script.new.sink) c.in-Ok-read.script r.0 c.deref.ensures.value h.1 k c.in-Ok-read.ensures.ok r.1;
+      counted = counted_on c.in-Ok.head.reads (1000000 - c.in-Ok.head.reads) 0 0 s t (g.S.Source.seen c.trace_script.new.source) (g.W.Sink.seen c.args.sink.now) (g.W.Sink.seen c.trace_script.new.sink)
+          h.4 (omega (arith, few)) (let e = c.in-Ok.ensures.counted.reads_failed in omega (arith, e)) c.in-Ok-trace_script.ensures.counted;
+      kept = tt;
+    }
 
-pub returns-clause-served : goal.returns-clause-served
-returns-clause-served g c =
+pub returns : goal.returns
+returns g c =
     let h = c.in-Ok.ensures.collected in
     let s = g.S.Source.seen c.args.source.now in
     let t = g.S.Source.seen c.collect.new.source in
@@ -40,14 +38,12 @@ returns-clause-served g c =
     let k : Behind h.0 c.in-Ok.head.reads s t c.in-Ok.head.script.items c.deref-2.result.now = rw c.deref-2.ensures.value b in
     let few = h.5 in
     let r = c.in-Err-trace_script.ensures.served in
-    plain_fault c.in-Err-trace_script.fault h.0 c.in-Ok.head.script.items c.deref-2.result.now c.deref.result.now c.in-Ok.head.reads (1000000 - c.in-Ok.head.reads) s t
-    (g.S.Source.seen c.trace_script.new.source) (g.W.Sink.seen c.args.sink.now) (g.W.Sink.seen c.trace_script.new.sink) c.in-Ok-read.script r.0 c.deref.ensures.value h.1 k
-    c.in-Ok-read.ensures.ok (omega (arith, few)) h.4 r.1
-
-pub returns-clause-counted : goal.returns-clause-counted
-returns-clause-counted g c =
-    let h = c.in-Ok.ensures.collected in
-    let few = h.5 in
-    counted_on c.in-Ok.head.reads (1000000 - c.in-Ok.head.reads) (reads_failed c.in-Err-trace_script.fault) (writes_failed c.in-Err-trace_script.fault)
-    (g.S.Source.seen c.args.source.now) (g.S.Source.seen c.collect.new.source) (g.S.Source.seen c.trace_script.new.source) (g.W.Sink.seen c.args.sink.now) (g.W.Sink.seen c.trace_script.new.sink)
-    h.4 (omega (arith, few)) (let e = c.in-Ok.ensures.counted.reads_failed in omega (arith, e)) c.in-Err-trace_script.ensures.counted
+    record {
+      served = plain_fault c.in-Err-trace_script.fault h.0 c.in-Ok.head.script.items c.deref-2.result.now c.deref.result.now c.in-Ok.head.reads (1000000 - c.in-Ok.head.reads) s t
+          (g.S.Source.seen c.trace_script.new.source) (g.W.Sink.seen c.args.sink.now) (g.W.Sink.seen c.trace_script.new.sink) c.in-Ok-read.script r.0 c.deref.ensures.value h.1 k
+          c.in-Ok-read.ensures.ok (omega (arith, few)) h.4 r.1;
+      counted = counted_on c.in-Ok.head.reads (1000000 - c.in-Ok.head.reads) (reads_failed c.in-Err-trace_script.fault) (writes_failed c.in-Err-trace_script.fault) s t
+          (g.S.Source.seen c.trace_script.new.source) (g.W.Sink.seen c.args.sink.now) (g.W.Sink.seen c.trace_script.new.sink)
+          h.4 (omega (arith, few)) (let e = c.in-Ok.ensures.counted.reads_failed in omega (arith, e)) c.in-Err-trace_script.ensures.counted;
+      kept = tt;
+    }
