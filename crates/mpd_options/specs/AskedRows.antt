@@ -55,6 +55,6 @@ rows =
     ∷ nothing (codes "Trace" ∷ codes "a" ∷ [])
     ∷ []
 
-worked : map (λ (row : Row). meant row.0) rows ≡ map (λ (row : Row). row.1) rows
+pub worked : map (λ (row : Row). meant row.0) rows ≡ map (λ (row : Row). row.1) rows
 unfolding chars
 worked = refl

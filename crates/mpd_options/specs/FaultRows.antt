@@ -72,6 +72,6 @@ rows =
 abbrev kinds_and_status : Kinds → Kinds × List ℕ
 kinds_and_status ks = (ks, map (λ k. if asks_for_help k then 0 else 2) ks)
 
-faults_worked : map (λ (row : Row). kinds_and_status (fault_of mpdbg_app row.0)) rows ≡ map (λ (row : Row). let q : Kinds × List ℕ = (row.1, row.2) in q) rows
+pub faults_worked : map (λ (row : Row). kinds_and_status (fault_of mpdbg_app row.0)) rows ≡ map (λ (row : Row). let q : Kinds × List ℕ = (row.1, row.2) in q) rows
 unfolding walked bundle_met chars encode_utf8 flags_pass walk_passes flags_fault walk_fault defaults_fault
 faults_worked = refl
