@@ -67,41 +67,41 @@ fn reads_words(rt: HostRuntime) {
 }
 
 /// Words that ask for nothing that is run: whether help or the version was asked for, and the status that the program ends with.
-struct Refused(&'static [&'static str], bool, u8);
+struct Ending(&'static [&'static str], bool, u8);
 
 /// Whether the words ask for help or the version, and the status that they end with, where they ask for nothing that is run.
-fn refused(alloc: Global, words: &[&str]) -> Option<(bool, u8)> {
+fn ended_with(alloc: Global, words: &[&str]) -> Option<(bool, u8)> {
     match read_options(alloc, words) {
         Ok(_) => None,
         Err(fault) => Some((fault.is_answer(), fault.status())),
     }
 }
 
-impl Row for Refused {
+impl Row for Ending {
     fn holds(&self, rt: &impl Abort, alloc: Global) {
-        let Refused(words, is_answer, status) = *self;
+        let Ending(words, is_answer, status) = *self;
         let wanted = Some((is_answer, status));
-        same(rt, (words, refused(alloc, words)), (words, wanted));
+        same(rt, (words, ended_with(alloc, words)), (words, wanted));
     }
 }
 
-const REFUSED: &[Refused] = &[
-    Refused(&["--help"], true, 0),
-    Refused(&["help"], true, 0),
-    Refused(&["help", "trace"], true, 0),
-    Refused(&["trace", "--help"], true, 0),
-    Refused(&["--version"], true, 0),
-    Refused(&["trace"], false, 2),
-    Refused(&["trace", "a", "b"], false, 2),
-    Refused(&["trace", "a", "--mode"], false, 2),
-    Refused(&["trace", "a", "-m", "b"], false, 2),
-    Refused(&["--mode", "buffered"], false, 2),
-    Refused(&["a"], false, 2),
+const ENDINGS: &[Ending] = &[
+    Ending(&["--help"], true, 0),
+    Ending(&["help"], true, 0),
+    Ending(&["help", "trace"], true, 0),
+    Ending(&["trace", "--help"], true, 0),
+    Ending(&["--version"], true, 0),
+    Ending(&["trace"], false, 2),
+    Ending(&["trace", "a", "b"], false, 2),
+    Ending(&["trace", "a", "--mode"], false, 2),
+    Ending(&["trace", "a", "-m", "b"], false, 2),
+    Ending(&["--mode", "buffered"], false, 2),
+    Ending(&["a"], false, 2),
 ];
 
 #[test]
-fn refuses_words(rt: HostRuntime) {
-    each(&rt, rt.alloc(), REFUSED);
+fn ends_behind_words(rt: HostRuntime) {
+    each(&rt, rt.alloc(), ENDINGS);
 }
 
 #[test]
