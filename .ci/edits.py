@@ -8,7 +8,8 @@ they are made in one copy of the crate, and one check tells of each function whe
 in a copy of its function, which stands beside it (.ci/copies.py), so that the edits of one function are tried in one round.
 What can't be made in a copy, or isn't refused in it, is made in the function itself: there edits of one function, or of one
 cycle of calls, go to different rounds, and so do edits whose texts touch. What changes more than the bodies of functions, as a
-constant or a definition, has a round of its own.
+constant or a definition, has a round of its own; where a lemma is to be refused, its check reads that lemma alone, by a function
+that names it. Rows that are wrong, each in a file of its own, go into one round, where a crate has nothing else.
 
 An edit's file has these lines (docs/GATE.md, "Edits"):
 
@@ -43,6 +44,9 @@ sys.dont_write_bytecode = True
 from copies import HEAD, Copies, Original, answers_all, head_around
 
 PARTS = ('src', 'specs', 'proofs')
+
+# The file of a copy whose one function names the lemma that an edit turns, so that the check reads it, and little else.
+READING = 'statement_read'
 
 # What the check says where a proof file names what an edit took away.
 TAKEN_AWAY = re.compile(r'has no field|is not in scope|has no `|was not admitted|is no name')
@@ -200,6 +204,21 @@ class Edit:
             raise BadEdit(f'{self.function} has a proof file that answers several clauses at once')
         return (original, (begin, end, new)) if original.can_be_copied() else None
 
+    def lemma_file(self):
+        """The file of specs/ that declares its lemma: one that it changes, where there are several."""
+        declares = re.compile(rf'(?m)^pub {re.escape(self.lemma)} :')
+        files = [f'specs/{it}' for it in sorted(os.listdir(f'{self.folder}/specs')) if it.endswith('.antt')]
+        found = [it for it in files if declares.search(text_of(f'{self.folder}/{it}'))]
+        changed = {file for file, _, _ in self.pairs}
+        own = [it for it in found if it in changed] or found
+        if len(own) != 1:
+            raise BadEdit(f'{self.lemma} is declared by {len(found)} files of specs/, and not by one')
+        return own[0]
+
+    def turns_its_lemma(self):
+        """Whether it changes only the file that declares its lemma, so that it says nothing of what other files declare."""
+        return bool(self.lemma) and {file for file, _, _ in self.pairs} == {self.lemma_file()}
+
     def is_blamed(self, told):
         """Whether an error of reading or compiling stands at what this edit wrote, or names its function."""
         for line in told.lines:
@@ -339,6 +358,8 @@ class Crate:
                 edit.read()
                 edit.regions()
                 edit.original()
+                if edit.lemma:
+                    edit.lemma_file()
                 self.edits.append(edit)
             except BadEdit as error:
                 self.bad.append(Verdict(edit, False, f'BAD EDIT: {error}'))
@@ -458,6 +479,8 @@ class Round:
         busy = set()
         for edit in edits:
             changed, own = edit.changed(), edit.regions()
+            if changed is None and self.are_rows([*self.taken, edit]):
+                changed = set()
             if self.taken and (changed is None or busy & changed) or touches(self.regions, own):
                 continue
             for file, region in own.items():
@@ -468,12 +491,30 @@ class Round:
                 break
             busy |= changed
 
+    def are_rows(self, edits):
+        """Whether these are lemmas of a crate that has nothing else, each in a file of its own, which alone is changed."""
+        files = {it.lemma_file() for it in edits if it.turns_its_lemma()}
+        return len(files) == len(edits) and os.listdir(f'{self.folder}/src') == ['lib.rt']
+
+    def reading(self):
+        """The files with a function that names the lemma of this round, where there is one, and a crate that has functions."""
+        edit = self.taken[0]
+        if not edit.lemma or os.listdir(f'{self.folder}/src') == ['lib.rt']:
+            return {}
+        root = 'src/main.rt' if os.path.exists(f'{self.folder}/src/main.rt') else 'src/lib.rt'
+        module = f"Rattle.{os.path.basename(self.folder)}.specs.{edit.lemma_file().removeprefix('specs/').removesuffix('.antt').replace('/', '.')}"
+        return {
+            root: f'{text_of(f"{self.folder}/{root}")}\nmod {READING};\n',
+            f'src/{READING}.rt': f'//! Reads a statement.\nghost use {module}.{{{edit.lemma}}};\n\n'
+            f'fn {READING}()\n    ensures {{ let read = {edit.lemma} in Unit {{0}} }}\n{{\n}}\n',
+        }
+
     def has_copies(self):
         return bool(self.copies.added)
 
     def only(self):
         """What the check is to check."""
-        return sorted({it.judged for it in self.taken if it.judged} | set(self.copies.controls.values()))
+        return sorted({it.judged for it in self.taken if it.judged} | set(self.copies.controls.values())) or [READING] * bool(self.reading())
 
     def changed(self):
         """The names of the functions that differ from those of the crate; None where something else may."""
@@ -484,7 +525,7 @@ class Round:
 
     def texts(self):
         """The texts of the files with all of them made."""
-        return {**merged(self.folder, self.copies.regions() if self.has_copies() else self.regions), **self.copies.files}
+        return {**merged(self.folder, self.copies.regions() if self.has_copies() else self.regions), **self.copies.files, **self.reading()}
 
 
 def check(repository, crate, texts, kept, only, kept_log=None):

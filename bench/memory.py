@@ -4,7 +4,8 @@
     python3 bench/memory.py [BENCH..]    (crates/mpd_bench/out/mpd_bench, where none is named)
 
 Each program is run under bench/malloc_shim.c, which counts what it asks for between its two marks, 10,000 steps of every kind
-and as many undos, and then refuses all of that; it must end the same. Two more runs show that the shim counts and refuses.
+and as many undos, and then refuses all of that; it must end the same. It says how many steps of each kind it took: some of every
+one. Two more runs show that the shim counts and refuses.
 Status 1 where one of them ends otherwise.
 """
 import os
@@ -14,6 +15,8 @@ import subprocess
 import sys
 import tempfile
 
+# The kinds of steps.
+KINDS = 'local', 'match', 'wake', 'release'
 HERE = os.path.dirname(os.path.abspath(__file__))
 
 
@@ -48,11 +51,18 @@ def run(program, shim, folder, refuse=None):
     return ended.returncode, ended.stdout, *map(int, counts.groups())
 
 
+def has_each_kind(output):
+    """Whether the last line of the output tells of steps of each kind."""
+    told = dict(re.findall(r'(\w+) (\d+)', output.decode().splitlines()[-1]))
+    return all(int(told.get(kind, 0)) > 0 for kind in KINDS)
+
+
 def is_well(program, shim, folder):
     """Whether the program's four runs end as they must."""
     status, output, inside, outside, refused = run(program, shim, folder)
     print(f'{program}: between the marks {inside} requests, outside {outside}; {output.decode().splitlines()[-1:]}')
     said = [(status == 0 and output.count(b'mark ') == 2, 'it has both marks, and ends well'),
+            (has_each_kind(output), 'it took steps of each kind'),
             (inside == 0, 'no request between the marks'),
             (outside > 0, 'the shim counts the requests outside')]
     again = run(program, shim, folder, refuse='inside')

@@ -12,8 +12,8 @@ import argparse
 import sys
 from random import Random
 
-from language import (COMPARISONS, LEVELS, Assert, Assign, Branch, Fault, Number, OwnRank, Place, Print, RankCount, Receive, Send,
-                      Unary, Wait, While, read_script)
+from language import (COMPARISONS, LEVELS, PARTS, Assert, Assign, Barrier, Branch, Fault, Number, OwnRank, Place, Print, RankCount,
+                      Receive, Send, Unary, Wait, While, read_script, take_parts)
 
 OPERAND = len(LEVELS)
 
@@ -57,8 +57,11 @@ def simple_text(statement):
         return f'assert {expression_text(statement.condition)}'
     if isinstance(statement, Wait):
         return f'wait {place_text(statement.handle)}'
+    if isinstance(statement, Barrier):
+        return 'barrier'
     if isinstance(statement, Send):
-        return (f'{handle_text("send", statement.handle)} {expression_text(statement.value)} to {expression_text(statement.to)} '
+        word = 'ssend' if statement.synchronous else 'send'
+        return (f'{handle_text(word, statement.handle)} {expression_text(statement.value)} to {expression_text(statement.to)} '
                 f'tag {expression_text(statement.tag)}')
     assert isinstance(statement, Receive)
     status = '' if statement.status is None else ' status ' + ' '.join(map(place_text, statement.status))
@@ -152,15 +155,16 @@ def main():
     parser.add_argument('--seed', type=int, default=1)
     parser.add_argument('--print', metavar='FILE', help='print the canonical text of a script')
     chosen = parser.parse_args()
+    take_parts(PARTS)
     if chosen.print:
         with open(chosen.print, 'rb') as file:
             sys.stdout.buffer.write(canonical(read_script(divided(file.read())[0])))
         return 0
     read, wrong = 0, 0
-    kinds = ('script', 'wildcards', 'requests', 'states', 'traps')
+    kinds = ('script', 'wildcards', 'requests', 'states', 'traps', 'barriers', 'exchanges')
     for number in range(chosen.count):
         kind = kinds[number % len(kinds)]
-        script = divided(KINDS[kind][0](Random(f'canonical/{kind}/{chosen.seed}/{number}')))[0]
+        script = divided(KINDS[kind].draw(Random(f'canonical/{kind}/{chosen.seed}/{number}')))[0]
         try:
             found = problem(script)
         except Fault:

@@ -1,10 +1,13 @@
 """The kinds of cases: inputs of a script and trace words, random or the same each time."""
 
 from random import Random
-from typing import NamedTuple, Optional
+from typing import Callable, NamedTuple, Optional
 
+from barrier_cases import barriers_case
 from canonical import now_and_then_canonical
-from language import HIGHEST, LEVELS, LOWEST
+from debugger import BUFFERED, RENDEZVOUS, parted
+from exchange_cases import exchanges_case
+from language import HIGHEST, LEVELS, LOWEST, has_part, has_word
 from limit_cases import limits_case
 from request_cases import requests_case
 from scripts import Writer, mutated_bytes, mutated_tokens, rendered
@@ -25,11 +28,11 @@ EXTREMES = (LOWEST, LOWEST + 1, LOWEST // 2, -3037000500, -4294967296, -2, -1, 0
             HIGHEST - 1, HIGHEST)
 
 
-def script_case(random):
+def script_case(random, mode=RENDEZVOUS):
     """A script without a fault and a walk through it."""
     ranks = random.choice([1, 2, 2, 3, 3, 4, random.randint(1, 16)])
     script = now_and_then_canonical(random, rendered(random, Writer(random, ranks).script()))
-    return assembled(random, script, trace_lines(random, script, random.choice([5, 20, 40, 80])))
+    return assembled(random, script, trace_lines(random, script, random.choice([5, 20, 40, 80]), mode=mode))
 
 
 def cut_case(random):
@@ -39,11 +42,11 @@ def cut_case(random):
     return script[:random.randint(0, max(place, 0))] + random.choice([b'', b'', b'', b'#', b'# end', b' ', b'-', b'\n--'])
 
 
-def mutated_case(random):
+def mutated_case(random, mode=RENDEZVOUS):
     """A script changed in a few tokens or bytes."""
     ranks = random.choice([1, 2, 3])
     if random.random() < 0.12:
-        return limits_case(random)
+        return limits_case(random, mode)
     writer = Writer(random, ranks)
     tokens = writer.script()
     if len(tokens) > 400 and random.random() < 0.2:
@@ -56,7 +59,7 @@ def mutated_case(random):
     script = rendered(random, tokens)
     if not in_tokens:
         script = mutated_bytes(random, script)
-    return assembled(random, script, trace_lines(random, script, 6))
+    return assembled(random, script, trace_lines(random, script, 6, mode=mode))
 
 
 def long_line(random, line):
@@ -104,10 +107,15 @@ def words_case(random):
 
 
 class Case(NamedTuple):
-    """An input; `packets` is None where it is given at once."""
+    """An input; `packets` is None where it is given at once.
+
+    Where there is a `mode`, the program traces a file in it: `script` is that file, and the input has the words alone.
+    """
     name: str
     data: bytes
     packets: Optional[list]
+    mode: Optional[str] = None
+    script: bytes = b''
 
 
 def cut(random, data):
@@ -152,13 +160,15 @@ def arithmetic_case(number):
 PLACES = ('print {};', 'x = {};', 'a[{}] = 1;', 'if {} {{ }}', 'while {} {{ }}', 'assert {};', 'send {} to 0 tag 0;',
           'send 1 to {} tag 0;', 'send 1 to 0 tag {};', 'recv a[{}] from 0 tag 0;', 'recv x from {} tag 0;',
           'recv x from 0 tag {};', 'print 0 + a[{}];', 'isend r[{}] 1 to 0 tag 0;', 'irecv r[{}] x from 0 tag 0;',
-          'wait r[{}];', 'irecv r[0] x from any tag any status a[{}] x;', 'recv x from any tag 0 status x a[{}];')
+          'wait r[{}];', 'irecv r[0] x from any tag any status a[{}] x;', 'recv x from any tag 0 status x a[{}];',
+          'ssend 1 to {} tag 0;', 'issend r[{}] 1 to 0 tag 0;')
 NESTS = (('(', ')'), ('-', ''), ('a[', ']'), ('!(', ')'), ('0 + (', ')'))
 
 
 def operators_case(number):
     """As many operators as allowed, one more and one less, one inside the other or in a row, in each place."""
-    number, place = divmod(number, len(PLACES))
+    places = [place for place in PLACES if has_word(place.split()[0])]
+    number, place = divmod(number, len(places))
     number, change = divmod(number, 3)
     count = 64 + (0, 1, -1)[change]
     form = number % (len(NESTS) + 1)
@@ -169,13 +179,13 @@ def operators_case(number):
         times = count // len(opening.replace('a', '').replace('0', '').replace(' ', ''))
         expression = opening * times + '0' + closing * times
     words = 'local 0\n' * 3 + 'show\n'
-    return f'mpd 1; ranks 1; var x; var a[2]; req r[2];\n{PLACES[place].format(expression)}\n---\n{words}'.encode()
+    return f'mpd 1; ranks 1; var x; var a[2]; req r[2];\n{places[place].format(expression)}\n---\n{words}'.encode()
 
 
 # What may stand where a statement begins.
 STATEMENTS = ('print 1;', 'x = 1;', 'if 1 { }', 'while 0 { }', 'assert 1;', 'send 1 to 0 tag 0;', 'recv x from 0 tag 0;',
               'isend r 1 to 0 tag 0;', 'irecv r x from 0 tag 0;', 'wait r;', 'r = 1;', 'y = 1;', 'waitany', 'barrier;',
-              'recv x from any tag any status x x;', 'any', 'status')
+              'recv x from any tag any status x x;', 'any', 'status', 'ssend 1 to 0 tag 0;', 'issend r 1 to 0 tag 0;')
 
 
 def statements_case(number):
@@ -184,31 +194,70 @@ def statements_case(number):
     return f'mpd 1; ranks 1; var x; req r;\n{"x=1;" * (4095 + number % 2)}{STATEMENTS[last]}\n---\nlocal 0\n'.encode()
 
 
-# Each kind with its share of the inputs of a run, in hundredths; 2,000 have all of those that are counted out.
-KINDS = {'script': (script_case, 9), 'mutated': (mutated_case, 7), 'limits': (limits_case, 6), 'words': (words_case, 7),
-         'cut': (cut_case, 3), 'names': (names_case, 5), 'arrays': (arrays_case, 4), 'messages': (messages_case, 2),
-         'requests': (requests_case, 7), 'wildcards': (wildcards_case, 8), 'states': (states_case, 4), 'traps': (traps_case, 5),
-         'deep': (deep_case, 2), 'statements': (None, 2), 'arithmetic': (None, 12), 'operators': (None, 17)}
+class Kind(NamedTuple):
+    """What draws inputs of a kind, and its share of the inputs of a run, in hundredths: `early` where there are no barriers.
+
+    Where there are modes, one input after the other is given in each of the `ways`: None is a script with its words on standard
+    input, a mode is a script in a file.
+    """
+    draw: Callable
+    share: int
+    early: int
+    ways: tuple = (None,)
+
+
+SOMETIMES, MOSTLY = (None, None, RENDEZVOUS, BUFFERED), (None, RENDEZVOUS, BUFFERED, BUFFERED)
+
+# 2,000 inputs of all kinds have all of those that are counted out.
+KINDS = {
+    'script': Kind(script_case, 8, 9, SOMETIMES), 'mutated': Kind(mutated_case, 6, 7, SOMETIMES),
+    'limits': Kind(limits_case, 5, 6, SOMETIMES), 'words': Kind(words_case, 5, 7), 'cut': Kind(cut_case, 2, 3),
+    'names': Kind(names_case, 4, 5), 'arrays': Kind(arrays_case, 3, 4), 'messages': Kind(messages_case, 2, 2, SOMETIMES),
+    'requests': Kind(requests_case, 5, 7, SOMETIMES), 'wildcards': Kind(wildcards_case, 6, 8, SOMETIMES),
+    'states': Kind(states_case, 3, 4, SOMETIMES), 'traps': Kind(traps_case, 4, 5), 'deep': Kind(deep_case, 2, 2),
+    'barriers': Kind(barriers_case, 7, 0, SOMETIMES), 'exchanges': Kind(exchanges_case, 6, 0, MOSTLY),
+    'statements': Kind(None, 2, 2), 'arithmetic': Kind(None, 12, 12), 'operators': Kind(None, 18, 17)}
 # Kinds whose inputs are counted out, and not drawn.
 NUMBERED = {'arithmetic': arithmetic_case, 'operators': operators_case, 'statements': statements_case}
+
+
+def share(kind):
+    """The share of a kind in a run, as far as the model has the rules; 0 where it hasn't those of the kind."""
+    return KINDS[kind].share if has_part('barriers') else KINDS[kind].early
+
+
+def kinds_there():
+    """The kinds that the model has the rules of."""
+    return [kind for kind in KINDS if share(kind)]
+
+
+def mode_of(kind, number):
+    """The mode in which an input is traced with its script in a file; None where the script comes before its words."""
+    ways = KINDS[kind].ways if has_part('modes') else (None,)
+    return ways[number % len(ways)]
 
 
 def random_case(kind, seed, number, in_packets):
     """One input of a kind, the same each time; every third one is cut into reads, or all of them."""
     random = Random(f'{kind}/{seed}/{number}')
-    data = NUMBERED[kind](number) if kind in NUMBERED else KINDS[kind][0](random)
+    mode, script = mode_of(kind, number), b''
+    if kind in NUMBERED:
+        data = NUMBERED[kind](number)
+    elif mode is None:
+        data = KINDS[kind].draw(random)
+    else:
+        script, data = parted(KINDS[kind].draw(random, mode))
     packets = cut(random, data) if in_packets or number % 3 == 0 else None
-    return Case(f'{kind}-{seed}-{number}', data, packets)
+    return Case(f'{kind}-{seed}-{number}', data, packets, mode, script)
 
 
 def shares(count, kinds):
     """How many inputs of each kind make so many in all."""
-    whole = sum(KINDS[kind][1] for kind in kinds)
+    whole = sum(map(share, kinds))
     parts = {}
     left = count
     for kind in kinds:
-        share = KINDS[kind][1]
-        parts[kind] = left * share // whole
+        parts[kind] = left * share(kind) // whole
         left -= parts[kind]
-        whole -= share
+        whole -= share(kind)
     return parts

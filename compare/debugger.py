@@ -1,10 +1,14 @@
 """The debugger: the steps of the ranks and their matches, the texts that show a world, the trace words, the input."""
 
+import argparse
 import sys
 from typing import NamedTuple, Optional
 
-from language import (Assert, Assign, Branch, FAULT_NAMES, Fault, Print, Receive, Send, Trap, View, Wait, While,
-                      cell_of, evaluate, read_script)
+from language import (PARTS, Assert, Assign, Barrier, Branch, FAULT_NAMES, Fault, Print, Receive, Send, Trap, View, Wait, While,
+                      cell_of, evaluate, read_script, take_parts)
+
+# In the mode `rendezvous` no send is buffered, in the mode `buffered` each standard one is.
+MODES = RENDEZVOUS, BUFFERED = 'rendezvous', 'buffered'
 
 HIGHEST_TAG = 32767
 MOST_STEPS = 1000000
@@ -30,8 +34,8 @@ class CallId(NamedTuple):
 class Call(NamedTuple):
     """A send or receive made, which its rank waits for or not; a send has a value, a receive the cell it writes.
 
-    Of a receive `other` is None where it takes messages of any source, `tag` where it takes them of any tag; `status` has
-    the cells for the source and the tag of what it takes, where it has such cells.
+    A send is standard or synchronous. Of a receive `other` is None where it takes messages of any source, `tag` where it takes
+    them of any tag; `status` has the cells for the source and the tag of what it takes, where it has such cells.
     """
     kind: str
     blocks: bool
@@ -40,6 +44,7 @@ class Call(NamedTuple):
     value: Optional[int] = None
     cell: Optional[int] = None
     status: Optional[tuple] = None
+    synchronous: bool = False
 
 
 class WaitCall(NamedTuple):
@@ -47,6 +52,12 @@ class WaitCall(NamedTuple):
     handle: int
     target: Optional[int]
     kind = 'wait'
+    blocks = True
+
+
+class BarrierCall(NamedTuple):
+    """A barrier, at which its rank is until all ranks are at one."""
+    kind = 'barrier'
     blocks = True
 
 
@@ -77,8 +88,13 @@ class Woken(NamedTuple):
     call: CallId
 
 
+class Released(NamedTuple):
+    """The record that all ranks left the barriers that they were at."""
+
+
 class World(NamedTuple):
-    """All ranks, the records in the order they were made, and the partner of each call that is matched."""
+    """The mode, all ranks, the records in the order they were made, and the partner of each call that is matched."""
+    mode: str
     ranks: tuple
     records: tuple
     partners: dict
@@ -100,9 +116,9 @@ def pushed(statements, rest):
     return rest
 
 
-def first_world(script):
+def first_world(script, mode=RENDEZVOUS):
     rank = Rank(pushed(script.body, None), (0,) * script.cells, (None,) * script.handles, (), (), (), 'running', None)
-    return World((rank,) * script.ranks, (), {})
+    return World(mode, (rank,) * script.ranks, (), {})
 
 
 def in_bounds(expression, highest, trap, view):
@@ -118,7 +134,8 @@ def called(statement, view):
     if isinstance(statement, Send):
         value = evaluate(statement.value, view)
         other = in_bounds(statement.to, view.ranks - 1, 'bad-rank', view)
-        return Call('send', blocks, other, in_bounds(statement.tag, HIGHEST_TAG, 'bad-tag', view), value)
+        tag = in_bounds(statement.tag, HIGHEST_TAG, 'bad-tag', view)
+        return Call('send', blocks, other, tag, value, synchronous=statement.synchronous)
     return received(statement, blocks, view)
 
 
@@ -133,6 +150,8 @@ def received(statement, blocks, view):
 
 def issued(rank, statement, view):
     """The rank behind a statement that makes a call."""
+    if isinstance(statement, Barrier):
+        return rank._replace(calls=rank.calls + (BarrierCall(),), mode='blocked')
     handle = None if statement.handle is None else cell_of(statement.handle, view)
     number = len(rank.calls)
     if isinstance(statement, Wait):
@@ -165,7 +184,7 @@ def executed(rank, view):
         if evaluate(statement.condition, view) == 0:
             raise Trap('assert')
         return rank._replace(rest=tail)
-    assert isinstance(statement, (Send, Receive, Wait))
+    assert isinstance(statement, (Send, Receive, Wait, Barrier))
     return issued(rank, statement, view)._replace(rest=tail)
 
 
@@ -275,11 +294,27 @@ def awaited(world, number):
     return None if call.target is None else CallId(number, call.target)
 
 
+def is_buffered(mode, call):
+    """Whether a call is complete as it is made: a standard send is in the mode `buffered`, and nothing else ever."""
+    return mode == BUFFERED and call.kind == 'send' and not call.synchronous
+
+
+def is_done(world, call_id):
+    """Whether a send or a receive is complete: it is matched, or was buffered as it was made."""
+    return partner(world, call_id) is not None or is_buffered(world.mode, find_call(world, call_id))
+
+
+def is_at_barrier(rank):
+    return rank.mode == 'blocked' and rank.calls[-1].kind == 'barrier'
+
+
 def can_wake(world, number):
-    if world.ranks[number].mode != 'blocked':
+    """Whether a rank is blocked on a complete call; a barrier never is complete."""
+    rank = world.ranks[number]
+    if rank.mode != 'blocked' or is_at_barrier(rank):
         return False
     call_id = awaited(world, number)
-    return call_id is None or partner(world, call_id) is not None
+    return call_id is None or is_done(world, call_id)
 
 
 def cleared(handles, handle):
@@ -309,6 +344,18 @@ def after_wake(world, number):
     return woken._replace(records=world.records + (Woken(last_call(world, number)),))
 
 
+def can_release(world):
+    """Whether all ranks are at a barrier, not one of them left out."""
+    return all(map(is_at_barrier, world.ranks))
+
+
+def after_release(world):
+    if not can_release(world):
+        return None
+    ranks = tuple(rank._replace(mode='running') for rank in world.ranks)
+    return world._replace(ranks=ranks, records=world.records + (Released(),))
+
+
 def next_world(world, step):
     """The world behind a step; None where the step is not enabled."""
     if step.kind == 'local':
@@ -317,13 +364,14 @@ def next_world(world, step):
         return after_wake(world, step.first)
     if step.kind == 'match':
         return after_match(world, step.first, step.second)
-    return None
+    return after_release(world)
 
 
 def enabled_steps(world):
-    """All enabled steps: local ones and wakes by rank, then matches by receiver, number of the receive, sender."""
+    """All enabled steps: local ones, the release, wakes, all by rank, then matches by receiver, number of the receive, sender."""
     ranks = range(len(world.ranks))
     steps = [Step('local', rank) for rank in ranks if can_run(world.ranks[rank])]
+    steps += [Step('release')] if can_release(world) else []
     steps += [Step('wake', rank) for rank in ranks if can_wake(world, rank)]
     sends = [call_id for rank in ranks for call_id, call in free_calls(world, rank) if call.kind == 'send']
     receives = [call_id for rank in ranks for call_id in posted(world, rank)]
@@ -366,13 +414,20 @@ def rank_state(rank):
     return 'ended' if rank.rest is None else f'at {rank.rest[0].line}'
 
 
+def call_word(call):
+    """The word of the statement that made a send or a receive."""
+    return ('' if call.blocks else 'i') + ('s' if call.synchronous else '') + call.kind
+
+
 def call_line(world, call_id):
     call = find_call(world, call_id)
+    if call.kind == 'barrier':
+        return f'call {call_id} barrier'
     if call.kind == 'wait':
         return f'call {call_id} wait {"none" if call.target is None else call.target}'
     other_id = partner(world, call_id)
     state = 'free' if other_id is None else f'with {other_id}'
-    word = call.kind if call.blocks else 'i' + call.kind
+    word = call_word(call)
     if call.kind == 'send':
         return f'call {call_id} {word} to {call.other} tag {call.tag} value {call.value} {state}'
     if other_id is not None:
@@ -406,6 +461,8 @@ def queue_lines(world):
 def record_line(record):
     if isinstance(record, Pair):
         return f'set pair {record.send} {record.receive}'
+    if isinstance(record, Released):
+        return 'set barrier'
     return f'set woke {record.call}'
 
 
@@ -448,8 +505,8 @@ def step_of(words):
 class Debugger:
     """The worlds up to the current one, and the steps, undone ones too."""
 
-    def __init__(self, script):
-        self.worlds = [first_world(script)]
+    def __init__(self, script, mode=RENDEZVOUS):
+        self.worlds = [first_world(script, mode)]
         self.steps = []
 
     @property
@@ -515,21 +572,36 @@ def lines_of(data):
     return lines + [last] if last else lines
 
 
-def divided(data):
-    """The script of an input, and the lines of trace words behind the first line `---`."""
+def parted(data):
+    """The script of an input, and what stands behind the first line `---`."""
     lines = lines_of(data)
     if b'---' not in lines:
-        return data, []
+        return data, b''
     before = lines.index(b'---')
-    script = b''.join(line + b'\n' for line in data.split(b'\n')[:before])
-    return script, lines[before + 1:]
+    pieces = data.split(b'\n')
+    return b''.join(line + b'\n' for line in pieces[:before]), b'\n'.join(pieces[before + 1:])
+
+
+def divided(data):
+    """The script of an input, and the lines of trace words behind the first line `---`."""
+    script, words = parted(data)
+    return script, lines_of(words)
 
 
 def answer(data):
-    """The result for a whole input."""
-    text, lines = divided(data)
+    """The result for a whole input, a script and its words, which runs in the mode `rendezvous`."""
+    return answer_lines(*divided(data), RENDEZVOUS)
+
+
+def answer_file(script, data, mode=RENDEZVOUS):
+    """The result for a script in a file, and an input that has the words alone."""
+    return answer_lines(script, lines_of(data), mode)
+
+
+def answer_lines(text, lines, mode):
+    """The result for the text of a script and the lines behind it."""
     try:
-        debugger = Debugger(read_script(text))
+        debugger = Debugger(read_script(text), mode)
     except Fault as fault:
         line = 1 + text.count(b'\n', 0, fault.place)
         message = f'mpdbg: script refused {fault.number} {FAULT_NAMES[fault.number]} at {fault.place} line {line}\n'
@@ -547,9 +619,29 @@ def answer_packets(packets):
     return Result(answer(whole_lines).output, b'mpdbg: turns\n', 3)
 
 
+def answer_words(words):
+    """What the program gives for the words of its command line: none, or `trace FILE`, with `--mode M` where one is named."""
+    parser = argparse.ArgumentParser(description='Answers as the program does: to look at one case.')
+    trace = parser.add_subparsers(dest='command').add_parser('trace')
+    trace.add_argument('file', metavar='FILE')
+    trace.add_argument('--mode', default=RENDEZVOUS)
+    chosen = parser.parse_args(words)
+    if chosen.command is None:
+        return answer(sys.stdin.buffer.read())
+    if chosen.mode not in MODES:
+        return Result(b'', b'mpdbg: bad mode\n', 2)
+    try:
+        with open(chosen.file, 'rb') as file:
+            script = file.read()
+    except OSError:
+        return Result(b'', b'mpdbg: device\n', 3)
+    return answer_file(script, sys.stdin.buffer.read(), chosen.mode)
+
+
 def main():
-    """Answers standard input, as the program does: to look at one case."""
-    result = answer(sys.stdin.buffer.read())
+    """Answers with all rules that the model has."""
+    take_parts(PARTS)
+    result = answer_words(sys.argv[1:])
     sys.stdout.buffer.write(result.output)
     sys.stdout.buffer.flush()
     sys.stderr.buffer.write(result.errors)

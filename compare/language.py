@@ -29,6 +29,11 @@ RESERVED = frozenset('''
     mpd ranks var req if else while print assert send ssend isend issend recv irecv wait waitany barrier
     to from tag any status rank size'''.split())
 
+# Parts of the rules that came one after the other, each with the words of its statements.
+PARTS = {'barriers': ('barrier', 'ssend', 'issend'), 'modes': ()}
+# The parts that the program of this tree has; the model of a run may have more (`take_parts`).
+BUILT = ('barriers', 'modes')
+
 OTHER_THAN_TEXT = re.compile(rb'[^\t\n\r\x20-\x7e]')
 BLANKS = re.compile(r'(?:[\t\n\r ]+|#[^\n]*)*')
 NUMBER = re.compile(r'[0-9]+')
@@ -117,12 +122,13 @@ class Assert(NamedTuple):
 
 
 class Send(NamedTuple):
-    """A send, which has a handle where it is an `isend`."""
+    """A send; that of an `isend` or an `issend` has a handle, that of an `ssend` or an `issend` is synchronous."""
     line: int
     handle: Optional[Place]
     value: object
     to: object
     tag: object
+    synchronous: bool
 
 
 class Receive(NamedTuple):
@@ -143,6 +149,10 @@ class Wait(NamedTuple):
     handle: Place
 
 
+class Barrier(NamedTuple):
+    line: int
+
+
 class Declared(NamedTuple):
     """A declared name: `var` or `req`, its first cell or handle, and its size where it is an array."""
     kind: str
@@ -157,6 +167,26 @@ class Script(NamedTuple):
     handles: int
     names: dict
     body: list
+
+
+class Taken:
+    """The parts of the rules that the model has."""
+    parts = frozenset(BUILT)
+
+
+def take_parts(parts):
+    """Gives the model some parts of the rules, and no others of those that came one after the other."""
+    Taken.parts = frozenset(parts)
+    read_script.cache_clear()
+
+
+def has_part(part):
+    return part in Taken.parts
+
+
+def has_word(word):
+    """Whether a statement may begin with the word, as far as the model has the rules."""
+    return all(word not in words or has_part(part) for part, words in PARTS.items())
 
 
 def most(kind):
@@ -334,10 +364,13 @@ class Reader:
 
     def rest_of(self, word):
         """What reads the rest of the statement that begins with `word`; None where none does."""
+        if not has_word(word):
+            return None
         return {
             'if': self.branch, 'while': self.loop, 'print': self.printing, 'assert': self.assertion,
             'send': self.sending, 'recv': self.receiving, 'isend': self.with_handle(self.sending),
-            'irecv': self.with_handle(self.receiving), 'wait': self.waiting,
+            'irecv': self.with_handle(self.receiving), 'wait': self.waiting, 'ssend': self.sending_synchronously,
+            'issend': self.with_handle(self.sending_synchronously), 'barrier': self.meeting,
         }.get(word)
 
     def with_handle(self, read_rest):
@@ -374,14 +407,17 @@ class Reader:
         self.expect(';')
         return Assert(line, condition)
 
-    def sending(self, line, handle=None):
+    def sending(self, line, handle=None, synchronous=False):
         value = self.expression()
         self.expect('to')
         to = self.expression()
         self.expect('tag')
         tag = self.expression()
         self.expect(';')
-        return Send(line, handle, value, to, tag)
+        return Send(line, handle, value, to, tag, synchronous)
+
+    def sending_synchronously(self, line, handle=None):
+        return self.sending(line, handle, True)
 
     def receiving(self, line, handle=None):
         place = self.named_place('var')
@@ -409,6 +445,10 @@ class Reader:
         handle = self.named_place('req')
         self.expect(';')
         return Wait(line, handle)
+
+    def meeting(self, line):
+        self.expect(';')
+        return Barrier(line)
 
     def named_place(self, kind):
         """A place that a statement names; its bracket is none of the operators of an expression."""

@@ -1,5 +1,6 @@
 """Scripts at the limits of the reader, and just past them. Each has the handles `rr[2]`."""
 
+from debugger import RENDEZVOUS
 from scripts import PIECES, WORD_CHARACTERS, Writer, declaration, header, rendered
 from walks import assembled, trace_lines
 
@@ -149,7 +150,7 @@ def byte_limit(random, tokens):
         b'-', b'\n--', b'\n---\r', b'\n--- \n', b'\n----\n'])
 
 
-def limits_case(random):
+def limits_case(random, mode=RENDEZVOUS):
     """A script at one of the limits of the reader, or just past it."""
     writer = Writer(random, random.randint(1, 2))
     variables = writer.variables
@@ -179,4 +180,4 @@ def limits_case(random):
     else:
         tokens += ['if', '1', '{', '}', 'else', 'if', '1', '{', '}']
     script = rendered(random, tokens)
-    return assembled(random, script, trace_lines(random, script, 8))
+    return assembled(random, script, trace_lines(random, script, 8, mode=mode))

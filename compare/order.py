@@ -1,12 +1,14 @@
 """What holds a match back, and the order that a run shows: rules with no trace word, in the model, and what must hold of them.
 
-    python3 compare/order.py             300 walks of all scripts with wildcards, requests and messages
+    python3 compare/order.py             300 walks of all scripts with wildcards, requests, messages and barriers, in both modes
+    python3 compare/order.py --broken    faults of the model, each of which these walks must notice
     python3 compare/order.py --rows 40   rows of `why` and `before`, for tests of the crate that answers them: script, words, a
                                          line for each call with what `why` says of it, and the calls that come before others
 
 Behind each step of a walk it is checked that a receive has at most one send of each sender that it may be matched with, that
-`why` tells the matches that are enabled and what stands in the way of each other one, and at its end that the calls of each rank
-are in the order that `before` says (docs/DEFINITIONS.md). The status is 0 where all of that holds, and was seen.
+`why` tells the matches that are enabled and what stands in the way of each other one, and that wakes and the release are enabled
+where the calls and the records say so; at its end that the calls of each rank are in the order that `before` says, and that each
+rank has left a barrier as often as all have (docs/DEFINITIONS.md). The status is 0 where all of that holds, and was seen.
 """
 
 import argparse
@@ -14,13 +16,20 @@ import json
 import sys
 from collections import Counter
 from random import Random
+from typing import NamedTuple
+from unittest import mock
 
+import debugger
+from breakages import buffered_by, going_on, one_left, wakes_at_barriers, without_gone, without_running
 from cases import KINDS
-from debugger import (CallId, Debugger, Pair, Woken, divided, eligible, enabled_steps, find_call, fits, free_calls, partner,
-                      receives_ahead, sends_ahead)
-from language import Fault, read_script
+from debugger import (BUFFERED, MODES, RENDEZVOUS, CallId, Debugger, Pair, Step, Woken, divided, eligible, enabled_steps, find_call,
+                      fits, free_calls, partner, receives_ahead, sends_ahead)
+from language import BUILT, PARTS, Fault, read_script, take_parts
 
 CHOSEN = ('wildcards', 'wildcards', 'requests', 'script', 'states')
+LATER = ('barriers', 'exchanges')
+# What must have been seen: the cases of the order, in which a release, or a send that is complete as it is issued, has a part.
+MUST_MEET = ('worlds', 'releases', 'sends', 'receives', 'wait', 'blocks', 'behind a release', 'before a release', 'buffered')
 
 
 def holder(world, send_id, receive_id):
@@ -32,7 +41,7 @@ def holder(world, send_id, receive_id):
 def why(world, call_id):
     """The free calls that a free send or receive fits, by rank and number, each with what holds that match back, or None."""
     call = find_call(world, call_id)
-    if call is None or call.kind == 'wait' or partner(world, call_id) is not None:
+    if call is None or call.kind not in ('send', 'recv') or partner(world, call_id) is not None:
         return []
     others = [(other_id, other.kind) for rank in range(len(world.ranks)) for other_id, other in free_calls(world, rank)]
     if call.kind == 'send':
@@ -71,41 +80,108 @@ def before(world, first, second):
     return bool(cases_of(world, first, second))
 
 
+def barriers_of(world, number):
+    """The barriers of a rank, in the order of issue."""
+    calls = enumerate(world.ranks[number].calls)
+    return [CallId(number, place) for place, call in calls if call.kind == 'barrier']
+
+
 def places_of(world):
-    """Where each call was paired, and where its rank went on from it, among the records."""
-    paired, woken = {}, {}
+    """Where each call was paired, and where its rank went on from it, among the records.
+
+    A release is of one barrier of each rank: behind so many others, of that before which the rank had issued so many barriers.
+    """
+    paired, left = {}, {}
+    releases = 0
     for place, record in enumerate(world.records):
         if isinstance(record, Pair):
             paired[record.send] = paired[record.receive] = place
         elif isinstance(record, Woken):
-            woken[record.call] = place
-    return paired, woken
+            left[record.call] = place
+        else:
+            for number in range(len(world.ranks)):
+                left.update({call_id: place for call_id in barriers_of(world, number)[releases:releases + 1]})
+            releases += 1
+    return paired, left
+
+
+def is_standard_send(call):
+    return call.kind == 'send' and not call.synchronous
+
+
+class Places(NamedTuple):
+    """What the records must show of two calls: each of `bounds` is behind `held`, which is None where it isn't there."""
+    case: str
+    bounds: list
+    held: object
+    also: list
+
+
+def places_between(world, first, second, paired, left):
+    """What the records must show of two calls of a rank in each case by which the first completes before the second.
+
+    `also` says what was met in that beside the case.
+    """
+    one, two = find_call(world, first), find_call(world, second)
+    buffered = world.mode == BUFFERED and is_standard_send(one)
+    for case in cases_of(world, first, second):
+        if case in ('sends', 'receives'):
+            yield Places(case, [paired[second]] if second in paired else [], paired.get(first), [])
+        elif case == 'wait':
+            # what was buffered was complete as it was issued, before any record
+            done = -1 if buffered else paired.get(first)
+            yield Places(case, [left[second]] if second in left else [], done, ['buffered'] * buffered)
+        else:
+            bounds = [places[second] for places in (paired, left) if second in places]
+            also = ['behind a release'] * (one.kind == 'barrier') + ['before a release'] * (two.kind == 'barrier')
+            yield Places(case, bounds, left.get(first), also)
 
 
 def out_of_order(world):
     """The cases that were met, and those in which a pair of calls isn't in its order."""
-    paired, woken = places_of(world)
+    paired, left = places_of(world)
     met, wrong = Counter(), []
     for number, rank in enumerate(world.ranks):
         calls = [CallId(number, place) for place in range(len(rank.calls))]
         for first, second in ((one, two) for one in calls for two in calls if one.number < two.number):
-            for case in cases_of(world, first, second):
-                seen = [places[second] for places in (paired, woken) if second in places]
-                if case in ('sends', 'receives'):
-                    bounds, held = [paired[second]] if second in paired else [], paired.get(first)
-                elif case == 'wait':
-                    bounds, held = [woken[second]] if second in woken else [], paired.get(first)
-                else:
-                    bounds, held = seen, woken.get(first)
-                met[case] += len(bounds)
+            for case, bounds, held, also in places_between(world, first, second, paired, left):
+                met.update({name: len(bounds) for name in (case, *also)})
                 if any(held is None or held >= bound for bound in bounds):
                     wrong.append((case, first, second))
     return met, wrong
 
 
+def told_of_barriers(world):
+    """What the barriers of a rank say otherwise than the releases: it has left one by each, and is at the one behind these."""
+    releases = sum(not isinstance(record, (Pair, Woken)) for record in world.records)
+    return [f'barriers of rank {number}' for number, rank in enumerate(world.ranks)
+            if len(barriers_of(world, number)) != releases + (rank.mode == 'blocked' and rank.calls[-1].kind == 'barrier')]
+
+
+def steps_due(world):
+    """The wakes and the release that must be enabled, by the calls and the records alone."""
+    def is_done(call_id):
+        return call_id in paired or (world.mode == BUFFERED and is_standard_send(find_call(world, call_id)))
+
+    paired, left = places_of(world)
+    last = [CallId(number, len(rank.calls) - 1) for number, rank in enumerate(world.ranks)]
+    waited = [call_id for call_id in last if call_id.number >= 0 and find_call(world, call_id).blocks and call_id not in left]
+    barriers = [call_id for call_id in waited if find_call(world, call_id).kind == 'barrier']
+    due = {Step('release')} if len(barriers) == len(last) else set()
+    for call_id in waited:
+        call = find_call(world, call_id)
+        if call.kind == 'wait':
+            is_due = call.target is None or is_done(CallId(call_id.rank, call.target))
+        else:
+            is_due = call.kind != 'barrier' and is_done(call_id)
+        due |= {Step('wake', call_id.rank)} if is_due else set()
+    return due
+
+
 def told_wrong(world):
     """What `why` says otherwise than the enabled matches, or says of what is not there; senders with two eligible sends."""
-    matches = {(step.first, step.second) for step in enabled_steps(world) if step.kind == 'match'}
+    steps = enabled_steps(world)
+    matches = {(step.first, step.second) for step in steps if step.kind == 'match'}
     wrong = [f'two sends of a rank are eligible for {receive}' for send, receive in matches
              if any(other.rank == send.rank and other != send and taken == receive for other, taken in matches)]
     for number, rank in enumerate(world.ranks):
@@ -118,7 +194,9 @@ def told_wrong(world):
                     wrong.append(f'why of {call_id}: {held}')
     if matches != all_matches(world):
         wrong.append('the enabled matches')
-    return wrong
+    if {step for step in steps if step.kind in ('wake', 'release')} != steps_due(world):
+        wrong.append('the enabled wakes, or the release')
+    return wrong + told_of_barriers(world)
 
 
 def all_matches(world):
@@ -130,32 +208,87 @@ def all_calls(world):
     return [CallId(number, place) for number, rank in enumerate(world.ranks) for place in range(len(rank.calls))]
 
 
-def walks(seed, count):
+def walks(seed, count, kinds=CHOSEN):
     """Inputs of scripts that are read, each with what the model's debugger is of it, and its lines."""
     for number in range(count):
-        kind = CHOSEN[number % len(CHOSEN)]
-        data = KINDS[kind][0](Random(f'order/{kind}/{seed}/{number}'))
+        kind = kinds[number % len(kinds)]
+        mode = RENDEZVOUS if kinds == CHOSEN else MODES[number // len(kinds) % 2]
+        data = KINDS[kind].draw(Random(f'order/{kind}/{seed}/{number}'), mode)
         script, lines = divided(data)
         try:
-            yield data, Debugger(read_script(script)), lines
+            yield data, Debugger(read_script(script), mode), lines
         except Fault:
             continue
 
 
-def check(seed, count):
-    """Checks so many walks; gives what was met, and what is wrong."""
+def check(seed, count, to_end=True):
+    """Checks so many walks, or those up to the first that is wrong; gives what was met, and what is wrong."""
     met, wrong = Counter(), []
-    for _, debugger, lines in walks(seed, count):
+    for _, walked, lines in walks(seed, count, CHOSEN + LATER):
+        if wrong and not to_end:
+            break
         for line in lines:
-            if not (debugger.answer(line) or '').startswith('ok') or len(all_calls(debugger.world)) > 40:
+            if not (walked.answer(line) or '').startswith('ok') or len(all_calls(walked.world)) > 40:
                 continue
-            found = told_wrong(debugger.world)
             met['worlds'] += 1
-            wrong += found
-        cases, found = out_of_order(debugger.world)
+            met['releases'] += walked.steps[walked.depth - 1].kind == 'release' if walked.depth else 0
+            wrong += told_wrong(walked.world)
+        cases, found = out_of_order(walked.world)
         met += cases
         wrong += found
     return met, wrong
+
+
+def missed(met):
+    return [name for name in MUST_MEET if not met[name]]
+
+
+class Breakage(NamedTuple):
+    """A fault put into the model on purpose: what stands in the place of something of a module."""
+    name: str
+    owner: object
+    attribute: str
+    replacement: object
+
+
+def without_case(cases_of, case, kind):
+    """What leaves a case out where the first call is of a kind."""
+    def cases(world, first, second):
+        found = cases_of(world, first, second)
+        return found - {case} if found and find_call(world, first).kind == kind else found
+    return cases
+
+
+def breakages():
+    here = sys.modules[__name__]
+    return (
+        Breakage('before without barriers', here, 'cases_of', without_case(cases_of, 'blocks', 'barrier')),
+        Breakage('before without waits for sends', here, 'cases_of', without_case(cases_of, 'wait', 'send')),
+        Breakage('a barrier released without ranks that are gone', debugger, 'can_release', without_gone),
+        Breakage('a barrier released without ranks that run', debugger, 'can_release', without_running),
+        Breakage('a release that leaves one rank blocked', debugger, 'after_release', one_left(debugger.after_release)),
+        Breakage('a wake at a barrier', debugger, 'can_wake', wakes_at_barriers(debugger.can_wake)),
+        Breakage('a synchronous send complete as it is issued', debugger, 'is_buffered',
+                 buffered_by(lambda mode, _: mode == BUFFERED)),
+        Breakage('all standard sends buffered in every mode', debugger, 'is_buffered',
+                 buffered_by(lambda _, call: not call.synchronous)),
+        Breakage('a rank that goes on behind a buffered send without a wake', debugger, 'after_local',
+                 going_on(debugger.after_local)),
+    )
+
+
+def check_broken(seed, count):
+    """How many broken models are not noticed: nothing is wrong, and all that the sound model meets was met."""
+    sound = check(seed, count)
+    unnoticed = len(sound[1])
+    for breakage in breakages():
+        with mock.patch.object(breakage.owner, breakage.attribute, breakage.replacement):
+            met, wrong = check(seed, count, to_end=False)
+        lost = [name for name in missed(met) if sound[0][name]]
+        told = wrong[0] if wrong else f'not met: {", ".join(lost)}' if lost else 'NOT NOTICED'
+        unnoticed += not (wrong or lost)
+        print(f'{breakage.name}: {told}', flush=True)
+    return unnoticed
 
 
 def row(data, taken, world):
@@ -191,18 +324,22 @@ def main():
     parser = argparse.ArgumentParser(description=__doc__, formatter_class=argparse.RawDescriptionHelpFormatter)
     parser.add_argument('--count', type=int, default=300, help='how many walks (300)')
     parser.add_argument('--seed', type=int, default=1)
+    parser.add_argument('--broken', action='store_true', help='break the model on purpose; each fault must be noticed')
     parser.add_argument('--rows', type=int, metavar='N', help='write so many rows, each a list of texts in JSON')
     chosen = parser.parse_args()
+    take_parts(BUILT if chosen.rows else PARTS)
     if chosen.rows:
         found = rows(chosen.seed, chosen.rows)
         for texts in found:
             print(json.dumps(texts))
         return 0 if len(found) == chosen.rows else 1
+    if chosen.broken:
+        return 1 if check_broken(chosen.seed, chosen.count) else 0
     met, wrong = check(chosen.seed, chosen.count)
     for what in wrong[:20]:
         print(what)
     print(', '.join(f'{name} {count}' for name, count in sorted(met.items())), f'- {len(wrong)} wrong')
-    return 0 if not wrong and all(met[name] for name in ('worlds', 'sends', 'receives', 'wait', 'blocks')) else 1
+    return 0 if not wrong and not missed(met) else 1
 
 
 if __name__ == '__main__':

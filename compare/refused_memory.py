@@ -4,8 +4,10 @@
 
 A run may end with the right answers up to one of them, `mpdbg: memory` and status 3; or it goes on, with `refused memory` in
 place of an answer that can be refused: then the state stands, and all answers behind it are right. Where all allocations from
-one on are refused it is the same. The status is 0 where every run did one of these. The allocations are refused by a shared
-object, which is built from bench/malloc_shim.c where none is named.
+one on are refused it is the same. The sessions have their scripts on standard input, one also in a file, and one in a file alone,
+in the mode `buffered`; words of the command line that ask for help, or are wrong, are answered as ever, or by `mpdbg: memory`. The
+status is 0 where every run did one of these. The allocations are refused by a shared object, which is built from
+bench/malloc_shim.c where none is named.
 """
 
 import argparse
@@ -16,8 +18,8 @@ import tempfile
 from collections import Counter
 from typing import NamedTuple
 
-from debugger import Debugger, divided, enabled_steps, next_world, step_of
-from language import read_script
+from debugger import BUFFERED, RENDEZVOUS, Debugger, Result, divided, enabled_steps, next_world, step_of, step_text
+from language import has_part, read_script
 from runs import run_at_once
 from shims import built
 
@@ -32,6 +34,24 @@ MUCH = (b'mpd 1; ranks 4; var a[40]; var x; req r[3];\nwhile x < 3 { a[x] = x * 
         b'isend r[0] x to rank tag 5; irecv r[1] a[9] from rank tag 5; isend r[0] x to 3 - rank tag 6; wait r[1]; wait r[2];\n'
         b'if rank == 0 { send 7 to 1 tag 0; }\nif rank == 1 { recv x from 0 tag 0; }\nprint x; print a[1];\n'
         b'if rank == 2 { send 1 to 3 tag 9; } else { recv x from (rank + 1) % size tag 3; }\n---\n')
+
+# Rounds of synchronous sends in a ring, each with a barrier behind it.
+MEETINGS = (b'mpd 1; ranks 3; var i; var x; req r;\nwhile i < 2 {\n  issend r i to (rank + 1) % size tag i;\n'
+            b'  recv x from (rank + 2) % size tag i;\n  wait r;\n  barrier;\n  i = i + 1;\n}\n---\n')
+
+
+# Ranks that send before they receive, and so meet only where sends are buffered.
+HEAD_TO_HEAD = (b'mpd 1; ranks 2; var x;\nsend rank to 1 - rank tag 5;\nrecv x from 1 - rank tag 5;\nbarrier;\nprint x;\n---\n')
+
+
+def walked(text, mode=RENDEZVOUS):
+    """Words that take the first enabled step until there is none, show each release, and take it all back."""
+    debugger = Debugger(read_script(divided(text)[0]), mode)
+    lines = []
+    while steps := enabled_steps(debugger.world):
+        debugger.take(steps[0])
+        lines += [step_text(steps[0]).encode()] + [b'enabled', b'show'] * (steps[0].kind == 'release')
+    return text + b''.join(line + b'\n' for line in [*lines, b'show', *[b'back'] * (debugger.depth + 1), b'show'])
 
 
 def lively():
@@ -48,6 +68,10 @@ def lively():
     return MUCH + b''.join(line + b'\n' for line in [*there, *[b'back'] * (len(lines) + 1), b'show'])
 
 
+# Words that are answered by a text alone.
+ANSWERED = ('--help', 'trace --help', '--version', 'trac', 'trace', 'trace a --mod b', 'trace a --mode b', 'trace a b')
+
+
 def inputs():
     for name in ('first.trace', 'primes.trace', 'requests.trace', 'wildcards.trace'):
         with open(os.path.join(EXAMPLES, name), 'rb') as file:
@@ -55,6 +79,8 @@ def inputs():
     with open(os.path.join(EXAMPLES, 'primes.trace'), 'rb') as file:
         yield 'primes.trace taken back', file.read() + b'back\n' * 90 + b'show\n'
     yield 'much to show', lively()
+    if has_part('barriers'):
+        yield 'barriers', walked(MEETINGS)
 
 
 def can_be_refused(world, line):
@@ -69,7 +95,7 @@ def can_be_refused(world, line):
     return words == [b'show'] or (words == [b'enabled'] and bool(enabled_steps(world)))
 
 
-def problem(data, result):
+def problem(data, result, mode=RENDEZVOUS):
     """What is wrong with a run in which memory was refused; None where nothing is."""
     script, lines = divided(data)
     if result.status == 3 and result.errors == b'mpdbg: memory\n':
@@ -78,7 +104,7 @@ def problem(data, result):
         is_cut = False
     else:
         return f'status {result.status}, {result.errors}'
-    debugger = Debugger(read_script(script))
+    debugger = Debugger(read_script(script), mode)
     place = 0
     for line in lines:
         if is_cut and place == len(result.output):
@@ -107,32 +133,57 @@ class Shim(NamedTuple):
     path: str
     report: str
 
-    def run(self, program, data, **refused):
+    def run(self, program, data, words=(), **refused):
         """The result of a run, how often the program asked for memory, and how often it was refused."""
         if os.path.exists(self.report):
             os.remove(self.report)
         environment = {'LD_PRELOAD': self.path, 'SHIM_REPORT': self.report, **refused}
-        result = run_at_once(program, data, SECONDS, environment)
+        result = run_at_once(program, data, SECONDS, environment, words)
         with open(self.report, encoding='ascii') as file:
             inside, outside, count = map(int, re.findall(r'\d+', file.read()))
         return result, inside + outside, count
 
 
-def try_input(program, name, data, shim):
+def refuse_each(name, run, problem_of):
     """Refuses each allocation of a run alone, and then each one with all behind it; gives how many runs were wrong."""
-    _, count, _ = shim.run(program, data)
+    _, count, _ = run()
     kinds = Counter()
     wrong = 0
     for variable in ('SHIM_REFUSE_ONE', 'SHIM_REFUSE'):
         for number in range(1, count + 1):
-            result, _, refused = shim.run(program, data, **{variable: str(number)})
+            result, _, refused = run(**{variable: str(number)})
             kinds[kind_of(result)] += 1
-            if what := problem(data, result) if refused else 'nothing was refused':
+            if what := problem_of(result) if refused else 'nothing was refused':
                 wrong += 1
                 print(f'{name}, {variable}={number}: {what}', flush=True)
     told = ', '.join(f'{number} {kind}' for kind, number in sorted(kinds.items()))
     print(f'{name}: {count} allocations, {kinds.total()} runs: {told}; {wrong} wrong', flush=True)
     return wrong + (count == 0)
+
+
+def try_input(program, name, data, shim):
+    """A session on standard input."""
+    return refuse_each(name, lambda **refused: shim.run(program, data, **refused), lambda result: problem(data, result))
+
+
+def try_file(program, name, data, shim, mode=RENDEZVOUS):
+    """A session with its script in a file, in a mode."""
+    script = divided(data)[0]
+    with tempfile.NamedTemporaryFile() as file:
+        file.write(script)
+        file.flush()
+        lines = data[len(script) + len(b'---\n'):]
+        words = ('trace', file.name, '--mode', 'buffered') if mode == BUFFERED else ('trace', file.name)
+        return refuse_each(f'{name}, its script in a file', lambda **refused: shim.run(program, lines, words, **refused),
+                           lambda result: problem(data, result, mode))
+
+
+def try_words(program, words, shim):
+    """Words that are answered by a text, by the same text or not at all."""
+    right = shim.run(program, b'', words.split())[0]
+    allowed = (right, Result(b'', b'mpdbg: memory\n', 3))
+    return refuse_each(f'words {words}', lambda **refused: shim.run(program, b'', words.split(), **refused),
+                       lambda result: None if result in allowed else f'status {result.status}, {result.output + result.errors}')
 
 
 def main():
@@ -144,7 +195,11 @@ def main():
     with tempfile.TemporaryDirectory() as folder:
         path = os.path.abspath(chosen.shim) if chosen.shim else built(SHIM, folder)
         shim = Shim(path, os.path.join(folder, 'report'))
-        wrong = [try_input(program, name, data, shim) for name, data in inputs()]
+        sessions = list(inputs())
+        wrong = [try_input(program, name, data, shim) for name, data in sessions]
+        wrong += [try_file(program, *sessions[0], shim)]
+        wrong += [try_file(program, 'head to head, buffered', walked(HEAD_TO_HEAD, BUFFERED), shim, BUFFERED)]
+        wrong += [try_words(program, words, shim) for words in ANSWERED]
     return 1 if any(wrong) else 0
 
 

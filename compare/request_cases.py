@@ -1,5 +1,7 @@
 """Scripts with many requests at once: waited for early, late, twice or never, and lost."""
 
+from debugger import RENDEZVOUS
+from scripts import synchronous
 from walks import SHOWING, USUAL, Habits, assembled, trace_lines
 
 # Steps taken back again and again, with the state shown.
@@ -42,7 +44,7 @@ def careful(random, ranks):
     share = random.choice([1, 1, 0.8, 0.3, 0])
     for number in range(random.randint(1, 8)):
         source, destination, tag = random.randrange(ranks), random.randrange(ranks), random.choice([0, 0, 1])
-        parts[source].append(f'isend r[{2 * number}] {number + 10} to {destination} tag {tag};')
+        parts[source].append(f'i{synchronous(random)}send r[{2 * number}] {number + 10} to {destination} tag {tag};')
         cell = random.choice(['x', 'a[0]', 'a[1]', 'a[rank % 3]'])
         parts[destination].append(f'irecv r[{2 * number + 1}] {cell} from {source} tag {tag};')
         for rank, place in ((source, 2 * number), (destination, 2 * number + 1)):
@@ -65,7 +67,7 @@ def storm(random, ranks):
         tag = random.choice([0, 0, 0, 1, 2])
         value = random.choice([str(number + 10), f'rank * 100 + {number}', 'x', f'a[{number % 3}] + 1'])
         cell = random.choice(['x', 'x', 'i', 'a[0]', 'a[1]', 'a[rank % 3]', 'a[(i + 1) % 3]'])
-        send = f'{{}}send@ {value} to {destination} tag {tag};'
+        send = f'{{}}{synchronous(random)}send@ {value} to {destination} tag {tag};'
         receive = f'{{}}recv@ {cell} from {source} tag {tag if random.random() < 0.9 else 1};'
         if random.random() < 0.95:
             parts[source] += end_of_message(random, send, count, waits[source])
@@ -88,7 +90,7 @@ def in_a_row(random, ranks):
     back = {'(rank + 1) % size': '(rank + size - 1) % size'}.get(other, other)
     tag = random.choice(['0', 'i', 'i % 2'])
     index = random.choice(['i', 'i', '0', f'{count - 1} - i', 'i / 2'])
-    calls = [f'isend r[{index}] i * 10 + rank to {other} tag {tag};',
+    calls = [f'i{synchronous(random)}send r[{index}] i * 10 + rank to {other} tag {tag};',
              f'irecv {random.choice([f"r[{count} + {index}]", f"r[{index}]", "h"])} a[i % 3] from {back} tag {tag};']
     random.shuffle(calls)
     wait = random.choice(['wait r[i];', f'wait r[{count} + i];', f'wait r[{count} + i]; wait r[i];', 'wait h; wait r[i];'])
@@ -104,16 +106,16 @@ def lost(random, ranks):
     for number in range(random.randint(1, 9)):
         other, tag = random.randrange(ranks), random.choice([0, 0, 1])
         statements.append(random.choice([
-            f'isend h {number} to {other} tag {tag};', f'irecv h a[{number % 3}] from {other} tag {tag};',
+            f'i{synchronous(random)}send h {number} to {other} tag {tag};', f'irecv h a[{number % 3}] from {other} tag {tag};',
             'if rank == 0 { isend h 9 to size - 1 tag 0; } else { irecv h x from 0 tag 0; }', *waits]))
     last = random.choice(['', '', 'wait h;', 'wait h; wait h; print x;', 'isend r[rank] 1 to 0 tag 0;', 'wait r[rank - 1];'])
     return DECLARED.format(1) + '\n' + '\n'.join([*statements, last]) + '\n'
 
 
-def requests_case(random):
+def requests_case(random, mode=RENDEZVOUS):
     """A script with many requests and a walk through it, forward and back."""
     ranks = random.choice([1, 2, 2, 3, 4, 6])
     form = random.choice([storm, storm, careful, careful, in_a_row, lost])
     script = (f'mpd 1; ranks {ranks};\n' + form(random, ranks)).encode()
     habits = random.choice([BACK_AND_FORTH, BACK_AND_FORTH, USUAL, SHOWING, FORWARD])
-    return assembled(random, script, trace_lines(random, script, random.choice([20, 50, 100, 200]), habits))
+    return assembled(random, script, trace_lines(random, script, random.choice([20, 50, 100, 200]), habits, mode))

@@ -55,11 +55,11 @@ def status_of(process, handle, seconds):
 class Started:
     """A program that was started; its output is a file in memory, so that it never waits for us."""
 
-    def __init__(self, program, reading, environment=None):
+    def __init__(self, program, reading, environment=None, words=()):
         self.output = os.memfd_create('output')
         self.errors = os.memfd_create('errors')
         actions = [action(place, number) for place, number in enumerate((reading, self.output, self.errors))]
-        self.process = os.posix_spawn(program, [program], os.environ if environment is None else environment,
+        self.process = os.posix_spawn(program, [program, *words], os.environ if environment is None else environment,
                                       file_actions=actions, setsigdef=(signal.SIGPIPE, signal.SIGXFSZ))
         self.handle = os.pidfd_open(self.process)
         os.close(reading)
@@ -76,15 +76,15 @@ class Started:
         return result
 
 
-def run_at_once(program, data, seconds, environment=None):
-    """The result for an input that is a file."""
-    return Started(program, file_of(data), environment).result(seconds)
+def run_at_once(program, data, seconds, environment=None, words=()):
+    """The result for an input that is a file, with the words of the command line."""
+    return Started(program, file_of(data), environment, words).result(seconds)
 
 
-def run_in_packets(program, packets, seconds):
-    """The result for an input that is a pipe; each packet is one read of the program."""
+def run_in_packets(program, packets, seconds, words=()):
+    """The result for an input that is a pipe, with the words of the command line; each packet is one read of the program."""
     reading, writing = os.pipe2(os.O_DIRECT | os.O_CLOEXEC)
-    started = Started(program, reading)
+    started = Started(program, reading, words=words)
     watch = threading.Timer(seconds, started.kill)
     watch.start()
     try:

@@ -1,6 +1,6 @@
 """Random scripts: their tokens, the spacing between them, and mutations of both."""
 
-from language import HIGHEST, LEVELS, RESERVED, WORD
+from language import HIGHEST, LEVELS, RESERVED, WORD, has_word
 
 NAMES = ('x', 'y', 'i', 'j', 'a', 'b', '_', 'x1', 'Rank', 'sizes', 'tag_', 'A' * 64, 'iff', 'waitany_', 'mpd1', '_9')
 HANDLE_NAMES = ('r', 'q', 'req_', 'h', 'isend1', 'wait_', 'R' * 64, 'anyway')
@@ -46,6 +46,11 @@ def made_up_names(random, count):
     names = [made_up_name(random, number) for number in range(count)]
     random.shuffle(names)
     return names
+
+
+def synchronous(random, share=0.3):
+    """What stands before `send` in its word: now and then, where the rules have such sends, the `s` of a synchronous one."""
+    return 's' if has_word('ssend') and random.random() < share else ''
 
 
 class Writer:
@@ -192,7 +197,8 @@ class Writer:
 
     def send(self, to=None, tag=None, handle=None):
         value = self.expression(self.random.choice([0, 0, 1, 2]))
-        word = ['isend', *handle] if handle else ['send']
+        word = synchronous(self.random) + 'send'
+        word = [f'i{word}', *handle] if handle else [word]
         return [*word, *value, 'to', *(to or self.rank()), 'tag', *(tag or self.tag()), ';']
 
     def receive(self, source=None, tag=None, handle=None):
@@ -227,6 +233,8 @@ class Writer:
         return tokens + ['}']
 
     def statement(self, depth):
+        if has_word('barrier') and self.chance(0.02):
+            return ['barrier', ';']
         draw = self.random.random()
         if draw < 0.17:
             place = self.place(2)
@@ -291,7 +299,17 @@ class Writer:
                 part[first], part[first + 1] = part[first + 1], part[first]
             for _ in range(self.random.randint(0, 2)):
                 part.insert(self.random.randint(0, len(part)), self.statement(1))
+        if has_word('barrier') and self.chance(0.3):
+            self.meet(parts)
         return parts
+
+    def meet(self, parts):
+        """Puts barriers into the parts of all ranks, now and then of all but one."""
+        for _ in range(self.random.choice([1, 1, 2])):
+            absent = self.random.randrange(self.ranks) if self.chance(0.15) else None
+            for rank, part in enumerate(parts):
+                if rank != absent:
+                    part.insert(len(part) if self.chance(0.4) else self.random.randint(0, len(part)), ['barrier', ';'])
 
     def protocol(self):
         """The messages of each rank in a branch of its own, one behind the other or one in the `else` of the other."""
@@ -324,6 +342,8 @@ class Writer:
                 tokens += [name, *([] if size is None else ['[', '0', ']']), '=', *value, ';']
         if self.chance(0.5):
             tokens += self.protocol()
+        if has_word('barrier') and self.chance(0.2):
+            tokens += ['barrier', ';']
         for _ in range(self.random.choice([0, 1, 2, 3, 5])):
             tokens += self.statement(3)
         return tokens

@@ -1,6 +1,8 @@
 """Scripts that reach many states: many names, arrays at their limits, many messages, traps, deep nesting."""
 
-from scripts import NUMBERS, Writer, declaration, header, made_up_names, rendered
+from debugger import RENDEZVOUS
+from language import has_word
+from scripts import NUMBERS, Writer, declaration, header, made_up_names, rendered, synchronous
 from walks import LONG, SHOWING, USUAL, assembled, trace_lines
 
 # Numbers of names round those where a table of names grows.
@@ -30,6 +32,11 @@ TRAPPING = (
     'irecv g[{}] v from size - {} tag any status v w[{} + 1];', 'recv v from any tag any status w[1 / {}] w[{} + 2];',
     'isend h 5 to rank tag 1; recv w[{}] from any tag any status w[{}] w[{}];',
     'irecv h v from {} - 1 tag 32766 + {};', 'wait g[{}];', 'wait g[{} - 1];', 'wait h;', 'wait g[1 / {}];')
+
+# The same of synchronous sends.
+TRAPPING_SYNCHRONOUSLY = (
+    'ssend 1 to {} tag 0;', 'ssend v / {} to -{} tag 1 / 0;', 'ssend 1 to 0 tag 32766 + {};', 'ssend w[{}] to 0 tag -{};',
+    'issend g[{}] 1 to 0 tag 0;', 'issend g[{} + 1] 1 / 0 to 9 tag -1;', 'issend h v / {} to 99 tag 0;', 'issend h 1 to -{} tag 0;')
 
 # Sizes of handle arrays that fill 256 handles, or have one too many; None is a single handle.
 HANDLE_SIZES = ((), (), (1,), (2, 0, 1), (256,), (255, None), (None, 255), (128, 128), (256, 0), (1, 255, 0), (257,), (256, None),
@@ -115,7 +122,7 @@ def exchange(random, ranks):
     """What a loop of all ranks runs: each sends and receives as often as it must, or nearly."""
     right, left = '(rank + 1) % size', '(rank + size - 1) % size'
     tag = random.choice(['0', '7', 'i % 3', 'i % 32768', '32767'])
-    send, receive = f'send i * 10 + rank to {{}} tag {tag};', f'recv {{}} from {{}} tag {tag};'
+    send, receive = f'{synchronous(random, 0.1)}send i * 10 + rank to {{}} tag {tag};', f'recv {{}} from {{}} tag {tag};'
     target = random.choice(['x', 'a[i % 4]', 'a[rank % 4]'])
     forms = [
         f'if rank % 2 == 0 {{ {send.format(right)} {receive.format(target, left)} }} '
@@ -131,7 +138,7 @@ def exchange(random, ranks):
     return random.choice(forms)
 
 
-def messages_case(random):
+def messages_case(random, mode=RENDEZVOUS):
     """Hundreds of matches and thousands of steps, taken back and taken again by hundreds."""
     ranks = random.choice([2, 2, 3, 4, 8, 16])
     rounds = random.choice([5, 20, 60, 150])
@@ -140,10 +147,10 @@ def messages_case(random):
     script = (f'mpd 1;\nranks {ranks};\nvar i;\nvar x;\nvar a[4];\nwhile i < {rounds} {{\n'
               f'  {exchange(random, ranks)}\n{random.choice(["", "  print x;", "  print a[i % 4] + i;"])}\n  i = i + 1;\n}}\n'
               f'{ending}\n').encode()
-    return assembled(random, script, trace_lines(random, script, random.choice([250, 500, 1000]), LONG))
+    return assembled(random, script, trace_lines(random, script, random.choice([250, 500, 1000]), LONG, mode))
 
 
-def states_case(random):
+def states_case(random, mode=RENDEZVOUS):
     """The state shown behind each step of many ranks."""
     ranks = random.choice([2, 4, 5, 8, 11, 16, 16])
     writer = Writer(random, ranks)
@@ -159,7 +166,7 @@ def states_case(random):
             ['send', 'rank', 'to', '0', 'tag', 'rank', ';'],
             ['if', 'rank', '%', '2', '{', *writer.send(), '}', 'else', '{', *writer.receive(), '}']])
     script = rendered(random, tokens)
-    return assembled(random, script, trace_lines(random, script, random.choice([10, 30, 60]), SHOWING))
+    return assembled(random, script, trace_lines(random, script, random.choice([10, 30, 60]), SHOWING, mode))
 
 
 def traps_case(random):
@@ -167,7 +174,7 @@ def traps_case(random):
     ranks = random.choice([1, 2, 3])
     text = f'mpd 1; ranks {ranks}; var v; req h; var w[3]; req g[3];\n'
     for _ in range(random.randint(1, 4)):
-        statement = random.choice(TRAPPING)
+        statement = random.choice(TRAPPING + TRAPPING_SYNCHRONOUSLY if has_word('ssend') else TRAPPING)
         numbers = [random.choice([0, 1, 1, 2, 3, ranks, 'rank', 'size', 'v']) for _ in range(statement.count('{}'))]
         statement = statement.format(*numbers)
         text += random.choice(['{}', 'if rank {{ {} }}', 'if rank == 0 {{ print v; }} else {{ {} }}',

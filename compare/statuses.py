@@ -2,9 +2,10 @@
 
     python3 compare/statuses.py PROGRAM
 
-The examples; devices that are full, closed, broken off, too short or interrupted; each fault of a script; as many steps and reads
-as there may be; the deepest scripts on a small stack; more answers than memory; answers that come before the next read. The status
-is 0 where every run ended as it must.
+The examples; devices that are full, closed, broken off, too short or interrupted; each fault of a script; the words of the command line, and
+the order in which they are tested; a script from a file; a refused script at a terminal; as many steps and reads as there may
+be; the deepest scripts on a small stack; more answers than memory; answers that come before the next read. The status is 0 where
+every run ended as it must.
 """
 
 import os
@@ -15,15 +16,16 @@ import socket
 import subprocess
 import sys
 import tempfile
+import tty
 from contextlib import contextmanager
 
-from debugger import MOST_READS, MOST_STEPS, Debugger, Result, Step, answer, answer_packets
-from language import MOST_OPEN_BLOCKS, MOST_OPERATORS, read_script
+from debugger import MOST_READS, MOST_STEPS, RENDEZVOUS, Debugger, Result, Step, answer, answer_packets
+from examples import example_names, lessons, open_example, strays
+from language import MOST_OPEN_BLOCKS, MOST_OPERATORS, has_part, read_script
 from runs import action, content, file_of, run_in_packets, status_of
 from shims import built
 
 HERE = os.path.dirname(os.path.abspath(__file__))
-EXAMPLES = os.path.join(HERE, '..', 'examples')
 SECONDS = 60
 # What the deepest scripts are run with (docs/LANGUAGE.md, "Limits").
 STACK_KIB = 512
@@ -113,12 +115,6 @@ def device(output=b''):
     return Result(output, b'mpdbg: device\n', 3)
 
 
-def open_example(name):
-    """What a file of the examples holds."""
-    with open(os.path.join(EXAMPLES, name), 'rb') as file:
-        return file.read()
-
-
 def ended_rows(program):
     """Status 0."""
     yield 'a session', Files(file_of(SESSION)).run(program), ENDED
@@ -129,9 +125,18 @@ def ended_rows(program):
 
 def example_rows(program):
     """Status 0 for each example, with what stands beside it: NAME.trace is answered by NAME.stdout, and neither is there alone."""
-    for name in sorted({name.rpartition('.')[0] for name in os.listdir(EXAMPLES) if name.endswith(('.trace', '.stdout'))}):
+    for name in example_names('.trace'):
         trace, wanted = (open_example(name + ending) for ending in ('.trace', '.stdout'))
         yield f'the example {name}', Files(file_of(trace)).run(program), Result(wanted, b'', 0)
+    yield 'answers that nothing asks for', Result(' '.join(strays()).encode(), b'', 0), Result(b'', b'', 0)
+
+
+def lesson_rows(program):
+    """Status 0 for each lesson of docs/COURSE.md, in each mode that it shows."""
+    for lesson in lessons():
+        mode = () if lesson.mode == RENDEZVOUS else ('--mode', lesson.mode)
+        result = Files(file_of(open_example(f'{lesson.name}.words'))).run(program, 'trace', lesson.script, *mode)
+        yield f'the lesson {lesson.name}, {lesson.mode}', result, Result(open_example(lesson.answers), b'', 0)
 
 
 def refused_rows(program):
@@ -256,6 +261,133 @@ def talk_rows(program):
     process.stdin.close()
 
 
+def lacks(result, output=(), errors=()):
+    """The run, with the pieces that it should have written and hasn't in place of what it wrote; all of it, where there are none."""
+    def missing(written, pieces):
+        return b', '.join(piece for piece in pieces if piece not in written) if pieces else written
+
+    return Result(missing(result.output, output), missing(result.errors, errors), result.status)
+
+
+def no_input(program, *words):
+    return Files(file_of(b'')).run(program, *words)
+
+
+def usage_rows(program):
+    """Words that ask for help (status 0) or are wrong (2): the pieces that the text must have, all on the one of the two files."""
+    answers = (('--help', b'Usage: mpdbg', b'trace', b'--version', b'Example'), ('-h', b'Usage: mpdbg', b'Example'),
+               ('help', b'Usage: mpdbg', b'Example'), ('trace --help', b'Usage: mpdbg trace', b'FILE', b'--mode', b'Example'),
+               ('help trace', b'Usage: mpdbg trace', b'Example'), ('--version', b'mpdbg '), ('-V', b'mpdbg '),
+               ('trace no-such-file --mode no-mode --help', b'Usage: mpdbg trace'))
+    for words, *pieces in answers:
+        yield f'asked for {words}', lacks(no_input(program, *words.split()), pieces), Result(b'', b'', 0)
+    mistakes = (('trac', b"'trac'", b"tip: a similar subcommand exists: 'trace'", b'Usage: mpdbg'), ('trace', b'FILE', b'Usage: mpdbg trace'),
+                ('trace a b', b"'b'"), ('trace a --mod buffered', b"'--mod'", b"tip: a similar argument exists: '--mode'"),
+                ('trace a --mode', b'--mode'), ('trace a --mode buffered --mode=buffered', b'--mode'), ('trace a -m', b"'-m'"),
+                ('--mode buffered trace a', b"'--mode'"), ('-- trace a', b"'trace'"), ('a.mpd', b"'a.mpd'"), ('help trac', b"'trac'"),
+                ('trace --version', b"'--version'"))
+    for words, *pieces in mistakes:
+        yield f'mistaken {words}', lacks(no_input(program, *words.split()), (), pieces), Result(b'', b'', 2)
+    yield 'no text', lacks(no_input(program, 'trace', b'\xff'), (), (b'UTF-8',)), Result(b'', b'', 2)
+    yield 'an empty word', lacks(no_input(program, ''), (), (b"''",)), Result(b'', b'', 2)
+    full_help = Files(file_of(b''), full()).run(program, '--help')
+    yield 'help, output full', full_help, device()
+
+
+# A script that behaves differently in the two modes, and the words that show it.
+EXCHANGE = b'mpd 1;\nranks 2;\nvar x;\nsend rank to 1 - rank tag 5;\nrecv x from 1 - rank tag 5;\n'
+WORDS = b'local 0\nlocal 1\nwake 0\n'
+BAD_MODE = Result(b'', b'mpdbg: bad mode\n', 2)
+
+
+def trace_rows(program):
+    """A script from a file, and its trace words on standard input; the order of tests is words, mode, file, script."""
+    with tempfile.TemporaryDirectory() as folder:
+        def held(name, data):
+            with open(os.path.join(folder, name), 'wb') as file:
+                file.write(data)
+            return file.name
+
+        def traced(*words, data=WORDS):
+            return Files(file_of(data)).run(program, 'trace', *words)
+
+        exchange, bad, missing = held('exchange', EXCHANGE), held('bad', b'mpd 1;ranks 1;print'), os.path.join(folder, 'none')
+        waits = Result(b'ok 1\nok 2\nrefused not-enabled\n', b'', 0)
+        passes = Result(b'ok 1\nok 2\nok 3\n', b'', 0)
+        yield 'a file', traced(exchange), waits
+        yield 'rendezvous', traced(exchange, '--mode', 'rendezvous'), waits
+        yield 'buffered', traced(exchange, '--mode', 'buffered'), passes
+        yield 'buffered first', traced('--mode=buffered', exchange), passes
+        yield 'a file behind --', traced('--mode', 'buffered', '--', exchange), passes
+        for mode in ('buffer', '', 'Buffered', 'buffered ', 'rendezvous buffered'):
+            yield f'mode {mode!r}', traced(exchange, '--mode', mode), BAD_MODE
+        yield 'a word before a mode', lacks(traced(exchange, '--mode', 'none', '--fly'), (), (b"'--fly'",)), Result(b'', b'', 2)
+        yield 'a mode before a missing file', traced(missing, '--mode', 'none'), BAD_MODE
+        yield 'a mode before a bad script', traced(bad, '--mode', 'none'), BAD_MODE
+        for name in (missing, folder, '', os.path.join(exchange, 'x'), '/proc/self/mem'):
+            yield f'no file at {name}', traced(name), device()
+        yield 'a bad script', traced(bad), refused(b'4 expected at 19 line 1')
+        yield 'a bad script, input closed', Files(None).run(program, 'trace', bad), refused(b'4 expected at 19 line 1')
+        for data, fault in FAULTS:
+            yield f'a file, {fault.decode()}', traced(held('fault', data)), refused(fault)
+        yield 'a divided file', traced(held('divided', EXCHANGE + b'---\n')), refused(b'4 expected at 80 line 6')
+        yield 'a file of 65536 bytes', traced(held('long', EXCHANGE + b'#' * (65536 - len(EXCHANGE)))), waits
+        yield 'a file of 65537 bytes', traced(held('long', EXCHANGE + b'#' * (65537 - len(EXCHANGE)))), refused(b'1 too-long at 65536 line 6')
+        yield 'a file without an end', traced('/dev/zero'), refused(b'1 too-long at 65536 line 1')
+        yield 'a trace, input closed', Files(None).run(program, 'trace', exchange), device()
+        yield 'a trace, output full', Files(file_of(WORDS), full()).run(program, 'trace', exchange), device()
+        yield 'a trace of no words', traced(exchange, data=b''), Result(b'', b'', 0)
+        example = open_example('exchange.mpd')
+        yield 'the example of a file', traced(held('example', example), '--mode', 'buffered'), passes
+
+
+def at_terminal(program, *words, data=b''):
+    """A run whose standard error is a terminal, which passes each byte as it is."""
+    ours, theirs = os.openpty()
+    tty.setraw(theirs)
+    result = Files(file_of(data), errors=os.dup(theirs)).run(program, *words)
+    os.close(theirs)
+    said = b''
+    try:
+        while piece := os.read(ours, 1 << 16):
+            said += piece
+    except OSError:
+        pass
+    os.close(ours)
+    return result._replace(errors=said)
+
+
+# A script that is refused at a byte, what stands on its line, and what stands below that.
+SHOWN = (
+    (b'mpd 1;ranks 1;print', b'4 expected at 19 line 1', 'mpd 1;ranks 1;print', ' ' * 19),
+    (b'mpd 1;\nranks 1;\n\tprint 1 & 1;\n', b'3 bad-token at 25 line 3', ' print 1 & 1;', ' ' * 9),
+    (b'mpd 1;\r\nranks 17;\r\n', b'9 bad-ranks at 14 line 2', 'ranks 17; ', ' ' * 6),
+    ('mpd 1;\nranks 1; # \u00fcber\n'.encode(), b'2 not-text at 18 line 2', 'ranks 1; # ??ber', ' ' * 11),
+    (b'mpd 1;\nranks 1;\nprint 1\n\n', b'4 expected at 25 line 5', '', ''),
+    (b'', b'4 expected at 0 line 1', '', ''),
+    (b'mpd 1;\nranks 1;\nx = 1;' + b' ' * 66 + b'# the end', b'5 unknown-name at 16 line 3', 'x = 1;' + ' ' * 66 + '...', ''),
+    (b'mpd 1;\nranks 1;\nvar x; ' + b' ' * 60 + b'x = y; x = 1234567890123456789012345678901234567890;', b'5 unknown-name at 87 line 3',
+     'var x; ' + ' ' * 60 + 'x = y...', ' ' * 71),
+    (b'mpd 1;\nranks 1;\nvar x; ' + b' ' * 61 + b'x = y; x = 1234567890123456789012345678901234567890;', b'5 unknown-name at 88 line 3',
+     '...' + ' ' * 32 + 'x = y; x = 12345678901234567890123456789...', ' ' * 39),
+    (b' ' * 65537, b'1 too-long at 65536 line 1', '...' + ' ' * 37, ' ' * 39))
+
+
+def terminal_rows(program):
+    """At a terminal, and there alone, the line of a script that is refused is shown, with a caret below the byte."""
+    with tempfile.TemporaryDirectory() as folder:
+        for data, fault, line, below in SHOWN:
+            shown = refused(fault).errors + f'  {line}\n  {below}^\n'.encode()
+            name = os.path.join(folder, 'script')
+            with open(name, 'wb') as file:
+                file.write(data)
+            wanted = Result(b'', shown, 2)
+            yield f'a terminal, {fault.decode()}', at_terminal(program, data=data), wanted
+            yield f'a terminal and a file, {fault.decode()}', at_terminal(program, 'trace', name), wanted
+        yield 'a terminal, bad mode', at_terminal(program, 'trace', name, '--mode', 'none'), BAD_MODE
+        yield 'a terminal, no file', at_terminal(program, 'trace', folder), device()
+        yield 'a terminal, no fault', at_terminal(program, data=SESSION), ENDED
+
 def deepest(block, opening, closing, cost):
     """A script of blocks as deep as allowed, with expressions as deep as allowed inside, and the words to its end."""
     most, fewer = MOST_OPERATORS // cost, (MOST_OPERATORS - 1) // cost
@@ -293,8 +425,11 @@ def much_rows(program):
     yield f'much to show with {MUCH_MIB} MiB', result, wanted
 
 
-ROWS = (ended_rows, example_rows, refused_rows, device_rows, interrupted_rows, talk_rows, stack_rows, much_rows,
-        full_rows, turns_rows)
+ROWS = (ended_rows, example_rows, refused_rows, device_rows, usage_rows, trace_rows, terminal_rows, interrupted_rows, talk_rows,
+        stack_rows, much_rows, full_rows, turns_rows)
+# The lessons have barriers, and their scripts are files.
+if has_part('barriers') and has_part('modes'):
+    ROWS += (lesson_rows,)
 
 
 def main():

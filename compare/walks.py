@@ -2,7 +2,7 @@
 
 from typing import NamedTuple
 
-from debugger import CallId, Debugger, Step, enabled_steps, free_calls
+from debugger import RENDEZVOUS, CallId, Debugger, Step, enabled_steps, free_calls
 from language import Fault, read_script
 
 # Lines that are no step, or an odd one.
@@ -110,11 +110,11 @@ RACING = Habits(show=(0.05, 0.2), back=(0.0, 0.02, 0.05), any_step=(0.02, 0.1, 0
 
 
 class Walk:
-    """Random trace words for a script that was read, chosen with the model at hand."""
+    """Random trace words for a script that was read, chosen with the model at hand, in a mode."""
 
-    def __init__(self, random, script, habits):
+    def __init__(self, random, script, habits, mode):
         self.random = random
-        self.debugger = Debugger(script)
+        self.debugger = Debugger(script, mode)
         self.show, self.back, self.any_step, self.odd, self.again = map(random.choice, habits[:5])
         self.backs = habits.backs
         self.backs_left = 0
@@ -174,12 +174,12 @@ class Walk:
         return lines + ['show']
 
 
-def trace_lines(random, script, count, habits=USUAL):
+def trace_lines(random, script, count, habits=USUAL, mode=RENDEZVOUS):
     try:
         read = read_script(script)
     except Fault:
         return [random.choice(ODD_LINES) for _ in range(random.randint(0, 3))]
-    return Walk(random, read, habits).lines(count)
+    return Walk(random, read, habits, mode).lines(count)
 
 
 def assembled(random, script, lines):

@@ -35,13 +35,14 @@ sys.dont_write_bytecode = True
 import debugger
 import order
 from cases import KINDS
-from debugger import CallId, Debugger, divided, find_call
+from debugger import CallId, Debugger, Released, divided, find_call
 from edits import BadEdit, Edit
-from language import Fault, read_script
+from language import Fault, has_part, read_script
 from planted import plant
 
 PROBE = 'compare/probe'
-CHOSEN = ('wildcards', 'wildcards', 'wildcards', 'requests', 'script', 'states')
+CHOSEN = ('wildcards', 'wildcards', 'wildcards', 'requests', 'script', 'states') + (
+    ('barriers', 'barriers', 'exchanges') if has_part('barriers') else ())
 # Worlds with more calls are not asked: the pairs of these are too many.
 MOST_CALLS = 40
 # A batch is what the copy answers in one run, which may write 1 MiB under `rt try`.
@@ -53,7 +54,8 @@ CHUNK = 20
 MOST_SOUGHT = 1000
 # What must have been met, or the run compared too little.
 MUST_MEET = ('worlds', 'undos', 'whys', 'pairs', 'eligible', 'held by a send', 'held by a recv', 'sends', 'receives', 'wait',
-             'blocks', 'any source', 'any tag', 'status')
+             'blocks', 'any source', 'any tag', 'status') + (
+                 ('barrier', 'synchronous send', 'release', 'behind a barrier') if has_part('barriers') else ())
 DIVIDER = b'\0'
 
 
@@ -103,9 +105,13 @@ def met_in(world, is_undo):
         call = find_call(world, call_id)
         if call is not None and call.kind == 'recv':
             found.update({'any source': call.other is None, 'any tag': call.tag is None, 'status': call.status is not None})
+        found['barrier'] += call is not None and call.kind == 'barrier'
+        found['synchronous send'] += call is not None and call.kind == 'send' and call.synchronous
         found.update(way_of(world, held) for _, held in order.why(world, call_id))
     for one, two in pairs:
         found.update(order.cases_of(world, one, two))
+        found['behind a barrier'] += order.before(world, one, two) and find_call(world, one).kind == 'barrier'
+    found['release'] += any(isinstance(record, Released) for record in world.records)
     return found
 
 
@@ -138,7 +144,7 @@ def walked(seed, number):
     """The walk of this number; None where its script can't be read, or there is nothing to ask."""
     kind = CHOSEN[number % len(CHOSEN)]
     random = Random(f'why/{kind}/{seed}/{number}')
-    script, lines = divided(KINDS[kind][0](random))
+    script, lines = divided(KINDS[kind].draw(random))
     try:
         walk = Walk(script)
     except Fault:
@@ -336,6 +342,31 @@ def of_two_ranks(cases_of):
     return cases
 
 
+def apart(cases_of):
+    """What has synchronous sends in an order of their own."""
+    def cases(world, first, second):
+        found = cases_of(world, first, second)
+        if 'sends' in found and find_call(world, first).synchronous != find_call(world, second).synchronous:
+            found.remove('sends')
+        return found
+    return cases
+
+
+def standard_alone(fits):
+    """What has synchronous sends fit nothing."""
+    return lambda world, send_id, receive_id: fits(world, send_id, receive_id) and not find_call(world, send_id).synchronous
+
+
+def breakages_of_barriers():
+    if not has_part('barriers'):
+        return ()
+    return (
+        Breakage('no order behind a barrier', 'cases_of', order.without_case(order.cases_of, 'blocks', 'barrier')),
+        Breakage('synchronous sends in an order of their own', 'cases_of', apart(order.cases_of)),
+        Breakage('synchronous sends as no partners', 'fits', standard_alone(order.fits)),
+    )
+
+
 def breakages():
     why, cases_of, fits, covers = order.why, order.cases_of, order.fits, order.covers
     return (
@@ -358,7 +389,7 @@ def breakages():
         Breakage('both ways', 'cases_of', either_way(cases_of)),
         Breakage('calls of two ranks in order', 'cases_of', of_two_ranks(cases_of)),
         Breakage('before a call that is not there', 'cases_of', calls_there(cases_of)),
-    )
+    ) + breakages_of_barriers()
 
 
 def noticing(place, walks):

@@ -1,6 +1,8 @@
 """Scripts with receives of any source and any tag, and with statuses: races, cells that are written, texts that are refused."""
 
 from canonical import now_and_then_canonical
+from debugger import RENDEZVOUS
+from scripts import synchronous
 from walks import RACING, SHOWING, USUAL, assembled, trace_lines
 
 DECLARED = 'var x; var y; var a[4]; var s; var t; req h; req r[8];'
@@ -122,7 +124,8 @@ def sender(random, rank, receivers, count):
     part = []
     for number in range(count):
         to, tag = random.choice(receivers), random.choice([0, 0, 0, 1, 2, 32767])
-        word = f'isend r[{number % 8}]' if random.random() < 0.6 else 'send'
+        send = synchronous(random) + 'send'
+        word = f'i{send} r[{number % 8}]' if random.random() < 0.6 else send
         part.append(f'{word} {rank * 100 + number} to {to} tag {tag};')
     return part
 
@@ -203,10 +206,10 @@ def refused(random, ranks):
     return f'{before}{statement}{behind}{closing}\n'
 
 
-def wildcards_case(random):
+def wildcards_case(random, mode=RENDEZVOUS):
     """A script with wildcards or statuses, and a walk through it, forward and back, among all matches that are enabled."""
     form = random.choice([race] * 3 + [gather, gather, overtaking, overtaking, written, written, refused, refused])
     ranks = random.choice([1, 1, 2, 3]) if form in (written, refused) else random.choice([2, 3, 3, 4, 5, 8, 16 if form is gather else 6])
     script = now_and_then_canonical(random, f'mpd 1; ranks {ranks};\n{DECLARED}\n{form(random, ranks)}'.encode())
     habits = random.choice([RACING, RACING, RACING, USUAL, SHOWING])
-    return assembled(random, script, trace_lines(random, script, random.choice([30, 60, 120, 250]), habits))
+    return assembled(random, script, trace_lines(random, script, random.choice([30, 60, 120, 250]), habits, mode))

@@ -37,6 +37,19 @@ pub(crate) const GATHER: [(usize, &[u8]); 3] = [
     ),
 ];
 
+/// Ranks in a ring: each sends to the next one for ever, receives from the one before, and meets all others at a barrier.
+pub(crate) const RING: &[u8] = b"mpd 1; ranks 16; var x; req r; \
+    while 1 { isend r 1 to (rank + 1) % size tag 0; recv x from (rank + size - 1) % size tag 0; wait r; barrier; }";
+
+/// How many ranks there are in the ring.
+const RING_RANKS: usize = 16;
+
+/// How many calls a rank of the ring issues in a lap: the send, the receive, the wait and the barrier.
+const LAP_CALLS: usize = 4;
+
+/// How many laps of the ring were made before what is measured.
+pub(crate) const LAPS: [usize; 4] = [1, 10, 100, 1_000];
+
 /// How many messages of each sender wait.
 pub(crate) const WAITING: [usize; 3] = [1, 30, 1_000];
 
@@ -185,4 +198,80 @@ pub(crate) fn taken_from(sender: usize) -> [Step; 1] {
     };
     let recv = CallId { rank: 0, index: 0 };
     [Step::Match(send, recv)]
+}
+
+/// Adds so many local steps of each rank of the ring.
+fn push_ring_locals(steps: &mut Vec<Step>, locals: usize) -> Result<(), AllocError> {
+    for rank in 0..RING_RANKS {
+        push_locals(steps, rank, locals)?;
+    }
+    Ok(())
+}
+
+/// The rank of the ring behind one.
+fn next_in_ring(rank: usize) -> usize {
+    if rank < RING_RANKS - 1 { rank + 1 } else { 0 }
+}
+
+/// Adds the matches of the ring by which each rank's call of a number, its send, is paired with the next call of the rank behind it.
+fn push_ring_matches(steps: &mut Vec<Step>, number: usize) -> Result<(), AllocError> {
+    for rank in 0..RING_RANKS {
+        let send = CallId {
+            rank,
+            index: number,
+        };
+        let recv = CallId {
+            rank: next_in_ring(rank),
+            index: number.saturating_add(1),
+        };
+        steps.push(Step::Match(send, recv))?;
+    }
+    Ok(())
+}
+
+/// Adds the steps of a rank of the ring that has its message: the wakes from its receive and from its wait, each with the local
+/// step behind it.
+fn push_woken(steps: &mut Vec<Step>, rank: usize) -> Result<(), AllocError> {
+    for step in [
+        Step::Wake(rank),
+        Step::Local(rank),
+        Step::Wake(rank),
+        Step::Local(rank),
+    ] {
+        steps.push(step)?;
+    }
+    Ok(())
+}
+
+/// Adds these steps of each rank of the ring.
+fn push_ring_woken(steps: &mut Vec<Step>) -> Result<(), AllocError> {
+    for rank in 0..RING_RANKS {
+        push_woken(steps, rank)?;
+    }
+    Ok(())
+}
+
+/// Adds the steps of the lap of that number, the release from its barrier included.
+fn push_lap(steps: &mut Vec<Step>, number: usize) -> Result<(), AllocError> {
+    push_ring_locals(steps, 3)?;
+    push_ring_matches(steps, number.saturating_mul(LAP_CALLS))?;
+    push_ring_woken(steps)?;
+    steps.push(Step::Release)?;
+    Ok(())
+}
+
+/// The steps of so many laps of the ring.
+pub(crate) fn laps(alloc: Global, count: usize) -> Result<Vec<Step>, AllocError> {
+    let mut steps = Vec::new(alloc);
+    for number in 0..count {
+        push_lap(&mut steps, number)?;
+    }
+    Ok(steps)
+}
+
+/// The steps of the lap of that number.
+pub(crate) fn lap(alloc: Global, number: usize) -> Result<Vec<Step>, AllocError> {
+    let mut steps = Vec::new(alloc);
+    push_lap(&mut steps, number)?;
+    Ok(steps)
 }

@@ -9,11 +9,13 @@ use mpd_model::step::{CallId, Step};
 use mpd_script::read;
 use mpd_trail::debugger::Debugger;
 
-/// Two ranks that assign, print, send and receive for ever, blocking and not, and wait.
-const TALK: &[u8] = b"mpd 1; ranks 2; var i; req r; \
+/// Two ranks that assign, print, send and receive for ever, wait, and meet at a barrier. Sends are standard ones and synchronous
+/// ones, and as the receives they block or don't.
+const TALK: &[u8] = b"mpd 1; ranks 2; var i; req r; req s; \
     while 1 { i = i + 1; print i; \
-    if rank == 0 { send i to 1 tag 0; isend r i to 1 tag 1; } else { recv i from 0 tag 0; irecv r i from 0 tag 1; } \
-    wait r; }";
+    if rank == 0 { send i to 1 tag 0; isend r i to 1 tag 1; ssend i to 1 tag 2; issend s i to 1 tag 3; } \
+    else { recv i from 0 tag 0; irecv r i from 0 tag 1; recv i from 0 tag 2; irecv s i from 0 tag 3; } \
+    wait r; wait s; barrier; }";
 
 /// How many steps of every kind are taken before they are undone.
 const STEPS: usize = 500;
@@ -27,6 +29,7 @@ struct Taken {
     locals: usize,
     matches: usize,
     wakes: usize,
+    releases: usize,
 }
 
 /// No step was taken.
@@ -34,6 +37,7 @@ const NONE: Taken = Taken {
     locals: 0,
     matches: 0,
     wakes: 0,
+    releases: 0,
 };
 
 /// The first free send of rank 0 to rank 1 with the first free receive of that, where there are both.
@@ -56,11 +60,12 @@ fn first_pair(board: &Board) -> Option<Step> {
     ))
 }
 
-/// The first step that is enabled of a match, the wakes and the local steps of two ranks.
+/// The first step that is enabled of a match, the release, the wakes and the local steps of two ranks.
 fn next_step(core: &Core<'_>) -> Option<Step> {
     let pair = first_pair(core.board()).unwrap_or(Step::Release);
     let steps = [
         pair,
+        Step::Release,
         Step::Wake(0),
         Step::Wake(1),
         Step::Local(0),
@@ -79,7 +84,8 @@ fn count(taken: &mut Taken, step: Step) {
     let counter = match step {
         Step::Match(_, _) => &mut taken.matches,
         Step::Wake(_) => &mut taken.wakes,
-        _ => &mut taken.locals,
+        Step::Release => &mut taken.releases,
+        Step::Local(_) => &mut taken.locals,
     };
     *counter = counter.saturating_add(1);
 }
@@ -114,6 +120,9 @@ pub(crate) fn between_marks(rt: &HostRuntime) -> Option<()> {
         locals,
         matches,
         wakes,
+        releases,
     } = taken;
-    println!(rt; "steps and undos: local {locals}, match {matches}, wake {wakes}").ok()
+    println!(rt;
+        "steps and undos: local {locals}, match {matches}, wake {wakes}, release {releases}"
+    ).ok()
 }

@@ -1,7 +1,9 @@
 //! How long steps and their undos take, each line in nanoseconds. All are taken on a trail, and once before they are measured, so
 //! that room is kept.
 
-use crate::cases::{self, EARLIER, GATHER, LOOP, MESSAGES, REQUESTS, THOUSAND, WAIT, WAITING};
+use crate::cases::{
+    self, EARLIER, GATHER, LAPS, LOOP, MESSAGES, REQUESTS, RING, THOUSAND, WAIT, WAITING,
+};
 use mpd_code::code::Code;
 use mpd_code::lower::lower;
 use mpd_core::state::Core;
@@ -21,6 +23,9 @@ const TIMES: usize = 200_000;
 
 /// How many messages are sent in all, for each length of a row.
 const SENT: usize = 50_000;
+
+/// How often a lap is made.
+const LAP_TIMES: usize = 5_000;
 
 /// How often the enabled steps are listed.
 const LISTS: usize = 10_000;
@@ -193,6 +198,20 @@ fn rows(rt: &HostRuntime) -> Option<()> {
     Some(())
 }
 
+/// Measures a lap of a ring of 16 ranks, with a barrier and its release, behind so many laps.
+fn laps_behind(rt: &HostRuntime) -> Option<()> {
+    for count in LAPS {
+        let before = cases::laps(rt.alloc(), count).ok()?;
+        let steps = cases::lap(rt.alloc(), count).ok()?;
+        let took = time_of(rt, rt.alloc(), RING, &before, &steps, LAP_TIMES)?;
+        let taken = steps.len();
+        eprintln!(rt;
+            "a lap of 16 ranks behind {count}: {took} ns for {taken} steps and their undos"
+        ).ok()?;
+    }
+    Some(())
+}
+
 /// Measures the outcome of a thousand messages that have ended.
 fn outcome(rt: &HostRuntime) -> Option<()> {
     let before = cases::thousand(rt.alloc()).ok()?;
@@ -228,6 +247,7 @@ pub(crate) fn all(rt: &HostRuntime) -> Option<()> {
     requests_behind(rt)?;
     wait(rt)?;
     rows(rt)?;
+    laps_behind(rt)?;
     outcome(rt)?;
     gathers(rt)
 }

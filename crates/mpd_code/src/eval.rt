@@ -1,8 +1,8 @@
 //! The values of expressions, and what statements make of them: the calls that they issue, and what assignments write.
 
-ghost use Rattle.std.specs.Prelude.{◌≡◌, pos, None, slice_index_or};
+ghost use Rattle.std.specs.Prelude.{◌≡◌, pos, None, Ok, slice_index_or};
 ghost use Rattle.mpd_model.specs.Term.{element, op1, op2, value_of, within, checked, target_cell};
-ghost use Rattle.mpd_model.specs.Next.{rank_value, tag_value, send_kind, source_value, any_tag_value, status_cells, recv_kind, wait_kind, send_issue, recv_issue, isend_issue, irecv_issue, wait_issue, assignment};
+ghost use Rattle.mpd_model.specs.Next.{rank_value, tag_value, send_kind, source_value, any_tag_value, status_cells, recv_kind, wait_kind, send_issue, ssend_issue, recv_issue, isend_issue, issend_issue, irecv_issue, wait_issue, barrier_issue, assignment};
 
 use crate::env::Env;
 use crate::operate::{alter, combine, decide};
@@ -117,8 +117,13 @@ fn eval_target(target: &Target, env: &Env<'_>) -> Result<usize, Trap>
 }
 
 /// The call of a send: the value is evaluated first, then the destination, then the tag.
-fn send_call(send: &SendStmt, blocks: bool, env: &Env<'_>) -> Result<CallKind, Trap>
-    ensures { result ≡ send_kind blocks send.now env.now }
+fn send_call(
+    send: &SendStmt,
+    synchronous: bool,
+    blocks: bool,
+    env: &Env<'_>,
+) -> Result<CallKind, Trap>
+    ensures { result ≡ send_kind synchronous blocks send.now env.now }
 {
     let value = eval(&send.value, env)?;
     let to = eval_rank(&send.to, env)?;
@@ -127,6 +132,7 @@ fn send_call(send: &SendStmt, blocks: bool, env: &Env<'_>) -> Result<CallKind, T
         to,
         tag,
         value,
+        synchronous,
         blocks,
     }))
 }
@@ -213,7 +219,15 @@ fn wait_call(handle: &Target, env: &Env<'_>) -> Result<CallKind, Trap>
 pub fn eval_send(send: &SendStmt, env: &Env<'_>) -> Result<Issue, Trap>
     ensures { result ≡ send_issue send.now env.now }
 {
-    let kind = send_call(send, true, env)?;
+    let kind = send_call(send, false, true, env)?;
+    Ok(Issue { kind, handle: None })
+}
+
+/// What an `ssend` issues.
+pub fn eval_ssend(send: &SendStmt, env: &Env<'_>) -> Result<Issue, Trap>
+    ensures { result ≡ ssend_issue send.now env.now }
+{
+    let kind = send_call(send, true, true, env)?;
     Ok(Issue { kind, handle: None })
 }
 
@@ -230,7 +244,19 @@ pub fn eval_isend(isend: &IsendStmt, env: &Env<'_>) -> Result<Issue, Trap>
     ensures { result ≡ isend_issue isend.now env.now }
 {
     let handle = eval_target(&isend.request, env)?;
-    let kind = send_call(&isend.send, false, env)?;
+    let kind = send_call(&isend.send, false, false, env)?;
+    Ok(Issue {
+        kind,
+        handle: Some(handle),
+    })
+}
+
+/// What an `issend` issues: the index of its handle is evaluated before the message.
+pub fn eval_issend(issend: &IsendStmt, env: &Env<'_>) -> Result<Issue, Trap>
+    ensures { result ≡ issend_issue issend.now env.now }
+{
+    let handle = eval_target(&issend.request, env)?;
+    let kind = send_call(&issend.send, true, false, env)?;
     Ok(Issue {
         kind,
         handle: Some(handle),
@@ -255,6 +281,16 @@ pub fn eval_wait(handle: &Target, env: &Env<'_>) -> Result<Issue, Trap>
 {
     let kind = wait_call(handle, env)?;
     Ok(Issue { kind, handle: None })
+}
+
+/// What a `barrier` issues. It evaluates nothing, so it can't trap.
+pub fn barrier() -> Issue
+    ensures { Ok result ≡ barrier_issue }
+{
+    Issue {
+        kind: CallKind::Barrier,
+        handle: None,
+    }
 }
 
 /// The cell that an assignment writes, and its new value: the index of its target is evaluated first, then the expression.

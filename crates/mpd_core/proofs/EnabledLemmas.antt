@@ -44,29 +44,46 @@ locals w = map Local (filter (λ p. is_enabled w (Local p)) (rank_numbers w.boar
 abbrev pub wakes : World → List Step
 wakes w = map Wake (filter (λ p. is_enabled w (Wake p)) (rank_numbers w.board))
 
-enabled_parts : (w : World) → enabled w ≡ locals w ++ (wakes w ++ listed.matches_on w.board)
+-- the release, where it is enabled
+abbrev pub releases : World → List Step
+releases w = cond (is_enabled w Release) (Release ∷ []) []
+
+split : (b : Bool) (x : Step) (ys : List Step) → cond b (x ∷ ys) ys ≡ cond b (x ∷ []) [] ++ ys
+split true x ys = refl
+split false x ys = refl
+
+enabled_parts : (w : World) → enabled w ≡ locals w ++ (releases w ++ (wakes w ++ listed.matches_on w.board))
 enabled_parts w =
     let t = is_enabled w in
     let ranks = rank_numbers w.board in
     filter-append t (map Local ranks) (Release ∷ (map Wake ranks ++ matches_in w.board))
-    ∙ ap (λ ys. ys ++ filter t (map Wake ranks ++ matches_in w.board)) (filter_mapped t Local (λ p. t (Local p)) (λ p. refl) ranks)
-    ∙ ap (λ ys. locals w ++ ys) (filter-append t (map Wake ranks) (matches_in w.board)
+    ∙ ap (λ ys. ys ++ filter t (Release ∷ (map Wake ranks ++ matches_in w.board))) (filter_mapped t Local (λ p. t (Local p)) (λ p. refl) ranks)
+    ∙ ap (λ ys. locals w ++ ys) (split (t Release) Release (filter t (map Wake ranks ++ matches_in w.board))
+    ∙ ap (λ ys. releases w ++ ys) (filter-append t (map Wake ranks) (matches_in w.board)
     ∙ ap (λ ys. ys ++ filter t (matches_in w.board)) (filter_mapped t Wake (λ p. t (Wake p)) (λ p. refl) ranks)
-    ∙ ap (λ ys. wakes w ++ ys) (matches_are w))
+    ∙ ap (λ ys. wakes w ++ ys) (matches_are w)))
 
 -- ---- gathered one kind after the other
 
-pub enabled_all : (w : World) (b : Board) (one two three : List Step) → b ≡ w.board → one ≡ locals w → two ≡ one ++ wakes w → three ≡ two ++ listed.matches_on b → three ≡ enabled w
-enabled_all w b one two three same l k m =
-    m ∙ ap (λ (c : Board). two ++ listed.matches_on c) same ∙ ap (λ ys. ys ++ listed.matches_on w.board) (k ∙ ap (λ ys. ys ++ wakes w) l)
-    ∙ append_assoc (locals w) (wakes w) (listed.matches_on w.board) ∙ sym (enabled_parts w)
+pub enabled_all : (w : World) (b : Board) (one two three four : List Step) → b ≡ w.board → one ≡ locals w → two ≡ one ++ releases w → three ≡ two ++ wakes w → four ≡ three ++ listed.matches_on b → four ≡ enabled w
+enabled_all w b one two three four same l r k m =
+    m ∙ ap (λ (c : Board). three ++ listed.matches_on c) same
+    ∙ ap (λ ys. ys ++ listed.matches_on w.board) (k ∙ ap (λ ys. ys ++ wakes w) (r ∙ ap (λ ys. ys ++ releases w) l))
+    ∙ append_assoc (locals w ++ releases w) (wakes w) (listed.matches_on w.board)
+    ∙ append_assoc (locals w) (releases w) (wakes w ++ listed.matches_on w.board)
+    ∙ sym (enabled_parts w)
 
-enabled_length : (w : World) → length (enabled w) ≡ length (locals w) + (length (wakes w) + length (listed.matches_on w.board))
+enabled_length : (w : World) → length (enabled w) ≡ length (locals w) + (length (releases w) + (length (wakes w) + length (listed.matches_on w.board)))
 enabled_length w =
-    ap length (enabled_parts w) ∙ length-append (locals w) (wakes w ++ listed.matches_on w.board) ∙ ap (λ n. length (locals w) + n) (length-append (wakes w) (listed.matches_on w.board))
+    ap length (enabled_parts w)
+    ∙ length-append (locals w) (releases w ++ (wakes w ++ listed.matches_on w.board))
+    ∙ ap (λ n. length (locals w) + n) (length-append (releases w) (wakes w ++ listed.matches_on w.board) ∙ ap (λ n. length (releases w) + n) (length-append (wakes w) (listed.matches_on w.board)))
 
 pub some_local : (w : World) → 0 < length (locals w) → 0 < length (enabled w)
 some_local w some = omega (arith, some, enabled_length w)
+
+pub some_release : (w : World) → 0 < length (releases w) → 0 < length (enabled w)
+some_release w some = omega (arith, some, enabled_length w)
 
 pub some_wake : (w : World) → 0 < length (wakes w) → 0 < length (enabled w)
 some_wake w some = omega (arith, some, enabled_length w)
@@ -75,4 +92,4 @@ pub some_match : (w : World) (b : Board) → b ≡ w.board → 0 < length (liste
 some_match w b same some =
     let here : 0 < length (listed.matches_on w.board) = subst (λ (c : Board). 0 < length (listed.matches_on c)) same some in omega (arith, here, enabled_length w)
 
-pub ruleset enabling = (enabled_all, some_local, some_wake, some_match)
+pub ruleset enabling = (enabled_all, some_local, some_release, some_wake, some_match)

@@ -4,3 +4,4 @@ pub mod RangeLemmas
 pub mod RoomLemmas
 pub mod TagLemmas
 pub mod EnabledLemmas
+pub mod ReleaseLemmas

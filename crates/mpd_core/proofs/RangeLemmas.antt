@@ -92,11 +92,11 @@ chosen_grows old so_far now more grows e = omega (arith, ap length e, grows, len
 
 -- no step is enabled where none of each form is
 pub enabled_parts : (w : World) → list_any (is_enabled w) (steps_of w)
-    ≡ list_any (is_enabled w) (map Local (rank_numbers w.board)) || (list_any (is_enabled w) (map Wake (rank_numbers w.board)) || list_any (is_enabled w) (matches_in w.board))
+    ≡ list_any (is_enabled w) (map Local (rank_numbers w.board)) || (is_enabled w Release || (list_any (is_enabled w) (map Wake (rank_numbers w.board)) || list_any (is_enabled w) (matches_in w.board)))
 enabled_parts w =
     let ranks = rank_numbers w.board in
     list_any-append (is_enabled w) (map Local ranks) (Release ∷ (map Wake ranks ++ matches_in w.board))
-    ∙ ap (λ b. list_any (is_enabled w) (map Local ranks) || b) (list_any-append (is_enabled w) (map Wake ranks) (matches_in w.board))
+    ∙ ap (λ b. list_any (is_enabled w) (map Local ranks) || (is_enabled w Release || b)) (list_any-append (is_enabled w) (map Wake ranks) (matches_in w.board))
 
 -- ---- whether some match is enabled, told by calls
 

@@ -1,5 +1,5 @@
 -- The local step of one rank over a board.
-use Rattle.std.proofs.Common.{◌≡◌, ℕ, Bool, true, false, is_some, ℤ, ◌≤◌, ◌+◌, List, [], ◌∷◌, ◌++◌, Option, Some, None, Result, Ok, Err, OnOk, OnErr, IfSome, length, refl, sym, ap, ◌∙◌, arith}
+use Rattle.std.proofs.Common.{◌≡◌, ℕ, Bool, true, false, is_some, ℤ, ◌≤◌, ◌+◌, ◌*◌, List, [], ◌∷◌, ◌++◌, Option, Some, None, Result, Ok, Err, OnOk, OnErr, IfSome, length, refl, sym, ap, ◌∙◌, arith}
 use Rattle.std.specs.Option.{option_map}
 use Rattle.std.proofs.lemmas.List.{length-set}
 use Rattle.mpd_model.specs.declared.call.Activity.{Activity}
@@ -114,7 +114,14 @@ match_few (Err e) old new done refused = omega (arith, refused)
 pub wake_rises : {A E : Type 0} (result : Result A E) (old new : ℕ) → OnOk result (old + 2 ≤ new) → OnOk result (old + 1 ≤ new)
 wake_rises result old new = on_ok result (λ h. omega (arith, h))
 
-pub ruleset writing = (match_rises, match_few, wake_rises)
+pub release_rises : {A E : Type 0} (result : Result A E) (old ranks new : ℕ) → OnOk result (new ≡ old + ranks + 1) → OnOk result (old + 1 ≤ new)
+release_rises result old ranks new = on_ok result (λ h. omega (arith, h))
+
+pub release_few : {A E : Type 0} (result : Result A E) (old ranks new : ℕ) → OnOk result (new ≡ old + ranks + 1) → OnErr result (new ≡ old) → new ≤ old + (16 + 2 * ranks)
+release_few (Ok x) old ranks new done refused = omega (arith, done)
+release_few (Err e) old ranks new done refused = omega (arith, refused)
+
+pub ruleset writing = (match_rises, match_few, wake_rises, release_rises, release_few)
 
 pub ruleset issuing = (length-calls)
 
@@ -130,6 +137,7 @@ own_can b p (change.Issued handle) h = absurd h
 own_can b p change.Trapped h = tt
 own_can b p (change.Matched send recv) h = absurd h
 own_can b p (change.Woke cells handle) h = absurd h
+own_can b p change.Released h = absurd h
 
 pub own_back : (b : Board) (p : ℕ) (c : Change) → IsOwn c → unissued b p c ≡ b
 own_back b p change.Moved h = refl
@@ -139,6 +147,7 @@ own_back b p (change.Issued handle) h = absurd h
 own_back b p change.Trapped h = refl
 own_back b p (change.Matched send recv) h = absurd h
 own_back b p (change.Woke cells handle) h = absurd h
+own_back b p change.Released h = absurd h
 
 pub own_of_rank : (c : Change) → IsOwn c → IsOfRank c
 own_of_rank change.Moved h = tt
@@ -148,6 +157,7 @@ own_of_rank (change.Issued handle) h = absurd h
 own_of_rank change.Trapped h = tt
 own_of_rank (change.Matched send recv) h = absurd h
 own_of_rank (change.Woke cells handle) h = absurd h
+own_of_rank change.Released h = absurd h
 
 -- the room that is kept changes no step
 pub local_on-kept : (s : Program) (b : Board) (v u : RankView) → u ≡ record v { room = u.room } → local_on s b v ≡ local_on s b u

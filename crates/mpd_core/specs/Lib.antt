@@ -5,3 +5,4 @@ pub mod Undone
 pub mod Records
 pub mod Listed
 pub mod Looks
+pub mod Writes

@@ -1,5 +1,5 @@
 -- The record of each step, a function of the world before it.
-use Rattle.std.specs.Prelude.{ℕ, ℤ, List, length, slice_get, Option, Some, None, option_and_then}
+use Rattle.std.specs.Prelude.{ℕ, ℤ, List, length, slice_get, Option, Some, option_and_then}
 use Rattle.std.specs.Option.{option_map}
 use Rattle.mpd_model.specs.declared.step.Step.{Step}
 use Rattle.mpd_model.specs.declared.step.Step.TheVariants.{Local, Match, Wake, Release}
@@ -8,7 +8,7 @@ use Rattle.mpd_model.specs.Next.{wake_writes, wake_clears}
 use Rattle.mpd_match.specs.declared.record.PairRecord.{PairRecord}
 use Rattle.mpd_match.specs.Changes.{record_of_pair}
 use Rattle.mpd_rank.specs.declared.change.Change.{Change}
-use Rattle.mpd_rank.specs.declared.change.Change.TheVariants.{Matched}
+use Rattle.mpd_rank.specs.declared.change.Change.TheVariants.{Matched, Released}
 use Rattle.mpd_rank.specs.declared.change.RankRecord.{RankRecord}
 use Rattle.mpd_rank.specs.Records.{local_record, wake_record}
 use Rattle.mpd_core.specs.declared.record.Record.{Record}
@@ -33,4 +33,4 @@ abbrev pub record_of : World → Step → Option Record
 record_of w (Local p) = option_map (step_record (Local p)) (local_record_at w.ranks p)
 record_of w (Match s r) = Some (record { step = Match s r; from = 0; change = pair_change (record_of_pair w.board s r) })
 record_of w (Wake p) = option_map (step_record (Wake p)) (wake_record_at w.ranks p (wake_writes w.board p) (wake_clears w.board p))
-record_of w Release = None
+record_of w Release = Some (record { step = Release; from = 0; change = Released })

@@ -3,6 +3,7 @@ use Rattle.std.specs.Prelude.{◌≡◌, ◌<◌, ◌≤◌, ℕ, ◌+◌, min, 
 use Rattle.std.specs.List.{range_with_len}
 use Rattle.std.specs.Coded.{Coded, code_by, coded×, coded_ℕ}
 use Rattle.mpd_model.specs.declared.limits.TheConstants.{RANKS_MAX, TAGS}
+use Rattle.mpd_model.specs.declared.call.Activity.{Activity}
 use Rattle.mpd_model.specs.declared.call.Message.{Message}
 use Rattle.mpd_model.specs.Program.{Program, program_code}
 use Rattle.mpd_model.specs.declared.step.CallId.{CallId}
@@ -30,6 +31,10 @@ room_in board_room (v ∷ views) = min v.room (room_in board_room views)
 abbrev pub writes_in : List RankView → ℕ
 writes_in [] = 0
 writes_in (v ∷ views) = v.writes + writes_in views
+
+-- what a rank shows once it does something else at its node, which takes one write
+abbrev pub acting : Activity → RankView → RankView
+acting a v = record v { activity = a; writes = v.writes + 1 }
 
 -- all sends of a board have tags
 abbrev pub HasTags : Board → Type 0

@@ -46,9 +46,9 @@ impl<'c> Core<'c> {
         Ok(())
     }
 
-    /// The enabled steps (docs/DEFINITIONS.md, "Steps"): all local steps, then all wakes, by rank, then the matches by receiver,
-    /// receive and sender. Lists of free calls are walked, and no others. An `Err` is want of memory for the list, and comes only
-    /// where it has an entry.
+    /// The enabled steps (docs/DEFINITIONS.md, "Steps"): all local steps, by rank, the release, all wakes, by rank, then the matches
+    /// by receiver, receive and sender. Lists of free calls are walked, and no others. An `Err` is want of memory for the list, and
+    /// comes only where it has an entry.
     #[tactic(auto, using(crate::proofs::EnabledLemmas::enabling))]
     pub fn enabled(&self, alloc: Global) -> Result<Vec<Step>, AllocError>
         ensures ok { IfOk result (λ listed. listed.items ≡ enabled self.now.world) }
@@ -56,6 +56,7 @@ impl<'c> Core<'c> {
     {
         let mut listed = Vec::new(alloc);
         self.push_locals(&mut listed)?;
+        self.push_if_enabled(Step::Release, &mut listed)?;
         self.push_wakes(&mut listed)?;
         self.board().push_matches(&mut listed)?;
         Ok(listed)

@@ -71,7 +71,10 @@ impl<'c> Core<'c> {
     fn is_stuck(&self) -> bool
         ensures { result ≡ is_stuck self.now.world }
     {
-        !(self.can_step_any() || self.can_wake_any() || self.can_match_any())
+        !(self.can_step_any()
+            || self.is_enabled(Step::Release)
+            || self.can_wake_any()
+            || self.can_match_any())
     }
 
     /// Adds a rank, where it is trapped.

@@ -1,6 +1,6 @@
 //! One of the ranks is changed, or all of them.
 
-ghost use Rattle.std.specs.Prelude.{◌≡◌, ◌↔◌, ◌<◌, ◌≤◌, ◌+◌, ℕ, min, length, slice_get, replicate, vec_len, IfOk, IfSome, IfNone, IsSome, OnOk, OnErr, IsErrOf, Some, None};
+ghost use Rattle.std.specs.Prelude.{◌≡◌, ◌↔◌, ◌<◌, ◌≤◌, ◌+◌, ℕ, min, length, map, slice_get, replicate, vec_len, IfOk, IfSome, IfNone, IsSome, OnOk, OnErr, IsErrOf, Some, None};
 ghost use Rattle.std.specs.Option.{option_map};
 ghost use Rattle.std.specs.List.{list_all, range_with_len};
 ghost use Rattle.mpd_model.specs.Program.{Program};
@@ -11,7 +11,7 @@ ghost use Rattle.mpd_match.specs.Changes.{without_last_call};
 ghost use Rattle.mpd_rank.specs.Views.{rank_of};
 ghost use Rattle.mpd_rank.specs.Undone.{undone_rank, IsOfRank};
 ghost use Rattle.mpd_rank.specs.Records.{local_record};
-ghost use Rattle.mpd_core.specs.Views.{ranks_in, world_in, numbers_in, room_in, writes_in, Holds, HasTags};
+ghost use Rattle.mpd_core.specs.Views.{ranks_in, world_in, numbers_in, room_in, writes_in, acting, Holds, HasTags};
 ghost use Rattle.mpd_rank.specs.Plans.{HasTag};
 ghost use Rattle.mpd_core.specs.OneRank.{local_on, CanUnissueIf};
 ghost use Rattle.mpd_core.specs.Records.{local_record_at, wake_record_at};
@@ -204,6 +204,28 @@ pub(crate) fn restore_one(ranks: &mut Vec<RankState>, rank: usize, done: RankRec
 {
     let state = &mut ranks[rank];
     state.restore(done);
+}
+
+/// Lets every rank go on from a barrier. One write a rank.
+#[tactic(auto, using(crate::proofs::ReleaseLemmas::changing))]
+pub(crate) fn let_go(ranks: &mut Vec<RankState>)
+    ensures after { ranks.new.items ≡ map (acting Activity.Running) ranks.old.items }
+    ensures writes { writes_in ranks.new.items ≡ writes_in ranks.old.items + length ranks.old.items }
+{
+    for rank in 0..ranks.len() {
+        ranks[rank].go_on();
+    }
+}
+
+/// Blocks every rank again on the barrier that it was let go from. One write a rank.
+#[tactic(auto, using(crate::proofs::ReleaseLemmas::changing))]
+pub(crate) fn block_all(ranks: &mut Vec<RankState>)
+    ensures after { ranks.new.items ≡ map (acting Activity.Blocked) ranks.old.items }
+    ensures writes { writes_in ranks.new.items ≡ writes_in ranks.old.items + length ranks.old.items }
+{
+    for rank in 0..ranks.len() {
+        ranks[rank].block_again();
+    }
 }
 
 /// Keeps room for one step of each rank.

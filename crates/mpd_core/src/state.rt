@@ -1,17 +1,22 @@
 //! The state of a run.
 
-ghost use Rattle.std.specs.Prelude.{◌≡◌, ◌↔◌, ◌<◌, ◌≤◌, ◌+◌, ◌∷◌, ℕ, length, slice_get, IfOk, IfSome, is_some, OnOk, OnErr, IsErrOf, Some, None};
+ghost use Rattle.std.specs.Prelude.{◌≡◌, ◌↔◌, ◌<◌, ◌≤◌, ◌+◌, ◌∷◌, ℕ, length, map, slice_get, IfOk, IfSome, is_some, OnOk, OnErr, IsErrOf, Some, None};
 ghost use Rattle.std.specs.Option.{option_map};
 ghost use Rattle.std.specs.List.{list_all};
 ghost use Rattle.mpd_model.specs.Outcomes.{has_ended, first_number};
+ghost use Rattle.mpd_model.specs.declared.call.MatchSet.TheVariants as sets;
 ghost use Rattle.mpd_model.specs.Program.{Program};
+ghost use Rattle.mpd_model.specs.World as world_specs;
 ghost use Rattle.mpd_model.specs.World.{eligible, start};
 ghost use Rattle.mpd_model.specs.Next as next_specs;
-ghost use Rattle.mpd_model.specs.Next.{next, is_enabled, local_at, update_at, wake_writes, wake_clears, status_writes, can_wake, waits};
+ghost use Rattle.mpd_model.specs.Next.{next, is_enabled, local_at, update_at, wake_writes, wake_clears, status_writes, can_wake, can_release, is_at_barrier, waits};
 ghost use Rattle.mpd_core.specs.Views.{IsMessage};
 ghost use Rattle.mpd_rank.specs.Views.{rank_of};
+ghost use Rattle.mpd_rank.specs.Undone.{blocked_again};
+ghost use Rattle.mpd_match.specs.Changes.{last_set, without_last_set};
 ghost use Rattle.mpd_core.specs.Records.{record_of, step_record};
 ghost use Rattle.mpd_core.specs.Looks.{step_looks, most_looks};
+ghost use Rattle.mpd_core.specs.Writes.{most_writes};
 
 use crate::fault::StepFault;
 use crate::ranks;
@@ -65,6 +70,16 @@ fn cleared_by(kind: Option<CallKind>) -> Option<usize>
     match kind {
         Some(CallKind::Wait(wait)) => Some(wait.handle),
         _ => None,
+    }
+}
+
+/// Whether a call of this kind is a barrier.
+fn is_barrier(kind: Option<CallKind>) -> bool
+    ensures { result ≡ world_specs.is_barrier kind }
+{
+    match kind {
+        Some(CallKind::Barrier) => true,
+        _ => false,
     }
 }
 
@@ -199,6 +214,27 @@ impl<'c> Core<'c> {
         self.is_waiting(rank) && self.board.is_complete(self.board.last_call(rank))
     }
 
+    /// Whether a rank is blocked on a barrier.
+    fn is_at_barrier(&self, rank: usize) -> bool
+        ensures { result ≡ is_at_barrier self.now.world rank }
+    {
+        self.is_waiting(rank) && is_barrier(self.board.kind(self.board.last_call(rank)))
+    }
+
+    /// Whether every rank is blocked on a barrier. It looks through the ranks once, up to the first that isn't.
+    #[tactic(auto, using(crate::proofs::ReleaseLemmas::at_barriers))]
+    fn can_release(&self) -> bool
+        ensures { result ≡ can_release self.now.world }
+    {
+        let count = self.rank_count();
+        for rank in 0..count {
+            if !self.is_at_barrier(rank) {
+                return false;
+            }
+        }
+        count > 0
+    }
+
     /// Whether a rank can take a local step.
     #[tactic(auto, using(crate::proofs::RankLemmas::reading))]
     fn can_step(&self, rank: usize) -> bool
@@ -221,7 +257,7 @@ impl<'c> Core<'c> {
                 self.board.eligible(send, recv, &mut looks)
             }
             Step::Wake(rank) => self.can_wake(rank),
-            Step::Release => false,
+            Step::Release => self.can_release(),
         }
     }
 
@@ -354,6 +390,34 @@ impl<'c> Core<'c> {
         })
     }
 
+    /// A release.
+    #[tactic(auto, using(crate::proofs::ReleaseLemmas::releasing, crate::proofs::RoomLemmas::refused, crate::proofs::TagLemmas::tagging))]
+    fn apply_release(&mut self) -> Result<Record, StepFault>
+        ensures ok { OnOk result (next self.old.world Step.Release ≡ Some self.new.world) }
+        ensures back { IfOk result (λ done. undone self.old.program self.new.world done ≡ self.old.world) }
+        ensures recorded { IfOk result (λ done. record_of self.old.world Step.Release ≡ Some done) }
+        ensures can { IfOk result (λ done. CanUndo self.new.world done) }
+        ensures not_enabled { IsErrOf result StepFault.NotEnabled ↔ (next self.old.world Step.Release ≡ None) }
+        ensures memory { IsErrOf result StepFault.Memory → self.old.room ≡ 0 }
+        ensures err { OnErr result (self.new.world ≡ self.old.world) }
+        ensures program { self.new.program ≡ self.old.program }
+        ensures writes { OnOk result (self.new.writes ≡ self.old.writes + self.old.program.ranks + 1) }
+        ensures unwritten { OnErr result (self.new.writes ≡ self.old.writes) }
+        ensures looks { self.new.looks ≡ self.old.looks }
+    {
+        if !self.can_release() {
+            return Err(StepFault::NotEnabled);
+        }
+        self.board.keep_room()?;
+        self.board.released();
+        ranks::let_go(&mut self.ranks);
+        Ok(Record {
+            step: Step::Release,
+            from: 0,
+            change: Change::Released,
+        })
+    }
+
     /// Keeps room for one step, whatever it is. An `Err` is want of memory, and comes only where no such room was kept; the state
     /// stays as it was.
     #[tactic(auto, using(crate::proofs::RoomLemmas::keeping, crate::proofs::TagLemmas::tagging))]
@@ -372,8 +436,8 @@ impl<'c> Core<'c> {
 
     /// Takes a step, or refuses it: `NotEnabled` (21) exactly where the relation of steps has none, `Memory` (23) where a
     /// growth was refused, which is nowhere where room was kept. On a refusal the state is as before
-    /// (docs/DEFINITIONS.md, "Steps"). A step takes 1 to 16 writes, and looks at lists of free calls only for a match that fits:
-    /// at most at their cells, and twice more.
+    /// (docs/DEFINITIONS.md, "Steps"). A step takes 1 to 16 writes, a release two more for each rank at most, and looks at lists
+    /// of free calls only for a match that fits: at most at their cells, and twice more.
     #[tactic(auto, using(crate::proofs::StepLemmas::writing))]
     pub fn apply(&mut self, step: Step) -> Result<Record, StepFault>
         ensures ok { OnOk result (next self.old.world step ≡ Some self.new.world) }
@@ -385,7 +449,7 @@ impl<'c> Core<'c> {
         ensures err { OnErr result (self.new.world ≡ self.old.world) }
         ensures program { self.new.program ≡ self.old.program }
         ensures rises { OnOk result (self.old.writes + 1 ≤ self.new.writes) }
-        ensures few { self.new.writes ≤ self.old.writes + 16 }
+        ensures few { self.new.writes ≤ self.old.writes + most_writes self.old.program.ranks step }
         ensures unwritten { OnErr result (self.new.writes ≡ self.old.writes) }
         ensures looks { self.new.looks ≡ self.old.looks + step_looks self.old.world.board step }
         ensures few_looks { self.new.looks ≤ self.old.looks + most_looks self.old.world.board step }
@@ -394,7 +458,7 @@ impl<'c> Core<'c> {
             Step::Local(rank) => self.apply_local(rank),
             Step::Match(send, recv) => self.apply_match(send, recv),
             Step::Wake(rank) => self.apply_wake(rank),
-            Step::Release => Err(StepFault::NotEnabled),
+            Step::Release => self.apply_release(),
         }
     }
 
@@ -414,15 +478,28 @@ impl<'c> Core<'c> {
         ranks::restore_one(&mut self.ranks, rank, done);
     }
 
+    /// Takes a release back.
+    #[tactic(auto, using(crate::proofs::ReleaseLemmas::releasing, crate::proofs::TagLemmas::tagging))]
+    fn undo_release(&mut self)
+        requires { last_set self.old.world.board ≡ Some sets.Barrier }
+        ensures world { self.new.world ≡ record { ranks = map blocked_again self.old.world.ranks; board = without_last_set self.old.world.board } }
+        ensures program { self.new.program ≡ self.old.program }
+        ensures writes { self.new.writes ≡ self.old.writes + self.old.program.ranks + 1 }
+        ensures looks { self.new.looks ≡ self.old.looks }
+    {
+        self.board.unreleased();
+        ranks::block_all(&mut self.ranks);
+    }
+
     /// Takes back the step that a record is of, the record of the last step not undone. It can't be refused memory. The state is
-    /// the one before that step. It takes 1 to 16 writes.
+    /// the one before that step. It takes 1 to 16 writes, for a release two more for each rank at most.
     #[tactic(auto, using(crate::proofs::TagLemmas::tagging))]
     pub fn undo(&mut self, done: Record)
         requires { CanUndo self.old.world done }
         ensures world { self.new.world ≡ undone self.old.program self.old.world done }
         ensures program { self.new.program ≡ self.old.program }
         ensures rises { self.old.writes + 1 ≤ self.new.writes }
-        ensures few { self.new.writes ≤ self.old.writes + 16 }
+        ensures few { self.new.writes ≤ self.old.writes + most_writes self.old.program.ranks done.step }
         ensures looks { self.new.looks ≡ self.old.looks }
     {
         let Record { step, from, change } = done;
@@ -445,7 +522,7 @@ impl<'c> Core<'c> {
                 self.board.unwoke();
                 ranks::restore_one(&mut self.ranks, rank, RankRecord { from, change });
             }
-            Step::Release => {}
+            Step::Release => self.undo_release(),
         }
     }
 }

@@ -1,7 +1,6 @@
 -- In every world that steps lead to, calls are in order.
-use Rattle.std.proofs.Common.{◌≡◌, ℕ, zero, suc, ◌<◌, Bool, true, false, cond, ◌==◌, nat_lt, Option, Some, None, is_some, option_and_then, List, [], ◌∷◌, length, replicate, slice_get, refl, sym, ap, subst}
+use Rattle.std.proofs.Common.{◌≡◌, ℕ, zero, suc, ◌+◌, ◌<◌, Bool, true, false, cond, ◌&&◌, ◌==◌, nat_lt, Option, Some, None, is_some, option_and_then, List, [], ◌∷◌, length, replicate, slice_get, refl, sym, ap, subst, ◌∙◌}
 use Rattle.std.proofs.lemmas.Bool.{eqb-true, ltb-true}
-use Rattle.std.specs.Option.{option_map}
 use Rattle.mpd_model.specs.declared.step.CallId.{CallId}
 use Rattle.mpd_model.specs.declared.step.Step.{Step}
 use Rattle.mpd_model.specs.declared.step.Step.TheVariants.{Local, Match, Wake, Release}
@@ -10,13 +9,16 @@ use Rattle.mpd_model.specs.declared.call.CallKind.{CallKind}
 use Rattle.mpd_model.specs.declared.call.MatchSet.TheVariants.{Pair}
 use Rattle.mpd_model.specs.declared.call.Mode.{Mode}
 use Rattle.mpd_model.specs.Program.{Program}
-use Rattle.mpd_model.specs.World.{World, Board, start, start_board, call_id, listed_calls, calls_of, kind_of, kind_at, eligible}
-use Rattle.mpd_model.specs.Next.{local, local_at, stepped, can_wake, woken, with_set, next, fold}
-use Rattle.mpd_model.specs.Order.{blocks_rank, before, Ordered}
+use Rattle.mpd_model.specs.World.{World, Board, start, start_rank, start_board, call_id, listed_calls, calls_of, kind_of, kind_at, is_barrier, last_call, eligible}
+use Rattle.mpd_model.specs.Next.{local, local_at, stepped, waits, can_wake, woken, can_release, released, with_set, next, fold}
+use Rattle.mpd_model.specs.Order.{blocks_rank, barriers, before, Ordered}
 use Rattle.mpd_laws.proofs.Eligible.{both_of}
-use Rattle.mpd_laws.proofs.Orderly.{Orderly}
+use Rattle.mpd_laws.proofs.Orderly.{Orderly, held}
 use Rattle.mpd_laws.proofs.OrderIssues.{local_keeps}
+use Rattle.mpd_laws.proofs.OrderReleases.{release_keeps}
 use Rattle.mpd_laws.proofs.OrderSteps.{match_keeps, wake_keeps}
+use Rattle.mpd_laws.proofs.Releases.{one_if}
+use Rattle.mpd_laws.proofs.Splits.{mapped_from}
 
 -- ---- the first world
 
@@ -32,12 +34,21 @@ start_orderly : (s : Program) (mode : Mode) → Orderly (start s mode)
 start_orderly s mode = record {
   named = λ c e. absurd (cc);
   went_on = λ x blocking. absurd (none_blocks _ (no_kind s.ranks mode x) blocking);
+  released = λ p r at. ap barriers (no_calls s.ranks p) ∙ sym (ap (λ (n : ℕ). 0 + n) (none_held p));
   ordered = λ p i j lt known. absurd (none_known _ (no_kind s.ranks mode (call_id p j)) known);
 }
   where
     none_blocks : (k : Option CallKind) → k ≡ None → blocks_rank k ≡ true → ⊥
     none_blocks None e f = cc
     none_blocks (Some k) e f = cc
+
+    runs : (n p : ℕ) → waits (slice_get (replicate n (start_rank s)) p) ≡ false
+    runs zero p = refl
+    runs (suc n) zero = refl
+    runs (suc n) (suc p) = runs n p
+
+    none_held : (p : ℕ) → held (start s mode) p ≡ 0
+    none_held p = ap (λ (b : Bool). one_if (b && is_barrier (kind_at (start_board s.ranks mode) (last_call (start_board s.ranks mode) p)))) (runs s.ranks p)
 
     none_known : (k : Option CallKind) → k ≡ None → is_some k ≡ true → ⊥
     none_known None e f = cc
@@ -49,10 +60,6 @@ start_orderly s mode = record {
 chosen : {A : Type 0} (b : Bool) (x y : A) → cond b (Some x) None ≡ Some y → (b ≡ true) × (x ≡ y)
 chosen true x y e = (refl, cc)
 chosen false x y e = absurd (cc)
-
-mapped_from : {A B : Type 0} (f : A → B) (o : Option A) (y : B) → option_map f o ≡ Some y → (x : A) × (o ≡ Some x) × (f x ≡ y)
-mapped_from f None y e = absurd (cc)
-mapped_from f (Some x) y e = let is : f x ≡ y = cc in (x, refl, is)
 
 joined_from : {A B : Type 0} (f : A → Option B) (o : Option A) (y : B) → option_and_then f o ≡ Some y → (x : A) × (o ≡ Some x) × (f x ≡ Some y)
 joined_from f None y e = absurd (cc)
@@ -69,7 +76,9 @@ next_orderly w (Match s r) v e h =
 next_orderly w (Wake p) v e h =
     let made = chosen (can_wake w p) (woken w p) v e in
     subst Orderly made.1 (wake_keeps w p made.0 h)
-next_orderly w Release v e h = absurd (cc)
+next_orderly w Release v e h =
+    let made = chosen (can_release w) (released w) v e in
+    subst Orderly made.1 (release_keeps w made.0 h)
 
 fold_orderly : (steps : List Step) (u w : World) → fold u steps ≡ Some w → Orderly u → Orderly w
 fold_orderly [] u w e h = let same : u ≡ w = cc in subst Orderly same h

@@ -9,9 +9,11 @@ mod Ends
 mod Enough
 mod EnoughBlocks
 mod GoodSpots
+mod LocalActivity
 mod Marks
 mod NoMemory
 mod OrderIssues
+mod OrderReleases
 mod OrderSteps
 mod Orderly
 mod PrintScript
@@ -21,6 +23,7 @@ mod PrintableStatements
 mod PrintableTerms
 mod ReadCosts
 mod ReadTrees
+mod Releases
 mod Runs
 mod Signs
 mod Sound

@@ -1,37 +1,50 @@
 -- Each step keeps calls in order, and so each run.
-use Rattle.std.proofs.Common.{◌≡◌, ◌≢◌, ◌⊎◌, ℕ, suc, ◌-◌, ◌<◌, Bool, true, cond, ◌||◌, Option, Some, None, is_some, List, [], ◌∷◌, ◌++◌, length, slice_get, inl, inr, refl, sym, ap, ◌∙◌, arith, eq-eqb}
+use Rattle.std.proofs.Common.{◌≡◌, ◌≢◌, ◌⊎◌, ℕ, suc, ◌+◌, ◌-◌, ◌<◌, Bool, true, false, cond, not, ◌&&◌, ◌||◌, Option, Some, None, is_some, List, [], ◌∷◌, ◌++◌, length, slice_get, inl, inr, refl, sym, ap, subst, ◌∙◌, arith, eq-eqb}
 use Rattle.std.proofs.lemmas.Bool.{cases_Bool, eqb-true}
+use Rattle.std.proofs.lemmas.List.{append_assoc}
 use Rattle.std.proofs.lemmas.Bool.Decides.{eqb_tells}
 use Rattle.std.specs.Cmp.Derive.{both_true}
 use Rattle.std.specs.Option.{option_map}
 use Rattle.mpd_model.specs.declared.step.CallId.{CallId}
 use Rattle.mpd_model.specs.declared.call.CallKind.{CallKind}
-use Rattle.mpd_model.specs.declared.call.CallKind.TheVariants.{Send, Recv, Wait}
+use Rattle.mpd_model.specs.declared.call.CallKind.TheVariants.{Send, Recv, Wait, Barrier}
 use Rattle.mpd_model.specs.declared.call.Mode.{Mode}
 use Rattle.mpd_model.specs.declared.call.Mode.TheVariants.{Rendezvous, Buffered}
 use Rattle.mpd_model.specs.declared.call.MatchSet.{MatchSet}
-use Rattle.mpd_model.specs.declared.call.MatchSet.TheVariants.{Pair, Woke, Barrier}
-use Rattle.mpd_model.specs.World.{World, Board, RankWorld, call_id, id_eq, calls_of, kind_at, partner, is_buffered, is_done, eligible, complete, complete_by, awaited_by, last_call}
+use Rattle.mpd_model.specs.declared.call.MatchSet.TheVariants.{Pair, Woke}
+use Rattle.mpd_model.specs.declared.call.MatchSet.TheVariants as set
+use Rattle.mpd_model.specs.World.{World, Board, RankWorld, call_id, id_eq, calls_of, kind_at, partner, is_barrier, is_buffered, is_done, eligible, complete, complete_by, awaited_by, last_call}
 use Rattle.mpd_model.specs.Next.{waits, can_wake, put_at, woken_rank, wake_writes, wake_clears, woken, with_set}
-use Rattle.mpd_model.specs.Order.{waits_for, is_number, names, is_wake_of, Ordered}
-use Rattle.mpd_laws.proofs.Eligible.{both_of, known_within}
-use Rattle.mpd_laws.proofs.Orderly.{Orderly, IsAwaited, MayJoin, is_named, is_woken, passed, same_id, either_of, order_more, pair_may_join}
-use Rattle.mpd_laws.proofs.Splits.{any_or_end, any_kept, any_at_end, others_kept}
+use Rattle.mpd_model.specs.Order.{waits_for, is_number, barriers, releases, WentOn, Ordered}
+use Rattle.mpd_laws.proofs.Eligible.{both_of, denied, known_within}
+use Rattle.mpd_laws.proofs.Orderly.{Orderly, IsAwaited, MayJoin, mentions, is_named, held, waiting, passed, same_id, either_of, order_more, pair_may_join}
+use Rattle.mpd_laws.proofs.Releases.{one_if, releases_same}
+use Rattle.mpd_laws.proofs.Splits.{any_or_end, others_kept}
 
 -- ---- a match set joins
 
-named_more : (b : Board) (n : MatchSet) → MayJoin b n → ((c : CallId) → is_named b.sets c ≡ true → is_some (kind_at b c) ≡ true)
+pub named_more : (b : Board) (n : MatchSet) → MayJoin b n → ((c : CallId) → is_named b.sets c ≡ true → is_some (kind_at b c) ≡ true)
     → (c : CallId) → is_named (b.sets ++ n ∷ []) c ≡ true → is_some (kind_at b c) ≡ true
 named_more b n may old c e =
-    elim (any_or_end (λ m. names m c) b.sets n e) [
+    elim (any_or_end (λ m. mentions m c) b.sets n e) [
       | inl h ↦ old c h
       | inr h ↦ may.named c h
     ]
 
-ordered_more : (w : World) (n : MatchSet) → MayJoin w.board n → Orderly w → (p i j : ℕ) → i < j → is_some (kind_at w.board (call_id p j)) ≡ true
+pub ordered_more : (w : World) (n : MatchSet) → MayJoin w.board n → Orderly w → (p i j : ℕ) → i < j → is_some (kind_at w.board (call_id p j)) ≡ true
     → Ordered (with_set w.board n) (call_id p i) (call_id p j)
 ordered_more w n may h p i j lt known =
     order_more w.board n may p i j lt (λ blocking. passed w h p i j lt (known_within (calls_of w.board p) j known) blocking) (h.ordered p i j lt known)
+
+-- what a rank went on from stays so
+pub went_kept : (b : Board) (n : MatchSet) (x : CallId) → WentOn b b.sets x → WentOn (with_set b n) (b.sets ++ n ∷ []) x
+went_kept b n x h = record {
+  front = h.front;
+  by = h.by;
+  behind = h.behind ++ n ∷ [];
+  cut = ap (λ (sets : List MatchSet). sets ++ n ∷ []) h.cut ∙ append_assoc h.front (h.by ∷ h.behind) (n ∷ []);
+  exit = h.exit;
+}
 
 -- ---- a match
 
@@ -39,9 +52,10 @@ pub match_keeps : (w : World) (s r : CallId) → eligible w.board s r ≡ true �
 match_keeps w s r e h = record {
   named = named_more w.board (Pair s r) (pair_may_join w.board s r e) h.named;
   went_on = λ x blocking. elim (h.went_on x blocking) [
-    | inl done ↦ inl (any_kept (is_wake_of x) w.board.sets (Pair s r) done)
+    | inl done ↦ inl (went_kept w.board (Pair s r) x done)
     | inr here ↦ inr (record { last = here.last; blocked = here.blocked })
   ];
+  released = λ p q at. h.released p q at ∙ ap (λ (n : ℕ). n + held w p) (sym (releases_same w.board.sets (Pair s r) refl));
   ordered = ordered_more w (Pair s r) (pair_may_join w.board s r e) h;
 }
 
@@ -66,7 +80,7 @@ paired_named (Woke d ∷ sets) c e =
       | inl h ↦ ap (λ (b : Bool). b || is_named sets c) h
       | inr h ↦ ap (λ (b : Bool). b || is_named sets c) h ∙ paired_named sets c e
     ]
-paired_named (Barrier ∷ sets) c e = paired_named sets c e
+paired_named (set.Barrier ∷ sets) c e = paired_named sets c e
 
 complete_known : (w : World) → Orderly w → (c : CallId) (k : Option CallKind) → kind_at w.board c ≡ k → complete_by w.board (awaited_by c k) ≡ true → is_some k ≡ true
 complete_known w h c (Some k) is e = refl
@@ -89,33 +103,77 @@ awaits_done b c i (Some (Wait t)) e f = target t.target e f
     target (Some j) e f = ap (λ (n : ℕ). is_done b (call_id c.rank n)) (sym (eqb-true j i f)) ∙ e
 awaits_done b c i (Some (Send s)) e f = absurd (cc)
 awaits_done b c i (Some (Recv r)) e f = absurd (cc)
+awaits_done b c i (Some Barrier) e f = absurd (cc)
 awaits_done b c i None e f = absurd (cc)
+
+awaited_done : (b : Board) (c : CallId) → complete b c ≡ true → complete_by b (awaited_by c (kind_at b c)) ≡ true
+awaited_done b c e = (both_of (not (is_barrier (kind_at b c))) _ e).1
 
 wake_may_join : (w : World) → Orderly w → (c : CallId) → complete w.board c ≡ true → MayJoin w.board (Woke c)
 wake_may_join w h c e = record {
-  named = λ d is. ap (λ (x : CallId). is_some (kind_at w.board x)) (sym (same_id c d is)) ∙ complete_known w h c (kind_at w.board c) refl e;
+  named = λ d is. ap (λ (x : CallId). is_some (kind_at w.board x)) (sym (same_id c d is)) ∙ complete_known w h c (kind_at w.board c) refl (awaited_done w.board c e);
   paired = λ p i j s r lt is named first. absurd (cc);
   done = λ p i j is awaits.
       let here : c ≡ call_id p j = cc in
-      awaits_done w.board (call_id p j) i (kind_at w.board (call_id p j)) (ap (complete w.board) (sym here) ∙ e) awaits;
+      awaits_done w.board (call_id p j) i (kind_at w.board (call_id p j)) (awaited_done w.board (call_id p j) (ap (complete w.board) (sym here) ∙ e)) awaits;
 }
 
 put_elsewhere : (ranks : List RankWorld) (p q : ℕ) (o : Option RankWorld) (f : RankWorld → RankWorld) → q ≢ p → slice_get (put_at ranks p o f) q ≡ slice_get ranks q
 put_elsewhere ranks p q None f ne = refl
 put_elsewhere ranks p q (Some r) f ne = others_kept ranks p q (f r) ne
 
-wake_goes_on : (w : World) (p : ℕ) (x : CallId) → IsAwaited w x → (is_woken (w.board.sets ++ Woke (last_call w.board p) ∷ []) x ≡ true) ⊎ IsAwaited (woken w p) x
+wake_goes_on : (w : World) (p : ℕ) (x : CallId) → IsAwaited w x → WentOn (woken w p).board (woken w p).board.sets x ⊎ IsAwaited (woken w p) x
 wake_goes_on w p x here =
     elim (eqb_tells x.rank p) [
       | inl at ↦
           let count : length (calls_of w.board p) ≡ suc x.index = ap (λ (q : ℕ). length (calls_of w.board q)) (sym at.1) ∙ here.last in
           let index : length (calls_of w.board p) - 1 ≡ x.index = omega (arith, count) in
-          inl (any_at_end (is_wake_of x) w.board.sets (Woke (last_call w.board p)) (both_true (eq-eqb p x.rank (sym at.1)) (eq-eqb (length (calls_of w.board p) - 1) x.index index)))
+          inl (record {
+            front = w.board.sets;
+            by = Woke (last_call w.board p);
+            behind = [];
+            cut = refl;
+            exit = both_true (eq-eqb p x.rank (sym at.1)) (eq-eqb (length (calls_of w.board p) - 1) x.index index);
+          })
       | inr off ↦ inr (record {
         last = here.last;
         blocked = ap waits (put_elsewhere w.ranks p x.rank (slice_get w.ranks p) (woken_rank (wake_writes w.board p) (wake_clears w.board p)) off.1) ∙ here.blocked;
       })
     ]
+
+-- a rank whose last call is no barrier is blocked on none
+holds_none : (w : World) (p : ℕ) → is_barrier (kind_at w.board (last_call w.board p)) ≡ false → held w p ≡ 0
+holds_none w p e = ap (λ (b : Bool). one_if (waits (slice_get w.ranks p) && b)) e ∙ none (waits (slice_get w.ranks p))
+  where
+    none : (b : Bool) → one_if (b && false) ≡ 0
+    none true = refl
+    none false = refl
+
+-- a rank that wakes was blocked on no barrier, and is on none
+wake_counts : (w : World) (p : ℕ) → can_wake w p ≡ true → Orderly w → (q : ℕ) (r : RankWorld) → slice_get (woken w p).ranks q ≡ Some r
+    → barriers (calls_of w.board q) ≡ releases (woken w p).board.sets + held (woken w p) q
+wake_counts w p e h q r at =
+    elim (eqb_tells q p) [
+      | inl same ↦ subst (λ (k : ℕ). barriers (calls_of w.board k) ≡ releases (woken w p).board.sets + held (woken w p) k) (sym same.1) here
+      | inr off ↦ h.released q r (sym (elsewhere off.1) ∙ at) ∙ (λ i. sym more i + cond (waits (sym (elsewhere off.1) i) && is_barrier (kind_at w.board (last_call w.board q))) 1 0)
+    ]
+  where
+    more : releases (woken w p).board.sets ≡ releases w.board.sets
+    more = releases_same w.board.sets (Woke (last_call w.board p)) refl
+
+    elsewhere : q ≢ p → slice_get (woken w p).ranks q ≡ slice_get w.ranks q
+    elsewhere ne = put_elsewhere w.ranks p q (slice_get w.ranks p) (woken_rank (wake_writes w.board p) (wake_clears w.board p)) ne
+
+    parts : (waits (slice_get w.ranks p) ≡ true) × (complete w.board (last_call w.board p) ≡ true)
+    parts = both_of (waits (slice_get w.ranks p)) _ e
+
+    other : is_barrier (kind_at w.board (last_call w.board p)) ≡ false
+    other = denied _ (both_of (not (is_barrier (kind_at w.board (last_call w.board p)))) _ parts.1).0
+
+    here : barriers (calls_of w.board p) ≡ releases (woken w p).board.sets + held (woken w p) p
+    here =
+        let rank = waiting (slice_get w.ranks p) parts.0 in
+        h.released p rank.0 rank.1 ∙ (λ i. sym more i + (holds_none w p other ∙ sym (holds_none (woken w p) p other)) i)
 
 pub wake_keeps : (w : World) (p : ℕ) → can_wake w p ≡ true → Orderly w → Orderly (woken w p)
 wake_keeps w p e h =
@@ -123,8 +181,9 @@ wake_keeps w p e h =
     record {
       named = named_more w.board (Woke (last_call w.board p)) may h.named;
       went_on = λ x blocking. elim (h.went_on x blocking) [
-        | inl done ↦ inl (any_kept (is_wake_of x) w.board.sets (Woke (last_call w.board p)) done)
+        | inl done ↦ inl (went_kept w.board (Woke (last_call w.board p)) x done)
         | inr here ↦ wake_goes_on w p x here
       ];
+      released = wake_counts w p e h;
       ordered = ordered_more w (Woke (last_call w.board p)) may h;
     }

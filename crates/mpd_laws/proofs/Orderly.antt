@@ -1,5 +1,5 @@
 -- What every world of a run keeps, so that calls complete in order.
-use Rattle.std.proofs.Common.{◌≡◌, ◌⊎◌, ℕ, suc, ◌<◌, Bool, true, false, ◌&&◌, ◌||◌, ◌==◌, Option, Some, None, is_some, List, length, slice_get, inl, inr, refl, sym, ap, ◌∙◌, arith, eq-eqb}
+use Rattle.std.proofs.Common.{◌≡◌, ◌⊎◌, ℕ, suc, ◌<◌, Bool, true, false, cond, ◌&&◌, ◌||◌, ◌==◌, ◌+◌, Option, Some, None, is_some, List, length, slice_get, inl, inr, refl, sym, ap, subst, ◌∙◌, arith, eq-eqb}
 use Rattle.std.proofs.lemmas.Bool.{eqb-true}
 use Rattle.std.specs.Cmp.Derive.{both_true}
 use Rattle.std.specs.List.{list_any}
@@ -8,33 +8,47 @@ use Rattle.mpd_model.specs.declared.call.CallKind.{CallKind}
 use Rattle.mpd_model.specs.declared.call.CallKind.TheVariants.{Send, Recv}
 use Rattle.mpd_model.specs.declared.call.MatchSet.{MatchSet}
 use Rattle.mpd_model.specs.declared.call.MatchSet.TheVariants.{Pair, Woke}
-use Rattle.mpd_model.specs.World.{World, Board, call_id, id_eq, calls_of, kind_at, partner, is_done, is_any_or, fitting, eligible, is_message_kind}
-use Rattle.mpd_model.specs.Next.{waits, with_set}
-use Rattle.mpd_model.specs.Order.{covers_number, matches_first, waits_for, blocks_rank, names, is_wake_of, Ordered}
+use Rattle.mpd_model.specs.declared.call.MatchSet.TheVariants as set
+use Rattle.mpd_model.specs.World.{World, Board, RankWorld, call_id, id_eq, calls_of, kind_at, partner, is_done, is_any_or, fitting, eligible, is_message_kind}
+use Rattle.mpd_model.specs.Next.{waits, is_at_barrier, with_set}
+use Rattle.mpd_model.specs.Order.{covers_number, matches_first, waits_for, blocks_rank, barriers, releases, WentOn, Ordered}
 use Rattle.mpd_laws.proofs.Eligible.{both_of, agrees, earlier_send_paired, earlier_recv_paired, message_known}
 use Rattle.mpd_laws.proofs.Splits.{end_or_before}
 
 -- ---- the invariant
 
-abbrev pub is_named : List MatchSet → CallId → Bool
-is_named sets c = list_any (λ m. names m c) sets
+-- a match set that names a call by its number
+abbrev pub mentions : MatchSet → CallId → Bool
+mentions (Pair s r) c = id_eq s c || id_eq r c
+mentions (Woke d) c = id_eq d c
+mentions set.Barrier c = false
 
-abbrev pub is_woken : List MatchSet → CallId → Bool
-is_woken sets c = list_any (is_wake_of c) sets
+abbrev pub is_named : List MatchSet → CallId → Bool
+is_named sets c = list_any (λ m. mentions m c) sets
+
+-- how many barriers a rank is blocked on: one or none
+abbrev pub held : World → ℕ → ℕ
+held w p = cond (is_at_barrier w p) 1 0
 
 -- a call that its rank is blocked on: no later call was issued
 pub record IsAwaited (w : World) (x : CallId) : Type 0 where
   pub last : length (calls_of w.board x.rank) ≡ suc x.index
   pub blocked : waits (slice_get w.ranks x.rank) ≡ true
 
--- Match sets name calls that were issued; a rank went on from each blocking call, or is blocked on it; calls are in order.
+-- Match sets name calls that were issued; a rank went on from each blocking call, or is blocked on it; each rank has issued a
+-- barrier for each release, and one more where it is blocked on that; calls are in order.
 pub record Orderly (w : World) : Type 0 where
   pub named : (c : CallId) → is_named w.board.sets c ≡ true → is_some (kind_at w.board c) ≡ true
-  pub went_on : (x : CallId) → blocks_rank (kind_at w.board x) ≡ true → (is_woken w.board.sets x ≡ true) ⊎ IsAwaited w x
+  pub went_on : (x : CallId) → blocks_rank (kind_at w.board x) ≡ true → WentOn w.board w.board.sets x ⊎ IsAwaited w x
+  pub released : (p : ℕ) (r : RankWorld) → slice_get w.ranks p ≡ Some r → barriers (calls_of w.board p) ≡ releases w.board.sets + held w p
   pub ordered : (p i j : ℕ) → i < j → is_some (kind_at w.board (call_id p j)) ≡ true → Ordered w.board (call_id p i) (call_id p j)
 
+pub waiting : (o : Option RankWorld) → waits o ≡ true → (r : RankWorld) × (o ≡ Some r)
+waiting None e = absurd (cc)
+waiting (Some r) e = (r, refl)
+
 -- a rank that issued a later call went on
-pub passed : (w : World) → Orderly w → (p i j : ℕ) → i < j → j < length (calls_of w.board p) → blocks_rank (kind_at w.board (call_id p i)) ≡ true → is_woken w.board.sets (call_id p i) ≡ true
+pub passed : (w : World) → Orderly w → (p i j : ℕ) → i < j → j < length (calls_of w.board p) → blocks_rank (kind_at w.board (call_id p i)) ≡ true → WentOn w.board w.board.sets (call_id p i)
 passed w h p i j lt within blocking =
     elim (h.went_on (call_id p i) blocking) [
       | inl done ↦ done
@@ -84,13 +98,17 @@ first_recv_fits s x y p q e f = cc
 
 -- its calls were issued; what matches first before a call that it pairs is paired; what it shows a wait's rank to go on from is done
 pub record MayJoin (b : Board) (n : MatchSet) : Type 0 where
-  pub named : (c : CallId) → names n c ≡ true → is_some (kind_at b c) ≡ true
-  pub paired : (p i j : ℕ) (s r : CallId) → i < j → n ≡ Pair s r → names (Pair s r) (call_id p j) ≡ true → matches_first (kind_at b (call_id p i)) (kind_at b (call_id p j)) ≡ true
+  pub named : (c : CallId) → mentions n c ≡ true → is_some (kind_at b c) ≡ true
+  pub paired : (p i j : ℕ) (s r : CallId) → i < j → n ≡ Pair s r → mentions (Pair s r) (call_id p j) ≡ true → matches_first (kind_at b (call_id p i)) (kind_at b (call_id p j)) ≡ true
       → is_some (partner b.sets (call_id p i)) ≡ true
   pub done : (p i j : ℕ) → n ≡ Woke (call_id p j) → waits_for (kind_at b (call_id p j)) i ≡ true → is_done b (call_id p i) ≡ true
 
+-- what was formed behind doesn't matter
+pub went_more : (b : Board) (n : MatchSet) (sets : List MatchSet) (x : CallId) → WentOn b sets x → WentOn (with_set b n) sets x
+went_more b n sets x h = record { front = h.front; by = h.by; behind = h.behind; cut = h.cut; exit = h.exit }
+
 pub order_more : (b : Board) (n : MatchSet) → MayJoin b n → (p i j : ℕ) → i < j
-    → (blocks_rank (kind_at b (call_id p i)) ≡ true → is_woken b.sets (call_id p i) ≡ true)
+    → (blocks_rank (kind_at b (call_id p i)) ≡ true → WentOn b b.sets (call_id p i))
     → Ordered b (call_id p i) (call_id p j) → Ordered (with_set b n) (call_id p i) (call_id p j)
 order_more b n may p i j lt went old = record {
   matched = λ first front behind s r e named. elim (end_or_before b.sets n front (Pair s r) behind e) [
@@ -101,15 +119,15 @@ order_more b n may p i j lt went old = record {
     | inl at ↦ ap (λ (sets : List MatchSet). is_done (record b { sets = sets }) (call_id p i)) at.0 ∙ may.done p i j at.1 awaits
     | inr cut ↦ old.waited awaits front cut.0 cut.1
   ];
-  woken = λ blocking front behind m e named. elim (end_or_before b.sets n front m behind e) [
-    | inl at ↦ ap (λ (sets : List MatchSet). is_woken sets (call_id p i)) at.0 ∙ went blocking
-    | inr cut ↦ old.woken blocking front cut.0 m cut.1 named
+  went_on = λ blocking front behind m e named. elim (end_or_before b.sets n front m behind e) [
+    | inl at ↦ went_more b n front (call_id p i) (subst (λ (sets : List MatchSet). WentOn b sets (call_id p i)) (sym at.0) (went blocking))
+    | inr cut ↦ went_more b n front (call_id p i) (old.went_on blocking front cut.0 m cut.1 named)
   ];
 }
 
 -- ---- a pair
 
-pair_paired : (b : Board) (s r : CallId) → eligible b s r ≡ true → (p i j : ℕ) → i < j → names (Pair s r) (call_id p j) ≡ true → matches_first (kind_at b (call_id p i)) (kind_at b (call_id p j)) ≡ true
+pair_paired : (b : Board) (s r : CallId) → eligible b s r ≡ true → (p i j : ℕ) → i < j → mentions (Pair s r) (call_id p j) ≡ true → matches_first (kind_at b (call_id p i)) (kind_at b (call_id p j)) ≡ true
     → is_some (partner b.sets (call_id p i)) ≡ true
 pair_paired b s r e p i j lt named first =
     elim (either_of (id_eq s (call_id p j)) (id_eq r (call_id p j)) named) [
@@ -121,7 +139,7 @@ pair_paired b s r e p i j lt named first =
           earlier_recv_paired b s p i j as_recv lt (first_recv_fits (kind_at b s) (kind_at b (call_id p i)) (kind_at b (call_id p j)) s.rank p first (agrees b s (call_id p j) as_recv).fit)
     ]
 
-pair_named : (b : Board) (s r : CallId) → eligible b s r ≡ true → (c : CallId) → names (Pair s r) c ≡ true → is_some (kind_at b c) ≡ true
+pair_named : (b : Board) (s r : CallId) → eligible b s r ≡ true → (c : CallId) → mentions (Pair s r) c ≡ true → is_some (kind_at b c) ≡ true
 pair_named b s r e c named =
     let parts = agrees b s r e in
     elim (either_of (id_eq s c) (id_eq r c) named) [
@@ -132,6 +150,6 @@ pair_named b s r e c named =
 pub pair_may_join : (b : Board) (s r : CallId) → eligible b s r ≡ true → MayJoin b (Pair s r)
 pair_may_join b s r e = record {
   named = pair_named b s r e;
-  paired = λ p i j u v lt is named first. pair_paired b s r e p i j lt (ap (λ m. names m (call_id p j)) is ∙ named) first;
+  paired = λ p i j u v lt is named first. pair_paired b s r e p i j lt (ap (λ m. mentions m (call_id p j)) is ∙ named) first;
   done = λ p i j is awaits. absurd (cc);
 }

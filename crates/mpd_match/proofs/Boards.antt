@@ -8,9 +8,10 @@ use Rattle.mpd_model.specs.declared.step.CallId.{CallId}
 use Rattle.mpd_model.specs.declared.call.Call.{Call}
 use Rattle.mpd_model.specs.declared.call.Mode.{Mode}
 use Rattle.mpd_model.specs.declared.call.CallKind.{CallKind}
-use Rattle.mpd_model.specs.declared.call.CallKind.TheVariants.{Send, Recv, Wait}
+use Rattle.mpd_model.specs.declared.call.CallKind.TheVariants.{Send, Recv, Wait, Barrier}
 use Rattle.mpd_model.specs.declared.call.MatchSet.{MatchSet}
-use Rattle.mpd_model.specs.declared.call.MatchSet.TheVariants.{Pair, Woke, Barrier}
+use Rattle.mpd_model.specs.declared.call.MatchSet.TheVariants.{Pair, Woke}
+use Rattle.mpd_model.specs.declared.call.MatchSet.TheVariants as set
 use Rattle.mpd_model.specs.World.{Board, call_id, listed_calls, calls_of, kind_of, kind_at, partner, is_message_kind, is_free, sends_to, receives, fits, fitting, is_pending, is_posted, pending, posted, eligible, last_call}
 use Rattle.mpd_queue.specs.InOrder.{next_of}
 use Rattle.mpd_match.specs.Views.{SideView, no_side, side_at, calls_in, lines_in, board_in}
@@ -18,11 +19,11 @@ use Rattle.mpd_match.specs.Lines.{line_of, is_line, kind_in, mark_in, with_mark,
 use Rattle.mpd_match.specs.Pairs.{Paired}
 use Rattle.mpd_match.specs.Held.{Meets}
 use Rattle.mpd_match.specs.declared.record.PairRecord.{PairRecord}
-use Rattle.mpd_match.specs.Changes.{without_last_call, without_last_set, last_set, record_of_pair, Recorded, is_woke}
+use Rattle.mpd_match.specs.Changes.{without_last_call, without_last_set, last_set, record_of_pair, Recorded, is_woke, is_lone}
 use Rattle.mpd_match.proofs.Passed.{passed_same}
 use Rattle.mpd_match.proofs.InLines.{get_seam, kind_past, kind_before, with_mark_here, with_mark_there, waiting_same, waiting_but}
 use Rattle.mpd_match.proofs.AtSide.{listed_at, read_side}
-use Rattle.mpd_match.proofs.Partners.{with_partner_there, partner_woke, new_first, new_second, new_past, paired_marks, unpaired_marks, fitting_lines, fitting_differ, paired_kept, paired_more, paired_woke, unpaired_woke, last_paired}
+use Rattle.mpd_match.proofs.Partners.{with_partner_there, partner_lone, new_first, new_second, new_past, paired_marks, unpaired_marks, fitting_lines, fitting_differ, paired_kept, paired_more, paired_lone, unpaired_lone, last_paired}
 use Rattle.mpd_match.proofs.Bools.{and_false, both_true, none_only}
 
 -- ---- a line is a list of the board
@@ -44,12 +45,14 @@ pends : (kind : Option CallKind) (q : ℕ) (free : Bool) → (free && is_line (l
 pends (Some (Send s)) q free = ap (λ (b : Bool). free && b) (same_number s.to q) ∙ and_turned free (eqb s.to q)
 pends (Some (Recv r)) q free = ap (λ (b : Bool). free && b) (ne_eqb 0 (q + 1) (λ e. absurd (omega arith))) ∙ and_false free
 pends (Some (Wait t)) q free = and_false free
+pends (Some Barrier) q free = and_false free
 pends None q free = and_false free
 
 posts : (kind : Option CallKind) (free : Bool) → (free && is_line (line_of kind) 0) ≡ (receives kind && (is_message_kind kind && free))
 posts (Some (Send s)) free = ap (λ (b : Bool). free && b) (ne_eqb (s.to + 1) 0 (λ e. absurd (omega arith))) ∙ and_false free
 posts (Some (Recv r)) free = and_turned free true
 posts (Some (Wait t)) free = and_false free
+posts (Some Barrier) free = and_false free
 posts None free = and_false free
 
 pending_is : (b : Board) (p q : ℕ) (mark : ℕ → Option CallId) → ((i : ℕ) → mark i ≡ partner b.sets (call_id p i)) → waiting (calls_of b p) mark (q + 1) ≡ pending b p q
@@ -130,26 +133,31 @@ meets_again mode sides others sets more e marks paired h =
 kinds_stay : (mode : Mode) (sides others : List SideView) (sets more : List MatchSet) (c : CallId) → calls_in others ≡ calls_in sides → kind_at (board_in mode others more) c ≡ kind_at (board_in mode sides sets) c
 kinds_stay mode sides others sets more c e = ap (λ (zs : List (List Call)). kind_of (slice_get (listed_calls (slice_get zs c.rank)) c.index)) e
 
-pub meets_woke : (mode : Mode) (sides : List SideView) (sets more : List MatchSet) (d : CallId) → more ≡ sets ++ Woke d ∷ [] → Meets (board_in mode sides sets) sides → Meets (board_in mode sides more) sides
-meets_woke mode sides sets more d e h =
+-- a match set more that pairs no calls, and one less
+pub meets_lone : (mode : Mode) (sides : List SideView) (sets more : List MatchSet) (m : MatchSet) → is_lone (Some m) ≡ true → more ≡ sets ++ m ∷ [] → Meets (board_in mode sides sets) sides
+    → Meets (board_in mode sides more) sides
+meets_lone mode sides sets more m lone e h =
     subst (λ (zs : List MatchSet). Meets (board_in mode sides zs) sides) (sym e)
-    (meets_again mode sides sides sets (sets ++ Woke d ∷ []) refl (λ c. h.marks c ∙ sym (partner_woke sets d c)) (paired_woke (kind_at (board_in mode sides sets)) sets d h.paired) h)
+    (meets_again mode sides sides sets (sets ++ m ∷ []) refl (λ c. h.marks c ∙ sym (partner_lone sets m c lone)) (paired_lone (kind_at (board_in mode sides sets)) sets m lone h.paired) h)
 
 pub last_is : (mode : Mode) (sides : List SideView) (sets before : List MatchSet) (m : MatchSet) → sets ≡ before ++ m ∷ [] → last_set (board_in mode sides sets) ≡ Some m
 last_is mode sides sets before m e =
     let at : length sets - 1 ≡ length before = omega (arith, ap length e, length-append before (m ∷ [])) in
     ap (slice_get sets) at ∙ ap (λ (zs : List MatchSet). slice_get zs (length before)) e ∙ get_seam before m
 
-pub meets_unwoke : (mode : Mode) (sides : List SideView) (sets before : List MatchSet) (taken : Option MatchSet) → sets ≡ before ++ option_to_list taken → is_woke (last_set (board_in mode sides sets)) ≡ true
+pub meets_dropped : (mode : Mode) (sides : List SideView) (sets before : List MatchSet) (taken : Option MatchSet) → sets ≡ before ++ option_to_list taken → is_lone (last_set (board_in mode sides sets)) ≡ true
     → Meets (board_in mode sides sets) sides → Meets (board_in mode sides before) sides
-meets_unwoke mode sides sets before None e woke h = subst (λ (zs : List MatchSet). Meets (board_in mode sides zs) sides) (e ∙ append-nil before) h
-meets_unwoke mode sides sets before (Some (Woke d)) e woke h =
-    let h2 : Meets (board_in mode sides (before ++ Woke d ∷ [])) sides = subst (λ (zs : List MatchSet). Meets (board_in mode sides zs) sides) e h in
-    meets_again mode sides sides (before ++ Woke d ∷ []) before refl (λ c. h2.marks c ∙ partner_woke before d c) (unpaired_woke (kind_at (board_in mode sides before)) before d h2.paired) h2
-meets_unwoke mode sides sets before (Some (Pair s r)) e woke h =
-    let f : is_woke (last_set (board_in mode sides sets)) ≡ false = ap is_woke (last_is mode sides sets before (Pair s r) e) in absurd (cc)
-meets_unwoke mode sides sets before (Some Barrier) e woke h =
-    let f : is_woke (last_set (board_in mode sides sets)) ≡ false = ap is_woke (last_is mode sides sets before Barrier e) in absurd (cc)
+meets_dropped mode sides sets before None e lone h = subst (λ (zs : List MatchSet). Meets (board_in mode sides zs) sides) (e ∙ append-nil before) h
+meets_dropped mode sides sets before (Some m) e lone h =
+    let alone : is_lone (Some m) ≡ true = sym (ap is_lone (last_is mode sides sets before m e)) ∙ lone in
+    let h2 : Meets (board_in mode sides (before ++ m ∷ [])) sides = subst (λ (zs : List MatchSet). Meets (board_in mode sides zs) sides) e h in
+    meets_again mode sides sides (before ++ m ∷ []) before refl (λ c. h2.marks c ∙ partner_lone before m c alone) (unpaired_lone (kind_at (board_in mode sides before)) before m alone h2.paired) h2
+
+pub woke_lone : (o : Option MatchSet) → is_woke o ≡ true → is_lone o ≡ true
+woke_lone (Some (Pair s r)) e = absurd (cc)
+woke_lone (Some (Woke c)) e = refl
+woke_lone (Some set.Barrier) e = refl
+woke_lone None e = absurd (cc)
 
 pub popped_room : (sets : List MatchSet) (taken : Option MatchSet) (room more writes all : ℕ) → IfSome taken (λ _. (more ≡ room + 1) × (all ≡ writes + 1)) → IfNone taken ((sets ≡ []) × (more ≡ room) × (all ≡ writes)) → room ≤ more
 popped_room sets None room more writes all some none = let e : more ≡ room = none.1 in omega arith
@@ -405,12 +413,14 @@ pending_line : (kind : Option CallKind) (q : ℕ) → sends_to kind q ≡ true �
 pending_line (Some (Send s)) q e = ap (λ (n : ℕ). Some (n + 1)) (eqb-true s.to q e)
 pending_line (Some (Recv r)) q e = cc
 pending_line (Some (Wait t)) q e = cc
+pending_line (Some Barrier) q e = cc
 pending_line None q e = cc
 
 posted_line : (kind : Option CallKind) → receives kind ≡ true → line_of kind ≡ Some 0
 posted_line (Some (Send s)) e = cc
 posted_line (Some (Recv r)) e = refl
 posted_line (Some (Wait t)) e = cc
+posted_line (Some Barrier) e = cc
 posted_line None e = cc
 
 pub next_pending : (mode : Mode) (sides : List SideView) (sets : List MatchSet) (id : CallId) (v : SideView) (q : ℕ) (next : Option ℕ) → Meets (board_in mode sides sets) sides → v ≡ get_or sides id.rank v

@@ -4,7 +4,7 @@ use Rattle.std.specs.List.{list_any}
 use Rattle.mpd_model.specs.declared.step.CallId.{CallId}
 use Rattle.mpd_model.specs.declared.call.Mode.{Mode}
 use Rattle.mpd_model.specs.declared.call.CallKind.{CallKind}
-use Rattle.mpd_model.specs.declared.call.CallKind.TheVariants.{Send, Recv, Wait}
+use Rattle.mpd_model.specs.declared.call.CallKind.TheVariants.{Send, Recv, Wait, Barrier}
 use Rattle.mpd_model.specs.declared.call.SendCall.{SendCall}
 use Rattle.mpd_model.specs.declared.call.MatchSet.{MatchSet}
 use Rattle.mpd_model.specs.World.{Board, call_id, kind_at, is_free, fits, fitting, pending, posted, eligible}
@@ -37,26 +37,36 @@ either_send (Some (Recv r)) other p q e any = or_false (fitting any (Some (Recv 
 either_send (Some (Send s)) (Some (Send t)) p q e any = absurd (cc)
 either_send (Some (Send s)) (Some (Recv t)) p q e any = absurd (cc)
 either_send (Some (Send s)) (Some (Wait t)) p q e any = absurd (cc)
+either_send (Some (Send s)) (Some Barrier) p q e any = absurd (cc)
 either_send (Some (Send s)) None p q e any = absurd (cc)
 either_send (Some (Wait s)) (Some (Send t)) p q e any = absurd (cc)
 either_send (Some (Wait s)) (Some (Recv t)) p q e any = absurd (cc)
 either_send (Some (Wait s)) (Some (Wait t)) p q e any = absurd (cc)
+either_send (Some (Wait s)) (Some Barrier) p q e any = absurd (cc)
 either_send (Some (Wait s)) None p q e any = absurd (cc)
+either_send (Some Barrier) (Some (Send t)) p q e any = absurd (cc)
+either_send (Some Barrier) (Some (Recv t)) p q e any = absurd (cc)
+either_send (Some Barrier) (Some (Wait t)) p q e any = absurd (cc)
+either_send (Some Barrier) (Some Barrier) p q e any = absurd (cc)
+either_send (Some Barrier) None p q e any = absurd (cc)
 either_send None (Some (Send t)) p q e any = absurd (cc)
 either_send None (Some (Recv t)) p q e any = absurd (cc)
 either_send None (Some (Wait t)) p q e any = absurd (cc)
+either_send None (Some Barrier) p q e any = absurd (cc)
 either_send None None p q e any = absurd (cc)
 
 no_send_fits : (any : Option CallKind) (s : SendCall) (p q : ℕ) → fitting any (Some (Send s)) p q ≡ false
 no_send_fits (Some (Send t)) s p q = refl
 no_send_fits (Some (Recv t)) s p q = refl
 no_send_fits (Some (Wait t)) s p q = refl
+no_send_fits (Some Barrier) s p q = refl
 no_send_fits None s p q = refl
 
 either_recv : (one other : Option CallKind) (p q : ℕ) → fitting one other p q ≡ true → (any : Option CallKind) → fitting_either any one p q ≡ fitting one any p q
 either_recv (Some (Send s)) other p q e any = ap (λ (b : Bool). b || fitting (Some (Send s)) any p q) (no_send_fits any s p q)
 either_recv (Some (Recv r)) other p q e any = absurd (cc)
 either_recv (Some (Wait t)) other p q e any = absurd (cc)
+either_recv (Some Barrier) other p q e any = absurd (cc)
 either_recv None other p q e any = absurd (cc)
 
 pub lines_of_fitting : (mode : Mode) (sides : List SideView) (sets : List MatchSet) (s r : CallId) → fits (board_in mode sides sets) s r ≡ true

@@ -7,7 +7,7 @@ use Rattle.std.proofs.lemmas.Map.Views.{any-filter_same}
 use Rattle.mpd_model.specs.declared.step.CallId.{CallId}
 use Rattle.mpd_model.specs.declared.call.Call.{Call}
 use Rattle.mpd_model.specs.declared.call.CallKind.{CallKind}
-use Rattle.mpd_model.specs.declared.call.CallKind.TheVariants.{Send, Recv, Wait}
+use Rattle.mpd_model.specs.declared.call.CallKind.TheVariants.{Send, Recv, Wait, Barrier}
 use Rattle.mpd_model.specs.World.{Board, call_id, listed_calls, calls_of, kind_of, kind_at, partner, is_message_kind, call_numbers, rank_numbers, is_free, sends_to, receives, fits, fitting, is_pending, is_posted, pending, posted, eligible}
 use Rattle.mpd_queue.specs.InOrder.{places_in}
 use Rattle.mpd_match.proofs.Bools.{bool_tells, both_true}
@@ -49,9 +49,11 @@ fitting_sends : (one other : Option CallKind) (p q : ℕ) → fitting one other 
 fitting_sends (Some (Send s)) (Some (Recv r)) p q e = (both_true _ _ e).0
 fitting_sends (Some (Send s)) (Some (Send t)) p q e = absurd (cc)
 fitting_sends (Some (Send s)) (Some (Wait t)) p q e = absurd (cc)
+fitting_sends (Some (Send s)) (Some Barrier) p q e = absurd (cc)
 fitting_sends (Some (Send s)) None p q e = absurd (cc)
 fitting_sends (Some (Recv r)) other p q e = absurd (cc)
 fitting_sends (Some (Wait t)) other p q e = absurd (cc)
+fitting_sends (Some Barrier) other p q e = absurd (cc)
 fitting_sends None other p q e = absurd (cc)
 
 pub eligible_pending : (b : Board) (p i : ℕ) (r : CallId) → eligible b (call_id p i) r ≡ true → is_pending b p r.rank i ≡ true
@@ -111,9 +113,11 @@ fitting_receives : (one other : Option CallKind) (p q : ℕ) → fitting one oth
 fitting_receives (Some (Send s)) (Some (Recv r)) p q e = refl
 fitting_receives (Some (Send s)) (Some (Send t)) p q e = absurd (cc)
 fitting_receives (Some (Send s)) (Some (Wait t)) p q e = absurd (cc)
+fitting_receives (Some (Send s)) (Some Barrier) p q e = absurd (cc)
 fitting_receives (Some (Send s)) None p q e = absurd (cc)
 fitting_receives (Some (Recv r)) other p q e = absurd (cc)
 fitting_receives (Some (Wait t)) other p q e = absurd (cc)
+fitting_receives (Some Barrier) other p q e = absurd (cc)
 fitting_receives None other p q e = absurd (cc)
 
 pub eligible_posted : (b : Board) (s : CallId) (q j : ℕ) → eligible b s (call_id q j) ≡ true → is_posted b q j ≡ true

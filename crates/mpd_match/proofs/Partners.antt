@@ -5,12 +5,14 @@ use Rattle.std.proofs.lemmas.Bool.{eqb-true}
 use Rattle.std.proofs.lemmas.Bool.Decides.{eqb_tells}
 use Rattle.mpd_model.specs.declared.step.CallId.{CallId}
 use Rattle.mpd_model.specs.declared.call.CallKind.{CallKind}
-use Rattle.mpd_model.specs.declared.call.CallKind.TheVariants.{Send, Recv, Wait}
+use Rattle.mpd_model.specs.declared.call.CallKind.TheVariants.{Send, Recv, Wait, Barrier}
 use Rattle.mpd_model.specs.declared.call.MatchSet.{MatchSet}
-use Rattle.mpd_model.specs.declared.call.MatchSet.TheVariants.{Pair, Woke, Barrier}
+use Rattle.mpd_model.specs.declared.call.MatchSet.TheVariants.{Pair, Woke}
+use Rattle.mpd_model.specs.declared.call.MatchSet.TheVariants as set
 use Rattle.mpd_model.specs.World.{id_eq, is_any_or, partner, fitting}
 use Rattle.mpd_match.specs.Lines.{line_of, with_partner}
 use Rattle.mpd_match.specs.Pairs.{Paired}
+use Rattle.mpd_match.specs.Changes.{is_lone}
 use Rattle.mpd_match.proofs.Bools.{both_true}
 
 -- ---- numbers of calls
@@ -89,7 +91,7 @@ partner_new (Pair s r ∷ sets) m c e =
     let far = not_named s r sets c e in
     pair_past s r (sets ++ m ∷ []) c far.0 far.1 ∙ partner_new sets m c far.2
 partner_new (Woke d ∷ sets) m c e = partner_new sets m c e
-partner_new (Barrier ∷ sets) m c e = partner_new sets m c e
+partner_new (set.Barrier ∷ sets) m c e = partner_new sets m c e
 
 partner_past : (sets : List MatchSet) (m : MatchSet) (c : CallId) → partner (m ∷ []) c ≡ None → partner (sets ++ m ∷ []) c ≡ partner sets c
 partner_past [] m c e = e
@@ -102,10 +104,15 @@ partner_past (Pair s r ∷ sets) m c e =
       ]
     ]
 partner_past (Woke d ∷ sets) m c e = partner_past sets m c e
-partner_past (Barrier ∷ sets) m c e = partner_past sets m c e
+partner_past (set.Barrier ∷ sets) m c e = partner_past sets m c e
 
-pub partner_woke : (sets : List MatchSet) (d c : CallId) → partner (sets ++ Woke d ∷ []) c ≡ partner sets c
-partner_woke sets d c = partner_past sets (Woke d) c refl
+lone_partner : (m : MatchSet) (c : CallId) → is_lone (Some m) ≡ true → partner (m ∷ []) c ≡ None
+lone_partner (Pair s r) c e = absurd (cc)
+lone_partner (Woke d) c e = refl
+lone_partner set.Barrier c e = refl
+
+pub partner_lone : (sets : List MatchSet) (m : MatchSet) (c : CallId) → is_lone (Some m) ≡ true → partner (sets ++ m ∷ []) c ≡ partner sets c
+partner_lone sets m c e = partner_past sets m c (lone_partner m c e)
 
 pub new_first : (sets : List MatchSet) (s r : CallId) → partner sets s ≡ None → partner (sets ++ Pair s r ∷ []) s ≡ Some r
 new_first sets s r e = partner_new sets (Pair s r) s e ∙ pair_first s r [] s refl
@@ -148,9 +155,11 @@ pub fitting_lines : (one other : Option CallKind) (p q : ℕ) → fitting one ot
 fitting_lines (Some (Send s)) (Some (Recv r)) p q e = (ap (λ (n : ℕ). Some (n + 1)) (eqb-true s.to q (both_true (eqb s.to q) (is_any_or r.from p && is_any_or r.tag s.tag) e).0), refl)
 fitting_lines (Some (Send s)) (Some (Send t)) p q e = absurd (cc)
 fitting_lines (Some (Send s)) (Some (Wait t)) p q e = absurd (cc)
+fitting_lines (Some (Send s)) (Some Barrier) p q e = absurd (cc)
 fitting_lines (Some (Send s)) None p q e = absurd (cc)
 fitting_lines (Some (Recv r)) other p q e = absurd (cc)
 fitting_lines (Some (Wait t)) other p q e = absurd (cc)
+fitting_lines (Some Barrier) other p q e = absurd (cc)
 fitting_lines None other p q e = absurd (cc)
 
 pub fitting_differ : (kind : CallId → Option CallKind) (s r : CallId) → fitting (kind s) (kind r) s.rank r.rank ≡ true → s ≢ r
@@ -175,7 +184,7 @@ paired_kept kind kind' (Pair s r ∷ sets) same h =
       paired_kept kind kind' sets (λ c some named. same c some (still_named s r sets c named)) h.3,
     )
 paired_kept kind kind' (Woke d ∷ sets) same h = paired_kept kind kind' sets same h
-paired_kept kind kind' (Barrier ∷ sets) same h = paired_kept kind kind' sets same h
+paired_kept kind kind' (set.Barrier ∷ sets) same h = paired_kept kind kind' sets same h
 
 pub paired_more : (kind : CallId → Option CallKind) (sets : List MatchSet) (s r : CallId) → Paired kind sets → fitting (kind s) (kind r) s.rank r.rank ≡ true → partner sets s ≡ None → partner sets r ≡ None
     → Paired kind (sets ++ Pair s r ∷ [])
@@ -189,19 +198,24 @@ paired_more kind (Pair a b ∷ sets) s r h fit ns nr =
       paired_more kind sets s r h.3 fit fs.2 fr.2,
     )
 paired_more kind (Woke d ∷ sets) s r h fit ns nr = paired_more kind sets s r h fit ns nr
-paired_more kind (Barrier ∷ sets) s r h fit ns nr = paired_more kind sets s r h fit ns nr
+paired_more kind (set.Barrier ∷ sets) s r h fit ns nr = paired_more kind sets s r h fit ns nr
 
-pub paired_woke : (kind : CallId → Option CallKind) (sets : List MatchSet) (d : CallId) → Paired kind sets → Paired kind (sets ++ Woke d ∷ [])
-paired_woke kind [] d h = tt
-paired_woke kind (Pair a b ∷ sets) d h = (h.0, partner_woke sets d a ∙ h.1, partner_woke sets d b ∙ h.2, paired_woke kind sets d h.3)
-paired_woke kind (Woke e ∷ sets) d h = paired_woke kind sets d h
-paired_woke kind (Barrier ∷ sets) d h = paired_woke kind sets d h
+lone_paired : (kind : CallId → Option CallKind) (m : MatchSet) → is_lone (Some m) ≡ true → Paired kind (m ∷ [])
+lone_paired kind (Pair s r) e = absurd (cc)
+lone_paired kind (Woke d) e = tt
+lone_paired kind set.Barrier e = tt
 
-pub unpaired_woke : (kind : CallId → Option CallKind) (sets : List MatchSet) (d : CallId) → Paired kind (sets ++ Woke d ∷ []) → Paired kind sets
-unpaired_woke kind [] d h = tt
-unpaired_woke kind (Pair a b ∷ sets) d h = (h.0, sym (partner_woke sets d a) ∙ h.1, sym (partner_woke sets d b) ∙ h.2, unpaired_woke kind sets d h.3)
-unpaired_woke kind (Woke e ∷ sets) d h = unpaired_woke kind sets d h
-unpaired_woke kind (Barrier ∷ sets) d h = unpaired_woke kind sets d h
+pub paired_lone : (kind : CallId → Option CallKind) (sets : List MatchSet) (m : MatchSet) → is_lone (Some m) ≡ true → Paired kind sets → Paired kind (sets ++ m ∷ [])
+paired_lone kind [] m e h = lone_paired kind m e
+paired_lone kind (Pair a b ∷ sets) m e h = (h.0, partner_lone sets m a e ∙ h.1, partner_lone sets m b e ∙ h.2, paired_lone kind sets m e h.3)
+paired_lone kind (Woke d ∷ sets) m e h = paired_lone kind sets m e h
+paired_lone kind (set.Barrier ∷ sets) m e h = paired_lone kind sets m e h
+
+pub unpaired_lone : (kind : CallId → Option CallKind) (sets : List MatchSet) (m : MatchSet) → is_lone (Some m) ≡ true → Paired kind (sets ++ m ∷ []) → Paired kind sets
+unpaired_lone kind [] m e h = tt
+unpaired_lone kind (Pair a b ∷ sets) m e h = (h.0, sym (partner_lone sets m a e) ∙ h.1, sym (partner_lone sets m b e) ∙ h.2, unpaired_lone kind sets m e h.3)
+unpaired_lone kind (Woke d ∷ sets) m e h = unpaired_lone kind sets m e h
+unpaired_lone kind (set.Barrier ∷ sets) m e h = unpaired_lone kind sets m e h
 
 -- a call that no set names, with a pair more, is not of that pair
 apart_from : (sets : List MatchSet) (s r c : CallId) → s ≢ r → partner sets s ≡ None → partner sets r ≡ None → partner (sets ++ Pair s r ∷ []) c ≡ None → (s ≢ c) × (r ≢ c) × (partner sets c ≡ None)
@@ -224,4 +238,4 @@ last_paired kind (Pair a b ∷ sets) s r h =
       (h.0, fa.2, fb.2, rest.3),
     )
 last_paired kind (Woke d ∷ sets) s r h = last_paired kind sets s r h
-last_paired kind (Barrier ∷ sets) s r h = last_paired kind sets s r h
+last_paired kind (set.Barrier ∷ sets) s r h = last_paired kind sets s r h

@@ -2,9 +2,10 @@
 use Rattle.std.specs.Prelude.{◌≡◌, ℕ, ◌-◌, Bool, true, false, Option, Some, None, length, slice_get, slice_set, take}
 use Rattle.mpd_model.specs.declared.step.CallId.{CallId}
 use Rattle.mpd_model.specs.declared.call.CallKind.{CallKind}
-use Rattle.mpd_model.specs.declared.call.CallKind.TheVariants.{Send, Recv, Wait}
+use Rattle.mpd_model.specs.declared.call.CallKind.TheVariants.{Send, Recv, Wait, Barrier}
 use Rattle.mpd_model.specs.declared.call.MatchSet.{MatchSet}
-use Rattle.mpd_model.specs.declared.call.MatchSet.TheVariants.{Pair, Woke, Barrier}
+use Rattle.mpd_model.specs.declared.call.MatchSet.TheVariants.{Pair, Woke}
+use Rattle.mpd_model.specs.declared.call.MatchSet.TheVariants as set
 use Rattle.mpd_model.specs.World.{Board, calls_of, pending, posted}
 use Rattle.mpd_queue.specs.InOrder.{next_of}
 use Rattle.mpd_match.specs.declared.record.PairRecord.{PairRecord}
@@ -19,6 +20,7 @@ abbrev pub issue_writes : Option CallKind → ℕ
 issue_writes (Some (Send s)) = 6
 issue_writes (Some (Recv r)) = 6
 issue_writes (Some (Wait t)) = 2
+issue_writes (Some Barrier) = 2
 issue_writes None = 0
 
 -- the same, and two links
@@ -26,6 +28,7 @@ abbrev pub unissue_writes : Option CallKind → ℕ
 unissue_writes (Some (Send s)) = 4
 unissue_writes (Some (Recv r)) = 4
 unissue_writes (Some (Wait t)) = 2
+unissue_writes (Some Barrier) = 2
 unissue_writes None = 0
 
 -- ---- match sets
@@ -36,6 +39,13 @@ without_last_set b = record b { sets = take (length b.sets - 1) b.sets }
 abbrev pub last_set : Board → Option MatchSet
 last_set b = slice_get b.sets (length b.sets - 1)
 
+-- A match set that pairs no calls. Where it is formed, or taken back, every call keeps its partner and its place.
+abbrev pub is_lone : Option MatchSet → Bool
+is_lone (Some (Pair s r)) = false
+is_lone (Some (Woke c)) = true
+is_lone (Some set.Barrier) = true
+is_lone None = false
+
 -- where both calls stand in their lists, told by what comes next
 abbrev pub record_of_pair : Board → CallId → CallId → PairRecord
 record_of_pair b s r = record { send_spot = next_of (pending b s.rank r.rank) s.index; recv_spot = next_of (posted b r.rank) r.index }
@@ -44,11 +54,11 @@ record_of_pair b s r = record { send_spot = next_of (pending b s.rank r.rank) s.
 abbrev pub Recorded : Board → PairRecord → Option MatchSet → Type 0
 Recorded b done (Some (Pair s r)) = done ≡ record_of_pair b s r
 Recorded b done (Some (Woke c)) = ⊥
-Recorded b done (Some Barrier) = ⊥
+Recorded b done (Some set.Barrier) = ⊥
 Recorded b done None = ⊥
 
 abbrev pub is_woke : Option MatchSet → Bool
 is_woke (Some (Pair s r)) = false
 is_woke (Some (Woke c)) = true
-is_woke (Some Barrier) = false
+is_woke (Some set.Barrier) = false
 is_woke None = false

@@ -9,4 +9,5 @@ pub mod Matches
 pub mod Entries
 pub mod BoardRows
 pub mod OrderRows
+pub mod BarrierRows
 pub mod WhyRows

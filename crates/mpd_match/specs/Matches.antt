@@ -1,5 +1,5 @@
 -- The matches that are enabled, as lists of steps: by receiver, receive, sender and send.
-use Rattle.std.specs.Prelude.{ℕ, List, map, Option, Some, None, [], ◌∷◌}
+use Rattle.std.specs.Prelude.{ℕ, List, map}
 use Rattle.std.specs.List.{filter, flat_map}
 use Rattle.mpd_model.specs.declared.step.CallId.{CallId}
 use Rattle.mpd_model.specs.declared.step.Step.{Step}

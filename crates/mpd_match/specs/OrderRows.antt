@@ -1,18 +1,17 @@
 -- Worked rows of completes-before, and boards that no run leads to, since their match sets show calls out of order.
-use Rattle.std.specs.Prelude.{◌≡◌, ℕ, pos, Bool, true, false, List, [], ◌∷◌, map, Option, Some, None, refl}
+use Rattle.std.specs.Prelude.{◌≡◌, ℕ, pos, Bool, true, false, List, [], ◌∷◌, ◌++◌, map, Option, Some, None, refl}
 use Rattle.std.proofs.lemmas.Bool.{both_ways}
 use Rattle.mpd_model.specs.declared.step.CallId.{CallId}
 use Rattle.mpd_model.specs.declared.call.Call.{Call}
 use Rattle.mpd_model.specs.declared.call.CallKind.TheVariants.{Send, Recv, Wait}
-use Rattle.mpd_model.specs.declared.call.Mode.TheVariants.{Rendezvous, Buffered}
+use Rattle.mpd_model.specs.declared.call.Mode.TheVariants.{Rendezvous}
 use Rattle.mpd_model.specs.declared.call.MatchSet.{MatchSet}
 use Rattle.mpd_model.specs.declared.call.MatchSet.TheVariants.{Pair, Woke}
-use Rattle.mpd_model.specs.World.{Board, start_board, call_id}
-use Rattle.mpd_model.specs.Next.{with_call}
-use Rattle.mpd_model.specs.Order.{before, Ordered}
+use Rattle.mpd_model.specs.World.{Board, call_id}
+use Rattle.mpd_model.specs.Order.{before, WentOn, Ordered}
 
 abbrev pub sends : ℕ → ℕ → Bool → Call
-sends to tag blocks = record { statement = 0; kind = Send (record { to = to; tag = tag; value = pos 40; blocks = blocks }) }
+sends to tag blocks = record { statement = 0; kind = Send (record { to = to; tag = tag; value = pos 40; synchronous = false; blocks = blocks }) }
 
 abbrev pub takes : Option ℕ → Option ℕ → Call
 takes from tag = record { statement = 1; kind = Recv (record { from = from; tag = tag; cell = 0; status = None; blocks = false }) }
@@ -52,6 +51,14 @@ row_two_ranks = refl
 
 -- ---- out of order
 
+pub empty_cut : (front : List MatchSet) (m : MatchSet) (behind : List MatchSet) → [] ≡ front ++ (m ∷ behind) → ⊥
+empty_cut [] m behind e = cc
+empty_cut (f ∷ front) m behind e = cc
+
+-- among no match sets is none by which a rank went on
+pub went_nowhere : {b : Board} {x : CallId} → WentOn b [] x → ⊥
+went_nowhere w = empty_cut w.front w.by w.behind w.cut
+
 abbrev pub shows : List MatchSet → Board
 shows sets = record { mode = Rendezvous; calls = senders ∷ receivers ∷ []; sets = sets }
 
@@ -73,4 +80,4 @@ row_not_done o = both_ways false refl (o.waited refl [] [] refl)
 
 -- a call behind a wait is paired, and the rank never went on from the wait
 pub row_still_blocked : Ordered (shows (Pair (call_id 0 5) (call_id 1 0) ∷ [])) (call_id 0 4) (call_id 0 5) → ⊥
-row_still_blocked o = both_ways false refl (o.woken refl [] [] (Pair (call_id 0 5) (call_id 1 0)) refl refl)
+row_still_blocked o = went_nowhere (o.went_on refl [] [] (Pair (call_id 0 5) (call_id 1 0)) refl refl)

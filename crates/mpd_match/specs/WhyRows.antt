@@ -1,5 +1,5 @@
 -- Worked rows: ranks 0 and 1 have each sent one message to rank 2, which waits to receive one of rank 0, and then one of any rank.
-use Rattle.std.specs.Prelude.{◌≡◌, pos, true, false, [], ◌∷◌, Some, None, Option, List, refl}
+use Rattle.std.specs.Prelude.{◌≡◌, pos, true, false, [], ◌∷◌, Some, None, refl}
 use Rattle.mpd_model.specs.declared.call.Call.{Call}
 use Rattle.mpd_model.specs.declared.call.CallKind.TheVariants.{Send, Recv}
 use Rattle.mpd_model.specs.declared.call.Mode.TheVariants.{Rendezvous}
@@ -7,7 +7,7 @@ use Rattle.mpd_model.specs.World.{Board, call_id}
 use Rattle.mpd_model.specs.Why.{why}
 
 abbrev pub sent_to_2 : Call
-sent_to_2 = record { statement = 0; kind = Send (record { to = 2; tag = 7; value = pos 40; blocks = false }) }
+sent_to_2 = record { statement = 0; kind = Send (record { to = 2; tag = 7; value = pos 40; synchronous = false; blocks = false }) }
 
 abbrev pub received_of_0 : Call
 received_of_0 = record { statement = 1; kind = Recv (record { from = Some 0; tag = Some 7; cell = 0; status = None; blocks = false }) }

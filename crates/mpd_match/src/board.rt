@@ -2,7 +2,7 @@
 ghost use Rattle.std.specs.Prelude.{◌≡◌, ◌+◌, ◌-◌, ◌<◌, ◌≤◌, Some, None, true, length, IfOk, OnOk, OnErr};
 ghost use Rattle.mpd_model.specs.World.{start_board, kind_at, calls_of, partner, eligible, last_call};
 ghost use Rattle.mpd_model.specs.Next.{HasReceiver, with_call, with_set};
-ghost use Rattle.mpd_match.specs.Changes.{without_last_call, issue_writes, unissue_writes, without_last_set, last_set, record_of_pair, Recorded, is_woke};
+ghost use Rattle.mpd_match.specs.Changes.{without_last_call, issue_writes, unissue_writes, without_last_set, last_set, record_of_pair, Recorded, is_woke, is_lone};
 
 use crate::record::PairRecord;
 use crate::side::Side;
@@ -140,12 +140,35 @@ impl Board {
         ensures room { self.old.room ≤ self.new.room + 1 }
         ensures writes { self.new.writes ≡ self.old.writes + 1 }
     {
-        self.sets.push_kept(MatchSet::Woke(call));
+        self.add_set(MatchSet::Woke(call));
     }
 
     /// The last match set, a wake, is taken back.
     pub fn unwoke(&mut self)
         requires { is_woke (last_set self.old.board) ≡ true }
+        ensures board { self.new.board ≡ without_last_set self.old.board }
+        ensures room { self.old.room ≤ self.new.room }
+        ensures writes { self.new.writes ≡ self.old.writes + 1 }
+    {
+        self.drop_set();
+    }
+
+    /// A match set that pairs no calls joins the others.
+    pub(crate) fn add_set(&mut self, set: MatchSet)
+        requires lone { is_lone (Some set) ≡ true }
+        requires room { 1 ≤ self.old.room }
+        ensures board { self.new.board ≡ with_set self.old.board set }
+        ensures last { last_set self.new.board ≡ Some set }
+        ensures back { without_last_set self.new.board ≡ self.old.board }
+        ensures room { self.old.room ≤ self.new.room + 1 }
+        ensures writes { self.new.writes ≡ self.old.writes + 1 }
+    {
+        self.sets.push_kept(set);
+    }
+
+    /// The last match set, which pairs no calls, is taken back.
+    pub(crate) fn drop_set(&mut self)
+        requires { is_lone (last_set self.old.board) ≡ true }
         ensures board { self.new.board ≡ without_last_set self.old.board }
         ensures room { self.old.room ≤ self.new.room }
         ensures writes { self.new.writes ≡ self.old.writes + 1 }

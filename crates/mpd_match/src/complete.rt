@@ -1,4 +1,4 @@
-//! When calls are complete (MPI 4.0, sections 3.4 and 3.7.3).
+//! When calls are complete (MPI 4.0, sections 3.4, 3.7.3 and 6.3).
 ghost use Rattle.std.specs.Prelude.{◌≡◌};
 ghost use Rattle.mpd_model.specs.World.{is_done, awaited, complete};
 
@@ -7,7 +7,8 @@ use crate::kinds;
 use mpd_model::step::CallId;
 
 impl Board {
-    /// Whether a send or a receive is done: paired, or buffered as it was issued (MPI 4.0, section 3.4).
+    /// Whether a send or a receive is done: paired, or buffered as it was issued, which no synchronous send is (MPI 4.0,
+    /// section 3.4).
     pub fn is_done(&self, id: CallId) -> bool
         ensures { result ≡ is_done self.now.board id }
     {
@@ -21,11 +22,16 @@ impl Board {
         kinds::awaited_by(id, self.kind(id))
     }
 
-    /// Whether a call is complete (MPI 4.0, sections 3.4 and 3.7.3).
+    /// Whether a call is complete (MPI 4.0, sections 3.4 and 3.7.3). A barrier never is: its rank goes on as all ranks do
+    /// (MPI 4.0, section 6.3).
     pub fn is_complete(&self, id: CallId) -> bool
         ensures { result ≡ complete self.now.board id }
     {
-        match self.awaited(id) {
+        let kind = self.kind(id);
+        if kinds::is_barrier(kind) {
+            return false;
+        }
+        match kinds::awaited_by(id, kind) {
             None => true,
             Some(awaited) => self.is_done(awaited),
         }

@@ -8,6 +8,7 @@ mod listing;
 mod looked;
 mod order;
 pub mod record;
+mod release;
 mod side;
 mod sides;
 mod walk;

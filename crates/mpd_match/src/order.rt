@@ -1,4 +1,4 @@
-//! Which call of a rank completes before another (MPI 4.0, sections 3.5 and 3.7.4).
+//! Which call of a rank completes before another (MPI 4.0, sections 3.5, 3.7.4 and 6.3).
 ghost use Rattle.std.specs.Prelude.{◌≡◌, ℕ, true, List, Some};
 ghost use Rattle.mpd_model.specs.declared.call.Mode.{Mode};
 ghost use Rattle.mpd_model.specs.declared.step.Step.{Step};
@@ -52,7 +52,7 @@ fn matches_first(first: Option<CallKind>, second: Option<CallKind>) -> bool
     match first {
         Some(CallKind::Send(send)) => is_same_envelope(send, second),
         Some(CallKind::Recv(recv)) => covers(recv, second),
-        Some(CallKind::Wait(_)) | None => false,
+        Some(CallKind::Wait(_)) | Some(CallKind::Barrier) | None => false,
     }
 }
 
@@ -73,7 +73,7 @@ fn is_blocking(kind: Option<CallKind>) -> bool
     match kind {
         Some(CallKind::Send(send)) => send.blocks,
         Some(CallKind::Recv(recv)) => recv.blocks,
-        Some(CallKind::Wait(_)) => true,
+        Some(CallKind::Wait(_)) | Some(CallKind::Barrier) => true,
         None => false,
     }
 }
@@ -81,8 +81,8 @@ fn is_blocking(kind: Option<CallKind>) -> bool
 impl Board {
     /// Whether the first of two calls completes before the second: one rank issued both, the first one earlier, and both
     /// are sends of the same destination and tag, or receives of which the first takes each message that the second takes;
-    /// or the second is a wait for the first, or the rank waits for the first (MPI 4.0, sections 3.5 and 3.7.4). A call that
-    /// doesn't exist stands in no order.
+    /// or the second is a wait for the first, or the rank waits for the first, as for each barrier (MPI 4.0, sections 3.5,
+    /// 3.7.4 and 6.3). A call that doesn't exist stands in no order.
     ///
     /// Where it is so, every run that leads to this board shows the two in that order.
     pub fn before(&self, first: CallId, second: CallId) -> bool

@@ -255,6 +255,9 @@ received c = record { into = c.0; from = c.1.0; tag = c.1.1.0; status = c.1.1.1.
 abbrev pub send_form : Form
 send_form = record { word = m.Send; holes = sent_holes; made = λ c. st.Send (sent c); parts = λ c. refl; clear = (refl, (refl, (tt, tt))) }
 
+abbrev pub ssend_form : Form
+ssend_form = record { word = m.Ssend; holes = sent_holes; made = λ c. st.Ssend (sent c); parts = λ c. refl; clear = (refl, (refl, (tt, tt))) }
+
 abbrev pub recv_form : Form
 recv_form = record { word = m.Recv; holes = received_holes; made = λ c. st.Recv (received c); parts = λ c. refl; clear = (refl, (tt, (tt, tt))) }
 
@@ -263,6 +266,15 @@ isend_form = record {
   word = m.Isend;
   holes = target_hole Handle ∷ sent_holes;
   made = λ c. st.Isend (record { request = c.0; send = sent c.1 });
+  parts = λ c. refl;
+  clear = (refl, (refl, (tt, tt)));
+}
+
+abbrev pub issend_form : Form
+issend_form = record {
+  word = m.Issend;
+  holes = target_hole Handle ∷ sent_holes;
+  made = λ c. st.Issend (record { request = c.0; send = sent c.1 });
   parts = λ c. refl;
   clear = (refl, (refl, (tt, tt)));
 }
@@ -279,15 +291,21 @@ irecv_form = record {
 abbrev pub wait_form : Form
 wait_form = record { word = m.Wait; holes = target_hole Handle ∷ []; made = λ c. st.Wait c.0; parts = λ c. refl; clear = tt }
 
+abbrev pub barrier_form : Form
+barrier_form = record { word = m.Barrier; holes = []; made = λ c. st.Barrier; parts = λ c. refl; clear = tt }
+
 -- the form of a word
 abbrev pub form_of : Mark → Option Form
 form_of m.Print = Some print_form
 form_of m.Assert = Some assert_form
 form_of m.Send = Some send_form
+form_of m.Ssend = Some ssend_form
 form_of m.Recv = Some recv_form
 form_of m.Isend = Some isend_form
+form_of m.Issend = Some issend_form
 form_of m.Irecv = Some irecv_form
 form_of m.Wait = Some wait_form
+form_of m.Barrier = Some barrier_form
 form_of _ = None
 
 -- what stands behind the word
@@ -318,10 +336,13 @@ all_formed (st.Print e) = record { form = print_form; found = refl; contents = (
 all_formed (st.Assign s) = tt
 all_formed (st.Assert e) = record { form = assert_form; found = refl; contents = (e, tt); is = refl }
 all_formed (st.Send s) = record { form = send_form; found = refl; contents = (s.value, (s.to, (s.tag, tt))); is = refl }
+all_formed (st.Ssend s) = record { form = ssend_form; found = refl; contents = (s.value, (s.to, (s.tag, tt))); is = refl }
 all_formed (st.Recv s) = record { form = recv_form; found = refl; contents = (s.into, (s.from, (s.tag, (s.status, tt)))); is = refl }
 all_formed (st.Isend s) = record { form = isend_form; found = refl; contents = (s.request, (s.send.value, (s.send.to, (s.send.tag, tt)))); is = refl }
+all_formed (st.Issend s) = record { form = issend_form; found = refl; contents = (s.request, (s.send.value, (s.send.to, (s.send.tag, tt)))); is = refl }
 all_formed (st.Irecv s) = record { form = irecv_form; found = refl; contents = (s.request, (s.recv.into, (s.recv.from, (s.recv.tag, (s.recv.status, tt))))); is = refl }
 all_formed (st.Wait t) = record { form = wait_form; found = refl; contents = (t, tt); is = refl }
+all_formed st.Barrier = record { form = barrier_form; found = refl; contents = tt; is = refl }
 
 -- ---- any statement
 

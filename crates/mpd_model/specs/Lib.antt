@@ -10,6 +10,7 @@ pub mod TreeFalls
 pub mod Program
 pub mod World
 pub mod Next
+pub mod BarrierLaws
 pub mod Order
 pub mod Why
 pub mod Outcomes
@@ -26,4 +27,5 @@ pub mod Printable
 pub mod Lines
 pub mod Texts
 pub mod Words
+pub mod Modes
 pub mod Answers

@@ -1,13 +1,13 @@
 -- What a step makes of a world, and where no step is.
-use Rattle.std.specs.Prelude.{ℕ, ◌+◌, ◌<◌, ℤ, pos, Bool, true, false, ◌&&◌, if◌then◌else◌, List, [], ◌∷◌, ◌++◌, length, map, slice_get, slice_set, slice_index_or, Option, Some, None, option_and_then, is_some, Result, Ok, Err}
+use Rattle.std.specs.Prelude.{ℕ, ◌+◌, ◌<◌, ℤ, pos, Bool, true, false, ◌&&◌, if◌then◌else◌, List, [], ◌∷◌, ◌++◌, length, map, nat_lt, slice_get, slice_set, slice_index_or, Option, Some, None, option_and_then, is_some, Result, Ok, Err}
 use Rattle.std.specs.Option.{option_map}
-use Rattle.std.specs.List.{filter, flat_map}
+use Rattle.std.specs.List.{filter, flat_map, list_all, range_with_len}
 use Rattle.mpd_model.specs.declared.limits.TheConstants.{TAGS}
 use Rattle.mpd_model.specs.declared.step.CallId.{CallId}
 use Rattle.mpd_model.specs.declared.step.Step.{Step}
 use Rattle.mpd_model.specs.declared.step.Step.TheVariants.{Local, Match, Wake, Release}
 use Rattle.mpd_model.specs.declared.call.CallKind.{CallKind}
-use Rattle.mpd_model.specs.declared.call.CallKind.TheVariants.{Send, Recv, Wait}
+use Rattle.mpd_model.specs.declared.call.CallKind.TheVariants.{Send, Recv, Wait, Barrier}
 use Rattle.mpd_model.specs.declared.call.Call.{Call}
 use Rattle.mpd_model.specs.declared.call.Issue.{Issue}
 use Rattle.mpd_model.specs.declared.call.StatusCells.{StatusCells}
@@ -17,6 +17,7 @@ use Rattle.mpd_model.specs.declared.call.Trap.TheVariants.{BadRank, BadTag, Asse
 use Rattle.mpd_model.specs.declared.call.Activity.{Activity}
 use Rattle.mpd_model.specs.declared.call.Activity.TheVariants.{Running, Blocked, Trapped}
 use Rattle.mpd_model.specs.declared.call.MatchSet.TheVariants.{Pair, Woke}
+use Rattle.mpd_model.specs.declared.call.MatchSet.TheVariants as set
 use Rattle.mpd_model.specs.Term.{Term, Value, Env, and_then, is_zero, checked, value_of, target_cell, Target}
 use Rattle.mpd_model.specs.declared.stmt.AssignStmt.{AssignStmt}
 use Rattle.mpd_model.specs.declared.stmt.IsendStmt.{IsendStmt}
@@ -28,7 +29,7 @@ use Rattle.mpd_model.specs.declared.stmt.StatusStmt.{StatusStmt}
 use Rattle.mpd_model.specs.declared.stmt.Simple.TheVariants as st
 use Rattle.mpd_model.specs.Tree.{Tree, simple, branch, repeat, Block, trees, statements_in, numbered}
 use Rattle.mpd_model.specs.declared.call.Message.{Message}
-use Rattle.mpd_model.specs.World.{RankWorld, World, Board, call_id, calls_of, kind_at, rank_numbers, call_numbers, eligible, buffer, awaited, complete, last_call}
+use Rattle.mpd_model.specs.World.{RankWorld, World, Board, call_id, calls_of, kind_at, rank_numbers, call_numbers, eligible, buffer, awaited, is_barrier, complete, last_call}
 
 -- ---- local steps: the next statement of one rank
 
@@ -43,12 +44,13 @@ rank_value e env = checked (value_of e env) env.size BadRank
 abbrev pub tag_value : Term → Env → Result ℕ Trap
 tag_value e env = checked (value_of e env) TAGS BadTag
 
--- what a send issues: the value comes first, then the destination, then the tag
-abbrev pub send_kind : Bool → SendStmt → Env → Result CallKind Trap
-send_kind blocks s env =
+-- what a send issues, given whether it is synchronous and whether its rank waits for it: the value comes first, then the
+-- destination, then the tag
+abbrev pub send_kind : Bool → Bool → SendStmt → Env → Result CallKind Trap
+send_kind synchronous blocks s env =
     and_then (value_of s.value env) (λ v.
     and_then (rank_value s.to env) (λ q.
-    and_then (tag_value s.tag env) (λ t. Ok (Send (record { to = q; tag = t; value = v; blocks = blocks })))))
+    and_then (tag_value s.tag env) (λ t. Ok (Send (record { to = q; tag = t; value = v; synchronous = synchronous; blocks = blocks })))))
 
 -- the source and the tag of a receive, where they aren't any
 abbrev pub source_value : Option Term → Env → Result (Option ℕ) Trap
@@ -86,19 +88,28 @@ wait_kind request env = and_then (target_cell request env) (λ h. Ok (Wait (reco
 
 -- what each statement issues
 abbrev pub send_issue : SendStmt → Env → Result Issue Trap
-send_issue s env = awaiting (send_kind true s env)
+send_issue s env = awaiting (send_kind false true s env)
+
+abbrev pub ssend_issue : SendStmt → Env → Result Issue Trap
+ssend_issue s env = awaiting (send_kind true true s env)
 
 abbrev pub recv_issue : RecvStmt → Env → Result Issue Trap
 recv_issue s env = awaiting (recv_kind true s env)
 
 abbrev pub isend_issue : IsendStmt → Env → Result Issue Trap
-isend_issue s env = held_by s.request env (send_kind false s.send env)
+isend_issue s env = held_by s.request env (send_kind false false s.send env)
+
+abbrev pub issend_issue : IsendStmt → Env → Result Issue Trap
+issend_issue s env = held_by s.request env (send_kind true false s.send env)
 
 abbrev pub irecv_issue : IrecvStmt → Env → Result Issue Trap
 irecv_issue s env = held_by s.request env (recv_kind false s.recv env)
 
 abbrev pub wait_issue : Target → Env → Result Issue Trap
 wait_issue t env = awaiting (wait_kind t env)
+
+abbrev pub barrier_issue : Result Issue Trap
+barrier_issue = awaiting (Ok Barrier)
 
 -- the cell that an assignment writes, and its new value: the index of its target comes first, then the expression
 abbrev pub assignment : AssignStmt → Env → Result (ℕ × ℤ) Trap
@@ -121,6 +132,7 @@ abbrev pub blocks : CallKind → Bool
 blocks (Send s) = s.blocks
 blocks (Recv r) = r.blocks
 blocks (Wait t) = true
+blocks Barrier = true
 
 abbrev pub activity_after : CallKind → Activity
 activity_after kind = if blocks kind then Blocked else Running
@@ -169,10 +181,13 @@ ran_simple env r count number (st.Print e) ts = alone (printed r ts (value_of e 
 ran_simple env r count number (st.Assign s) ts = alone (assigned r ts (assignment s env))
 ran_simple env r count number (st.Assert e) ts = alone (asserted r ts (value_of e env))
 ran_simple env r count number (st.Send s) ts = issued r ts number count (send_issue s env)
+ran_simple env r count number (st.Ssend s) ts = issued r ts number count (ssend_issue s env)
 ran_simple env r count number (st.Recv s) ts = issued r ts number count (recv_issue s env)
 ran_simple env r count number (st.Isend s) ts = issued r ts number count (isend_issue s env)
+ran_simple env r count number (st.Issend s) ts = issued r ts number count (issend_issue s env)
 ran_simple env r count number (st.Irecv s) ts = issued r ts number count (irecv_issue s env)
 ran_simple env r count number (st.Wait t) ts = issued r ts number count (wait_issue t env)
+ran_simple env r count number st.Barrier ts = issued r ts number count barrier_issue
 
 -- what any statement makes of it
 abbrev pub ran : Env → RankWorld → ℕ → ℕ → Tree → List (ℕ × Tree) → Ran
@@ -198,6 +213,7 @@ abbrev pub HasReceiver : ℕ → CallKind → Type 0
 HasReceiver ranks (Send s) = s.to < ranks
 HasReceiver ranks (Recv r) = Unit {0}
 HasReceiver ranks (Wait t) = Unit {0}
+HasReceiver ranks Barrier = Unit {0}
 
 -- a call more of a rank
 abbrev pub with_call : Board → ℕ → Call → Board
@@ -222,7 +238,7 @@ abbrev pub waits : Option RankWorld → Bool
 waits None = false
 waits (Some r) = is_blocked r.activity
 
--- a rank that is blocked on a complete call
+-- a rank that is blocked on a complete call, which a barrier never is
 abbrev pub can_wake : World → ℕ → Bool
 can_wake w p = waits (slice_get w.ranks p) && complete w.board (last_call w.board p)
 
@@ -237,6 +253,7 @@ writes_of (Some (Recv r)) (Some m) = (r.cell, m.value) ∷ status_writes r.statu
 writes_of (Some (Recv r)) None = []
 writes_of (Some (Send s)) m = []
 writes_of (Some (Wait t)) m = []
+writes_of (Some Barrier) m = []
 writes_of None m = []
 
 abbrev pub writes_by : Board → Option CallId → List (ℕ × ℤ)
@@ -252,6 +269,7 @@ abbrev pub cleared_by : Option CallKind → Option ℕ
 cleared_by (Some (Wait t)) = Some t.handle
 cleared_by (Some (Send s)) = None
 cleared_by (Some (Recv r)) = None
+cleared_by (Some Barrier) = None
 cleared_by None = None
 
 abbrev pub woken_rank : List (ℕ × ℤ) → Option ℕ → RankWorld → RankWorld
@@ -282,14 +300,29 @@ woken w p = record {
   board = with_set w.board (Woke (last_call w.board p));
 }
 
+-- ---- releases (MPI 4.0, section 6.3)
+
+-- a rank that is blocked on a barrier
+abbrev pub is_at_barrier : World → ℕ → Bool
+is_at_barrier w p = waits (slice_get w.ranks p) && is_barrier (kind_at w.board (last_call w.board p))
+
+-- Every rank is, and there is one: a rank that runs, has ended or is trapped keeps all others waiting.
+abbrev pub can_release : World → Bool
+can_release w = nat_lt 0 (length w.ranks) && list_all (is_at_barrier w) (range_with_len 0 (length w.ranks))
+
+abbrev pub going_on : RankWorld → RankWorld
+going_on r = record r { activity = Running }
+
+abbrev pub released : World → World
+released w = record { ranks = map going_on w.ranks; board = with_set w.board set.Barrier }
+
 -- ---- the step
 
--- No statement issues a barrier yet, so no release is enabled.
 abbrev pub next : World → Step → Option World
 next w (Local p) = option_map (stepped w p) (local_at w p)
 next w (Match s r) = if eligible w.board s r then Some (record w { board = with_set w.board (Pair s r) }) else None
 next w (Wake p) = if can_wake w p then Some (woken w p) else None
-next w Release = None
+next w Release = if can_release w then Some (released w) else None
 
 abbrev pub is_enabled : World → Step → Bool
 is_enabled w a = is_some (next w a)

@@ -1,14 +1,15 @@
--- Which call of a rank completes before another one, and what a run shows of it (MPI 4.0, sections 3.5 and 3.7.4).
-use Rattle.std.specs.Prelude.{◌≡◌, ℕ, Bool, true, false, ◌&&◌, ◌||◌, ◌==◌, nat_lt, List, ◌∷◌, ◌++◌, Option, Some, None, is_some}
-use Rattle.std.specs.List.{list_any}
+-- Which call of a rank completes before another one, and what a run shows of it (MPI 4.0, sections 3.5, 3.7.4 and 6.3).
+use Rattle.std.specs.Prelude.{◌≡◌, ℕ, Bool, true, false, ◌&&◌, ◌||◌, ◌==◌, nat_lt, List, ◌∷◌, ◌++◌, take, count_by, Option, Some, None, is_some}
 use Rattle.mpd_model.specs.declared.step.CallId.{CallId}
+use Rattle.mpd_model.specs.declared.call.Call.{Call}
 use Rattle.mpd_model.specs.declared.call.CallKind.{CallKind}
-use Rattle.mpd_model.specs.declared.call.CallKind.TheVariants.{Send, Recv, Wait}
+use Rattle.mpd_model.specs.declared.call.CallKind.TheVariants.{Send, Recv, Wait, Barrier}
 use Rattle.mpd_model.specs.declared.call.SendCall.{SendCall}
 use Rattle.mpd_model.specs.declared.call.RecvCall.{RecvCall}
 use Rattle.mpd_model.specs.declared.call.MatchSet.{MatchSet}
-use Rattle.mpd_model.specs.declared.call.MatchSet.TheVariants.{Pair, Woke, Barrier}
-use Rattle.mpd_model.specs.World.{Board, id_eq, kind_at, partner, is_done}
+use Rattle.mpd_model.specs.declared.call.MatchSet.TheVariants.{Pair, Woke}
+use Rattle.mpd_model.specs.declared.call.MatchSet.TheVariants as set
+use Rattle.mpd_model.specs.World.{Board, id_eq, calls_of, kind_at, partner, is_done, is_barrier}
 use Rattle.mpd_model.specs.Next.{blocks}
 
 -- ---- the four cases
@@ -18,6 +19,7 @@ abbrev pub same_envelope_as : SendCall → Option CallKind → Bool
 same_envelope_as a (Some (Send b)) = (a.to == b.to) && (a.tag == b.tag)
 same_envelope_as a (Some (Recv r)) = false
 same_envelope_as a (Some (Wait t)) = false
+same_envelope_as a (Some Barrier) = false
 same_envelope_as a None = false
 
 -- what a source or a tag takes, the other takes too
@@ -31,6 +33,7 @@ abbrev pub is_covered_by : RecvCall → Option CallKind → Bool
 is_covered_by a (Some (Send s)) = false
 is_covered_by a (Some (Recv b)) = covers_number a.from b.from && covers_number a.tag b.tag
 is_covered_by a (Some (Wait t)) = false
+is_covered_by a (Some Barrier) = false
 is_covered_by a None = false
 
 -- two sends of the same envelope, or two receives of which the first takes whatever the second does
@@ -38,6 +41,7 @@ abbrev pub matches_first : Option CallKind → Option CallKind → Bool
 matches_first (Some (Send a)) other = same_envelope_as a other
 matches_first (Some (Recv a)) other = is_covered_by a other
 matches_first (Some (Wait t)) other = false
+matches_first (Some Barrier) other = false
 matches_first None other = false
 
 abbrev pub is_number : Option ℕ → ℕ → Bool
@@ -49,6 +53,7 @@ abbrev pub waits_for : Option CallKind → ℕ → Bool
 waits_for (Some (Send s)) i = false
 waits_for (Some (Recv r)) i = false
 waits_for (Some (Wait t)) i = is_number t.target i
+waits_for (Some Barrier) i = false
 waits_for None i = false
 
 -- a call that its rank waits for
@@ -65,31 +70,59 @@ before b x y =
 
 -- ---- what that orders, in the list of match sets
 
--- a match set that names a call
-abbrev pub names : MatchSet → CallId → Bool
-names (Pair s r) c = id_eq s c || id_eq r c
-names (Woke d) c = id_eq d c
-names Barrier c = false
+abbrev pub is_release : MatchSet → Bool
+is_release (Pair s r) = false
+is_release (Woke c) = false
+is_release set.Barrier = true
 
--- the match set of a call that its rank went on from
-abbrev pub is_wake_of : CallId → MatchSet → Bool
-is_wake_of c (Pair s r) = false
-is_wake_of c (Woke d) = id_eq d c
-is_wake_of c Barrier = false
+-- how many times all ranks left a barrier
+abbrev pub releases : List MatchSet → ℕ
+releases sets = count_by is_release sets
+
+-- how many of some calls are barriers
+abbrev pub barriers : List Call → ℕ
+barriers calls = count_by (λ c. is_barrier (Some c.kind)) calls
+
+abbrev pub barriers_before : Board → CallId → ℕ
+barriers_before b c = barriers (take c.index (calls_of b c.rank))
+
+-- A release is of one barrier of each rank: behind n others it is of that before which the rank had issued n barriers.
+abbrev pub is_released_by : Board → ℕ → CallId → Bool
+is_released_by b n c = is_barrier (kind_at b c) && (barriers_before b c == n)
+
+-- a match set, with those in front of it, that names a call: it is of the call's pair, of its wake, or of its release
+abbrev pub names : Board → List MatchSet → MatchSet → CallId → Bool
+names b front (Pair s r) c = id_eq s c || id_eq r c
+names b front (Woke d) c = id_eq d c
+names b front set.Barrier c = is_released_by b (releases front) c
+
+-- a match set, with those in front of it, by which the rank of a call went on from it
+abbrev pub is_exit : Board → List MatchSet → MatchSet → CallId → Bool
+is_exit b front (Pair s r) c = false
+is_exit b front (Woke d) c = id_eq d c
+is_exit b front set.Barrier c = is_released_by b (releases front) c
+
+-- match sets among which is the one by which the rank of a call went on from it
+pub record WentOn (b : Board) (sets : List MatchSet) (x : CallId) : Type 0 where
+  pub front : List MatchSet
+  pub by : MatchSet
+  pub behind : List MatchSet
+  pub cut : sets ≡ front ++ (by ∷ behind)
+  pub exit : is_exit b front by x ≡ true
 
 -- where a pair names y, an earlier one names x
-abbrev pub PairedAfter : List MatchSet → CallId → CallId → Type 0
-PairedAfter sets x y = (front behind : List MatchSet) (s r : CallId) → sets ≡ front ++ (Pair s r ∷ behind) → names (Pair s r) y ≡ true → is_some (partner front x) ≡ true
+abbrev pub PairedAfter : Board → CallId → CallId → Type 0
+PairedAfter b x y = (front behind : List MatchSet) (s r : CallId) → b.sets ≡ front ++ (Pair s r ∷ behind) → names b front (Pair s r) y ≡ true → is_some (partner front x) ≡ true
 
 -- where the rank went on from y, x was done: it was paired earlier, or buffered as it was issued
 abbrev pub DoneBefore : Board → CallId → CallId → Type 0
 DoneBefore b x y = (front behind : List MatchSet) → b.sets ≡ front ++ (Woke y ∷ behind) → is_done (record b { sets = front }) x ≡ true
 
 -- each match set that names y stands behind the one by which the rank went on from x
-abbrev pub WokenBefore : List MatchSet → CallId → CallId → Type 0
-WokenBefore sets x y = (front behind : List MatchSet) (m : MatchSet) → sets ≡ front ++ (m ∷ behind) → names m y ≡ true → list_any (is_wake_of x) front ≡ true
+abbrev pub WentOnBefore : Board → CallId → CallId → Type 0
+WentOnBefore b x y = (front behind : List MatchSet) (m : MatchSet) → b.sets ≡ front ++ (m ∷ behind) → names b front m y ≡ true → WentOn b front x
 
 pub record Ordered (b : Board) (x y : CallId) : Type 0 where
-  pub matched : matches_first (kind_at b x) (kind_at b y) ≡ true → PairedAfter b.sets x y
+  pub matched : matches_first (kind_at b x) (kind_at b y) ≡ true → PairedAfter b x y
   pub waited : waits_for (kind_at b y) x.index ≡ true → DoneBefore b x y
-  pub woken : blocks_rank (kind_at b x) ≡ true → WokenBefore b.sets x y
+  pub went_on : blocks_rank (kind_at b x) ≡ true → WentOnBefore b x y

@@ -42,10 +42,13 @@ parts_of (st.Print e) = of_mark m.Print ∷ of_term e ∷ []
 parts_of (st.Assign s) = of_target Variable s.into ∷ of_mark m.Assign ∷ of_term s.value ∷ []
 parts_of (st.Assert e) = of_mark m.Assert ∷ of_term e ∷ []
 parts_of (st.Send s) = of_mark m.Send ∷ sent_parts s
+parts_of (st.Ssend s) = of_mark m.Ssend ∷ sent_parts s
 parts_of (st.Recv s) = of_mark m.Recv ∷ received_parts s
 parts_of (st.Isend s) = of_mark m.Isend ∷ of_target Handle s.request ∷ sent_parts s.send
+parts_of (st.Issend s) = of_mark m.Issend ∷ of_target Handle s.request ∷ sent_parts s.send
 parts_of (st.Irecv s) = of_mark m.Irecv ∷ of_target Handle s.request ∷ received_parts s.recv
 parts_of (st.Wait t) = of_mark m.Wait ∷ of_target Handle t ∷ []
+parts_of st.Barrier = of_mark m.Barrier ∷ []
 
 -- ---- before it is read: the mark that must come next, or a hole for what comes
 

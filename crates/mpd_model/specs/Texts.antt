@@ -1,19 +1,20 @@
 -- Printed texts: calls, match sets, what a rank is doing, how a run has ended, and all that `show` prints.
-use Rattle.std.specs.Prelude.{ℕ, ℤ, Bool, if◌then◌else◌, List, [], ◌∷◌, ◌++◌, Option, Some, None, slice_get, slice_index_or, codes}
+use Rattle.std.specs.Prelude.{ℕ, ℤ, Bool, true, false, if◌then◌else◌, List, [], ◌∷◌, ◌++◌, Option, Some, None, slice_get, slice_index_or, codes}
 use Rattle.std.specs.List.{flat_map}
 use Rattle.std.specs.Fmt.{decimal, signed_decimal}
 use Rattle.mpd_model.specs.declared.step.CallId.{CallId}
 use Rattle.mpd_model.specs.declared.step.Step.{Step}
 use Rattle.mpd_model.specs.declared.step.Step.TheVariants.{Local, Match, Wake, Release}
 use Rattle.mpd_model.specs.declared.call.CallKind.{CallKind}
-use Rattle.mpd_model.specs.declared.call.CallKind.TheVariants.{Send, Recv, Wait}
+use Rattle.mpd_model.specs.declared.call.CallKind.TheVariants.{Send, Recv, Wait, Barrier}
 use Rattle.mpd_model.specs.declared.call.Trap.{Trap}
 use Rattle.mpd_model.specs.declared.call.Trap.TheVariants.{Overflow, ZeroDivisor, BadRank, BadTag, BadIndex, Assertion}
 use Rattle.mpd_model.specs.declared.call.Activity.{Activity}
 use Rattle.mpd_model.specs.declared.call.Activity.TheVariants.{Running, Blocked, Trapped}
 use Rattle.mpd_model.specs.declared.call.Message.{Message}
 use Rattle.mpd_model.specs.declared.call.MatchSet.{MatchSet}
-use Rattle.mpd_model.specs.declared.call.MatchSet.TheVariants.{Pair, Woke, Barrier}
+use Rattle.mpd_model.specs.declared.call.MatchSet.TheVariants.{Pair, Woke}
+use Rattle.mpd_model.specs.declared.call.MatchSet.TheVariants as set
 use Rattle.mpd_model.specs.declared.outcome.TrappedRank.{TrappedRank}
 use Rattle.mpd_model.specs.declared.outcome.Outcome.{Outcome}
 use Rattle.mpd_model.specs.declared.outcome.Outcome.TheVariants as ending
@@ -56,9 +57,12 @@ trap_name BadTag = codes "bad-tag"
 trap_name BadIndex = codes "bad-index"
 trap_name Assertion = codes "assert"
 
--- a call that its rank doesn't wait for has a word of its own
-abbrev pub send_word : Bool → List ℕ
-send_word blocks = if blocks then codes "send" else codes "isend"
+-- a synchronous send, and a call that its rank doesn't wait for, have words of their own
+abbrev pub send_word : Bool → Bool → List ℕ
+send_word false true = codes "send"
+send_word false false = codes "isend"
+send_word true true = codes "ssend"
+send_word true false = codes "issend"
 
 abbrev pub recv_word : Bool → List ℕ
 recv_word blocks = if blocks then codes "recv" else codes "irecv"
@@ -73,9 +77,10 @@ any_text None = codes "any"
 any_text (Some n) = decimal n
 
 abbrev pub kind_text : CallKind → List ℕ
-kind_text (Send s) = send_word s.blocks ++ codes " to " ++ decimal s.to ++ codes " tag " ++ decimal s.tag ++ codes " value " ++ signed_decimal s.value
+kind_text (Send s) = send_word s.synchronous s.blocks ++ codes " to " ++ decimal s.to ++ codes " tag " ++ decimal s.tag ++ codes " value " ++ signed_decimal s.value
 kind_text (Recv r) = recv_word r.blocks ++ codes " from " ++ any_text r.from ++ codes " tag " ++ any_text r.tag
 kind_text (Wait t) = codes "wait " ++ target_text t.target
+kind_text Barrier = codes "barrier"
 
 -- the call that a call was paired with, and the mark of one that is free
 abbrev pub partner_text : Option CallId → List ℕ
@@ -89,6 +94,7 @@ mark_text b c = if is_free b c then codes " free" else partner_text (partner b.s
 abbrev pub got_text : CallKind → Option Message → List ℕ
 got_text (Send s) m = []
 got_text (Wait t) m = []
+got_text Barrier m = []
 got_text (Recv r) None = []
 got_text (Recv r) (Some m) = codes " value " ++ signed_decimal m.value
 
@@ -127,7 +133,7 @@ rank_text s w p = rank_text_of s w p (slice_get w.ranks p)
 abbrev pub set_text : MatchSet → List ℕ
 set_text (Pair s r) = codes "pair " ++ id_text s ++ 32 ∷ id_text r
 set_text (Woke c) = codes "woke " ++ id_text c
-set_text Barrier = codes "barrier"
+set_text set.Barrier = codes "barrier"
 
 abbrev pub trapped_text : TrappedRank → List ℕ
 trapped_text t = decimal t.rank ++ 32 ∷ trap_name t.trap

@@ -6,7 +6,7 @@ use Rattle.std.specs.Coded.{Coded, code_by, coded×, coded_ℕ, coded_ℤ, coded
 use Rattle.mpd_model.specs.declared.step.CallId.{CallId}
 use Rattle.mpd_model.specs.declared.call.Call.{Call}
 use Rattle.mpd_model.specs.declared.call.CallKind.{CallKind}
-use Rattle.mpd_model.specs.declared.call.CallKind.TheVariants.{Send, Recv, Wait}
+use Rattle.mpd_model.specs.declared.call.CallKind.TheVariants.{Send, Recv, Wait, Barrier}
 use Rattle.mpd_model.specs.declared.call.SendCall.{SendCall}
 use Rattle.mpd_model.specs.declared.call.Message.{Message}
 use Rattle.mpd_model.specs.declared.call.Mode.{Mode}
@@ -14,7 +14,8 @@ use Rattle.mpd_model.specs.declared.call.Mode.TheVariants.{Rendezvous, Buffered}
 use Rattle.mpd_model.specs.declared.call.Activity.{Activity}
 use Rattle.mpd_model.specs.declared.call.Activity.TheVariants.{Running}
 use Rattle.mpd_model.specs.declared.call.MatchSet.{MatchSet}
-use Rattle.mpd_model.specs.declared.call.MatchSet.TheVariants.{Pair, Woke, Barrier}
+use Rattle.mpd_model.specs.declared.call.MatchSet.TheVariants.{Pair, Woke}
+use Rattle.mpd_model.specs.declared.call.MatchSet.TheVariants as set
 use Rattle.mpd_model.specs.contracts.call.Mode as mode_row
 use Rattle.mpd_model.specs.contracts.call.Call as call_row
 use Rattle.mpd_model.specs.contracts.call.Activity as activity_row
@@ -99,13 +100,14 @@ abbrev pub partner : List MatchSet → CallId → Option CallId
 partner [] c = None
 partner (Pair s r ∷ sets) c = if id_eq s c then Some r else (if id_eq r c then Some s else partner sets c)
 partner (Woke d ∷ sets) c = partner sets c
-partner (Barrier ∷ sets) c = partner sets c
+partner (set.Barrier ∷ sets) c = partner sets c
 
 -- a send or a receive: what matching is about
 abbrev pub is_message_kind : Option CallKind → Bool
 is_message_kind (Some (Send s)) = true
 is_message_kind (Some (Recv r)) = true
 is_message_kind (Some (Wait t)) = false
+is_message_kind (Some Barrier) = false
 is_message_kind None = false
 
 -- a send or a receive that no pair names
@@ -124,12 +126,14 @@ abbrev pub fitting_recv : SendCall → Option CallKind → ℕ → ℕ → Bool
 fitting_recv s (Some (Send t)) p q = false
 fitting_recv s (Some (Recv r)) p q = (s.to == q) && (is_any_or r.from p && is_any_or r.tag s.tag)
 fitting_recv s (Some (Wait t)) p q = false
+fitting_recv s (Some Barrier) p q = false
 fitting_recv s None p q = false
 
 abbrev pub fitting : Option CallKind → Option CallKind → ℕ → ℕ → Bool
 fitting (Some (Send s)) other p q = fitting_recv s other p q
 fitting (Some (Recv r)) other p q = false
 fitting (Some (Wait t)) other p q = false
+fitting (Some Barrier) other p q = false
 fitting None other p q = false
 
 abbrev pub fits : Board → CallId → CallId → Bool
@@ -139,12 +143,14 @@ abbrev pub sends_to : Option CallKind → ℕ → Bool
 sends_to (Some (Send s)) q = s.to == q
 sends_to (Some (Recv r)) q = false
 sends_to (Some (Wait t)) q = false
+sends_to (Some Barrier) q = false
 sends_to None q = false
 
 abbrev pub receives : Option CallKind → Bool
 receives (Some (Send s)) = false
 receives (Some (Recv r)) = true
 receives (Some (Wait t)) = false
+receives (Some Barrier) = false
 receives None = false
 
 abbrev pub is_pending : Board → ℕ → ℕ → ℕ → Bool
@@ -169,22 +175,25 @@ eligible b s r =
     && (not (list_any (λ i. nat_lt i s.index && fits b (call_id s.rank i) r) (pending b s.rank r.rank))
     && not (list_any (λ i. nat_lt i r.index && fits b s (call_id r.rank i)) (posted b r.rank)))))
 
--- ---- messages and completion (MPI 4.0, sections 3.4 and 3.7.3)
+-- ---- messages and completion (MPI 4.0, sections 3.4, 3.7.3 and 6.3)
 
 abbrev pub message_of : CallId → Option CallKind → Option Message
 message_of c (Some (Send s)) = Some (record { value = s.value; source = c.rank; tag = s.tag })
 message_of c (Some (Recv r)) = None
 message_of c (Some (Wait t)) = None
+message_of c (Some Barrier) = None
 message_of c None = None
 
 -- the message that a receive was paired with
 abbrev pub buffer : Board → CallId → Option Message
 buffer b r = option_and_then (λ s. message_of s (kind_at b s)) (partner b.sets r)
 
+-- A standard send is, where the mode says so; a synchronous one never is.
 abbrev pub is_buffered : Mode → Option CallKind → Bool
-is_buffered Buffered (Some (Send s)) = true
+is_buffered Buffered (Some (Send s)) = not s.synchronous
 is_buffered Buffered (Some (Recv r)) = false
 is_buffered Buffered (Some (Wait t)) = false
+is_buffered Buffered (Some Barrier) = false
 is_buffered Buffered None = false
 is_buffered Rendezvous kind = false
 
@@ -197,18 +206,27 @@ abbrev pub awaited_by : CallId → Option CallKind → Option CallId
 awaited_by c (Some (Wait t)) = option_map (call_id c.rank) t.target
 awaited_by c (Some (Send s)) = Some c
 awaited_by c (Some (Recv r)) = Some c
+awaited_by c (Some Barrier) = Some c
 awaited_by c None = Some c
 
 abbrev pub awaited : Board → CallId → Option CallId
 awaited b c = awaited_by c (kind_at b c)
+
+abbrev pub is_barrier : Option CallKind → Bool
+is_barrier (Some (Send s)) = false
+is_barrier (Some (Recv r)) = false
+is_barrier (Some (Wait t)) = false
+is_barrier (Some Barrier) = true
+is_barrier None = false
 
 -- Where nothing is waited for, as by a wait for a handle without a request, a call is complete at once.
 abbrev pub complete_by : Board → Option CallId → Bool
 complete_by b None = true
 complete_by b (Some c) = is_done b c
 
+-- A barrier never is: its rank goes on as all ranks do.
 abbrev pub complete : Board → CallId → Bool
-complete b c = complete_by b (awaited b c)
+complete b c = not (is_barrier (kind_at b c)) && complete_by b (awaited b c)
 
 -- the last call that a rank has issued
 abbrev pub last_call : Board → ℕ → CallId

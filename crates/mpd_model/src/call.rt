@@ -5,9 +5,9 @@ use crate::step::CallId;
 /// How standard sends behave (MPI 4.0, section 3.4; docs/DEFINITIONS.md, "Modes").
 #[derive(Clone, Copy, Debug, PartialEq, Eq)]
 pub enum Mode {
-    /// No standard send is buffered: it is complete once it is paired.
+    /// No send is buffered: it is complete once it is paired.
     Rendezvous,
-    /// Every standard send is complete as it is issued, and still matches later.
+    /// Every standard send is complete as it is issued, and still matches later. A synchronous send is complete once it is paired.
     Buffered,
 }
 
@@ -19,7 +19,7 @@ pub struct Call {
     pub kind: CallKind,
 }
 
-/// A standard send.
+/// A standard or a synchronous send.
 #[derive(Clone, Copy, Debug, PartialEq, Eq)]
 pub struct SendCall {
     /// Its destination, 0 to 15.
@@ -28,7 +28,9 @@ pub struct SendCall {
     pub tag: usize,
     /// The value of its message.
     pub value: i64,
-    /// Whether its rank waits for it: `send` does, `isend` doesn't.
+    /// Whether it is complete only once it is paired, in every mode (MPI 4.0, section 3.4): `ssend` and `issend` are.
+    pub synchronous: bool,
+    /// Whether its rank waits for it: `send` and `ssend` do, `isend` and `issend` don't.
     pub blocks: bool,
 }
 
@@ -66,12 +68,14 @@ pub struct WaitCall {
 /// What a call is.
 #[derive(Clone, Copy, Debug, PartialEq, Eq)]
 pub enum CallKind {
-    /// A standard send (MPI 4.0, sections 3.2.1 and 3.7.2).
+    /// A standard or a synchronous send (MPI 4.0, sections 3.2.1, 3.4 and 3.7.2).
     Send(SendCall),
     /// A receive (MPI 4.0, sections 3.2.4 and 3.7.2).
     Recv(RecvCall),
     /// A wait (MPI 4.0, section 3.7.3).
     Wait(WaitCall),
+    /// A barrier. Its rank waits until all ranks do so at one (MPI 4.0, section 6.3).
+    Barrier,
 }
 
 /// A call that a statement issues.
@@ -123,6 +127,6 @@ pub enum MatchSet {
     Pair(CallId, CallId),
     /// The call whose rank went on.
     Woke(CallId),
-    /// All ranks left a barrier.
+    /// All ranks left the barrier that they were blocked on.
     Barrier,
 }

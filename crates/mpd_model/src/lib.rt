@@ -5,6 +5,7 @@ pub mod call;
 pub mod expr;
 pub mod limits;
 pub mod lines;
+pub mod mode;
 pub mod outcome;
 pub mod place;
 pub mod read_fault;

@@ -16,8 +16,8 @@ pub enum Step {
     Local(usize),
     /// A send, the first, is paired with a receive (MPI 4.0, section 3.5).
     Match(CallId, CallId),
-    /// A rank that is blocked on a complete call goes on.
+    /// A rank that is blocked on a complete call goes on. A barrier never is complete.
     Wake(usize),
-    /// All ranks leave a barrier (MPI 4.0, section 6.3).
+    /// All ranks, each of them blocked on a barrier, go on (MPI 4.0, section 6.3).
     Release,
 }

@@ -30,7 +30,7 @@ pub struct Stmt {
     pub node: StmtNode,
 }
 
-/// What a standard send sends (MPI 4.0, section 3.2.1).
+/// What a send sends (MPI 4.0, sections 3.2.1 and 3.4).
 #[derive(Debug, Drop)]
 pub struct SendStmt {
     pub value: Expr,
@@ -58,7 +58,7 @@ pub struct RecvStmt {
     pub status: Option<StatusStmt>,
 }
 
-/// A nonblocking standard send (MPI 4.0, section 3.7.2).
+/// A nonblocking send (MPI 4.0, section 3.7.2).
 #[derive(Debug, Drop)]
 pub struct IsendStmt {
     /// The handle that gets the request.
@@ -87,12 +87,19 @@ pub enum Simple {
     Print(Expr),
     Assign(AssignStmt),
     Assert(Expr),
+    /// A standard send (MPI 4.0, section 3.2.1).
     Send(SendStmt),
+    /// A synchronous send (MPI 4.0, section 3.4).
+    Ssend(SendStmt),
     Recv(RecvStmt),
     Isend(IsendStmt),
+    /// A nonblocking synchronous send (MPI 4.0, sections 3.4 and 3.7.2).
+    Issend(IsendStmt),
     Irecv(IrecvStmt),
     /// A wait for the request of a handle (MPI 4.0, section 3.7.3).
     Wait(Target),
+    /// A barrier of all ranks (MPI 4.0, section 6.3).
+    Barrier,
 }
 
 /// What a statement is made of (docs/LANGUAGE.md, "Statements").

@@ -45,10 +45,15 @@ pub fn print_step(alloc: Global, step: Step) -> Result<String, AllocError>
 }
 
 /// The word of a send.
-fn send_word(blocks: bool) -> &'static str
-    ensures { result.now ≡ send_word blocks }
+fn send_word(synchronous: bool, blocks: bool) -> &'static str
+    ensures { result.now ≡ send_word synchronous blocks }
 {
-    if blocks { "send" } else { "isend" }
+    match (synchronous, blocks) {
+        (false, true) => "send",
+        (false, false) => "isend",
+        (true, true) => "ssend",
+        (true, false) => "issend",
+    }
 }
 
 /// The word of a receive.
@@ -87,7 +92,7 @@ impl fmt::Display for CallKind {
             CallKind::Send(s) => write!(
                 f,
                 "{} to {} tag {} value {}",
-                send_word(s.blocks),
+                send_word(s.synchronous, s.blocks),
                 s.to,
                 s.tag,
                 s.value
@@ -101,6 +106,7 @@ impl fmt::Display for CallKind {
                 None => write!(f, "wait none"),
                 Some(call) => write!(f, "wait {call}"),
             },
+            CallKind::Barrier => write!(f, "barrier"),
         }
     }
 }

@@ -24,13 +24,16 @@ pub(crate) fn push_simple(
         Simple::Assign(assign) => push_assign(out, decls, assign),
         Simple::Assert(test) => push_behind(out, decls, "assert ", test),
         Simple::Send(send) => push_send(out, decls, send),
+        Simple::Ssend(send) => push_ssend(out, decls, send),
         Simple::Recv(recv) => push_recv(out, decls, recv),
         Simple::Isend(isend) => push_isend(out, decls, isend),
+        Simple::Issend(issend) => push_issend(out, decls, issend),
         Simple::Irecv(irecv) => push_irecv(out, decls, irecv),
         Simple::Wait(request) => {
             out.push_str("wait ")?;
             push_target(out, decls, request)
         }
+        Simple::Barrier => out.push_str("barrier"),
     }
 }
 
@@ -58,6 +61,14 @@ fn push_send(out: &mut String, decls: &[Decl], send: &SendStmt) -> Result<(), Al
     push_sent(out, decls, send)
 }
 
+/// Adds a synchronous send.
+fn push_ssend(out: &mut String, decls: &[Decl], send: &SendStmt) -> Result<(), AllocError>
+    ensures { OnOk result (string_bytes out.new ≡ string_bytes out.old ++ parts_text decls.now (parts_of (st.Ssend send.now))) }
+{
+    out.push_str("ssend ")?;
+    push_sent(out, decls, send)
+}
+
 /// Adds a receive.
 fn push_recv(out: &mut String, decls: &[Decl], recv: &RecvStmt) -> Result<(), AllocError>
     ensures { OnOk result (string_bytes out.new ≡ string_bytes out.old ++ parts_text decls.now (parts_of (st.Recv recv.now))) }
@@ -74,6 +85,16 @@ fn push_isend(out: &mut String, decls: &[Decl], isend: &IsendStmt) -> Result<(),
     push_target(out, decls, &isend.request)?;
     out.push_str(" ")?;
     push_sent(out, decls, &isend.send)
+}
+
+/// Adds a nonblocking synchronous send.
+fn push_issend(out: &mut String, decls: &[Decl], issend: &IsendStmt) -> Result<(), AllocError>
+    ensures { OnOk result (string_bytes out.new ≡ string_bytes out.old ++ parts_text decls.now (parts_of (st.Issend issend.now))) }
+{
+    out.push_str("issend ")?;
+    push_target(out, decls, &issend.request)?;
+    out.push_str(" ")?;
+    push_sent(out, decls, &issend.send)
 }
 
 /// Adds a nonblocking receive.

@@ -16,7 +16,7 @@ use Rattle.mpd_model.specs.Term.{Term, Target, Value, Env, and_then, value_of, c
 use Rattle.mpd_model.specs.Tree.{Tree, Block, repeat, trees, statements_in, numbered}
 use Rattle.mpd_model.specs.Program.{Program}
 use Rattle.mpd_model.specs.World.{RankWorld}
-use Rattle.mpd_model.specs.Next.{HasReceiver, alone, local, env_of, ran, ran_simple, printed, issued, assigned, asserted, chosen, repeated, send_issue, recv_issue, isend_issue, irecv_issue, wait_issue, assignment, rank_value, tag_value, source_value, any_tag_value, status_cells, send_kind, recv_kind, wait_kind, awaiting}
+use Rattle.mpd_model.specs.Next.{HasReceiver, alone, local, env_of, ran, ran_simple, printed, issued, assigned, asserted, chosen, repeated, send_issue, ssend_issue, recv_issue, isend_issue, issend_issue, irecv_issue, wait_issue, barrier_issue, assignment, rank_value, tag_value, source_value, any_tag_value, status_cells, send_kind, recv_kind, wait_kind, awaiting}
 use Rattle.mpd_code.specs.declared.node.Node.{Node}
 use Rattle.mpd_code.specs.declared.node.Action.{Action}
 use Rattle.mpd_code.specs.declared.node.Action.TheVariants as a
@@ -82,10 +82,13 @@ simple_ran s env r n i next (st.Print e) = print_ran s r n i next (value_of e en
 simple_ran s env r n i next (st.Assign t) = assign_ran s r n i next (assignment t env)
 simple_ran s env r n i next (st.Assert e) = assert_ran s r n i next (value_of e env)
 simple_ran s env r n i next (st.Send t) = issue_ran s r n i next (send_issue t env)
+simple_ran s env r n i next (st.Ssend t) = issue_ran s r n i next (ssend_issue t env)
 simple_ran s env r n i next (st.Recv t) = issue_ran s r n i next (recv_issue t env)
 simple_ran s env r n i next (st.Isend t) = issue_ran s r n i next (isend_issue t env)
+simple_ran s env r n i next (st.Issend t) = issue_ran s r n i next (issend_issue t env)
 simple_ran s env r n i next (st.Irecv t) = issue_ran s r n i next (irecv_issue t env)
 simple_ran s env r n i next (st.Wait t) = issue_ran s r n i next (wait_issue t env)
+simple_ran s env r n i next st.Barrier = issue_ran s r n i next barrier_issue
 
 does_ran : (s : Program) (env : Env) (r : RankWorld) (n i next : ℕ) (act : Action) (t : Tree) → Does (left_at s) i (left_at s next) act t
     → plan_ran s r n i (plan_of act next env) ≡ ran env r n i t (left_at s next)
@@ -124,10 +127,13 @@ simple_recorded env next (st.Print e) = print_recorded env.vars env.handles next
 simple_recorded env next (st.Assign t) = assign_recorded env.vars env.handles next (assignment t env)
 simple_recorded env next (st.Assert e) = assert_recorded env.vars env.handles next (value_of e env)
 simple_recorded env next (st.Send t) = issue_recorded env.vars env.handles next (send_issue t env)
+simple_recorded env next (st.Ssend t) = issue_recorded env.vars env.handles next (ssend_issue t env)
 simple_recorded env next (st.Recv t) = issue_recorded env.vars env.handles next (recv_issue t env)
 simple_recorded env next (st.Isend t) = issue_recorded env.vars env.handles next (isend_issue t env)
+simple_recorded env next (st.Issend t) = issue_recorded env.vars env.handles next (issend_issue t env)
 simple_recorded env next (st.Irecv t) = issue_recorded env.vars env.handles next (irecv_issue t env)
 simple_recorded env next (st.Wait t) = issue_recorded env.vars env.handles next (wait_issue t env)
+simple_recorded env next st.Barrier = issue_recorded env.vars env.handles next barrier_issue
 
 does_recorded : (at : ℕ → List (ℕ × Tree)) (env : Env) (i next : ℕ) (tail : List (ℕ × Tree)) (act : Action) (t : Tree) → Does at i tail act t
     → plan_change env.vars env.handles (plan_of act next env) ≡ change_of env t
@@ -184,8 +190,8 @@ then_below : {A : Type 0} (n : ℕ) (r : Result A Trap) (f : A → Result CallKi
 then_below n (Ok x) f h = h x refl
 then_below n (Err t) f h = tt
 
-send_below : (blocks : Bool) (s : SendStmt) (env : Env) → Below env.size (send_kind blocks s env)
-send_below blocks s env =
+send_below : (synchronous blocks : Bool) (s : SendStmt) (env : Env) → Below env.size (send_kind synchronous blocks s env)
+send_below synchronous blocks s env =
     then_below env.size (value_of s.value env) _ (λ v h.
     then_below env.size (rank_value s.to env) _ (λ q below.
     then_below env.size (tag_value s.tag env) _ (λ t last. (checked_below (value_of s.to env) env.size BadRank q below, checked_below (value_of s.tag env) TAGS BadTag t last))))
@@ -220,11 +226,14 @@ simple_below : (env : Env) (next : ℕ) (t : Simple) → HasPlannedReceiver env.
 simple_below env next (st.Print e) = tt
 simple_below env next (st.Assign t) = tt
 simple_below env next (st.Assert e) = tt
-simple_below env next (st.Send t) = issue_below env.size (send_issue t env) next (awaiting_below env.size (send_kind true t env) (send_below true t env))
+simple_below env next (st.Send t) = issue_below env.size (send_issue t env) next (awaiting_below env.size (send_kind false true t env) (send_below false true t env))
+simple_below env next (st.Ssend t) = issue_below env.size (ssend_issue t env) next (awaiting_below env.size (send_kind true true t env) (send_below true true t env))
 simple_below env next (st.Recv t) = issue_below env.size (recv_issue t env) next (awaiting_below env.size (recv_kind true t env) (recv_below true t env))
-simple_below env next (st.Isend t) = issue_below env.size (isend_issue t env) next (held_by_below env.size (target_cell t.request env) (send_kind false t.send env) (send_below false t.send env))
+simple_below env next (st.Isend t) = issue_below env.size (isend_issue t env) next (held_by_below env.size (target_cell t.request env) (send_kind false false t.send env) (send_below false false t.send env))
+simple_below env next (st.Issend t) = issue_below env.size (issend_issue t env) next (held_by_below env.size (target_cell t.request env) (send_kind true false t.send env) (send_below true false t.send env))
 simple_below env next (st.Irecv t) = issue_below env.size (irecv_issue t env) next (held_by_below env.size (target_cell t.request env) (recv_kind false t.recv env) (recv_below false t.recv env))
 simple_below env next (st.Wait t) = issue_below env.size (wait_issue t env) next (awaiting_below env.size (wait_kind t env) (wait_below t env))
+simple_below env next st.Barrier = (tt, tt)
 
 action_below : (env : Env) (next : ℕ) (act : Action) → HasPlannedReceiver env.size (plan_of act next env)
 action_below env next (a.Simple t) = simple_below env next t

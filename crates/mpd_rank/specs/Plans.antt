@@ -3,7 +3,7 @@ use Rattle.std.specs.Prelude.{ℕ, ◌<◌, ℤ, [], ◌∷◌, ◌++◌, slice_
 use Rattle.mpd_model.specs.declared.limits.TheConstants.{TAGS}
 use Rattle.mpd_model.specs.declared.call.Call.{Call}
 use Rattle.mpd_model.specs.declared.call.CallKind.{CallKind}
-use Rattle.mpd_model.specs.declared.call.CallKind.TheVariants.{Send, Recv, Wait}
+use Rattle.mpd_model.specs.declared.call.CallKind.TheVariants.{Send, Recv, Wait, Barrier}
 use Rattle.mpd_model.specs.declared.call.Issue.{Issue as Issued}
 use Rattle.mpd_model.specs.declared.call.Trap.{Trap as Reason}
 use Rattle.mpd_model.specs.declared.call.Trap.TheVariants.{Assertion}
@@ -12,7 +12,7 @@ use Rattle.mpd_model.specs.declared.stmt.Simple.TheVariants as st
 use Rattle.mpd_model.specs.Term.{Value, Env, value_of, is_zero}
 use Rattle.mpd_model.specs.Program.{Program}
 use Rattle.mpd_model.specs.World.{RankWorld}
-use Rattle.mpd_model.specs.Next.{Ran, HasReceiver, trapped, requested, activity_after, send_issue, recv_issue, isend_issue, irecv_issue, wait_issue, assignment}
+use Rattle.mpd_model.specs.Next.{Ran, HasReceiver, trapped, requested, activity_after, send_issue, ssend_issue, recv_issue, isend_issue, issend_issue, irecv_issue, wait_issue, barrier_issue, assignment}
 use Rattle.mpd_code.specs.declared.node.Action.{Action}
 use Rattle.mpd_code.specs.declared.node.Action.TheVariants as a
 use Rattle.mpd_code.specs.Left.{left_at}
@@ -47,10 +47,13 @@ simple_plan (st.Print e) next env = plan.Alone (print_plan (value_of e env) next
 simple_plan (st.Assign s) next env = plan.Alone (assign_plan (assignment s env) next)
 simple_plan (st.Assert e) next env = plan.Alone (assert_plan (value_of e env) next)
 simple_plan (st.Send s) next env = issue_plan (send_issue s env) next
+simple_plan (st.Ssend s) next env = issue_plan (ssend_issue s env) next
 simple_plan (st.Recv s) next env = issue_plan (recv_issue s env) next
 simple_plan (st.Isend s) next env = issue_plan (isend_issue s env) next
+simple_plan (st.Issend s) next env = issue_plan (issend_issue s env) next
 simple_plan (st.Irecv s) next env = issue_plan (irecv_issue s env) next
 simple_plan (st.Wait t) next env = issue_plan (wait_issue t env) next
+simple_plan st.Barrier next env = issue_plan barrier_issue next
 
 -- what any action does
 abbrev pub plan_of : Action → ℕ → Env → LocalPlan
@@ -80,6 +83,7 @@ abbrev pub HasTag : Option CallKind → Type 0
 HasTag (Some (Send s)) = s.tag < TAGS
 HasTag (Some (Recv r)) = Unit {0}
 HasTag (Some (Wait t)) = Unit {0}
+HasTag (Some Barrier) = Unit {0}
 HasTag None = Unit {0}
 
 -- a plan that issues a send issues one to a rank, with a tag

@@ -10,7 +10,7 @@ use Rattle.mpd_model.specs.Term.{Value, Env, value_of, is_zero}
 use Rattle.mpd_model.specs.Tree.{Tree, simple, branch, repeat}
 use Rattle.mpd_model.specs.Program.{Program}
 use Rattle.mpd_model.specs.World.{RankWorld}
-use Rattle.mpd_model.specs.Next.{local, env_of, send_issue, recv_issue, isend_issue, irecv_issue, wait_issue, assignment}
+use Rattle.mpd_model.specs.Next.{local, env_of, send_issue, ssend_issue, recv_issue, isend_issue, issend_issue, irecv_issue, wait_issue, barrier_issue, assignment}
 use Rattle.mpd_rank.specs.declared.change.Change.{Change}
 use Rattle.mpd_rank.specs.declared.change.Change.TheVariants.{Moved, Printed, Issued, Trapped, Woke}
 use Rattle.mpd_rank.specs.declared.change.RankRecord.{RankRecord}
@@ -50,10 +50,13 @@ simple_change env (st.Print e) = print_change (value_of e env)
 simple_change env (st.Assign s) = write_change env.vars (assignment s env)
 simple_change env (st.Assert e) = assert_change (value_of e env)
 simple_change env (st.Send s) = issue_change env.handles (send_issue s env)
+simple_change env (st.Ssend s) = issue_change env.handles (ssend_issue s env)
 simple_change env (st.Recv s) = issue_change env.handles (recv_issue s env)
 simple_change env (st.Isend s) = issue_change env.handles (isend_issue s env)
+simple_change env (st.Issend s) = issue_change env.handles (issend_issue s env)
 simple_change env (st.Irecv s) = issue_change env.handles (irecv_issue s env)
 simple_change env (st.Wait t) = issue_change env.handles (wait_issue t env)
+simple_change env st.Barrier = issue_change env.handles barrier_issue
 
 abbrev pub change_of : Env → Tree → Change
 change_of env (simple s) = simple_change env s

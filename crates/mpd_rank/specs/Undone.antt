@@ -7,7 +7,7 @@ use Rattle.mpd_model.specs.World.{RankWorld}
 use Rattle.mpd_model.specs.Next.{write_cells}
 use Rattle.mpd_code.specs.Left.{left_at}
 use Rattle.mpd_rank.specs.declared.change.Change.{Change}
-use Rattle.mpd_rank.specs.declared.change.Change.TheVariants.{Moved, Assigned, Printed, Issued, Trapped, Matched, Woke}
+use Rattle.mpd_rank.specs.declared.change.Change.TheVariants.{Moved, Assigned, Printed, Issued, Trapped, Matched, Woke, Released}
 use Rattle.mpd_rank.specs.declared.change.RankRecord.{RankRecord}
 use Rattle.mpd_rank.specs.Views.{listed}
 
@@ -35,7 +35,8 @@ abbrev pub assigned_change : Option (ℕ × ℤ) → Change
 assigned_change None = Moved
 assigned_change (Some w) = Assigned w.0 w.1
 
--- a rank before a step, given where it stood and what else the step did; a wake moves no rank, and a match is of none
+-- a rank before a step of its own, given where it stood and what else the step did; a wake moves no rank, and a match and a release
+-- are of none
 abbrev pub put_back : Program → RankWorld → ℕ → Change → RankWorld
 put_back s r from Moved = record r { rest = left_at s from; activity = Running }
 put_back s r from (Assigned cell was) = record r { rest = left_at s from; vars = slice_set r.vars cell was; activity = Running }
@@ -44,9 +45,14 @@ put_back s r from (Issued handle) = record r { rest = left_at s from; handles = 
 put_back s r from Trapped = record r { rest = left_at s from; activity = Running }
 put_back s r from (Matched send recv) = r
 put_back s r from (Woke cells handle) = record r { vars = write_cells cells r.vars; handles = put_held handle r.handles; activity = Blocked }
+put_back s r from Released = r
 
 abbrev pub undone_rank : Program → RankWorld → RankRecord → RankWorld
 undone_rank s r done = put_back s r done.from done.change
+
+-- a rank before a release, which let it go on from a barrier
+abbrev pub blocked_again : RankWorld → RankWorld
+blocked_again r = record r { activity = Blocked }
 
 -- a change that a rank made
 abbrev pub IsOfRank : Change → Type 0
@@ -57,6 +63,7 @@ IsOfRank (Issued handle) = Unit {0}
 IsOfRank Trapped = Unit {0}
 IsOfRank (Matched send recv) = ⊥
 IsOfRank (Woke cells handle) = Unit {0}
+IsOfRank Released = ⊥
 
 -- a change that a rank made and that is its own: it issued no call, and woke from none
 abbrev pub IsOwn : Change → Type 0
@@ -67,3 +74,4 @@ IsOwn (Issued handle) = ⊥
 IsOwn Trapped = Unit {0}
 IsOwn (Matched send recv) = ⊥
 IsOwn (Woke cells handle) = ⊥
+IsOwn Released = ⊥

@@ -330,6 +330,8 @@ pub enum Change {
         cells: HeldCells,
         handle: HeldHandle,
     },
+    /// All ranks went on from a barrier. It is of no rank: each is blocked again as this is taken back.
+    Released,
 }
 
 impl Change {

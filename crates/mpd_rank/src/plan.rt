@@ -4,7 +4,10 @@ ghost use Rattle.std.specs.Prelude.{◌≡◌, IfSome};
 ghost use Rattle.mpd_rank.specs.Plans.{plan_call, plan_of, simple_plan, print_plan, assign_plan, issue_plan, assert_plan, choice_plan};
 
 use mpd_code::env::Env;
-use mpd_code::eval::{eval, eval_assign, eval_irecv, eval_isend, eval_recv, eval_send, eval_wait};
+use mpd_code::eval::{
+    barrier, eval, eval_assign, eval_irecv, eval_isend, eval_issend, eval_recv, eval_send,
+    eval_ssend, eval_wait,
+};
 use mpd_code::node::{Action, Node};
 use mpd_model::call::{Call, Issue, Trap};
 use mpd_model::stmt::Simple;
@@ -102,10 +105,13 @@ fn plan_simple(simple: &Simple, env: &Env<'_>, next: u32) -> LocalPlan
         Simple::Assign(assign) => LocalPlan::Alone(plan_assign(eval_assign(assign, env), next)),
         Simple::Assert(test) => LocalPlan::Alone(plan_assert(eval(test, env), next)),
         Simple::Send(send) => plan_issue(eval_send(send, env), next),
+        Simple::Ssend(send) => plan_issue(eval_ssend(send, env), next),
         Simple::Recv(recv) => plan_issue(eval_recv(recv, env), next),
         Simple::Isend(isend) => plan_issue(eval_isend(isend, env), next),
+        Simple::Issend(issend) => plan_issue(eval_issend(issend, env), next),
         Simple::Irecv(irecv) => plan_issue(eval_irecv(irecv, env), next),
         Simple::Wait(handle) => plan_issue(eval_wait(handle, env), next),
+        Simple::Barrier => plan_issue(Ok(barrier()), next),
     }
 }
 

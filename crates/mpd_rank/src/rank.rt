@@ -62,17 +62,17 @@ fn blocks(kind: CallKind) -> bool
     match kind {
         CallKind::Send(send) => send.blocks,
         CallKind::Recv(recv) => recv.blocks,
-        CallKind::Wait(_) => true,
+        CallKind::Wait(_) | CallKind::Barrier => true,
     }
 }
 
 impl RankState {
     ghost use Rattle.mpd_model.specs.World.{start_rank};
     ghost use Rattle.mpd_model.specs.Outcomes.{has_ended, first_number};
-    ghost use Rattle.mpd_model.specs.Next.{env_of, local, woken_rank, write_cells, requested, activity_after};
+    ghost use Rattle.mpd_model.specs.Next.{env_of, local, woken_rank, going_on, write_cells, requested, activity_after};
     ghost use Rattle.mpd_rank.specs.Views.{rank_of, listed};
     ghost use Rattle.mpd_rank.specs.Plans.{planned, planned_alone, plan_ran, HasPlannedReceiver};
-    ghost use Rattle.mpd_rank.specs.Undone.{IsOfRank, IsOwn, undone_rank, held, all_held, request_held, put_held};
+    ghost use Rattle.mpd_rank.specs.Undone.{IsOfRank, IsOwn, undone_rank, blocked_again, held, all_held, request_held, put_held};
     ghost use Rattle.mpd_rank.specs.Records.{local_record, plan_record, alone_record, wake_record, IsPlanned};
 
     /// A rank before its first step, with the whole body to run. An `Err` is want of memory.
@@ -423,9 +423,36 @@ impl RankState {
             }
             Change::Issued { handle } => self.put_handle(handle),
             Change::Moved | Change::Trapped => {}
-            Change::Matched { .. } => unreachable!(),
+            Change::Matched { .. } | Change::Released => unreachable!(),
         }
         self.stand(from, Activity::Running);
+    }
+
+    /// Does this from here on, at the node that it is at. One write.
+    fn act(&mut self, activity: Activity)
+        ensures { self.new ≡ record self.old { activity = activity; writes = self.old.writes + 1 } }
+    {
+        let node = self.standing().node;
+        self.stand(node, activity);
+    }
+
+    /// Goes on at a release, from the barrier that it was blocked on. It takes no memory, and none of the room that was kept. One
+    /// write.
+    pub fn go_on(&mut self)
+        ensures after { self.new ≡ record self.old { activity = Activity.Running; writes = self.old.writes + 1 } }
+        ensures world { (p : Program) → rank_of p self.new ≡ going_on (rank_of p self.old) }
+        ensures back { (p : Program) → self.old.activity ≡ Activity.Blocked → blocked_again (rank_of p self.new) ≡ rank_of p self.old }
+    {
+        self.act(Activity::Running);
+    }
+
+    /// Takes back what a release made of it: it is blocked again. It takes no memory, and none of the room that was kept. One
+    /// write.
+    pub fn block_again(&mut self)
+        ensures after { self.new ≡ record self.old { activity = Activity.Blocked; writes = self.old.writes + 1 } }
+        ensures world { (p : Program) → rank_of p self.new ≡ blocked_again (rank_of p self.old) }
+    {
+        self.act(Activity::Blocked);
     }
 
     /// Whether the rank is running and has a statement left.

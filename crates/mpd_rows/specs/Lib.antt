@@ -14,3 +14,6 @@ pub mod RequestRows
 pub mod RequestReaderRows
 pub mod WildcardRows
 pub mod WildcardReaderRows
+pub mod BarrierRows
+pub mod SendRows
+pub mod BarrierReaderRows

@@ -118,7 +118,7 @@ pub rv_e20 : reading (codes "mpd 1;ranks 1;send 1 to 0;") ≡ Err (fault f.Expec
 unfolding reading script header version ranks decls decls_from decl declaring single sized body stmts stmt block choosing otherwise repeating target named source status assigning expr level chain atom place_inside bracket rounds signed count spend seek slot_in fresh add expect after sees same_mark advanced place spelling token refusal tokens_after front sign word number
 rv_e20 = refl
 
-pub rv_e21 : reading (codes "mpd 1;ranks 1;ssend 1 to 0 tag 0;") ≡ Err (fault f.Expected 14)
+pub rv_e21 : reading (codes "mpd 1;ranks 1;ssend 1 to 0;") ≡ Err (fault f.Expected 26)
 unfolding reading script header version ranks decls decls_from decl declaring single sized body stmts stmt block choosing otherwise repeating target named source status assigning expr level chain atom place_inside bracket rounds signed count spend seek slot_in fresh add expect after sees same_mark advanced place spelling token refusal tokens_after front sign word number
 rv_e21 = refl
 
@@ -258,7 +258,7 @@ pub rv_e59 : reading (codes "mpd 1;ranks 1;var x;print x==;") ≡ Err (fault f.E
 unfolding reading script header version ranks decls decls_from decl declaring single sized body stmts stmt block choosing otherwise repeating target named source status assigning expr level chain atom place_inside bracket rounds signed count spend seek slot_in fresh add expect after sees same_mark advanced place spelling token refusal tokens_after front sign word number
 rv_e59 = refl
 
-pub rv_e60 : reading (codes "mpd 1;ranks 1;barrier;") ≡ Err (fault f.Expected 14)
+pub rv_e60 : reading (codes "mpd 1;ranks 1;barrier 1;") ≡ Err (fault f.Expected 22)
 unfolding reading script header version ranks decls decls_from decl declaring single sized body stmts stmt block choosing otherwise repeating target named source status assigning expr level chain atom place_inside bracket rounds signed count spend seek slot_in fresh add expect after sees same_mark advanced place spelling token refusal tokens_after front sign word number
 rv_e60 = refl
 
@@ -573,7 +573,7 @@ pub rv_v2 : left_of (go (prog 1 (branch (lit (negsuc 4)) (then_more (print (n 1)
 rv_v2 = refl
 
 abbrev sent : ℕ → ℕ → Call
-sent to tag = record { statement = 0; kind = Send (record { to = to; tag = tag; value = negsuc 4; blocks = true }) }
+sent to tag = record { statement = 0; kind = Send (record { to = to; tag = tag; value = negsuc 4; synchronous = false; blocks = true }) }
 
 abbrev awaited : ℕ → ℕ → Call
 awaited from tag = record { statement = 0; kind = Recv (record { from = Some from; tag = Some tag; cell = 0; status = None; blocks = true }) }
@@ -706,7 +706,7 @@ unfolding reading script header version ranks decls decls_from decl declaring si
 rv_x_long0 = refl
 
 abbrev send_ : ℕ → Call
-send_ to = record { statement = 0; kind = Send (record { to = to; tag = 1; value = pos 3; blocks = true }) }
+send_ to = record { statement = 0; kind = Send (record { to = to; tag = 1; value = pos 3; synchronous = false; blocks = true }) }
 
 abbrev rank_of : List Tree → Activity → RankWorld
 rank_of rest activity = record { rest = map {B = ℕ × Tree} (λ t. (9, t)) rest; vars = pos 0 ∷ []; handles = []; out = []; activity = activity }

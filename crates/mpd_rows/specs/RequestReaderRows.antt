@@ -158,8 +158,8 @@ bad_statements =
     ∷ (codes "irecv g x from", (f.Expected, 52)) ∷ (codes "irecv h a from 0 tag 0;", (f.Expected, 54)) ∷ (codes "irecv h x[0] from", (f.Expected, 53)) ∷ (codes "irecv h x to 0", (f.Expected, 54))
     ∷ (codes "wait;", (f.Expected, 48))
     ∷ (codes "wait 0;", (f.Expected, 49)) ∷ (codes "wait g;", (f.Expected, 50)) ∷ (codes "wait h[0];", (f.Expected, 50)) ∷ (codes "wait g[2", (f.Expected, 52)) ∷ (codes "wait g[$", (f.BadToken, 51))
-    ∷ (codes "wait g[0] g[1];", (f.Expected, 54)) ∷ (codes "wait h h;", (f.Expected, 51)) ∷ (codes "wait h", (f.Expected, 50)) ∷ (codes "wait any;", (f.Expected, 49)) ∷ (codes "issend h 1 to 0 tag 0;", (f.Expected, 44))
-    ∷ (codes "ssend 1 to 0 tag 0;", (f.Expected, 44)) ∷ (codes "barrier;", (f.Expected, 44)) ∷ (codes "waitany g to x;", (f.NotInVersion, 44)) ∷ (codes "wait h;req s;", (f.Expected, 51)) ∷ []
+    ∷ (codes "wait g[0] g[1];", (f.Expected, 54)) ∷ (codes "wait h h;", (f.Expected, 51)) ∷ (codes "wait h", (f.Expected, 50)) ∷ (codes "wait any;", (f.Expected, 49)) ∷ (codes "issend 1 to 0 tag 0;", (f.Expected, 51))
+    ∷ (codes "ssend h 1 to 0 tag 0;", (f.UnknownName, 50)) ∷ (codes "barrier h;", (f.Expected, 52)) ∷ (codes "waitany g to x;", (f.NotInVersion, 44)) ∷ (codes "wait h;req s;", (f.Expected, 51)) ∷ []
 
 pub row_bad_statements : map {B = Read} (λ r. statement_of r.0) bad_statements ≡ wanted_places bad_statements
 unfolding reading script header version ranks decls decls_from decl declaring single sized body stmts stmt block choosing otherwise repeating target named source status assigning expr level chain atom place_inside bracket rounds signed count spend seek slot_in fresh add expect after sees same_mark advanced place spelling token refusal tokens_after front sign word number
@@ -223,7 +223,7 @@ abbrev refused_tree : FaultCode → ℕ → Outcome Tree
 refused_tree c at = Err (fault c at)
 
 abbrev one_more : Places
-one_more = (codes "isend h 1 to 0 tag 0;", (f.TooMany, 0)) ∷ (codes "isend", (f.TooMany, 0)) ∷ (codes "irecv x", (f.TooMany, 0)) ∷ (codes "wait h;", (f.TooMany, 0)) ∷ (codes "wait", (f.TooMany, 0)) ∷ (codes "h = 1;", (f.UnknownName, 0)) ∷ (codes "issend h 1", (f.Expected, 0)) ∷ (codes "req", (f.Expected, 0)) ∷ []
+one_more = (codes "isend h 1 to 0 tag 0;", (f.TooMany, 0)) ∷ (codes "isend", (f.TooMany, 0)) ∷ (codes "irecv x", (f.TooMany, 0)) ∷ (codes "wait h;", (f.TooMany, 0)) ∷ (codes "wait", (f.TooMany, 0)) ∷ (codes "h = 1;", (f.UnknownName, 0)) ∷ (codes "issend h 1", (f.TooMany, 0)) ∷ (codes "req", (f.Expected, 0)) ∷ []
 
 pub row_one_more : map {B = Outcome Tree} (λ t. stmt_after 4096 t.0) one_more ≡ map {B = Outcome Tree} (λ t. refused_tree t.1.0 t.1.1) one_more
 unfolding reading script header version ranks decls decls_from decl declaring single sized body stmts stmt block choosing otherwise repeating target named source status assigning expr level chain atom place_inside bracket rounds signed count spend seek slot_in fresh add expect after sees same_mark advanced place spelling token refusal tokens_after front sign word number

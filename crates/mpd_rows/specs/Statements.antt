@@ -18,6 +18,9 @@ check e = simple (st.Assert e)
 abbrev pub send : Term → Term → Term → Tree
 send value to tag = simple (st.Send (record { value = value; to = to; tag = tag }))
 
+abbrev pub ssend : Term → Term → Term → Tree
+ssend value to tag = simple (st.Ssend (record { value = value; to = to; tag = tag }))
+
 -- a receive from any source or of any tag where none is given, with the places of a status, if it has one
 abbrev pub taking : Target → Option Term → Option Term → Option (Target × Target) → RecvStmt
 taking into source tag status = record { into = into; from = source; tag = tag; status = option_map (λ s. record { source = s.0; tag = s.1 }) status }
@@ -31,6 +34,9 @@ recv_any into source tag status = simple (st.Recv (taking into source tag status
 abbrev pub isend : Target → Term → Term → Term → Tree
 isend request value to tag = simple (st.Isend (record { request = request; send = record { value = value; to = to; tag = tag } }))
 
+abbrev pub issend : Target → Term → Term → Term → Tree
+issend request value to tag = simple (st.Issend (record { request = request; send = record { value = value; to = to; tag = tag } }))
+
 abbrev pub irecv : Target → Target → Term → Term → Tree
 irecv request into source tag = simple (st.Irecv (record { request = request; recv = taking into (Some source) (Some tag) None }))
 
@@ -39,3 +45,6 @@ irecv_any request into source tag status = simple (st.Irecv (record { request = 
 
 abbrev pub wait : Target → Tree
 wait request = simple (st.Wait request)
+
+abbrev pub barrier : Tree
+barrier = simple st.Barrier

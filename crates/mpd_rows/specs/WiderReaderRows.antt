@@ -355,7 +355,7 @@ bad_statements =
     ∷ (codes "while x { else", (f.Expected, 39)) ∷ (codes "while x {}}", (f.Expected, 39)) ∷ (codes "while x {};", (f.Expected, 39)) ∷ (codes "while x {waitany", (f.NotInVersion, 38)) ∷ (codes "while waitany", (f.Expected, 35)) ∷ (codes "if 1 {} else waitany", (f.Expected, 42)) ∷ (codes "x=waitany;", (f.Expected, 31)) ∷ (codes "while x {y=1;}", (f.UnknownName, 38))
     ∷ (codes "recv a from 0 tag 0;", (f.Expected, 36)) ∷ (codes "recv a[0 from 0", (f.Expected, 38)) ∷ (codes "recv x[0] from 0", (f.Expected, 35)) ∷ (codes "recv a[0][1] from", (f.Expected, 38)) ∷ (codes "recv a[y] from", (f.UnknownName, 36)) ∷ (codes "recv a[0]=1;", (f.Expected, 38))
     ∷ (codes "recv y[0]", (f.UnknownName, 34)) ∷ (codes "recv -x from", (f.Expected, 34)) ∷ (codes "recv (x) from", (f.Expected, 34)) ∷ (codes "send a to 0 tag 0;", (f.Expected, 36)) ∷ (codes "print a[0] a[1];", (f.Expected, 40)) ∷ (codes "x=1;var z;", (f.Expected, 33))
-    ∷ (codes "x=1;req h[2];", (f.Expected, 33)) ∷ (codes "barrier;", (f.Expected, 29)) ∷ []
+    ∷ (codes "x=1;req h[2];", (f.Expected, 33)) ∷ (codes "barrier x;", (f.Expected, 37)) ∷ []
 
 pub row_bad_statements : read_places bad_statements ≡ wanted_places bad_statements
 unfolding reading script header version ranks decls decls_from decl declaring single sized body stmts stmt block choosing otherwise repeating target named source status assigning expr level chain atom place_inside bracket rounds signed count spend seek slot_in fresh add expect after sees same_mark advanced place spelling token refusal tokens_after front sign word number
@@ -455,7 +455,7 @@ refused_tree c at = Err (fault c at)
 abbrev one_more : Places
 one_more =
     (codes "x=1;", (f.TooMany, 0)) ∷ (codes "x;", (f.TooMany, 0)) ∷ (codes "a[0]=1;", (f.TooMany, 0)) ∷ (codes "a=1;", (f.TooMany, 0)) ∷ (codes "while 1 {}", (f.TooMany, 0)) ∷ (codes "while", (f.TooMany, 0)) ∷ (codes "assert", (f.TooMany, 0)) ∷ (codes "waitany", (f.TooMany, 0))
-    ∷ (codes "y=1;", (f.UnknownName, 0)) ∷ (codes "y", (f.UnknownName, 0)) ∷ (codes ";", (f.Expected, 0)) ∷ (codes "=1;", (f.Expected, 0)) ∷ (codes "ssend 1 to 0 tag 0;", (f.Expected, 0)) ∷ (codes "else", (f.Expected, 0)) ∷ (codes "rank", (f.Expected, 0)) ∷ (codes "&", (f.BadToken, 0)) ∷ []
+    ∷ (codes "y=1;", (f.UnknownName, 0)) ∷ (codes "y", (f.UnknownName, 0)) ∷ (codes ";", (f.Expected, 0)) ∷ (codes "=1;", (f.Expected, 0)) ∷ (codes "ssend 1 to 0 tag 0;", (f.TooMany, 0)) ∷ (codes "barrier;", (f.TooMany, 0)) ∷ (codes "barrier", (f.TooMany, 0)) ∷ (codes "else", (f.Expected, 0)) ∷ (codes "rank", (f.Expected, 0)) ∷ (codes "&", (f.BadToken, 0)) ∷ []
 
 pub row_one_more : map {B = Outcome Tree} (λ r. stmt_after 4096 r.0) one_more ≡ map {B = Outcome Tree} (λ r. refused_tree r.1.0 r.1.1) one_more
 unfolding reading script header version ranks decls decls_from decl declaring single sized body stmts stmt block choosing otherwise repeating target named source status assigning expr level chain atom place_inside bracket rounds signed count spend seek slot_in fresh add expect after sees same_mark advanced place spelling token refusal tokens_after front sign word number

@@ -1,14 +1,16 @@
--- A send or a receive, by the handle that gets its request, if there is one.
-use Rattle.std.specs.Prelude.{Option, Some, None}
+-- A send or a receive, by the handle that gets its request, if there is one; a send also by whether it is synchronous.
+use Rattle.std.specs.Prelude.{Bool, true, false, Option, Some, None}
 use Rattle.mpd_model.specs.declared.stmt.RecvStmt.{RecvStmt}
 use Rattle.mpd_model.specs.declared.stmt.SendStmt.{SendStmt}
 use Rattle.mpd_model.specs.declared.stmt.Simple.{Simple}
 use Rattle.mpd_model.specs.declared.stmt.Simple.TheVariants as st
 use Rattle.mpd_model.specs.Term.{Target}
 
-abbrev pub sent_by : Option Target → SendStmt → Simple
-sent_by None s = st.Send s
-sent_by (Some t) s = st.Isend (record { request = t; send = s })
+abbrev pub sent_by : Bool → Option Target → SendStmt → Simple
+sent_by false None s = st.Send s
+sent_by false (Some t) s = st.Isend (record { request = t; send = s })
+sent_by true None s = st.Ssend s
+sent_by true (Some t) s = st.Issend (record { request = t; send = s })
 
 abbrev pub received_by : Option Target → RecvStmt → Simple
 received_by None s = st.Recv s

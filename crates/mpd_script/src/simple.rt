@@ -38,6 +38,10 @@ pub(crate) fn by_form(alloc: Global, tokens: &mut Tokens<'_>, word: Mark) -> Res
             begun(tokens)?;
             sending(alloc, tokens)
         }
+        Mark::Ssend => {
+            begun(tokens)?;
+            sending_synchronous(alloc, tokens)
+        }
         Mark::Recv => {
             begun(tokens)?;
             receiving(alloc, tokens)
@@ -46,6 +50,10 @@ pub(crate) fn by_form(alloc: Global, tokens: &mut Tokens<'_>, word: Mark) -> Res
             begun(tokens)?;
             sending_held(alloc, tokens)
         }
+        Mark::Issend => {
+            begun(tokens)?;
+            sending_synchronous_held(alloc, tokens)
+        }
         Mark::Irecv => {
             begun(tokens)?;
             receiving_held(alloc, tokens)
@@ -53,6 +61,10 @@ pub(crate) fn by_form(alloc: Global, tokens: &mut Tokens<'_>, word: Mark) -> Res
         Mark::Wait => {
             begun(tokens)?;
             waiting(alloc, tokens)
+        }
+        Mark::Barrier => {
+            begun(tokens)?;
+            ended(tokens, Simple::Barrier)
         }
         _ => Err(tokens.refuse()),
     }
@@ -99,13 +111,15 @@ fn asserting(alloc: Global, tokens: &mut Tokens<'_>) -> Result<Stmt, ReadFault>
     ended(tokens, Simple::Assert(test))
 }
 
-/// A send, or one whose request a handle gets.
-fn send_of(request: Option<Target>, send: SendStmt) -> Simple
-    ensures { result ≡ sent_by request send }
+/// A standard or a synchronous send, or one whose request a handle gets.
+fn send_of(synchronous: bool, request: Option<Target>, send: SendStmt) -> Simple
+    ensures { result ≡ sent_by synchronous request send }
 {
-    match request {
-        None => Simple::Send(send),
-        Some(request) => Simple::Isend(IsendStmt { request, send }),
+    match (synchronous, request) {
+        (false, None) => Simple::Send(send),
+        (false, Some(request)) => Simple::Isend(IsendStmt { request, send }),
+        (true, None) => Simple::Ssend(send),
+        (true, Some(request)) => Simple::Issend(IsendStmt { request, send }),
     }
 }
 
@@ -120,15 +134,21 @@ fn recv_of(request: Option<Target>, recv: RecvStmt) -> Simple
 }
 
 /// What a send sends, to whom and with which tag. A handle gets its request, if there is one.
-fn sent(alloc: Global, tokens: &mut Tokens<'_>, request: Option<Target>) -> Result<Stmt, ReadFault>
-    ensures { Reads (spec.fill spec.sent_holes (λ c. simple (sent_by request (spec.sent c))) tokens.old) result tokens.new }
+fn sent(
+    alloc: Global,
+    tokens: &mut Tokens<'_>,
+    synchronous: bool,
+    request: Option<Target>,
+) -> Result<Stmt, ReadFault>
+    ensures { Reads (spec.fill spec.sent_holes (λ c. simple (sent_by synchronous request (spec.sent c))) tokens.old) result tokens.new }
 {
     let value = expression(alloc, tokens)?;
     tokens.expect(Mark::To)?;
     let to = expression(alloc, tokens)?;
     tokens.expect(Mark::Tag)?;
     let tag = expression(alloc, tokens)?;
-    ended(tokens, send_of(request, SendStmt { value, to, tag }))
+    let send = SendStmt { value, to, tag };
+    ended(tokens, send_of(synchronous, request, send))
 }
 
 /// A source or a tag of a receive: `any`, or an expression.
@@ -184,7 +204,14 @@ fn received(
 fn sending(alloc: Global, tokens: &mut Tokens<'_>) -> Result<Stmt, ReadFault>
     ensures { Reads (spec.formed spec.send_form tokens.old) result tokens.new }
 {
-    sent(alloc, tokens, None)
+    sent(alloc, tokens, false, None)
+}
+
+/// What follows `ssend`.
+fn sending_synchronous(alloc: Global, tokens: &mut Tokens<'_>) -> Result<Stmt, ReadFault>
+    ensures { Reads (spec.formed spec.ssend_form tokens.old) result tokens.new }
+{
+    sent(alloc, tokens, true, None)
 }
 
 /// What follows `recv`.
@@ -199,7 +226,15 @@ fn sending_held(alloc: Global, tokens: &mut Tokens<'_>) -> Result<Stmt, ReadFaul
     ensures { Reads (spec.formed spec.isend_form tokens.old) result tokens.new }
 {
     let request = named(alloc, tokens, DeclKind::Handle)?;
-    sent(alloc, tokens, Some(request))
+    sent(alloc, tokens, false, Some(request))
+}
+
+/// What follows `issend`.
+fn sending_synchronous_held(alloc: Global, tokens: &mut Tokens<'_>) -> Result<Stmt, ReadFault>
+    ensures { Reads (spec.formed spec.issend_form tokens.old) result tokens.new }
+{
+    let request = named(alloc, tokens, DeclKind::Handle)?;
+    sent(alloc, tokens, true, Some(request))
 }
 
 /// What follows `irecv`.

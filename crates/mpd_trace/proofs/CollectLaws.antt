@@ -33,11 +33,11 @@ consumes_keeps (Some us) (Some vs) (Some ws) xs a k = a ∙ ap (λ t. xs ++ t) (
 consumes_same : (old new : Option (List ℕ)) (xs ys : List ℕ) → xs ≡ ys → Consumes old new ys → Consumes old new xs
 consumes_same old new xs ys is c = let P : List ℕ → Type 0 = λ x. Consumes old new x in subst P (sym is) c
 
-ends_some : (n before after : ℕ) → after ≡ before + ends_of {E = DeviceFault} (Ok n) → (n ≡ 0 → ⊥) → after ≡ before
+pub ends_some : (n before after : ℕ) → after ≡ before + ends_of {E = DeviceFault} (Ok n) → (n ≡ 0 → ⊥) → after ≡ before
 ends_some zero before after e h = absurd (h refl)
 ends_some (suc n) before after e h = omega (arith, e)
 
-ends_one : (n before after : ℕ) → after ≡ before + ends_of {E = DeviceFault} (Ok n) → n ≡ 0 → after ≡ before + 1
+pub ends_one : (n before after : ℕ) → after ≡ before + ends_of {E = DeviceFault} (Ok n) → n ≡ 0 → after ≡ before + 1
 ends_one zero before after e h = e
 ends_one (suc n) before after e h = absurd (omega (arith, h))
 

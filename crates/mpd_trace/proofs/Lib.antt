@@ -8,3 +8,4 @@ pub mod DeskLemmas
 pub mod CollectLaws
 pub mod PlainLaws
 pub mod TraceLaws
+pub mod FileLaws

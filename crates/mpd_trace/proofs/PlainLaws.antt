@@ -30,21 +30,21 @@ use Rattle.mpd_trace.proofs.OpenLaws.{divider_came}
 abbrev Halves : Type 0
 Halves = List ℕ × List ℕ
 
-abbrev too_long : ReadFault
+abbrev pub too_long : ReadFault
 too_long = fault code.TooLong 65536
 
 lt_true : (m n : ℕ) → m < n → nat_lt m n ≡ true
 lt_true m n lt = lt-ltb m n lt
 
-reading_long : (text : List ℕ) → 65536 < length text → reading text ≡ Err too_long
+pub reading_long : (text : List ℕ) → 65536 < length text → reading text ≡ Err too_long
 unfolding reading
 reading_long text lt = cond-true _ _ _ (lt_true 65536 (length text) lt)
 
-abbrev error_of : Result Program ReadFault → ReadFault → ReadFault
+abbrev pub error_of : Result Program ReadFault → ReadFault → ReadFault
 error_of (Ok p) d = d
 error_of (Err e) d = e
 
-line_front : (xs ys : List ℕ) → 65536 ≤ length xs → line_at (xs ++ ys) 65536 ≡ line_at xs 65536
+pub line_front : (xs ys : List ℕ) → 65536 ≤ length xs → line_at (xs ++ ys) 65536 ≡ line_at xs 65536
 line_front xs ys le = ap (λ z. count_by (λ b. b == 10) z + 1) (take-append-le 65536 xs ys le)
 
 -- ---- a script that is refused
@@ -67,7 +67,7 @@ refused_here TooLong read script behind n s t f h r z o =
           ∙ sym (ap (λ x. line_at x f.place) k.1 ∙ ap (λ (x : ReadFault). line_at (script ++ k.0) x.place) which ∙ line_front script k.0 le),
     )
 
-not_memory : (f : ReadFault) → is_memory f.code ≡ false → f.code ≢ code.Memory
+pub not_memory : (f : ReadFault) → is_memory f.code ≡ false → f.code ≢ code.Memory
 not_memory f e is = (let h : false ≡ true = sym e ∙ ap is_memory is in cc)
 
 pub plain_refused : (end : HeadEnd) (read script behind text : List ℕ) (n : ℕ) (s t : SourceSeen) (v : SinkSeen) (f : ReadFault) (r : PlainFault)

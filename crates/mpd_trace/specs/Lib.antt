@@ -3,3 +3,5 @@ pub mod Replies
 pub mod Collected
 pub mod Plain
 pub mod PlainFaults
+pub mod FileText
+pub mod Excerpts

@@ -56,3 +56,9 @@ PlainServed s t v w (Err (Engine WriteFailed)) =
 PlainServed s t v w (Err (Engine TooManyTurns)) =
     (read : List ℕ) × Consumes s.remaining t.remaining read × (READS_MAX ≤ length read) × (t.calls ≡ s.calls + READS_MAX) × (t.ends ≡ s.ends) × TracesSoFar read v w
 PlainServed s t v w (Err (Engine Memory)) = w ≡ v
+
+-- a script that was refused is this text, as far as it was read: it is refused so
+abbrev pub KeepsRefused : List ℕ → Result (Unit {0}) PlainFault → Type 0
+KeepsRefused text (Ok u) = Unit {0}
+KeepsRefused text (Err (Script fault line)) = (reading text ≡ Err fault) × (line ≡ line_at text fault.place)
+KeepsRefused text (Err (Engine fault)) = Unit {0}

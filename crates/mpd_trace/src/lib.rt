@@ -3,6 +3,8 @@
 
 pub mod desk;
 pub mod divider;
+pub mod excerpt;
+pub mod file;
 pub mod listed;
 pub mod plain;
 pub mod show;

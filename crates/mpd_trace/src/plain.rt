@@ -5,7 +5,7 @@ ghost use Rattle.mpd_model.specs.Answers.{AnswerOrMemory};
 ghost use Rattle.mpd_lines.specs.FaultWords.{failed_reads, failed_writes};
 ghost use Rattle.mpd_lines.specs.Served.{Served, Counted};
 ghost use Rattle.mpd_trace.specs.Collected.{Collected, CollectCounted};
-ghost use Rattle.mpd_trace.specs.Plain.{line_at, PlainServed};
+ghost use Rattle.mpd_trace.specs.Plain.{line_at, PlainServed, KeepsRefused};
 ghost use Rattle.mpd_trace.specs.PlainFaults.{fault_line, fault_status, refused_as, plain_failed_reads, plain_failed_writes};
 
 use crate::divider::{Divider, Division};
@@ -176,7 +176,7 @@ fn line_at(text: &[u8], place: usize) -> usize
 }
 
 /// The answer to a script that could not be read.
-fn refusal(text: &[u8], fault: ReadFault) -> PlainFault
+pub(crate) fn refusal(text: &[u8], fault: ReadFault) -> PlainFault
     ensures { result ≡ refused_as fault (line_at text.now fault.place) }
 {
     match fault.code {
@@ -205,7 +205,6 @@ fn trace_script<S: Source, W: Sink>(
 
 /// Reads a script up to a line `---` (docs/FORMATS.md) and answers the trace words behind it. Standard sends are not
 /// buffered. A script that is refused writes nothing, and the reads of the script count towards 1,000,000.
-#[tactic(auto, using(crate::proofs::PlainLaws::plainly))]
 pub fn plain<S: Source, W: Sink>(
     alloc: Global,
     source: &mut S,
@@ -214,13 +213,33 @@ pub fn plain<S: Source, W: Sink>(
     ensures served { PlainServed (S.seen source.old) (S.seen source.new) (W.seen sink.old) (W.seen sink.new) result }
     ensures counted { Counted READS_MAX (plain_failed_reads result) (plain_failed_writes result) (S.seen source.old) (S.seen source.new) (W.seen sink.old) (W.seen sink.new) }
 {
+    let mut text = Vec::new(alloc);
+    plain_keeping(alloc, source, sink, &mut text)
+}
+
+/// The same; where the script is refused, its bytes are left in `text`, as far as they were read.
+#[tactic(auto, using(crate::proofs::PlainLaws::plainly))]
+pub fn plain_keeping<S: Source, W: Sink>(
+    alloc: Global,
+    source: &mut S,
+    sink: &mut W,
+    text: &mut Vec<u8>,
+) -> Result<(), PlainFault>
+    ensures served { PlainServed (S.seen source.old) (S.seen source.new) (W.seen sink.old) (W.seen sink.new) result }
+    ensures counted { Counted READS_MAX (plain_failed_reads result) (plain_failed_writes result) (S.seen source.old) (S.seen source.new) (W.seen sink.old) (W.seen sink.new) }
+    ensures kept { KeepsRefused text.new.items result }
+{
     let head = match collect(alloc, source) {
         Ok(head) => head,
         Err(fault) => return Err(PlainFault::Engine(fault)),
     };
     let script = match read(alloc, &head.script) {
         Ok(script) => script,
-        Err(fault) => return Err(refusal(&head.script, fault)),
+        Err(fault) => {
+            let fault = refusal(&head.script, fault);
+            *text = head.script;
+            return Err(fault);
+        }
     };
     if let HeadEnd::InputEnds = head.end {
         return Ok(());

@@ -1,5 +1,5 @@
 -- The records lead from the first world to the last.
-use Rattle.std.proofs.Common.{◌≡◌, ℕ, ◌<◌, ◌≤◌, ◌+◌, Bool, true, false, List, [], ◌∷◌, ◌++◌, length, take, reverse, get_or, slice_get, Option, Some, None, IfSome, refl, sym, ap, subst, ◌∙◌, arith, cond}
+use Rattle.std.proofs.Common.{◌≡◌, ℕ, ◌<◌, ◌≤◌, ◌+◌, Bool, true, false, List, [], ◌∷◌, ◌++◌, length, take, drop, reverse, get_or, slice_get, Option, Some, None, IfSome, refl, sym, ap, subst, ◌∙◌, arith, cond}
 use Rattle.std.specs.Option.{option_and_then, option_map}
 use Rattle.std.proofs.lemmas.List.{reverse-append, reverse-reverse, length-append, take_more, take_all, length-take}
 use Rattle.std.proofs.lemmas.Option.{get_or_from_slice_get, slice_get_within}
@@ -43,7 +43,7 @@ is_of_step : (w : World) (a : Step) → IfSome (record_of w a) (λ done. done �
 is_of_step w (Local p) = is_joined (Local p) (local_record_at w.ranks p)
 is_of_step w (Match s r) = refl
 is_of_step w (Wake p) = is_joined (Wake p) (wake_record_at w.ranks p (wake_writes w.board p) (wake_clears w.board p))
-is_of_step w Release = tt
+is_of_step w Release = refl
 
 pub recorded_step : (w : World) (a : Step) (done : Record) → record_of w a ≡ Some done → done ≡ step_record a (rank_part done)
 recorded_step w a done e = subst (λ (o : Option Record). IfSome o (λ d. d ≡ step_record a (rank_part d))) e (is_of_step w a)
@@ -107,5 +107,15 @@ pub keeps_pop : (s : Program) (first : World) (records : List RankRecord) (steps
     → Keeps s first records steps (undone s last (step_record a u))
 keeps_pop s first records steps last u a read k =
     record { within = omega (arith, length-append records (u ∷ []), k.within); few = k.few; leads = (leads_last s first records steps last u a read k).2 }
+
+-- The step that is taken back is the one that was read.
+pub step_back : (steps : List Step) (n : ℕ) (a b : Step) → n < length steps → a ≡ get_or steps n a → take (n + 1) steps ≡ take n steps ++ b ∷ [] → b ≡ a
+step_back steps n a b h read e =
+    let more : take (n + 1) steps ≡ take n steps ++ a ∷ [] = take_more steps n a h ∙ ap (λ c. take n steps ++ c ∷ []) (sym read) in
+    last_same (take n steps) b a (sym e ∙ more)
+  where
+    last_same : (xs : List Step) (b a : Step) → xs ++ b ∷ [] ≡ xs ++ a ∷ [] → b ≡ a
+    last_same [] b a e = ap (λ ys. get_or ys 0 a) e
+    last_same (x ∷ xs) b a e = last_same xs b a (ap (drop 1) e)
 
 pub ruleset keeping = (keeps_world, keeps_reached, keeps_push, keeps_can, keeps_pop)

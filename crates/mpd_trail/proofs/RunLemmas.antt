@@ -5,6 +5,8 @@ use Rattle.std.proofs.lemmas.List.{take_more, length-take, length-append}
 use Rattle.mpd_model.specs.declared.limits.TheConstants.{STEPS_MAX}
 use Rattle.mpd_model.specs.declared.step.Step.{Step}
 use Rattle.mpd_model.specs.declared.step.Step.TheVariants.{Release}
+use Rattle.mpd_model.specs.declared.call.Mode.{Mode}
+use Rattle.mpd_model.specs.Program.{Program}
 use Rattle.mpd_model.specs.World.{World, start}
 use Rattle.mpd_model.specs.Next.{next, fold}
 use Rattle.mpd_model.specs.Trail.{Trail, IsReached, kept, applied, taken_back, noted}
@@ -12,7 +14,7 @@ use Rattle.mpd_trail.specs.declared.run.Command.{Command}
 use Rattle.mpd_trail.specs.declared.run.Command.TheVariants.{Apply, Undo}
 use Rattle.mpd_trail.specs.declared.run.Reply.{Reply}
 use Rattle.mpd_trail.specs.declared.run.Reply.TheVariants.{Done, NotEnabled, Full, AtStart, Memory}
-use Rattle.mpd_trail.specs.Run.{Answers, Run, SameScript, Written, WrittenAll}
+use Rattle.mpd_trail.specs.Run.{Answers, Run, SameScript, Written}
 use Rattle.mpd_trail.specs.Views.{DebuggerView, standing_of}
 use Rattle.mpd_trail.proofs.KeptLemmas.{fold-append, take_noted}
 
@@ -87,21 +89,20 @@ pub ruleset answering = (applied_done, applied_reached, applied_none, applied_fu
 
 -- ---- lists of commands
 
-run_on : (first : World) (old mid new : List Step) (cs : List Command) (rs : List Reply) (c : Command) (r : Reply) → Run first old cs rs mid → Answers first mid c r new → Run first old (cs ++ c ∷ []) (rs ++ r ∷ []) new
-run_on first old mid new [] [] c r same h = (new, rw (← same) h, refl)
-run_on first old mid new (d ∷ ds) (s ∷ ss) c r run h = (run.0, run.1, run_on first run.0 mid new ds ss c r run.2 h)
-run_on first old mid new [] (s ∷ ss) c r run h = absurd run
-run_on first old mid new (d ∷ ds) [] c r run h = absurd run
+run_on : (s : Program) (mode : Mode) (old mid new : List Step) (before between after : ℕ) (cs : List Command) (rs : List Reply) (c : Command) (r : Reply) → Run s mode old before cs rs mid between
+    → Answers (start s mode) mid c r new → Written s.ranks mid c r new between after → Run s mode old before (cs ++ c ∷ []) (rs ++ r ∷ []) new after
+run_on s mode old mid new before between after [] [] c r same h writes = (new, after, rw (← same.0) h, rw (← same.0, ← same.1) writes, (refl, refl))
+run_on s mode old mid new before between after (d ∷ ds) (t ∷ ts) c r run h writes =
+    (run.0, run.1, run.2, run.3, run_on s mode run.0 mid new run.1 between after ds ts c r run.4 h writes)
+run_on s mode old mid new before between after [] (t ∷ ts) c r run h writes = absurd run
+run_on s mode old mid new before between after (d ∷ ds) [] c r run h writes = absurd run
 
 -- the next command of a list
-pub run_more : (first : World) (old mid new : List Step) (cs : List Command) (rs : List Reply) (i : ℕ) (d : Command) (r : Reply) → i < length cs → Run first old (take i cs) rs mid → Answers first mid (get_or cs i d) r new
-    → Run first old (take (i + 1) cs) (rs ++ r ∷ []) new
-run_more first old mid new cs rs i d r h run step = rw (take_more cs i d h) (run_on first old mid new (take i cs) rs (get_or cs i d) r run step)
-
--- the writes of one reply more
-pub written_on : (old mid new : ℕ) (rs : List Reply) (r : Reply) → WrittenAll old rs mid → Written mid r new → WrittenAll old (rs ++ r ∷ []) new
-written_on old mid new [] r same h = (new, rw (← same) h, refl)
-written_on old mid new (s ∷ ss) r all h = (all.0, all.1, written_on all.0 mid new ss r all.2 h)
+pub run_more : (s : Program) (mode : Mode) (old mid new : List Step) (before between after : ℕ) (cs : List Command) (rs : List Reply) (i : ℕ) (d : Command) (r : Reply) → i < length cs
+    → Run s mode old before (take i cs) rs mid between → Answers (start s mode) mid (get_or cs i d) r new → Written s.ranks mid (get_or cs i d) r new between after
+    → Run s mode old before (take (i + 1) cs) (rs ++ r ∷ []) new after
+run_more s mode old mid new before between after cs rs i d r h run step writes =
+    rw (take_more cs i d h) (run_on s mode old mid new before between after (take i cs) rs (get_or cs i d) r run step writes)
 
 pub same_trans : (a b c : Trail) → SameScript a b → SameScript b c → SameScript a c
 same_trans a b c x y = record { program = y.program ∙ x.program; mode = y.mode ∙ x.mode }
@@ -109,3 +110,6 @@ same_trans a b c x y = record { program = y.program ∙ x.program; mode = y.mode
 -- from the first world of an earlier trail of the script
 pub answers_from : (a b : Trail) (old new : List Step) (c : Command) (r : Reply) → SameScript a b → Answers (start b.program b.mode) old c r new → Answers (start a.program a.mode) old c r new
 answers_from a b old new c r same h = rw (← same.program, ← same.mode) h
+
+pub written_from : (a b : Trail) (old new : List Step) (c : Command) (r : Reply) (before after : ℕ) → SameScript a b → Written b.program.ranks old c r new before after → Written a.program.ranks old c r new before after
+written_from a b old new c r before after same h = rw (← same.program) h

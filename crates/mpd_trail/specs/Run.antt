@@ -2,9 +2,12 @@
 use Rattle.std.specs.Prelude.{◌≡◌, ◌<◌, ◌≤◌, ◌+◌, ℕ, List, [], ◌∷◌, ◌++◌, length, None, Some, IsSome}
 use Rattle.mpd_model.specs.declared.limits.TheConstants.{STEPS_MAX}
 use Rattle.mpd_model.specs.declared.step.Step.{Step}
-use Rattle.mpd_model.specs.World.{World}
+use Rattle.mpd_model.specs.declared.call.Mode.{Mode}
+use Rattle.mpd_model.specs.Program.{Program}
+use Rattle.mpd_model.specs.World.{World, start}
 use Rattle.mpd_model.specs.Next.{next, fold}
 use Rattle.mpd_model.specs.Trail.{Trail, Standing, applied, taken_back}
+use Rattle.mpd_core.specs.Writes.{most_writes}
 use Rattle.mpd_trail.specs.declared.run.Command.{Command}
 use Rattle.mpd_trail.specs.declared.run.Reply.{Reply}
 use Rattle.mpd_trail.specs.declared.run.Command.TheVariants.{Apply, Undo}
@@ -41,25 +44,26 @@ Carried old Undo NotEnabled new = ⊥
 Carried old Undo Full new = ⊥
 Carried old Undo Memory new = ⊥
 
--- a list of commands, with a reply to each
-abbrev pub Run : World → List Step → List Command → List Reply → List Step → Type 0
-Run first old [] [] new = new ≡ old
-Run first old (c ∷ cs) (r ∷ rs) new = (mid : List Step) × Answers first old c r mid × Run first mid cs rs new
-Run first old [] (r ∷ rs) new = ⊥
-Run first old (c ∷ cs) [] new = ⊥
+-- How many writes a command takes at most, of a script of so many ranks: as many as the step that it takes, or takes back.
+abbrev pub Bounded : ℕ → List Step → Command → List Step → ℕ → ℕ → Type 0
+Bounded ranks old (Apply a) new before after = after ≤ before + most_writes ranks a
+Bounded ranks old Undo new before after = (a : Step) → old ≡ new ++ a ∷ [] → after ≤ before + most_writes ranks a
 
--- How many writes a command takes, told by its reply: a step that was taken, or taken back, 1 to 16; any other none.
-abbrev pub Written : ℕ → Reply → ℕ → Type 0
-Written old Done new = (old + 1 ≤ new) × (new ≤ old + 16)
-Written old Memory new = new ≡ old
-Written old NotEnabled new = new ≡ old
-Written old Full new = new ≡ old
-Written old AtStart new = new ≡ old
+-- How many it takes, told by its reply: at least one where a step was taken, or taken back, and else none.
+abbrev pub Written : ℕ → List Step → Command → Reply → List Step → ℕ → ℕ → Type 0
+Written ranks old c Done new before after = (before + 1 ≤ after) × Bounded ranks old c new before after
+Written ranks old c Memory new before after = after ≡ before
+Written ranks old c NotEnabled new before after = after ≡ before
+Written ranks old c Full new before after = after ≡ before
+Written ranks old c AtStart new before after = after ≡ before
 
--- a list of commands, each of which takes so many
-abbrev pub WrittenAll : ℕ → List Reply → ℕ → Type 0
-WrittenAll old [] new = new ≡ old
-WrittenAll old (r ∷ rs) new = (mid : ℕ) × Written old r mid × WrittenAll mid rs new
+-- A list of commands, with a reply to each: the steps not undone, and how many writes there were, before and after.
+abbrev pub Run : Program → Mode → List Step → ℕ → List Command → List Reply → List Step → ℕ → Type 0
+Run s mode old before [] [] new after = (new ≡ old) × (after ≡ before)
+Run s mode old before (c ∷ cs) (r ∷ rs) new after =
+    (mid : List Step) × (between : ℕ) × Answers (start s mode) old c r mid × Written s.ranks old c r mid before between × Run s mode mid between cs rs new after
+Run s mode old before [] (r ∷ rs) new after = ⊥
+Run s mode old before (c ∷ cs) [] new after = ⊥
 
 pub record SameScript (old new : Trail) : Type 0 where
   pub program : new.program ≡ old.program

@@ -1,10 +1,12 @@
 //! The trail: the steps that were taken, of which some may be undone, and the state that they lead to.
 
-ghost use Rattle.std.specs.Prelude.{◌≡◌, ◌↔◌, ◌<◌, ◌≤◌, IfOk, OnOk, OnErr, IsErrOf, IsOk, IsSome, Some, None, ◌+◌, ◌-◌, min, vec_len, vec_capacity, codes};
+ghost use Rattle.std.specs.Prelude.{◌≡◌, ◌↔◌, ◌<◌, ◌≤◌, IfOk, OnOk, OnErr, IsErrOf, IsOk, IsSome, Some, None, [], ◌∷◌, ◌++◌, ◌+◌, ◌-◌, min, vec_len, vec_capacity, codes};
 ghost use Rattle.mpd_model.specs.Next.{next};
-ghost use Rattle.mpd_model.specs.Trail.{first_standing, IsReached, noted, applied, taken_back, step_eq};
+ghost use Rattle.mpd_model.specs.Trail.{first_standing, IsReached, kept, noted, applied, taken_back, step_eq};
+ghost use Rattle.mpd_model.specs.declared.step.Step.{Step};
 ghost use Rattle.mpd_core.specs.Records.{record_of, step_record};
 ghost use Rattle.mpd_core.specs.Undone.{undone, CanUndo};
+ghost use Rattle.mpd_core.specs.Writes.{most_writes};
 ghost use Rattle.mpd_trail.specs.Faults.{apply_fault, apply_fault_number, apply_fault_name};
 ghost use Rattle.mpd_trail.specs.Views.{standing_of};
 
@@ -139,7 +141,7 @@ fn take(core: &mut Core<'_>, step: Step) -> Result<RankRecord, StepFault>
     ensures err { OnErr result (core.new.world ≡ core.old.world) }
     ensures program { core.new.program ≡ core.old.program }
     ensures rises { OnOk result (core.old.writes + 1 ≤ core.new.writes) }
-    ensures few { OnOk result (core.new.writes ≤ core.old.writes + 16) }
+    ensures few { OnOk result (core.new.writes ≤ core.old.writes + most_writes core.old.program.ranks step) }
     ensures unwritten { OnErr result (core.new.writes ≡ core.old.writes) }
 {
     if let Step::Local(rank) = step {
@@ -240,7 +242,8 @@ impl<'c> Debugger<'c> {
     /// Takes a step, or refuses it: `NotEnabled` (21) exactly where the relation of steps has none, `Full` (22)
     /// exactly where the step is enabled and 1,000,000 steps are not undone, `Memory` (23) where a growth was
     /// refused, which is nowhere where room was kept. A step that stands next among those undone is taken again and
-    /// keeps the rest; another drops them. A step takes 1 to 16 writes, a refusal none.
+    /// keeps the rest; another drops them. A step takes 1 to 16 writes, a release two more for each rank at most, and a
+    /// refusal none.
     #[tactic(auto, using(crate::proofs::KeptLemmas::keeping))]
     pub fn apply(&mut self, step: Step) -> Result<(), ApplyFault>
         ensures ok { OnOk result (self.new.trail ≡ applied self.old.trail step) }
@@ -253,7 +256,7 @@ impl<'c> Debugger<'c> {
         ensures err { OnErr result (self.new.trail ≡ self.old.trail) }
         ensures err_world { OnErr result (self.new.world ≡ self.old.world) }
         ensures rises { OnOk result (self.old.writes + 1 ≤ self.new.writes) }
-        ensures few { OnOk result (self.new.writes ≤ self.old.writes + 16) }
+        ensures few { OnOk result (self.new.writes ≤ self.old.writes + most_writes self.old.trail.program.ranks step) }
         ensures unwritten { OnErr result (self.new.writes ≡ self.old.writes) }
     {
         let depth = self.records.len();
@@ -276,8 +279,8 @@ impl<'c> Debugger<'c> {
         Ok(())
     }
 
-    /// Takes the last step back, in 1 to 16 writes. It is refused only where no step is left (24), and so never for want of
-    /// memory.
+    /// Takes the last step back, in 1 to 16 writes, a release in two more for each rank at most. It is refused only where no
+    /// step is left (24), and so never for want of memory.
     #[tactic(auto, using(crate::proofs::KeptLemmas::keeping))]
     pub fn undo(&mut self) -> Result<(), AtStart>
         ensures ok { OnOk result (self.new.trail ≡ taken_back self.old.trail) }
@@ -286,7 +289,7 @@ impl<'c> Debugger<'c> {
         ensures err { OnErr result (self.new.trail ≡ self.old.trail) }
         ensures err_world { OnErr result (self.new.world ≡ self.old.world) }
         ensures rises { OnOk result (self.old.writes + 1 ≤ self.new.writes) }
-        ensures few { OnOk result (self.new.writes ≤ self.old.writes + 16) }
+        ensures few { OnOk result ((step : Step) → kept self.old.trail ≡ kept self.new.trail ++ step ∷ [] → self.new.writes ≤ self.old.writes + most_writes self.old.trail.program.ranks step) }
         ensures unwritten { OnErr result (self.new.writes ≡ self.old.writes) }
     {
         match self.records.pop() {

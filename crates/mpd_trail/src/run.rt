@@ -4,7 +4,7 @@ ghost use Rattle.std.specs.Prelude.{◌≡◌, ◌<◌, ℕ, length, Some, [], I
 ghost use Rattle.mpd_model.specs.World.{start};
 ghost use Rattle.mpd_model.specs.Next.{fold};
 ghost use Rattle.mpd_model.specs.Trail.{kept, first_standing, IsReached};
-ghost use Rattle.mpd_trail.specs.Run.{Answers, Carried, Run, SameScript, Stays, Written, WrittenAll};
+ghost use Rattle.mpd_trail.specs.Run.{Answers, Carried, Run, SameScript, Stays, Written};
 ghost use Rattle.mpd_trail.specs.Views.{standing_of};
 
 use crate::debugger::{ApplyFault, Debugger};
@@ -36,7 +36,7 @@ pub fn answer(debugger: &mut Debugger<'_>, command: Command) -> Reply
     ensures answers { Answers (start debugger.old.trail.program debugger.old.trail.mode) (kept debugger.old.trail) command result (kept debugger.new.trail) }
     ensures carried { Carried (standing_of debugger.old) command result (standing_of debugger.new) }
     ensures memory { result ≡ Reply.Memory → debugger.old.room ≡ 0 }
-    ensures writes { Written debugger.old.writes result debugger.new.writes }
+    ensures writes { Written debugger.old.trail.program.ranks (kept debugger.old.trail) command result (kept debugger.new.trail) debugger.old.writes debugger.new.writes }
     ensures script { SameScript debugger.old.trail debugger.new.trail }
     ensures reached { IsReached (standing_of debugger.new) }
 {
@@ -62,10 +62,9 @@ pub fn follow(
     debugger: &mut Debugger<'_>,
     commands: &[Command],
 ) -> Result<Vec<Reply>, AllocError>
-    ensures run { IfOk result (λ replies. Run (start debugger.old.trail.program debugger.old.trail.mode) (kept debugger.old.trail) commands.now replies.items (kept debugger.new.trail)) }
+    ensures run { IfOk result (λ replies. Run debugger.old.trail.program debugger.old.trail.mode (kept debugger.old.trail) debugger.old.writes commands.now replies.items (kept debugger.new.trail) debugger.new.writes) }
     ensures script { SameScript debugger.old.trail debugger.new.trail }
     ensures reached { IsReached (standing_of debugger.new) }
-    ensures writes { IfOk result (λ replies. WrittenAll debugger.old.writes replies.items debugger.new.writes) }
     ensures err { OnErr result (Stays (standing_of debugger.old) (standing_of debugger.new)) }
     ensures err_writes { OnErr result (debugger.new.writes ≡ debugger.old.writes) }
     ensures memory { OnErr result (0 < length commands.now) }
@@ -79,18 +78,18 @@ pub fn follow(
 }
 
 /// The headline: from the start of any script, a list of steps and undos gets the replies of docs/DEFINITIONS.md,
-/// "Trails", and the state in the end is exactly where the relation of steps leads along those not undone.
+/// "Trails", each within its writes, and the state in the end is exactly where the relation of steps leads along those not
+/// undone.
 pub fn replay<'c>(
     alloc: Global,
     code: &'c Code,
     mode: Mode,
     commands: &[Command],
 ) -> Result<(Debugger<'c>, Vec<Reply>), AllocError>
-    ensures run { IfOk result (λ r. Run (start code.now.program mode) [] commands.now r.1.items (kept r.0.trail)) }
+    ensures run { IfOk result (λ r. Run code.now.program mode [] 0 commands.now r.1.items (kept r.0.trail) r.0.writes) }
     ensures world { IfOk result (λ r. fold (start code.now.program mode) (kept r.0.trail) ≡ Some r.0.world) }
     ensures script { IfOk result (λ r. (r.0.trail.program ≡ code.now.program) × (r.0.trail.mode ≡ mode)) }
     ensures reached { IfOk result (λ r. IsReached (standing_of r.0)) }
-    ensures writes { IfOk result (λ r. WrittenAll 0 r.1.items r.0.writes) }
 {
     let mut debugger = Debugger::start(alloc, code, mode)?;
     let replies = follow(alloc, &mut debugger, commands)?;

@@ -212,6 +212,29 @@ fn wakes_with_three_cells_and_back(rt: HostRuntime) {
     wakes_a_rank(&rt, rt.alloc(), &code);
 }
 
+/// Asserts that a rank that is blocked on a barrier goes on at a release, and is blocked again as that is taken back.
+fn leaves_and_returns(rt: &impl Abort, code: &Code, rank: &mut RankState) {
+    same(rt, rank.activity(), Activity::Blocked);
+    rank.go_on();
+    same(rt, rank.activity(), Activity::Running);
+    same(rt, rank.next_statement(code), Some(1));
+    rank.block_again();
+    same(rt, rank.activity(), Activity::Blocked);
+    same(rt, rank.can_step(code), false);
+}
+
+fn meets(rt: &impl Abort, alloc: Global, code: &Code) {
+    let mut rank = RankState::start(alloc, code, 0).expect(rt, "a rank");
+    steps(rt, code, &mut rank, 0);
+    leaves_and_returns(rt, code, &mut rank);
+}
+
+#[test]
+fn leaves_a_barrier_and_returns(rt: HostRuntime) {
+    let code = lowered(&rt, rt.alloc(), b"mpd 1; ranks 1; barrier; print 3;");
+    meets(&rt, rt.alloc(), &code);
+}
+
 fn steps_a_million_times(rt: &impl Abort, debugger: &mut Debugger<'_>) {
     for _ in 0..1_000_000 {
         same(rt, debugger.apply(Step::Local(0)), Ok(()));

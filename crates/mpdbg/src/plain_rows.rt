@@ -4,7 +4,7 @@ use crate::helpers::{
     EngineFault, FIRST, PlainFault, Refusal, Row, answers, each, ended, lowered, run, same, trace,
 };
 use mpd_code::code::Code;
-use mpd_device::device::{FromReader, Source, ToWriter};
+use mpd_device::device::{FromReader, ToWriter};
 use mpd_device::failing::{FailingSink, FailingSource, Limit};
 use mpd_model::call::Mode;
 use mpd_model::read_fault::FaultCode;
@@ -101,60 +101,19 @@ impl Read for Feeds {
     }
 }
 
-/// Asserts how a trace of some code ends, and what is written.
-fn traces<S: Source>(
-    rt: &impl Abort,
-    alloc: Global,
-    code: &Code,
-    mode: Mode,
-    source: &mut S,
-    ended: Result<(), EngineFault>,
-    written: &[u8],
-) {
+/// Asserts that words without an end are given up, with nothing written.
+fn ends_endless_words(rt: &impl Abort, alloc: Global, code: &Code) {
+    let mut source = FromReader::new(Feeds);
     let mut sink = ToWriter::new(Vec::new(alloc));
-    let end = trace(alloc, code, mode, source, &mut sink);
-    same(rt, end, ended);
-    same(rt, sink.into_writer().as_slice(), written);
+    let end = trace(alloc, code, Mode::Rendezvous, &mut source, &mut sink);
+    same(rt, end, Err(EngineFault::TooManyTurns));
+    same(rt, sink.into_writer().is_empty(), true);
 }
 
 #[test]
 fn ends_after_a_million_reads(rt: HostRuntime) {
     let code = lowered(&rt, rt.alloc(), FIRST);
-    let mut source = FromReader::new(Feeds);
-    let ended = Err(EngineFault::TooManyTurns);
-    traces(
-        &rt,
-        rt.alloc(),
-        &code,
-        Mode::Rendezvous,
-        &mut source,
-        ended,
-        b"",
-    );
-}
-
-/// A send that is buffered, and left over.
-const BUFFERED: &[u8] = b"mpd 1; ranks 2; if rank { } else { send 7 to 1 tag 0; }";
-
-const BUFFERED_ANSWERS: &[u8] =
-    b"ok 1\nok 2\nok 3\nok 4\ndepth 4 of 4\nrank 0 ended\nvars\nhandles\nout\ncall 0.0 send to 1 tag 0 value 7 free\nrank 1 ended\nvars\nhandles\nout\npending 0 to 1: 0\nset woke 0.0\noutcome leftovers 0.0\nend\nok 3\n";
-
-/// Its words.
-const BUFFERED_WORDS: &[u8] = b"local 0\nlocal 0\nwake 0\nlocal 1\nshow\nback\n";
-
-#[test]
-fn traces_with_buffered_sends(rt: HostRuntime) {
-    let code = lowered(&rt, rt.alloc(), BUFFERED);
-    let mut source = FromReader::new(BUFFERED_WORDS);
-    traces(
-        &rt,
-        rt.alloc(),
-        &code,
-        Mode::Buffered,
-        &mut source,
-        Ok(()),
-        BUFFERED_ANSWERS,
-    );
+    ends_endless_words(&rt, rt.alloc(), &code);
 }
 
 /// The words of a session.

@@ -34,6 +34,10 @@ const ROWS: &[Canonical] = &[
         "recv a[0] from any tag 1 status x a[1 + x];\n",
     ),
     Canonical("send 1 to 0 tag 1;# a comment", "send 1 to 0 tag 1;\n"),
+    Canonical(
+        "ssend(1+2)*3 to(0)tag 01;barrier ;",
+        "ssend (1 + 2) * 3 to 0 tag 1;\nbarrier;\n",
+    ),
     Canonical("x=1%2/3*4-5+6;", "x = 1 % 2 / 3 * 4 - 5 + 6;\n"),
     Canonical(
         "print (1<=2)+(3>4)+(5>=6)+(7!=8)+(9==1);",

@@ -1,9 +1,7 @@
 //! Rows of requests, worked out by hand from docs/LANGUAGE.md and docs/FORMATS.md: what `isend`, `irecv` and `wait` do, forward
 //! and back, what traps, what is refused and where, and the canonical text.
 
-use crate::helpers::{answers, joined, lowered, same, trace};
-use mpd_device::device::{FromReader, ToWriter};
-use mpd_model::call::Mode;
+use crate::helpers::{answers, joined, same};
 use mpd_model::read_fault::FaultCode;
 use mpd_script::{print, read};
 use std::alloc::Global;
@@ -126,7 +124,7 @@ const FAULTS: &[(&str, FaultCode, usize)] = &[
     ("req r;wait r[0];", FaultCode::Expected, 26),
     ("req r[2];wait r;", FaultCode::Expected, 29),
     ("req r;isend r to 0 tag 0;", FaultCode::Expected, 28),
-    ("req r;issend r 1 to 0 tag 0;", FaultCode::Expected, 20),
+    ("req r;issend 1 to 0 tag 0;", FaultCode::Expected, 27),
 ];
 
 /// Asserts why and where a text behind `mpd 1;ranks 1;` is refused.
@@ -145,10 +143,10 @@ fn refuses_at_places(rt: HostRuntime) {
 
 /// All statements with handles, written another way.
 const SPACED: &str =
-    "mpd 1;ranks 2;req r[02];var x;isend r[ x ](1+2)*3 to(1)tag 0;irecv r[1]x from((1))tag 0;irecv r[0]x from any tag any status x x;wait r[x];\n#\n";
+    "mpd 1;ranks 2;req r[02];var x;isend r[ x ](1+2)*3 to(1)tag 0;irecv r[1]x from((1))tag 0;irecv r[0]x from any tag any status x x;issend r[1](x)to(1)tag 2;wait r[x];\n#\n";
 
 const CANONICAL: &str =
-    "mpd 1;\nranks 2;\nreq r[2];\nvar x;\nisend r[x] (1 + 2) * 3 to 1 tag 0;\nirecv r[1] x from 1 tag 0;\nirecv r[0] x from any tag any status x x;\nwait r[x];\n";
+    "mpd 1;\nranks 2;\nreq r[2];\nvar x;\nisend r[x] (1 + 2) * 3 to 1 tag 0;\nirecv r[1] x from 1 tag 0;\nirecv r[0] x from any tag any status x x;\nissend r[1] x to 1 tag 2;\nwait r[x];\n";
 
 fn prints(rt: &impl Abort, alloc: Global, text: &str) {
     let script = read(alloc, text.as_bytes()).expect(rt, "a script");
@@ -160,25 +158,4 @@ fn prints(rt: &impl Abort, alloc: Global, text: &str) {
 fn prints_handles(rt: HostRuntime) {
     prints(&rt, rt.alloc(), SPACED);
     prints(&rt, rt.alloc(), CANONICAL);
-}
-
-/// Where sends are buffered the first wait is complete unpaired, and the second, which is for a receive, isn't.
-const WAITS: &[u8] =
-    b"mpd 1; ranks 1; var x; req r;\nisend r 1 to 0 tag 0;\nwait r;\nirecv r x from 0 tag 1;\nwait r;\n";
-
-const WAITS_WORDS: &[u8] = b"local 0\nlocal 0\nwake 0\nlocal 0\nlocal 0\nwake 0\nshow\n";
-
-const WAITS_ANSWERS: &[u8] =
-    b"ok 1\nok 2\nok 3\nok 4\nok 5\nrefused not-enabled\ndepth 5 of 5\nrank 0 blocked 3\nvars 0\nhandles 2\nout\ncall 0.0 isend to 0 tag 0 value 1 free\ncall 0.1 wait 0\ncall 0.2 irecv from 0 tag 1 free\ncall 0.3 wait 2\npending 0 to 0: 0\nposted 0: 2\nset woke 0.1\noutcome deadlock 0.3\nend\n";
-
-#[test]
-fn waits_for_buffered_sends(rt: HostRuntime) {
-    let alloc = rt.alloc();
-    let code = lowered(&rt, alloc, WAITS);
-    let mut source = FromReader::new(WAITS_WORDS);
-    let mut sink = ToWriter::new(Vec::new(alloc));
-    let end = trace(alloc, &code, Mode::Buffered, &mut source, &mut sink);
-    same(&rt, end, Ok(()));
-    let written = sink.into_writer();
-    same(&rt, written.as_slice(), WAITS_ANSWERS);
 }

@@ -3,11 +3,12 @@
 use crate::helpers::{FIRST, Row, each, lowered, same};
 use mpd_code::code::Code;
 use mpd_core::state::Core;
-use mpd_model::call::{Mode, Trap};
+use mpd_model::call::{MatchSet, Mode, Trap};
 use mpd_model::outcome::{CallList, Outcome, TrapList, TrappedRank};
 use mpd_model::step::{CallId, Step};
 use mpd_model::text::{print_outcome, print_step};
 use mpd_model::words::step_of;
+use mpd_rank::change::Change;
 use mpd_trail::run::{Command, Reply, replay};
 use std::alloc::{AllocError, Global};
 use std::process::Abort;
@@ -18,51 +19,109 @@ const SEND: CallId = CallId { rank: 0, index: 0 };
 /// The only receive of the first script.
 const RECV: CallId = CallId { rank: 1, index: 0 };
 
-/// Commands on the first script.
-const COMMANDS: &[Command] = &[
-    Command::Undo,
-    Command::Apply(Step::Local(0)),
-    Command::Apply(Step::Local(0)),
-    Command::Apply(Step::Local(0)),
-    Command::Apply(Step::Local(1)),
-    Command::Apply(Step::Local(1)),
-    Command::Apply(Step::Wake(0)),
-    Command::Apply(Step::Match(SEND, RECV)),
-    Command::Undo,
-    Command::Apply(Step::Match(SEND, RECV)),
-    Command::Apply(Step::Wake(1)),
-    Command::Apply(Step::Release),
-];
+/// Commands on a script, and what they are answered.
+struct Session {
+    script: &'static [u8],
+    commands: &'static [Command],
+    replies: &'static [Reply],
+    /// How many steps are not undone in the end.
+    depth: usize,
+    /// How many steps are kept then, undone ones included.
+    kept: usize,
+}
 
-/// What each of the commands is answered.
-const REPLIES: &[Reply] = &[
-    Reply::AtStart,
-    Reply::Done,
-    Reply::Done,
-    Reply::NotEnabled,
-    Reply::Done,
-    Reply::Done,
-    Reply::NotEnabled,
-    Reply::Done,
-    Reply::Done,
-    Reply::Done,
-    Reply::Done,
-    Reply::NotEnabled,
+/// Two ranks that meet at a barrier.
+const MEETING: &[u8] = b"mpd 1; ranks 2;\nbarrier;";
+
+/// A message, forward and back; and a release, which waits for all ranks, is taken back, and taken again.
+const SESSIONS: &[Session] = &[
+    Session {
+        script: FIRST,
+        commands: &[
+            Command::Undo,
+            Command::Apply(Step::Local(0)),
+            Command::Apply(Step::Local(0)),
+            Command::Apply(Step::Local(0)),
+            Command::Apply(Step::Local(1)),
+            Command::Apply(Step::Local(1)),
+            Command::Apply(Step::Wake(0)),
+            Command::Apply(Step::Match(SEND, RECV)),
+            Command::Undo,
+            Command::Apply(Step::Match(SEND, RECV)),
+            Command::Apply(Step::Wake(1)),
+            Command::Apply(Step::Release),
+        ],
+        replies: &[
+            Reply::AtStart,
+            Reply::Done,
+            Reply::Done,
+            Reply::NotEnabled,
+            Reply::Done,
+            Reply::Done,
+            Reply::NotEnabled,
+            Reply::Done,
+            Reply::Done,
+            Reply::Done,
+            Reply::Done,
+            Reply::NotEnabled,
+        ],
+        depth: 6,
+        kept: 6,
+    },
+    Session {
+        script: MEETING,
+        commands: &[
+            Command::Apply(Step::Local(0)),
+            Command::Apply(Step::Release),
+            Command::Apply(Step::Local(1)),
+            Command::Apply(Step::Wake(0)),
+            Command::Apply(Step::Release),
+            Command::Apply(Step::Release),
+            Command::Undo,
+            Command::Undo,
+            Command::Apply(Step::Release),
+            Command::Apply(Step::Local(1)),
+            Command::Apply(Step::Release),
+            Command::Undo,
+        ],
+        replies: &[
+            Reply::Done,
+            Reply::NotEnabled,
+            Reply::Done,
+            Reply::NotEnabled,
+            Reply::Done,
+            Reply::NotEnabled,
+            Reply::Done,
+            Reply::Done,
+            Reply::NotEnabled,
+            Reply::Done,
+            Reply::Done,
+            Reply::Done,
+        ],
+        depth: 2,
+        kept: 3,
+    },
 ];
 
 /// Asserts what the commands are answered, and how many steps stand behind them.
-fn replies_so(rt: &impl Abort, alloc: Global, code: &Code) {
-    let replayed = replay(alloc, code, Mode::Rendezvous, COMMANDS);
+fn replies_so(rt: &impl Abort, alloc: Global, code: &Code, session: &Session) {
+    let replayed = replay(alloc, code, Mode::Rendezvous, session.commands);
     let (debugger, replies) = replayed.expect(rt, "the replies");
-    same(rt, replies.as_slice(), REPLIES);
-    same(rt, debugger.depth(), 6);
-    same(rt, debugger.steps().len(), 6);
+    same(rt, replies.as_slice(), session.replies);
+    same(rt, debugger.depth(), session.depth);
+    same(rt, debugger.steps().len(), session.kept);
+}
+
+impl Row for Session {
+    fn holds(&self, rt: &impl Abort, alloc: Global) {
+        let code = lowered(rt, alloc, self.script);
+        replies_so(rt, alloc, &code, self);
+    }
 }
 
 #[test]
 fn replies_and_undoes(rt: HostRuntime) {
-    let code = lowered(&rt, rt.alloc(), FIRST);
-    replies_so(&rt, rt.alloc(), &code);
+    each(&rt, rt.alloc(), SESSIONS);
 }
 
 /// Asserts that a text was made, and what it is.
@@ -192,8 +251,11 @@ const OTHER: CallId = CallId { rank: 2, index: 0 };
 const RACE: &[u8] =
     b"mpd 1; ranks 3; var x;\nif rank == 0 { recv x from any tag any; } else { send 5 to 0 tag rank; }";
 
+/// The barrier that the first rank is blocked on.
+const BARRIER: CallId = CallId { rank: 0, index: 0 };
+
 /// States of each outcome; texts of a state in which a rank is blocked behind a pair; and sends in order, of which an earlier
-/// one of the same tag is matched first; and two sends that one receive may take.
+/// one of the same tag is matched first; two sends that one receive may take; and a barrier, before the release and behind it.
 const STATES: &[State] = &[
     State {
         script: b"mpd 1; ranks 2; print 1;",
@@ -360,6 +422,49 @@ const STATES: &[State] = &[
         ranks: 3,
         outcome: None,
     },
+    State {
+        script: MEETING,
+        mode: Mode::Rendezvous,
+        steps: &[Step::Local(0)],
+        enabled: &[Step::Local(1)],
+        not_enabled: &[Step::Release, Step::Wake(0)],
+        shown: &[(Part::Rank(0), "blocked 0"), (Part::Rank(1), "at 2")],
+        ranks: 2,
+        outcome: None,
+    },
+    State {
+        script: MEETING,
+        mode: Mode::Buffered,
+        steps: &[Step::Local(0), Step::Local(1)],
+        enabled: &[Step::Release],
+        not_enabled: &[Step::Wake(0), Step::Local(0)],
+        shown: &[
+            (Part::Call(BARRIER), "barrier"),
+            (Part::Rank(0), "blocked 0"),
+        ],
+        ranks: 2,
+        outcome: None,
+    },
+    State {
+        script: MEETING,
+        mode: Mode::Rendezvous,
+        steps: &[Step::Local(0), Step::Local(1), Step::Release],
+        enabled: &[],
+        not_enabled: &[Step::Release],
+        shown: &[(Part::Set(0), "barrier"), (Part::Rank(0), "ended")],
+        ranks: 2,
+        outcome: Some("done"),
+    },
+    State {
+        script: b"mpd 1; ranks 1; ssend 7 to 0 tag 5;",
+        mode: Mode::Buffered,
+        steps: &[Step::Local(0)],
+        enabled: &[],
+        not_enabled: &[Step::Wake(0)],
+        shown: &[(Part::Call(SEND), "ssend to 0 tag 5 value 7 free")],
+        ranks: 1,
+        outcome: Some("deadlock 0.0"),
+    },
 ];
 
 fn is_so(rt: &impl Abort, alloc: Global, core: &Core<'_>, state: &State) {
@@ -418,6 +523,26 @@ fn writes_three_cells_and_undoes(rt: HostRuntime) {
     let code = lowered(&rt, alloc, STATUS);
     let mut core = reached(&rt, alloc, &code, Mode::Rendezvous, MATCHED);
     wakes_and_undoes(&rt, &mut core);
+}
+
+/// Asserts that a release forms its match set and is recorded so, and that its record takes it back.
+fn releases_and_undoes(rt: &impl Abort, core: &mut Core<'_>) {
+    let left = core.apply(Step::Release).expect(rt, "a release");
+    same(rt, (left.step, left.from), (Step::Release, 0));
+    same(rt, matches!(left.change, Change::Released), true);
+    same(rt, core.board().sets(), &[MatchSet::Barrier]);
+    core.undo(left);
+    same(rt, core.board().sets(), &[]);
+    same(rt, core.is_enabled(Step::Release), true);
+}
+
+#[test]
+fn leaves_a_barrier_and_undoes(rt: HostRuntime) {
+    let alloc = rt.alloc();
+    let code = lowered(&rt, alloc, MEETING);
+    let steps = &[Step::Local(1), Step::Local(0)];
+    let mut core = reached(&rt, alloc, &code, Mode::Rendezvous, steps);
+    releases_and_undoes(&rt, &mut core);
 }
 
 fn prints(rt: &impl Abort, alloc: Global, outcome: Outcome, wanted: &str) {

@@ -1,0 +1,32 @@
+//! Leaving a barrier (MPI 4.0, section 6.3).
+ghost use Rattle.std.specs.Prelude.{◌≡◌, ◌+◌, ◌≤◌, Some};
+ghost use Rattle.mpd_model.specs.Next.{with_set};
+ghost use Rattle.mpd_match.specs.Changes.{without_last_set, last_set};
+
+use crate::board::Board;
+use mpd_model::call::MatchSet;
+
+impl Board {
+    /// All ranks left the barrier that they were blocked on (MPI 4.0, section 6.3). No call is paired by it, and none leaves
+    /// its line. `unreleased` gives the board before.
+    pub fn released(&mut self)
+        requires { 1 ≤ self.old.room }
+        ensures board { self.new.board ≡ with_set self.old.board MatchSet.Barrier }
+        ensures last { last_set self.new.board ≡ Some MatchSet.Barrier }
+        ensures back { without_last_set self.new.board ≡ self.old.board }
+        ensures room { self.old.room ≤ self.new.room + 1 }
+        ensures writes { self.new.writes ≡ self.old.writes + 1 }
+    {
+        self.add_set(MatchSet::Barrier);
+    }
+
+    /// The last match set, a release, is taken back.
+    pub fn unreleased(&mut self)
+        requires { last_set self.old.board ≡ Some MatchSet.Barrier }
+        ensures board { self.new.board ≡ without_last_set self.old.board }
+        ensures room { self.old.room ≤ self.new.room }
+        ensures writes { self.new.writes ≡ self.old.writes + 1 }
+    {
+        self.drop_set();
+    }
+}

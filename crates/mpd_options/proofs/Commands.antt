@@ -1,0 +1,269 @@
+-- The walk of `clap` over all words: the first names the command, and those behind it are its own.
+use Rattle.std.proofs.Common.{◌≡◌, ◌≢◌, ◌∙◌, ℕ, Bool, true, false, List, [], ◌∷◌, ◌++◌, ◌==◌, length, Option, Some, None, is_some, drop, fold, codes, refl, sym, ap, subst, if◌then◌else◌, append_assoc, append-nil}
+use Rattle.std.specs.Prelude.{encode_utf8}
+use Rattle.std.specs.Option.{option_map_or}
+use Rattle.std.specs.Str.{bytes_eq, chars}
+use Rattle.std.proofs.lemmas.Slice.Eq.{bytes_eq-Decides}
+use Rattle.clap.specs.Lexer.{long_of, short_of}
+use Rattle.clap.specs.Words.{App, Rule, Shape, Row, Text, built}
+use Rattle.clap.specs.Kinds.{Kinds, or_else}
+use Rattle.clap.specs.Faults.{fault_of, walk_fault, settle_fault, turn_fault, step_fault, long_fault, bundle_fault, flags_fault, short_fault, flag_word_fault, other_fault, entered_fault, check_fault, defaults_fault, is_simple_and_free}
+use Rattle.clap.specs.Simple.{names_of, subcommand_of, entered}
+use Rattle.clap.specs.Walk.{Held, Walk, Names, idle, Step, value, trailing, Outcome, plain, nothing_held, finished, settled, walk_from, walked, arg_by_long, arg_by_short, long_or_other, short_or_plain, after_flag, after_step, subcommand_or_other, bundle, bundle_met, subcommand_met}
+use Rattle.clap.proofs.OnLiterals.{clap_on_literals}
+use Rattle.mpd_options.specs.Asked.{Asked, traced, meant, found_of_command, among_options}
+use Rattle.mpd_options.specs.Program.{mpdbg_app}
+use Rattle.mpd_options.proofs.Walks.{Agrees, law, ready, none, faults, rows_at, walk_at, fails_first, fails_then, dd, reads, reads_dashes, reads_mode, reads_long, reads_letters, reads_no_letters, reads_plain}
+
+abbrev top : App
+top = built mpdbg_app
+
+abbrev shape : Shape
+shape = top.top
+
+abbrev names : Names
+names = names_of top
+
+abbrev start : Walk
+start = walk_from nothing_held
+
+-- ---- the words behind the command's
+
+abbrev stopped_at : Walk → Text → List Text → Walk
+stopped_at w name words = record w { stopped = Some (name, words) }
+
+stays : (words seen : List Text) (w : Walk) (name : Text) → fold (walked shape.rules names) (stopped_at w name seen) words ≡ stopped_at w name (seen ++ words)
+unfolding walked
+stays [] seen w name = ap (λ x. stopped_at w name x) (sym (append-nil seen))
+stays (word ∷ words) seen w name = stays words (seen ++ word ∷ []) w name ∙ ap (λ x. stopped_at w name x) (append_assoc seen (word ∷ []) words)
+
+no_fault : (words seen : List Text) (w : Walk) (name : Text) → walk_fault shape names (stopped_at w name seen) words ≡ []
+unfolding walk_fault walked
+no_fault [] seen w name = refl
+no_fault (word ∷ words) seen w name = no_fault words (seen ++ word ∷ []) w name
+
+-- what all words come to, by the walk over them
+abbrev whole_fault : Kinds → Walk → Kinds
+whole_fault ks end =
+    or_else ks (or_else (entered_fault top end.stopped) (or_else (settle_fault shape.rules shape.args_override_self end.held)
+    (or_else (defaults_fault (settled shape.rules end.held).rows shape.rules) (check_fault shape (finished shape.rules end.held) (is_some (entered top end.stopped))))))
+
+abbrev walk_over : List Text → Walk
+walk_over words = fold (walked shape.rules names) start words
+
+all_faults : (words : List Text) → fault_of mpdbg_app words ≡ whole_fault (walk_fault shape names start words) (walk_over words)
+all_faults words = refl
+
+-- where nothing is asked for something fails, and else nothing does, and that is what was found
+abbrev pub AgreesAll : Option Asked → Kinds → Option (Text × List Row) → Type 0
+AgreesAll None ks command = ks ≢ []
+AgreesAll (Some x) ks command = (ks ≡ []) × (found_of_command command ≡ Some x)
+
+behind_trace : (words : List Text) → walk_over (codes "trace" ∷ words) ≡ stopped_at start (codes "trace") words
+unfolding clap_on_literals
+behind_trace words = stays words [] start (codes "trace")
+
+trace_walk : (words : List Text) → walk_fault shape names start (codes "trace" ∷ words) ≡ []
+unfolding clap_on_literals
+trace_walk words = no_fault words [] start (codes "trace")
+
+and_nothing : (ks : Kinds) → or_else ks [] ≡ ks
+and_nothing [] = refl
+and_nothing (k ∷ ks) = refl
+
+whole_trace : (words : List Text) → whole_fault [] (stopped_at start (codes "trace") words) ≡ faults (walk_at (ready none false)) words
+unfolding clap_on_literals
+whole_trace words = and_nothing (faults (walk_at (ready none false)) words)
+
+trace_fault : (words : List Text) → fault_of mpdbg_app (codes "trace" ∷ words) ≡ faults (walk_at (ready none false)) words
+trace_fault words =
+    all_faults (codes "trace" ∷ words) ∙ ap (λ ks. whole_fault ks (walk_over (codes "trace" ∷ words))) (trace_walk words) ∙ ap (λ end. whole_fault [] end) (behind_trace words)
+    ∙ whole_trace words
+
+trace_found : (words : List Text) → subcommand_of mpdbg_app (codes "trace" ∷ words) ≡ Some (codes "trace", rows_at (walk_at (ready none false)) words)
+trace_found words = ap (λ (w : Walk). entered top w.stopped) (behind_trace words)
+
+lift : (o : Option Asked) (ks : Kinds) (rows : List Row) → Agrees o ks rows → AgreesAll o ks (Some (codes "trace", rows))
+lift None ks rows h = h
+lift (Some x) ks rows h = h
+
+trace_law : (words : List Text) → AgreesAll (traced words among_options None None) (fault_of mpdbg_app (codes "trace" ∷ words)) (subcommand_of mpdbg_app (codes "trace" ∷ words))
+trace_law words =
+    let o = traced words among_options None None in
+    let P : Kinds → Type 0 = λ ks. AgreesAll o ks (subcommand_of mpdbg_app (codes "trace" ∷ words)) in
+    let Q : Option (Text × List Row) → Type 0 = λ c. AgreesAll o (faults (walk_at (ready none false)) words) c in
+    subst P (sym (trace_fault words)) (subst Q (sym (trace_found words)) (lift o (faults (walk_at (ready none false)) words) (rows_at (walk_at (ready none false)) words) (law words (ready none false))))
+
+-- ---- another first word
+
+fails_all : (words : List Text) → walk_fault shape names start words ≢ [] → fault_of mpdbg_app words ≢ []
+fails_all words fails = let P : Kinds → Type 0 = λ ks. ks ≢ [] in subst P (sym (all_faults words)) (fails_first (walk_fault shape names start words) _ fails)
+
+fails_at_once : (word : Text) (words : List Text) → turn_fault shape names start word ≢ [] → fault_of mpdbg_app (word ∷ words) ≢ []
+unfolding walk_fault
+fails_at_once word words fails = fails_all (word ∷ words) (fails_first (turn_fault shape names start word) _ fails)
+
+help_word : (words : List Text) → fault_of mpdbg_app (codes "help" ∷ words) ≢ []
+unfolding clap_on_literals
+help_word words = fails_at_once (codes "help") words (λ z. cc)
+
+top_help : (name : Text) → bytes_eq (codes "help") name ≡ true → arg_by_long shape.rules name ≡ arg_by_long shape.rules (codes "help")
+top_help name e = ap (λ n. arg_by_long shape.rules n) (sym ((bytes_eq-Decides (codes "help") name).0 e))
+
+top_version : (name : Text) → bytes_eq (codes "version") name ≡ true → arg_by_long shape.rules name ≡ arg_by_long shape.rules (codes "version")
+top_version name e = ap (λ n. arg_by_long shape.rules n) (sym ((bytes_eq-Decides (codes "version") name).0 e))
+
+top_none : (name : Text) → bytes_eq (codes "help") name ≡ false → bytes_eq (codes "version") name ≡ false → arg_by_long shape.rules name ≡ None
+unfolding clap_on_literals
+top_none name e h = rw (e, h) refl
+
+named_fails : (v : Option Text) → (long_fault shape.rules false (arg_by_long shape.rules (codes "help")) v nothing_held ≢ []) × (long_fault shape.rules false (arg_by_long shape.rules (codes "version")) v nothing_held ≢ [])
+unfolding clap_on_literals
+named_fails None = ((λ z. cc), (λ z. cc))
+named_fails (Some x) = ((λ z. cc), (λ z. cc))
+
+top_long : (name : Text) (v : Option Text) → long_fault shape.rules false (arg_by_long shape.rules name) v nothing_held ≢ []
+top_long name v =
+    let P : Option Rule → Type 0 = λ r. long_fault shape.rules false r v nothing_held ≢ [] in
+    elim (bytes_eq (codes "help") name) as (λ b. bytes_eq (codes "help") name ≡ b → long_fault shape.rules false (arg_by_long shape.rules name) v nothing_held ≢ []) [
+      | true ↦ λ e. subst P (sym (top_help name e)) (named_fails v).0
+      | false ↦ λ e. elim (bytes_eq (codes "version") name) as (λ b. bytes_eq (codes "version") name ≡ b → long_fault shape.rules false (arg_by_long shape.rules name) v nothing_held ≢ []) [
+        | true ↦ λ h. subst P (sym (top_version name h)) (named_fails v).1
+        | false ↦ λ h. subst P (sym (top_none name e h)) (λ z. cc)
+      ] refl
+    ] refl
+
+top_letter : (x : ℕ) (rest : Text) (next : Held → Kinds) → short_fault shape.rules false (arg_by_short shape.rules x) rest nothing_held next ≢ []
+unfolding clap_on_literals
+top_letter x rest next = elim (104 == x) as (λ b. (104 == x) ≡ b → short_fault shape.rules false (arg_by_short shape.rules x) rest nothing_held next ≢ []) [
+  | true ↦ λ e. rw e (λ z. cc)
+  | false ↦ λ e. elim (86 == x) as (λ b. (86 == x) ≡ b → short_fault shape.rules false (arg_by_short shape.rules x) rest nothing_held next ≢ []) [
+    | true ↦ λ h. rw (e, h) (λ z. cc)
+    | false ↦ λ h. rw (e, h) (λ z. cc)
+  ] refl
+] refl
+
+no_chars : {A : Type 0} (x : ℕ) (xs : List ℕ) → chars [] ≡ x ∷ xs → A
+unfolding chars
+no_chars x xs e = cc
+
+top_letters : (letters : Text) (x : ℕ) (xs : List ℕ) → chars letters ≡ x ∷ xs → bundle_fault shape.rules false letters nothing_held ≢ []
+unfolding flags_fault
+top_letters [] x xs e = no_chars x xs e
+top_letters (y ∷ ys) x xs e = rw e (top_letter x (drop (length (encode_utf8 x)) (y ∷ ys)) _)
+
+-- the turn of a first word, by the command that it names
+abbrev met_turn : Option Text → Text → Kinds
+met_turn met word =
+    let step = subcommand_or_other shape.rules met idle 1 word nothing_held in
+    or_else (other_fault shape met word nothing_held) (step_fault shape 1 step.0 step.1)
+
+unmet : (word : Text) → bytes_eq (codes "trace") word ≡ false → bytes_eq (codes "help") word ≡ false → subcommand_met names idle word ≡ None
+unmet word t h = rw (t, h) refl
+
+top_turns : (word : Text) → bytes_eq (codes "trace") word ≡ false → bytes_eq (codes "help") word ≡ false → turn_fault shape names start word ≡ met_turn None word
+top_turns word t h = ap (λ m. met_turn m word) (unmet word t h)
+
+stray_fails : (word : Text) → step_fault shape 1 nothing_held value ≢ []
+stray_fails word = λ z. cc
+
+abbrev short_turn : Text → Option Text → Kinds
+short_turn word s =
+    let met = short_or_plain shape.rules idle word s nothing_held in
+    or_else (option_map_or (λ flags. bundle_fault shape.rules false flags nothing_held) s []) (step_fault shape 1 met.0 met.1)
+
+no_top_bundle : (letters : Text) → chars letters ≡ [] → bundle shape.rules letters nothing_held ≡ (let q : Held × Outcome = (nothing_held, plain) in q)
+unfolding bundle_met
+no_top_bundle [] e = refl
+no_top_bundle (y ∷ ys) e = rw e refl
+
+abbrev bundle_turn : Text → Held × Outcome → Kinds
+bundle_turn word q = let met = after_flag shape.rules idle word q.0 q.1 in step_fault shape 1 met.0 met.1
+
+abbrev long_turn : Text → Option (Text × Option Text) → Kinds
+long_turn word l =
+    let met = long_or_other shape.rules idle word l nothing_held in
+    or_else (flag_word_fault shape.rules false l word nothing_held) (step_fault shape 1 met.0 met.1)
+
+abbrev dash_turn : Text → Bool → Kinds
+dash_turn word d =
+    let met = if d then (let q : Held × Step = (nothing_held, trailing 1) in q) else long_or_other shape.rules idle word (long_of word) nothing_held in
+    or_else (if d then [] else flag_word_fault shape.rules false (long_of word) word nothing_held) (step_fault shape 1 met.0 met.1)
+
+as_long : (word : Text) (l : Option (Text × Option Text)) → bytes_eq word dd ≡ false → long_of word ≡ l → met_turn None word ≡ long_turn word l
+as_long word l d e = ap (λ b. dash_turn word b) d ∙ ap (λ p. long_turn word p) e
+
+as_short : (word : Text) (s : Option Text) → bytes_eq word dd ≡ false → long_of word ≡ None → short_of word ≡ s → met_turn None word ≡ short_turn word s
+as_short word s d l e = as_long word None d l ∙ ap (λ x. short_turn word x) e
+
+-- `--` alone, or with words behind it
+dashes_turn : (word : Text) → bytes_eq (codes "trace") word ≡ false → bytes_eq (codes "help") word ≡ false → bytes_eq word dd ≡ true → walked shape.rules names start word ≡ record start { is_trailing = true }
+unfolding walked
+dashes_turn word t h d =
+    ap (λ m. let step = subcommand_or_other shape.rules m idle 1 word nothing_held in after_step shape.rules word start step.0 step.1) (unmet word t h)
+    ∙ ap (λ b. let step = if b then (let q : Held × Step = (nothing_held, trailing 1) in q) else long_or_other shape.rules idle word (long_of word) nothing_held in after_step shape.rules word start step.0 step.1) d
+
+dashes_fail : (words : List Text) → whole_fault (walk_fault shape names (record start { is_trailing = true }) words) (fold (walked shape.rules names) (record start { is_trailing = true }) words) ≢ []
+unfolding clap_on_literals
+dashes_fail [] = λ z. cc
+dashes_fail (word ∷ words) = λ z. cc
+
+behind_turn : (ks ms : Kinds) (end : Walk) → whole_fault ms end ≢ [] → whole_fault (or_else ks ms) end ≢ []
+behind_turn [] ms end fails = fails
+behind_turn (k ∷ ks) ms end fails = λ e. cc
+
+first_dashes : (word : Text) (words : List Text) → bytes_eq (codes "trace") word ≡ false → bytes_eq (codes "help") word ≡ false → bytes_eq word dd ≡ true → fault_of mpdbg_app (word ∷ words) ≢ []
+unfolding walk_fault
+first_dashes word words t h d =
+    let P : Kinds → Type 0 = λ ks. ks ≢ [] in
+    let Q : Walk → Type 0 = λ w. whole_fault (or_else (turn_fault shape names start word) (walk_fault shape names w words)) (fold (walked shape.rules names) w words) ≢ [] in
+    subst P (sym (all_faults (word ∷ words))) (subst Q (sym (dashes_turn word t h d))
+    (behind_turn (turn_fault shape names start word) (walk_fault shape names (record start { is_trailing = true }) words) (fold (walked shape.rules names) (record start { is_trailing = true }) words) (dashes_fail words)))
+
+stray_bundle : (word letters : Text) → chars letters ≡ [] → (let met = short_or_plain shape.rules idle word (Some letters) nothing_held in step_fault shape 1 met.0 met.1) ≢ []
+stray_bundle word letters e =
+    let P : Held × Outcome → Type 0 = λ q. bundle_turn word q ≢ [] in
+    subst P (sym (no_top_bundle letters e)) (stray_fails word)
+
+first_word : (word : Text) (words : List Text) → bytes_eq (codes "trace") word ≡ false → bytes_eq (codes "help") word ≡ false → fault_of mpdbg_app (word ∷ words) ≢ []
+first_word word words t h =
+    let P : Kinds → Type 0 = λ ks. ks ≢ [] in
+    let now : (ks : Kinds) → met_turn None word ≡ ks → ks ≢ [] → fault_of mpdbg_app (word ∷ words) ≢ [] =
+    λ ks e fails. fails_at_once word words (subst P (sym (top_turns word t h ∙ e)) fails) in
+    elim (reads word) [
+      | reads_dashes d ↦ first_dashes word words t h d
+      | reads_mode name v d l m ↦ now _ (as_long word (Some (name, v)) d l) (fails_first _ _ (top_long name v))
+      | reads_long name v d l m ↦ now _ (as_long word (Some (name, v)) d l) (fails_first _ _ (top_long name v))
+      | reads_letters letters x xs d l s e ↦ now _ (as_short word (Some letters) d l s) (fails_first _ _ (top_letters letters x xs e))
+      | reads_no_letters letters d l s e ↦ now _ (as_short word (Some letters) d l s) (fails_then (bundle_fault shape.rules false letters nothing_held) _ (stray_bundle word letters e))
+      | reads_plain d l s ↦ now _ (as_short word None d l s) (stray_fails word)
+    ]
+
+other_word : (word : Text) (words : List Text) → bytes_eq (codes "trace") word ≡ false → fault_of mpdbg_app (word ∷ words) ≢ []
+other_word word words t = elim (bytes_eq (codes "help") word) as (λ b. bytes_eq (codes "help") word ≡ b → fault_of mpdbg_app (word ∷ words) ≢ []) [
+  | true ↦ λ e. let P : Text → Type 0 = λ w. fault_of mpdbg_app (w ∷ words) ≢ [] in subst P ((bytes_eq-Decides (codes "help") word).0 e) (help_word words)
+  | false ↦ λ e. first_word word words t e
+] refl
+
+-- ---- all words
+
+turned_about : (word : Text) → bytes_eq word (codes "trace") ≡ false → bytes_eq (codes "trace") word ≡ false
+turned_about word e = elim (bytes_eq (codes "trace") word) as (λ b. bytes_eq (codes "trace") word ≡ b → b ≡ false) [
+  | true ↦ λ h. let same : codes "trace" ≡ word = (bytes_eq-Decides (codes "trace") word).0 h in sym (sym e ∙ ap (λ w. bytes_eq w (codes "trace")) (sym same))
+  | false ↦ λ h. refl
+] refl
+
+pub meant_law : (word : Text) (words : List Text) → AgreesAll (meant (word ∷ words)) (fault_of mpdbg_app (word ∷ words)) (subcommand_of mpdbg_app (word ∷ words))
+meant_law word words =
+    elim (bytes_eq word (codes "trace")) as (λ b. bytes_eq word (codes "trace") ≡ b → AgreesAll (if b then traced words among_options None None else None) (fault_of mpdbg_app (word ∷ words)) (subcommand_of mpdbg_app (word ∷ words))) [
+      | true ↦ λ e.
+          let P : Text → Type 0 = λ w. AgreesAll (traced words among_options None None) (fault_of mpdbg_app (w ∷ words)) (subcommand_of mpdbg_app (w ∷ words)) in
+          subst P (sym ((bytes_eq-Decides word (codes "trace")).0 e)) (trace_law words)
+      | false ↦ λ e. other_word word words (turned_about word e)
+    ] refl
+
+pub is_plain_app : is_simple_and_free mpdbg_app ≡ true
+unfolding clap_on_literals
+is_plain_app = refl
+
+pub ruleset reading = (meant_law, is_plain_app)

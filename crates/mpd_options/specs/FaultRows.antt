@@ -1,0 +1,77 @@
+-- Worked rows of the kinds of faults that `clap` has for words, and of the status that the program then ends with.
+use Rattle.std.specs.Prelude.{◌≡◌, ℕ, List, [], ◌∷◌, map, codes, refl, if◌then◌else◌}
+use Rattle.std.specs.Char.{encode_utf8}
+use Rattle.std.specs.Str.{chars}
+use Rattle.clap.specs.Kinds.{Kinds}
+use Rattle.clap.specs.Faults.{defaults_fault, fault_of, flags_fault, walk_fault}
+use Rattle.clap.specs.Takes.{flags_pass, walk_passes}
+use Rattle.clap.specs.Walk.{bundle_met, walked}
+use Rattle.clap.specs.declared.error.kind.ErrorKind.{ErrorKind}
+use Rattle.clap.specs.declared.error.kind.ErrorKind.TheVariants as kind
+use Rattle.mpd_options.specs.Program.{mpdbg_app}
+use Rattle.mpd_options.specs.Refused.{asks_for_help}
+
+-- words, the kinds that their fault can have, and the status for each
+abbrev Row : Type 0
+Row = List (List ℕ) × Kinds × List ℕ
+
+abbrev help : List (List ℕ) → Row
+help words = (words, kind.DisplayHelp ∷ [], 0 ∷ [])
+
+abbrev version : List (List ℕ) → Row
+version words = (words, kind.DisplayVersion ∷ [], 0 ∷ [])
+
+-- behind the word `help` the function of `clap` doesn't say whether there is help on what follows
+abbrev help_on : List (List ℕ) → Row
+help_on words = (words, kind.DisplayHelp ∷ kind.InvalidSubcommand ∷ [], 0 ∷ 2 ∷ [])
+
+-- a word in the place of the command, which is said to be unknown in one way or the other
+abbrev stray : List (List ℕ) → Row
+stray words = (words, kind.UnknownArgument ∷ kind.InvalidSubcommand ∷ [], 2 ∷ 2 ∷ [])
+
+abbrev wrong : ErrorKind → List (List ℕ) → Row
+wrong k words = (words, k ∷ [], 2 ∷ [])
+
+abbrev rows : List Row
+rows =
+    help (codes "--help" ∷ [])
+    ∷ help (codes "-h" ∷ [])
+    ∷ help_on (codes "help" ∷ [])
+    ∷ help_on (codes "help" ∷ codes "trace" ∷ [])
+    ∷ help (codes "trace" ∷ codes "--help" ∷ [])
+    ∷ help (codes "trace" ∷ codes "-h" ∷ [])
+    ∷ help (codes "trace" ∷ codes "a" ∷ codes "--mode" ∷ codes "b" ∷ codes "--help" ∷ [])
+    ∷ help (codes "trace" ∷ codes "--help" ∷ codes "--fly" ∷ [])
+    ∷ help (codes "--help" ∷ codes "--fly" ∷ [])
+    ∷ version (codes "--version" ∷ [])
+    ∷ version (codes "-V" ∷ [])
+    ∷ version (codes "--version" ∷ codes "trace" ∷ [])
+    ∷ stray (codes "trac" ∷ [])
+    ∷ stray (codes "a.mpd" ∷ [])
+    ∷ stray (codes "" ∷ [])
+    ∷ stray (codes "Trace" ∷ codes "a" ∷ [])
+    ∷ help_on (codes "help" ∷ codes "trac" ∷ [])
+    ∷ wrong kind.UnknownArgument (codes "--mode" ∷ codes "b" ∷ codes "trace" ∷ codes "a" ∷ [])
+    ∷ wrong kind.UnknownArgument (codes "-x" ∷ [])
+    ∷ wrong kind.UnknownArgument (codes "--fly" ∷ codes "--help" ∷ [])
+    ∷ stray (codes "--" ∷ codes "trace" ∷ codes "a" ∷ [])
+    ∷ wrong kind.UnknownArgument (codes "trace" ∷ codes "a" ∷ codes "b" ∷ [])
+    ∷ wrong kind.UnknownArgument (codes "trace" ∷ codes "a" ∷ codes "--mod" ∷ codes "b" ∷ [])
+    ∷ wrong kind.UnknownArgument (codes "trace" ∷ codes "a" ∷ codes "-m" ∷ codes "b" ∷ [])
+    ∷ wrong kind.UnknownArgument (codes "trace" ∷ codes "a" ∷ codes "--version" ∷ [])
+    ∷ wrong kind.UnknownArgument (codes "trace" ∷ codes "a" ∷ codes "--" ∷ codes "--help" ∷ [])
+    ∷ wrong kind.MissingSubcommand (codes "--" ∷ [])
+    ∷ wrong kind.MissingRequiredArgument (codes "trace" ∷ [])
+    ∷ wrong kind.MissingRequiredArgument (codes "trace" ∷ codes "--mode" ∷ codes "b" ∷ [])
+    ∷ wrong kind.InvalidValue (codes "trace" ∷ codes "a" ∷ codes "--mode" ∷ [])
+    ∷ wrong kind.InvalidValue (codes "trace" ∷ codes "--mode" ∷ codes "--" ∷ codes "b" ∷ [])
+    ∷ wrong kind.UnknownArgument (codes "trace" ∷ codes "a" ∷ codes "--mode" ∷ codes "--" ∷ codes "b" ∷ [])
+    ∷ wrong kind.ArgumentConflict (codes "trace" ∷ codes "a" ∷ codes "--mode" ∷ codes "b" ∷ codes "--mode=b" ∷ [])
+    ∷ []
+
+abbrev kinds_and_status : Kinds → Kinds × List ℕ
+kinds_and_status ks = (ks, map (λ k. if asks_for_help k then 0 else 2) ks)
+
+pub faults_worked : map (λ (row : Row). kinds_and_status (fault_of mpdbg_app row.0)) rows ≡ map (λ (row : Row). let q : Kinds × List ℕ = (row.1, row.2) in q) rows
+unfolding walked bundle_met chars encode_utf8 flags_pass walk_passes flags_fault walk_fault defaults_fault
+faults_worked = refl

@@ -1,0 +1,5 @@
+pub mod Asked
+pub mod AskedRows
+pub mod FaultRows
+pub mod Program
+pub mod Refused

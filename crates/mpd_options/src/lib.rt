@@ -1,0 +1,5 @@
+//! The command line: its words, what they ask for, and why they ask for nothing that can be done.
+#![tactic(auto)]
+
+pub mod command;
+pub mod options;
