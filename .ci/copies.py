@@ -25,6 +25,9 @@ HEAD = re.compile(r'(?m)^( *)(?:#\[cycle\((\w+)\)\]\n(?:\1(?:#\[|///).*\n)*\1)?(
 # A clause that a function ensures, on a line of its own.
 ENSURES = re.compile(r'(?m)^ +ensures (?:(\w+) )?\{.*\}\n')
 
+# What a check says of a function that it did not refuse: it is proved, or would be but for what was left open (assumed.py).
+GRANTED = re.compile(r'proved$|no holes$|depends on a hole in ')
+
 # The head of an impl block: the trait, where it is of one, and the type.
 IMPL = re.compile(r'(?m)^impl\b(?:<[^{]*?>)? (?:(\S.*) for )?(\w+)[^{;]*\{')
 
@@ -98,7 +101,7 @@ class Original:
 
     def __init__(self, folder, file, text, head):
         self.folder, self.file, self.text = folder, file, text
-        self.cycle, self.name = head[2], head[3]
+        self.indent, self.cycle, self.name = head[1], head[2], head[3]
         self.begin, self.end = start_of(text, head), end_of(text, head)
         self.is_free, self.owner = not head[1], None
         above = list(IMPL.finditer(text, 0, head.start()))
@@ -194,4 +197,4 @@ class Copies:
         if len(named) != 1:
             return f'{control}: it was not checked'
         word = told.functions[named[0]][0]
-        return None if word == 'proved' else f'{control}: {word}'
+        return None if GRANTED.match(word) else f'{control}: {word}'

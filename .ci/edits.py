@@ -41,7 +41,8 @@ from concurrent.futures import FIRST_COMPLETED, ThreadPoolExecutor, wait
 sys.path.insert(0, os.path.dirname(os.path.abspath(__file__)))
 sys.dont_write_bytecode = True
 
-from copies import HEAD, Copies, Original, answers_all, head_around
+from assumed import assume, granted, grants
+from copies import GRANTED, HEAD, Copies, Original, answers_all, head_around
 
 PARTS = ('src', 'specs', 'proofs')
 
@@ -50,6 +51,9 @@ READING = 'statement_read'
 
 # What the check says where a proof file names what an edit took away.
 TAKEN_AWAY = re.compile(r'has no field|is not in scope|has no `|was not admitted|is no name')
+
+# What it says where no proof can be given, since it stands where the prover writes its own.
+TAKEN_PATH = re.compile(r'(?m)^\./(proofs/\S+)/Proof\.antt: error\[reserved-name\]')
 
 # What it says of a function that only rests on one that is not proved.
 RESTS = re.compile(r'(?:in `[^`]*`, of this cycle of calls: )?it (?:calls|passes the block) `[^`]*`(?:(?:, | and |, and )`[^`]*`)*, which (?:is|are) not proved')
@@ -102,7 +106,7 @@ class Repository:
             words += ['-L', f'dependency={of}']
         words += ['--antt-project', f'{kit}/rattle/logic/antt-project.json', '--logic-built', f'{kit}/logic_built']
         words += ['--links', f'{crate}=', '--jobs', '1', *(['--incremental', kept] if kept else [])]
-        return words + [it for path in only for it in ('--only', path)]
+        return words + ['--allow-holes'] + [it for path in only for it in ('--only', path)]
 
 
 class Edit:
@@ -282,7 +286,7 @@ class Told:
     def reasons(self, name):
         """Why this function is refused, the functions that it calls aside: notes of its code, then errors of its proof files."""
         word, before = self.functions[name]
-        if word == 'proved':
+        if GRANTED.match(word):
             return []
         notes = [it for it in before if re.match(r'note: \S+:\d+:\d+: it is not proved|(?:note: )?(?:\./)?src/\S+:\d+:\d+: error', it)]
         folders = {'proofs/' + '/'.join(name.split('::')[1:]) + '/'}
@@ -329,7 +333,7 @@ def judge(edit, told):
     name, = names
     word = told.functions[name][0]
     own = told.reasons(name)
-    if word == 'proved':
+    if GRANTED.match(word):
         return Verdict(edit, False, f'NOT REFUSED: {name} is still proved')
     if word.startswith('could not tell'):
         return Verdict(edit, False, f'BAD EDIT: the check could not tell of {name}', is_open=True)
@@ -369,9 +373,10 @@ class Crate:
         files = [f'{at}/{it}' for part in PARTS for at, _, them in os.walk(f'{self.folder}/{part}') for it in them]
         return len(self.edits) * 20 + sum(len(text_of(it).split('\n')) for it in files)
 
-    def tried(self, log=None):
+    def tried(self, proofs, log=None):
         """Tries all edits, each round over what those before it proved, and answers a verdict for each."""
         self.began, self.rounds, self.seconds, done = time.time(), 0, 0, list(self.bad)
+        self.known = grants(self.folder, proofs.named(self.name))
         with tempfile.TemporaryDirectory(prefix='edits-') as room:
             kept = f'{room}/kept'
             if os.path.isdir(self.repository.kept(self.name)):
@@ -403,11 +408,19 @@ class Crate:
         return sorted(done, key=lambda it: it.edit.name)
 
     def check(self, round, kept, log):
-        texts = round.texts()
+        given = granted(self.known, round.judged())
+        texts = round.texts(given)
         self.rounds += 1
         kept_log = f'{os.path.abspath(log)}/{self.name}.{self.rounds}' if log else None
-        said, seconds = check(self.repository, self.name, texts, kept, round.only(), kept_log)
+        words = self.repository.check(self.name, kept, round.only())
+        said, seconds = check(self.folder, words, texts, lambda room: assume(room, self.name, given), kept_log)
         self.seconds += seconds
+        taken = set(TAKEN_PATH.findall(said))
+        if taken:
+            # (the prover writes these proofs itself)
+            self.known = [it for it in self.known if it.folder not in taken]
+            self.rounds -= 1
+            return self.check(round, kept, log)
         told = Told(texts, said)
         if kept_log:
             with open(kept_log, 'w', encoding='utf-8') as it:
@@ -516,6 +529,10 @@ class Round:
         """What the check is to check."""
         return sorted({it.judged for it in self.taken if it.judged} | set(self.copies.controls.values())) or [READING] * bool(self.reading())
 
+    def judged(self):
+        """The names of the functions that it judges, or that it changes, copies aside."""
+        return (self.changed() or set()) | {it.rpartition('::')[2] for it in self.only()}
+
     def changed(self):
         """The names of the functions that differ from those of the crate; None where something else may."""
         if self.has_copies():
@@ -523,25 +540,29 @@ class Round:
         found = [it.changed() for it in self.taken]
         return None if None in found else {name for them in found for name, _ in them}
 
-    def texts(self):
-        """The texts of the files with all of them made."""
-        return {**merged(self.folder, self.copies.regions() if self.has_copies() else self.regions), **self.copies.files, **self.reading()}
+    def texts(self, given):
+        """The texts of the files with all of them made, and with what stands for the functions that are granted."""
+        regions = {file: list(them) for file, them in (self.copies.regions() if self.has_copies() else self.regions).items()}
+        for grant in given:
+            if grant.original:
+                regions.setdefault(grant.original.file, []).extend(grant.regions())
+        return {**merged(self.folder, regions), **self.copies.files, **self.reading()}
 
 
-def check(repository, crate, texts, kept, only, kept_log=None):
-    """Checks a copy of the crate with these texts, and answers what was said, and the processor seconds that it took; how long its
-    stages took, and how long each function, goes beside the log, where one is kept."""
-    folder = repository.folder(crate)
+def check(folder, words, texts, prepare, kept_log=None):
+    """Checks a copy of a crate's folder with these texts, once it is prepared, and answers what was said, and the processor seconds
+    that it took; how long its stages took, and how long each function, goes beside the log, where one is kept."""
     stages = ['--stage-times', f'{kept_log}.stages', '--progress'] if kept_log else []
     with tempfile.TemporaryDirectory(prefix='edit-') as room:
         for part in PARTS:
             if os.path.isdir(f'{folder}/{part}'):
                 shutil.copytree(f'{folder}/{part}', f'{room}/{part}')
+        prepare(room)
         for file, text in texts.items():
             os.makedirs(os.path.dirname(f'{room}/{file}'), exist_ok=True)
             with open(f'{room}/{file}', 'w', encoding='utf-8') as it:
                 it.write(text)
-        started = subprocess.Popen(repository.check(crate, kept, only) + stages, cwd=room, stdin=subprocess.DEVNULL, stdout=subprocess.PIPE,
+        started = subprocess.Popen(words + stages, cwd=room, stdin=subprocess.DEVNULL, stdout=subprocess.PIPE,
                                    stderr=subprocess.STDOUT, encoding='utf-8', errors='replace')
         said, took, before = [], [], time.time()
         for line in started.stdout:
@@ -586,13 +607,20 @@ class Proofs:
         with open(self.log, encoding='utf-8', errors='replace') as it:
             return f'rt: {crate} proved' in it.read().split('\n')
 
+    def named(self, crate):
+        """The functions of this crate that were proved by now."""
+        if not self.log:
+            return []
+        with open(self.log, encoding='utf-8', errors='replace') as it:
+            return re.findall(rf'(?m)^fn ({crate}::\S+): proved$', it.read())
+
 
 def try_all(crates, jobs, proofs, log):
     """Tries the edits of all crates, so many at a time, or one at a time while proofs go on; answers how many were refused, and not."""
     left, running, refused, failed = list(crates), set(), 0, 0
 
     def tried(crate):
-        return crate, crate.tried(log), time.time() - crate.began
+        return crate, crate.tried(proofs, log), time.time() - crate.began
 
     with ThreadPoolExecutor(jobs) as pool:
         while left or running:
