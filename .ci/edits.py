@@ -4,7 +4,8 @@
     .ci/edits.py [--jobs N] [--only EDIT] [--controls] [--log FOLDER] [CRATE..]    at the top of the repository
 
 A function is checked against the contracts of what it calls, so wrong bodies of different functions don't disturb one another:
-they are made in one copy of the crate, and one check tells of each function whether it is proved. That is a round. An edit is made
+they are made in one copy of the crate, and one check tells of each function whether it is proved. That is a round. What no edit
+of a round changes is granted there, and not proved (.ci/assumed.py). An edit is made
 in a copy of its function, which stands beside it (.ci/copies.py), so that the edits of one function are tried in one round.
 What can't be made in a copy, or isn't refused in it, is made in the function itself: there edits of one function, or of one
 cycle of calls, go to different rounds, and so do edits whose texts touch. What changes more than the bodies of functions, as a

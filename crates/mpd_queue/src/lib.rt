@@ -4,7 +4,5 @@
 mod link;
 mod links;
 pub mod lists;
-#[cfg(test)]
-mod rows;
 mod shown;
 pub mod tape;

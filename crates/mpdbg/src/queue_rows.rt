@@ -1,9 +1,9 @@
-//! What no clause says: that calls succeed, what a spot takes, and that counters take no bytes.
+//! What no clause of lists and tapes says: that calls succeed, what a spot takes, and that counters take no bytes.
 ghost use Rattle.std.specs.Prelude.{◌≡◌, ◌≤◌, [], ◌∷◌, IfOk};
 
-use crate::lists::{Lists, Spot};
-use crate::tape::Tape;
 use mpd_device::steps::Steps;
+use mpd_queue::lists::{Lists, Spot};
+use mpd_queue::tape::Tape;
 use std::alloc::{AllocError, Global};
 use std::mem;
 use std::test::Fail;
