@@ -55,9 +55,12 @@ class Granted:
 
 
 def body_of(text, indent):
-    """Where the body of a function begins: at a line of its own behind clauses, and else at the end of its head."""
-    found = re.search(rf'(?m)^{indent}{{$', text) or re.search(rf'(?m)^{indent}\S.* ({{)$', text)
-    return found.end() - 1
+    """Where the body of a function begins, at a line of its own behind clauses, or else at the end of its head; None where there is
+    nothing in it, as in a law."""
+    found = re.search(rf'(?m)^{indent}{{(}}?)$', text)
+    if found:
+        return None if found[1] else found.end() - 1
+    return re.search(rf'(?m)^{indent}\S.* {{$', text).end() - 1
 
 
 def sources(folder):
@@ -86,7 +89,8 @@ def grants(folder, named=()):
     for file, text in texts.items():
         for head in HEAD.finditer(text):
             it = Original(folder, file, text, head)
-            if it.can_be_copied() and (not it.owner or len(homes.get(it.owner, [])) == 1) and it.name != 'main':
+            is_placed = it.can_be_copied() and (not it.owner or len(homes.get(it.owner, [])) == 1)
+            if is_placed and it.name != 'main' and body_of(it.text[it.begin : it.end], it.indent):
                 below = f'{homes[it.owner][0]}/{it.owner}' if it.owner else module_of(file)
                 found.append(Granted(f'{below}/{it.name}', it.cycle, it))
     for name in named:
