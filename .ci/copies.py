@@ -71,15 +71,40 @@ def outside_of_cycle(text, name):
 
 
 def for_clause(text, clause):
-    """What a proof file says, but for its answers to other clauses than this one; an answer to all clauses at once stays as it is."""
-    blocks = text.split('\n\n')
-    others = re.compile(rf'(?:abbrev )?pub returns(?:-\S+)?-clause-(?!{clause} )\S+ :')
-    return '\n\n'.join(it for it in blocks if not others.match(it)).rstrip() + '\n'
+    """What a proof file says for a copy that ensures this clause alone: an answer to it has no clause in its name there, one to all
+    clauses at once is that record's field, and answers to other clauses are left out. Of a copy that ensures nothing (`requires`) no
+    answer to what a function ensures is left."""
+    kept = []
+    for block in text.split('\n\n'):
+        head = re.match(r'(?:abbrev )?pub (returns\S*) :', block)
+        goal, _, of = head[1].partition('-clause-') if head else ('', '', '')
+        if not head:
+            kept.append(block)
+        elif of == clause:
+            kept.append(re.sub(rf'(?<![\w-]){re.escape(head[1])}(?![\w-])', goal, block))
+        elif not of and clause != 'requires':
+            kept.append(with_field(block, clause))
+    return '\n\n'.join(kept).rstrip() + '\n'
 
 
-def answers_all(text):
-    """Whether a proof file has an answer to several clauses at once, which can't be had for one of them."""
-    return bool(re.search(r'(?m)^(?:abbrev )?pub returns(?:-(?!clause-)\S+)? :(?:.*\n)+?.*\brecord \{', text))
+def with_field(block, field):
+    """This answer with the record that it ends in replaced by what its field is; as it is where it ends in no record with it."""
+    begin = block.rfind('record {')
+    if begin < 0 or block.rstrip()[-1] != '}':
+        return block
+    parts, depth, last = [], 0, begin + len('record {')
+    for at in range(last, len(block.rstrip()) - 1):
+        sign = block[at]
+        depth += (sign in '({[') - (sign in ')}]')
+        if sign == ';' and not depth:
+            parts.append(block[last:at])
+            last = at + 1
+    parts.append(block[last : len(block.rstrip()) - 1])
+    for part in parts:
+        name, _, value = part.partition(' = ')
+        if name.strip() == field:
+            return f'{block[:begin]}{value.strip()}'
+    return block
 
 
 def without_measure(answer):

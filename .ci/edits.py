@@ -43,7 +43,7 @@ sys.path.insert(0, os.path.dirname(os.path.abspath(__file__)))
 sys.dont_write_bytecode = True
 
 from assumed import assume, granted, grants
-from copies import GRANTED, HEAD, Copies, Original, answers_all, head_around
+from copies import GRANTED, HEAD, Copies, Original, head_around
 
 PARTS = ('src', 'specs', 'proofs')
 
@@ -205,8 +205,6 @@ class Edit:
         original = Original(self.folder, file, text, head)
         if self.clause and self.clause != 'requires' and self.clause not in original.clauses():
             raise BadEdit(f'{self.function} has no clause {self.clause}')
-        if self.clause and any(map(answers_all, original.proofs(original.name).values())):
-            raise BadEdit(f'{self.function} has a proof file that answers several clauses at once')
         return (original, (begin, end, new)) if original.can_be_copied() else None
 
     def lemma_file(self):
