@@ -258,7 +258,7 @@ class Told:
     def __init__(self, texts, said):
         self.texts = texts
         self.lines = said.split('\n')
-        self.is_judged = bool(re.search(r'(?m)^(?:only=|logic=)', said))
+        self.is_judged = bool(re.search(r'(?m)^(?:only=|logic=|holes=)', said))
         self.functions = {}
         begun = 0
         for at, line in enumerate(self.lines):
