@@ -130,6 +130,22 @@ impl<'c> Core<'c> {
         })
     }
 
+    /// The same state, in memory of its own. The copy counts its writes and looks from 0. An `Err` is want of memory.
+    #[tactic(auto, using(crate::proofs::RankLemmas::board))]
+    pub fn copy(&self) -> Result<Core<'c>, AllocError>
+        ensures program { IfOk result (λ core. core.program ≡ self.now.program) }
+        ensures world { IfOk result (λ core. core.world ≡ self.now.world) }
+        ensures writes { IfOk result (λ core. core.writes ≡ 0) }
+        ensures looks { IfOk result (λ core. core.looks ≡ 0) }
+    {
+        Ok(Core {
+            code: self.code,
+            ranks: ranks::copy_ranks(&self.ranks)?,
+            board: self.board.copy()?,
+            looks: Steps::new(),
+        })
+    }
+
     /// The code that is run.
     pub(crate) fn code(&self) -> &'c Code
         ensures { result.now.program ≡ self.now.program }
