@@ -1,6 +1,6 @@
 //! The trail: the steps that were taken, of which some may be undone, and the state that they lead to.
 
-ghost use Rattle.std.specs.Prelude.{◌≡◌, ◌↔◌, ◌<◌, ◌≤◌, IfOk, OnOk, OnErr, IsErrOf, IsOk, IsSome, Some, None, [], ◌∷◌, ◌++◌, ◌+◌, ◌-◌, min, length, take, drop, slice_get, vec_len, vec_capacity, codes};
+ghost use Rattle.std.specs.Prelude.{◌≡◌, ◌↔◌, ◌<◌, ◌≤◌, IfOk, OnOk, OnErr, IsErrOf, IsOk, IsSome, IfSome, IfNone, Some, None, [], ◌∷◌, ◌++◌, ◌+◌, ◌-◌, min, length, take, drop, slice_get, vec_len, vec_capacity, codes};
 ghost use Rattle.mpd_model.specs.Next.{next};
 ghost use Rattle.mpd_model.specs.Trail.{first_standing, IsReached, IsRun, kept, noted, applied, taken_back, redone, gone_back, forgotten, with_steps, step_eq};
 ghost use Rattle.mpd_model.specs.declared.step.Step.{Step};
@@ -271,6 +271,23 @@ impl<'c> Debugger<'c> {
         &self.steps
     }
 
+    /// The step that `redo` takes again, if any: the first of those that are undone.
+    #[tactic(auto, using(crate::proofs::KeptLemmas::keeping))]
+    pub fn next_undone(&self) -> Option<Step>
+        ensures value { result ≡ slice_get self.now.trail.steps self.now.trail.depth }
+        ensures some { IfSome result (λ _. self.now.trail.depth < length self.now.trail.steps) }
+        ensures none { IfNone result (self.now.trail.depth ≡ length self.now.trail.steps) }
+        ensures enabled { IfSome result (λ step. IsSome (next self.now.world step)) }
+        ensures few { length self.now.trail.steps ≤ STEPS_MAX }
+        ensures reached { IsReached (standing_of self.now) }
+    {
+        let depth = self.records.len();
+        if depth == self.steps.len() {
+            return None;
+        }
+        Some(self.steps[depth])
+    }
+
     /// The state, which is where the steps not undone lead.
     #[tactic(auto, using(crate::proofs::KeptLemmas::keeping))]
     pub fn core(&self) -> &Core<'c>
@@ -394,11 +411,13 @@ impl<'c> Debugger<'c> {
 
     /// Takes the step again that was undone last, or refuses it: `NoRedo` (25) exactly where no step is undone, `Memory` (23)
     /// where a growth was refused, which is nowhere where room was kept. All steps stay. It takes as many writes as `apply` does.
+    #[tactic(auto, using(crate::proofs::KeptLemmas::keeping))]
     pub fn redo(&mut self) -> Result<(), RedoFault>
         ensures ok { OnOk result (self.new.trail ≡ redone self.old.trail) }
         ensures world { OnOk result ((step : Step) → slice_get self.old.trail.steps self.old.trail.depth ≡ Some step → next self.old.world step ≡ Some self.new.world) }
         ensures steps { OnOk result ((step : Step) → slice_get self.old.trail.steps self.old.trail.depth ≡ Some step → kept self.new.trail ≡ kept self.old.trail ++ step ∷ []) }
         ensures reached { IsReached (standing_of self.new) }
+        ensures undone { OnOk result (self.old.trail.depth < length self.old.trail.steps) }
         ensures no_redo { IsErrOf result RedoFault.NoRedo ↔ (self.old.trail.depth ≡ length self.old.trail.steps) }
         ensures memory { IsErrOf result RedoFault.Memory → self.old.trail.depth < length self.old.trail.steps }
         ensures no_room { IsErrOf result RedoFault.Memory → self.old.room ≡ 0 }
@@ -410,11 +429,9 @@ impl<'c> Debugger<'c> {
         ensures few { OnOk result ((step : Step) → slice_get self.old.trail.steps self.old.trail.depth ≡ Some step → self.new.writes ≤ self.old.writes + most_writes self.old.trail.program.ranks step) }
         ensures unwritten { OnErr result (self.new.writes ≡ self.old.writes) }
     {
-        let depth = self.records.len();
-        if depth == self.steps.len() {
+        let Some(step) = self.next_undone() else {
             return Err(RedoFault::NoRedo);
-        }
-        let step = self.steps[depth];
+        };
         match self.forward(step) {
             Ok(()) => Ok(()),
             Err(_) => Err(RedoFault::Memory),
@@ -436,10 +453,11 @@ impl<'c> Debugger<'c> {
         ensures few { OnOk result (self.new.writes ≤ self.old.writes + most_writes_of self.old.trail.program.ranks (drop depth (kept self.old.trail))) }
         ensures unwritten { OnErr result (self.new.writes ≡ self.old.writes) }
     {
-        if depth > self.records.len() {
+        let _ = self.core();
+        if depth > self.depth() {
             return Err(NotBefore);
         }
-        while self.records.len() > depth {
+        while self.depth() > depth {
             let _ = self.undo();
         }
         Ok(())
