@@ -19,6 +19,8 @@ LONGEST_NUMBER = 9
 REFUSED_FULL = 'refused full'
 REFUSED_NOT_ENABLED = 'refused not-enabled'
 REFUSED_AT_START = 'refused at-start'
+REFUSED_NO_REDO = 'refused no-redo'
+REFUSED_NOT_BEFORE = 'refused not-before'
 REFUSED_BAD_WORD = 'refused bad-word'
 
 
@@ -538,6 +540,17 @@ class Debugger:
         self.worlds.pop()
         return f'ok {self.depth}'
 
+    def redo(self):
+        if self.depth == len(self.steps):
+            return REFUSED_NO_REDO
+        return self.take(self.steps[self.depth])
+
+    def go_back_to(self, depth):
+        if depth > self.depth:
+            return REFUSED_NOT_BEFORE
+        del self.worlds[depth + 1:]
+        return f'ok {self.depth}'
+
     def answer(self, line):
         """The answer to a line without its end; None where it has no words."""
         if len(line) > LONGEST_LINE:
@@ -550,6 +563,10 @@ class Debugger:
             return self.take(step)
         if words == [b'back']:
             return self.back()
+        if words == [b'redo']:
+            return self.redo()
+        if words[0] == b'goto' and len(words) == 2 and (depth := number_of(words[1])) is not None:
+            return self.go_back_to(depth)
         if words == [b'enabled']:
             return enabled_text(self.world)
         if words == [b'show']:
