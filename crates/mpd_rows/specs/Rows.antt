@@ -21,7 +21,7 @@ use Rattle.mpd_model.specs.Program.{Program}
 use Rattle.mpd_model.specs.World.{RankWorld, World, call_id, start, pending, posted, eligible}
 use Rattle.mpd_model.specs.Next.{next, fold, enabled}
 use Rattle.mpd_model.specs.Outcomes.{outcome}
-use Rattle.mpd_model.specs.Trail.{Trail, opening, kept, applied, taken_back, redone, gone_back, forgotten, with_steps, world_of}
+use Rattle.mpd_model.specs.Trail.{Trail, opening, applied, taken_back, redone, gone_back, forgotten, with_steps, world_of}
 use Rattle.mpd_rows.specs.Statements.{print, send, recv}
 
 abbrev x : Place
