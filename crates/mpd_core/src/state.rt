@@ -147,7 +147,7 @@ impl<'c> Core<'c> {
     }
 
     /// The code that is run.
-    pub(crate) fn code(&self) -> &'c Code
+    pub fn code(&self) -> &'c Code
         ensures { result.now.program ≡ self.now.program }
     {
         self.code
@@ -176,7 +176,7 @@ impl<'c> Core<'c> {
     }
 
     /// What a rank is doing, where there is one.
-    pub(crate) fn activity(&self, rank: usize) -> Option<Activity>
+    pub fn activity(&self, rank: usize) -> Option<Activity>
         ensures { result ≡ option_map (λ r. r.activity) (slice_get self.now.world.ranks rank) }
     {
         match ranks::rank_at(&self.ranks, rank) {
@@ -203,7 +203,7 @@ impl<'c> Core<'c> {
     }
 
     /// The number of the next statement of a rank, where it has one.
-    pub(crate) fn next_statement(&self, rank: usize) -> Option<usize>
+    pub fn next_statement(&self, rank: usize) -> Option<usize>
         requires { rank < length self.now.world.ranks }
         ensures { IfSome (slice_get self.now.world.ranks rank) (λ r. result ≡ first_number r.rest) }
     {

@@ -54,12 +54,12 @@ same_joined t f false each [] = refl
 same_joined t f false each (x ∷ xs) = filter-append t (f x) (flat_map f xs) ∙ ap (λ ys. ys ++ filter t (flat_map f xs)) (each x) ∙ same_joined t f false each xs
 
 -- of one receive all matches pass, or none
-named_with : (b : Board) (r : CallId) → picked_with is_named_match b r ≡ cond (names_source (kind_at b r)) (matches_with b r) []
+pub named_with : (b : Board) (r : CallId) → picked_with is_named_match b r ≡ cond (names_source (kind_at b r)) (matches_with b r) []
 named_with b r =
     same_joined (is_named_match b) (matches_from b r) (names_source (kind_at b r))
     (λ p. same_mapped (is_named_match b) (λ i. Match (call_id p i) r) (names_source (kind_at b r)) (λ i. refl) (candidates b p r)) (rank_numbers b)
 
-open_with : (b : Board) (r : CallId) → picked_with is_open_match b r ≡ cond (takes_any (kind_at b r)) (matches_with b r) []
+pub open_with : (b : Board) (r : CallId) → picked_with is_open_match b r ≡ cond (takes_any (kind_at b r)) (matches_with b r) []
 open_with b r =
     same_joined (is_open_match b) (matches_from b r) (takes_any (kind_at b r))
     (λ p. same_mapped (is_open_match b) (λ i. Match (call_id p i) r) (takes_any (kind_at b r)) (λ i. refl) (candidates b p r)) (rank_numbers b)

@@ -1,0 +1,2 @@
+pub mod StepKinds
+pub mod Followed

@@ -1,0 +1,4 @@
+//! What comes next in a state, breakpoints, and runs that go by themselves, forward and back.
+#![tactic(auto)]
+
+pub mod decide;
