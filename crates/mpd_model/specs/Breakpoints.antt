@@ -12,7 +12,7 @@ use Rattle.mpd_model.specs.declared.step.Step.TheVariants.{Local, Match, Wake, R
 use Rattle.mpd_model.specs.declared.breakpoint.Break.{Break}
 use Rattle.mpd_model.specs.declared.breakpoint.Break.TheVariants as on
 use Rattle.mpd_model.specs.Program.{Program}
-use Rattle.mpd_model.specs.World.{RankWorld, World, Board, call_at}
+use Rattle.mpd_model.specs.World.{RankWorld, World, Board, rank_numbers, call_at}
 use Rattle.mpd_model.specs.Outcomes.{first_number}
 use Rattle.mpd_model.specs.Why.{first_in}
 
@@ -39,6 +39,9 @@ abbrev pub comes_at : Program → ℕ → Option RankWorld → Bool
 comes_at s line None = false
 comes_at s line (Some r) = comes_to s line r
 
+abbrev pub some_comes : Program → ℕ → World → Bool
+some_comes s line w = list_any (λ p. comes_at s line (slice_get w.ranks p)) (rank_numbers w.board)
+
 -- what a cell of a rank holds, where there is one
 abbrev pub held_at : Option RankWorld → ℕ → Option ℤ
 held_at None c = None
@@ -62,7 +65,7 @@ abbrev pub line_marks : Program → ℕ → Step → World → Bool
 line_marks s line (Local p) new = comes_at s line (slice_get new.ranks p)
 line_marks s line (Match u v) new = false
 line_marks s line (Wake p) new = comes_at s line (slice_get new.ranks p)
-line_marks s line Release new = list_any (comes_to s line) new.ranks
+line_marks s line Release new = some_comes s line new
 
 -- a match of a call that was issued on a line
 abbrev pub match_marks : Program → ℕ → Step → World → Bool

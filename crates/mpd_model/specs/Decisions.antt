@@ -97,9 +97,3 @@ abbrev pub CanFollow : World → Decision → Type 0
 CanFollow w (Forced a) = IsSome (next w a)
 CanFollow w (Choice steps) = (0 < length steps) × All (λ a. IsSome (next w a)) steps
 CanFollow w (Leaf o) = (enabled w ≡ []) × (outcome w ≡ Some o)
-
--- how many entries a decision lists: nothing is kept in memory for one that lists none
-abbrev pub is_leaf : Decision → Bool
-is_leaf (Forced a) = false
-is_leaf (Choice steps) = false
-is_leaf (Leaf o) = true

@@ -1,5 +1,5 @@
 -- Runs that go by themselves: forward along decisions, and back.
-use Rattle.std.specs.Prelude.{ℕ, zero, suc, ◌+◌, ◌==◌, if◌then◌else◌, List, [], ◌∷◌, length, take, slice_get, Option, Some, None, option_and_then}
+use Rattle.std.specs.Prelude.{ℕ, zero, suc, ◌+◌, ◌==◌, if◌then◌else◌, List, [], ◌∷◌, length, take, slice_get, Option, Some, None}
 use Rattle.mpd_model.specs.declared.limits.TheConstants.{STEPS_MAX}
 use Rattle.mpd_model.specs.declared.step.Step.{Step}
 use Rattle.mpd_model.specs.declared.decision.Decision.{Decision}
@@ -9,8 +9,8 @@ use Rattle.mpd_model.specs.declared.breakpoint.Cause.{Cause}
 use Rattle.mpd_model.specs.declared.breakpoint.Cause.TheVariants as for
 use Rattle.mpd_model.specs.declared.breakpoint.Stop.{Stop}
 use Rattle.mpd_model.specs.Program.{Program}
-use Rattle.mpd_model.specs.World.{World}
-use Rattle.mpd_model.specs.Next.{next}
+use Rattle.mpd_model.specs.World.{World, start}
+use Rattle.mpd_model.specs.Next.{next, fold}
 use Rattle.mpd_model.specs.Decisions.{decision}
 use Rattle.mpd_model.specs.Breakpoints.{lowest_mark}
 use Rattle.mpd_model.specs.Trail.{Trail, applied}
@@ -44,7 +44,7 @@ at_most depth (next_is.Choice steps) = for.Choice
 at_most depth (next_is.Leaf o) = for.Leaf
 
 -- a run of at most so many steps, from a world behind so many steps
-pub ran : Program → List (Option Break) → ℕ → ℕ → World → Ran
+abbrev pub ran : Program → List (Option Break) → ℕ → ℕ → World → Ran
 ran s places zero depth w = stopped (at_most depth (decision w))
 ran s places (suc n) depth w = ran_by (ran s places n (depth + 1)) s places depth w (decision w)
 
@@ -55,3 +55,28 @@ all_applied t (a ∷ steps) = all_applied (applied t a) steps
 
 abbrev pub stop_of : Ran → Stop
 stop_of r = record { steps = length r.steps; cause = r.cause }
+
+-- ---- back
+
+-- the world behind the first so many steps of a trail
+abbrev pub world_at : Trail → ℕ → Option World
+world_at t n = fold (start t.program t.mode) (take n t.steps)
+
+abbrev pub mark_of : Program → List (Option Break) → Option World → Option Step → Option World → Option ℕ
+mark_of s places (Some old) (Some a) (Some new) = lowest_mark s places old a new
+mark_of s places (Some old) (Some a) None = None
+mark_of s places (Some old) None new = None
+mark_of s places None a new = None
+
+-- the lowest number that marks the step behind the first so many
+abbrev pub mark_at : List (Option Break) → Trail → ℕ → Option ℕ
+mark_at places t n = mark_of t.program places (world_at t n) (slice_get t.steps n) (world_at t (n + 1))
+
+abbrev pub one_back : Option ℕ → Stop → Stop
+one_back (Some n) more = record { steps = 1; cause = for.Break n }
+one_back None more = record { steps = more.steps + 1; cause = more.cause }
+
+-- a run back from behind so many steps: it undoes the last marked one of them, and all behind that; or all of them
+abbrev pub ran_back : List (Option Break) → Trail → ℕ → Stop
+ran_back places t zero = record { steps = 0; cause = for.Start }
+ran_back places t (suc n) = one_back (mark_at places t n) (ran_back places t n)

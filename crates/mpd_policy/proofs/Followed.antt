@@ -146,8 +146,23 @@ none_any t (x ∷ xs) e =
       | inr h ↦ ap (λ (b : Bool). b || list_any t xs) h ∙ none_any t xs (sym (ap (λ (b : Bool). cond b (x ∷ filter t xs) (filter t xs)) h) ∙ e)
     ]
 
-stuck_where : (w : World) → enabled w ≡ [] → is_stuck w ≡ true
+pub stuck_where : (w : World) → enabled w ≡ [] → is_stuck w ≡ true
 stuck_where w e = ap (λ (b : Bool). cond b false true) (none_any (is_enabled w) (steps_of w) e)
+
+any_none : (t : Step → Bool) (xs : List Step) → list_any t xs ≡ false → filter t xs ≡ []
+any_none t [] e = refl
+any_none t (x ∷ xs) e =
+    elim (bool_tells (t x)) [
+      | inl h ↦ absurd (let k : list_any t (x ∷ xs) ≡ true = ap (λ (b : Bool). b || list_any t xs) h in cc)
+      | inr h ↦ ap (λ (b : Bool). cond b (x ∷ filter t xs) (filter t xs)) h ∙ any_none t xs (sym (ap (λ (b : Bool). b || list_any t xs) h) ∙ e)
+    ]
+
+not_any : (b : Bool) → cond b false true ≡ true → b ≡ false
+not_any true e = absurd (cc)
+not_any false e = refl
+
+pub enabled_where : (w : World) → is_stuck w ≡ true → enabled w ≡ []
+enabled_where w e = any_none (is_enabled w) (steps_of w) (not_any (list_any (is_enabled w) (steps_of w)) e)
 
 ended_where : (w : World) → enabled w ≡ [] → outcome w ≡ Some (ending w)
 ended_where w e = ap (λ (b : Bool). cond b (Some (ending w)) None) (stuck_where w e)

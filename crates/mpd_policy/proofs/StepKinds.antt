@@ -171,11 +171,11 @@ pub ruleset opening = (open_ok, open_some)
 
 -- ---- the decision
 
-decided_some : (w : World) (a : Step) → forced_step w ≡ Some a → decision w ≡ Forced a
+pub decided_some : (w : World) (a : Step) → forced_step w ≡ Some a → decision w ≡ Forced a
 unfolding decision
 decided_some w a e = ap (decided w) e
 
-decided_none : (w : World) → forced_step w ≡ None → decision w ≡ chosen_from w (choices w)
+pub decided_none : (w : World) → forced_step w ≡ None → decision w ≡ chosen_from w (choices w)
 unfolding decision
 decided_none w e = ap (decided w) e
 
