@@ -1,5 +1,5 @@
 -- What marks a step that is taken or taken back, and a run back.
-use Rattle.std.proofs.Common.{◌≡◌, ℕ, ℤ, zero, suc, ◌+◌, ◌-◌, ◌<◌, ◌≤◌, Option, Some, None, List, length, take, get_or, slice_get, refl, sym, ap, subst, ◌∙◌, arith}
+use Rattle.std.proofs.Common.{◌≡◌, ℕ, ℤ, zero, suc, ◌+◌, ◌-◌, ◌<◌, ◌≤◌, Option, Some, None, List, [], ◌∷◌, length, take, get_or, slice_get, refl, sym, ap, subst, ◌∙◌, arith}
 use Rattle.mpd_model.specs.declared.step.Step.{Step}
 use Rattle.mpd_model.specs.declared.breakpoint.Break.{Break}
 use Rattle.mpd_model.specs.declared.breakpoint.Stop.{Stop}
@@ -49,6 +49,18 @@ back_mark places values s w v old new a told changed found r q some back at same
     ∙ lower_in told changed (lowest_told old.trail.program places a old.world) (lowest_changed places values new.world) (is ∙ told_in s old.trail.program places a w old.world same after) (differs ∙ ap (lowest_changed places values) before)
     ∙ sym (mark_backward old.trail.program places values new.world a old.world (λ n. held n ∙ ap (λ (u : World). watched_at u (break_at places n)) after))
     ∙ at_place places old new a r q some back at
+
+at_index : (xs : List Step) (n : ℕ) (d : Step) → n < length xs → slice_get xs n ≡ Some (get_or xs n d)
+at_index [] n d lt = absurd (omega (arith, lt))
+at_index (x ∷ xs) zero d lt = refl
+at_index (x ∷ xs) (suc n) d lt = at_index xs n d (omega (arith, lt))
+
+-- the last step not undone
+pub last_step : (t : Trail) (steps : List Step) (depth : ℕ) (d : Step) → steps ≡ t.steps → depth ≡ t.depth → 0 < t.depth → t.depth ≤ length t.steps → slice_get t.steps (t.depth - 1) ≡ Some (get_or steps (depth - 1) d)
+last_step t steps depth d same deep some within =
+    at_index t.steps (t.depth - 1) d (omega (arith, some, within))
+    ∙ ap (λ (xs : List Step). Some (get_or xs (t.depth - 1) d)) (sym same)
+    ∙ ap (λ (n : ℕ). Some (get_or steps (n - 1) d)) (sym deep)
 
 -- ---- a run back that is on its way
 
