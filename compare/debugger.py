@@ -5,7 +5,7 @@ import sys
 from typing import NamedTuple, Optional
 
 from language import (PARTS, Assert, Assign, Barrier, Branch, FAULT_NAMES, Fault, Print, Receive, Send, Trap, View, Wait, While,
-                      cell_of, evaluate, read_script, take_parts)
+                      cell_of, evaluate, has_part, read_script, take_parts)
 
 # In the mode `rendezvous` no send is buffered, in the mode `buffered` each standard one is.
 MODES = RENDEZVOUS, BUFFERED = 'rendezvous', 'buffered'
@@ -504,6 +504,11 @@ def step_of(words):
     return None if None in values else Step(kind.decode(), *values)
 
 
+def depth_of(words):
+    """The depth that `goto` names, or None where the words are none of it."""
+    return number_of(words[1]) if len(words) == 2 and words[0] == b'goto' else None
+
+
 class Debugger:
     """The worlds up to the current one, and the steps, undone ones too."""
 
@@ -528,11 +533,15 @@ class Debugger:
             return REFUSED_NOT_ENABLED
         if self.depth == MOST_STEPS:
             return REFUSED_FULL
+        self.note(step)
+        self.worlds.append(world)
+        return f'ok {self.depth}'
+
+    def note(self, step):
+        """Has a step as the one behind those not undone: where it stands there already, all behind it stays, else that is dropped."""
         if not self.is_next_undone(step):
             del self.steps[self.depth:]
             self.steps.append(step)
-        self.worlds.append(world)
-        return f'ok {self.depth}'
 
     def back(self):
         if self.depth == 0:
@@ -541,15 +550,25 @@ class Debugger:
         return f'ok {self.depth}'
 
     def redo(self):
+        """Takes the next undone step again; all steps stay."""
         if self.depth == len(self.steps):
             return REFUSED_NO_REDO
-        return self.take(self.steps[self.depth])
+        self.worlds.append(next_world(self.world, self.steps[self.depth]))
+        return f'ok {self.depth}'
 
-    def go_back_to(self, depth):
+    def goto(self, depth):
+        """Goes back to a depth, the present one too; all steps stay."""
         if depth > self.depth:
             return REFUSED_NOT_BEFORE
         del self.worlds[depth + 1:]
         return f'ok {self.depth}'
+
+    def along(self, words):
+        """The answer to the words that go along the steps that are there."""
+        if words == [b'redo']:
+            return self.redo()
+        depth = depth_of(words)
+        return REFUSED_BAD_WORD if depth is None else self.goto(depth)
 
     def answer(self, line):
         """The answer to a line without its end; None where it has no words."""
@@ -563,15 +582,11 @@ class Debugger:
             return self.take(step)
         if words == [b'back']:
             return self.back()
-        if words == [b'redo']:
-            return self.redo()
-        if words[0] == b'goto' and len(words) == 2 and (depth := number_of(words[1])) is not None:
-            return self.go_back_to(depth)
         if words == [b'enabled']:
             return enabled_text(self.world)
         if words == [b'show']:
             return show(self.world, self.depth, len(self.steps))
-        return REFUSED_BAD_WORD
+        return self.along(words) if has_part('trail') else REFUSED_BAD_WORD
 
 
 class Result(NamedTuple):
