@@ -37,7 +37,8 @@ class Call(NamedTuple):
     """A send or receive made, which its rank waits for or not; a send has a value, a receive the cell it writes.
 
     A send is standard or synchronous. Of a receive `other` is None where it takes messages of any source, `tag` where it takes
-    them of any tag; `status` has the cells for the source and the tag of what it takes, where it has such cells.
+    them of any tag; `status` has the cells for the source and the tag of what it takes, where it has such cells. `line` is that of
+    the statement that made it.
     """
     kind: str
     blocks: bool
@@ -47,6 +48,7 @@ class Call(NamedTuple):
     cell: Optional[int] = None
     status: Optional[tuple] = None
     synchronous: bool = False
+    line: int = 0
 
 
 class WaitCall(NamedTuple):
@@ -137,7 +139,7 @@ def called(statement, view):
         value = evaluate(statement.value, view)
         other = in_bounds(statement.to, view.ranks - 1, 'bad-rank', view)
         tag = in_bounds(statement.tag, HIGHEST_TAG, 'bad-tag', view)
-        return Call('send', blocks, other, tag, value, synchronous=statement.synchronous)
+        return Call('send', blocks, other, tag, value, synchronous=statement.synchronous, line=statement.line)
     return received(statement, blocks, view)
 
 
@@ -147,7 +149,7 @@ def received(statement, blocks, view):
     other = None if statement.source is None else in_bounds(statement.source, view.ranks - 1, 'bad-rank', view)
     tag = None if statement.tag is None else in_bounds(statement.tag, HIGHEST_TAG, 'bad-tag', view)
     status = None if statement.status is None else tuple(cell_of(place, view) for place in statement.status)
-    return Call('recv', blocks, other, tag, None, cell, status)
+    return Call('recv', blocks, other, tag, None, cell, status, line=statement.line)
 
 
 def issued(rank, statement, view):
