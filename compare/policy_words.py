@@ -16,14 +16,15 @@ the crates. All other words are trace words.
 """
 
 import debugger
+import policy
 from debugger import REFUSED_BAD_WORD, Debugger, number_of, step_text
-from policy import BREAK, Breaks, ChangeBreak, Choice, Forced, LineBreak, MatchBreak, decision, run, run_back
+from policy import BREAK, Breaks, ChangeBreak, Choice, Forced, LineBreak, MatchBreak
 
 KINDS_OF_BREAKS = {b'line': LineBreak, b'match': MatchBreak, b'change': ChangeBreak}
 
 
 def decision_text(world):
-    decided = decision(world)
+    decided = policy.decision(world)
     if isinstance(decided, Forced):
         return f'forced {step_text(decided.step)}'
     if isinstance(decided, Choice):
@@ -83,10 +84,10 @@ class Driven(Debugger):
         """The answer to what goes along the steps by itself; None where the words are none of it."""
         most = number_of(words[1]) if len(words) == 2 and words[0] == b'run' else None
         if most is not None:
-            stop = run(self, self.breaks, most)
+            stop = policy.run(self, self.breaks, most)
             return stop_text(stop, self.depth)
         if words == [b'run-back']:
-            stop = run_back(self, self.breaks)
+            stop = policy.run_back(self, self.breaks)
             return stop_text(stop, self.depth)
         if words == [b'decide']:
             return decision_text(self.world)
