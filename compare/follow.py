@@ -19,7 +19,7 @@ from unittest import mock
 
 import debugger
 import policy
-from debugger import CallId, Debugger, Step, eligible, enabled_steps, find_call, free_calls, next_world, rank_state
+from debugger import Debugger, Step, eligible, enabled_steps, find_call, free_calls, next_world, rank_state
 from language import PARTS, take_parts
 from order import CHOSEN, LATER, all_calls, steps_due, walks
 from policy import BREAK, CHOICE, FULL, LEAF, MAX, START, Breaks, ChangeBreak, Choice, Forced, Leaf, LineBreak, MatchBreak, Stop

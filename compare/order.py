@@ -23,7 +23,7 @@ import debugger
 from breakages import buffered_by, going_on, one_left, wakes_at_barriers, without_gone, without_running
 from cases import KINDS
 from debugger import (BUFFERED, MODES, RENDEZVOUS, CallId, Debugger, Pair, Step, Woken, divided, eligible, enabled_steps, find_call,
-                      fits, free_calls, partner, receives_ahead, sends_ahead)
+                      fits, free_calls, partner, receives_ahead, sends_ahead, step_text)
 from language import BUILT, PARTS, Fault, read_script, take_parts
 
 CHOSEN = ('wildcards', 'wildcards', 'requests', 'script', 'states')
@@ -305,12 +305,12 @@ def rows(seed, count):
     for data, debugger, lines in walks(seed, 50 * count):
         if len(found) == count:
             break
-        best, taken = None, []
+        best = None
         for line in lines:
             answer = debugger.answer(line) or ''
             if not answer.startswith('ok'):
                 continue
-            taken = taken[:debugger.depth] if line.strip() == b'back' else [*taken, ' '.join(line.decode('latin-1').split())]
+            taken = [step_text(step) for step in debugger.steps[:debugger.depth]]
             partners = [why(debugger.world, call_id) for call_id in all_calls(debugger.world)]
             weight = sum(held is not None for listed in partners for _, held in listed), max(map(len, partners), default=0)
             if len(taken) <= 24 and weight > (0, 1) and (best is None or weight > best[0]):

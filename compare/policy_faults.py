@@ -263,10 +263,10 @@ def kept_in_place(breaks, number):
 def decision_faults():
     names = (
         ('a match before a wake', deciding(('local', 'release', 'match', 'wake'))),
-        ('a match before a release', deciding(('local', 'match', 'release', 'wake'))),
+        ('a match before a release', deciding(('local', 'wake', 'match', 'release'))),
         ('a wake before a local step', deciding(('wake', 'local', 'release', 'match'))),
         ('a match before a local step', deciding(('match', 'local', 'release', 'wake'))),
-        ('the local step of the highest rank, and its wake', deciding(USUAL, of_kind=last)),
+        ('the step of the highest rank', deciding(USUAL, of_kind=last)),
         ('the wake of the second of two ranks', lambda world: deciding(USUAL, of_kind=lambda steps: (
             steps[min(1, len(steps) - 1)] if steps[0].kind == 'wake' else steps[0]))(world)),
         ('the last match that names its source', deciding(USUAL, pick=last)),

@@ -25,8 +25,9 @@ from random import Random
 from unittest import mock
 
 import policy_faults
+import walks
 from cases import KINDS
-from debugger import BUFFERED, MODES, divided, rank_state, step_text
+from debugger import MODES, divided, rank_state
 from language import PARTS, Fault, read_script, take_parts
 from policy_words import Driven
 from probing import DIVIDER, PROBES, TOP, Batch, Change, Probe, Walked, batches, report, tried
@@ -34,6 +35,8 @@ from probing import DIVIDER, PROBES, TOP, Batch, Change, Probe, Walked, batches,
 POLICY = Probe('policy.edit', 'policy.rattle', 'driven.rt', 'policy-main.rattle', ('mpd_policy',))
 BODIES = f'{PROBES}/broken-policy'
 CHOSEN = ('wildcards', 'wildcards', 'trails', 'barriers', 'exchanges', 'requests', 'script', 'messages')
+FORWARD = walks.Habits(show=(0.0,), back=(0.0, 0.05), any_step=(0.0, 0.1), odd=(0.0,), backs=(0, 1, 2, 5), along=(0.0, 0.1),
+                       redos=(0, 1, 2, 5))
 # Behind so many steps nothing is asked any more: what a script does for ever would make it long.
 MOST_DEPTH = 150
 CHUNK = 20
@@ -51,11 +54,15 @@ class Walk:
 
     def __init__(self, random, script, mode):
         self.random = random
-        self.driven = Driven(read_script(script), mode)
+        read = read_script(script)
+        self.driven = Driven(read, mode)
+        # what comes between these words is drawn as for run.py, with this debugger at hand
+        self.between = walks.Walk(random, read, random.choice([FORWARD, FORWARD, walks.RACING, walks.ALONG]), mode)
+        self.between.debugger = self.driven
         self.lines, self.met = [], Counter()
 
     def take(self, line):
-        answer = self.driven.answer(line.encode('latin-1')) or ''
+        answer = self.driven.answer(line.removesuffix('\r').encode('latin-1')) or ''
         self.lines.append(line)
         words = [' '.join(text.split()[:2]) for text in (answer, line)]
         self.met.update(words + [line.split()[0] for line in (answer, line) if line.split()])
@@ -115,26 +122,20 @@ class Walk:
         self.take('breaks')
 
 
-def drawn(seed, number):
-    """A script with lines, and the mode it is for."""
-    kind, mode = CHOSEN[number % len(CHOSEN)], MODES[number // len(CHOSEN) % 2]
-    random = Random(f'policy/{kind}/{seed}/{number}')
-    script, lines = divided(KINDS[kind].draw(random, mode))
-    return random, script, [line.decode('latin-1') for line in lines], mode
-
-
 def walked(seed, number):
     """The walk of this number; None where its script can't be read, or there is nothing to ask."""
-    random, script, lines, mode = drawn(seed, number)
+    kind, mode = CHOSEN[number % len(CHOSEN)], MODES[number // len(CHOSEN) % 2]
+    random = Random(f'policy/{kind}/{seed}/{number}')
+    script = divided(KINDS[kind].draw(random, mode))[0]
     try:
         walk = Walk(random, script, mode)
     except Fault:
         return None
     rate = random.choice([0.1, 0.3, 0.6])
-    for line in lines:
-        if any(byte in line for byte in '\0\1\n'):
-            continue
-        walk.take(line)
+    for _ in range(random.choice([30, 60, 120])):
+        line = walk.between.line()
+        if DIVIDER.decode() not in line:
+            walk.take(line)
         if random.random() < rate and walk.driven.depth < MOST_DEPTH:
             walk.drive()
     if random.random() < 0.05:

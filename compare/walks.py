@@ -184,7 +184,7 @@ class Walk:
         if undone and draw < 0.6:
             return self.other_than(undone[0])
         if draw < 0.8:
-            self.redos_left = self.random.choice(self.redos)
+            self.redos_left = min(self.random.choice(self.redos), len(undone))
         return 'redo'
 
     def depth_word(self):
