@@ -228,27 +228,14 @@ def dropping_anyway(take):
     return taken
 
 
-class Unsure(debugger.Debugger):
-    """What may keep undone steps that are not enabled, and drops them once they are to be taken."""
-
-    def redo(self):
-        if self.depth < len(self.steps) and debugger.next_world(self.world, self.steps[self.depth]) is None:
-            del self.steps[self.depth:]
-        return super().redo()
+def noted_in_place(self, step):
+    """Has a step in the place of the next undone one, and keeps those behind it."""
+    self.steps[self.depth:self.depth + 1] = [step]
 
 
-class Keeping(Unsure):
-    """What has another step in the place of the next undone one, and keeps those behind it."""
-
-    def note(self, step):
-        self.steps[self.depth:self.depth + 1] = [step]
-
-
-class Alike(Unsure):
-    """What takes a step of the same kind for the next undone one."""
-
-    def is_next_undone(self, step):
-        return self.depth < len(self.steps) and self.steps[self.depth].kind == step.kind
+def is_like_next(self, step):
+    """Whether a step is of the same kind as the next undone one."""
+    return self.depth < len(self.steps) and self.steps[self.depth].kind == step.kind
 
 
 def to_another(goto, change):
@@ -394,8 +381,8 @@ def breakages_of_trails():
         Breakage('an equal step that drops the rest', 'trails', trail, 'is_next_undone', lambda *_: False),
         *(Breakage(f'an equal {kind} that drops the rest', 'trails', trail, 'is_next_undone', unlike(kind))
           for kind in ('local', 'match', 'wake', 'release')),
-        Breakage('another step that keeps the rest', 'trails', debugger, 'Debugger', Keeping),
-        Breakage('another step of the same kind taken for the undone one', 'trails', debugger, 'Debugger', Alike),
+        Breakage('another step that keeps the rest', 'trails', trail, 'note', noted_in_place),
+        Breakage('another step of the same kind taken for the undone one', 'trails', trail, 'is_next_undone', is_like_next),
         Breakage('a refused step that drops the rest', 'trails', trail, 'take', dropping_anyway(trail.take)),
         Breakage('a step back that drops the rest', 'trails', trail, 'back', dropping(trail.back)),
         Breakage('a goto that drops the rest', 'trails', trail, 'goto', dropping(trail.goto)),

@@ -552,10 +552,13 @@ class Debugger:
         return f'ok {self.depth}'
 
     def redo(self):
-        """Takes the next undone step again; all steps stay."""
+        """Takes the next undone step again, which is enabled unless the model is broken on purpose; all steps stay."""
         if self.depth == len(self.steps):
             return REFUSED_NO_REDO
-        self.worlds.append(next_world(self.world, self.steps[self.depth]))
+        world = next_world(self.world, self.steps[self.depth])
+        if world is None:
+            return REFUSED_NOT_ENABLED
+        self.worlds.append(world)
         return f'ok {self.depth}'
 
     def goto(self, depth):

@@ -7,8 +7,8 @@
 
 Behind each step of a walk it is checked that a receive has at most one send of each sender that it may be matched with, that
 `why` tells the matches that are enabled and what stands in the way of each other one, and that wakes and the release are enabled
-where the calls and the records say so; at its end that the calls of each rank are in the order that `before` says, and that each
-rank has left a barrier as often as all have (docs/DEFINITIONS.md). The status is 0 where all of that holds, and was seen.
+where the calls and the records say so; where it has the most records, and at its end, that the calls of each rank are in the order
+that `before` says, and that each rank has left a barrier as often as all have (docs/DEFINITIONS.md). The status is 0 where all of that holds, and was seen.
 """
 
 import argparse
@@ -227,15 +227,20 @@ def check(seed, count, to_end=True):
     for _, walked, lines in walks(seed, count, CHOSEN + LATER):
         if wrong and not to_end:
             break
+        longest = walked.world
         for line in lines:
-            if not (walked.answer(line) or '').startswith('ok') or len(all_calls(walked.world)) > 40:
+            if not (walked.answer(line) or '').startswith('ok'):
+                continue
+            longest = max(longest, walked.world, key=lambda world: len(world.records))
+            if len(all_calls(walked.world)) > 40:
                 continue
             met['worlds'] += 1
             met['releases'] += walked.steps[walked.depth - 1].kind == 'release' if walked.depth else 0
             wrong += told_wrong(walked.world)
-        cases, found = out_of_order(walked.world)
-        met += cases
-        wrong += found
+        for world in (longest, walked.world):
+            cases, found = out_of_order(world)
+            met += cases
+            wrong += found
     return met, wrong
 
 
