@@ -1,6 +1,6 @@
 """Decisions, breakpoints and runs: what must hold of them on walks of the model, told in other words than compare/policy.py does.
 
-    python3 compare/follow.py             300 walks of scripts of all kinds, in both modes
+    python3 compare/follow.py             300 walks of scripts of all kinds and of worked rows, in both modes
     python3 compare/follow.py --broken    faults of the model (policy_faults.py), each of which these walks must notice
 
 Behind each step of a walk it is checked that the decision is what the calls, the match sets and the ranks' places say, that every
@@ -13,6 +13,7 @@ a step is told by the texts of `show` and the worlds of the trail alone. The sta
 import argparse
 import sys
 from collections import Counter
+from itertools import chain
 from random import Random
 from typing import NamedTuple, Optional
 from unittest import mock
@@ -20,10 +21,13 @@ from unittest import mock
 import debugger
 import policy
 from debugger import Debugger, Step, eligible, enabled_steps, find_call, free_calls, next_world, rank_state
-from language import PARTS, take_parts
+from language import PARTS, read_script, take_parts
 from order import CHOSEN, LATER, all_calls, steps_due, walks
 from policy import BREAK, CHOICE, FULL, LEAF, MAX, START, Breaks, ChangeBreak, Choice, Forced, Leaf, LineBreak, MatchBreak, Stop
 from policy_faults import breakages
+from policy_words import decision_text, stop_text
+from walks import USUAL, trace_lines
+from worked_runs import RUNS
 
 KINDS = CHOSEN + LATER + ('trails', 'messages')
 # Worlds with more calls are not looked at, and runs are no longer than so many steps.
@@ -31,7 +35,7 @@ MOST_CALLS = 40
 LONGEST_RUN = 60
 MUST_MEET = (
     'worlds', 'forced local', 'forced release', 'forced wake', 'forced match', 'choice of one', 'choice of more', 'choice of receives',
-    'leaf done', 'leaf leftovers', 'leaf deadlock', 'leaf trap', 'match passed over', 'runs', 'runs back', 'undone kept',
+    'leaf done', 'leaf leftovers', 'leaf deadlock', 'leaf trap', 'match passed over', 'match behind a release', 'runs', 'runs back', 'undone kept',
     'undone dropped', 'stop leaf', 'stop choice', 'stop full', 'stop max', 'stop break', 'stop start', 'line by local', 'line by wake',
     'line by release', 'change by local', 'change by wake', 'match by match', 'two marks', 'break at the last step',
     'break at the last depth', 'break before a leaf', 'break at the start', 'leaf at the last step', 'places')
@@ -86,11 +90,11 @@ def decided_wrong(world):
     """What the decision of a world says otherwise than it must."""
     decided, wanted = policy.decision(world), due(world)
     said = Leaf(decided.outcome.split()[0]) if isinstance(decided, Leaf) else decided
-    wrong = [] if said == wanted else [f'decided {said}, and not {wanted}']
+    wrong = [] if said == wanted else [f'decided {decision_text(said)}, and not {decision_text(wanted)}']
     if any(next_world(world, step) is None for step in steps_of(decided)):
-        wrong.append(f'a step of {decided} is not enabled')
+        wrong.append(f'a step of {decision_text(decided)} is not enabled')
     if isinstance(decided, Leaf) != (not enabled_steps(world)):
-        wrong.append(f'{decided}, though steps are enabled or are not')
+        wrong.append(f'{decision_text(decided)}, though steps are enabled or are not')
     return wrong if steps_of(decided) or isinstance(decided, Leaf) else [*wrong, 'a choice of nothing']
 
 
@@ -103,7 +107,8 @@ def met_in(world):
         receives = len({step.second for step in wanted.steps})
         return ['choice of one' if len(wanted.steps) == 1 else 'choice of more'] + ['choice of receives'] * (receives > 1)
     others = any(step.kind == 'match' for step in enabled_steps(world)) and wanted.step.kind != 'match'
-    return [f'forced {wanted.step.kind}'] + ['match passed over'] * others
+    return [f'forced {wanted.step.kind}'] + ['match passed over'] * others + ['match behind a release'] * (
+        others and wanted.step.kind == 'release')
 
 
 def line_of_call(worlds, call_id):
@@ -204,7 +209,7 @@ def ran_wrong(random, walked, met):
         said = policy.run(ran, breaks, most)
     steps = path.steps[:wanted.steps]
     if said != wanted:
-        wrong.append(f'ran {said}, and not {wanted}')
+        wrong.append(f'ran to {stop_text(said, ran.depth)}, and not {stop_text(wanted, walked.depth + wanted.steps)}')
     if ran.worlds != path.worlds[:walked.depth + wanted.steps + 1]:
         wrong.append('a run to another world')
     if ran.steps != kept_due(walked, steps):
@@ -240,7 +245,7 @@ def back_wrong(ran, breaks, there, met):
         said = policy.run_back(ran, breaks)
         met.update(['runs back', f'stop {wanted.cause}'] + ['break at the start'] * (wanted.cause == BREAK and not to))
         if said != wanted:
-            wrong.append(f'ran back {said}, and not {wanted}')
+            wrong.append(f'ran back to {stop_text(said, ran.depth)}, and not {stop_text(wanted, to)}')
         if (ran.worlds, ran.steps) != (worlds[:to + 1], steps):
             wrong.append('another world or other steps behind a run back')
     if not wrong and policy.run_back(ran, breaks) != Stop(0, START):
@@ -269,10 +274,18 @@ def places_wrong(random, met):
     return wrong
 
 
+def walks_of_rows(seed):
+    """Walks of the scripts of worked rows, as `walks` gives them."""
+    for number, (script, mode) in enumerate(dict.fromkeys((row.script, row.mode) for row in RUNS)):
+        text = script.encode()
+        lines = trace_lines(Random(f'follow/rows/{seed}/{number}'), text, 40, USUAL, mode)
+        yield text, Debugger(read_script(text), mode), [line.encode('latin-1') for line in lines]
+
+
 def check(seed, count, to_end=True):
     """Checks so many walks, or those up to the first that is wrong; gives what was met, and what is wrong."""
     met, wrong = Counter(), []
-    for number, (_, walked, lines) in enumerate(walks(seed, count, KINDS)):
+    for number, (_, walked, lines) in enumerate(chain(walks_of_rows(seed), walks(seed, count, KINDS))):
         if wrong and not to_end:
             break
         random = Random(f'follow/{seed}/{number}')

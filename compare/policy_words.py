@@ -23,8 +23,7 @@ from policy import BREAK, Breaks, ChangeBreak, Choice, Forced, LineBreak, MatchB
 KINDS_OF_BREAKS = {b'line': LineBreak, b'match': MatchBreak, b'change': ChangeBreak}
 
 
-def decision_text(world):
-    decided = policy.decision(world)
+def decision_text(decided):
     if isinstance(decided, Forced):
         return f'forced {step_text(decided.step)}'
     if isinstance(decided, Choice):
@@ -90,7 +89,7 @@ class Driven(Debugger):
             stop = policy.run_back(self, self.breaks)
             return stop_text(stop, self.depth)
         if words == [b'decide']:
-            return decision_text(self.world)
+            return decision_text(policy.decision(self.world))
         if words in ([b'forget'], [b'copy']):
             del self.steps[self.depth:]
             return f'ok {self.depth}'
