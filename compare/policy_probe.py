@@ -3,8 +3,6 @@
     python3 compare/policy_probe.py                 300 random scripts, in both modes
     python3 compare/policy_probe.py --planted       each wrong body of compare/probe/broken-policy/ too, in a copy of its own
 
-It is no part of the gate yet: it wants the crate `mpd_policy`, and `redo`, `undo_to`, `forget_undone` and `copy` of a trail.
-
 No trace word tells what these do. So a copy of the program is made that takes words for them (compare/policy_words.py): compare/probe/
 has what is changed in it, and the crates are called as they are. On random walks through random scripts decisions are asked for, and
 runs, breakpoints, redos, jumps back and copies come among the steps; whatever is answered, and what `show` shows behind it, must be,
