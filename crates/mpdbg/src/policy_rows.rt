@@ -27,10 +27,11 @@ const ENDLESS: &[u8] = b"mpd 1; ranks 1;\nwhile 1 { }";
 const RACE: &[u8] =
     b"mpd 1; ranks 3; var x; var y;\nif rank == 0 { recv x from any tag any; recv y from 2 tag any; } else { send rank to 0 tag 0; }";
 
-/// The first call of a rank.
-const fn first_call(rank: usize) -> CallId {
-    CallId { rank, index: 0 }
-}
+/// The match of the second rank's first call with the first rank's.
+const BACKWARD: Step = Step::Match(CallId { rank: 1, index: 0 }, CallId { rank: 0, index: 0 });
+
+/// The match of the first rank's first call with the second rank's.
+const ONWARD: Step = Step::Match(CallId { rank: 0, index: 0 }, CallId { rank: 1, index: 0 });
 
 /// What is done with a debugger and its breakpoints, and what must come of it.
 enum Act {
@@ -76,11 +77,8 @@ const DRIVES: &[Drive] = &[
                 },
                 6,
             ),
-            (
-                Act::Chooses(&[Step::Match(first_call(0), first_call(1))]),
-                6,
-            ),
-            (Act::Take(Step::Match(first_call(0), first_call(1))), 7),
+            (Act::Chooses(&[ONWARD]), 6),
+            (Act::Take(ONWARD), 7),
             (
                 Act::Run {
                     max: 100,
@@ -261,13 +259,12 @@ fn copies_so(rt: &impl Abort, alloc: Global, code: &Code) {
     let mut debugger = Debugger::start(alloc, code, Mode::Rendezvous).expect(rt, "a debugger");
     let stop = run(alloc, &mut debugger, &Breaks::new(), 100).expect(rt, "memory for steps");
     same(rt, (stop.steps, stop.cause), (6, Cause::Choice));
-    let choice = Step::Match(first_call(1), first_call(0));
-    same(rt, debugger.apply(choice), Ok(()));
+    same(rt, debugger.apply(BACKWARD), Ok(()));
     same(rt, debugger.undo(), Ok(()));
     let mut copy = debugger.copy().expect(rt, "a copy");
     let shown = shown_as(rt, alloc, &debugger, "depth 6 of 7\n", None);
     let _ = shown_as(rt, alloc, &copy, "depth 6 of 6\n", Some(shown.as_str()));
-    same(rt, copy.apply(choice), Ok(()));
+    same(rt, copy.apply(BACKWARD), Ok(()));
     let _ = shown_as(rt, alloc, &debugger, "depth 6 of 7\n", Some(shown.as_str()));
 }
 
