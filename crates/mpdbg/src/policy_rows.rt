@@ -190,13 +190,7 @@ fn decides(rt: &impl Abort, alloc: Global, debugger: &Debugger<'_>, wanted: &Act
 }
 
 /// Does one act, and asserts what must come of it.
-fn acts(
-    rt: &impl Abort,
-    alloc: Global,
-    debugger: &mut Debugger<'_>,
-    breaks: &Breaks,
-    act: &Act,
-) {
+fn acts(rt: &impl Abort, alloc: Global, debugger: &mut Debugger<'_>, breaks: &Breaks, act: &Act) {
     match act {
         Act::Run { max, stop } => {
             let stopped = run(alloc, debugger, breaks, *max).expect(rt, "memory for steps");
@@ -243,7 +237,12 @@ fn shown_as(
     head: &str,
     other: Option<&str>,
 ) -> String {
-    let text = show(alloc, debugger.core(), debugger.depth(), debugger.steps().len());
+    let text = show(
+        alloc,
+        debugger.core(),
+        debugger.depth(),
+        debugger.steps().len(),
+    );
     let text = text.expect(rt, "the text");
     let Some(rest) = text.as_str().strip_prefix(head) else {
         panic!(rt; "another first line");
