@@ -18,6 +18,7 @@ const RUN: usize = 1_000_000;
 const DECISIONS: usize = 100;
 
 /// What a step of a run takes, and a step back.
+#[derive(Clone, Copy)]
 struct BothWays {
     there: u128,
     back: u128,

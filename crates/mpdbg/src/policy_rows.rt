@@ -229,14 +229,8 @@ fn runs_and_stops(rt: HostRuntime) {
     each(&rt, rt.alloc(), DRIVES);
 }
 
-/// Asserts that a debugger is shown with these two numbers in its first line, and then as another.
-fn shown_as(
-    rt: &impl Abort,
-    alloc: Global,
-    debugger: &Debugger<'_>,
-    head: &str,
-    other: Option<&str>,
-) -> String {
+/// What is shown of a debugger behind its first line, which must be this one.
+fn shown_behind(rt: &impl Abort, alloc: Global, debugger: &Debugger<'_>, head: &str) -> String {
     let text = show(
         alloc,
         debugger.core(),
@@ -247,13 +241,16 @@ fn shown_as(
     let Some(rest) = text.as_str().strip_prefix(head) else {
         panic!(rt; "another first line");
     };
-    if let Some(other) = other {
-        same(rt, rest, other);
-    }
     String::from_str(alloc, rest).expect(rt, "memory for a text")
 }
 
-/// A copy shows the same state as the debugger that it was made of, and keeps none of its undone steps.
+/// Asserts that two texts are one.
+fn is_same_text(rt: &impl Abort, found: &String, wanted: &String) {
+    same(rt, found.as_str(), wanted.as_str());
+}
+
+/// A copy shows the same state as the debugger that it was made of, and keeps none of its undone steps; a step of the copy is none
+/// of the other's.
 fn copies_so(rt: &impl Abort, alloc: Global, code: &Code) {
     let mut debugger = Debugger::start(alloc, code, Mode::Rendezvous).expect(rt, "a debugger");
     let stop = run(alloc, &mut debugger, &Breaks::new(), 100).expect(rt, "memory for steps");
@@ -261,10 +258,12 @@ fn copies_so(rt: &impl Abort, alloc: Global, code: &Code) {
     same(rt, debugger.apply(BACKWARD), Ok(()));
     same(rt, debugger.undo(), Ok(()));
     let mut copy = debugger.copy().expect(rt, "a copy");
-    let shown = shown_as(rt, alloc, &debugger, "depth 6 of 7\n", None);
-    let _ = shown_as(rt, alloc, &copy, "depth 6 of 6\n", Some(shown.as_str()));
+    let shown = shown_behind(rt, alloc, &debugger, "depth 6 of 7\n");
+    let copied = shown_behind(rt, alloc, &copy, "depth 6 of 6\n");
+    is_same_text(rt, &copied, &shown);
     same(rt, copy.apply(BACKWARD), Ok(()));
-    let _ = shown_as(rt, alloc, &debugger, "depth 6 of 7\n", Some(shown.as_str()));
+    let again = shown_behind(rt, alloc, &debugger, "depth 6 of 7\n");
+    is_same_text(rt, &again, &shown);
 }
 
 #[test]
