@@ -208,6 +208,92 @@ def buffered_by(test):
     return lambda mode, call: call.kind == 'send' and test(mode, call)
 
 
+def dropping(method):
+    """What drops all undone steps behind it, where it is not refused."""
+    def dropped(self, *words):
+        answer_of = method(self, *words)
+        if answer_of.startswith('ok'):
+            del self.steps[self.depth:]
+        return answer_of
+    return dropped
+
+
+def dropping_anyway(take):
+    """What drops all undone steps where a step is refused."""
+    def taken(self, step):
+        answer_of = take(self, step)
+        if answer_of == debugger.REFUSED_NOT_ENABLED:
+            del self.steps[self.depth:]
+        return answer_of
+    return taken
+
+
+def noted_in_place(self, step):
+    """Has a step in the place of the next undone one, and keeps those behind it."""
+    self.steps[self.depth:self.depth + 1] = [step]
+
+
+def is_like_next(self, step):
+    """Whether a step is of the same kind as the next undone one."""
+    return self.depth < len(self.steps) and self.steps[self.depth].kind == step.kind
+
+
+def to_another(goto, change):
+    """What goes to another depth, by the depth that is named and the one that it is at, where that one isn't refused."""
+    def gone(self, depth):
+        return goto(self, max(0, change(depth, self.depth)) if depth <= self.depth else depth)
+    return gone
+
+
+def at_present_refused(goto):
+    """What takes the present depth for none that is before it."""
+    return lambda self, depth: debugger.REFUSED_NOT_BEFORE if depth == self.depth else goto(self, depth)
+
+
+def forward_too(goto):
+    """What goes forward to a depth as well, as far as there are undone steps."""
+    def gone(self, depth):
+        while self.depth < depth <= len(self.steps):
+            self.redo()
+        return goto(self, depth)
+    return gone
+
+
+def as_far_as_possible(goto):
+    """What stays where it is where the depth is of an undone step, and says so."""
+    return lambda self, depth: f'ok {self.depth}' if self.depth < depth <= len(self.steps) else goto(self, depth)
+
+
+def all_again(redo):
+    """What takes all undone steps again."""
+    def taken(self):
+        answer_of = redo(self)
+        while self.depth < len(self.steps):
+            answer_of = redo(self)
+        return answer_of
+    return taken
+
+
+def last_undone(redo):
+    """What takes the last of the undone steps where it is enabled, and not the next."""
+    def taken(self):
+        if self.depth < len(self.steps) and debugger.next_world(self.world, self.steps[-1]) is not None:
+            self.steps[self.depth:] = [self.steps[-1]]
+        return redo(self)
+    return taken
+
+
+def unlike(kind):
+    """What has a step of a kind never equal to the next undone one."""
+    is_next_undone = debugger.Debugger.is_next_undone
+    return lambda self, step: step.kind != kind and is_next_undone(self, step)
+
+
+def first_word_alone(along):
+    """What takes a redo with more words for one."""
+    return lambda self, words: along(self, words[:1] if words[0] == b'redo' else words)
+
+
 def breakages():
     """All faults of which the model has the rules."""
     return [breakage for breakage in all_breakages() if share(breakage.kind)]
@@ -261,7 +347,7 @@ def all_breakages():
         Breakage('a synchronous send shown as a standard one', 'exchanges', debugger, 'call_word',
                  lambda call: ('' if call.blocks else 'i') + call.kind),
         Breakage('all sends buffered in every mode', 'exchanges', debugger, 'is_buffered', buffered_by(lambda *_: True)),
-    ) + breakages_of_modes()
+    ) + breakages_of_modes() + breakages_of_trails()
 
 
 def breakages_of_modes():
@@ -282,4 +368,32 @@ def breakages_of_modes():
                  going_on(debugger.after_local)),
         Breakage('the message of a buffered send dropped', 'exchanges', debugger, 'after_wake',
                  without_message(debugger.after_wake)),
+    )
+
+
+def breakages_of_trails():
+    """Faults of the words that go along the steps that are there, and of the steps that are kept for them."""
+    if not language.has_part('trail'):
+        return ()
+    trail = debugger.Debugger
+    return (
+        Breakage('a redo that drops the rest', 'trails', trail, 'redo', dropping(trail.redo)),
+        Breakage('an equal step that drops the rest', 'trails', trail, 'is_next_undone', lambda *_: False),
+        *(Breakage(f'an equal {kind} that drops the rest', 'trails', trail, 'is_next_undone', unlike(kind))
+          for kind in ('local', 'match', 'wake', 'release')),
+        Breakage('another step that keeps the rest', 'trails', trail, 'note', noted_in_place),
+        Breakage('another step of the same kind taken for the undone one', 'trails', trail, 'is_next_undone', is_like_next),
+        Breakage('a refused step that drops the rest', 'trails', trail, 'take', dropping_anyway(trail.take)),
+        Breakage('a step back that drops the rest', 'trails', trail, 'back', dropping(trail.back)),
+        Breakage('a goto that drops the rest', 'trails', trail, 'goto', dropping(trail.goto)),
+        Breakage('a goto one too far', 'trails', trail, 'goto', to_another(trail.goto, lambda depth, _: depth - 1)),
+        Breakage('a goto one too short', 'trails', trail, 'goto', to_another(trail.goto, lambda depth, now: min(now, depth + 1))),
+        Breakage('a goto that counts steps back', 'trails', trail, 'goto', to_another(trail.goto, lambda depth, now: now - depth)),
+        Breakage('not-before at the present depth', 'trails', trail, 'goto', at_present_refused(trail.goto)),
+        Breakage('a goto that goes forward', 'trails', trail, 'goto', forward_too(trail.goto)),
+        Breakage('a goto that stays at a depth that is undone', 'trails', trail, 'goto', as_far_as_possible(trail.goto)),
+        Breakage('a redo of all undone steps', 'trails', trail, 'redo', all_again(trail.redo)),
+        Breakage('a redo of the last undone step', 'trails', trail, 'redo', last_undone(trail.redo)),
+        Breakage('a word behind redo', 'trails', trail, 'along', first_word_alone(trail.along)),
+        Breakage('a longer number', 'trails', debugger, 'LONGEST_NUMBER', debugger.LONGEST_NUMBER + 1),
     )

@@ -12,6 +12,7 @@ from limit_cases import limits_case
 from request_cases import requests_case
 from scripts import Writer, mutated_bytes, mutated_tokens, rendered
 from state_cases import arrays_case, deep_case, messages_case, names_case, states_case, traps_case
+from trail_cases import trails_case
 from walks import ODD, assembled, trace_lines
 from wildcard_cases import wildcards_case
 
@@ -195,14 +196,15 @@ def statements_case(number):
 
 
 class Kind(NamedTuple):
-    """What draws inputs of a kind, and its share of the inputs of a run, in hundredths: `early` where there are no barriers.
+    """What draws inputs of a kind, and its share of the inputs of a run, in hundredths.
 
-    Where there are modes, one input after the other is given in each of the `ways`: None is a script with its words on standard
+    It is `early` where there are no barriers, and `late` where there are the words `redo` and `goto`. Where there are modes, one input after the other is given in each of the `ways`: None is a script with its words on standard
     input, a mode is a script in a file.
     """
     draw: Callable
     share: int
     early: int
+    late: int
     ways: tuple = (None,)
 
 
@@ -210,20 +212,23 @@ SOMETIMES, MOSTLY = (None, None, RENDEZVOUS, BUFFERED), (None, RENDEZVOUS, BUFFE
 
 # 2,000 inputs of all kinds have all of those that are counted out.
 KINDS = {
-    'script': Kind(script_case, 8, 9, SOMETIMES), 'mutated': Kind(mutated_case, 6, 7, SOMETIMES),
-    'limits': Kind(limits_case, 5, 6, SOMETIMES), 'words': Kind(words_case, 5, 7), 'cut': Kind(cut_case, 2, 3),
-    'names': Kind(names_case, 4, 5), 'arrays': Kind(arrays_case, 3, 4), 'messages': Kind(messages_case, 2, 2, SOMETIMES),
-    'requests': Kind(requests_case, 5, 7, SOMETIMES), 'wildcards': Kind(wildcards_case, 6, 8, SOMETIMES),
-    'states': Kind(states_case, 3, 4, SOMETIMES), 'traps': Kind(traps_case, 4, 5), 'deep': Kind(deep_case, 2, 2),
-    'barriers': Kind(barriers_case, 7, 0, SOMETIMES), 'exchanges': Kind(exchanges_case, 6, 0, MOSTLY),
-    'statements': Kind(None, 2, 2), 'arithmetic': Kind(None, 12, 12), 'operators': Kind(None, 18, 17)}
+    'script': Kind(script_case, 8, 9, 7, SOMETIMES), 'mutated': Kind(mutated_case, 6, 7, 5, SOMETIMES),
+    'limits': Kind(limits_case, 5, 6, 5, SOMETIMES), 'words': Kind(words_case, 5, 7, 5), 'cut': Kind(cut_case, 2, 3, 2),
+    'names': Kind(names_case, 4, 5, 3), 'arrays': Kind(arrays_case, 3, 4, 3), 'messages': Kind(messages_case, 2, 2, 2, SOMETIMES),
+    'requests': Kind(requests_case, 5, 7, 4, SOMETIMES), 'wildcards': Kind(wildcards_case, 6, 8, 5, SOMETIMES),
+    'states': Kind(states_case, 3, 4, 3, SOMETIMES), 'traps': Kind(traps_case, 4, 5, 4), 'deep': Kind(deep_case, 2, 2, 2),
+    'barriers': Kind(barriers_case, 7, 0, 6, SOMETIMES), 'exchanges': Kind(exchanges_case, 6, 0, 5, MOSTLY),
+    'trails': Kind(trails_case, 0, 0, 7, SOMETIMES), 'statements': Kind(None, 2, 2, 2), 'arithmetic': Kind(None, 12, 12, 12),
+    'operators': Kind(None, 18, 17, 18)}
 # Kinds whose inputs are counted out, and not drawn.
 NUMBERED = {'arithmetic': arithmetic_case, 'operators': operators_case, 'statements': statements_case}
 
 
 def share(kind):
     """The share of a kind in a run, as far as the model has the rules; 0 where it hasn't those of the kind."""
-    return KINDS[kind].share if has_part('barriers') else KINDS[kind].early
+    if not has_part('barriers'):
+        return KINDS[kind].early
+    return KINDS[kind].late if has_part('trail') else KINDS[kind].share
 
 
 def kinds_there():

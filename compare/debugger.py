@@ -5,7 +5,7 @@ import sys
 from typing import NamedTuple, Optional
 
 from language import (PARTS, Assert, Assign, Barrier, Branch, FAULT_NAMES, Fault, Print, Receive, Send, Trap, View, Wait, While,
-                      cell_of, evaluate, read_script, take_parts)
+                      cell_of, evaluate, has_part, read_script, take_parts)
 
 # In the mode `rendezvous` no send is buffered, in the mode `buffered` each standard one is.
 MODES = RENDEZVOUS, BUFFERED = 'rendezvous', 'buffered'
@@ -19,6 +19,8 @@ LONGEST_NUMBER = 9
 REFUSED_FULL = 'refused full'
 REFUSED_NOT_ENABLED = 'refused not-enabled'
 REFUSED_AT_START = 'refused at-start'
+REFUSED_NO_REDO = 'refused no-redo'
+REFUSED_NOT_BEFORE = 'refused not-before'
 REFUSED_BAD_WORD = 'refused bad-word'
 
 
@@ -35,7 +37,8 @@ class Call(NamedTuple):
     """A send or receive made, which its rank waits for or not; a send has a value, a receive the cell it writes.
 
     A send is standard or synchronous. Of a receive `other` is None where it takes messages of any source, `tag` where it takes
-    them of any tag; `status` has the cells for the source and the tag of what it takes, where it has such cells.
+    them of any tag; `status` has the cells for the source and the tag of what it takes, where it has such cells. `line` is that of
+    the statement that made it.
     """
     kind: str
     blocks: bool
@@ -45,6 +48,7 @@ class Call(NamedTuple):
     cell: Optional[int] = None
     status: Optional[tuple] = None
     synchronous: bool = False
+    line: int = 0
 
 
 class WaitCall(NamedTuple):
@@ -135,7 +139,7 @@ def called(statement, view):
         value = evaluate(statement.value, view)
         other = in_bounds(statement.to, view.ranks - 1, 'bad-rank', view)
         tag = in_bounds(statement.tag, HIGHEST_TAG, 'bad-tag', view)
-        return Call('send', blocks, other, tag, value, synchronous=statement.synchronous)
+        return Call('send', blocks, other, tag, value, synchronous=statement.synchronous, line=statement.line)
     return received(statement, blocks, view)
 
 
@@ -145,7 +149,7 @@ def received(statement, blocks, view):
     other = None if statement.source is None else in_bounds(statement.source, view.ranks - 1, 'bad-rank', view)
     tag = None if statement.tag is None else in_bounds(statement.tag, HIGHEST_TAG, 'bad-tag', view)
     status = None if statement.status is None else tuple(cell_of(place, view) for place in statement.status)
-    return Call('recv', blocks, other, tag, None, cell, status)
+    return Call('recv', blocks, other, tag, None, cell, status, line=statement.line)
 
 
 def issued(rank, statement, view):
@@ -502,6 +506,11 @@ def step_of(words):
     return None if None in values else Step(kind.decode(), *values)
 
 
+def depth_of(words):
+    """The depth that `goto` names, or None where the words are none of it."""
+    return number_of(words[1]) if len(words) == 2 and words[0] == b'goto' else None
+
+
 class Debugger:
     """The worlds up to the current one, and the steps, undone ones too."""
 
@@ -526,17 +535,45 @@ class Debugger:
             return REFUSED_NOT_ENABLED
         if self.depth == MOST_STEPS:
             return REFUSED_FULL
+        self.note(step)
+        self.worlds.append(world)
+        return f'ok {self.depth}'
+
+    def note(self, step):
+        """Has a step as the one behind those not undone: where it stands there already, all behind it stays, else that is dropped."""
         if not self.is_next_undone(step):
             del self.steps[self.depth:]
             self.steps.append(step)
-        self.worlds.append(world)
-        return f'ok {self.depth}'
 
     def back(self):
         if self.depth == 0:
             return REFUSED_AT_START
         self.worlds.pop()
         return f'ok {self.depth}'
+
+    def redo(self):
+        """Takes the next undone step again, which is enabled unless the model is broken on purpose; all steps stay."""
+        if self.depth == len(self.steps):
+            return REFUSED_NO_REDO
+        world = next_world(self.world, self.steps[self.depth])
+        if world is None:
+            return REFUSED_NOT_ENABLED
+        self.worlds.append(world)
+        return f'ok {self.depth}'
+
+    def goto(self, depth):
+        """Goes back to a depth, the present one too; all steps stay."""
+        if depth > self.depth:
+            return REFUSED_NOT_BEFORE
+        del self.worlds[depth + 1:]
+        return f'ok {self.depth}'
+
+    def along(self, words):
+        """The answer to the words that go along the steps that are there."""
+        if words == [b'redo']:
+            return self.redo()
+        depth = depth_of(words)
+        return REFUSED_BAD_WORD if depth is None else self.goto(depth)
 
     def answer(self, line):
         """The answer to a line without its end; None where it has no words."""
@@ -554,7 +591,7 @@ class Debugger:
             return enabled_text(self.world)
         if words == [b'show']:
             return show(self.world, self.depth, len(self.steps))
-        return REFUSED_BAD_WORD
+        return self.along(words) if has_part('trail') else REFUSED_BAD_WORD
 
 
 class Result(NamedTuple):

@@ -30,9 +30,9 @@ RESERVED = frozenset('''
     to from tag any status rank size'''.split())
 
 # Parts of the rules that came one after the other, each with the words of its statements.
-PARTS = {'barriers': ('barrier', 'ssend', 'issend'), 'modes': ()}
+PARTS = {'barriers': ('barrier', 'ssend', 'issend'), 'modes': (), 'trail': ()}
 # The parts that the program of this tree has; the model of a run may have more (`take_parts`).
-BUILT = ('barriers', 'modes')
+BUILT = ('barriers', 'modes', 'trail')
 
 OTHER_THAN_TEXT = re.compile(rb'[^\t\n\r\x20-\x7e]')
 BLANKS = re.compile(r'(?:[\t\n\r ]+|#[^\n]*)*')

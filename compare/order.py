@@ -7,8 +7,8 @@
 
 Behind each step of a walk it is checked that a receive has at most one send of each sender that it may be matched with, that
 `why` tells the matches that are enabled and what stands in the way of each other one, and that wakes and the release are enabled
-where the calls and the records say so; at its end that the calls of each rank are in the order that `before` says, and that each
-rank has left a barrier as often as all have (docs/DEFINITIONS.md). The status is 0 where all of that holds, and was seen.
+where the calls and the records say so; where it has the most records, and at its end, that the calls of each rank are in the order
+that `before` says, and that each rank has left a barrier as often as all have (docs/DEFINITIONS.md). The status is 0 where all of that holds, and was seen.
 """
 
 import argparse
@@ -23,7 +23,7 @@ import debugger
 from breakages import buffered_by, going_on, one_left, wakes_at_barriers, without_gone, without_running
 from cases import KINDS
 from debugger import (BUFFERED, MODES, RENDEZVOUS, CallId, Debugger, Pair, Step, Woken, divided, eligible, enabled_steps, find_call,
-                      fits, free_calls, partner, receives_ahead, sends_ahead)
+                      fits, free_calls, partner, receives_ahead, sends_ahead, step_text)
 from language import BUILT, PARTS, Fault, read_script, take_parts
 
 CHOSEN = ('wildcards', 'wildcards', 'requests', 'script', 'states')
@@ -227,15 +227,20 @@ def check(seed, count, to_end=True):
     for _, walked, lines in walks(seed, count, CHOSEN + LATER):
         if wrong and not to_end:
             break
+        longest = walked.world
         for line in lines:
-            if not (walked.answer(line) or '').startswith('ok') or len(all_calls(walked.world)) > 40:
+            if not (walked.answer(line) or '').startswith('ok'):
+                continue
+            longest = max(longest, walked.world, key=lambda world: len(world.records))
+            if len(all_calls(walked.world)) > 40:
                 continue
             met['worlds'] += 1
             met['releases'] += walked.steps[walked.depth - 1].kind == 'release' if walked.depth else 0
             wrong += told_wrong(walked.world)
-        cases, found = out_of_order(walked.world)
-        met += cases
-        wrong += found
+        for world in (longest, walked.world):
+            cases, found = out_of_order(world)
+            met += cases
+            wrong += found
     return met, wrong
 
 
@@ -305,12 +310,12 @@ def rows(seed, count):
     for data, debugger, lines in walks(seed, 50 * count):
         if len(found) == count:
             break
-        best, taken = None, []
+        best = None
         for line in lines:
             answer = debugger.answer(line) or ''
             if not answer.startswith('ok'):
                 continue
-            taken = taken[:debugger.depth] if line.strip() == b'back' else [*taken, ' '.join(line.decode('latin-1').split())]
+            taken = [step_text(step) for step in debugger.steps[:debugger.depth]]
             partners = [why(debugger.world, call_id) for call_id in all_calls(debugger.world)]
             weight = sum(held is not None for listed in partners for _, held in listed), max(map(len, partners), default=0)
             if len(taken) <= 24 and weight > (0, 1) and (best is None or weight > best[0]):

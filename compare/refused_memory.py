@@ -54,6 +54,17 @@ def walked(text, mode=RENDEZVOUS):
     return text + b''.join(line + b'\n' for line in [*lines, b'show', *[b'back'] * (debugger.depth + 1), b'show'])
 
 
+def along(text):
+    """Words that take the first enabled step until there is none, and go back and forward along these steps, and past their ends."""
+    debugger = Debugger(read_script(divided(text)[0]))
+    while steps := enabled_steps(debugger.world):
+        debugger.take(steps[0])
+    count = debugger.depth
+    lines = [step_text(step).encode() for step in debugger.steps]
+    lines += [b'goto %d' % (count // 2), *[b'redo'] * 3, b'show', b'goto %d' % count, b'goto 0', *[b'redo'] * (count + 1), b'show']
+    return text + b''.join(line + b'\n' for line in lines)
+
+
 def lively():
     """Words that go to the end of that script, show it, and take it all back."""
     debugger = Debugger(read_script(divided(MUCH + b'x')[0]))
@@ -81,18 +92,23 @@ def inputs():
     yield 'much to show', lively()
     if has_part('barriers'):
         yield 'barriers', walked(MEETINGS)
+    if has_part('trail'):
+        yield 'back and forward', along(MEETINGS)
 
 
-def can_be_refused(world, line):
-    """Steps that are enabled, which may have to make room, `enabled` where some step is, and `show`.
+def can_be_refused(debugger, line):
+    """Steps that are enabled, which may have to make room, undone ones too, `enabled` where some step is, and `show`.
 
-    A step back, a step that is not enabled and a refusal need no room, nor does the word `enabled` alone.
+    A step back, a depth that is gone back to, a step that is not enabled and a refusal need no room, nor does the word `enabled`
+    alone.
     """
     words = line.replace(b'\t', b' ').split()
     step = step_of(words) if words else None
     if step is not None:
-        return next_world(world, step) is not None
-    return words == [b'show'] or (words == [b'enabled'] and bool(enabled_steps(world)))
+        return next_world(debugger.world, step) is not None
+    if words == [b'redo']:
+        return has_part('trail') and debugger.depth < len(debugger.steps)
+    return words == [b'show'] or (words == [b'enabled'] and bool(enabled_steps(debugger.world)))
 
 
 def problem(data, result, mode=RENDEZVOUS):
@@ -110,7 +126,7 @@ def problem(data, result, mode=RENDEZVOUS):
         if is_cut and place == len(result.output):
             return None
         if result.output.startswith(REFUSED, place):
-            if not can_be_refused(debugger.world, line):
+            if not can_be_refused(debugger, line):
                 return f'{line} was refused memory'
             place += len(REFUSED)
             continue

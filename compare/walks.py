@@ -3,7 +3,7 @@
 from typing import NamedTuple
 
 from debugger import RENDEZVOUS, CallId, Debugger, Step, enabled_steps, free_calls
-from language import Fault, read_script
+from language import Fault, has_part, read_script
 
 # Lines that are no step, or an odd one.
 ODD_LINES = (
@@ -17,17 +17,29 @@ ODD_LINES = (
     '\tlocal\t0\t', 'show ', ' back', 'sho', 'shows', 'locals 0', 'local0', 'matc 0.0 1.0', 'match 0 .0 1.0',
     'match 0.0,1.0', 'call 0.0', '-', '--', '----', ' ---', '--- ', 'release', ' release ', '\xff', 'local \xb2',
     'local 0\x00', 'ok 1', 'wait 0', 'any', 'local 0\xa0', '\xa0show', 'local 1 ', 'wake 1')
+# The same of the words that go along the steps that are there.
+ODD_LINES_ALONG = (
+    'redo 1', 'redo 0', 'redo redo', 'Redo', 'REDO', 'redo\t', ' redo', 'redo\r', 'redo\x0b', 'redo;', 'redos', 're do', 'undo',
+    'forward', 'goto x', 'goto -1', 'goto +1', 'goto 1 2', 'goto 0 0', 'goto 0.0', 'goto 1.', 'goto 0x0', 'goto\t0', 'goto  0 ',
+    ' goto 1', 'goto 0\r', 'goto 0\x00', 'goto \xb2', 'goto0', 'Goto 0', 'go to 0', 'gotos 0', 'goto goto', 'goto redo',
+    'goto back', 'goto start', 'goto 000000000', 'goto 0000000000', 'goto 999999999', 'goto 1000000000', 'goto 1000000',
+    'goto 1000001', 'goto 00000000000000000001', 'goto 4294967296', 'goto 18446744073709551616', 'back 0', '0 goto', 'to 0')
+
+
+def odd_lines():
+    return ODD_LINES + ODD_LINES_ALONG if has_part('trail') else ODD_LINES
+
+
+def digits(random, number):
+    """Now and then with zeros in front, up to one digit more than a number may have."""
+    return str(number).zfill(random.choice([2, 3, 8, 9, 9, 10]) if random.random() < 0.02 else 0)
 
 
 def step_line(random, step):
-    def digits(number):
-        """Now and then with zeros in front, up to one digit more than a number may have."""
-        return str(number).zfill(random.choice([2, 3, 8, 9, 9, 10]) if random.random() < 0.02 else 0)
-
     if step.kind == 'match':
-        ends = [f'{digits(call_id.rank)}.{digits(call_id.number)}' for call_id in (step.first, step.second)]
+        ends = ['.'.join(digits(random, part) for part in call_id) for call_id in (step.first, step.second)]
         return ' '.join(['match', *ends])
-    return 'release' if step.kind == 'release' else f'{step.kind} {digits(step.first)}'
+    return 'release' if step.kind == 'release' else f'{step.kind} {digits(random, step.first)}'
 
 
 def random_call_id(random, world):
@@ -85,6 +97,8 @@ class Habits(NamedTuple):
 
     `listed` is how often it lists the enabled steps; `orders` is what it takes of these: any of them, the first, the last, or
     any, but a match only where nothing else is enabled. `other` is how often a match is taken back at once, for another one.
+    `along` is how often it goes along the steps that are there, back to a depth or to an undone step, and `redos` how many undone
+    steps it takes again then.
     """
     show: tuple = (0.02, 0.1, 0.3, 1.0)
     back: tuple = (0.0, 0.05, 0.15, 0.4)
@@ -95,18 +109,23 @@ class Habits(NamedTuple):
     listed: tuple = (0.0, 0.02, 0.2)
     orders: tuple = ('any', 'any', 'first', 'last')
     other: tuple = (0.0,)
+    along: tuple = (0.0, 0.05, 0.15)
+    redos: tuple = (0, 0, 1, 2, 5, 30)
 
 
 USUAL = Habits()
 ODD = Habits(odd=(0.4,))
 # Hundreds of steps, and hundreds of them taken back at once and taken again.
 LONG = Habits(show=(0.0, 0.002), back=(0.0, 0.002, 0.005), any_step=(0.0, 0.02), odd=(0.0, 0.002), again=(0.98, 0.999),
-              backs=(0, 5, 40, 200, 500), listed=(0.0, 0.005))
+              backs=(0, 5, 40, 200, 500), listed=(0.0, 0.005), along=(0.0, 0.005), redos=(0, 5, 40, 200, 500))
 SHOWING = Habits(show=(1.0,), back=(0.0, 0.05, 0.15), any_step=(0.02, 0.2), odd=(0.0,))
 # Matches put off until many are enabled, taken back, and others taken in their place.
 RACING = Habits(show=(0.05, 0.2), back=(0.0, 0.02, 0.05), any_step=(0.02, 0.1, 0.2), odd=(0.0,), again=(0.1, 0.3),
                 backs=(0, 0, 1, 2, 3, 6, 20), listed=(0.2, 0.5, 1.0), orders=('late', 'late', 'late', 'any', 'last'),
                 other=(0.2, 0.5))
+# Back and forth along the steps that are there, which others drop now and then.
+ALONG = Habits(show=(0.05, 0.2, 0.5), back=(0.02, 0.1), any_step=(0.02, 0.1, 0.3), odd=(0.0, 0.02, 0.1), again=(0.3, 0.7, 0.95),
+               listed=(0.0, 0.1), orders=('any', 'any', 'late', 'first'), other=(0.0, 0.2), along=(0.15, 0.3, 0.5))
 
 
 class Walk:
@@ -121,14 +140,22 @@ class Walk:
         self.listed = random.choice(habits.listed)
         self.order = random.choice(habits.orders)
         self.other = random.choice(habits.other)
+        self.along = random.choice(habits.along) if has_part('trail') else 0.0
+        self.redos = habits.redos
+        self.redos_left = 0
 
     def line(self):
         if self.backs_left:
             self.backs_left -= 1
             return 'back'
+        if self.redos_left:
+            self.redos_left -= 1
+            return 'redo'
+        if self.along and self.random.random() < self.along:
+            return self.line_along()
         draw = self.random.random()
         if draw < self.odd:
-            return self.random.choice(ODD_LINES)
+            return self.random.choice(odd_lines())
         if draw < self.odd + self.any_step:
             return step_line(self.random, random_step(self.random, self.debugger.world))
         if self.took_match() and self.random.random() < self.other:
@@ -145,6 +172,35 @@ class Walk:
         """Whether the last step that isn't undone is a match."""
         depth = self.debugger.depth
         return depth > 0 and self.debugger.steps[depth - 1].kind == 'match'
+
+    def line_along(self):
+        """What goes back to a depth, takes an undone step again, or another step in its place."""
+        undone = self.debugger.steps[self.debugger.depth:]
+        draw = self.random.random()
+        if draw < 0.4:
+            return f'goto {self.depth_word()}'
+        if undone and draw < 0.5:
+            return step_line(self.random, undone[0])
+        if undone and draw < 0.6:
+            return self.other_than(undone[0])
+        if draw < 0.8:
+            self.redos_left = min(self.random.choice(self.redos), len(undone))
+        return 'redo'
+
+    def depth_word(self):
+        """A depth that is mostly there, often the present one, the last one kept, or next to one of these."""
+        depth, kept = self.debugger.depth, len(self.debugger.steps)
+        if self.random.random() < 0.03:
+            return self.random.choice(['999999999', '1000000', '1000001', '1000000000', '000000000', '0000000000'])
+        numbers = [0, depth, depth - 1, depth + 1, kept, kept + 1, self.random.randint(depth, kept)]
+        numbers += [self.random.randint(0, depth) for _ in range(4)]
+        return digits(self.random, max(0, self.random.choice(numbers)))
+
+    def other_than(self, undone):
+        """A step that drops the undone ones, mostly of the same kind as the next of them; that one itself where there is no other."""
+        steps = [step for step in enabled_steps(self.debugger.world) if step != undone]
+        alike = [step for step in steps if step.kind == undone.kind]
+        return step_line(self.random, self.random.choice(alike or steps or [undone]))
 
     def forward(self):
         steps = enabled_steps(self.debugger.world)
@@ -178,7 +234,7 @@ def trace_lines(random, script, count, habits=USUAL, mode=RENDEZVOUS):
     try:
         read = read_script(script)
     except Fault:
-        return [random.choice(ODD_LINES) for _ in range(random.randint(0, 3))]
+        return [random.choice(odd_lines()) for _ in range(random.randint(0, 3))]
     return Walk(random, read, habits, mode).lines(count)
 
 

@@ -16,11 +16,7 @@ said was said, nothing differed, and each broken model did.
 
 import argparse
 import os
-import re
-import shutil
-import subprocess
 import sys
-import tempfile
 import time
 from collections import Counter
 from concurrent.futures import ProcessPoolExecutor, ThreadPoolExecutor
@@ -28,26 +24,18 @@ from random import Random
 from typing import NamedTuple
 from unittest import mock
 
-TOP = os.path.dirname(os.path.dirname(os.path.abspath(__file__)))
-sys.path.append(f'{TOP}/.ci')
-sys.dont_write_bytecode = True
-
 import debugger
 import order
 from cases import KINDS
 from debugger import CallId, Debugger, Released, divided, find_call
-from edits import BadEdit, Edit
 from language import Fault, has_part, read_script
-from planted import plant
+from probing import DIVIDER, PROBES, TOP, Batch, Change, Probe, Walked, batches, report, tried
 
-PROBE = 'compare/probe'
+WHY = Probe('answer.edit', 'why.rattle', 'why.rt', 'main.rattle')
 CHOSEN = ('wildcards', 'wildcards', 'wildcards', 'requests', 'script', 'states') + (
     ('barriers', 'barriers', 'exchanges') if has_part('barriers') else ())
 # Worlds with more calls are not asked: the pairs of these are too many.
 MOST_CALLS = 40
-# A batch is what the copy answers in one run, which may write 1 MiB under `rt try`.
-MOST_OUTPUT = 1_000_000
-MOST_WALKS = 50
 # How many walks a process makes at a time.
 CHUNK = 20
 # Among so many walks one is sought on which a broken model says otherwise.
@@ -56,7 +44,6 @@ MOST_SOUGHT = 1000
 MUST_MEET = ('worlds', 'undos', 'whys', 'pairs', 'eligible', 'held by a send', 'held by a recv', 'sends', 'receives', 'wait',
              'blocks', 'any source', 'any tag', 'status') + (
                  ('barrier', 'synchronous send', 'release', 'behind a barrier') if has_part('barriers') else ())
-DIVIDER = b'\0'
 
 
 def asked(world):
@@ -81,14 +68,6 @@ def told(world):
 
 def partners_text(partners):
     return ''.join(f' {other} ' + ('eligible' if held is None else f'held by {held}') for other, held in partners)
-
-
-class Walked(NamedTuple):
-    """A script with a walk that asks at some places, what the model answers, and what was met there."""
-    name: str
-    data: bytes
-    wanted: bytes
-    met: Counter
 
 
 def expected(data):
@@ -179,100 +158,6 @@ def all_walked(pool, seed, count):
         found += [walk for task in tasks for walk in task.result()]
         first = chunks[-1] + CHUNK
     return found[:count]
-
-
-class Batch(NamedTuple):
-    """Some walks that the copy answers in one run."""
-    name: str
-    walks: list
-
-    def write(self, folder):
-        """Writes its input, and what must be answered to it, as `rt try --cases` takes them."""
-        for ending, data in (('', b''.join(walk.data + DIVIDER for walk in self.walks)),
-                             ('.stdout', b''.join(walk.wanted for walk in self.walks))):
-            with open(f'{folder}/{self.name}{ending}', 'wb') as it:
-                it.write(data)
-
-
-def batches(walks):
-    """The walks in batches."""
-    found, size = [], 0
-    for walk in walks:
-        size += len(walk.wanted)
-        if not found or size > MOST_OUTPUT or len(found[-1].walks) == MOST_WALKS:
-            found.append(Batch(f'batch-{len(found)}', []))
-            size = len(walk.wanted)
-        found[-1].walks.append(walk)
-    return found
-
-
-class Change(Edit):
-    """A change of the copy: compare/probe/answer.edit, or a wrong body."""
-
-    def __init__(self, path):
-        super().__init__('', path)
-        self.name = os.path.basename(path).removesuffix('.edit')
-        self.read()
-
-    def reads(self, key, value):
-        if key == 'crate':
-            self.folder = f'crates/{value.strip()}'
-        return key == 'crate'
-
-
-def make_copy(room, changes):
-    """Makes the copy of the program in an empty folder, with these changes; gives where it is to be tried."""
-    left = plant([Change(f'{PROBE}/answer.edit'), *changes], room)
-    if left:
-        raise BadEdit(f'{left[0].name} touches another change')
-    shutil.copy(f'{PROBE}/why.rattle', f'{room}/crates/mpd_trace/src/why.rt')
-    shutil.rmtree(f'{room}/crates/mpdbg/src')
-    os.mkdir(f'{room}/crates/mpdbg/src')
-    shutil.copy(f'{PROBE}/main.rattle', f'{room}/crates/mpdbg/src/main.rt')
-    return f'{room}/crates/mpdbg'
-
-
-def tried(batches, changes, seconds):
-    """What came of each batch in the copy with these changes, `expected`, `differs` or how it ended; and all that was said."""
-    with tempfile.TemporaryDirectory(prefix='why-') as room, tempfile.TemporaryDirectory(prefix='cases-') as cases:
-        for batch in batches:
-            batch.write(cases)
-        # a run with few steps of the interpreter leaves the answer to the built copy
-        words = ['rt', 'try', '--steps', '1000', '--seconds', str(seconds), '--cases', cases]
-        ran = subprocess.run(words, cwd=make_copy(room, changes), stdin=subprocess.DEVNULL, stdout=subprocess.PIPE,
-                             stderr=subprocess.STDOUT, text=True, errors='replace')
-    said = {}
-    for name, what in re.findall(r'(?m)^case=(\S+) (.*) proved=no$', ran.stdout):
-        ended = re.fullmatch(r'run=ended status=0 .*output=(differs|expected)', what)
-        said[name] = ended[1] if ended else what
-    return said, ran.stdout
-
-
-def first_difference(walk, seconds):
-    """The first line of a walk that the copy answers otherwise than the model, with both answers."""
-    with tempfile.TemporaryDirectory(prefix='why-') as room:
-        ran = subprocess.run(['rt', 'try', '--steps', '1000', '--seconds', str(seconds)], cwd=make_copy(room, []),
-                             input=walk.data + DIVIDER, capture_output=True)
-    lines, wanted = (data.decode(errors='replace').split('\n') for data in (ran.stdout, walk.wanted))
-    for place in range(max(len(lines), len(wanted))):
-        pair = [it[place] if place < len(it) else '(nothing)' for it in (lines, wanted)]
-        if pair[0] != pair[1]:
-            return f'  answer {place + 1}: {pair[0]}\n  wanted: {pair[1]}'
-    return '  no difference in a run of its own'
-
-
-def report(found, text, seconds):
-    """Says on which walks the copy differs, keeps these, and shows the first."""
-    print(text[-2000:])
-    singles = [Batch(walk.name, [walk]) for batch in found[:4] for walk in batch.walks]
-    said, _ = tried(singles, [], seconds)
-    differing = [batch for batch in singles if said.get(batch.name) != 'expected']
-    folder = tempfile.mkdtemp(prefix='why-')
-    for batch in differing:
-        batch.write(folder)
-        print(f'{folder}/{batch.name}: {said.get(batch.name, "no answer")}')
-    if differing:
-        print(first_difference(differing[0].walks[0], seconds))
 
 
 class Breakage(NamedTuple):
@@ -408,10 +293,10 @@ def compare(pool, chosen, walks):
     sought = [pool.submit(noticing, place, walks[:MOST_SOUGHT]) for place in range(len(breakages()))]
     broken = [it.result() for it in sought]
     all_batches = batches(walks)
-    said, text = tried([*all_batches, *filter(None, broken)], [], chosen.seconds)
+    said, text = tried(WHY, [*all_batches, *filter(None, broken)], [], chosen.seconds)
     differing = [batch for batch in all_batches if said.get(batch.name) != 'expected']
     if differing:
-        report(differing, text, chosen.seconds)
+        report(WHY, differing, text, chosen.seconds)
     missed = [breakage.name for breakage, batch in zip(breakages(), broken) if not batch or said.get(batch.name) != 'differs']
     for name in missed:
         print(f'not noticed in the model: {name}')
@@ -422,9 +307,9 @@ def compare(pool, chosen, walks):
 def compare_planted(chosen, walks):
     """Plants each wrong body in a copy of its own; gives how many were not noticed."""
     all_batches, missed = batches(walks), 0
-    bodies = [Change(f'{PROBE}/broken/{name}') for name in sorted(os.listdir(f'{PROBE}/broken'))]
+    bodies = [Change(f'{PROBES}/broken/{name}') for name in sorted(os.listdir(f'{PROBES}/broken'))]
     with ThreadPoolExecutor(chosen.jobs) as pool:
-        for body, (said, text) in zip(bodies, pool.map(lambda body: tried(all_batches, [body], chosen.seconds), bodies)):
+        for body, (said, text) in zip(bodies, pool.map(lambda body: tried(WHY, all_batches, [body], chosen.seconds), bodies)):
             found = Counter(said.get(batch.name, 'no answer') for batch in all_batches)
             print(f'{body.name}: {dict(found)}', flush=True)
             if set(found) - {'expected', 'differs'} or not found['differs']:

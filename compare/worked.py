@@ -1,17 +1,23 @@
-"""Worked rows of barriers, of synchronous sends and of both modes: what the model must answer, worked out by hand from the rules.
+"""Worked rows: what the model must answer, worked out by hand from the rules.
 
     python3 compare/worked.py
 
-Each row is a script, a mode, and words with what each is answered; behind the words stands what `show` prints, whole or in part.
-The lessons of docs/COURSE.md are rows too, with their answers in files. The status is 0 where the model answers all of them so.
+They are of barriers, of synchronous sends, of both modes, and of the words that go along the steps that are there; those of
+decisions, breakpoints and runs stand in compare/worked_runs.py. Each row is a script, a mode, and words with what each is answered;
+behind the words stands what `show` prints, whole or in part. The lessons of docs/COURSE.md are rows too, with their answers in
+files. The status is 0 where the model answers all of them so.
 """
 
 import sys
 from typing import NamedTuple
+from unittest import mock
 
+import debugger
 from debugger import BUFFERED, RENDEZVOUS, answer_file
 from examples import lessons, open_example
-from language import PARTS, take_parts
+from language import PARTS, read_script, take_parts
+from policy_words import Driven
+from worked_runs import RUNS
 
 MEETING = 'mpd 1; ranks 2;\nbarrier;'
 ONE_ENDED = 'mpd 1; ranks 2;\nif rank == 1 { barrier; }'
@@ -97,6 +103,39 @@ ROWS = (
     Row(IN_FRONT, RENDEZVOUS, 'local 0: ok 1; local 0: ok 2; local 0: ok 3; local 1: ok 4; local 1: ok 5; local 1: ok 6; '
         'enabled: enabled release, match 0.0 1.0', 'pending 0 to 1: 0; posted 1: 0; end', 'set'))
 
+FIRST = 'mpd 1; ranks 2; var x;\nif rank == 0 { send 7 to 1 tag 0; } else { recv x from 0 tag 0; print x; }'
+ON_ONE_HANDLE = ('mpd 1; ranks 2; var x; var y; req r;\nif rank == 0 { isend r 1 to 1 tag 0; isend r 2 to 1 tag 0; wait r; } '
+                 'else { recv x from 0 tag 0; recv y from 0 tag 0; }')
+ALONG = (
+    # what a handle held is there again behind a step back, and the next request behind a redo
+    Row(ON_ONE_HANDLE, RENDEZVOUS, 'local 0: ok 1; local 0: ok 2; local 0: ok 3; back: ok 2', 'depth 2 of 3; handles 0; end'),
+    Row(ON_ONE_HANDLE, RENDEZVOUS, 'local 0: ok 1; local 0: ok 2; local 0: ok 3; back: ok 2; redo: ok 3; local 0: ok 4; local 1: ok 5; '
+        'local 1: ok 6; match 0.0 1.0: ok 7; wake 1: ok 8; local 1: ok 9; match 0.1 1.1: ok 10; wake 0: ok 11; wake 1: ok 12',
+        'depth 12 of 12; rank 0 ended; handles -; vars 1 2; outcome done; end'),
+    # an undone step that is taken as a step keeps what is behind it; another drops that, and then nothing can be taken again
+    Row(FIRST, RENDEZVOUS, 'local 0: ok 1; local 0: ok 2; back: ok 1; back: ok 0; local 1: ok 1; redo: refused no-redo',
+        'depth 1 of 1; rank 0 at 2; end'),
+    Row(FIRST, RENDEZVOUS, 'local 0: ok 1; local 0: ok 2; back: ok 1; back: ok 0; local 0: ok 1; redo: ok 2; goto 3: refused not-before; '
+        'goto 0: ok 0', 'depth 0 of 2; rank 0 at 2; rank 1 at 2; end', 'call'),
+    # a refusal drops nothing
+    Row(FIRST, RENDEZVOUS, 'local 0: ok 1; local 0: ok 2; goto 1: ok 1; wake 0: refused not-enabled; match 0.0 1.0: refused not-enabled; '
+        'goto 2: refused not-before; redo 1: refused bad-word; redo: ok 2; redo: refused no-redo', 'depth 2 of 2; rank 0 blocked 0; end'),
+    # the present depth is before itself; at the start there is nothing to take again, and 0 to go to
+    Row(FIRST, RENDEZVOUS, 'redo: refused no-redo; goto 0: ok 0; goto 1: refused not-before; back: refused at-start; local 1: ok 1; '
+        'goto 1: ok 1', 'depth 1 of 1; end'),
+    # nine digits are a number, whatever zeros are among them
+    Row(FIRST, RENDEZVOUS, 'local 0: ok 1; goto 000000001: ok 1; goto 0000000001: refused bad-word; goto 999999999: refused not-before; '
+        'goto: refused bad-word; goto -1: refused bad-word; goto 0 0: refused bad-word; goto 0.0: refused bad-word; '
+        'Goto 0: refused bad-word; goto 000000000: ok 0', 'depth 0 of 1; end'),
+    # a release and its match set, there and back
+    Row(MEETING, RENDEZVOUS, 'local 0: ok 1; local 1: ok 2; release: ok 3; goto 1: ok 1; redo: ok 2; release: ok 3; goto 2: ok 2; '
+        'redo: ok 3', 'depth 3 of 3; rank 0 ended; rank 1 ended; set barrier; outcome done; end'),
+    # another match in the place of the one that was taken back
+    Row('mpd 1; ranks 3; var x;\nif rank == 0 { recv x from any tag any; } else { send rank to 0 tag 0; }', RENDEZVOUS,
+        'local 0: ok 1; local 0: ok 2; local 1: ok 3; local 1: ok 4; local 2: ok 5; local 2: ok 6; match 1.0 0.0: ok 7; wake 0: ok 8; '
+        'goto 6: ok 6; match 2.0 0.0: ok 7; redo: refused no-redo; wake 1: refused not-enabled; wake 0: ok 8; wake 2: ok 9',
+        'depth 9 of 9; rank 0 ended; vars 2; set pair 2.0 0.0; set woke 0.0; set woke 2.0; outcome deadlock 1.0; end', 'set pair 1.0'))
+
 # Texts that are refused: the number of the fault, and its byte in the statement.
 REFUSED = (('barrier', 4, 7), ('barrier 1;', 4, 8), ('barrier r;', 4, 8), ('x = barrier;', 4, 4), ('barriers;', 5, 0),
            ('ssend 1 to 0;', 4, 12), ('ssend r 1 to 0 tag 0;', 5, 6), ('ssend 1 to any tag 0;', 4, 11),
@@ -123,6 +162,17 @@ def row_problem(row):
     return None if (result.errors, result.status) == (b'', 0) else f'{result}'
 
 
+def run_problem(row):
+    """What is answered otherwise than a row of runs wants; None where nothing is."""
+    limit = debugger.MOST_STEPS if row.limit is None else row.limit
+    with mock.patch.object(debugger, 'MOST_STEPS', limit):
+        driven = Driven(read_script(row.script.encode()), row.mode)
+        for word, wanted in (part.split(': ') for part in row.words.split('; ')):
+            if (said := driven.answer(word.encode())) != wanted:
+                return f'{word} was answered {said}, and not {wanted}'
+    return None
+
+
 def refusal_problem(statement, fault, place):
     head = b'mpd 1; ranks 1; var x; req r;\n'
     result = answer_file(head + statement.encode(), b'')
@@ -140,7 +190,8 @@ def lesson_problem(lesson):
 
 def main():
     take_parts(PARTS)
-    problems = [(f'{row.script} ({row.mode})', row_problem(row)) for row in ROWS]
+    problems = [(f'{row.script} ({row.mode})', row_problem(row)) for row in ROWS + ALONG]
+    problems += [(f'{row.script} ({row.mode}): {row.words}', run_problem(row)) for row in RUNS]
     problems += [(statement, refusal_problem(statement, fault, place)) for statement, fault, place in REFUSED]
     problems += [(f'{lesson.name} ({lesson.mode})', lesson_problem(lesson)) for lesson in lessons()]
     wrong = [(name, problem) for name, problem in problems if problem]

@@ -17,6 +17,10 @@ pub(crate) const REQUESTS: &[u8] = b"mpd 1; ranks 1; req r; while 1 { isend r 1 
 pub(crate) const WAIT: &[u8] =
     b"mpd 1; ranks 1; var x; req r; isend r 1 to 0 tag 0; recv x from 0 tag 0; wait r;";
 
+/// 500 sends and 500 receives of another tag, for which nobody waits.
+pub(crate) const STUCK: &[u8] = b"mpd 1; ranks 2; var i; var x; req r; \
+    while i < 500 { if rank == 0 { isend r i to 1 tag 1; } else { irecv r x from 0 tag 2; } i = i + 1; }";
+
 /// A thousand messages, behind which both ranks end.
 pub(crate) const THOUSAND: &[u8] = b"mpd 1; ranks 2; var i; var x; \
     while i < 1000 { if rank == 0 { send i to 1 tag 0; } else { recv x from 0 tag 0; } i = i + 1; }";

@@ -4,13 +4,17 @@
 #![tactic(auto)]
 
 mod cases;
+mod runs;
 mod talk;
 mod timing;
 
 use std::process::ExitCode;
 
 fn main(rt: HostRuntime) -> ExitCode {
-    match talk::between_marks(&rt).and_then(|()| timing::all(&rt)) {
+    match talk::between_marks(&rt)
+        .and_then(|()| timing::all(&rt))
+        .and_then(|()| runs::all(&rt))
+    {
         Some(()) => ExitCode::SUCCESS,
         None => ExitCode::from(3),
     }

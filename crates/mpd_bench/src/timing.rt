@@ -86,7 +86,7 @@ fn measure_enabled<R: Clock>(rt: &R, alloc: Global, core: &Core<'_>, times: usiz
 }
 
 /// The code of a script.
-fn code_of(alloc: Global, text: &[u8]) -> Option<Code> {
+pub(crate) fn code_of(alloc: Global, text: &[u8]) -> Option<Code> {
     let script = read(alloc, text).ok()?;
     lower(alloc, script).ok()
 }

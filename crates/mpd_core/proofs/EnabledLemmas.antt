@@ -52,7 +52,7 @@ split : (b : Bool) (x : Step) (ys : List Step) → cond b (x ∷ ys) ys ≡ cond
 split true x ys = refl
 split false x ys = refl
 
-enabled_parts : (w : World) → enabled w ≡ locals w ++ (releases w ++ (wakes w ++ listed.matches_on w.board))
+pub enabled_parts : (w : World) → enabled w ≡ locals w ++ (releases w ++ (wakes w ++ listed.matches_on w.board))
 enabled_parts w =
     let t = is_enabled w in
     let ranks = rank_numbers w.board in

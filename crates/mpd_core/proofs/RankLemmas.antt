@@ -1,7 +1,7 @@
 -- One of the ranks is changed, and changed back.
-use Rattle.std.proofs.Common.{◌≡◌, ◌&&◌, ℕ, zero, suc, ◌<◌, ◌+◌, List, [], ◌∷◌, ◌++◌, length, get_or, set, drop, add-one, ℤ, Option, Some, None, Result, Ok, Err, IfOk, refl, sym, ap, ◌∙◌, arith, slice_get, slice_set, option_and_then, IfSome, replicate, Bool, true, false}
+use Rattle.std.proofs.Common.{◌≡◌, ◌&&◌, ℕ, zero, suc, ◌<◌, ◌≤◌, ◌+◌, List, [], ◌∷◌, ◌++◌, length, map, get_or, set, take, drop, add-one, ℤ, Option, Some, None, Result, Ok, Err, IfOk, refl, sym, ap, ◌∙◌, arith, slice_get, slice_set, option_and_then, IfSome, replicate, Bool, true, false}
 use Rattle.std.proofs.lemmas.Option.{slice_get_read}
-use Rattle.std.proofs.lemmas.List.{map-set, map-append, length-map, length-set, replicate-append-replicate}
+use Rattle.std.proofs.lemmas.List.{map-set, map-append, length-map, length-set, replicate-append-replicate, take_more, take_all}
 use Rattle.std.specs.Option.{option_map}
 use Rattle.std.proofs.lemmas.List.FromFn.{length-range_with_len}
 use Rattle.std.specs.List.{list_all, range_with_len}
@@ -223,6 +223,26 @@ pub writes_more : (vs : List RankView) (v : RankView) → writes_in vs ≡ 0 →
 writes_more [] v none same = omega (arith, same)
 writes_more (u ∷ vs) v none same = omega (arith, none, writes_more vs v (omega (arith, none)) same)
 
+-- ---- ranks are copied, one after the other
+
+-- one rank more that shows the same
+copied_more : {X : Type 0} (f : RankView → X) (copied vs : List RankView) (i : ℕ) (v w : RankView) → i < length vs → v ≡ get_or vs i v → f w ≡ f v → map f copied ≡ map f (take i vs) → map f (copied ++ w ∷ []) ≡ map f (take (i + 1) vs)
+copied_more f copied vs i v w lt read same so_far =
+    let more : take (i + 1) vs ≡ take i vs ++ v ∷ [] = take_more vs i v lt ∙ ap (λ x. take i vs ++ x ∷ []) (sym read) in
+    map-append f copied (w ∷ []) ∙ ap (λ xs. xs ++ f w ∷ []) so_far ∙ ap (λ x. map f (take i vs) ++ x ∷ []) same ∙ sym (map-append f (take i vs) (v ∷ [])) ∙ ap (map f) (sym more)
+
+pub ranks_copied_more : (s : Program) (copied vs : List RankView) (i : ℕ) (v w : RankView) → i < length vs → v ≡ get_or vs i v → rank_of s w ≡ rank_of s v → ranks_in s copied ≡ ranks_in s (take i vs) → ranks_in s (copied ++ w ∷ []) ≡ ranks_in s (take (i + 1) vs)
+ranks_copied_more s copied vs i v w = copied_more (rank_of s) copied vs i v w
+
+pub numbers_copied_more : (copied vs : List RankView) (i : ℕ) (v w : RankView) → i < length vs → v ≡ get_or vs i v → w.rank ≡ v.rank → numbers_in copied ≡ numbers_in (take i vs) → numbers_in (copied ++ w ∷ []) ≡ numbers_in (take (i + 1) vs)
+numbers_copied_more copied vs i v w = copied_more (λ (x : RankView). x.rank) copied vs i v w
+
+pub ranks_copied : (s : Program) (copied vs : List RankView) (n : ℕ) → length vs ≤ n → ranks_in s copied ≡ ranks_in s (take n vs) → ranks_in s copied ≡ ranks_in s vs
+ranks_copied s copied vs n all so_far = so_far ∙ ap (ranks_in s) (take_all n vs all)
+
+pub numbers_copied : (copied vs : List RankView) (n : ℕ) → length vs ≤ n → numbers_in copied ≡ numbers_in (take n vs) → numbers_in copied ≡ numbers_in vs
+numbers_copied copied vs n all so_far = so_far ∙ ap numbers_in (take_all n vs all)
+
 -- one rank more that has or has not ended
 pub ended_on : (s : Program) (vs : List RankView) (i : ℕ) (v : RankView) (total : Bool) → i < length vs → v ≡ get_or vs i v → has_ended (rank_of s v) ≡ true → list_all has_ended (ranks_in s (drop i vs)) ≡ total
     → list_all has_ended (ranks_in s (drop (i + 1) vs)) ≡ total
@@ -252,5 +272,7 @@ pub ruleset reading = (slice_get-ranks_in)
 pub ruleset numbered = (number_is, rank_is)
 
 pub ruleset starting = (start_more, numbers_more, writes_more)
+
+pub ruleset copying = (numbers_copied_more, numbers_copied, writes_more)
 
 pub ruleset board = (length-ranks_in, board_count)

@@ -68,7 +68,7 @@ impl<'c> Core<'c> {
 
     /// Whether no step is enabled.
     #[tactic(auto, using(crate::proofs::RangeLemmas::stuck_by))]
-    fn is_stuck(&self) -> bool
+    pub fn is_stuck(&self) -> bool
         ensures { result ≡ is_stuck self.now.world }
     {
         !(self.can_step_any()
@@ -183,9 +183,10 @@ impl<'c> Core<'c> {
         Ok(Outcome::Leftovers(CallList { items: free }))
     }
 
-    /// What a state without an enabled step is.
+    /// What a state is in which no step is enabled (docs/DEFINITIONS.md, "Outcomes"). It is not asked whether one is. An `Err` is
+    /// want of memory for the list of an outcome, and comes only where that list has an entry.
     #[tactic(auto, using(crate::proofs::RangeLemmas::listing))]
-    fn ending(&self, alloc: Global) -> Result<Outcome, AllocError>
+    pub fn ending(&self, alloc: Global) -> Result<Outcome, AllocError>
         ensures ok { IfOk result (λ o. o ≡ ending self.now.world) }
         ensures memory { OnErr result (0 < listed (Some (ending self.now.world))) }
     {

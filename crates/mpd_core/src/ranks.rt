@@ -47,6 +47,21 @@ pub(crate) fn start_ranks(
     Ok(ranks)
 }
 
+/// The same ranks, in memory of their own.
+#[tactic(auto, using(crate::proofs::RankLemmas::copying))]
+pub(crate) fn copy_ranks(ranks: &Vec<RankState>) -> Result<Vec<RankState>, AllocError>
+    ensures ranks { IfOk result (λ copied. (p : Program) → ranks_in p copied.items ≡ ranks_in p ranks.now.items) }
+    ensures numbers { IfOk result (λ copied. numbers_in copied.items ≡ numbers_in ranks.now.items) }
+    ensures size { IfOk result (λ copied. vec_len copied ≡ vec_len ranks.now) }
+    ensures writes { IfOk result (λ copied. writes_in copied.items ≡ 0) }
+{
+    let mut copied = Vec::new(*ranks.allocator());
+    for rank in 0..ranks.len() {
+        copied.push(ranks[rank].copy()?)?;
+    }
+    Ok(copied)
+}
+
 /// The call that a rank issues, if it does, joins the board. It answers the call's number, or 0 where there is no call. An `Err`
 /// is want of memory.
 #[tactic(auto, using(crate::proofs::StepLemmas::issuing))]

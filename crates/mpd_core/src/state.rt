@@ -130,8 +130,24 @@ impl<'c> Core<'c> {
         })
     }
 
+    /// The same state, in memory of its own. The copy counts its writes and looks from 0. An `Err` is want of memory.
+    #[tactic(auto, using(crate::proofs::RankLemmas::board))]
+    pub fn copy(&self) -> Result<Core<'c>, AllocError>
+        ensures program { IfOk result (λ core. core.program ≡ self.now.program) }
+        ensures world { IfOk result (λ core. core.world ≡ self.now.world) }
+        ensures writes { IfOk result (λ core. core.writes ≡ 0) }
+        ensures looks { IfOk result (λ core. core.looks ≡ 0) }
+    {
+        Ok(Core {
+            code: self.code,
+            ranks: ranks::copy_ranks(&self.ranks)?,
+            board: self.board.copy()?,
+            looks: Steps::new(),
+        })
+    }
+
     /// The code that is run.
-    pub(crate) fn code(&self) -> &'c Code
+    pub fn code(&self) -> &'c Code
         ensures { result.now.program ≡ self.now.program }
     {
         self.code
@@ -160,7 +176,7 @@ impl<'c> Core<'c> {
     }
 
     /// What a rank is doing, where there is one.
-    pub(crate) fn activity(&self, rank: usize) -> Option<Activity>
+    pub fn activity(&self, rank: usize) -> Option<Activity>
         ensures { result ≡ option_map (λ r. r.activity) (slice_get self.now.world.ranks rank) }
     {
         match ranks::rank_at(&self.ranks, rank) {
@@ -187,7 +203,7 @@ impl<'c> Core<'c> {
     }
 
     /// The number of the next statement of a rank, where it has one.
-    pub(crate) fn next_statement(&self, rank: usize) -> Option<usize>
+    pub fn next_statement(&self, rank: usize) -> Option<usize>
         requires { rank < length self.now.world.ranks }
         ensures { IfSome (slice_get self.now.world.ranks rank) (λ r. result ≡ first_number r.rest) }
     {

@@ -11,5 +11,6 @@ pub mod Matches
 pub mod Firsts
 pub mod Candidates
 pub mod Listed
+pub mod Picked
 pub mod Gathered
 pub mod Holders

@@ -117,14 +117,14 @@ not_true : (b c : Bool) → (b ≡ true → c ≡ true) → c ≡ false → b �
 not_true true c h e = absurd (let k : c ≡ true = h refl in cc)
 not_true false c h e = refl
 
-not_posted_none : (b : Board) (q j : ℕ) → is_posted b q j ≡ false → matches_with b (call_id q j) ≡ []
+pub not_posted_none : (b : Board) (q j : ℕ) → is_posted b q j ≡ false → matches_with b (call_id q j) ≡ []
 not_posted_none b q j e =
     nothing_joined (matches_from b (call_id q j)) (rank_numbers b) (λ p.
     ap (map (λ i. Match (call_id p i) (call_id q j)))
     (nothing_filtered (λ i. eligible b (call_id p i) (call_id q j)) (call_numbers b p) (λ i.
     not_true (eligible b (call_id p i) (call_id q j)) (is_posted b q j) (λ h. eligible_posted b (call_id p i) q j h) e)))
 
-joined_passed : {A : Type 0} (t : ℕ → Bool) (f : ℕ → List A) (xs : List ℕ) → ((i : ℕ) → t i ≡ false → f i ≡ []) → flat_map f (filter t xs) ≡ flat_map f xs
+pub joined_passed : {A : Type 0} (t : ℕ → Bool) (f : ℕ → List A) (xs : List ℕ) → ((i : ℕ) → t i ≡ false → f i ≡ []) → flat_map f (filter t xs) ≡ flat_map f xs
 joined_passed t f [] none = refl
 joined_passed t f (x ∷ xs) none =
     elim (bool_tells (t x)) [

@@ -6,6 +6,7 @@ pub mod Held
 pub mod Firsts
 pub mod Looks
 pub mod Matches
+pub mod Picked
 pub mod Entries
 pub mod BoardRows
 pub mod OrderRows

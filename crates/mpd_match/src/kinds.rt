@@ -2,6 +2,8 @@
 ghost use Rattle.std.specs.Prelude.{◌≡◌, ◌≤◌, ◌||◌, ℕ, Some};
 ghost use Rattle.mpd_model.specs.World.{is_any_or as any_or, fitting, is_message_kind as message_kind, message_of as message_in, is_buffered as buffered_in, awaited_by as awaited_in, is_barrier as barrier_in};
 ghost use Rattle.mpd_match.specs.Lines.{line_of as line_in, takes_from as taken_from, fitting_either};
+ghost use Rattle.mpd_model.specs.Decisions.{takes_any as taken_from_any};
+ghost use Rattle.mpd_match.specs.Picked.{named_source as source_in};
 
 use mpd_model::call::{CallKind, Message, Mode};
 use mpd_model::limits::RANKS_MAX;
@@ -35,6 +37,26 @@ pub(crate) fn takes_from(kind: Option<CallKind>, sender: usize) -> bool
 {
     match kind {
         Some(CallKind::Recv(recv)) => is_any_or(recv.from, sender),
+        _ => false,
+    }
+}
+
+/// The source that a receive names, if any.
+pub(crate) fn named_source(kind: Option<CallKind>) -> Option<usize>
+    ensures { result ≡ source_in kind }
+{
+    match kind {
+        Some(CallKind::Recv(recv)) => recv.from,
+        _ => None,
+    }
+}
+
+/// Whether it is a receive of any source.
+pub(crate) fn takes_any(kind: Option<CallKind>) -> bool
+    ensures { result ≡ taken_from_any kind }
+{
+    match kind {
+        Some(CallKind::Recv(recv)) => recv.from.is_none(),
         _ => false,
     }
 }

@@ -2,6 +2,7 @@
 #![tactic(auto)]
 
 pub mod board;
+mod chosen;
 mod complete;
 mod kinds;
 mod listing;

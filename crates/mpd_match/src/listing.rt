@@ -33,7 +33,11 @@ impl Board {
     }
 
     /// Adds the matches of a receive, by sender.
-    fn push_matches_with(&self, recv: CallId, out: &mut Vec<Step>) -> Result<(), AllocError>
+    pub(crate) fn push_matches_with(
+        &self,
+        recv: CallId,
+        out: &mut Vec<Step>,
+    ) -> Result<(), AllocError>
         ensures ok { OnOk result (out.new.items ≡ out.old.items ++ listed.matches_with self.now.board recv) }
         ensures memory { OnErr result (0 < length (listed.matches_with self.now.board recv)) }
     {

@@ -7,7 +7,7 @@ use Rattle.mpd_model.specs.declared.words.Command.{Command}
 use Rattle.mpd_model.specs.declared.words.Command.TheVariants as command
 use Rattle.mpd_model.specs.World.{World}
 use Rattle.mpd_model.specs.Next.{next, enabled}
-use Rattle.mpd_model.specs.Trail.{Trail, Standing, IsReached, applied, taken_back}
+use Rattle.mpd_model.specs.Trail.{Trail, Standing, IsReached, applied, taken_back, redone, gone_back}
 use Rattle.mpd_model.specs.Texts.{line, steps_text, show_text}
 use Rattle.mpd_model.specs.Words.{has_word, command_of}
 
@@ -37,6 +37,12 @@ refused_full = refused_text (codes "full")
 abbrev pub refused_at_start : List ℕ
 refused_at_start = refused_text (codes "at-start")
 
+abbrev pub refused_no_redo : List ℕ
+refused_no_redo = refused_text (codes "no-redo")
+
+abbrev pub refused_not_before : List ℕ
+refused_not_before = refused_text (codes "not-before")
+
 abbrev pub refused_bad_word : List ℕ
 refused_bad_word = refused_text (codes "bad-word")
 
@@ -56,10 +62,20 @@ step_answer t a (Some v) = if nat_lt t.depth max_depth then (ok_text (t.depth + 
 abbrev pub back_answer : Trail → List ℕ × Trail
 back_answer t = if t.depth == 0 then (refused_at_start, t) else (ok_text (t.depth - 1), taken_back t)
 
+-- what is undone is taken again, where there is some
+abbrev pub redo_answer : Trail → List ℕ × Trail
+redo_answer t = if t.depth == length t.steps then (refused_no_redo, t) else (ok_text (t.depth + 1), redone t)
+
+-- steps are taken back until so many are left, where there are so many
+abbrev pub goto_answer : Trail → ℕ → List ℕ × Trail
+goto_answer t depth = if nat_lt t.depth depth then (refused_not_before, t) else (ok_text depth, gone_back t depth)
+
 abbrev pub command_answer : Standing → Option Command → List ℕ × Trail
 command_answer s None = (refused_bad_word, s.trail)
 command_answer s (Some (command.Step a)) = step_answer s.trail a (next s.world a)
 command_answer s (Some command.Back) = back_answer s.trail
+command_answer s (Some command.Redo) = redo_answer s.trail
+command_answer s (Some (command.Goto depth)) = goto_answer s.trail depth
 command_answer s (Some command.Enabled) = (enabled_text s.world, s.trail)
 command_answer s (Some command.Show) = (show_text s.trail.program s.world s.trail.depth (length s.trail.steps), s.trail)
 
@@ -78,12 +94,14 @@ pub record LineAnswer (s : Standing) (z text : List ℕ) (t : Standing) : Type 0
   pub trail : t.trail ≡ (line_answer s z).1
   pub reached : IsReached t
 
--- Only a step that is taken, a list of steps that has one, and the text of the state may want memory: no step that isn't enabled
--- or is one too many, no step back, and nothing that is no command.
+-- Only a step that is taken, or taken again, a list of steps that has one, and the text of the state may want memory: no step that
+-- isn't enabled or is one too many, no step back, and nothing that is no command.
 abbrev pub MayWantMemory : Standing → Option Command → Type 0
 MayWantMemory s None = ⊥
 MayWantMemory s (Some (command.Step a)) = IsSome (next s.world a) × (s.trail.depth < max_depth)
 MayWantMemory s (Some command.Back) = ⊥
+MayWantMemory s (Some command.Redo) = s.trail.depth < length s.trail.steps
+MayWantMemory s (Some (command.Goto depth)) = ⊥
 MayWantMemory s (Some command.Enabled) = 0 < length (enabled s.world)
 MayWantMemory s (Some command.Show) = ⊤
 

@@ -14,7 +14,10 @@ pub mod BarrierLaws
 pub mod Order
 pub mod Why
 pub mod Outcomes
+pub mod Decisions
+pub mod Breakpoints
 pub mod Trail
+pub mod Running
 pub mod Faults
 pub mod Tokens
 pub mod Input

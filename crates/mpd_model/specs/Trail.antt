@@ -1,6 +1,7 @@
 -- A trail: steps, of which the first so many are not undone, and the world that these lead to.
-use Rattle.std.specs.Prelude.{◌≡◌, ℕ, ◌+◌, ◌-◌, ◌≤◌, length, Bool, true, false, ◌&&◌, ◌==◌, if◌then◌else◌, List, [], ◌∷◌, ◌++◌, take, slice_get, Option, Some, None, refl}
+use Rattle.std.specs.Prelude.{◌≡◌, ℕ, ◌+◌, ◌-◌, ◌≤◌, length, Bool, true, false, ◌&&◌, ◌==◌, if◌then◌else◌, List, [], ◌∷◌, ◌++◌, take, slice_get, Option, Some, None, IsSome, refl}
 use Rattle.std.specs.Coded.{Coded, code_by, coded×, coded_ℕ, coded_list}
+use Rattle.mpd_model.specs.declared.limits.TheConstants.{STEPS_MAX}
 use Rattle.mpd_model.specs.declared.step.Step.{Step}
 use Rattle.mpd_model.specs.declared.step.Step.TheVariants.{Local, Match, Wake, Release}
 use Rattle.mpd_model.specs.declared.call.Mode.{Mode}
@@ -51,15 +52,37 @@ applied t a = record t { steps = noted t.steps t.depth a; depth = t.depth + 1 }
 abbrev pub taken_back : Trail → Trail
 taken_back t = record t { depth = t.depth - 1 }
 
+-- The step at the depth is taken again.
+abbrev pub redone : Trail → Trail
+redone t = record t { depth = t.depth + 1 }
+
+-- Steps are taken back until so many are left.
+abbrev pub gone_back : Trail → ℕ → Trail
+gone_back t depth = record t { depth = depth }
+
+-- without the steps that are undone
+abbrev pub forgotten : Trail → Trail
+forgotten t = record t { steps = kept t }
+
+-- with other steps
+abbrev pub with_steps : Trail → List Step → Trail
+with_steps t steps = record t { steps = steps }
+
 -- where a debugger stands: its trail, and the world of that trail
 pub record Standing : Type 0 where
   pub trail : Trail
   pub world : World
 
--- The world is where the steps not undone lead, and so many steps there are.
+-- The steps lead somewhere from the first world, so each is enabled where it stands, and they are not too many.
+pub record IsRun (s : Program) (mode : Mode) (steps : List Step) : Type 0 where
+  pub leads : IsSome (fold (start s mode) steps)
+  pub few : length steps ≤ STEPS_MAX
+
+-- The world is where the steps not undone lead, and so many steps there are. The undone ones lead on from there.
 pub record IsReached (s : Standing) : Type 0 where
   pub world : world_of s.trail ≡ Some s.world
   pub within : s.trail.depth ≤ length s.trail.steps
+  pub run : IsRun s.trail.program s.trail.mode s.trail.steps
 
 abbrev pub first_standing : Program → Mode → Standing
 first_standing s mode = record { trail = opening s mode; world = start s mode }

@@ -116,13 +116,15 @@ step_of z = step_in (words z)
 abbrev pub command_named : List ℕ → List (List ℕ) → Option Command
 command_named name rest =
     if bytes_eq name (codes "back") then alone command.Back rest
+    else (if bytes_eq name (codes "redo") then alone command.Redo rest
+    else (if bytes_eq name (codes "goto") then option_map command.Goto (only_number rest)
     else (if bytes_eq name (codes "enabled") then alone command.Enabled rest
-    else (if bytes_eq name (codes "show") then alone command.Show rest else option_map command.Step (step_named name rest)))
+    else (if bytes_eq name (codes "show") then alone command.Show rest else option_map command.Step (step_named name rest)))))
 
 abbrev pub command_in : List (List ℕ) → Option Command
 command_in [] = None
 command_in (name ∷ rest) = command_named name rest
 
--- a step, `back`, `enabled` or `show`
+-- a step, `back`, `redo`, `goto N`, `enabled` or `show`
 abbrev pub command_of : List ℕ → Option Command
 command_of z = command_in (words z)

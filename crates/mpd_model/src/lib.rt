@@ -1,7 +1,9 @@
 //! The types of a script and of its state, and in `specs/` every definition that contracts cite.
 #![tactic(auto)]
 
+pub mod breakpoint;
 pub mod call;
+pub mod decision;
 pub mod expr;
 pub mod limits;
 pub mod lines;

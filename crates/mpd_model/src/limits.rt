@@ -31,6 +31,9 @@ pub const TAGS: usize = 32_768;
 /// Steps of a trail, undone ones included.
 pub const STEPS_MAX: usize = 1_000_000;
 
+/// Breakpoints of a run.
+pub const BREAKS_MAX: usize = 64;
+
 /// Bytes of a line of trace words, without its line feed and a carriage return before that.
 pub const LINE_MAX: usize = 4_096;
 

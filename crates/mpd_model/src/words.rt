@@ -12,6 +12,10 @@ pub enum Command {
     Step(Step),
     /// Undo the last step.
     Back,
+    /// Take the step again that was undone last.
+    Redo,
+    /// Undo steps until so many are left.
+    Goto(usize),
     /// List the enabled steps.
     Enabled,
     /// Print the state.
@@ -26,7 +30,7 @@ pub fn step_of(text: &str) -> Option<Step>
     step_named(name, rest)
 }
 
-/// Reads a line without its end: a step, `back`, `enabled` or `show`. `None` where it is none of these.
+/// Reads a line without its end: a step, `back`, `redo`, `goto N`, `enabled` or `show`. `None` where it is none of these.
 pub fn command_of(line: &[u8]) -> Option<Command>
     ensures { result ≡ command_of line.now }
 {
@@ -185,6 +189,12 @@ fn command_named(name: &[u8], rest: &[u8]) -> Option<Command>
 {
     if name == b"back".as_slice() {
         return alone(Command::Back, rest);
+    }
+    if name == b"redo".as_slice() {
+        return alone(Command::Redo, rest);
+    }
+    if name == b"goto".as_slice() {
+        return Some(Command::Goto(only_number(rest)?));
     }
     if name == b"enabled".as_slice() {
         return alone(Command::Enabled, rest);

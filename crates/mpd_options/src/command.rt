@@ -30,6 +30,7 @@ const TRACE_ABOUT: &str = "Trace the script of a file";
 const TRACE_EXAMPLE: &str = "Trace words stand on standard input, one a line:
   local P, match S R, wake P, release   take a step, such as match 0.0 1.0
   back                                  take the last step back
+  redo, goto N                          take it again, take steps back until N are left
   enabled, show                         list the steps that are enabled, show the state
 
 Example:

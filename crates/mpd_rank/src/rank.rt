@@ -534,6 +534,7 @@ impl RankState {
     pub fn copy(&self) -> Result<RankState, AllocError>
         ensures world { IfOk result (λ r. (p : Program) → rank_of p r ≡ rank_of p self.now) }
         ensures rank { IfOk result (λ r. r.rank ≡ self.now.rank) }
+        ensures writes { IfOk result (λ r. r.writes ≡ 0) }
     {
         Ok(RankState {
             rank: self.rank,

@@ -17,3 +17,4 @@ pub mod WildcardReaderRows
 pub mod BarrierRows
 pub mod SendRows
 pub mod BarrierReaderRows
+pub mod DecisionRows

@@ -637,7 +637,17 @@ pub rv_a1 : trace s1 (codes "local 0\nlocal 0\r\nlocal 1\n\nlocal 1\n \nmatch 0.
 unfolding digits
 rv_a1 = refl
 
-pub rv_a2 : trace s1 (codes "local 0\nlocal 0\nback\nback\nlocal 0\nmatch 0.0 1.0\nrelease\nlocal 9\nredo\nback\nlocal 1\nback\nback\r") ≡ codes "ok 1\nok 2\nok 1\nok 0\nok 1\nrefused not-enabled\nrefused not-enabled\nrefused not-enabled\nrefused bad-word\nok 0\nok 1\nok 0\nrefused bad-word\n"
+-- a step that drops what was undone leaves nothing to take again
+pub rv_redo1 : trace s1 (codes "local 0\nlocal 0\nback\nback\nlocal 1\nredo\n") ≡ codes "ok 1\nok 2\nok 1\nok 0\nok 1\nrefused no-redo\n"
+unfolding digits
+rv_redo1 = refl
+
+-- the step that stood next keeps it
+pub rv_redo2 : trace s1 (codes "local 0\nlocal 0\nback\nback\nlocal 0\nredo\ngoto 3\ngoto 0\ngoto 0\nredo\ngoto 2\nredo\nredo\n") ≡ codes "ok 1\nok 2\nok 1\nok 0\nok 1\nok 2\nrefused not-before\nok 0\nok 0\nok 1\nrefused not-before\nok 2\nrefused no-redo\n"
+unfolding digits
+rv_redo2 = refl
+
+pub rv_a2 : trace s1 (codes "local 0\nlocal 0\nback\nback\nlocal 0\nmatch 0.0 1.0\nrelease\nlocal 9\nredo\nback\nlocal 1\nback\nback\r") ≡ codes "ok 1\nok 2\nok 1\nok 0\nok 1\nrefused not-enabled\nrefused not-enabled\nrefused not-enabled\nok 2\nok 1\nok 2\nok 1\nrefused bad-word\n"
 unfolding digits
 rv_a2 = refl
 
@@ -656,7 +666,7 @@ rv_a6 = refl
 pub rv_a7 : told (opening s1 Rendezvous) (lines_of (codes "back" ++ replicate 4092 32 ++ 13 ∷ 13 ∷ 10 ∷ [])) ≡ codes "refused bad-word\n"
 rv_a7 = refl
 
-pub rv_a8 : map {B = List ℕ} (λ z. (line_answer (first_standing s1 Rendezvous) z).0) (codes "local 1234567890" ∷ codes "local 999999999" ∷ codes "match 0.0 0.0" ∷ codes "match 00.000 1.0" ∷ codes "wake 00" ∷ codes "local 0 " ∷ codes "local\t0" ∷ codes "goto 1" ∷ codes "wakeany 0 0" ∷ codes "local 000000000" ∷ codes "release\t" ∷ []) ≡ codes "refused bad-word\n" ∷ codes "refused not-enabled\n" ∷ codes "refused not-enabled\n" ∷ codes "refused not-enabled\n" ∷ codes "refused not-enabled\n" ∷ codes "ok 1\n" ∷ codes "ok 1\n" ∷ codes "refused bad-word\n" ∷ codes "refused bad-word\n" ∷ codes "ok 1\n" ∷ codes "refused not-enabled\n" ∷ []
+pub rv_a8 : map {B = List ℕ} (λ z. (line_answer (first_standing s1 Rendezvous) z).0) (codes "local 1234567890" ∷ codes "local 999999999" ∷ codes "match 0.0 0.0" ∷ codes "match 00.000 1.0" ∷ codes "wake 00" ∷ codes "local 0 " ∷ codes "local\t0" ∷ codes "goto 1" ∷ codes "wakeany 0 0" ∷ codes "local 000000000" ∷ codes "release\t" ∷ []) ≡ codes "refused bad-word\n" ∷ codes "refused not-enabled\n" ∷ codes "refused not-enabled\n" ∷ codes "refused not-enabled\n" ∷ codes "refused not-enabled\n" ∷ codes "ok 1\n" ∷ codes "ok 1\n" ∷ codes "refused not-before\n" ∷ codes "refused bad-word\n" ∷ codes "ok 1\n" ∷ codes "refused not-enabled\n" ∷ []
 unfolding digits
 rv_a8 = refl
 

@@ -260,6 +260,13 @@ pub row_losing : trace losing (codes "local 0\nlocal 0\nlocal 0\nlocal 0\nlocal 
 unfolding digits
 row_losing = refl
 
+-- an isend that is taken back and taken again has its handle again
+pub row_losing_again : trace losing (codes "local 0\nlocal 0\nlocal 0\nback\nredo\nlocal 0\nlocal 1\nlocal 1\nmatch 0.0 1.0\nwake 1\nlocal 1\nmatch 0.1 1.1\nwake 0\nwake 1\ngoto 2\nredo\nredo\nredo\nredo\nredo\nredo\nredo\nredo\nredo\nredo\nshow\n")
+    ≡ codes "ok 1\nok 2\nok 3\nok 2\nok 3\nok 4\nok 5\nok 6\nok 7\nok 8\nok 9\nok 10\nok 11\nok 12\nok 2\nok 3\nok 4\nok 5\nok 6\nok 7\nok 8\nok 9\nok 10\nok 11\nok 12\n"
+    ++ codes "depth 12 of 12\nrank 0 ended\nvars 0 0\nhandles -\nout\ncall 0.0 isend to 1 tag 0 value 1 with 1.0\ncall 0.1 isend to 1 tag 0 value 2 with 1.1\ncall 0.2 wait 1\nrank 1 ended\nvars 1 2\nhandles -\nout\ncall 1.0 recv from 0 tag 0 with 0.0 value 1\ncall 1.1 recv from 0 tag 0 with 0.1 value 2\nset pair 0.0 1.0\nset woke 1.0\nset pair 0.1 1.1\nset woke 0.2\nset woke 1.1\noutcome done\nend\n"
+unfolding digits
+row_losing_again = refl
+
 -- of the steps not undone the handle has the first call, of one more the second: what was overwritten stands there again
 abbrev handles_of : Option World → Option (List (List (Option ℕ)))
 handles_of w = option_map (λ v. map {B = List (Option ℕ)} (λ r. r.handles) v.ranks) w

@@ -21,7 +21,7 @@ use Rattle.mpd_model.specs.Program.{Program}
 use Rattle.mpd_model.specs.World.{RankWorld, World, call_id, start, pending, posted, eligible}
 use Rattle.mpd_model.specs.Next.{next, fold, enabled}
 use Rattle.mpd_model.specs.Outcomes.{outcome}
-use Rattle.mpd_model.specs.Trail.{Trail, opening, applied, taken_back, world_of}
+use Rattle.mpd_model.specs.Trail.{Trail, opening, applied, taken_back, redone, gone_back, forgotten, with_steps, world_of}
 use Rattle.mpd_rows.specs.Statements.{print, send, recv}
 
 abbrev x : Place
@@ -229,3 +229,30 @@ row_anew = refl
 
 pub row_back : world_of (taken_back (applied t0 (Local 0))) ≡ Some (start one_message Rendezvous)
 row_back = refl
+
+-- taken again, it is the trail before the undo; from the start one step after the other
+pub row_redone : redone t1 ≡ applied (applied t0 (Local 0)) (Local 1)
+row_redone = refl
+
+pub row_redone_from_the_start : redone (redone (gone_back t1 0)) ≡ applied (applied t0 (Local 0)) (Local 1)
+row_redone_from_the_start = refl
+
+-- going back to where one stands is no change, and going back from the end is an undo of each
+pub row_gone_nowhere : gone_back t1 1 ≡ t1
+row_gone_nowhere = refl
+
+pub row_gone_back : gone_back (redone t1) 0 ≡ taken_back t1
+row_gone_back = refl
+
+-- what is undone can be forgotten, and put back
+pub row_forgotten : (forgotten t1).steps ≡ Local 0 ∷ []
+row_forgotten = refl
+
+pub row_forgotten_at_the_end : forgotten (redone t1) ≡ redone t1
+row_forgotten_at_the_end = refl
+
+pub row_put_back : with_steps (forgotten t1) (Local 0 ∷ Local 1 ∷ []) ≡ t1
+row_put_back = refl
+
+pub row_put_others : world_of (redone (with_steps t1 (Local 0 ∷ Local 0 ∷ []))) ≡ fold (start one_message Rendezvous) (Local 0 ∷ Local 0 ∷ [])
+row_put_others = refl

@@ -112,10 +112,16 @@ row_show = refl
 pub row_list : command_of (codes " enabled\t") ≡ Some command.Enabled
 row_list = refl
 
+pub row_redo : command_of (codes "redo\t") ≡ Some command.Redo
+row_redo = refl
+
+pub row_goto : command_of (codes " goto  012") ≡ Some (command.Goto 12)
+row_goto = refl
+
 pub row_step : command_of (codes "wake 1") ≡ Some (command.Step (Wake 1))
 row_step = refl
 
-pub row_bad_commands : map {B = Option Command} command_of (codes "back 1" ∷ codes "show 0" ∷ codes "redo" ∷ codes "enabled 0" ∷ codes "enable" ∷ codes "---" ∷ []) ≡ replicate 6 None
+pub row_bad_commands : map {B = Option Command} command_of (codes "back 1" ∷ codes "show 0" ∷ codes "redo 1" ∷ codes "goto" ∷ codes "goto 1 2" ∷ codes "goto -1" ∷ codes "goto 1234567890" ∷ codes "goto 0.0" ∷ codes "enabled 0" ∷ codes "enable" ∷ codes "---" ∷ []) ≡ replicate 11 None
 row_bad_commands = refl
 
 pub row_blank : has_word (codes " \t ") ≡ false
@@ -139,7 +145,7 @@ row_not_enabled = refl
 pub row_at_start : line_answer begun (codes "back") ≡ (codes "refused at-start\n", begun.trail)
 row_at_start = refl
 
-pub row_bad_word : line_answer begun (codes "goto 0") ≡ (codes "refused bad-word\n", begun.trail)
+pub row_bad_word : line_answer begun (codes "run 5") ≡ (codes "refused bad-word\n", begun.trail)
 row_bad_word = refl
 
 pub row_skipped : line_answer begun (codes "  ") ≡ ([], begun.trail)

@@ -6,13 +6,13 @@ use Rattle.mpd_model.specs.declared.step.Step.{Step}
 use Rattle.mpd_model.specs.declared.words.Command.TheVariants as command
 use Rattle.mpd_model.specs.World.{World}
 use Rattle.mpd_model.specs.Next.{next, enabled}
-use Rattle.mpd_model.specs.Trail.{Trail, Standing, IsReached, applied, taken_back}
+use Rattle.mpd_model.specs.Trail.{Trail, Standing, IsReached, applied, taken_back, redone, gone_back}
 use Rattle.mpd_model.specs.Words.{has_word, command_of}
 use Rattle.mpd_model.specs.Texts.{line, steps_text, show_text}
-use Rattle.mpd_model.specs.Answers.{AnswerOrMemory, is_too_long, max_depth, ok_text, refused_bad_word, refused_memory, refused_full, refused_at_start, refused_not_enabled, step_answer, back_answer}
+use Rattle.mpd_model.specs.Answers.{AnswerOrMemory, is_too_long, max_depth, ok_text, refused_bad_word, refused_memory, refused_full, refused_at_start, refused_no_redo, refused_not_before, refused_not_enabled, step_answer, back_answer, redo_answer, goto_answer}
 use Rattle.mpd_trail.specs.Run.{Carried}
-use Rattle.mpd_trail.specs.declared.run.Command.TheVariants.{Apply, Undo}
-use Rattle.mpd_trail.specs.declared.run.Reply.TheVariants.{Done, NotEnabled, Full, AtStart, Memory}
+use Rattle.mpd_trail.specs.declared.run.Command.TheVariants.{Apply, Undo, Redo, UndoTo}
+use Rattle.mpd_trail.specs.declared.run.Reply.TheVariants.{Done, NotEnabled, Full, AtStart, NoRedo, NotBefore, Memory}
 use Rattle.mpd_trace.specs.Replies.{CommandAnswer, CommandMemory, Replies}
 
 -- ---- steps
@@ -93,6 +93,64 @@ back_at_start s t before after c reached said =
       inl (record { told = ap (λ (x : Said). x.0) (sym whole); trail = c.1.trail ∙ ap (λ (x : Said). x.1) (sym whole); reached = reached }),
     )
 
+-- ---- steps taken again
+
+some_undone : (n m : ℕ) → n < m → (n == m) ≡ false
+some_undone n m lt = grind (arith, nat_tests)
+
+none_undone : (n m : ℕ) → n ≡ m → (n == m) ≡ true
+none_undone n m e = grind (arith, nat_tests)
+
+redo_by : (t : Trail) (b : Bool) → (t.depth == length t.steps) ≡ b → redo_answer t ≡ (let p : Said = if b then (refused_no_redo, t) else (ok_text (t.depth + 1), redone t) in p)
+redo_by t b e = ap (λ (v : Bool). let p : Said = if v then (refused_no_redo, t) else (ok_text (t.depth + 1), redone t) in p) e
+
+pub redo_done : (s t : Standing) (before after : List ℕ) (depth : ℕ) → Carried s Redo Done t → IsReached t → depth ≡ t.trail.depth → after ≡ before ++ ok_text depth → Replies before after s (Some command.Redo) t
+redo_done s t before after depth c reached is said =
+    let whole = redo_by s.trail false (some_undone s.trail.depth (length s.trail.steps) c.0) in
+    let deep : depth ≡ s.trail.depth + 1 = is ∙ ap (λ (x : Trail). x.depth) c.1 in (
+      ok_text depth,
+      said,
+      inl (record { told = ap ok_text deep ∙ ap (λ (x : Said). x.0) (sym whole); trail = c.1 ∙ ap (λ (x : Said). x.1) (sym whole); reached = reached }),
+    )
+
+pub redo_none : (s t : Standing) (before after : List ℕ) → Carried s Redo NoRedo t → IsReached t → after ≡ before ++ refused_no_redo → Replies before after s (Some command.Redo) t
+redo_none s t before after c reached said =
+    let whole = redo_by s.trail true (none_undone s.trail.depth (length s.trail.steps) c.0) in (
+      refused_no_redo,
+      said,
+      inl (record { told = ap (λ (x : Said). x.0) (sym whole); trail = c.1.trail ∙ ap (λ (x : Said). x.1) (sym whole); reached = reached }),
+    )
+
+pub redo_memory : (s t : Standing) (before after : List ℕ) → Carried s Redo Memory t → after ≡ before ++ refused_memory → Replies before after s (Some command.Redo) t
+redo_memory s t before after c said = (refused_memory, said, inr (record { wants = c.0; told = refl; trail = c.1.trail; world = c.1.world }))
+
+-- ---- a depth to go back to
+
+is_before : (n m : ℕ) → m ≤ n → nat_lt n m ≡ false
+is_before n m le = grind (arith, nat_tests)
+
+is_behind : (n m : ℕ) → n < m → nat_lt n m ≡ true
+is_behind n m lt = grind (arith, nat_tests)
+
+goto_by : (t : Trail) (depth : ℕ) (b : Bool) → nat_lt t.depth depth ≡ b → goto_answer t depth ≡ (let p : Said = if b then (refused_not_before, t) else (ok_text depth, gone_back t depth) in p)
+goto_by t depth b e = ap (λ (v : Bool). let p : Said = if v then (refused_not_before, t) else (ok_text depth, gone_back t depth) in p) e
+
+pub goto_done : (s t : Standing) (depth : ℕ) (before after : List ℕ) → Carried s (UndoTo depth) Done t → IsReached t → after ≡ before ++ ok_text depth → Replies before after s (Some (command.Goto depth)) t
+goto_done s t depth before after c reached said =
+    let whole = goto_by s.trail depth false (is_before s.trail.depth depth c.0) in (
+      ok_text depth,
+      said,
+      inl (record { told = ap (λ (x : Said). x.0) (sym whole); trail = c.1 ∙ ap (λ (x : Said). x.1) (sym whole); reached = reached }),
+    )
+
+pub goto_none : (s t : Standing) (depth : ℕ) (before after : List ℕ) → Carried s (UndoTo depth) NotBefore t → IsReached t → after ≡ before ++ refused_not_before → Replies before after s (Some (command.Goto depth)) t
+goto_none s t depth before after c reached said =
+    let whole = goto_by s.trail depth true (is_behind s.trail.depth depth c.0) in (
+      refused_not_before,
+      said,
+      inl (record { told = ap (λ (x : Said). x.0) (sym whole); trail = c.1.trail ∙ ap (λ (x : Said). x.1) (sym whole); reached = reached }),
+    )
+
 -- ---- texts, and what is no command
 
 pub show_done : (s : Standing) (before after text : List ℕ) → IsReached s → text ≡ show_text s.trail.program s.world s.trail.depth (length s.trail.steps) → after ≡ before ++ text
@@ -120,7 +178,7 @@ enabled_memory s before after some said = (refused_memory, said, inr (record { w
 pub no_command : (s : Standing) (before after : List ℕ) → IsReached s → after ≡ before ++ refused_bad_word → Replies before after s None s
 no_command s before after reached said = (refused_bad_word, said, inl (record { told = refl; trail = refl; reached = reached }))
 
-pub ruleset replying = (step_done, step_not_enabled, step_full, step_memory, back_done, back_at_start, show_done, show_memory, enabled_done, enabled_none, enabled_memory, no_command)
+pub ruleset replying = (step_done, step_not_enabled, step_full, step_memory, back_done, back_at_start, redo_done, redo_none, redo_memory, goto_done, goto_none, show_done, show_memory, enabled_done, enabled_none, enabled_memory, no_command)
 
 -- ---- lines
 

@@ -16,7 +16,7 @@ use mpd_model::call::Mode;
 use mpd_model::limits::LINE_MAX;
 use mpd_model::step::Step;
 use mpd_model::words::{Command as Word, command_of, has_word};
-use mpd_trail::debugger::{ApplyFault, AtStart, Debugger};
+use mpd_trail::debugger::{ApplyFault, AtStart, Debugger, NotBefore, RedoFault};
 use mpd_trail::run::{Command, Reply, answer};
 use std::alloc::{AllocError, Global};
 use std::marker::Model;
@@ -65,7 +65,7 @@ fn answer_step(debugger: &mut Debugger<'_>, step: Step, out: &mut Vec<u8>)
         Reply::NotEnabled => refuse(out, ApplyFault::NotEnabled.name()),
         Reply::Full => refuse(out, ApplyFault::Full.name()),
         Reply::Memory => refuse(out, ApplyFault::Memory.name()),
-        Reply::AtStart => unreachable!(),
+        _ => unreachable!(),
     }
 }
 
@@ -79,6 +79,35 @@ fn answer_back(debugger: &mut Debugger<'_>, out: &mut Vec<u8>)
     match answer(debugger, Command::Undo) {
         Reply::Done => say_ok(out, debugger.depth()),
         Reply::AtStart => refuse(out, AtStart.name()),
+        _ => unreachable!(),
+    }
+}
+
+/// Takes the step again that was undone last, and says so. Where memory is refused, nothing has changed.
+#[tactic(auto, using(crate::proofs::DeskLemmas::replying))]
+fn answer_redo(debugger: &mut Debugger<'_>, out: &mut Vec<u8>)
+    requires { vec_len out.old + ROOM ≤ vec_capacity out.old }
+    ensures replies { Replies out.old.items out.new.items (standing_of debugger.old) (Some Word.Redo) (standing_of debugger.new) }
+    ensures capacity { vec_capacity out.old ≤ vec_capacity out.new }
+{
+    match answer(debugger, Command::Redo) {
+        Reply::Done => say_ok(out, debugger.depth()),
+        Reply::NoRedo => refuse(out, RedoFault::NoRedo.name()),
+        Reply::Memory => refuse(out, RedoFault::Memory.name()),
+        _ => unreachable!(),
+    }
+}
+
+/// Takes steps back until so many are left, and says so. It takes no memory.
+#[tactic(auto, using(crate::proofs::DeskLemmas::replying))]
+fn answer_goto(debugger: &mut Debugger<'_>, left: usize, out: &mut Vec<u8>)
+    requires { vec_len out.old + ROOM ≤ vec_capacity out.old }
+    ensures replies { Replies out.old.items out.new.items (standing_of debugger.old) (Some (Word.Goto left)) (standing_of debugger.new) }
+    ensures capacity { vec_capacity out.old ≤ vec_capacity out.new }
+{
+    match answer(debugger, Command::UndoTo(left)) {
+        Reply::Done => say_ok(out, left),
+        Reply::NotBefore => refuse(out, NotBefore.name()),
         _ => unreachable!(),
     }
 }
@@ -148,6 +177,8 @@ fn answer_command(
         None => answer_other(debugger, out),
         Some(Word::Step(step)) => answer_step(debugger, step, out),
         Some(Word::Back) => answer_back(debugger, out),
+        Some(Word::Redo) => answer_redo(debugger, out),
+        Some(Word::Goto(depth)) => answer_goto(debugger, depth, out),
         Some(Word::Enabled) => answer_enabled(alloc, debugger, out),
         Some(Word::Show) => answer_show(alloc, debugger, out),
     }

@@ -1,7 +1,7 @@
 -- The records lead from the first world to the last.
-use Rattle.std.proofs.Common.{◌≡◌, ℕ, ◌<◌, ◌≤◌, ◌+◌, Bool, true, false, List, [], ◌∷◌, ◌++◌, length, take, drop, reverse, get_or, slice_get, Option, Some, None, IfSome, refl, sym, ap, subst, ◌∙◌, arith, cond}
+use Rattle.std.proofs.Common.{◌≡◌, ℕ, ◌<◌, ◌≤◌, ◌+◌, Bool, true, false, List, [], ◌∷◌, ◌++◌, length, take, drop, reverse, get_or, slice_get, Option, Some, None, IfSome, IsSome, refl, sym, ap, subst, ◌∙◌, arith, cond}
 use Rattle.std.specs.Option.{option_and_then, option_map}
-use Rattle.std.proofs.lemmas.List.{reverse-append, reverse-reverse, length-append, take_more, take_all, length-take}
+use Rattle.std.proofs.lemmas.List.{reverse-append, reverse-reverse, length-append, take_more, take_all, take-take, take-append-drop, length-take}
 use Rattle.std.proofs.lemmas.Option.{get_or_from_slice_get, slice_get_within}
 use Rattle.mpd_model.specs.declared.limits.TheConstants.{STEPS_MAX}
 use Rattle.mpd_model.specs.declared.step.Step.{Step}
@@ -9,13 +9,13 @@ use Rattle.mpd_model.specs.declared.step.Step.TheVariants.{Local, Match, Wake, R
 use Rattle.mpd_model.specs.Program.{Program}
 use Rattle.mpd_model.specs.World.{World, start}
 use Rattle.mpd_model.specs.Next.{next, fold, wake_writes, wake_clears}
-use Rattle.mpd_model.specs.Trail.{Standing, IsReached, is_step, noted}
+use Rattle.mpd_model.specs.Trail.{Trail, Standing, IsReached, kept, is_step, noted, applied, redone, forgotten}
 use Rattle.mpd_rank.specs.declared.change.RankRecord.{RankRecord}
 use Rattle.mpd_core.specs.declared.record.Record.{Record}
 use Rattle.mpd_core.specs.Records.{record_of, step_record, local_record_at, wake_record_at}
 use Rattle.mpd_core.specs.Undone.{undone, rank_part, CanUndo}
 use Rattle.mpd_trail.specs.Kept.{LeadsTo, Keeps}
-use Rattle.mpd_trail.proofs.StepLemmas.{is_step-true}
+use Rattle.mpd_trail.proofs.StepLemmas.{is_step-true, noted_there}
 
 pub fold-append : (w : World) (xs ys : List Step) → fold w (xs ++ ys) ≡ option_and_then (λ v. fold v ys) (fold w xs)
 fold-append w [] ys = refl
@@ -69,7 +69,71 @@ keeps_world s first records steps last k =
 
 pub keeps_reached : (s : Standing) (records : List RankRecord) → length records ≡ s.trail.depth → Keeps s.trail.program (start s.trail.program s.trail.mode) records s.trail.steps s.world → IsReached s
 keeps_reached s records e k =
-    record { world = ap (λ n. fold (start s.trail.program s.trail.mode) (take n s.trail.steps)) (sym e) ∙ keeps_world s.trail.program (start s.trail.program s.trail.mode) records s.trail.steps s.world k; within = omega (arith, k.within) }
+    record {
+      world = ap (λ n. fold (start s.trail.program s.trail.mode) (take n s.trail.steps)) (sym e) ∙ keeps_world s.trail.program (start s.trail.program s.trail.mode) records s.trail.steps s.world k;
+      within = omega (arith, k.within);
+      run = record { leads = k.whole; few = k.few };
+    }
+
+-- ---- all steps kept lead somewhere
+
+single : (w : World) (a : Step) → fold w (a ∷ []) ≡ next w a
+single w a = elim (next w a) as (λ o. option_and_then (λ v. fold v []) o ≡ o) [ None ↦ refl | Some v ↦ refl ]
+
+-- one step more leads where the next world is
+pub fold_on : (first last : World) (steps : List Step) (a : Step) → fold first steps ≡ Some last → fold first (steps ++ a ∷ []) ≡ next last a
+fold_on first last steps a e = fold-append first steps (a ∷ []) ∙ ap (option_and_then (λ v. fold v (a ∷ []))) e ∙ single last a
+
+some_before : {A B : Type 0} (f : A → Option B) (o : Option A) → IsSome (option_and_then f o) → IsSome o
+some_before f None h = h
+some_before f (Some x) h = refl
+
+whole_by : (b : Bool) (first last : World) (steps : List Step) (n : ℕ) (a : Step) → IsSome (fold first steps) → fold first (take n steps) ≡ Some last → IsSome (next last a) → IsSome (fold first (cond b steps (take n steps ++ a ∷ [])))
+whole_by true first last steps n a whole there some = whole
+whole_by false first last steps n a whole there some = rw (fold_on first last (take n steps) a there) some
+
+-- The first step that is undone is enabled.
+pub keeps_next : (s : Program) (first : World) (records : List RankRecord) (steps : List Step) (last : World) (a : Step) → Keeps s first records steps last → length records < length steps → a ≡ get_or steps (length records) a → IsSome (next last a)
+keeps_next s first records steps last a k more read =
+    let n : ℕ = length records in
+    let front : take (n + 1) steps ≡ take n steps ++ a ∷ [] = take_more steps n a more ∙ ap (λ b. take n steps ++ b ∷ []) (sym read) in
+    let split : fold first steps ≡ option_and_then (λ v. fold v (drop (n + 1) steps)) (fold first (take (n + 1) steps)) =
+    ap (fold first) (sym (take-append-drop (n + 1) steps)) ∙ fold-append first (take (n + 1) steps) (drop (n + 1) steps) in
+    let there : fold first (take (n + 1) steps) ≡ next last a = ap (fold first) front ∙ fold_on first last (take n steps) a (keeps_world s first records steps last k) in
+    let some : IsSome (fold first (take (n + 1) steps)) = some_before (λ (v : World). fold v (drop (n + 1) steps)) (fold first (take (n + 1) steps)) (rw split at k.whole) in
+    rw there at some
+
+-- What stands at the depth is taken again.
+pub applied_next : (t n : Trail) (a : Step) → slice_get t.steps t.depth ≡ Some a → n ≡ applied t a → n ≡ redone t
+applied_next t n a there e = e ∙ ap (λ (steps : List Step). let u : Trail = record t { steps = steps; depth = t.depth + 1 } in u) (noted_there t.steps t.depth a there)
+
+same_some : (o : Option Step) (a b : Step) → o ≡ Some a → o ≡ Some b → a ≡ b
+same_some None a b e f = cc
+same_some (Some c) a b e f = cc
+
+-- what holds of the step that stands there holds of whatever stands there
+pub of_next : (P : Step → Type 0) (o : Option Step) (a : Step) → o ≡ Some a → P a → (b : Step) → o ≡ Some b → P b
+of_next P o a e holds b f = subst P (same_some o a b e f) holds
+
+-- ---- other steps behind the depth
+
+pub keeps_other : (s : Program) (first : World) (records : List RankRecord) (steps others : List Step) (last : World) → Keeps s first records steps last → take (length records) others ≡ take (length records) steps
+    → IsSome (fold first others) → length others ≤ STEPS_MAX → Keeps s first records others last
+keeps_other s first records steps others last k begins whole few =
+    record {
+      within = omega (arith, ap length begins, length-take (length records) others, length-take (length records) steps, k.within);
+      few = few;
+      leads = rw begins k.leads;
+      whole = whole;
+    }
+
+pub keeps_forgotten : (s : Program) (first : World) (records : List RankRecord) (steps : List Step) (last : World) → Keeps s first records steps last → Keeps s first records (take (length records) steps) last
+keeps_forgotten s first records steps last k =
+    keeps_other s first records steps (take (length records) steps) last k (take-take (length records) (length records) steps (omega arith)) (rw (keeps_world s first records steps last k) refl)
+    (omega (arith, length-take (length records) steps, k.few))
+
+pub kept_forgotten : (t : Trail) → kept (forgotten t) ≡ kept t
+kept_forgotten t = take-take t.depth t.depth t.steps (omega arith)
 
 -- one step more
 pub keeps_push : (s : Program) (first : World) (records : List RankRecord) (steps : List Step) (last now : World) (done : Record) (a : Step) → Keeps s first records steps last → length records < STEPS_MAX → next last a ≡ Some now
@@ -88,6 +152,7 @@ keeps_push s first records steps last now done a k room e back can recorded =
       within = omega (arith, long, ap length front, length-take (n + 1) (noted steps n a), length-append (take n steps) (a ∷ []), length-take n steps, k.within);
       few = few_by (is_step (slice_get steps n) a) steps n STEPS_MAX a room k.few;
       leads = rw (long, front, reverse-append records (u ∷ []), reverse-append (take n steps) (a ∷ [])) there;
+      whole = whole_by (is_step (slice_get steps n) a) first last steps n a k.whole (keeps_world s first records steps last k) (rw e refl);
     }
 
 -- The newest step: it can be taken back, and without it the others are kept.
@@ -106,7 +171,7 @@ keeps_can s first records steps last u a read k = (leads_last s first records st
 pub keeps_pop : (s : Program) (first : World) (records : List RankRecord) (steps : List Step) (last : World) (u : RankRecord) (a : Step) → a ≡ get_or steps (length records) a → Keeps s first (records ++ u ∷ []) steps last
     → Keeps s first records steps (undone s last (step_record a u))
 keeps_pop s first records steps last u a read k =
-    record { within = omega (arith, length-append records (u ∷ []), k.within); few = k.few; leads = (leads_last s first records steps last u a read k).2 }
+    record { within = omega (arith, length-append records (u ∷ []), k.within); few = k.few; leads = (leads_last s first records steps last u a read k).2; whole = k.whole }
 
 -- The step that is taken back is the one that was read.
 pub step_back : (steps : List Step) (n : ℕ) (a b : Step) → n < length steps → a ≡ get_or steps n a → take (n + 1) steps ≡ take n steps ++ b ∷ [] → b ≡ a
@@ -118,4 +183,4 @@ step_back steps n a b h read e =
     last_same [] b a e = ap (λ ys. get_or ys 0 a) e
     last_same (x ∷ xs) b a e = last_same xs b a (ap (drop 1) e)
 
-pub ruleset keeping = (keeps_world, keeps_reached, keeps_push, keeps_can, keeps_pop)
+pub ruleset keeping = (keeps_world, keeps_reached, keeps_push, keeps_can, keeps_pop, keeps_next, keeps_other, keeps_forgotten, kept_forgotten, take_noted)

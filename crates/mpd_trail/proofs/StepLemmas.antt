@@ -1,5 +1,5 @@
 -- When two steps are one, and what noting a step leaves.
-use Rattle.std.proofs.Common.{◌≡◌, ℕ, ◌<◌, ◌+◌, List, length, get_or, set, take, Bool, true, false, ◌&&◌, ◌==◌, Option, Some, None, refl, ap}
+use Rattle.std.proofs.Common.{◌≡◌, ℕ, ◌<◌, ◌+◌, List, length, get_or, set, slice_get, take, Bool, true, false, ◌&&◌, ◌==◌, Option, Some, None, refl, ap, eq-eqb}
 use Rattle.std.proofs.lemmas.Bool.{eqb-true}
 use Rattle.std.proofs.lemmas.Option.{slice_get_read}
 use Rattle.std.proofs.lemmas.List.{take_more_set}
@@ -30,6 +30,15 @@ step_eq-true (Match s r) b e = cc
 step_eq-true (Wake p) b e = cc
 step_eq-true Release b e = cc
 
+id_eq-same : (a : CallId) → id_eq a a ≡ true
+id_eq-same a = rw (eq-eqb a.rank a.rank refl, eq-eqb a.index a.index refl) refl
+
+pub step_eq-same : (a : Step) → step_eq a a ≡ true
+step_eq-same (Local p) = eq-eqb p p refl
+step_eq-same (Match s r) = rw (id_eq-same s, id_eq-same r) refl
+step_eq-same (Wake p) = eq-eqb p p refl
+step_eq-same Release = refl
+
 pub is_step-true : (o : Option Step) (a : Step) → is_step o a ≡ true → o ≡ Some a
 is_step-true None a e = cc
 is_step-true (Some b) a e = ap Some (step_eq-true b a e)
@@ -41,5 +50,9 @@ noted_again steps n a b h read same = rw (slice_get_read steps (length steps) n 
 -- another stands there
 pub noted_anew : (steps : List Step) (n : ℕ) (a b : Step) → n < length steps → b ≡ get_or steps n b → step_eq b a ≡ false → take (n + 1) (set steps n a) ≡ noted steps n a
 noted_anew steps n a b h read other = rw (slice_get_read steps (length steps) n b refl h read, other) (take_more_set steps n a h)
+
+-- the step that stands there is noted
+pub noted_there : (steps : List Step) (n : ℕ) (a : Step) → slice_get steps n ≡ Some a → noted steps n a ≡ steps
+noted_there steps n a e = rw (e, step_eq-same a) refl
 
 pub ruleset noting = (noted_again, noted_anew)

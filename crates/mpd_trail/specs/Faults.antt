@@ -4,6 +4,8 @@ use Rattle.mpd_core.specs.declared.fault.StepFault.{StepFault}
 use Rattle.mpd_core.specs.declared.fault.StepFault.TheVariants as step
 use Rattle.mpd_trail.specs.declared.debugger.ApplyFault.{ApplyFault}
 use Rattle.mpd_trail.specs.declared.debugger.ApplyFault.TheVariants.{NotEnabled, Full, Memory}
+use Rattle.mpd_trail.specs.declared.debugger.RedoFault.{RedoFault}
+use Rattle.mpd_trail.specs.declared.debugger.RedoFault.TheVariants as redo
 
 abbrev pub apply_fault_number : ApplyFault → ℕ
 apply_fault_number NotEnabled = 21
@@ -19,3 +21,11 @@ apply_fault_name Memory = codes "memory"
 abbrev pub apply_fault : StepFault → ApplyFault
 apply_fault step.NotEnabled = NotEnabled
 apply_fault step.Memory = Memory
+
+abbrev pub redo_fault_number : RedoFault → ℕ
+redo_fault_number redo.NoRedo = 25
+redo_fault_number redo.Memory = 23
+
+abbrev pub redo_fault_name : RedoFault → List ℕ
+redo_fault_name redo.NoRedo = codes "no-redo"
+redo_fault_name redo.Memory = codes "memory"

@@ -1,9 +1,10 @@
--- What the debugger keeps: each record takes back its step, and on the world that the step led to it can be taken back.
-use Rattle.std.specs.Prelude.{◌≡◌, ◌≤◌, List, [], ◌∷◌, length, take, reverse, Some}
+-- What the debugger keeps: each record takes back its step, and on the world that the step led to it can be taken back. All steps
+-- kept, undone ones included, lead somewhere.
+use Rattle.std.specs.Prelude.{◌≡◌, ◌≤◌, List, [], ◌∷◌, length, take, reverse, Some, IsSome}
 use Rattle.mpd_model.specs.declared.limits.TheConstants.{STEPS_MAX}
 use Rattle.mpd_model.specs.declared.step.Step.{Step}
 use Rattle.mpd_model.specs.World.{World}
-use Rattle.mpd_model.specs.Next.{next}
+use Rattle.mpd_model.specs.Next.{next, fold}
 use Rattle.mpd_model.specs.Program.{Program}
 use Rattle.mpd_rank.specs.declared.change.RankRecord.{RankRecord}
 use Rattle.mpd_core.specs.Records.{step_record}
@@ -21,3 +22,4 @@ pub record Keeps (s : Program) (first : World) (records : List RankRecord) (step
   pub within : length records ≤ length steps
   pub few : length steps ≤ STEPS_MAX
   pub leads : LeadsTo s first (reverse records) (reverse (take (length records) steps)) last
+  pub whole : IsSome (fold first steps)

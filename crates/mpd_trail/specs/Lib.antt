@@ -2,3 +2,4 @@ pub mod Faults
 pub mod Kept
 pub mod Run
 pub mod Views
+pub mod Writes

@@ -1,69 +1,94 @@
--- What a debugger replies to a list of steps and undos, told by the steps not undone alone.
-use Rattle.std.specs.Prelude.{◌≡◌, ◌<◌, ◌≤◌, ◌+◌, ℕ, List, [], ◌∷◌, ◌++◌, length, None, Some, IsSome}
+-- What a debugger replies to a list of steps taken, taken back and taken again, told by the steps kept and by how many of them are
+-- not undone.
+use Rattle.std.specs.Prelude.{◌≡◌, ◌<◌, ◌≤◌, ◌+◌, ℕ, List, [], ◌∷◌, ◌++◌, length, take, drop, slice_get, None, Some, IsSome}
 use Rattle.mpd_model.specs.declared.limits.TheConstants.{STEPS_MAX}
 use Rattle.mpd_model.specs.declared.step.Step.{Step}
-use Rattle.mpd_model.specs.declared.call.Mode.{Mode}
-use Rattle.mpd_model.specs.Program.{Program}
 use Rattle.mpd_model.specs.World.{World, start}
 use Rattle.mpd_model.specs.Next.{next, fold}
-use Rattle.mpd_model.specs.Trail.{Trail, Standing, applied, taken_back}
+use Rattle.mpd_model.specs.Trail.{Trail, Standing, kept, applied, taken_back, redone, gone_back}
 use Rattle.mpd_core.specs.Writes.{most_writes}
+use Rattle.mpd_trail.specs.Writes.{most_writes_of}
 use Rattle.mpd_trail.specs.declared.run.Command.{Command}
 use Rattle.mpd_trail.specs.declared.run.Reply.{Reply}
-use Rattle.mpd_trail.specs.declared.run.Command.TheVariants.{Apply, Undo}
-use Rattle.mpd_trail.specs.declared.run.Reply.TheVariants.{Done, NotEnabled, Full, AtStart, Memory}
+use Rattle.mpd_trail.specs.declared.run.Command.TheVariants.{Apply, Undo, Redo, UndoTo}
+use Rattle.mpd_trail.specs.declared.run.Reply.TheVariants.{Done, NotEnabled, Full, AtStart, NoRedo, NotBefore, Memory}
 
--- One command, from a first world: the steps not undone before it, the reply, and the steps not undone after it. A step is
--- refused exactly where the relation of steps has none, or as one too many, or for want of memory.
-abbrev pub Answers : World → List Step → Command → Reply → List Step → Type 0
-Answers first old (Apply a) Done new = IsSome (fold first (old ++ a ∷ [])) × (length old < STEPS_MAX) × (new ≡ old ++ a ∷ [])
-Answers first old (Apply a) NotEnabled new = (fold first (old ++ a ∷ []) ≡ None) × (new ≡ old)
-Answers first old (Apply a) Full new = IsSome (fold first (old ++ a ∷ [])) × (length old ≡ STEPS_MAX) × (new ≡ old)
-Answers first old (Apply a) Memory new = IsSome (fold first (old ++ a ∷ [])) × (length old < STEPS_MAX) × (new ≡ old)
-Answers first old (Apply a) AtStart new = ⊥
-Answers first old Undo Done new = (a : Step) × (old ≡ new ++ a ∷ [])
-Answers first old Undo AtStart new = (old ≡ []) × (new ≡ [])
-Answers first old Undo NotEnabled new = ⊥
-Answers first old Undo Full new = ⊥
-Answers first old Undo Memory new = ⊥
+abbrev pub first_of : Trail → World
+first_of t = start t.program t.mode
+
+-- A step more is not undone, and where it was taken the relation of steps has it.
+pub record Takes (old : Trail) (a : Step) (new : Trail) : Type 0 where
+  pub leads : IsSome (fold (first_of old) (kept new))
+  pub steps : kept new ≡ kept old ++ a ∷ []
+
+-- One command: the trail before it, the reply, and the trail after it. A step is refused exactly where the relation of steps has
+-- none, or as one too many, or for want of memory. What was undone is taken again as it was, so only want of memory can be in the
+-- way of it. No command that takes steps back wants memory.
+abbrev pub Answers : Trail → Command → Reply → Trail → Type 0
+Answers old (Apply a) Done new = Takes old a new × (length (kept old) < STEPS_MAX) × (new ≡ applied old a)
+Answers old (Apply a) NotEnabled new = (fold (first_of old) (kept old ++ a ∷ []) ≡ None) × (new ≡ old)
+Answers old (Apply a) Full new = IsSome (fold (first_of old) (kept old ++ a ∷ [])) × (length (kept old) ≡ STEPS_MAX) × (new ≡ old)
+Answers old (Apply a) Memory new = IsSome (fold (first_of old) (kept old ++ a ∷ [])) × (length (kept old) < STEPS_MAX) × (new ≡ old)
+Answers old (Apply a) r new = ⊥
+Answers old Undo Done new = (a : Step) × (kept old ≡ kept new ++ a ∷ []) × (new ≡ taken_back old)
+Answers old Undo AtStart new = (kept old ≡ []) × (new ≡ old)
+Answers old Undo r new = ⊥
+Answers old Redo Done new = (a : Step) × (slice_get old.steps (length (kept old)) ≡ Some a) × Takes old a new × (new ≡ redone old)
+Answers old Redo NoRedo new = (kept old ≡ old.steps) × (new ≡ old)
+Answers old Redo Memory new = (length (kept old) < length old.steps) × (new ≡ old)
+Answers old Redo r new = ⊥
+Answers old (UndoTo depth) Done new = (depth ≤ length (kept old)) × (kept new ≡ take depth (kept old)) × (new ≡ gone_back old depth)
+Answers old (UndoTo depth) NotBefore new = (length (kept old) < depth) × (new ≡ old)
+Answers old (UndoTo depth) r new = ⊥
 
 pub record Stays (old new : Standing) : Type 0 where
   pub trail : new.trail ≡ old.trail
   pub world : new.world ≡ old.world
 
--- The same command, told by the whole trail, undone steps included, and by the world.
+-- The same command, told by the worlds.
 abbrev pub Carried : Standing → Command → Reply → Standing → Type 0
 Carried old (Apply a) Done new = (next old.world a ≡ Some new.world) × (new.trail ≡ applied old.trail a) × (old.trail.depth < STEPS_MAX)
 Carried old (Apply a) NotEnabled new = (next old.world a ≡ None) × Stays old new
 Carried old (Apply a) Full new = IsSome (next old.world a) × (old.trail.depth ≡ STEPS_MAX) × Stays old new
 Carried old (Apply a) Memory new = IsSome (next old.world a) × (old.trail.depth < STEPS_MAX) × Stays old new
-Carried old (Apply a) AtStart new = ⊥
+Carried old (Apply a) r new = ⊥
 Carried old Undo Done new = (0 < old.trail.depth) × (new.trail ≡ taken_back old.trail)
 Carried old Undo AtStart new = (old.trail.depth ≡ 0) × Stays old new
-Carried old Undo NotEnabled new = ⊥
-Carried old Undo Full new = ⊥
-Carried old Undo Memory new = ⊥
+Carried old Undo r new = ⊥
+Carried old Redo Done new = (old.trail.depth < length old.trail.steps) × (new.trail ≡ redone old.trail)
+Carried old Redo NoRedo new = (old.trail.depth ≡ length old.trail.steps) × Stays old new
+Carried old Redo Memory new = (old.trail.depth < length old.trail.steps) × Stays old new
+Carried old Redo r new = ⊥
+Carried old (UndoTo depth) Done new = (depth ≤ old.trail.depth) × (new.trail ≡ gone_back old.trail depth)
+Carried old (UndoTo depth) NotBefore new = (old.trail.depth < depth) × Stays old new
+Carried old (UndoTo depth) r new = ⊥
 
--- How many writes a command takes at most, of a script of so many ranks: as many as the step that it takes, or takes back.
+-- How many writes a command takes at least where it is carried out: one for each step that it takes, or takes back.
+abbrev pub Raised : List Step → Command → ℕ → ℕ → Type 0
+Raised old (Apply a) before after = before + 1 ≤ after
+Raised old Undo before after = before + 1 ≤ after
+Raised old Redo before after = before + 1 ≤ after
+Raised old (UndoTo depth) before after = before + length (drop depth old) ≤ after
+
+-- How many it takes at most, of a script of so many ranks: as many as the steps that it takes, or takes back.
 abbrev pub Bounded : ℕ → List Step → Command → List Step → ℕ → ℕ → Type 0
 Bounded ranks old (Apply a) new before after = after ≤ before + most_writes ranks a
 Bounded ranks old Undo new before after = (a : Step) → old ≡ new ++ a ∷ [] → after ≤ before + most_writes ranks a
+Bounded ranks old Redo new before after = (a : Step) → new ≡ old ++ a ∷ [] → after ≤ before + most_writes ranks a
+Bounded ranks old (UndoTo depth) new before after = after ≤ before + most_writes_of ranks (drop depth old)
 
--- How many it takes, told by its reply: at least one where a step was taken, or taken back, and else none.
+-- How many it takes, told by its reply and the steps not undone; a refusal takes none.
 abbrev pub Written : ℕ → List Step → Command → Reply → List Step → ℕ → ℕ → Type 0
-Written ranks old c Done new before after = (before + 1 ≤ after) × Bounded ranks old c new before after
-Written ranks old c Memory new before after = after ≡ before
-Written ranks old c NotEnabled new before after = after ≡ before
-Written ranks old c Full new before after = after ≡ before
-Written ranks old c AtStart new before after = after ≡ before
+Written ranks old c Done new before after = Raised old c before after × Bounded ranks old c new before after
+Written ranks old c r new before after = after ≡ before
 
--- A list of commands, with a reply to each: the steps not undone, and how many writes there were, before and after.
-abbrev pub Run : Program → Mode → List Step → ℕ → List Command → List Reply → List Step → ℕ → Type 0
-Run s mode old before [] [] new after = (new ≡ old) × (after ≡ before)
-Run s mode old before (c ∷ cs) (r ∷ rs) new after =
-    (mid : List Step) × (between : ℕ) × Answers (start s mode) old c r mid × Written s.ranks old c r mid before between × Run s mode mid between cs rs new after
-Run s mode old before [] (r ∷ rs) new after = ⊥
-Run s mode old before (c ∷ cs) [] new after = ⊥
+-- A list of commands, with a reply to each: the trail, and how many writes there were, before and after.
+abbrev pub Run : Trail → ℕ → List Command → List Reply → Trail → ℕ → Type 0
+Run old before [] [] new after = (new ≡ old) × (after ≡ before)
+Run old before (c ∷ cs) (r ∷ rs) new after =
+    (mid : Trail) × (between : ℕ) × Answers old c r mid × Written old.program.ranks (kept old) c r (kept mid) before between × Run mid between cs rs new after
+Run old before [] (r ∷ rs) new after = ⊥
+Run old before (c ∷ cs) [] new after = ⊥
 
 pub record SameScript (old new : Trail) : Type 0 where
   pub program : new.program ≡ old.program

@@ -1,14 +1,15 @@
 //! The trail: the steps that were taken, of which some may be undone, and the state that they lead to.
 
-ghost use Rattle.std.specs.Prelude.{◌≡◌, ◌↔◌, ◌<◌, ◌≤◌, IfOk, OnOk, OnErr, IsErrOf, IsOk, IsSome, Some, None, [], ◌∷◌, ◌++◌, ◌+◌, ◌-◌, min, vec_len, vec_capacity, codes};
+ghost use Rattle.std.specs.Prelude.{◌≡◌, ◌↔◌, ◌<◌, ◌≤◌, IfOk, OnOk, OnErr, IsErrOf, IsOk, IsSome, IfSome, IfNone, Some, None, [], ◌∷◌, ◌++◌, ◌+◌, ◌-◌, min, length, take, drop, slice_get, vec_len, vec_capacity, codes};
 ghost use Rattle.mpd_model.specs.Next.{next};
-ghost use Rattle.mpd_model.specs.Trail.{first_standing, IsReached, kept, noted, applied, taken_back, step_eq};
+ghost use Rattle.mpd_model.specs.Trail.{first_standing, IsReached, IsRun, kept, noted, applied, taken_back, redone, gone_back, forgotten, with_steps, step_eq};
 ghost use Rattle.mpd_model.specs.declared.step.Step.{Step};
 ghost use Rattle.mpd_core.specs.Records.{record_of, step_record};
 ghost use Rattle.mpd_core.specs.Undone.{undone, CanUndo};
 ghost use Rattle.mpd_core.specs.Writes.{most_writes};
-ghost use Rattle.mpd_trail.specs.Faults.{apply_fault, apply_fault_number, apply_fault_name};
+ghost use Rattle.mpd_trail.specs.Faults.{apply_fault, apply_fault_number, apply_fault_name, redo_fault_number, redo_fault_name};
 ghost use Rattle.mpd_trail.specs.Views.{standing_of};
+ghost use Rattle.mpd_trail.specs.Writes.{most_writes_of};
 
 use mpd_code::code::Code;
 use mpd_core::fault::StepFault;
@@ -89,6 +90,60 @@ impl AtStart {
         ensures { result.now ≡ codes "at-start" }
     {
         "at-start"
+    }
+}
+
+/// Why no step is taken again. Nothing has changed.
+#[derive(Clone, Copy, PartialEq, Eq, Debug, Error)]
+pub enum RedoFault {
+    /// No step is undone.
+    #[error("no-redo")]
+    NoRedo,
+    /// A growth was refused.
+    #[error("memory")]
+    Memory,
+}
+
+impl RedoFault {
+    /// Its number, as docs/FORMATS.md lists them.
+    pub fn number(self) -> u8
+        ensures { result ≡ redo_fault_number self }
+    {
+        match self {
+            RedoFault::NoRedo => 25,
+            RedoFault::Memory => 23,
+        }
+    }
+
+    /// Its name.
+    pub fn name(self) -> &'static str
+        ensures { result.now ≡ redo_fault_name self }
+    {
+        match self {
+            RedoFault::NoRedo => "no-redo",
+            RedoFault::Memory => "memory",
+        }
+    }
+}
+
+/// The depth to go back to is above the present one (26).
+#[derive(Clone, Copy, PartialEq, Eq, Debug, Error)]
+#[error("not-before")]
+pub struct NotBefore;
+
+impl NotBefore {
+    /// Its number, as docs/FORMATS.md lists them.
+    pub fn number(self) -> u8
+        ensures { result ≡ 26 }
+    {
+        26
+    }
+
+    /// Its name.
+    pub fn name(self) -> &'static str
+        ensures { result.now ≡ codes "not-before" }
+    {
+        "not-before"
     }
 }
 
@@ -190,6 +245,7 @@ impl<'c> Debugger<'c> {
     /// No step was taken. An `Err` is want of memory.
     pub fn start(alloc: Global, code: &'c Code, mode: Mode) -> Result<Debugger<'c>, AllocError>
         ensures standing { IfOk result (λ d. standing_of d ≡ first_standing code.now.program mode) }
+        ensures reached { IfOk result (λ d. IsReached (standing_of d)) }
         ensures writes { IfOk result (λ d. d.writes ≡ 0) }
     {
         Ok(Debugger {
@@ -215,6 +271,23 @@ impl<'c> Debugger<'c> {
         &self.steps
     }
 
+    /// The step that `redo` takes again, if any: the first of those that are undone.
+    #[tactic(auto, using(crate::proofs::KeptLemmas::keeping))]
+    pub fn next_undone(&self) -> Option<Step>
+        ensures value { result ≡ slice_get self.now.trail.steps self.now.trail.depth }
+        ensures some { IfSome result (λ _. self.now.trail.depth < length self.now.trail.steps) }
+        ensures none { IfNone result (self.now.trail.depth ≡ length self.now.trail.steps) }
+        ensures enabled { IfSome result (λ step. IsSome (next self.now.world step)) }
+        ensures few { length self.now.trail.steps ≤ STEPS_MAX }
+        ensures reached { IsReached (standing_of self.now) }
+    {
+        let depth = self.records.len();
+        if depth == self.steps.len() {
+            return None;
+        }
+        Some(self.steps[depth])
+    }
+
     /// The state, which is where the steps not undone lead.
     #[tactic(auto, using(crate::proofs::KeptLemmas::keeping))]
     pub fn core(&self) -> &Core<'c>
@@ -227,11 +300,13 @@ impl<'c> Debugger<'c> {
 
     /// Keeps room for one step, whatever it is. An `Err` is want of memory, and comes only where no such room was kept; where the
     /// debugger stands stays as it was.
+    #[tactic(auto, using(crate::proofs::KeptLemmas::keeping))]
     pub fn keep_room(&mut self) -> Result<(), AllocError>
         ensures room { OnOk result (1 ≤ self.new.room) }
         ensures memory { OnErr result (self.old.room ≡ 0) }
         ensures trail { self.new.trail ≡ self.old.trail }
         ensures world { self.new.world ≡ self.old.world }
+        ensures reached { IsReached (standing_of self.new) }
         ensures writes { self.new.writes ≡ self.old.writes }
     {
         self.core.keep_room()?;
@@ -248,6 +323,8 @@ impl<'c> Debugger<'c> {
     pub fn apply(&mut self, step: Step) -> Result<(), ApplyFault>
         ensures ok { OnOk result (self.new.trail ≡ applied self.old.trail step) }
         ensures world { OnOk result (next self.old.world step ≡ Some self.new.world) }
+        ensures steps { OnOk result (kept self.new.trail ≡ kept self.old.trail ++ step ∷ []) }
+        ensures reached { IsReached (standing_of self.new) }
         ensures room { OnOk result (self.old.trail.depth < STEPS_MAX) }
         ensures not_enabled { IsErrOf result ApplyFault.NotEnabled ↔ (next self.old.world step ≡ None) }
         ensures full { IsErrOf result ApplyFault.Full ↔ (IsSome (next self.old.world step) × (self.old.trail.depth ≡ STEPS_MAX)) }
@@ -255,6 +332,8 @@ impl<'c> Debugger<'c> {
         ensures no_room { IsErrOf result ApplyFault.Memory → self.old.room ≡ 0 }
         ensures err { OnErr result (self.new.trail ≡ self.old.trail) }
         ensures err_world { OnErr result (self.new.world ≡ self.old.world) }
+        ensures program { self.new.trail.program ≡ self.old.trail.program }
+        ensures mode { self.new.trail.mode ≡ self.old.trail.mode }
         ensures rises { OnOk result (self.old.writes + 1 ≤ self.new.writes) }
         ensures few { OnOk result (self.new.writes ≤ self.old.writes + most_writes self.old.trail.program.ranks step) }
         ensures unwritten { OnErr result (self.new.writes ≡ self.old.writes) }
@@ -284,10 +363,13 @@ impl<'c> Debugger<'c> {
     #[tactic(auto, using(crate::proofs::KeptLemmas::keeping))]
     pub fn undo(&mut self) -> Result<(), AtStart>
         ensures ok { OnOk result (self.new.trail ≡ taken_back self.old.trail) }
+        ensures steps { OnOk result (kept self.new.trail ≡ take (self.old.trail.depth - 1) (kept self.old.trail)) }
         ensures reached { IsReached (standing_of self.new) }
         ensures some { IsOk result ↔ (0 < self.old.trail.depth) }
         ensures err { OnErr result (self.new.trail ≡ self.old.trail) }
         ensures err_world { OnErr result (self.new.world ≡ self.old.world) }
+        ensures program { self.new.trail.program ≡ self.old.trail.program }
+        ensures mode { self.new.trail.mode ≡ self.old.trail.mode }
         ensures rises { OnOk result (self.old.writes + 1 ≤ self.new.writes) }
         ensures few { OnOk result ((step : Step) → kept self.old.trail ≡ kept self.new.trail ++ step ∷ [] → self.new.writes ≤ self.old.writes + most_writes self.old.trail.program.ranks step) }
         ensures unwritten { OnErr result (self.new.writes ≡ self.old.writes) }
@@ -300,5 +382,141 @@ impl<'c> Debugger<'c> {
                 Ok(())
             }
         }
+    }
+
+    /// Takes a step that is enabled, as `apply` does, where fewer than 1,000,000 steps are not undone. An `Err` is want of memory,
+    /// and comes only where no room was kept.
+    pub fn forward(&mut self, step: Step) -> Result<(), AllocError>
+        requires enabled { IsSome (next self.old.world step) }
+        requires few { self.old.trail.depth < STEPS_MAX }
+        ensures ok { OnOk result (self.new.trail ≡ applied self.old.trail step) }
+        ensures world { OnOk result (next self.old.world step ≡ Some self.new.world) }
+        ensures steps { OnOk result (kept self.new.trail ≡ kept self.old.trail ++ step ∷ []) }
+        ensures reached { IsReached (standing_of self.new) }
+        ensures no_room { OnErr result (self.old.room ≡ 0) }
+        ensures err { OnErr result (self.new.trail ≡ self.old.trail) }
+        ensures err_world { OnErr result (self.new.world ≡ self.old.world) }
+        ensures program { self.new.trail.program ≡ self.old.trail.program }
+        ensures mode { self.new.trail.mode ≡ self.old.trail.mode }
+        ensures rises { OnOk result (self.old.writes + 1 ≤ self.new.writes) }
+        ensures few { OnOk result (self.new.writes ≤ self.old.writes + most_writes self.old.trail.program.ranks step) }
+        ensures unwritten { OnErr result (self.new.writes ≡ self.old.writes) }
+    {
+        match self.apply(step) {
+            Ok(()) => Ok(()),
+            Err(ApplyFault::Memory) => Err(AllocError),
+            Err(_) => unreachable!(),
+        }
+    }
+
+    /// Takes the step again that was undone last, or refuses it: `NoRedo` (25) exactly where no step is undone, `Memory` (23)
+    /// where a growth was refused, which is nowhere where room was kept. All steps stay. It takes as many writes as `apply` does.
+    #[tactic(auto, using(crate::proofs::KeptLemmas::keeping))]
+    pub fn redo(&mut self) -> Result<(), RedoFault>
+        ensures ok { OnOk result (self.new.trail ≡ redone self.old.trail) }
+        ensures world { OnOk result ((step : Step) → slice_get self.old.trail.steps self.old.trail.depth ≡ Some step → next self.old.world step ≡ Some self.new.world) }
+        ensures steps { OnOk result ((step : Step) → slice_get self.old.trail.steps self.old.trail.depth ≡ Some step → kept self.new.trail ≡ kept self.old.trail ++ step ∷ []) }
+        ensures reached { IsReached (standing_of self.new) }
+        ensures undone { OnOk result (self.old.trail.depth < length self.old.trail.steps) }
+        ensures no_redo { IsErrOf result RedoFault.NoRedo ↔ (self.old.trail.depth ≡ length self.old.trail.steps) }
+        ensures memory { IsErrOf result RedoFault.Memory → self.old.trail.depth < length self.old.trail.steps }
+        ensures no_room { IsErrOf result RedoFault.Memory → self.old.room ≡ 0 }
+        ensures err { OnErr result (self.new.trail ≡ self.old.trail) }
+        ensures err_world { OnErr result (self.new.world ≡ self.old.world) }
+        ensures program { self.new.trail.program ≡ self.old.trail.program }
+        ensures mode { self.new.trail.mode ≡ self.old.trail.mode }
+        ensures rises { OnOk result (self.old.writes + 1 ≤ self.new.writes) }
+        ensures few { OnOk result ((step : Step) → slice_get self.old.trail.steps self.old.trail.depth ≡ Some step → self.new.writes ≤ self.old.writes + most_writes self.old.trail.program.ranks step) }
+        ensures unwritten { OnErr result (self.new.writes ≡ self.old.writes) }
+    {
+        let Some(step) = self.next_undone() else {
+            return Err(RedoFault::NoRedo);
+        };
+        match self.forward(step) {
+            Ok(()) => Ok(()),
+            Err(_) => Err(RedoFault::Memory),
+        }
+    }
+
+    /// Takes steps back, the last first, until so many are left that are not undone. It is refused exactly where there are fewer
+    /// (26), and so never for want of memory. Each step takes as many writes as `undo` does.
+    pub fn undo_to(&mut self, depth: usize) -> Result<(), NotBefore>
+        ensures ok { OnOk result (self.new.trail ≡ gone_back self.old.trail depth) }
+        ensures steps { OnOk result (kept self.new.trail ≡ take depth (kept self.old.trail)) }
+        ensures reached { IsReached (standing_of self.new) }
+        ensures before { IsOk result ↔ (depth ≤ self.old.trail.depth) }
+        ensures err { OnErr result (self.new.trail ≡ self.old.trail) }
+        ensures err_world { OnErr result (self.new.world ≡ self.old.world) }
+        ensures program { self.new.trail.program ≡ self.old.trail.program }
+        ensures mode { self.new.trail.mode ≡ self.old.trail.mode }
+        ensures rises { OnOk result (self.old.writes + (self.old.trail.depth - depth) ≤ self.new.writes) }
+        ensures few { OnOk result (self.new.writes ≤ self.old.writes + most_writes_of self.old.trail.program.ranks (drop depth (kept self.old.trail))) }
+        ensures unwritten { OnErr result (self.new.writes ≡ self.old.writes) }
+    {
+        let _ = self.core();
+        if depth > self.depth() {
+            return Err(NotBefore);
+        }
+        while self.depth() > depth {
+            let _ = self.undo();
+        }
+        Ok(())
+    }
+
+    /// Drops the steps that are undone. It takes no memory.
+    #[tactic(auto, using(crate::proofs::KeptLemmas::keeping))]
+    pub fn forget_undone(&mut self)
+        ensures trail { self.new.trail ≡ forgotten self.old.trail }
+        ensures world { self.new.world ≡ self.old.world }
+        ensures steps { kept self.new.trail ≡ kept self.old.trail }
+        ensures reached { IsReached (standing_of self.new) }
+        ensures program { self.new.trail.program ≡ self.old.trail.program }
+        ensures mode { self.new.trail.mode ≡ self.old.trail.mode }
+        ensures never_less { self.old.room ≤ self.new.room }
+        ensures writes { self.new.writes ≡ self.old.writes }
+    {
+        self.steps.truncate(self.records.len());
+    }
+
+    /// Has these steps as the ones that are kept. They begin with those that are not undone, and lead on from there; those behind
+    /// the depth are then undone ones, which `redo` takes again. It takes no memory.
+    #[tactic(auto, using(crate::proofs::KeptLemmas::keeping))]
+    pub fn put_steps(&mut self, steps: Vec<Step>)
+        requires begins { take self.old.trail.depth steps.items ≡ kept self.old.trail }
+        requires run { IsRun self.old.trail.program self.old.trail.mode steps.items }
+        ensures trail { self.new.trail ≡ with_steps self.old.trail steps.items }
+        ensures world { self.new.world ≡ self.old.world }
+        ensures steps { kept self.new.trail ≡ kept self.old.trail }
+        ensures reached { IsReached (standing_of self.new) }
+        ensures program { self.new.trail.program ≡ self.old.trail.program }
+        ensures mode { self.new.trail.mode ≡ self.old.trail.mode }
+        ensures writes { self.new.writes ≡ self.old.writes }
+    {
+        self.steps = steps;
+    }
+
+    /// A debugger of its own at the same state, with the steps that are not undone and no others. Its writes count from 0. An
+    /// `Err` is want of memory.
+    #[tactic(auto, using(crate::proofs::KeptLemmas::keeping))]
+    pub fn copy(&self) -> Result<Debugger<'c>, AllocError>
+        ensures trail { IfOk result (λ d. d.trail ≡ forgotten self.now.trail) }
+        ensures world { IfOk result (λ d. d.world ≡ self.now.world) }
+        ensures steps { IfOk result (λ d. kept d.trail ≡ kept self.now.trail) }
+        ensures reached { IfOk result (λ d. IsReached (standing_of d)) }
+        ensures program { IfOk result (λ d. d.trail.program ≡ self.now.trail.program) }
+        ensures mode { IfOk result (λ d. d.trail.mode ≡ self.now.trail.mode) }
+        ensures writes { IfOk result (λ d. d.writes ≡ 0) }
+    {
+        let depth = self.records.len();
+        let mut records = Vec::new(*self.records.allocator());
+        records.extend_from_slice(self.records.as_slice())?;
+        let mut steps = Vec::new(*self.steps.allocator());
+        steps.extend_from_slice(&self.steps[..depth])?;
+        Ok(Debugger {
+            mode: self.mode,
+            core: self.core.copy()?,
+            records,
+            steps,
+        })
     }
 }

@@ -33,7 +33,8 @@ struct Session {
 /// Two ranks that meet at a barrier.
 const MEETING: &[u8] = b"mpd 1; ranks 2;\nbarrier;";
 
-/// A message, forward and back; and a release, which waits for all ranks, is taken back, and taken again.
+/// A message, forward and back; a release, which waits for all ranks, is taken back, and taken again; and steps that are undone,
+/// taken again and dropped.
 const SESSIONS: &[Session] = &[
     Session {
         script: FIRST,
@@ -100,6 +101,49 @@ const SESSIONS: &[Session] = &[
         ],
         depth: 2,
         kept: 3,
+    },
+    Session {
+        script: FIRST,
+        commands: &[
+            Command::Redo,
+            Command::Apply(Step::Local(0)),
+            Command::Apply(Step::Local(0)),
+            Command::UndoTo(3),
+            Command::UndoTo(2),
+            Command::UndoTo(0),
+            Command::Redo,
+            Command::Redo,
+            Command::Redo,
+            Command::Undo,
+            Command::Undo,
+            Command::Apply(Step::Local(0)),
+            Command::Redo,
+            Command::UndoTo(1),
+            Command::Apply(Step::Local(1)),
+            Command::Redo,
+            Command::UndoTo(1),
+        ],
+        replies: &[
+            Reply::NoRedo,
+            Reply::Done,
+            Reply::Done,
+            Reply::NotBefore,
+            Reply::Done,
+            Reply::Done,
+            Reply::Done,
+            Reply::Done,
+            Reply::NoRedo,
+            Reply::Done,
+            Reply::Done,
+            Reply::Done,
+            Reply::Done,
+            Reply::Done,
+            Reply::Done,
+            Reply::NoRedo,
+            Reply::Done,
+        ],
+        depth: 1,
+        kept: 2,
     },
 ];
 

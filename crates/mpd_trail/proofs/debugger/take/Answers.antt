@@ -1,4 +1,4 @@
-use Rattle.std.proofs.Common.{◌≡◌, subst, Option, Some}
+use Rattle.std.proofs.Common.{◌≡◌, subst, Some}
 use Rattle.mpd_core.specs.declared.record.Record.{Record}
 use Rattle.mpd_core.specs.Undone.{undone, CanUndo}
 use Rattle.mpd_core.specs.Records.{record_of}

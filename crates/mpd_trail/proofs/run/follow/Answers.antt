@@ -1,15 +1,13 @@
 use Rattle.std.proofs.Common.{◌≡◌, [], ◌∷◌, ◌++◌, arith}
-use Rattle.mpd_trail.proofs.RunLemmas.{run_more, written_from, same_trans, answers_from}
+use Rattle.mpd_trail.proofs.RunLemmas.{run_more, same_trans}
 use Rattle.mpd_trail.proofs.run.follow.Goals as goal
 
 pub loop-command-preserved : goal.loop-command-preserved
 loop-command-preserved c =
     let i = c.loop-command.invariant in
-    let old = c.args.debugger.now.trail in
     let pushed : c.push_reserved.new.self.items ≡ c.loop-command.replies.items ++ c.answer.result ∷ [] = c.push_reserved.ensures.items in
     record {
-      run = rw pushed (run_more old.program old.mode _ _ _ _ _ _ c.args.commands.now _ c.loop-command.command-index _ _ c.loop-command-test.true i.run
-          (answers_from old c.loop-command.debugger.trail _ _ _ _ i.script c.answer.ensures.answers) (written_from old c.loop-command.debugger.trail _ _ _ _ _ _ i.script c.answer.ensures.writes));
+      run = rw pushed (run_more c.args.debugger.now.trail _ _ _ _ _ c.args.commands.now _ c.loop-command.command-index _ _ c.loop-command-test.true i.run c.answer.ensures.answers c.answer.ensures.writes);
       script = same_trans _ _ _ i.script c.answer.ensures.script;
       reached = c.answer.ensures.reached;
       counted = omega (arith, c.push_reserved.ensures.len, i.counted);

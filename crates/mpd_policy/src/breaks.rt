@@ -1,0 +1,117 @@
+//! Breakpoints in numbered places.
+
+ghost use Rattle.std.specs.Prelude.{◌≡◌, ℕ, ◌<◌, ◌≤◌, length, IfSome, IfNone, Some, None, is_some, slice_set};
+ghost use Rattle.mpd_model.specs.Breakpoints.{no_breaks, break_at, lowest_free};
+
+use mpd_model::breakpoint::Break;
+use mpd_model::limits::BREAKS_MAX;
+use std::marker::Model;
+
+/// 64 places, numbered from 0, each with a breakpoint or free; contracts see them as a list.
+#[derive(Drop)]
+pub struct Breaks {
+    places: [Option<Break>; BREAKS_MAX],
+    /// No place from here on was ever taken.
+    used: usize,
+}
+
+impl Model for Breaks {
+    ghost use Rattle.std.specs.Prelude.{List, Option};
+    ghost use Rattle.mpd_model.specs.declared.breakpoint.Break.{Break};
+    ghost use Rattle.mpd_policy.specs.Places.{Uses};
+
+    ghost Value = { List (Option Break) };
+
+    ghost view = { λ b. b.places };
+
+    ghost invariant = { λ b. Uses b.places b.used };
+}
+
+impl Breaks {
+    /// No breakpoint.
+    #[tactic(auto, using(crate::proofs::PlaceLemmas::nothing_used))]
+    pub fn new() -> Breaks
+        ensures { result ≡ no_breaks }
+    {
+        Breaks {
+            places: [None; BREAKS_MAX],
+            used: 0,
+        }
+    }
+
+    /// The breakpoint of a number, where there is one.
+    #[tactic(auto, using(crate::proofs::PlaceLemmas::reading))]
+    pub fn get(&self, number: usize) -> Option<Break>
+        ensures { result ≡ break_at self.now number }
+    {
+        let _ = self.bound();
+        if number >= BREAKS_MAX {
+            return None;
+        }
+        self.places[number]
+    }
+
+    /// A number from which on every place is free.
+    pub(crate) fn bound(&self) -> usize
+        ensures within { result ≤ BREAKS_MAX }
+        ensures free { (n : ℕ) → result ≤ n → break_at self.now n ≡ None }
+        ensures size { length self.now ≡ BREAKS_MAX }
+    {
+        self.used
+    }
+
+    /// The lowest number that is free.
+    #[tactic(auto, using(crate::proofs::NumberLemmas::numbering))]
+    fn lowest_free(&self) -> Option<usize>
+        ensures number { result ≡ lowest_free self.now }
+        ensures within { IfSome result (λ n. n < BREAKS_MAX) }
+    {
+        let _ = self.bound();
+        let count = BREAKS_MAX;
+        for number in 0..count {
+            if self.get(number).is_none() {
+                return Some(number);
+            }
+        }
+        None
+    }
+
+    /// Has a breakpoint, or none, in a place.
+    #[tactic(auto, using(crate::proofs::PlaceLemmas::putting))]
+    fn put(&mut self, number: usize, place: Option<Break>)
+        requires { number < BREAKS_MAX }
+        ensures { self.new ≡ slice_set self.old number place }
+    {
+        self.places[number] = place;
+        if self.used <= number {
+            self.used = number + 1;
+        }
+    }
+
+    /// Adds a breakpoint, and answers its number, which is the lowest that was free. Where all 64 are taken it answers none, and
+    /// nothing has changed.
+    pub fn add(&mut self, stop: Break) -> Option<usize>
+        ensures number { result ≡ lowest_free self.old }
+        ensures some { IfSome result (λ n. self.new ≡ slice_set self.old n (Some stop)) }
+        ensures none { IfNone result (self.new ≡ self.old) }
+    {
+        let number = self.lowest_free()?;
+        self.put(number, Some(stop));
+        Some(number)
+    }
+
+    /// Takes the breakpoint of a number away, and answers whether there was one.
+    #[tactic(auto, using(crate::proofs::PlaceLemmas::removing))]
+    pub fn remove(&mut self, number: usize) -> bool
+        ensures found { result ≡ is_some (break_at self.old number) }
+        ensures after { self.new ≡ slice_set self.old number None }
+    {
+        let _ = self.bound();
+        if number >= BREAKS_MAX {
+            return false;
+        }
+        let found = self.get(number).is_some();
+        self.put(number, None);
+        found
+    }
+}

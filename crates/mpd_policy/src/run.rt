@@ -1,0 +1,198 @@
+//! Runs that go by themselves, forward along decisions, and back.
+
+ghost use Rattle.std.specs.Prelude.{◌≡◌, ◌<◌, ◌≤◌, ◌+◌, ◌-◌, ◌++◌, ◌∷◌, [], IfOk, OnOk, OnErr, IfSome, IfNone, IsSome, Some, length, take, slice_get};
+ghost use Rattle.mpd_model.specs.Next.{next, fold};
+ghost use Rattle.mpd_model.specs.Trail.{IsReached, IsRun, applied, kept, gone_back, forgotten, with_steps};
+ghost use Rattle.mpd_model.specs.Decisions.{decision};
+ghost use Rattle.mpd_model.specs.Breakpoints.{lowest_mark};
+ghost use Rattle.mpd_model.specs.Running.{ran, stop_of, all_applied, mark_at, ran_back};
+ghost use Rattle.mpd_trail.specs.Views.{standing_of};
+ghost use Rattle.mpd_policy.specs.Ahead.{ahead_of, Went};
+
+use crate::breaks::Breaks;
+use crate::decide::forced_step;
+use crate::marks::lower;
+use mpd_model::breakpoint::{Cause, Stop};
+use mpd_model::limits::STEPS_MAX;
+use mpd_model::step::Step;
+use mpd_trail::debugger::Debugger;
+use std::alloc::{AllocError, Global};
+
+/// What a run does next: a step, or it stops.
+#[derive(Clone, Copy)]
+pub(crate) enum Ahead {
+    Take(Step),
+    Halt(Cause),
+}
+
+/// What a run does next. Before a step it stops at a leaf, at a choice, and where 1,000,000 steps are not undone.
+#[tactic(auto, using(crate::proofs::RunLemmas::looking))]
+fn look_ahead(debugger: &Debugger<'_>) -> Ahead
+    ensures { result ≡ ahead_of debugger.now.trail.depth (decision debugger.now.world) }
+{
+    let depth = debugger.depth();
+    let core = debugger.core();
+    if let Some(step) = forced_step(core) {
+        if depth >= STEPS_MAX {
+            return Ahead::Halt(Cause::Full);
+        }
+        return Ahead::Take(step);
+    }
+    if core.is_stuck() {
+        return Ahead::Halt(Cause::Leaf);
+    }
+    Ahead::Halt(Cause::Choice)
+}
+
+/// Takes a step that is enabled, and answers the lowest number that marks it. An `Err` is want of memory, and nothing has changed.
+fn take(
+    debugger: &mut Debugger<'_>,
+    breaks: &Breaks,
+    step: Step,
+) -> Result<Option<usize>, AllocError>
+    requires enabled { IsSome (next debugger.old.world step) }
+    requires few { debugger.old.trail.depth < STEPS_MAX }
+    ensures mark { IfOk result (λ n. n ≡ lowest_mark debugger.old.trail.program breaks.now debugger.old.world step debugger.new.world) }
+    ensures ok { OnOk result (debugger.new.trail ≡ applied debugger.old.trail step) }
+    ensures world { OnOk result (next debugger.old.world step ≡ Some debugger.new.world) }
+    ensures steps { OnOk result (kept debugger.new.trail ≡ kept debugger.old.trail ++ step ∷ []) }
+    ensures reached { IsReached (standing_of debugger.new) }
+    ensures err { OnErr result (debugger.new.trail ≡ debugger.old.trail) }
+    ensures err_world { OnErr result (debugger.new.world ≡ debugger.old.world) }
+{
+    let values = breaks.watch(debugger.core());
+    debugger.forward(step)?;
+    let core = debugger.core();
+    let told = breaks.lowest_told(core, step);
+    let changed = breaks.lowest_changed(core, &values);
+    Ok(lower(told, changed))
+}
+
+/// Runs along decisions, and where memory is refused on the way leaves the steps that it made.
+#[tactic(auto, using(crate::proofs::RunLemmas::going))]
+fn go(debugger: &mut Debugger<'_>, breaks: &Breaks, max: usize) -> Result<Stop, AllocError>
+    ensures went { Went breaks.now max (standing_of debugger.old) (standing_of debugger.new) result }
+    ensures reached { IsReached (standing_of debugger.new) }
+{
+    let _ = debugger.core();
+    for made in 0..max {
+        let step = match look_ahead(debugger) {
+            Ahead::Halt(cause) => return Ok(Stop { steps: made, cause }),
+            Ahead::Take(step) => step,
+        };
+        let mark = take(debugger, breaks, step)?;
+        if let Some(number) = mark {
+            return Ok(Stop {
+                steps: made + 1,
+                cause: Cause::Break(number),
+            });
+        }
+    }
+    match look_ahead(debugger) {
+        Ahead::Halt(cause) => Ok(Stop { steps: max, cause }),
+        Ahead::Take(_) => Ok(Stop {
+            steps: max,
+            cause: Cause::Max,
+        }),
+    }
+}
+
+/// All steps kept, where some are undone. An `Err` is want of memory.
+fn set_aside(alloc: Global, debugger: &Debugger<'_>) -> Result<Option<Vec<Step>>, AllocError>
+    ensures some { IfOk result (λ saved. IfSome saved (λ steps. steps.items ≡ debugger.now.trail.steps)) }
+    ensures none { IfOk result (λ saved. IfNone saved (length debugger.now.trail.steps ≡ debugger.now.trail.depth)) }
+{
+    let _ = debugger.core();
+    let steps = debugger.steps();
+    if debugger.depth() == steps.len() {
+        return Ok(None);
+    }
+    let mut saved = Vec::new(alloc);
+    saved.extend_from_slice(steps)?;
+    Ok(Some(saved))
+}
+
+/// Goes back to a depth, and has the steps that were set aside, or no undone ones.
+fn put_back(debugger: &mut Debugger<'_>, depth: usize, saved: Option<Vec<Step>>)
+    requires before { depth ≤ debugger.old.trail.depth }
+    requires begins { IfSome saved (λ steps. take depth steps.items ≡ take depth (kept debugger.old.trail)) }
+    requires run { IfSome saved (λ steps. IsRun debugger.old.trail.program debugger.old.trail.mode steps.items) }
+    ensures some { IfSome saved (λ steps. debugger.new.trail ≡ with_steps (gone_back debugger.old.trail depth) steps.items) }
+    ensures none { IfNone saved (debugger.new.trail ≡ forgotten (gone_back debugger.old.trail depth)) }
+    ensures reached { IsReached (standing_of debugger.new) }
+{
+    let _ = debugger.undo_to(depth);
+    match saved {
+        Some(steps) => debugger.put_steps(steps),
+        None => debugger.forget_undone(),
+    }
+}
+
+/// Runs along decisions (docs/DEFINITIONS.md, "Runs"): it makes every forced step, and stops behind the first that a breakpoint
+/// marks, and before a step at a leaf, at a choice, where 1,000,000 steps are not undone, or after `max` steps, in this order. An
+/// `Err` is want of memory, and then the state and all steps, undone ones too, are as before.
+pub fn run(
+    alloc: Global,
+    debugger: &mut Debugger<'_>,
+    breaks: &Breaks,
+    max: usize,
+) -> Result<Stop, AllocError>
+    ensures stop { IfOk result (λ stop. stop ≡ stop_of (ran debugger.old.trail.program breaks.now max debugger.old.trail.depth debugger.old.world)) }
+    ensures trail { OnOk result (debugger.new.trail ≡ all_applied debugger.old.trail (ran debugger.old.trail.program breaks.now max debugger.old.trail.depth debugger.old.world).steps) }
+    ensures world { OnOk result (fold debugger.old.world (ran debugger.old.trail.program breaks.now max debugger.old.trail.depth debugger.old.world).steps ≡ Some debugger.new.world) }
+    ensures reached { IsReached (standing_of debugger.new) }
+    ensures err { OnErr result (debugger.new.trail ≡ debugger.old.trail) }
+    ensures err_world { OnErr result (debugger.new.world ≡ debugger.old.world) }
+{
+    let _ = debugger.core();
+    let depth = debugger.depth();
+    let saved = set_aside(alloc, debugger)?;
+    match go(debugger, breaks, max) {
+        Ok(stop) => Ok(stop),
+        Err(fault) => {
+            put_back(debugger, depth, saved);
+            Err(fault)
+        }
+    }
+}
+
+/// Takes the last step back, and answers the lowest number that marks it.
+fn take_back(debugger: &mut Debugger<'_>, breaks: &Breaks) -> Option<usize>
+    requires { 0 < debugger.old.trail.depth }
+    ensures mark { result ≡ mark_at breaks.now debugger.old.trail (debugger.old.trail.depth - 1) }
+    ensures trail { debugger.new.trail ≡ gone_back debugger.old.trail (debugger.old.trail.depth - 1) }
+    ensures reached { IsReached (standing_of debugger.new) }
+{
+    let depth = debugger.depth();
+    let core = debugger.core();
+    let step = debugger.steps()[depth - 1];
+    let told = breaks.lowest_told(core, step);
+    let values = breaks.watch(core);
+    let _ = debugger.undo();
+    let changed = breaks.lowest_changed(debugger.core(), &values);
+    lower(told, changed)
+}
+
+/// Runs back: it takes steps back until it has taken back one that a breakpoint marks, or to the start. It takes no memory.
+#[tactic(auto, using(crate::proofs::BackLemmas::backing))]
+pub fn run_back(debugger: &mut Debugger<'_>, breaks: &Breaks) -> Stop
+    ensures stop { result ≡ ran_back breaks.now debugger.old.trail debugger.old.trail.depth }
+    ensures trail { debugger.new.trail ≡ gone_back debugger.old.trail (debugger.old.trail.depth - result.steps) }
+    ensures reached { IsReached (standing_of debugger.new) }
+{
+    let _ = debugger.core();
+    let depth = debugger.depth();
+    for undone in 0..depth {
+        let mark = take_back(debugger, breaks);
+        if let Some(number) = mark {
+            return Stop {
+                steps: undone + 1,
+                cause: Cause::Break(number),
+            };
+        }
+    }
+    Stop {
+        steps: depth,
+        cause: Cause::Start,
+    }
+}
