@@ -12,5 +12,6 @@ pub mod Firsts
 pub mod Candidates
 pub mod Listed
 pub mod Picked
+pub mod Tags
 pub mod Gathered
 pub mod Holders

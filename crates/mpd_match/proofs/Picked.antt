@@ -1,5 +1,5 @@
 -- Matches that pass a test: of one receive, along a line of free receives, and of all receivers.
-use Rattle.std.proofs.Common.{◌≡◌, ℕ, zero, suc, ◌+◌, ◌-◌, ◌<◌, ◌≤◌, Bool, true, false, cond, Option, Some, None, is_some, is_none, List, [], ◌∷◌, ◌++◌, inl, inr, refl, sym, ap, subst, ◌∙◌, map, length, append-nil, arith}
+use Rattle.std.proofs.Common.{◌≡◌, ℕ, zero, suc, ◌+◌, ◌-◌, ◌<◌, ◌≤◌, Bool, true, false, cond, Option, Some, None, is_some, List, [], ◌∷◌, ◌++◌, inl, inr, refl, sym, ap, subst, ◌∙◌, map, length, append-nil, arith}
 use Rattle.std.proofs.lemmas.List.Elements.{filter-append}
 use Rattle.std.proofs.lemmas.Bool.{cases_lt}
 use Rattle.std.proofs.lemmas.Bool.Decides.{eqb_tells}
@@ -18,7 +18,6 @@ use Rattle.mpd_queue.proofs.Spots.{first_spot, next_spot}
 use Rattle.mpd_match.specs.Lines.{takes_from}
 use Rattle.mpd_match.specs.Matches.{matches_from, matches_with, matches_at, matches_on}
 use Rattle.mpd_match.specs.Picked.{named_source, picked_with, picked_at, picked_on}
-use Rattle.mpd_match.proofs.Bools.{bool_tells}
 use Rattle.mpd_match.proofs.Walks.{rest, rest_none, rest_first, rest_step}
 use Rattle.mpd_match.proofs.Candidates.{not_taken}
 use Rattle.mpd_match.proofs.Listed.{candidates, joined_passed, not_posted_none}

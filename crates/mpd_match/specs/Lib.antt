@@ -7,6 +7,7 @@ pub mod Firsts
 pub mod Looks
 pub mod Matches
 pub mod Picked
+pub mod Tags
 pub mod Entries
 pub mod BoardRows
 pub mod OrderRows

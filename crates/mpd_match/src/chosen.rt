@@ -12,10 +12,13 @@ use mpd_device::steps::Steps;
 use mpd_model::step::{CallId, Step};
 use std::alloc::AllocError;
 
+/// From how many free receives of a rank on the tags of the free sends to it are marked beforehand.
+const MANY: usize = 8;
+
 impl Board {
     /// The match of a receive that names its source, where one is enabled. It looks at the sends of that source, and no others.
     #[tactic(auto, using(crate::proofs::Picked::naming))]
-    fn named_match(&self, recv: CallId) -> Option<Step>
+    pub(crate) fn named_match(&self, recv: CallId) -> Option<Step>
         ensures { result ≡ first_in (picked_with is_named_match self.now.board recv) }
     {
         let Some(sender) = kinds::named_source(self.kind(recv)) else {
@@ -56,6 +59,39 @@ impl Board {
         None
     }
 
+    /// Whether a rank has so many free receives that the free sends to it are worth a walk beforehand. Which way is gone changes
+    /// nothing that is found.
+    fn has_many_posted(&self, receiver: usize) -> bool
+        requires { receiver < length self.now.board.calls }
+    {
+        let mut looks = Steps::new();
+        let mut here = self.first_posted(receiver, &mut looks);
+        for _ in 0..MANY {
+            let Some(index) = here else {
+                return false;
+            };
+            here = self.next_free(
+                CallId {
+                    rank: receiver,
+                    index,
+                },
+                &mut looks,
+            );
+        }
+        true
+    }
+
+    /// The first match of the receiver's receives that name their source, sought the shorter way.
+    fn named_match_to(&self, receiver: usize) -> Option<Step>
+        requires { receiver < length self.now.board.calls }
+        ensures { result ≡ first_in (picked_at is_named_match self.now.board receiver) }
+    {
+        if self.has_many_posted(receiver) {
+            return self.named_match_among(receiver);
+        }
+        self.named_match_at(receiver)
+    }
+
     /// The first enabled match whose receive names its source, by receiver and receive. Lists of free calls are walked, and no
     /// others.
     #[tactic(auto, using(crate::proofs::Picked::picking))]
@@ -64,7 +100,7 @@ impl Board {
     {
         let count = self.rank_count();
         for receiver in 0..count {
-            let found = self.named_match_at(receiver);
+            let found = self.named_match_to(receiver);
             if found.is_some() {
                 return found;
             }

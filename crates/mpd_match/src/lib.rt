@@ -10,6 +10,7 @@ mod looked;
 mod order;
 pub mod record;
 mod release;
+mod seen;
 mod side;
 mod sides;
 mod walk;
