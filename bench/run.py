@@ -5,7 +5,7 @@
 
 It is no part of the gate. Each figure of the first program is the best of 20 runs, less the best of 20 runs of the same
 script with no words, or with those before what is measured. The second program measures steps and their undos itself, with no text in what is measured: local ones,
-messages and requests behind others, a wait, messages in a row, laps of a ring with a barrier behind others, and an outcome; under valgrind, where that is there, its growths
+messages and requests behind others, a wait, messages in a row, laps of a ring with a barrier behind others, an outcome, runs that go by themselves, and a decision over many calls; under valgrind, where that is there, its growths
 of memory are counted: they come with reading, lowering and the first time that steps are taken, and not with the many times
 that are measured. Where a program isn't built, a line says how to build it, and the status is 2.
 """
