@@ -1,0 +1,4 @@
+pub mod RunLemmas
+pub mod SearchLemmas
+pub mod CollectLemmas
+pub mod VerifyLemmas

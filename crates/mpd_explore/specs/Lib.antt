@@ -1,0 +1,5 @@
+pub mod Walk
+pub mod Report
+pub mod Search
+pub mod Witness
+pub mod Faults

@@ -1,0 +1,58 @@
+-- The runs from a state: the leaves of a depth-first walk, in the order of their choices.
+use Rattle.std.specs.Prelude.{ℕ, zero, suc, List, [], ◌∷◌, ◌++◌, map, Option, Some, None}
+use Rattle.mpd_model.specs.declared.step.Step.{Step}
+use Rattle.mpd_model.specs.declared.decision.Decision.{Decision}
+use Rattle.mpd_model.specs.declared.decision.Decision.TheVariants.{Forced, Choice, Leaf}
+use Rattle.mpd_model.specs.World.{World}
+use Rattle.mpd_model.specs.Next.{next}
+use Rattle.mpd_model.specs.Decisions.{decision}
+use Rattle.mpd_explore.specs.declared.report.Ending.{Ending}
+use Rattle.mpd_explore.specs.declared.report.Ending.TheVariants.{Ended, Cut}
+
+-- a run: the candidates taken at its choices, its steps, and how it ends
+pub record Run : Type 0 where
+  pub choices : List ℕ
+  pub steps : List Step
+  pub ending : Ending
+
+-- the run of no step
+abbrev pub here : Ending → Run
+here e = record { choices = []; steps = []; ending = e }
+
+-- a run with a step before it, and one with a choice before it
+abbrev pub stepped : Step → Run → Run
+stepped a r = record { choices = r.choices; steps = a ∷ r.steps; ending = r.ending }
+
+abbrev pub chosen : ℕ → Step → Run → Run
+chosen i a r = record { choices = i ∷ r.choices; steps = a ∷ r.steps; ending = r.ending }
+
+-- a run with choices and steps before it
+abbrev pub prefixed : List ℕ → List Step → Run → Run
+prefixed choices steps r = record { choices = choices ++ r.choices; steps = steps ++ r.steps; ending = r.ending }
+
+-- the runs of a state that is there
+abbrev pub runs_of : {A : Type 0} → (World → List A) → Option World → List A
+runs_of runs None = []
+runs_of runs (Some w) = runs w
+
+-- the runs by each of some candidates, of which the first is number i
+abbrev pub branches : (World → List Run) → World → ℕ → List Step → List Run
+branches runs w i [] = []
+branches runs w i (a ∷ more) = map (chosen i a) (runs_of runs (next w a)) ++ branches runs w (suc i) more
+
+-- the runs after a decision, where fuel is left
+abbrev pub followed : (World → List Run) → (World → List Run) → World → Decision → List Run
+followed forced picked w (Forced a) = map (stepped a) (runs_of forced (next w a))
+followed forced picked w (Choice candidates) = branches picked w 0 candidates
+followed forced picked w (Leaf o) = here (Ended o) ∷ []
+
+-- where none is left
+abbrev pub stopped : Decision → List Run
+stopped (Forced a) = here Cut ∷ []
+stopped (Choice candidates) = here Cut ∷ []
+stopped (Leaf o) = here (Ended o) ∷ []
+
+-- the leaves of the runs from a state with so much fuel
+unfoldable pub walk : ℕ → World → List Run
+walk zero w = stopped (decision w)
+walk (suc n) w = followed (walk n) (walk n) w (decision w)

@@ -1,0 +1,95 @@
+//! Exploring from where a debugger stands.
+
+ghost use Rattle.std.specs.Prelude.{◌≡◌, ◌+◌, ◌≤◌, [], nat_lt, map, IfOk, length, take, reverse};
+ghost use Rattle.mpd_model.specs.Trail.{kept, gone_back, forgotten, IsReached};
+ghost use Rattle.mpd_trail.specs.Run.{first_of};
+ghost use Rattle.mpd_trail.specs.Views.{standing_of};
+ghost use Rattle.mpd_explore.specs.Walk.{walk};
+ghost use Rattle.mpd_explore.specs.Search.{At, Safe, picked};
+ghost use Rattle.mpd_explore.specs.Report.{shown, to_show};
+
+use crate::report::{ChoiceList, Leaf, Limits, Report};
+use crate::search::{Bounds, Open, advance, descend, go_back};
+use mpd_model::limits::STEPS_MAX;
+use mpd_policy::decide::decisions_can_be_followed;
+use mpd_trail::debugger::Debugger;
+use std::alloc::{AllocError, Global};
+
+/// The candidates that are taken at the open choices.
+fn choices_here(alloc: Global, stack: &[Open]) -> Result<ChoiceList, AllocError>
+    ensures { IfOk result (λ c. c ≡ picked (reverse stack.now)) }
+{
+    let mut items = Vec::new(alloc);
+    for open in stack {
+        items.push(open.index)?;
+    }
+    Ok(ChoiceList { items })
+}
+
+/// The first leaves from here, and whether there are more. The debugger is left anywhere above the base.
+fn collect(
+    alloc: Global,
+    debugger: &mut Debugger<'_>,
+    bounds: Bounds,
+    runs: usize,
+) -> Result<Report, AllocError>
+    requires at { At (first_of debugger.old.trail) bounds [] (standing_of debugger.old) }
+    requires few { bounds.limit ≤ STEPS_MAX }
+    ensures leaves { IfOk result (λ r. r.leaves.items ≡ take runs (to_show bounds (standing_of debugger.old))) }
+    ensures more { IfOk result (λ r. r.more ≡ nat_lt runs (length (to_show bounds (standing_of debugger.old)))) }
+    ensures safe { Safe bounds.base (standing_of debugger.old) (standing_of debugger.new) }
+{
+    decisions_can_be_followed();
+    let mut stack: Vec<Open> = Vec::new(alloc);
+    let mut leaves: Vec<Leaf> = Vec::new(alloc);
+    for turn in 0..runs {
+        let ending = descend(alloc, debugger, bounds, &mut stack)?;
+        let choices = choices_here(alloc, &stack)?;
+        leaves.push(Leaf { choices, ending })?;
+        let has_next = advance(debugger, bounds, &mut stack)?;
+        if !has_next {
+            return Ok(Report {
+                leaves,
+                more: false,
+            });
+        }
+    }
+    Ok(Report { leaves, more: true })
+}
+
+/// Takes steps back down to a depth, and keeps no undone step.
+fn put_back(debugger: &mut Debugger<'_>, base: usize)
+    requires { base ≤ debugger.old.trail.depth }
+    ensures trail { debugger.new.trail ≡ forgotten (gone_back debugger.old.trail base) }
+    ensures reached { IsReached (standing_of debugger.new) }
+{
+    go_back(debugger, base);
+    debugger.forget_undone();
+}
+
+/// The first leaves of the runs from here, in the order of their choices, and whether there are more (docs/DEFINITIONS.md, "Runs of
+/// a script"). Fuel counts from here. The debugger is left as found, also where memory is refused, which is what an `Err` says. No
+/// undone step is kept, and the depth and the fuel are at most 1,000,000 steps together.
+pub fn explore(
+    alloc: Global,
+    debugger: &mut Debugger<'_>,
+    limits: Limits,
+) -> Result<Report, AllocError>
+    requires clean { length debugger.old.trail.steps ≡ debugger.old.trail.depth }
+    requires fits { debugger.old.trail.depth + limits.fuel ≤ STEPS_MAX }
+    ensures leaves { IfOk result (λ r. r.leaves.items ≡ take limits.runs (map shown (walk limits.fuel debugger.old.world))) }
+    ensures more { IfOk result (λ r. r.more ≡ nat_lt limits.runs (length (walk limits.fuel debugger.old.world))) }
+    ensures trail { debugger.new.trail ≡ debugger.old.trail }
+    ensures world { debugger.new.world ≡ debugger.old.world }
+    ensures reached { IsReached (standing_of debugger.new) }
+{
+    let _ = debugger.core();
+    let base = debugger.depth();
+    let bounds = Bounds {
+        base,
+        limit: base + limits.fuel,
+    };
+    let found = collect(alloc, debugger, bounds, limits.runs);
+    put_back(debugger, base);
+    found
+}

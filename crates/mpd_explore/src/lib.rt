@@ -1,0 +1,7 @@
+//! The runs of a script, depth first along decisions, forward and by undo; and witnesses of deadlocks.
+#![tactic(auto)]
+
+pub mod explore;
+pub mod report;
+mod search;
+pub mod verify;

@@ -1,0 +1,122 @@
+//! Whether a witness is one. It uses the forward steps of a core alone: no trail, no decision and no undo.
+
+ghost use Rattle.std.specs.Prelude.{◌≡◌, ◌≢◌, ◌↔◌, IsTrue, IfOk, IfErr, OnOk, Some, codes};
+ghost use Rattle.mpd_model.specs.World.{start};
+ghost use Rattle.mpd_model.specs.Outcomes.{outcome};
+ghost use Rattle.mpd_explore.specs.Witness.{IsWitness, HasFault, FaultAtEnd};
+ghost use Rattle.mpd_explore.specs.Faults.{witness_fault_number, witness_fault_name};
+
+use crate::report::Witness;
+use mpd_code::code::Code;
+use mpd_core::fault::StepFault;
+use mpd_core::state::Core;
+use mpd_model::call::Mode;
+use mpd_model::outcome::Outcome;
+use mpd_model::step::CallId;
+use std::alloc::{AllocError, Global};
+use thiserror::Error;
+
+/// What is wrong with a witness.
+#[derive(Clone, Copy, PartialEq, Eq, Debug, Error)]
+pub enum WitnessFault {
+    /// The step at this place, from 0, is not enabled there.
+    #[error("no-such-step")]
+    NoSuchStep(usize),
+    /// The steps don't lead to a deadlock.
+    #[error("not-stuck")]
+    NotStuck,
+    /// Other calls are blocked in that deadlock.
+    #[error("wrong-blocked")]
+    WrongBlocked,
+    /// A growth was refused.
+    #[error("memory")]
+    Memory,
+}
+
+impl WitnessFault {
+    /// Its number, as docs/FORMATS.md lists them; 0 for want of memory, which has none here.
+    pub fn number(self) -> u8
+        ensures { result ≡ witness_fault_number self }
+    {
+        match self {
+            WitnessFault::NoSuchStep(_) => 32,
+            WitnessFault::NotStuck => 33,
+            WitnessFault::WrongBlocked => 34,
+            WitnessFault::Memory => 0,
+        }
+    }
+
+    /// Its name.
+    pub fn name(self) -> &'static str
+        ensures { result.now ≡ witness_fault_name self }
+    {
+        match self {
+            WitnessFault::NoSuchStep(_) => "no-such-step",
+            WitnessFault::NotStuck => "not-stuck",
+            WitnessFault::WrongBlocked => "wrong-blocked",
+            WitnessFault::Memory => "memory",
+        }
+    }
+}
+
+/// Whether two lists of calls are one.
+fn is_same(a: &[CallId], b: &[CallId]) -> bool
+    ensures { IsTrue result ↔ (a.now ≡ b.now) }
+{
+    a == b
+}
+
+/// Whether a state is a deadlock in which these calls are blocked.
+fn check_end(alloc: Global, core: &Core<'_>, blocked: &[CallId]) -> Result<(), WitnessFault>
+    ensures ok { OnOk result (outcome core.now.world ≡ Some (Outcome.Deadlock blocked.now)) }
+    ensures fault { IfErr result (λ e. e ≢ WitnessFault.Memory → FaultAtEnd (outcome core.now.world) blocked.now e) }
+{
+    let outcome = match core.outcome(alloc) {
+        Ok(outcome) => outcome,
+        Err(_) => return Err(WitnessFault::Memory),
+    };
+    match outcome {
+        None => Err(WitnessFault::NotStuck),
+        Some(Outcome::Done) => Err(WitnessFault::NotStuck),
+        Some(Outcome::Leftovers(_)) => Err(WitnessFault::NotStuck),
+        Some(Outcome::Trap(_)) => Err(WitnessFault::NotStuck),
+        Some(Outcome::Deadlock(calls)) => {
+            if is_same(&calls.items, blocked) {
+                Ok(())
+            } else {
+                Err(WitnessFault::WrongBlocked)
+            }
+        }
+    }
+}
+
+/// Whether a witness is one (docs/DEFINITIONS.md, "Witnesses"): its steps are taken from the start, and none is taken back. It is
+/// refused for the first step that is not enabled where it stands (32), else where the end is no deadlock (33), else where other
+/// calls are blocked in it (34). `Memory` is that a growth was refused.
+#[tactic(auto, using(crate::proofs::VerifyLemmas::verifying))]
+pub fn verify(
+    alloc: Global,
+    code: &Code,
+    mode: Mode,
+    witness: &Witness,
+) -> Result<(), WitnessFault>
+    ensures ok { OnOk result (IsWitness code.now.program mode witness.now) }
+    ensures fault { IfErr result (λ e. e ≢ WitnessFault.Memory → HasFault (start code.now.program mode) 0 witness.now.steps witness.now.blocked e) }
+    ensures accepted { IsWitness code.now.program mode witness.now → IfErr result (λ e. e ≡ WitnessFault.Memory) }
+{
+    let mut core = match Core::start(alloc, code, mode) {
+        Ok(core) => core,
+        Err(_) => return Err(WitnessFault::Memory),
+    };
+    let mut place = 0;
+    for step in &witness.steps.items {
+        match core.apply(*step) {
+            Ok(_) => {}
+            Err(StepFault::Memory) => return Err(WitnessFault::Memory),
+            Err(StepFault::NotEnabled) => return Err(WitnessFault::NoSuchStep(place)),
+        }
+        place += 1;
+    }
+    check_end(alloc, &core, &witness.blocked.items)?;
+    Ok(())
+}
