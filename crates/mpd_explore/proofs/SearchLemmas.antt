@@ -129,7 +129,7 @@ fuel_end first b fs d c e at empty is stop =
     let none : b.limit - length (kept d.trail) ≡ zero = omega (arith, at_length first b fs d at) in
     (at, ended_at first b fs (kept d.trail) d.world e (ap (λ m. walk m d.world) none ∙ walk_empty d.world c is ∙ stop))
 
-at_pushed : (first : World) (b : Bounds) (fs : List Open) (d e : Standing) (a : Step) → At first b fs d → d.trail.depth < b.limit → Went d a e → At first b fs e
+pub at_pushed : (first : World) (b : Bounds) (fs : List Open) (d e : Standing) (a : Step) → At first b fs d → d.trail.depth < b.limit → Went d a e → At first b fs e
 at_pushed first b fs d e a at room went =
     record {
       first_is = first_same d.trail e.trail went.program went.mode ∙ at.first_is;

@@ -1,5 +1,6 @@
 -- The runs from a state: the leaves of a depth-first walk, in the order of their choices.
-use Rattle.std.specs.Prelude.{ℕ, zero, suc, List, [], ◌∷◌, ◌++◌, map, Option, Some, None}
+use Rattle.std.specs.Prelude.{ℕ, zero, suc, List, [], ◌∷◌, ◌++◌, map, slice_get, Option, Some, None}
+use Rattle.std.specs.Option.{option_map}
 use Rattle.mpd_model.specs.declared.step.Step.{Step}
 use Rattle.mpd_model.specs.declared.decision.Decision.{Decision}
 use Rattle.mpd_model.specs.declared.decision.Decision.TheVariants.{Forced, Choice, Leaf}
@@ -56,3 +57,35 @@ stopped (Leaf o) = here (Ended o) ∷ []
 unfoldable pub walk : ℕ → World → List Run
 walk zero w = stopped (decision w)
 walk (suc n) w = followed (walk n) (walk n) w (decision w)
+
+-- ---- one run, told by its choices
+
+abbrev pub run_from : (World → Option Run) → Option World → Option Run
+run_from run None = None
+run_from run (Some w) = run w
+
+abbrev pub run_taken : (World → Option Run) → World → ℕ → Option Step → Option Run
+run_taken run w c None = None
+run_taken run w c (Some a) = option_map (chosen c a) (run_from run (next w a))
+
+abbrev pub run_followed : (List ℕ → World → Option Run) → World → List ℕ → Decision → Option Run
+run_followed run w cs (Forced a) = option_map (stepped a) (run_from (run cs) (next w a))
+run_followed run w [] (Choice candidates) = None
+run_followed run w (c ∷ cs) (Choice candidates) = run_taken (run cs) w c (slice_get candidates c)
+run_followed run w [] (Leaf o) = Some (here (Ended o))
+run_followed run w (c ∷ cs) (Leaf o) = None
+
+abbrev pub run_stopped : List ℕ → Decision → Option Run
+run_stopped [] (Forced a) = Some (here Cut)
+run_stopped [] (Choice candidates) = Some (here Cut)
+run_stopped [] (Leaf o) = Some (here (Ended o))
+run_stopped (c ∷ cs) d = None
+
+-- the run from a state with so much fuel that makes these choices and no others, where there is one
+unfoldable pub run_at : ℕ → List ℕ → World → Option Run
+run_at zero cs w = run_stopped cs (decision w)
+run_at (suc n) cs w = run_followed (run_at n) w cs (decision w)
+
+abbrev pub steps_by : Option Run → List Step
+steps_by None = []
+steps_by (Some r) = r.steps

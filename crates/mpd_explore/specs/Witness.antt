@@ -1,5 +1,5 @@
 -- What a witness is, and what is wrong with what is none.
-use Rattle.std.specs.Prelude.{◌≡◌, ℕ, suc, List, [], ◌∷◌, Option, Some, None}
+use Rattle.std.specs.Prelude.{◌≡◌, ◌≤◌, ◌-◌, ℕ, suc, List, [], ◌∷◌, ◌++◌, length, drop, Option, Some, None, IsSome}
 use Rattle.mpd_model.specs.declared.call.Mode.{Mode}
 use Rattle.mpd_model.specs.declared.step.CallId.{CallId}
 use Rattle.mpd_model.specs.declared.step.Step.{Step}
@@ -9,7 +9,15 @@ use Rattle.mpd_model.specs.Program.{Program}
 use Rattle.mpd_model.specs.World.{World, start}
 use Rattle.mpd_model.specs.Next.{next, fold}
 use Rattle.mpd_model.specs.Outcomes.{outcome}
+use Rattle.mpd_model.specs.Trail.{Standing, kept}
+use Rattle.mpd_trail.specs.Run.{first_of}
+use Rattle.mpd_explore.specs.declared.report.Ending.{Ending}
+use Rattle.mpd_explore.specs.declared.report.Ending.TheVariants.{Ended, Cut}
+use Rattle.mpd_explore.specs.declared.report.Leaf as leaf
 use Rattle.mpd_explore.specs.declared.report.Witness.{Witness}
+use Rattle.mpd_explore.specs.declared.search.Bounds.{Bounds}
+use Rattle.mpd_explore.specs.Walk.{Run, run_at, steps_by}
+use Rattle.mpd_explore.specs.Search.{At}
 use Rattle.mpd_explore.specs.declared.verify.WitnessFault.{WitnessFault}
 use Rattle.mpd_explore.specs.declared.verify.WitnessFault.TheVariants.{NoSuchStep, NotStuck, WrongBlocked}
 
@@ -34,3 +42,46 @@ FaultBy more i (Some v) e = more v e
 abbrev pub HasFault : World → ℕ → List Step → List CallId → WitnessFault → Type 0
 HasFault w i [] blocked e = FaultAtEnd (outcome w) blocked e
 HasFault w i (a ∷ more) blocked e = FaultBy (λ v f. HasFault v (suc i) more blocked f) i (next w a) e
+
+-- ---- the leaves of a report have witnesses
+
+abbrev pub WitnessBy : Program → Mode → List Step → Ending → Type 0
+WitnessBy s mode steps Cut = Unit {0}
+WitnessBy s mode steps (Ended Done) = Unit {0}
+WitnessBy s mode steps (Ended (Leftovers calls)) = Unit {0}
+WitnessBy s mode steps (Ended (Trap ranks)) = Unit {0}
+WitnessBy s mode steps (Ended (Deadlock blocked)) = IsWitness s mode (record { steps = steps; blocked = blocked })
+
+-- Its choices tell one run from the state that some steps lead to, which ends as it says; where that is a deadlock, these steps and
+-- those of the run are a witness of it.
+pub record HasWitness (s : Program) (mode : Mode) (before : List Step) (n : ℕ) (w : World) (l : leaf.Leaf) : Type 0 where
+  pub run : Run
+  pub by : run_at n l.choices w ≡ Some run
+  pub ending : run.ending ≡ l.ending
+  pub witness : WitnessBy s mode (before ++ run.steps) l.ending
+
+-- the witness of a run with these steps that ends so, where that is a deadlock
+abbrev pub witness_by : List Step → Ending → Option Witness
+witness_by steps Cut = None
+witness_by steps (Ended Done) = None
+witness_by steps (Ended (Leftovers calls)) = None
+witness_by steps (Ended (Trap ranks)) = None
+witness_by steps (Ended (Deadlock blocked)) = Some (record { steps = steps; blocked = blocked })
+
+-- ---- a run is made again
+
+-- the run by some choices from where a debugger stands
+abbrev pub ahead : Bounds → List ℕ → Standing → Option Run
+ahead b left d = run_at (b.limit - d.trail.depth) left d.world
+
+-- One step along some choices, of which so many were taken, or the end of the run.
+pub record Followed (b : Bounds) (left : List ℕ) (d : Standing) (taken : ℕ) (e : Standing) : Type 0 where
+  pub at_end : At (first_of d.trail) b [] e
+  pub depth : e.trail.depth ≡ suc d.trail.depth
+  pub few : taken ≤ length left
+  pub some : IsSome (ahead b (drop taken left) e)
+  pub same : kept d.trail ++ steps_by (ahead b left d) ≡ kept e.trail ++ steps_by (ahead b (drop taken left) e)
+
+abbrev pub Follows : Bounds → List ℕ → Standing → Option ℕ → Standing → Type 0
+Follows b left d None e = kept e.trail ≡ kept d.trail ++ steps_by (ahead b left d)
+Follows b left d (Some taken) e = Followed b left d taken e

@@ -7,6 +7,8 @@ ghost use Rattle.mpd_trail.specs.Views.{standing_of};
 ghost use Rattle.mpd_explore.specs.Walk.{walk};
 ghost use Rattle.mpd_explore.specs.Search.{At, Safe, picked};
 ghost use Rattle.mpd_explore.specs.Report.{shown, to_show};
+ghost use Rattle.mpd_explore.specs.Witness.{HasWitness};
+ghost use Rattle.std.specs.List.{AllByRecursion};
 
 use crate::report::{ChoiceList, Leaf, Limits, Report};
 use crate::search::{Bounds, Open, advance, descend, go_back};
@@ -58,7 +60,7 @@ fn collect(
 }
 
 /// Takes steps back down to a depth, and keeps no undone step.
-fn put_back(debugger: &mut Debugger<'_>, base: usize)
+pub(crate) fn put_back(debugger: &mut Debugger<'_>, base: usize)
     requires { base ≤ debugger.old.trail.depth }
     ensures trail { debugger.new.trail ≡ forgotten (gone_back debugger.old.trail base) }
     ensures reached { IsReached (standing_of debugger.new) }
@@ -69,7 +71,8 @@ fn put_back(debugger: &mut Debugger<'_>, base: usize)
 
 /// The first leaves of the runs from here, in the order of their choices, and whether there are more (docs/DEFINITIONS.md, "Runs of
 /// a script"). Fuel counts from here. The debugger is left as found, also where memory is refused, which is what an `Err` says. No
-/// undone step is kept, and the depth and the fuel are at most 1,000,000 steps together.
+/// undone step is kept, and the depth and the fuel are at most 1,000,000 steps together. Each leaf has a run, and each deadlock a
+/// witness, which `witness_of` makes and `verify` accepts.
 pub fn explore(
     alloc: Global,
     debugger: &mut Debugger<'_>,
@@ -79,10 +82,12 @@ pub fn explore(
     requires fits { debugger.old.trail.depth + limits.fuel ≤ STEPS_MAX }
     ensures leaves { IfOk result (λ r. r.leaves.items ≡ take limits.runs (map shown (walk limits.fuel debugger.old.world))) }
     ensures more { IfOk result (λ r. r.more ≡ nat_lt limits.runs (length (walk limits.fuel debugger.old.world))) }
+    ensures witnesses { IfOk result (λ r. AllByRecursion (HasWitness debugger.old.trail.program debugger.old.trail.mode (kept debugger.old.trail) limits.fuel debugger.old.world) r.leaves.items) }
     ensures trail { debugger.new.trail ≡ debugger.old.trail }
     ensures world { debugger.new.world ≡ debugger.old.world }
     ensures reached { IsReached (standing_of debugger.new) }
 {
+    decisions_can_be_followed();
     let _ = debugger.core();
     let base = debugger.depth();
     let bounds = Bounds {

@@ -5,3 +5,4 @@ pub mod explore;
 pub mod report;
 mod search;
 pub mod verify;
+pub mod witness;
