@@ -3,3 +3,4 @@ pub mod Report
 pub mod Search
 pub mod Witness
 pub mod Faults
+pub mod ReportText

@@ -2,6 +2,7 @@
 #![tactic(auto)]
 
 pub mod explore;
+pub mod print;
 pub mod report;
 mod search;
 pub mod verify;

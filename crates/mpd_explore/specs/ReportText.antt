@@ -1,0 +1,50 @@
+-- The text of a report.
+use Rattle.std.specs.Prelude.{ℕ, suc, Bool, true, false, if◌then◌else◌, List, [], ◌∷◌, ◌++◌, length, Option, Some, None, codes}
+use Rattle.std.specs.Fmt.{decimal}
+use Rattle.std.specs.List.{flat_map}
+use Rattle.mpd_model.specs.declared.step.Step.{Step}
+use Rattle.mpd_model.specs.World.{World}
+use Rattle.mpd_model.specs.Texts.{line, steps_text, outcome_text}
+use Rattle.mpd_explore.specs.declared.report.Ending.{Ending}
+use Rattle.mpd_explore.specs.declared.report.Ending.TheVariants.{Ended, Cut}
+use Rattle.mpd_explore.specs.declared.report.Leaf.{Leaf}
+use Rattle.mpd_explore.specs.declared.report.Witness.{Witness}
+use Rattle.mpd_explore.specs.Walk.{run_at, steps_by}
+use Rattle.mpd_explore.specs.Witness.{witness_by}
+
+-- numbers of candidates, with one space between two
+abbrev pub choices_text : List ℕ → List ℕ
+choices_text [] = []
+choices_text (c ∷ cs) = decimal c ++ flat_map (λ d. 32 ∷ decimal d) cs
+
+abbrev pub ending_text : Ending → List ℕ
+ending_text (Ended o) = outcome_text o
+ending_text Cut = codes "cut"
+
+-- `leaf 1 [0 2] deadlock 0.1 1.0`
+abbrev pub leaf_line : ℕ → Leaf → List ℕ
+leaf_line n l = line (codes "leaf " ++ decimal n ++ codes " [" ++ choices_text l.choices ++ codes "] " ++ ending_text l.ending)
+
+-- `witness 1: local 0, local 1`
+abbrev pub witness_line : ℕ → Witness → List ℕ
+witness_line n x = line (codes "witness " ++ decimal n ++ 58 ∷ steps_text x.steps)
+
+abbrev pub witness_lines : ℕ → Option Witness → List ℕ
+witness_lines n None = []
+witness_lines n (Some x) = witness_line n x
+
+-- the witness of a leaf behind some steps, where it is a deadlock
+abbrev pub witness_part : List Step → ℕ → World → ℕ → Leaf → List ℕ
+witness_part before fuel w n l = witness_lines n (witness_by (before ++ steps_by (run_at fuel l.choices w)) l.ending)
+
+abbrev pub leaves_text : Bool → List Step → ℕ → World → ℕ → List Leaf → List ℕ
+leaves_text witnesses before fuel w n [] = []
+leaves_text witnesses before fuel w n (l ∷ ls) = leaf_line n l ++ (if witnesses then witness_part before fuel w n l else []) ++ leaves_text witnesses before fuel w (suc n) ls
+
+abbrev pub more_text : Bool → List ℕ
+more_text true = codes "yes"
+more_text false = codes "no"
+
+-- all leaves, numbered from 0, and whether there are more
+abbrev pub report_text : Bool → List Step → ℕ → World → List Leaf → Bool → List ℕ
+report_text witnesses before fuel w leaves more = leaves_text witnesses before fuel w 0 leaves ++ line (codes "leaves " ++ decimal (length leaves) ++ codes " more " ++ more_text more)
