@@ -6,5 +6,5 @@ pub mod engine;
 mod feeder;
 pub mod kept;
 pub mod line;
-mod outbox;
+pub mod outbox;
 mod seen;

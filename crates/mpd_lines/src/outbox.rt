@@ -27,9 +27,9 @@ impl Model for Outbox {
     ghost invariant = { λ o. (vec_len o.waiting < 65536) × (65600 ≤ vec_capacity o.waiting) };
 }
 
-/// Writes all bytes, however the sink cuts them.
+/// Writes all bytes, however the sink cuts them. An `Err` comes only where a write failed; a part of them was written then.
 #[tactic(auto, using(crate::proofs::SentLaws::sending))]
-fn write_all<W: Sink>(sink: &mut W, bytes: &[u8]) -> Result<(), DeviceFault>
+pub fn write_all<W: Sink>(sink: &mut W, bytes: &[u8]) -> Result<(), DeviceFault>
     ensures { Written bytes.now (W.seen sink.old) (W.seen sink.new) result }
 {
     let mut rest = bytes;
