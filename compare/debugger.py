@@ -397,14 +397,18 @@ def joined(title, values):
     return ' '.join([title, *map(str, values)])
 
 
+def blocked_calls(world):
+    """The last call of each rank that is blocked, by rank."""
+    return tuple(last_call(world, number) for number, rank in enumerate(world.ranks) if rank.mode == 'blocked')
+
+
 def outcome(world):
     """How a world ended in which no step is enabled."""
     ranks = list(enumerate(world.ranks))
     traps = [f'{number} {rank.trap}' for number, rank in ranks if rank.mode == 'trapped']
     if traps:
         return joined('trap', traps)
-    blocked = [last_call(world, number) for number, rank in ranks if rank.mode == 'blocked']
-    if blocked:
+    if blocked := blocked_calls(world):
         return joined('deadlock', blocked)
     free = [CallId(number, place) for number, rank in ranks for place in rank.free]
     return joined('leftovers', free) if free else 'done'
@@ -601,6 +605,10 @@ class Result(NamedTuple):
     status: int
 
 
+BAD_MODE = Result(b'', b'mpdbg: bad mode\n', 2)
+BAD_FILE = Result(b'', b'mpdbg: device\n', 3)
+
+
 def lines_of(data):
     """The lines of an input, each without its end; the end is LF or CR LF."""
     lines = data.split(b'\n')
@@ -635,14 +643,19 @@ def answer_file(script, data, mode=RENDEZVOUS):
     return answer_lines(script, lines_of(data), mode)
 
 
+def refusal(text, fault):
+    """The result for the text of a script that has a fault."""
+    line = 1 + text.count(b'\n', 0, fault.place)
+    message = f'mpdbg: script refused {fault.number} {FAULT_NAMES[fault.number]} at {fault.place} line {line}\n'
+    return Result(b'', message.encode(), 2)
+
+
 def answer_lines(text, lines, mode):
     """The result for the text of a script and the lines behind it."""
     try:
         debugger = Debugger(read_script(text), mode)
     except Fault as fault:
-        line = 1 + text.count(b'\n', 0, fault.place)
-        message = f'mpdbg: script refused {fault.number} {FAULT_NAMES[fault.number]} at {fault.place} line {line}\n'
-        return Result(b'', message.encode(), 2)
+        return refusal(text, fault)
     answers = [debugger.answer(line) for line in lines]
     return Result(''.join(text + '\n' for text in answers if text is not None).encode(), b'', 0)
 
@@ -656,6 +669,15 @@ def answer_packets(packets):
     return Result(answer(whole_lines).output, b'mpdbg: turns\n', 3)
 
 
+def file_content(path):
+    """What a file holds; None where it can't be read."""
+    try:
+        with open(path, 'rb') as file:
+            return file.read()
+    except OSError:
+        return None
+
+
 def answer_words(words):
     """What the program gives for the words of its command line: none, or `trace FILE`, with `--mode M` where one is named."""
     parser = argparse.ArgumentParser(description='Answers as the program does: to look at one case.')
@@ -666,12 +688,10 @@ def answer_words(words):
     if chosen.command is None:
         return answer(sys.stdin.buffer.read())
     if chosen.mode not in MODES:
-        return Result(b'', b'mpdbg: bad mode\n', 2)
-    try:
-        with open(chosen.file, 'rb') as file:
-            script = file.read()
-    except OSError:
-        return Result(b'', b'mpdbg: device\n', 3)
+        return BAD_MODE
+    script = file_content(chosen.file)
+    if script is None:
+        return BAD_FILE
     return answer_file(script, sys.stdin.buffer.read(), chosen.mode)
 
 

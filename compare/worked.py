@@ -3,9 +3,9 @@
     python3 compare/worked.py
 
 They are of barriers, of synchronous sends, of both modes, and of the words that go along the steps that are there; those of
-decisions, breakpoints and runs stand in compare/worked_runs.py. Each row is a script, a mode, and words with what each is answered;
-behind the words stands what `show` prints, whole or in part. The lessons of docs/COURSE.md are rows too, with their answers in
-files. The status is 0 where the model answers all of them so.
+decisions, breakpoints and runs stand in compare/worked_runs.py, those of reports and witnesses in compare/worked_explorer.py. Each
+row here is a script, a mode, and words with what each is answered; behind the words stands what `show` prints, whole or in part.
+The lessons of docs/COURSE.md are rows too, with their answers in files. The status is 0 where the model answers all of them so.
 """
 
 import sys
@@ -13,6 +13,7 @@ from typing import NamedTuple
 from unittest import mock
 
 import debugger
+import worked_explorer
 from debugger import BUFFERED, RENDEZVOUS, answer_file
 from examples import lessons, open_example
 from language import PARTS, read_script, take_parts
@@ -192,6 +193,7 @@ def main():
     take_parts(PARTS)
     problems = [(f'{row.script} ({row.mode})', row_problem(row)) for row in ROWS + ALONG]
     problems += [(f'{row.script} ({row.mode}): {row.words}', run_problem(row)) for row in RUNS]
+    problems += worked_explorer.problems()
     problems += [(statement, refusal_problem(statement, fault, place)) for statement, fault, place in REFUSED]
     problems += [(f'{lesson.name} ({lesson.mode})', lesson_problem(lesson)) for lesson in lessons()]
     wrong = [(name, problem) for name, problem in problems if problem]

@@ -1,0 +1,269 @@
+"""Worked rows of the explorer: reports of scripts, of places along their steps, and witnesses; compare/worked.py compares them.
+
+Each was worked out by hand from the rules (docs/DEFINITIONS.md). compare/explore.py has a program answer those of CHECKS too.
+"""
+
+from itertools import islice, permutations
+from typing import NamedTuple, Optional
+
+from debugger import BUFFERED, RENDEZVOUS, Debugger, Result, call_id_of, step_of
+from explorer import Asked, answer, explored, report_text, verify
+from language import read_script
+from worked_runs import EMPTY, HEAD_TO_HEAD, NAMED_AND_ANY, ON_AND_ON, ONE_TRAPPED, THREE, TWO_RECEIVERS, UNRECEIVED
+
+
+class CheckRow(NamedTuple):
+    """A script (None: no file), the options of a check of it, the lines that it writes, its status, and the line on standard error."""
+    script: Optional[str]
+    asked: Asked
+    lines: str
+    status: int
+    errors: str = ''
+
+
+ONE_ENDED = 'mpd 1; ranks 2;\nif rank == 1 { barrier; }'
+TWICE = 'mpd 1; ranks 2;\nbarrier;\nif rank == 0 { barrier; }'
+BY_TAG = ('mpd 1; ranks 2; var x; var y; req r[2];\n'
+          'if rank == 0 { isend r[0] 1 to 1 tag 1; isend r[1] 2 to 1 tag 2; } else { recv x from 0 tag 2; recv y from 0 tag 1; }')
+BOTH_ANY = ('mpd 1; ranks 3; var x;\n'
+            'if rank == 0 { recv x from any tag any; recv x from any tag any; } else { send rank to 0 tag 0; }')
+BY_VALUE = ('mpd 1; ranks 3; var x; req r;\n'
+            'if rank == 0 { recv x from any tag any; STATEMENT } else { isend r rank to 0 tag 0; }')
+LOW_WANTED = ('mpd 1; ranks 3; var x;\n'
+              'if rank == 0 { recv x from any tag any; assert x == 1; } else { send rank to 0 tag 0; }')
+LOST = 'mpd 1; ranks 1; var x; req r;\nirecv r x from any tag any; irecv r x from any tag any; send 1 to 0 tag 0;'
+TO_ITSELF = 'mpd 1; ranks 1; var x; req r;\nwhile 1 { isend r 1 to 0 tag 0; recv x from any tag 0; }'
+COUNTING = 'mpd 1; ranks 1; var i;\nwhile i < TIMES { i = i + 1; } STATEMENTS'
+
+SIX = 'local 0, local 0, local 1, local 1, local 2, local 2'
+STUCK = f'{SIX}, match 2.0 0.0, wake 0, local 0, wake 2'
+OF_THREE = 'leaf 0 [0] done; leaf 1 [1] deadlock 0.1 1.0; leaves 2 more no'
+WITNESSED = f'leaf 0 [0] done; leaf 1 [1] deadlock 0.1 1.0; witness 1: {STUCK}; leaves 2 more no'
+
+
+def gathering(ranks, receives):
+    """A script in which all others send one message each to the first rank, and go on; it receives so many, of any source."""
+    return (f'mpd 1; ranks {ranks}; var x; req r;\n'
+            f'if rank == 0 {{ {"recv x from any tag 0;" * receives} }} else {{ isend r rank to 0 tag 0; }}')
+
+
+def gathered(ranks, receives, runs, more):
+    """The lines for so many runs of that: a choice has the number of a sender among those that are left."""
+    lines = []
+    for number, senders in enumerate(islice(permutations(range(1, ranks), receives), runs)):
+        choices = [sender - 1 - sum(other < sender for other in senders[:place]) for place, sender in enumerate(senders)]
+        left = [f'{rank}.0' for rank in range(1, ranks) if rank not in senders]
+        lines.append(f'leaf {number} [{" ".join(map(str, choices))}] leftovers {" ".join(left)}')
+    return '; '.join([*lines, f'leaves {len(lines)} more {more}'])
+
+
+CHECKS = (
+    # two ranks that send before they receive: in the one mode neither send is received, in the other both are
+    CheckRow(HEAD_TO_HEAD, Asked(), 'leaf 0 [] deadlock 0.0 1.0; leaves 1 more no', 1),
+    CheckRow(HEAD_TO_HEAD, Asked(BUFFERED), 'leaf 0 [] done; leaves 1 more no', 0),
+    # a receive of any source and then one of rank 2: whether it comes to an end hangs on which send is taken first
+    CheckRow(THREE, Asked(), OF_THREE, 1),
+    CheckRow(THREE, Asked(RENDEZVOUS, witnesses=True), WITNESSED, 1),
+    # receives by tag, in the other order than the sends
+    CheckRow(BY_TAG, Asked(), 'leaf 0 [] done; leaves 1 more no', 0),
+    # a barrier that one rank comes to alone
+    CheckRow(ONE_ENDED, Asked(), 'leaf 0 [] deadlock 1.0; leaves 1 more no', 1),
+    # a message that nobody receives
+    CheckRow(UNRECEIVED, Asked(), 'leaf 0 [] deadlock 0.0; leaves 1 more no', 1),
+    CheckRow(UNRECEIVED, Asked(BUFFERED), 'leaf 0 [] leftovers 0.0; leaves 1 more no', 0),
+    # no statement
+    CheckRow(EMPTY, Asked(), 'leaf 0 [] done; leaves 1 more no', 0),
+    # the status is of the leaves that are listed
+    CheckRow(THREE, Asked(runs=1), 'leaf 0 [0] done; leaves 1 more yes', 0),
+    # a run without an end
+    CheckRow(ON_AND_ON, Asked(fuel=5), 'leaf 0 [] cut; leaves 1 more no', 0),
+    # as many runs, and as much fuel, as can be asked for
+    CheckRow(THREE, Asked(runs=65536), OF_THREE, 1),
+    CheckRow(THREE, Asked(fuel=1000000), OF_THREE, 1),
+    # the mode is tested before the file, and the file before the script
+    CheckRow(EMPTY, Asked('fast'), '', 2, 'mpdbg: bad mode'),
+    CheckRow(None, Asked('fast'), '', 2, 'mpdbg: bad mode'),
+    CheckRow('mpd 1;ranks 1;print', Asked('fast'), '', 2, 'mpdbg: bad mode'),
+    CheckRow(None, Asked(), '', 3, 'mpdbg: device'),
+    CheckRow('mpd 1;ranks 1;print', Asked(), '', 2, 'mpdbg: script refused 4 expected at 19 line 1'),
+    CheckRow('mpd 1;\nranks 1;\nx = 1;\n', Asked(BUFFERED, 1, 1, True), '', 2, 'mpdbg: script refused 5 unknown-name at 16 line 3'),
+
+    # the runs of THREE have 13 and 10 steps, the seventh of which is chosen: each is cut where a step is left and no fuel
+    CheckRow(THREE, Asked(fuel=13), OF_THREE, 1),
+    *(CheckRow(THREE, Asked(fuel=fuel), 'leaf 0 [0] cut; leaf 1 [1] deadlock 0.1 1.0; leaves 2 more no', 1) for fuel in (12, 10)),
+    *(CheckRow(THREE, Asked(fuel=fuel, witnesses=True), 'leaf 0 [0] cut; leaf 1 [1] cut; leaves 2 more no', 0) for fuel in (9, 7)),
+    *(CheckRow(THREE, Asked(fuel=fuel), 'leaf 0 [] cut; leaves 1 more no', 0) for fuel in (6, 5, 1)),
+    CheckRow(THREE, Asked(runs=1, fuel=6), 'leaf 0 [] cut; leaves 1 more no', 0),
+    # a run that is at its end has its outcome, also where no fuel is left
+    CheckRow(EMPTY, Asked(fuel=1), 'leaf 0 [] done; leaves 1 more no', 0),
+    CheckRow(UNRECEIVED, Asked(fuel=1), 'leaf 0 [] deadlock 0.0; leaves 1 more no', 1),
+    CheckRow(UNRECEIVED, Asked(BUFFERED, fuel=1), 'leaf 0 [] cut; leaves 1 more no', 0),
+    CheckRow(UNRECEIVED, Asked(BUFFERED, fuel=2), 'leaf 0 [] leftovers 0.0; leaves 1 more no', 0),
+    CheckRow(UNRECEIVED.replace('send', 'ssend'), Asked(BUFFERED), 'leaf 0 [] deadlock 0.0; leaves 1 more no', 1),
+    # each round takes three local steps, a match and a wake; where the fuel ends before the match, that isn't chosen
+    CheckRow(TO_ITSELF, Asked(fuel=14), 'leaf 0 [0 0 0] cut; leaves 1 more no', 0),
+    CheckRow(TO_ITSELF, Asked(fuel=13), 'leaf 0 [0 0] cut; leaves 1 more no', 0),
+    # there are no more where there are just so many
+    CheckRow(THREE, Asked(runs=2), OF_THREE, 1),
+    # one candidate is a choice too
+    CheckRow(BOTH_ANY, Asked(), 'leaf 0 [0 0] done; leaf 1 [1 0] done; leaves 2 more no', 0),
+    CheckRow(LOST, Asked(witnesses=True), 'leaf 0 [0] leftovers 0.1; leaves 1 more no', 0),
+    # candidates of two receivers, of which each leaves the other; and a receive that names its source, which is no choice
+    CheckRow(TWO_RECEIVERS, Asked(), 'leaf 0 [0 0] done; leaf 1 [1 0] done; leaves 2 more no', 0),
+    CheckRow(NAMED_AND_ANY, Asked(), 'leaf 0 [0] done; leaves 1 more no', 0),
+    # what was received decides how it goes on: with one more choice or none, for ever or not
+    CheckRow(BY_VALUE.replace('STATEMENT', 'if x == 1 { recv x from any tag any; }'), Asked(),
+             'leaf 0 [0 0] done; leaf 1 [1] leftovers 1.0; leaves 2 more no', 0),
+    CheckRow(BY_VALUE.replace('STATEMENT', 'if x == 2 { while 1 { } }'), Asked(fuel=50),
+             'leaf 0 [0] leftovers 2.0; leaf 1 [1] cut; leaves 2 more no', 0),
+    # a trap is found too, but has no witness; of what isn't listed nothing is said
+    CheckRow(LOW_WANTED, Asked(witnesses=True), f'leaf 0 [0] deadlock 2.0; witness 0: {SIX}, match 1.0 0.0, wake 0, local 0, wake 1; '
+             'leaf 1 [1] trap 0 assert; leaves 2 more no', 1),
+    CheckRow(LOW_WANTED, Asked(BUFFERED, witnesses=True), 'leaf 0 [0] leftovers 2.0; leaf 1 [1] trap 0 assert; leaves 2 more no', 1),
+    CheckRow(LOW_WANTED, Asked(BUFFERED, runs=1, witnesses=True), 'leaf 0 [0] leftovers 2.0; leaves 1 more yes', 0),
+    CheckRow(ONE_TRAPPED, Asked(witnesses=True), 'leaf 0 [] trap 0 assert; leaves 1 more no', 1),
+    # witnesses of barriers
+    CheckRow(ONE_ENDED, Asked(witnesses=True), 'leaf 0 [] deadlock 1.0; witness 0: local 0, local 1, local 1; leaves 1 more no', 1),
+    CheckRow(TWICE, Asked(BUFFERED, witnesses=True), 'leaf 0 [] deadlock 0.1; witness 0: local 0, local 1, release, local 0, local 0, '
+             'local 1; leaves 1 more no', 1),
+    # eleven candidates, and then ten: by number, not by digits
+    CheckRow(gathering(12, 1), Asked(), gathered(12, 1, 11, 'no'), 0),
+    CheckRow(gathering(12, 1), Asked(runs=10), gathered(12, 1, 10, 'yes'), 0),
+    CheckRow(gathering(12, 2), Asked(), gathered(12, 2, 110, 'no'), 0),
+    CheckRow(gathering(12, 2), Asked(runs=109), gathered(12, 2, 109, 'yes'), 0),
+    # 1,000 runs, where no other number is asked for
+    CheckRow(gathering(13, 3), Asked(), gathered(13, 3, 1000, 'yes'), 0),
+    CheckRow(gathering(13, 3), Asked(runs=1320), gathered(13, 3, 1320, 'no'), 0))
+
+
+def counting(times, statements):
+    """A script of twice as many steps, one more, and those of the statements."""
+    return COUNTING.replace('TIMES', str(times)).replace('STATEMENTS', statements)
+
+
+# What takes the model long, and is asked of programs alone.
+LONG_CHECKS = (
+    # fuel for 100,000 steps, where no other number is asked for
+    CheckRow(counting(49999, 'recv i from 0 tag 0;'), Asked(witnesses=True),
+             f'leaf 0 [] deadlock 0.0; witness 0: {", ".join(["local 0"] * 100000)}; leaves 1 more no', 1),
+    CheckRow(counting(49999, 'print 1; recv i from 0 tag 0;'), Asked(witnesses=True), 'leaf 0 [] cut; leaves 1 more no', 0),
+    # as much fuel as there may be steps
+    CheckRow(ON_AND_ON, Asked(fuel=1000000), 'leaf 0 [] cut; leaves 1 more no', 0),
+    CheckRow(counting(499999, 'print 1;'), Asked(fuel=1000000), 'leaf 0 [] done; leaves 1 more no', 0),
+    CheckRow(counting(499999, 'print 1;'), Asked(fuel=999999), 'leaf 0 [] cut; leaves 1 more no', 0),
+    CheckRow(counting(499999, 'print 1; print 1;'), Asked(fuel=1000000), 'leaf 0 [] cut; leaves 1 more no', 0))
+
+# Words of the command line that are wrong; they are tested before the mode, which is wrong too.
+MISTAKES = ('--runs 0', '--runs 65537', '--runs', '--runs -1', '--fuel 0', '--fuel 1000001', '--fuel', '--fuel 1.5', '--fuel x',
+            '--port 5', '--no-such-option', '--witness 1')
+
+
+class PlaceRow(NamedTuple):
+    """A script, words to where it is explored, how many runs and how much fuel, and the lines of the report with witnesses."""
+    script: str
+    words: str
+    runs: int
+    fuel: int
+    lines: str
+
+
+PLACES = (
+    # from the choice on: its numbers are those of what is chosen from there on, and a witness has the steps before too
+    PlaceRow(THREE, SIX, 10, 100, WITNESSED),
+    PlaceRow(THREE, SIX, 1, 100, 'leaf 0 [0] done; leaves 1 more yes'),
+    # fuel is for the steps from there: seven to the one end, four to the other
+    PlaceRow(THREE, SIX, 10, 7, WITNESSED),
+    *(PlaceRow(THREE, SIX, 10, fuel, WITNESSED.replace('done', 'cut')) for fuel in (6, 4)),
+    PlaceRow(THREE, SIX, 10, 3, 'leaf 0 [0] cut; leaf 1 [1] cut; leaves 2 more no'),
+    PlaceRow(THREE, SIX, 10, 0, 'leaf 0 [] cut; leaves 1 more no'),
+    # undone steps have no part in it
+    PlaceRow(THREE, f'{SIX}, match 1.0 0.0, back', 10, 7, WITNESSED),
+    PlaceRow(THREE, f'{SIX}, match 1.0 0.0, wake 0, goto 2', 10, 11, WITNESSED),
+    # behind the choice, and at the end
+    PlaceRow(THREE, f'{SIX}, match 2.0 0.0', 10, 3, f'leaf 0 [] deadlock 0.1 1.0; witness 0: {STUCK}; leaves 1 more no'),
+    PlaceRow(THREE, STUCK, 10, 0, f'leaf 0 [] deadlock 0.1 1.0; witness 0: {STUCK}; leaves 1 more no'),
+    # no fuel
+    PlaceRow(EMPTY, '', 1, 0, 'leaf 0 [] done; leaves 1 more no'),
+    PlaceRow(ON_AND_ON, '', 1, 0, 'leaf 0 [] cut; leaves 1 more no'),
+    PlaceRow(UNRECEIVED, 'local 0', 1, 0, 'leaf 0 [] deadlock 0.0; witness 0: local 0; leaves 1 more no'))
+
+
+class WitnessRow(NamedTuple):
+    """A script in a mode, steps and blocked calls, and why they are no witness: nothing, a number, or a number at a place."""
+    script: str
+    mode: str
+    steps: str
+    blocked: str
+    wanted: str
+
+
+WITNESSES = (
+    WitnessRow(THREE, RENDEZVOUS, STUCK, '0.1 1.0', ''),
+    WitnessRow(THREE, RENDEZVOUS, STUCK.removesuffix(', wake 2'), '0.1 1.0', '33'),
+    WitnessRow(THREE, RENDEZVOUS, f'wake 0, {STUCK}', '0.1 1.0', '32 at 0'),
+    WitnessRow(THREE, RENDEZVOUS, STUCK.replace('local 0', 'wake 0', 1), '0.1 1.0', '32 at 0'),
+    WitnessRow(THREE, RENDEZVOUS, STUCK, '0.1', '34'),
+
+    # the steps needn't be those that are decided
+    WitnessRow(THREE, RENDEZVOUS, 'local 2, local 2, local 1, local 1, local 0, local 0, match 2.0 0.0, wake 2, wake 0, local 0',
+               '0.1 1.0', ''),
+    WitnessRow(HEAD_TO_HEAD, RENDEZVOUS, 'local 1, local 0', '0.0 1.0', ''),
+    WitnessRow(TWICE, RENDEZVOUS, 'local 1, local 0, release, local 1, local 0, local 0', '0.1', ''),
+    # the first step that isn't enabled counts, one behind the end too, whatever stands behind it and whatever is said of the calls
+    WitnessRow(THREE, RENDEZVOUS, f'{STUCK}, wake 2', '0.1 1.0', '32 at 10'),
+    WitnessRow(THREE, RENDEZVOUS, f'{SIX}, match 2.0 0.0, match 2.0 0.0, wake 9', '', '32 at 7'),
+    WitnessRow(TWICE, RENDEZVOUS, 'local 0, local 1, release, release, local 0, local 0, local 1', '0.1', '32 at 3'),
+    WitnessRow(UNRECEIVED, RENDEZVOUS, 'local 0, wake 0', '0.0', '32 at 1'),
+    WitnessRow(UNRECEIVED, RENDEZVOUS, 'local 0, release', '0.0', '32 at 1'),
+    *(WitnessRow(THREE, RENDEZVOUS, f'local 0, {step}', '9.9', '32 at 1') for step in (
+        'local 3', 'local 999999999', 'wake 3', 'match 9.0 0.0', 'match 1.0 0.9', 'match 0.0 0.0')),
+    # an end that is no deadlock comes before other calls
+    WitnessRow(THREE, RENDEZVOUS, STUCK.removesuffix(', wake 2'), '0.1', '33'),
+    WitnessRow(THREE, RENDEZVOUS, '', '', '33'),
+    WitnessRow(THREE, RENDEZVOUS, f'{SIX}, match 1.0 0.0, wake 0, local 0, wake 1, match 2.0 0.1, wake 0, wake 2', '', '33'),
+    WitnessRow(EMPTY, RENDEZVOUS, '', '', '33'),
+    WitnessRow(HEAD_TO_HEAD, BUFFERED, 'local 0, local 1', '0.0 1.0', '33'),
+    WitnessRow(UNRECEIVED, BUFFERED, 'local 0, wake 0', '0.0', '33'),
+    WitnessRow(ONE_TRAPPED, RENDEZVOUS, 'local 0, local 1, local 1', '1.0', '33'),
+    # the calls are those that are blocked, each once, by rank
+    *(WitnessRow(THREE, RENDEZVOUS, STUCK, blocked, '34') for blocked in (
+        '', '1.0', '1.0 0.1', '0.1 1.0 2.0', '0.1 0.1 1.0', '0.1 1.0 1.0', '0.0 1.0', '0.1 1.1', '0.1 2.0')))
+
+
+def check_problem(row):
+    """What a check answers otherwise than a row wants; None where nothing is."""
+    said = answer(None if row.script is None else row.script.encode(), row.asked)
+    return None if said == wanted_result(row) else f'{said}'
+
+
+def wanted_result(row):
+    """What a check must write by a row, and its status."""
+    lines, errors = (text.replace('; ', '\n').encode() + b'\n' if text else b'' for text in (row.lines, row.errors))
+    return Result(lines, errors, row.status)
+
+
+def place_problem(row):
+    """What the report of a place along the steps says otherwise than a row wants; None where nothing is."""
+    walked = Debugger(read_script(row.script.encode()))
+    refused = [word for word in row.words.split(', ') if word and not walked.answer(word.encode()).startswith('ok')]
+    said = report_text(explored(walked, row.runs, row.fuel), True).removesuffix('\n').replace('\n', '; ')
+    return None if not refused and said == row.lines else f'refused {refused}, reported {said}'
+
+
+def steps_of(text):
+    return tuple(step_of(step.encode().split()) for step in text.split(', ') if step)
+
+
+def witness_problem(row):
+    """What a witness is answered otherwise than a row wants; None where nothing is."""
+    steps, blocked = steps_of(row.steps), tuple(call_id_of(call.encode()) for call in row.blocked.split())
+    refused = verify(read_script(row.script.encode()), row.mode, steps, blocked)
+    said = ' at '.join(str(part) for part in refused or () if part is not None)
+    return None if said == row.wanted else f'answered {said or "accepted"}'
+
+
+def problems():
+    """The name of each row, with what is wrong in it, or None."""
+    return ([(f'check {row.script} {row.asked}', check_problem(row)) for row in CHECKS]
+            + [(f'explored {row.script} behind {row.words}, fuel {row.fuel}', place_problem(row)) for row in PLACES]
+            + [(f'witness of {row.script} ({row.mode}): {row.steps}: {row.blocked}', witness_problem(row)) for row in WITNESSES])
