@@ -7,13 +7,12 @@ use Rattle.mpd_model.specs.declared.step.Step.{Step}
 use Rattle.mpd_model.specs.World.{World}
 use Rattle.mpd_model.specs.Trail.{Trail, Standing, IsReached, kept, world_of, gone_back, forgotten}
 use Rattle.mpd_model.specs.Decisions.{decision, CanFollow}
-use Rattle.mpd_trail.specs.Run.{first_of}
 use Rattle.mpd_explore.specs.declared.report.Ending.{Ending}
 use Rattle.mpd_explore.specs.declared.report.Leaf as leaf
 use Rattle.mpd_explore.specs.declared.search.Open.{Open}
 use Rattle.mpd_explore.specs.declared.search.Bounds.{Bounds}
 use Rattle.mpd_explore.specs.Walk.{Run, prefixed, walk}
-use Rattle.mpd_explore.specs.Search.{picked, later, to_come, At, Moved, Advanced, Safe}
+use Rattle.mpd_explore.specs.Search.{picked, later, to_come, Moved, Advanced}
 use Rattle.mpd_explore.specs.Report.{shown, to_show}
 use Rattle.mpd_explore.proofs.RunLemmas.{walk_some, prefixed_here}
 

@@ -1,5 +1,5 @@
 -- One step along the choices of a run.
-use Rattle.std.proofs.Common.{◌≡◌, ℕ, zero, suc, ◌<◌, ◌≤◌, ◌+◌, ◌-◌, List, [], ◌∷◌, ◌++◌, length, take, drop, slice_get, Option, Some, None, IsSome, refl, sym, ap, ◌∙◌, arith, append_assoc, append-nil}
+use Rattle.std.proofs.Common.{◌≡◌, ℕ, suc, ◌<◌, ◌+◌, ◌-◌, List, [], ◌∷◌, ◌++◌, length, slice_get, Option, Some, None, IsSome, refl, sym, ap, ◌∙◌, arith, append_assoc, append-nil}
 use Rattle.std.specs.Option.{option_map}
 use Rattle.std.proofs.lemmas.Option.{slice_get_within}
 use Rattle.mpd_model.specs.declared.step.Step.{Step}
@@ -7,15 +7,14 @@ use Rattle.mpd_model.specs.declared.outcome.Outcome.{Outcome}
 use Rattle.mpd_model.specs.declared.decision.Decision.{Decision}
 use Rattle.mpd_model.specs.declared.decision.Decision.TheVariants.{Forced, Choice, Leaf}
 use Rattle.mpd_model.specs.World.{World}
-use Rattle.mpd_model.specs.Next.{next}
 use Rattle.mpd_model.specs.Decisions.{decision}
 use Rattle.mpd_model.specs.Trail.{Standing, kept}
 use Rattle.mpd_trail.specs.Run.{first_of}
 use Rattle.mpd_explore.specs.declared.search.Bounds.{Bounds}
-use Rattle.mpd_explore.specs.Walk.{Run, here, stepped, chosen, run_from, run_taken, run_followed, run_stopped, run_at, steps_by}
+use Rattle.mpd_explore.specs.Walk.{Run, stepped, chosen, run_from, run_taken, run_followed, run_stopped, run_at, steps_by}
 use Rattle.mpd_explore.specs.Search.{At}
 use Rattle.mpd_explore.specs.Witness.{ahead, Followed, Follows}
-use Rattle.mpd_explore.proofs.SearchLemmas.{Went, at_pushed, length-kept}
+use Rattle.mpd_explore.proofs.SearchLemmas.{Went, at_pushed}
 use Rattle.mpd_explore.proofs.WitnessLemmas.{run_is}
 
 inner_some : (f : Run → Run) (o : Option Run) → IsSome (option_map f o) → IsSome o

@@ -1,5 +1,5 @@
 -- What one step of the search makes of the runs to come.
-use Rattle.std.proofs.Common.{◌≡◌, ℕ, zero, suc, ◌<◌, ◌≤◌, ◌+◌, ◌-◌, Bool, true, false, List, [], ◌∷◌, ◌++◌, length, take, drop, map, reverse, get_or, Option, Some, None, IsSome, refl, sym, ap, ◌∙◌, arith, append_assoc}
+use Rattle.std.proofs.Common.{◌≡◌, ℕ, zero, suc, ◌<◌, ◌≤◌, ◌+◌, ◌-◌, true, List, [], ◌∷◌, ◌++◌, length, take, drop, map, reverse, get_or, Option, Some, None, refl, sym, ap, ◌∙◌, arith, append_assoc}
 use Rattle.std.proofs.lemmas.List.{length-append, length-take, take-append-le, take_all, drop_all, reverse-append}
 use Rattle.std.proofs.Math.Seq.{take-append_seam, drop-cons}
 use Rattle.mpd_model.specs.declared.outcome.Outcome.{Outcome}
@@ -12,10 +12,10 @@ use Rattle.mpd_model.specs.Trail.{Trail, Standing, IsReached, kept}
 use Rattle.mpd_model.specs.Decisions.{decision, CanFollow}
 use Rattle.mpd_trail.specs.Run.{first_of}
 use Rattle.mpd_explore.specs.declared.report.Ending.{Ending}
-use Rattle.mpd_explore.specs.declared.report.Ending.TheVariants.{Ended, Cut}
+use Rattle.mpd_explore.specs.declared.report.Ending.TheVariants.{Ended}
 use Rattle.mpd_explore.specs.declared.search.Open.{Open}
 use Rattle.mpd_explore.specs.declared.search.Bounds.{Bounds}
-use Rattle.mpd_explore.specs.Walk.{Run, here, stepped, chosen, prefixed, runs_of, branches, followed, stopped, walk}
+use Rattle.mpd_explore.specs.Walk.{Run, here, stepped, chosen, prefixed, runs_of, branches, stopped, walk}
 use Rattle.mpd_explore.specs.Search.{AllEnabled, picked, others, later, to_come, EnabledAt, Stands, At, Moved, Advanced, Safe}
 use Rattle.mpd_explore.proofs.RunLemmas.{map_stepped, map_chosen, map_join, walk_is, walk_empty, branch_on}
 
@@ -173,8 +173,8 @@ entered_moved first b fs d e f a at room choice follow depth index read went =
       },
       omega (arith, went.depth),
       ap (λ rs. map (prefixed (picked fs) (kept d.trail)) rs ++ later first b fs (kept d.trail)) now
-      ∙ entered first b f fs (kept d.trail) d.world e.world a long (at_world first b fs d at) split went.world
-      ∙ ap (λ p. to_come first b (f ∷ fs) p e.world) (sym went.kept_is),
+          ∙ entered first b f fs (kept d.trail) d.world e.world a long (at_world first b fs d at) split went.world
+          ∙ ap (λ p. to_come first b (f ∷ fs) p e.world) (sym went.kept_is),
     )
 
 -- ---- back to a choice
@@ -226,11 +226,11 @@ retaken first b f g fs d e a at depth room all is within read went =
     } in (
       rw is at_h,
       ap (λ (p : List Step). map (prefixed (picked fs) p) (others (c f.depth) (fold first p) f) ++ later first b fs p) whole
-      ∙ ap (λ o. map (prefixed (picked fs) (kept d.trail)) (others (c f.depth) o f) ++ later first b fs (kept d.trail)) (at_world first b fs d at)
-      ∙ ap (λ m. map (prefixed (picked fs) (kept d.trail)) (branches (c m) d.world (suc f.index) (drop (suc f.index) f.candidates)) ++ later first b fs (kept d.trail)) long
-      ∙ entered first b h fs (kept d.trail) d.world e.world a long (at_world first b fs d at) (drop_at f.candidates (suc f.index) a within read) went.world
-      ∙ ap (λ p. to_come first b (h ∷ fs) p e.world) (sym went.kept_is)
-      ∙ ap (λ k. to_come first b (k ∷ fs) (kept e.trail) e.world) (sym is),
+          ∙ ap (λ o. map (prefixed (picked fs) (kept d.trail)) (others (c f.depth) o f) ++ later first b fs (kept d.trail)) (at_world first b fs d at)
+          ∙ ap (λ m. map (prefixed (picked fs) (kept d.trail)) (branches (c m) d.world (suc f.index) (drop (suc f.index) f.candidates)) ++ later first b fs (kept d.trail)) long
+          ∙ entered first b h fs (kept d.trail) d.world e.world a long (at_world first b fs d at) (drop_at f.candidates (suc f.index) a within read) went.world
+          ∙ ap (λ p. to_come first b (h ∷ fs) p e.world) (sym went.kept_is)
+          ∙ ap (λ k. to_come first b (k ∷ fs) (kept e.trail) e.world) (sym is),
     )
 
 -- ---- what is below the base stays

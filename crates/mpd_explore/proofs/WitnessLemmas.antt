@@ -1,5 +1,5 @@
 -- Each run of the walk is told by its choices, and leads where it says.
-use Rattle.std.proofs.Common.{◌≡◌, ℕ, zero, suc, ◌<◌, ◌≤◌, ◌+◌, List, [], ◌∷◌, ◌++◌, length, take, drop, map, slice_get, Option, Some, None, Ok, Err, Result, IfOk, refl, sym, ap, ◌∙◌}
+use Rattle.std.proofs.Common.{◌≡◌, ℕ, zero, suc, List, [], ◌∷◌, ◌++◌, take, drop, map, slice_get, Option, Some, None, Ok, Err, Result, IfOk, refl, ap, ◌∙◌}
 use Rattle.std.specs.Option.{option_and_then, option_map}
 use Rattle.std.specs.List.{AllByRecursion}
 use Rattle.mpd_model.specs.declared.call.Mode.{Mode}
@@ -17,9 +17,9 @@ use Rattle.mpd_trail.proofs.KeptLemmas.{fold-append}
 use Rattle.mpd_explore.specs.declared.report.Ending.{Ending}
 use Rattle.mpd_explore.specs.declared.report.Ending.TheVariants.{Ended, Cut}
 use Rattle.mpd_explore.specs.declared.report.Leaf as leaf
-use Rattle.mpd_explore.specs.Walk.{Run, here, stepped, chosen, runs_of, branches, followed, stopped, walk, run_from, run_taken, run_followed, run_stopped, run_at}
+use Rattle.mpd_explore.specs.Walk.{Run, stepped, chosen, runs_of, branches, followed, stopped, walk, run_from, run_taken, run_followed, run_stopped, run_at}
 use Rattle.mpd_explore.specs.Report.{shown}
-use Rattle.mpd_explore.specs.Witness.{IsWitness, WitnessBy, HasWitness}
+use Rattle.mpd_explore.specs.Witness.{WitnessBy, HasWitness}
 
 -- ---- where a run leads
 

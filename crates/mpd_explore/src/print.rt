@@ -46,12 +46,7 @@ fn push_ending(alloc: Global, out: &mut String, ending: &Ending) -> Result<(), A
 }
 
 /// Adds the line of a leaf.
-fn push_leaf(
-    alloc: Global,
-    out: &mut String,
-    number: usize,
-    leaf: &Leaf,
-) -> Result<(), AllocError>
+fn push_leaf(alloc: Global, out: &mut String, number: usize, leaf: &Leaf) -> Result<(), AllocError>
     ensures { OnOk result (string_bytes out.new ≡ string_bytes out.old ++ leaf_line number leaf.now) }
 {
     write!(out, "leaf {number} [")?;

@@ -94,12 +94,7 @@ fn check_end(alloc: Global, core: &Core<'_>, blocked: &[CallId]) -> Result<(), W
 /// refused for the first step that is not enabled where it stands (32), else where the end is no deadlock (33), else where other
 /// calls are blocked in it (34). `Memory` is that a growth was refused.
 #[tactic(auto, using(crate::proofs::VerifyLemmas::verifying))]
-pub fn verify(
-    alloc: Global,
-    code: &Code,
-    mode: Mode,
-    witness: &Witness,
-) -> Result<(), WitnessFault>
+pub fn verify(alloc: Global, code: &Code, mode: Mode, witness: &Witness) -> Result<(), WitnessFault>
     ensures ok { OnOk result (IsWitness code.now.program mode witness.now) }
     ensures fault { IfErr result (λ e. e ≢ WitnessFault.Memory → HasFault (start code.now.program mode) 0 witness.now.steps witness.now.blocked e) }
     ensures accepted { IsWitness code.now.program mode witness.now → IfErr result (λ e. e ≡ WitnessFault.Memory) }

@@ -1,4 +1,4 @@
-use Rattle.std.proofs.Common.{◌≡◌, ◌-◌, ◌++◌, [], IsSome}
+use Rattle.std.proofs.Common.{◌≡◌, ◌++◌, [], IsSome}
 use Rattle.mpd_model.specs.Trail.{kept}
 use Rattle.mpd_trail.specs.Run.{first_of}
 use Rattle.mpd_trail.specs.Views.{standing_of}

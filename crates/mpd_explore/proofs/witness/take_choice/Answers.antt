@@ -5,7 +5,6 @@ use Rattle.mpd_model.specs.declared.step.Step.{Step}
 use Rattle.mpd_model.specs.Trail.{Trail}
 use Rattle.mpd_trail.specs.Run.{first_of}
 use Rattle.mpd_trail.specs.Views.{standing_of}
-use Rattle.mpd_explore.specs.Witness.{Followed}
 use Rattle.mpd_explore.proofs.RunLemmas.{enabled_at}
 use Rattle.mpd_explore.proofs.SearchLemmas.{Went, safe_pushed}
 use Rattle.mpd_explore.proofs.FollowLemmas.{choice_within, choice_followed}
