@@ -11,9 +11,11 @@ use Rattle.clap.specs.Faults.{fault_of, walk_fault, settle_fault, turn_fault, st
 use Rattle.clap.specs.Simple.{names_of, subcommand_of, entered}
 use Rattle.clap.specs.Walk.{Held, Walk, Names, idle, Step, value, trailing, Outcome, plain, nothing_held, finished, settled, walk_from, walked, arg_by_long, arg_by_short, long_or_other, short_or_plain, after_flag, after_step, subcommand_or_other, bundle, bundle_met, subcommand_met}
 use Rattle.clap.proofs.OnLiterals.{clap_on_literals}
-use Rattle.mpd_options.specs.Asked.{Asked, traced, meant, found_of_command, among_options}
+use Rattle.mpd_options.specs.Asked.{Asked, Tool, behind, checker, found_of_command, meant, among_options, tool_named, tracer, wanted}
 use Rattle.mpd_options.specs.Program.{mpdbg_app}
-use Rattle.mpd_options.proofs.Walks.{Agrees, law, ready, none, faults, rows_at, walk_at, fails_first, fails_then, dd, reads, reads_dashes, reads_mode, reads_long, reads_letters, reads_no_letters, reads_plain}
+use Rattle.mpd_options.proofs.Ends.{Agrees, fails_first, fails_then}
+use Rattle.mpd_options.proofs.Items.{called}
+use Rattle.mpd_options.proofs.Walks.{State, dd, faults, law, reads, reads_dashes, reads_letters, reads_long, reads_no_letters, reads_plain, ready, rows_at, walk_at}
 
 abbrev top : App
 top = built mpdbg_app
@@ -59,40 +61,51 @@ abbrev pub AgreesAll : Option Asked → Kinds → Option (Text × List Row) → 
 AgreesAll None ks command = ks ≢ []
 AgreesAll (Some x) ks command = (ks ≡ []) × (found_of_command command ≡ Some x)
 
-behind_trace : (words : List Text) → walk_over (codes "trace" ∷ words) ≡ stopped_at start (codes "trace") words
+behind_command : (t : Tool) (words : List Text) → walk_over (called t ∷ words) ≡ stopped_at start (called t) words
 unfolding clap_on_literals
-behind_trace words = stays words [] start (codes "trace")
+behind_command tracer words = stays words [] start (codes "trace")
+behind_command checker words = stays words [] start (codes "check")
 
-trace_walk : (words : List Text) → walk_fault shape names start (codes "trace" ∷ words) ≡ []
+command_walk : (t : Tool) (words : List Text) → walk_fault shape names start (called t ∷ words) ≡ []
 unfolding clap_on_literals
-trace_walk words = no_fault words [] start (codes "trace")
+command_walk tracer words = no_fault words [] start (codes "trace")
+command_walk checker words = no_fault words [] start (codes "check")
 
 and_nothing : (ks : Kinds) → or_else ks [] ≡ ks
 and_nothing [] = refl
 and_nothing (k ∷ ks) = refl
 
-whole_trace : (words : List Text) → whole_fault [] (stopped_at start (codes "trace") words) ≡ faults (walk_at (ready none false)) words
+abbrev at_first : State
+at_first = ready [] None false
+
+whole_command : (t : Tool) (words : List Text) → whole_fault [] (stopped_at start (called t) words) ≡ faults t (walk_at at_first) words
 unfolding clap_on_literals
-whole_trace words = and_nothing (faults (walk_at (ready none false)) words)
+whole_command tracer words = and_nothing (faults tracer (walk_at at_first) words)
+whole_command checker words = and_nothing (faults checker (walk_at at_first) words)
 
-trace_fault : (words : List Text) → fault_of mpdbg_app (codes "trace" ∷ words) ≡ faults (walk_at (ready none false)) words
-trace_fault words =
-    all_faults (codes "trace" ∷ words) ∙ ap (λ ks. whole_fault ks (walk_over (codes "trace" ∷ words))) (trace_walk words) ∙ ap (λ end. whole_fault [] end) (behind_trace words)
-    ∙ whole_trace words
+command_fault : (t : Tool) (words : List Text) → fault_of mpdbg_app (called t ∷ words) ≡ faults t (walk_at at_first) words
+command_fault t words =
+    all_faults (called t ∷ words) ∙ ap (λ ks. whole_fault ks (walk_over (called t ∷ words))) (command_walk t words) ∙ ap (λ end. whole_fault [] end) (behind_command t words) ∙ whole_command t words
 
-trace_found : (words : List Text) → subcommand_of mpdbg_app (codes "trace" ∷ words) ≡ Some (codes "trace", rows_at (walk_at (ready none false)) words)
-trace_found words = ap (λ (w : Walk). entered top w.stopped) (behind_trace words)
+entered_at : (t : Tool) (words : List Text) → entered top (Some (called t, words)) ≡ Some (called t, rows_at t (walk_at at_first) words)
+entered_at tracer words = refl
+entered_at checker words = refl
 
-lift : (o : Option Asked) (ks : Kinds) (rows : List Row) → Agrees o ks rows → AgreesAll o ks (Some (codes "trace", rows))
-lift None ks rows h = h
-lift (Some x) ks rows h = h
+command_found : (t : Tool) (words : List Text) → subcommand_of mpdbg_app (called t ∷ words) ≡ Some (called t, rows_at t (walk_at at_first) words)
+command_found t words = ap (λ (w : Walk). entered top w.stopped) (behind_command t words) ∙ entered_at t words
 
-trace_law : (words : List Text) → AgreesAll (traced words among_options None None) (fault_of mpdbg_app (codes "trace" ∷ words)) (subcommand_of mpdbg_app (codes "trace" ∷ words))
-trace_law words =
-    let o = traced words among_options None None in
-    let P : Kinds → Type 0 = λ ks. AgreesAll o ks (subcommand_of mpdbg_app (codes "trace" ∷ words)) in
-    let Q : Option (Text × List Row) → Type 0 = λ c. AgreesAll o (faults (walk_at (ready none false)) words) c in
-    subst P (sym (trace_fault words)) (subst Q (sym (trace_found words)) (lift o (faults (walk_at (ready none false)) words) (rows_at (walk_at (ready none false)) words) (law words (ready none false))))
+lift : (t : Tool) (o : Option Asked) (ks : Kinds) (rows : List Row) → Agrees t o ks rows → AgreesAll o ks (Some (called t, rows))
+lift t None ks rows h = h
+lift tracer (Some x) ks rows h = h
+lift checker (Some x) ks rows h = h
+
+command_law : (t : Tool) (words : List Text) → AgreesAll (wanted t words among_options []) (fault_of mpdbg_app (called t ∷ words)) (subcommand_of mpdbg_app (called t ∷ words))
+command_law t words =
+    let o = wanted t words among_options [] in
+    let P : Kinds → Type 0 = λ ks. AgreesAll o ks (subcommand_of mpdbg_app (called t ∷ words)) in
+    let Q : Option (Text × List Row) → Type 0 = λ c. AgreesAll o (faults t (walk_at at_first) words) c in
+    subst P (sym (command_fault t words))
+    (subst Q (sym (command_found t words)) (lift t o (faults t (walk_at at_first) words) (rows_at t (walk_at at_first) words) (law t words at_first (tt, tt))))
 
 -- ---- another first word
 
@@ -152,17 +165,21 @@ unfolding flags_fault
 top_letters [] x xs e = no_chars x xs e
 top_letters (y ∷ ys) x xs e = rw e (top_letter x (drop (length (encode_utf8 x)) (y ∷ ys)) _)
 
+-- the word names no command
+abbrev IsOther : Text → Type 0
+IsOther word = (bytes_eq (codes "trace") word ≡ false) × (bytes_eq (codes "check") word ≡ false) × (bytes_eq (codes "help") word ≡ false)
+
 -- the turn of a first word, by the command that it names
 abbrev met_turn : Option Text → Text → Kinds
 met_turn met word =
     let step = subcommand_or_other shape.rules met idle 1 word nothing_held in
     or_else (other_fault shape met word nothing_held) (step_fault shape 1 step.0 step.1)
 
-unmet : (word : Text) → bytes_eq (codes "trace") word ≡ false → bytes_eq (codes "help") word ≡ false → subcommand_met names idle word ≡ None
-unmet word t h = rw (t, h) refl
+unmet : (word : Text) → IsOther word → subcommand_met names idle word ≡ None
+unmet word other = rw (other.0, other.1, other.2) refl
 
-top_turns : (word : Text) → bytes_eq (codes "trace") word ≡ false → bytes_eq (codes "help") word ≡ false → turn_fault shape names start word ≡ met_turn None word
-top_turns word t h = ap (λ m. met_turn m word) (unmet word t h)
+top_turns : (word : Text) → IsOther word → turn_fault shape names start word ≡ met_turn None word
+top_turns word other = ap (λ m. met_turn m word) (unmet word other)
 
 stray_fails : (word : Text) → step_fault shape 1 nothing_held value ≢ []
 stray_fails word = λ z. cc
@@ -197,10 +214,10 @@ as_short : (word : Text) (s : Option Text) → bytes_eq word dd ≡ false → lo
 as_short word s d l e = as_long word None d l ∙ ap (λ x. short_turn word x) e
 
 -- `--` alone, or with words behind it
-dashes_turn : (word : Text) → bytes_eq (codes "trace") word ≡ false → bytes_eq (codes "help") word ≡ false → bytes_eq word dd ≡ true → walked shape.rules names start word ≡ record start { is_trailing = true }
+dashes_turn : (word : Text) → IsOther word → bytes_eq word dd ≡ true → walked shape.rules names start word ≡ record start { is_trailing = true }
 unfolding walked
-dashes_turn word t h d =
-    ap (λ m. let step = subcommand_or_other shape.rules m idle 1 word nothing_held in after_step shape.rules word start step.0 step.1) (unmet word t h)
+dashes_turn word other d =
+    ap (λ m. let step = subcommand_or_other shape.rules m idle 1 word nothing_held in after_step shape.rules word start step.0 step.1) (unmet word other)
     ∙ ap (λ b. let step = if b then (let q : Held × Step = (nothing_held, trailing 1) in q) else long_or_other shape.rules idle word (long_of word) nothing_held in after_step shape.rules word start step.0 step.1) d
 
 dashes_fail : (words : List Text) → whole_fault (walk_fault shape names (record start { is_trailing = true }) words) (fold (walked shape.rules names) (record start { is_trailing = true }) words) ≢ []
@@ -212,12 +229,12 @@ behind_turn : (ks ms : Kinds) (end : Walk) → whole_fault ms end ≢ [] → who
 behind_turn [] ms end fails = fails
 behind_turn (k ∷ ks) ms end fails = λ e. cc
 
-first_dashes : (word : Text) (words : List Text) → bytes_eq (codes "trace") word ≡ false → bytes_eq (codes "help") word ≡ false → bytes_eq word dd ≡ true → fault_of mpdbg_app (word ∷ words) ≢ []
+first_dashes : (word : Text) (words : List Text) → IsOther word → bytes_eq word dd ≡ true → fault_of mpdbg_app (word ∷ words) ≢ []
 unfolding walk_fault
-first_dashes word words t h d =
+first_dashes word words other d =
     let P : Kinds → Type 0 = λ ks. ks ≢ [] in
     let Q : Walk → Type 0 = λ w. whole_fault (or_else (turn_fault shape names start word) (walk_fault shape names w words)) (fold (walked shape.rules names) w words) ≢ [] in
-    subst P (sym (all_faults (word ∷ words))) (subst Q (sym (dashes_turn word t h d))
+    subst P (sym (all_faults (word ∷ words))) (subst Q (sym (dashes_turn word other d))
     (behind_turn (turn_fault shape names start word) (walk_fault shape names (record start { is_trailing = true }) words) (fold (walked shape.rules names) (record start { is_trailing = true }) words) (dashes_fail words)))
 
 stray_bundle : (word letters : Text) → chars letters ≡ [] → (let met = short_or_plain shape.rules idle word (Some letters) nothing_held in step_fault shape 1 met.0 met.1) ≢ []
@@ -225,41 +242,51 @@ stray_bundle word letters e =
     let P : Held × Outcome → Type 0 = λ q. bundle_turn word q ≢ [] in
     subst P (sym (no_top_bundle letters e)) (stray_fails word)
 
-first_word : (word : Text) (words : List Text) → bytes_eq (codes "trace") word ≡ false → bytes_eq (codes "help") word ≡ false → fault_of mpdbg_app (word ∷ words) ≢ []
-first_word word words t h =
+first_word : (word : Text) (words : List Text) → IsOther word → fault_of mpdbg_app (word ∷ words) ≢ []
+first_word word words other =
     let P : Kinds → Type 0 = λ ks. ks ≢ [] in
     let now : (ks : Kinds) → met_turn None word ≡ ks → ks ≢ [] → fault_of mpdbg_app (word ∷ words) ≢ [] =
-    λ ks e fails. fails_at_once word words (subst P (sym (top_turns word t h ∙ e)) fails) in
+    λ ks e fails. fails_at_once word words (subst P (sym (top_turns word other ∙ e)) fails) in
     elim (reads word) [
-      | reads_dashes d ↦ first_dashes word words t h d
-      | reads_mode name v d l m ↦ now _ (as_long word (Some (name, v)) d l) (fails_first _ _ (top_long name v))
-      | reads_long name v d l m ↦ now _ (as_long word (Some (name, v)) d l) (fails_first _ _ (top_long name v))
+      | reads_dashes d ↦ first_dashes word words other d
+      | reads_long name v d l ↦ now _ (as_long word (Some (name, v)) d l) (fails_first _ _ (top_long name v))
       | reads_letters letters x xs d l s e ↦ now _ (as_short word (Some letters) d l s) (fails_first _ _ (top_letters letters x xs e))
       | reads_no_letters letters d l s e ↦ now _ (as_short word (Some letters) d l s) (fails_then (bundle_fault shape.rules false letters nothing_held) _ (stray_bundle word letters e))
       | reads_plain d l s ↦ now _ (as_short word None d l s) (stray_fails word)
     ]
 
-other_word : (word : Text) (words : List Text) → bytes_eq (codes "trace") word ≡ false → fault_of mpdbg_app (word ∷ words) ≢ []
-other_word word words t = elim (bytes_eq (codes "help") word) as (λ b. bytes_eq (codes "help") word ≡ b → fault_of mpdbg_app (word ∷ words) ≢ []) [
+other_word : (word : Text) (words : List Text) → bytes_eq (codes "trace") word ≡ false → bytes_eq (codes "check") word ≡ false → fault_of mpdbg_app (word ∷ words) ≢ []
+other_word word words t c = elim (bytes_eq (codes "help") word) as (λ b. bytes_eq (codes "help") word ≡ b → fault_of mpdbg_app (word ∷ words) ≢ []) [
   | true ↦ λ e. let P : Text → Type 0 = λ w. fault_of mpdbg_app (w ∷ words) ≢ [] in subst P ((bytes_eq-Decides (codes "help") word).0 e) (help_word words)
-  | false ↦ λ e. first_word word words t e
+  | false ↦ λ e. first_word word words (t, c, e)
 ] refl
 
 -- ---- all words
 
-turned_about : (word : Text) → bytes_eq word (codes "trace") ≡ false → bytes_eq (codes "trace") word ≡ false
-turned_about word e = elim (bytes_eq (codes "trace") word) as (λ b. bytes_eq (codes "trace") word ≡ b → b ≡ false) [
-  | true ↦ λ h. let same : codes "trace" ≡ word = (bytes_eq-Decides (codes "trace") word).0 h in sym (sym e ∙ ap (λ w. bytes_eq w (codes "trace")) (sym same))
+turned_about : (name word : Text) → bytes_eq word name ≡ false → bytes_eq name word ≡ false
+turned_about name word e = elim (bytes_eq name word) as (λ b. bytes_eq name word ≡ b → b ≡ false) [
+  | true ↦ λ h. let same : name ≡ word = (bytes_eq-Decides name word).0 h in sym (sym e ∙ ap (λ w. bytes_eq w name) (sym same) ∙ same_text name)
   | false ↦ λ h. refl
 ] refl
+  where
+    same_text : (x : Text) → bytes_eq x x ≡ true
+    same_text x = (bytes_eq-Decides x x).1 refl
+
+-- the law where the first word is this command's
+abbrev LawOf : Option Tool → Text → List Text → Type 0
+LawOf o word words = AgreesAll (behind o words) (fault_of mpdbg_app (word ∷ words)) (subcommand_of mpdbg_app (word ∷ words))
+
+named_law : (t : Tool) (word : Text) (words : List Text) → bytes_eq word (called t) ≡ true → LawOf (Some t) word words
+named_law t word words e = let P : Text → Type 0 = λ w. LawOf (Some t) w words in subst P (sym ((bytes_eq-Decides word (called t)).0 e)) (command_law t words)
 
 pub meant_law : (word : Text) (words : List Text) → AgreesAll (meant (word ∷ words)) (fault_of mpdbg_app (word ∷ words)) (subcommand_of mpdbg_app (word ∷ words))
 meant_law word words =
-    elim (bytes_eq word (codes "trace")) as (λ b. bytes_eq word (codes "trace") ≡ b → AgreesAll (if b then traced words among_options None None else None) (fault_of mpdbg_app (word ∷ words)) (subcommand_of mpdbg_app (word ∷ words))) [
-      | true ↦ λ e.
-          let P : Text → Type 0 = λ w. AgreesAll (traced words among_options None None) (fault_of mpdbg_app (w ∷ words)) (subcommand_of mpdbg_app (w ∷ words)) in
-          subst P (sym ((bytes_eq-Decides word (codes "trace")).0 e)) (trace_law words)
-      | false ↦ λ e. other_word word words (turned_about word e)
+    elim (bytes_eq word (codes "trace")) as (λ b. bytes_eq word (codes "trace") ≡ b → LawOf (if b then Some tracer else (if bytes_eq word (codes "check") then Some checker else None)) word words) [
+      | true ↦ λ e. named_law tracer word words e
+      | false ↦ λ e. elim (bytes_eq word (codes "check")) as (λ b. bytes_eq word (codes "check") ≡ b → LawOf (if b then Some checker else None) word words) [
+        | true ↦ λ c. named_law checker word words c
+        | false ↦ λ c. other_word word words (turned_about (codes "trace") word e) (turned_about (codes "check") word c)
+      ] refl
     ] refl
 
 pub is_plain_app : is_simple_and_free mpdbg_app ≡ true

@@ -1,3 +1,6 @@
+pub mod NumberReads
+pub mod Items
+pub mod Ends
 pub mod Walks
 pub mod Commands
 pub mod Reading

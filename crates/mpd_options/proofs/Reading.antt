@@ -1,8 +1,12 @@
 -- What a parse of the words says of what they ask for.
-use Rattle.std.proofs.Common.{◌≡◌, ◌∙◌, ◌<◌, ◌==◌, Bool, true, false, List, [], ◌∷◌, length, map, Option, Some, None, option_map, is_some, inl, inr, codes, refl, sym, ap, subst, if◌then◌else◌, arith}
+use Rattle.std.proofs.Common.{◌≡◌, ◌∙◌, ◌<◌, ◌≤◌, ◌^◌, ◌==◌, ℕ, Bool, true, false, List, [], ◌∷◌, length, map, Option, Some, None, option_map, is_some, inl, inr, codes, refl, sym, ap, ap₂, subst, if◌then◌else◌, arith}
+use Rattle.std.specs.Prelude.{Result, option_and_then}
 use Rattle.std.specs.Borrow.{Bor}
+use Rattle.std.specs.Str.{bytes_eq}
+use Rattle.std.specs.Str.Parse.{ParsesUnsigned}
+use Rattle.std.proofs.lemmas.Slice.Eq.{bytes_eq-Decides}
 use Rattle.std.specs.Box.{box_value}
-use Rattle.clap.specs.Words.{App, HasKind, HasMatchesOf, IsAmong, Kinds, Row, Text, fault_of, first_of, first_value, found_of, is_simple, is_simple_and_free, kind_of, rows_of, subcommand_name_of, subcommand_of, subcommand_rows_of}
+use Rattle.clap.specs.Words.{App, HasKind, HasMatchesOf, IsAmong, Kinds, Row, Text, fault_of, ReadsOne, first_of, first_value, found_of, one_of, one_text, is_simple, is_simple_and_free, kind_of, rows_of, subcommand_name_of, subcommand_of, subcommand_rows_of}
 use Rattle.clap.specs.declared.error.Error.{Error}
 use Rattle.clap.specs.declared.error.kind.ErrorKind.{ErrorKind}
 use Rattle.clap.specs.declared.error.kind.ErrorKind.TheVariants.{OutOfMemory}
@@ -10,12 +14,17 @@ use Rattle.clap.specs.declared.parser.matches.ArgMatches.{ArgMatches}
 use Rattle.clap.specs.declared.parser.matches.ArgMatches.TheViews.{out-ArgMatches, out-SubCommand}
 use Rattle.clap.specs.declared.parser.matches.Found.{Found}
 use Rattle.clap.proofs.OnLiterals.{clap_on_literals}
-use Rattle.clap.proofs.WalkLemmas.{first_value-rows}
-use Rattle.mpd_options.specs.Asked.{Asked, trace, meant, found, found_in, found_of_command}
+use Rattle.clap.proofs.WalkLemmas.{first_value-rows, one_text-rows}
+use Rattle.mpd_options.specs.Asked.{Asked, IsInRange, Item, Tool, asked, check, checker, found, found_by, found_check, found_in, found_of_command, found_trace, meant, most_fuel, most_runs, text_in, the_file, the_fuel, the_mode, the_runs, the_witness, tool_named, trace, tracer}
+use Rattle.mpd_options.specs.Numbers.{flag_in, number_in, without_plus}
+use Rattle.mpd_options.specs.declared.options.Options.{Options}
+use Rattle.mpd_options.specs.declared.options.Options.TheVariants.{Plain, Trace, Check}
 use Rattle.mpd_options.specs.Program.{mpdbg_app}
 use Rattle.mpd_options.specs.Refused.{IsRefused, is_memory, usage_of}
 use Rattle.mpd_options.specs.declared.options.UsageFault.TheVariants.{Usage, Memory}
 use Rattle.mpd_options.proofs.Commands.{AgreesAll, meant_law, is_plain_app}
+use Rattle.mpd_options.proofs.Items.{called}
+use Rattle.mpd_options.proofs.NumberReads.{number_read, of_digits}
 
 pub some_words : {A : Type 0} (f : A → Text) (xs : List A) (empty : Bool) → empty ≡ (length xs == 0) → empty ≡ false → 0 < length (map f xs)
 some_words f [] empty e not = (let bad : true ≡ false = sym e ∙ not in cc)
@@ -83,35 +92,177 @@ named n r None t rows name is = cc
 named n r (Some b) t rows name is = (let e : n b ≡ t = cc in let f : r b ≡ rows = cc in cc)
 
 -- the command that was found
-pub command_is : (m : ArgMatches) (rows : List Row) → subcommand_name_of m ≡ Some (codes "trace") → option_map (λ (p : Text × List Row). p.1) (subcommand_rows_of m) ≡ Some rows
-    → found_of_command (subcommand_rows_of m) ≡ found_in rows
-command_is m rows name is =
-    ap found_of_command (named (λ b. (out-SubCommand (box_value b)).name.now) (λ b. rows_of (found_of (out-SubCommand (box_value b)).matches)) (out-ArgMatches m).subcommand (codes "trace") rows name is)
+named_tool : (t : Tool) (rows : List Row) → found_of_command (Some (called t, rows)) ≡ found_in t rows
+named_tool tracer rows = refl
+named_tool checker rows = refl
+
+pub command_is : (t : Tool) (m : ArgMatches) (rows : List Row) → subcommand_name_of m ≡ Some (called t) → option_map (λ (p : Text × List Row). p.1) (subcommand_rows_of m) ≡ Some rows
+    → found_of_command (subcommand_rows_of m) ≡ found_in t rows
+command_is t m rows name is =
+    ap found_of_command (named (λ b. (out-SubCommand (box_value b)).name.now) (λ b. rows_of (found_of (out-SubCommand (box_value b)).matches)) (out-ArgMatches m).subcommand (called t) rows name is)
+    ∙ named_tool t rows
+
+-- it is one of ours
+only_named : {S : Type 0} (n : S → Text) (r : S → List Row) (s : Option S) → (option_map n s ≡ Some (codes "trace") → ⊥) → (option_map n s ≡ Some (codes "check") → ⊥)
+    → is_some (found_of_command (option_map (λ b. let q : Text × List Row = (n b, r b) in q) s)) ≡ true → ⊥
+only_named n r None traces checks some = (let bad : false ≡ true = some in cc)
+only_named n r (Some b) traces checks some =
+    elim (bytes_eq (n b) (codes "trace")) as (λ c. bytes_eq (n b) (codes "trace") ≡ c → is_some (found_by (if c then Some tracer else (if bytes_eq (n b) (codes "check") then Some checker else None)) (r b)) ≡ true → ⊥) [
+      | true ↦ λ e h. traces (ap Some ((bytes_eq-Decides (n b) (codes "trace")).0 e))
+      | false ↦ λ e h. elim (bytes_eq (n b) (codes "check")) as (λ c. bytes_eq (n b) (codes "check") ≡ c → is_some (found_by (if c then Some checker else None) (r b)) ≡ true → ⊥) [
+        | true ↦ λ q k. checks (ap Some ((bytes_eq-Decides (n b) (codes "check")).0 q))
+        | false ↦ λ q k. (let bad : false ≡ true = k in cc)
+      ] refl h
+    ] refl some
+
+pub one_of_ours : (m : ArgMatches) → (subcommand_name_of m ≡ Some (codes "trace") → ⊥) → (subcommand_name_of m ≡ Some (codes "check") → ⊥) → is_some (found_of_command (subcommand_rows_of m)) ≡ true → ⊥
+one_of_ours m traces checks some =
+    only_named (λ b. (out-SubCommand (box_value b)).name.now) (λ b. rows_of (found_of (out-SubCommand (box_value b)).matches)) (out-ArgMatches m).subcommand traces checks some
+
+-- what a look-up that failed says of the name
+pub not_named : (b : Bool) (P : Type 0) → b ≡ false → (P → b ≡ true) → P → ⊥
+not_named b P failed looks h = (let bad : false ≡ true = sym failed ∙ looks h in cc)
+
+-- ---- texts
 
 -- a value that was found
-pub value_is : (f : Found) (r : Option (Bor Text)) (id : Text) → option_map (λ (s : Bor Text). s.now) r ≡ first_value f id → first_of id (rows_of f) ≡ option_map (λ (s : Bor Text). s.now) r
+abbrev text_at : Option (Bor Text) → Option Text
+text_at = option_map (λ (s : Bor Text). s.now)
+
+pub value_is : (f : Found) (r : Option (Bor Text)) (id : Text) → text_at r ≡ first_value f id → first_of id (rows_of f) ≡ text_at r
 value_is f r id e = sym (e ∙ first_value-rows f id)
 
-pub no_file : (f : Found) (r : Option (Bor Text)) → option_map (λ (s : Bor Text). s.now) r ≡ first_value f (codes "FILE") → r ≡ None → is_some (found_in (rows_of f)) ≡ true → ⊥
-no_file f r e none some =
-    let gone : first_of (codes "FILE") (rows_of f) ≡ None = value_is f r (codes "FILE") e ∙ ap (λ o. option_map (λ (s : Bor Text). s.now) o) none in
-    let bad : is_some (found None (first_of (codes "mode") (rows_of f))) ≡ true = subst (λ o. is_some (found o (first_of (codes "mode") (rows_of f))) ≡ true) gone some in
-    cc
+some_both : (f m : Option Text) → is_some (found_trace f m) ≡ true → (is_some f ≡ true) × (is_some m ≡ true)
+some_both None m e = cc
+some_both (Some f) None e = cc
+some_both (Some f) (Some m) e = (refl, refl)
 
-found_nothing : (o : Option Text) → found o None ≡ None
-found_nothing None = refl
-found_nothing (Some file) = refl
+pub record HasAll (f m : Option Text) (r n : Option ℕ) (w : Option Bool) : Type 0 where
+  pub file : is_some f ≡ true
+  pub mode : is_some m ≡ true
+  pub runs : is_some r ≡ true
+  pub fuel : is_some n ≡ true
+  pub witness : is_some w ≡ true
 
-pub no_mode : (f : Found) (r : Option (Bor Text)) → option_map (λ (s : Bor Text). s.now) r ≡ first_value f (codes "mode") → r ≡ None → is_some (found_in (rows_of f)) ≡ true → ⊥
-no_mode f r e none some =
-    let gone : first_of (codes "mode") (rows_of f) ≡ None = value_is f r (codes "mode") e ∙ ap (λ o. option_map (λ (s : Bor Text). s.now) o) none in
-    let bad : is_some (found (first_of (codes "FILE") (rows_of f)) None) ≡ true = subst (λ o. is_some (found (first_of (codes "FILE") (rows_of f)) o) ≡ true) gone some in
-    let worse : false ≡ true = sym (ap is_some (found_nothing (first_of (codes "FILE") (rows_of f)))) ∙ bad in
-    cc
+some_all : (f m : Option Text) (r n : Option ℕ) (w : Option Bool) → is_some (found_check f m r n w) ≡ true → HasAll f m r n w
+some_all None m r n w e = cc
+some_all (Some f) None r n w e = cc
+some_all (Some f) (Some m) None n w e = cc
+some_all (Some f) (Some m) (Some r) None w e = cc
+some_all (Some f) (Some m) (Some r) (Some n) None e = cc
+some_all (Some f) (Some m) (Some r) (Some n) (Some w) e = record { file = refl; mode = refl; runs = refl; fuel = refl; witness = refl }
 
-pub both_found : (f : Found) (r s : Option (Bor Text)) (file mode : Bor Text) → option_map (λ (s : Bor Text). s.now) r ≡ first_value f (codes "FILE") → option_map (λ (s : Bor Text). s.now) s ≡ first_value f (codes "mode")
-    → r ≡ Some file → s ≡ Some mode → Some (trace file.now mode.now) ≡ found_in (rows_of f)
-both_found f r s file mode e h is same =
-    let first : first_of (codes "FILE") (rows_of f) ≡ Some file.now = value_is f r (codes "FILE") e ∙ ap (λ o. option_map (λ (s : Bor Text). s.now) o) is in
-    let second : first_of (codes "mode") (rows_of f) ≡ Some mode.now = value_is f s (codes "mode") h ∙ ap (λ o. option_map (λ (s : Bor Text). s.now) o) same in
-    sym (ap (λ o. found o (first_of (codes "mode") (rows_of f))) first ∙ ap (λ o. found (Some file.now) o) second)
+pub has_file : (t : Tool) (rows : List Row) → is_some (found_in t rows) ≡ true → is_some (first_of (codes "FILE") rows) ≡ true
+has_file tracer rows e = (some_both _ _ e).0
+has_file checker rows e = (some_all _ _ _ _ _ e).file
+
+pub has_mode : (t : Tool) (rows : List Row) → is_some (found_in t rows) ≡ true → is_some (first_of (codes "mode") rows) ≡ true
+has_mode tracer rows e = (some_both _ _ e).1
+has_mode checker rows e = (some_all _ _ _ _ _ e).mode
+
+not_found : (r : Option (Bor Text)) (o : Option Text) → o ≡ text_at r → r ≡ None → is_some o ≡ true → ⊥
+not_found r o e none some = (let bad : false ≡ true = sym (ap is_some (e ∙ ap text_at none)) ∙ some in cc)
+
+pub no_file : (t : Tool) (f : Found) (r : Option (Bor Text)) → text_at r ≡ first_value f (codes "FILE") → r ≡ None → is_some (found_in t (rows_of f)) ≡ true → ⊥
+no_file t f r e none some = not_found r _ (value_is f r (codes "FILE") e) none (has_file t (rows_of f) some)
+
+pub no_mode : (t : Tool) (f : Found) (r : Option (Bor Text)) → text_at r ≡ first_value f (codes "mode") → r ≡ None → is_some (found_in t (rows_of f)) ≡ true → ⊥
+no_mode t f r e none some = not_found r _ (value_is f r (codes "mode") e) none (has_mode t (rows_of f) some)
+
+pub text_is : (f : Found) (r : Option (Bor Text)) (id : Text) (text : Bor Text) → text_at r ≡ first_value f id → r ≡ Some text → first_of id (rows_of f) ≡ Some text.now
+text_is f r id text e is = value_is f r id e ∙ ap text_at is
+
+pub both_found : (f : Found) (r s : Option (Bor Text)) (file mode : Bor Text) → text_at r ≡ first_value f (codes "FILE") → text_at s ≡ first_value f (codes "mode")
+    → r ≡ Some file → s ≡ Some mode → Some (trace file.now mode.now) ≡ found_in tracer (rows_of f)
+both_found f r s file mode e h is same = sym (ap₂ found_trace (text_is f r (codes "FILE") file e is) (text_is f s (codes "mode") mode h same))
+
+-- ---- numbers and the flag
+
+abbrev number_at : ℕ → Text → Found → Option ℕ
+number_at most id f = option_and_then (number_in 1 most) (one_of id (rows_of f))
+
+read_some : {E : Type 0} (G : List ℕ → Result ℕ E → Type 0) (most : ℕ) (o : Option Text) (r : Option ℕ) → ((u : List ℕ) (x : Result ℕ E) → G u x → ParsesUnsigned 64 10 u x) → most < 2 ^ 64
+    → ((t : Text) → o ≡ Some t → ReadsOne G t r) → is_some (option_and_then (number_in 1 most) o) ≡ true → r ≡ option_and_then (number_in 1 most) o
+read_some G most None r parses small reads some = cc
+read_some G most (Some t) r parses small reads some = elim (number_in 1 most t) as (λ x. number_in 1 most t ≡ x → is_some x ≡ true → r ≡ x) [
+  | None ↦ λ e h. cc
+  | Some n ↦ λ e h. number_read G 1 most t n r parses small e (reads t refl)
+] refl some
+
+pub number_found : {E : Type 0} (G : List ℕ → Result ℕ E → Type 0) (most : ℕ) (f : Found) (id : Text) (r : Option ℕ) → ((u : List ℕ) (x : Result ℕ E) → G u x → ParsesUnsigned 64 10 u x) → most < 2 ^ 64
+    → ((t : Text) → one_text f id ≡ Some t → ReadsOne G t r) → is_some (number_at most id f) ≡ true → r ≡ number_at most id f
+number_found G most f id r parses small reads some = read_some G most (one_of id (rows_of f)) r parses small (λ t e. reads t (one_text-rows f id ∙ e)) some
+
+pub no_number : (r o : Option ℕ) → r ≡ o → r ≡ None → is_some o ≡ true → ⊥
+no_number r o e none some = (let bad : false ≡ true = sym (ap is_some (sym e ∙ none)) ∙ some in cc)
+
+abbrev flag_at : Text → Found → Option Bool
+flag_at id f = option_and_then flag_in (one_of id (rows_of f))
+
+flag_some : (o : Option Text) (b : Bool) → (o ≡ Some (codes "true") → b ≡ true) → (o ≡ Some (codes "false") → b ≡ false) → is_some (option_and_then flag_in o) ≡ true → option_and_then flag_in o ≡ Some b
+flag_some None b on off some = cc
+flag_some (Some t) b on off some =
+    elim (bytes_eq t (codes "true")) as (λ x. bytes_eq t (codes "true") ≡ x → is_some (if x then Some true else (if bytes_eq t (codes "false") then Some false else None)) ≡ true
+    → (if x then Some true else (if bytes_eq t (codes "false") then Some false else None)) ≡ Some b) [
+      | true ↦ λ e h. ap Some (sym (on (ap Some ((bytes_eq-Decides t (codes "true")).0 e))))
+      | false ↦ λ e h. elim (bytes_eq t (codes "false")) as (λ x. bytes_eq t (codes "false") ≡ x → is_some (if x then Some false else None) ≡ true → (if x then Some false else None) ≡ Some b) [
+        | true ↦ λ q k. ap Some (sym (off (ap Some ((bytes_eq-Decides t (codes "false")).0 q))))
+        | false ↦ λ q k. cc
+      ] refl h
+    ] refl some
+
+pub flag_found : (f : Found) (id : Text) (b : Bool) → (one_text f id ≡ Some (codes "true") → b ≡ true) → (one_text f id ≡ Some (codes "false") → b ≡ false) → is_some (flag_at id f) ≡ true → flag_at id f ≡ Some b
+flag_found f id b on off some = flag_some (one_of id (rows_of f)) b (λ e. on (one_text-rows f id ∙ e)) (λ e. off (one_text-rows f id ∙ e)) some
+
+pub has_all : (f : Found) → is_some (found_in checker (rows_of f)) ≡ true
+    → HasAll (first_of (codes "FILE") (rows_of f)) (first_of (codes "mode") (rows_of f)) (number_at most_runs (codes "runs") f) (number_at most_fuel (codes "fuel") f) (flag_at (codes "witness") f)
+has_all f e = some_all _ _ _ _ _ e
+
+pub all_found : (f : Found) (file mode : Text) (runs fuel : ℕ) (witness : Bool) → first_of (codes "FILE") (rows_of f) ≡ Some file → first_of (codes "mode") (rows_of f) ≡ Some mode
+    → number_at most_runs (codes "runs") f ≡ Some runs → number_at most_fuel (codes "fuel") f ≡ Some fuel → flag_at (codes "witness") f ≡ Some witness
+    → Some (check file mode runs fuel witness) ≡ found_in checker (rows_of f)
+all_found f file mode runs fuel witness a b c d e = sym (five a b c d e)
+  where
+    five : {f' m' : Option Text} {r' n' : Option ℕ} {w' : Option Bool} → f' ≡ Some file → m' ≡ Some mode → r' ≡ Some runs → n' ≡ Some fuel → w' ≡ Some witness
+        → found_check f' m' r' n' w' ≡ Some (check file mode runs fuel witness)
+    five a b c d e = rw (a, b, c, d, e) refl
+
+-- ---- numbers lie in their ranges
+
+in_range : (high : ℕ) (t : Option Text) (n : ℕ) → option_and_then (number_in 1 high) t ≡ Some n → (1 ≤ n) × (n ≤ high)
+in_range high None n e = cc
+in_range high (Some t) n e = (let facts = of_digits 1 high (without_plus t) n e in (facts.least, facts.most))
+
+same_parts : (f m : Option Text) (r n : Option ℕ) (w : Option Bool) (file mode : Text) (runs fuel : ℕ) (witness : Bool) → Some (check file mode runs fuel witness) ≡ found_check f m r n w → (r ≡ Some runs) × (n ≡ Some fuel)
+same_parts None m r n w file mode runs fuel witness e = cc
+same_parts (Some f) None r n w file mode runs fuel witness e = cc
+same_parts (Some f) (Some m) None n w file mode runs fuel witness e = cc
+same_parts (Some f) (Some m) (Some r) None w file mode runs fuel witness e = cc
+same_parts (Some f) (Some m) (Some r) (Some n) None file mode runs fuel witness e = cc
+same_parts (Some f) (Some m) (Some r) (Some n) (Some w) file mode runs fuel witness e = (cc, cc)
+
+no_trace : (f m : Option Text) (file mode : Text) (runs fuel : ℕ) (witness : Bool) → Some (check file mode runs fuel witness) ≡ found_trace f m → ⊥
+no_trace None m file mode runs fuel witness e = cc
+no_trace (Some f) None file mode runs fuel witness e = cc
+no_trace (Some f) (Some m) file mode runs fuel witness e = cc
+
+range_check : (text : Item → Option Text) (file mode : Text) (runs fuel : ℕ) (witness : Bool) → Some (check file mode runs fuel witness) ≡ found checker text → (1 ≤ runs) × (runs ≤ most_runs) × (1 ≤ fuel) × (fuel ≤ most_fuel)
+range_check text file mode runs fuel witness e =
+    let parts = same_parts (text the_file) (text the_mode) (option_and_then (number_in 1 most_runs) (text the_runs)) (option_and_then (number_in 1 most_fuel) (text the_fuel)) (option_and_then flag_in (text the_witness)) file mode runs fuel witness e in
+    let r = in_range most_runs (text the_runs) runs parts.0 in
+    let n = in_range most_fuel (text the_fuel) fuel parts.1 in
+    (r.0, r.1, n.0, n.1)
+
+range_by : (o : Option Tool) (rows : List Row) (options : Options) → Some (asked options) ≡ found_by o rows → IsInRange options
+range_by o rows Plain e = tt
+range_by o rows (Trace file mode) e = tt
+range_by None rows (Check file mode runs fuel witness) e = cc
+range_by (Some tracer) rows (Check file mode runs fuel witness) e = absurd (no_trace (text_in rows the_file) (text_in rows the_mode) file.now mode.now runs fuel witness e)
+range_by (Some checker) rows (Check file mode runs fuel witness) e = range_check (text_in rows) file.now mode.now runs fuel witness e
+
+pub range_of : (command : Option (Text × List Row)) (options : Options) → Some (asked options) ≡ found_of_command command → IsInRange options
+range_of None options e = none_asked options e
+  where
+    none_asked : (options : Options) → Some (asked options) ≡ None → IsInRange options
+    none_asked options e = cc
+range_of (Some command) options e = range_by (tool_named command.0) command.1 options e

@@ -1,34 +1,101 @@
 -- What the words of a command line ask for.
-use Rattle.std.specs.Prelude.{ℕ, if◌then◌else◌, List, [], ◌∷◌, Option, Some, None, unwrap_or, codes}
+use Rattle.std.specs.Prelude.{◌≤◌, ⊤, ℕ, Bool, true, false, if◌then◌else◌, List, [], ◌∷◌, Option, Some, None, find, is_some, option_and_then, codes}
 use Rattle.std.specs.Str.{bytes_eq, chars}
 use Rattle.clap.specs.Lexer.{long_of, short_of}
-use Rattle.clap.specs.Words.{Row, first_of}
+use Rattle.clap.specs.Words.{Row, first_of, one_of}
+use Rattle.mpd_options.specs.Numbers.{flag_in, number_in}
 use Rattle.mpd_options.specs.declared.options.Options.{Options}
-use Rattle.mpd_options.specs.declared.options.Options.TheVariants.{Plain, Trace}
+use Rattle.mpd_options.specs.declared.options.Options.TheVariants.{Plain, Trace, Check}
 
--- what is asked for: a script and its trace on standard input, or the trace of a file, with the words of file and mode
+-- what is asked for: a script and its trace on standard input, the trace of a file, or a look for deadlocks in one; with the
+-- words of file and mode, how many runs, the fuel of each, and whether a witness is wanted
 pub data Asked : Type 0 where
   plain : Asked
   trace : List ℕ → List ℕ → Asked
+  check : List ℕ → List ℕ → ℕ → ℕ → Bool → Asked
 
 abbrev pub asked : Options → Asked
 asked Plain = plain
 asked (Trace file mode) = trace file.now mode.now
+asked (Check file mode runs fuel witness) = check file.now mode.now runs fuel witness
 
--- what a word behind `trace` is: `--`, `--mode`, `--mode=V`, another option, or none
+abbrev pub most_runs : ℕ
+most_runs = 65536
+
+abbrev pub most_fuel : ℕ
+most_fuel = 1000000
+
+-- each number lies in its range
+abbrev pub IsInRange : Options → Type 0
+IsInRange Plain = ⊤
+IsInRange (Trace file mode) = ⊤
+IsInRange (Check file mode runs fuel witness) = (1 ≤ runs) × (runs ≤ most_runs) × (1 ≤ fuel) × (fuel ≤ most_fuel)
+
+-- the commands
+pub data Tool : Type 0 where
+  tracer : Tool
+  checker : Tool
+
+-- the command that a word names
+abbrev pub tool_named : List ℕ → Option Tool
+tool_named word = if bytes_eq word (codes "trace") then Some tracer else (if bytes_eq word (codes "check") then Some checker else None)
+
+-- what words say something of: the file's word stands alone, and the others are options
+pub data Item : Type 0 where
+  the_file : Item
+  the_mode : Item
+  the_runs : Item
+  the_fuel : Item
+  the_witness : Item
+
+abbrev pub name_of : Item → List ℕ
+name_of the_file = codes "FILE"
+name_of the_mode = codes "mode"
+name_of the_runs = codes "runs"
+name_of the_fuel = codes "fuel"
+name_of the_witness = codes "witness"
+
+abbrev pub options_of : Tool → List Item
+options_of tracer = the_mode ∷ []
+options_of checker = the_mode ∷ the_runs ∷ the_fuel ∷ the_witness ∷ []
+
+abbrev pub option_among : List Item → List ℕ → Option Item
+option_among items name = find (λ item. bytes_eq (name_of item) name) items
+
+-- a flag has no value in words
+abbrev pub is_flag : Item → Bool
+is_flag the_witness = true
+is_flag _ = false
+
+-- a text can be the value of an item
+abbrev pub fits : Item → List ℕ → Bool
+fits the_file text = true
+fits the_mode text = true
+fits the_runs text = is_some (number_in 1 most_runs text)
+fits the_fuel text = is_some (number_in 1 most_fuel text)
+fits the_witness text = is_some (flag_in text)
+
+-- the value of an item of which nothing is said
+abbrev pub default_of : Item → Option (List ℕ)
+default_of the_file = None
+default_of the_mode = Some (codes "rendezvous")
+default_of the_runs = Some (codes "1000")
+default_of the_fuel = Some (codes "100000")
+default_of the_witness = Some (codes "false")
+
+-- what a word behind a command is: `--`, `--NAME` or `--NAME=V` of an option, another option, or none
 pub data Word : Type 0 where
   dashes : Word
-  mode_alone : Word
-  mode_with : List ℕ → Word
+  named : Item → Option (List ℕ) → Word
   other_option : Word
   no_option : Word
 
-abbrev pub mode_option : Option (List ℕ) → Word
-mode_option None = mode_alone
-mode_option (Some value) = mode_with value
+abbrev pub named_so : Option Item → Option (List ℕ) → Word
+named_so None value = other_option
+named_so (Some item) value = named item value
 
-abbrev pub long_option : List ℕ × Option (List ℕ) → Word
-long_option p = if bytes_eq (codes "mode") p.0 then mode_option p.1 else other_option
+abbrev pub long_option : Tool → List ℕ × Option (List ℕ) → Word
+long_option t p = named_so (option_among (options_of t) p.0) p.1
 
 abbrev pub by_letters : List ℕ → Word
 by_letters [] = no_option
@@ -39,71 +106,126 @@ abbrev pub short_option : Option (List ℕ) → Word
 short_option None = no_option
 short_option (Some letters) = by_letters (chars letters)
 
-abbrev pub long_or_short : Option (List ℕ × Option (List ℕ)) → Option (List ℕ) → Word
-long_or_short None letters = short_option letters
-long_or_short (Some p) letters = long_option p
+abbrev pub long_or_short : Tool → Option (List ℕ × Option (List ℕ)) → Option (List ℕ) → Word
+long_or_short t None letters = short_option letters
+long_or_short t (Some p) letters = long_option t p
 
-abbrev pub word_of : List ℕ → Word
-word_of word = if bytes_eq word (codes "--") then dashes else long_or_short (long_of word) (short_of word)
+abbrev pub word_of : Tool → List ℕ → Word
+word_of t word = if bytes_eq word (codes "--") then dashes else long_or_short t (long_of word) (short_of word)
 
--- where a word stands: among options, behind `--mode`, or behind `--`
+-- where a word stands: among options, behind one that wants its value, or behind `--`
 pub data Place : Type 0 where
   among_options : Place
-  behind_mode : Place
+  behind_option : Item → Place
   behind_dashes : Place
 
--- the file's word, which there must be one of, and the mode's
-abbrev pub both : Option (List ℕ) → Option (List ℕ) → Option Asked
-both None mode = None
-both (Some file) mode = Some (trace file (unwrap_or mode (codes "rendezvous")))
+-- what was said so far, the last first
+abbrev pub Said : Type 0
+Said = List (Item × List ℕ)
 
--- the file's word, where there was none
-abbrev pub first_file : Option (List ℕ) → List ℕ → (Option (List ℕ) → Option Asked) → Option Asked
-first_file None word next = next (Some word)
-first_file (Some file) word next = None
+abbrev pub said_named : List ℕ → Said → Option (List ℕ)
+said_named name [] = None
+said_named name (entry ∷ said) = if bytes_eq (name_of entry.0) name then Some entry.1 else said_named name said
 
--- the mode, where there was none
-abbrev pub first_mode : Option (List ℕ) → Option Asked → Option Asked
-first_mode None next = next
-first_mode (Some mode) next = None
+abbrev pub said_of : Item → Said → Option (List ℕ)
+said_of item said = said_named (name_of item) said
+
+-- where nothing was said of an item before
+abbrev pub if_new : Option (List ℕ) → Option Asked → Option Asked
+if_new None next = next
+if_new (Some value) next = None
+
+abbrev pub if_fits : Bool → Option Asked → Option Asked
+if_fits true next = next
+if_fits false next = None
+
+-- an item is given a value, which fits, and it has none
+abbrev pub once : Item → List ℕ → Said → (Said → Option Asked) → Option Asked
+once item value said next = if_new (said_of item said) (if_fits (fits item value) (next ((item, value) ∷ said)))
+
+-- `--NAME` of a flag, and of another option
+abbrev pub alone : Bool → Item → Said → (Place → Said → Option Asked) → Option Asked
+alone true item said next = once item (codes "true") said (next among_options)
+alone false item said next = if_new (said_of item said) (next (behind_option item) said)
+
+-- `--NAME=V` of a flag, and of another option
+abbrev pub joined : Bool → Item → List ℕ → Said → (Place → Said → Option Asked) → Option Asked
+joined true item value said next = None
+joined false item value said next = once item value said (next among_options)
+
+abbrev pub with_option : Item → Option (List ℕ) → Said → (Place → Said → Option Asked) → Option Asked
+with_option item None said next = alone (is_flag item) item said next
+with_option item (Some value) said next = joined (is_flag item) item value said next
 
 -- what is asked for, where this word comes with this said before, and then what `next` says
-abbrev pub with_word : Place → Word → List ℕ → Option (List ℕ) → Option (List ℕ)
-    → (Place → Option (List ℕ) → Option (List ℕ) → Option Asked) → Option Asked
-with_word behind_mode no_option word file mode next = next among_options file (Some word)
-with_word behind_mode _ word file mode next = None
-with_word behind_dashes _ word file mode next = first_file file word (λ f. next behind_dashes f mode)
-with_word among_options dashes word file mode next = next behind_dashes file mode
-with_word among_options mode_alone word file mode next = first_mode mode (next behind_mode file mode)
-with_word among_options (mode_with value) word file mode next = first_mode mode (next among_options file (Some value))
-with_word among_options other_option word file mode next = None
-with_word among_options no_option word file mode next = first_file file word (λ f. next among_options f mode)
+abbrev pub with_word : Place → Word → List ℕ → Said → (Place → Said → Option Asked) → Option Asked
+with_word (behind_option item) no_option word said next = once item word said (next among_options)
+with_word (behind_option item) _ word said next = None
+with_word behind_dashes _ word said next = once the_file word said (next behind_dashes)
+with_word among_options dashes word said next = next behind_dashes said
+with_word among_options (named item value) word said next = with_option item value said next
+with_word among_options other_option word said next = None
+with_word among_options no_option word said next = once the_file word said (next among_options)
 
-abbrev pub at_end : Place → Option (List ℕ) → Option (List ℕ) → Option Asked
-at_end behind_mode file mode = None
-at_end _ file mode = both file mode
+abbrev pub found_trace : Option (List ℕ) → Option (List ℕ) → Option Asked
+found_trace None mode = None
+found_trace (Some file) None = None
+found_trace (Some file) (Some mode) = Some (trace file mode)
 
--- what the words behind `trace` ask for: one word that is no option, the file's, and at most once the mode, in any order;
--- behind `--` no word is an option
-abbrev pub traced : List (List ℕ) → Place → Option (List ℕ) → Option (List ℕ) → Option Asked
-traced [] place file mode = at_end place file mode
-traced (word ∷ words) place file mode = with_word place (word_of word) word file mode (traced words)
+abbrev pub found_check : Option (List ℕ) → Option (List ℕ) → Option ℕ → Option ℕ → Option Bool → Option Asked
+found_check (Some file) (Some mode) (Some runs) (Some fuel) (Some witness) = Some (check file mode runs fuel witness)
+found_check _ _ _ _ _ = None
+
+-- what a command asks for, by the text of each of its items: a file there must be, and each number lies in its range
+abbrev pub found : Tool → (Item → Option (List ℕ)) → Option Asked
+found tracer text = found_trace (text the_file) (text the_mode)
+found checker text =
+    found_check (text the_file) (text the_mode) (option_and_then (number_in 1 most_runs) (text the_runs)) (option_and_then (number_in 1 most_fuel) (text the_fuel))
+    (option_and_then flag_in (text the_witness))
+
+abbrev pub or_default : Option (List ℕ) → Option (List ℕ) → Option (List ℕ)
+or_default None value = value
+or_default (Some text) value = Some text
+
+abbrev pub text_of : Said → Item → Option (List ℕ)
+text_of said item = or_default (said_of item said) (default_of item)
+
+abbrev pub at_end : Tool → Place → Said → Option Asked
+at_end t (behind_option item) said = None
+at_end t among_options said = found t (text_of said)
+at_end t behind_dashes said = found t (text_of said)
+
+-- what the words behind a command ask for: one word that is no option, the file's, and each option at most once, in any
+-- order; behind `--` no word is an option
+abbrev pub wanted : Tool → List (List ℕ) → Place → Said → Option Asked
+wanted t [] place said = at_end t place said
+wanted t (word ∷ words) place said = with_word place (word_of t word) word said (wanted t words)
+
+abbrev pub behind : Option Tool → List (List ℕ) → Option Asked
+behind None words = None
+behind (Some t) words = wanted t words among_options []
 
 -- what all words ask for, without the program's name
 abbrev pub meant : List (List ℕ) → Option Asked
 meant [] = Some plain
-meant (word ∷ words) = if bytes_eq word (codes "trace") then traced words among_options None None else None
+meant (word ∷ words) = behind (tool_named word) words
 
--- what was found of the command `trace`
-abbrev pub found : Option (List ℕ) → Option (List ℕ) → Option Asked
-found None mode = None
-found (Some file) None = None
-found (Some file) (Some mode) = Some (trace file mode)
+-- what was found of an item: a number and a flag are read by their types
+abbrev pub text_in : List Row → Item → Option (List ℕ)
+text_in rows the_file = first_of (name_of the_file) rows
+text_in rows the_mode = first_of (name_of the_mode) rows
+text_in rows the_runs = one_of (name_of the_runs) rows
+text_in rows the_fuel = one_of (name_of the_fuel) rows
+text_in rows the_witness = one_of (name_of the_witness) rows
 
-abbrev pub found_in : List Row → Option Asked
-found_in rows = found (first_of (codes "FILE") rows) (first_of (codes "mode") rows)
+abbrev pub found_in : Tool → List Row → Option Asked
+found_in t rows = found t (text_in rows)
+
+abbrev pub found_by : Option Tool → List Row → Option Asked
+found_by None rows = None
+found_by (Some t) rows = found_in t rows
 
 -- what was found of the command of this name
 abbrev pub found_of_command : Option (List ℕ × List Row) → Option Asked
 found_of_command None = None
-found_of_command (Some command) = if bytes_eq command.0 (codes "trace") then found_in command.1 else None
+found_of_command (Some command) = found_by (tool_named command.0) command.1

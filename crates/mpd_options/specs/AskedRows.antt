@@ -1,7 +1,7 @@
 -- Worked rows of what words ask for.
-use Rattle.std.specs.Prelude.{◌≡◌, ℕ, List, [], ◌∷◌, map, Option, Some, None, codes, refl}
+use Rattle.std.specs.Prelude.{◌≡◌, ℕ, Bool, true, false, List, [], ◌∷◌, map, Option, Some, None, codes, refl}
 use Rattle.std.specs.Str.{chars}
-use Rattle.mpd_options.specs.Asked.{Asked, plain, trace, meant}
+use Rattle.mpd_options.specs.Asked.{Asked, plain, trace, check, meant}
 
 abbrev Row : Type 0
 Row = List (List ℕ) × Option Asked
@@ -9,6 +9,14 @@ Row = List (List ℕ) × Option Asked
 -- words behind `trace`, and the file and the mode that they name
 abbrev names : List (List ℕ) → List ℕ → List ℕ → Row
 names words file mode = (codes "trace" ∷ words, Some (trace file mode))
+
+-- words behind `check`, and what they ask for of the file `a`
+abbrev asks : List (List ℕ) → List ℕ → ℕ → ℕ → Bool → Row
+asks words mode runs fuel witness = (codes "check" ∷ words, Some (check (codes "a") mode runs fuel witness))
+
+-- words behind `check a` that make them ask for nothing
+abbrev spoils : List (List ℕ) → Row
+spoils words = (codes "check" ∷ codes "a" ∷ words, None)
 
 -- words that ask for nothing
 abbrev nothing : List (List ℕ) → Row
@@ -53,6 +61,57 @@ rows =
     ∷ nothing (codes "--version" ∷ [])
     ∷ nothing (codes "" ∷ [])
     ∷ nothing (codes "Trace" ∷ codes "a" ∷ [])
+    ∷ asks (codes "a" ∷ []) (codes "rendezvous") 1000 100000 false
+    ∷ asks (codes "a" ∷ codes "--witness" ∷ []) (codes "rendezvous") 1000 100000 true
+    ∷ asks (codes "--witness" ∷ codes "a" ∷ []) (codes "rendezvous") 1000 100000 true
+    ∷ asks (codes "--mode" ∷ codes "b" ∷ codes "a" ∷ []) (codes "b") 1000 100000 false
+    ∷ asks (codes "a" ∷ codes "--runs" ∷ codes "1" ∷ []) (codes "rendezvous") 1 100000 false
+    ∷ asks (codes "a" ∷ codes "--runs=65536" ∷ []) (codes "rendezvous") 65536 100000 false
+    ∷ asks (codes "a" ∷ codes "--runs" ∷ codes "+5" ∷ []) (codes "rendezvous") 5 100000 false
+    ∷ asks (codes "a" ∷ codes "--runs=0007" ∷ []) (codes "rendezvous") 7 100000 false
+    ∷ asks (codes "a" ∷ codes "--runs=+00000000000000000000000012" ∷ []) (codes "rendezvous") 12 100000 false
+    ∷ asks (codes "a" ∷ codes "--fuel" ∷ codes "1" ∷ []) (codes "rendezvous") 1000 1 false
+    ∷ asks (codes "--fuel=1000000" ∷ codes "a" ∷ []) (codes "rendezvous") 1000 1000000 false
+    ∷ asks (codes "--fuel" ∷ codes "20" ∷ codes "--witness" ∷ codes "--runs" ∷ codes "30" ∷ codes "--mode=buffered" ∷ codes "--" ∷ codes "a" ∷ []) (codes "buffered") 30 20 true
+    ∷ (codes "check" ∷ codes "--" ∷ codes "--witness" ∷ [], Some (check (codes "--witness") (codes "rendezvous") 1000 100000 false))
+    ∷ (codes "check" ∷ codes "check" ∷ [], Some (check (codes "check") (codes "rendezvous") 1000 100000 false))
+    ∷ (codes "check" ∷ codes "--mode" ∷ codes "trace" ∷ codes "trace" ∷ [], Some (check (codes "trace") (codes "trace") 1000 100000 false))
+    ∷ names (codes "check" ∷ []) (codes "check") (codes "rendezvous")
+    ∷ nothing (codes "check" ∷ [])
+    ∷ nothing (codes "check" ∷ codes "--witness" ∷ [])
+    ∷ nothing (codes "check" ∷ codes "--runs" ∷ codes "5" ∷ [])
+    ∷ nothing (codes "checks" ∷ codes "a" ∷ [])
+    ∷ nothing (codes "check=a" ∷ [])
+    ∷ spoils (codes "b" ∷ [])
+    ∷ spoils (codes "--runs" ∷ codes "0" ∷ [])
+    ∷ spoils (codes "--runs" ∷ codes "65537" ∷ [])
+    ∷ spoils (codes "--fuel" ∷ codes "0" ∷ [])
+    ∷ spoils (codes "--fuel" ∷ codes "1000001" ∷ [])
+    ∷ spoils (codes "--runs=18446744073709551617" ∷ [])
+    ∷ spoils (codes "--runs=" ∷ [])
+    ∷ spoils (codes "--runs=+" ∷ [])
+    ∷ spoils (codes "--runs=++5" ∷ [])
+    ∷ spoils (codes "--runs=-5" ∷ [])
+    ∷ spoils (codes "--runs= 5" ∷ [])
+    ∷ spoils (codes "--runs=5 " ∷ [])
+    ∷ spoils (codes "--runs=1_000" ∷ [])
+    ∷ spoils (codes "--runs=0x10" ∷ [])
+    ∷ spoils (codes "--fuel=ten" ∷ [])
+    ∷ spoils (codes "--fuel=1.0" ∷ [])
+    ∷ spoils (codes "--runs" ∷ [])
+    ∷ spoils (codes "--runs" ∷ codes "--witness" ∷ [])
+    ∷ spoils (codes "--runs" ∷ codes "-5" ∷ [])
+    ∷ spoils (codes "--witness=true" ∷ [])
+    ∷ spoils (codes "--witness" ∷ codes "--witness" ∷ [])
+    ∷ spoils (codes "--runs" ∷ codes "5" ∷ codes "--runs" ∷ codes "5" ∷ [])
+    ∷ spoils (codes "--fuel=5" ∷ codes "--fuel=5" ∷ [])
+    ∷ spoils (codes "--mode=b" ∷ codes "--mode=b" ∷ [])
+    ∷ spoils (codes "-w" ∷ [])
+    ∷ spoils (codes "--help" ∷ [])
+    ∷ nothing (codes "trace" ∷ codes "a" ∷ codes "--witness" ∷ [])
+    ∷ nothing (codes "trace" ∷ codes "a" ∷ codes "--runs" ∷ codes "5" ∷ [])
+    ∷ nothing (codes "help" ∷ codes "check" ∷ [])
+    ∷ nothing (codes "--witness" ∷ codes "check" ∷ codes "a" ∷ [])
     ∷ []
 
 pub worked : map (λ (row : Row). meant row.0) rows ≡ map (λ (row : Row). row.1) rows

@@ -1,5 +1,6 @@
 pub mod Asked
 pub mod AskedRows
 pub mod FaultRows
+pub mod Numbers
 pub mod Program
 pub mod Refused

@@ -1,7 +1,9 @@
 -- The command line as `clap` knows it.
-use Rattle.std.specs.Prelude.{[], ◌∷◌, Some, true, codes}
+use Rattle.std.specs.Prelude.{ℕ, List, [], ◌∷◌, Some, true, codes}
 use Rattle.clap.specs.Words.{App, Rule, new_app, new_rule, with_rule, with_subcommand}
-use Rattle.clap.specs.declared.builder.action.ArgAction.TheVariants.{Set}
+use Rattle.clap.specs.declared.builder.action.ArgAction.TheVariants.{Set, SetTrue}
+use Rattle.clap.specs.declared.builder.value_parser.ValueParser.TheVariants.{Unsigned}
+use Rattle.mpd_options.specs.Asked.{most_fuel, most_runs}
 
 abbrev pub file_rule : Rule
 file_rule = record (new_rule (codes "FILE")) { required = true; action = Some Set }
@@ -14,12 +16,31 @@ mode_rule = record (new_rule (codes "mode")) {
   defaults = codes "rendezvous" ∷ [];
 }
 
+-- an option whose value is a number, from 1 on
+abbrev pub number_rule : List ℕ → ℕ → List ℕ → Rule
+number_rule name most default = record (new_rule name) {
+  long = Some name;
+  value_names = 1;
+  action = Some Set;
+  parser = Some (Unsigned 1 most);
+  defaults = default ∷ [];
+}
+
+abbrev pub witness_rule : Rule
+witness_rule = record (new_rule (codes "witness")) { long = Some (codes "witness"); action = Some SetTrue }
+
 abbrev pub trace_app : App
 trace_app = with_rule (with_rule (new_app (codes "trace")) file_rule) mode_rule
+
+abbrev pub numbers_app : App
+numbers_app = with_rule (with_rule (with_rule (with_rule (new_app (codes "check")) file_rule) mode_rule) (number_rule (codes "runs") most_runs (codes "1000"))) (number_rule (codes "fuel") most_fuel (codes "100000"))
+
+abbrev pub check_app : App
+check_app = with_rule numbers_app witness_rule
 
 abbrev pub named_app : App
 named_app = let app = new_app (codes "mpdbg") in record app { top = record app.top { has_version = true; no_binary_name = true; subcommand_required = true } }
 
 -- `mpdbg` and its commands
 abbrev pub mpdbg_app : App
-mpdbg_app = with_subcommand named_app trace_app.top
+mpdbg_app = with_subcommand (with_subcommand named_app trace_app.top) check_app.top

@@ -1,10 +1,12 @@
 //! What the words of a command line ask for.
 ghost use Rattle.std.specs.Prelude.{◌≡◌, IfOk, IfErr, Some, true, is_some, map};
 ghost use Rattle.clap.specs.Words.{found_of, rows_of, subcommand_rows_of};
-ghost use Rattle.mpd_options.specs.Asked.{asked, meant, found_in, found_of_command};
+ghost use Rattle.mpd_options.specs.Asked.{
+    IsInRange, asked, checker, found_in, found_of_command, meant, tracer,
+};
 ghost use Rattle.mpd_options.specs.Refused.{IsRefused, is_answer, usage_of, usage_status, usage_text};
 
-use crate::command::{FILE, MODE, TRACE, program};
+use crate::command::{CHECK, FILE, FUEL, MODE, RUNS, TRACE, WITNESS, program};
 use clap::ArgMatches;
 use clap::error::ErrorKind;
 use std::alloc::{AllocError, Global};
@@ -26,6 +28,19 @@ pub enum Options<'a> {
         file: &'a str,
         /// The mode's word, whatever it is; `rendezvous` where there is none.
         mode: &'a str,
+    },
+    /// Look for deadlocks in the script of a file.
+    Check {
+        /// The file's word.
+        file: &'a str,
+        /// The mode's word, whatever it is; `rendezvous` where there is none.
+        mode: &'a str,
+        /// How many runs are tried at most.
+        runs: usize,
+        /// How many steps each run takes at most.
+        fuel: usize,
+        /// Whether the trace words of a run that comes to a deadlock are wanted.
+        witness: bool,
     },
 }
 
@@ -104,8 +119,8 @@ fn usage_fault(error: clap::Error) -> UsageFault
 
 /// What the words behind `trace` ask for.
 fn trace_in<'a>(trace: &ArgMatches<'a>) -> Options<'a>
-    requires { is_some (found_in (rows_of (found_of trace.now))) ≡ true }
-    ensures { Some (asked result) ≡ found_in (rows_of (found_of trace.now)) }
+    requires { is_some (found_in tracer (rows_of (found_of trace.now))) ≡ true }
+    ensures { Some (asked result) ≡ found_in tracer (rows_of (found_of trace.now)) }
 {
     let Some(file) = trace.get_str(FILE) else {
         unreachable!()
@@ -116,21 +131,52 @@ fn trace_in<'a>(trace: &ArgMatches<'a>) -> Options<'a>
     Options::Trace { file, mode }
 }
 
+/// What the words behind `check` ask for.
+fn check_in<'a>(check: &ArgMatches<'a>) -> Options<'a>
+    requires { is_some (found_in checker (rows_of (found_of check.now))) ≡ true }
+    ensures { Some (asked result) ≡ found_in checker (rows_of (found_of check.now)) }
+{
+    let Some(file) = check.get_str(FILE) else {
+        unreachable!()
+    };
+    let Some(mode) = check.get_str(MODE) else {
+        unreachable!()
+    };
+    let Some(runs) = check.get_one::<usize>(RUNS) else {
+        unreachable!()
+    };
+    let Some(fuel) = check.get_one::<usize>(FUEL) else {
+        unreachable!()
+    };
+    let witness = check.get_flag(WITNESS);
+    Options::Check {
+        file,
+        mode,
+        runs,
+        fuel,
+        witness,
+    }
+}
+
 /// What the command that was found asks for.
 fn options_in<'a>(matches: &ArgMatches<'a>) -> Options<'a>
     requires { is_some (found_of_command (subcommand_rows_of matches.now)) ≡ true }
     ensures { Some (asked result) ≡ found_of_command (subcommand_rows_of matches.now) }
 {
-    let Some(trace) = matches.subcommand_matches(TRACE) else {
+    if let Some(trace) = matches.subcommand_matches(TRACE) {
+        return trace_in(trace);
+    }
+    let Some(check) = matches.subcommand_matches(CHECK) else {
         unreachable!()
     };
-    trace_in(trace)
+    check_in(check)
 }
 
 /// Reads the words of a command line, without the program's own name (docs/FORMATS.md, "The command line"): what they ask
 /// for, with the words of file and mode as they were given. An `Err` is `Usage` exactly where they ask for nothing that can be
 /// done, with the kind of fault that `clap` has for these words, or `Memory`.
 pub fn read_options<'a, S: AsStr>(alloc: Global, words: &'a [S]) -> Result<Options<'a>, UsageFault>
+    ensures in_range { IfOk result IsInRange }
     ensures ok { IfOk result (λ options. meant (map S.text words.entry.now) ≡ Some (asked options)) }
     ensures err { IfErr result (λ fault. IsRefused fault (map S.text words.entry.now)) }
 {

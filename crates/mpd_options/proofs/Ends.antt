@@ -1,0 +1,300 @@
+-- The end of the words behind a command: what `clap` then finds, and whether it fails.
+use Rattle.std.proofs.Common.{◌≡◌, ◌≢◌, ◌∙◌, ℕ, Bool, true, false, List, [], ◌∷◌, ◌++◌, cond, ◌||◌, Option, Some, None, is_some, option_map, fold, codes, refl, sym, ap, ap₂, subst, if◌then◌else◌}
+use Rattle.std.specs.Prelude.{option_and_then, slice_get}
+use Rattle.std.specs.Option.{option_map_or}
+use Rattle.std.specs.Str.{bytes_eq}
+use Rattle.std.proofs.lemmas.Slice.Eq.{bytes_eq-Decides}
+use Rattle.clap.specs.Words.{Row, Rule, Text, first_of, one_of}
+use Rattle.clap.specs.Kinds.{Kinds, or_else}
+use Rattle.clap.specs.Faults.{check_fault, default_fault, defaults_fault, given_default_fault, settle_fault, use_fault}
+use Rattle.clap.specs.Facts.{explicit_source}
+use Rattle.clap.specs.Takes.{is_given}
+use Rattle.clap.specs.Walk.{Held, default_rows, finished, has_row, is_empty, reading_by, row_text, settled, used, used_by_id, with_default}
+use Rattle.clap.specs.declared.builder.value_parser.Reading.{Reading}
+use Rattle.clap.specs.declared.parser.matches.ValueSource.TheVariants.{CommandLine, DefaultValue}
+use Rattle.clap.proofs.OnLiterals.{clap_on_literals}
+use Rattle.mpd_options.specs.Asked.{Asked, Item, Said, Tool, checker, default_of, fits, found, found_check, found_in, found_trace, most_fuel, most_runs, name_of, or_default, said_named, said_of, text_in, text_of, the_file, the_fuel, the_mode, the_runs, the_witness, tracer}
+use Rattle.mpd_options.specs.Numbers.{flag_in, number_in}
+use Rattle.mpd_options.proofs.Items.{Valid, arg, by_id, has_is, has_said, keeps, made, named_row, or_row, row_at, row_at_more, row_for, row_said, rows_for, rules, sub, used_once, used_well, values_at_end}
+
+-- ---- the defaults
+
+abbrev made_row : Text → Reading → List Text → Option Row
+made_row id how [] = None
+made_row id how (v ∷ vs) = Some (made id how DefaultValue (v ∷ vs))
+
+or_none : (o : Option Row) → or_row o None ≡ o
+or_none None = refl
+or_none (Some r) = refl
+
+some_stays : (o other : Option Row) → is_some o ≡ true → o ≡ or_row o other
+some_stays None other e = cc
+some_stays (Some r) other e = refl
+
+same_cond : (b : Bool) → cond b None None ≡ (let o : Option Row = None in o)
+same_cond true = refl
+same_cond false = refl
+
+default_rows_at : (own : Text) (how : Reading) (values : List Text) (rows : List Row) (id : Text) → has_row own rows ≡ false
+    → row_at id (default_rows own how values rows) ≡ or_row (row_at id rows) (cond (bytes_eq own id) (made_row own how values) None)
+default_rows_at own how [] rows id h = sym (ap (or_row (row_at id rows)) (same_cond (bytes_eq own id)) ∙ or_none (row_at id rows))
+default_rows_at own how (v ∷ vs) rows id h = ap (row_at id) (values_at_end own how DefaultValue (v ∷ vs) rows h) ∙ row_at_more id rows (made own how DefaultValue (v ∷ vs))
+
+abbrev rule_row : Text → Rule → Option Row
+rule_row id a = cond (bytes_eq a.id id) (made_row a.id (reading_by a) a.defaults) None
+
+with_default_at : (id : Text) (rows : List Row) (a : Rule) → row_at id (with_default rows a) ≡ or_row (row_at id rows) (rule_row id a)
+with_default_at id rows a = elim (has_row a.id rows) as (λ b. has_row a.id rows ≡ b → row_at id (if b then rows else default_rows a.id (reading_by a) a.defaults rows) ≡ or_row (row_at id rows) (rule_row id a)) [
+  | true ↦ λ h. elim (bytes_eq a.id id) as (λ b. bytes_eq a.id id ≡ b → row_at id rows ≡ or_row (row_at id rows) (cond b (made_row a.id (reading_by a) a.defaults) None)) [
+    | true ↦ λ e. some_stays (row_at id rows) _ (subst (λ n. is_some (row_at n rows) ≡ true) ((bytes_eq-Decides a.id id).0 e) (sym (has_is a.id rows) ∙ h))
+    | false ↦ λ e. sym (or_none (row_at id rows))
+  ] refl
+  | false ↦ λ h. default_rows_at a.id (reading_by a) a.defaults rows id h
+] refl
+
+abbrev rules_row : Text → List Rule → Option Row
+rules_row id [] = None
+rules_row id (a ∷ rest) = or_row (rule_row id a) (rules_row id rest)
+
+or_groups : (x y z : Option Row) → or_row (or_row x y) z ≡ or_row x (or_row y z)
+or_groups None y z = refl
+or_groups (Some r) y z = refl
+
+with_defaults_at : (id : Text) (args : List Rule) (rows : List Row) → row_at id (fold with_default rows args) ≡ or_row (row_at id rows) (rules_row id args)
+with_defaults_at id [] rows = sym (or_none (row_at id rows))
+with_defaults_at id (a ∷ rest) rows =
+    with_defaults_at id rest (with_default rows a) ∙ ap (λ o. or_row o (rules_row id rest)) (with_default_at id rows a) ∙ or_groups (row_at id rows) (rule_row id a) (rules_row id rest)
+
+abbrev default_row : Item → Option Row
+default_row i = option_map (λ v. row_for i v DefaultValue) (default_of i)
+
+tracer_file : rules_row (name_of the_file) (rules tracer) ≡ default_row the_file
+unfolding clap_on_literals
+tracer_file = refl
+
+tracer_mode : rules_row (name_of the_mode) (rules tracer) ≡ default_row the_mode
+unfolding clap_on_literals
+tracer_mode = refl
+
+checker_row : (i : Item) → rules_row (name_of i) (rules checker) ≡ default_row i
+unfolding clap_on_literals
+checker_row the_file = refl
+checker_row the_mode = refl
+checker_row the_runs = refl
+checker_row the_fuel = refl
+checker_row the_witness = refl
+
+-- ---- what is found at last
+
+abbrev ended : Tool → Said → List Row
+ended t said = fold with_default (rows_for said) (rules t)
+
+abbrev Owns : Tool → Item → Type 0
+Owns t i = rules_row (name_of i) (rules t) ≡ default_row i
+
+row_ended : (t : Tool) (i : Item) (said : Said) → Owns t i → Valid said → row_at (name_of i) (ended t said) ≡ or_row (named_row (name_of i) (said_of i said)) (default_row i)
+row_ended t i said own h = with_defaults_at (name_of i) (rules t) (rows_for said) ∙ ap₂ or_row (row_said (name_of i) said h) own
+
+first_text : (i : Item) (x y : Option Text) → option_and_then (λ (r : Row). slice_get r.values 0) (or_row (named_row (name_of i) x) (option_map (λ v. row_for i v DefaultValue) y)) ≡ or_default x y
+first_text i None None = refl
+first_text i None (Some v) = refl
+first_text i (Some w) y = refl
+
+one_text : (i : Item) (x y : Option Text) → option_and_then row_text (or_row (named_row (name_of i) x) (option_map (λ v. row_for i v DefaultValue) y)) ≡ or_default x y
+one_text i None None = refl
+one_text i None (Some v) = refl
+one_text i (Some w) y = refl
+
+first_ended : (t : Tool) (i : Item) (said : Said) → Owns t i → Valid said → first_of (name_of i) (ended t said) ≡ text_of said i
+first_ended t i said own h = ap (option_and_then (λ (r : Row). slice_get r.values 0)) (row_ended t i said own h) ∙ first_text i (said_of i said) (default_of i)
+
+one_ended : (t : Tool) (i : Item) (said : Said) → Owns t i → Valid said → one_of (name_of i) (ended t said) ≡ text_of said i
+one_ended t i said own h = ap (option_and_then row_text) (row_ended t i said own h) ∙ one_text i (said_of i said) (default_of i)
+
+five_same : (f f' m m' r r' n n' w w' : Option Text) → f ≡ f' → m ≡ m' → r ≡ r' → n ≡ n' → w ≡ w'
+    → found_check f m (option_and_then (number_in 1 most_runs) r) (option_and_then (number_in 1 most_fuel) n) (option_and_then flag_in w)
+    ≡ found_check f' m' (option_and_then (number_in 1 most_runs) r') (option_and_then (number_in 1 most_fuel) n') (option_and_then flag_in w')
+five_same f f' m m' r r' n n' w w' a b c d e = rw (a, b, c, d, e) refl
+
+pub found_ended : (t : Tool) (said : Said) → Valid said → found_in t (ended t said) ≡ found t (text_of said)
+found_ended tracer said h = ap₂ found_trace (first_ended tracer the_file said tracer_file h) (first_ended tracer the_mode said tracer_mode h)
+found_ended checker said h =
+    five_same _ _ _ _ _ _ _ _ _ _ (first_ended checker the_file said (checker_row the_file) h) (first_ended checker the_mode said (checker_row the_mode) h)
+    (one_ended checker the_runs said (checker_row the_runs) h) (one_ended checker the_fuel said (checker_row the_fuel) h) (one_ended checker the_witness said (checker_row the_witness) h)
+
+-- ---- something is asked for where a file was said
+
+abbrev item_named : Text → Option Item
+item_named name =
+    if bytes_eq name (codes "FILE") then Some the_file
+    else (if bytes_eq name (codes "mode") then Some the_mode
+    else (if bytes_eq name (codes "runs") then Some the_runs else (if bytes_eq name (codes "fuel") then Some the_fuel else (if bytes_eq name (codes "witness") then Some the_witness else None))))
+
+named_is : (i : Item) → item_named (name_of i) ≡ Some i
+named_is the_file = refl
+named_is the_mode = refl
+named_is the_runs = refl
+named_is the_fuel = refl
+named_is the_witness = refl
+
+same_item : (i j : Item) → bytes_eq (name_of i) (name_of j) ≡ true → i ≡ j
+same_item i j e = (let same : Some i ≡ Some j = sym (named_is i) ∙ ap item_named ((bytes_eq-Decides (name_of i) (name_of j)).0 e) ∙ named_is j in cc)
+
+said_fits : (i : Item) (v : Text) (said : Said) → Valid said → said_of i said ≡ Some v → fits i v ≡ true
+said_fits i v [] h e = cc
+said_fits i v (entry ∷ said) h e =
+    elim (bytes_eq (name_of entry.0) (name_of i)) as (λ b. bytes_eq (name_of entry.0) (name_of i) ≡ b → (if b then Some entry.1 else said_of i said) ≡ Some v → fits i v ≡ true) [
+      | true ↦ λ q s. let value : entry.1 ≡ v = cc in subst (λ j. fits j v ≡ true) (same_item entry.0 i q) (subst (λ w. fits entry.0 w ≡ true) value h.1)
+      | false ↦ λ q s. said_fits i v said h.2 s
+    ] refl e
+
+-- a text that was said, or a default, is read
+read_said : {A : Type 0} (read : Text → Option A) (d : Text) (said : Option Text) → is_some (read d) ≡ true → ((v : Text) → said ≡ Some v → is_some (read v) ≡ true) → is_some (option_and_then read (or_default said (Some d))) ≡ true
+read_said read d None e h = e
+read_said read d (Some v) e h = h v refl
+
+is_trace : (f m : Option Text) (d : Text) → is_some (found_trace (or_default f None) (or_default m (Some d))) ≡ is_some f
+is_trace None m d = refl
+is_trace (Some f) None d = refl
+is_trace (Some f) (Some m) d = refl
+
+is_check : (f m : Option Text) (d : Text) (r n : Option ℕ) (w : Option Bool) → is_some r ≡ true → is_some n ≡ true → is_some w ≡ true → is_some (found_check (or_default f None) (or_default m (Some d)) r n w) ≡ is_some f
+is_check None m d r n w a b c = refl
+is_check (Some f) None d (Some r) (Some n) (Some w) a b c = refl
+is_check (Some f) (Some m) d (Some r) (Some n) (Some w) a b c = refl
+is_check (Some f) m d None n w a b c = cc
+is_check (Some f) m d (Some r) None w a b c = cc
+is_check (Some f) m d (Some r) (Some n) None a b c = cc
+
+asks_with_file : (t : Tool) (said : Said) → Valid said → is_some (found t (text_of said)) ≡ is_some (said_of the_file said)
+asks_with_file tracer said h = is_trace (said_of the_file said) (said_of the_mode said) (codes "rendezvous")
+asks_with_file checker said h =
+    is_check (said_of the_file said) (said_of the_mode said) (codes "rendezvous") (option_and_then (number_in 1 most_runs) (text_of said the_runs)) (option_and_then (number_in 1 most_fuel) (text_of said the_fuel)) (option_and_then flag_in (text_of said the_witness))
+    (read_said (number_in 1 most_runs) (codes "1000") (said_of the_runs said) refl (λ v e. said_fits the_runs v said h e))
+    (read_said (number_in 1 most_fuel) (codes "100000") (said_of the_fuel said) refl (λ v e. said_fits the_fuel v said h e))
+    (read_said flag_in (codes "false") (said_of the_witness said) refl (λ v e. said_fits the_witness v said h e))
+
+-- ---- faults at the end
+
+given_row : (i : Item) (x : Option Text) → option_map_or (λ (r : Row). explicit_source r.source) (or_row (named_row (name_of i) x) None) false ≡ is_some x
+given_row i None = refl
+given_row i (Some v) = refl
+
+file_row : (t : Tool) → Owns t the_file
+file_row tracer = tracer_file
+file_row checker = checker_row the_file
+
+file_given : (t : Tool) (said : Said) → Valid said → is_given (codes "FILE") (ended t said) ≡ is_some (said_of the_file said)
+file_given t said h = ap (λ o. option_map_or (λ (r : Row). explicit_source r.source) o false) (row_ended t the_file said (file_row t) h) ∙ given_row the_file (said_of the_file said)
+
+with_file : (t : Tool) (rows : List Row) → is_given (codes "FILE") rows ≡ true → check_fault (sub t) rows false ≡ []
+unfolding clap_on_literals
+with_file tracer rows e = rw e refl
+with_file checker rows e = rw e refl
+
+without_file : (t : Tool) (rows : List Row) → is_given (codes "FILE") rows ≡ false → check_fault (sub t) rows false ≢ []
+unfolding clap_on_literals
+without_file tracer rows e = rw e (λ z. cc)
+without_file checker rows e = rw e (λ z. cc)
+
+abbrev Takes : List Rule → Type 0
+Takes [] = Unit {0}
+Takes (a ∷ rest) = ((if is_empty a.defaults then [] else given_default_fault a a.defaults) ≡ []) × Takes rest
+
+no_default_fault : (rows : List Row) (a : Rule) → (if is_empty a.defaults then [] else given_default_fault a a.defaults) ≡ [] → default_fault rows a ≡ []
+no_default_fault rows a e = elim (has_row a.id rows) as (λ b. (if b || is_empty a.defaults then [] else given_default_fault a a.defaults) ≡ []) [
+  | true ↦ refl
+  | false ↦ e
+]
+
+no_defaults_fault : (args : List Rule) (rows : List Row) → Takes args → defaults_fault rows args ≡ []
+unfolding defaults_fault
+no_defaults_fault [] rows h = refl
+no_defaults_fault (a ∷ rest) rows h = ap (λ ks. or_else ks (defaults_fault (with_default rows a) rest)) (no_default_fault rows a h.0) ∙ no_defaults_fault rest (with_default rows a) h.1
+
+pub takes_defaults : (t : Tool) → Takes (rules t)
+unfolding clap_on_literals
+takes_defaults tracer = (refl, (refl, (refl, tt)))
+takes_defaults checker = (refl, (refl, (refl, (refl, (refl, (refl, tt))))))
+
+-- ---- what is held is settled
+
+pub fails_first : (ks ms : Kinds) → ks ≢ [] → or_else ks ms ≢ []
+fails_first [] ms fails = λ e. fails refl
+fails_first (k ∷ ks) ms fails = λ e. cc
+
+pub fails_then : (ks ms : Kinds) → ms ≢ [] → or_else ks ms ≢ []
+fails_then [] ms fails = fails
+fails_then (k ∷ ks) ms fails = λ e. cc
+
+abbrev pub held : List Row → Option (Text × List Text) → Held
+held rows pending = record { rows = rows; pending = pending; skip = 0 }
+
+-- what was said last may not be settled yet
+abbrev pub pending_for : Option (Item × Text) → Option (Text × List Text)
+pending_for None = None
+pending_for (Some entry) = Some (name_of entry.0, entry.1 ∷ [])
+
+abbrev pub with_last : Said → Option (Item × Text) → Said
+with_last said None = said
+with_last said (Some entry) = entry ∷ said
+
+abbrev pub held_for : Said → Option (Item × Text) → Held
+held_for said last = held (rows_for said) (pending_for last)
+
+abbrev pub IsLast : Tool → Option (Item × Text) → Type 0
+IsLast t None = Unit {0}
+IsLast t (Some entry) = keeps t entry.0 ≡ true
+
+pub settles_by : (t : Tool) (rows : List Row) (i : Item) (values : List Text) → keeps t i ≡ true → settle_fault (rules t) false (held rows (Some (name_of i, values))) ≡ use_fault false (arg t i) values rows
+settles_by t rows i values k = ap (λ o. option_map_or (λ a. use_fault false a values rows) o []) (by_id t i k)
+
+settled_by : (t : Tool) (rows : List Row) (i : Item) (values : List Text) → keeps t i ≡ true → settled (rules t) (held rows (Some (name_of i, values))) ≡ held (used (arg t i) values rows) None
+settled_by t rows i values k = ap (λ o. held (used_by_id o values rows) None) (by_id t i k)
+
+new_row : (i : Item) (said : Said) → Valid said → said_of i said ≡ None → has_row (name_of i) (rows_for said) ≡ false
+new_row i said h e = has_said i said h ∙ ap is_some e
+
+pub settles : (t : Tool) (said : Said) (last : Option (Item × Text)) → Valid (with_last said last) → IsLast t last
+    → (settle_fault (rules t) false (held_for said last) ≡ []) × (settled (rules t) (held_for said last) ≡ held (rows_for (with_last said last)) None)
+settles t said None h l = (refl, refl)
+settles t said (Some entry) h l =
+    let new = new_row entry.0 said h.2 h.0 in
+    (
+      settles_by t (rows_for said) entry.0 (entry.1 ∷ []) l ∙ used_well t entry.0 entry.1 (rows_for said) l new h.1,
+      settled_by t (rows_for said) entry.0 (entry.1 ∷ []) l ∙ ap (λ rows. held rows None) (used_once t entry.0 entry.1 (rows_for said) l new),
+    )
+
+-- ---- the end
+
+-- what is asked for is what was found, and nothing is asked for where something fails
+abbrev pub Agrees : Tool → Option Asked → Kinds → List Row → Type 0
+Agrees t None ks rows = ks ≢ []
+Agrees t (Some x) ks rows = (ks ≡ []) × (found_in t rows ≡ Some x)
+
+agrees_by : (t : Tool) (o : Option Asked) (ks : Kinds) (rows : List Row) → (is_some o ≡ false → ks ≢ []) → (is_some o ≡ true → ks ≡ []) → found_in t rows ≡ o → Agrees t o ks rows
+agrees_by t None ks rows bad good same = bad refl
+agrees_by t (Some x) ks rows bad good same = (good refl, same)
+
+abbrev pub end_fault : Tool → Held → Kinds
+end_fault t h = or_else (settle_fault (rules t) false h) (or_else (defaults_fault (settled (rules t) h).rows (rules t)) (check_fault (sub t) (finished (rules t) h) false))
+
+end_is : (t : Tool) (said : Said) (last : Option (Item × Text)) → Valid (with_last said last) → IsLast t last → end_fault t (held_for said last) ≡ check_fault (sub t) (ended t (with_last said last)) false
+end_is t said last h l =
+    let s = settles t said last h l in
+    ap (λ ks. or_else ks (or_else (defaults_fault (settled (rules t) (held_for said last)).rows (rules t)) (check_fault (sub t) (finished (rules t) (held_for said last)) false))) s.0
+    ∙ ap (λ (g : Held). or_else (defaults_fault g.rows (rules t)) (check_fault (sub t) (fold with_default g.rows (rules t)) false)) s.1
+    ∙ ap (λ ks. or_else ks (check_fault (sub t) (ended t (with_last said last)) false)) (no_defaults_fault (rules t) (rows_for (with_last said last)) (takes_defaults t))
+
+pub at_end : (t : Tool) (said : Said) (last : Option (Item × Text)) → Valid (with_last said last) → IsLast t last
+    → Agrees t (found t (text_of (with_last said last))) (end_fault t (held_for said last)) (finished (rules t) (held_for said last))
+at_end t said last h l =
+    let all = with_last said last in
+    let asks = asks_with_file t all h in
+    let P : Kinds → Type 0 = λ ks. Agrees t (found t (text_of all)) ks (finished (rules t) (held_for said last)) in
+    let Q : Held → Type 0 = λ g. Agrees t (found t (text_of all)) (check_fault (sub t) (ended t all) false) (fold with_default g.rows (rules t)) in
+    subst P (sym (end_is t said last h l)) (subst Q (sym (settles t said last h l).1)
+    (agrees_by t (found t (text_of all)) (check_fault (sub t) (ended t all) false) (ended t all)
+    (λ e. without_file t (ended t all) (file_given t all h ∙ sym asks ∙ e))
+    (λ e. with_file t (ended t all) (file_given t all h ∙ sym asks ∙ e))
+    (found_ended t all h)))

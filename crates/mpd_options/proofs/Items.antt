@@ -1,0 +1,270 @@
+-- What `clap` holds of the items of a command, and what it does with a value of one.
+use Rattle.std.proofs.Common.{◌≡◌, ◌≢◌, ◌∙◌, ◌&&◌, ◌||◌, ◌<◌, ◌^◌, ℕ, Bool, true, false, not, List, [], ◌∷◌, ◌++◌, ◌==◌, cond, length, Option, Some, None, is_some, option_map, find, fold, codes, refl, sym, ap, ap₂, subst, if◌then◌else◌, unwrap_or, arith}
+use Rattle.std.specs.Prelude.{option_and_then, slice_get}
+use Rattle.std.specs.List.{list_any}
+use Rattle.std.specs.Option.{option_map_or}
+use Rattle.std.specs.Str.{bytes_eq}
+use Rattle.std.proofs.lemmas.Slice.Eq.{bytes_eq-Decides}
+use Rattle.clap.specs.Words.{Row, Rule, Shape, Text, built, first_of, one_of}
+use Rattle.clap.specs.Kinds.{Kinds, or_else}
+use Rattle.clap.specs.Faults.{check_fault, default_fault, defaults_fault, given_default_fault, repeat_fault, settle_fault, use_fault}
+use Rattle.clap.specs.Facts.{explicit_source}
+use Rattle.clap.specs.Takes.{is_given}
+use Rattle.clap.specs.Simple.{label_of, new_rule, new_shape}
+use Rattle.clap.specs.ValueTests.{is_unsigned_in}
+use Rattle.clap.specs.Walk.{Held, answers_to, arg_by_id, arg_by_long, has_row, row_text, settled, used, with_default, with_values, without}
+use Rattle.clap.specs.declared.builder.value_parser.Reading.{Reading}
+use Rattle.clap.specs.declared.builder.value_parser.Reading.TheVariants.{AsWritten}
+use Rattle.clap.specs.declared.error.kind.ErrorKind.{ErrorKind}
+use Rattle.clap.specs.declared.error.kind.ErrorKind.TheVariants as kind
+use Rattle.clap.specs.declared.parser.matches.ValueSource.{ValueSource}
+use Rattle.clap.specs.declared.parser.matches.ValueSource.TheVariants.{CommandLine, DefaultValue}
+use Rattle.clap.proofs.OnLiterals.{clap_on_literals}
+use Rattle.mpd_options.specs.Asked.{Item, Said, Tool, checker, default_of, fits, is_flag, most_fuel, most_runs, name_of, said_named, said_of, the_file, the_fuel, the_mode, the_runs, the_witness, tracer}
+use Rattle.mpd_options.specs.Program.{mpdbg_app}
+use Rattle.mpd_options.proofs.NumberReads.{accepts_number}
+
+abbrev pub called : Tool → Text
+called tracer = codes "trace"
+called checker = codes "check"
+
+abbrev pub sub : Tool → Shape
+sub tracer = option_map_or (λ s. s) (find (λ s. answers_to (codes "trace") (label_of s)) (built mpdbg_app).subs) (new_shape [])
+sub checker = option_map_or (λ s. s) (find (λ s. answers_to (codes "check") (label_of s)) (built mpdbg_app).subs) (new_shape [])
+
+abbrev pub rules : Tool → List Rule
+rules t = (sub t).rules
+
+abbrev pub arg : Tool → Item → Rule
+arg t item = unwrap_or (arg_by_id (rules t) (name_of item)) (new_rule [])
+
+abbrev pub help_arg : Tool → Rule
+help_arg t = unwrap_or (arg_by_id (rules t) (codes "help")) (new_rule [])
+
+-- ---- the items that take a value in words
+
+-- options that want a value
+abbrev pub asks : Tool → Item → Bool
+asks tracer the_mode = true
+asks checker the_mode = true
+asks checker the_runs = true
+asks checker the_fuel = true
+asks _ _ = false
+
+-- and the file
+abbrev pub keeps : Tool → Item → Bool
+keeps t the_file = true
+keeps t the_mode = asks t the_mode
+keeps t the_runs = asks t the_runs
+keeps t the_fuel = asks t the_fuel
+keeps t the_witness = false
+
+pub each_asks : (P : Tool → Item → Type 0) → P tracer the_mode → P checker the_mode → P checker the_runs → P checker the_fuel → (t : Tool) (i : Item) → asks t i ≡ true → P t i
+each_asks P a b c d tracer the_file e = cc
+each_asks P a b c d tracer the_mode e = a
+each_asks P a b c d tracer the_runs e = cc
+each_asks P a b c d tracer the_fuel e = cc
+each_asks P a b c d tracer the_witness e = cc
+each_asks P a b c d checker the_file e = cc
+each_asks P a b c d checker the_mode e = b
+each_asks P a b c d checker the_runs e = c
+each_asks P a b c d checker the_fuel e = d
+each_asks P a b c d checker the_witness e = cc
+
+pub each_keeps : (P : Tool → Item → Type 0) → P tracer the_file → P checker the_file → P tracer the_mode → P checker the_mode → P checker the_runs → P checker the_fuel
+    → (t : Tool) (i : Item) → keeps t i ≡ true → P t i
+each_keeps P f g a b c d tracer the_file e = f
+each_keeps P f g a b c d tracer the_mode e = a
+each_keeps P f g a b c d tracer the_runs e = cc
+each_keeps P f g a b c d tracer the_fuel e = cc
+each_keeps P f g a b c d tracer the_witness e = cc
+each_keeps P f g a b c d checker the_file e = g
+each_keeps P f g a b c d checker the_mode e = b
+each_keeps P f g a b c d checker the_runs e = c
+each_keeps P f g a b c d checker the_fuel e = d
+each_keeps P f g a b c d checker the_witness e = cc
+
+pub asks_keeps : (t : Tool) (i : Item) → asks t i ≡ true → keeps t i ≡ true
+asks_keeps = each_asks (λ t i. keeps t i ≡ true) refl refl refl refl
+
+pub by_id : (t : Tool) (i : Item) → keeps t i ≡ true → arg_by_id (rules t) (name_of i) ≡ Some (arg t i)
+unfolding clap_on_literals
+by_id = each_keeps (λ t i. arg_by_id (rules t) (name_of i) ≡ Some (arg t i)) refl refl refl refl refl refl
+
+pub by_long : (t : Tool) (i : Item) → asks t i ≡ true → arg_by_long (rules t) (name_of i) ≡ Some (arg t i)
+unfolding clap_on_literals
+by_long = each_asks (λ t i. arg_by_long (rules t) (name_of i) ≡ Some (arg t i)) refl refl refl refl
+
+pub flag_by_long : arg_by_long (rules checker) (name_of the_witness) ≡ Some (arg checker the_witness)
+unfolding clap_on_literals
+flag_by_long = refl
+
+-- ---- a use of an item
+
+abbrev accepted : Item → Text → Bool
+accepted the_file text = true
+accepted the_mode text = true
+accepted the_runs text = is_unsigned_in 1 most_runs text
+accepted the_fuel text = is_unsigned_in 1 most_fuel text
+accepted the_witness text = true
+
+accepted_fits : (t : Tool) (i : Item) (v : Text) → keeps t i ≡ true → accepted i v ≡ fits i v
+accepted_fits t i v k =
+    each_keeps (λ t i. accepted i v ≡ fits i v) refl refl refl refl (accepts_number 1 most_runs v (omega arith)) (accepts_number 1 most_fuel v (omega arith)) t i k
+
+-- the fault of a value, by whether it is taken
+abbrev value_fault : ErrorKind → Bool → Kinds
+value_fault k taken = or_else (if taken then [] else k ∷ []) []
+
+-- the fault of a use, by whether there was one before
+abbrev again_fault : Bool → Kinds
+again_fault again = if again && not false then kind.ArgumentConflict ∷ [] else []
+
+use_is : (v : Text) (rows : List Row) (t : Tool) (i : Item) → keeps t i ≡ true
+    → use_fault false (arg t i) (v ∷ []) rows ≡ or_else (again_fault (has_row (name_of i) rows)) (value_fault kind.ValueValidation (accepted i v))
+unfolding clap_on_literals
+use_is v rows = each_keeps (λ t i. use_fault false (arg t i) (v ∷ []) rows ≡ or_else (again_fault (has_row (name_of i) rows)) (value_fault kind.ValueValidation (accepted i v))) refl refl refl refl refl refl
+
+flag_use_is : (rows : List Row) → use_fault false (arg checker the_witness) [] rows ≡ or_else (again_fault (has_row (name_of the_witness) rows)) []
+unfolding clap_on_literals
+flag_use_is rows = refl
+
+abbrev fault_by : Bool → Bool → Kinds
+fault_by again taken = or_else (again_fault again) (value_fault kind.ValueValidation taken)
+
+use_by : (t : Tool) (i : Item) (v : Text) (rows : List Row) (again taken : Bool) → keeps t i ≡ true → has_row (name_of i) rows ≡ again → fits i v ≡ taken → use_fault false (arg t i) (v ∷ []) rows ≡ fault_by again taken
+use_by t i v rows again taken k h f = use_is v rows t i k ∙ ap₂ fault_by h (accepted_fits t i v k ∙ f)
+
+-- a first use whose value fits
+pub used_well : (t : Tool) (i : Item) (v : Text) (rows : List Row) → keeps t i ≡ true → has_row (name_of i) rows ≡ false → fits i v ≡ true → use_fault false (arg t i) (v ∷ []) rows ≡ []
+used_well t i v rows k h f = use_by t i v rows false true k h f
+
+taken_or_not : (taken : Bool) → fault_by true taken ≢ []
+taken_or_not taken = λ e. cc
+
+-- a second use
+pub used_again : (t : Tool) (i : Item) (v : Text) (rows : List Row) → keeps t i ≡ true → has_row (name_of i) rows ≡ true → use_fault false (arg t i) (v ∷ []) rows ≢ []
+used_again t i v rows k h = let P : Kinds → Type 0 = λ ks. ks ≢ [] in subst P (sym (use_by t i v rows true (fits i v) k h refl)) (taken_or_not (fits i v))
+
+unfit : (again : Bool) → fault_by again false ≢ []
+unfit true = λ e. cc
+unfit false = λ e. cc
+
+-- a value that doesn't fit
+pub used_badly : (t : Tool) (i : Item) (v : Text) (rows : List Row) → keeps t i ≡ true → fits i v ≡ false → use_fault false (arg t i) (v ∷ []) rows ≢ []
+used_badly t i v rows k f =
+    let P : Kinds → Type 0 = λ ks. ks ≢ [] in
+    subst P (sym (use_by t i v rows (has_row (name_of i) rows) false k refl f)) (unfit (has_row (name_of i) rows))
+
+pub flag_used_well : (rows : List Row) → has_row (name_of the_witness) rows ≡ false → use_fault false (arg checker the_witness) [] rows ≡ []
+flag_used_well rows h = flag_use_is rows ∙ ap (λ b. or_else (again_fault b) []) h
+
+pub flag_used_again : (rows : List Row) → has_row (name_of the_witness) rows ≡ true → use_fault false (arg checker the_witness) [] rows ≢ []
+flag_used_again rows h =
+    let P : Kinds → Type 0 = λ ks. ks ≢ [] in
+    subst P (sym (flag_use_is rows ∙ ap (λ b. or_else (again_fault b) []) h)) (λ e. cc)
+
+-- an option that waits for its value still
+pub no_value : (rows : List Row) (t : Tool) (i : Item) → asks t i ≡ true → use_fault false (arg t i) [] rows ≢ []
+unfolding clap_on_literals
+no_value rows = each_asks (λ t i. use_fault false (arg t i) [] rows ≢ []) (λ e. cc) (λ e. cc) (λ e. cc) (λ e. cc)
+
+-- ---- rows
+
+abbrev pub row_for : Item → Text → ValueSource → Row
+row_for i v source = record { id = name_of i; values = v ∷ []; count = None; source = Some source; reading = AsWritten }
+
+abbrev pub rows_for : Said → List Row
+rows_for [] = []
+rows_for (entry ∷ said) = rows_for said ++ row_for entry.0 entry.1 CommandLine ∷ []
+
+without_none : (id : Text) (rows : List Row) → has_row id rows ≡ false → without id rows ≡ rows
+without_none id [] h = refl
+without_none id (r ∷ rs) h = elim (bytes_eq r.id id) as (λ b. (b || has_row id rs) ≡ false → (if b then [] ++ rs else r ∷ without id rs) ≡ r ∷ rs) [
+  | true ↦ λ e. cc
+  | false ↦ λ e. ap (λ xs. r ∷ xs) (without_none id rs e)
+] h
+
+abbrev pub made : Text → Reading → ValueSource → List Text → Row
+made id how source values = record { id = id; values = values; count = None; source = Some source; reading = how }
+
+pub values_at_end : (id : Text) (how : Reading) (source : ValueSource) (values : List Text) (rows : List Row) → has_row id rows ≡ false → with_values id how source values rows ≡ rows ++ made id how source values ∷ []
+values_at_end id how source values [] h = refl
+values_at_end id how source values (r ∷ rs) h =
+    elim (bytes_eq r.id id) as (λ b. (b || has_row id rs) ≡ false → bytes_eq r.id id ≡ b → with_values id how source values (r ∷ rs) ≡ r ∷ rs ++ made id how source values ∷ []) [
+      | true ↦ λ e q. cc
+      | false ↦ λ e q. rw q (ap (λ xs. r ∷ xs) (values_at_end id how source values rs e))
+    ] h refl
+
+used_is : (v : Text) (rows : List Row) (t : Tool) (i : Item) → keeps t i ≡ true → used (arg t i) (v ∷ []) rows ≡ with_values (name_of i) AsWritten CommandLine (v ∷ []) (without (name_of i) rows)
+unfolding clap_on_literals
+used_is v rows = each_keeps (λ t i. used (arg t i) (v ∷ []) rows ≡ with_values (name_of i) AsWritten CommandLine (v ∷ []) (without (name_of i) rows)) refl refl refl refl refl refl
+
+at_end_of : (i : Item) (v : Text) (rows : List Row) → has_row (name_of i) rows ≡ false → with_values (name_of i) AsWritten CommandLine (v ∷ []) (without (name_of i) rows) ≡ rows ++ row_for i v CommandLine ∷ []
+at_end_of i v rows h = ap (λ rs. with_values (name_of i) AsWritten CommandLine (v ∷ []) rs) (without_none (name_of i) rows h) ∙ values_at_end (name_of i) AsWritten CommandLine (v ∷ []) rows h
+
+pub used_once : (t : Tool) (i : Item) (v : Text) (rows : List Row) → keeps t i ≡ true → has_row (name_of i) rows ≡ false → used (arg t i) (v ∷ []) rows ≡ rows ++ row_for i v CommandLine ∷ []
+used_once t i v rows k h = used_is v rows t i k ∙ at_end_of i v rows h
+
+flag_used_is : (rows : List Row) → used (arg checker the_witness) [] rows ≡ with_values (name_of the_witness) AsWritten CommandLine (codes "true" ∷ []) (without (name_of the_witness) rows)
+unfolding clap_on_literals
+flag_used_is rows = refl
+
+pub flag_used_once : (rows : List Row) → has_row (name_of the_witness) rows ≡ false → used (arg checker the_witness) [] rows ≡ rows ++ row_for the_witness (codes "true") CommandLine ∷ []
+flag_used_once rows h = flag_used_is rows ∙ at_end_of the_witness (codes "true") rows h
+
+-- ---- the row of a name
+
+abbrev pub row_at : Text → List Row → Option Row
+row_at id rows = find (λ r. bytes_eq r.id id) rows
+
+abbrev pub or_row : Option Row → Option Row → Option Row
+or_row None other = other
+or_row (Some r) other = Some r
+
+pub has_is : (id : Text) (rows : List Row) → has_row id rows ≡ is_some (row_at id rows)
+has_is id [] = refl
+has_is id (r ∷ rs) = elim (bytes_eq r.id id) as (λ b. (b || has_row id rs) ≡ is_some (cond b (Some r) (row_at id rs))) [
+  | true ↦ refl
+  | false ↦ has_is id rs
+]
+
+pub row_at_more : (id : Text) (rows : List Row) (r : Row) → row_at id (rows ++ r ∷ []) ≡ or_row (row_at id rows) (cond (bytes_eq r.id id) (Some r) None)
+row_at_more id [] r = refl
+row_at_more id (x ∷ xs) r = elim (bytes_eq x.id id) as (λ b. cond b (Some x) (row_at id (xs ++ r ∷ [])) ≡ or_row (cond b (Some x) (row_at id xs)) (cond (bytes_eq r.id id) (Some r) None)) [
+  | true ↦ refl
+  | false ↦ row_at_more id xs r
+]
+
+-- what was said is in order: each item once, with a value that fits
+abbrev pub Valid : Said → Type 0
+Valid [] = Unit {0}
+Valid (entry ∷ said) = (said_of entry.0 said ≡ None) × (fits entry.0 entry.1 ≡ true) × Valid said
+
+-- the row of a name, by the text that was said
+abbrev pub named_row : Text → Option Text → Option Row
+named_row id = option_map (λ v. let r : Row = record { id = id; values = v ∷ []; count = None; source = Some CommandLine; reading = AsWritten } in r)
+
+abbrev text_by : Bool → Text → Option Text → Option Text
+text_by b v other = if b then Some v else other
+
+joined_rows : (i : Item) (v id : Text) (said : Option Text) (b : Bool) → bytes_eq (name_of i) id ≡ b → (b ≡ true → said ≡ None)
+    → or_row (named_row id said) (cond b (Some (row_for i v CommandLine)) None) ≡ named_row id (text_by b v said)
+joined_rows i v id None true e first = ap (λ n. named_row n (Some v)) ((bytes_eq-Decides (name_of i) id).0 e)
+joined_rows i v id (Some w) true e first = (let bad : Some w ≡ None = first refl in cc)
+joined_rows i v id None false e first = refl
+joined_rows i v id (Some w) false e first = refl
+
+pub row_said : (id : Text) (said : Said) → Valid said → row_at id (rows_for said) ≡ named_row id (said_named id said)
+row_said id [] h = refl
+row_said id (entry ∷ said) h =
+    row_at_more id (rows_for said) (row_for entry.0 entry.1 CommandLine)
+    ∙ ap (λ o. or_row o (cond (bytes_eq (name_of entry.0) id) (Some (row_for entry.0 entry.1 CommandLine)) None)) (row_said id said h.2)
+    ∙ joined_rows entry.0 entry.1 id (said_named id said) (bytes_eq (name_of entry.0) id) refl (λ e. subst (λ n. said_named n said ≡ None) ((bytes_eq-Decides (name_of entry.0) id).0 e) h.0)
+
+named_some : (id : Text) (o : Option Text) → is_some (named_row id o) ≡ is_some o
+named_some id None = refl
+named_some id (Some v) = refl
+
+pub has_said : (i : Item) (said : Said) → Valid said → has_row (name_of i) (rows_for said) ≡ is_some (said_of i said)
+has_said i said h = has_is (name_of i) (rows_for said) ∙ ap is_some (row_said (name_of i) said h) ∙ named_some (name_of i) (said_of i said)
