@@ -1,5 +1,5 @@
 -- The end of the words behind a command: what `clap` then finds, and whether it fails.
-use Rattle.std.proofs.Common.{◌≡◌, ◌≢◌, ◌∙◌, ℕ, Bool, true, false, List, [], ◌∷◌, ◌++◌, cond, ◌||◌, Option, Some, None, is_some, option_map, fold, codes, refl, sym, ap, ap₂, subst, if◌then◌else◌}
+use Rattle.std.proofs.Common.{◌≡◌, ◌≢◌, ◌∙◌, ℕ, Bool, true, false, List, [], ◌∷◌, cond, ◌||◌, Option, Some, None, is_some, option_map, fold, codes, refl, sym, ap, ap₂, subst, if◌then◌else◌}
 use Rattle.std.specs.Prelude.{option_and_then, slice_get}
 use Rattle.std.specs.Option.{option_map_or}
 use Rattle.std.specs.Str.{bytes_eq}
@@ -11,9 +11,9 @@ use Rattle.clap.specs.Facts.{explicit_source}
 use Rattle.clap.specs.Takes.{is_given}
 use Rattle.clap.specs.Walk.{Held, default_rows, finished, has_row, is_empty, reading_by, row_text, settled, used, used_by_id, with_default}
 use Rattle.clap.specs.declared.builder.value_parser.Reading.{Reading}
-use Rattle.clap.specs.declared.parser.matches.ValueSource.TheVariants.{CommandLine, DefaultValue}
+use Rattle.clap.specs.declared.parser.matches.ValueSource.TheVariants.{DefaultValue}
 use Rattle.clap.proofs.OnLiterals.{clap_on_literals}
-use Rattle.mpd_options.specs.Asked.{Asked, Item, Said, Tool, checker, default_of, fits, found, found_check, found_in, found_trace, most_fuel, most_runs, name_of, or_default, said_named, said_of, text_in, text_of, the_file, the_fuel, the_mode, the_runs, the_witness, tracer}
+use Rattle.mpd_options.specs.Asked.{Asked, Item, Said, Tool, checker, default_of, fits, found, found_check, found_in, found_trace, most_fuel, most_runs, name_of, or_default, said_of, text_of, the_file, the_fuel, the_mode, the_runs, the_witness, tracer}
 use Rattle.mpd_options.specs.Numbers.{flag_in, number_in}
 use Rattle.mpd_options.proofs.Items.{Valid, arg, by_id, has_is, has_said, keeps, made, named_row, or_row, row_at, row_at_more, row_for, row_said, rows_for, rules, sub, used_once, used_well, values_at_end}
 
@@ -259,8 +259,7 @@ pub settles : (t : Tool) (said : Said) (last : Option (Item × Text)) → Valid 
     → (settle_fault (rules t) false (held_for said last) ≡ []) × (settled (rules t) (held_for said last) ≡ held (rows_for (with_last said last)) None)
 settles t said None h l = (refl, refl)
 settles t said (Some entry) h l =
-    let new = new_row entry.0 said h.2 h.0 in
-    (
+    let new = new_row entry.0 said h.2 h.0 in (
       settles_by t (rows_for said) entry.0 (entry.1 ∷ []) l ∙ used_well t entry.0 entry.1 (rows_for said) l new h.1,
       settled_by t (rows_for said) entry.0 (entry.1 ∷ []) l ∙ ap (λ rows. held rows None) (used_once t entry.0 entry.1 (rows_for said) l new),
     )

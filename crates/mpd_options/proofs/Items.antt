@@ -1,26 +1,22 @@
 -- What `clap` holds of the items of a command, and what it does with a value of one.
-use Rattle.std.proofs.Common.{◌≡◌, ◌≢◌, ◌∙◌, ◌&&◌, ◌||◌, ◌<◌, ◌^◌, ℕ, Bool, true, false, not, List, [], ◌∷◌, ◌++◌, ◌==◌, cond, length, Option, Some, None, is_some, option_map, find, fold, codes, refl, sym, ap, ap₂, subst, if◌then◌else◌, unwrap_or, arith}
-use Rattle.std.specs.Prelude.{option_and_then, slice_get}
-use Rattle.std.specs.List.{list_any}
+use Rattle.std.proofs.Common.{◌≡◌, ◌≢◌, ◌∙◌, ◌&&◌, ◌||◌, Bool, true, false, not, List, [], ◌∷◌, ◌++◌, cond, Option, Some, None, is_some, option_map, find, codes, refl, sym, ap, ap₂, subst, if◌then◌else◌, unwrap_or, arith}
 use Rattle.std.specs.Option.{option_map_or}
 use Rattle.std.specs.Str.{bytes_eq}
 use Rattle.std.proofs.lemmas.Slice.Eq.{bytes_eq-Decides}
-use Rattle.clap.specs.Words.{Row, Rule, Shape, Text, built, first_of, one_of}
+use Rattle.clap.specs.Words.{Row, Rule, Shape, Text, built}
 use Rattle.clap.specs.Kinds.{Kinds, or_else}
-use Rattle.clap.specs.Faults.{check_fault, default_fault, defaults_fault, given_default_fault, repeat_fault, settle_fault, use_fault}
-use Rattle.clap.specs.Facts.{explicit_source}
-use Rattle.clap.specs.Takes.{is_given}
+use Rattle.clap.specs.Faults.{use_fault}
 use Rattle.clap.specs.Simple.{label_of, new_rule, new_shape}
 use Rattle.clap.specs.ValueTests.{is_unsigned_in}
-use Rattle.clap.specs.Walk.{Held, answers_to, arg_by_id, arg_by_long, has_row, row_text, settled, used, with_default, with_values, without}
+use Rattle.clap.specs.Walk.{answers_to, arg_by_id, arg_by_long, has_row, used, with_values, without}
 use Rattle.clap.specs.declared.builder.value_parser.Reading.{Reading}
 use Rattle.clap.specs.declared.builder.value_parser.Reading.TheVariants.{AsWritten}
 use Rattle.clap.specs.declared.error.kind.ErrorKind.{ErrorKind}
 use Rattle.clap.specs.declared.error.kind.ErrorKind.TheVariants as kind
 use Rattle.clap.specs.declared.parser.matches.ValueSource.{ValueSource}
-use Rattle.clap.specs.declared.parser.matches.ValueSource.TheVariants.{CommandLine, DefaultValue}
+use Rattle.clap.specs.declared.parser.matches.ValueSource.TheVariants.{CommandLine}
 use Rattle.clap.proofs.OnLiterals.{clap_on_literals}
-use Rattle.mpd_options.specs.Asked.{Item, Said, Tool, checker, default_of, fits, is_flag, most_fuel, most_runs, name_of, said_named, said_of, the_file, the_fuel, the_mode, the_runs, the_witness, tracer}
+use Rattle.mpd_options.specs.Asked.{Item, Said, Tool, checker, fits, most_fuel, most_runs, name_of, said_named, said_of, the_file, the_fuel, the_mode, the_runs, the_witness, tracer}
 use Rattle.mpd_options.specs.Program.{mpdbg_app}
 use Rattle.mpd_options.proofs.NumberReads.{accepts_number}
 

@@ -1,6 +1,6 @@
 -- The walk of `clap` over the words behind a command.
 use Rattle.std.specs.Prelude.{encode_utf8}
-use Rattle.std.proofs.Common.{◌≡◌, ◌≢◌, ◌∙◌, ◌&&◌, ℕ, Bool, true, false, List, [], ◌∷◌, ◌++◌, ◌==◌, cond, length, Option, Some, None, is_some, drop, find, fold, codes, refl, sym, ap, ap₂, subst, if◌then◌else◌, unwrap_or}
+use Rattle.std.proofs.Common.{◌≡◌, ◌≢◌, ◌∙◌, ◌&&◌, ℕ, Bool, true, false, List, [], ◌∷◌, ◌++◌, ◌==◌, length, Option, Some, None, is_some, drop, fold, codes, refl, sym, ap, ap₂, subst, if◌then◌else◌}
 use Rattle.std.specs.Option.{option_map_or}
 use Rattle.std.specs.Str.{bytes_eq, chars}
 use Rattle.std.proofs.lemmas.Slice.Eq.{bytes_eq-Decides}

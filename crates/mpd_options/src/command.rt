@@ -4,9 +4,7 @@ ghost use Rattle.std.specs.Prelude.{◌≡◌, IfOk, ℕ, List, Some, option_map
 ghost use Rattle.std.specs.Borrow.{Bor};
 ghost use Rattle.clap.specs.Words.{app_of, rule_of};
 ghost use Rattle.clap.specs.declared.builder.command.Command.TheViews.{out-Command as fields_of};
-ghost use Rattle.mpd_options.specs.Program.{
-    check_app, file_rule, mode_rule, mpdbg_app, number_rule, numbers_app, trace_app, witness_rule,
-};
+ghost use Rattle.mpd_options.specs.Program.{check_app, file_rule, mode_rule, mpdbg_app, number_rule, numbers_app, trace_app, witness_rule};
 
 use clap::builder::ValueParser;
 use clap::{Arg, ArgAction, Command};
@@ -55,7 +53,8 @@ const TRACE_EXAMPLE: &str = "Trace words stand on standard input, one a line:
 Example:
   echo 'local 0' | ./mpdbg trace examples/exchange.mpd --mode buffered";
 
-const CHECK_ABOUT: &str = "Look for deadlocks: try the choices of wildcard receives one after another";
+const CHECK_ABOUT: &str =
+    "Look for deadlocks: try the choices of wildcard receives one after another";
 
 const CHECK_EXAMPLE: &str = "Example:
   ./mpdbg check examples/exchange.mpd --witness";

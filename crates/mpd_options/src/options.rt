@@ -1,9 +1,7 @@
 //! What the words of a command line ask for.
 ghost use Rattle.std.specs.Prelude.{◌≡◌, IfOk, IfErr, Some, true, is_some, map};
 ghost use Rattle.clap.specs.Words.{found_of, rows_of, subcommand_rows_of};
-ghost use Rattle.mpd_options.specs.Asked.{
-    IsInRange, asked, checker, found_in, found_of_command, meant, tracer,
-};
+ghost use Rattle.mpd_options.specs.Asked.{IsInRange, asked, checker, found_in, found_of_command, meant, tracer};
 ghost use Rattle.mpd_options.specs.Refused.{IsRefused, is_answer, usage_of, usage_status, usage_text};
 
 use crate::command::{CHECK, FILE, FUEL, MODE, RUNS, TRACE, WITNESS, program};

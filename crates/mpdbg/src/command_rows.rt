@@ -66,6 +66,65 @@ fn reads_words(rt: HostRuntime) {
     );
 }
 
+/// Words behind `check`, and what they ask for of the file `a`, if they do: mode, runs, fuel and whether a witness is wanted.
+struct Checks(
+    &'static [&'static str],
+    Option<(&'static str, usize, usize, bool)>,
+);
+
+impl Row for Checks {
+    fn holds(&self, rt: &impl Abort, alloc: Global) {
+        let Checks(words, asked) = *self;
+        let wanted = match asked {
+            Some((mode, runs, fuel, witness)) => Some(Options::Check {
+                file: "a",
+                mode,
+                runs,
+                fuel,
+                witness,
+            }),
+            None => None,
+        };
+        same(
+            rt,
+            (words, read_options(alloc, words).ok()),
+            (words, wanted),
+        );
+    }
+}
+
+const CHECKS: &[Checks] = &[
+    Checks(&["check", "a"], Some(("rendezvous", 1000, 100_000, false))),
+    Checks(
+        &["check", "--witness", "a"],
+        Some(("rendezvous", 1000, 100_000, true)),
+    ),
+    Checks(
+        &["check", "a", "--runs", "65536", "--fuel=1000000"],
+        Some(("rendezvous", 65_536, 1_000_000, false)),
+    ),
+    Checks(
+        &["check", "--mode=b", "--runs=+007", "--fuel", "1", "--", "a"],
+        Some(("b", 7, 1, false)),
+    ),
+    Checks(&["check"], None),
+    Checks(&["check", "a", "b"], None),
+    Checks(&["check", "a", "--runs", "0"], None),
+    Checks(&["check", "a", "--runs", "65537"], None),
+    Checks(&["check", "a", "--fuel", "1000001"], None),
+    Checks(&["check", "a", "--fuel", "ten"], None),
+    Checks(&["check", "a", "--runs="], None),
+    Checks(&["check", "a", "--runs", "5", "--runs=5"], None),
+    Checks(&["check", "a", "--witness=true"], None),
+    Checks(&["check", "a", "--witness", "--witness"], None),
+    Checks(&["trace", "a", "--witness"], None),
+];
+
+#[test]
+fn reads_words_of_check(rt: HostRuntime) {
+    each(&rt, rt.alloc(), CHECKS);
+}
+
 /// Words that ask for nothing that is run: whether help or the version was asked for, and the status that the program ends with.
 struct Ending(&'static [&'static str], bool, u8);
 
@@ -90,11 +149,17 @@ const ENDINGS: &[Ending] = &[
     Ending(&["help"], true, 0),
     Ending(&["help", "trace"], true, 0),
     Ending(&["trace", "--help"], true, 0),
+    Ending(&["help", "check"], true, 0),
+    Ending(&["check", "--help"], true, 0),
     Ending(&["--version"], true, 0),
     Ending(&["trace"], false, 2),
     Ending(&["trace", "a", "b"], false, 2),
     Ending(&["trace", "a", "--mode"], false, 2),
     Ending(&["trace", "a", "-m", "b"], false, 2),
+    Ending(&["check"], false, 2),
+    Ending(&["check", "a", "--runs", "0"], false, 2),
+    Ending(&["check", "a", "--fuel", "ten"], false, 2),
+    Ending(&["check", "a", "--witness=true"], false, 2),
     Ending(&["--mode", "buffered"], false, 2),
     Ending(&["a"], false, 2),
 ];
