@@ -615,7 +615,7 @@ class Proofs:
 
 
 def try_all(crates, jobs, proofs, log):
-    """Tries the edits of all crates, so many at a time, or one at a time while proofs go on; answers how many were refused, and not."""
+    """Tries the edits of all crates, so many at a time, or half as many while proofs go on; answers how many were refused, and not."""
     left, running, refused, failed = list(crates), set(), 0, 0
 
     def tried(crate):
@@ -625,7 +625,7 @@ def try_all(crates, jobs, proofs, log):
         while left or running:
             is_last = proofs.have_ended()
             ready = [it for it in left if proofs.have(it.name)]
-            while ready and len(running) < (jobs if is_last else 1):
+            while ready and len(running) < (jobs if is_last else jobs // 2):
                 left.remove(ready[0])
                 running.add(pool.submit(tried, ready.pop(0)))
             if is_last and not running:
@@ -650,7 +650,7 @@ def main():
     words.add_argument('crates', nargs='*', metavar='CRATE')
     words.add_argument('--built', metavar='FOLDER', help='a copy of these sources, without the edits, that rt ci proved')
     words.add_argument('--beside', nargs=2, metavar=('LOG', 'PROCESS'), help='rt ci still runs in that copy, and writes this log: a crate is tried once it is proved')
-    words.add_argument('--jobs', type=int, default=2, metavar='N', help='how many checks at a time; one beside rt ci')
+    words.add_argument('--jobs', type=int, default=2, metavar='N', help='how many checks at a time; half as many beside rt ci')
     words.add_argument('--only', metavar='EDIT', help='one edit, by the name of its file')
     words.add_argument('--controls', action='store_true', help='a copy with no edit in it of each edited function, which must be proved')
     words.add_argument('--log', metavar='FOLDER', help='keep what each check said there, and how long its stages took')
