@@ -4,13 +4,14 @@ Two edits of one function can't stand in one text. Two copies of it can: each ha
 and one edit in its body. The function itself stays as it is, so that what calls it is proved as ever, and no goal waits for it.
 
 A copy could be refused for being a copy. So some are made with no edit in them, the controls: one of each function that has proof
-files, since their names are turned too, and one in each type and module; or, at a word, one of each function. A refusal of a copy
-counts only where its control is proved (`Copies.fault`). What is not refused in a copy is tried again in the function itself.
+files, since their names are turned too, for each clause that its edits name, and one in each type and module; or, at a word, one of
+each function. A refusal of a copy counts only where its control is proved (`Copies.fault`). What is not refused in a copy is tried
+again in the function itself.
 
 An edit may name the clause that refuses it (a line `clause: NAME` in its file): its copy then has that clause alone of what the
-function ensures, since a body that doesn't meet one clause doesn't meet them all. So it is that clause that is shown to refuse it,
-and nothing is sought for the others. Of the function's proof files its copy has what answers no other clause. Where what a call in
-the body requires refuses it, it has `clause: requires`, and its copy ensures nothing.
+function ensures, with no name, since a body that doesn't meet one clause doesn't meet them all. So it is that clause that is shown
+to refuse it, and nothing is sought for the others. Of the function's proof files its copy has what answers no other clause. Where
+what a call in the body requires refuses it, it has `clause: requires`, and its copy ensures nothing.
 
 A copy of a member of a cycle of calls is outside of the cycle: it calls the members themselves, and owes no measure. What breaks
 the measure alone is so not refused in a copy. A method of a trait has no copies, nor has an edit that changes more than one
@@ -143,14 +144,14 @@ class Original:
 
     def source(self, name, begin=0, end=0, new='', clause=None):
         """Its text under this name, with what stands from `begin` to `end` of the file changed; of what it ensures this clause alone,
-        where one is named."""
+        where one is named: without its name, since the goal of a clause with a name is a record, and the answers are none."""
         text = self.text[self.begin : self.end]
         if end:
             text = text[: begin - self.begin] + new + text[end - self.begin :]
         if self.cycle:
             text = re.sub(rf' *#\[cycle\({self.cycle}\)\]\n', '', text, count=1)
         if clause:
-            text = ENSURES.sub(lambda it: it[0] if it[1] == clause else '', text)
+            text = ENSURES.sub(lambda it: it[0].replace(f'ensures {clause} ', 'ensures ', 1) if it[1] == clause else '', text)
         return '\n\n' + re.sub(rf'\bfn {self.name}\b', f'fn {name}', text, count=1)
 
     def has_folder(self, below):
@@ -187,19 +188,19 @@ class Copies:
     def __init__(self, is_each=False):
         self.is_each = is_each
         self.added, self.files, self.counts = {}, {}, {}
-        # the control of each function that has one, and of each type and module
+        # the control of each function and clause that has one, and of each type and module
         self.controls = {}
 
     def add(self, edit, original, region):
         """A copy with this edit in it, and a control where it needs one; answers its path, as --only takes it."""
         at = original.file, original.end
         group = original.file, original.owner
+        made = *at, edit.clause
         self.counts[at] = self.counts.get(at, 0) + 1
-        if self.counts[at] == 1:
-            has_files = bool(original.proofs(original.name))
-            if self.is_each or has_files or group not in self.controls:
-                self.controls[at] = self.place(edit, original, f'{original.name}_as_it_is')
-                self.controls.setdefault(group, self.controls[at])
+        if made not in self.controls and (self.is_each or group not in self.controls or original.proofs(original.name)):
+            name = f'{original.name}_as_it_is{f"_for_{edit.clause}" if edit.clause else ""}'
+            self.controls[made] = self.place(edit, original, name, clause=edit.clause)
+            self.controls.setdefault(group, self.controls[made])
         return self.place(edit, original, f'{original.name}_turned_{self.counts[at]}', region, edit.clause)
 
     def place(self, edit, original, name, region=(), clause=None):
@@ -215,9 +216,9 @@ class Copies:
             found.setdefault(file, []).append((end, end, text))
         return found
 
-    def fault(self, told, original):
-        """Why the control of this function was not proved; None where it was."""
-        control = self.controls.get((original.file, original.end)) or self.controls[original.file, original.owner]
+    def fault(self, told, original, clause=None):
+        """Why the control of this function, for this clause where one is named, was not proved; None where it was."""
+        control = self.controls.get((original.file, original.end, clause)) or self.controls[original.file, original.owner]
         named = told.named(control)
         if len(named) != 1:
             return f'{control}: it was not checked'

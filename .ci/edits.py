@@ -447,7 +447,7 @@ class Crate:
     def judge_copied(self, edit, round, told):
         """The verdict of an edit in a copy: it is open where that is not refused, or where its control was not proved."""
         verdict = judge(edit, told)
-        fault = round.copies.fault(told, round.originals[edit][0])
+        fault = round.copies.fault(told, round.originals[edit][0], edit.clause)
         if fault:
             verdict = Verdict(edit, False, f'NOT REFUSED: a copy as it is was not proved: {fault}')
         if not verdict.is_refused:
