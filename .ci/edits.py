@@ -600,11 +600,11 @@ class Proofs:
             return True
 
     def have(self, crate):
-        """Whether the crate is proved, and so all below it."""
+        """Whether the crate is proved, in this run or in one before it on this machine, and so all below it."""
         if not self.log:
             return True
         with open(self.log, encoding='utf-8', errors='replace') as it:
-            return f'rt: {crate} proved' in it.read().split('\n')
+            return bool(re.search(rf'(?m)^rt: {crate} (?:proved$|is kept: )', it.read()))
 
     def named(self, crate):
         """The functions of this crate that were proved by now."""
