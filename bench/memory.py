@@ -1,5 +1,5 @@
 #!/usr/bin/env python3
-"""Shows that steps and their undos ask for no memory once their room is kept, as docs/GATE.md tells it ("Memory").
+"""Shows that steps and their undos ask for no memory once their room is kept, as docs/SPEED.md tells it ("Memory").
 
     python3 bench/memory.py [BENCH..]    (crates/mpd_bench/out/mpd_bench, where none is named)
 

@@ -1,5 +1,5 @@
 #!/usr/bin/env python3
-"""How long the built programs take, as docs/GATE.md tells it.
+"""How long the built programs take, as docs/SPEED.md tells it.
 
     python3 bench/run.py [PROGRAM [BENCH]]  (crates/mpdbg/out/mpdbg and crates/mpd_bench/out/mpd_bench, where none is named)
 

@@ -1,4 +1,5 @@
-"""The examples: scripts with words behind them, and the lessons of docs/COURSE.md, whose script and words are files of their own.
+"""The examples: scripts with words behind them, and the lessons of docs/COURSE.md (its five first scripts, and its eight mistakes), whose
+script and words are files of their own.
 
 NAME.trace is answered by NAME.stdout. NAME.mpd with NAME.words is answered by NAME.stdout, and in the mode `buffered` by
 NAME.buffered.stdout, where that is there.

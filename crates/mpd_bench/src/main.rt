@@ -1,6 +1,6 @@
-//! What steps and their undos cost: how long they take, on standard error, with no text in what is measured (docs/GATE.md,
+//! What steps and their undos cost: how long they take, on standard error, with no text in what is measured (docs/SPEED.md,
 //! "Speed"); and between the marks of standard output, steps of every kind, for whoever counts what they ask of memory
-//! (docs/GATE.md, "Memory").
+//! (docs/SPEED.md, "Memory").
 #![tactic(auto)]
 
 mod cases;
