@@ -9,6 +9,10 @@ an edit as those of must-fail/, with its crate and an input that meets it:
     crate: mpd_core
     fn: Core::apply, file:, old:, new:    as in must-fail/ (.ci/edits.py); the function is for whoever reads
     in: TEXT                              a line of the input; `in N: TEXT` is N such lines, `wide N: TEXT` one line of N such texts
+    words: check FILE --runs 1            the words of the command line, where there are any: FILE stands for a file that has the input
+    witness: TEXT                         a line of the file that WITNESS stands for in `words: verify FILE WITNESS`
+
+A body of a command that the program of this tree hasn't got yet (PARTS of compare/language.py) is passed by.
 
 What the program must answer to each input is worked out by the model of compare/, and PROGRAM, where it is named, must answer so
 to all of them. The bodies are planted together, in a few copies that `rt try` runs, with no proof: each body in half of the
@@ -32,10 +36,17 @@ HERE = os.path.dirname(os.path.abspath(__file__))
 sys.path[:0] = [HERE, f'{os.path.dirname(HERE)}/compare']
 sys.dont_write_bytecode = True
 
+import explorer
+import witness
 from debugger import answer
 from edits import BadEdit, Edit, merged, touches
+from explore_cases import Case
+from language import has_part
+from runs import held
 
 FOLDER = 'compare/broken'
+# What the words of a command line have in place of paths.
+FILE, WITNESS = 'FILE', 'WITNESS'
 
 
 class Planted(Edit):
@@ -44,12 +55,13 @@ class Planted(Edit):
     def __init__(self, path):
         super().__init__('', path)
         self.name = os.path.basename(path).removesuffix('.edit')
-        self.lines = []
+        self.lines, self.words, self.witness_lines = [], [], []
         self.read()
         if not self.lines:
             raise BadEdit('it has no input')
-        self.input = '\n'.join([*self.lines, '']).encode()
-        self.wanted = answer(self.input)
+        self.input = lined(self.lines)
+        self.witness = lined(self.witness_lines)
+        self.wanted = self.answer_of_model()
 
     def reads(self, key, value):
         word, _, count = key.partition(' ')
@@ -60,9 +72,51 @@ class Planted(Edit):
             self.lines += [value] * times
         elif word == 'wide':
             self.lines.append(value * times)
+        elif key == 'words':
+            self.words = value.split()
+        elif key == 'witness':
+            self.witness_lines.append(value)
         else:
             return False
         return True
+
+    def answer_of_model(self):
+        """What the program must give."""
+        if not self.words:
+            return answer(self.input)
+        command, *words = self.words
+        if command == 'check' and words.count(FILE) == 1:
+            return Case(self.name, self.input, explorer.asked_by(words)[1]).wanted()
+        if command == 'verify' and [word for word in words if word in (FILE, WITNESS)] == [FILE, WITNESS]:
+            return witness.Verification(self.input, self.witness, witness.asked_by(words)[2]).wanted()
+        raise BadEdit('its words are no `check FILE` and no `verify FILE WITNESS`, with options')
+
+    def is_of_this_tree(self):
+        """Whether the program has the command."""
+        return self.words[:1] != ['verify'] or has_part('verify')
+
+    def words_with(self, file, witness_file):
+        """The words of the command line, with these paths."""
+        return [{FILE: file, WITNESS: witness_file}.get(word, word) for word in self.words]
+
+    def write(self, cases, data):
+        """Writes its input, words and answer to a folder, as `rt try --cases` takes them, and a witness to another."""
+        held(cases, self.name, self.input)
+        held(cases, f'{self.name}.stdout', self.wanted.output)
+        if self.words:
+            held(cases, f'{self.name}.args', '\n'.join(self.words_with('{}', f'{self.name}.witness')).encode())
+        if self.witness:
+            held(data, f'{self.name}.witness', self.witness)
+
+    def run(self, program):
+        """What a program gives for its input."""
+        with tempfile.TemporaryDirectory() as folder:
+            words = self.words_with(held(folder, 'input', self.input), held(folder, 'witness', self.witness))
+            return subprocess.run([program, *words], input=b'' if words else self.input, capture_output=True, timeout=120)
+
+
+def lined(lines):
+    return ''.join(f'{line}\n' for line in lines).encode()
 
 
 def words(count, builds=None):
@@ -91,19 +145,21 @@ def plant(bodies, room):
     return left
 
 
-def tried(bodies, cases):
-    """What a copy with these bodies answers to each input, its output (as expected or not) and status, and all that was said."""
+def tried(bodies, cases, data):
+    """What a copy with these bodies answers to each input, its output (as expected or not) and status, and all that was said. The
+    inputs are in one folder, and other files that their words name in another."""
     with tempfile.TemporaryDirectory(prefix='planted-') as room:
         left = plant(bodies, room)
         if left:
             return {}, f'{left[0].name} touches another body'
-        ran = subprocess.run(['rt', 'try', '--cases', cases], cwd=f'{room}/crates/mpdbg', stdin=subprocess.DEVNULL, stdout=subprocess.PIPE, stderr=subprocess.STDOUT, text=True, errors='replace')
+        files = [word for name in sorted(os.listdir(data)) for word in ('--data', f'{name}={data}/{name}')]
+        ran = subprocess.run(['rt', 'try', '--cases', cases, *files], cwd=f'{room}/crates/mpdbg', stdin=subprocess.DEVNULL, stdout=subprocess.PIPE, stderr=subprocess.STDOUT, text=True, errors='replace')
     said = re.findall(r'(?m)^case=(\S+) run=ended status=(\d+) .*output=(differs|expected) proved=no$', ran.stdout)
     return {name: (output == 'expected', int(status)) for name, status, output in said}, ran.stdout
 
 
 def differs(program, body):
-    ended = subprocess.run([program], input=body.input, capture_output=True, timeout=120)
+    ended = body.run(program)
     return (ended.stdout, ended.stderr, ended.returncode) != tuple(body.wanted)
 
 
@@ -122,22 +178,24 @@ def main():
             failed += 1
             bodies = [it for it in bodies if it.name != name.removesuffix('.edit')]
             print(f'{name}: BAD EDIT: {error}')
+    left_out = [body.name for body in bodies if not body.is_of_this_tree()]
+    bodies = [body for body in bodies if body.is_of_this_tree()]
+    if left_out:
+        print(f'passed by, since the program has no such command yet: {", ".join(left_out)}')
     if given.program:
         for body in bodies:
             if differs(os.path.abspath(given.program), body):
                 failed += 1
                 print(f'{body.name}: the program itself answers otherwise than the model')
     builds, taken = words(len(bodies), given.builds)
-    with tempfile.TemporaryDirectory(prefix='cases-') as cases, ThreadPoolExecutor(given.jobs) as pool:
+    with tempfile.TemporaryDirectory(prefix='cases-') as cases, tempfile.TemporaryDirectory(prefix='data-') as data, ThreadPoolExecutor(given.jobs) as pool:
         for body in bodies:
-            for ending, data in (('', body.input), ('.stdout', body.wanted[0])):
-                with open(f'{cases}/{body.name}{ending}', 'wb') as it:
-                    it.write(data)
-        runs = [pool.submit(tried, [it for it, word in zip(bodies, taken) if build in word], cases) for build in range(builds)]
+            body.write(cases, data)
+        runs = [pool.submit(tried, [it for it, word in zip(bodies, taken) if build in word], cases, data) for build in range(builds)]
         said = [it.result() for it in runs]
     refused = 0
     for body, word in zip(bodies, taken):
-        right = True, body.wanted[2]
+        right = True, body.wanted.status
         found = [{None: 'none', right: 'right'}.get(it.get(body.name), 'wrong') for it, _ in said]
         wanted = ['wrong' if build in word else 'right' for build in range(builds)]
         if found == wanted:

@@ -1,12 +1,14 @@
-"""Compares what `check` of a program answers with the model, byte for byte: the same scripts for the same seed and count.
+"""Compares what `check` and `verify` of a program answer with the model, byte for byte: the same scripts for the same seed and count.
 
     python3 compare/explore.py PROGRAM             the worked rows, words that are wrong, and 1,000 random scripts
     python3 compare/explore.py PROGRAM --broken    and faults of the model, each of which these scripts must notice
+    python3 compare/explore.py PROGRAM --with verify    where the program of this tree hasn't got `verify` yet (PARTS of language.py)
 
-Each script is a file, checked in one mode or the other with limits drawn at random (explore_cases.py): standard output, standard
-error and status must be the model's. A program that crashes, takes too long, too much memory or writes too much differs. With
-`--broken` PROGRAM may be left out: the sound model stands for it then. The status is 0 where scripts were compared, none differed,
-and all was met that a report can say, which fewer than 500 scripts needn't do.
+Each script is a file, checked in one mode or the other with limits drawn at random (explore_cases.py); `verify` is asked of its
+witnesses, and of changed ones (witness_cases.py). Standard output, standard error and status must be the model's. A program that
+crashes, takes too long, too much memory or writes too much differs. With `--broken` PROGRAM may be left out: the sound model stands
+for it then, with all parts. The status is 0 where scripts were compared, none differed, and all was met that can be said, which
+fewer than 500 scripts needn't do.
 """
 
 import argparse
@@ -20,12 +22,13 @@ from concurrent.futures import ProcessPoolExecutor
 from os.path import commonprefix
 from unittest import mock
 
-from explore_cases import random_case
-from explore_faults import check_faults
-from explorer import answer, option_words
-from language import PARTS, take_parts
-from runs import limit, run_at_once
-from worked_explorer import CHECKS, LONG_CHECKS, MISTAKES, wanted_result
+from debugger import BUFFERED
+from explore_cases import Case, random_case
+from explore_faults import check_faults, told_faults, verify_faults
+from language import BUILT, PARTS, take_parts
+from runs import held, limit, run_at_once
+from witness_cases import random_verifications
+from worked_explorer import CHECKS, LONG_CHECKS, LONG_TOLD, MISTAKES, MISTAKES_OF_VERIFY, TOLD, wanted_result
 
 CHUNK = 10
 # So many scripts meet all that must be met.
@@ -34,30 +37,21 @@ MUST_MEET = (
     'done', 'leftovers', 'deadlock', 'trap', 'cut', 'witness', 'more yes', 'more no', 'number of two digits', 'five choices',
     'leaves of two outcomes', 'status 0', 'status 1', 'status 1 for a later leaf', 'script refused', 'bad mode', 'device',
     'options left out')
+MUST_MEET_OF_VERIFY = (
+    'accepted', 'accepted, buffered', 'accepted, nothing in front', 'accepted, CR LF', 'accepted, no last line feed',
+    'accepted, more line feeds', 'refused 32', 'refused 32 at 0', 'refused 32 at its last step', 'refused 33', 'refused 34',
+    'bad witness line 1', 'bad witness line 2', 'bad mode of verify', 'verify of a bad script', 'verify of no script',
+    'verify of no witness')
 
 
-def file_name(folder, script):
-    """The name of a file that has the script; of none where that is None."""
-    path = os.path.join(folder, 'none' if script is None else 'script.mpd')
-    if script is not None:
-        with open(path, 'wb') as file:
-            file.write(script)
-    return path
-
-
-def run(program, script, options, seconds):
-    """What the program gives for a check of a script that has these words for options."""
-    with tempfile.TemporaryDirectory(prefix='explore-') as folder:
-        return run_at_once(program, b'', seconds, words=('check', file_name(folder, script), *options))
-
-
-def run_case(chosen, case):
+def run(chosen, case):
     """What the program gives for a case."""
-    return run(chosen.program, case.script, option_words(case.asked), chosen.seconds)
+    with tempfile.TemporaryDirectory(prefix='explore-') as folder:
+        return run_at_once(chosen.program, b'', chosen.seconds, words=case.words(folder))
 
 
-def met_in(asked, wanted):
-    """What a program may answer wrongly."""
+def met_by_check(asked, wanted):
+    """What a program may answer wrongly to `check`."""
     lines = wanted.output.decode().splitlines()
     leaves = [line.split('] ') for line in lines if line.startswith('leaf ')]
     outcomes = [outcome.split()[0] for _, outcome in leaves]
@@ -71,6 +65,39 @@ def met_in(asked, wanted):
     yield from ['status 1 for a later leaf'] * (wanted.status == 1 and outcomes[0] not in ('deadlock', 'trap'))
     yield from [kind for kind in ('script refused', 'bad mode', 'device') if kind.encode() in wanted.errors]
     yield from ['options left out'] * (not wanted.status and None in asked)
+
+
+def met_by_verify(case, wanted):
+    """What a program may answer wrongly to `verify`."""
+    said = (wanted.output + wanted.errors).decode().removeprefix('mpdbg: ').removesuffix('\n')
+    if said == 'accepted':
+        yield from ['accepted'] + ['accepted, buffered'] * (case.mode == BUFFERED)
+        yield from ['accepted, nothing in front'] * case.text.startswith(b'deadlock')
+        yield from ['accepted, CR LF'] * (b'\r\n' in case.text) + ['accepted, no last line feed'] * (not case.text.endswith(b'\n'))
+        yield from ['accepted, more line feeds'] * case.text.endswith(b'\n\n')
+    elif wanted.status == 1:
+        yield ' '.join(said.split()[:2])
+        yield from ['refused 32 at 0'] * said.endswith(' at 0')
+        yield from ['refused 32 at its last step'] * said.endswith(f' at {case.text.count(b", ")}')
+    elif said == 'device':
+        yield 'verify of no script' if case.script is None else 'verify of no witness'
+    else:
+        yield {'bad mode': 'bad mode of verify'}.get(said, said if said.startswith('bad witness') else 'verify of a bad script')
+
+
+def met_in(case, wanted):
+    """What a program may answer wrongly."""
+    return met_by_check(case.asked, wanted) if isinstance(case, Case) else met_by_verify(case, wanted)
+
+
+def checks_of(chosen, number):
+    """The check of a script."""
+    return [random_case(chosen.seed, number)]
+
+
+def verifications_of(chosen, number):
+    """What `verify` is asked of a script, where the program has it."""
+    return random_verifications(chosen.seed, number) if 'verify' in chosen.parts else []
 
 
 def piece(line, place):
@@ -91,87 +118,108 @@ def first_different(result, wanted):
 
 
 def kept(folder, case):
-    """Keeps the script of a case in a temporary folder, which is made for the first one; says what words check it."""
+    """Keeps the files of a case in a temporary folder, which is made for the first one; says what words ask the program of it."""
     if not folder:
         folder.append(tempfile.mkdtemp(prefix='explore-'))
-    path = os.path.join(folder[0], f'{case.name}.mpd')
-    if case.script is not None:
-        with open(path, 'wb') as file:
-            file.write(case.script)
-    return shlex.join(['check', path, *option_words(case.asked)])
+    path = os.path.join(folder[0], case.name)
+    os.makedirs(path)
+    return shlex.join(case.words(path))
 
 
 def compare_chunk(chosen, numbers):
-    """Compares some cases: those that differ, each with how, and what was met."""
+    """Compares the cases of some scripts: how many there were, those that differ, each with how, and what was met."""
     found, met = [], Counter()
-    for number in numbers:
-        case = random_case(chosen.seed, number)
-        result, wanted = run_case(chosen, case), answer(case.script, case.asked)
-        met.update(met_in(case.asked, wanted))
+    cases = [case for number in numbers for case in checks_of(chosen, number) + verifications_of(chosen, number)]
+    for case in cases:
+        result, wanted = run(chosen, case), case.wanted()
+        met.update(met_in(case, wanted))
         if result != wanted:
             found.append((case, first_different(result, wanted)))
-    return found, met
+    return len(cases), found, met
 
 
 def compare_random(chosen, pool):
-    """Compares so many random cases; gives how many differed, and how much was not met that must be."""
+    """Compares so many random scripts; gives how many cases there were and differed, and how much was not met that must be."""
     chunks = [range(first, min(first + CHUNK, chosen.count)) for first in range(0, chosen.count, CHUNK)]
     tasks = [pool.submit(compare_chunk, chosen, chunk) for chunk in chunks]
-    folder, differing, met = [], 0, Counter()
-    for found, met_there in (task.result() for task in tasks):
+    folder, compared, differing, met = [], 0, 0, Counter()
+    for count, found, met_there in (task.result() for task in tasks):
         met += met_there
+        compared += count
         differing += len(found)
         for case, what in found:
             print(f'{kept(folder, case)}: {what}', flush=True)
-    print(', '.join(f'{name} {met[name]}' for name in MUST_MEET))
-    missed = [name for name in MUST_MEET if not met[name]] if chosen.count >= MANY else []
+    must_meet = MUST_MEET + (MUST_MEET_OF_VERIFY if 'verify' in chosen.parts else ())
+    print('; '.join(f'{name} {met[name]}' for name in must_meet))
+    missed = [name for name in must_meet if not met[name]] if chosen.count >= MANY else []
     for name in missed:
         print(f'{name} was not met')
-    return differing, len(missed)
+    return compared, differing, len(missed)
 
 
-def row_problem(chosen, row):
+def row_problem(chosen, case, wanted):
     """What the program answers otherwise than a worked row wants; None where nothing is."""
-    script, wanted = None if row.script is None else row.script.encode(), wanted_result(row)
-    result = run(chosen.program, script, option_words(row.asked), chosen.seconds)
-    return None if result == wanted else f'{row.script!r} {row.asked}: {first_different(result, wanted)}'
+    result = run(chosen, case)
+    return None if result == wanted else f'{str(case)[:500]}: {first_different(result, wanted)}'
 
 
-def mistake_problem(chosen, mistake):
+def mistake_problem(chosen, words):
     """What the program answers to words that are wrong, where it isn't a text of its own on standard error; the mode is wrong too."""
-    result = run(chosen.program, CHECKS[0].script.encode(), ('--mode', 'fast', *mistake.split()), chosen.seconds)
+    result = run_at_once(chosen.program, b'', chosen.seconds, words=words.split())
     is_refused = (result.output, result.status) == (b'', 2) and result.errors and b'mpdbg: bad mode' not in result.errors
-    return None if is_refused else f'{mistake}: {result}'
+    return None if is_refused else f'{words}: {result}'
+
+
+def rows(chosen):
+    """The worked rows, each with what is wanted."""
+    for row in CHECKS + (() if chosen.short else LONG_CHECKS):
+        yield Case('', None if row.script is None else row.script.encode(), row.asked), wanted_result(row)
+    for row in TOLD + (() if chosen.short else LONG_TOLD) if 'verify' in chosen.parts else ():
+        yield row.case(), row.wanted()
+
+
+def mistakes(chosen, folder):
+    """Words that are wrong, of files that are there."""
+    script, witness = held(folder, 'script.mpd', CHECKS[0].script.encode()), held(folder, 'witness.txt', b'deadlock 0.0\nlocal 0\n')
+    yield from [f'check {script} --mode fast {mistake}' for mistake in MISTAKES]
+    if 'verify' in chosen.parts:
+        yield from [f'verify --mode fast {mistake.format(FILE=script, WITNESS=witness)}' for mistake in MISTAKES_OF_VERIFY]
 
 
 def compare_rows(chosen, pool):
     """How many of the worked rows, and of the words that are wrong, are answered otherwise than they must be."""
-    tasks = [pool.submit(row_problem, chosen, row) for row in CHECKS + (() if chosen.short else LONG_CHECKS)]
-    tasks += [pool.submit(mistake_problem, chosen, mistake) for mistake in MISTAKES]
-    problems = [problem for problem in (task.result() for task in tasks) if problem is not None]
+    with tempfile.TemporaryDirectory(prefix='explore-') as folder:
+        tasks = [pool.submit(row_problem, chosen, case, wanted) for case, wanted in rows(chosen)]
+        tasks += [pool.submit(mistake_problem, chosen, words) for words in mistakes(chosen, folder)]
+        problems = [problem for problem in (task.result() for task in tasks) if problem is not None]
     for problem in problems:
         print(problem)
     print(f'{len(tasks)} rows, {len(problems)} wrong', flush=True)
     return len(problems)
 
 
+def faults(chosen):
+    """The faults that a program's answers show, each with what gives the cases of a script that may notice it."""
+    found = [(fault, checks_of) for fault in check_faults()]
+    return found + [(fault, verifications_of) for fault in verify_faults() + told_faults() if 'verify' in chosen.parts]
+
+
 def is_noticed(chosen, place):
     """Whether some case notices a fault of the model: the program, or else the sound model, doesn't say what the broken one does."""
-    fault = check_faults()[place]
-    for number in range(chosen.count):
-        case = random_case(chosen.seed, number)
-        said = run_case(chosen, case) if chosen.program else answer(case.script, case.asked)
+    fault, cases_of = faults(chosen)[place]
+    for case in (case for number in range(chosen.count) for case in cases_of(chosen, number)):
+        said = run(chosen, case) if chosen.program else case.wanted()
         with mock.patch.object(fault.owner, fault.attribute, fault.replacement):
-            if said != answer(case.script, case.asked):
+            if said != case.wanted():
                 return True
     return False
 
 
 def compare_broken(chosen, pool):
     """How many faults of the model are not noticed."""
-    tasks = [pool.submit(is_noticed, chosen, place) for place in range(len(check_faults()))]
+    tasks = [pool.submit(is_noticed, chosen, place) for place in range(len(faults(chosen)))]
     unnoticed = 0
-    for fault, task in zip(check_faults(), tasks):
+    for (fault, _), task in zip(faults(chosen), tasks):
         if not task.result():
             unnoticed += 1
             print(f'{fault.name}: NOT NOTICED', flush=True)
@@ -181,7 +229,7 @@ def compare_broken(chosen, pool):
 
 def prepare(chosen):
     """Readies a process for its part of a run."""
-    take_parts(PARTS)
+    take_parts(chosen.parts)
     limit(chosen.memory, chosen.output)
 
 
@@ -190,6 +238,8 @@ def arguments():
     parser.add_argument('program', nargs='?', metavar='PROGRAM')
     parser.add_argument('--count', type=int, default=1000, help='how many scripts (1000)')
     parser.add_argument('--seed', type=int, default=1, help='another seed gives other scripts (1)')
+    parser.add_argument('--with', action='append', dest='parts', choices=list(PARTS), default=list(BUILT), metavar='PART',
+                        help=f'rules that the program has beside those of this tree; may be given again: {", ".join(PARTS)}')
     parser.add_argument('--broken', action='store_true', help='break the model on purpose; each fault must be noticed')
     parser.add_argument('--short', action='store_true', help='leave out the rows of 100,000 steps and more')
     parser.add_argument('--jobs', type=int, default=2, help='how many processes (2)')
@@ -199,6 +249,8 @@ def arguments():
     chosen = parser.parse_args()
     if chosen.program is None and not chosen.broken:
         parser.error('PROGRAM is left out with --broken alone')
+    if chosen.program is None:
+        chosen.parts = list(PARTS)
     if chosen.program:
         chosen.program = os.path.abspath(chosen.program)
         if not os.access(chosen.program, os.X_OK) or os.path.isdir(chosen.program):
@@ -211,9 +263,9 @@ def main():
     began, wrong = time.monotonic(), 0
     with ProcessPoolExecutor(chosen.jobs, initializer=prepare, initargs=(chosen,)) as pool:
         if chosen.program:
-            differing, missed = compare_random(chosen, pool)
-            wrong += compare_rows(chosen, pool) + differing + missed + (chosen.count < 1)
-            print(f'{chosen.count} scripts compared, {differing} different, {time.monotonic() - began:.1f} seconds')
+            compared, differing, missed = compare_random(chosen, pool)
+            wrong += compare_rows(chosen, pool) + differing + missed + (compared < 1)
+            print(f'{compared} answers to {chosen.count} scripts compared, {differing} different, {time.monotonic() - began:.1f} seconds')
         if chosen.broken:
             wrong += compare_broken(chosen, pool)
     return 1 if wrong else 0

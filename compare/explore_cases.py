@@ -12,8 +12,9 @@ import exchange_cases
 import wildcard_cases
 from canonical import now_and_then_canonical
 from debugger import MODES, RENDEZVOUS
-from explorer import Asked, report
+from explorer import Asked, answer, option_words, report
 from language import Fault, read_script
+from runs import held
 from scripts import Writer, header, mutated_bytes, mutated_tokens, rendered, synchronous
 from wildcard_cases import in_branches
 
@@ -283,6 +284,14 @@ class Case(NamedTuple):
     name: str
     script: Optional[bytes]
     asked: Asked
+
+    def words(self, folder):
+        """The words that have a program check it, with its file in a folder."""
+        return ('check', held(folder, 'script.mpd', self.script), *option_words(self.asked))
+
+    def wanted(self):
+        """What must be answered."""
+        return answer(self.script, self.asked)
 
 
 def kind_of(random):

@@ -1,14 +1,18 @@
-"""Faults that are put into the explorer of the model on purpose: explore_rules.py must notice each, explore.py those of a check."""
+"""Faults that are put into the explorer of the model on purpose: explore_rules.py must notice each but those of the texts of witnesses,
+explore.py those of `check` and of `verify`."""
 
+import re
 from os.path import commonprefix
 from typing import NamedTuple
 
 import explorer
 import policy
-from debugger import RENDEZVOUS, blocked_calls, enabled_steps, first_world, next_world, outcome, step_text
+import witness
+from debugger import BAD_FILE, BAD_MODE, BUFFERED, MODES, RENDEZVOUS, blocked_calls, enabled_steps, first_world, next_world, outcome, step_text
 from explorer import CUT, NO_SUCH_STEP, NOT_STUCK, USUAL_FUEL, USUAL_RUNS, WRONG_BLOCKED, Leaf, Refusal, Report
 from policy import Choice, Forced
 from policy_faults import Breakage, without_forced_match
+from witness import BadWitness
 
 
 class Sound(NamedTuple):
@@ -25,6 +29,9 @@ class Sound(NamedTuple):
 
 
 SOUND = Sound(*(getattr(explorer, name) for name in Sound._fields))
+# What is not broken of the texts of witnesses.
+LINES_OF, READ, TOLD, TELL = witness.lines_of, witness.read_witness, witness.told, witness.verify
+LINES = witness.FIRST_LINE, witness.SECOND_LINE
 
 
 def choosing(change):
@@ -381,3 +388,120 @@ def check_faults():
 def breakages():
     """All of them."""
     return [*check_faults(), *place_faults(), *verify_faults()]
+
+
+def looking(change):
+    """What looks at other lines than stand there."""
+    return lambda text: change(*LINES_OF(text))
+
+
+def any_line_ends(text):
+    return LINES_OF(text.replace(b'\r', b'\n'))
+
+
+def pattern(number, *changes):
+    """The pattern of a line with other texts in it, each in place of one that stands there."""
+    text = LINES[number].pattern
+    for old, new in changes:
+        assert old in text, (old, text)
+        text = text.replace(old, new)
+    return re.compile(text)
+
+
+def told_otherwise_than(change):
+    """What `verify` answers otherwise, by what is rightly answered, the script, the text and the mode."""
+    return lambda script, text, mode=RENDEZVOUS: change(TELL(script, text, mode), script, text, mode)
+
+
+def numbers_alike(text):
+    """What wants the numbers of both lines to be one."""
+    numbers = re.match(rb'leaf ([0-9]+) .*\nwitness ([0-9]+):', text)
+    if numbers and numbers[1] != numbers[2]:
+        raise BadWitness(2)
+    return READ(text)
+
+
+def line_told(change):
+    """What tells another line that a text is no witness by."""
+    def read(text):
+        try:
+            return READ(text)
+        except BadWitness as told:
+            raise BadWitness(change(told.line)) from None
+    return read
+
+
+def of_refused(change):
+    """What tells a refusal in another way."""
+    return lambda refused: TOLD(refused) if refused is None else change(TOLD(refused), refused)
+
+
+def told_faults():
+    """Those of the text of a witness, and of what `verify` tells."""
+    lines = (
+        ('a carriage return counts', lambda text: (*(text + b'\n\n').split(b'\n', 2)[:2], LINES_OF(text)[2])),
+        ('more than one carriage return counts for nothing', looking(lambda first, second, rest: (first.rstrip(b'\r'), second.rstrip(b'\r'), rest))),
+        ('a carriage return alone is the end of a line', any_line_ends),
+        ('blanks at the end of the first line', looking(lambda first, second, rest: (first.rstrip(b' '), second, rest))),
+        ('the last line wants a line feed', lambda text: LINES_OF(text if text.endswith(b'\n') else text + b'x')),
+        ('a carriage return at the end counts', lambda text: LINES_OF(text + b'\r' if text.endswith(b'\r') else text)),
+        ('empty lines in front', lambda text: LINES_OF(text.lstrip(b'\n'))),
+        ('empty lines between', lambda text: LINES_OF(re.sub(b'\n+', b'\n', text, count=1))),
+    )
+    return ([Breakage(name, witness, 'lines_of', replacement) for name, replacement in lines] + pattern_faults()
+            + [Breakage(name, witness, 'read_witness', replacement) for name, replacement in (
+                ('numbers of both lines must be one', numbers_alike), ('always the first line', line_told(lambda line: 1)),
+                ('always the second line', line_told(lambda line: 2)), ('lines counted from 0', line_told(lambda line: line - 1)))]
+            + [Breakage(name, witness, 'told', of_refused(change)) for name, change in (
+                ('no place is told', lambda said, refused: said._replace(output=said.output.split(b' at ')[0].rstrip() + b'\n')),
+                ('no number is told', lambda said, refused: said._replace(output=re.sub(rb' [0-9]+', b'', said.output, count=1))),
+                ('no name is told', lambda said, refused: said._replace(output=re.sub(rb' [a-z]+-[a-z-]+', b'', said.output))),
+                ('status 0 for a refused witness', lambda said, refused: said._replace(status=0)),
+                ('status 2 for a refused witness', lambda said, refused: said._replace(status=2)))]
+            + order_faults())
+
+
+def pattern_faults():
+    """Those of what may stand in a line."""
+    first = (
+        ('no blocked call', (b')+)', b')*)')), ('nothing may stand in front', (b'[^ ]* )*', b'[^ ]* ){0}')),
+        ('numbers of a leaf are wanted in front', (b'(?:(?!deadlock )[^ ]* )*', rb'leaf [0-9]+ \[[0-9 ]*\] ')),
+        ('nothing else than a leaf in front', (b'(?:(?!deadlock )[^ ]* )*', rb'(?:leaf [0-9]+ \[[0-9 ]*\] )?')),
+        ('no empty word in front', (b'[^ ]* )*', b'[^ ]+ )*')), ('the word may begin in another', (b'[^ ]* )*', b'[^ ]* )*[^ ]*')),
+        ('the last such word', (b'(?:(?!deadlock )', b'(?:')), ('another outcome', (b')*deadlock', b')*(?:deadlock|done|trap|leftovers)')),
+        ('one blocked call', (b')+)', b'){1})')), ('two blocked calls at most', (b')+)', b'){1,2})')),
+        ('more spaces before calls', (b'((?: ', b'((?: +')), ('tabs before calls', (b'((?: ', b'((?:[ \t]')),
+        ('commas behind calls', (b')+)', b',?)+)')), ('ten digits', (b'{1,9}', b'{1,10}')), ('eight digits', (b'{1,9}', b'{1,8}')),
+        ('large letters', (b')*deadlock', b')*(?i:deadlock)')))
+    second = (
+        ('no steps', (b'(?:[^:]*:)?(', b'(?:[^:]*:)?(|')), ('a name is wanted', (b':)?', b':)')), ('no name', (b':)?', b':){0}')),
+        ('no other name than of a witness', (b'(?:[^:]*:)', b'(?:witness [0-9]+:)')), ('up to the last colon', (b'(?:[^:]*:)', b'(?:.*:)')),
+        ('a comma with one space', (b'(?:,', b'(?:, ')), ('no comma', (b'(?:,', b'(?:,? ')), ('a comma at the end', (b')*)', b')*[, ]*)')),
+        ('more commas than one', (b'(?:,', b'(?:[, ]*,')), ('one blank in a step', (b')[ \\t]+', b')[ \\t]')), ('no tabs', (b'[ \\t]', b'[ ]')),
+        ('no blanks at the ends of a step', (b'[ \\t]*', b' ?')), ('ten digits', (b'{1,9}', b'{1,10}')), ('eight digits', (b'{1,9}', b'{1,8}')),
+        ('large letters', (b'(?:local', b'(?:[Ll]ocal')), ('any blank', (b'[ \\t]', b'[ \\t\\r\\x0b\\x0c]')))
+    rest = (('line feeds alone', b'\\n*'), ('anything', b'(?s:.*)'), ('nothing', b''), ('one empty line', b'(?:\\r?\\n)?'), ('blanks', b'\\s*'))
+    return ([Breakage(f'{name}, first line', witness, 'FIRST_LINE', pattern(0, *changes)) for name, *changes in first]
+            + [Breakage(f'{name}, second line', witness, 'SECOND_LINE', pattern(1, *changes)) for name, *changes in second]
+            + [Breakage(f'{name} behind the second line', witness, 'REST', re.compile(text)) for name, text in rest])
+
+
+def order_faults():
+    """Those of what `verify` tests first, and of the mode."""
+    def text_first(said, script, text, mode):
+        return TELL(b'mpd 1; ranks 1;', text, mode) if said.status == 2 and b'script' in said.errors else said
+
+    def file_first(said, script, text, mode):
+        return BAD_FILE if None in (script, text) else said
+
+    def mode_last(said, script, text, mode):
+        return TELL(script, text, RENDEZVOUS) if said == BAD_MODE and TELL(script, text, RENDEZVOUS).errors else said
+
+    return [Breakage(name, witness, 'verify', told_otherwise_than(change)) for name, change in (
+        ('the witness before the script', text_first), ('files before the mode and the script', file_first), ('the mode last', mode_last),
+        ('the mode is not looked at', lambda said, script, text, mode: TELL(script, text, RENDEZVOUS) if mode in MODES else said),
+        ('always buffered', lambda said, script, text, mode: TELL(script, text, BUFFERED) if mode in MODES else said),
+        ('a file that is not there is empty', lambda said, script, text, mode: TELL(script or b'', text or b'', mode)),
+        ('status 1 for a bad text', lambda said, script, text, mode: said._replace(status=1) if b'witness' in said.errors else said),
+        ('a bad text on standard output', lambda said, script, text, mode: (
+            said._replace(output=said.errors, errors=b'') if b'witness' in said.errors else said)))]

@@ -205,16 +205,22 @@ def number_up_to(most):
     return number
 
 
-def main():
+def asked_by(words):
+    """The file that words of the command line name, and the options of its check."""
     parser = argparse.ArgumentParser(description=__doc__, formatter_class=argparse.RawDescriptionHelpFormatter)
     parser.add_argument('file', metavar='FILE')
-    parser.add_argument('--mode', default=RENDEZVOUS, metavar='M')
-    parser.add_argument('--runs', type=number_up_to(MOST_RUNS), default=USUAL_RUNS, metavar='N')
-    parser.add_argument('--fuel', type=number_up_to(MOST_FUEL), default=USUAL_FUEL, metavar='N')
+    parser.add_argument('--mode', metavar='M')
+    parser.add_argument('--runs', type=number_up_to(MOST_RUNS), metavar='N')
+    parser.add_argument('--fuel', type=number_up_to(MOST_FUEL), metavar='N')
     parser.add_argument('--witness', action='store_true')
-    chosen = parser.parse_args()
+    chosen = parser.parse_args(words)
+    return chosen.file, Asked(chosen.mode, chosen.runs, chosen.fuel, chosen.witness)
+
+
+def main():
+    file, asked = asked_by(sys.argv[1:])
     take_parts(PARTS)
-    result = check(file_content(chosen.file), chosen.mode, chosen.runs, chosen.fuel, chosen.witness)
+    result = answer(file_content(file), asked)
     sys.stdout.buffer.write(result.output)
     sys.stdout.buffer.flush()
     sys.stderr.buffer.write(result.errors)

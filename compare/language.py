@@ -30,7 +30,7 @@ RESERVED = frozenset('''
     to from tag any status rank size'''.split())
 
 # Parts of the rules that came one after the other, each with the words of its statements.
-PARTS = {'barriers': ('barrier', 'ssend', 'issend'), 'modes': (), 'trail': ()}
+PARTS = {'barriers': ('barrier', 'ssend', 'issend'), 'modes': (), 'trail': (), 'verify': ()}
 # The parts that the program of this tree has; the model of a run may have more (`take_parts`).
 BUILT = ('barriers', 'modes', 'trail')
 

@@ -5,9 +5,9 @@
 A run may end with the right answers up to one of them, `mpdbg: memory` and status 3; or it goes on, with `refused memory` in
 place of an answer that can be refused: then the state stands, and all answers behind it are right. Where all allocations from
 one on are refused it is the same. The sessions have their scripts on standard input, one also in a file, and one in a file alone,
-in the mode `buffered`; words of the command line that ask for help, or are wrong, are answered as ever, or by `mpdbg: memory`. The
-status is 0 where every run did one of these. The allocations are refused by a shared object, which is built from
-bench/malloc_shim.c where none is named.
+in the mode `buffered`. What `check` and `verify` answer, words of the command line that ask for help, and those that are wrong, are
+answered as ever, or by `mpdbg: memory`, status 3, with nothing written. The status is 0 where every run did one of these. The
+allocations are refused by a shared object, which is built from bench/malloc_shim.c where none is named.
 """
 
 import argparse
@@ -19,9 +19,12 @@ from collections import Counter
 from typing import NamedTuple
 
 from debugger import BUFFERED, RENDEZVOUS, Debugger, Result, divided, enabled_steps, next_world, step_of, step_text
+from explore_cases import Case
+from explorer import Asked
 from language import has_part, read_script
 from runs import run_at_once
 from shims import built
+from witness import Verification
 
 HERE = os.path.dirname(os.path.abspath(__file__))
 SHIM = os.path.join(HERE, '..', 'bench', 'malloc_shim.c')
@@ -42,6 +45,12 @@ MEETINGS = (b'mpd 1; ranks 3; var i; var x; req r;\nwhile i < 2 {\n  issend r i 
 
 # Ranks that send before they receive, and so meet only where sends are buffered.
 HEAD_TO_HEAD = (b'mpd 1; ranks 2; var x;\nsend rank to 1 - rank tag 5;\nrecv x from 1 - rank tag 5;\nbarrier;\nprint x;\n---\n')
+
+
+# What is received first decides whether a rank is trapped, or stuck with another, or goes on; runs of it have one choice to three.
+DECIDED = (b'mpd 1; ranks 4; var x; var y; req r;\nif rank == 0 {\n  recv x from any tag any;\n  if x == 1 { assert 0; }\n'
+           b'  if x == 2 { recv y from 2 tag 9; }\n  recv y from any tag any; recv y from any tag any;\n} else {\n'
+           b'  isend r rank to 0 tag 0;\n}\nif rank == 3 { wait r; barrier; }\n')
 
 
 def walked(text, mode=RENDEZVOUS):
@@ -80,7 +89,9 @@ def lively():
 
 
 # Words that are answered by a text alone.
-ANSWERED = ('--help', 'trace --help', '--version', 'trac', 'trace', 'trace a --mod b', 'trace a --mode b', 'trace a b')
+ANSWERED = ('--help', 'trace --help', '--version', 'trac', 'trace', 'trace a --mod b', 'trace a --mode b', 'trace a b', 'check --help',
+            'check a --runs 0', 'check a --mode b')
+ANSWERED_BY_VERIFY = ('verify --help', 'verify a', 'verify a b --mode c')
 
 
 def inputs():
@@ -94,6 +105,27 @@ def inputs():
         yield 'barriers', walked(MEETINGS)
     if has_part('trail'):
         yield 'back and forward', along(MEETINGS)
+
+
+def witness_of(report):
+    """The line of the first deadlock of a report and that of its witness, as one text."""
+    lines = report.splitlines(keepends=True)
+    place = next(place for place, line in enumerate(lines) if line.startswith(b'witness '))
+    return b''.join(lines[place - 1:place + 1])
+
+
+def reports():
+    """What `check` is asked of, and `verify` of one of its witnesses and of others."""
+    yield 'a report with witnesses', Case('', DECIDED, Asked(witnesses=True))
+    yield 'a report that is cut, buffered', Case('', DECIDED, Asked(BUFFERED, 3, 19))
+    if not has_part('verify'):
+        return
+    text = witness_of(Case('', DECIDED, Asked(witnesses=True)).wanted().output)
+    yield 'a witness', Verification(DECIDED, text)
+    yield 'a witness of other calls', Verification(DECIDED, text.replace(b' 0.1', b' 0.1 0.1', 1))
+    yield 'a witness of other steps', Verification(DECIDED, text.replace(b', wake 0', b', wake 0, wake 0', 1))
+    yield 'a witness in the other mode', Verification(DECIDED, text, BUFFERED)
+    yield 'a text that is no witness', Verification(DECIDED, text + b'x')
 
 
 def can_be_refused(debugger, line):
@@ -139,7 +171,7 @@ def problem(data, result, mode=RENDEZVOUS):
 
 
 def kind_of(result):
-    if result.status:
+    if result.status == 3:
         return 'ended'
     return 'went on' if REFUSED in result.output else 'not seen'
 
@@ -194,12 +226,22 @@ def try_file(program, name, data, shim, mode=RENDEZVOUS):
                            lambda result: problem(data, result, mode))
 
 
-def try_words(program, words, shim):
-    """Words that are answered by a text, by the same text or not at all."""
-    right = shim.run(program, b'', words.split())[0]
+def try_whole(program, name, words, shim):
+    """Words that are answered by the same text and status or, with nothing written, not at all."""
+    right = shim.run(program, b'', words)[0]
     allowed = (right, Result(b'', b'mpdbg: memory\n', 3))
-    return refuse_each(f'words {words}', lambda **refused: shim.run(program, b'', words.split(), **refused),
+    return refuse_each(name, lambda **refused: shim.run(program, b'', words, **refused),
                        lambda result: None if result in allowed else f'status {result.status}, {result.output + result.errors}')
+
+
+def try_report(program, name, case, shim):
+    """A case of `check` or `verify`, which is answered rightly where nothing is refused."""
+    with tempfile.TemporaryDirectory() as folder:
+        words = case.words(folder)
+        if shim.run(program, b'', words)[0] != case.wanted():
+            print(f'{name}: not what the model answers')
+            return 1
+        return try_whole(program, name, words, shim)
 
 
 def main():
@@ -215,7 +257,9 @@ def main():
         wrong = [try_input(program, name, data, shim) for name, data in sessions]
         wrong += [try_file(program, *sessions[0], shim)]
         wrong += [try_file(program, 'head to head, buffered', walked(HEAD_TO_HEAD, BUFFERED), shim, BUFFERED)]
-        wrong += [try_words(program, words, shim) for words in ANSWERED]
+        wrong += [try_report(program, name, case, shim) for name, case in reports()]
+        answered = ANSWERED + (ANSWERED_BY_VERIFY if has_part('verify') else ())
+        wrong += [try_whole(program, f'words {words}', words.split(), shim) for words in answered]
     return 1 if any(wrong) else 0
 
 

@@ -1,6 +1,7 @@
 """Worked rows of the explorer: reports of scripts, of places along their steps, and witnesses; compare/worked.py compares them.
 
-Each was worked out by hand from the rules (docs/DEFINITIONS.md). compare/explore.py has a program answer those of CHECKS too.
+Each was worked out by hand from the rules (docs/DEFINITIONS.md, docs/FORMATS.md). compare/explore.py has a program answer those of
+CHECKS and TOLD too.
 """
 
 from itertools import islice, permutations
@@ -9,6 +10,7 @@ from typing import NamedTuple, Optional
 from debugger import BUFFERED, RENDEZVOUS, Debugger, Result, call_id_of, step_of
 from explorer import Asked, answer, explored, report_text, verify
 from language import read_script
+from witness import LONGEST, Verification
 from worked_runs import EMPTY, HEAD_TO_HEAD, NAMED_AND_ANY, ON_AND_ON, ONE_TRAPPED, THREE, TWO_RECEIVERS, UNRECEIVED
 
 
@@ -230,6 +232,111 @@ WITNESSES = (
         '', '1.0', '1.0 0.1', '0.1 1.0 2.0', '0.1 0.1 1.0', '0.1 1.0 1.0', '0.0 1.0', '0.1 1.1', '0.1 2.0')))
 
 
+class ToldRow(NamedTuple):
+    """A script and the text of a witness (None: no file), the mode or None, what `verify` writes, its status, and what it says on
+    standard error."""
+    script: Optional[str]
+    text: Optional[str]
+    mode: Optional[str]
+    output: str
+    status: int
+    errors: str = ''
+
+    def case(self):
+        script, text = (None if data is None else data.encode('latin-1') for data in (self.script, self.text))
+        return Verification(script, text, self.mode)
+
+    def wanted(self):
+        return Result(*(f'{line}\n'.encode() if line else b'' for line in (self.output, self.errors)), self.status)
+
+
+def told(text, output, script=THREE, mode=None):
+    """A row of a text that is read."""
+    return ToldRow(script, text, mode, output, 0 if output == 'accepted' else 1)
+
+
+def bad(text, line):
+    """A row of a text that is no witness by this line."""
+    return ToldRow(THREE, text, None, '', 2, f'mpdbg: bad witness line {line}')
+
+
+LEAF = 'leaf 1 [1] deadlock 0.1 1.0'
+STEPS = f'witness 1: {STUCK}'
+BAD_SCRIPT = 'mpd 1;ranks 1;print'
+SCRIPT_REFUSED = 'mpdbg: script refused 4 expected at 19 line 1'
+TOLD = (
+    # as `check` writes it, and with what may be left out
+    told(f'{LEAF}\n{STEPS}\n', 'accepted'), told(f'{LEAF}\n{STEPS}', 'accepted'), told(f'{LEAF}\r\n{STEPS}\r\n', 'accepted'),
+    told(f'{LEAF}\n{STEPS}\n\n\n', 'accepted'), told(f'deadlock 0.1 1.0\n{STUCK}\n', 'accepted'),
+    told(f'{LEAF}\n{STUCK}\n', 'accepted'), told(f'deadlock 0.1 1.0\n{STEPS}\n', 'accepted'),
+    # numbers as in trace words
+    told(f'leaf 1 [1] deadlock 00.01 000000001.0\n{STEPS.replace("local 0", "local 00")}\n', 'accepted'),
+    # other steps that lead there, other calls, one step less or more
+    told('deadlock 0.1 1.0\nlocal 2, local 2, local 1, local 1, local 0, local 0, match 2.0 0.0, wake 2, wake 0, local 0\n', 'accepted'),
+    told(f'{LEAF}\n{STEPS.removesuffix(", wake 2")}\n', 'refused 33 not-stuck'),
+    told(f'{LEAF}\nwake 0, {STUCK}\n', 'refused 32 no-such-step at 0'),
+    told(f'{LEAF}\n{STEPS}, wake 2\n', 'refused 32 no-such-step at 10'),
+    told(f'{LEAF}\n{STEPS.replace("match", "release, match")}\n', 'refused 32 no-such-step at 6'),
+    told(f'{LEAF}\nlocal 999999999\n', 'refused 32 no-such-step at 0'),
+    *(told(f'leaf 1 [1] deadlock {calls}\n{STEPS}\n', 'refused 34 wrong-blocked') for calls in (
+        '0.1', '1.0', '1.0 0.1', '0.1 1.0 2.0', '0.1 1.0 1.0', '0.0 1.0', '999999999.999999999')),
+    # one blocked call, in a mode or the other
+    told('deadlock 0.0\nlocal 0\n', 'accepted', UNRECEIVED), told('deadlock 0.0\nlocal 0\n', 'accepted', UNRECEIVED, RENDEZVOUS),
+    told('deadlock 0.0\nlocal 0\n', 'refused 33 not-stuck', UNRECEIVED, BUFFERED),
+    told('deadlock 0.0\nlocal 0, wake 0\n', 'refused 33 not-stuck', UNRECEIVED, BUFFERED),
+    told('deadlock 0.0\nlocal 0, wake 0\n', 'refused 32 no-such-step at 1', UNRECEIVED, RENDEZVOUS),
+    told('deadlock 0.0\nlocal 0\n', 'accepted', UNRECEIVED.replace('send', 'ssend'), BUFFERED),
+    told('deadlock 0.0 1.0\nlocal 1, local 0\n', 'accepted', HEAD_TO_HEAD),
+    told('deadlock 0.1\nlocal 0, local 1, release, local 0, local 0, local 1\n', 'accepted', TWICE, BUFFERED),
+    # a trap is no deadlock, though a rank is blocked
+    told('deadlock 1.0\nlocal 0, local 1, local 1\n', 'refused 33 not-stuck', ONE_TRAPPED),
+    # what stands in front of the word and in front of a colon isn't looked at
+    *(told(f'{front}deadlock 0.1 1.0\n{name}{STUCK}\n', 'accepted') for front, name in (
+        ('outcome ', ''), (' ', ' '), ('a  b ', 'x:'), ('0.0 ', ':'), ('leaf 99 [a, b: c] ', 'leaf 0 [] done:'), ('deadlocks dead\tlock ', '\t\t:'),
+        ('\xff\x00 ', '\xff\x00:'), ('witness 1: ', 'local 0, :'))),
+    # blanks of steps as in trace words, a comma between two
+    *(told(f'{LEAF}\n{STEPS.replace(", ", between)}\n', 'accepted') for between in (',', ' ,', '  ,  ', '\t,\t')),
+    told(f'{LEAF}\n{STEPS.replace("local ", "local  ").replace("0.0", chr(9) + "0.0")} \t\r\n', 'accepted'),
+    # one carriage return before a line feed, or at the end; empty lines behind
+    *(told(f'{LEAF}{end}{STEPS}{rest}', 'accepted') for end, rest in (
+        ('\r\n', ''), ('\n', '\r'), ('\n', '\r\n\r\n'), ('\r\n', '\n\r'), ('\n', '\n\n\r\n\n'))),
+    # texts that are no witness by their first line
+    *(bad(f'{line}\n{STEPS}\n', 1) for line in (
+        '', 'deadlock', 'deadlock ', 'leaf 1 [1]', 'leaf 1 [1] deadlock', 'leaf 1 [1] done', 'leaf 1 [1] leftovers 0.1 1.0', 'leaf 1 [1] cut',
+        'Deadlock 0.1 1.0', 'deadlocks 0.1 1.0', 'deadlock 0.1  1.0', 'deadlock  0.1 1.0', 'deadlock 0.1 1.0 ', 'deadlock 0.1, 1.0',
+        'deadlock 0.1\t1.0', 'deadlock\t0.1 1.0', '\tdeadlock 0.1 1.0', 'leaf 1 [1]deadlock 0.1 1.0', 'deadlock deadlock 0.1 1.0',
+        'deadlock 0 1', 'deadlock 0.1 1', 'deadlock 0.1 1.0.0', 'deadlock 0.1 -1.0', 'deadlock 0.1 1.0000000000', 'deadlock 0.1 1.x',
+        'deadlock .1 1.0', 'deadlock 0. 1.0', 'deadlock 0.1 1.0\r\r', 'deadlock 0.1 1.0 more no', 'outcome 0.1 1.0')),
+    bad('', 1), bad('\n', 1), bad('\n\n', 1), bad(f'\n{LEAF}\n{STEPS}\n', 1), bad(f'{STEPS}\n{LEAF}\n', 1), bad('leaves 1 more no\n', 1),
+    # or by their second
+    *(bad(f'{LEAF}\n{line}\n', 2) for line in (
+        '', ' ', 'witness 1:', 'witness 1: ', 'local', 'local 0,', 'local 0,, local 1', ', local 0', 'local 0; local 1', 'local 0 local 1',
+        'local 0, ', 'local 0 0', 'local 0.0', 'local x', 'local -1', 'local 1000000000', 'match 0.0', 'match 0 0', 'match 0.0 1.0 2.0',
+        'match 0.0, 1.0', 'wake', 'release 0', 'releases', 'back', 'redo', 'goto 0', 'show', 'enabled', 'Local 0', 'local 0.', 'local0',
+        'witness 1 local 0', 'witness 1: 2: local 0', 'local 0: local', 'local 0\r\r', 'local 0\x00', 'local 0\x0b', 'local 0, fly', LEAF)),
+    bad(LEAF, 2), bad(f'{LEAF}\n', 2), bad(f'{LEAF}\n\n{STEPS}\n', 2), bad(f'{LEAF}\n{STEPS}\n ', 2), bad(f'{LEAF}\n{STEPS}\nlocal 0\n', 2),
+    bad(f'{LEAF}\n{STEPS}\n\r\r\n', 2), bad(f'{LEAF}\n{STEPS}\n\n\nx', 2), bad(f'{WITNESSED}\n'.replace('; ', '\n'), 1),
+    bad(f'{LEAF}\n{STEPS}\nleaves 2 more no\n', 2),
+    # the mode before the script's file, this before the script, the script before the witness's file, this before the witness
+    ToldRow(None, None, 'fast', '', 2, 'mpdbg: bad mode'), ToldRow(THREE, 'x', 'Buffered', '', 2, 'mpdbg: bad mode'),
+    ToldRow(BAD_SCRIPT, None, '', '', 2, 'mpdbg: bad mode'), ToldRow(None, 'x', None, '', 3, 'mpdbg: device'),
+    ToldRow(None, None, BUFFERED, '', 3, 'mpdbg: device'), ToldRow(BAD_SCRIPT, None, None, '', 2, SCRIPT_REFUSED),
+    ToldRow(BAD_SCRIPT, 'x', BUFFERED, '', 2, SCRIPT_REFUSED), ToldRow(THREE, None, None, '', 3, 'mpdbg: device'),
+    ToldRow(THREE, None, BUFFERED, '', 3, 'mpdbg: device'), ToldRow(THREE, 'x', BUFFERED, '', 2, 'mpdbg: bad witness line 1'))
+
+# What takes a file of many bytes.
+AT_ITS_LIMIT = f'{LEAF}\n{STEPS}\n'.ljust(LONGEST, '\n')
+LONG_TOLD = (
+    told(AT_ITS_LIMIT, 'accepted'), bad(f'{AT_ITS_LIMIT}\n', 2), bad('x' * (LONGEST + 1), 2), bad('x' * LONGEST, 1),
+    # a witness of 100,000 steps
+    told(f'deadlock 0.0\n{", ".join(["local 0"] * 100000)}', 'accepted', counting(49999, 'recv i from 0 tag 0;')),
+    told(f'deadlock 0.0\n{", ".join(["local 0"] * 100001)}', 'refused 32 no-such-step at 100000', counting(49999, 'recv i from 0 tag 0;')))
+
+# Words of `verify` that are wrong, tested before the mode, which is wrong too; FILE and WITNESS are there.
+MISTAKES_OF_VERIFY = ('', '{FILE}', '{FILE} {WITNESS} {FILE}', '{FILE} {WITNESS} --witness', '{FILE} {WITNESS} --runs 1', '{FILE} {WITNESS} --fuel 1',
+                      '{FILE} {WITNESS} --mode', '{FILE} {WITNESS} --mode buffered', '{FILE} {WITNESS} --no-such-option', '{FILE} --witness {WITNESS}')
+
+
 def check_problem(row):
     """What a check answers otherwise than a row wants; None where nothing is."""
     said = answer(None if row.script is None else row.script.encode(), row.asked)
@@ -262,8 +369,15 @@ def witness_problem(row):
     return None if said == row.wanted else f'answered {said or "accepted"}'
 
 
+def told_problem(row):
+    """What `verify` answers otherwise than a row wants; None where nothing is."""
+    said = row.case().wanted()
+    return None if said == row.wanted() else f'{said}'
+
+
 def problems():
     """The name of each row, with what is wrong in it, or None."""
     return ([(f'check {row.script} {row.asked}', check_problem(row)) for row in CHECKS]
             + [(f'explored {row.script} behind {row.words}, fuel {row.fuel}', place_problem(row)) for row in PLACES]
-            + [(f'witness of {row.script} ({row.mode}): {row.steps}: {row.blocked}', witness_problem(row)) for row in WITNESSES])
+            + [(f'witness of {row.script} ({row.mode}): {row.steps}: {row.blocked}', witness_problem(row)) for row in WITNESSES]
+            + [(f'verify {row.script} ({row.mode}): {str(row.text)[:500]!r}', told_problem(row)) for row in TOLD])
