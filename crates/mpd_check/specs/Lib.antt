@@ -1,1 +1,4 @@
 pub mod Checked
+pub mod Pieces
+pub mod WitnessText
+pub mod WitnessFile
