@@ -1,3 +1,6 @@
 mod PieceLemmas
 mod TextLemmas
 mod FileLemmas
+mod ClearTexts
+mod RoundTrip
+mod ReportRead

@@ -1,4 +1,6 @@
 pub mod Checked
 pub mod Pieces
 pub mod WitnessText
+pub mod WitnessRows
+pub mod WitnessLaws
 pub mod WitnessFile
