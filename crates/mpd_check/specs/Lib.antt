@@ -4,3 +4,4 @@ pub mod WitnessText
 pub mod WitnessRows
 pub mod WitnessLaws
 pub mod WitnessFile
+pub mod Verdict

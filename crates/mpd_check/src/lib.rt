@@ -2,6 +2,7 @@
 //! deadlock by a run of its own.
 #![tactic(auto)]
 
+pub mod judge;
 pub mod laws;
 mod pieces;
 pub mod witness_file;
