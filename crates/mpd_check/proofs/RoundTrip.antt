@@ -101,18 +101,18 @@ some_call c h = let d : 0 < length (decimal c.rank) = decimal_some c.rank (wide 
 step_read : (a : Step) → IsShortStep a → step_of (step_text a) ≡ Some a
 step_read (Local p) h =
     ap step_in (words_next (codes "local") (decimal p) (omega arith) refl refl
-        ∙ ap (λ ws. codes "local" ∷ ws) (words_last (decimal p) (decimal_some p (wide p h)) (decimal_clear 32 p refl (wide p h)) (decimal_clear 9 p refl (wide p h))))
+    ∙ ap (λ ws. codes "local" ∷ ws) (words_last (decimal p) (decimal_some p (wide p h)) (decimal_clear 32 p refl (wide p h)) (decimal_clear 9 p refl (wide p h))))
     ∙ ap (option_map Local) (number_read p h)
 step_read (Match s r) h =
     ap (λ t. step_of t) (append_assoc (codes "match ") (id_text s) (32 ∷ id_text r))
     ∙ ap step_in (words_next (codes "match") (id_text s ++ 32 ∷ id_text r) (omega arith) refl refl
-        ∙ ap (λ ws. codes "match" ∷ ws) (words_next (id_text s) (id_text r) (some_call s h.0) (call_clear 32 refl refl s h.0) (call_clear 9 refl refl s h.0)
-            ∙ ap (λ ws. id_text s ∷ ws) (words_last (id_text r) (some_call r h.1) (call_clear 32 refl refl r h.1) (call_clear 9 refl refl r h.1))))
+    ∙ ap (λ ws. codes "match" ∷ ws) (words_next (id_text s) (id_text r) (some_call s h.0) (call_clear 32 refl refl s h.0) (call_clear 9 refl refl s h.0)
+    ∙ ap (λ ws. id_text s ∷ ws) (words_last (id_text r) (some_call r h.1) (call_clear 32 refl refl r h.1) (call_clear 9 refl refl r h.1))))
     ∙ ap (λ o. option_map (λ q. Match q.0 q.1) (pair_of o (call_of (id_text r)))) (call_read s h.0)
     ∙ ap (λ o. option_map (λ q. Match q.0 q.1) (pair_of (Some s) o)) (call_read r h.1)
 step_read (Wake p) h =
     ap step_in (words_next (codes "wake") (decimal p) (omega arith) refl refl
-        ∙ ap (λ ws. codes "wake" ∷ ws) (words_last (decimal p) (decimal_some p (wide p h)) (decimal_clear 32 p refl (wide p h)) (decimal_clear 9 p refl (wide p h))))
+    ∙ ap (λ ws. codes "wake" ∷ ws) (words_last (decimal p) (decimal_some p (wide p h)) (decimal_clear 32 p refl (wide p h)) (decimal_clear 9 p refl (wide p h))))
     ∙ ap (option_map Wake) (number_read p h)
 step_read Release h = refl
 
@@ -134,7 +134,7 @@ space_clear c k a h = clear_join c (32 ∷ []) (step_text a) k.blank (step_clear
 steps_read : (a : Step) (steps : List Step) → IsShortStep a → AllByRecursion IsShortStep steps → each_read step_of (parts_at 44 (steps_text (a ∷ steps))) ≡ Some (a ∷ steps)
 steps_read a steps h k =
     ap (each_read step_of) (parts_listed 44 behind_space (behind_space a) steps (space_clear 44 comma_apart a h)
-        (each_so IsShortStep (λ b. is_clear 44 (behind_space b) ≡ true) (space_clear 44 comma_apart) steps k))
+    (each_so IsShortStep (λ b. is_clear 44 (behind_space b) ≡ true) (space_clear 44 comma_apart) steps k))
     ∙ all_read step_of behind_space IsShortStep step_read (a ∷ steps) (h, k)
 
 pub second_read_back : (m : ℕ) (steps : List Step) → m < 2 ^ 64 → AllByRecursion IsShortStep steps → 0 < length steps → steps_of (second_text m steps) ≡ Some steps
@@ -149,7 +149,7 @@ steps_clear c k [] h = refl
 steps_clear c k (a ∷ steps) h =
     clear_join c (behind_space a) (flat_map (λ b. 44 ∷ 32 ∷ step_text b) steps) (space_clear c k.apart a h.0)
     (listed_clear c (λ b. 44 ∷ 32 ∷ step_text b) steps
-        (each_so IsShortStep (λ b. is_clear c (44 ∷ 32 ∷ step_text b) ≡ true) (λ b s. clear_join c (44 ∷ []) (behind_space b) k.comma (space_clear c k.apart b s)) steps h.1))
+    (each_so IsShortStep (λ b. is_clear c (44 ∷ 32 ∷ step_text b) ≡ true) (λ b s. clear_join c (44 ∷ []) (behind_space b) k.comma (space_clear c k.apart b s)) steps h.1))
 
 second_clear : (c m : ℕ) → IsNoLine c → (steps : List Step) → m < 2 ^ 64 → AllByRecursion IsShortStep steps → is_clear c (second_text m steps) ≡ true
 second_clear c m k steps big h =
@@ -223,8 +223,8 @@ choices_clear c k (d ∷ ds) h =
 first_clear : (c n : ℕ) → IsNoLine c → (cs : List ℕ) (calls : List CallId) → Fits n → AllByRecursion Fits cs → AllByRecursion IsShortCall calls → is_clear c (first_text n cs calls) ≡ true
 first_clear c n k cs calls f g h =
     let calls_clear : is_clear c (spaced id_text calls) ≡ true =
-        listed_clear c (λ x. 32 ∷ id_text x) calls
-        (each_so IsShortCall (λ x. is_clear c (32 ∷ id_text x) ≡ true) (λ x s. clear_join c (32 ∷ []) (id_text x) k.apart.blank (call_clear c k.apart.digit k.apart.dot x s)) calls h) in
+    listed_clear c (λ x. 32 ∷ id_text x) calls
+    (each_so IsShortCall (λ x. is_clear c (32 ∷ id_text x) ≡ true) (λ x s. clear_join c (32 ∷ []) (id_text x) k.apart.blank (call_clear c k.apart.digit k.apart.dot x s)) calls h) in
     let a = clear_join c (codes "leaf ") (decimal n) k.leaf (decimal_clear c n k.apart.digit f) in
     let b = clear_join c (codes "leaf " ++ decimal n) (codes " [") a k.opens in
     let d = clear_join c (codes "leaf " ++ decimal n ++ codes " [") (choices_text cs) b (choices_clear c k cs g) in

@@ -189,4 +189,5 @@ pub both_read : (z l bytes m second : List ℕ) (ls ms ks : List (List ℕ)) (ca
 both_read z l bytes m second ls ms ks calls steps over p n b r o s q v f = second_read z l bytes m second ls ms ks calls steps over p n b r o s q v ∙ ap (λ x. with_steps calls (Some steps) x) f
 
 pub ruleset reading = (no_line, first_refused, second_missing, second_refused, more_behind, both_read)
+
 pub ruleset blocking = (blocked_refused, blocked_is, blocked_missing)

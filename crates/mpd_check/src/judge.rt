@@ -61,12 +61,7 @@ fn accepted(alloc: Global) -> Result<Answer, AllocError>
 
 /// The verdict on a witness. An `Err` is want of memory.
 #[tactic(auto, using(crate::proofs::VerdictLemmas::judging))]
-fn verdict(
-    alloc: Global,
-    code: &Code,
-    mode: Mode,
-    witness: &Witness,
-) -> Result<Answer, AllocError>
+fn verdict(alloc: Global, code: &Code, mode: Mode, witness: &Witness) -> Result<Answer, AllocError>
     ensures { IfOk result (λ v. IsVerdict code.now.program mode witness.now (string_bytes v.text) v.accepted) }
 {
     match verify(alloc, code, mode, witness) {
