@@ -1,0 +1,7 @@
+mod PieceLemmas
+mod TextLemmas
+mod FileLemmas
+mod VerdictLemmas
+mod ClearTexts
+mod RoundTrip
+mod ReportRead

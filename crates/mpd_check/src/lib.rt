@@ -1,5 +1,12 @@
-//! Looks for deadlocks and traps: a script is explored from its start, and the report is written to a sink.
+//! Looks for deadlocks and traps: a script is explored from its start, and the report is written to a sink. Judges the witness of a
+//! deadlock by a run of its own.
 #![tactic(auto)]
+
+pub mod judge;
+pub mod laws;
+mod pieces;
+pub mod witness_file;
+pub mod witness_text;
 
 ghost use Rattle.std.specs.Prelude.{◌≡◌, ◌≤◌, IfOk, string_bytes};
 ghost use Rattle.std.specs.List.{list_any};

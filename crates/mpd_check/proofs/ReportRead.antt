@@ -1,0 +1,21 @@
+-- The lines of a report are those that are read.
+use Rattle.std.proofs.Common.{◌≡◌, ℕ, ◌^◌, ◌<◌, ◌++◌, Ok, ap, ◌∙◌}
+use Rattle.std.specs.Prelude.{codes}
+use Rattle.std.specs.Fmt.{decimal}
+use Rattle.std.specs.List.{AllByRecursion}
+use Rattle.mpd_model.specs.declared.outcome.Outcome.TheVariants.{Deadlock}
+use Rattle.mpd_model.specs.Texts.{line}
+use Rattle.mpd_explore.specs.declared.report.Ending.{Ending}
+use Rattle.mpd_explore.specs.declared.report.Ending.TheVariants.{Ended}
+use Rattle.mpd_explore.specs.declared.report.Leaf.{Leaf}
+use Rattle.mpd_explore.specs.declared.report.Witness.{Witness}
+use Rattle.mpd_explore.specs.ReportText.{choices_text, ending_text, leaf_line, witness_line}
+use Rattle.mpd_check.specs.WitnessText.{witness_of}
+use Rattle.mpd_check.specs.WitnessLaws.{IsShort}
+use Rattle.mpd_check.proofs.RoundTrip.{written_is_read}
+
+pub report_is_read : (n m : ℕ) (l : Leaf) (x : Witness) → n < 2 ^ 64 → m < 2 ^ 64 → AllByRecursion (λ c. c < 2 ^ 64) l.choices → l.ending ≡ Ended (Deadlock x.blocked) → IsShort x
+    → witness_of (leaf_line n l ++ witness_line m x) ≡ Ok x
+report_is_read n m l x f g k e h =
+    ap (λ (o : Ending). witness_of (line (codes "leaf " ++ decimal n ++ codes " [" ++ choices_text l.choices ++ codes "] " ++ ending_text o) ++ witness_line m x)) e
+    ∙ written_is_read n m l.choices x f g k h
