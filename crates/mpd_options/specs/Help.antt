@@ -4,7 +4,7 @@ use Rattle.mpd_options.specs.declared.command.TheConstants.{EXAMPLE, TRACE_EXAMP
 use Rattle.mpd_options.specs.declared.command.Topic.{Topic}
 use Rattle.mpd_options.specs.declared.command.Topic.TheVariants.{Program, Trace, Check, Verify}
 
--- a text stays what it is called, but for whom it is unfolded
+-- the example of each; clauses tell it by its name, and the text itself is seen only where this is unfolded
 unfoldable pub example_of : Topic → List ℕ
 example_of Program = EXAMPLE.now
 example_of Trace = TRACE_EXAMPLE.now
