@@ -11,11 +11,12 @@ use Rattle.clap.specs.Faults.{fault_of, walk_fault, settle_fault, turn_fault, st
 use Rattle.clap.specs.Simple.{names_of, subcommand_of, entered}
 use Rattle.clap.specs.Walk.{Held, Walk, Names, idle, Step, value, trailing, Outcome, plain, nothing_held, finished, settled, walk_from, walked, arg_by_long, arg_by_short, long_or_other, short_or_plain, after_flag, after_step, subcommand_or_other, bundle, bundle_met, subcommand_met}
 use Rattle.clap.proofs.OnLiterals.{clap_on_literals}
-use Rattle.mpd_options.specs.Asked.{Asked, Tool, behind, checker, found_of_command, meant, among_options, tracer, wanted}
+use Rattle.mpd_options.specs.Asked.{Asked, Tool, behind, checker, found_of_command, meant, among_options, tracer, verifier, wanted}
 use Rattle.mpd_options.specs.Program.{mpdbg_app}
 use Rattle.mpd_options.proofs.Ends.{Agrees, fails_first, fails_then}
 use Rattle.mpd_options.proofs.Items.{called}
-use Rattle.mpd_options.proofs.Walks.{State, dd, faults, law, reads, reads_dashes, reads_letters, reads_long, reads_no_letters, reads_plain, ready, rows_at, walk_at}
+use Rattle.mpd_options.proofs.Turns.{State, dd, reads, reads_dashes, reads_letters, reads_long, reads_no_letters, reads_plain, ready, walk_at}
+use Rattle.mpd_options.proofs.Walks.{faults, law, rows_at}
 
 abbrev top : App
 top = built mpdbg_app
@@ -65,11 +66,13 @@ behind_command : (t : Tool) (words : List Text) → walk_over (called t ∷ word
 unfolding clap_on_literals
 behind_command tracer words = stays words [] start (codes "trace")
 behind_command checker words = stays words [] start (codes "check")
+behind_command verifier words = stays words [] start (codes "verify")
 
 command_walk : (t : Tool) (words : List Text) → walk_fault shape names start (called t ∷ words) ≡ []
 unfolding clap_on_literals
 command_walk tracer words = no_fault words [] start (codes "trace")
 command_walk checker words = no_fault words [] start (codes "check")
+command_walk verifier words = no_fault words [] start (codes "verify")
 
 and_nothing : (ks : Kinds) → or_else ks [] ≡ ks
 and_nothing [] = refl
@@ -82,6 +85,7 @@ whole_command : (t : Tool) (words : List Text) → whole_fault [] (stopped_at st
 unfolding clap_on_literals
 whole_command tracer words = and_nothing (faults tracer (walk_at at_first) words)
 whole_command checker words = and_nothing (faults checker (walk_at at_first) words)
+whole_command verifier words = and_nothing (faults verifier (walk_at at_first) words)
 
 command_fault : (t : Tool) (words : List Text) → fault_of mpdbg_app (called t ∷ words) ≡ faults t (walk_at at_first) words
 command_fault t words =
@@ -90,6 +94,7 @@ command_fault t words =
 entered_at : (t : Tool) (words : List Text) → entered top (Some (called t, words)) ≡ Some (called t, rows_at t (walk_at at_first) words)
 entered_at tracer words = refl
 entered_at checker words = refl
+entered_at verifier words = refl
 
 command_found : (t : Tool) (words : List Text) → subcommand_of mpdbg_app (called t ∷ words) ≡ Some (called t, rows_at t (walk_at at_first) words)
 command_found t words = ap (λ (w : Walk). entered top w.stopped) (behind_command t words) ∙ entered_at t words
@@ -98,6 +103,7 @@ lift : (t : Tool) (o : Option Asked) (ks : Kinds) (rows : List Row) → Agrees t
 lift t None ks rows h = h
 lift tracer (Some x) ks rows h = h
 lift checker (Some x) ks rows h = h
+lift verifier (Some x) ks rows h = h
 
 command_law : (t : Tool) (words : List Text) → AgreesAll (wanted t words among_options []) (fault_of mpdbg_app (called t ∷ words)) (subcommand_of mpdbg_app (called t ∷ words))
 command_law t words =
@@ -105,7 +111,7 @@ command_law t words =
     let P : Kinds → Type 0 = λ ks. AgreesAll o ks (subcommand_of mpdbg_app (called t ∷ words)) in
     let Q : Option (Text × List Row) → Type 0 = λ c. AgreesAll o (faults t (walk_at at_first) words) c in
     subst P (sym (command_fault t words))
-    (subst Q (sym (command_found t words)) (lift t o (faults t (walk_at at_first) words) (rows_at t (walk_at at_first) words) (law t words at_first (tt, tt))))
+    (subst Q (sym (command_found t words)) (lift t o (faults t (walk_at at_first) words) (rows_at t (walk_at at_first) words) (law t words at_first (tt, tt, (λ e. refl)))))
 
 -- ---- another first word
 
@@ -167,7 +173,7 @@ top_letters (y ∷ ys) x xs e = rw e (top_letter x (drop (length (encode_utf8 x)
 
 -- the word names no command
 abbrev IsOther : Text → Type 0
-IsOther word = (bytes_eq (codes "trace") word ≡ false) × (bytes_eq (codes "check") word ≡ false) × (bytes_eq (codes "help") word ≡ false)
+IsOther word = (bytes_eq (codes "trace") word ≡ false) × (bytes_eq (codes "check") word ≡ false) × (bytes_eq (codes "verify") word ≡ false) × (bytes_eq (codes "help") word ≡ false)
 
 -- the turn of a first word, by the command that it names
 abbrev met_turn : Option Text → Text → Kinds
@@ -176,7 +182,7 @@ met_turn met word =
     or_else (other_fault shape met word nothing_held) (step_fault shape 1 step.0 step.1)
 
 unmet : (word : Text) → IsOther word → subcommand_met names idle word ≡ None
-unmet word other = rw (other.0, other.1, other.2) refl
+unmet word other = rw (other.0, other.1, other.2, other.3) refl
 
 top_turns : (word : Text) → IsOther word → turn_fault shape names start word ≡ met_turn None word
 top_turns word other = ap (λ m. met_turn m word) (unmet word other)
@@ -255,10 +261,10 @@ first_word word words other =
       | reads_plain d l s ↦ now _ (as_short word None d l s) (stray_fails word)
     ]
 
-other_word : (word : Text) (words : List Text) → bytes_eq (codes "trace") word ≡ false → bytes_eq (codes "check") word ≡ false → fault_of mpdbg_app (word ∷ words) ≢ []
-other_word word words t c = elim (bytes_eq (codes "help") word) as (λ b. bytes_eq (codes "help") word ≡ b → fault_of mpdbg_app (word ∷ words) ≢ []) [
+other_word : (word : Text) (words : List Text) → bytes_eq (codes "trace") word ≡ false → bytes_eq (codes "check") word ≡ false → bytes_eq (codes "verify") word ≡ false → fault_of mpdbg_app (word ∷ words) ≢ []
+other_word word words t c v = elim (bytes_eq (codes "help") word) as (λ b. bytes_eq (codes "help") word ≡ b → fault_of mpdbg_app (word ∷ words) ≢ []) [
   | true ↦ λ e. let P : Text → Type 0 = λ w. fault_of mpdbg_app (w ∷ words) ≢ [] in subst P ((bytes_eq-Decides (codes "help") word).0 e) (help_word words)
-  | false ↦ λ e. first_word word words (t, c, e)
+  | false ↦ λ e. first_word word words (t, c, v, e)
 ] refl
 
 -- ---- all words
@@ -279,14 +285,30 @@ LawOf o word words = AgreesAll (behind o words) (fault_of mpdbg_app (word ∷ wo
 named_law : (t : Tool) (word : Text) (words : List Text) → bytes_eq word (called t) ≡ true → LawOf (Some t) word words
 named_law t word words e = let P : Text → Type 0 = λ w. LawOf (Some t) w words in subst P (sym ((bytes_eq-Decides word (called t)).0 e)) (command_law t words)
 
+-- the command that a word names, where it is not the first, or neither the first nor the second
+abbrev second : Text → Bool → Option Tool
+second word c = if c then Some checker else (if bytes_eq word (codes "verify") then Some verifier else None)
+
+abbrev third : Bool → Option Tool
+third v = if v then Some verifier else None
+
+third_law : (word : Text) (words : List Text) → bytes_eq word (codes "trace") ≡ false → bytes_eq word (codes "check") ≡ false → LawOf (third (bytes_eq word (codes "verify"))) word words
+third_law word words e c = elim (bytes_eq word (codes "verify")) as (λ b. bytes_eq word (codes "verify") ≡ b → LawOf (third b) word words) [
+  | true ↦ λ v. named_law verifier word words v
+  | false ↦ λ v. other_word word words (turned_about (codes "trace") word e) (turned_about (codes "check") word c) (turned_about (codes "verify") word v)
+] refl
+
+second_law : (word : Text) (words : List Text) → bytes_eq word (codes "trace") ≡ false → LawOf (second word (bytes_eq word (codes "check"))) word words
+second_law word words e = elim (bytes_eq word (codes "check")) as (λ b. bytes_eq word (codes "check") ≡ b → LawOf (second word b) word words) [
+  | true ↦ λ c. named_law checker word words c
+  | false ↦ λ c. third_law word words e c
+] refl
+
 pub meant_law : (word : Text) (words : List Text) → AgreesAll (meant (word ∷ words)) (fault_of mpdbg_app (word ∷ words)) (subcommand_of mpdbg_app (word ∷ words))
 meant_law word words =
-    elim (bytes_eq word (codes "trace")) as (λ b. bytes_eq word (codes "trace") ≡ b → LawOf (if b then Some tracer else (if bytes_eq word (codes "check") then Some checker else None)) word words) [
+    elim (bytes_eq word (codes "trace")) as (λ b. bytes_eq word (codes "trace") ≡ b → LawOf (if b then Some tracer else second word (bytes_eq word (codes "check"))) word words) [
       | true ↦ λ e. named_law tracer word words e
-      | false ↦ λ e. elim (bytes_eq word (codes "check")) as (λ b. bytes_eq word (codes "check") ≡ b → LawOf (if b then Some checker else None) word words) [
-        | true ↦ λ c. named_law checker word words c
-        | false ↦ λ c. other_word word words (turned_about (codes "trace") word e) (turned_about (codes "check") word c)
-      ] refl
+      | false ↦ λ e. second_law word words e
     ] refl
 
 pub is_plain_app : is_simple_and_free mpdbg_app ≡ true

@@ -1,5 +1,5 @@
 -- The end of the words behind a command: what `clap` then finds, and whether it fails.
-use Rattle.std.proofs.Common.{◌≡◌, ◌≢◌, ◌∙◌, ℕ, Bool, true, false, List, [], ◌∷◌, cond, ◌||◌, Option, Some, None, is_some, option_map, fold, codes, refl, sym, ap, ap₂, subst, if◌then◌else◌}
+use Rattle.std.proofs.Common.{◌≡◌, ◌≢◌, ◌∙◌, ℕ, Bool, true, false, List, [], ◌∷◌, cond, not, ◌&&◌, ◌||◌, Option, Some, None, is_some, option_map, fold, codes, refl, sym, ap, ap₂, subst, if◌then◌else◌}
 use Rattle.std.specs.Prelude.{option_and_then, slice_get}
 use Rattle.std.specs.Option.{option_map_or}
 use Rattle.std.specs.Str.{bytes_eq}
@@ -11,9 +11,10 @@ use Rattle.clap.specs.Facts.{explicit_source}
 use Rattle.clap.specs.Takes.{is_given}
 use Rattle.clap.specs.Walk.{Held, default_rows, finished, has_row, is_empty, reading_by, row_text, settled, used, used_by_id, with_default}
 use Rattle.clap.specs.declared.builder.value_parser.Reading.{Reading}
+use Rattle.clap.specs.declared.error.kind.ErrorKind.TheVariants as kind
 use Rattle.clap.specs.declared.parser.matches.ValueSource.TheVariants.{DefaultValue}
 use Rattle.clap.proofs.OnLiterals.{clap_on_literals}
-use Rattle.mpd_options.specs.Asked.{Asked, Item, Said, Tool, checker, default_of, fits, found, found_check, found_in, found_trace, most_fuel, most_runs, name_of, or_default, said_of, text_of, the_file, the_fuel, the_mode, the_runs, the_witness, tracer}
+use Rattle.mpd_options.specs.Asked.{Asked, Item, Said, Tool, checker, default_of, fits, found, found_check, found_in, found_trace, found_verify, most_fuel, most_runs, name_of, or_default, said_of, text_of, the_file, the_fuel, the_mode, the_runs, the_witness, the_witness_file, tracer, verifier}
 use Rattle.mpd_options.specs.Numbers.{flag_in, number_in}
 use Rattle.mpd_options.proofs.Items.{Valid, arg, by_id, has_is, has_said, keeps, made, named_row, or_row, row_at, row_at_more, row_for, row_said, rows_for, rules, sub, used_once, used_well, values_at_end}
 
@@ -79,10 +80,23 @@ tracer_mode = refl
 checker_row : (i : Item) → rules_row (name_of i) (rules checker) ≡ default_row i
 unfolding clap_on_literals
 checker_row the_file = refl
+checker_row the_witness_file = refl
 checker_row the_mode = refl
 checker_row the_runs = refl
 checker_row the_fuel = refl
 checker_row the_witness = refl
+
+verifier_file : rules_row (name_of the_file) (rules verifier) ≡ default_row the_file
+unfolding clap_on_literals
+verifier_file = refl
+
+verifier_witness : rules_row (name_of the_witness_file) (rules verifier) ≡ default_row the_witness_file
+unfolding clap_on_literals
+verifier_witness = refl
+
+verifier_mode : rules_row (name_of the_mode) (rules verifier) ≡ default_row the_mode
+unfolding clap_on_literals
+verifier_mode = refl
 
 -- ---- what is found at last
 
@@ -116,22 +130,29 @@ five_same : (f f' m m' r r' n n' w w' : Option Text) → f ≡ f' → m ≡ m' �
     ≡ found_check f' m' (option_and_then (number_in 1 most_runs) r') (option_and_then (number_in 1 most_fuel) n') (option_and_then flag_in w')
 five_same f f' m m' r r' n n' w w' a b c d e = rw (a, b, c, d, e) refl
 
+three_same : (f f' w w' m m' : Option Text) → f ≡ f' → w ≡ w' → m ≡ m' → found_verify f w m ≡ found_verify f' w' m'
+three_same f f' w w' m m' a b c = rw (a, b, c) refl
+
 pub found_ended : (t : Tool) (said : Said) → Valid said → found_in t (ended t said) ≡ found t (text_of said)
 found_ended tracer said h = ap₂ found_trace (first_ended tracer the_file said tracer_file h) (first_ended tracer the_mode said tracer_mode h)
 found_ended checker said h =
     five_same _ _ _ _ _ _ _ _ _ _ (first_ended checker the_file said (checker_row the_file) h) (first_ended checker the_mode said (checker_row the_mode) h)
     (one_ended checker the_runs said (checker_row the_runs) h) (one_ended checker the_fuel said (checker_row the_fuel) h) (one_ended checker the_witness said (checker_row the_witness) h)
+found_ended verifier said h =
+    three_same _ _ _ _ _ _ (first_ended verifier the_file said verifier_file h) (first_ended verifier the_witness_file said verifier_witness h) (first_ended verifier the_mode said verifier_mode h)
 
--- ---- something is asked for where a file was said
+-- ---- something is asked for where each file was said
 
 abbrev item_named : Text → Option Item
 item_named name =
     if bytes_eq name (codes "FILE") then Some the_file
+    else (if bytes_eq name (codes "WITNESS") then Some the_witness_file
     else (if bytes_eq name (codes "mode") then Some the_mode
-    else (if bytes_eq name (codes "runs") then Some the_runs else (if bytes_eq name (codes "fuel") then Some the_fuel else (if bytes_eq name (codes "witness") then Some the_witness else None))))
+    else (if bytes_eq name (codes "runs") then Some the_runs else (if bytes_eq name (codes "fuel") then Some the_fuel else (if bytes_eq name (codes "witness") then Some the_witness else None)))))
 
 named_is : (i : Item) → item_named (name_of i) ≡ Some i
 named_is the_file = refl
+named_is the_witness_file = refl
 named_is the_mode = refl
 named_is the_runs = refl
 named_is the_fuel = refl
@@ -166,13 +187,26 @@ is_check (Some f) m d None n w a b c = cc
 is_check (Some f) m d (Some r) None w a b c = cc
 is_check (Some f) m d (Some r) (Some n) None a b c = cc
 
-asks_with_file : (t : Tool) (said : Said) → Valid said → is_some (found t (text_of said)) ≡ is_some (said_of the_file said)
-asks_with_file tracer said h = is_trace (said_of the_file said) (said_of the_mode said) (codes "rendezvous")
-asks_with_file checker said h =
+is_verify : (f w m : Option Text) (d : Text) → is_some (found_verify (or_default f None) (or_default w None) (or_default m (Some d))) ≡ (is_some f && is_some w)
+is_verify None w m d = refl
+is_verify (Some f) None m d = refl
+is_verify (Some f) (Some w) None d = refl
+is_verify (Some f) (Some w) (Some m) d = refl
+
+-- each word of a file is there
+abbrev has_files : Tool → Bool → Bool → Bool
+has_files tracer file witness = file
+has_files checker file witness = file
+has_files verifier file witness = file && witness
+
+asks_with_files : (t : Tool) (said : Said) → Valid said → is_some (found t (text_of said)) ≡ has_files t (is_some (said_of the_file said)) (is_some (said_of the_witness_file said))
+asks_with_files tracer said h = is_trace (said_of the_file said) (said_of the_mode said) (codes "rendezvous")
+asks_with_files checker said h =
     is_check (said_of the_file said) (said_of the_mode said) (codes "rendezvous") (option_and_then (number_in 1 most_runs) (text_of said the_runs)) (option_and_then (number_in 1 most_fuel) (text_of said the_fuel)) (option_and_then flag_in (text_of said the_witness))
     (read_said (number_in 1 most_runs) (codes "1000") (said_of the_runs said) refl (λ v e. said_fits the_runs v said h e))
     (read_said (number_in 1 most_fuel) (codes "100000") (said_of the_fuel said) refl (λ v e. said_fits the_fuel v said h e))
     (read_said flag_in (codes "false") (said_of the_witness said) refl (λ v e. said_fits the_witness v said h e))
+asks_with_files verifier said h = is_verify (said_of the_file said) (said_of the_witness_file said) (said_of the_mode said) (codes "rendezvous")
 
 -- ---- faults at the end
 
@@ -183,19 +217,43 @@ given_row i (Some v) = refl
 file_row : (t : Tool) → Owns t the_file
 file_row tracer = tracer_file
 file_row checker = checker_row the_file
+file_row verifier = verifier_file
 
 file_given : (t : Tool) (said : Said) → Valid said → is_given (codes "FILE") (ended t said) ≡ is_some (said_of the_file said)
 file_given t said h = ap (λ o. option_map_or (λ (r : Row). explicit_source r.source) o false) (row_ended t the_file said (file_row t) h) ∙ given_row the_file (said_of the_file said)
 
-with_file : (t : Tool) (rows : List Row) → is_given (codes "FILE") rows ≡ true → check_fault (sub t) rows false ≡ []
-unfolding clap_on_literals
-with_file tracer rows e = rw e refl
-with_file checker rows e = rw e refl
+witness_given : (said : Said) → Valid said → is_given (codes "WITNESS") (ended verifier said) ≡ is_some (said_of the_witness_file said)
+witness_given said h = ap (λ o. option_map_or (λ (r : Row). explicit_source r.source) o false) (row_ended verifier the_witness_file said verifier_witness h) ∙ given_row the_witness_file (said_of the_witness_file said)
 
-without_file : (t : Tool) (rows : List Row) → is_given (codes "FILE") rows ≡ false → check_fault (sub t) rows false ≢ []
+files_given : (t : Tool) (said : Said) → Valid said → has_files t (is_given (codes "FILE") (ended t said)) (is_given (codes "WITNESS") (ended t said)) ≡ has_files t (is_some (said_of the_file said)) (is_some (said_of the_witness_file said))
+files_given tracer said h = file_given tracer said h
+files_given checker said h = file_given checker said h
+files_given verifier said h = ap₂ (λ a b. a && b) (file_given verifier said h) (witness_given said h)
+
+-- the fault of words that are left out, by whether any is
+abbrev missing_by : Bool → Kinds
+missing_by all = if all then [] else kind.MissingRequiredArgument ∷ []
+
+not_both : (a b : Bool) → (if not a || (not b || false) then kind.MissingRequiredArgument ∷ [] else []) ≡ missing_by (a && b)
+not_both true true = refl
+not_both true false = refl
+not_both false b = refl
+
+not_one : (a : Bool) → (if not a || false then kind.MissingRequiredArgument ∷ [] else []) ≡ missing_by a
+not_one true = refl
+not_one false = refl
+
+check_is : (t : Tool) (rows : List Row) → check_fault (sub t) rows false ≡ missing_by (has_files t (is_given (codes "FILE") rows) (is_given (codes "WITNESS") rows))
 unfolding clap_on_literals
-without_file tracer rows e = rw e (λ z. cc)
-without_file checker rows e = rw e (λ z. cc)
+check_is tracer rows = not_one (is_given (codes "FILE") rows)
+check_is checker rows = not_one (is_given (codes "FILE") rows)
+check_is verifier rows = not_both (is_given (codes "FILE") rows) (is_given (codes "WITNESS") rows)
+
+with_files : (t : Tool) (rows : List Row) → has_files t (is_given (codes "FILE") rows) (is_given (codes "WITNESS") rows) ≡ true → check_fault (sub t) rows false ≡ []
+with_files t rows e = check_is t rows ∙ ap missing_by e
+
+without_files : (t : Tool) (rows : List Row) → has_files t (is_given (codes "FILE") rows) (is_given (codes "WITNESS") rows) ≡ false → check_fault (sub t) rows false ≢ []
+without_files t rows e = let P : Kinds → Type 0 = λ ks. ks ≢ [] in subst P (sym (check_is t rows ∙ ap missing_by e)) (λ z. cc)
 
 abbrev Takes : List Rule → Type 0
 Takes [] = Unit {0}
@@ -216,6 +274,7 @@ pub takes_defaults : (t : Tool) → Takes (rules t)
 unfolding clap_on_literals
 takes_defaults tracer = (refl, (refl, (refl, tt)))
 takes_defaults checker = (refl, (refl, (refl, (refl, (refl, (refl, tt))))))
+takes_defaults verifier = (refl, (refl, (refl, (refl, tt))))
 
 -- ---- what is held is settled
 
@@ -289,11 +348,11 @@ pub at_end : (t : Tool) (said : Said) (last : Option (Item × Text)) → Valid (
     → Agrees t (found t (text_of (with_last said last))) (end_fault t (held_for said last)) (finished (rules t) (held_for said last))
 at_end t said last h l =
     let all = with_last said last in
-    let asks = asks_with_file t all h in
+    let asks = asks_with_files t all h in
     let P : Kinds → Type 0 = λ ks. Agrees t (found t (text_of all)) ks (finished (rules t) (held_for said last)) in
     let Q : Held → Type 0 = λ g. Agrees t (found t (text_of all)) (check_fault (sub t) (ended t all) false) (fold with_default g.rows (rules t)) in
     subst P (sym (end_is t said last h l)) (subst Q (sym (settles t said last h l).1)
     (agrees_by t (found t (text_of all)) (check_fault (sub t) (ended t all) false) (ended t all)
-    (λ e. without_file t (ended t all) (file_given t all h ∙ sym asks ∙ e))
-    (λ e. with_file t (ended t all) (file_given t all h ∙ sym asks ∙ e))
+    (λ e. without_files t (ended t all) (files_given t all h ∙ sym asks ∙ e))
+    (λ e. with_files t (ended t all) (files_given t all h ∙ sym asks ∙ e))
     (found_ended t all h)))

@@ -16,17 +16,19 @@ use Rattle.clap.specs.declared.error.kind.ErrorKind.TheVariants as kind
 use Rattle.clap.specs.declared.parser.matches.ValueSource.{ValueSource}
 use Rattle.clap.specs.declared.parser.matches.ValueSource.TheVariants.{CommandLine}
 use Rattle.clap.proofs.OnLiterals.{clap_on_literals}
-use Rattle.mpd_options.specs.Asked.{Item, Said, Tool, checker, fits, most_fuel, most_runs, name_of, said_named, said_of, the_file, the_fuel, the_mode, the_runs, the_witness, tracer}
+use Rattle.mpd_options.specs.Asked.{Item, Said, Tool, checker, fits, most_fuel, most_runs, name_of, said_named, said_of, the_file, the_fuel, the_mode, the_runs, the_witness, the_witness_file, tracer, verifier}
 use Rattle.mpd_options.specs.Program.{mpdbg_app}
 use Rattle.mpd_options.proofs.NumberReads.{accepts_number}
 
 abbrev pub called : Tool → Text
 called tracer = codes "trace"
 called checker = codes "check"
+called verifier = codes "verify"
 
 abbrev pub sub : Tool → Shape
 sub tracer = option_map_or (λ s. s) (find (λ s. answers_to (codes "trace") (label_of s)) (built mpdbg_app).subs) (new_shape [])
 sub checker = option_map_or (λ s. s) (find (λ s. answers_to (codes "check") (label_of s)) (built mpdbg_app).subs) (new_shape [])
+sub verifier = option_map_or (λ s. s) (find (λ s. answers_to (codes "verify") (label_of s)) (built mpdbg_app).subs) (new_shape [])
 
 abbrev pub rules : Tool → List Rule
 rules t = (sub t).rules
@@ -45,51 +47,75 @@ asks tracer the_mode = true
 asks checker the_mode = true
 asks checker the_runs = true
 asks checker the_fuel = true
+asks verifier the_mode = true
 asks _ _ = false
 
--- and the file
+-- the witness has a word of its own
+abbrev pub reads_witness : Tool → Bool
+reads_witness tracer = false
+reads_witness checker = false
+reads_witness verifier = true
+
+-- and the files
 abbrev pub keeps : Tool → Item → Bool
 keeps t the_file = true
+keeps t the_witness_file = reads_witness t
 keeps t the_mode = asks t the_mode
 keeps t the_runs = asks t the_runs
 keeps t the_fuel = asks t the_fuel
 keeps t the_witness = false
 
-pub each_asks : (P : Tool → Item → Type 0) → P tracer the_mode → P checker the_mode → P checker the_runs → P checker the_fuel → (t : Tool) (i : Item) → asks t i ≡ true → P t i
-each_asks P a b c d tracer the_file e = cc
-each_asks P a b c d tracer the_mode e = a
-each_asks P a b c d tracer the_runs e = cc
-each_asks P a b c d tracer the_fuel e = cc
-each_asks P a b c d tracer the_witness e = cc
-each_asks P a b c d checker the_file e = cc
-each_asks P a b c d checker the_mode e = b
-each_asks P a b c d checker the_runs e = c
-each_asks P a b c d checker the_fuel e = d
-each_asks P a b c d checker the_witness e = cc
+pub each_asks : (P : Tool → Item → Type 0) → P tracer the_mode → P checker the_mode → P checker the_runs → P checker the_fuel → P verifier the_mode → (t : Tool) (i : Item) → asks t i ≡ true → P t i
+each_asks P a b c d m tracer the_file e = cc
+each_asks P a b c d m tracer the_witness_file e = cc
+each_asks P a b c d m tracer the_mode e = a
+each_asks P a b c d m tracer the_runs e = cc
+each_asks P a b c d m tracer the_fuel e = cc
+each_asks P a b c d m tracer the_witness e = cc
+each_asks P a b c d m checker the_file e = cc
+each_asks P a b c d m checker the_witness_file e = cc
+each_asks P a b c d m checker the_mode e = b
+each_asks P a b c d m checker the_runs e = c
+each_asks P a b c d m checker the_fuel e = d
+each_asks P a b c d m checker the_witness e = cc
+each_asks P a b c d m verifier the_file e = cc
+each_asks P a b c d m verifier the_witness_file e = cc
+each_asks P a b c d m verifier the_mode e = m
+each_asks P a b c d m verifier the_runs e = cc
+each_asks P a b c d m verifier the_fuel e = cc
+each_asks P a b c d m verifier the_witness e = cc
 
-pub each_keeps : (P : Tool → Item → Type 0) → P tracer the_file → P checker the_file → P tracer the_mode → P checker the_mode → P checker the_runs → P checker the_fuel
-    → (t : Tool) (i : Item) → keeps t i ≡ true → P t i
-each_keeps P f g a b c d tracer the_file e = f
-each_keeps P f g a b c d tracer the_mode e = a
-each_keeps P f g a b c d tracer the_runs e = cc
-each_keeps P f g a b c d tracer the_fuel e = cc
-each_keeps P f g a b c d tracer the_witness e = cc
-each_keeps P f g a b c d checker the_file e = g
-each_keeps P f g a b c d checker the_mode e = b
-each_keeps P f g a b c d checker the_runs e = c
-each_keeps P f g a b c d checker the_fuel e = d
-each_keeps P f g a b c d checker the_witness e = cc
+pub each_keeps : (P : Tool → Item → Type 0) → P tracer the_file → P checker the_file → P verifier the_file → P verifier the_witness_file
+    → P tracer the_mode → P checker the_mode → P checker the_runs → P checker the_fuel → P verifier the_mode → (t : Tool) (i : Item) → keeps t i ≡ true → P t i
+each_keeps P f g h w a b c d m tracer the_file e = f
+each_keeps P f g h w a b c d m tracer the_witness_file e = cc
+each_keeps P f g h w a b c d m tracer the_mode e = a
+each_keeps P f g h w a b c d m tracer the_runs e = cc
+each_keeps P f g h w a b c d m tracer the_fuel e = cc
+each_keeps P f g h w a b c d m tracer the_witness e = cc
+each_keeps P f g h w a b c d m checker the_file e = g
+each_keeps P f g h w a b c d m checker the_witness_file e = cc
+each_keeps P f g h w a b c d m checker the_mode e = b
+each_keeps P f g h w a b c d m checker the_runs e = c
+each_keeps P f g h w a b c d m checker the_fuel e = d
+each_keeps P f g h w a b c d m checker the_witness e = cc
+each_keeps P f g h w a b c d m verifier the_file e = h
+each_keeps P f g h w a b c d m verifier the_witness_file e = w
+each_keeps P f g h w a b c d m verifier the_mode e = m
+each_keeps P f g h w a b c d m verifier the_runs e = cc
+each_keeps P f g h w a b c d m verifier the_fuel e = cc
+each_keeps P f g h w a b c d m verifier the_witness e = cc
 
 pub asks_keeps : (t : Tool) (i : Item) → asks t i ≡ true → keeps t i ≡ true
-asks_keeps = each_asks (λ t i. keeps t i ≡ true) refl refl refl refl
+asks_keeps = each_asks (λ t i. keeps t i ≡ true) refl refl refl refl refl
 
 pub by_id : (t : Tool) (i : Item) → keeps t i ≡ true → arg_by_id (rules t) (name_of i) ≡ Some (arg t i)
 unfolding clap_on_literals
-by_id = each_keeps (λ t i. arg_by_id (rules t) (name_of i) ≡ Some (arg t i)) refl refl refl refl refl refl
+by_id = each_keeps (λ t i. arg_by_id (rules t) (name_of i) ≡ Some (arg t i)) refl refl refl refl refl refl refl refl refl
 
 pub by_long : (t : Tool) (i : Item) → asks t i ≡ true → arg_by_long (rules t) (name_of i) ≡ Some (arg t i)
 unfolding clap_on_literals
-by_long = each_asks (λ t i. arg_by_long (rules t) (name_of i) ≡ Some (arg t i)) refl refl refl refl
+by_long = each_asks (λ t i. arg_by_long (rules t) (name_of i) ≡ Some (arg t i)) refl refl refl refl refl
 
 pub flag_by_long : arg_by_long (rules checker) (name_of the_witness) ≡ Some (arg checker the_witness)
 unfolding clap_on_literals
@@ -99,6 +125,7 @@ flag_by_long = refl
 
 abbrev accepted : Item → Text → Bool
 accepted the_file text = true
+accepted the_witness_file text = true
 accepted the_mode text = true
 accepted the_runs text = is_unsigned_in 1 most_runs text
 accepted the_fuel text = is_unsigned_in 1 most_fuel text
@@ -106,7 +133,7 @@ accepted the_witness text = true
 
 accepted_fits : (t : Tool) (i : Item) (v : Text) → keeps t i ≡ true → accepted i v ≡ fits i v
 accepted_fits t i v k =
-    each_keeps (λ t i. accepted i v ≡ fits i v) refl refl refl refl (accepts_number 1 most_runs v (omega arith)) (accepts_number 1 most_fuel v (omega arith)) t i k
+    each_keeps (λ t i. accepted i v ≡ fits i v) refl refl refl refl refl refl (accepts_number 1 most_runs v (omega arith)) (accepts_number 1 most_fuel v (omega arith)) refl t i k
 
 -- the fault of a value, by whether it is taken
 abbrev value_fault : ErrorKind → Bool → Kinds
@@ -119,7 +146,7 @@ again_fault again = if again && not false then kind.ArgumentConflict ∷ [] else
 use_is : (v : Text) (rows : List Row) (t : Tool) (i : Item) → keeps t i ≡ true
     → use_fault false (arg t i) (v ∷ []) rows ≡ or_else (again_fault (has_row (name_of i) rows)) (value_fault kind.ValueValidation (accepted i v))
 unfolding clap_on_literals
-use_is v rows = each_keeps (λ t i. use_fault false (arg t i) (v ∷ []) rows ≡ or_else (again_fault (has_row (name_of i) rows)) (value_fault kind.ValueValidation (accepted i v))) refl refl refl refl refl refl
+use_is v rows = each_keeps (λ t i. use_fault false (arg t i) (v ∷ []) rows ≡ or_else (again_fault (has_row (name_of i) rows)) (value_fault kind.ValueValidation (accepted i v))) refl refl refl refl refl refl refl refl refl
 
 flag_use_is : (rows : List Row) → use_fault false (arg checker the_witness) [] rows ≡ or_else (again_fault (has_row (name_of the_witness) rows)) []
 unfolding clap_on_literals
@@ -163,7 +190,7 @@ flag_used_again rows h =
 -- an option that waits for its value still
 pub no_value : (rows : List Row) (t : Tool) (i : Item) → asks t i ≡ true → use_fault false (arg t i) [] rows ≢ []
 unfolding clap_on_literals
-no_value rows = each_asks (λ t i. use_fault false (arg t i) [] rows ≢ []) (λ e. cc) (λ e. cc) (λ e. cc) (λ e. cc)
+no_value rows = each_asks (λ t i. use_fault false (arg t i) [] rows ≢ []) (λ e. cc) (λ e. cc) (λ e. cc) (λ e. cc) (λ e. cc)
 
 -- ---- rows
 
@@ -194,7 +221,7 @@ values_at_end id how source values (r ∷ rs) h =
 
 used_is : (v : Text) (rows : List Row) (t : Tool) (i : Item) → keeps t i ≡ true → used (arg t i) (v ∷ []) rows ≡ with_values (name_of i) AsWritten CommandLine (v ∷ []) (without (name_of i) rows)
 unfolding clap_on_literals
-used_is v rows = each_keeps (λ t i. used (arg t i) (v ∷ []) rows ≡ with_values (name_of i) AsWritten CommandLine (v ∷ []) (without (name_of i) rows)) refl refl refl refl refl refl
+used_is v rows = each_keeps (λ t i. used (arg t i) (v ∷ []) rows ≡ with_values (name_of i) AsWritten CommandLine (v ∷ []) (without (name_of i) rows)) refl refl refl refl refl refl refl refl refl
 
 at_end_of : (i : Item) (v : Text) (rows : List Row) → has_row (name_of i) rows ≡ false → with_values (name_of i) AsWritten CommandLine (v ∷ []) (without (name_of i) rows) ≡ rows ++ row_for i v CommandLine ∷ []
 at_end_of i v rows h = ap (λ rs. with_values (name_of i) AsWritten CommandLine (v ∷ []) rs) (without_none (name_of i) rows h) ∙ values_at_end (name_of i) AsWritten CommandLine (v ∷ []) rows h

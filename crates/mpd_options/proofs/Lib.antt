@@ -1,6 +1,7 @@
 pub mod NumberReads
 pub mod Items
 pub mod Ends
+pub mod Turns
 pub mod Walks
 pub mod Commands
 pub mod Reading

@@ -15,10 +15,10 @@ use Rattle.clap.specs.declared.parser.matches.ArgMatches.TheViews.{out-ArgMatche
 use Rattle.clap.specs.declared.parser.matches.Found.{Found}
 use Rattle.clap.proofs.OnLiterals.{clap_on_literals}
 use Rattle.clap.proofs.WalkLemmas.{first_value-rows, one_text-rows}
-use Rattle.mpd_options.specs.Asked.{Asked, IsInRange, Item, Tool, asked, check, checker, found, found_by, found_check, found_in, found_of_command, found_trace, meant, most_fuel, most_runs, text_in, the_file, the_fuel, the_mode, the_runs, the_witness, tool_named, trace, tracer}
+use Rattle.mpd_options.specs.Asked.{Asked, IsFound, IsInRange, Item, Tool, asked, check, checker, found, found_by, found_check, found_in, found_of_command, found_trace, found_verify, meant, most_fuel, most_runs, text_in, the_file, the_fuel, the_mode, the_runs, the_witness, the_witness_file, tool_named, trace, tracer, verifier, verify}
 use Rattle.mpd_options.specs.Numbers.{flag_in, number_in, without_plus}
 use Rattle.mpd_options.specs.declared.options.Options.{Options}
-use Rattle.mpd_options.specs.declared.options.Options.TheVariants.{Plain, Trace, Check}
+use Rattle.mpd_options.specs.declared.options.Options.TheVariants.{Plain, Trace, Check, Verify}
 use Rattle.mpd_options.specs.Program.{mpdbg_app}
 use Rattle.mpd_options.specs.Refused.{IsRefused, is_memory, usage_of}
 use Rattle.mpd_options.specs.declared.options.UsageFault.TheVariants.{Usage, Memory}
@@ -26,9 +26,9 @@ use Rattle.mpd_options.proofs.Commands.{AgreesAll, meant_law, is_plain_app}
 use Rattle.mpd_options.proofs.Items.{called}
 use Rattle.mpd_options.proofs.NumberReads.{number_read, of_digits}
 
-pub some_words : {A : Type 0} (f : A → Text) (xs : List A) (empty : Bool) → empty ≡ (length xs == 0) → empty ≡ false → 0 < length (map f xs)
-some_words f [] empty e not = (let bad : true ≡ false = sym e ∙ not in cc)
-some_words f (x ∷ xs) empty e not = omega arith
+pub some_words : {A : Type 0} (f : A → Text) (xs : List A) → 0 < length xs → 0 < length (map f xs)
+some_words f [] some = some
+some_words f (x ∷ xs) some = omega arith
 
 -- ---- where the words are refused
 
@@ -65,22 +65,18 @@ plain_is_simple : is_simple mpdbg_app ≡ true
 unfolding clap_on_literals
 plain_is_simple = refl
 
--- what is asked for was found
-abbrev pub IsTaken : List Text → Option (Text × List Row) → Type 0
-IsTaken words command = (found_of_command command ≡ meant words) × (is_some (meant words) ≡ true)
-
 taken_some : (o : Option Asked) (ks : Kinds) (command : Option (Text × List Row)) → AgreesAll o ks command → ks ≡ [] → (found_of_command command ≡ o) × (is_some o ≡ true)
 taken_some None ks command h e = absurd (h e)
 taken_some (Some x) ks command h e = (h.1, refl)
 
 pub taken_by : (a : App) (m : ArgMatches) (words : List Text) → a ≡ mpdbg_app → 0 < length words → (is_simple_and_free a ≡ true → fault_of a words ≡ []) → HasMatchesOf a words m
-    → IsTaken words (subcommand_rows_of m)
+    → IsFound words (subcommand_rows_of m)
 taken_by a m [] is some free has = absurd (omega (arith, some))
 taken_by a m (word ∷ words) is some free has =
     let P : App → Type 0 = λ x. is_simple_and_free x ≡ true → fault_of x (word ∷ words) ≡ [] in
     let Q : App → Type 0 = λ x. HasMatchesOf x (word ∷ words) m in
     let same : subcommand_rows_of m ≡ subcommand_of mpdbg_app (word ∷ words) = (subst Q is has plain_is_simple).1 in
-    let R : Option (Text × List Row) → Type 0 = λ c. IsTaken (word ∷ words) c in
+    let R : Option (Text × List Row) → Type 0 = λ c. IsFound (word ∷ words) c in
     subst R (sym same) (taken_some (meant (word ∷ words)) (fault_of mpdbg_app (word ∷ words)) (subcommand_of mpdbg_app (word ∷ words)) (meant_law word words) (subst P is free is_plain_app))
 
 -- ---- what the getters give
@@ -95,6 +91,7 @@ named n r (Some b) t rows name is = (let e : n b ≡ t = cc in let f : r b ≡ r
 named_tool : (t : Tool) (rows : List Row) → found_of_command (Some (called t, rows)) ≡ found_in t rows
 named_tool tracer rows = refl
 named_tool checker rows = refl
+named_tool verifier rows = refl
 
 pub command_is : (t : Tool) (m : ArgMatches) (rows : List Row) → subcommand_name_of m ≡ Some (called t) → option_map (λ (p : Text × List Row). p.1) (subcommand_rows_of m) ≡ Some rows
     → found_of_command (subcommand_rows_of m) ≡ found_in t rows
@@ -103,21 +100,40 @@ command_is t m rows name is =
     ∙ named_tool t rows
 
 -- it is one of ours
-only_named : {S : Type 0} (n : S → Text) (r : S → List Row) (s : Option S) → (option_map n s ≡ Some (codes "trace") → ⊥) → (option_map n s ≡ Some (codes "check") → ⊥)
-    → is_some (found_of_command (option_map (λ b. let q : Text × List Row = (n b, r b) in q) s)) ≡ true → ⊥
-only_named n r None traces checks some = (let bad : false ≡ true = some in cc)
-only_named n r (Some b) traces checks some =
-    elim (bytes_eq (n b) (codes "trace")) as (λ c. bytes_eq (n b) (codes "trace") ≡ c → is_some (found_by (if c then Some tracer else (if bytes_eq (n b) (codes "check") then Some checker else None)) (r b)) ≡ true → ⊥) [
-      | true ↦ λ e h. traces (ap Some ((bytes_eq-Decides (n b) (codes "trace")).0 e))
-      | false ↦ λ e h. elim (bytes_eq (n b) (codes "check")) as (λ c. bytes_eq (n b) (codes "check") ≡ c → is_some (found_by (if c then Some checker else None) (r b)) ≡ true → ⊥) [
-        | true ↦ λ q k. checks (ap Some ((bytes_eq-Decides (n b) (codes "check")).0 q))
-        | false ↦ λ q k. (let bad : false ≡ true = k in cc)
-      ] refl h
-    ] refl some
+abbrev NotNamed : {S : Type 0} → (S → Text) → Option S → Text → Type 0
+NotNamed n s name = option_map n s ≡ Some name → ⊥
 
-pub one_of_ours : (m : ArgMatches) → (subcommand_name_of m ≡ Some (codes "trace") → ⊥) → (subcommand_name_of m ≡ Some (codes "check") → ⊥) → is_some (found_of_command (subcommand_rows_of m)) ≡ true → ⊥
-one_of_ours m traces checks some =
-    only_named (λ b. (out-SubCommand (box_value b)).name.now) (λ b. rows_of (found_of (out-SubCommand (box_value b)).matches)) (out-ArgMatches m).subcommand traces checks some
+not_third : (word : Text) (rows : List Row) → (word ≡ codes "verify" → ⊥) → is_some (found_by (if bytes_eq word (codes "verify") then Some verifier else None) rows) ≡ true → ⊥
+not_third word rows verifies = elim (bytes_eq word (codes "verify")) as (λ c. bytes_eq word (codes "verify") ≡ c → is_some (found_by (if c then Some verifier else None) rows) ≡ true → ⊥) [
+  | true ↦ λ e h. verifies ((bytes_eq-Decides word (codes "verify")).0 e)
+  | false ↦ λ e h. (let bad : false ≡ true = h in cc)
+] refl
+
+abbrev second : Text → Bool → Option Tool
+second word c = if c then Some checker else (if bytes_eq word (codes "verify") then Some verifier else None)
+
+not_second : (word : Text) (rows : List Row) → (word ≡ codes "check" → ⊥) → (word ≡ codes "verify" → ⊥) → is_some (found_by (second word (bytes_eq word (codes "check"))) rows) ≡ true → ⊥
+not_second word rows checks verifies = elim (bytes_eq word (codes "check")) as (λ c. bytes_eq word (codes "check") ≡ c → is_some (found_by (second word c) rows) ≡ true → ⊥) [
+  | true ↦ λ e h. checks ((bytes_eq-Decides word (codes "check")).0 e)
+  | false ↦ λ e h. not_third word rows verifies h
+] refl
+
+not_first : (word : Text) (rows : List Row) → (word ≡ codes "trace" → ⊥) → (word ≡ codes "check" → ⊥) → (word ≡ codes "verify" → ⊥) → is_some (found_by (tool_named word) rows) ≡ true → ⊥
+not_first word rows traces checks verifies =
+    elim (bytes_eq word (codes "trace")) as (λ c. bytes_eq word (codes "trace") ≡ c → is_some (found_by (if c then Some tracer else second word (bytes_eq word (codes "check"))) rows) ≡ true → ⊥) [
+      | true ↦ λ e h. traces ((bytes_eq-Decides word (codes "trace")).0 e)
+      | false ↦ λ e h. not_second word rows checks verifies h
+    ] refl
+
+only_named : {S : Type 0} (n : S → Text) (r : S → List Row) (s : Option S) → NotNamed n s (codes "trace") → NotNamed n s (codes "check") → NotNamed n s (codes "verify")
+    → is_some (found_of_command (option_map (λ b. let q : Text × List Row = (n b, r b) in q) s)) ≡ true → ⊥
+only_named n r None traces checks verifies some = (let bad : false ≡ true = some in cc)
+only_named n r (Some b) traces checks verifies some = not_first (n b) (r b) (λ e. traces (ap Some e)) (λ e. checks (ap Some e)) (λ e. verifies (ap Some e)) some
+
+pub one_of_ours : (m : ArgMatches) → (subcommand_name_of m ≡ Some (codes "trace") → ⊥) → (subcommand_name_of m ≡ Some (codes "check") → ⊥) → (subcommand_name_of m ≡ Some (codes "verify") → ⊥)
+    → is_some (found_of_command (subcommand_rows_of m)) ≡ true → ⊥
+one_of_ours m traces checks verifies some =
+    only_named (λ b. (out-SubCommand (box_value b)).name.now) (λ b. rows_of (found_of (out-SubCommand (box_value b)).matches)) (out-ArgMatches m).subcommand traces checks verifies some
 
 -- what a look-up that failed says of the name
 pub not_named : (b : Bool) (P : Type 0) → b ≡ false → (P → b ≡ true) → P → ⊥
@@ -137,6 +153,12 @@ some_both None m e = cc
 some_both (Some f) None e = cc
 some_both (Some f) (Some m) e = (refl, refl)
 
+some_three : (f w m : Option Text) → is_some (found_verify f w m) ≡ true → (is_some f ≡ true) × (is_some w ≡ true) × (is_some m ≡ true)
+some_three None w m e = cc
+some_three (Some f) None m e = cc
+some_three (Some f) (Some w) None e = cc
+some_three (Some f) (Some w) (Some m) e = (refl, refl, refl)
+
 pub record HasAll (f m : Option Text) (r n : Option ℕ) (w : Option Bool) : Type 0 where
   pub file : is_some f ≡ true
   pub mode : is_some m ≡ true
@@ -155,26 +177,30 @@ some_all (Some f) (Some m) (Some r) (Some n) (Some w) e = record { file = refl; 
 pub has_file : (t : Tool) (rows : List Row) → is_some (found_in t rows) ≡ true → is_some (first_of (codes "FILE") rows) ≡ true
 has_file tracer rows e = (some_both _ _ e).0
 has_file checker rows e = (some_all _ _ _ _ _ e).file
+has_file verifier rows e = (some_three _ _ _ e).0
 
 pub has_mode : (t : Tool) (rows : List Row) → is_some (found_in t rows) ≡ true → is_some (first_of (codes "mode") rows) ≡ true
 has_mode tracer rows e = (some_both _ _ e).1
 has_mode checker rows e = (some_all _ _ _ _ _ e).mode
+has_mode verifier rows e = (some_three _ _ _ e).2
 
 not_found : (r : Option (Bor Text)) (o : Option Text) → o ≡ text_at r → r ≡ None → is_some o ≡ true → ⊥
 not_found r o e none some = (let bad : false ≡ true = sym (ap is_some (e ∙ ap text_at none)) ∙ some in cc)
 
-pub no_file : (t : Tool) (f : Found) (r : Option (Bor Text)) → text_at r ≡ first_value f (codes "FILE") → r ≡ None → is_some (found_in t (rows_of f)) ≡ true → ⊥
-no_file t f r e none some = not_found r _ (value_is f r (codes "FILE") e) none (has_file t (rows_of f) some)
+pub has_witness : (rows : List Row) → is_some (found_in verifier rows) ≡ true → is_some (first_of (codes "WITNESS") rows) ≡ true
+has_witness rows e = (some_three _ _ _ e).1
 
-pub no_mode : (t : Tool) (f : Found) (r : Option (Bor Text)) → text_at r ≡ first_value f (codes "mode") → r ≡ None → is_some (found_in t (rows_of f)) ≡ true → ⊥
-no_mode t f r e none some = not_found r _ (value_is f r (codes "mode") e) none (has_mode t (rows_of f) some)
+pub no_word : (f : Found) (r : Option (Bor Text)) (id : Text) → text_at r ≡ first_value f id → r ≡ None → is_some (first_of id (rows_of f)) ≡ true → ⊥
+no_word f r id e none some = not_found r _ (value_is f r id e) none some
 
 pub text_is : (f : Found) (r : Option (Bor Text)) (id : Text) (text : Bor Text) → text_at r ≡ first_value f id → r ≡ Some text → first_of id (rows_of f) ≡ Some text.now
 text_is f r id text e is = value_is f r id e ∙ ap text_at is
 
-pub both_found : (f : Found) (r s : Option (Bor Text)) (file mode : Bor Text) → text_at r ≡ first_value f (codes "FILE") → text_at s ≡ first_value f (codes "mode")
-    → r ≡ Some file → s ≡ Some mode → Some (trace file.now mode.now) ≡ found_in tracer (rows_of f)
-both_found f r s file mode e h is same = sym (ap₂ found_trace (text_is f r (codes "FILE") file e is) (text_is f s (codes "mode") mode h same))
+pub both_found : {f m : Option Text} (file mode : Text) → f ≡ Some file → m ≡ Some mode → Some (trace file mode) ≡ found_trace f m
+both_found file mode e h = sym (ap₂ found_trace e h)
+
+pub three_found : {f w m : Option Text} (file witness mode : Text) → f ≡ Some file → w ≡ Some witness → m ≡ Some mode → Some (verify file witness mode) ≡ found_verify f w m
+three_found file witness mode e h k = rw (e, h, k) refl
 
 -- ---- numbers and the flag
 
@@ -246,6 +272,12 @@ no_trace None m file mode runs fuel witness e = cc
 no_trace (Some f) None file mode runs fuel witness e = cc
 no_trace (Some f) (Some m) file mode runs fuel witness e = cc
 
+no_verify : (f w m : Option Text) (file mode : Text) (runs fuel : ℕ) (witness : Bool) → Some (check file mode runs fuel witness) ≡ found_verify f w m → ⊥
+no_verify None w m file mode runs fuel witness e = cc
+no_verify (Some f) None m file mode runs fuel witness e = cc
+no_verify (Some f) (Some w) None file mode runs fuel witness e = cc
+no_verify (Some f) (Some w) (Some m) file mode runs fuel witness e = cc
+
 range_check : (text : Item → Option Text) (file mode : Text) (runs fuel : ℕ) (witness : Bool) → Some (check file mode runs fuel witness) ≡ found checker text → (1 ≤ runs) × (runs ≤ most_runs) × (1 ≤ fuel) × (fuel ≤ most_fuel)
 range_check text file mode runs fuel witness e =
     let parts = same_parts (text the_file) (text the_mode) (option_and_then (number_in 1 most_runs) (text the_runs)) (option_and_then (number_in 1 most_fuel) (text the_fuel)) (option_and_then flag_in (text the_witness)) file mode runs fuel witness e in
@@ -256,8 +288,10 @@ range_check text file mode runs fuel witness e =
 range_by : (o : Option Tool) (rows : List Row) (options : Options) → Some (asked options) ≡ found_by o rows → IsInRange options
 range_by o rows Plain e = tt
 range_by o rows (Trace file mode) e = tt
+range_by o rows (Verify file witness mode) e = tt
 range_by None rows (Check file mode runs fuel witness) e = cc
 range_by (Some tracer) rows (Check file mode runs fuel witness) e = absurd (no_trace (text_in rows the_file) (text_in rows the_mode) file.now mode.now runs fuel witness e)
+range_by (Some verifier) rows (Check file mode runs fuel witness) e = absurd (no_verify (text_in rows the_file) (text_in rows the_witness_file) (text_in rows the_mode) file.now mode.now runs fuel witness e)
 range_by (Some checker) rows (Check file mode runs fuel witness) e = range_check (text_in rows) file.now mode.now runs fuel witness e
 
 pub range_of : (command : Option (Text × List Row)) (options : Options) → Some (asked options) ≡ found_of_command command → IsInRange options

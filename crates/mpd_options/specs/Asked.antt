@@ -1,23 +1,25 @@
 -- What the words of a command line ask for.
-use Rattle.std.specs.Prelude.{◌≤◌, ⊤, ℕ, Bool, true, false, if◌then◌else◌, List, [], ◌∷◌, Option, Some, None, find, is_some, option_and_then, codes}
+use Rattle.std.specs.Prelude.{◌≡◌, ◌≤◌, ⊤, ℕ, Bool, true, false, not, if◌then◌else◌, List, [], ◌∷◌, Option, Some, None, find, is_some, option_and_then, codes}
 use Rattle.std.specs.Str.{bytes_eq, chars}
 use Rattle.clap.specs.Lexer.{long_of, short_of}
 use Rattle.clap.specs.Words.{Row, first_of, one_of}
 use Rattle.mpd_options.specs.Numbers.{flag_in, number_in}
 use Rattle.mpd_options.specs.declared.options.Options.{Options}
-use Rattle.mpd_options.specs.declared.options.Options.TheVariants.{Plain, Trace, Check}
+use Rattle.mpd_options.specs.declared.options.Options.TheVariants.{Plain, Trace, Check, Verify}
 
--- what is asked for: a script and its trace on standard input, the trace of a file, or a look for deadlocks in one; with the
--- words of file and mode, how many runs, the fuel of each, and whether a witness is wanted
+-- what is asked for: a script and its trace on standard input, the trace of a file, a look for deadlocks in one, or a check of
+-- a witness; with the words of files and mode, how many runs, the fuel of each, and whether a witness is wanted
 pub data Asked : Type 0 where
   plain : Asked
   trace : List ℕ → List ℕ → Asked
   check : List ℕ → List ℕ → ℕ → ℕ → Bool → Asked
+  verify : List ℕ → List ℕ → List ℕ → Asked
 
 abbrev pub asked : Options → Asked
 asked Plain = plain
 asked (Trace file mode) = trace file.now mode.now
 asked (Check file mode runs fuel witness) = check file.now mode.now runs fuel witness
+asked (Verify file witness mode) = verify file.now witness.now mode.now
 
 abbrev pub most_runs : ℕ
 most_runs = 65536
@@ -30,19 +32,23 @@ abbrev pub IsInRange : Options → Type 0
 IsInRange Plain = ⊤
 IsInRange (Trace file mode) = ⊤
 IsInRange (Check file mode runs fuel witness) = (1 ≤ runs) × (runs ≤ most_runs) × (1 ≤ fuel) × (fuel ≤ most_fuel)
+IsInRange (Verify file witness mode) = ⊤
 
 -- the commands
 pub data Tool : Type 0 where
   tracer : Tool
   checker : Tool
+  verifier : Tool
 
 -- the command that a word names
 abbrev pub tool_named : List ℕ → Option Tool
-tool_named word = if bytes_eq word (codes "trace") then Some tracer else (if bytes_eq word (codes "check") then Some checker else None)
+tool_named word =
+    if bytes_eq word (codes "trace") then Some tracer else (if bytes_eq word (codes "check") then Some checker else (if bytes_eq word (codes "verify") then Some verifier else None))
 
--- what words say something of: the file's word stands alone, and the others are options
+-- what words say something of: the words of files stand alone, and the others are options
 pub data Item : Type 0 where
   the_file : Item
+  the_witness_file : Item
   the_mode : Item
   the_runs : Item
   the_fuel : Item
@@ -50,6 +56,7 @@ pub data Item : Type 0 where
 
 abbrev pub name_of : Item → List ℕ
 name_of the_file = codes "FILE"
+name_of the_witness_file = codes "WITNESS"
 name_of the_mode = codes "mode"
 name_of the_runs = codes "runs"
 name_of the_fuel = codes "fuel"
@@ -58,6 +65,13 @@ name_of the_witness = codes "witness"
 abbrev pub options_of : Tool → List Item
 options_of tracer = the_mode ∷ []
 options_of checker = the_mode ∷ the_runs ∷ the_fuel ∷ the_witness ∷ []
+options_of verifier = the_mode ∷ []
+
+-- what the words that are no options name, in this order
+abbrev pub files_of : Tool → List Item
+files_of tracer = the_file ∷ []
+files_of checker = the_file ∷ []
+files_of verifier = the_file ∷ the_witness_file ∷ []
 
 abbrev pub option_among : List Item → List ℕ → Option Item
 option_among items name = find (λ item. bytes_eq (name_of item) name) items
@@ -70,6 +84,7 @@ is_flag _ = false
 -- a text can be the value of an item
 abbrev pub fits : Item → List ℕ → Bool
 fits the_file text = true
+fits the_witness_file text = true
 fits the_mode text = true
 fits the_runs text = is_some (number_in 1 most_runs text)
 fits the_fuel text = is_some (number_in 1 most_fuel text)
@@ -78,6 +93,7 @@ fits the_witness text = is_some (flag_in text)
 -- the value of an item of which nothing is said
 abbrev pub default_of : Item → Option (List ℕ)
 default_of the_file = None
+default_of the_witness_file = None
 default_of the_mode = Some (codes "rendezvous")
 default_of the_runs = Some (codes "1000")
 default_of the_fuel = Some (codes "100000")
@@ -130,6 +146,15 @@ said_named name (entry ∷ said) = if bytes_eq (name_of entry.0) name then Some 
 abbrev pub said_of : Item → Said → Option (List ℕ)
 said_of item said = said_named (name_of item) said
 
+-- the first of these items of which nothing was said
+abbrev pub unsaid : List Item → Said → Option Item
+unsaid items said = find (λ item. not (is_some (said_of item said))) items
+
+-- a word for the next file, where one is to come
+abbrev pub for_file : Option Item → List ℕ → Said → (Said → Option Asked) → Option Asked
+for_file None word said next = None
+for_file (Some item) word said next = next ((item, word) ∷ said)
+
 -- where nothing was said of an item before
 abbrev pub if_new : Option (List ℕ) → Option Asked → Option Asked
 if_new None next = next
@@ -158,14 +183,14 @@ with_option item None said next = alone (is_flag item) item said next
 with_option item (Some value) said next = joined (is_flag item) item value said next
 
 -- what is asked for, where this word comes with this said before, and then what `next` says
-abbrev pub with_word : Place → Word → List ℕ → Said → (Place → Said → Option Asked) → Option Asked
-with_word (behind_option item) no_option word said next = once item word said (next among_options)
-with_word (behind_option item) _ word said next = None
-with_word behind_dashes _ word said next = once the_file word said (next behind_dashes)
-with_word among_options dashes word said next = next behind_dashes said
-with_word among_options (named item value) word said next = with_option item value said next
-with_word among_options other_option word said next = None
-with_word among_options no_option word said next = once the_file word said (next among_options)
+abbrev pub with_word : Tool → Place → Word → List ℕ → Said → (Place → Said → Option Asked) → Option Asked
+with_word t (behind_option item) no_option word said next = once item word said (next among_options)
+with_word t (behind_option item) _ word said next = None
+with_word t behind_dashes _ word said next = for_file (unsaid (files_of t) said) word said (next behind_dashes)
+with_word t among_options dashes word said next = next behind_dashes said
+with_word t among_options (named item value) word said next = with_option item value said next
+with_word t among_options other_option word said next = None
+with_word t among_options no_option word said next = for_file (unsaid (files_of t) said) word said (next among_options)
 
 abbrev pub found_trace : Option (List ℕ) → Option (List ℕ) → Option Asked
 found_trace None mode = None
@@ -176,12 +201,17 @@ abbrev pub found_check : Option (List ℕ) → Option (List ℕ) → Option ℕ 
 found_check (Some file) (Some mode) (Some runs) (Some fuel) (Some witness) = Some (check file mode runs fuel witness)
 found_check _ _ _ _ _ = None
 
--- what a command asks for, by the text of each of its items: a file there must be, and each number lies in its range
+abbrev pub found_verify : Option (List ℕ) → Option (List ℕ) → Option (List ℕ) → Option Asked
+found_verify (Some file) (Some witness) (Some mode) = Some (verify file witness mode)
+found_verify _ _ _ = None
+
+-- what a command asks for, by the text of each of its items: each file there must be, and each number lies in its range
 abbrev pub found : Tool → (Item → Option (List ℕ)) → Option Asked
 found tracer text = found_trace (text the_file) (text the_mode)
 found checker text =
     found_check (text the_file) (text the_mode) (option_and_then (number_in 1 most_runs) (text the_runs)) (option_and_then (number_in 1 most_fuel) (text the_fuel))
     (option_and_then flag_in (text the_witness))
+found verifier text = found_verify (text the_file) (text the_witness_file) (text the_mode)
 
 abbrev pub or_default : Option (List ℕ) → Option (List ℕ) → Option (List ℕ)
 or_default None value = value
@@ -195,11 +225,11 @@ at_end t (behind_option item) said = None
 at_end t among_options said = found t (text_of said)
 at_end t behind_dashes said = found t (text_of said)
 
--- what the words behind a command ask for: one word that is no option, the file's, and each option at most once, in any
--- order; behind `--` no word is an option
+-- what the words behind a command ask for: the words of its files, which are no options, in their order, and each option at
+-- most once, anywhere; behind `--` no word is an option
 abbrev pub wanted : Tool → List (List ℕ) → Place → Said → Option Asked
 wanted t [] place said = at_end t place said
-wanted t (word ∷ words) place said = with_word place (word_of t word) word said (wanted t words)
+wanted t (word ∷ words) place said = with_word t place (word_of t word) word said (wanted t words)
 
 abbrev pub behind : Option Tool → List (List ℕ) → Option Asked
 behind None words = None
@@ -213,6 +243,7 @@ meant (word ∷ words) = behind (tool_named word) words
 -- what was found of an item: a number and a flag are read by their types
 abbrev pub text_in : List Row → Item → Option (List ℕ)
 text_in rows the_file = first_of (name_of the_file) rows
+text_in rows the_witness_file = first_of (name_of the_witness_file) rows
 text_in rows the_mode = first_of (name_of the_mode) rows
 text_in rows the_runs = one_of (name_of the_runs) rows
 text_in rows the_fuel = one_of (name_of the_fuel) rows
@@ -229,3 +260,7 @@ found_by (Some t) rows = found_in t rows
 abbrev pub found_of_command : Option (List ℕ × List Row) → Option Asked
 found_of_command None = None
 found_of_command (Some command) = found_by (tool_named command.0) command.1
+
+-- what these words ask for, which is something, was found of the command
+abbrev pub IsFound : List (List ℕ) → Option (List ℕ × List Row) → Type 0
+IsFound words command = (found_of_command command ≡ meant words) × (is_some (meant words) ≡ true)

@@ -1,7 +1,7 @@
 -- Worked rows of what words ask for.
 use Rattle.std.specs.Prelude.{◌≡◌, ℕ, Bool, true, false, List, [], ◌∷◌, map, Option, Some, None, codes, refl}
 use Rattle.std.specs.Str.{chars}
-use Rattle.mpd_options.specs.Asked.{Asked, plain, trace, check, meant}
+use Rattle.mpd_options.specs.Asked.{Asked, plain, trace, check, verify, meant}
 
 abbrev Row : Type 0
 Row = List (List ℕ) × Option Asked
@@ -17,6 +17,14 @@ asks words mode runs fuel witness = (codes "check" ∷ words, Some (check (codes
 -- words behind `check a` that make them ask for nothing
 abbrev spoils : List (List ℕ) → Row
 spoils words = (codes "check" ∷ codes "a" ∷ words, None)
+
+-- words behind `verify`, and the files and the mode that they name
+abbrev verifies : List (List ℕ) → List ℕ → List ℕ → List ℕ → Row
+verifies words file witness mode = (codes "verify" ∷ words, Some (verify file witness mode))
+
+-- words behind `verify a b` that make them ask for nothing
+abbrev undoes : List (List ℕ) → Row
+undoes words = (codes "verify" ∷ codes "a" ∷ codes "b" ∷ words, None)
 
 -- words that ask for nothing
 abbrev nothing : List (List ℕ) → Row
@@ -112,6 +120,57 @@ rows =
     ∷ nothing (codes "trace" ∷ codes "a" ∷ codes "--runs" ∷ codes "5" ∷ [])
     ∷ nothing (codes "help" ∷ codes "check" ∷ [])
     ∷ nothing (codes "--witness" ∷ codes "check" ∷ codes "a" ∷ [])
+    ∷ verifies (codes "a" ∷ codes "b" ∷ []) (codes "a") (codes "b") (codes "rendezvous")
+    ∷ verifies (codes "b" ∷ codes "a" ∷ []) (codes "b") (codes "a") (codes "rendezvous")
+    ∷ verifies (codes "a" ∷ codes "a" ∷ []) (codes "a") (codes "a") (codes "rendezvous")
+    ∷ verifies (codes "" ∷ codes "" ∷ []) [] [] (codes "rendezvous")
+    ∷ verifies (codes "-" ∷ codes "-" ∷ []) (codes "-") (codes "-") (codes "rendezvous")
+    ∷ verifies (codes "a" ∷ codes "b" ∷ codes "--mode" ∷ codes "c" ∷ []) (codes "a") (codes "b") (codes "c")
+    ∷ verifies (codes "--mode" ∷ codes "c" ∷ codes "a" ∷ codes "b" ∷ []) (codes "a") (codes "b") (codes "c")
+    ∷ verifies (codes "a" ∷ codes "--mode" ∷ codes "c" ∷ codes "b" ∷ []) (codes "a") (codes "b") (codes "c")
+    ∷ verifies (codes "a" ∷ codes "--mode=c" ∷ codes "b" ∷ []) (codes "a") (codes "b") (codes "c")
+    ∷ verifies (codes "a" ∷ codes "b" ∷ codes "--mode=" ∷ []) (codes "a") (codes "b") []
+    ∷ verifies (codes "--mode" ∷ codes "-" ∷ codes "-" ∷ codes "a" ∷ []) (codes "-") (codes "a") (codes "-")
+    ∷ verifies (codes "--" ∷ codes "--mode" ∷ codes "-x" ∷ []) (codes "--mode") (codes "-x") (codes "rendezvous")
+    ∷ verifies (codes "a" ∷ codes "--" ∷ codes "-x" ∷ []) (codes "a") (codes "-x") (codes "rendezvous")
+    ∷ verifies (codes "a" ∷ codes "b" ∷ codes "--" ∷ []) (codes "a") (codes "b") (codes "rendezvous")
+    ∷ verifies (codes "--mode" ∷ codes "c" ∷ codes "--" ∷ codes "--help" ∷ codes "--" ∷ []) (codes "--help") (codes "--") (codes "c")
+    ∷ verifies (codes "verify" ∷ codes "trace" ∷ []) (codes "verify") (codes "trace") (codes "rendezvous")
+    ∷ verifies (codes "--mode" ∷ codes "verify" ∷ codes "check" ∷ codes "verify" ∷ []) (codes "check") (codes "verify") (codes "verify")
+    ∷ nothing (codes "verify" ∷ [])
+    ∷ nothing (codes "verify" ∷ codes "a" ∷ [])
+    ∷ nothing (codes "verify" ∷ codes "--" ∷ [])
+    ∷ nothing (codes "verify" ∷ codes "a" ∷ codes "--" ∷ [])
+    ∷ nothing (codes "verify" ∷ codes "--" ∷ codes "a" ∷ [])
+    ∷ nothing (codes "verify" ∷ codes "--mode" ∷ codes "c" ∷ [])
+    ∷ nothing (codes "verify" ∷ codes "a" ∷ codes "--mode" ∷ codes "c" ∷ [])
+    ∷ nothing (codes "verify" ∷ codes "a" ∷ codes "--mode=c" ∷ [])
+    ∷ nothing (codes "verify" ∷ codes "--mode" ∷ codes "a" ∷ codes "b" ∷ [])
+    ∷ nothing (codes "verify" ∷ codes "a" ∷ codes "--mode" ∷ codes "--" ∷ codes "b" ∷ codes "c" ∷ [])
+    ∷ nothing (codes "verifies" ∷ codes "a" ∷ codes "b" ∷ [])
+    ∷ nothing (codes "Verify" ∷ codes "a" ∷ codes "b" ∷ [])
+    ∷ nothing (codes "verify=a" ∷ codes "b" ∷ [])
+    ∷ nothing (codes "--mode" ∷ codes "c" ∷ codes "verify" ∷ codes "a" ∷ codes "b" ∷ [])
+    ∷ nothing (codes "--" ∷ codes "verify" ∷ codes "a" ∷ codes "b" ∷ [])
+    ∷ nothing (codes "help" ∷ codes "verify" ∷ [])
+    ∷ nothing (codes "trace" ∷ codes "a" ∷ codes "b" ∷ [])
+    ∷ nothing (codes "check" ∷ codes "a" ∷ codes "b" ∷ [])
+    ∷ undoes (codes "c" ∷ [])
+    ∷ undoes (codes "--" ∷ codes "c" ∷ [])
+    ∷ undoes (codes "--mode" ∷ [])
+    ∷ undoes (codes "--mode" ∷ codes "--mode" ∷ [])
+    ∷ undoes (codes "--mode" ∷ codes "c" ∷ codes "--mode" ∷ codes "c" ∷ [])
+    ∷ undoes (codes "--mode=c" ∷ codes "--mode=c" ∷ [])
+    ∷ undoes (codes "--mod" ∷ codes "c" ∷ [])
+    ∷ undoes (codes "-m" ∷ [])
+    ∷ undoes (codes "--witness" ∷ [])
+    ∷ undoes (codes "--witness=c" ∷ [])
+    ∷ undoes (codes "--WITNESS=c" ∷ [])
+    ∷ undoes (codes "--runs" ∷ codes "5" ∷ [])
+    ∷ undoes (codes "--fuel=5" ∷ [])
+    ∷ undoes (codes "--help" ∷ [])
+    ∷ undoes (codes "-h" ∷ [])
+    ∷ names (codes "verify" ∷ []) (codes "verify") (codes "rendezvous")
     ∷ []
 
 pub worked : map (λ (row : Row). meant row.0) rows ≡ map (λ (row : Row). row.1) rows

@@ -5,8 +5,9 @@ use Rattle.clap.specs.declared.builder.action.ArgAction.TheVariants.{Set, SetTru
 use Rattle.clap.specs.declared.builder.value_parser.ValueParser.TheVariants.{Unsigned}
 use Rattle.mpd_options.specs.Asked.{most_fuel, most_runs}
 
-abbrev pub file_rule : Rule
-file_rule = record (new_rule (codes "FILE")) { required = true; action = Some Set }
+-- the word of a file, which must be there
+abbrev pub file_rule : List ℕ → Rule
+file_rule name = record (new_rule name) { required = true; action = Some Set }
 
 abbrev pub mode_rule : Rule
 mode_rule = record (new_rule (codes "mode")) {
@@ -29,18 +30,31 @@ number_rule name most default = record (new_rule name) {
 abbrev pub witness_rule : Rule
 witness_rule = record (new_rule (codes "witness")) { long = Some (codes "witness"); action = Some SetTrue }
 
+abbrev pub runs_rule : Rule
+runs_rule = number_rule (codes "runs") most_runs (codes "1000")
+
+abbrev pub fuel_rule : Rule
+fuel_rule = number_rule (codes "fuel") most_fuel (codes "100000")
+
+-- a command on the script of a file, in a mode
+abbrev pub script_app : List ℕ → App
+script_app name = with_rule (with_rule (new_app name) (file_rule (codes "FILE"))) mode_rule
+
 abbrev pub trace_app : App
-trace_app = with_rule (with_rule (new_app (codes "trace")) file_rule) mode_rule
+trace_app = script_app (codes "trace")
 
 abbrev pub numbers_app : App
-numbers_app = with_rule (with_rule (with_rule (with_rule (new_app (codes "check")) file_rule) mode_rule) (number_rule (codes "runs") most_runs (codes "1000"))) (number_rule (codes "fuel") most_fuel (codes "100000"))
+numbers_app = with_rule (with_rule (script_app (codes "check")) runs_rule) fuel_rule
 
 abbrev pub check_app : App
 check_app = with_rule numbers_app witness_rule
+
+abbrev pub verify_app : App
+verify_app = with_rule (script_app (codes "verify")) (file_rule (codes "WITNESS"))
 
 abbrev pub named_app : App
 named_app = let app = new_app (codes "mpdbg") in record app { top = record app.top { has_version = true; no_binary_name = true; subcommand_required = true } }
 
 -- `mpdbg` and its commands
 abbrev pub mpdbg_app : App
-mpdbg_app = with_subcommand (with_subcommand named_app trace_app.top) check_app.top
+mpdbg_app = with_subcommand (with_subcommand (with_subcommand named_app trace_app.top) check_app.top) verify_app.top

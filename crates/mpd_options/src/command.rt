@@ -4,7 +4,9 @@ ghost use Rattle.std.specs.Prelude.{◌≡◌, IfOk, ℕ, List, Some, option_map
 ghost use Rattle.std.specs.Borrow.{Bor};
 ghost use Rattle.clap.specs.Words.{app_of, rule_of};
 ghost use Rattle.clap.specs.declared.builder.command.Command.TheViews.{out-Command as fields_of};
-ghost use Rattle.mpd_options.specs.Program.{check_app, file_rule, mode_rule, mpdbg_app, number_rule, numbers_app, trace_app, witness_rule};
+ghost use Rattle.mpd_options.specs.Help.{example_of};
+ghost use Rattle.mpd_options.specs.declared.command.Topic.TheVariants.{Check, Program, Trace, Verify};
+ghost use Rattle.mpd_options.specs.Program.{check_app, file_rule, fuel_rule, mode_rule, mpdbg_app, named_app, number_rule, numbers_app, runs_rule, script_app, trace_app, verify_app, witness_rule};
 
 use clap::builder::ValueParser;
 use clap::{Arg, ArgAction, Command};
@@ -25,11 +27,17 @@ pub(crate) const FUEL: &str = "fuel";
 /// The flag that asks for a witness, without its hyphens.
 pub(crate) const WITNESS: &str = "witness";
 
+/// The word of a witness's file.
+pub(crate) const WITNESS_FILE: &str = "WITNESS";
+
 /// The word of the command that traces a script.
 pub(crate) const TRACE: &str = "trace";
 
 /// The word of the command that looks for deadlocks.
 pub(crate) const CHECK: &str = "check";
+
+/// The word of the command that checks a witness.
+pub(crate) const VERIFY: &str = "verify";
 
 const MOST_RUNS: u64 = 65_536;
 
@@ -59,15 +67,55 @@ const CHECK_ABOUT: &str =
 const CHECK_EXAMPLE: &str = "Example:
   ./mpdbg check examples/exchange.mpd --witness";
 
-/// The script's file, which each command wants.
-fn file_word<'a>(alloc: Global) -> Arg<'a>
-    ensures rule { rule_of result ≡ file_rule }
+const VERIFY_ABOUT: &str = "Check a witness that check has written";
+
+const VERIFY_EXAMPLE: &str = "Example:
+  ./mpdbg check examples/race.mpd --witness | grep -A 1 '^leaf 1 ' | ./mpdbg verify examples/race.mpd /dev/stdin";
+
+/// What help speaks of: the program, or one of its commands.
+#[derive(Clone, Copy)]
+pub enum Topic {
+    /// The program.
+    Program,
+    /// `mpdbg trace`.
+    Trace,
+    /// `mpdbg check`.
+    Check,
+    /// `mpdbg verify`.
+    Verify,
+}
+
+/// What it does, in a few words.
+fn about<'a>(topic: Topic) -> &'a str {
+    match topic {
+        Topic::Program => ABOUT,
+        Topic::Trace => TRACE_ABOUT,
+        Topic::Check => CHECK_ABOUT,
+        Topic::Verify => VERIFY_ABOUT,
+    }
+}
+
+/// An example of it.
+fn example<'a>(topic: Topic) -> &'a str
+    ensures { result.now ≡ example_of topic }
+{
+    match topic {
+        Topic::Program => EXAMPLE,
+        Topic::Trace => TRACE_EXAMPLE,
+        Topic::Check => CHECK_EXAMPLE,
+        Topic::Verify => VERIFY_EXAMPLE,
+    }
+}
+
+/// The word of a file, which must be there.
+fn file_word<'a>(alloc: Global, name: &'a str, help: &'a str) -> Arg<'a>
+    ensures rule { rule_of result ≡ file_rule name.entry.now }
     ensures own { result.global ≡ false }
 {
-    Arg::new(alloc, FILE)
+    Arg::new(alloc, name)
         .required(true)
         .action(ArgAction::Set)
-        .help("The script")
+        .help(help)
 }
 
 /// `--mode M`.
@@ -103,6 +151,24 @@ fn number_option<'a>(
         .help(help)
 }
 
+/// `--runs N`.
+fn runs_option<'a>(alloc: Global) -> Arg<'a>
+    ensures rule { rule_of result ≡ runs_rule }
+    ensures own { result.global ≡ false }
+{
+    let help = "How many runs are tried at most, 1 to 65536";
+    number_option(alloc, RUNS, MOST_RUNS, "1000", help)
+}
+
+/// `--fuel N`.
+fn fuel_option<'a>(alloc: Global) -> Arg<'a>
+    ensures rule { rule_of result ≡ fuel_rule }
+    ensures own { result.global ≡ false }
+{
+    let help = "How many steps each run takes at most, 1 to 1000000";
+    number_option(alloc, FUEL, MOST_FUEL, "100000", help)
+}
+
 /// `--witness`.
 fn witness_flag<'a>(alloc: Global) -> Arg<'a>
     ensures rule { rule_of result ≡ witness_rule }
@@ -114,16 +180,33 @@ fn witness_flag<'a>(alloc: Global) -> Arg<'a>
         .help("Print the trace words of a run that comes to a deadlock")
 }
 
+/// The command with what help says of it, and its example.
+fn with_help<'a>(command: Command<'a>, topic: Topic) -> Command<'a>
+    ensures app { app_of result ≡ app_of command.entry }
+    ensures own { (fields_of result).has_globals ≡ (fields_of command.entry).has_globals }
+    ensures example { option_map (λ (t : Bor (List ℕ)). t.now) (fields_of result).after_help ≡ Some (example_of topic) }
+{
+    command.about(about(topic)).after_help(example(topic))
+}
+
+/// A command on the script of a file: `NAME FILE --mode M`.
+fn script_command<'a>(alloc: Global, name: &'a str) -> Result<Command<'a>, AllocError>
+    ensures app { IfOk result (λ c. app_of c ≡ script_app name.entry.now) }
+    ensures own { IfOk result (λ c. (fields_of c).has_globals ≡ false) }
+{
+    Command::new(alloc, name)
+        .arg(file_word(alloc, FILE, "The script"))?
+        .arg(mode_option(alloc))
+}
+
 /// `mpdbg trace FILE --mode M`.
 fn trace_command<'a>(alloc: Global) -> Result<Command<'a>, AllocError>
     ensures app { IfOk result (λ c. app_of c ≡ trace_app) }
     ensures own { IfOk result (λ c. (fields_of c).has_globals ≡ false) }
-    ensures example { IfOk result (λ c. option_map (λ (t : Bor (List ℕ)). t.now) (fields_of c).after_help ≡ Some TRACE_EXAMPLE.now) }
+    ensures example { IfOk result (λ c. option_map (λ (t : Bor (List ℕ)). t.now) (fields_of c).after_help ≡ Some (example_of Trace)) }
 {
-    let file = file_word(alloc);
-    let mode = mode_option(alloc);
-    let command = Command::new(alloc, TRACE).arg(file)?.arg(mode)?;
-    Ok(command.about(TRACE_ABOUT).after_help(TRACE_EXAMPLE))
+    let command = script_command(alloc, TRACE)?;
+    Ok(with_help(command, Topic::Trace))
 }
 
 /// `mpdbg check FILE --mode M --runs N --fuel N`.
@@ -131,52 +214,51 @@ fn numbers_command<'a>(alloc: Global) -> Result<Command<'a>, AllocError>
     ensures app { IfOk result (λ c. app_of c ≡ numbers_app) }
     ensures own { IfOk result (λ c. (fields_of c).has_globals ≡ false) }
 {
-    let file = file_word(alloc);
-    let mode = mode_option(alloc);
-    let runs = number_option(
-        alloc,
-        RUNS,
-        MOST_RUNS,
-        "1000",
-        "How many runs are tried at most, 1 to 65536",
-    );
-    let fuel = number_option(
-        alloc,
-        FUEL,
-        MOST_FUEL,
-        "100000",
-        "How many steps each run takes at most, 1 to 1000000",
-    );
-    Command::new(alloc, CHECK)
-        .arg(file)?
-        .arg(mode)?
-        .arg(runs)?
-        .arg(fuel)
+    script_command(alloc, CHECK)?
+        .arg(runs_option(alloc))?
+        .arg(fuel_option(alloc))
 }
 
 /// `mpdbg check FILE --mode M --runs N --fuel N --witness`.
 fn check_command<'a>(alloc: Global) -> Result<Command<'a>, AllocError>
     ensures app { IfOk result (λ c. app_of c ≡ check_app) }
     ensures own { IfOk result (λ c. (fields_of c).has_globals ≡ false) }
-    ensures example { IfOk result (λ c. option_map (λ (t : Bor (List ℕ)). t.now) (fields_of c).after_help ≡ Some CHECK_EXAMPLE.now) }
+    ensures example { IfOk result (λ c. option_map (λ (t : Bor (List ℕ)). t.now) (fields_of c).after_help ≡ Some (example_of Check)) }
 {
     let command = numbers_command(alloc)?.arg(witness_flag(alloc))?;
-    Ok(command.about(CHECK_ABOUT).after_help(CHECK_EXAMPLE))
+    Ok(with_help(command, Topic::Check))
+}
+
+/// `mpdbg verify FILE WITNESS --mode M`.
+fn verify_command<'a>(alloc: Global) -> Result<Command<'a>, AllocError>
+    ensures app { IfOk result (λ c. app_of c ≡ verify_app) }
+    ensures own { IfOk result (λ c. (fields_of c).has_globals ≡ false) }
+    ensures example { IfOk result (λ c. option_map (λ (t : Bor (List ℕ)). t.now) (fields_of c).after_help ≡ Some (example_of Verify)) }
+{
+    let witness = file_word(alloc, WITNESS_FILE, "The file of the witness");
+    let command = script_command(alloc, VERIFY)?.arg(witness)?;
+    Ok(with_help(command, Topic::Verify))
+}
+
+/// `mpdbg`, which wants a command.
+fn named_program<'a>(alloc: Global) -> Result<Command<'a>, AllocError>
+    ensures { IfOk result (λ c. app_of c ≡ named_app) }
+{
+    Command::new(alloc, "mpdbg")
+        .version("0.1.0")
+        .no_binary_name(true)
+        .subcommand_required(true)
+        .bin_name("mpdbg")
 }
 
 /// `mpdbg` and its commands.
 pub(crate) fn program<'a>(alloc: Global) -> Result<Command<'a>, AllocError>
     ensures app { IfOk result (λ c. app_of c ≡ mpdbg_app) }
-    ensures example { IfOk result (λ c. option_map (λ (t : Bor (List ℕ)). t.now) (fields_of c).after_help ≡ Some EXAMPLE.now) }
+    ensures example { IfOk result (λ c. option_map (λ (t : Bor (List ℕ)). t.now) (fields_of c).after_help ≡ Some (example_of Program)) }
 {
-    let trace = trace_command(alloc)?;
-    let check = check_command(alloc)?;
-    let command = Command::new(alloc, "mpdbg")
-        .version("0.1.0")
-        .no_binary_name(true)
-        .subcommand_required(true)
-        .bin_name("mpdbg")?
-        .subcommand(trace)?
-        .subcommand(check)?;
-    Ok(command.about(ABOUT).after_help(EXAMPLE))
+    let command = named_program(alloc)?
+        .subcommand(trace_command(alloc)?)?
+        .subcommand(check_command(alloc)?)?
+        .subcommand(verify_command(alloc)?)?;
+    Ok(with_help(command, Topic::Program))
 }

@@ -1,10 +1,12 @@
 //! What the words of a command line ask for.
-ghost use Rattle.std.specs.Prelude.{◌≡◌, IfOk, IfErr, Some, true, is_some, map};
-ghost use Rattle.clap.specs.Words.{found_of, rows_of, subcommand_rows_of};
-ghost use Rattle.mpd_options.specs.Asked.{IsInRange, asked, checker, found_in, found_of_command, meant, tracer};
+ghost use Rattle.std.specs.Prelude.{◌≡◌, ◌<◌, IfOk, IfErr, Some, true, is_some, length, map};
+ghost use Rattle.clap.specs.Words.{first_of, found_of, rows_of, subcommand_rows_of};
+ghost use Rattle.mpd_options.specs.Asked.{IsFound, IsInRange, asked, checker, found_in, found_of_command, meant, tracer, verifier};
 ghost use Rattle.mpd_options.specs.Refused.{IsRefused, is_answer, usage_of, usage_status, usage_text};
 
-use crate::command::{CHECK, FILE, FUEL, MODE, RUNS, TRACE, WITNESS, program};
+use crate::command::{
+    CHECK, FILE, FUEL, MODE, RUNS, TRACE, VERIFY, WITNESS, WITNESS_FILE, program,
+};
 use clap::ArgMatches;
 use clap::error::ErrorKind;
 use std::alloc::{AllocError, Global};
@@ -39,6 +41,15 @@ pub enum Options<'a> {
         fuel: usize,
         /// Whether the trace words of a run that comes to a deadlock are wanted.
         witness: bool,
+    },
+    /// Check a witness for the script of a file.
+    Verify {
+        /// The script's file.
+        file: &'a str,
+        /// The witness's file.
+        witness: &'a str,
+        /// The mode's word, whatever it is; `rendezvous` where there is none.
+        mode: &'a str,
     },
 }
 
@@ -115,17 +126,24 @@ fn usage_fault(error: clap::Error) -> UsageFault
     }
 }
 
+/// The word of this name, which was found.
+fn word_in<'a>(matches: &ArgMatches<'a>, name: &str) -> &'a str
+    requires { is_some (first_of name.now (rows_of (found_of matches.now))) ≡ true }
+    ensures { first_of name.now (rows_of (found_of matches.now)) ≡ Some result.now }
+{
+    let Some(word) = matches.get_str(name) else {
+        unreachable!()
+    };
+    word
+}
+
 /// What the words behind `trace` ask for.
 fn trace_in<'a>(trace: &ArgMatches<'a>) -> Options<'a>
     requires { is_some (found_in tracer (rows_of (found_of trace.now))) ≡ true }
     ensures { Some (asked result) ≡ found_in tracer (rows_of (found_of trace.now)) }
 {
-    let Some(file) = trace.get_str(FILE) else {
-        unreachable!()
-    };
-    let Some(mode) = trace.get_str(MODE) else {
-        unreachable!()
-    };
+    let file = word_in(trace, FILE);
+    let mode = word_in(trace, MODE);
     Options::Trace { file, mode }
 }
 
@@ -134,25 +152,36 @@ fn check_in<'a>(check: &ArgMatches<'a>) -> Options<'a>
     requires { is_some (found_in checker (rows_of (found_of check.now))) ≡ true }
     ensures { Some (asked result) ≡ found_in checker (rows_of (found_of check.now)) }
 {
-    let Some(file) = check.get_str(FILE) else {
-        unreachable!()
-    };
-    let Some(mode) = check.get_str(MODE) else {
-        unreachable!()
-    };
+    let file = word_in(check, FILE);
+    let mode = word_in(check, MODE);
     let Some(runs) = check.get_one::<usize>(RUNS) else {
         unreachable!()
     };
     let Some(fuel) = check.get_one::<usize>(FUEL) else {
         unreachable!()
     };
-    let witness = check.get_flag(WITNESS);
+    let wants_witness = check.get_flag(WITNESS);
     Options::Check {
         file,
         mode,
         runs,
         fuel,
+        witness: wants_witness,
+    }
+}
+
+/// What the words behind `verify` ask for.
+fn verify_in<'a>(verify: &ArgMatches<'a>) -> Options<'a>
+    requires { is_some (found_in verifier (rows_of (found_of verify.now))) ≡ true }
+    ensures { Some (asked result) ≡ found_in verifier (rows_of (found_of verify.now)) }
+{
+    let file = word_in(verify, FILE);
+    let witness = word_in(verify, WITNESS_FILE);
+    let mode = word_in(verify, MODE);
+    Options::Verify {
+        file,
         witness,
+        mode,
     }
 }
 
@@ -164,14 +193,43 @@ fn options_in<'a>(matches: &ArgMatches<'a>) -> Options<'a>
     if let Some(trace) = matches.subcommand_matches(TRACE) {
         return trace_in(trace);
     }
-    let Some(check) = matches.subcommand_matches(CHECK) else {
+    if let Some(check) = matches.subcommand_matches(CHECK) {
+        return check_in(check);
+    }
+    let Some(verify) = matches.subcommand_matches(VERIFY) else {
         unreachable!()
     };
-    check_in(check)
+    verify_in(verify)
+}
+
+/// What `clap` finds in words of which there are some.
+fn found_by_words<'a, S: AsStr>(alloc: Global, words: &'a [S]) -> Result<ArgMatches<'a>, UsageFault>
+    requires { 0 < length words.now }
+    ensures ok { IfOk result (λ matches. IsFound (map S.text words.entry.now) (subcommand_rows_of matches)) }
+    ensures err { IfErr result (λ fault. IsRefused fault (map S.text words.entry.now)) }
+{
+    let command = program(alloc)?;
+    match command.try_get_matches_from(words) {
+        Ok(matches) => Ok(matches),
+        Err(error) => Err(usage_fault(error)),
+    }
+}
+
+/// What words ask for, of which there are some.
+fn options_by_words<'a, S: AsStr>(alloc: Global, words: &'a [S]) -> Result<Options<'a>, UsageFault>
+    requires { 0 < length words.now }
+    ensures in_range { IfOk result IsInRange }
+    ensures ok { IfOk result (λ options. meant (map S.text words.entry.now) ≡ Some (asked options)) }
+    ensures err { IfErr result (λ fault. IsRefused fault (map S.text words.entry.now)) }
+{
+    match found_by_words(alloc, words) {
+        Ok(matches) => Ok(options_in(&matches)),
+        Err(fault) => Err(fault),
+    }
 }
 
 /// Reads the words of a command line, without the program's own name (docs/FORMATS.md, "The command line"): what they ask
-/// for, with the words of file and mode as they were given. An `Err` is `Usage` exactly where they ask for nothing that can be
+/// for, with the words of files and mode as they were given. An `Err` is `Usage` exactly where they ask for nothing that can be
 /// done, with the kind of fault that `clap` has for these words, or `Memory`.
 pub fn read_options<'a, S: AsStr>(alloc: Global, words: &'a [S]) -> Result<Options<'a>, UsageFault>
     ensures in_range { IfOk result IsInRange }
@@ -181,9 +239,5 @@ pub fn read_options<'a, S: AsStr>(alloc: Global, words: &'a [S]) -> Result<Optio
     if words.is_empty() {
         return Ok(Options::Plain);
     }
-    let command = program(alloc)?;
-    match command.try_get_matches_from(words) {
-        Ok(matches) => Ok(options_in(&matches)),
-        Err(error) => Err(usage_fault(error)),
-    }
+    options_by_words(alloc, words)
 }

@@ -1,0 +1,467 @@
+-- What `clap` makes of one word behind a command.
+use Rattle.std.specs.Prelude.{encode_utf8}
+use Rattle.std.proofs.Common.{◌≡◌, ◌≢◌, ◌∙◌, ◌&&◌, ℕ, Bool, true, false, List, [], ◌∷◌, ◌++◌, ◌==◌, suc, length, Option, Some, None, is_some, not, drop, fold, codes, refl, sym, ap, ap₂, subst, if◌then◌else◌}
+use Rattle.std.specs.Option.{option_map_or}
+use Rattle.std.specs.Str.{bytes_eq, chars}
+use Rattle.std.proofs.lemmas.Slice.Eq.{bytes_eq-Decides}
+use Rattle.clap.specs.Lexer.{long_of, short_of}
+use Rattle.clap.specs.Words.{Rule, Row, Text}
+use Rattle.clap.specs.Kinds.{Kinds, or_else}
+use Rattle.clap.specs.Faults.{walk_fault, settle_fault, turn_fault, step_fault, long_fault, bundle_fault, flags_fault, short_fault, flag_word_fault, use_fault}
+use Rattle.clap.specs.Walk.{Held, Walk, Waiting, idle, option, Step, trailing, value, Outcome, plain, walked, finished, settled, used, arg_by_long, arg_by_short, arg_by_index, has_row, is_pending, long_met, long_or_other, short_or_plain, plain_word, pushed, after_flag, after_step, to_positional, bundle, bundle_met}
+use Rattle.clap.specs.declared.parser.matches.ValueSource.TheVariants.{CommandLine}
+use Rattle.clap.proofs.OnLiterals.{clap_on_literals}
+use Rattle.mpd_options.specs.Asked as a
+use Rattle.mpd_options.specs.Asked.{Asked, Item, Place, Said, Tool, Word, alone, among_options, behind_dashes, behind_option, by_letters, checker, dashes, fits, if_fits, if_new, is_flag, joined, long_option, long_or_short, name_of, named, named_so, no_option, once, files_of, for_file, option_among, options_of, other_option, said_named, said_of, short_option, the_file, the_fuel, the_mode, the_runs, the_witness, the_witness_file, tracer, unsaid, verifier, wanted, with_option, with_word, word_of}
+use Rattle.mpd_options.proofs.Ends.{Agrees, IsLast, at_end, end_fault, fails_first, fails_then, held, held_for, pending_for, settles, settles_by, with_last}
+use Rattle.mpd_options.proofs.Items.{Valid, arg, asks, asks_keeps, by_long, each_asks, row_for, flag_by_long, flag_used_again, flag_used_once, flag_used_well, has_said, help_arg, keeps, no_value, reads_witness, rows_for, rules, sub, used_again, used_badly, used_once, used_well}
+
+-- ---- the options of a command
+
+abbrev pub has_flag : Tool → Bool
+has_flag tracer = false
+has_flag checker = true
+has_flag verifier = false
+
+pub each_flag : (P : Tool → Type 0) → P checker → (t : Tool) → has_flag t ≡ true → P t
+each_flag P c tracer e = cc
+each_flag P c checker e = c
+each_flag P c verifier e = cc
+
+help_fails : (t : Tool) (v : Option Text) (h : Held) → long_fault (rules t) false (Some (help_arg t)) v h ≢ []
+unfolding clap_on_literals
+help_fails tracer None h = fails_then (settle_fault (rules tracer) false h) _ (λ z. cc)
+help_fails tracer (Some x) h = λ z. cc
+help_fails checker None h = fails_then (settle_fault (rules checker) false h) _ (λ z. cc)
+help_fails checker (Some x) h = λ z. cc
+help_fails verifier None h = fails_then (settle_fault (rules verifier) false h) _ (λ z. cc)
+help_fails verifier (Some x) h = λ z. cc
+
+-- no option of the command has the name
+abbrev pub Unnamed : Tool → Text → Type 0
+Unnamed tracer name = bytes_eq (codes "mode") name ≡ false
+Unnamed checker name = (bytes_eq (codes "mode") name ≡ false) × (bytes_eq (codes "runs") name ≡ false) × (bytes_eq (codes "fuel") name ≡ false) × (bytes_eq (codes "witness") name ≡ false)
+Unnamed verifier name = bytes_eq (codes "mode") name ≡ false
+
+find_help : (t : Tool) (name : Text) → Unnamed t name → bytes_eq (codes "help") name ≡ true → arg_by_long (rules t) name ≡ Some (help_arg t)
+unfolding clap_on_literals
+find_help tracer name u h = rw (u, h) refl
+find_help checker name u h = rw (u.0, u.1, u.2, u.3, h) refl
+find_help verifier name u h = rw (u, h) refl
+
+find_none : (t : Tool) (name : Text) → Unnamed t name → bytes_eq (codes "help") name ≡ false → arg_by_long (rules t) name ≡ None
+unfolding clap_on_literals
+find_none tracer name u h = rw (u, h) refl
+find_none checker name u h = rw (u.0, u.1, u.2, u.3, h) refl
+find_none verifier name u h = rw (u, h) refl
+
+pub dead_long : (t : Tool) (name : Text) (v : Option Text) (h : Held) → Unnamed t name → long_fault (rules t) false (arg_by_long (rules t) name) v h ≢ []
+dead_long t name v h u =
+    let P : Option Rule → Type 0 = λ r. long_fault (rules t) false r v h ≢ [] in
+    elim (bytes_eq (codes "help") name) as (λ b. bytes_eq (codes "help") name ≡ b → long_fault (rules t) false (arg_by_long (rules t) name) v h ≢ []) [
+      | true ↦ λ e. subst P (sym (find_help t name u e)) (help_fails t v h)
+      | false ↦ λ e. subst P (sym (find_none t name u e)) (λ z. cc)
+    ] refl
+
+-- what `--NAME` names: an option that wants a value, a flag, or none
+pub data Names (t : Tool) (name : Text) : Type 0 where
+  names_option : (i : Item) → asks t i ≡ true → option_among (options_of t) name ≡ Some i → arg_by_long (rules t) name ≡ Some (arg t i) → Names t name
+  names_flag : has_flag t ≡ true → option_among (options_of t) name ≡ Some the_witness → arg_by_long (rules t) name ≡ Some (arg t the_witness) → Names t name
+  names_none : Unnamed t name → option_among (options_of t) name ≡ None → Names t name
+
+long_named : (t : Tool) (i : Item) (name : Text) → bytes_eq (name_of i) name ≡ true → arg_by_long (rules t) (name_of i) ≡ Some (arg t i) → arg_by_long (rules t) name ≡ Some (arg t i)
+long_named t i name e l = subst (λ n. arg_by_long (rules t) n ≡ Some (arg t i)) ((bytes_eq-Decides (name_of i) name).0 e) l
+
+pub names : (t : Tool) (name : Text) → Names t name
+names tracer name = elim (bytes_eq (codes "mode") name) as (λ b. bytes_eq (codes "mode") name ≡ b → Names tracer name) [
+  | true ↦ λ e. names_option the_mode refl (rw e refl) (long_named tracer the_mode name e (by_long tracer the_mode refl))
+  | false ↦ λ e. names_none e (rw e refl)
+] refl
+names checker name = elim (bytes_eq (codes "mode") name) as (λ b. bytes_eq (codes "mode") name ≡ b → Names checker name) [
+  | true ↦ λ m. names_option the_mode refl (rw m refl) (long_named checker the_mode name m (by_long checker the_mode refl))
+  | false ↦ λ m. elim (bytes_eq (codes "runs") name) as (λ b. bytes_eq (codes "runs") name ≡ b → Names checker name) [
+    | true ↦ λ r. names_option the_runs refl (rw (m, r) refl) (long_named checker the_runs name r (by_long checker the_runs refl))
+    | false ↦ λ r. elim (bytes_eq (codes "fuel") name) as (λ b. bytes_eq (codes "fuel") name ≡ b → Names checker name) [
+      | true ↦ λ f. names_option the_fuel refl (rw (m, r, f) refl) (long_named checker the_fuel name f (by_long checker the_fuel refl))
+      | false ↦ λ f. elim (bytes_eq (codes "witness") name) as (λ b. bytes_eq (codes "witness") name ≡ b → Names checker name) [
+        | true ↦ λ w. names_flag refl (rw (m, r, f, w) refl) (long_named checker the_witness name w flag_by_long)
+        | false ↦ λ w. names_none (m, r, f, w) (rw (m, r, f, w) refl)
+      ] refl
+    ] refl
+  ] refl
+] refl
+names verifier name = elim (bytes_eq (codes "mode") name) as (λ b. bytes_eq (codes "mode") name ≡ b → Names verifier name) [
+  | true ↦ λ e. names_option the_mode refl (rw e refl) (long_named verifier the_mode name e (by_long verifier the_mode refl))
+  | false ↦ λ e. names_none e (rw e refl)
+] refl
+
+-- ---- letters
+
+short_help : (t : Tool) (x : ℕ) → x ≡ 104 → arg_by_short (rules t) x ≡ Some (help_arg t)
+unfolding clap_on_literals
+short_help tracer x e = rw e refl
+short_help checker x e = rw e refl
+short_help verifier x e = rw e refl
+
+letter_fails : (t : Tool) (x : ℕ) (rest : Text) (h : Held) (next : Held → Kinds) → short_fault (rules t) false (arg_by_short (rules t) x) rest h next ≢ []
+unfolding clap_on_literals
+letter_fails tracer x rest h next = elim (104 == x) as (λ b. (104 == x) ≡ b → short_fault (rules tracer) false (arg_by_short (rules tracer) x) rest h next ≢ []) [
+  | true ↦ λ e. rw e (fails_first _ _ (fails_then (settle_fault (rules tracer) false h) _ (λ z. cc)))
+  | false ↦ λ e. rw e (λ z. cc)
+] refl
+letter_fails checker x rest h next = elim (104 == x) as (λ b. (104 == x) ≡ b → short_fault (rules checker) false (arg_by_short (rules checker) x) rest h next ≢ []) [
+  | true ↦ λ e. rw e (fails_first _ _ (fails_then (settle_fault (rules checker) false h) _ (λ z. cc)))
+  | false ↦ λ e. rw e (λ z. cc)
+] refl
+letter_fails verifier x rest h next = elim (104 == x) as (λ b. (104 == x) ≡ b → short_fault (rules verifier) false (arg_by_short (rules verifier) x) rest h next ≢ []) [
+  | true ↦ λ e. rw e (fails_first _ _ (fails_then (settle_fault (rules verifier) false h) _ (λ z. cc)))
+  | false ↦ λ e. rw e (λ z. cc)
+] refl
+
+pub dead_letters : (t : Tool) (letters : Text) (x : ℕ) (xs : List ℕ) (rows : List Row) (p : Option (Text × List Text)) → chars letters ≡ x ∷ xs → bundle_fault (rules t) false letters (held rows p) ≢ []
+unfolding clap_on_literals
+dead_letters t [] x xs rows p e = (let bad : (let l : List ℕ = [] in l) ≡ x ∷ xs = e in cc)
+dead_letters t (y ∷ ys) x xs rows p e = rw e (letter_fails t x (drop (length (encode_utf8 x)) (y ∷ ys)) (held rows p) _)
+
+no_letters : (t : Tool) (letters : Text) (h : Held) → chars letters ≡ [] → bundle_fault (rules t) false letters h ≡ []
+unfolding flags_fault
+no_letters t [] h e = refl
+no_letters t (y ∷ ys) h e = rw e refl
+
+no_bundle : (t : Tool) (letters : Text) (h : Held) → chars letters ≡ [] → bundle (rules t) letters h ≡ (let q : Held × Outcome = (record h { skip = 0 }, plain) in q)
+unfolding bundle_met
+no_bundle t [] h e = refl
+no_bundle t (y ∷ ys) h e = rw e refl
+
+-- ---- what a word is to `clap`
+
+abbrev pub dd : Text
+dd = codes "--"
+
+pub data Reads (word : Text) : Type 0 where
+  reads_dashes : bytes_eq word dd ≡ true → Reads word
+  reads_long : (name : Text) (v : Option Text) → bytes_eq word dd ≡ false → long_of word ≡ Some (name, v) → Reads word
+  reads_letters : (letters : Text) (x : ℕ) (xs : List ℕ) → bytes_eq word dd ≡ false → long_of word ≡ None → short_of word ≡ Some letters → chars letters ≡ x ∷ xs → Reads word
+  reads_no_letters : (letters : Text) → bytes_eq word dd ≡ false → long_of word ≡ None → short_of word ≡ Some letters → chars letters ≡ [] → Reads word
+  reads_plain : bytes_eq word dd ≡ false → long_of word ≡ None → short_of word ≡ None → Reads word
+
+reads_short : (word letters : Text) → bytes_eq word dd ≡ false → long_of word ≡ None → short_of word ≡ Some letters → Reads word
+reads_short word letters d l s = elim (chars letters) as (λ cs. chars letters ≡ cs → Reads word) [
+  | [] ↦ λ e. reads_no_letters letters d l s e
+  | x ∷ xs ↦ λ e. reads_letters letters x xs d l s e
+] refl
+
+reads_unnamed : (word : Text) → bytes_eq word dd ≡ false → long_of word ≡ None → Reads word
+reads_unnamed word d l = elim (short_of word) as (λ s. short_of word ≡ s → Reads word) [
+  | None ↦ λ e. reads_plain d l e
+  | Some letters ↦ λ e. reads_short word letters d l e
+] refl
+
+pub reads : (word : Text) → Reads word
+reads word = elim (bytes_eq word dd) as (λ b. bytes_eq word dd ≡ b → Reads word) [
+  | true ↦ λ e. reads_dashes e
+  | false ↦ λ e. elim (long_of word) as (λ l. long_of word ≡ l → Reads word) [
+    | None ↦ λ l. reads_unnamed word e l
+    | Some p ↦ λ l. reads_long p.0 p.1 e l
+  ] refl
+] refl
+
+-- ---- and to us
+
+pub is_dashes : (t : Tool) (word : Text) → bytes_eq word dd ≡ true → word_of t word ≡ dashes
+is_dashes t word d = ap (λ b. if b then dashes else long_or_short t (long_of word) (short_of word)) d
+
+pub is_long : (t : Tool) (word name : Text) (v : Option Text) (o : Option Item) → bytes_eq word dd ≡ false → long_of word ≡ Some (name, v) → option_among (options_of t) name ≡ o → word_of t word ≡ named_so o v
+is_long t word name v o d l n =
+    ap (λ b. if b then dashes else long_or_short t (long_of word) (short_of word)) d ∙ ap (λ p. long_or_short t p (short_of word)) l ∙ ap (λ i. named_so i v) n
+
+pub is_short : (t : Tool) (word : Text) (s : Option Text) → bytes_eq word dd ≡ false → long_of word ≡ None → short_of word ≡ s → word_of t word ≡ short_option s
+is_short t word s d l e =
+    ap (λ b. if b then dashes else long_or_short t (long_of word) (short_of word)) d ∙ ap (λ p. long_or_short t p (short_of word)) l ∙ ap short_option e
+
+pub is_letters : (t : Tool) (word letters : Text) (x : ℕ) (xs : List ℕ) → bytes_eq word dd ≡ false → long_of word ≡ None → short_of word ≡ Some letters → chars letters ≡ x ∷ xs → word_of t word ≡ other_option
+is_letters t word letters x xs d l s e = is_short t word (Some letters) d l s ∙ ap by_letters e
+
+pub is_no_letters : (t : Tool) (word letters : Text) → bytes_eq word dd ≡ false → long_of word ≡ None → short_of word ≡ Some letters → chars letters ≡ [] → word_of t word ≡ no_option
+is_no_letters t word letters d l s e = is_short t word (Some letters) d l s ∙ ap by_letters e
+
+-- ---- where a walk stands: between two words, before `--` or behind it; or behind an option that wants a value
+
+pub data State : Type 0 where
+  ready : Said → Option (Item × Text) → Bool → State
+  wants : Said → Item → State
+
+-- the number of the next word that is no option, by the words of the file and the witness
+abbrev pub next_place : Option Text → Option Text → ℕ
+next_place None w = 1
+next_place (Some f) None = 2
+next_place (Some f) (Some w) = 3
+
+abbrev pub place_of : Said → ℕ
+place_of said = next_place (said_of the_file said) (said_of the_witness_file said)
+
+-- the witness's word comes behind the file's
+abbrev pub InOrder : Said → Type 0
+InOrder said = said_of the_file said ≡ None → said_of the_witness_file said ≡ None
+
+abbrev pub walk_with : Held → Waiting → ℕ → Bool → Walk
+walk_with h waiting position is_trailing = record { held = h; waiting = waiting; position = position; is_trailing = is_trailing; stopped = None }
+
+abbrev pub asked_held : Said → Item → Held
+asked_held said i = held (rows_for said) (Some (name_of i, []))
+
+abbrev pub walk_at : State → Walk
+walk_at (ready said last b) = walk_with (held_for said last) idle (place_of (with_last said last)) b
+walk_at (wants said i) = walk_with (asked_held said i) (option (name_of i)) (place_of said) false
+
+abbrev pub place_by : Bool → Place
+place_by true = behind_dashes
+place_by false = among_options
+
+abbrev pub place_at : State → Place
+place_at (ready said last b) = place_by b
+place_at (wants said i) = behind_option i
+
+abbrev pub said_at : State → Said
+said_at (ready said last b) = with_last said last
+said_at (wants said i) = said
+
+abbrev pub Sound : Tool → State → Type 0
+Sound t (ready said last b) = Valid (with_last said last) × IsLast t last × InOrder (with_last said last)
+Sound t (wants said i) = (said_of i said ≡ None) × (asks t i ≡ true) × Valid said × InOrder said
+
+-- ---- one word, where a walk stands before `--`
+
+abbrev pub met_by : Tool → Waiting → ℕ → Text → Held → Bool → Option (Text × Option Text) → Held × Step
+met_by t waiting position word h d l = if d then (h, trailing position) else long_or_other (rules t) waiting word l h
+
+abbrev pub turn_by : Tool → Waiting → ℕ → Text → Held → Bool → Option (Text × Option Text) → Kinds
+turn_by t waiting position word h d l =
+    or_else (if d then [] else flag_word_fault (rules t) false l word h) (step_fault (sub t) position (met_by t waiting position word h d l).0 (met_by t waiting position word h d l).1)
+
+abbrev pub walk_by : Tool → Waiting → ℕ → Text → Held → Bool → Option (Text × Option Text) → Walk
+walk_by t waiting position word h d l =
+    after_step (rules t) word (walk_with h waiting position false) (met_by t waiting position word h d l).0 (met_by t waiting position word h d l).1
+
+-- what a walk makes of a word: its faults, and where it stands behind it
+abbrev pub Turn : Type 0
+Turn = Kinds × Walk
+
+abbrev pub turn : Tool → Waiting → ℕ → Text → Held → Turn
+turn t waiting position word h = (turn_fault (sub t) [] (walk_with h waiting position false) word, walked (rules t) [] (walk_with h waiting position false) word)
+
+abbrev pub turned : Tool → Waiting → ℕ → Text → Held → Bool → Option (Text × Option Text) → Turn
+turned t waiting position word h d l = (turn_by t waiting position word h d l, walk_by t waiting position word h d l)
+
+-- nothing, or an option
+abbrev pub waiting_for : Option Text → Waiting
+waiting_for None = idle
+waiting_for (Some id) = option id
+
+turns : (t : Tool) (o : Option Text) (position : ℕ) (word : Text) (h : Held) → turn t (waiting_for o) position word h ≡ turned t (waiting_for o) position word h (bytes_eq word dd) (long_of word)
+unfolding walked
+turns tracer None position word h = refl
+turns tracer (Some id) position word h = refl
+turns checker None position word h = refl
+turns checker (Some id) position word h = refl
+turns verifier None position word h = refl
+turns verifier (Some id) position word h = refl
+
+turns_so : (t : Tool) (o : Option Text) (position : ℕ) (word : Text) (h : Held) (d : Bool) (l : Option (Text × Option Text)) → bytes_eq word dd ≡ d → long_of word ≡ l
+    → turn t (waiting_for o) position word h ≡ turned t (waiting_for o) position word h d l
+turns_so t o position word h d l de le =
+    turns t o position word h ∙ ap (λ b. turned t (waiting_for o) position word h b (long_of word)) de ∙ ap (λ p. turned t (waiting_for o) position word h d p) le
+
+pub turns_dashes : (t : Tool) (o : Option Text) (position : ℕ) (word : Text) (h : Held) → bytes_eq word dd ≡ true
+    → turn t (waiting_for o) position word h ≡ (let q : Turn = ([], walk_with h (waiting_for o) position true) in q)
+turns_dashes t o position word h d = turns_so t o position word h true (long_of word) d refl
+
+-- an option by its argument
+abbrev pub long_turn : Tool → Waiting → ℕ → Text → Held → Option Rule → Option Text → Turn
+long_turn t waiting position word h r v =
+    let met = after_flag (rules t) waiting word (long_met (rules t) r v h).0 (long_met (rules t) r v h).1 in
+    (or_else (long_fault (rules t) false r v h) (step_fault (sub t) position met.0 met.1), after_step (rules t) word (walk_with h waiting position false) met.0 met.1)
+
+pub turns_long : (t : Tool) (o : Option Text) (position : ℕ) (word : Text) (h : Held) (name : Text) (v : Option Text) (r : Option Rule) → bytes_eq word dd ≡ false → long_of word ≡ Some (name, v) → arg_by_long (rules t) name ≡ r
+    → turn t (waiting_for o) position word h ≡ long_turn t (waiting_for o) position word h r v
+turns_long t o position word h name v r d l e = turns_so t o position word h false (Some (name, v)) d l ∙ ap (λ x. long_turn t (waiting_for o) position word h x v) e
+
+-- letters
+abbrev pub short_turn : Tool → Waiting → ℕ → Text → Held → Option Text → Turn
+short_turn t waiting position word h s =
+    let met = short_or_plain (rules t) waiting word s h in
+    (or_else (option_map_or (λ flags. bundle_fault (rules t) false flags h) s []) (step_fault (sub t) position met.0 met.1), after_step (rules t) word (walk_with h waiting position false) met.0 met.1)
+
+pub turns_short : (t : Tool) (o : Option Text) (position : ℕ) (word : Text) (h : Held) (s : Option Text) → bytes_eq word dd ≡ false → long_of word ≡ None → short_of word ≡ s
+    → turn t (waiting_for o) position word h ≡ short_turn t (waiting_for o) position word h s
+turns_short t o position word h s d l e = turns_so t o position word h false None d l ∙ ap (λ x. short_turn t (waiting_for o) position word h x) e
+
+-- no option
+abbrev pub plain_turn : Tool → Waiting → ℕ → Text → Held → Turn
+plain_turn t waiting position word h =
+    let met = plain_word (rules t) waiting word h in
+    (step_fault (sub t) position met.0 met.1, after_step (rules t) word (walk_with h waiting position false) met.0 met.1)
+
+abbrev pub bundle_turn : Tool → Waiting → ℕ → Text → Held → Kinds → Held × Outcome → Turn
+bundle_turn t waiting position word h ks q =
+    let met = after_flag (rules t) waiting word q.0 q.1 in
+    (or_else ks (step_fault (sub t) position met.0 met.1), after_step (rules t) word (walk_with h waiting position false) met.0 met.1)
+
+pub turns_no_letters : (t : Tool) (o : Option Text) (position : ℕ) (word : Text) (rows : List Row) (p : Option (Text × List Text)) (letters : Text) → bytes_eq word dd ≡ false → long_of word ≡ None → short_of word ≡ Some letters
+    → chars letters ≡ [] → turn t (waiting_for o) position word (held rows p) ≡ plain_turn t (waiting_for o) position word (held rows p)
+turns_no_letters t o position word rows p letters d l s e =
+    turns_short t o position word (held rows p) (Some letters) d l s
+    ∙ ap (λ ks. bundle_turn t (waiting_for o) position word (held rows p) ks (bundle (rules t) letters (held rows p))) (no_letters t letters (held rows p) e)
+    ∙ ap (λ q. bundle_turn t (waiting_for o) position word (held rows p) [] q) (no_bundle t letters (held rows p) e)
+
+pub turns_plain : (t : Tool) (o : Option Text) (position : ℕ) (word : Text) (rows : List Row) (p : Option (Text × List Text)) → bytes_eq word dd ≡ false → long_of word ≡ None → short_of word ≡ None
+    → turn t (waiting_for o) position word (held rows p) ≡ plain_turn t (waiting_for o) position word (held rows p)
+turns_plain t o position word rows p d l s = turns_short t o position word (held rows p) None d l s
+
+-- ---- a word that goes to a file's place
+
+abbrev pub value_turn : Tool → Waiting → ℕ → Text → Held → Bool → Turn
+value_turn t waiting position word h b = (step_fault (sub t) position h value, to_positional (rules t) (arg_by_index (rules t) position) word (walk_with h waiting position b) h)
+
+-- the files whose words a command wants
+abbrev pub is_file : Tool → Item → Bool
+is_file t the_file = true
+is_file t the_witness_file = reads_witness t
+is_file t _ = false
+
+-- the place of a file's word
+abbrev pub seat : Item → ℕ
+seat the_witness_file = 2
+seat _ = 1
+
+each_file : (P : Tool → Item → Type 0) → P tracer the_file → P checker the_file → P verifier the_file → P verifier the_witness_file → (t : Tool) (i : Item) → is_file t i ≡ true → P t i
+each_file P a b c d tracer the_file e = a
+each_file P a b c d tracer the_witness_file e = cc
+each_file P a b c d tracer the_mode e = cc
+each_file P a b c d tracer the_runs e = cc
+each_file P a b c d tracer the_fuel e = cc
+each_file P a b c d tracer the_witness e = cc
+each_file P a b c d checker the_file e = b
+each_file P a b c d checker the_witness_file e = cc
+each_file P a b c d checker the_mode e = cc
+each_file P a b c d checker the_runs e = cc
+each_file P a b c d checker the_fuel e = cc
+each_file P a b c d checker the_witness e = cc
+each_file P a b c d verifier the_file e = c
+each_file P a b c d verifier the_witness_file e = d
+each_file P a b c d verifier the_mode e = cc
+each_file P a b c d verifier the_runs e = cc
+each_file P a b c d verifier the_fuel e = cc
+each_file P a b c d verifier the_witness e = cc
+
+pub file_keeps : (t : Tool) (i : Item) → is_file t i ≡ true → keeps t i ≡ true
+file_keeps = each_file (λ t i. keeps t i ≡ true) refl refl refl refl
+
+pub file_fits : (word : Text) (t : Tool) (i : Item) → is_file t i ≡ true → fits i word ≡ true
+file_fits word = each_file (λ t i. fits i word ≡ true) refl refl refl refl
+
+file_step_by : (b : Bool) (ks : Kinds) → (if b && false then [] else ks) ≡ ks
+file_step_by true ks = refl
+file_step_by false ks = refl
+
+file_held_by : (b : Bool) (h g : Held) → (if b && false then h else g) ≡ g
+file_held_by true h g = refl
+file_held_by false h g = refl
+
+pub file_step : (h : Held) (t : Tool) (i : Item) → is_file t i ≡ true → step_fault (sub t) (seat i) h value ≡ settle_fault (rules t) false h
+unfolding clap_on_literals
+file_step h =
+    each_file (λ t i. step_fault (sub t) (seat i) h value ≡ settle_fault (rules t) false h)
+    (file_step_by (is_pending (arg tracer the_file) h.pending) (settle_fault (rules tracer) false h))
+    (file_step_by (is_pending (arg checker the_file) h.pending) (settle_fault (rules checker) false h))
+    (file_step_by (is_pending (arg verifier the_file) h.pending) (settle_fault (rules verifier) false h))
+    (file_step_by (is_pending (arg verifier the_witness_file) h.pending) (settle_fault (rules verifier) false h))
+
+-- the walk behind such a word
+abbrev pub FileWalk : Waiting → Text → Held → Bool → Tool → Item → Type 0
+FileWalk waiting word h b t i =
+    to_positional (rules t) (arg_by_index (rules t) (seat i)) word (walk_with h waiting (seat i) b) h ≡ walk_with (pushed (name_of i) word (settled (rules t) h)) idle (suc (seat i)) b
+
+file_walk : (waiting : Waiting) (word : Text) (h : Held) (b : Bool) (t : Tool) (i : Item) → is_file t i ≡ true → FileWalk waiting word h b t i
+unfolding clap_on_literals
+file_walk waiting word h true =
+    each_file (FileWalk waiting word h true)
+    (ap (λ g. walk_with (pushed (name_of the_file) word g) idle (suc (seat the_file)) true) (file_held_by (is_pending (arg tracer the_file) h.pending) h (settled (rules tracer) h)))
+    (ap (λ g. walk_with (pushed (name_of the_file) word g) idle (suc (seat the_file)) true) (file_held_by (is_pending (arg checker the_file) h.pending) h (settled (rules checker) h)))
+    (ap (λ g. walk_with (pushed (name_of the_file) word g) idle (suc (seat the_file)) true) (file_held_by (is_pending (arg verifier the_file) h.pending) h (settled (rules verifier) h)))
+    (ap (λ g. walk_with (pushed (name_of the_witness_file) word g) idle (suc (seat the_witness_file)) true) (file_held_by (is_pending (arg verifier the_witness_file) h.pending) h (settled (rules verifier) h)))
+file_walk waiting word h false =
+    each_file (FileWalk waiting word h false)
+    (ap (λ g. walk_with (pushed (name_of the_file) word g) idle (suc (seat the_file)) false) (file_held_by (is_pending (arg tracer the_file) h.pending) h (settled (rules tracer) h)))
+    (ap (λ g. walk_with (pushed (name_of the_file) word g) idle (suc (seat the_file)) false) (file_held_by (is_pending (arg checker the_file) h.pending) h (settled (rules checker) h)))
+    (ap (λ g. walk_with (pushed (name_of the_file) word g) idle (suc (seat the_file)) false) (file_held_by (is_pending (arg verifier the_file) h.pending) h (settled (rules verifier) h)))
+    (ap (λ g. walk_with (pushed (name_of the_witness_file) word g) idle (suc (seat the_witness_file)) false) (file_held_by (is_pending (arg verifier the_witness_file) h.pending) h (settled (rules verifier) h)))
+
+-- no word more is taken
+pub no_second : (t : Tool) (h : Held) → reads_witness t ≡ false → step_fault (sub t) 2 h value ≢ []
+unfolding clap_on_literals
+no_second tracer h e = λ z. cc
+no_second checker h e = λ z. cc
+no_second verifier h e = cc
+
+pub no_third : (t : Tool) (h : Held) → step_fault (sub t) 3 h value ≢ []
+unfolding clap_on_literals
+no_third tracer h = λ z. cc
+no_third checker h = λ z. cc
+no_third verifier h = λ z. cc
+
+abbrev pub pair : Kinds → Walk → Turn
+pair ks w = (ks, w)
+
+pub file_taken : (t : Tool) (said : Said) (last : Option (Item × Text)) (b : Bool) (word : Text) (i : Item) → is_file t i ≡ true → Valid (with_last said last) → IsLast t last
+    → value_turn t idle (seat i) word (held_for said last) b ≡ pair [] (walk_with (held_for (with_last said last) (Some (i, word))) idle (suc (seat i)) b)
+file_taken t said last b word i file h l =
+    let s = settles t said last h l in
+    ap₂ pair (file_step (held_for said last) t i file ∙ s.0) (file_walk idle word (held_for said last) b t i file ∙ ap (λ g. walk_with (pushed (name_of i) word g) idle (suc (seat i)) b) s.1)
+
+-- where the next word goes that is no option: to a file, or nowhere
+pub data Free (t : Tool) (said : Said) : Type 0 where
+  free : (i : Item) → is_file t i ≡ true → unsaid (files_of t) said ≡ Some i → said_of i said ≡ None → place_of said ≡ seat i → ((word : Text) → place_of ((i, word) ∷ said) ≡ suc (seat i)) → ((word : Text) → InOrder ((i, word) ∷ said)) → Free t said
+  full : unsaid (files_of t) said ≡ None → ((h : Held) → step_fault (sub t) (place_of said) h value ≢ []) → Free t said
+
+first_unsaid : (t : Tool) (said : Said) → said_of the_file said ≡ None → unsaid (files_of t) said ≡ Some the_file
+first_unsaid tracer said e = rw e refl
+first_unsaid checker said e = rw e refl
+first_unsaid verifier said e = rw e refl
+
+one_said : (t : Tool) (said : Said) (f : Text) → reads_witness t ≡ false → said_of the_file said ≡ Some f → unsaid (files_of t) said ≡ None
+one_said tracer said f only e = rw e refl
+one_said checker said f only e = rw e refl
+one_said verifier said f only e = cc
+
+-- behind the file's word
+free_second : (t : Tool) (said : Said) (f : Text) → said_of the_file said ≡ Some f → reads_witness t ≡ true → said_of the_witness_file said ≡ None → Free t said
+free_second tracer said f e both w = cc
+free_second checker said f e both w = cc
+free_second verifier said f e both w =
+    free the_witness_file refl (rw (e, w) refl) w (ap₂ next_place e w) (λ word. ap (λ o. next_place o (Some word)) e) (λ word new. (let bad : Some f ≡ None = sym e ∙ new in cc))
+
+-- a word at this place is one too many
+abbrev pub Ends : Tool → ℕ → Type 0
+Ends t n = (h : Held) → step_fault (sub t) n h value ≢ []
+
+full_second : (t : Tool) (said : Said) (f : Text) (o : Option Text) → said_of the_file said ≡ Some f → reads_witness t ≡ false → said_of the_witness_file said ≡ o → Free t said
+full_second t said f None e only w = full (one_said t said f only e) (subst (Ends t) (sym (ap₂ next_place e w)) (λ h. no_second t h only))
+full_second t said f (Some x) e only w = full (one_said t said f only e) (subst (Ends t) (sym (ap₂ next_place e w)) (λ h. no_third t h))
+
+full_third : (t : Tool) (said : Said) (f x : Text) → said_of the_file said ≡ Some f → reads_witness t ≡ true → said_of the_witness_file said ≡ Some x → Free t said
+full_third tracer said f x e both w = cc
+full_third checker said f x e both w = cc
+full_third verifier said f x e both w = full (rw (e, w) refl) (subst (Ends verifier) (sym (ap₂ next_place e w)) (λ h. no_third verifier h))
+
+pub frees : (t : Tool) (said : Said) → InOrder said → Free t said
+frees t said order = elim (said_of the_file said) as (λ o. said_of the_file said ≡ o → Free t said) [
+  | None ↦ λ e. free the_file refl (first_unsaid t said e) e (ap (λ o. next_place o (said_of the_witness_file said)) e) (λ word. ap (next_place (Some word)) (order e)) (λ word new. (let bad : Some word ≡ None = new in cc))
+  | Some f ↦ λ e. elim (reads_witness t) as (λ b. reads_witness t ≡ b → Free t said) [
+    | false ↦ λ only. full_second t said f (said_of the_witness_file said) e only refl
+    | true ↦ λ both. elim (said_of the_witness_file said) as (λ o. said_of the_witness_file said ≡ o → Free t said) [
+      | None ↦ λ w. free_second t said f e both w
+      | Some x ↦ λ w. full_third t said f x e both w
+    ] refl
+  ] refl
+] refl

@@ -1,0 +1,19 @@
+use Rattle.std.proofs.Common.{ap, sym}
+use Rattle.mpd_options.specs.Help.{example_of}
+use Rattle.mpd_options.proofs.command.example.Goals as goal
+
+pub returns-in-Program : goal.returns-in-Program
+unfolding example_of
+returns-in-Program c = sym (ap example_of c.in-Program.is)
+
+pub returns-in-Trace : goal.returns-in-Trace
+unfolding example_of
+returns-in-Trace c = sym (ap example_of c.in-Trace.is)
+
+pub returns-in-Check : goal.returns-in-Check
+unfolding example_of
+returns-in-Check c = sym (ap example_of c.in-Check.is)
+
+pub returns-in-Verify : goal.returns-in-Verify
+unfolding example_of
+returns-in-Verify c = sym (ap example_of c.in-Verify.is)
