@@ -218,8 +218,8 @@ def failing_rows(program):
 def turn_rows(program):
     """Words without an end are given up after as many reads as there may be, with nothing written."""
     with file_that_holds(SENT) as name:
-        said = run_in_packets(program, [b'\n'] * 1000001, SECONDS, words=('trace', name))
-    yield '1,000,001 reads', said, Result(b'', b'mpdbg: turns\n', 3)
+        said = run_in_packets(program, [b'\n'] * 1000000, SECONDS, words=('trace', name))
+    yield '1,000,000 reads and no end', said, Result(b'', b'mpdbg: turns\n', 3)
 
 
 ROWS = (trace_rows, text_rows, state_rows, word_rows, order_rows, failing_rows, turn_rows)
