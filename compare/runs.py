@@ -90,10 +90,10 @@ def run_at_once(program, data, seconds, environment=None, words=()):
     return Started(program, file_of(data), environment, words).result(seconds)
 
 
-def run_in_packets(program, packets, seconds, words=()):
+def run_in_packets(program, packets, seconds, words=(), environment=None):
     """The result for an input that is a pipe, with the words of the command line; each packet is one read of the program."""
     reading, writing = os.pipe2(os.O_DIRECT | os.O_CLOEXEC)
-    started = Started(program, reading, words=words)
+    started = Started(program, reading, environment, words)
     watch = threading.Timer(seconds, started.kill)
     watch.start()
     try:

@@ -2,10 +2,10 @@
 
     python3 compare/statuses.py PROGRAM
 
-The examples; devices that are full, closed, broken off, too short or interrupted; each fault of a script; the words of the command line, and
-the order in which they are tested; a script from a file; a refused script at a terminal; as many steps and reads as there may
-be; the deepest scripts on a small stack; more answers than memory; answers that come before the next read. The status is 0 where
-every run ended as it must.
+The examples, and the worked rows of compare/worked_program.py; devices that are full, closed, broken off, too short or interrupted;
+each fault of a script; the words of the command line, and the order in which they are tested; a script from a file; a refused
+script at a terminal; as many steps and reads as there may be; the deepest scripts on a small stack; more answers than memory;
+answers that come before the next read. The status is 0 where every run ended as it must.
 """
 
 import os
@@ -24,6 +24,7 @@ from examples import example_names, lessons, open_example, strays
 from language import MOST_OPEN_BLOCKS, MOST_OPERATORS, has_part, read_script
 from runs import action, content, file_of, run_in_packets, status_of
 from shims import built
+from worked_program import ROWS as WORKED_ROWS
 
 HERE = os.path.dirname(os.path.abspath(__file__))
 SECONDS = 60
@@ -370,7 +371,10 @@ SHOWN = (
      'var x; ' + ' ' * 60 + 'x = y...', ' ' * 71),
     (b'mpd 1;\nranks 1;\nvar x; ' + b' ' * 61 + b'x = y; x = 1234567890123456789012345678901234567890;', b'5 unknown-name at 88 line 3',
      '...' + ' ' * 32 + 'x = y; x = 12345678901234567890123456789...', ' ' * 39),
-    (b' ' * 65537, b'1 too-long at 65536 line 1', '...' + ' ' * 37, ' ' * 39))
+    (b' ' * 65537, b'1 too-long at 65536 line 1', '...' + ' ' * 37, ' ' * 39),
+    # the end of a line, and of a text, as places
+    (b'\n' * 65534 + b'ab\n', b'1 too-long at 65536 line 65535', 'ab', '  '), (b'ab\ncd\n', b'4 expected at 0 line 1', 'ab', ''),
+    (b'mpd 1;\ncd\n', b'4 expected at 7 line 2', 'cd', ''))
 
 
 def terminal_rows(program):
@@ -430,6 +434,7 @@ ROWS = (ended_rows, example_rows, refused_rows, device_rows, usage_rows, trace_r
 # The lessons have barriers, and their scripts are files.
 if has_part('barriers') and has_part('modes'):
     ROWS += (lesson_rows,)
+ROWS += WORKED_ROWS
 
 
 def main():
@@ -452,6 +457,8 @@ def main():
 
 
 def shortened(result):
+    if not isinstance(result, Result):
+        return result
     return Result(result.output[-200:], result.errors[-200:], result.status)
 
 

@@ -63,6 +63,7 @@ CHECKS = (
     # two ranks that send before they receive: in the one mode neither send is received, in the other both are
     CheckRow(HEAD_TO_HEAD, Asked(), 'leaf 0 [] deadlock 0.0 1.0; leaves 1 more no', 1),
     CheckRow(HEAD_TO_HEAD, Asked(BUFFERED), 'leaf 0 [] done; leaves 1 more no', 0),
+    CheckRow(HEAD_TO_HEAD, Asked(BUFFERED, witnesses=True), 'leaf 0 [] done; leaves 1 more no', 0),
     # a receive of any source and then one of rank 2: whether it comes to an end hangs on which send is taken first
     CheckRow(THREE, Asked(), OF_THREE, 1),
     CheckRow(THREE, Asked(RENDEZVOUS, witnesses=True), WITNESSED, 1),
@@ -75,10 +76,12 @@ CHECKS = (
     CheckRow(UNRECEIVED, Asked(BUFFERED), 'leaf 0 [] leftovers 0.0; leaves 1 more no', 0),
     # no statement
     CheckRow(EMPTY, Asked(), 'leaf 0 [] done; leaves 1 more no', 0),
-    # the status is of the leaves that are listed
+    # the status is of the leaves that are listed, and so are witnesses
     CheckRow(THREE, Asked(runs=1), 'leaf 0 [0] done; leaves 1 more yes', 0),
+    CheckRow(THREE, Asked(runs=1, witnesses=True), 'leaf 0 [0] done; leaves 1 more yes', 0),
     # a run without an end
     CheckRow(ON_AND_ON, Asked(fuel=5), 'leaf 0 [] cut; leaves 1 more no', 0),
+    CheckRow(ON_AND_ON, Asked(fuel=5, witnesses=True), 'leaf 0 [] cut; leaves 1 more no', 0),
     # as many runs, and as much fuel, as can be asked for
     CheckRow(THREE, Asked(runs=65536), OF_THREE, 1),
     CheckRow(THREE, Asked(fuel=1000000), OF_THREE, 1),

@@ -2,21 +2,15 @@
 //!
 //! A test's code is proved as any other code is. `assert_eq!` and `assert!` write their code where they stand, and `expect`
 //! makes one more exit there; so what is asserted goes through `same`, which is proved once, and what may want memory is
-//! expected in a helper (docs/PROVING.md, "What a check costs").
+//! expected in a helper (docs/PROVING.md, "What a check costs"). What a run of the program shows as well is no test, but a row
+//! of compare/.
 
 use mpd_code::code::Code;
 use mpd_code::lower::lower;
-use mpd_device::device::{FromReader, Source, ToWriter};
-use mpd_model::read_fault::{FaultCode, ReadFault};
 use mpd_script::read;
 use std::alloc::{AllocError, Global};
 use std::fmt::Debug;
 use std::process::Abort;
-
-// what stands above devices is named here alone
-pub(crate) use mpd_lines::engine::EngineFault;
-pub(crate) use mpd_trace::plain::{PlainFault, plain};
-pub(crate) use mpd_trace::trace::trace;
 
 /// Two ranks: the first sends 7 to the second, which prints it.
 pub(crate) const FIRST: &[u8] =
@@ -46,63 +40,8 @@ pub(crate) fn lowered(rt: &impl Abort, alloc: Global, text: &[u8]) -> Code {
     lower(alloc, script).expect(rt, "its code")
 }
 
-/// The pieces, one after the other.
-pub(crate) fn joined(rt: &impl Abort, alloc: Global, pieces: &[&str]) -> String {
-    let mut text = String::new(alloc);
-    for piece in pieces {
-        text.push_str(piece).expect(rt, "memory for a text");
-    }
-    text
-}
-
-/// A piece of a text, and how often it stands there.
-pub(crate) type Piece = (&'static str, usize);
-
-fn push_times(text: &mut String, piece: &str, count: usize) -> Result<(), AllocError> {
-    for _ in 0..count {
-        text.push_str(piece)?;
-    }
-    Ok(())
-}
-
-/// Each of the pieces as often as it stands there, one after the other.
-pub(crate) fn repeated(rt: &impl Abort, alloc: Global, pieces: &[Piece]) -> String {
-    let mut text = String::new(alloc);
-    for (piece, count) in pieces {
-        push_times(&mut text, piece, *count).expect(rt, "memory for a text");
-    }
-    text
-}
-
-/// How the program ends on an input, and what it writes.
-pub(crate) fn run<S: Source>(alloc: Global, source: &mut S) -> (Result<(), PlainFault>, Vec<u8>) {
-    let mut sink = ToWriter::new(Vec::new(alloc));
-    let ended = plain(alloc, source, &mut sink);
-    (ended, sink.into_writer())
-}
-
-/// Why a script is refused, the byte where, from 0, and its line, from 1.
-pub(crate) type Refusal = (FaultCode, usize, usize);
-
-/// How the program ends where a script is refused so, if it is.
-pub(crate) fn ended(refusal: Option<Refusal>) -> Result<(), PlainFault> {
-    match refusal {
-        None => Ok(()),
-        Some((code, place, line)) => Err(PlainFault::Script(ReadFault { code, place }, line)),
-    }
-}
-
-/// Asserts why and where the script of an input is refused, if it is, and what is written.
-pub(crate) fn answers(
-    rt: &impl Abort,
-    alloc: Global,
-    what: &str,
-    input: &[u8],
-    refusal: Option<Refusal>,
-    written: &str,
-) {
-    let mut source = FromReader::new(input);
-    let (end, text) = run(alloc, &mut source);
-    same(rt, (what, end), (what, ended(refusal)));
-    same(rt, (what, text.as_slice()), (what, written.as_bytes()));
+/// Asserts what a text is, if memory was there for it.
+pub(crate) fn is_text(rt: &impl Abort, found: Result<String, AllocError>, wanted: &str) {
+    let text = found.expect(rt, "memory for a text");
+    same(rt, text.as_str(), wanted);
 }

@@ -43,6 +43,8 @@ enum Act {
     Forced(Step),
     Chooses(&'static [Step]),
     Ended,
+    /// A copy takes the step; the debugger keeps so many.
+    Copies(Step, usize),
 }
 
 /// A script, with a breakpoint that stands first, and what is done in turn, with the depth behind each.
@@ -174,6 +176,25 @@ const DRIVES: &[Drive] = &[
             ),
         ],
     },
+    Drive {
+        script: RACE,
+        watched: None,
+        acts: &[
+            (
+                Act::Run {
+                    max: 100,
+                    stop: Stop {
+                        steps: 6,
+                        cause: Cause::Choice,
+                    },
+                },
+                6,
+            ),
+            (Act::Take(BACKWARD), 7),
+            (Act::Undo, 6),
+            (Act::Copies(BACKWARD, 7), 6),
+        ],
+    },
 ];
 
 /// Asserts what comes next.
@@ -189,17 +210,50 @@ fn decides(rt: &impl Abort, alloc: Global, debugger: &Debugger<'_>, wanted: &Act
     }
 }
 
+/// What is shown of a debugger's state, whatever its depth is.
+fn shown(rt: &impl Abort, alloc: Global, debugger: &Debugger<'_>) -> String {
+    show(alloc, debugger.core(), 0, 0).expect(rt, "the text")
+}
+
+fn is_shown(rt: &impl Abort, alloc: Global, debugger: &Debugger<'_>, wanted: &str) {
+    let text = shown(rt, alloc, debugger);
+    same(rt, text.as_str(), wanted);
+}
+
+/// A copy shows the same state as the debugger that it was made of, and keeps none of its undone steps; a step of the copy is none
+/// of the other's.
+fn copies(rt: &impl Abort, alloc: Global, debugger: &Debugger<'_>, step: Step, kept: usize) {
+    let before = shown(rt, alloc, debugger);
+    let mut copy = debugger.copy().expect(rt, "a copy");
+    is_shown(rt, alloc, &copy, before.as_str());
+    same(rt, copy.steps().len(), debugger.depth());
+    same(rt, copy.apply(step), Ok(()));
+    is_shown(rt, alloc, debugger, before.as_str());
+    same(rt, debugger.steps().len(), kept);
+}
+
+/// Runs, and asserts where it stops.
+fn runs(
+    rt: &impl Abort,
+    alloc: Global,
+    debugger: &mut Debugger<'_>,
+    breaks: &Breaks,
+    max: usize,
+    wanted: Stop,
+) {
+    let stop = run(alloc, debugger, breaks, max).expect(rt, "memory for steps");
+    same(rt, stop, wanted);
+}
+
 /// Does one act, and asserts what must come of it.
 fn acts(rt: &impl Abort, alloc: Global, debugger: &mut Debugger<'_>, breaks: &Breaks, act: &Act) {
     match act {
-        Act::Run { max, stop } => {
-            let stopped = run(alloc, debugger, breaks, *max).expect(rt, "memory for steps");
-            same(rt, stopped, *stop);
-        }
+        Act::Run { max, stop } => runs(rt, alloc, debugger, breaks, *max, *stop),
         Act::RunBack(stop) => same(rt, run_back(debugger, breaks), *stop),
         Act::Take(step) => same(rt, debugger.apply(*step), Ok(())),
         Act::Refuses(step, fault) => same(rt, debugger.apply(*step), Err(*fault)),
         Act::Undo => same(rt, debugger.undo(), Ok(())),
+        Act::Copies(step, kept) => copies(rt, alloc, debugger, *step, *kept),
         Act::Forced(_) | Act::Chooses(_) | Act::Ended => decides(rt, alloc, debugger, act),
     }
 }
@@ -229,68 +283,42 @@ fn runs_and_stops(rt: HostRuntime) {
     each(&rt, rt.alloc(), DRIVES);
 }
 
-/// What is shown of a debugger behind its first line, which must be this one.
-fn shown_behind(rt: &impl Abort, alloc: Global, debugger: &Debugger<'_>, head: &str) -> String {
-    let text = show(
-        alloc,
-        debugger.core(),
-        debugger.depth(),
-        debugger.steps().len(),
-    );
-    let text = text.expect(rt, "the text");
-    let Some(rest) = text.as_str().strip_prefix(head) else {
-        panic!(rt; "another first line");
-    };
-    String::from_str(alloc, rest).expect(rt, "memory for a text")
+/// What is done with breakpoints, and last what it answers.
+enum Mark {
+    Add(Break, Option<usize>),
+    Get(usize, Option<Break>),
+    Remove(usize, bool),
 }
 
-/// Asserts that two texts are one.
-fn is_same_text(rt: &impl Abort, found: &String, wanted: &String) {
-    same(rt, found.as_str(), wanted.as_str());
-}
-
-/// A copy shows the same state as the debugger that it was made of, and keeps none of its undone steps; a step of the copy is none
-/// of the other's.
-fn copies_so(rt: &impl Abort, alloc: Global, code: &Code) {
-    let mut debugger = Debugger::start(alloc, code, Mode::Rendezvous).expect(rt, "a debugger");
-    let stop = run(alloc, &mut debugger, &Breaks::new(), 100).expect(rt, "memory for steps");
-    same(rt, (stop.steps, stop.cause), (6, Cause::Choice));
-    same(rt, debugger.apply(BACKWARD), Ok(()));
-    same(rt, debugger.undo(), Ok(()));
-    let mut copy = debugger.copy().expect(rt, "a copy");
-    let shown = shown_behind(rt, alloc, &debugger, "depth 6 of 7\n");
-    let copied = shown_behind(rt, alloc, &copy, "depth 6 of 6\n");
-    is_same_text(rt, &copied, &shown);
-    same(rt, copy.apply(BACKWARD), Ok(()));
-    let again = shown_behind(rt, alloc, &debugger, "depth 6 of 7\n");
-    is_same_text(rt, &again, &shown);
-}
-
-#[test]
-fn copies_at_a_depth(rt: HostRuntime) {
-    let code = lowered(&rt, rt.alloc(), RACE);
-    copies_so(&rt, rt.alloc(), &code);
-}
-
-/// Asserts that all places are taken in turn, and no more.
-fn fills(rt: &impl Abort, breaks: &mut Breaks) {
-    for number in 0..BREAKS_MAX {
-        same(rt, breaks.add(Break::Line(number)), Some(number));
+fn marks(rt: &impl Abort, breaks: &mut Breaks, mark: &Mark) {
+    match mark {
+        Mark::Add(stop, wanted) => same(rt, breaks.add(*stop), *wanted),
+        Mark::Get(number, wanted) => same(rt, breaks.get(*number), *wanted),
+        Mark::Remove(number, wanted) => same(rt, breaks.remove(*number), *wanted),
     }
-    same(rt, breaks.add(Break::Line(1)), None);
 }
+
+/// Behind as many breakpoints as there may be, of line N at place N.
+const MARKS: &[Mark] = &[
+    Mark::Add(Break::Line(1), None),
+    Mark::Get(63, Some(Break::Line(63))),
+    Mark::Get(64, None),
+    Mark::Remove(9, true),
+    Mark::Remove(9, false),
+    Mark::Remove(64, false),
+    Mark::Remove(3, true),
+    Mark::Add(Break::Match(2), Some(3)),
+    Mark::Get(3, Some(Break::Match(2))),
+    Mark::Get(9, None),
+];
 
 #[test]
 fn numbers_breakpoints(rt: HostRuntime) {
     let mut breaks = Breaks::new();
-    fills(&rt, &mut breaks);
-    same(&rt, breaks.get(63), Some(Break::Line(63)));
-    same(&rt, breaks.get(64), None);
-    same(&rt, breaks.remove(9), true);
-    same(&rt, breaks.remove(9), false);
-    same(&rt, breaks.remove(64), false);
-    same(&rt, breaks.remove(3), true);
-    same(&rt, breaks.add(Break::Match(2)), Some(3));
-    same(&rt, breaks.get(3), Some(Break::Match(2)));
-    same(&rt, breaks.get(9), None);
+    for number in 0..BREAKS_MAX {
+        same(&rt, breaks.add(Break::Line(number)), Some(number));
+    }
+    for mark in MARKS {
+        marks(&rt, &mut breaks, mark);
+    }
 }
