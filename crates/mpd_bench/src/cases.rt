@@ -1,281 +1,391 @@
-//! Scripts, and steps of theirs that are enabled one after the other.
+//! What is measured: a script, where in it, what is asked there, and how often.
 
 use mpd_model::step::{CallId, Step};
-use std::alloc::{AllocError, Global};
+
+/// What is asked of a debugger.
+#[derive(Clone, Copy, Debug, PartialEq, Eq)]
+pub(crate) enum Ask {
+    /// Steps, each taken by itself, and all taken back, the last first.
+    Steps,
+    /// The list of enabled steps.
+    Enabled,
+    /// How the run has ended.
+    Outcome,
+    /// The step that nobody has to choose.
+    Forced,
+    /// The whole decision.
+    Decision,
+    /// A run along decisions.
+    Run,
+    /// A run back to the start.
+    Back,
+}
+
+/// Which steps are measured.
+#[derive(Clone, Copy)]
+pub(crate) enum Measured {
+    /// Those of so many decisions.
+    Decided(Count),
+    /// These, with the number of the case added to that of each call.
+    Given(&'static [Step]),
+    /// These, as they are.
+    Fixed(&'static [Step]),
+}
+
+/// How many there are of something, by the number of a case: so many for each one of it, and so many more.
+#[derive(Clone, Copy)]
+pub(crate) struct Count {
+    pub(crate) each: usize,
+    pub(crate) more: usize,
+}
+
+/// A kind of case: a script, the steps before what is measured, and what is measured there.
+#[derive(Clone, Copy)]
+pub(crate) struct Kind {
+    /// What its lines say before the number.
+    pub(crate) what: &'static str,
+    pub(crate) numbers: &'static [usize],
+    pub(crate) script: &'static [u8],
+    /// So many local steps of each rank, as far as it can go; then so many steps along decisions; then these.
+    pub(crate) locals: Count,
+    pub(crate) decided: Count,
+    pub(crate) then: &'static [Step],
+    pub(crate) ask: Ask,
+    pub(crate) measured: Measured,
+    /// How many things a line tells of are measured in one go, and in all.
+    pub(crate) parts: Count,
+    pub(crate) whole: usize,
+}
 
 /// A loop whose every second step writes a variable.
-pub(crate) const LOOP: &[u8] = b"mpd 1; ranks 1; var i; while 1 { i = i + 1; }";
+const LOOP: &[u8] = b"mpd 1; ranks 1; var i; while 1 { i = i + 1; }";
 
-/// A rank that sends for ever, and one that receives.
-pub(crate) const MESSAGES: &[u8] = b"mpd 1; ranks 2; var x; \
+/// A rank that sends for ever, and one that receives. Behind its first steps a message takes seven: rank 0 is woken, goes round
+/// and sends, rank 1 is woken, goes round and receives, and the two are matched.
+const MESSAGES: &[u8] = b"mpd 1; ranks 2; var x; \
     if rank == 0 { while 1 { send 1 to 1 tag 0; } } else { while 1 { recv x from 0 tag 0; } }";
 
 /// A rank that sends to itself for ever, and waits for nothing.
-pub(crate) const REQUESTS: &[u8] = b"mpd 1; ranks 1; req r; while 1 { isend r 1 to 0 tag 0; }";
+const REQUESTS: &[u8] = b"mpd 1; ranks 1; req r; while 1 { isend r 1 to 0 tag 0; }";
 
 /// A rank that waits for what it has sent to itself.
-pub(crate) const WAIT: &[u8] =
+const WAIT: &[u8] =
     b"mpd 1; ranks 1; var x; req r; isend r 1 to 0 tag 0; recv x from 0 tag 0; wait r;";
 
 /// 500 sends and 500 receives of another tag, for which nobody waits.
-pub(crate) const STUCK: &[u8] = b"mpd 1; ranks 2; var i; var x; req r; \
+const STUCK: &[u8] = b"mpd 1; ranks 2; var i; var x; req r; \
     while i < 500 { if rank == 0 { isend r i to 1 tag 1; } else { irecv r x from 0 tag 2; } i = i + 1; }";
 
 /// A thousand messages, behind which both ranks end.
-pub(crate) const THOUSAND: &[u8] = b"mpd 1; ranks 2; var i; var x; \
+const THOUSAND: &[u8] = b"mpd 1; ranks 2; var i; var x; \
     while i < 1000 { if rank == 0 { send i to 1 tag 0; } else { recv x from 0 tag 0; } i = i + 1; }";
 
-/// Ranks that send to rank 0 for ever, which receives from any of them: how many send, and the script.
-pub(crate) const GATHER: [(usize, &[u8]); 3] = [
-    (
-        2,
-        b"mpd 1; ranks 3; var x; req r; if rank == 0 { recv x from any tag any; } else { while 1 { isend r 1 to 0 tag 0; } }",
-    ),
-    (
-        7,
-        b"mpd 1; ranks 8; var x; req r; if rank == 0 { recv x from any tag any; } else { while 1 { isend r 1 to 0 tag 0; } }",
-    ),
-    (
-        15,
-        b"mpd 1; ranks 16; var x; req r; if rank == 0 { recv x from any tag any; } else { while 1 { isend r 1 to 0 tag 0; } }",
-    ),
-];
+/// Ranks that send to rank 0 for ever, which receives from any of them: two, seven and fifteen of them.
+const OF_TWO: &[u8] =
+    b"mpd 1; ranks 3; var x; req r; if rank == 0 { recv x from any tag any; } else { while 1 { isend r 1 to 0 tag 0; } }";
 
-/// Ranks in a ring: each sends to the next one for ever, receives from the one before, and meets all others at a barrier.
-pub(crate) const RING: &[u8] = b"mpd 1; ranks 16; var x; req r; \
+const OF_SEVEN: &[u8] =
+    b"mpd 1; ranks 8; var x; req r; if rank == 0 { recv x from any tag any; } else { while 1 { isend r 1 to 0 tag 0; } }";
+
+const OF_FIFTEEN: &[u8] =
+    b"mpd 1; ranks 16; var x; req r; if rank == 0 { recv x from any tag any; } else { while 1 { isend r 1 to 0 tag 0; } }";
+
+/// Ranks in a ring: each sends to the next one for ever, receives from the one before, and meets all others at a barrier. A lap
+/// is five local steps, a match and two wakes of each rank, and a release.
+const RING: &[u8] = b"mpd 1; ranks 16; var x; req r; \
     while 1 { isend r 1 to (rank + 1) % size tag 0; recv x from (rank + size - 1) % size tag 0; wait r; barrier; }";
 
-/// How many ranks there are in the ring.
-const RING_RANKS: usize = 16;
+/// None, and one.
+const NONE: Count = Count { each: 0, more: 0 };
 
-/// How many calls a rank of the ring issues in a lap: the send, the receive, the wait and the barrier.
-const LAP_CALLS: usize = 4;
+const ONE: Count = Count { each: 0, more: 1 };
 
-/// How many laps of the ring were made before what is measured.
-pub(crate) const LAPS: [usize; 4] = [1, 10, 100, 1_000];
+/// As many as the number says.
+const NUMBER: Count = Count { each: 1, more: 0 };
 
-/// How many messages of each sender wait.
-pub(crate) const WAITING: [usize; 3] = [1, 30, 1_000];
+/// As many steps as there are, up to the end of a run or a choice.
+const ALL: Count = Count {
+    each: 0,
+    more: 1_000_000,
+};
+
+/// So many requests of a rank, up to its next one, and so many local steps that issue as many.
+const REQUESTED: Count = Count { each: 2, more: 1 };
+
+/// The seven steps of each of so many messages, and the first of them.
+const ROUNDS: Count = Count { each: 7, more: 0 };
+
+const FIRST_ROUND: Count = Count { each: 0, more: 7 };
+
+/// The 129 steps of each of so many laps, and of one.
+const LAPS: Count = Count { each: 129, more: 0 };
+
+const LAP: Count = Count { each: 0, more: 129 };
 
 /// How many calls there were before what is measured.
-pub(crate) const EARLIER: [usize; 4] = [100, 1_000, 10_000, 100_000];
+const EARLIER: &[usize] = &[100, 1_000, 10_000, 100_000];
 
-/// So many local steps of rank 0.
-pub(crate) fn locals(alloc: Global, count: usize) -> Result<Vec<Step>, AllocError> {
-    let mut steps = Vec::new(alloc);
-    push_locals(&mut steps, 0, count)?;
-    Ok(steps)
-}
+/// How many messages of each sender wait.
+const WAITING: &[usize] = &[1, 30, 1_000];
 
-/// Adds so many local steps of a rank.
-fn push_locals(steps: &mut Vec<Step>, rank: usize, count: usize) -> Result<(), AllocError> {
-    for _ in 0..count {
-        steps.push(Step::Local(rank))?;
-    }
-    Ok(())
-}
+/// No steps are given.
+const NO_STEPS: Measured = Measured::Fixed(&[]);
 
-/// What pairs the calls of a number of both ranks, and wakes these.
-fn meeting(number: usize) -> [Step; 3] {
-    let send = CallId {
-        rank: 0,
-        index: number,
-    };
-    let recv = CallId {
-        rank: 1,
-        index: number,
-    };
-    [Step::Match(send, recv), Step::Wake(0), Step::Wake(1)]
-}
+/// How often a few steps are taken and undone, and how often it is asked for lists.
+const TIMES: usize = 200_000;
 
-/// Adds so many local steps of both ranks, the match and the wakes of the message of that number.
-fn push_message(steps: &mut Vec<Step>, number: usize, locals: usize) -> Result<(), AllocError> {
-    push_locals(steps, 0, locals)?;
-    push_locals(steps, 1, locals)?;
-    for step in meeting(number) {
-        steps.push(step)?;
-    }
-    Ok(())
-}
+const LISTS: usize = 10_000;
 
-/// Adds the steps of so many messages in a row, each with so many local steps of both ranks.
-fn push_row(steps: &mut Vec<Step>, count: usize, locals: usize) -> Result<(), AllocError> {
-    for number in 0..count {
-        push_message(steps, number, locals)?;
-    }
-    Ok(())
-}
+/// The first call of rank 0.
+const FIRST: CallId = CallId { rank: 0, index: 0 };
 
-/// The steps of so many messages in a row, each with so many local steps of both ranks.
-pub(crate) fn row(alloc: Global, count: usize, locals: usize) -> Result<Vec<Step>, AllocError> {
-    let mut steps = Vec::new(alloc);
-    push_row(&mut steps, count, locals)?;
-    Ok(steps)
-}
+/// Behind a match both ranks go on, up to their next calls.
+const ON: &[Step] = &[Step::Wake(0), Step::Wake(1), Step::Local(0), Step::Local(1)];
 
-/// The steps of so many messages, up to where both ranks come to their next calls.
-pub(crate) fn messages(alloc: Global, count: usize) -> Result<Vec<Step>, AllocError> {
-    let mut steps = Vec::new(alloc);
-    push_locals(&mut steps, 0, 1)?;
-    push_locals(&mut steps, 1, 1)?;
-    push_row(&mut steps, count, 2)?;
-    push_locals(&mut steps, 0, 1)?;
-    push_locals(&mut steps, 1, 1)?;
-    Ok(steps)
-}
+/// Both ranks issue their calls, which are matched, and both are woken.
+const MESSAGE: &[Step] = &[
+    Step::Local(0),
+    Step::Local(1),
+    Step::Match(FIRST, CallId { rank: 1, index: 0 }),
+    Step::Wake(0),
+    Step::Wake(1),
+];
 
-/// The message of that number.
-pub(crate) fn message(alloc: Global, number: usize) -> Result<Vec<Step>, AllocError> {
-    let mut steps = Vec::new(alloc);
-    push_message(&mut steps, number, 1)?;
-    Ok(steps)
-}
+/// The first message of the last of two, seven and fifteen senders is received by rank 0.
+const LAST_OF_TWO: Step = Step::Match(CallId { rank: 2, index: 0 }, FIRST);
 
-/// The steps of so many requests of a rank, up to where it comes to its next one.
-pub(crate) fn requests(alloc: Global, count: usize) -> Result<Vec<Step>, AllocError> {
-    let mut steps = Vec::new(alloc);
-    push_locals(&mut steps, 0, count)?;
-    push_locals(&mut steps, 0, count)?;
-    push_locals(&mut steps, 0, 1)?;
-    Ok(steps)
-}
+const LAST_OF_SEVEN: Step = Step::Match(CallId { rank: 7, index: 0 }, FIRST);
 
-/// A rank sends to itself, and has its message.
-pub(crate) fn sent_to_itself() -> [Step; 4] {
-    let send = CallId { rank: 0, index: 0 };
-    let recv = CallId { rank: 0, index: 1 };
-    [
-        Step::Local(0),
-        Step::Local(0),
-        Step::Match(send, recv),
-        Step::Wake(0),
-    ]
-}
+const LAST_OF_FIFTEEN: Step = Step::Match(CallId { rank: 15, index: 0 }, FIRST);
 
-/// A thousand messages, and their end.
-pub(crate) fn thousand(alloc: Global) -> Result<Vec<Step>, AllocError> {
-    let mut steps = Vec::new(alloc);
-    for number in 0..1_000 {
-        push_message(&mut steps, number, 3)?;
-        push_locals(&mut steps, 0, 1)?;
-        push_locals(&mut steps, 1, 1)?;
-    }
-    push_locals(&mut steps, 0, 1)?;
-    push_locals(&mut steps, 1, 1)?;
-    Ok(steps)
-}
-
-/// Adds so many local steps of each of the ranks 1 to `last`.
-fn push_senders(steps: &mut Vec<Step>, last: usize, locals: usize) -> Result<(), AllocError> {
-    for rank in 1..=last {
-        push_locals(steps, rank, locals)?;
-    }
-    Ok(())
-}
-
-/// Adds so many times two local steps of each of the ranks 1 to `last`.
-fn push_sent(steps: &mut Vec<Step>, last: usize, count: usize) -> Result<(), AllocError> {
-    for _ in 0..count {
-        push_senders(steps, last, 2)?;
-    }
-    Ok(())
-}
-
-/// The steps by which rank 0 receives from any, and each of the others sends so many messages.
-pub(crate) fn gathered(
-    alloc: Global,
-    senders: usize,
-    count: usize,
-) -> Result<Vec<Step>, AllocError> {
-    let mut steps = Vec::new(alloc);
-    push_locals(&mut steps, 0, 2)?;
-    push_senders(&mut steps, senders, 1)?;
-    push_sent(&mut steps, senders, count)?;
-    Ok(steps)
-}
-
-/// The first message of the last sender is received by rank 0.
-pub(crate) fn taken_from(sender: usize) -> [Step; 1] {
-    let send = CallId {
-        rank: sender,
-        index: 0,
-    };
-    let recv = CallId { rank: 0, index: 0 };
-    [Step::Match(send, recv)]
-}
-
-/// Adds so many local steps of each rank of the ring.
-fn push_ring_locals(steps: &mut Vec<Step>, locals: usize) -> Result<(), AllocError> {
-    for rank in 0..RING_RANKS {
-        push_locals(steps, rank, locals)?;
-    }
-    Ok(())
-}
-
-/// The rank of the ring behind one.
-fn next_in_ring(rank: usize) -> usize {
-    if rank < RING_RANKS - 1 { rank + 1 } else { 0 }
-}
-
-/// Adds the matches of the ring by which each rank's call of a number, its send, is paired with the next call of the rank behind it.
-fn push_ring_matches(steps: &mut Vec<Step>, number: usize) -> Result<(), AllocError> {
-    for rank in 0..RING_RANKS {
-        let send = CallId {
-            rank,
-            index: number,
-        };
-        let recv = CallId {
-            rank: next_in_ring(rank),
-            index: number.saturating_add(1),
-        };
-        steps.push(Step::Match(send, recv))?;
-    }
-    Ok(())
-}
-
-/// Adds the steps of a rank of the ring that has its message: the wakes from its receive and from its wait, each with the local
-/// step behind it.
-fn push_woken(steps: &mut Vec<Step>, rank: usize) -> Result<(), AllocError> {
-    for step in [
-        Step::Wake(rank),
-        Step::Local(rank),
-        Step::Wake(rank),
-        Step::Local(rank),
-    ] {
-        steps.push(step)?;
-    }
-    Ok(())
-}
-
-/// Adds these steps of each rank of the ring.
-fn push_ring_woken(steps: &mut Vec<Step>) -> Result<(), AllocError> {
-    for rank in 0..RING_RANKS {
-        push_woken(steps, rank)?;
-    }
-    Ok(())
-}
-
-/// Adds the steps of the lap of that number, the release from its barrier included.
-fn push_lap(steps: &mut Vec<Step>, number: usize) -> Result<(), AllocError> {
-    push_ring_locals(steps, 3)?;
-    push_ring_matches(steps, number.saturating_mul(LAP_CALLS))?;
-    push_ring_woken(steps)?;
-    steps.push(Step::Release)?;
-    Ok(())
-}
-
-/// The steps of so many laps of the ring.
-pub(crate) fn laps(alloc: Global, count: usize) -> Result<Vec<Step>, AllocError> {
-    let mut steps = Vec::new(alloc);
-    for number in 0..count {
-        push_lap(&mut steps, number)?;
-    }
-    Ok(steps)
-}
-
-/// The steps of the lap of that number.
-pub(crate) fn lap(alloc: Global, number: usize) -> Result<Vec<Step>, AllocError> {
-    let mut steps = Vec::new(alloc);
-    push_lap(&mut steps, number)?;
-    Ok(steps)
-}
+/// All that is measured.
+pub(crate) const KINDS: &[Kind] = &[
+    Kind {
+        what: "a local step and its undo, on a trail of",
+        numbers: &[1_000, 10_000, 100_000],
+        script: LOOP,
+        locals: NONE,
+        decided: NONE,
+        then: &[],
+        ask: Ask::Steps,
+        measured: Measured::Decided(NUMBER),
+        parts: NUMBER,
+        whole: 10_000_000,
+    },
+    Kind {
+        what: "a message, 5 steps and their undos, behind",
+        numbers: EARLIER,
+        script: MESSAGES,
+        locals: NONE,
+        decided: ROUNDS,
+        then: ON,
+        ask: Ask::Steps,
+        measured: Measured::Given(MESSAGE),
+        parts: ONE,
+        whole: TIMES,
+    },
+    Kind {
+        what: "an isend and its undo, behind",
+        numbers: EARLIER,
+        script: REQUESTS,
+        locals: NONE,
+        decided: REQUESTED,
+        then: &[],
+        ask: Ask::Steps,
+        measured: Measured::Decided(ONE),
+        parts: ONE,
+        whole: TIMES,
+    },
+    Kind {
+        what: "a wait and its wake, with their undos, behind",
+        numbers: &[4],
+        script: WAIT,
+        locals: NONE,
+        decided: NUMBER,
+        then: &[],
+        ask: Ask::Steps,
+        measured: Measured::Decided(Count { each: 0, more: 2 }),
+        parts: ONE,
+        whole: TIMES,
+    },
+    Kind {
+        what: "a message, 7 steps and their undos, of a row of",
+        numbers: &[1, 10, 100, 1_000, 10_000],
+        script: MESSAGES,
+        locals: NONE,
+        decided: FIRST_ROUND,
+        then: &[],
+        ask: Ask::Steps,
+        measured: Measured::Decided(ROUNDS),
+        parts: NUMBER,
+        whole: 50_000,
+    },
+    Kind {
+        what: "a lap of 16 ranks, 129 steps and their undos, behind",
+        numbers: &[1, 10, 100, 1_000],
+        script: RING,
+        locals: NONE,
+        decided: LAPS,
+        then: &[],
+        ask: Ask::Steps,
+        measured: Measured::Decided(LAP),
+        parts: ONE,
+        whole: 5_000,
+    },
+    Kind {
+        what: "the outcome where messages have ended,",
+        numbers: &[1_000],
+        script: THOUSAND,
+        locals: NONE,
+        decided: ALL,
+        then: &[],
+        ask: Ask::Outcome,
+        measured: NO_STEPS,
+        parts: ONE,
+        whole: 1_000,
+    },
+    Kind {
+        what: "2 senders, a match of the last and its undo, messages of each:",
+        numbers: WAITING,
+        script: OF_TWO,
+        locals: REQUESTED,
+        decided: NONE,
+        then: &[],
+        ask: Ask::Steps,
+        measured: Measured::Fixed(&[LAST_OF_TWO]),
+        parts: ONE,
+        whole: TIMES,
+    },
+    Kind {
+        what: "2 senders, the enabled steps, messages of each:",
+        numbers: WAITING,
+        script: OF_TWO,
+        locals: REQUESTED,
+        decided: NONE,
+        then: &[],
+        ask: Ask::Enabled,
+        measured: NO_STEPS,
+        parts: ONE,
+        whole: LISTS,
+    },
+    Kind {
+        what: "7 senders, a match of the last and its undo, messages of each:",
+        numbers: WAITING,
+        script: OF_SEVEN,
+        locals: REQUESTED,
+        decided: NONE,
+        then: &[],
+        ask: Ask::Steps,
+        measured: Measured::Fixed(&[LAST_OF_SEVEN]),
+        parts: ONE,
+        whole: TIMES,
+    },
+    Kind {
+        what: "7 senders, the enabled steps, messages of each:",
+        numbers: WAITING,
+        script: OF_SEVEN,
+        locals: REQUESTED,
+        decided: NONE,
+        then: &[],
+        ask: Ask::Enabled,
+        measured: NO_STEPS,
+        parts: ONE,
+        whole: LISTS,
+    },
+    Kind {
+        what: "15 senders, a match of the last and its undo, messages of each:",
+        numbers: WAITING,
+        script: OF_FIFTEEN,
+        locals: REQUESTED,
+        decided: NONE,
+        then: &[],
+        ask: Ask::Steps,
+        measured: Measured::Fixed(&[LAST_OF_FIFTEEN]),
+        parts: ONE,
+        whole: TIMES,
+    },
+    Kind {
+        what: "15 senders, the enabled steps, messages of each:",
+        numbers: WAITING,
+        script: OF_FIFTEEN,
+        locals: REQUESTED,
+        decided: NONE,
+        then: &[],
+        ask: Ask::Enabled,
+        measured: NO_STEPS,
+        parts: ONE,
+        whole: LISTS,
+    },
+    Kind {
+        what: "a step of a run, local steps, in all",
+        numbers: &[1_000_000],
+        script: LOOP,
+        locals: NONE,
+        decided: NONE,
+        then: &[],
+        ask: Ask::Run,
+        measured: NO_STEPS,
+        parts: NUMBER,
+        whole: 1_000_000,
+    },
+    Kind {
+        what: "a step of a run back, local steps, in all",
+        numbers: &[1_000_000],
+        script: LOOP,
+        locals: NONE,
+        decided: NUMBER,
+        then: &[],
+        ask: Ask::Back,
+        measured: NO_STEPS,
+        parts: NUMBER,
+        whole: 1_000_000,
+    },
+    Kind {
+        what: "a step of a run, messages in a row, in all",
+        numbers: &[1_000_000],
+        script: MESSAGES,
+        locals: NONE,
+        decided: NONE,
+        then: &[],
+        ask: Ask::Run,
+        measured: NO_STEPS,
+        parts: NUMBER,
+        whole: 1_000_000,
+    },
+    Kind {
+        what: "a step of a run back, messages in a row, in all",
+        numbers: &[1_000_000],
+        script: MESSAGES,
+        locals: NONE,
+        decided: NUMBER,
+        then: &[],
+        ask: Ask::Back,
+        measured: NO_STEPS,
+        parts: NUMBER,
+        whole: 1_000_000,
+    },
+    Kind {
+        what: "to see that no step is forced, sends and receives that do not fit:",
+        numbers: &[500],
+        script: STUCK,
+        locals: NONE,
+        decided: ALL,
+        then: &[],
+        ask: Ask::Forced,
+        measured: NO_STEPS,
+        parts: ONE,
+        whole: 100,
+    },
+    Kind {
+        what: "the decision there:",
+        numbers: &[500],
+        script: STUCK,
+        locals: NONE,
+        decided: ALL,
+        then: &[],
+        ask: Ask::Decision,
+        measured: NO_STEPS,
+        parts: ONE,
+        whole: 100,
+    },
+];

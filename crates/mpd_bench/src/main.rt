@@ -3,18 +3,15 @@
 //! (docs/SPEED.md, "Memory").
 #![tactic(auto)]
 
+mod calls;
 mod cases;
-mod runs;
+mod measure;
 mod talk;
-mod timing;
 
 use std::process::ExitCode;
 
 fn main(rt: HostRuntime) -> ExitCode {
-    match talk::between_marks(&rt)
-        .and_then(|()| timing::all(&rt))
-        .and_then(|()| runs::all(&rt))
-    {
+    match talk::between_marks(&rt).and_then(|()| measure::all(&rt)) {
         Some(()) => ExitCode::SUCCESS,
         None => ExitCode::from(3),
     }

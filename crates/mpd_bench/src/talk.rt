@@ -1,12 +1,7 @@
 //! Steps of every kind and their undos, between two marks.
 
-use mpd_code::lower::lower;
-use mpd_core::state::Core;
-use mpd_device::steps::Steps;
-use mpd_match::board::Board;
-use mpd_model::call::Mode;
-use mpd_model::step::{CallId, Step};
-use mpd_script::read;
+use crate::calls::{code_of, forced, started, take, undo};
+use mpd_model::step::Step;
 use mpd_trail::debugger::Debugger;
 
 /// Two ranks that assign, print, send and receive for ever, wait, and meet at a barrier. Sends are standard ones and synchronous
@@ -40,45 +35,6 @@ const NONE: Taken = Taken {
     releases: 0,
 };
 
-/// The first free send of rank 0 to rank 1 with the first free receive of that, where there are both.
-fn first_pair(board: &Board) -> Option<Step> {
-    if board.rank_count() < 2 {
-        return None;
-    }
-    let mut looks = Steps::new();
-    let send = board.first_pending(0, 1, &mut looks)?;
-    let recv = board.first_posted(1, &mut looks)?;
-    Some(Step::Match(
-        CallId {
-            rank: 0,
-            index: send,
-        },
-        CallId {
-            rank: 1,
-            index: recv,
-        },
-    ))
-}
-
-/// The first step that is enabled of a match, the release, the wakes and the local steps of two ranks.
-fn next_step(core: &Core<'_>) -> Option<Step> {
-    let pair = first_pair(core.board()).unwrap_or(Step::Release);
-    let steps = [
-        pair,
-        Step::Release,
-        Step::Wake(0),
-        Step::Wake(1),
-        Step::Local(0),
-        Step::Local(1),
-    ];
-    for step in steps {
-        if core.is_enabled(step) {
-            return Some(step);
-        }
-    }
-    None
-}
-
 /// Counts a step by its kind.
 fn count(taken: &mut Taken, step: Step) {
     let counter = match step {
@@ -90,38 +46,48 @@ fn count(taken: &mut Taken, step: Step) {
     *counter = counter.saturating_add(1);
 }
 
+/// Takes the step that is forced, of whatever kind.
+fn go(debugger: &mut Debugger<'_>, taken: &mut Taken) -> Option<()> {
+    let step = forced(debugger)?;
+    take(debugger, step)?;
+    count(taken, step);
+    Some(())
+}
+
 /// Takes steps of every kind, and undoes them all, the last first.
 fn talk(debugger: &mut Debugger<'_>, taken: &mut Taken) -> Option<()> {
     for _ in 0..STEPS {
-        let step = next_step(debugger.core())?;
-        debugger.apply(step).ok()?;
-        count(taken, step);
+        go(debugger, taken)?;
     }
     for _ in 0..STEPS {
-        debugger.undo().ok()?;
+        undo(debugger)?;
     }
     Some(())
 }
 
-/// Takes and undoes 10,000 steps of every kind between two marks; the room that they need was kept by taking them once.
-pub(crate) fn between_marks(rt: &HostRuntime) -> Option<()> {
-    let script = read(rt.alloc(), TALK).ok()?;
-    let code = lower(rt.alloc(), script).ok()?;
-    let mut debugger = Debugger::start(rt.alloc(), &code, Mode::Rendezvous).ok()?;
+/// Takes and undoes 10,000 steps of every kind between two marks, and answers how many of each.
+fn talk_marked(rt: &HostRuntime, debugger: &mut Debugger<'_>) -> Option<Taken> {
     let mut taken = NONE;
-    talk(&mut debugger, &mut taken)?;
-    taken = NONE;
     println!(rt; "mark begin").ok()?;
     for _ in 0..TIMES {
-        talk(&mut debugger, &mut taken)?;
+        talk(debugger, &mut taken)?;
     }
     println!(rt; "mark end").ok()?;
+    Some(taken)
+}
+
+/// Takes and undoes them between the marks; the room that they need was kept by taking them once.
+pub(crate) fn between_marks(rt: &HostRuntime) -> Option<()> {
+    let code = code_of(rt.alloc(), TALK)?;
+    let mut debugger = started(rt.alloc(), &code)?;
+    let mut before = NONE;
+    talk(&mut debugger, &mut before)?;
     let Taken {
         locals,
         matches,
         wakes,
         releases,
-    } = taken;
+    } = talk_marked(rt, &mut debugger)?;
     println!(rt;
         "steps and undos: local {locals}, match {matches}, wake {wakes}, release {releases}"
     ).ok()

@@ -263,6 +263,7 @@ impl<'c> Core<'c> {
     }
 
     /// Whether a step is enabled.
+    #[inline(always)]
     pub fn is_enabled(&self, step: Step) -> bool
         ensures { result ≡ is_enabled self.now.world step }
     {
