@@ -26,7 +26,7 @@ ODD_FRONTS = ('', '', 'leaf 0 [] ', 'leaf 7 [0 1 12] ', 'leaf 1000000000 [] ', '
 ODD_NAMES = ('', '', 'witness 7: ', 'witness 0:', 'witness 0:  ', 'witness: ', 'witness ', 'a:', ':', ': ', '::', ' ', '\t', 'witness 0: witness 0: ', 'leaf 0: ',
              'local 0, : ', '\xff:', 'a: b: ')
 ODD_OUTCOMES = ('done', 'leftovers', 'trap', 'cut', 'Deadlock', 'deadlocks', 'dead lock', '', 'outcome deadlock')
-ODD_CALLS = ('0', '0.', '.0', '0.0.0', '0.-1', '0,0', '1000000000.0', '0.1000000000', '00.00', '0.0,', 'x', '0.x', '999999999.999999999', '\t0.0')
+ODD_CALLS = ('', '', '0', '0.', '.0', '0.0.0', '0.-1', '0,0', '1000000000.0', '0.1000000000', '00.00', '0.0,', 'x', '0.x', '999999999.999999999', '\t0.0')
 ENDS = ('', '', '\n\n', '\n\n\n', '\r\n', '\r', '\n\r\n', '\n\r', '\n\r\r\n', '\n ', ' \n', '\t', '\nlocal 0\n', '\nleaves 1 more no\n', '\n\x00', '\n\nx', '\r\r\n', ',\n',
         ', \n', '\x0b\n', '\x0c')
 BETWEEN = (',', ' ,', ',  ', '\t,', ',\t', ' ', ';', ',,', ', ,')
