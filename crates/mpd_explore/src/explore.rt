@@ -12,6 +12,7 @@ ghost use Rattle.std.specs.List.{AllByRecursion};
 
 use crate::report::{ChoiceList, Leaf, Limits, Report};
 use crate::search::{Bounds, Open, advance, descend, go_back};
+use crate::watch::Watch;
 use mpd_model::limits::STEPS_MAX;
 use mpd_policy::decide::decisions_can_be_followed;
 use mpd_trail::debugger::Debugger;
@@ -28,12 +29,13 @@ fn choices_here(alloc: Global, stack: &[Open]) -> Result<ChoiceList, AllocError>
     Ok(ChoiceList { items })
 }
 
-/// The first leaves from here, and whether there are more. The debugger is left anywhere above the base.
-fn collect(
+/// The first leaves from here, each told as it is found, and whether there are more. The debugger is left anywhere above the base.
+fn collect<W: Watch>(
     alloc: Global,
     debugger: &mut Debugger<'_>,
     bounds: Bounds,
     runs: usize,
+    watch: &mut W,
 ) -> Result<Report, AllocError>
     requires at { At (first_of debugger.old.trail) bounds [] (standing_of debugger.old) }
     requires few { bounds.limit ≤ STEPS_MAX }
@@ -48,6 +50,7 @@ fn collect(
         let ending = descend(alloc, debugger, bounds, &mut stack)?;
         let choices = choices_here(alloc, &stack)?;
         leaves.push(Leaf { choices, ending })?;
+        watch.leaf(turn + 1);
         let has_next = advance(debugger, bounds, &mut stack)?;
         if !has_next {
             return Ok(Report {
@@ -72,11 +75,13 @@ pub(crate) fn put_back(debugger: &mut Debugger<'_>, base: usize)
 /// The first leaves of the runs from here, in the order of their choices, and whether there are more (docs/DEFINITIONS.md, "Runs of
 /// a script"). Fuel counts from here. The debugger is left as found, also where memory is refused, which is what an `Err` says. No
 /// undone step is kept, and the depth and the fuel are at most 1,000,000 steps together. Each leaf has a run, and each deadlock a
-/// witness, which `witness_of` makes and `verify` accepts.
-pub fn explore(
+/// witness, which `witness_of` makes and `verify` accepts. `watch` is told of each leaf as it is found: once, in order, with how many
+/// there are so far; nothing else depends on it.
+pub fn explore<W: Watch>(
     alloc: Global,
     debugger: &mut Debugger<'_>,
     limits: Limits,
+    watch: &mut W,
 ) -> Result<Report, AllocError>
     requires clean { length debugger.old.trail.steps ≡ debugger.old.trail.depth }
     requires fits { debugger.old.trail.depth + limits.fuel ≤ STEPS_MAX }
@@ -94,7 +99,7 @@ pub fn explore(
         base,
         limit: base + limits.fuel,
     };
-    let found = collect(alloc, debugger, bounds, limits.runs);
+    let found = collect(alloc, debugger, bounds, limits.runs, watch);
     put_back(debugger, base);
     found
 }

@@ -6,4 +6,5 @@ pub mod print;
 pub mod report;
 mod search;
 pub mod verify;
+pub mod watch;
 pub mod witness;

@@ -7,7 +7,7 @@ use Rattle.mpd_explore.specs.Report.{shown, to_show}
 use Rattle.mpd_explore.proofs.explore.collect.Given as goal
 
 abbrev pub invariant-loop-turn : goal.invariant-loop-turn
-invariant-loop-turn l = record {
+invariant-loop-turn g l = record {
   at : At (first_of l.fn.debugger.trail) l.bounds (reverse l.stack.items) (standing_of l.debugger);
   told : l.leaves.items ++ map shown (to_come (first_of l.fn.debugger.trail) l.bounds (reverse l.stack.items) (kept l.debugger.trail) l.debugger.world) ≡ to_show l.bounds (standing_of l.fn.debugger);
   counted : length l.leaves.items ≡ l.turn;

@@ -12,7 +12,7 @@ use Rattle.mpd_explore.specs.declared.report.Report as report
 use Rattle.mpd_explore.proofs.explore.explore.Goals as goal
 
 pub returns-clause-leaves : goal.returns-clause-leaves
-returns-clause-leaves c =
+returns-clause-leaves g c =
     let d = standing_of c.args.debugger.now in
     let b : Bounds = record { base = c.depth-base.result; limit = c.depth-base.result + c.args.limits.fuel } in
     let left : b.limit - length (kept d.trail) ≡ c.args.limits.fuel = omega (arith, length-kept d c.core.ensures.reached, c.depth-base.ensures.value) in
@@ -20,7 +20,7 @@ returns-clause-leaves c =
     rw all at c.collect-found.ensures.leaves
 
 pub returns-clause-more : goal.returns-clause-more
-returns-clause-more c =
+returns-clause-more g c =
     let d = standing_of c.args.debugger.now in
     let b : Bounds = record { base = c.depth-base.result; limit = c.depth-base.result + c.args.limits.fuel } in
     let left : b.limit - length (kept d.trail) ≡ c.args.limits.fuel = omega (arith, length-kept d c.core.ensures.reached, c.depth-base.ensures.value) in
@@ -28,6 +28,6 @@ returns-clause-more c =
     rw many at c.collect-found.ensures.more
 
 pub returns-clause-witnesses : goal.returns-clause-witnesses
-returns-clause-witnesses c =
+returns-clause-witnesses g c =
     let d = standing_of c.args.debugger.now in
-    on_ok c.collect-found.result _ _ (λ (r : report.Report) is. witnesses_hold d.trail.program d.trail.mode (kept d.trail) c.args.limits.fuel c.args.limits.runs d.world r.leaves.items c.decisions_can_be_followed.ensures.follow c.core.ensures.reached.world is) (returns-clause-leaves c)
+    on_ok c.collect-found.result _ _ (λ (r : report.Report) is. witnesses_hold d.trail.program d.trail.mode (kept d.trail) c.args.limits.fuel c.args.limits.runs d.world r.leaves.items c.decisions_can_be_followed.ensures.follow c.core.ensures.reached.world is) (returns-clause-leaves g c)

@@ -1,0 +1,16 @@
+//! Who is told of leaves while a search goes on.
+
+/// Who is told of each leaf as it is found. `explore` calls `leaf` once for each leaf that it lists, in the order of the list, before
+/// it looks for the next one. No contract speaks of these calls, since what is told goes to a person.
+pub trait Watch {
+    /// A leaf was found. `count` is how many are found so far, with this one, from 1.
+    fn leaf(&mut self, count: usize);
+}
+
+/// Tells nobody.
+#[derive(Clone, Copy, Debug)]
+pub struct Unwatched;
+
+impl Watch for Unwatched {
+    fn leaf(&mut self, _count: usize) {}
+}
