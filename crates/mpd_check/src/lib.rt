@@ -17,6 +17,7 @@ use mpd_device::device::Sink;
 use mpd_explore::explore::explore;
 use mpd_explore::print::print_report;
 use mpd_explore::report::{Ending, Leaf, Limits};
+use mpd_explore::watch::Watch;
 use mpd_lines::engine::EngineFault;
 use mpd_lines::outbox::write_all;
 use mpd_model::call::Mode;
@@ -62,14 +63,20 @@ fn finds(leaves: &[Leaf]) -> bool
 }
 
 /// Explores a script from its start, and makes the report's text. An `Err` is want of memory.
-fn tell(alloc: Global, code: &Code, mode: Mode, plan: Plan) -> Result<Told, AllocError>
+fn tell<P: Watch>(
+    alloc: Global,
+    code: &Code,
+    mode: Mode,
+    plan: Plan,
+    watch: &mut P,
+) -> Result<Told, AllocError>
     requires { plan.limits.fuel ≤ STEPS_MAX }
     ensures text { IfOk result (λ told. string_bytes told.text ≡ check_text code.now.program mode plan) }
     ensures found { IfOk result (λ told. told.found ≡ found_by code.now.program mode plan.limits) }
 {
     let Plan { limits, witnesses } = plan;
     let mut debugger = Debugger::start(alloc, code, mode)?;
-    let report = explore(alloc, &mut debugger, limits)?;
+    let report = explore(alloc, &mut debugger, limits, watch)?;
     let text = print_report(alloc, &mut debugger, limits.fuel, &report, witnesses)?;
     let found = finds(&report.leaves);
     Ok(Told { text, found })
@@ -77,18 +84,19 @@ fn tell(alloc: Global, code: &Code, mode: Mode, plan: Plan) -> Result<Told, Allo
 
 /// Explores a script from its start in a mode, and writes the report to a sink (docs/FORMATS.md, "Reports"). It answers whether
 /// the report lists a deadlock or a trap. `Memory` comes only before anything is written, and `WriteFailed` (46) only where a write
-/// failed. The fuel is at most 1,000,000 steps.
-pub fn check<W: Sink>(
+/// failed. The fuel is at most 1,000,000 steps. `watch` is told of each leaf as it is found, and nothing else depends on it.
+pub fn check<W: Sink, P: Watch>(
     alloc: Global,
     code: &Code,
     mode: Mode,
     plan: Plan,
     sink: &mut W,
+    watch: &mut P,
 ) -> Result<bool, EngineFault>
     requires { plan.limits.fuel ≤ STEPS_MAX }
     ensures { Answered code.now.program mode plan (W.seen sink.old) (W.seen sink.new) result }
 {
-    let Ok(told) = tell(alloc, code, mode, plan) else {
+    let Ok(told) = tell(alloc, code, mode, plan, watch) else {
         return Err(EngineFault::Memory);
     };
     let Told { text, found } = told;
