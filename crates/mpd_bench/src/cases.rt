@@ -3,7 +3,7 @@
 use mpd_model::step::{CallId, Step};
 
 /// What is asked of a debugger.
-#[derive(Clone, Copy, Debug, PartialEq, Eq)]
+#[derive(Clone, Copy)]
 pub(crate) enum Ask {
     /// Steps, each taken by itself, and all taken back, the last first.
     Steps,
@@ -40,7 +40,6 @@ pub(crate) struct Count {
 }
 
 /// A kind of case: a script, the steps before what is measured, and what is measured there.
-#[derive(Clone, Copy)]
 pub(crate) struct Kind {
     /// What its lines say before the number.
     pub(crate) what: &'static str,

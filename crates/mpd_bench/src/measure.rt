@@ -65,12 +65,10 @@ fn there_and_back(debugger: &mut Debugger<'_>, steps: &[Step]) -> Option<()> {
     undo_all(debugger, steps.len())
 }
 
-/// Takes local steps of a rank, so many at most, as far as it can go.
+/// Takes local steps of a rank, so many at most, as far as it can go: behind that, each is refused.
 fn go_locally(debugger: &mut Debugger<'_>, rank: usize, count: usize) {
     for _ in 0..count {
-        if take(debugger, Step::Local(rank)).is_none() {
-            return;
-        }
+        let _ = take(debugger, Step::Local(rank));
     }
 }
 

@@ -19,7 +19,7 @@ const STEPS: usize = 500;
 const TIMES: usize = 20;
 
 /// How many steps were taken, by kind.
-#[derive(Clone, Copy, Debug, PartialEq, Eq)]
+#[derive(Clone, Copy)]
 struct Taken {
     locals: usize,
     matches: usize,
@@ -35,15 +35,19 @@ const NONE: Taken = Taken {
     releases: 0,
 };
 
+/// One more.
+fn more(count: usize) -> usize {
+    count.saturating_add(1)
+}
+
 /// Counts a step by its kind.
 fn count(taken: &mut Taken, step: Step) {
-    let counter = match step {
-        Step::Match(_, _) => &mut taken.matches,
-        Step::Wake(_) => &mut taken.wakes,
-        Step::Release => &mut taken.releases,
-        Step::Local(_) => &mut taken.locals,
-    };
-    *counter = counter.saturating_add(1);
+    match step {
+        Step::Match(_, _) => taken.matches = more(taken.matches),
+        Step::Wake(_) => taken.wakes = more(taken.wakes),
+        Step::Release => taken.releases = more(taken.releases),
+        Step::Local(_) => taken.locals = more(taken.locals),
+    }
 }
 
 /// Takes the step that is forced, of whatever kind.
