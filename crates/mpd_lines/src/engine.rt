@@ -159,12 +159,30 @@ pub fn run_behind<S: Source, W: Sink, D: LineDesk>(
     ensures served { Served D.says desk.old before.now turns (S.seen source.old) (S.seen source.new) (W.seen sink.old) (W.seen sink.new) desk.new result }
     ensures counted { Counted turns (failed_reads result) (failed_writes result) (S.seen source.old) (S.seen source.new) (W.seen sink.old) (W.seen sink.new) }
 {
-    let Ok(mut feeder) = Feeder::new(alloc) else {
+    let Ok(feeder) = Feeder::new(alloc) else {
         return Err(EngineFault::Memory);
     };
-    let Ok(mut outbox) = Outbox::new(alloc) else {
+    let Ok(outbox) = Outbox::new(alloc) else {
         return Err(EngineFault::Memory);
     };
+    run_kept(feeder, outbox, source, sink, desk, before, turns)
+}
+
+/// The same with the buffers that it keeps.
+fn run_kept<S: Source, W: Sink, D: LineDesk>(
+    mut feeder: Feeder,
+    mut outbox: Outbox,
+    source: &mut S,
+    sink: &mut W,
+    desk: &mut D,
+    before: &[u8],
+    turns: usize,
+) -> Result<(), EngineFault>
+    requires part { feeder ≡ [] }
+    requires none { outbox ≡ [] }
+    ensures served { Served D.says desk.old before.now turns (S.seen source.old) (S.seen source.new) (W.seen sink.old) (W.seen sink.new) desk.new result }
+    ensures counted { Counted turns (failed_reads result) (failed_writes result) (S.seen source.old) (S.seen source.new) (W.seen sink.old) (W.seen sink.new) }
+{
     match tell(&mut feeder, &mut outbox, desk, sink, before) {
         Ok(()) => {}
         Err(_) => return Err(EngineFault::WriteFailed),

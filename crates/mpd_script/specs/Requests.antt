@@ -1,9 +1,11 @@
 -- A send or a receive, by the handle that gets its request, if there is one; a send also by whether it is synchronous.
-use Rattle.std.specs.Prelude.{Bool, true, false, Option, Some, None}
+use Rattle.std.specs.Prelude.{Bool, true, false, List, [], ◌∷◌, Option, Some, None}
 use Rattle.mpd_model.specs.declared.stmt.RecvStmt.{RecvStmt}
 use Rattle.mpd_model.specs.declared.stmt.SendStmt.{SendStmt}
 use Rattle.mpd_model.specs.declared.stmt.Simple.{Simple}
 use Rattle.mpd_model.specs.declared.stmt.Simple.TheVariants as st
+use Rattle.mpd_model.specs.declared.token.Mark.TheVariants as m
+use Rattle.mpd_model.specs.Parts.{Hole, mark_hole, term_hole, source_hole, status_hole}
 use Rattle.mpd_model.specs.Term.{Target}
 
 abbrev pub sent_by : Bool → Option Target → SendStmt → Simple
@@ -15,3 +17,13 @@ sent_by true (Some t) s = st.Issend (record { request = t; send = s })
 abbrev pub received_by : Option Target → RecvStmt → Simple
 received_by None s = st.Recv s
 received_by (Some t) s = st.Irecv (record { request = t; recv = s })
+
+-- what follows the value of a send, the place that a receive writes, and its source
+abbrev pub to_holes : List Hole
+to_holes = mark_hole m.To ∷ term_hole ∷ mark_hole m.Tag ∷ term_hole ∷ []
+
+abbrev pub from_holes : List Hole
+from_holes = mark_hole m.From ∷ source_hole ∷ mark_hole m.Tag ∷ source_hole ∷ status_hole ∷ []
+
+abbrev pub tag_holes : List Hole
+tag_holes = mark_hole m.Tag ∷ source_hole ∷ status_hole ∷ []

@@ -4,7 +4,7 @@ ghost use Rattle.std.specs.Prelude.{◌≡◌, []};
 ghost use Rattle.mpd_model.specs.Grammar as spec;
 ghost use Rattle.mpd_model.specs.Input.{Reads};
 ghost use Rattle.mpd_model.specs.Tree.{simple};
-ghost use Rattle.mpd_script.specs.Requests.{sent_by, received_by};
+ghost use Rattle.mpd_script.specs.Requests.{sent_by, received_by, from_holes, tag_holes, to_holes};
 
 use crate::cursor::Tokens;
 use crate::expr::expression;
@@ -143,6 +143,19 @@ fn sent(
     ensures { Reads (spec.fill spec.sent_holes (λ c. simple (sent_by synchronous request (spec.sent c))) tokens.old) result tokens.new }
 {
     let value = expression(alloc, tokens)?;
+    sent_to(alloc, tokens, synchronous, request, value)
+}
+
+/// The rest of a send, behind what it sends.
+fn sent_to(
+    alloc: Global,
+    tokens: &mut Tokens<'_>,
+    synchronous: bool,
+    request: Option<Target>,
+    value: Expr,
+) -> Result<Stmt, ReadFault>
+    ensures { Reads (spec.fill to_holes (λ c. simple (sent_by synchronous request (spec.sent (value, c)))) tokens.old) result tokens.new }
+{
     tokens.expect(Mark::To)?;
     let to = expression(alloc, tokens)?;
     tokens.expect(Mark::Tag)?;
@@ -186,8 +199,33 @@ fn received(
     ensures { Reads (spec.fill spec.received_holes (λ c. simple (received_by request (spec.received c))) tokens.old) result tokens.new }
 {
     let into = named(alloc, tokens, DeclKind::Variable)?;
+    received_into(alloc, tokens, request, into)
+}
+
+/// The rest of a receive, behind the place that it writes.
+fn received_into(
+    alloc: Global,
+    tokens: &mut Tokens<'_>,
+    request: Option<Target>,
+    into: Target,
+) -> Result<Stmt, ReadFault>
+    ensures { Reads (spec.fill from_holes (λ c. simple (received_by request (spec.received (into, c)))) tokens.old) result tokens.new }
+{
     tokens.expect(Mark::From)?;
     let from = source(alloc, tokens)?;
+    received_from(alloc, tokens, request, into, from)
+}
+
+/// The rest of a receive, behind its source.
+fn received_from(
+    alloc: Global,
+    tokens: &mut Tokens<'_>,
+    request: Option<Target>,
+    into: Target,
+    from: Option<Expr>,
+) -> Result<Stmt, ReadFault>
+    ensures { Reads (spec.fill tag_holes (λ c. simple (received_by request (spec.received (into, (from, c))))) tokens.old) result tokens.new }
+{
     tokens.expect(Mark::Tag)?;
     let tag = source(alloc, tokens)?;
     let status = status(alloc, tokens)?;

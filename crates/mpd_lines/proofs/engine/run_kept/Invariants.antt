@@ -1,6 +1,6 @@
 use Rattle.std.proofs.Common.{◌≡◌, []}
 use Rattle.mpd_lines.specs.Turned.{SoFar}
-use Rattle.mpd_lines.proofs.engine.run_behind.Given as goal
+use Rattle.mpd_lines.proofs.engine.run_kept.Given as goal
 
 abbrev pub invariant-loop-turn : goal.invariant-loop-turn
 invariant-loop-turn g l = record {

@@ -1,11 +1,11 @@
 use Rattle.std.proofs.Common.{rules, ◌≡◌}
 use Rattle.mpd_lines.proofs.TurnLaws.{served_before, served_end, served_fault, served_turns, so_far_more}
-use Rattle.mpd_lines.proofs.engine.run_behind.Goals as goal
+use Rattle.mpd_lines.proofs.engine.run_kept.Goals as goal
 
 pub returns-in-Err-clause-served : goal.returns-in-Err-clause-served
 returns-in-Err-clause-served g c =
-    served_before g.D.LineDesk.says c.args.desk.now c.tell.new.desk c.args.before.now c.in-Ok.feeder c.args.turns (g.S.Source.seen c.args.source.now)
-    (g.W.Sink.seen c.args.sink.now) (g.W.Sink.seen c.tell.new.sink) c.in-Err.field-0 c.in-Ok.ensures c.in-Err.ensures.spoken
+    served_before g.D.LineDesk.says c.args.desk.now c.tell.new.desk c.args.before.now c.args.feeder c.args.turns (g.S.Source.seen c.args.source.now)
+    (g.W.Sink.seen c.args.sink.now) (g.W.Sink.seen c.tell.new.sink) c.in-Err.field-0 c.requires.part c.in-Err.ensures.spoken
 
 pub returns-in-Ok-End-clause-served : goal.returns-in-Ok-End-clause-served
 returns-in-Ok-End-clause-served g c =
