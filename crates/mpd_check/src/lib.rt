@@ -84,7 +84,8 @@ fn tell<P: Watch>(
 
 /// Explores a script from its start in a mode, and writes the report to a sink (docs/FORMATS.md, "Reports"). It answers whether
 /// the report lists a deadlock or a trap. `Memory` comes only before anything is written, and `WriteFailed` (46) only where a write
-/// failed. The fuel is at most 1,000,000 steps. `watch` is told of each leaf as it is found, and nothing else depends on it.
+/// failed. The fuel is at most 1,000,000 steps. `watch` is told of each leaf as it is found, and of
+/// the end before anything is written; nothing else depends on it.
 pub fn check<W: Sink, P: Watch>(
     alloc: Global,
     code: &Code,
@@ -96,7 +97,9 @@ pub fn check<W: Sink, P: Watch>(
     requires { plan.limits.fuel ≤ STEPS_MAX }
     ensures { Answered code.now.program mode plan (W.seen sink.old) (W.seen sink.new) result }
 {
-    let Ok(told) = tell(alloc, code, mode, plan, watch) else {
+    let told = tell(alloc, code, mode, plan, watch);
+    watch.end();
+    let Ok(told) = told else {
         return Err(EngineFault::Memory);
     };
     let Told { text, found } = told;

@@ -5,6 +5,9 @@
 pub trait Watch {
     /// A leaf was found. `count` is how many are found so far, with this one, from 1.
     fn leaf(&mut self, count: usize);
+
+    /// No more leaves will be told. Who explores and then writes a report calls it between the two.
+    fn end(&mut self);
 }
 
 /// Tells nobody.
@@ -13,4 +16,6 @@ pub struct Unwatched;
 
 impl Watch for Unwatched {
     fn leaf(&mut self, _count: usize) {}
+
+    fn end(&mut self) {}
 }

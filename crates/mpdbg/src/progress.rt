@@ -44,19 +44,17 @@ impl<'a, R: Clock + Eprint> Progress<'a, R> {
         self.has_said = true;
         eprint!(self.rt; "\rleaves so far: {count}")
     }
-
-    /// Wipes what it said, once the exploration has ended.
-    pub(crate) fn wipe(self) -> io::Result<()> {
-        if self.has_said {
-            eprint!(self.rt; "\r\x1b[K")?;
-        }
-        Ok(())
-    }
 }
 
 impl<'a, R: Clock + Eprint> Watch for Progress<'a, R> {
     fn leaf(&mut self, count: usize) {
         // what can't be told to a terminal stops no exploration
         let _untold = self.say(count);
+    }
+
+    fn end(&mut self) {
+        if self.has_said {
+            let _unwiped = eprint!(self.rt; "\r\x1b[K");
+        }
     }
 }
