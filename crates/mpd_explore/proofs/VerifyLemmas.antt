@@ -1,10 +1,9 @@
 -- What `verify` finds is so.
-use Rattle.std.proofs.Common.{◌≡◌, ℕ, suc, ◌<◌, ◌+◌, ◌==◌, ◌&&◌, Bool, true, false, eq-eqb, List, [], ◌∷◌, ◌++◌, length, take, drop, get_or, Option, Some, None, refl, sym, ap, ◌∙◌, add-one}
+use Rattle.std.proofs.Common.{◌≡◌, ◌≢◌, ℕ, zero, suc, ◌<◌, ◌+◌, ◌==◌, ◌&&◌, Bool, true, false, eq-eqb, List, [], ◌∷◌, ◌++◌, length, take, get_or, Option, Some, None, IsSome, Result, Ok, Err, IfErr, OnOk, refl, ap, ◌∙◌, arith, add-one}
 use Rattle.std.proofs.lemmas.List.{take_more}
 use Rattle.std.proofs.lemmas.Bool.{eqb-true}
 use Rattle.std.specs.Bool.{Decides}
 use Rattle.std.specs.Option.{option_and_then}
-use Rattle.std.proofs.Math.Seq.{drop-cons}
 use Rattle.mpd_model.specs.declared.call.Mode.{Mode}
 use Rattle.mpd_model.specs.declared.step.CallId.{CallId}
 use Rattle.mpd_model.specs.declared.step.Step.{Step}
@@ -17,7 +16,8 @@ use Rattle.mpd_model.specs.Outcomes.{outcome}
 use Rattle.mpd_trail.proofs.KeptLemmas.{fold-append}
 use Rattle.mpd_explore.specs.declared.report.Witness.{Witness}
 use Rattle.mpd_explore.specs.declared.verify.WitnessFault.{WitnessFault}
-use Rattle.mpd_explore.specs.declared.verify.WitnessFault.TheVariants.{NoSuchStep}
+use Rattle.mpd_explore.specs.declared.verify.WitnessFault.TheVariants.{NoSuchStep, NotStuck, WrongBlocked, Memory}
+use Rattle.mpd_explore.specs.Stops.{StopsAt}
 use Rattle.mpd_explore.specs.Witness.{IsWitness, HasFault, FaultAtEnd, FaultBy}
 
 -- ---- calls that are one
@@ -43,27 +43,58 @@ same_call a b = (
 
 -- ---- one step of it
 
-fault_on : (w v : World) (i : ℕ) (a : Step) (more : List Step) (blocked : List CallId) (e : WitnessFault) → next w a ≡ Some v → HasFault v (suc i) more blocked e → HasFault w i (a ∷ more) blocked e
-fault_on w v i a more blocked e is h = rw is h
+and_then_some : (o : Option World) → option_and_then (λ v. Some v) o ≡ o
+and_then_some None = refl
+and_then_some (Some v) = refl
 
-read_split : (steps : List Step) (i : ℕ) (a : Step) → i < length steps → a ≡ get_or steps i a → drop i steps ≡ a ∷ drop (suc i) steps
-read_split steps i a within read = drop-cons steps i a within ∙ ap (λ x. x ∷ drop (suc i) steps) (sym read)
+-- one step more is taken or not as it is enabled
+fold_more : (first w : World) (i : ℕ) (steps : List Step) (d : Step) → i < length steps → fold first (take i steps) ≡ Some w → fold first (take (i + 1) steps) ≡ next w (get_or steps i d)
+fold_more first w i steps d within there =
+    let a : Step = get_or steps i d in
+    ap (fold first) (take_more steps i d within) ∙ fold-append first (take i steps) (a ∷ []) ∙ ap (option_and_then (λ u. fold u (a ∷ []))) there ∙ and_then_some (next w a)
 
--- the faults found from here are those from the start
-pub fault_next : (w v : World) (i : ℕ) (a : Step) (steps : List Step) (blocked : List CallId) (e : WitnessFault) → i < length steps → a ≡ get_or steps i a → next w a ≡ Some v → HasFault v (i + 1) (drop (i + 1) steps) blocked e → HasFault w i (drop i steps) blocked e
-fault_next w v i a steps blocked e within read is h =
-    let split : drop i steps ≡ a ∷ drop (suc i) steps = read_split steps i a within read in
-    rw split (fault_on w v i a (drop (suc i) steps) blocked e is (rw (add-one i) at h))
+pub leads_more : (first w v : World) (i : ℕ) (steps : List Step) (d : Step) → i < length steps → fold first (take i steps) ≡ Some w → next w (get_or steps i d) ≡ Some v → fold first (take (i + 1) steps) ≡ Some v
+leads_more first w v i steps d within there is = fold_more first w i steps d within there ∙ is
 
-pub fault_here : (w : World) (i : ℕ) (a : Step) (steps : List Step) (blocked : List CallId) → i < length steps → a ≡ get_or steps i a → next w a ≡ None → HasFault w i (drop i steps) blocked (NoSuchStep i)
-fault_here w i a steps blocked within read is =
-    let split : drop i steps ≡ a ∷ drop (suc i) steps = read_split steps i a within read in
-    rw (split, is) refl
+pub stops_here : (first w : World) (i : ℕ) (steps : List Step) (d : Step) (e : WitnessFault) → i < length steps → fold first (take i steps) ≡ Some w → (e ≡ NoSuchStep i) × (next w (get_or steps i d) ≡ None) → StopsAt first steps e
+stops_here first w i steps d e within there h =
+    record { place = i; is = h.0; before = rw there refl; refused = rw (← add-one) (fold_more first w i steps d within there ∙ h.1) }
 
-pub leads_more : (first w v : World) (i : ℕ) (a : Step) (steps : List Step) → i < length steps → a ≡ get_or steps i a → fold first (take i steps) ≡ Some w → next w a ≡ Some v → fold first (take (i + 1) steps) ≡ Some v
-leads_more first w v i a steps within read there is =
-    let more : take (i + 1) steps ≡ take i steps ++ a ∷ [] = take_more steps i a within ∙ ap (λ x. take i steps ++ x ∷ []) (sym read) in
-    ap (fold first) more ∙ fold-append first (take i steps) (a ∷ []) ∙ ap (option_and_then (λ u. fold u (a ∷ []))) there ∙ ap (option_and_then (λ u. fold u [])) is
+-- ---- where it stops is its fault
+
+fault_now : (o : Option World) (i : ℕ) (more : List Step) (blocked : List CallId) → option_and_then (λ v. Some v) o ≡ None → FaultBy (λ v f. HasFault v (suc i) more blocked f) i o (NoSuchStep (i + 0))
+fault_now None i more blocked refused = ap NoSuchStep (omega arith)
+fault_now (Some v) i more blocked refused = cc
+
+fault_behind : (o : Option World) (i n : ℕ) (more : List Step) (blocked : List CallId)
+    → ((v : World) → IsSome (fold v (take n more)) → fold v (take (suc n) more) ≡ None → HasFault v (suc i) more blocked (NoSuchStep (suc i + n)))
+    → IsSome (option_and_then (λ v. fold v (take n more)) o) → option_and_then (λ v. fold v (take (suc n) more)) o ≡ None
+    → FaultBy (λ v f. HasFault v (suc i) more blocked f) i o (NoSuchStep (i + suc n))
+fault_behind None i n more blocked rest before refused = cc
+fault_behind (Some v) i n more blocked rest before refused = let e : i + suc n ≡ suc i + n = omega arith in rw e (rest v before refused)
+
+stops_fault : (w : World) (i n : ℕ) (steps : List Step) (blocked : List CallId) → IsSome (fold w (take n steps)) → fold w (take (suc n) steps) ≡ None → HasFault w i steps blocked (NoSuchStep (i + n))
+stops_fault w i n [] blocked before refused = cc
+stops_fault w i zero (a ∷ more) blocked before refused = fault_now (next w a) i more blocked refused
+stops_fault w i (suc n) (a ∷ more) blocked before refused = fault_behind (next w a) i n more blocked (λ v there then. stops_fault v (suc i) n more blocked there then) before refused
+
+pub fault_of_stop : (w : World) (steps : List Step) (blocked : List CallId) (e : WitnessFault) → StopsAt w steps e → HasFault w 0 steps blocked e
+fault_of_stop w steps blocked e h =
+    let n : 0 + h.place ≡ h.place = omega arith in
+    rw (h.is, ← n) (stops_fault w 0 h.place steps blocked h.before h.refused)
+
+some_world : (v w : World) → Some v ≡ Some w → v ≡ w
+some_world v w e = cc
+
+end_by : (o : Option World) (i : ℕ) (more : List Step) (blocked : List CallId) (last : World) (e : WitnessFault) → option_and_then (λ v. fold v more) o ≡ Some last
+    → ((v : World) → fold v more ≡ Some last → HasFault v (suc i) more blocked e) → FaultBy (λ v f. HasFault v (suc i) more blocked f) i o e
+end_by None i more blocked last e leads rest = cc
+end_by (Some v) i more blocked last e leads rest = rest v leads
+
+-- a fault at the end is one of the whole
+pub fault_of_end : (w last : World) (i : ℕ) (steps : List Step) (blocked : List CallId) (e : WitnessFault) → fold w steps ≡ Some last → FaultAtEnd (outcome last) blocked e → HasFault w i steps blocked e
+fault_of_end w last i [] blocked e leads h = rw (some_world w last leads) h
+fault_of_end w last i (a ∷ more) blocked e leads h = end_by (next w a) i more blocked last e leads (λ v there. fault_of_end v last (suc i) more blocked e there h)
 
 -- ---- a witness has no fault
 
@@ -77,9 +108,6 @@ no_fault_at_end (Some (Leftovers calls)) blocked e is h = cc
 no_fault_at_end (Some (Trap ranks)) blocked e is h = cc
 no_fault_at_end (Some (Deadlock calls)) blocked e is h = h.1 (blocked_is calls blocked is)
 
-some_world : (v w : World) → Some v ≡ Some w → v ≡ w
-some_world v w e = cc
-
 no_fault_by : (o : Option World) (i : ℕ) (more : List Step) (blocked : List CallId) (last : World) (e : WitnessFault) → option_and_then (λ v. fold v more) o ≡ Some last
     → ((v : World) → fold v more ≡ Some last → HasFault v (suc i) more blocked e → ⊥) → FaultBy (λ v f. HasFault v (suc i) more blocked f) i o e → ⊥
 no_fault_by None i more blocked last e leads rest h = cc
@@ -89,7 +117,22 @@ no_fault : (w : World) (i : ℕ) (steps : List Step) (blocked : List CallId) (la
 no_fault w i [] blocked last e leads stuck h = no_fault_at_end (outcome w) blocked e (ap outcome (some_world w last leads) ∙ stuck) h
 no_fault w i (a ∷ more) blocked last e leads stuck h = no_fault_by (next w a) i more blocked last e leads (λ v there k. no_fault v (suc i) more blocked last e there stuck k) h
 
-pub witness_has_none : (s : Program) (mode : Mode) (x : Witness) (e : WitnessFault) → IsWitness s mode x → HasFault (start s mode) 0 x.steps x.blocked e → ⊥
-witness_has_none s mode x e h f = no_fault (start s mode) 0 x.steps x.blocked h.last e h.leads h.stuck f
+-- ---- what is found of a witness
 
-pub ruleset verifying = (witness_has_none)
+only_memory : (s : Program) (mode : Mode) (x : Witness) (e : WitnessFault) → IsWitness s mode x → (e ≢ Memory → HasFault (start s mode) 0 x.steps x.blocked e) → e ≡ Memory
+only_memory s mode x (NoSuchStep i) h f = absurd (no_fault (start s mode) 0 x.steps x.blocked h.last (NoSuchStep i) h.leads h.stuck (f (λ same. cc)))
+only_memory s mode x NotStuck h f = absurd (no_fault (start s mode) 0 x.steps x.blocked h.last NotStuck h.leads h.stuck (f (λ same. cc)))
+only_memory s mode x WrongBlocked h f = absurd (no_fault (start s mode) 0 x.steps x.blocked h.last WrongBlocked h.leads h.stuck (f (λ same. cc)))
+only_memory s mode x Memory h f = refl
+
+-- a witness is refused for want of memory alone
+pub accepted_by : (s : Program) (mode : Mode) (x : Witness) (r : Result Unit WitnessFault) → IfErr r (λ e. e ≢ Memory → HasFault (start s mode) 0 x.steps x.blocked e) → IsWitness s mode x → IfErr r (λ e. e ≡ Memory)
+accepted_by s mode x (Ok u) f h = tt
+accepted_by s mode x (Err e) f h = only_memory s mode x e h f
+
+-- and what is accepted is one
+pub witnessed : (s : Program) (mode : Mode) (x : Witness) (last : World) (r : Result Unit WitnessFault) → OnOk r ((fold (start s mode) x.steps ≡ Some last) × (outcome last ≡ Some (Deadlock x.blocked))) → OnOk r (IsWitness s mode x)
+witnessed s mode x last (Ok u) h = record { last = last; leads = h.0; stuck = h.1 }
+witnessed s mode x last (Err e) h = tt
+
+pub ruleset verifying = (fault_of_stop, fault_of_end)

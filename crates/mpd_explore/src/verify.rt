@@ -1,8 +1,10 @@
 //! Whether a witness is one. It uses the forward steps of a core alone: no trail, no decision and no undo.
 
-ghost use Rattle.std.specs.Prelude.{◌≡◌, ◌≢◌, ◌↔◌, IsTrue, IfOk, IfErr, OnOk, Some, codes};
+ghost use Rattle.std.specs.Prelude.{◌≡◌, ◌≢◌, ◌↔◌, IsTrue, IfOk, IfErr, OnOk, Some, None, codes};
 ghost use Rattle.mpd_model.specs.World.{start};
+ghost use Rattle.mpd_model.specs.Next.{next, fold};
 ghost use Rattle.mpd_model.specs.Outcomes.{outcome};
+ghost use Rattle.mpd_explore.specs.Stops.{StopsAt};
 ghost use Rattle.mpd_explore.specs.Witness.{IsWitness, HasFault, FaultAtEnd};
 ghost use Rattle.mpd_explore.specs.Faults.{witness_fault_number, witness_fault_name};
 
@@ -12,7 +14,7 @@ use mpd_core::fault::StepFault;
 use mpd_core::state::Core;
 use mpd_model::call::Mode;
 use mpd_model::outcome::Outcome;
-use mpd_model::step::CallId;
+use mpd_model::step::{CallId, Step};
 use std::alloc::{AllocError, Global};
 use thiserror::Error;
 
@@ -90,28 +92,49 @@ fn check_end(alloc: Global, core: &Core<'_>, blocked: &[CallId]) -> Result<(), W
     }
 }
 
+/// Takes the step of a witness that stands at this place.
+fn take_step(core: &mut Core<'_>, step: Step, place: usize) -> Result<(), WitnessFault>
+    ensures ok { OnOk result (next core.old.world step ≡ Some core.new.world) }
+    ensures fault { IfErr result (λ e. e ≢ WitnessFault.Memory → (e ≡ WitnessFault.NoSuchStep place) × (next core.old.world step ≡ None)) }
+{
+    match core.apply(step) {
+        Ok(_) => Ok(()),
+        Err(StepFault::NotEnabled) => Err(WitnessFault::NoSuchStep(place)),
+        Err(StepFault::Memory) => Err(WitnessFault::Memory),
+    }
+}
+
+/// Takes the steps of a witness in order.
+fn take_steps(core: &mut Core<'_>, steps: &[Step]) -> Result<(), WitnessFault>
+    ensures ok { OnOk result (fold core.old.world steps.now ≡ Some core.new.world) }
+    ensures fault { IfErr result (λ e. e ≢ WitnessFault.Memory → StopsAt core.old.world steps.now e) }
+{
+    for place in 0..steps.len() {
+        take_step(core, steps[place], place)?;
+    }
+    Ok(())
+}
+
+/// Takes the steps of a witness from where a core stands, and looks at the end.
+#[tactic(auto, using(crate::proofs::VerifyLemmas::verifying))]
+fn check_from(alloc: Global, core: &mut Core<'_>, witness: &Witness) -> Result<(), WitnessFault>
+    ensures ok { OnOk result ((fold core.old.world witness.now.steps ≡ Some core.new.world) × (outcome core.new.world ≡ Some (Outcome.Deadlock witness.now.blocked))) }
+    ensures fault { IfErr result (λ e. e ≢ WitnessFault.Memory → HasFault core.old.world 0 witness.now.steps witness.now.blocked e) }
+{
+    take_steps(core, &witness.steps.items)?;
+    check_end(alloc, core, &witness.blocked.items)
+}
+
 /// Whether a witness is one (docs/DEFINITIONS.md, "Witnesses"): its steps are taken from the start, and none is taken back. It is
 /// refused for the first step that is not enabled where it stands (32), else where the end is no deadlock (33), else where other
 /// calls are blocked in it (34). `Memory` is that a growth was refused.
-#[tactic(auto, using(crate::proofs::VerifyLemmas::verifying))]
 pub fn verify(alloc: Global, code: &Code, mode: Mode, witness: &Witness) -> Result<(), WitnessFault>
     ensures ok { OnOk result (IsWitness code.now.program mode witness.now) }
     ensures fault { IfErr result (λ e. e ≢ WitnessFault.Memory → HasFault (start code.now.program mode) 0 witness.now.steps witness.now.blocked e) }
     ensures accepted { IsWitness code.now.program mode witness.now → IfErr result (λ e. e ≡ WitnessFault.Memory) }
 {
-    let mut core = match Core::start(alloc, code, mode) {
-        Ok(core) => core,
-        Err(_) => return Err(WitnessFault::Memory),
+    let Ok(mut core) = Core::start(alloc, code, mode) else {
+        return Err(WitnessFault::Memory);
     };
-    let mut place = 0;
-    for step in &witness.steps.items {
-        match core.apply(*step) {
-            Ok(_) => {}
-            Err(StepFault::Memory) => return Err(WitnessFault::Memory),
-            Err(StepFault::NotEnabled) => return Err(WitnessFault::NoSuchStep(place)),
-        }
-        place += 1;
-    }
-    check_end(alloc, &core, &witness.blocked.items)?;
-    Ok(())
+    check_from(alloc, &mut core, witness)
 }

@@ -1,0 +1,14 @@
+use Rattle.std.proofs.Common.{rules, ◌≢◌}
+use Rattle.mpd_explore.specs.declared.verify.WitnessFault.TheVariants.{Memory}
+use Rattle.mpd_explore.specs.Stops.{StopsAt}
+use Rattle.mpd_explore.proofs.VerifyLemmas.{leads_more, stops_here}
+use Rattle.mpd_explore.proofs.verify.take_steps.Goals as goal
+
+pub loop-place-preserved : goal.loop-place-preserved
+loop-place-preserved c = leads_more _ _ _ c.loop-place.place c.args.steps.now _ c.loop-place-test.true c.loop-place.invariant c.in_ok-take_step.ensures.ok
+
+pub returns-in_err-take_step-clause-fault : goal.returns-in_err-take_step-clause-fault
+returns-in_err-take_step-clause-fault c =
+    let stops : c.in_err-take_step.field-0.0 ≢ Memory → StopsAt c.args.core.now.world c.args.steps.now c.in_err-take_step.field-0.0 =
+    λ k. stops_here _ _ c.loop-place.place c.args.steps.now _ _ c.loop-place-test.true c.loop-place.invariant (c.in_err-take_step.ensures.fault k) in
+    search (rules, stops)
