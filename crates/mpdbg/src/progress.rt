@@ -3,10 +3,10 @@
 use mpd_explore::watch::Watch;
 use std::io;
 use std::rt::Clock;
-use std::time::{Duration, Instant};
+use std::time::Instant;
 
-/// How long it takes at least from one line of progress to the next.
-const PAUSE: Duration = Duration::from_secs(1);
+/// How many seconds it takes at least from one line of progress to the next.
+const PAUSE: u64 = 1;
 
 /// Says how many leaves there are so far, on standard error and once a second at most, each time in place of what it said before.
 pub(crate) struct Progress<'a, R> {
@@ -37,7 +37,7 @@ impl<'a, R: Clock + Eprint> Progress<'a, R> {
             return Ok(());
         };
         let now = Instant::now(self.rt)?;
-        if now.duration_since(since) < PAUSE {
+        if now.duration_since(since).as_secs() < PAUSE {
             return Ok(());
         }
         self.since = Some(now);
