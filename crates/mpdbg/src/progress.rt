@@ -9,6 +9,7 @@ use std::time::Instant;
 const PAUSE: u64 = 1;
 
 /// Says how many leaves there are so far, on standard error and once a second at most, each time in place of what it said before.
+#[derive(Drop)]
 pub(crate) struct Progress<'a, R> {
     rt: &'a R,
     /// When it began, or last said something; `None` where nothing is to be said, since nobody would see it.
