@@ -32,7 +32,7 @@ RESERVED = frozenset('''
 # Parts of the rules that came one after the other, each with the words of its statements.
 PARTS = {'barriers': ('barrier', 'ssend', 'issend'), 'modes': (), 'trail': (), 'verify': ()}
 # The parts that the program of this tree has; the model of a run may have more (`take_parts`).
-BUILT = ('barriers', 'modes', 'trail')
+BUILT = ('barriers', 'modes', 'trail', 'verify')
 
 OTHER_THAN_TEXT = re.compile(rb'[^\t\n\r\x20-\x7e]')
 BLANKS = re.compile(r'(?:[\t\n\r ]+|#[^\n]*)*')

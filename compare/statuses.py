@@ -4,11 +4,13 @@
 
 The examples, and the worked rows of compare/worked_program.py; devices that are full, closed, broken off, too short or interrupted;
 each fault of a script; the words of the command line, and the order in which they are tested; a script from a file; a refused
-script at a terminal; as many steps and reads as there may be; the deepest scripts on a small stack; more answers than memory;
+script and a long check at a terminal; as many steps and reads as there may be; the deepest scripts on a small stack; more answers than memory;
 answers that come before the next read. The status is 0 where every run ended as it must.
 """
 
+import itertools
 import os
+import re
 import resource
 import select
 import signal
@@ -16,6 +18,7 @@ import socket
 import subprocess
 import sys
 import tempfile
+import time
 import tty
 from contextlib import contextmanager
 
@@ -392,6 +395,33 @@ def terminal_rows(program):
         yield 'a terminal, no file', at_terminal(program, 'trace', folder), device()
         yield 'a terminal, no fault', at_terminal(program, data=SESSION), ENDED
 
+
+# Eight messages, one of each sender, to one receiver of any source, which then counts for a while: 40,320 leaves that take seconds.
+SLOW = (b'mpd 1;\nranks 9;\nvar x;\nvar i;\nif rank == 0 { while i < 8 { recv x from any tag any; i = i + 1; } while i < 600 { i = i + 1; } }\n'
+        b'else { send 1 to 0 tag 0; }\n')
+RISING = re.compile(rb'(?:\rleaves so far: [0-9]+)+\r\x1b\[K')
+
+
+def progress_rows(program):
+    """At a terminal, and there alone, `check` says how many leaves there are so far, once a second at most, and wipes it at the end."""
+    candidates = itertools.product(*(range(count) for count in range(8, 0, -1)))
+    leaves = [f"leaf {number} [{' '.join(map(str, taken))}] done\n" for number, taken in enumerate(candidates)]
+    report = ''.join(leaves + [f'leaves {len(leaves)} more no\n']).encode()
+    with tempfile.TemporaryDirectory() as folder:
+        slow, race = os.path.join(folder, 'slow'), os.path.join(folder, 'race')
+        for name, data in ((slow, SLOW), (race, open_example('race.mpd'))):
+            with open(name, 'wb') as file:
+                file.write(data)
+        before = time.time()
+        result = at_terminal(program, 'check', slow, '--runs', '65536')
+        counts = [int(it) for it in re.findall(rb'[0-9]+', result.errors.partition(b'\r\x1b')[0])]
+        told = bool(RISING.fullmatch(result.errors)) and counts == sorted(set(counts)) and 0 < len(counts) <= time.time() - before
+        yield 'a terminal, a long check', (result._replace(errors=b''), told), (Result(report, b'', 0), True)
+        short = at_terminal(program, 'check', race)
+        yield 'a terminal, a short check', short._replace(output=b''), Result(b'', b'', 1)
+        yield 'no terminal, a check', Files(None).run(program, 'check', race)._replace(output=b''), Result(b'', b'', 1)
+
+
 def deepest(block, opening, closing, cost):
     """A script of blocks as deep as allowed, with expressions as deep as allowed inside, and the words to its end."""
     most, fewer = MOST_OPERATORS // cost, (MOST_OPERATORS - 1) // cost
@@ -429,8 +459,8 @@ def much_rows(program):
     yield f'much to show with {MUCH_MIB} MiB', result, wanted
 
 
-ROWS = (ended_rows, example_rows, refused_rows, device_rows, usage_rows, trace_rows, terminal_rows, interrupted_rows, talk_rows,
-        stack_rows, much_rows, full_rows, turns_rows)
+ROWS = (ended_rows, example_rows, refused_rows, device_rows, usage_rows, trace_rows, terminal_rows, progress_rows, interrupted_rows,
+        talk_rows, stack_rows, much_rows, full_rows, turns_rows)
 # The lessons have barriers, and their scripts are files.
 if has_part('barriers') and has_part('modes'):
     ROWS += (lesson_rows,)
