@@ -77,7 +77,7 @@ def for_clause(text, clause):
     answer to what a function ensures is left."""
     kept = []
     for block in text.split('\n\n'):
-        head = re.match(r'(?:abbrev )?pub (returns\S*) :', block)
+        head = re.search(r'(?m)^(?:abbrev )?pub (returns\S*) :', block)
         goal, _, of = head[1].partition('-clause-') if head else ('', '', '')
         if not head:
             kept.append(block)
