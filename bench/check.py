@@ -1,5 +1,5 @@
 #!/usr/bin/env python3
-"""How long `mpdbg check FILE` takes as a whole process, beside a plain explorer in C, as docs/GATE.md tells it ("Speed").
+"""How long `mpdbg check FILE` takes as a whole process, beside a plain explorer in C, as docs/SPEED.md tells it ("Speed").
 
     python3 bench/check.py [PROGRAM] [--times N] [--instructions]    (crates/mpdbg/out/mpdbg, where none is named)
 
@@ -11,7 +11,7 @@ d steps it lists one leaf for each state of depth d on the way to the leaves, so
 The table has, of both, the best of N whole runs by the clock (9, where it isn't said), and what a step takes with its decision
 and its undo: the least processor time of a run, less that of a script that has no step, by the number of steps. Every step is
 taken back, so there are as many undos. With --instructions it has the instructions of a step too, as valgrind counts them, which
-are the same however busy the machine is. The last lines say which of the bounds of docs/GATE.md are kept.
+are the same however busy the machine is. The last lines say which of the bounds of docs/SPEED.md are kept.
 """
 import argparse
 import bisect
