@@ -1,5 +1,5 @@
 -- Worked rows of decisions, breakpoints and runs. What is wanted was worked out by hand.
-use Rattle.std.specs.Prelude.{◌≡◌, ℕ, pos, Bool, true, false, map, List, [], ◌∷◌, ◌++◌, length, replicate, slice_set, Option, Some, None, codes, refl}
+use Rattle.std.specs.Prelude.{◌≡◌, ℕ, Bool, true, false, map, List, [], ◌∷◌, ◌++◌, length, replicate, slice_set, Option, Some, None, codes, refl}
 use Rattle.std.specs.Option.{option_map, option_and_then}
 use Rattle.mpd_model.specs.declared.limits.TheConstants.{STEPS_MAX}
 use Rattle.mpd_model.specs.declared.place.Place.{Place}
@@ -17,13 +17,13 @@ use Rattle.mpd_model.specs.Declaration.{Declared}
 use Rattle.mpd_model.specs.Term.{own_rank}
 use Rattle.mpd_model.specs.Tree.{no_more, then_more}
 use Rattle.mpd_model.specs.Program.{Program}
-use Rattle.mpd_model.specs.World.{World, call_id}
+use Rattle.mpd_model.specs.World.{call_id}
 use Rattle.mpd_model.specs.Next.{next}
 use Rattle.mpd_model.specs.Decisions.{decision}
 use Rattle.mpd_model.specs.Breakpoints.{marked, no_breaks, lowest_free}
 use Rattle.mpd_model.specs.Running.{Ran, ran, ran_back}
 use Rattle.mpd_model.specs.Trail.{Trail}
-use Rattle.mpd_rows.specs.Statements.{print, send, recv, assign, barrier, recv_any, irecv, irecv_any}
+use Rattle.mpd_rows.specs.Statements.{print, send, assign, barrier, recv_any, irecv, irecv_any}
 use Rattle.mpd_rows.specs.RequestRows.{n, whole, x, variable, request, script, two_parts, after}
 
 abbrev y : Place

@@ -1,6 +1,7 @@
 pub mod Statements
 pub mod Rows
 pub mod MoreRows
+pub mod DividedRows
 pub mod ReaderRows
 pub mod LineRows
 pub mod TextRows
