@@ -1,0 +1,4 @@
+mod Members
+mod Listed
+mod Twice
+mod Reached

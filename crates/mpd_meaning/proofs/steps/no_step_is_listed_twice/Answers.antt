@@ -1,0 +1,5 @@
+use Rattle.mpd_meaning.proofs.Twice.{listed_once}
+use Rattle.mpd_meaning.proofs.steps.no_step_is_listed_twice.Goals as goal
+
+pub returns : goal.returns
+returns c = listed_once
