@@ -2,3 +2,11 @@ mod Members
 mod Listed
 mod Twice
 mod Reached
+mod Successes
+mod Budget
+mod Cheap
+mod CheapParts
+mod CheapStatements
+mod Ends
+mod Limits
+mod ReadExactly

@@ -13,11 +13,11 @@ use Rattle.mpd_model.specs.Program.{Program}
 use Rattle.mpd_model.specs.Tree.{simple}
 use Rattle.mpd_model.specs.World.{World, start, start_board}
 
--- No rank is without a list of calls. The list of enabled steps goes by the lists of calls, so a rank without one would not be in it.
+-- No rank is without a list of calls. The list of enabled steps goes by the lists of calls, so the steps of a rank without one would not be in it.
 abbrev pub HasCalls : World → Type 0
 HasCalls w = length w.ranks ≤ length w.board.calls
 
--- So would this one: its rank runs and has a statement left, and its step is not listed.
+-- The rank of this world runs and has a statement left, so its step leads on; but it has no list of calls, and its step is not listed.
 abbrev rank_without_calls : World
 rank_without_calls = record {
   ranks = record { rest = (0, simple st.Barrier) ∷ []; vars = []; handles = []; out = []; activity = Running } ∷ [];

@@ -1,0 +1,15 @@
+//! What holds of reading a script (docs/DEFINITIONS.md, "Texts").
+
+ghost use Rattle.mpd_meaning.specs.ReadingLaws as law;
+
+use mpd_laws::reading::{expressions_are_written, written_scripts_are_read};
+use mpd_laws::round_trip::read_scripts_are_printable;
+
+/// A text is read as a program exactly where its tokens write that and all limits are kept.
+pub fn what_is_read_is_written_within_the_limits()
+    ensures { law.ReadIsWrittenWithin }
+{
+    expressions_are_written();
+    read_scripts_are_printable();
+    written_scripts_are_read();
+}
