@@ -10,3 +10,4 @@ mod CheapStatements
 mod Ends
 mod Limits
 mod ReadExactly
+mod TokenLines

@@ -1,2 +1,3 @@
 pub mod StepLaws
 pub mod ReadingLaws
+pub mod TokenLaws

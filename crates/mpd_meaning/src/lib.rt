@@ -3,3 +3,4 @@
 
 pub mod reading;
 pub mod steps;
+pub mod tokens;
