@@ -11,3 +11,6 @@ mod Ends
 mod Limits
 mod ReadExactly
 mod TokenLines
+mod Local
+mod LocalGrammar
+mod SameFault

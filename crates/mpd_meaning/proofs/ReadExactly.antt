@@ -132,7 +132,7 @@ all_text : (t : ℕ → Bool) (z : List ℕ) → length z ≤ prefix_len t z →
 all_text t [] h = tt
 all_text t (b ∷ z) h = one_more t b z (t b) refl (all_text t z) h
 
-text_all : (t : ℕ → Bool) (z : List ℕ) → AllByRecursion (λ b. t b ≡ true) z → prefix_len t z ≡ length z
+pub text_all : (t : ℕ → Bool) (z : List ℕ) → AllByRecursion (λ b. t b ≡ true) z → prefix_len t z ≡ length z
 text_all t [] h = refl
 text_all t (b ∷ z) h = ap (λ (c : Bool). cond c (1 + prefix_len t z) 0) h.0 ∙ omega (arith, text_all t z h.1)
 

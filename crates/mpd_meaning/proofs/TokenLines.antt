@@ -208,5 +208,8 @@ placed text zero place line (b ∷ z) before s h =
       placed text ((front (b ∷ z)).1 - 1) (place + 1) line z (before ++ b ∷ []) (on_same text before z b place line s (one_feed b (no_blank b e))) (front_fed b z),
     ))
 
+pub placed_by_recursion : (text : List ℕ) → AllByRecursion (IsPlacedIn text) (tokens text)
+placed_by_recursion text = placed text 0 0 1 text [] (record { is = refl; place_is = refl; line_is = refl }) refl
+
 pub each_placed : (text : List ℕ) → All (IsPlacedIn text) (tokens text)
-each_placed text = All-from_recursion (IsPlacedIn text) (tokens text) (placed text 0 0 1 text [] (record { is = refl; place_is = refl; line_is = refl }) refl)
+each_placed text = All-from_recursion (IsPlacedIn text) (tokens text) (placed_by_recursion text)

@@ -1,3 +1,4 @@
 pub mod StepLaws
 pub mod ReadingLaws
 pub mod TokenLaws
+pub mod FaultLaws

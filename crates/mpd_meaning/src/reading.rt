@@ -1,8 +1,9 @@
 //! What holds of reading a script (docs/DEFINITIONS.md, "Texts").
 
+ghost use Rattle.mpd_meaning.specs.FaultLaws as fault;
 ghost use Rattle.mpd_meaning.specs.ReadingLaws as law;
 
-use mpd_laws::reading::{expressions_are_written, written_scripts_are_read};
+use mpd_laws::reading::{expressions_are_written, turns_are_enough, written_scripts_are_read};
 use mpd_laws::round_trip::read_scripts_are_printable;
 
 /// A text is read as a program exactly where its tokens write that and all limits are kept.
@@ -12,4 +13,11 @@ pub fn what_is_read_is_written_within_the_limits()
     expressions_are_written();
     read_scripts_are_printable();
     written_scripts_are_read();
+}
+
+/// A fault is decided by the tokens up to it, and one more where it is of too many: a text that begins so has the same.
+pub fn tokens_up_to_it_decide_a_fault()
+    ensures { fault.TokensUpToItDecideAFault }
+{
+    turns_are_enough();
 }
