@@ -14,3 +14,5 @@ mod TokenLines
 mod Local
 mod LocalGrammar
 mod SameFault
+mod SameTokens
+mod NoScript

@@ -21,15 +21,15 @@ use Rattle.mpd_meaning.proofs.TokenLines.{placed_by_recursion}
 
 -- ---- tokens stand one behind another
 
-abbrev AllFrom : ℕ → List Spot → Type 0
+abbrev pub AllFrom : ℕ → List Spot → Type 0
 AllFrom p [] = Unit {0}
 AllFrom p (s ∷ ss) = (p ≤ s.place) × AllFrom p ss
 
-abbrev Rises : List Spot → Type 0
+abbrev pub Rises : List Spot → Type 0
 Rises [] = Unit {0}
 Rises (s ∷ ss) = AllBehind s.place ss × Rises ss
 
-lower : (p q : ℕ) (ss : List Spot) → p ≤ q → AllFrom q ss → AllFrom p ss
+pub lower : (p q : ℕ) (ss : List Spot) → p ≤ q → AllFrom q ss → AllFrom p ss
 lower p q [] le h = tt
 lower p q (s ∷ ss) le h = (let x = h.0 in omega (arith, x, le), lower p q ss le h.1)
 
@@ -40,7 +40,7 @@ behind_from p q (s ∷ ss) lt h = (let x = h.0 in omega (arith, x, lt), behind_f
 abbrev IsRising : ℕ → List Spot → Type 0
 IsRising p ss = AllFrom p ss × Rises ss
 
-each_case : (a c : Bool) (P : List Spot → Type 0) (xs ys zs : List Spot) → P xs → P ys → P zs → P (cond a xs (cond c ys zs))
+pub each_case : (a c : Bool) (P : List Spot → Type 0) (xs ys zs : List Spot) → P xs → P ys → P zs → P (cond a xs (cond c ys zs))
 each_case true c P xs ys zs x y z = x
 each_case false true P xs ys zs x y z = y
 each_case false false P xs ys zs x y z = z

@@ -71,7 +71,7 @@ comment_feeds b e = not_true (b == 10) e
 
 -- ---- the length of a sign: one byte, or two of which the second is no line feed
 
-abbrev IsShort : ℕ → Token × ℕ → Type 0
+abbrev pub IsShort : ℕ → Token × ℕ → Type 0
 IsShort next p = (p.1 ≡ 1) ⊎ ((p.1 ≡ 2) × ((next == 10) ≡ false))
 
 short_if : (next : ℕ) (c : Bool) (x y : Token × ℕ) → (c ≡ true → IsShort next x) → IsShort next y → IsShort next (cond c x y)
@@ -85,7 +85,7 @@ second : (a b : Bool) → (a && b) ≡ true → b ≡ true
 second true b e = e
 second false b e = cc
 
-sign_short : (b n : ℕ) → IsShort n (sign b n)
+pub sign_short : (b n : ℕ) → IsShort n (sign b n)
 unfolding sign
 sign_short b n =
     short_if n (b == 59) _ _ (λ e. inl refl) (short_if n (b == 123) _ _ (λ e. inl refl) (short_if n (b == 125) _ _ (λ e. inl refl) (short_if n (b == 40) _ _ (λ e. inl refl)

@@ -21,3 +21,18 @@ pub fn tokens_up_to_it_decide_a_fault()
 {
     turns_are_enough();
 }
+
+/// So do the bytes up to the one behind that token.
+pub fn text_up_to_it_decides_a_fault()
+    ensures { fault.TextUpToItDecidesAFault }
+{
+    turns_are_enough();
+}
+
+/// So no text that writes a script within the limits begins with the tokens up to a fault.
+pub fn no_script_begins_with_a_fault()
+    ensures { fault.NoScriptBeginsWithAFault }
+{
+    tokens_up_to_it_decide_a_fault();
+    what_is_read_is_written_within_the_limits();
+}

@@ -1,0 +1,5 @@
+use Rattle.mpd_meaning.proofs.SameTokens.{same_text_fault}
+use Rattle.mpd_meaning.proofs.reading.text_up_to_it_decides_a_fault.Goals as goal
+
+pub returns : goal.returns
+returns c = same_text_fault c.turns_are_enough.ensures
