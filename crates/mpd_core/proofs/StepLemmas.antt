@@ -20,7 +20,7 @@ use Rattle.mpd_rank.specs.Plans.{plan_call, plan_ran, planned, HasTag, HasPlanne
 use Rattle.mpd_rank.specs.Records.{record_by, local_record, alone_change, plan_change, plan_record}
 use Rattle.mpd_rank.specs.declared.change.Change.{Change}
 use Rattle.mpd_rank.specs.declared.change.Change.TheVariants as change
-use Rattle.mpd_rank.specs.Undone.{held, assigned_change, IsOwn, IsOfRank}
+use Rattle.mpd_rank.specs.Undone.{entry_at, assigned_change, IsOwn, IsOfRank}
 use Rattle.mpd_rank.specs.Views.{RankView, rank_of}
 use Rattle.mpd_core.specs.OneRank.{ran_on, local_on, CanUnissueIf}
 use Rattle.mpd_core.specs.Undone.{unissued, CanUnissue}
@@ -46,13 +46,13 @@ back_assigned b p (Some w) = refl
 can_alone : (b : Board) (p : ℕ) (vars : List ℤ) (plan : Own) → CanUnissue b p (alone_change vars plan)
 can_alone b p vars (own.Move next) = tt
 can_alone b p vars (own.Print v next) = tt
-can_alone b p vars (own.Assign cell v next) = can_assigned b p (held vars cell)
+can_alone b p vars (own.Assign cell v next) = can_assigned b p (entry_at vars cell)
 can_alone b p vars (own.Trap t) = tt
 
 back_alone : (b : Board) (p : ℕ) (vars : List ℤ) (plan : Own) → unissued b p (alone_change vars plan) ≡ b
 back_alone b p vars (own.Move next) = refl
 back_alone b p vars (own.Print v next) = refl
-back_alone b p vars (own.Assign cell v next) = back_assigned b p (held vars cell)
+back_alone b p vars (own.Assign cell v next) = back_assigned b p (entry_at vars cell)
 back_alone b p vars (own.Trap t) = refl
 
 -- what a plan issued can be taken back

@@ -208,10 +208,10 @@ pub(crate) fn wake_one(
 /// Takes the step of one rank back.
 #[inline(always)]
 #[tactic(auto, using(crate::proofs::RankLemmas::at_rank))]
-pub(crate) fn restore_one(ranks: &mut Vec<RankState>, rank: usize, done: RankRecord)
+pub(crate) fn restore_one(ranks: &mut Vec<RankState>, rank: usize, done: &RankRecord)
     requires within { rank < vec_len ranks.old }
-    requires of_rank { IsOfRank done.change }
-    ensures after { (s : Program) → ranks_in s ranks.new.items ≡ update_at (ranks_in s ranks.old.items) rank (λ r. undone_rank s r done) }
+    requires of_rank { IsOfRank done.now.change }
+    ensures after { (s : Program) → ranks_in s ranks.new.items ≡ update_at (ranks_in s ranks.old.items) rank (λ r. undone_rank s r done.now) }
     ensures numbers { numbers_in ranks.new.items ≡ numbers_in ranks.old.items }
     ensures size { vec_len ranks.new ≡ vec_len ranks.old }
     ensures rises { writes_in ranks.old.items + 1 ≤ writes_in ranks.new.items }

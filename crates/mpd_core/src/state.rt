@@ -479,11 +479,11 @@ impl<'c> Core<'c> {
         }
     }
 
-    /// Takes a local step back.
+    /// Takes a local step back, as `undo` does, by what takes it back of its rank alone.
     #[tactic(auto, using(crate::proofs::TagLemmas::tagging))]
-    fn undo_local(&mut self, rank: usize, done: RankRecord)
-        requires { CanUndo self.old.world (record { step = Step.Local rank; from = done.from; change = done.change }) }
-        ensures world { self.new.world ≡ undone self.old.program self.old.world (record { step = Step.Local rank; from = done.from; change = done.change }) }
+    pub fn undo_local(&mut self, rank: usize, done: &RankRecord)
+        requires { CanUndo self.old.world (step_record (Step.Local rank) done.now) }
+        ensures world { self.new.world ≡ undone self.old.program self.old.world (step_record (Step.Local rank) done.now) }
         ensures program { self.new.program ≡ self.old.program }
         ensures rises { self.old.writes + 1 ≤ self.new.writes }
         ensures few { self.new.writes ≤ self.old.writes + 16 }
@@ -521,7 +521,7 @@ impl<'c> Core<'c> {
     {
         let Record { step, from, change } = done;
         match step {
-            Step::Local(rank) => self.undo_local(rank, RankRecord { from, change }),
+            Step::Local(rank) => self.undo_local(rank, &RankRecord { from, change }),
             Step::Match(_, _) => {
                 let Change::Matched {
                     send_place,
@@ -537,7 +537,7 @@ impl<'c> Core<'c> {
             }
             Step::Wake(rank) => {
                 self.board.unwoke();
-                ranks::restore_one(&mut self.ranks, rank, RankRecord { from, change });
+                ranks::restore_one(&mut self.ranks, rank, &RankRecord { from, change });
             }
             Step::Release => self.undo_release(),
         }

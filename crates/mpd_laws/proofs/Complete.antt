@@ -14,7 +14,7 @@ use Rattle.mpd_model.specs.declared.token.Mark.TheVariants as m
 use Rattle.mpd_model.specs.declared.token.Token.{Token}
 use Rattle.mpd_model.specs.declared.token.Token.TheVariants.{Number, Name, Is}
 use Rattle.mpd_model.specs.Costs.{price, cost, Stops, at}
-use Rattle.mpd_model.specs.Grammar.{atom_by, atom, bracket, indexed, place_inside, rounds, sign, signed, chain, level, expr, turns, operator, operator_at, at_level}
+use Rattle.mpd_model.specs.Grammar.{atom_by, atom, bracket, index_inside, place_inside, rounds, sign, unary, chain, level, expr, turns, operator, operator_at, at_level}
 use Rattle.mpd_model.specs.Input.{Input, Outcome, Parser, and_then, token, spelling, advanced, spend, expect, sees, same_mark, seek}
 use Rattle.mpd_model.specs.Term.{Term, lit, own_rank, size, cell, element, op1, op2}
 use Rattle.mpd_model.specs.Tokens.{Spot}
@@ -97,22 +97,22 @@ unfolding atom token advanced
 ranks_read p s rest b i e = rw e refl
 
 -- the name of a variable is sought
-pub seek_at : (s : Spot) (sized : Bool) (p : Place) (rest : List Spot) (b : ℕ) (i : Input) → (n : Names i.decls Variable s sized p) → seek Variable (at (s ∷ rest) b i) ≡ Ok (n.slot, at (s ∷ rest) b i)
+pub seek_at : (s : Spot) (is_array : Bool) (p : Place) (rest : List Spot) (b : ℕ) (i : Input) → (n : Names i.decls Variable s is_array p) → seek Variable (at (s ∷ rest) b i) ≡ Ok (n.slot, at (s ∷ rest) b i)
 unfolding seek spelling
-seek_at s sized p rest b i n = rw (n.declared, n.kind) refl
+seek_at s is_array p rest b i n = rw (n.declared, n.kind) refl
 
 atom_is : (p : ℕ → Parser Term) (s : Spot) (rest : List Spot) (b : ℕ) (i : Input) (tk : Token) → s.token ≡ tk → atom p (at (s ∷ rest) b i) ≡ atom_by p tk (at (s ∷ rest) b i)
 unfolding atom token
 atom_is p s rest b i tk e = ap (λ u. atom_by p u (at (s ∷ rest) b i)) e
 
-whole_read : (q : ℕ → Parser Term) (p : Place) (o : Option ℕ) (i : Input) → is_some o ≡ false → indexed q p o i ≡ Ok (cell p, i)
+whole_read : (q : ℕ → Parser Term) (p : Place) (o : Option ℕ) (i : Input) → is_some o ≡ false → index_inside q p o i ≡ Ok (cell p, i)
 whole_read q p None i h = refl
 whole_read q p (Some k) i h = absurd (cc)
 
 place_read : (q : ℕ → Parser Term) (s : Spot) (p : Place) (rest : List Spot) (b : ℕ) (i : Input) → Names i.decls Variable s false p → place_inside q (at (s ∷ rest) b i) ≡ Ok (cell p, at rest b i)
 unfolding place_inside advanced
 place_read q s p rest b i n =
-    bind_to _ _ _ _ (seek_at s false p rest b i n) (ap (λ r. indexed q r n.slot.size (at rest b i)) n.place ∙ whole_read q p n.slot.size (at rest b i) n.size)
+    bind_to _ _ _ _ (seek_at s false p rest b i n) (ap (λ r. index_inside q r n.slot.size (at rest b i)) n.place ∙ whole_read q p n.slot.size (at rest b i) n.size)
 
 name_read : (q : ℕ → Parser Term) (s : Spot) (p : Place) (rest : List Spot) (b : ℕ) (i : Input) → Names i.decls Variable s false p → atom q (at (s ∷ rest) b i) ≡ Ok (cell p, at rest b i)
 name_read q s p rest b i n = atom_is q s rest b i Name n.token ∙ place_read q s p rest b i n
@@ -123,7 +123,7 @@ bracket_at a rest b i e = rw (sees_at m.SquareOpen a rest (suc b) i e) (spend_at
 
 index_read : (q : ℕ → Parser Term) (p : Place) (o : Option ℕ) (a z : Spot) (ss rest : List Spot) (t : Term) (b c : ℕ) (i : Input) → is_some o ≡ true
     → a.token ≡ Is m.SquareOpen → z.token ≡ Is m.SquareClose → q 5 (at (ss ++ z ∷ rest) b i) ≡ Ok (t, at (z ∷ rest) c i)
-    → indexed q p o (at (a ∷ ss ++ z ∷ rest) (suc b) i) ≡ Ok (element p t, at rest c i)
+    → index_inside q p o (at (a ∷ ss ++ z ∷ rest) (suc b) i) ≡ Ok (element p t, at rest c i)
 index_read q p None a z ss rest t b c i o d e h = absurd (cc)
 index_read q p (Some k) a z ss rest t b c i o d e h =
     bind_to _ _ _ _ (bracket_at a (ss ++ z ∷ rest) b i d) (bind_to _ _ _ _ h (bind_to _ _ _ _ (expect_at m.SquareClose z rest c i e) refl))
@@ -134,26 +134,26 @@ element_read : (q : ℕ → Parser Term) (s a z : Spot) (ss rest : List Spot) (p
 unfolding place_inside advanced
 element_read q s a z ss rest p t b c i n d e h =
     bind_to _ _ _ _ (seek_at s true p (a ∷ ss ++ z ∷ rest) (suc b) i n)
-    (ap (λ r. indexed q r n.slot.size (at (a ∷ ss ++ z ∷ rest) (suc b) i)) n.place ∙ index_read q p n.slot.size a z ss rest t b c i n.size d e h)
+    (ap (λ r. index_inside q r n.slot.size (at (a ∷ ss ++ z ∷ rest) (suc b) i)) n.place ∙ index_read q p n.slot.size a z ss rest t b c i n.size d e h)
 
 entry_read : (q : ℕ → Parser Term) (s a z : Spot) (ss rest : List Spot) (p : Place) (t : Term) (b c : ℕ) (i : Input) → Names i.decls Variable s true p
     → a.token ≡ Is m.SquareOpen → z.token ≡ Is m.SquareClose → q 5 (at (ss ++ z ∷ rest) b i) ≡ Ok (t, at (z ∷ rest) c i)
     → atom q (at (s ∷ a ∷ ss ++ z ∷ rest) (suc b) i) ≡ Ok (element p t, at rest c i)
 entry_read q s a z ss rest p t b c i n d e h = atom_is q s (a ∷ ss ++ z ∷ rest) (suc b) i Name n.token ∙ element_read q s a z ss rest p t b c i n d e h
 
-sign_is : (q : ℕ → Parser Term) (op : UnaryOp) (tk : Token) → sign tk ≡ Some op → atom_by q tk ≡ signed q op
-sign_is q op (Is m.Minus) h = let e : u.Negate ≡ op = cc in ap (signed q) e
-sign_is q op (Is m.Not) h = let e : u.Not ≡ op = cc in ap (signed q) e
+sign_is : (q : ℕ → Parser Term) (op : UnaryOp) (tk : Token) → sign tk ≡ Some op → atom_by q tk ≡ unary q op
+sign_is q op (Is m.Minus) h = let e : u.Negate ≡ op = cc in ap (unary q) e
+sign_is q op (Is m.Not) h = let e : u.Not ≡ op = cc in ap (unary q) e
 sign_is q op _ h = absurd (cc)
 
 operand_read : (q : ℕ → Parser Term) (op : UnaryOp) (s : Spot) (ss rest : List Spot) (t : Term) (b c : ℕ) (i : Input) → q 0 (at (ss ++ rest) b i) ≡ Ok (t, at rest c i)
-    → signed q op (at (s ∷ ss ++ rest) (suc b) i) ≡ Ok (op1 op t, at rest c i)
-unfolding signed
+    → unary q op (at (s ∷ ss ++ rest) (suc b) i) ≡ Ok (op1 op t, at rest c i)
+unfolding unary
 operand_read q op s ss rest t b c i h = bind_to _ _ _ _ (spend_at s (ss ++ rest) b i) (bind_to _ _ _ _ h refl)
 
-signed_read : (q : ℕ → Parser Term) (op : UnaryOp) (s : Spot) (ss rest : List Spot) (t : Term) (b c : ℕ) (i : Input) → sign s.token ≡ Some op
+unary_read : (q : ℕ → Parser Term) (op : UnaryOp) (s : Spot) (ss rest : List Spot) (t : Term) (b c : ℕ) (i : Input) → sign s.token ≡ Some op
     → q 0 (at (ss ++ rest) b i) ≡ Ok (t, at rest c i) → atom q (at (s ∷ ss ++ rest) (suc b) i) ≡ Ok (op1 op t, at rest c i)
-signed_read q op s ss rest t b c i e h =
+unary_read q op s ss rest t b c i e h =
     atom_is q s (ss ++ rest) (suc b) i s.token refl ∙ ap (λ f. f (at (s ∷ ss ++ rest) (suc b) i)) (sign_is q op s.token e) ∙ operand_read q op s ss rest t b c i h
 
 rounds_read : (p : ℕ → Parser Term) (a z : Spot) (ss rest : List Spot) (t : Term) (b c : ℕ) (i : Input) → z.token ≡ Is m.RoundClose
@@ -263,18 +263,18 @@ entry_reads i s a z ss p t names ea ez h n b c rest e le st =
     let le' : c + cost ss ≤ n - 1 = omega arith in
     entry_from n (n - 1) b (c + cost ss) c s a z ss rest p t i en eb names ea ez (h (n - 1) (c + cost ss) c (z ∷ rest) refl le' (mark_stops 5 z rest (Is m.SquareClose) ez refl))
 
-signed_from : (n n' bud b' c : ℕ) (s : Spot) (ss rest : List Spot) (op : UnaryOp) (t : Term) (i : Input) → n ≡ suc n' → bud ≡ suc b' → sign s.token ≡ Some op
+unary_from : (n n' bud b' c : ℕ) (s : Spot) (ss rest : List Spot) (op : UnaryOp) (t : Term) (i : Input) → n ≡ suc n' → bud ≡ suc b' → sign s.token ≡ Some op
     → level (expr n') 0 (at (ss ++ rest) b' i) ≡ Ok (t, at rest c i) → level (expr n) 0 (at ((s ∷ ss) ++ rest) bud i) ≡ Ok (op1 op t, at rest c i)
 unfolding level expr
-signed_from n n' bud b' c s ss rest op t i en eb es h = rw (en, eb) (signed_read (expr (suc n')) op s ss rest t b' c i es h)
+unary_from n n' bud b' c s ss rest op t i en eb es h = rw (en, eb) (unary_read (expr (suc n')) op s ss rest t b' c i es h)
 
-signed_reads : (i : Input) (s : Spot) (ss : List Spot) (op : UnaryOp) (t : Term) → sign s.token ≡ Some op → Reads i 0 ss t → Reads i 0 (s ∷ ss) (op1 op t)
-signed_reads i s ss op t es h n b c rest e le st =
+unary_reads : (i : Input) (s : Spot) (ss : List Spot) (op : UnaryOp) (t : Term) → sign s.token ≡ Some op → Reads i 0 ss t → Reads i 0 (s ∷ ss) (op1 op t)
+unary_reads i s ss op t es h n b c rest e le st =
     let one : price s.token ≡ 1 = sign_costs op s.token es in
     let en : n ≡ suc (n - 1) = omega arith in
     let eb : b ≡ suc (c + cost ss) = omega arith in
     let le' : c + cost ss ≤ n - 1 = omega arith in
-    signed_from n (n - 1) b (c + cost ss) c s ss rest op t i en eb es (h (n - 1) (c + cost ss) c rest refl le' st)
+    unary_from n (n - 1) b (c + cost ss) c s ss rest op t i en eb es (h (n - 1) (c + cost ss) c rest refl le' st)
 
 -- a left operand, with a turn left for the operator behind it
 record Left (p : ℕ → Parser Term) (k : ℕ) (t : Term) (i j : Input) : Type 0 where
@@ -333,7 +333,7 @@ written_read i _ _ _ (rank s e) = (one_read i s own_rank (ap price e) (λ n' b r
 written_read i _ _ _ (ranks s e) = (one_read i s size (ap price e) (λ n' b rest. ranks_read (expr n') s rest b i e), tt)
 written_read i _ _ _ (name s p e) = (one_read i s (cell p) (ap price e.token) (λ n' b rest. name_read (expr n') s p rest b i e), tt)
 written_read i _ _ _ (entry s a z ss p t n ea ez w) = (entry_reads i s a z ss p t n ea ez (written_read i 5 ss t w).0, tt)
-written_read i _ _ _ (signs s ss op t e w) = (signed_reads i s ss op t e (written_read i 0 ss t w).0, tt)
+written_read i _ _ _ (signs s ss op t e w) = (unary_reads i s ss op t e (written_read i 0 ss t w).0, tt)
 written_read i _ _ _ (round a z ss t ea ez w) = (round_reads i a z ss t ea ez (written_read i 5 ss t w).0, tt)
 written_read i _ _ _ (higher k ss t w) = let c = chain_begins i k ss t (written_read i k ss t w).0 in (chain_ends i k ss t c, c)
 written_read i _ _ _ (joins k l r o op a b e x y) =

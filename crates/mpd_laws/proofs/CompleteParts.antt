@@ -16,7 +16,7 @@ use Rattle.mpd_model.specs.declared.token.Token.{Token}
 use Rattle.mpd_model.specs.declared.token.Token.TheVariants.{Name, Is}
 use Rattle.mpd_model.specs.Declaration.{Declared}
 use Rattle.mpd_model.specs.Costs.{cost, Stops, on, Gives, index_cost, part_cost, dearest_part}
-use Rattle.mpd_model.specs.Grammar.{expression, begun, sign, place_of_slot, outside, target, named_by, named, source, status, fill, EndsTerm, EndsStatus, AreClear}
+use Rattle.mpd_model.specs.Grammar.{expression, begin_statement, sign, place_of_slot, index_outside, target, statement_place_by, statement_place, source, status, fill, EndsTerm, EndsStatus, AreClear}
 use Rattle.mpd_model.specs.Input.{Input, Parser, token, token_of, spelling, advanced, expect, seek, same_kind, slot_in, sees, is_mark, same_mark, count, after}
 use Rattle.mpd_model.specs.Parts.{Part, Hole, mark_hole, term_hole, target_hole, source_hole, status_hole, source_part, status_parts, Contents, filled}
 use Rattle.mpd_model.specs.Term.{Term, Target}
@@ -30,9 +30,9 @@ use Rattle.mpd_laws.proofs.SoundParts.{status_of}
 pub expect_on : (wanted : Mark) (s : Spot) (rest : List Spot) (ls : List ℕ) (b : ℕ) (i : Input) → s.token ≡ Is wanted → expect wanted (on (s ∷ rest) ls b i) ≡ Ok (tt, on rest ls b i)
 expect_on wanted s rest ls b i e = expect_at wanted s rest b (on rest ls b i) e
 
-pub begun_on : (k : Spot) (rest : List Spot) (ls : List ℕ) (b : ℕ) (i : Input) → length ls < STATEMENTS_MAX → begun (on (k ∷ rest) ls b i) ≡ Ok (tt, on rest (ls ++ k.line ∷ []) b i)
+pub begin_statement_on : (k : Spot) (rest : List Spot) (ls : List ℕ) (b : ℕ) (i : Input) → length ls < STATEMENTS_MAX → begin_statement (on (k ∷ rest) ls b i) ≡ Ok (tt, on rest (ls ++ k.line ∷ []) b i)
 unfolding count advanced
-begun_on k rest ls b i h =
+begin_statement_on k rest ls b i h =
     let few : nat_lt (length ls) STATEMENTS_MAX ≡ true = grind (arith, nat_tests) in
     rw few refl
 
@@ -51,16 +51,16 @@ pub record Begins (i : Input) (wanted : DeclKind) (ss : List Spot) (t : Target) 
   pub slot : Slot
   pub declared : slot_in i.decls first.text ≡ Some slot
   pub kind : slot.kind ≡ wanted
-  pub reads : (ls : List ℕ) (b : ℕ) (rest : List Spot) → Gives (outside (place_of_slot slot) slot.size (on (behind ++ rest) ls b i)) t rest ls i
+  pub reads : (ls : List ℕ) (b : ℕ) (rest : List Spot) → Gives (index_outside (place_of_slot slot) slot.size (on (behind ++ rest) ls b i)) t rest ls i
 
 whole_on : (p : Place) (o : Option ℕ) (rest : List Spot) (ls : List ℕ) (b : ℕ) (i : Input) → is_some o ≡ false
-    → outside p o (on rest ls b i) ≡ Ok (record { place = p; index = None }, on rest ls b i)
+    → index_outside p o (on rest ls b i) ≡ Ok (record { place = p; index = None }, on rest ls b i)
 whole_on p None rest ls b i h = refl
 whole_on p (Some n) rest ls b i h = absurd (cc)
 
 part_on : (p : Place) (o : Option ℕ) (a z : Spot) (ss rest : List Spot) (t : Term) (ls : List ℕ) (b : ℕ) (i : Input) → is_some o ≡ true
     → a.token ≡ Is m.SquareOpen → WrittenTerm i.decls 5 ss t → z.token ≡ Is m.SquareClose → cost ss ≤ NESTING_MAX
-    → outside p o (on (a ∷ (ss ++ (z ∷ rest))) ls b i) ≡ Ok (record { place = p; index = Some t }, on rest ls (NESTING_MAX - cost ss) i)
+    → index_outside p o (on (a ∷ (ss ++ (z ∷ rest))) ls b i) ≡ Ok (record { place = p; index = Some t }, on rest ls (NESTING_MAX - cost ss) i)
 part_on p None a z ss rest t ls b i h ha w hz le = absurd (cc)
 part_on p (Some n) a z ss rest t ls b i h ha w hz le =
     bind_to _ _ _ _ (expect_on m.SquareOpen a (ss ++ (z ∷ rest)) ls b i ha)
@@ -68,7 +68,7 @@ part_on p (Some n) a z ss rest t ls b i h ha w hz le =
     (bind_to _ _ _ _ (expect_on m.SquareClose z rest ls (NESTING_MAX - cost ss) i hz) refl))
 
 same_place : (p q : Place) (o : Option ℕ) (t : Target) (ss us rest : List Spot) (ls : List ℕ) (b : ℕ) (i : Input) → p ≡ q → ss ≡ us
-    → Gives (outside q o (on us ls b i)) t rest ls i → Gives (outside p o (on ss ls b i)) t rest ls i
+    → Gives (index_outside q o (on us ls b i)) t rest ls i → Gives (index_outside p o (on ss ls b i)) t rest ls i
 same_place p q o t ss us rest ls b i d e g = rw (d, e) g
 
 pub target_begins : (i : Input) (kind : DeclKind) (ss : List Spot) (t : Target) (w : WrittenTarget i.decls kind ss t) → index_cost i.decls kind ss t w ≤ NESTING_MAX → Begins i kind ss t
@@ -106,26 +106,26 @@ unfolding seek spelling
 seek_on kind s slot rest ls b i d k = rw (d, k, kind_is_same kind) refl
 
 target_on : (kind : DeclKind) (s : Spot) (slot : Slot) (ss rest : List Spot) (t : Target) (ls : List ℕ) (b : ℕ) (i : Input) → slot_in i.decls s.text ≡ Some slot → slot.kind ≡ kind
-    → Gives (outside (place_of_slot slot) slot.size (on ss ls b i)) t rest ls i → Gives (target kind (on (s ∷ ss) ls b i)) t rest ls i
+    → Gives (index_outside (place_of_slot slot) slot.size (on ss ls b i)) t rest ls i → Gives (target kind (on (s ∷ ss) ls b i)) t rest ls i
 unfolding target advanced
 target_on kind s slot ss rest t ls b i d k g = record { left = g.left; is = bind_to _ _ _ _ (seek_on kind s slot ss ls b i d k) g.is }
 
-named_as : (kind : DeclKind) (s : Spot) (ss : List Spot) (ls : List ℕ) (b : ℕ) (i : Input) → s.token ≡ Name → named kind (on (s ∷ ss) ls b i) ≡ target kind (on (s ∷ ss) ls b i)
-unfolding named token
-named_as kind s ss ls b i e = ap (λ u. named_by kind u (on (s ∷ ss) ls b i)) e
+statement_place_as : (kind : DeclKind) (s : Spot) (ss : List Spot) (ls : List ℕ) (b : ℕ) (i : Input) → s.token ≡ Name → statement_place kind (on (s ∷ ss) ls b i) ≡ target kind (on (s ∷ ss) ls b i)
+unfolding statement_place token
+statement_place_as kind s ss ls b i e = ap (λ u. statement_place_by kind u (on (s ∷ ss) ls b i)) e
 
-named_from : (kind : DeclKind) (s : Spot) (ss rest : List Spot) (t : Target) (ls : List ℕ) (b : ℕ) (i : Input) → s.token ≡ Name → Gives (target kind (on (s ∷ ss) ls b i)) t rest ls i
-    → Gives (named kind (on (s ∷ ss) ls b i)) t rest ls i
-named_from kind s ss rest t ls b i e g = record { left = g.left; is = named_as kind s ss ls b i e ∙ g.is }
+statement_place_from : (kind : DeclKind) (s : Spot) (ss rest : List Spot) (t : Target) (ls : List ℕ) (b : ℕ) (i : Input) → s.token ≡ Name → Gives (target kind (on (s ∷ ss) ls b i)) t rest ls i
+    → Gives (statement_place kind (on (s ∷ ss) ls b i)) t rest ls i
+statement_place_from kind s ss rest t ls b i e g = record { left = g.left; is = statement_place_as kind s ss ls b i e ∙ g.is }
 
-named_same : (kind : DeclKind) (ss us rest : List Spot) (t : Target) (ls : List ℕ) (b : ℕ) (i : Input) → ss ≡ us → Gives (named kind (on us ls b i)) t rest ls i
-    → Gives (named kind (on ss ls b i)) t rest ls i
-named_same kind ss us rest t ls b i e g = rw e g
+statement_place_same : (kind : DeclKind) (ss us rest : List Spot) (t : Target) (ls : List ℕ) (b : ℕ) (i : Input) → ss ≡ us → Gives (statement_place kind (on us ls b i)) t rest ls i
+    → Gives (statement_place kind (on ss ls b i)) t rest ls i
+statement_place_same kind ss us rest t ls b i e g = rw e g
 
-named_on : (kind : DeclKind) (ss rest : List Spot) (t : Target) (ls : List ℕ) (b : ℕ) (i : Input) → Begins i kind ss t → Gives (named kind (on (ss ++ rest) ls b i)) t rest ls i
-named_on kind ss rest t ls b i x =
-    named_same kind (ss ++ rest) (x.first ∷ (x.behind ++ rest)) rest t ls b i (ap (λ r. r ++ rest) x.is)
-    (named_from kind x.first (x.behind ++ rest) rest t ls b i x.token (target_on kind x.first x.slot (x.behind ++ rest) rest t ls b i x.declared x.kind (x.reads ls b rest)))
+statement_place_on : (kind : DeclKind) (ss rest : List Spot) (t : Target) (ls : List ℕ) (b : ℕ) (i : Input) → Begins i kind ss t → Gives (statement_place kind (on (ss ++ rest) ls b i)) t rest ls i
+statement_place_on kind ss rest t ls b i x =
+    statement_place_same kind (ss ++ rest) (x.first ∷ (x.behind ++ rest)) rest t ls b i (ap (λ r. r ++ rest) x.is)
+    (statement_place_from kind x.first (x.behind ++ rest) rest t ls b i x.token (target_on kind x.first x.slot (x.behind ++ rest) rest t ls b i x.declared x.kind (x.reads ls b rest)))
 
 -- ---- where a hole ends
 
@@ -201,17 +201,17 @@ absent_on : (us : List Spot) (ls : List ℕ) (b : ℕ) (i : Input) → is_mark m
 unfolding status sees after token
 absent_on us ls b i h = rw h refl
 
-present_on : (s : Spot) (ss us vs : List Spot) (p q : Target) (ls : List ℕ) (b : ℕ) (i : Input) → is_mark m.Status s.token ≡ true → (g : Gives (named Variable (on ss ls b i)) p us ls i)
-    → Gives (named Variable (on us ls g.left i)) q vs ls i → Gives (status (on (s ∷ ss) ls b i)) (Some (status_of p q)) vs ls i
+present_on : (s : Spot) (ss us vs : List Spot) (p q : Target) (ls : List ℕ) (b : ℕ) (i : Input) → is_mark m.Status s.token ≡ true → (g : Gives (statement_place Variable (on ss ls b i)) p us ls i)
+    → Gives (statement_place Variable (on us ls g.left i)) q vs ls i → Gives (status (on (s ∷ ss) ls b i)) (Some (status_of p q)) vs ls i
 unfolding status sees after token advanced
 present_on s ss us vs p q ls b i h g k = record { left = k.left; is = rw h (bind_to _ _ _ _ g.is (bind_to _ _ _ _ k.is refl)) }
 
 -- the first place of a status, whose tokens are joined with those of the second and of the parts behind it
 first_on : (ts vs rs us : List Spot) (p : Target) (ls : List ℕ) (b : ℕ) (i : Input) → (w : WrittenTarget i.decls Variable ts p) → index_cost i.decls Variable ts p w ≤ NESTING_MAX
-    → Gives (named Variable (on (ts ++ (vs ++ rs) ++ us) ls b i)) p (vs ++ (rs ++ us)) ls i
+    → Gives (statement_place Variable (on (ts ++ (vs ++ rs) ++ us) ls b i)) p (vs ++ (rs ++ us)) ls i
 first_on ts vs rs us p ls b i w le =
-    named_same Variable (ts ++ (vs ++ rs) ++ us) (ts ++ (vs ++ (rs ++ us))) (vs ++ (rs ++ us)) p ls b i (append_assoc ts (vs ++ rs) us ∙ ap (λ r. ts ++ r) (append_assoc vs rs us))
-    (named_on Variable ts (vs ++ (rs ++ us)) p ls b i (target_begins i Variable ts p w le))
+    statement_place_same Variable (ts ++ (vs ++ rs) ++ us) (ts ++ (vs ++ (rs ++ us))) (vs ++ (rs ++ us)) p ls b i (append_assoc ts (vs ++ rs) us ∙ ap (λ r. ts ++ r) (append_assoc vs rs us))
+    (statement_place_on Variable ts (vs ++ (rs ++ us)) p ls b i (target_begins i Variable ts p w le))
 
 -- a status was read, and the other parts are still to come
 record StatusRead (o : Option StatusStmt) (ps : List Part) (ss us : List Spot) (ls : List ℕ) (b : ℕ) (i : Input) : Type 0 where
@@ -230,7 +230,7 @@ status_on (Some c) ps _ us ls b i (then_part _ _ _ _ (by_mark s _ h) (then_part 
       written = w;
       cheap = omega arith;
       gives = present_on s (ts ++ (vs ++ rs) ++ us) (vs ++ (rs ++ us)) (rs ++ us) c.source c.tag ls b i (mark_seen m.Status s h) g
-          (named_on Variable vs (rs ++ us) c.tag ls g.left i (target_begins i Variable vs c.tag y (omega arith)));
+          (statement_place_on Variable vs (rs ++ us) c.tag ls g.left i (target_begins i Variable vs c.tag y (omega arith)));
     }
 
 -- ---- all parts, and the `;` behind them
@@ -250,7 +250,7 @@ fill_on (term_hole ∷ hs) made c _ end rest ls b i p (then_part ss rs _ _ (by_t
     same_on (fill (term_hole ∷ hs) made) (made c) (ss ++ rs ++ (end ∷ rest)) (ss ++ (rs ++ (end ∷ rest))) rest ls ls b i (append_assoc ss rs (end ∷ rest))
     (record { left = g.left; is = bind_to _ _ _ _ first g.is })
 fill_on (target_hole kind ∷ hs) made c _ end rest ls b i p (then_part ss rs _ _ (by_target _ _ _ x) w) le e =
-    let n = named_on kind ss (rs ++ (end ∷ rest)) c.0 ls b i (target_begins i kind ss c.0 x (omega arith)) in
+    let n = statement_place_on kind ss (rs ++ (end ∷ rest)) c.0 ls b i (target_begins i kind ss c.0 x (omega arith)) in
     let g = fill_on hs (λ d. made (c.0, d)) c.1 rs end rest ls n.left i p w (omega arith) e in
     same_on (fill (target_hole kind ∷ hs) made) (made c) (ss ++ rs ++ (end ∷ rest)) (ss ++ (rs ++ (end ∷ rest))) rest ls ls b i (append_assoc ss rs (end ∷ rest))
     (record { left = g.left; is = bind_to _ _ _ _ n.is g.is })

@@ -12,7 +12,7 @@ use Rattle.mpd_model.specs.declared.token.Token.{Token}
 use Rattle.mpd_model.specs.declared.token.Token.TheVariants.{Number, Name, Is}
 use Rattle.mpd_model.specs.Declaration.{Declared, variable_cells, handle_cells, variables_in, handles_in}
 use Rattle.mpd_model.specs.Costs.{Gives, blocks_in, dearest_body, dearest_script}
-use Rattle.mpd_model.specs.Grammar.{version_by, version, rank_count, ranks_by, ranks, sized_at, size_by, sized, single, declaring, decl_by, decl, declares, decls_by, decls_from, decls, header, body, block, max_text, is_text, read_of, reading}
+use Rattle.mpd_model.specs.Grammar.{version_by, version, rank_count, ranks_by, ranks, array_size_at, array_size_by, array_size, single, declarator, decl_by, decl, declares, decls_by, decls_from, decls, header, body, block, max_text, is_text, read_of, reading}
 use Rattle.mpd_model.specs.Grammar as grammar
 use Rattle.mpd_model.specs.Input.{Input, Outcome, Parser, and_then, start_of, token, token_of, spelling, place, advanced, expect, sees, is_mark, same_mark, after, fresh, add, cells_fit, slot_in}
 use Rattle.mpd_model.specs.Program.{Program, IsLegal}
@@ -55,39 +55,39 @@ unfolding single
 single_has kind name p end rest ds i e h =
     bind_to _ _ _ _ (add_has kind name None p (end ∷ rest) ds i h) (expect_has m.Semicolon end rest (ds ++ declared_as kind name None ∷ []) i e)
 
-sized_at_has : (kind : DeclKind) (name : List ℕ) (n : ℕ) (c z end : Spot) (rest : List Spot) (ds : List Declared) (i : Input) → z.token ≡ Is m.SquareClose → end.token ≡ Is m.Semicolon
-    → cells_fit kind (Some n) ds ≡ true → sized_at kind name (Some n) (has (c ∷ z ∷ end ∷ rest) ds i) ≡ Ok (tt, has rest (ds ++ declared_as kind name (Some n) ∷ []) i)
+array_size_at_has : (kind : DeclKind) (name : List ℕ) (n : ℕ) (c z end : Spot) (rest : List Spot) (ds : List Declared) (i : Input) → z.token ≡ Is m.SquareClose → end.token ≡ Is m.Semicolon
+    → cells_fit kind (Some n) ds ≡ true → array_size_at kind name (Some n) (has (c ∷ z ∷ end ∷ rest) ds i) ≡ Ok (tt, has rest (ds ++ declared_as kind name (Some n) ∷ []) i)
 unfolding advanced
-sized_at_has kind name n c z end rest ds i ez e h =
+array_size_at_has kind name n c z end rest ds i ez e h =
     let es = ds ++ declared_as kind name (Some n) ∷ [] in
     bind_to _ _ _ _ (add_has kind name (Some n) (place (has (c ∷ z ∷ end ∷ rest) ds i)) (c ∷ z ∷ end ∷ rest) ds i h)
     (bind_to _ _ _ _ (expect_has m.SquareClose z (end ∷ rest) es i ez) (expect_has m.Semicolon end rest es i e))
 
-sized_has : (kind : DeclKind) (name : List ℕ) (n : ℕ) (c z end : Spot) (rest : List Spot) (ds : List Declared) (i : Input) → c.token ≡ Number (pos n) → z.token ≡ Is m.SquareClose
-    → end.token ≡ Is m.Semicolon → cells_fit kind (Some n) ds ≡ true → sized kind name (has (c ∷ z ∷ end ∷ rest) ds i) ≡ Ok (tt, has rest (ds ++ declared_as kind name (Some n) ∷ []) i)
-unfolding sized token
-sized_has kind name n c z end rest ds i ec ez e h = ap (λ u. size_by kind name u (has (c ∷ z ∷ end ∷ rest) ds i)) ec ∙ sized_at_has kind name n c z end rest ds i ez e h
+array_size_has : (kind : DeclKind) (name : List ℕ) (n : ℕ) (c z end : Spot) (rest : List Spot) (ds : List Declared) (i : Input) → c.token ≡ Number (pos n) → z.token ≡ Is m.SquareClose
+    → end.token ≡ Is m.Semicolon → cells_fit kind (Some n) ds ≡ true → array_size kind name (has (c ∷ z ∷ end ∷ rest) ds i) ≡ Ok (tt, has rest (ds ++ declared_as kind name (Some n) ∷ []) i)
+unfolding array_size token
+array_size_has kind name n c z end rest ds i ec ez e h = ap (λ u. array_size_by kind name u (has (c ∷ z ∷ end ∷ rest) ds i)) ec ∙ array_size_at_has kind name n c z end rest ds i ez e h
 
 -- one of two, each with its input
 chosen : (b c : Bool) (p q : Parser (Unit {0})) (x y : Input) (o : Outcome (Unit {0})) → b ≡ c → cond c p q (cond c x y) ≡ o → cond b p q (cond b x y) ≡ o
 chosen b c p q x y o e h = rw e h
 
-declaring_has : (kind : DeclKind) (n end : Spot) (rest : List Spot) (ds : List Declared) (i : Input) → slot_in ds n.text ≡ None → end.token ≡ Is m.Semicolon → cells_fit kind None ds ≡ true
-    → declaring kind (has (n ∷ end ∷ rest) ds i) ≡ Ok (tt, has rest (ds ++ declared_as kind n.text None ∷ []) i)
-unfolding declaring advanced spelling sees token after
-declaring_has kind n end rest ds i free e h =
+declarator_has : (kind : DeclKind) (n end : Spot) (rest : List Spot) (ds : List Declared) (i : Input) → slot_in ds n.text ≡ None → end.token ≡ Is m.Semicolon → cells_fit kind None ds ≡ true
+    → declarator kind (has (n ∷ end ∷ rest) ds i) ≡ Ok (tt, has rest (ds ++ declared_as kind n.text None ∷ []) i)
+unfolding declarator advanced spelling sees token after
+declarator_has kind n end rest ds i free e h =
     bind_to _ _ _ _ (fresh_has n (end ∷ rest) ds i free)
     (chosen (is_mark m.SquareOpen end.token) false _ _ _ _ _ (no_size end e) (single_has kind n.text (place (has (n ∷ end ∷ rest) ds i)) end rest ds i e h))
 
 array_has : (kind : DeclKind) (n a c z end : Spot) (cells : ℕ) (rest : List Spot) (ds : List Declared) (i : Input) → slot_in ds n.text ≡ None → a.token ≡ Is m.SquareOpen
     → c.token ≡ Number (pos cells) → z.token ≡ Is m.SquareClose → end.token ≡ Is m.Semicolon → cells_fit kind (Some cells) ds ≡ true
-    → declaring kind (has (n ∷ a ∷ c ∷ z ∷ end ∷ rest) ds i) ≡ Ok (tt, has rest (ds ++ declared_as kind n.text (Some cells) ∷ []) i)
-unfolding declaring advanced spelling sees token after
+    → declarator kind (has (n ∷ a ∷ c ∷ z ∷ end ∷ rest) ds i) ≡ Ok (tt, has rest (ds ++ declared_as kind n.text (Some cells) ∷ []) i)
+unfolding declarator advanced spelling sees token after
 array_has kind n a c z end cells rest ds i free ea ec ez e h =
     bind_to _ _ _ _ (fresh_has n (a ∷ c ∷ z ∷ end ∷ rest) ds i free)
-    (chosen (is_mark m.SquareOpen a.token) true _ _ _ _ _ (mark_seen m.SquareOpen a.token ea) (sized_has kind n.text cells c z end rest ds i ec ez e h))
+    (chosen (is_mark m.SquareOpen a.token) true _ _ _ _ _ (mark_seen m.SquareOpen a.token ea) (array_size_has kind n.text cells c z end rest ds i ec ez e h))
 
-decl_as : (kind : DeclKind) (n : Spot) (ss : List Spot) (ds : List Declared) (i : Input) → n.token ≡ Name → decl kind (has (n ∷ ss) ds i) ≡ declaring kind (has (n ∷ ss) ds i)
+decl_as : (kind : DeclKind) (n : Spot) (ss : List Spot) (ds : List Declared) (i : Input) → n.token ≡ Name → decl kind (has (n ∷ ss) ds i) ≡ declarator kind (has (n ∷ ss) ds i)
 unfolding decl token
 decl_as kind n ss ds i e = ap (λ u. decl_by kind u (has (n ∷ ss) ds i)) e
 
@@ -134,7 +134,7 @@ decls_has _ _ _ (none ds) (suc turns) rest i less h a b = decls_end turns rest d
 decls_has _ _ _ (declares_one ds es kind v n end ss h1 h2 h3 h4 w) zero rest i less h a b = absurd (omega arith)
 decls_has _ _ _ (declares_one ds es kind v n end ss h1 h2 h3 h4 w) (suc turns) rest i less h a b =
     decls_more kind turns v (n ∷ end ∷ (ss ++ rest)) ds i h1
-    ∙ bind_to _ _ _ _ (decl_as kind n (end ∷ (ss ++ rest)) ds i h2 ∙ declaring_has kind n end (ss ++ rest) ds i h3 h4 (room ds es kind n.text None (decls_grow _ ss es w) a b))
+    ∙ bind_to _ _ _ _ (decl_as kind n (end ∷ (ss ++ rest)) ds i h2 ∙ declarator_has kind n end (ss ++ rest) ds i h3 h4 (room ds es kind n.text None (decls_grow _ ss es w) a b))
     (decls_has (ds ++ declared_as kind n.text None ∷ []) ss es w turns rest i (omega arith) h a b)
 decls_has _ _ _ (declares_array ds es kind v n o c z end cells ss h1 h2 h3 h4 h5 h6 h7 w) zero rest i less h a b = absurd (omega arith)
 decls_has _ _ _ (declares_array ds es kind v n o c z end cells ss h1 h2 h3 h4 h5 h6 h7 w) (suc turns) rest i less h a b =

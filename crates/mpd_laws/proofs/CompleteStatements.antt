@@ -12,7 +12,7 @@ use Rattle.mpd_model.specs.declared.token.Token.{Token}
 use Rattle.mpd_model.specs.declared.token.Token.TheVariants.{Name, Is, End}
 use Rattle.mpd_model.specs.Declaration.{Declared}
 use Rattle.mpd_model.specs.Costs.{cost, Stops, on, Gives, blocks, blocks_in, dearest_part, dearest, dearest_block, dearest_body}
-use Rattle.mpd_model.specs.Grammar.{begun, closes, declares, place_of_slot, outside, fill, Form, form_of, formed, by_form, HasForm, all_formed, assigning, otherwise, choosing, repeating, stmt_by, stmt, stmts, body, block}
+use Rattle.mpd_model.specs.Grammar.{begin_statement, closes, declares, place_of_slot, index_outside, fill, Form, form_of, behind_word, by_form, HasForm, all_formed, assignment, otherwise, if_statement, while_statement, stmt_by, stmt, stmts, body, block}
 use Rattle.mpd_model.specs.Input.{Input, Outcome, Parser, and_then, token, token_of, advanced, slot_in, sees, is_mark, same_mark, first_line, after}
 use Rattle.mpd_model.specs.Parts.{Part, of_mark, of_target, parts_of, mark_hole, term_hole, Contents, filled}
 use Rattle.mpd_model.specs.Term.{Term, Target}
@@ -20,36 +20,36 @@ use Rattle.mpd_model.specs.Tokens.{Spot}
 use Rattle.mpd_model.specs.Tree.{Tree, simple, branch, repeat, no_more, block_of}
 use Rattle.mpd_model.specs.Written.{WrittenTerm, WrittenTarget, whole, part, by_mark, by_target, WrittenParts, then_part, WrittenTree, simply, repeats, chooses, chooses_else, WrittenBlock, braces, WrittenBody, ended, follows}
 use Rattle.mpd_laws.proofs.Complete.{bind_to, mark_stops}
-use Rattle.mpd_laws.proofs.CompleteParts.{expect_on, begun_on, expression_on, target_begins, seek_on, mark_seen, fill_on}
+use Rattle.mpd_laws.proofs.CompleteParts.{expect_on, begin_statement_on, expression_on, target_begins, seek_on, mark_seen, fill_on}
 use Rattle.mpd_laws.proofs.Turns.{some_token}
 
 -- ---- the first token of a statement
 
 -- a statement by its first token, and what follows that
 begins_read : (B : Parser (List Tree)) (q : Parser Tree) (k : Spot) (ss rest : List Spot) (t : Tree) (ls ms : List ℕ) (b : ℕ) (tk : Token) (i : Input)
-    → k.token ≡ tk → stmt_by B tk ≡ (λ x. and_then (begun x) (λ u. q)) → length ls < STATEMENTS_MAX
+    → k.token ≡ tk → stmt_by B tk ≡ (λ x. and_then (begin_statement x) (λ u. q)) → length ls < STATEMENTS_MAX
     → Gives (q (on ss (ls ++ k.line ∷ []) b i)) t rest ms i → Gives (stmt B (on (k ∷ ss) ls b i)) t rest ms i
 unfolding stmt token
 begins_read B q k ss rest t ls ms b tk i e s few g = record {
   left = g.left;
-  is = ap (λ u. stmt_by B u (on (k ∷ ss) ls b i)) e ∙ ap (λ f. f (on (k ∷ ss) ls b i)) s ∙ bind_to _ _ _ _ (begun_on k ss ls b i few) g.is;
+  is = ap (λ u. stmt_by B u (on (k ∷ ss) ls b i)) e ∙ ap (λ f. f (on (k ∷ ss) ls b i)) s ∙ bind_to _ _ _ _ (begin_statement_on k ss ls b i few) g.is;
 }
 
 -- an assignment by its name, which is sought before the statement is counted
 assignment_read : (B : Parser (List Tree)) (s : Spot) (slot : Slot) (ss rest : List Spot) (t : Tree) (ls ms : List ℕ) (b : ℕ) (i : Input) → s.token ≡ Name
-    → slot_in i.decls s.text ≡ Some slot → slot.kind ≡ Variable → length ls < STATEMENTS_MAX → Gives (assigning slot (on ss (ls ++ s.line ∷ []) b i)) t rest ms i → Gives (stmt B (on (s ∷ ss) ls b i)) t rest ms i
+    → slot_in i.decls s.text ≡ Some slot → slot.kind ≡ Variable → length ls < STATEMENTS_MAX → Gives (assignment slot (on ss (ls ++ s.line ∷ []) b i)) t rest ms i → Gives (stmt B (on (s ∷ ss) ls b i)) t rest ms i
 unfolding stmt token
 assignment_read B s slot ss rest t ls ms b i e d k few g = record {
   left = g.left;
-  is = ap (λ u. stmt_by B u (on (s ∷ ss) ls b i)) e ∙ bind_to _ _ _ _ (seek_on Variable s slot ss ls b i d k) (bind_to _ _ _ _ (begun_on s ss ls b i few) g.is);
+  is = ap (λ u. stmt_by B u (on (s ∷ ss) ls b i)) e ∙ bind_to _ _ _ _ (seek_on Variable s slot ss ls b i d k) (bind_to _ _ _ _ (begin_statement_on s ss ls b i few) g.is);
 }
 
 -- ---- choices and repetitions
 
-repeating_read : (B : Parser (List Tree)) (e xs rest : List Spot) (t : Term) (x : List Tree) (ls ms : List ℕ) (b : ℕ) (i : Input)
-    → WrittenTerm i.decls 5 e t → cost e ≤ NESTING_MAX → Stops 5 xs → ((c : ℕ) → Gives (B (on xs ls c i)) x rest ms i) → Gives (repeating B (on (e ++ xs) ls b i)) (repeat t (block_of x)) rest ms i
-unfolding repeating
-repeating_read B e xs rest t x ls ms b i w le s inside =
+while_statement_read : (B : Parser (List Tree)) (e xs rest : List Spot) (t : Term) (x : List Tree) (ls ms : List ℕ) (b : ℕ) (i : Input)
+    → WrittenTerm i.decls 5 e t → cost e ≤ NESTING_MAX → Stops 5 xs → ((c : ℕ) → Gives (B (on xs ls c i)) x rest ms i) → Gives (while_statement B (on (e ++ xs) ls b i)) (repeat t (block_of x)) rest ms i
+unfolding while_statement
+while_statement_read B e xs rest t x ls ms b i w le s inside =
     let f = inside (NESTING_MAX - cost e) in
     record { left = f.left; is = bind_to _ _ _ _ (expression_on e xs t ls b i w le s) (bind_to _ _ _ _ f.is refl) }
 
@@ -63,11 +63,11 @@ otherwise_some : (B : Parser (List Tree)) (w : Spot) (rest : List Spot) (ls : Li
 unfolding otherwise sees after token advanced
 otherwise_some B w rest ls b i h = rw h refl
 
-choosing_read : (B : Parser (List Tree)) (e xs ys rest : List Spot) (t : Term) (x y : List Tree) (ls ms ns : List ℕ) (b : ℕ) (i : Input)
+if_statement_read : (B : Parser (List Tree)) (e xs ys rest : List Spot) (t : Term) (x y : List Tree) (ls ms ns : List ℕ) (b : ℕ) (i : Input)
     → WrittenTerm i.decls 5 e t → cost e ≤ NESTING_MAX → Stops 5 xs → ((c : ℕ) → Gives (B (on xs ls c i)) x ys ms i) → ((c : ℕ) → Gives (otherwise B (on ys ms c i)) y rest ns i)
-    → Gives (choosing B (on (e ++ xs) ls b i)) (branch t (block_of x) (block_of y)) rest ns i
-unfolding choosing
-choosing_read B e xs ys rest t x y ls ms ns b i w le s first second =
+    → Gives (if_statement B (on (e ++ xs) ls b i)) (branch t (block_of x) (block_of y)) rest ns i
+unfolding if_statement
+if_statement_read B e xs ys rest t x y ls ms ns b i w le s first second =
     let f = first (NESTING_MAX - cost e) in
     let g = second f.left in
     record {
@@ -99,7 +99,7 @@ form_reads : (i : Input) (n : ℕ) (f : Form) (c : Contents f.holes) (ss : List 
     → TreeReads i n (ss ++ end ∷ []) (simple (f.made c)) (first_line ss ∷ [])
 form_reads i n f c _ end by (then_part _ rs _ _ (by_mark s _ h) w) le he b ls rest few last =
     same_gives (stmt (block n)) (simple (f.made c)) _ (s ∷ (rs ++ (end ∷ rest))) rest ls _ _ b i (simp append_assoc) refl
-    (begins_read (block n) (formed f) s (rs ++ (end ∷ rest)) rest (simple (f.made c)) ls _ b (Is f.word) i h (by (block n)) (omega arith)
+    (begins_read (block n) (behind_word f) s (rs ++ (end ∷ rest)) rest (simple (f.made c)) ls _ b (Is f.word) i h (by (block n)) (omega arith)
     (fill_on f.holes (λ d. simple (f.made d)) c rs end rest (ls ++ s.line ∷ []) b i f.clear w (omega arith) he))
 
 -- where a word has a form, that reads the statement
@@ -109,11 +109,11 @@ stmt_by_form B m.While f h = absurd (cc)
 stmt_by_form B m.Waitany f h = absurd (cc)
 stmt_by_form B k f h = ap by_form h
 
-assigning_read : (slot : Slot) (xs us rest : List Spot) (t : Target) (e : Term) (ls : List ℕ) (b : ℕ) (i : Input) → Gives (outside (place_of_slot slot) slot.size (on xs ls b i)) t us ls i
+behind_place_read : (slot : Slot) (xs us rest : List Spot) (t : Target) (e : Term) (ls : List ℕ) (b : ℕ) (i : Input) → Gives (index_outside (place_of_slot slot) slot.size (on xs ls b i)) t us ls i
     → ((c : ℕ) → Gives (fill (mark_hole m.Assign ∷ term_hole ∷ []) (λ c. simple (st.Assign (record { into = t; value = c.0 }))) (on us ls c i)) (simple (st.Assign (record { into = t; value = e }))) rest ls i)
-    → Gives (assigning slot (on xs ls b i)) (simple (st.Assign (record { into = t; value = e }))) rest ls i
-unfolding assigning
-assigning_read slot xs us rest t e ls b i g f =
+    → Gives (assignment slot (on xs ls b i)) (simple (st.Assign (record { into = t; value = e }))) rest ls i
+unfolding assignment
+behind_place_read slot xs us rest t e ls b i g f =
     let h = f g.left in
     record { left = h.left; is = bind_to _ _ _ _ g.is h.is }
 
@@ -133,7 +133,7 @@ assigns_reads i n t e _ end (then_part v rs _ _ (by_target _ _ _ names) w) le he
     same_gives (stmt (block n)) made _ (x.first ∷ (x.behind ++ (rs ++ (end ∷ rest)))) rest ls line _ b i
     (assigned_tokens x.first v x.behind rs end rest x.is) (ap (λ r. ls ++ r ∷ []) (assigned_line x.first v x.behind rs x.is))
     (assignment_read (block n) x.first x.slot (x.behind ++ (rs ++ (end ∷ rest))) rest made ls line b i x.token x.declared x.kind (omega arith)
-    (assigning_read x.slot (x.behind ++ (rs ++ (end ∷ rest))) (rs ++ (end ∷ rest)) rest t e line b i (x.reads line b (rs ++ (end ∷ rest)))
+    (behind_place_read x.slot (x.behind ++ (rs ++ (end ∷ rest))) (rs ++ (end ∷ rest)) rest t e line b i (x.reads line b (rs ++ (end ∷ rest)))
     (λ c. fill_on (mark_hole m.Assign ∷ term_hole ∷ []) (λ d. simple (st.Assign (record { into = t; value = d.0 }))) (e, tt) rs end rest line c i (tt, tt) w (omega arith) he)))
 
 -- a statement that holds no other, as it is written
@@ -162,8 +162,8 @@ repeats_reads i n k e a t x ms hk w le s f b ls rest few last =
     let ks : List ℕ = ls ++ k.line ∷ [] in
     let more : length ks + length ms ≤ STATEMENTS_MAX = omega (arith, length-append ls (k.line ∷ [])) in
     same_gives (stmt (block n)) (repeat t (block_of x)) _ (k ∷ (e ++ (a ++ rest))) rest ls (ks ++ ms) _ b i (simp append_assoc) (append_assoc ls (k.line ∷ []) ms)
-    (begins_read (block n) (repeating (block n)) k (e ++ (a ++ rest)) rest (repeat t (block_of x)) ls _ b (Is m.While) i hk refl (omega arith)
-    (repeating_read (block n) e (a ++ rest) rest t x ks (ks ++ ms) b i w le (s rest) (λ c. f c ks rest more)))
+    (begins_read (block n) (while_statement (block n)) k (e ++ (a ++ rest)) rest (repeat t (block_of x)) ls _ b (Is m.While) i hk refl (omega arith)
+    (while_statement_read (block n) e (a ++ rest) rest t x ks (ks ++ ms) b i w le (s rest) (λ c. f c ks rest more)))
 
 otherwise_nothing : (B : Parser (List Tree)) (rest : List Spot) (ls : List ℕ) (b : ℕ) (i : Input) → is_mark m.Else (token_of rest) ≡ false → Gives (otherwise B (on rest ls b i)) [] rest ls i
 otherwise_nothing B rest ls b i h = record { left = b; is = otherwise_none B rest ls b i h }
@@ -179,8 +179,8 @@ chooses_reads i n k e a t x ms hk w le s f b ls rest few last =
     let ks : List ℕ = ls ++ k.line ∷ [] in
     let more : length ks + length ms ≤ STATEMENTS_MAX = omega (arith, length-append ls (k.line ∷ [])) in
     same_gives (stmt (block n)) (branch t (block_of x) no_more) _ (k ∷ (e ++ (a ++ rest))) rest ls (ks ++ ms) _ b i (simp append_assoc) (append_assoc ls (k.line ∷ []) ms)
-    (begins_read (block n) (choosing (block n)) k (e ++ (a ++ rest)) rest (branch t (block_of x) no_more) ls _ b (Is m.If) i hk refl (omega arith)
-    (choosing_read (block n) e (a ++ rest) rest rest t x [] ks (ks ++ ms) (ks ++ ms) b i w le (s rest)
+    (begins_read (block n) (if_statement (block n)) k (e ++ (a ++ rest)) rest (branch t (block_of x) no_more) ls _ b (Is m.If) i hk refl (omega arith)
+    (if_statement_read (block n) e (a ++ rest) rest rest t x [] ks (ks ++ ms) (ks ++ ms) b i w le (s rest)
     (λ c. f c ks rest more) (λ c. otherwise_nothing (block n) rest (ks ++ ms) c i last)))
 
 chooses_else_reads : (i : Input) (n : ℕ) (k o : Spot) (e a z : List Spot) (t : Term) (x y : List Tree) (ms ns : List ℕ)
@@ -193,8 +193,8 @@ chooses_else_reads i n k o e a z t x y ms ns hk w le s f ho g b ls rest few last
     let more : length ks + length ms ≤ STATEMENTS_MAX = omega (arith, length-append ls (k.line ∷ [])) in
     let more' : length (ks ++ ms) + length ns ≤ STATEMENTS_MAX = omega arith in
     same_gives (stmt (block n)) (branch t (block_of x) (block_of y)) _ (k ∷ (e ++ (a ++ (o ∷ (z ++ rest))))) rest ls (ks ++ ms ++ ns) _ b i (simp append_assoc) (simp append_assoc)
-    (begins_read (block n) (choosing (block n)) k (e ++ (a ++ (o ∷ (z ++ rest)))) rest (branch t (block_of x) (block_of y)) ls _ b (Is m.If) i hk refl (omega arith)
-    (choosing_read (block n) e (a ++ (o ∷ (z ++ rest))) (o ∷ (z ++ rest)) rest t x y ks (ks ++ ms) (ks ++ ms ++ ns) b i w le (s (o ∷ (z ++ rest)))
+    (begins_read (block n) (if_statement (block n)) k (e ++ (a ++ (o ∷ (z ++ rest)))) rest (branch t (block_of x) (block_of y)) ls _ b (Is m.If) i hk refl (omega arith)
+    (if_statement_read (block n) e (a ++ (o ∷ (z ++ rest))) (o ∷ (z ++ rest)) rest t x y ks (ks ++ ms) (ks ++ ms ++ ns) b i w le (s (o ∷ (z ++ rest)))
     (λ c. f c ks (o ∷ (z ++ rest)) more) (λ c. otherwise_gives (block n) o (z ++ rest) rest y (ks ++ ms) (ks ++ ms ++ ns) c i ho (g c (ks ++ ms) rest more'))))
 
 -- ---- blocks

@@ -14,7 +14,7 @@ use Rattle.mpd_model.specs.declared.token.Mark.{Mark}
 use Rattle.mpd_model.specs.declared.token.Mark.TheVariants as m
 use Rattle.mpd_model.specs.declared.token.Token.{Token}
 use Rattle.mpd_model.specs.declared.token.Token.TheVariants.{Number, Name, Is}
-use Rattle.mpd_model.specs.Grammar.{atom_by, atom, bracket, indexed, place_inside, place_of_slot, rounds, signed, chain, continued, level, expr, turns, operator_at}
+use Rattle.mpd_model.specs.Grammar.{atom_by, atom, bracket, index_inside, place_inside, place_of_slot, rounds, unary, chain, chain_by, level, expr, turns, operator_at}
 use Rattle.mpd_model.specs.Input.{Input, Outcome, Parser, and_then, token, place, spelling, advanced, spend, expect, sees, refusal, seek, sought, slot_in, same_kind, pure, fail, refuse}
 use Rattle.mpd_model.specs.ReaderLaws.{IsNotTooDeep, with_more, leaving_more}
 use Rattle.mpd_model.specs.Term.{Term, lit, own_rank, size, cell, element, op1, op2}
@@ -60,9 +60,9 @@ bracket_lowers : (i : Input) (y : Unit {0} × Input) → bracket i ≡ Ok y → 
 unfolding bracket
 bracket_lowers i y h = bracket_case (sees m.SquareOpen i) i y h
 
-indexed_lowers : (p : ℕ → Parser Term) → AllLower p → (at : Place) (cells : Option ℕ) → Lowers (indexed p at cells)
-indexed_lowers p s at None i j t h = let o = ok_parts (cell at, i) (t, j) h in omega (arith, ap (λ k. k.budget) o.1)
-indexed_lowers p s at (Some cells) i j t h =
+index_inside_lowers : (p : ℕ → Parser Term) → AllLower p → (at : Place) (cells : Option ℕ) → Lowers (index_inside p at cells)
+index_inside_lowers p s at None i j t h = let o = ok_parts (cell at, i) (t, j) h in omega (arith, ap (λ k. k.budget) o.1)
+index_inside_lowers p s at (Some cells) i j t h =
     let b = bind_ok (bracket i) _ (t, j) h in
     let c = bind_ok (p 5 b.0.1) _ (t, j) b.2 in
     let d = bind_ok (expect m.SquareClose c.0.1) _ (t, j) c.2 in
@@ -74,11 +74,11 @@ name_lowers : (p : ℕ → Parser Term) → AllLower p → Lowers (place_inside 
 unfolding place_inside
 name_lowers p s i j t h =
     let b = bind_ok (seek Variable i) _ (t, j) h in
-    omega (arith, seek_keeps i b.0 b.1, indexed_lowers p s (place_of_slot b.0.0) b.0.0.size (advanced b.0.1) j t b.2)
+    omega (arith, seek_keeps i b.0 b.1, index_inside_lowers p s (place_of_slot b.0.0) b.0.0.size (advanced b.0.1) j t b.2)
 
-signed_lowers : (p : ℕ → Parser Term) → AllLower p → (op : UnaryOp) → Lowers (signed p op)
-unfolding signed
-signed_lowers p s op i j t h =
+unary_lowers : (p : ℕ → Parser Term) → AllLower p → (op : UnaryOp) → Lowers (unary p op)
+unfolding unary
+unary_lowers p s op i j t h =
     let b = bind_ok (spend i) _ (t, j) h in
     let c = bind_ok (p 0 b.0.1) _ (t, j) b.2 in
     let o = ok_parts (op1 op c.0.0, c.0.1) (t, j) c.2 in
@@ -100,18 +100,18 @@ atom_lowers_case p s (Is m.Rank) i j t h = let o = ok_parts (own_rank, advanced 
 atom_lowers_case p s (Is m.Size) i j t h = let o = ok_parts (size, advanced i) (t, j) h in omega (arith, next_budget i j (sym o.1))
 atom_lowers_case p s Name i j t h = name_lowers p s i j t h
 atom_lowers_case p s (Is m.RoundOpen) i j t h = rounds_lowers p s i j t h
-atom_lowers_case p s (Is m.Minus) i j t h = signed_lowers p s u.Negate i j t h
-atom_lowers_case p s (Is m.Not) i j t h = signed_lowers p s u.Not i j t h
+atom_lowers_case p s (Is m.Minus) i j t h = unary_lowers p s u.Negate i j t h
+atom_lowers_case p s (Is m.Not) i j t h = unary_lowers p s u.Not i j t h
 atom_lowers_case p s _ i j t h = absurd (cc)
 
 atom_lowers : (p : ℕ → Parser Term) → AllLower p → Lowers (atom p)
 unfolding atom
 atom_lowers p s i j t h = atom_lowers_case p s (token i) i j t h
 
-continued_lowers : (more : Term → Parser Term) (p : Parser Term) → Lowers p → (left : Term) (o : Option BinaryOp) (x j : Input) (t : Term)
-    → ((l : Term) (y : Input) → more l y ≡ Ok (t, j) → j.budget ≤ y.budget) → continued more p left o x ≡ Ok (t, j) → j.budget ≤ x.budget
-continued_lowers more p s left None x j t g h = let o = ok_parts (left, x) (t, j) h in omega (arith, ap (λ k. k.budget) o.1)
-continued_lowers more p s left (Some op) x j t g h =
+chain_by_lowers : (more : Term → Parser Term) (p : Parser Term) → Lowers p → (left : Term) (o : Option BinaryOp) (x j : Input) (t : Term)
+    → ((l : Term) (y : Input) → more l y ≡ Ok (t, j) → j.budget ≤ y.budget) → chain_by more p left o x ≡ Ok (t, j) → j.budget ≤ x.budget
+chain_by_lowers more p s left None x j t g h = let o = ok_parts (left, x) (t, j) h in omega (arith, ap (λ k. k.budget) o.1)
+chain_by_lowers more p s left (Some op) x j t g h =
     let c = bind_ok (spend x) _ (t, j) h in
     let d = bind_ok (p c.0.1) _ (t, j) c.2 in
     omega (arith, spend_lowers x c.0 c.1, s c.0.1 d.0.1 d.0.0 d.1, g (op2 op left d.0.0) d.0.1 d.2)
@@ -120,7 +120,7 @@ chain_lowers : (p : Parser Term) → Lowers p → (k n : ℕ) (left : Term) (x j
 unfolding chain
 chain_lowers p s k zero left x j t h = let o = ok_parts (left, x) (t, j) h in omega (arith, ap (λ k. k.budget) o.1)
 chain_lowers p s k (suc n) left x j t h =
-    continued_lowers (chain p k n) p s left (operator_at k (token x)) x j t (λ l y e. chain_lowers p s k n l y j t e) h
+    chain_by_lowers (chain p k n) p s left (operator_at k (token x)) x j t (λ l y e. chain_lowers p s k n l y j t e) h
 
 level_lowers : (p : ℕ → Parser Term) → AllLower p → (k : ℕ) → Lowers (level p k)
 unfolding level
@@ -146,13 +146,13 @@ rounds_agree : (n : ℕ) (p q : ℕ → Parser Term) → AllAgree n p q → Agre
 unfolding rounds
 rounds_agree n p q a i h = bind_same (spend i) _ _ (λ x e. let s = spend_lowers i x e in let b : x.1.budget < n = omega arith in rw (a 5 x.1 b) refl)
 
-signed_agree : (n : ℕ) (p q : ℕ → Parser Term) → AllAgree n p q → (op : UnaryOp) → Agree (suc n) (signed p op) (signed q op)
-unfolding signed
-signed_agree n p q a op i h = bind_same (spend i) _ _ (λ x e. let s = spend_lowers i x e in let b : x.1.budget < n = omega arith in rw (a 0 x.1 b) refl)
+unary_agree : (n : ℕ) (p q : ℕ → Parser Term) → AllAgree n p q → (op : UnaryOp) → Agree (suc n) (unary p op) (unary q op)
+unfolding unary
+unary_agree n p q a op i h = bind_same (spend i) _ _ (λ x e. let s = spend_lowers i x e in let b : x.1.budget < n = omega arith in rw (a 0 x.1 b) refl)
 
-indexed_agree : (n : ℕ) (p q : ℕ → Parser Term) → AllAgree n p q → (at : Place) (cells : Option ℕ) → Agree (suc n) (indexed p at cells) (indexed q at cells)
-indexed_agree n p q a at None i h = refl
-indexed_agree n p q a at (Some cells) i h =
+index_inside_agree : (n : ℕ) (p q : ℕ → Parser Term) → AllAgree n p q → (at : Place) (cells : Option ℕ) → Agree (suc n) (index_inside p at cells) (index_inside q at cells)
+index_inside_agree n p q a at None i h = refl
+index_inside_agree n p q a at (Some cells) i h =
     bind_same (bracket i) _ _ (λ x e. let s = bracket_lowers i x e in let b : x.1.budget < n = omega arith in rw (a 5 x.1 b) refl)
 
 name_agree : (n : ℕ) (p q : ℕ → Parser Term) → AllAgree n p q → Agree (suc n) (place_inside p) (place_inside q)
@@ -161,12 +161,12 @@ name_agree n p q a i h =
     bind_same (seek Variable i) _ _ (λ x e.
     let s = seek_keeps i x e in
     let b : (advanced x.1).budget < suc n = omega arith in
-    indexed_agree n p q a (place_of_slot x.0) x.0.size (advanced x.1) b)
+    index_inside_agree n p q a (place_of_slot x.0) x.0.size (advanced x.1) b)
 
 atom_agree_case : (n : ℕ) (p q : ℕ → Parser Term) → AllAgree n p q → (tk : Token) (i : Input) → i.budget < suc n → atom_by p tk i ≡ atom_by q tk i
 atom_agree_case n p q a (Is m.RoundOpen) i h = rounds_agree n p q a i h
-atom_agree_case n p q a (Is m.Minus) i h = signed_agree n p q a u.Negate i h
-atom_agree_case n p q a (Is m.Not) i h = signed_agree n p q a u.Not i h
+atom_agree_case n p q a (Is m.Minus) i h = unary_agree n p q a u.Negate i h
+atom_agree_case n p q a (Is m.Not) i h = unary_agree n p q a u.Not i h
 atom_agree_case n p q a Name i h = name_agree n p q a i h
 atom_agree_case n p q a _ i h = refl
 
@@ -174,10 +174,10 @@ atom_agree : (n : ℕ) (p q : ℕ → Parser Term) → AllAgree n p q → Agree 
 unfolding atom
 atom_agree n p q a i h = atom_agree_case n p q a (token i) i h
 
-continued_agree : (n : ℕ) (p q : Parser Term) → Agree n p q → Lowers p → (f g : Term → Parser Term) → ((l : Term) → Agree n (f l) (g l))
-    → (left : Term) (o : Option BinaryOp) → Agree n (continued f p left o) (continued g q left o)
-continued_agree n p q a s f g c left None i h = refl
-continued_agree n p q a s f g c left (Some op) i h =
+chain_by_agree : (n : ℕ) (p q : Parser Term) → Agree n p q → Lowers p → (f g : Term → Parser Term) → ((l : Term) → Agree n (f l) (g l))
+    → (left : Term) (o : Option BinaryOp) → Agree n (chain_by f p left o) (chain_by g q left o)
+chain_by_agree n p q a s f g c left None i h = refl
+chain_by_agree n p q a s f g c left (Some op) i h =
     bind_same (spend i) _ _ (λ x e.
     let low = spend_lowers i x e in
     let b : x.1.budget < n = omega arith in
@@ -188,7 +188,7 @@ continued_agree n p q a s f g c left (Some op) i h =
 chain_agree : (n : ℕ) (p q : Parser Term) → Agree n p q → Lowers p → (k m : ℕ) (left : Term) → Agree n (chain p k m left) (chain q k m left)
 unfolding chain
 chain_agree n p q a s k zero left i h = refl
-chain_agree n p q a s k (suc m) left i h = continued_agree n p q a s (chain p k m) (chain q k m) (λ l. chain_agree n p q a s k m l) left (operator_at k (token i)) i h
+chain_agree n p q a s k (suc m) left i h = chain_by_agree n p q a s (chain p k m) (chain q k m) (λ l. chain_agree n p q a s k m l) left (operator_at k (token i)) i h
 
 level_agree : (n : ℕ) (p q : ℕ → Parser Term) → AllAgree n p q → AllLower p → (k : ℕ) → Agree (suc n) (level p k) (level q k)
 unfolding level
@@ -266,9 +266,9 @@ bracket_more : (e : ℕ) → Follows e bracket bracket
 unfolding bracket sees token
 bracket_more e i h = bracket_more_case e (sees m.SquareOpen i) i h
 
-indexed_more : (e : ℕ) (p q : ℕ → Parser Term) → AllFollow e p q → (at : Place) (cells : Option ℕ) → Follows e (indexed p at cells) (indexed q at cells)
-indexed_more e p q a at None i h = refl
-indexed_more e p q a at (Some cells) i h =
+index_inside_more : (e : ℕ) (p q : ℕ → Parser Term) → AllFollow e p q → (at : Place) (cells : Option ℕ) → Follows e (index_inside p at cells) (index_inside q at cells)
+index_inside_more e p q a at None i h = refl
+index_inside_more e p q a at (Some cells) i h =
     bind_more e (bracket i) (bracket (with_more e i)) _ _ (bracket_more e i) (λ x d c.
     bind_more e (p 5 x.1) (q 5 (with_more e x.1)) _ _ (a 5 x.1) (λ y d' c'.
     bind_more e (expect m.SquareClose y.1) (expect m.SquareClose (with_more e y.1)) _ _ (expect_more e m.SquareClose y.1) (λ z d'' c''. refl) c') c) h
@@ -276,11 +276,11 @@ indexed_more e p q a at (Some cells) i h =
 name_more : (e : ℕ) (p q : ℕ → Parser Term) → AllFollow e p q → Follows e (place_inside p) (place_inside q)
 unfolding place_inside advanced
 name_more e p q a i h =
-    bind_more e (seek Variable i) (seek Variable (with_more e i)) _ _ (seek_more e i) (λ x d c. indexed_more e p q a (place_of_slot x.0) x.0.size (advanced x.1) c) h
+    bind_more e (seek Variable i) (seek Variable (with_more e i)) _ _ (seek_more e i) (λ x d c. index_inside_more e p q a (place_of_slot x.0) x.0.size (advanced x.1) c) h
 
-signed_more : (e : ℕ) (p q : ℕ → Parser Term) → AllFollow e p q → (op : UnaryOp) → Follows e (signed p op) (signed q op)
-unfolding signed
-signed_more e p q a op i h =
+unary_more : (e : ℕ) (p q : ℕ → Parser Term) → AllFollow e p q → (op : UnaryOp) → Follows e (unary p op) (unary q op)
+unfolding unary
+unary_more e p q a op i h =
     bind_more e (spend i) (spend (with_more e i)) _ _ (spend_more e i) (λ x d c.
     bind_more e (p 0 x.1) (q 0 (with_more e x.1)) _ _ (a 0 x.1) (λ y d' c'. refl) c) h
 
@@ -298,19 +298,19 @@ atom_more_case e p q a (Is m.Rank) i h = refl
 atom_more_case e p q a (Is m.Size) i h = refl
 atom_more_case e p q a Name i h = name_more e p q a i h
 atom_more_case e p q a (Is m.RoundOpen) i h = rounds_more e p q a i h
-atom_more_case e p q a (Is m.Minus) i h = signed_more e p q a u.Negate i h
-atom_more_case e p q a (Is m.Not) i h = signed_more e p q a u.Not i h
+atom_more_case e p q a (Is m.Minus) i h = unary_more e p q a u.Negate i h
+atom_more_case e p q a (Is m.Not) i h = unary_more e p q a u.Not i h
 atom_more_case e p q a _ i h = ap Err (refuse_more e i)
 
 atom_more : (e : ℕ) (p q : ℕ → Parser Term) → AllFollow e p q → Follows e (atom p) (atom q)
 unfolding atom token
 atom_more e p q a i h = atom_more_case e p q a (token i) i h
 
-continued_more : (e : ℕ) (p q : Parser Term) → Follows e p q → Lowers p → (f g : Term → Parser Term) (left : Term) (o : Option BinaryOp) (i : Input)
+chain_by_more : (e : ℕ) (p q : Parser Term) → Follows e p q → Lowers p → (f g : Term → Parser Term) (left : Term) (o : Option BinaryOp) (i : Input)
     → ((l : Term) (x : Input) → x.budget + 1 ≤ i.budget → IsNotTooDeep (f l x) → g l (with_more e x) ≡ leaving_more e (f l x))
-    → IsNotTooDeep (continued f p left o i) → continued g q left o (with_more e i) ≡ leaving_more e (continued f p left o i)
-continued_more e p q a s f g left None i c h = refl
-continued_more e p q a s f g left (Some op) i c h =
+    → IsNotTooDeep (chain_by f p left o i) → chain_by g q left o (with_more e i) ≡ leaving_more e (chain_by f p left o i)
+chain_by_more e p q a s f g left None i c h = refl
+chain_by_more e p q a s f g left (Some op) i c h =
     bind_more e (spend i) (spend (with_more e i)) _ _ (spend_more e i) (λ x d c'.
     bind_more e (p x.1) (q (with_more e x.1)) _ _ (a x.1) (λ y d' c''.
     let low = spend_lowers i x d in
@@ -322,7 +322,7 @@ chain_same : (e : ℕ) (p q : Parser Term) → Follows e p q → Lowers p → (k
 unfolding chain token
 chain_same e p q a s k zero left i h = refl
 chain_same e p q a s k (suc n) left i h =
-    continued_more e p q a s (chain p k n) (chain q k n) left (operator_at k (token i)) i (λ l x less c. chain_same e p q a s k n l x c) h
+    chain_by_more e p q a s (chain p k n) (chain q k n) left (operator_at k (token i)) i (λ l x less c. chain_same e p q a s k n l x c) h
 
 -- with more turns than budget
 chain_more : (e : ℕ) (p q : Parser Term) → Follows e p q → Lowers p → (k n more : ℕ) (left : Term) (i : Input) → more ≡ n + e → i.budget < n
@@ -331,7 +331,7 @@ unfolding chain token
 chain_more e p q a s k zero more left i is b h = absurd (omega arith)
 chain_more e p q a s k (suc n) more left i is b h =
     let next_turn : more ≡ suc (n + e) = omega arith in
-    rw next_turn (continued_more e p q a s (chain p k n) (chain q k (n + e)) left (operator_at k (token i)) i
+    rw next_turn (chain_by_more e p q a s (chain p k n) (chain q k (n + e)) left (operator_at k (token i)) i
     (λ l x less c. chain_more e p q a s k n (n + e) l x refl (omega arith) c) h)
 
 turns_more : (e : ℕ) (p q : Parser Term) → Follows e p q → Lowers p → (k : ℕ) (left : Term) (i : Input)

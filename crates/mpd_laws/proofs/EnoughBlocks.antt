@@ -4,7 +4,7 @@ use Rattle.std.proofs.lemmas.Bool.{cases_Bool}
 use Rattle.mpd_model.specs.declared.token.Mark.TheVariants as m
 use Rattle.mpd_model.specs.declared.token.Token.{Token}
 use Rattle.mpd_model.specs.declared.token.Token.TheVariants.{Is}
-use Rattle.mpd_model.specs.Grammar.{expression, begun, closes, otherwise, choosing, repeating, stmt_by, stmt, stmts, body, block}
+use Rattle.mpd_model.specs.Grammar.{expression, begin_statement, closes, otherwise, if_statement, while_statement, stmt_by, stmt, stmts, body, block}
 use Rattle.mpd_model.specs.Input.{Input, Outcome, Parser, and_then, token, expect, sees, after, pure}
 use Rattle.mpd_model.specs.ReaderLaws.{IsNotTooDeep}
 use Rattle.mpd_model.specs.Tree.{Tree}
@@ -26,22 +26,22 @@ otherwise_same : (p q : Parser (List Tree)) → Same p q → Same (otherwise p) 
 unfolding otherwise
 otherwise_same p q a i h = otherwise_case p q a (sees m.Else i) (after m.Else i) h
 
-choosing_same : (p q : Parser (List Tree)) → Same p q → Same (choosing p) (choosing q)
-unfolding choosing
-choosing_same p q a i h =
+if_statement_same : (p q : Parser (List Tree)) → Same p q → Same (if_statement p) (if_statement q)
+unfolding if_statement
+if_statement_same p q a i h =
     bind_same (expression i) (expression i) _ _ (λ d. refl) (λ x c.
     bind_same (p x.1) (q x.1) _ _ (a x.1) (λ y c'.
     bind_same (otherwise p y.1) (otherwise q y.1) _ _ (otherwise_same p q a y.1) (λ z c''. refl) c') c) h
 
-repeating_same : (p q : Parser (List Tree)) → Same p q → Same (repeating p) (repeating q)
-unfolding repeating
-repeating_same p q a i h =
+while_statement_same : (p q : Parser (List Tree)) → Same p q → Same (while_statement p) (while_statement q)
+unfolding while_statement
+while_statement_same p q a i h =
     bind_same (expression i) (expression i) _ _ (λ d. refl) (λ x c.
     bind_same (p x.1) (q x.1) _ _ (a x.1) (λ y c'. refl) c) h
 
 stmt_case : (p q : Parser (List Tree)) → Same p q → (tk : Token) → Same (stmt_by p tk) (stmt_by q tk)
-stmt_case p q a (Is m.If) i h = bind_same (begun i) (begun i) _ _ (λ d. refl) (λ x c. choosing_same p q a x.1 c) h
-stmt_case p q a (Is m.While) i h = bind_same (begun i) (begun i) _ _ (λ d. refl) (λ x c. repeating_same p q a x.1 c) h
+stmt_case p q a (Is m.If) i h = bind_same (begin_statement i) (begin_statement i) _ _ (λ d. refl) (λ x c. if_statement_same p q a x.1 c) h
+stmt_case p q a (Is m.While) i h = bind_same (begin_statement i) (begin_statement i) _ _ (λ d. refl) (λ x c. while_statement_same p q a x.1 c) h
 stmt_case p q a _ i h = refl
 
 stmt_same : (p q : Parser (List Tree)) → Same p q → Same (stmt p) (stmt q)

@@ -16,7 +16,7 @@ use Rattle.mpd_model.specs.declared.token.Mark.{Mark}
 use Rattle.mpd_model.specs.declared.token.Mark.TheVariants as m
 use Rattle.mpd_model.specs.declared.token.Token.{Token}
 use Rattle.mpd_model.specs.declared.token.Token.TheVariants.{Number, Name, Is, Bad}
-use Rattle.mpd_model.specs.Grammar.{atom_by, atom, bracket, indexed, place_inside, place_of_slot, rounds, signed, chain, continued, level, expr, turns, operator_at, expression, begun, closes, outside, target, named_by, named, source_by, source, status_by, status, fill, Form, form_of, by_form, assigning, otherwise, choosing, repeating, stmt_by, stmt, stmts, body, block, max_blocks, version_by, version, rank_count, ranks_of, ranks_by, ranks, natural, sized_at, size_by, sized, single, declaring, decl_by, decl, declares, decls_by, decls_from, decls, header, max_text, is_text, read_of, reading}
+use Rattle.mpd_model.specs.Grammar.{atom_by, atom, bracket, index_inside, place_inside, place_of_slot, rounds, unary, chain, chain_by, level, expr, turns, operator_at, expression, begin_statement, closes, index_outside, target, statement_place_by, statement_place, source_by, source, status_by, status, fill, Form, form_of, by_form, assignment, otherwise, if_statement, while_statement, stmt_by, stmt, stmts, body, block, max_blocks, version_by, version, rank_count, ranks_of, ranks_by, ranks, natural, array_size_at, array_size_by, array_size, single, declarator, decl_by, decl, declares, decls_by, decls_from, decls, header, max_text, is_text, read_of, reading}
 use Rattle.mpd_model.specs.Grammar as grammar
 use Rattle.mpd_model.specs.Input.{Input, Outcome, Parser, and_then, start_of, token, place, spelling, advanced, code_at, refusal, refuse, fail, advance, pure, expect, spend, count, seek, sought, same_kind, slot_in, fresh, is_known, add, cells_fit, sees, after, max_budget, ◌>>=◌}
 use Rattle.mpd_model.specs.Program.{Program}
@@ -82,18 +82,18 @@ bracket_sure : AllSure bracket
 unfolding bracket
 bracket_sure i = cond_sure (sees m.SquareOpen i) (spend i) (refuse i) (spend_sure i) (refusal_sure i)
 
-indexed_sure : (p : ℕ → Parser Term) → AllSureAt p → (at : Place) (cells : Option ℕ) → AllSure (indexed p at cells)
-indexed_sure p s at None i = tt
-indexed_sure p s at (Some cells) i =
+index_inside_sure : (p : ℕ → Parser Term) → AllSureAt p → (at : Place) (cells : Option ℕ) → AllSure (index_inside p at cells)
+index_inside_sure p s at None i = tt
+index_inside_sure p s at (Some cells) i =
     bind_sure (bracket i) _ (bracket_sure i) (λ u x. bind_sure (p 5 x) _ (s 5 x) (λ e y. bind_sure (expect m.SquareClose y) _ (expect_sure m.SquareClose y) (λ v z. tt)))
 
 name_sure : (p : ℕ → Parser Term) → AllSureAt p → AllSure (place_inside p)
 unfolding place_inside
-name_sure p s i = bind_sure (seek Variable i) _ (seek_sure Variable i) (λ v j. indexed_sure p s (place_of_slot v) v.size (advanced j))
+name_sure p s i = bind_sure (seek Variable i) _ (seek_sure Variable i) (λ v j. index_inside_sure p s (place_of_slot v) v.size (advanced j))
 
-signed_sure : (p : ℕ → Parser Term) → AllSureAt p → (op : UnaryOp) → AllSure (signed p op)
-unfolding signed
-signed_sure p s op i = bind_sure (spend i) _ (spend_sure i) (λ u x. bind_sure (p 0 x) _ (s 0 x) (λ e y. tt))
+unary_sure : (p : ℕ → Parser Term) → AllSureAt p → (op : UnaryOp) → AllSure (unary p op)
+unfolding unary
+unary_sure p s op i = bind_sure (spend i) _ (spend_sure i) (λ u x. bind_sure (p 0 x) _ (s 0 x) (λ e y. tt))
 
 rounds_sure : (p : ℕ → Parser Term) → AllSureAt p → AllSure (rounds p)
 unfolding rounds
@@ -105,8 +105,8 @@ atom_case p s (Number n) i = tt
 atom_case p s (Is m.Rank) i = tt
 atom_case p s (Is m.Size) i = tt
 atom_case p s Name i = name_sure p s i
-atom_case p s (Is m.Minus) i = signed_sure p s u.Negate i
-atom_case p s (Is m.Not) i = signed_sure p s u.Not i
+atom_case p s (Is m.Minus) i = unary_sure p s u.Negate i
+atom_case p s (Is m.Not) i = unary_sure p s u.Not i
 atom_case p s (Is m.RoundOpen) i = rounds_sure p s i
 atom_case p s _ i = refusal_sure i
 
@@ -114,14 +114,14 @@ atom_sure : (p : ℕ → Parser Term) → AllSureAt p → AllSure (atom p)
 unfolding atom
 atom_sure p s i = atom_case p s (token i) i
 
-continued_sure : (more : Term → Parser Term) (p : Parser Term) → ((l : Term) → AllSure (more l)) → AllSure p → (left : Term) (o : Option BinaryOp) → AllSure (continued more p left o)
-continued_sure more p a s left None i = tt
-continued_sure more p a s left (Some op) i = bind_sure (spend i) _ (spend_sure i) (λ u x. bind_sure (p x) _ (s x) (λ r y. a (op2 op left r) y))
+chain_by_sure : (more : Term → Parser Term) (p : Parser Term) → ((l : Term) → AllSure (more l)) → AllSure p → (left : Term) (o : Option BinaryOp) → AllSure (chain_by more p left o)
+chain_by_sure more p a s left None i = tt
+chain_by_sure more p a s left (Some op) i = bind_sure (spend i) _ (spend_sure i) (λ u x. bind_sure (p x) _ (s x) (λ r y. a (op2 op left r) y))
 
 chain_sure : (p : Parser Term) → AllSure p → (k n : ℕ) (left : Term) → AllSure (chain p k n left)
 unfolding chain
 chain_sure p s k zero left i = tt
-chain_sure p s k (suc n) left i = continued_sure (chain p k n) p (λ l. chain_sure p s k n l) s left (operator_at k (token i)) i
+chain_sure p s k (suc n) left i = chain_by_sure (chain p k n) p (λ l. chain_sure p s k n l) s left (operator_at k (token i)) i
 
 level_sure : (p : ℕ → Parser Term) → AllSureAt p → (k : ℕ) → AllSure (level p k)
 unfolding level
@@ -138,23 +138,23 @@ expression_sure i = expr_sure (suc NESTING_MAX) 5 (record i { budget = max_budge
 
 -- ---- statements
 
-outside_sure : (at : Place) (cells : Option ℕ) → AllSure (outside at cells)
-outside_sure at None i = tt
-outside_sure at (Some cells) i =
+index_outside_sure : (at : Place) (cells : Option ℕ) → AllSure (index_outside at cells)
+index_outside_sure at None i = tt
+index_outside_sure at (Some cells) i =
     bind_sure (expect m.SquareOpen i) _ (expect_sure m.SquareOpen i) (λ a x. bind_sure (expression x) _ (expression_sure x) (λ e y.
     bind_sure (expect m.SquareClose y) _ (expect_sure m.SquareClose y) (λ b z. tt)))
 
 target_sure : (k : DeclKind) → AllSure (target k)
 unfolding target
-target_sure k i = bind_sure (seek k i) _ (seek_sure k i) (λ v j. outside_sure (place_of_slot v) v.size (advanced j))
+target_sure k i = bind_sure (seek k i) _ (seek_sure k i) (λ v j. index_outside_sure (place_of_slot v) v.size (advanced j))
 
-named_case : (k : DeclKind) (t : Token) → AllSure (named_by k t)
-named_case k Name i = target_sure k i
-named_case k _ i = refusal_sure i
+statement_place_case : (k : DeclKind) (t : Token) → AllSure (statement_place_by k t)
+statement_place_case k Name i = target_sure k i
+statement_place_case k _ i = refusal_sure i
 
-named_sure : (k : DeclKind) → AllSure (named k)
-unfolding named
-named_sure k i = named_case k (token i) i
+statement_place_sure : (k : DeclKind) → AllSure (statement_place k)
+unfolding statement_place
+statement_place_sure k i = statement_place_case k (token i) i
 
 source_case : (found : Bool) → AllSure (source_by found)
 source_case true i = tt
@@ -165,7 +165,7 @@ unfolding source
 source_sure i = source_case (sees m.Any i) (after m.Any i)
 
 status_case : (found : Bool) → AllSure (status_by found)
-status_case true i = bind_sure (named Variable i) _ (named_sure Variable i) (λ p x. bind_sure (named Variable x) _ (named_sure Variable x) (λ q y. tt))
+status_case true i = bind_sure (statement_place Variable i) _ (statement_place_sure Variable i) (λ p x. bind_sure (statement_place Variable x) _ (statement_place_sure Variable x) (λ q y. tt))
 status_case false i = tt
 
 status_sure : AllSure status
@@ -176,40 +176,40 @@ fill_sure : {A : Type 0} (hs : List Hole) (made : Contents hs → A) → AllSure
 fill_sure [] made i = bind_sure (expect m.Semicolon i) _ (expect_sure m.Semicolon i) (λ u x. tt)
 fill_sure (mark_hole k ∷ hs) made i = bind_sure (expect k i) _ (expect_sure k i) (λ u x. fill_sure hs made x)
 fill_sure (term_hole ∷ hs) made i = bind_sure (expression i) _ (expression_sure i) (λ e x. fill_sure hs (λ c. made (e, c)) x)
-fill_sure (target_hole k ∷ hs) made i = bind_sure (named k i) _ (named_sure k i) (λ t x. fill_sure hs (λ c. made (t, c)) x)
+fill_sure (target_hole k ∷ hs) made i = bind_sure (statement_place k i) _ (statement_place_sure k i) (λ t x. fill_sure hs (λ c. made (t, c)) x)
 fill_sure (source_hole ∷ hs) made i = bind_sure (source i) _ (source_sure i) (λ o x. fill_sure hs (λ c. made (o, c)) x)
 fill_sure (status_hole ∷ hs) made i = bind_sure (status i) _ (status_sure i) (λ o x. fill_sure hs (λ c. made (o, c)) x)
 
-begun_sure : AllSure begun
-begun_sure i = bind_sure (count i) _ (count_sure i) (λ u x. tt)
+begin_statement_sure : AllSure begin_statement
+begin_statement_sure i = bind_sure (count i) _ (count_sure i) (λ u x. tt)
 
 form_sure : (o : Option Form) → AllSure (by_form o)
 form_sure None i = refusal_sure i
-form_sure (Some f) i = bind_sure (begun i) _ (begun_sure i) (λ u x. fill_sure f.holes (λ c. simple (f.made c)) x)
+form_sure (Some f) i = bind_sure (begin_statement i) _ (begin_statement_sure i) (λ u x. fill_sure f.holes (λ c. simple (f.made c)) x)
 
-assigning_sure : (slot : Slot) → AllSure (assigning slot)
-unfolding assigning
-assigning_sure slot i =
-    bind_sure (outside (place_of_slot slot) slot.size i) _ (outside_sure (place_of_slot slot) slot.size i)
+assignment_sure : (slot : Slot) → AllSure (assignment slot)
+unfolding assignment
+assignment_sure slot i =
+    bind_sure (index_outside (place_of_slot slot) slot.size i) _ (index_outside_sure (place_of_slot slot) slot.size i)
     (λ t x. fill_sure (mark_hole m.Assign ∷ term_hole ∷ []) (λ c. simple (st.Assign (record { into = t; value = c.0 }))) x)
 
 otherwise_sure : (p : Parser (List Tree)) → AllSure p → AllSure (otherwise p)
 unfolding otherwise
 otherwise_sure p s i = either_sure (sees m.Else i) p (pure []) (after m.Else i) (s (after m.Else i)) tt
 
-choosing_sure : (p : Parser (List Tree)) → AllSure p → AllSure (choosing p)
-unfolding choosing
-choosing_sure p s i =
+if_statement_sure : (p : Parser (List Tree)) → AllSure p → AllSure (if_statement p)
+unfolding if_statement
+if_statement_sure p s i =
     bind_sure (expression i) _ (expression_sure i) (λ a x. bind_sure (p x) _ (s x) (λ b y. bind_sure (otherwise p y) _ (otherwise_sure p s y) (λ c z. tt)))
 
-repeating_sure : (p : Parser (List Tree)) → AllSure p → AllSure (repeating p)
-unfolding repeating
-repeating_sure p s i = bind_sure (expression i) _ (expression_sure i) (λ a x. bind_sure (p x) _ (s x) (λ b y. tt))
+while_statement_sure : (p : Parser (List Tree)) → AllSure p → AllSure (while_statement p)
+unfolding while_statement
+while_statement_sure p s i = bind_sure (expression i) _ (expression_sure i) (λ a x. bind_sure (p x) _ (s x) (λ b y. tt))
 
 stmt_case : (p : Parser (List Tree)) → AllSure p → (t : Token) → AllSure (stmt_by p t)
-stmt_case p s Name i = bind_sure (seek Variable i) _ (seek_sure Variable i) (λ v x. bind_sure (begun x) _ (begun_sure x) (λ u y. assigning_sure v y))
-stmt_case p s (Is m.While) i = bind_sure (begun i) _ (begun_sure i) (λ u x. repeating_sure p s x)
-stmt_case p s (Is m.If) i = bind_sure (begun i) _ (begun_sure i) (λ u x. choosing_sure p s x)
+stmt_case p s Name i = bind_sure (seek Variable i) _ (seek_sure Variable i) (λ v x. bind_sure (begin_statement x) _ (begin_statement_sure x) (λ u y. assignment_sure v y))
+stmt_case p s (Is m.While) i = bind_sure (begin_statement i) _ (begin_statement_sure i) (λ u x. while_statement_sure p s x)
+stmt_case p s (Is m.If) i = bind_sure (begin_statement i) _ (begin_statement_sure i) (λ u x. if_statement_sure p s x)
 stmt_case p s (Is m.Waitany) i = bind_sure (count i) (λ u. fail NotInVersion) (count_sure i) (λ u x e. absurd (cc))
 stmt_case p s (Is k) i = form_sure (form_of k) i
 stmt_case p s _ i = refusal_sure i
@@ -266,33 +266,33 @@ add_sure : (k : DeclKind) (name : List ℕ) (size : Option ℕ) (at : ℕ) → A
 unfolding add
 add_sure k name size at i = cond_sure (cells_fit k size i.decls) _ _ tt (λ e. absurd (cc))
 
-sized_at_sure : (k : DeclKind) (name : List ℕ) (o : Option ℕ) → AllSure (sized_at k name o)
-sized_at_sure k name None i = refusal_sure i
-sized_at_sure k name (Some n) i =
+array_size_at_sure : (k : DeclKind) (name : List ℕ) (o : Option ℕ) → AllSure (array_size_at k name o)
+array_size_at_sure k name None i = refusal_sure i
+array_size_at_sure k name (Some n) i =
     bind_sure (add k name (Some n) (place i) i) _ (add_sure k name (Some n) (place i) i) (λ a x.
     bind_sure (expect m.SquareClose (advanced x)) _ (expect_sure m.SquareClose (advanced x)) (λ b y. expect_sure m.Semicolon y))
 
-size_case : (k : DeclKind) (name : List ℕ) (t : Token) → AllSure (size_by k name t)
-size_case k name (Number z) i = sized_at_sure k name (natural z) i
+size_case : (k : DeclKind) (name : List ℕ) (t : Token) → AllSure (array_size_by k name t)
+size_case k name (Number z) i = array_size_at_sure k name (natural z) i
 size_case k name _ i = refusal_sure i
 
-sized_sure : (k : DeclKind) (name : List ℕ) → AllSure (sized k name)
-unfolding sized
-sized_sure k name i = size_case k name (token i) i
+array_size_sure : (k : DeclKind) (name : List ℕ) → AllSure (array_size k name)
+unfolding array_size
+array_size_sure k name i = size_case k name (token i) i
 
 single_sure : (k : DeclKind) (name : List ℕ) (at : ℕ) → AllSure (single k name at)
 unfolding single
 single_sure k name at i = bind_sure (add k name None at i) _ (add_sure k name None at i) (λ a x. expect_sure m.Semicolon x)
 
-declaring_sure : (k : DeclKind) → AllSure (declaring k)
-unfolding declaring
-declaring_sure k i =
+declarator_sure : (k : DeclKind) → AllSure (declarator k)
+unfolding declarator
+declarator_sure k i =
     bind_sure (fresh i) _ (fresh_sure i) (λ a x.
-    either_sure (sees m.SquareOpen (advanced x)) (sized k (spelling i)) (single k (spelling i) (place i)) (after m.SquareOpen (advanced x))
-    (sized_sure k (spelling i) (after m.SquareOpen (advanced x))) (single_sure k (spelling i) (place i) (after m.SquareOpen (advanced x))))
+    either_sure (sees m.SquareOpen (advanced x)) (array_size k (spelling i)) (single k (spelling i) (place i)) (after m.SquareOpen (advanced x))
+    (array_size_sure k (spelling i) (after m.SquareOpen (advanced x))) (single_sure k (spelling i) (place i) (after m.SquareOpen (advanced x))))
 
 decl_case : (k : DeclKind) (t : Token) → AllSure (decl_by k t)
-decl_case k Name i = declaring_sure k i
+decl_case k Name i = declarator_sure k i
 decl_case k _ i = refusal_sure i
 
 decl_sure : (k : DeclKind) → AllSure (decl k)

@@ -81,8 +81,8 @@ indent_spelled zero = nil_spelled
 indent_spelled (suc n) = blank_before (codes "  ") (indent n) two_spaces (indent_spelled n)
 
 -- a word at the beginning of a line
-begun_spelled : (n : ℕ) (t : Token) (w : List ℕ) → Spelled Any (IsOne t) w → Spelled Any (IsOne t) (indent n ++ w)
-begun_spelled n t w x = blank_before (indent n) w (indent_spelled n) x
+begin_statement_spelled : (n : ℕ) (t : Token) (w : List ℕ) → Spelled Any (IsOne t) w → Spelled Any (IsOne t) (indent n ++ w)
+begin_statement_spelled n t w x = blank_before (indent n) w (indent_spelled n) x
 
 -- ---- statements
 
@@ -226,7 +226,7 @@ follows_spots ds t ts _ (both a b x y) = record {
 open_spelled : (ds : List Declared) (n : ℕ) (t : Token) (w : List ℕ) (c : Term) → Spelled Any (IsOne t) w → IsPrintableWhole ds c
     → Spelled Any (Both (Both (IsOne t) (WholeSpots ds c)) (IsOne (Is m.BraceOpen))) (indent n ++ w ++ whole_text ds c ++ codes " {\n")
 open_spelled ds n t w c x h =
-    join (indent n ++ w ++ whole_text ds c) (codes " {\n") (join (indent n ++ w) (whole_text ds c) (begun_spelled n t w x) (whole_spelled ds c h) (λ z _. tt)) brace_open (λ z _. refl)
+    join (indent n ++ w ++ whole_text ds c) (codes " {\n") (join (indent n ++ w) (whole_text ds c) (begin_statement_spelled n t w x) (whole_spelled ds c h) (λ z _. tt)) brace_open (λ z _. refl)
 
 -- and the rest of the block
 closed_spelled : {P : List Spot → Type 0} (ds : List Declared) (n : ℕ) (a : Block) (start end : List ℕ) → Spelled Any P start → Spelled Any (BodySpots ds (trees a)) (block_text ds (suc n) a)

@@ -55,8 +55,8 @@ rank_spots ds k w _ (one_word s h e) = record { written = raise ds 0 k (s ∷ []
 size_spots : (ds : List Declared) (k : ℕ) (w : List ℕ) (ss : List Spot) → IsWord (Is m.Size) w ss → TermSpots ds k size 0 ss
 size_spots ds k w _ (one_word s h e) = record { written = raise ds 0 k (s ∷ []) size (omega arith) (ranks s h); cost = rw h refl }
 
-pub names_of : (ds : List Declared) (kind : DeclKind) (sized : Bool) (p : Place) (s : Spot) → HasName ds kind sized p → s.token ≡ Name → s.text ≡ name_text ds p → Names ds kind s sized p
-names_of ds kind sized p s x h e = record { token = h; slot = x.slot; declared = ap (slot_in ds) e ∙ x.declared; kind = x.kind; size = x.size; place = x.place }
+pub names_of : (ds : List Declared) (kind : DeclKind) (is_array : Bool) (p : Place) (s : Spot) → HasName ds kind is_array p → s.token ≡ Name → s.text ≡ name_text ds p → Names ds kind s is_array p
+names_of ds kind is_array p s x h e = record { token = h; slot = x.slot; declared = ap (slot_in ds) e ∙ x.declared; kind = x.kind; size = x.size; place = x.place }
 
 cell_spots : (ds : List Declared) (k : ℕ) (p : Place) → HasName ds Variable false p → (ss : List Spot) → IsWord Name (name_text ds p) ss → TermSpots ds k (cell p) 0 ss
 cell_spots ds k p x _ (one_word s h e) = record { written = raise ds 0 k (s ∷ []) (cell p) (omega arith) (name s p (names_of ds Variable false p s x h e)); cost = rw h refl }
@@ -127,9 +127,9 @@ not_sign = record {
   plain = refl;
 }
 
-continued_spots : (ds : List Declared) (op : BinaryOp) (a b : Term) (n m : ℕ) (ss : List Spot)
+chain_by_spots : (ds : List Declared) (op : BinaryOp) (a b : Term) (n m : ℕ) (ss : List Spot)
     → Both (Both (TermSpots ds (left_level (below op)) a n) (IsOne (op_token op))) (TermSpots ds (below op) b m) ss → TermSpots ds (suc (below op)) (op2 op a b) (n + suc m) ss
-continued_spots ds op a b n m _ (both _ r (both l _ x (one o h)) y) =
+chain_by_spots ds op a b n m _ (both _ r (both l _ x (one o h)) y) =
     let counted : price o.token ≡ 1 = ap price h ∙ op_price op in
     record {
       written =
@@ -240,5 +240,5 @@ term_spelled ds k (op2 op a b) h =
     let n : ℕ = term_cost (left_level (below op)) a in
     let c : ℕ = term_cost (below op) b in
     bracketed ds k op (op2 op a b) (n + suc c) (nat_lt k (suc (below op))) (l ++ op_text op ++ r) (fits_level (suc (below op)) k)
-    (turned (l ++ op_text op ++ r) (continued_spots ds op a b n c)
+    (turned (l ++ op_text op ++ r) (chain_by_spots ds op a b n c)
     (join (l ++ op_text op) r (join l (op_text op) (term_spelled ds (left_level (below op)) a h.0) (op_spelled op) (λ z _. op_ends op z)) (term_spelled ds (below op) b h.1) (λ z _. tt)))

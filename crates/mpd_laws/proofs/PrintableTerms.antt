@@ -68,8 +68,8 @@ slot_name ds w s e =
     let at : s.declaration - 0 ≡ s.declaration = omega arith in
     rw at at x.named
 
-pub has_name : (ds : List Declared) (kind : DeclKind) (sized : Bool) (s : Spot) (p : Place) → IsGood s → Names ds kind s sized p → HasName ds kind sized p
-has_name ds kind sized s p g x =
+pub has_name : (ds : List Declared) (kind : DeclKind) (is_array : Bool) (s : Spot) (p : Place) → IsGood s → Names ds kind s is_array p → HasName ds kind is_array p
+has_name ds kind is_array s p g x =
     let same : name_text ds p ≡ s.text = ap (λ (q : Place). name_text ds q) (sym x.place) ∙ slot_name ds s.text x.slot x.declared in
     record { named = subst IsName (sym same) (g.name x.token); slot = x.slot; declared = ap (slot_in ds) same ∙ x.declared; kind = x.kind; size = x.size; place = x.place }
 
@@ -164,8 +164,8 @@ one_more j k (op2 op a b) = omega (arith, bracket_small (nat_lt j (suc (below op
 no_bracket : (k : ℕ) → nat_lt (suc k) (suc k) ≡ false
 no_bracket k = grind (arith, nat_tests)
 
-pub continued_cost : (k : ℕ) (op : BinaryOp) (a b : Term) → below op ≡ k → term_cost (suc k) (op2 op a b) ≡ term_cost (left_level k) a + suc (term_cost k b)
-continued_cost k op a b e = rw (e, no_bracket k) (omega arith)
+pub chain_by_cost : (k : ℕ) (op : BinaryOp) (a b : Term) → below op ≡ k → term_cost (suc k) (op2 op a b) ≡ term_cost (left_level k) a + suc (term_cost k b)
+chain_by_cost k op a b e = rw (e, no_bracket k) (omega arith)
 
 -- ---- expressions
 
@@ -199,4 +199,4 @@ fewest ds _ _ _ (joins k l r o op a b h w v) =
     let level : suc (below op) ≡ suc k = level_is (suc k) (operator o.token) op (ops_fit o.token) h in
     let under : below op ≡ k = omega (arith, level) in
     let counted : price o.token ≡ 1 = operator_price (suc k) op o.token h in
-    omega (arith, cost_append l (o ∷ r), fewest ds (left_level k) l a w, fewest ds k r b v, counted, continued_cost k op a b under)
+    omega (arith, cost_append l (o ∷ r), fewest ds (left_level k) l a w, fewest ds k r b v, counted, chain_by_cost k op a b under)

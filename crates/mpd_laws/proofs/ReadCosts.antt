@@ -16,12 +16,12 @@ use Rattle.mpd_model.specs.declared.token.Mark.TheVariants as m
 use Rattle.mpd_model.specs.declared.token.Token.{Token}
 use Rattle.mpd_model.specs.declared.token.Token.TheVariants.{Number, Name, Is}
 use Rattle.mpd_model.specs.Canonical.{below}
-use Rattle.mpd_model.specs.Grammar.{atom_by, atom, bracket, indexed, place_inside, place_of_slot, rounds, signed, chain, continued, level, expr, expression, turns, operator, operator_at}
+use Rattle.mpd_model.specs.Grammar.{atom_by, atom, bracket, index_inside, place_inside, place_of_slot, rounds, unary, chain, chain_by, level, expr, expression, turns, operator, operator_at}
 use Rattle.mpd_model.specs.Input.{Input, Parser, token, advanced, spend, expect, sees, same_kind, sought, seek, slot_in, spelling, pure, fail, refuse, max_budget}
 use Rattle.mpd_model.specs.Printable.{term_cost}
 use Rattle.mpd_model.specs.Term.{Term, lit, own_rank, size, cell, element, op1, op2}
 use Rattle.mpd_model.specs.Written.{left_level}
-use Rattle.mpd_laws.proofs.PrintableTerms.{ops_fit, level_is, looser, one_more, continued_cost}
+use Rattle.mpd_laws.proofs.PrintableTerms.{ops_fit, level_is, looser, one_more, chain_by_cost}
 use Rattle.mpd_laws.proofs.Sound.{bind_ok, ok_of, ok_parts, carried}
 
 -- ---- what a success of a step says
@@ -89,11 +89,11 @@ bracket_takes : (i : Input) (y : Unit {0} × Input) → bracket i ≡ Ok y → i
 unfolding bracket
 bracket_takes i y h = bracket_case (sees m.SquareOpen i) i y h
 
-indexed_cheap : (p : ℕ → Parser Term) → AllCheap p → (at : Place) (cells : Option ℕ) → IsCheap 0 (indexed p at cells)
-indexed_cheap p s at None i j t h =
+index_inside_cheap : (p : ℕ → Parser Term) → AllCheap p → (at : Place) (cells : Option ℕ) → IsCheap 0 (index_inside p at cells)
+index_inside_cheap p s at None i j t h =
     let o = ok_parts (cell at, i) (t, j) h in
     carried (λ t j. Costs 0 t i j) _ _ _ _ o.0 o.1 (omega arith)
-indexed_cheap p s at (Some cells) i j t h =
+index_inside_cheap p s at (Some cells) i j t h =
     let a = bind_ok (bracket i) _ (t, j) h in
     let b = bind_ok (p 5 a.0.1) _ (t, j) a.2 in
     let c = bind_ok (expect m.SquareClose b.0.1) _ (t, j) b.2 in
@@ -109,11 +109,11 @@ unfolding place_inside advanced
 name_cheap p s i j t h =
     let b = bind_ok (seek Variable i) _ (t, j) h in
     let e : (advanced b.0.1).budget ≡ i.budget = sym (ap (λ k. k.budget) (seek_same i b.0 b.1)) in
-    same_budget 0 t i (advanced b.0.1) j e (indexed_cheap p s (place_of_slot b.0.0) b.0.0.size (advanced b.0.1) j t b.2)
+    same_budget 0 t i (advanced b.0.1) j e (index_inside_cheap p s (place_of_slot b.0.0) b.0.0.size (advanced b.0.1) j t b.2)
 
-signed_cheap : (p : ℕ → Parser Term) → AllCheap p → (op : UnaryOp) → IsCheap 0 (signed p op)
-unfolding signed
-signed_cheap p s op i j t h =
+unary_cheap : (p : ℕ → Parser Term) → AllCheap p → (op : UnaryOp) → IsCheap 0 (unary p op)
+unfolding unary
+unary_cheap p s op i j t h =
     let b = bind_ok (spend i) _ (t, j) h in
     let c = bind_ok (p 0 b.0.1) _ (t, j) b.2 in
     let o = ok_parts (op1 op c.0.0, c.0.1) (t, j) c.2 in
@@ -131,8 +131,8 @@ atom_case p s (Is m.Rank) i j t h = simple_cheap i j own_rank t refl h
 atom_case p s (Is m.Size) i j t h = simple_cheap i j size t refl h
 atom_case p s Name i j t h = name_cheap p s i j t h
 atom_case p s (Is m.RoundOpen) i j t h = rounds_cheap p s i j t h
-atom_case p s (Is m.Minus) i j t h = signed_cheap p s u.Negate i j t h
-atom_case p s (Is m.Not) i j t h = signed_cheap p s u.Not i j t h
+atom_case p s (Is m.Minus) i j t h = unary_cheap p s u.Negate i j t h
+atom_case p s (Is m.Not) i j t h = unary_cheap p s u.Not i j t h
 atom_case p s _ i j t h = absurd (cc)
 
 atom_cheap : (p : ℕ → Parser Term) → AllCheap p → IsCheap 0 (atom p)
@@ -152,24 +152,24 @@ may_go k n t i j few x some =
       | inr other ↦ rw other x
     ]
 
-continued_costs : (k : ℕ) (op : BinaryOp) (i x y j : Input) (a b : Term) → Costs (left_level k) a i x → operator_at (suc k) (token x) ≡ Some op → x.budget ≡ suc y.budget
+chain_by_costs : (k : ℕ) (op : BinaryOp) (i x y j : Input) (a b : Term) → Costs (left_level k) a i x → operator_at (suc k) (token x) ≡ Some op → x.budget ≡ suc y.budget
     → Costs k b y j → Costs (suc k) (op2 op a b) i j
-continued_costs k op i x y j a b l o s r =
+chain_by_costs k op i x y j a b l o s r =
     let fits : suc (below op) ≡ suc k = level_is (suc k) (operator (token x)) op (ops_fit (token x)) o in
     let under : below op ≡ k = omega (arith, fits) in
-    omega (arith, continued_cost k op a b under, l, s, r)
+    omega (arith, chain_by_cost k op a b under, l, s, r)
 
-continued_case : (k : ℕ) (p : Parser Term) → IsCheap k p → (n : ℕ) → (k ≡ 2 → suc n ≤ 1) → (left : Term) (i x j : Input) (t : Term) (o : Option BinaryOp)
+chain_by_case : (k : ℕ) (p : Parser Term) → IsCheap k p → (n : ℕ) → (k ≡ 2 → suc n ≤ 1) → (left : Term) (i x j : Input) (t : Term) (o : Option BinaryOp)
     → operator_at (suc k) (token x) ≡ o → Costs (suc k) left i x → Costs (left_level k) left i x
     → ((l : Term) (y : Input) → Costs (suc k) l i y → MayGoOn k n l i y → chain p (suc k) n l y ≡ Ok (t, j) → Costs (suc k) t i j)
-    → continued (chain p (suc k) n) p left o x ≡ Ok (t, j) → Costs (suc k) t i j
-continued_case k p s n few left i x j t None is a b more h =
+    → chain_by (chain p (suc k) n) p left o x ≡ Ok (t, j) → Costs (suc k) t i j
+chain_by_case k p s n few left i x j t None is a b more h =
     let o = ok_parts (left, x) (t, j) h in
     carried (λ t j. Costs (suc k) t i j) _ _ _ _ o.0 o.1 a
-continued_case k p s n few left i x j t (Some op) is a b more h =
+chain_by_case k p s n few left i x j t (Some op) is a b more h =
     let c = bind_ok (spend x) _ (t, j) h in
     let d = bind_ok (p c.0.1) _ (t, j) c.2 in
-    let whole = continued_costs k op i x c.0.1 d.0.1 left d.0.0 b is (spend_takes x c.0 c.1) (s c.0.1 d.0.1 d.0.0 d.1) in
+    let whole = chain_by_costs k op i x c.0.1 d.0.1 left d.0.0 b is (spend_takes x c.0 c.1) (s c.0.1 d.0.1 d.0.0 d.1) in
     more (op2 op left d.0.0) d.0.1 whole (may_go k n (op2 op left d.0.0) i d.0.1 few whole) d.2
 
 chain_cheap : (k : ℕ) (p : Parser Term) → IsCheap k p → (n : ℕ) → (k ≡ 2 → n ≤ 1) → (left : Term) (i x j : Input) (t : Term)
@@ -179,7 +179,7 @@ chain_cheap k p s zero few left i x j t a b h =
     let o = ok_parts (left, x) (t, j) h in
     carried (λ t j. Costs (suc k) t i j) _ _ _ _ o.0 o.1 a
 chain_cheap k p s (suc n) few left i x j t a b h =
-    continued_case k p s n few left i x j t (operator_at (suc k) (token x)) refl a (b (λ e. absurd (omega arith)))
+    chain_by_case k p s n few left i x j t (operator_at (suc k) (token x)) refl a (b (λ e. absurd (omega arith)))
     (λ l y c d. chain_cheap k p s n (λ e. let f = few e in omega arith) l i y j t c d) h
 
 raised : (k : ℕ) (t : Term) (i j : Input) → Costs k t i j → Costs (suc k) t i j

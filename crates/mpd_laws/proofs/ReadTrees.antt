@@ -12,7 +12,7 @@ use Rattle.mpd_model.specs.declared.token.Mark.TheVariants as m
 use Rattle.mpd_model.specs.declared.token.Token.{Token}
 use Rattle.mpd_model.specs.declared.token.Token.TheVariants.{Name, Is}
 use Rattle.mpd_model.specs.Costs.{blocks, blocks_in}
-use Rattle.mpd_model.specs.Grammar.{expression, begun, closes, place_of_slot, outside, target, named_by, named, source_by, source, status_by, status, fill, Form, form_of, by_form, assigning, otherwise, choosing, repeating, stmt_by, stmt, stmts, body, block, header, is_text, max_blocks, max_text, read_of, reading, script as whole_script}
+use Rattle.mpd_model.specs.Grammar.{expression, begin_statement, closes, place_of_slot, index_outside, target, statement_place_by, statement_place, source_by, source, status_by, status, fill, Form, form_of, by_form, assignment, otherwise, if_statement, while_statement, stmt_by, stmt, stmts, body, block, header, is_text, max_blocks, max_text, read_of, reading, script as whole_script}
 use Rattle.mpd_model.specs.Input.{Input, Outcome, Parser, token, expect, seek, sees, after, count, max_budget, pure, fail, refuse, start_of, ◌>>=◌}
 use Rattle.mpd_model.specs.Printable.{term_cost}
 use Rattle.mpd_model.specs.Program.{Program}
@@ -66,9 +66,9 @@ pub record FineBlock (d : ℕ) (b : Block) : Type 0 where
 
 -- ---- statements that hold no other
 
-outside_cheap : (at : Place) (cells : Option ℕ) (i : Input) (y : Target × Input) → outside at cells i ≡ Ok y → IsCheapIndex y.0.index
-outside_cheap at None i y h = let o = ok_parts (record { place = at; index = None }, i) y h in subst (λ (t : Target). IsCheapIndex t.index) o.0 tt
-outside_cheap at (Some cells) i y h =
+index_outside_cheap : (at : Place) (cells : Option ℕ) (i : Input) (y : Target × Input) → index_outside at cells i ≡ Ok y → IsCheapIndex y.0.index
+index_outside_cheap at None i y h = let o = ok_parts (record { place = at; index = None }, i) y h in subst (λ (t : Target). IsCheapIndex t.index) o.0 tt
+index_outside_cheap at (Some cells) i y h =
     let a = bind_ok (expect m.SquareOpen i) _ y h in
     let b = bind_ok (expression a.0.1) _ y a.2 in
     let c = bind_ok (expect m.SquareClose b.0.1) _ y b.2 in
@@ -79,15 +79,15 @@ target_cheap : (kind : DeclKind) (i : Input) (y : Target × Input) → target ki
 unfolding target
 target_cheap kind i y h =
     let b = bind_ok (seek kind i) _ y h in
-    outside_cheap (place_of_slot b.0.0) b.0.0.size _ y b.2
+    index_outside_cheap (place_of_slot b.0.0) b.0.0.size _ y b.2
 
-named_case : (kind : DeclKind) (tk : Token) (i : Input) (y : Target × Input) → named_by kind tk i ≡ Ok y → IsCheapIndex y.0.index
-named_case kind Name i y h = target_cheap kind i y h
-named_case kind _ i y h = absurd (cc)
+statement_place_case : (kind : DeclKind) (tk : Token) (i : Input) (y : Target × Input) → statement_place_by kind tk i ≡ Ok y → IsCheapIndex y.0.index
+statement_place_case kind Name i y h = target_cheap kind i y h
+statement_place_case kind _ i y h = absurd (cc)
 
-named_cheap : (kind : DeclKind) (i : Input) (y : Target × Input) → named kind i ≡ Ok y → IsCheapIndex y.0.index
-unfolding named
-named_cheap kind i y h = named_case kind (token i) i y h
+statement_place_cheap : (kind : DeclKind) (i : Input) (y : Target × Input) → statement_place kind i ≡ Ok y → IsCheapIndex y.0.index
+unfolding statement_place
+statement_place_cheap kind i y h = statement_place_case kind (token i) i y h
 
 source_case : (found : Bool) (i : Input) (y : Option Term × Input) → source_by found i ≡ Ok y → IsCheapPart (source_part y.0)
 source_case true i y h = subst (λ o. IsCheapPart (source_part o)) (ok_parts (None, i) y h).0 tt
@@ -101,9 +101,9 @@ source_cheap i y h = source_case (sees m.Any i) (after m.Any i) y h
 
 status_case : (found : Bool) (i : Input) (y : Option StatusStmt × Input) → status_by found i ≡ Ok y → (ps : List Part) → AreCheap ps → AreCheap (status_parts y.0 ps)
 status_case true i y h ps c =
-    let b = bind_ok (named Variable i) _ y h in
-    let d = bind_ok (named Variable b.0.1) _ y b.2 in
-    subst (λ o. AreCheap (status_parts o ps)) (ok_parts (Some (status_of b.0.0 d.0.0), d.0.1) y d.2).0 (tt, (named_cheap Variable i b.0 b.1, (named_cheap Variable b.0.1 d.0 d.1, c)))
+    let b = bind_ok (statement_place Variable i) _ y h in
+    let d = bind_ok (statement_place Variable b.0.1) _ y b.2 in
+    subst (λ o. AreCheap (status_parts o ps)) (ok_parts (Some (status_of b.0.0 d.0.0), d.0.1) y d.2).0 (tt, (statement_place_cheap Variable i b.0 b.1, (statement_place_cheap Variable b.0.1 d.0 d.1, c)))
 status_case false i y h ps c = subst (λ o. AreCheap (status_parts o ps)) (ok_parts (None, i) y h).0 c
 
 status_cheap : (i : Input) (y : Option StatusStmt × Input) → status i ≡ Ok y → (ps : List Part) → AreCheap ps → AreCheap (status_parts y.0 ps)
@@ -129,9 +129,9 @@ fill_cheap (term_hole ∷ hs) made i y h =
     let r = fill_cheap hs (λ c. made (b.0.0, c)) b.0.1 y b.2 in
     record { contents = (b.0.0, r.contents); is = r.is; cheap = (expression_cheap i b.0 b.1, r.cheap) }
 fill_cheap (target_hole kind ∷ hs) made i y h =
-    let b = bind_ok (named kind i) _ y h in
+    let b = bind_ok (statement_place kind i) _ y h in
     let r = fill_cheap hs (λ c. made (b.0.0, c)) b.0.1 y b.2 in
-    record { contents = (b.0.0, r.contents); is = r.is; cheap = (named_cheap kind i b.0 b.1, r.cheap) }
+    record { contents = (b.0.0, r.contents); is = r.is; cheap = (statement_place_cheap kind i b.0 b.1, r.cheap) }
 fill_cheap (source_hole ∷ hs) made i y h =
     let b = bind_ok (source i) _ y h in
     let r = fill_cheap hs (λ c. made (b.0.0, c)) b.0.1 y b.2 in
@@ -147,16 +147,16 @@ Reads d p = (i : Input) (y : Tree × Input) → p i ≡ Ok y → Fine d y.0
 form_fine : (d : ℕ) (o : Option Form) → Reads d (by_form o)
 form_fine d None i y h = absurd (cc)
 form_fine d (Some f) i y h =
-    let b = bind_ok (begun i) _ y h in
+    let b = bind_ok (begin_statement i) _ y h in
     let r = fill_cheap f.holes (λ c. simple (f.made c)) b.0.1 y b.2 in
     subst (Fine d) r.is (record { cheap = subst AreCheap (sym (f.parts r.contents)) (tt, r.cheap); open_blocks = omega arith })
 
-assigning_fine : (d : ℕ) (s : Slot) → Reads d (assigning s)
-unfolding assigning
-assigning_fine d s i y h =
-    let a = bind_ok (outside (place_of_slot s) s.size i) _ y h in
+assignment_fine : (d : ℕ) (s : Slot) → Reads d (assignment s)
+unfolding assignment
+assignment_fine d s i y h =
+    let a = bind_ok (index_outside (place_of_slot s) s.size i) _ y h in
     let r = fill_cheap (mark_hole m.Assign ∷ term_hole ∷ []) (λ c. simple (st.Assign (record { into = a.0.0; value = c.0 }))) a.0.1 y a.2 in
-    subst (Fine d) r.is (record { cheap = (outside_cheap (place_of_slot s) s.size i a.0 a.1, r.cheap); open_blocks = omega arith })
+    subst (Fine d) r.is (record { cheap = (index_outside_cheap (place_of_slot s) s.size i a.0 a.1, r.cheap); open_blocks = omega arith })
 
 -- ---- blocks
 
@@ -176,9 +176,9 @@ otherwise_fine : (d : ℕ) (p : Parser (List Tree)) → ReadsBlock d p → 1 ≤
 unfolding otherwise
 otherwise_fine d p s some i y h = otherwise_case d p s some (sees m.Else i) (after m.Else i) y h
 
-choosing_fine : (d : ℕ) (p : Parser (List Tree)) → ReadsBlock d p → Reads d (choosing p)
-unfolding choosing
-choosing_fine d p s i y h =
+if_statement_fine : (d : ℕ) (p : Parser (List Tree)) → ReadsBlock d p → Reads d (if_statement p)
+unfolding if_statement
+if_statement_fine d p s i y h =
     let a = bind_ok (expression i) _ y h in
     let b = bind_ok (p a.0.1) _ y a.2 in
     let c = bind_ok (otherwise p b.0.1) _ y b.2 in
@@ -194,9 +194,9 @@ choosing_fine d p s i y h =
     most : (a b n : ℕ) → suc a ≤ n → suc b ≤ n → suc (max a b) ≤ n
     most a b n h k = grind arith
 
-repeating_fine : (d : ℕ) (p : Parser (List Tree)) → ReadsBlock d p → Reads d (repeating p)
-unfolding repeating
-repeating_fine d p s i y h =
+while_statement_fine : (d : ℕ) (p : Parser (List Tree)) → ReadsBlock d p → Reads d (while_statement p)
+unfolding while_statement
+while_statement_fine d p s i y h =
     let a = bind_ok (expression i) _ y h in
     let b = bind_ok (p a.0.1) _ y a.2 in
     let o = ok_parts (repeat a.0.0 (block_of b.0.0), b.0.1) y b.2 in
@@ -206,10 +206,10 @@ repeating_fine d p s i y h =
 stmt_case : (d : ℕ) (p : Parser (List Tree)) → ReadsBlock d p → (tk : Token) → Reads d (stmt_by p tk)
 stmt_case d p s Name i y h =
     let a = bind_ok (seek Variable i) _ y h in
-    let b = bind_ok (begun a.0.1) _ y a.2 in
-    assigning_fine d a.0.0 b.0.1 y b.2
-stmt_case d p s (Is m.If) i y h = let b = bind_ok (begun i) _ y h in choosing_fine d p s b.0.1 y b.2
-stmt_case d p s (Is m.While) i y h = let b = bind_ok (begun i) _ y h in repeating_fine d p s b.0.1 y b.2
+    let b = bind_ok (begin_statement a.0.1) _ y a.2 in
+    assignment_fine d a.0.0 b.0.1 y b.2
+stmt_case d p s (Is m.If) i y h = let b = bind_ok (begin_statement i) _ y h in if_statement_fine d p s b.0.1 y b.2
+stmt_case d p s (Is m.While) i y h = let b = bind_ok (begin_statement i) _ y h in while_statement_fine d p s b.0.1 y b.2
 stmt_case d p s (Is m.Waitany) i y h = let b = bind_ok (count i) _ y h in absurd (let e = b.2 in cc)
 stmt_case d p s (Is k) i y h = form_fine d (form_of k) i y h
 stmt_case d p s _ i y h = absurd (cc)

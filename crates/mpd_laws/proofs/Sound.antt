@@ -17,7 +17,7 @@ use Rattle.mpd_model.specs.declared.token.Mark.{Mark}
 use Rattle.mpd_model.specs.declared.token.Mark.TheVariants as m
 use Rattle.mpd_model.specs.declared.token.Token.{Token}
 use Rattle.mpd_model.specs.declared.token.Token.TheVariants.{Number, Name, Is, Bad, End}
-use Rattle.mpd_model.specs.Grammar.{atom_by, atom, bracket, indexed, place_inside, place_of_slot, rounds, signed, sign, chain, continued, level, expr, turns, operator_at}
+use Rattle.mpd_model.specs.Grammar.{atom_by, atom, bracket, index_inside, place_inside, place_of_slot, rounds, unary, sign, chain, chain_by, level, expr, turns, operator_at}
 use Rattle.mpd_model.specs.Declaration.{Declared}
 use Rattle.mpd_model.specs.Input.{Input, Outcome, Parser, and_then, token, token_of, text_of, spelling, advanced, behind, spend, expect, sees, is_mark, same_mark, same_kind, sought, seek, slot_in, pure, fail, refuse}
 use Rattle.mpd_model.specs.Term.{Term, lit, own_rank, size, cell, element, op1, op2}
@@ -139,14 +139,14 @@ seek_ok kind i y h = sought_ok kind (slot_in i.decls (spelling i)) i y h
 
 -- the token is the name that was declared as the slot, which is of the kind
 abbrev pub NamedBy : List Declared → DeclKind → Slot → Spot → Type 0
-NamedBy ds kind slot s = (sized : Bool) → is_some slot.size ≡ sized → Names ds kind s sized (place_of_slot slot)
+NamedBy ds kind slot s = (is_array : Bool) → is_some slot.size ≡ is_array → Names ds kind s is_array (place_of_slot slot)
 
 -- the name of something of the kind
 pub name_step : (kind : DeclKind) (i : Input) (y : Slot × Input) → token i ≡ Name → seek kind i ≡ Ok y → (s : Step i (advanced y.1)) × NamedBy i.decls kind y.0 s.spot
 name_step kind i y e h =
     let k = seek_ok kind i y h in
     let s = next_step i (advanced y.1) (λ x. absurd (cc)) (ap advanced (sym k.2)) in
-    (s, λ sized is. record { token = s.token ∙ e; slot = y.0; declared = ap (slot_in i.decls) s.text ∙ k.0; kind = k.1; size = is; place = refl })
+    (s, λ is_array is. record { token = s.token ∙ e; slot = y.0; declared = ap (slot_in i.decls) s.text ∙ k.0; kind = k.1; size = is; place = refl })
 
 -- ---- expressions
 
@@ -205,12 +205,12 @@ entry_takes i x1 x2 x3 j p t s n a ea tk c ec =
     (entry s.spot a.spot c.spot tk.used p t n ea ec (rw (← s.moves.decls, ← a.moves.decls) tk.written))
 
 -- a name, and the index of an array behind it
-indexed_sound : (p : ℕ → Parser Term) → AllSound p → (slot : Slot) (cells : Option ℕ) (i x j : Input) (t : Term) → (s : Step i x)
-    → ((sized : Bool) → is_some cells ≡ sized → Names i.decls Variable s.spot sized (place_of_slot slot)) → indexed p (place_of_slot slot) cells x ≡ Ok (t, j) → TermBetween 0 t i j
-indexed_sound p q slot None i x j t s n h =
+index_inside_sound : (p : ℕ → Parser Term) → AllSound p → (slot : Slot) (cells : Option ℕ) (i x j : Input) (t : Term) → (s : Step i x)
+    → ((is_array : Bool) → is_some cells ≡ is_array → Names i.decls Variable s.spot is_array (place_of_slot slot)) → index_inside p (place_of_slot slot) cells x ≡ Ok (t, j) → TermBetween 0 t i j
+index_inside_sound p q slot None i x j t s n h =
     let o = ok_parts (cell (place_of_slot slot), x) (t, j) h in
     carried (λ t j. TermBetween 0 t i j) _ _ _ _ o.0 o.1 (one (cell (place_of_slot slot)) i x s (name s.spot (place_of_slot slot) (n false refl)))
-indexed_sound p q slot (Some cells) i x j t s n h =
+index_inside_sound p q slot (Some cells) i x j t s n h =
     let a = bind_ok (bracket x) _ (t, j) h in
     let b = bind_ok (p 5 a.0.1) _ (t, j) a.2 in
     let c = bind_ok (expect m.SquareClose b.0.1) _ (t, j) b.2 in
@@ -225,21 +225,21 @@ unfolding place_inside
 name_sound p q i j t e h =
     let b = bind_ok (seek Variable i) _ (t, j) h in
     let v = name_step Variable i b.0 e b.1 in
-    indexed_sound p q b.0.0 b.0.0.size i (advanced b.0.1) j t v.0 v.1 b.2
+    index_inside_sound p q b.0.0 b.0.0.size i (advanced b.0.1) j t v.0 v.1 b.2
 
-signed_takes : (op : UnaryOp) (i x j : Input) (t : Term) → sign (token i) ≡ Some op → Step i x → TermBetween 0 t x j → TermBetween 0 (op1 op t) i j
-signed_takes op i x j t e s tk =
+unary_takes : (op : UnaryOp) (i x j : Input) (t : Term) → sign (token i) ≡ Some op → Step i x → TermBetween 0 t x j → TermBetween 0 (op1 op t) i j
+unary_takes op i x j t e s tk =
     takes 0 (op1 op t) (s.spot ∷ tk.used) i j
     (then_moves (s.spot ∷ []) tk.used i x j s.moves (moves_of 0 t x j tk))
     (signs s.spot tk.used op t (ap sign s.token ∙ e) (rw (← s.moves.decls) tk.written))
 
-signed_sound : (p : ℕ → Parser Term) → AllSound p → (op : UnaryOp) (i j : Input) (t : Term) → token i ≢ End → sign (token i) ≡ Some op → signed p op i ≡ Ok (t, j) → TermBetween 0 t i j
-unfolding signed
-signed_sound p s op i j t some e h =
+unary_sound : (p : ℕ → Parser Term) → AllSound p → (op : UnaryOp) (i j : Input) (t : Term) → token i ≢ End → sign (token i) ≡ Some op → unary p op i ≡ Ok (t, j) → TermBetween 0 t i j
+unfolding unary
+unary_sound p s op i j t some e h =
     let b = bind_ok (spend i) _ (t, j) h in
     let c = bind_ok (p 0 b.0.1) _ (t, j) b.2 in
     let o = ok_parts (op1 op c.0.0, c.0.1) (t, j) c.2 in
-    carried (λ t j. TermBetween 0 t i j) _ _ _ _ o.0 o.1 (signed_takes op i b.0.1 c.0.1 c.0.0 e (spend_step i b.0 some b.1) (s 0 b.0.1 c.0.1 c.0.0 c.1))
+    carried (λ t j. TermBetween 0 t i j) _ _ _ _ o.0 o.1 (unary_takes op i b.0.1 c.0.1 c.0.0 e (spend_step i b.0 some b.1) (s 0 b.0.1 c.0.1 c.0.0 c.1))
 
 simple : (i j : Input) (t t' : Term) → token i ≢ End → ok_of (t, advanced i) ≡ Ok (t', j) → ((s : Spot) → s.token ≡ token i → WrittenTerm i.decls 0 (s ∷ []) t) → TermBetween 0 t' i j
 simple i j t t' some h w =
@@ -253,8 +253,8 @@ atom_case p s (Is m.Rank) i j t e h = simple i j own_rank t (λ x. absurd (cc)) 
 atom_case p s (Is m.Size) i j t e h = simple i j size t (λ x. absurd (cc)) h (λ v a. ranks v (a ∙ e))
 atom_case p s Name i j t e h = name_sound p s i j t e h
 atom_case p s (Is m.RoundOpen) i j t e h = rounds_sound p s i j t e h
-atom_case p s (Is m.Minus) i j t e h = signed_sound p s u.Negate i j t (λ x. absurd (cc)) (ap sign e) h
-atom_case p s (Is m.Not) i j t e h = signed_sound p s u.Not i j t (λ x. absurd (cc)) (ap sign e) h
+atom_case p s (Is m.Minus) i j t e h = unary_sound p s u.Negate i j t (λ x. absurd (cc)) (ap sign e) h
+atom_case p s (Is m.Not) i j t e h = unary_sound p s u.Not i j t (λ x. absurd (cc)) (ap sign e) h
 atom_case p s _ i j t e h = absurd (cc)
 
 atom_sound : (p : ℕ → Parser Term) → AllSound p → IsSound 0 (atom p)
@@ -264,9 +264,9 @@ atom_sound p s i j t h = atom_case p s (token i) i j t refl h
 no_operator : (k : ℕ) (op : BinaryOp) (t : Token) → t ≡ End → operator_at (suc k) t ≡ Some op → ⊥
 no_operator k op t e o = let f = rw e at o in absurd (cc)
 
-continued_takes : (k : ℕ) (op : BinaryOp) (i x y j : Input) (a b : Term) → TermBetween (left_level k) a i x → operator_at (suc k) (token x) ≡ Some op
+chain_by_takes : (k : ℕ) (op : BinaryOp) (i x y j : Input) (a b : Term) → TermBetween (left_level k) a i x → operator_at (suc k) (token x) ≡ Some op
     → Step x y → TermBetween k b y j → TermBetween (suc k) (op2 op a b) i j
-continued_takes k op i x y j a b l o s r =
+chain_by_takes k op i x y j a b l o s r =
     takes (suc k) (op2 op a b) (l.used ++ s.spot ∷ r.used) i j
     (then_moves l.used (s.spot ∷ r.used) i x j (moves_of (left_level k) a i x l) (then_moves (s.spot ∷ []) r.used x y j s.moves (moves_of k b y j r)))
     (joins k l.used r.used s.spot op a b (ap (operator_at (suc k)) s.token ∙ o) l.written (rw (← l.decls, ← s.moves.decls) r.written))
@@ -288,16 +288,16 @@ may_go k n t i j few x some =
       | inr other ↦ rw other x
     ]
 
-continued_case : (k : ℕ) (p : Parser Term) → IsSound k p → (n : ℕ) → (k ≡ 2 → suc n ≤ 1) → (left : Term) (i x j : Input) (t : Term) (o : Option BinaryOp)
+chain_by_case : (k : ℕ) (p : Parser Term) → IsSound k p → (n : ℕ) → (k ≡ 2 → suc n ≤ 1) → (left : Term) (i x j : Input) (t : Term) (o : Option BinaryOp)
     → operator_at (suc k) (token x) ≡ o → TermBetween (suc k) left i x → TermBetween (left_level k) left i x
     → ((l : Term) (y : Input) → TermBetween (suc k) l i y → MayGoOn k n l i y → chain p (suc k) n l y ≡ Ok (t, j) → TermBetween (suc k) t i j)
-    → continued (chain p (suc k) n) p left o x ≡ Ok (t, j) → TermBetween (suc k) t i j
-continued_case k p s n few left i x j t None is a b more h = let o = ok_parts (left, x) (t, j) h in ended k i x j left t o.0 o.1 a
-continued_case k p s n few left i x j t (Some op) is a b more h =
+    → chain_by (chain p (suc k) n) p left o x ≡ Ok (t, j) → TermBetween (suc k) t i j
+chain_by_case k p s n few left i x j t None is a b more h = let o = ok_parts (left, x) (t, j) h in ended k i x j left t o.0 o.1 a
+chain_by_case k p s n few left i x j t (Some op) is a b more h =
     let c = bind_ok (spend x) _ (t, j) h in
     let d = bind_ok (p c.0.1) _ (t, j) c.2 in
     let st = spend_step x c.0 (λ e. no_operator k op (token x) e is) c.1 in
-    let whole = continued_takes k op i x c.0.1 d.0.1 left d.0.0 b is st (s c.0.1 d.0.1 d.0.0 d.1) in
+    let whole = chain_by_takes k op i x c.0.1 d.0.1 left d.0.0 b is st (s c.0.1 d.0.1 d.0.0 d.1) in
     more (op2 op left d.0.0) d.0.1 whole (may_go k n (op2 op left d.0.0) i d.0.1 few whole) d.2
 
 chain_sound : (k : ℕ) (p : Parser Term) → IsSound k p → (n : ℕ) → (k ≡ 2 → n ≤ 1) → (left : Term) (i x j : Input) (t : Term)
@@ -305,7 +305,7 @@ chain_sound : (k : ℕ) (p : Parser Term) → IsSound k p → (n : ℕ) → (k �
 unfolding chain
 chain_sound k p s zero few left i x j t a b h = let o = ok_parts (left, x) (t, j) h in ended k i x j left t o.0 o.1 a
 chain_sound k p s (suc n) few left i x j t a b h =
-    continued_case k p s n few left i x j t (operator_at (suc k) (token x)) refl a (b (λ e. absurd (omega arith)))
+    chain_by_case k p s n few left i x j t (operator_at (suc k) (token x)) refl a (b (λ e. absurd (omega arith)))
     (λ l y c d. chain_sound k p s n (λ e. let f = few e in omega arith) l i y j t c d) h
 
 first_left : (k n : ℕ) (t : Term) (i j : Input) → TermBetween k t i j → MayGoOn k n t i j

@@ -13,7 +13,7 @@ use Rattle.mpd_model.specs.declared.token.Token.{Token}
 use Rattle.mpd_model.specs.declared.token.Token.TheVariants.{Number, Name, Is, End}
 use Rattle.mpd_model.specs.Declaration.{Declared}
 use Rattle.mpd_model.specs.Faults.{fault}
-use Rattle.mpd_model.specs.Grammar.{version_by, version, rank_count, ranks_of, ranks_by, ranks, natural, sized_at, size_by, sized, single, declaring, decl_by, decl, declares, decls_by, decls_from, decls, header, stmt, stmts, body, block, closes, max_blocks, max_text, is_text, read_of, reading}
+use Rattle.mpd_model.specs.Grammar.{version_by, version, rank_count, ranks_of, ranks_by, ranks, natural, array_size_at, array_size_by, array_size, single, declarator, decl_by, decl, declares, decls_by, decls_from, decls, header, stmt, stmts, body, block, closes, max_blocks, max_text, is_text, read_of, reading}
 use Rattle.mpd_model.specs.Grammar as grammar
 use Rattle.mpd_model.specs.Input.{Input, Outcome, Parser, start_of, token, token_of, spelling, place, advanced, expect, sees, after, fresh, add, cells_fit, is_known, slot_in, advance, fail, pure, ◌>>=◌}
 use Rattle.mpd_model.specs.Program.{Program}
@@ -155,10 +155,10 @@ sizes kind name n i x1 x2 x3 j e d s c q z p = record {
 no_end : (i : Input) (z : ℤ) → token i ≡ Number z → token i ≢ End
 no_end i z e x = absurd (cc)
 
-sized_at_ok : (kind : DeclKind) (name : List ℕ) (o : Option ℕ) (i : Input) (y : Unit {0} × Input) → ((n : ℕ) → o ≡ Some n → token i ≡ Number (pos n)) → sized_at kind name o i ≡ Ok y
+array_size_at_ok : (kind : DeclKind) (name : List ℕ) (o : Option ℕ) (i : Input) (y : Unit {0} × Input) → ((n : ℕ) → o ≡ Some n → token i ≡ Number (pos n)) → array_size_at kind name o i ≡ Ok y
     → Sizes kind name i y.1
-sized_at_ok kind name None i y is h = absurd (cc)
-sized_at_ok kind name (Some n) i y is h =
+array_size_at_ok kind name None i y is h = absurd (cc)
+array_size_at_ok kind name (Some n) i y is h =
     let a = bind_ok (add kind name (Some n) (place i) i) _ y h in
     let d = add_ok kind name (Some n) (place i) i a.0 a.1 in
     let e = is n refl in
@@ -168,13 +168,13 @@ sized_at_ok kind name (Some n) i y is h =
     let z = expect_step m.Semicolon b.0.1 y b.2 in
     sizes kind name n i a.0.1 (advanced a.0.1) b.0.1 y.1 e d s c.0 c.1 z.0 z.1
 
-size_case : (kind : DeclKind) (name : List ℕ) (tk : Token) (i : Input) (y : Unit {0} × Input) → token i ≡ tk → size_by kind name tk i ≡ Ok y → Sizes kind name i y.1
-size_case kind name (Number z) i y e h = sized_at_ok kind name (natural z) i y (λ n is. e ∙ ap Number (size_is z n is)) h
+size_case : (kind : DeclKind) (name : List ℕ) (tk : Token) (i : Input) (y : Unit {0} × Input) → token i ≡ tk → array_size_by kind name tk i ≡ Ok y → Sizes kind name i y.1
+size_case kind name (Number z) i y e h = array_size_at_ok kind name (natural z) i y (λ n is. e ∙ ap Number (size_is z n is)) h
 size_case kind name _ i y e h = absurd (cc)
 
-sized_ok : (kind : DeclKind) (name : List ℕ) (i : Input) (y : Unit {0} × Input) → sized kind name i ≡ Ok y → Sizes kind name i y.1
-unfolding sized
-sized_ok kind name i y h = size_case kind name (token i) i y refl h
+array_size_ok : (kind : DeclKind) (name : List ℕ) (i : Input) (y : Unit {0} × Input) → array_size kind name i ≡ Ok y → Sizes kind name i y.1
+unfolding array_size
+array_size_ok kind name i y h = size_case kind name (token i) i y refl h
 
 -- a declaration behind the word that begins it, whatever follows it
 pub record Declares (kind : DeclKind) (i j : Input) : Type 0 where
@@ -215,24 +215,24 @@ many_declared kind i x y j e free s a q d = record {
   written = λ v ss es ev w. declares_array i.decls es kind v s.spot a.spot d.count d.close d.end d.cells ss ev (s.token ∙ e) (ap (slot_in i.decls) s.text ∙ free) q d.is_count d.is_close d.is_end w;
 }
 
-declaring_case : (kind : DeclKind) (found : Bool) (i x : Input) (at : ℕ) (y : Unit {0} × Input) → token i ≡ Name → slot_in i.decls (spelling i) ≡ None → Step i x → sees m.SquareOpen x ≡ found
-    → cond found (sized kind (spelling i)) (single kind (spelling i) at) (cond found (advanced x) x) ≡ Ok y → Declares kind i y.1
-declaring_case kind true i x at y e free s is h =
+declarator_case : (kind : DeclKind) (found : Bool) (i x : Input) (at : ℕ) (y : Unit {0} × Input) → token i ≡ Name → slot_in i.decls (spelling i) ≡ None → Step i x → sees m.SquareOpen x ≡ found
+    → cond found (array_size kind (spelling i)) (single kind (spelling i) at) (cond found (advanced x) x) ≡ Ok y → Declares kind i y.1
+declarator_case kind true i x at y e free s is h =
     let open_bracket = sees_is m.SquareOpen x is in
     let a = next_step x (advanced x) (λ z. absurd (cc)) refl in
-    many_declared kind i x (advanced x) y.1 e free s a (a.token ∙ open_bracket) (sized_ok kind (spelling i) (advanced x) y h)
-declaring_case kind false i x at y e free s is h = one_declared kind i x y.1 e free s (single_ok kind (spelling i) at x y h)
+    many_declared kind i x (advanced x) y.1 e free s a (a.token ∙ open_bracket) (array_size_ok kind (spelling i) (advanced x) y h)
+declarator_case kind false i x at y e free s is h = one_declared kind i x y.1 e free s (single_ok kind (spelling i) at x y h)
 
-declaring_ok : (kind : DeclKind) (i : Input) (y : Unit {0} × Input) → token i ≡ Name → declaring kind i ≡ Ok y → Declares kind i y.1
-unfolding declaring after
-declaring_ok kind i y e h =
+declarator_ok : (kind : DeclKind) (i : Input) (y : Unit {0} × Input) → token i ≡ Name → declarator kind i ≡ Ok y → Declares kind i y.1
+unfolding declarator after
+declarator_ok kind i y e h =
     let a = bind_ok (fresh i) _ y h in
     let f = fresh_ok i a.0 a.1 in
     let s = next_step i (advanced a.0.1) (λ x. absurd (cc)) (ap advanced f.1) in
-    declaring_case kind (sees m.SquareOpen (advanced a.0.1)) i (advanced a.0.1) (place i) y e f.0 s refl a.2
+    declarator_case kind (sees m.SquareOpen (advanced a.0.1)) i (advanced a.0.1) (place i) y e f.0 s refl a.2
 
 decl_case : (kind : DeclKind) (tk : Token) (i : Input) (y : Unit {0} × Input) → token i ≡ tk → decl_by kind tk i ≡ Ok y → Declares kind i y.1
-decl_case kind Name i y e h = declaring_ok kind i y e h
+decl_case kind Name i y e h = declarator_ok kind i y e h
 decl_case kind _ i y e h = absurd (cc)
 
 pub decl_ok : (kind : DeclKind) (i : Input) (y : Unit {0} × Input) → decl kind i ≡ Ok y → Declares kind i y.1

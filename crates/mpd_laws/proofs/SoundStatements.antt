@@ -9,7 +9,7 @@ use Rattle.mpd_model.specs.declared.token.Mark.TheVariants as m
 use Rattle.mpd_model.specs.declared.token.Token.{Token}
 use Rattle.mpd_model.specs.declared.token.Token.TheVariants.{Name, Is, End}
 use Rattle.mpd_model.specs.Declaration.{Declared}
-use Rattle.mpd_model.specs.Grammar.{expression, begun, closes, place_of_slot, outside, Form, form_of, formed, by_form, assigning, otherwise, choosing, repeating, stmt_by, stmt, stmts, body, block}
+use Rattle.mpd_model.specs.Grammar.{expression, begin_statement, closes, place_of_slot, index_outside, Form, form_of, behind_word, by_form, assignment, otherwise, if_statement, while_statement, stmt_by, stmt, stmts, body, block}
 use Rattle.mpd_model.specs.Input.{Input, Outcome, Parser, and_then, token, token_of, spelling, advanced, behind, expect, seek, sees, count, slot_in, first_line, after, pure, fail, refuse, ◌>>=◌, ◌>>◌}
 use Rattle.mpd_model.specs.Parts.{of_mark, of_target, mark_hole, term_hole, filled}
 use Rattle.mpd_model.specs.declared.stmt.Simple.TheVariants as st
@@ -18,7 +18,7 @@ use Rattle.mpd_model.specs.Tokens.{Spot}
 use Rattle.mpd_model.specs.Tree.{Tree, simple, branch, repeat, no_more, block_of}
 use Rattle.mpd_model.specs.Written.{WrittenParts, then_part, by_mark, by_target, WrittenTree, simply, repeats, chooses, chooses_else, WrittenBlock, braces, WrittenBody, ended, follows, LinesBetween, TreeBetween, BlockBetween, BodyBetween}
 use Rattle.mpd_laws.proofs.Sound.{bind_ok, ok_parts, carried, test_ok, first_spot, Moves, Step, next_step, sees_is, expect_step, seek_ok, NamedBy}
-use Rattle.mpd_laws.proofs.SoundParts.{Read, expression_ok, outside_ok, part_moves, part_first, fill_ok}
+use Rattle.mpd_laws.proofs.SoundParts.{Read, expression_ok, index_outside_ok, part_moves, part_first, fill_ok}
 
 -- ---- the first token of a statement
 
@@ -30,9 +30,9 @@ pub record Begun (i j : Input) : Type 0 where
   pub decls : j.decls ≡ i.decls
   pub lines : j.lines ≡ i.lines ++ spot.line ∷ []
 
-begun_spot : (i j : Input) → token_of i.tokens ≢ End → j.tokens ≡ behind i.tokens → j.decls ≡ i.decls → j.lines ≡ i.lines ++ first_line i.tokens ∷ [] → Begun i j
+begin_statement_spot : (i j : Input) → token_of i.tokens ≢ End → j.tokens ≡ behind i.tokens → j.decls ≡ i.decls → j.lines ≡ i.lines ++ first_line i.tokens ∷ [] → Begun i j
 unfolding token spelling
-begun_spot i j some a b c =
+begin_statement_spot i j some a b c =
     let f = first_spot i.tokens some in
     record {
       spot = f.0;
@@ -43,16 +43,16 @@ begun_spot i j some a b c =
       lines = c ∙ ap (λ r. i.lines ++ first_line r ∷ []) f.1;
     }
 
-begun_ok : (i : Input) (y : Unit {0} × Input) → token i ≢ End → begun i ≡ Ok y → Begun i y.1
+begin_statement_ok : (i : Input) (y : Unit {0} × Input) → token i ≢ End → begin_statement i ≡ Ok y → Begun i y.1
 unfolding count advanced token
-begun_ok i y some h =
+begin_statement_ok i y some h =
     let b = bind_ok (count i) _ y h in
     let c = test_ok (nat_lt (length i.lines) STATEMENTS_MAX) _ _ b.0 b.1 in
     let o = ok_parts (tt, advanced b.0.1) y b.2 in
     let t : y.1.tokens ≡ behind b.0.1.tokens = sym (ap (λ k. k.tokens) o.1) in
     let d : y.1.decls ≡ b.0.1.decls = sym (ap (λ k. k.decls) o.1) in
     let l : y.1.lines ≡ b.0.1.lines = sym (ap (λ k. k.lines) o.1) in
-    begun_spot i y.1 some
+    begin_statement_spot i y.1 some
     (t ∙ sym (ap (λ p. behind p.1.tokens) c.1)) (d ∙ sym (ap (λ p. p.1.decls) c.1)) (l ∙ sym (ap (λ p. p.1.lines) c.1))
 
 -- ---- what follows the first token
@@ -74,7 +74,7 @@ append_none A (x ∷ xs) = ap (λ r. x ∷ r) (append_none A xs)
 flat : (k : Mark) (t : Tree) (used : List Spot) (i j : Input) → Moves used i j → ((s : Spot) → s.token ≡ Is k → WrittenTree i.decls (s ∷ used) t (s.line ∷ [])) → Rest k t i j
 flat k t used i j x w = record { used = used; begun = []; is = x.is; decls = x.decls; lines = x.lines ∙ append_none ℕ i.lines; written = w }
 
-form_rest : (f : Form) (i j : Input) (t : Tree) → formed f i ≡ Ok (t, j) → Rest f.word t i j
+form_rest : (f : Form) (i j : Input) (t : Tree) → behind_word f i ≡ Ok (t, j) → Rest f.word t i j
 form_rest f i j t h =
     let r = fill_ok f.holes (λ c. simple (f.made c)) i j t h in
     subst (λ t. Rest f.word t i j) r.is (flat f.word (simple (f.made r.contents)) (r.used ++ r.end ∷ []) i j r.moves
@@ -87,11 +87,11 @@ record Assigns (slot : Slot) (t : Tree) (i j : Input) : Type 0 where
   pub moves : Moves used i j
   pub written : (s : Spot) → NamedBy i.decls Variable slot s → WrittenTree i.decls (s ∷ used) t (s.line ∷ [])
 
-assigning_ok : (slot : Slot) (i j : Input) (t : Tree) → assigning slot i ≡ Ok (t, j) → Assigns slot t i j
-unfolding assigning
-assigning_ok slot i j t h =
-    let a = bind_ok (outside (place_of_slot slot) slot.size i) _ (t, j) h in
-    let o = outside_ok Variable slot i a.0.1 a.0.0 a.1 in
+assignment_ok : (slot : Slot) (i j : Input) (t : Tree) → assignment slot i ≡ Ok (t, j) → Assigns slot t i j
+unfolding assignment
+assignment_ok slot i j t h =
+    let a = bind_ok (index_outside (place_of_slot slot) slot.size i) _ (t, j) h in
+    let o = index_outside_ok Variable slot i a.0.1 a.0.0 a.1 in
     let r = fill_ok (mark_hole m.Assign ∷ term_hole ∷ []) (λ c. simple (st.Assign (record { into = a.0.0; value = c.0 }))) a.0.1 j t a.2 in
     subst (λ t. Assigns slot t i j) r.is
     (record {
@@ -187,9 +187,9 @@ otherwise_rest : (p : Parser (List Tree)) → IsSoundBlock p → (i a b j : Inpu
 unfolding otherwise after
 otherwise_rest p s i a b j t x y h r f = otherwise_case p s (sees m.Else b) i a b j t x y refl h r f
 
-choosing_rest : (p : Parser (List Tree)) → IsSoundBlock p → (i j : Input) (t : Tree) → choosing p i ≡ Ok (t, j) → Rest m.If t i j
-unfolding choosing
-choosing_rest p s i j t h =
+if_statement_rest : (p : Parser (List Tree)) → IsSoundBlock p → (i j : Input) (t : Tree) → if_statement p i ≡ Ok (t, j) → Rest m.If t i j
+unfolding if_statement
+if_statement_rest p s i j t h =
     let a = bind_ok (expression i) _ (t, j) h in
     let b = bind_ok (p a.0.1) _ (t, j) a.2 in
     let c = bind_ok (otherwise p b.0.1) _ (t, j) b.2 in
@@ -197,9 +197,9 @@ choosing_rest p s i j t h =
     carried (λ t j. Rest m.If t i j) _ _ _ _ o.0 o.1
     (otherwise_rest p s i a.0.1 b.0.1 c.0.1 a.0.0 b.0.0 c.0.0 c.1 (expression_ok i a.0 a.1) (s a.0.1 b.0.1 b.0.0 b.1))
 
-repeating_rest : (p : Parser (List Tree)) → IsSoundBlock p → (i j : Input) (t : Tree) → repeating p i ≡ Ok (t, j) → Rest m.While t i j
-unfolding repeating
-repeating_rest p s i j t h =
+while_statement_rest : (p : Parser (List Tree)) → IsSoundBlock p → (i j : Input) (t : Tree) → while_statement p i ≡ Ok (t, j) → Rest m.While t i j
+unfolding while_statement
+while_statement_rest p s i j t h =
     let a = bind_ok (expression i) _ (t, j) h in
     let b = bind_ok (p a.0.1) _ (t, j) a.2 in
     let o = ok_parts (repeat a.0.0 (block_of b.0.0), b.0.1) (t, j) b.2 in
@@ -217,11 +217,11 @@ all_of k t i x j e b r = record {
   lines = r.lines ∙ ap (λ q. q ++ r.begun) b.lines ∙ append_assoc i.lines (b.spot.line ∷ []) r.begun;
 }
 
-begun_then : (k : Mark) (p : Parser Tree) → ((x j : Input) (t : Tree) → p x ≡ Ok (t, j) → Rest k t x j)
-    → (i j : Input) (t : Tree) → token i ≡ Is k → (begun >> p) i ≡ Ok (t, j) → TreeBetween t i j
-begun_then k p s i j t e h =
-    let b = bind_ok (begun i) _ (t, j) h in
-    all_of k t i b.0.1 j e (begun_ok i b.0 (λ x. absurd (cc)) b.1) (s b.0.1 j t b.2)
+begin_statement_then : (k : Mark) (p : Parser Tree) → ((x j : Input) (t : Tree) → p x ≡ Ok (t, j) → Rest k t x j)
+    → (i j : Input) (t : Tree) → token i ≡ Is k → (begin_statement >> p) i ≡ Ok (t, j) → TreeBetween t i j
+begin_statement_then k p s i j t e h =
+    let b = bind_ok (begin_statement i) _ (t, j) h in
+    all_of k t i b.0.1 j e (begin_statement_ok i b.0 (λ x. absurd (cc)) b.1) (s b.0.1 j t b.2)
 
 -- an assignment, whose first token is the name
 assigned : (slot : Slot) (t : Tree) (i x j : Input) → (b : Begun i x) → NamedBy i.decls Variable slot b.spot → Assigns slot t x j → TreeBetween t i j
@@ -234,18 +234,18 @@ assigned slot t i x j b n r = record {
   lines = r.moves.lines ∙ b.lines;
 }
 
-begun_here : (i x : Input) (y : Unit {0} × Input) → i ≡ x → token i ≢ End → begun x ≡ Ok y → Begun i y.1
-begun_here i x y e some h = begun_ok i y some (rw e h)
+begin_statement_here : (i x : Input) (y : Unit {0} × Input) → i ≡ x → token i ≢ End → begin_statement x ≡ Ok y → Begun i y.1
+begin_statement_here i x y e some h = begin_statement_ok i y some (rw e h)
 
-assignment_takes : (i j : Input) (t : Tree) → token i ≡ Name → (seek Variable >>= λ s. begun >> assigning s) i ≡ Ok (t, j) → TreeBetween t i j
+assignment_takes : (i j : Input) (t : Tree) → token i ≡ Name → (seek Variable >>= λ s. begin_statement >> assignment s) i ≡ Ok (t, j) → TreeBetween t i j
 assignment_takes i j t e h =
     let a = bind_ok (seek Variable i) _ (t, j) h in
     let k = seek_ok Variable i a.0 a.1 in
-    let c = bind_ok (begun a.0.1) _ (t, j) a.2 in
-    let b = begun_here i a.0.1 c.0 k.2 (λ x. absurd (cc)) c.1 in
+    let c = bind_ok (begin_statement a.0.1) _ (t, j) a.2 in
+    let b = begin_statement_here i a.0.1 c.0 k.2 (λ x. absurd (cc)) c.1 in
     let named : NamedBy i.decls Variable a.0.0 b.spot =
-    λ sized is. record { token = b.token ∙ e; slot = a.0.0; declared = ap (slot_in i.decls) b.text ∙ k.0; kind = k.1; size = is; place = refl } in
-    assigned a.0.0 t i c.0.1 j b named (assigning_ok a.0.0 c.0.1 j t c.2)
+    λ is_array is. record { token = b.token ∙ e; slot = a.0.0; declared = ap (slot_in i.decls) b.text ∙ k.0; kind = k.1; size = is; place = refl } in
+    assigned a.0.0 t i c.0.1 j b named (assignment_ok a.0.0 c.0.1 j t c.2)
 
 -- a statement of a later version is never read
 not_in_version : (i : Input) (y : Tree × Input) → and_then (count i) (λ x. fail {A = Tree} NotInVersion) ≡ Ok y → ⊥
@@ -258,12 +258,12 @@ form_word k f h = cc
 
 form_case : (k : Mark) (o : Option Form) (i j : Input) (t : Tree) → token i ≡ Is k → form_of k ≡ o → by_form o i ≡ Ok (t, j) → TreeBetween t i j
 form_case k None i j t e o h = absurd (cc)
-form_case k (Some f) i j t e o h = begun_then f.word (formed f) (form_rest f) i j t (e ∙ ap Is (sym (form_word k f o))) h
+form_case k (Some f) i j t e o h = begin_statement_then f.word (behind_word f) (form_rest f) i j t (e ∙ ap Is (sym (form_word k f o))) h
 
 stmt_case : (p : Parser (List Tree)) → IsSoundBlock p → (tk : Token) (i j : Input) (t : Tree) → token i ≡ tk → stmt_by p tk i ≡ Ok (t, j) → TreeBetween t i j
 stmt_case p s Name i j t e h = assignment_takes i j t e h
-stmt_case p s (Is m.If) i j t e h = begun_then m.If (choosing p) (choosing_rest p s) i j t e h
-stmt_case p s (Is m.While) i j t e h = begun_then m.While (repeating p) (repeating_rest p s) i j t e h
+stmt_case p s (Is m.If) i j t e h = begin_statement_then m.If (if_statement p) (if_statement_rest p s) i j t e h
+stmt_case p s (Is m.While) i j t e h = begin_statement_then m.While (while_statement p) (while_statement_rest p s) i j t e h
 stmt_case p s (Is m.Waitany) i j t e h = absurd (not_in_version i (t, j) h)
 stmt_case p s (Is k) i j t e h = form_case k (form_of k) i j t e refl h
 stmt_case p s _ i j t e h = absurd (cc)

@@ -2,7 +2,7 @@
 //! calls (docs/DEFINITIONS.md).
 #![tactic(auto)]
 
+pub mod canonical;
 pub mod ordering;
-pub mod printing;
 pub mod reading;
 pub mod round_trip;

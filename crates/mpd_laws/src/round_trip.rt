@@ -2,7 +2,7 @@
 
 ghost use Rattle.mpd_model.specs.Printable as printable;
 
-use crate::printing;
+use crate::canonical;
 use crate::reading::{scripts_are_written, written_scripts_are_read};
 
 /// What is read can be printed and read again: its names, places, numbers, brackets and blocks are as the grammar and the limits allow.
@@ -10,7 +10,7 @@ pub fn read_scripts_are_printable()
     ensures { printable.ReadScriptsArePrintable }
 {
     scripts_are_written();
-    printing::read_scripts_are_printable();
+    canonical::read_scripts_are_printable();
 }
 
 /// The canonical text of what can be printed is read as that, in every field but the lines, where it isn't too long.
@@ -18,5 +18,5 @@ pub fn canonical_is_read_again()
     ensures { printable.CanonicalIsReadAgain }
 {
     written_scripts_are_read();
-    printing::canonical_is_read_again();
+    canonical::canonical_is_read_again();
 }

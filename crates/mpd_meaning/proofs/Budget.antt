@@ -13,7 +13,7 @@ use Rattle.mpd_model.specs.declared.token.Mark.TheVariants as m
 use Rattle.mpd_model.specs.declared.token.Token.{Token}
 use Rattle.mpd_model.specs.declared.token.Token.TheVariants.{Number, Name, Is}
 use Rattle.mpd_model.specs.Costs.{counted, price, cost}
-use Rattle.mpd_model.specs.Grammar.{atom_by, atom, bracket, indexed, place_inside, place_of_slot, rounds, signed, chain, continued, level, expr, expression, turns, operator, operator_at}
+use Rattle.mpd_model.specs.Grammar.{atom_by, atom, bracket, index_inside, place_inside, place_of_slot, rounds, unary, chain, chain_by, level, expr, expression, turns, operator, operator_at}
 use Rattle.mpd_model.specs.Input.{Input, Parser, token, token_of, advanced, behind, spend, expect, sees, seek, refuse, max_budget}
 use Rattle.mpd_model.specs.Term.{Term, lit, own_rank, size, cell, element, op1, op2}
 use Rattle.mpd_model.specs.Tokens.{Spot}
@@ -104,9 +104,9 @@ bracket_paid : (i : Input) (y : Unit {0} × Input) → bracket i ≡ Ok y → Pa
 unfolding bracket
 bracket_paid i y h = bracket_case (sees m.SquareOpen i) i y h
 
-indexed_paid : (p : ℕ → Parser Term) → ArePaid p → (at : Place) (cells : Option ℕ) → IsPaid (indexed p at cells)
-indexed_paid p s at None i y h = ends_in i i (cell at) y h (no_pay i i refl)
-indexed_paid p s at (Some cells) i y h =
+index_inside_paid : (p : ℕ → Parser Term) → ArePaid p → (at : Place) (cells : Option ℕ) → IsPaid (index_inside p at cells)
+index_inside_paid p s at None i y h = ends_in i i (cell at) y h (no_pay i i refl)
+index_inside_paid p s at (Some cells) i y h =
     let a = bind_ok (bracket i) _ y h in
     let b = bind_ok (p 5 a.0.1) _ y a.2 in
     let c = bind_ok (expect m.SquareClose b.0.1) _ y b.2 in
@@ -118,12 +118,12 @@ name_paid p s i y e h =
     let b = bind_ok (seek Variable i) _ y h in
     let k = seek_ok Variable i b.0 b.1 in
     let first : Pays i (advanced b.0.1) = next_pays i (advanced b.0.1) Name e refl (ap advanced (sym k.2)) in
-    let rest = indexed_paid p s (place_of_slot b.0.0) b.0.0.size (advanced b.0.1) y b.2 in
+    let rest = index_inside_paid p s (place_of_slot b.0.0) b.0.0.size (advanced b.0.1) y b.2 in
     omega (arith, first, rest)
 
-signed_paid : (p : ℕ → Parser Term) → ArePaid p → (op : UnaryOp) → IsPaid (signed p op)
-unfolding signed
-signed_paid p s op i y h =
+unary_paid : (p : ℕ → Parser Term) → ArePaid p → (op : UnaryOp) → IsPaid (unary p op)
+unfolding unary
+unary_paid p s op i y h =
     let b = bind_ok (spend i) _ y h in
     let c = bind_ok (p 0 b.0.1) _ y b.2 in
     ends_in i c.0.1 (op1 op c.0.0) y c.2 (omega (arith, spend_pays i b.0 b.1, s 0 b.0.1 c.0 c.1))
@@ -134,18 +134,18 @@ atom_case p s (Is m.Rank) i y e h = ends_in i (advanced i) own_rank y h (next_pa
 atom_case p s (Is m.Size) i y e h = ends_in i (advanced i) size y h (next_pays i (advanced i) (Is m.Size) e refl refl)
 atom_case p s Name i y e h = name_paid p s i y e h
 atom_case p s (Is m.RoundOpen) i y e h = rounds_paid p s i y h
-atom_case p s (Is m.Minus) i y e h = signed_paid p s u.Negate i y h
-atom_case p s (Is m.Not) i y e h = signed_paid p s u.Not i y h
+atom_case p s (Is m.Minus) i y e h = unary_paid p s u.Negate i y h
+atom_case p s (Is m.Not) i y e h = unary_paid p s u.Not i y h
 atom_case p s _ i y e h = absurd (cc)
 
 atom_paid : (p : ℕ → Parser Term) → ArePaid p → IsPaid (atom p)
 unfolding atom
 atom_paid p s i y h = atom_case p s (token i) i y refl h
 
-continued_paid : (k n : ℕ) (p : Parser Term) → IsPaid p → (left : Term) (o : Option BinaryOp) (i : Input) (y : Term × Input)
-    → ((l : Term) (x : Input) → chain p k n l x ≡ Ok y → Pays x y.1) → continued (chain p k n) p left o i ≡ Ok y → Pays i y.1
-continued_paid k n p s left None i y more h = ends_in i i left y h (no_pay i i refl)
-continued_paid k n p s left (Some op) i y more h =
+chain_by_paid : (k n : ℕ) (p : Parser Term) → IsPaid p → (left : Term) (o : Option BinaryOp) (i : Input) (y : Term × Input)
+    → ((l : Term) (x : Input) → chain p k n l x ≡ Ok y → Pays x y.1) → chain_by (chain p k n) p left o i ≡ Ok y → Pays i y.1
+chain_by_paid k n p s left None i y more h = ends_in i i left y h (no_pay i i refl)
+chain_by_paid k n p s left (Some op) i y more h =
     let c = bind_ok (spend i) _ y h in
     let d = bind_ok (p c.0.1) _ y c.2 in
     omega (arith, spend_pays i c.0 c.1, s c.0.1 d.0 d.1, more (op2 op left d.0.0) d.0.1 d.2)
@@ -153,7 +153,7 @@ continued_paid k n p s left (Some op) i y more h =
 chain_paid : (k : ℕ) (p : Parser Term) → IsPaid p → (n : ℕ) (left : Term) → IsPaid (chain p k n left)
 unfolding chain
 chain_paid k p s zero left i y h = ends_in i i left y h (no_pay i i refl)
-chain_paid k p s (suc n) left i y h = continued_paid k n p s left (operator_at k (token i)) i y (λ l x e. chain_paid k p s n l x y e) h
+chain_paid k p s (suc n) left i y h = chain_by_paid k n p s left (operator_at k (token i)) i y (λ l x e. chain_paid k p s n l x y e) h
 
 level_paid : (p : ℕ → Parser Term) → ArePaid p → ArePaid (level p)
 unfolding level

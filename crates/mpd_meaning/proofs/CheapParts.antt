@@ -9,7 +9,7 @@ use Rattle.mpd_model.specs.declared.token.Mark.TheVariants as m
 use Rattle.mpd_model.specs.declared.token.Token.{Token}
 use Rattle.mpd_model.specs.declared.token.Token.TheVariants.{Name, Is}
 use Rattle.mpd_model.specs.Declaration.{Declared}
-use Rattle.mpd_model.specs.Grammar.{expression, place_of_slot, outside, target, named_by, named, source_by, source, status_by, status, fill}
+use Rattle.mpd_model.specs.Grammar.{expression, place_of_slot, index_outside, target, statement_place_by, statement_place, source_by, source, status_by, status, fill}
 use Rattle.mpd_model.specs.Input.{Input, token, advanced, expect, seek, sees, max_budget, after}
 use Rattle.mpd_model.specs.Parts.{Part, of_mark, of_term, of_target, Hole, mark_hole, term_hole, target_hole, source_hole, status_hole, source_part, status_parts, Contents, filled}
 use Rattle.mpd_model.specs.Term.{Term, Target}
@@ -57,15 +57,15 @@ part_of slot t = record { place = place_of_slot slot; index = Some t }
 
 -- of an array, by its size
 abbrev Sized : DeclKind → Slot → Option ℕ → List Declared → Spot → Type 0
-Sized kind slot cells ds s = (sized : Bool) → is_some cells ≡ sized → Names ds kind s sized (place_of_slot slot)
+Sized kind slot cells ds s = (is_array : Bool) → is_some cells ≡ is_array → Names ds kind s is_array (place_of_slot slot)
 
-outside_case : (sound : ExpressionsAreWritten) → (kind : DeclKind) (slot : Slot) (cells : Option ℕ) → ((ds : List Declared) (s : Spot) → NamedBy ds kind slot s → Sized kind slot cells ds s)
-    → (i j : Input) (t : Target) → outside (place_of_slot slot) cells i ≡ Ok (t, j) → Outside kind slot t i j
-outside_case sound kind slot None n i j t h =
+index_outside_case : (sound : ExpressionsAreWritten) → (kind : DeclKind) (slot : Slot) (cells : Option ℕ) → ((ds : List Declared) (s : Spot) → NamedBy ds kind slot s → Sized kind slot cells ds s)
+    → (i j : Input) (t : Target) → index_outside (place_of_slot slot) cells i ≡ Ok (t, j) → Outside kind slot t i j
+index_outside_case sound kind slot None n i j t h =
     let o = ok_parts (whole_of slot, i) (t, j) h in
     carried (λ t j. Outside kind slot t i j) _ _ _ _ o.0 o.1
     (record { used = []; moves = no_move i i refl; written = λ s named. whole s (place_of_slot slot) (n i.decls s named false refl) })
-outside_case sound kind slot (Some cells) n i j t h =
+index_outside_case sound kind slot (Some cells) n i j t h =
     let a = bind_ok (expect m.SquareOpen i) _ (t, j) h in
     let b = bind_ok (expression a.0.1) _ (t, j) a.2 in
     let c = bind_ok (expect m.SquareClose b.0.1) _ (t, j) b.2 in
@@ -80,8 +80,8 @@ outside_case sound kind slot (Some cells) n i j t h =
       written = λ s named. part s x.0.spot y.0.spot e.used (place_of_slot slot) b.0.0 (n i.decls s named true refl) x.1 (here b.0.0 i a.0.1 b.0.1 x.0.moves.decls e) y.1;
     })
 
-pub outside_ok : (sound : ExpressionsAreWritten) → (kind : DeclKind) (slot : Slot) (i j : Input) (t : Target) → outside (place_of_slot slot) slot.size i ≡ Ok (t, j) → Outside kind slot t i j
-outside_ok sound kind slot i j t h = outside_case sound kind slot slot.size (λ ds s n. n) i j t h
+pub index_outside_ok : (sound : ExpressionsAreWritten) → (kind : DeclKind) (slot : Slot) (i j : Input) (t : Target) → index_outside (place_of_slot slot) slot.size i ≡ Ok (t, j) → Outside kind slot t i j
+index_outside_ok sound kind slot i j t h = index_outside_case sound kind slot slot.size (λ ds s n. n) i j t h
 
 target_is : (kind : DeclKind) (slot : Slot) (t : Target) (i x j : Input) → (s : Step i x) → NamedBy i.decls kind slot s.spot → Outside kind slot t x j → TargetBetween kind t i j
 target_is kind slot t i x j s n o = record {
@@ -95,15 +95,15 @@ unfolding target
 target_ok sound kind i y e h =
     let b = bind_ok (seek kind i) _ y h in
     let v = name_step kind i b.0 e b.1 in
-    target_is kind b.0.0 y.0 i (advanced b.0.1) y.1 v.0 v.1 (outside_ok sound kind b.0.0 (advanced b.0.1) y.1 y.0 b.2)
+    target_is kind b.0.0 y.0 i (advanced b.0.1) y.1 v.0 v.1 (index_outside_ok sound kind b.0.0 (advanced b.0.1) y.1 y.0 b.2)
 
-named_case : (sound : ExpressionsAreWritten) → (kind : DeclKind) (tk : Token) (i : Input) (y : Target × Input) → token i ≡ tk → named_by kind tk i ≡ Ok y → TargetBetween kind y.0 i y.1
-named_case sound kind Name i y e h = target_ok sound kind i y e h
-named_case sound kind _ i y e h = absurd (cc)
+statement_place_case : (sound : ExpressionsAreWritten) → (kind : DeclKind) (tk : Token) (i : Input) (y : Target × Input) → token i ≡ tk → statement_place_by kind tk i ≡ Ok y → TargetBetween kind y.0 i y.1
+statement_place_case sound kind Name i y e h = target_ok sound kind i y e h
+statement_place_case sound kind _ i y e h = absurd (cc)
 
-named_ok : (sound : ExpressionsAreWritten) → (kind : DeclKind) (i : Input) (y : Target × Input) → named kind i ≡ Ok y → TargetBetween kind y.0 i y.1
-unfolding named
-named_ok sound kind i y h = named_case sound kind (token i) i y refl h
+statement_place_ok : (sound : ExpressionsAreWritten) → (kind : DeclKind) (i : Input) (y : Target × Input) → statement_place kind i ≡ Ok y → TargetBetween kind y.0 i y.1
+unfolding statement_place
+statement_place_ok sound kind i y h = statement_place_case sound kind (token i) i y refl h
 
 -- ---- a source, and a status before other parts
 
@@ -155,11 +155,11 @@ status_case : (sound : ExpressionsAreWritten) → (found : Bool) (i : Input) (y 
 status_case sound true i y e h =
     let is = sees_is m.Status i e in
     let s = next_step i (advanced i) (λ x. absurd (cc)) refl in
-    let b = bind_ok (named Variable (advanced i)) _ y h in
-    let c = bind_ok (named Variable b.0.1) _ y b.2 in
+    let b = bind_ok (statement_place Variable (advanced i)) _ y h in
+    let c = bind_ok (statement_place Variable b.0.1) _ y b.2 in
     let o = ok_parts (Some (status_of b.0.0 c.0.0), c.0.1) y c.2 in
     carried (λ o j. StatusBetween o i j) _ _ _ _ o.0 o.1
-    (status_before b.0.0 c.0.0 i (advanced i) b.0.1 c.0.1 s (s.token ∙ is) (named_ok sound Variable (advanced i) b.0 b.1) (named_ok sound Variable b.0.1 c.0 c.1))
+    (status_before b.0.0 c.0.0 i (advanced i) b.0.1 c.0.1 s (s.token ∙ is) (statement_place_ok sound Variable (advanced i) b.0 b.1) (statement_place_ok sound Variable b.0.1 c.0 c.1))
 status_case sound false i y e h =
     let o = ok_parts (None, i) y h in
     carried (λ o j. StatusBetween o i j) _ _ _ _ o.0 o.1 (record { used = []; moves = no_move i i refl; written = λ ps rs w. w })
@@ -224,8 +224,8 @@ fill_ok sound (term_hole ∷ hs) made i j a h =
       closed = r.closed;
     }
 fill_ok sound (target_hole kind ∷ hs) made i j a h =
-    let b = bind_ok (named kind i) _ (a, j) h in
-    let e = named_ok sound kind i b.0 b.1 in
+    let b = bind_ok (statement_place kind i) _ (a, j) h in
+    let e = statement_place_ok sound kind i b.0 b.1 in
     let r = fill_ok sound hs (λ c. made (b.0.0, c)) b.0.1 j a b.2 in
     record {
       contents = (b.0.0, r.contents);

@@ -11,7 +11,7 @@ use Rattle.mpd_model.specs.declared.token.Token.{Token}
 use Rattle.mpd_model.specs.declared.token.Token.TheVariants.{Number, Name}
 use Rattle.mpd_model.specs.Declaration.{Declared, variables_in, handles_in, variable_cells, handle_cells}
 use Rattle.mpd_model.specs.Faults.{fault}
-use Rattle.mpd_model.specs.Grammar.{version_by, version, rank_count, ranks_of, ranks_by, ranks, natural, sized_at, size_by, sized, single, declaring, decl_by, decl, declares, decls_by, decls_from, decls, header}
+use Rattle.mpd_model.specs.Grammar.{version_by, version, rank_count, ranks_of, ranks_by, ranks, natural, array_size_at, array_size_by, array_size, single, declarator, decl_by, decl, declares, decls_by, decls_from, decls, header}
 use Rattle.mpd_model.specs.Input.{Input, Parser, token, spelling, place, advanced, expect, sees, fresh, add, cells_fit, after, advance, fail}
 use Rattle.mpd_laws.proofs.Cells.{variables_in-more, handles_in-more}
 use Rattle.mpd_meaning.proofs.Listed.{both_of}
@@ -77,33 +77,33 @@ single_fits kind name at i y h =
     let a = bind_ok (add kind name None at i) _ y h in
     expect_keeps m.Semicolon a.0.1 y a.2 (add_fits kind name None at i a.0 a.1)
 
-sized_at_fits : (kind : DeclKind) (name : List ℕ) (o : Option ℕ) (i : Input) (y : Unit {0} × Input) → sized_at kind name o i ≡ Ok y → Fits y.1.decls
-sized_at_fits kind name None i y h = absurd (cc)
-sized_at_fits kind name (Some n) i y h =
+array_size_at_fits : (kind : DeclKind) (name : List ℕ) (o : Option ℕ) (i : Input) (y : Unit {0} × Input) → array_size_at kind name o i ≡ Ok y → Fits y.1.decls
+array_size_at_fits kind name None i y h = absurd (cc)
+array_size_at_fits kind name (Some n) i y h =
     let a = bind_ok (add kind name (Some n) (place i) i) _ y h in
     let b = bind_ok (expect m.SquareClose (advanced a.0.1)) _ y a.2 in
     expect_keeps m.Semicolon b.0.1 y b.2 (expect_keeps m.SquareClose (advanced a.0.1) b.0 b.1 (kept a.0.1 (advanced a.0.1) refl (add_fits kind name (Some n) (place i) i a.0 a.1)))
 
-size_case : (kind : DeclKind) (name : List ℕ) (tk : Token) (i : Input) (y : Unit {0} × Input) → size_by kind name tk i ≡ Ok y → Fits y.1.decls
-size_case kind name (Number z) i y h = sized_at_fits kind name (natural z) i y h
+size_case : (kind : DeclKind) (name : List ℕ) (tk : Token) (i : Input) (y : Unit {0} × Input) → array_size_by kind name tk i ≡ Ok y → Fits y.1.decls
+size_case kind name (Number z) i y h = array_size_at_fits kind name (natural z) i y h
 size_case kind name _ i y h = absurd (cc)
 
-sized_fits : (kind : DeclKind) (name : List ℕ) (i : Input) (y : Unit {0} × Input) → sized kind name i ≡ Ok y → Fits y.1.decls
-unfolding sized
-sized_fits kind name i y h = size_case kind name (token i) i y h
+array_size_fits : (kind : DeclKind) (name : List ℕ) (i : Input) (y : Unit {0} × Input) → array_size kind name i ≡ Ok y → Fits y.1.decls
+unfolding array_size
+array_size_fits kind name i y h = size_case kind name (token i) i y h
 
-declaring_case : (kind : DeclKind) (name : List ℕ) (found : Bool) (i : Input) (at : ℕ) (y : Unit {0} × Input) → cond found (sized kind name) (single kind name at) i ≡ Ok y → Fits y.1.decls
-declaring_case kind name true i at y h = sized_fits kind name i y h
-declaring_case kind name false i at y h = single_fits kind name at i y h
+declarator_case : (kind : DeclKind) (name : List ℕ) (found : Bool) (i : Input) (at : ℕ) (y : Unit {0} × Input) → cond found (array_size kind name) (single kind name at) i ≡ Ok y → Fits y.1.decls
+declarator_case kind name true i at y h = array_size_fits kind name i y h
+declarator_case kind name false i at y h = single_fits kind name at i y h
 
-declaring_fits : (kind : DeclKind) (i : Input) (y : Unit {0} × Input) → declaring kind i ≡ Ok y → Fits y.1.decls
-unfolding declaring
-declaring_fits kind i y h =
+declarator_fits : (kind : DeclKind) (i : Input) (y : Unit {0} × Input) → declarator kind i ≡ Ok y → Fits y.1.decls
+unfolding declarator
+declarator_fits kind i y h =
     let a = bind_ok (fresh i) _ y h in
-    declaring_case kind (spelling i) (sees m.SquareOpen (advanced a.0.1)) (after m.SquareOpen (advanced a.0.1)) (place i) y a.2
+    declarator_case kind (spelling i) (sees m.SquareOpen (advanced a.0.1)) (after m.SquareOpen (advanced a.0.1)) (place i) y a.2
 
 decl_case : (kind : DeclKind) (tk : Token) (i : Input) (y : Unit {0} × Input) → decl_by kind tk i ≡ Ok y → Fits y.1.decls
-decl_case kind Name i y h = declaring_fits kind i y h
+decl_case kind Name i y h = declarator_fits kind i y h
 decl_case kind _ i y h = absurd (cc)
 
 decl_fits : (kind : DeclKind) (i : Input) (y : Unit {0} × Input) → decl kind i ≡ Ok y → Fits y.1.decls

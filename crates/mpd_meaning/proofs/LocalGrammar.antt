@@ -15,7 +15,7 @@ use Rattle.mpd_model.specs.declared.token.Mark.TheVariants as m
 use Rattle.mpd_model.specs.declared.token.Token.{Token}
 use Rattle.mpd_model.specs.declared.token.Token.TheVariants.{Number, Name, Is}
 use Rattle.mpd_model.specs.Declaration.{Declared}
-use Rattle.mpd_model.specs.Grammar.{operator_at, turns, continued, chain, place_of_slot, bracket, indexed, place_inside, rounds, signed, atom_by, atom, level, expr, expression, begun, closes, outside, target, named_by, named, source_by, source, status_by, status, fill, Form, form_of, formed, by_form, assigning, otherwise, choosing, repeating, stmt_by, stmt, stmts, body, block, max_blocks, version_by, version, rank_count, ranks_of, ranks_by, ranks, natural, sized_at, size_by, sized, single, declaring, decl_by, decl, declares, decls_by, decls_from, decls, header, with_body}
+use Rattle.mpd_model.specs.Grammar.{operator_at, turns, chain_by, chain, place_of_slot, bracket, index_inside, place_inside, rounds, unary, atom_by, atom, level, expr, expression, begin_statement, closes, index_outside, target, statement_place_by, statement_place, source_by, source, status_by, status, fill, Form, form_of, behind_word, by_form, assignment, otherwise, if_statement, while_statement, stmt_by, stmt, stmts, body, block, max_blocks, version_by, version, rank_count, ranks_of, ranks_by, ranks, natural, array_size_at, array_size_by, array_size, single, declarator, decl_by, decl, declares, decls_by, decls_from, decls, header, with_body}
 use Rattle.mpd_model.specs.Grammar as grammar
 use Rattle.mpd_model.specs.Input.{Input, Outcome, Parser, and_then, token, spelling, place, advanced, pure, fail, refuse, peek, advance, is_mark, sees, after, eat, expect, begin, spend, count, seek, slot_in, is_known, fresh, add, ◌>>=◌, ◌>>◌}
 use Rattle.mpd_model.specs.Parts.{Hole, mark_hole, term_hole, target_hole, source_hole, status_hole, Contents}
@@ -34,14 +34,14 @@ module _ (late : ℕ) where
 
   -- ---- expressions
 
-  continued_local : (more : Term → Parser Term) (operand : Parser Term) → ((t : Term) → Loc (more t)) → Loc operand → (left : Term) (o : Option BinaryOp) → Loc (continued more operand left o)
-  continued_local more operand h k left None = pure_local late left
-  continued_local more operand h k left (Some op) = then_ spend _ (spend_local late) (λ x. then_ operand _ k (λ right. h (op2 op left right)))
+  chain_by_local : (more : Term → Parser Term) (operand : Parser Term) → ((t : Term) → Loc (more t)) → Loc operand → (left : Term) (o : Option BinaryOp) → Loc (chain_by more operand left o)
+  chain_by_local more operand h k left None = pure_local late left
+  chain_by_local more operand h k left (Some op) = then_ spend _ (spend_local late) (λ x. then_ operand _ k (λ right. h (op2 op left right)))
 
   chain_local : (operand : Parser Term) → Loc operand → (k n : ℕ) (left : Term) → Loc (chain operand k n left)
   unfolding chain
   chain_local operand h k zero left = pure_local late left
-  chain_local operand h k (suc n) left = then_ peek _ (peek_local late) (λ t. continued_local (chain operand k n) operand (λ l. chain_local operand h k n l) h left (operator_at k t))
+  chain_local operand h k (suc n) left = then_ peek _ (peek_local late) (λ t. chain_by_local (chain operand k n) operand (λ l. chain_local operand h k n l) h left (operator_at k t))
 
   bracket_local : Loc bracket
   unfolding bracket
@@ -50,21 +50,21 @@ module _ (late : ℕ) where
   abbrev AllLocal : (ℕ → Parser Term) → Type 0
   AllLocal p = (k : ℕ) → Loc (p k)
 
-  indexed_local : (p : ℕ → Parser Term) → AllLocal p → (at : Place) (cells : Option ℕ) → Loc (indexed p at cells)
-  indexed_local p h at None = pure_local late (cell at)
-  indexed_local p h at (Some n) = then_ bracket _ bracket_local (λ x. then_ (p 5) _ (h 5) (λ e. then_ (expect m.SquareClose) _ (expect_local late m.SquareClose) (λ y. pure_local late (element at e))))
+  index_inside_local : (p : ℕ → Parser Term) → AllLocal p → (at : Place) (cells : Option ℕ) → Loc (index_inside p at cells)
+  index_inside_local p h at None = pure_local late (cell at)
+  index_inside_local p h at (Some n) = then_ bracket _ bracket_local (λ x. then_ (p 5) _ (h 5) (λ e. then_ (expect m.SquareClose) _ (expect_local late m.SquareClose) (λ y. pure_local late (element at e))))
 
   place_local : (p : ℕ → Parser Term) → AllLocal p → Loc (place_inside p)
   unfolding place_inside
-  place_local p h = then_ (seek Variable) _ (seek_local late Variable) (λ s. then_ advance _ (advance_local late) (λ x. indexed_local p h (place_of_slot s) s.size))
+  place_local p h = then_ (seek Variable) _ (seek_local late Variable) (λ s. then_ advance _ (advance_local late) (λ x. index_inside_local p h (place_of_slot s) s.size))
 
   rounds_local : (p : ℕ → Parser Term) → AllLocal p → Loc (rounds p)
   unfolding rounds
   rounds_local p h = then_ spend _ (spend_local late) (λ x. then_ (p 5) _ (h 5) (λ e. then_ (expect m.RoundClose) _ (expect_local late m.RoundClose) (λ y. pure_local late e)))
 
-  signed_local : (p : ℕ → Parser Term) → AllLocal p → (op : UnaryOp) → Loc (signed p op)
-  unfolding signed
-  signed_local p h op = then_ spend _ (spend_local late) (λ x. then_ (p 0) _ (h 0) (λ e. pure_local late (op1 op e)))
+  unary_local : (p : ℕ → Parser Term) → AllLocal p → (op : UnaryOp) → Loc (unary p op)
+  unfolding unary
+  unary_local p h op = then_ spend _ (spend_local late) (λ x. then_ (p 0) _ (h 0) (λ e. pure_local late (op1 op e)))
 
   read_one : (t : Term) → Loc (advance >> pure t)
   read_one t = then_ advance _ (advance_local late) (λ x. pure_local late t)
@@ -75,8 +75,8 @@ module _ (late : ℕ) where
   atom_case p h (Is m.Size) = read_one size
   atom_case p h Name = place_local p h
   atom_case p h (Is m.RoundOpen) = rounds_local p h
-  atom_case p h (Is m.Minus) = signed_local p h u.Negate
-  atom_case p h (Is m.Not) = signed_local p h u.Not
+  atom_case p h (Is m.Minus) = unary_local p h u.Negate
+  atom_case p h (Is m.Not) = unary_local p h u.Not
   atom_case p h _ = refuse_local late
 
   atom_local : (p : ℕ → Parser Term) → AllLocal p → Loc (atom p)
@@ -100,25 +100,25 @@ module _ (late : ℕ) where
 
   -- ---- statements that hold no other
 
-  begun_local : Loc begun
-  begun_local = then_ count _ (count_local late) (λ x. advance_local late)
+  begin_statement_local : Loc begin_statement
+  begin_statement_local = then_ count _ (count_local late) (λ x. advance_local late)
 
-  outside_local : (p : Place) (o : Option ℕ) → Loc (outside p o)
-  outside_local p None = pure_local late _
-  outside_local p (Some n) =
+  index_outside_local : (p : Place) (o : Option ℕ) → Loc (index_outside p o)
+  index_outside_local p None = pure_local late _
+  index_outside_local p (Some n) =
       then_ (expect m.SquareOpen) _ (expect_local late m.SquareOpen) (λ x. then_ expression _ expression_local (λ e. then_ (expect m.SquareClose) _ (expect_local late m.SquareClose) (λ y. pure_local late _)))
 
   target_local : (kind : DeclKind) → Loc (target kind)
   unfolding target
-  target_local kind = then_ (seek kind) _ (seek_local late kind) (λ s. then_ advance _ (advance_local late) (λ x. outside_local (place_of_slot s) s.size))
+  target_local kind = then_ (seek kind) _ (seek_local late kind) (λ s. then_ advance _ (advance_local late) (λ x. index_outside_local (place_of_slot s) s.size))
 
-  named_case : (kind : DeclKind) (t : Token) → Loc (named_by kind t)
-  named_case kind Name = target_local kind
-  named_case kind _ = refuse_local late
+  statement_place_case : (kind : DeclKind) (t : Token) → Loc (statement_place_by kind t)
+  statement_place_case kind Name = target_local kind
+  statement_place_case kind _ = refuse_local late
 
-  named_local : (kind : DeclKind) → Loc (named kind)
-  unfolding named
-  named_local kind = then_ peek _ (peek_local late) (named_case kind)
+  statement_place_local : (kind : DeclKind) → Loc (statement_place kind)
+  unfolding statement_place
+  statement_place_local kind = then_ peek _ (peek_local late) (statement_place_case kind)
 
   source_case : (c : Bool) → Loc (source_by c)
   source_case true = pure_local late None
@@ -129,7 +129,7 @@ module _ (late : ℕ) where
   source_local = then_ (eat m.Any) _ (eat_local late m.Any) source_case
 
   status_case : (c : Bool) → Loc (status_by c)
-  status_case true = then_ (named Variable) _ (named_local Variable) (λ a. then_ (named Variable) _ (named_local Variable) (λ b. pure_local late _))
+  status_case true = then_ (statement_place Variable) _ (statement_place_local Variable) (λ a. then_ (statement_place Variable) _ (statement_place_local Variable) (λ b. pure_local late _))
   status_case false = pure_local late None
 
   status_local : Loc status
@@ -140,18 +140,18 @@ module _ (late : ℕ) where
   fill_local [] made = then_ (expect m.Semicolon) _ (expect_local late m.Semicolon) (λ x. pure_local late (made tt))
   fill_local (mark_hole k ∷ hs) made = then_ (expect k) _ (expect_local late k) (λ x. fill_local hs made)
   fill_local (term_hole ∷ hs) made = then_ expression _ expression_local (λ e. fill_local hs (λ c. made (e, c)))
-  fill_local (target_hole kind ∷ hs) made = then_ (named kind) _ (named_local kind) (λ t. fill_local hs (λ c. made (t, c)))
+  fill_local (target_hole kind ∷ hs) made = then_ (statement_place kind) _ (statement_place_local kind) (λ t. fill_local hs (λ c. made (t, c)))
   fill_local (source_hole ∷ hs) made = then_ source _ source_local (λ o. fill_local hs (λ c. made (o, c)))
   fill_local (status_hole ∷ hs) made = then_ status _ status_local (λ o. fill_local hs (λ c. made (o, c)))
 
   form_case : (o : Option Form) → Loc (by_form o)
   form_case None = refuse_local late
-  form_case (Some f) = then_ begun _ begun_local (λ x. fill_local f.holes (λ c. simple (f.made c)))
+  form_case (Some f) = then_ begin_statement _ begin_statement_local (λ x. fill_local f.holes (λ c. simple (f.made c)))
 
-  assigning_local : (s : Slot) → Loc (assigning s)
-  unfolding assigning
-  assigning_local s =
-      then_ (outside (place_of_slot s) s.size) _ (outside_local (place_of_slot s) s.size)
+  assignment_local : (s : Slot) → Loc (assignment s)
+  unfolding assignment
+  assignment_local s =
+      then_ (index_outside (place_of_slot s) s.size) _ (index_outside_local (place_of_slot s) s.size)
       (λ t. fill_local (mark_hole m.Assign ∷ term_hole ∷ []) (λ c. simple (st.Assign (record { into = t; value = c.0 }))))
 
   -- ---- any statement
@@ -160,19 +160,19 @@ module _ (late : ℕ) where
   unfolding otherwise
   otherwise_local p h = then_ (eat m.Else) _ (eat_local late m.Else) (λ c. if_local late c p (pure []) h (pure_local late []))
 
-  choosing_local : (p : Parser (List Tree)) → Loc p → Loc (choosing p)
-  unfolding choosing
-  choosing_local p h =
+  if_statement_local : (p : Parser (List Tree)) → Loc p → Loc (if_statement p)
+  unfolding if_statement
+  if_statement_local p h =
       then_ expression _ expression_local (λ t. then_ p _ h (λ a. then_ (otherwise p) _ (otherwise_local p h) (λ b. pure_local late (branch t (block_of a) (block_of b)))))
 
-  repeating_local : (p : Parser (List Tree)) → Loc p → Loc (repeating p)
-  unfolding repeating
-  repeating_local p h = then_ expression _ expression_local (λ t. then_ p _ h (λ a. pure_local late (repeat t (block_of a))))
+  while_statement_local : (p : Parser (List Tree)) → Loc p → Loc (while_statement p)
+  unfolding while_statement
+  while_statement_local p h = then_ expression _ expression_local (λ t. then_ p _ h (λ a. pure_local late (repeat t (block_of a))))
 
   stmt_case : (p : Parser (List Tree)) → Loc p → (t : Token) → Loc (stmt_by p t)
-  stmt_case p h Name = then_ (seek Variable) _ (seek_local late Variable) (λ s. then_ begun _ begun_local (λ x. assigning_local s))
-  stmt_case p h (Is m.If) = then_ begun _ begun_local (λ x. choosing_local p h)
-  stmt_case p h (Is m.While) = then_ begun _ begun_local (λ x. repeating_local p h)
+  stmt_case p h Name = then_ (seek Variable) _ (seek_local late Variable) (λ s. then_ begin_statement _ begin_statement_local (λ x. assignment_local s))
+  stmt_case p h (Is m.If) = then_ begin_statement _ begin_statement_local (λ x. if_statement_local p h)
+  stmt_case p h (Is m.While) = then_ begin_statement _ begin_statement_local (λ x. while_statement_local p h)
   stmt_case p h (Is m.Waitany) = then_ count _ (count_local late) (λ x. fail_local late NotInVersion)
   stmt_case p h (Is k) = form_case (form_of k)
   stmt_case p h _ = refuse_local late
@@ -249,23 +249,23 @@ module _ (late : ℕ) where
   behind_size : Loc (advance >>= λ x. expect m.SquareClose >>= λ y. expect m.Semicolon)
   behind_size = then_ advance _ (advance_local late) (λ x. then_ (expect m.SquareClose) _ (expect_local late m.SquareClose) (λ y. expect_local late m.Semicolon))
 
-  sized_at_local : (kind : DeclKind) (name : List ℕ) (o : Option ℕ) → Loc (sized_at kind name o)
+  array_size_at_local : (kind : DeclKind) (name : List ℕ) (o : Option ℕ) → Loc (array_size_at kind name o)
   unfolding place
-  sized_at_local kind name None = refuse_local late
-  sized_at_local kind name (Some n) =
-      local_of late (sized_at kind name (Some n))
+  array_size_at_local kind name None = refuse_local late
+  array_size_at_local kind name (Some n) =
+      local_of late (array_size_at kind name (Some n))
       (λ i x. later_bind late (add kind name (Some n) (place i) i) _ (add_later late kind name (Some n) (place i) i (let l = place_late late i x in omega (arith, l)) x) (λ u. behind_size.later))
       (λ s f xs ys e e' b ends all end.
       same_bind late (add kind name (Some n) s.place (has (s ∷ f ++ xs) e b)) (add kind name (Some n) s.place (has (s ∷ f ++ ys) e' b)) _
       (add_same late kind name (Some n) s.place (s ∷ f) xs ys e e' b ends all end) (λ u. behind_size.same))
 
-  size_case : (kind : DeclKind) (name : List ℕ) (t : Token) → Loc (size_by kind name t)
-  size_case kind name (Number n) = sized_at_local kind name (natural n)
+  size_case : (kind : DeclKind) (name : List ℕ) (t : Token) → Loc (array_size_by kind name t)
+  size_case kind name (Number n) = array_size_at_local kind name (natural n)
   size_case kind name _ = refuse_local late
 
-  sized_local : (kind : DeclKind) (name : List ℕ) → Loc (sized kind name)
-  unfolding sized
-  sized_local kind name = then_ peek _ (peek_local late) (size_case kind name)
+  array_size_local : (kind : DeclKind) (name : List ℕ) → Loc (array_size kind name)
+  unfolding array_size
+  array_size_local kind name = then_ peek _ (peek_local late) (size_case kind name)
 
   single_later : (kind : DeclKind) (name : List ℕ) (at : ℕ) (i : Input) → late ≤ at → Beyond late i → Later late (single kind name at i)
   unfolding single
@@ -279,19 +279,19 @@ module _ (late : ℕ) where
 
   -- what follows a new name
   abbrev behind_name : DeclKind → List ℕ → ℕ → Parser (Unit {0})
-  behind_name kind name at = eat m.SquareOpen >>= λ is_array. cond is_array (sized kind name) (single kind name at)
+  behind_name kind name at = eat m.SquareOpen >>= λ is_array. cond is_array (array_size kind name) (single kind name at)
 
   behind_later : (kind : DeclKind) (name : List ℕ) (at : ℕ) (i : Input) → late ≤ at → Beyond late i → Later late (behind_name kind name at i)
   behind_later kind name at i le x = later_bind late (eat m.SquareOpen i) _ ((eat_local late m.SquareOpen).later i x) by_size
     where
-      by_size : (c : Bool) (j : Input) → Beyond late j → Later late (cond c (sized kind name) (single kind name at) j)
-      by_size true j y = (sized_local kind name).later j y
+      by_size : (c : Bool) (j : Input) → Beyond late j → Later late (cond c (array_size kind name) (single kind name at) j)
+      by_size true j y = (array_size_local kind name).later j y
       by_size false j y = single_later kind name at j le y
 
   size_same : (kind : DeclKind) (name : List ℕ) (at : ℕ) (t : Spot) (f xs ys : List Spot) (e e' : ℕ) (b : Input) (c : Bool) → EndsLate late (t ∷ f) → AllBehind late xs → late < e
-      → Tied late (cond c (sized kind name) (single kind name at) (cond c (has (f ++ xs) e b) (has (t ∷ f ++ xs) e b)))
-      (cond c (sized kind name) (single kind name at) (cond c (has (f ++ ys) e' b) (has (t ∷ f ++ ys) e' b)))
-  size_same kind name at t f xs ys e e' b true ends all end = (sized_local kind name).same f xs ys e e' b (ends_behind late t f ends) all end
+      → Tied late (cond c (array_size kind name) (single kind name at) (cond c (has (f ++ xs) e b) (has (t ∷ f ++ xs) e b)))
+      (cond c (array_size kind name) (single kind name at) (cond c (has (f ++ ys) e' b) (has (t ∷ f ++ ys) e' b)))
+  size_same kind name at t f xs ys e e' b true ends all end = (array_size_local kind name).same f xs ys e e' b (ends_behind late t f ends) all end
   size_same kind name at t f xs ys e e' b false ends all end = single_same kind name at (t ∷ f) xs ys e e' b ends all end
 
   behind_same : (kind : DeclKind) (name : List ℕ) (s : Spot) (f xs ys : List Spot) (e e' : ℕ) (b : Input) → EndsLate late (s ∷ f) → AllBehind late xs → late < e
@@ -315,16 +315,16 @@ module _ (late : ℕ) where
   new_same kind true s f xs ys e e' b ends all end = inl refl
   new_same kind false s f xs ys e e' b ends all end = behind_same kind s.text s f xs ys e e' b ends all end
 
-  declaring_local : (kind : DeclKind) → Loc (declaring kind)
-  unfolding declaring fresh spelling place
-  declaring_local kind =
-      local_of late (declaring kind)
+  declarator_local : (kind : DeclKind) → Loc (declarator kind)
+  unfolding declarator fresh spelling place
+  declarator_local kind =
+      local_of late (declarator kind)
       (λ i x. later_bind late (fresh i) _ (fresh_later i x)
       (λ u j y. behind_later kind (spelling i) (place i) (advanced j) (let l = place_late late i x in omega (arith, l)) ((advance_local late).later j y)))
       (λ s f xs ys e e' b ends all end. new_same kind (is_known (slot_in b.decls s.text)) s f xs ys e e' b ends all end)
 
   decl_case : (kind : DeclKind) (t : Token) → Loc (decl_by kind t)
-  decl_case kind Name = declaring_local kind
+  decl_case kind Name = declarator_local kind
   decl_case kind _ = refuse_local late
 
   decl_local : (kind : DeclKind) → Loc (decl kind)

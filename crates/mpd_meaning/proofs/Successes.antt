@@ -131,11 +131,11 @@ seek_ok kind i y h = sought_ok kind (slot_in i.decls (spelling i)) i y h
 
 -- the token is the name that was declared as the slot, which is of the kind
 abbrev pub NamedBy : List Declared → DeclKind → Slot → Spot → Type 0
-NamedBy ds kind slot s = (sized : Bool) → is_some slot.size ≡ sized → Names ds kind s sized (place_of_slot slot)
+NamedBy ds kind slot s = (is_array : Bool) → is_some slot.size ≡ is_array → Names ds kind s is_array (place_of_slot slot)
 
 -- the name of something of the kind
 pub name_step : (kind : DeclKind) (i : Input) (y : Slot × Input) → token i ≡ Name → seek kind i ≡ Ok y → (s : Step i (advanced y.1)) × NamedBy i.decls kind y.0 s.spot
 name_step kind i y e h =
     let k = seek_ok kind i y h in
     let s = next_step i (advanced y.1) (λ x. absurd (cc)) (ap advanced (sym k.2)) in
-    (s, λ sized is. record { token = s.token ∙ e; slot = y.0; declared = ap (slot_in i.decls) s.text ∙ k.0; kind = k.1; size = is; place = refl })
+    (s, λ is_array is. record { token = s.token ∙ e; slot = y.0; declared = ap (slot_in i.decls) s.text ∙ k.0; kind = k.1; size = is; place = refl })

@@ -67,16 +67,16 @@ abbrev pub turns : ℕ → Input → ℕ
 turns k i = if k == 3 then 1 else i.budget + 1
 
 -- an operand, and then operators of the level with an operand to the right of each, grouped to the left
-abbrev pub continued : (Term → Parser Term) → Parser Term → Term → Option BinaryOp → Parser Term
-continued more operand left None = pure left
-continued more operand left (Some op) = do
+abbrev pub chain_by : (Term → Parser Term) → Parser Term → Term → Option BinaryOp → Parser Term
+chain_by more operand left None = pure left
+chain_by more operand left (Some op) = do
   spend
   right ← operand
   more (op2 op left right)
 
 unfoldable pub chain : Parser Term → ℕ → ℕ → Term → Parser Term
 chain operand k zero left = pure left
-chain operand k (suc n) left = peek >>= λ t. continued (chain operand k n) operand left (operator_at k t)
+chain operand k (suc n) left = peek >>= λ t. chain_by (chain operand k n) operand left (operator_at k t)
 
 abbrev pub place_of_slot : Slot → Place
 place_of_slot s = record { declaration = s.declaration; first = s.first; cells = cells_of s.size }
@@ -88,9 +88,9 @@ bracket = λ i. if sees m.SquareOpen i then spend i else refuse i
 -- the parser of what stands inside, by its level
 module _ (inner : ℕ → Parser Term) where
   -- a place: an array has its index behind it
-  abbrev pub indexed : Place → Option ℕ → Parser Term
-  indexed p None = pure (cell p)
-  indexed p (Some n) = do
+  abbrev pub index_inside : Place → Option ℕ → Parser Term
+  index_inside p None = pure (cell p)
+  index_inside p (Some n) = do
     bracket
     e ← inner 5
     expect m.SquareClose
@@ -100,7 +100,7 @@ module _ (inner : ℕ → Parser Term) where
   place_inside = do
     s ← seek Variable
     advance
-    indexed (place_of_slot s) s.size
+    index_inside (place_of_slot s) s.size
 
   unfoldable pub rounds : Parser Term
   rounds = do
@@ -109,8 +109,8 @@ module _ (inner : ℕ → Parser Term) where
     expect m.RoundClose
     pure e
 
-  unfoldable pub signed : UnaryOp → Parser Term
-  signed op = do
+  unfoldable pub unary : UnaryOp → Parser Term
+  unary op = do
     spend
     e ← inner 0
     pure (op1 op e)
@@ -121,8 +121,8 @@ module _ (inner : ℕ → Parser Term) where
   atom_by (Is m.Size) = advance >> pure size
   atom_by Name = place_inside
   atom_by (Is m.RoundOpen) = rounds
-  atom_by (Is m.Minus) = signed u.Negate
-  atom_by (Is m.Not) = signed u.Not
+  atom_by (Is m.Minus) = unary u.Negate
+  atom_by (Is m.Not) = unary u.Not
   atom_by _ = refuse
 
   unfoldable pub atom : Parser Term
@@ -147,8 +147,8 @@ expression = begin >> expr (suc NESTING_MAX) 5
 -- ---- statements
 
 -- a statement begins with the token that comes next
-abbrev pub begun : Parser (Unit {0})
-begun = count >> advance
+abbrev pub begin_statement : Parser (Unit {0})
+begin_statement = count >> advance
 
 abbrev pub closes : Bool → Token → Bool
 closes true (Is m.BraceClose) = true
@@ -156,9 +156,9 @@ closes false End = true
 closes _ _ = false
 
 -- a place that stands in no expression: its bracket takes no budget, and its index is an expression of its own
-abbrev pub outside : Place → Option ℕ → Parser Target
-outside p None = pure (record { place = p; index = None })
-outside p (Some n) = do
+abbrev pub index_outside : Place → Option ℕ → Parser Target
+index_outside p None = pure (record { place = p; index = None })
+index_outside p (Some n) = do
   expect m.SquareOpen
   e ← expression
   expect m.SquareClose
@@ -169,15 +169,15 @@ unfoldable pub target : DeclKind → Parser Target
 target kind = do
   s ← seek kind
   advance
-  outside (place_of_slot s) s.size
+  index_outside (place_of_slot s) s.size
 
-abbrev pub named_by : DeclKind → Token → Parser Target
-named_by kind Name = target kind
-named_by kind _ = refuse
+abbrev pub statement_place_by : DeclKind → Token → Parser Target
+statement_place_by kind Name = target kind
+statement_place_by kind _ = refuse
 
 -- a place that a statement names behind its word
-unfoldable pub named : DeclKind → Parser Target
-named kind = peek >>= named_by kind
+unfoldable pub statement_place : DeclKind → Parser Target
+statement_place kind = peek >>= statement_place_by kind
 
 abbrev pub source_by : Bool → Parser (Option Term)
 source_by true = pure None
@@ -187,7 +187,7 @@ unfoldable pub source : Parser (Option Term)
 source = eat m.Any >>= source_by
 
 abbrev pub status_by : Bool → Parser (Option StatusStmt)
-status_by true = named Variable >>= λ a. named Variable >>= λ b. pure (Some (record { source = a; tag = b }))
+status_by true = statement_place Variable >>= λ a. statement_place Variable >>= λ b. pure (Some (record { source = a; tag = b }))
 status_by false = pure None
 
 unfoldable pub status : Parser (Option StatusStmt)
@@ -198,7 +198,7 @@ abbrev pub fill : {A : Type 0} → (hs : List Hole) → (Contents hs → A) → 
 fill [] made = expect m.Semicolon >> pure (made tt)
 fill (mark_hole k ∷ hs) made = expect k >> fill hs made
 fill (term_hole ∷ hs) made = expression >>= λ e. fill hs (λ c. made (e, c))
-fill (target_hole kind ∷ hs) made = named kind >>= λ t. fill hs (λ c. made (t, c))
+fill (target_hole kind ∷ hs) made = statement_place kind >>= λ t. fill hs (λ c. made (t, c))
 fill (source_hole ∷ hs) made = source >>= λ o. fill hs (λ c. made (o, c))
 fill (status_hole ∷ hs) made = status >>= λ o. fill hs (λ c. made (o, c))
 
@@ -240,32 +240,32 @@ print_form = record { word = m.Print; holes = term_hole ∷ []; made = λ c. st.
 abbrev pub assert_form : Form
 assert_form = record { word = m.Assert; holes = term_hole ∷ []; made = λ c. st.Assert c.0; parts = λ c. refl; clear = (tt, tt) }
 
-abbrev pub sent_holes : List Hole
-sent_holes = term_hole ∷ mark_hole m.To ∷ term_hole ∷ mark_hole m.Tag ∷ term_hole ∷ []
+abbrev pub send_holes : List Hole
+send_holes = term_hole ∷ mark_hole m.To ∷ term_hole ∷ mark_hole m.Tag ∷ term_hole ∷ []
 
-abbrev pub sent : Contents sent_holes → SendStmt
-sent c = record { value = c.0; to = c.1.0; tag = c.1.1.0 }
+abbrev pub send_in : Contents send_holes → SendStmt
+send_in c = record { value = c.0; to = c.1.0; tag = c.1.1.0 }
 
-abbrev pub received_holes : List Hole
-received_holes = target_hole Variable ∷ mark_hole m.From ∷ source_hole ∷ mark_hole m.Tag ∷ source_hole ∷ status_hole ∷ []
+abbrev pub recv_holes : List Hole
+recv_holes = target_hole Variable ∷ mark_hole m.From ∷ source_hole ∷ mark_hole m.Tag ∷ source_hole ∷ status_hole ∷ []
 
-abbrev pub received : Contents received_holes → RecvStmt
-received c = record { into = c.0; from = c.1.0; tag = c.1.1.0; status = c.1.1.1.0 }
+abbrev pub recv_in : Contents recv_holes → RecvStmt
+recv_in c = record { into = c.0; from = c.1.0; tag = c.1.1.0; status = c.1.1.1.0 }
 
 abbrev pub send_form : Form
-send_form = record { word = m.Send; holes = sent_holes; made = λ c. st.Send (sent c); parts = λ c. refl; clear = (refl, (refl, (tt, tt))) }
+send_form = record { word = m.Send; holes = send_holes; made = λ c. st.Send (send_in c); parts = λ c. refl; clear = (refl, (refl, (tt, tt))) }
 
 abbrev pub ssend_form : Form
-ssend_form = record { word = m.Ssend; holes = sent_holes; made = λ c. st.Ssend (sent c); parts = λ c. refl; clear = (refl, (refl, (tt, tt))) }
+ssend_form = record { word = m.Ssend; holes = send_holes; made = λ c. st.Ssend (send_in c); parts = λ c. refl; clear = (refl, (refl, (tt, tt))) }
 
 abbrev pub recv_form : Form
-recv_form = record { word = m.Recv; holes = received_holes; made = λ c. st.Recv (received c); parts = λ c. refl; clear = (refl, (tt, (tt, tt))) }
+recv_form = record { word = m.Recv; holes = recv_holes; made = λ c. st.Recv (recv_in c); parts = λ c. refl; clear = (refl, (tt, (tt, tt))) }
 
 abbrev pub isend_form : Form
 isend_form = record {
   word = m.Isend;
-  holes = target_hole Handle ∷ sent_holes;
-  made = λ c. st.Isend (record { request = c.0; send = sent c.1 });
+  holes = target_hole Handle ∷ send_holes;
+  made = λ c. st.Isend (record { request = c.0; send = send_in c.1 });
   parts = λ c. refl;
   clear = (refl, (refl, (tt, tt)));
 }
@@ -273,8 +273,8 @@ isend_form = record {
 abbrev pub issend_form : Form
 issend_form = record {
   word = m.Issend;
-  holes = target_hole Handle ∷ sent_holes;
-  made = λ c. st.Issend (record { request = c.0; send = sent c.1 });
+  holes = target_hole Handle ∷ send_holes;
+  made = λ c. st.Issend (record { request = c.0; send = send_in c.1 });
   parts = λ c. refl;
   clear = (refl, (refl, (tt, tt)));
 }
@@ -282,8 +282,8 @@ issend_form = record {
 abbrev pub irecv_form : Form
 irecv_form = record {
   word = m.Irecv;
-  holes = target_hole Handle ∷ received_holes;
-  made = λ c. st.Irecv (record { request = c.0; recv = received c.1 });
+  holes = target_hole Handle ∷ recv_holes;
+  made = λ c. st.Irecv (record { request = c.0; recv = recv_in c.1 });
   parts = λ c. refl;
   clear = (refl, (tt, (tt, tt)));
 }
@@ -309,16 +309,16 @@ form_of m.Barrier = Some barrier_form
 form_of _ = None
 
 -- what stands behind the word
-abbrev pub formed : Form → Parser Tree
-formed f = fill f.holes (λ c. simple (f.made c))
+abbrev pub behind_word : Form → Parser Tree
+behind_word f = fill f.holes (λ c. simple (f.made c))
 
 abbrev pub by_form : Option Form → Parser Tree
 by_form None = refuse
-by_form (Some f) = begun >> formed f
+by_form (Some f) = begin_statement >> behind_word f
 
 -- An assignment has no word: it begins with the name of its place, which is sought before the statement is counted.
-unfoldable pub assigning : Slot → Parser Tree
-assigning s = outside (place_of_slot s) s.size >>= λ t. fill (mark_hole m.Assign ∷ term_hole ∷ []) (λ c. simple (st.Assign (record { into = t; value = c.0 })))
+unfoldable pub assignment : Slot → Parser Tree
+assignment s = index_outside (place_of_slot s) s.size >>= λ t. fill (mark_hole m.Assign ∷ term_hole ∷ []) (λ c. simple (st.Assign (record { into = t; value = c.0 })))
 
 -- each statement that holds no other is an assignment or has its form
 pub record HasForm (s : Simple) : Type 0 where
@@ -353,23 +353,23 @@ module _ (block : Parser (List Tree)) where
     found ← eat m.Else
     if found then block else pure []
 
-  unfoldable pub choosing : Parser Tree
-  choosing = do
+  unfoldable pub if_statement : Parser Tree
+  if_statement = do
     test ← expression
     first ← block
     second ← otherwise
     pure (branch test (block_of first) (block_of second))
 
-  unfoldable pub repeating : Parser Tree
-  repeating = do
+  unfoldable pub while_statement : Parser Tree
+  while_statement = do
     test ← expression
     inside ← block
     pure (repeat test (block_of inside))
 
   abbrev pub stmt_by : Token → Parser Tree
-  stmt_by Name = seek Variable >>= λ s. begun >> assigning s
-  stmt_by (Is m.If) = begun >> choosing
-  stmt_by (Is m.While) = begun >> repeating
+  stmt_by Name = seek Variable >>= λ s. begin_statement >> assignment s
+  stmt_by (Is m.If) = begin_statement >> if_statement
+  stmt_by (Is m.While) = begin_statement >> while_statement
   stmt_by (Is m.Waitany) = count >> fail NotInVersion
   stmt_by (Is k) = by_form (form_of k)
   stmt_by _ = refuse
@@ -425,21 +425,21 @@ abbrev pub natural : ℤ → Option ℕ
 natural (pos n) = Some n
 natural (negsuc n) = None
 
-abbrev pub sized_at : DeclKind → List ℕ → Option ℕ → Parser (Unit {0})
-sized_at kind name None = refuse
-sized_at kind name (Some n) = λ i. (do
+abbrev pub array_size_at : DeclKind → List ℕ → Option ℕ → Parser (Unit {0})
+array_size_at kind name None = refuse
+array_size_at kind name (Some n) = λ i. (do
   add kind name (Some n) (place i)
   advance
   expect m.SquareClose
   expect m.Semicolon) i
 
-abbrev pub size_by : DeclKind → List ℕ → Token → Parser (Unit {0})
-size_by kind name (Number n) = sized_at kind name (natural n)
-size_by kind name _ = refuse
+abbrev pub array_size_by : DeclKind → List ℕ → Token → Parser (Unit {0})
+array_size_by kind name (Number n) = array_size_at kind name (natural n)
+array_size_by kind name _ = refuse
 
 -- a size, and what is behind it
-unfoldable pub sized : DeclKind → List ℕ → Parser (Unit {0})
-sized kind name = peek >>= size_by kind name
+unfoldable pub array_size : DeclKind → List ℕ → Parser (Unit {0})
+array_size kind name = peek >>= array_size_by kind name
 
 -- A name without a size is counted once it is clear that no size follows, at the place of the name.
 unfoldable pub single : DeclKind → List ℕ → ℕ → Parser (Unit {0})
@@ -447,15 +447,15 @@ single kind name at = do
   add kind name None at
   expect m.Semicolon
 
-unfoldable pub declaring : DeclKind → Parser (Unit {0})
-declaring kind = λ i. (do
+unfoldable pub declarator : DeclKind → Parser (Unit {0})
+declarator kind = λ i. (do
   fresh
   advance
   is_array ← eat m.SquareOpen
-  if is_array then sized kind (spelling i) else single kind (spelling i) (place i)) i
+  if is_array then array_size kind (spelling i) else single kind (spelling i) (place i)) i
 
 abbrev pub decl_by : DeclKind → Token → Parser (Unit {0})
-decl_by kind Name = declaring kind
+decl_by kind Name = declarator kind
 decl_by kind _ = refuse
 
 unfoldable pub decl : DeclKind → Parser (Unit {0})

@@ -20,8 +20,8 @@ pub data Part : Type 0 where
   of_target : DeclKind → Target → Part
 
 -- what a send sends, to whom and with which tag
-abbrev pub sent_parts : SendStmt → List Part
-sent_parts s = of_term s.value ∷ of_mark m.To ∷ of_term s.to ∷ of_mark m.Tag ∷ of_term s.tag ∷ []
+abbrev pub send_parts : SendStmt → List Part
+send_parts s = of_term s.value ∷ of_mark m.To ∷ of_term s.to ∷ of_mark m.Tag ∷ of_term s.tag ∷ []
 
 -- a source or a tag
 abbrev pub source_part : Option Term → Part
@@ -34,19 +34,19 @@ status_parts None ps = ps
 status_parts (Some s) ps = of_mark m.Status ∷ of_target Variable s.source ∷ of_target Variable s.tag ∷ ps
 
 -- where a receive writes, from whom it takes and with which tag, and where it writes that
-abbrev pub received_parts : RecvStmt → List Part
-received_parts s = of_target Variable s.into ∷ of_mark m.From ∷ source_part s.from ∷ of_mark m.Tag ∷ source_part s.tag ∷ status_parts s.status []
+abbrev pub recv_parts : RecvStmt → List Part
+recv_parts s = of_target Variable s.into ∷ of_mark m.From ∷ source_part s.from ∷ of_mark m.Tag ∷ source_part s.tag ∷ status_parts s.status []
 
 abbrev pub parts_of : Simple → List Part
 parts_of (st.Print e) = of_mark m.Print ∷ of_term e ∷ []
 parts_of (st.Assign s) = of_target Variable s.into ∷ of_mark m.Assign ∷ of_term s.value ∷ []
 parts_of (st.Assert e) = of_mark m.Assert ∷ of_term e ∷ []
-parts_of (st.Send s) = of_mark m.Send ∷ sent_parts s
-parts_of (st.Ssend s) = of_mark m.Ssend ∷ sent_parts s
-parts_of (st.Recv s) = of_mark m.Recv ∷ received_parts s
-parts_of (st.Isend s) = of_mark m.Isend ∷ of_target Handle s.request ∷ sent_parts s.send
-parts_of (st.Issend s) = of_mark m.Issend ∷ of_target Handle s.request ∷ sent_parts s.send
-parts_of (st.Irecv s) = of_mark m.Irecv ∷ of_target Handle s.request ∷ received_parts s.recv
+parts_of (st.Send s) = of_mark m.Send ∷ send_parts s
+parts_of (st.Ssend s) = of_mark m.Ssend ∷ send_parts s
+parts_of (st.Recv s) = of_mark m.Recv ∷ recv_parts s
+parts_of (st.Isend s) = of_mark m.Isend ∷ of_target Handle s.request ∷ send_parts s.send
+parts_of (st.Issend s) = of_mark m.Issend ∷ of_target Handle s.request ∷ send_parts s.send
+parts_of (st.Irecv s) = of_mark m.Irecv ∷ of_target Handle s.request ∷ recv_parts s.recv
 parts_of (st.Wait t) = of_mark m.Wait ∷ of_target Handle t ∷ []
 parts_of st.Barrier = of_mark m.Barrier ∷ []
 

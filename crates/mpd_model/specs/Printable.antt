@@ -37,12 +37,12 @@ AreNew before [] = Unit {0}
 AreNew before (d ∷ ds) = (slot_in before d.name ≡ None) × AreNew (before ++ d ∷ []) ds
 
 -- the place is what the name of its declaration stands for: something of this kind that was declared with or without a size
-pub record HasName (ds : List Declared) (wanted : DeclKind) (sized : Bool) (p : Place) : Type 0 where
+pub record HasName (ds : List Declared) (wanted : DeclKind) (is_array : Bool) (p : Place) : Type 0 where
   pub named : IsName (name_text ds p)
   pub slot : Slot
   pub declared : slot_in ds (name_text ds p) ≡ Some slot
   pub kind : slot.kind ≡ wanted
-  pub size : is_some slot.size ≡ sized
+  pub size : is_some slot.size ≡ is_array
   pub place : place_of_slot slot ≡ p
 
 -- ---- expressions

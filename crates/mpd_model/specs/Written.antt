@@ -22,12 +22,12 @@ use Rattle.mpd_model.specs.Tree.{Tree, simple, branch, repeat, no_more, block_of
 -- ---- expressions, by how loosely they bind
 
 -- the token is the name of something of this kind that was declared with or without a size, and has that place
-pub record Names (ds : List Declared) (wanted : DeclKind) (s : Spot) (sized : Bool) (p : Place) : Type 0 where
+pub record Names (ds : List Declared) (wanted : DeclKind) (s : Spot) (is_array : Bool) (p : Place) : Type 0 where
   pub token : s.token ≡ Name
   pub slot : Slot
   pub declared : slot_in ds s.text ≡ Some slot
   pub kind : slot.kind ≡ wanted
-  pub size : is_some slot.size ≡ sized
+  pub size : is_some slot.size ≡ is_array
   pub place : place_of_slot slot ≡ p
 
 -- Operators group to the left: what stands to the left of one may be of its own level, but for comparisons, which don't chain.

@@ -3,7 +3,7 @@
 ghost use Rattle.std.specs.Prelude.{◌≡◌, [], ◌∷◌, ◌++◌, Some, OnOk, string_bytes, codes};
 ghost use Rattle.mpd_model.specs.declared.stmt.Simple.TheVariants as st;
 ghost use Rattle.mpd_model.specs.Canonical.{whole_text, part_text, parts_text};
-ghost use Rattle.mpd_model.specs.Parts.{parts_of, sent_parts, source_part, status_parts, received_parts};
+ghost use Rattle.mpd_model.specs.Parts.{parts_of, send_parts, source_part, status_parts, recv_parts};
 
 use crate::expr::{push_expr, push_target};
 use mpd_model::expr::Expr;
@@ -58,7 +58,7 @@ fn push_send(out: &mut String, decls: &[Decl], send: &SendStmt) -> Result<(), Al
     ensures { OnOk result (string_bytes out.new ≡ string_bytes out.old ++ parts_text decls.now (parts_of (st.Send send.now))) }
 {
     out.push_str("send ")?;
-    push_sent(out, decls, send)
+    push_send_parts(out, decls, send)
 }
 
 /// Adds a synchronous send.
@@ -66,7 +66,7 @@ fn push_ssend(out: &mut String, decls: &[Decl], send: &SendStmt) -> Result<(), A
     ensures { OnOk result (string_bytes out.new ≡ string_bytes out.old ++ parts_text decls.now (parts_of (st.Ssend send.now))) }
 {
     out.push_str("ssend ")?;
-    push_sent(out, decls, send)
+    push_send_parts(out, decls, send)
 }
 
 /// Adds a receive.
@@ -74,7 +74,7 @@ fn push_recv(out: &mut String, decls: &[Decl], recv: &RecvStmt) -> Result<(), Al
     ensures { OnOk result (string_bytes out.new ≡ string_bytes out.old ++ parts_text decls.now (parts_of (st.Recv recv.now))) }
 {
     out.push_str("recv ")?;
-    push_received(out, decls, recv)
+    push_recv_parts(out, decls, recv)
 }
 
 /// Adds a nonblocking send.
@@ -84,7 +84,7 @@ fn push_isend(out: &mut String, decls: &[Decl], isend: &IsendStmt) -> Result<(),
     out.push_str("isend ")?;
     push_target(out, decls, &isend.request)?;
     out.push_str(" ")?;
-    push_sent(out, decls, &isend.send)
+    push_send_parts(out, decls, &isend.send)
 }
 
 /// Adds a nonblocking synchronous send.
@@ -94,7 +94,7 @@ fn push_issend(out: &mut String, decls: &[Decl], issend: &IsendStmt) -> Result<(
     out.push_str("issend ")?;
     push_target(out, decls, &issend.request)?;
     out.push_str(" ")?;
-    push_sent(out, decls, &issend.send)
+    push_send_parts(out, decls, &issend.send)
 }
 
 /// Adds a nonblocking receive.
@@ -104,12 +104,12 @@ fn push_irecv(out: &mut String, decls: &[Decl], irecv: &IrecvStmt) -> Result<(),
     out.push_str("irecv ")?;
     push_target(out, decls, &irecv.request)?;
     out.push_str(" ")?;
-    push_received(out, decls, &irecv.recv)
+    push_recv_parts(out, decls, &irecv.recv)
 }
 
 /// Adds what a send sends, to whom and with which tag.
-fn push_sent(out: &mut String, decls: &[Decl], send: &SendStmt) -> Result<(), AllocError>
-    ensures { OnOk result (string_bytes out.new ≡ string_bytes out.old ++ parts_text decls.now (sent_parts send.now)) }
+fn push_send_parts(out: &mut String, decls: &[Decl], send: &SendStmt) -> Result<(), AllocError>
+    ensures { OnOk result (string_bytes out.new ≡ string_bytes out.old ++ parts_text decls.now (send_parts send.now)) }
 {
     push_expr(out, decls, &send.value)?;
     push_behind(out, decls, " to ", &send.to)?;
@@ -153,8 +153,8 @@ fn push_tagged(
 }
 
 /// Adds where a receive writes, from whom it takes and with which tag, and where it writes that.
-fn push_received(out: &mut String, decls: &[Decl], recv: &RecvStmt) -> Result<(), AllocError>
-    ensures { OnOk result (string_bytes out.new ≡ string_bytes out.old ++ parts_text decls.now (received_parts recv.now)) }
+fn push_recv_parts(out: &mut String, decls: &[Decl], recv: &RecvStmt) -> Result<(), AllocError>
+    ensures { OnOk result (string_bytes out.new ≡ string_bytes out.old ++ parts_text decls.now (recv_parts recv.now)) }
 {
     push_target(out, decls, &recv.into)?;
     out.push_str(" from ")?;

@@ -30,7 +30,7 @@ use Rattle.mpd_rank.specs.declared.change.Change.{Change}
 use Rattle.mpd_rank.specs.declared.change.RankRecord.{RankRecord}
 use Rattle.mpd_rank.specs.Views.{RankView, rank_of}
 use Rattle.mpd_rank.specs.Records.{print_change, issue_change, write_change, assert_change, choice_change, simple_change, change_of, local_record, alone_change, alone_record, plan_change, plan_record, IsPlanned}
-use Rattle.mpd_rank.specs.Undone.{held, assigned_change, IsOwn}
+use Rattle.mpd_rank.specs.Undone.{entry_at, assigned_change, IsOwn}
 use Rattle.mpd_rank.specs.Plans.{plan_of, simple_plan, planned_alone, plan_ran, HasTag, HasPlannedReceiver, print_plan, assign_plan, issue_plan, assert_plan, choice_plan}
 
 print_ran : (s : Program) (r : RankWorld) (n i next : ℕ) (v : Value) → plan_ran s r n i (Alone (print_plan v next)) ≡ alone (printed r (left_at s next) v)
@@ -280,7 +280,7 @@ own_assigned (Some w) = tt
 own_change : (vars : List ℤ) (plan : Own) → IsOwn (alone_change vars plan)
 own_change vars (own.Move next) = tt
 own_change vars (own.Print v next) = tt
-own_change vars (own.Assign cell v next) = own_assigned (held vars cell)
+own_change vars (own.Assign cell v next) = own_assigned (entry_at vars cell)
 own_change vars (own.Trap t) = tt
 
 -- what it changes is its own

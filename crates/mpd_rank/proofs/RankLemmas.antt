@@ -11,7 +11,7 @@ use Rattle.mpd_rank.specs.declared.change.Change.TheVariants.{Woke}
 use Rattle.mpd_rank.specs.declared.change.RankRecord.{RankRecord}
 use Rattle.mpd_rank.specs.Views.{RankView, rank_of, listed}
 use Rattle.mpd_rank.specs.Packed.{before, all_listed, IsPacked}
-use Rattle.mpd_rank.specs.Undone.{held, all_held, request_held, put_held, assigned_change, put_back, undone_rank}
+use Rattle.mpd_rank.specs.Undone.{entry_at, entries_before, handle_entry, put_entry, assigned_change, put_back, undone_rank}
 use Rattle.mpd_rank.specs.Records.{alone_record}
 use Rattle.mpd_rank.specs.declared.plan.Alone.TheVariants.{Assign}
 
@@ -19,22 +19,22 @@ write_cells-append : (xs ys : List (ℕ × ℤ)) (vars : List ℤ) → write_cel
 write_cells-append [] ys vars = refl
 write_cells-append (x ∷ xs) ys vars = write_cells-append xs ys (slice_set vars x.0 x.1)
 
-write_held : (vars : List ℤ) (c : ℕ) (x : ℤ) → write_cells (listed (held vars c)) (slice_set vars c x) ≡ vars
+write_held : (vars : List ℤ) (c : ℕ) (x : ℤ) → write_cells (listed (entry_at vars c)) (slice_set vars c x) ≡ vars
 write_held [] c x = refl
 write_held (v ∷ vars) zero x = refl
-write_held (v ∷ vars) (suc c) x = held-suc v vars c x (slice_get vars c) ∙ ap (λ us. v ∷ us) (write_held vars c x)
+write_held (v ∷ vars) (suc c) x = entry_at-suc v vars c x (slice_get vars c) ∙ ap (λ us. v ∷ us) (write_held vars c x)
   where
-    held-suc : (v : ℤ) (vars : List ℤ) (c : ℕ) (x : ℤ) (o : Option ℤ) → write_cells (listed (option_map (λ u. (suc c, u)) o)) (v ∷ slice_set vars c x) ≡ v ∷ write_cells (listed (option_map (λ u. (c, u)) o)) (slice_set vars c x)
-    held-suc v vars c x None = refl
-    held-suc v vars c x (Some u) = refl
+    entry_at-suc : (v : ℤ) (vars : List ℤ) (c : ℕ) (x : ℤ) (o : Option ℤ) → write_cells (listed (option_map (λ u. (suc c, u)) o)) (v ∷ slice_set vars c x) ≡ v ∷ write_cells (listed (option_map (λ u. (c, u)) o)) (slice_set vars c x)
+    entry_at-suc v vars c x None = refl
+    entry_at-suc v vars c x (Some u) = refl
 
 -- cells that are all written, and all written back with the last first, are the cells before
-pub written_back : (vars : List ℤ) (ws : List (ℕ × ℤ)) → write_cells (all_held vars ws) (write_cells ws vars) ≡ vars
+pub written_back : (vars : List ℤ) (ws : List (ℕ × ℤ)) → write_cells (entries_before vars ws) (write_cells ws vars) ≡ vars
 written_back vars [] = refl
 written_back vars (w ∷ ws) =
     let next : List ℤ = slice_set vars w.0 w.1 in
-    write_cells-append (all_held next ws) (listed (held vars w.0)) (write_cells ws next)
-    ∙ ap (write_cells (listed (held vars w.0))) (written_back next ws)
+    write_cells-append (entries_before next ws) (listed (entry_at vars w.0)) (write_cells ws next)
+    ∙ ap (write_cells (listed (entry_at vars w.0))) (written_back next ws)
     ∙ write_held vars w.0 w.1
 
 undone_assigned : (s : Program) (r : RankWorld) (from : ℕ) (o : Option (ℕ × ℤ)) → put_back s r from (assigned_change o) ≡ record r { rest = left_at s from; vars = write_cells (listed o) r.vars; activity = Running }
@@ -42,16 +42,16 @@ undone_assigned s r from None = refl
 undone_assigned s r from (Some w) = refl
 
 -- what was held, put back
-pub put_again : {A : Type 0} (xs : List A) (i : ℕ) (x : A) → put_held (held xs i) (slice_set xs i x) ≡ xs
+pub put_again : {A : Type 0} (xs : List A) (i : ℕ) (x : A) → put_entry (entry_at xs i) (slice_set xs i x) ≡ xs
 put_again [] i x = refl
 put_again (y ∷ xs) zero x = refl
-put_again (y ∷ xs) (suc i) x = held-suc y xs i x (slice_get xs i) ∙ ap (λ us. y ∷ us) (put_again xs i x)
+put_again (y ∷ xs) (suc i) x = entry_at-suc y xs i x (slice_get xs i) ∙ ap (λ us. y ∷ us) (put_again xs i x)
   where
-    held-suc : {A : Type 0} (y : A) (xs : List A) (i : ℕ) (x : A) (o : Option A) → put_held (option_map (λ u. (suc i, u)) o) (y ∷ slice_set xs i x) ≡ y ∷ put_held (option_map (λ u. (i, u)) o) (slice_set xs i x)
-    held-suc y xs i x None = refl
-    held-suc y xs i x (Some u) = refl
+    entry_at-suc : {A : Type 0} (y : A) (xs : List A) (i : ℕ) (x : A) (o : Option A) → put_entry (option_map (λ u. (suc i, u)) o) (y ∷ slice_set xs i x) ≡ y ∷ put_entry (option_map (λ u. (i, u)) o) (slice_set xs i x)
+    entry_at-suc y xs i x None = refl
+    entry_at-suc y xs i x (Some u) = refl
 
-pub request_again : (handle call : Option ℕ) (handles : List (Option ℕ)) → put_held (request_held handle handles) (requested handle call handles) ≡ handles
+pub request_again : (handle call : Option ℕ) (handles : List (Option ℕ)) → put_entry (handle_entry handle handles) (requested handle call handles) ≡ handles
 request_again None call handles = refl
 request_again (Some h) call handles = put_again handles h call
 
@@ -62,18 +62,18 @@ assign_back s v w d c next x done recorded running =
     let before : RankWorld = record (rank_of s v) { rest = left_at s next; vars = slice_set v.vars c x } in
     ap (λ (u : RankView). undone_rank s (rank_of s u) d) done
     ∙ ap (undone_rank s before) recorded
-    ∙ undone_assigned s before v.node (held v.vars c)
+    ∙ undone_assigned s before v.node (entry_at v.vars c)
     ∙ (λ i. record (rank_of s v) { vars = write_held v.vars c x i; activity = sym running i })
 
 -- a wake that is taken back is the rank before
 pub wake_back : (s : Program) (v w : RankView) (ws : List (ℕ × ℤ)) (clears : Option ℕ) (cells : List (ℕ × ℤ)) (handle : Option (ℕ × Option ℕ))
-    → rank_of s w ≡ woken_rank ws clears (rank_of s v) → cells ≡ all_held v.vars ws → handle ≡ request_held clears v.handles → v.activity ≡ Blocked
+    → rank_of s w ≡ woken_rank ws clears (rank_of s v) → cells ≡ entries_before v.vars ws → handle ≡ handle_entry clears v.handles → v.activity ≡ Blocked
     → put_back s (rank_of s w) 0 (Woke cells handle) ≡ rank_of s v
 wake_back s v w ws clears cells handle done e h blocked =
     ap (λ (r : RankWorld). put_back s r 0 (Woke cells handle)) done
     ∙ (λ i. record (rank_of s v) {
       vars = (ap (λ l. write_cells l (write_cells ws v.vars)) e ∙ written_back v.vars ws) i;
-      handles = (ap (λ o. put_held o (requested clears None v.handles)) h ∙ request_again clears None v.handles) i;
+      handles = (ap (λ o. put_entry o (requested clears None v.handles)) h ∙ request_again clears None v.handles) i;
       activity = sym blocked i;
     })
 
@@ -83,9 +83,9 @@ write_cells-before : (a : Option (ℕ × ℤ)) (ws : List (ℕ × ℤ)) (vars : 
 write_cells-before None ws vars = refl
 write_cells-before (Some w) ws vars = refl
 
-all_held-before : (a : Option (ℕ × ℤ)) (ws : List (ℕ × ℤ)) (vars : List ℤ) → all_held vars (before a ws) ≡ all_held (write_cells (listed a) vars) ws ++ all_held vars (listed a)
-all_held-before None ws vars = sym (append-nil (all_held vars ws))
-all_held-before (Some w) ws vars = refl
+entries_before-before : (a : Option (ℕ × ℤ)) (ws : List (ℕ × ℤ)) (vars : List ℤ) → entries_before vars (before a ws) ≡ entries_before (write_cells (listed a) vars) ws ++ entries_before vars (listed a)
+entries_before-before None ws vars = sym (append-nil (entries_before vars ws))
+entries_before-before (Some w) ws vars = refl
 
 before_listed : (h : Option (ℕ × ℤ)) (ws : List (ℕ × ℤ)) → before h ws ≡ listed h ++ ws
 before_listed None ws = refl
@@ -103,14 +103,14 @@ written_three vars a b c =
     sym (write_cells-before a (before b (before c [])) vars ∙ write_cells-before b (before c []) first ∙ ap (λ ws. write_cells ws second) (listed_alone c))
 
 -- and what they held is what each of them held, the last first
-pub held_three : (vars : List ℤ) (a b c h i j : Option (ℕ × ℤ)) → listed h ≡ all_held vars (listed a) → listed i ≡ all_held (write_cells (listed a) vars) (listed b)
-    → listed j ≡ all_held (write_cells (listed b) (write_cells (listed a) vars)) (listed c) → before j (before i (before h [])) ≡ all_held vars (all_listed a b c)
+pub held_three : (vars : List ℤ) (a b c h i j : Option (ℕ × ℤ)) → listed h ≡ entries_before vars (listed a) → listed i ≡ entries_before (write_cells (listed a) vars) (listed b)
+    → listed j ≡ entries_before (write_cells (listed b) (write_cells (listed a) vars)) (listed c) → before j (before i (before h [])) ≡ entries_before vars (all_listed a b c)
 held_three vars a b c h i j eh ei ej =
     let first : List ℤ = write_cells (listed a) vars in
     let second : List ℤ = write_cells (listed b) first in
-    let last : all_held second (before c []) ≡ listed j = ap (all_held second) (listed_alone c) ∙ sym ej in
-    let behind : all_held first (before b (before c [])) ≡ listed j ++ listed i = all_held-before b (before c []) first ∙ ap (λ l. l ++ all_held first (listed b)) last ∙ ap (λ l. listed j ++ l) (sym ei) in
-    let all : all_held vars (all_listed a b c) ≡ (listed j ++ listed i) ++ listed h = all_held-before a (before b (before c [])) vars ∙ ap (λ l. l ++ all_held vars (listed a)) behind ∙ ap (λ l. (listed j ++ listed i) ++ l) (sym eh) in
+    let last : entries_before second (before c []) ≡ listed j = ap (entries_before second) (listed_alone c) ∙ sym ej in
+    let behind : entries_before first (before b (before c [])) ≡ listed j ++ listed i = entries_before-before b (before c []) first ∙ ap (λ l. l ++ entries_before first (listed b)) last ∙ ap (λ l. listed j ++ l) (sym ei) in
+    let all : entries_before vars (all_listed a b c) ≡ (listed j ++ listed i) ++ listed h = entries_before-before a (before b (before c [])) vars ∙ ap (λ l. l ++ entries_before vars (listed a)) behind ∙ ap (λ l. (listed j ++ listed i) ++ l) (sym eh) in
     before_listed j (before i (before h []))
     ∙ ap (λ l. listed j ++ l) (before_listed i (before h []) ∙ ap (λ l. listed i ++ l) (listed_alone h))
     ∙ sym (append_assoc (listed j) (listed i) (listed h))

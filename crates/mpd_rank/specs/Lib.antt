@@ -1,6 +1,6 @@
 pub mod Views
 pub mod Packed
 pub mod Plans
-pub mod Held
+pub mod Entries
 pub mod Undone
 pub mod Records

@@ -1,8 +1,8 @@
 -- Three cells at most, without a gap, and the list that they are.
 use Rattle.std.specs.Prelude.{◌≡◌, ℕ, ℤ, List, [], ◌∷◌, drop, Option, Some, None}
 use Rattle.std.proofs.Common.{refl, ap, ◌∙◌}
-use Rattle.mpd_rank.specs.Held.{held_cell, cell_of, was_of, IsHeld, cell_back}
-use Rattle.mpd_rank.specs.declared.change.HeldCells.TheInside as cells
+use Rattle.mpd_rank.specs.Entries.{old_cell, cell_of, was_of, IsOldCell, cell_back}
+use Rattle.mpd_rank.specs.declared.change.OldCells.TheInside as cells
 
 -- a cell before others, where there is one
 abbrev pub before : Option (ℕ × ℤ) → List (ℕ × ℤ) → List (ℕ × ℤ)
@@ -43,7 +43,7 @@ listed_back None (Some y) c h = absurd (let e = h.0 refl in cc)
 
 -- three cells as numbers, each with what it held: no gap, and nothing where there is no cell
 abbrev pub HoldsThree : ℕ → ℕ → ℕ → ℤ → ℤ → ℤ → Type 0
-HoldsThree a b c x y z = IsPacked (held_cell a x) (held_cell b y) (held_cell c z) × (IsHeld a x × (IsHeld b y × IsHeld c z))
+HoldsThree a b c x y z = IsPacked (old_cell a x) (old_cell b y) (old_cell c z) × (IsOldCell a x × (IsOldCell b y × IsOldCell c z))
 
 abbrev three_of : List (ℕ × ℤ) → cells.Inside
 three_of ws =
@@ -51,9 +51,9 @@ three_of ws =
 
 -- the list gives their numbers back
 pub three_back : (c : cells.Inside) → HoldsThree c.first c.second c.third c.first_was c.second_was c.third_was
-    → three_of (all_listed (held_cell c.first c.first_was) (held_cell c.second c.second_was) (held_cell c.third c.third_was)) ≡ c
+    → three_of (all_listed (old_cell c.first c.first_was) (old_cell c.second c.second_was) (old_cell c.third c.third_was)) ≡ c
 three_back c h =
-    let back = listed_back (held_cell c.first c.first_was) (held_cell c.second c.second_was) (held_cell c.third c.third_was) h.0 in
+    let back = listed_back (old_cell c.first c.first_was) (old_cell c.second c.second_was) (old_cell c.third c.third_was) h.0 in
     let a = cell_back c.first c.first_was h.1.0 in
     let b = cell_back c.second c.second_was h.1.1.0 in
     let d = cell_back c.third c.third_was h.1.1.1 in

@@ -19,7 +19,7 @@ use Rattle.mpd_rank.specs.declared.plan.Alone.TheVariants as own
 use Rattle.mpd_rank.specs.declared.plan.LocalPlan.{LocalPlan}
 use Rattle.mpd_rank.specs.declared.plan.LocalPlan.TheVariants as plan
 use Rattle.mpd_rank.specs.Plans.{plan_ran}
-use Rattle.mpd_rank.specs.Undone.{held, all_held, request_held, assigned_change}
+use Rattle.mpd_rank.specs.Undone.{entry_at, entries_before, handle_entry, assigned_change}
 use Rattle.mpd_rank.specs.Views.{RankView, rank_of}
 
 -- ---- of a statement, by what it evaluates to: a trap is a change of its own
@@ -29,11 +29,11 @@ print_change (Ok v) = Printed
 print_change (Err t) = Trapped
 
 abbrev pub issue_change : List (Option ℕ) → Result Issue Reason → Change
-issue_change handles (Ok a) = Issued (request_held a.handle handles)
+issue_change handles (Ok a) = Issued (handle_entry a.handle handles)
 issue_change handles (Err t) = Trapped
 
 abbrev pub write_change : List ℤ → Result (ℕ × ℤ) Reason → Change
-write_change vars (Ok w) = assigned_change (held vars w.0)
+write_change vars (Ok w) = assigned_change (entry_at vars w.0)
 write_change vars (Err t) = Trapped
 
 abbrev pub assert_change : Value → Change
@@ -75,19 +75,19 @@ local_record p n r = record_by (env_of p n r) r.activity r.rest
 
 -- the record of a wake, which moves no rank: what the written cells and the cleared handle held
 abbrev pub wake_record : RankWorld → List (ℕ × ℤ) → Option ℕ → RankRecord
-wake_record r writes handle = record { from = 0; change = Woke (all_held r.vars writes) (request_held handle r.handles) }
+wake_record r writes handle = record { from = 0; change = Woke (entries_before r.vars writes) (handle_entry handle r.handles) }
 
 -- ---- of a plan
 
 abbrev pub alone_change : List ℤ → Alone → Change
 alone_change vars (own.Move next) = Moved
 alone_change vars (own.Print v next) = Printed
-alone_change vars (own.Assign cell v next) = assigned_change (held vars cell)
+alone_change vars (own.Assign cell v next) = assigned_change (entry_at vars cell)
 alone_change vars (own.Trap t) = Trapped
 
 abbrev pub plan_change : List ℤ → List (Option ℕ) → LocalPlan → Change
 plan_change vars handles (plan.Alone a) = alone_change vars a
-plan_change vars handles (plan.Issue a next) = Issued (request_held a.handle handles)
+plan_change vars handles (plan.Issue a next) = Issued (handle_entry a.handle handles)
 
 -- what a rank that stands at a node records of a plan without a call, and of any
 abbrev pub alone_record : RankView → Alone → RankRecord

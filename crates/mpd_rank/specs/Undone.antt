@@ -12,23 +12,23 @@ use Rattle.mpd_rank.specs.declared.change.RankRecord.{RankRecord}
 use Rattle.mpd_rank.specs.Views.{listed}
 
 -- a place of a list and what it holds, where there is such a place
-abbrev pub held : {A : Type 0} → List A → ℕ → Option (ℕ × A)
-held xs i = option_map (λ x. (i, x)) (slice_get xs i)
+abbrev pub entry_at : {A : Type 0} → List A → ℕ → Option (ℕ × A)
+entry_at xs i = option_map (λ x. (i, x)) (slice_get xs i)
 
 -- What writes of cells overwrite, one after the other: the last first, so that written back in this order they leave what was there.
-abbrev pub all_held : List ℤ → List (ℕ × ℤ) → List (ℕ × ℤ)
-all_held vars [] = []
-all_held vars (w ∷ ws) = all_held (slice_set vars w.0 w.1) ws ++ listed (held vars w.0)
+abbrev pub entries_before : List ℤ → List (ℕ × ℤ) → List (ℕ × ℤ)
+entries_before vars [] = []
+entries_before vars (w ∷ ws) = entries_before (slice_set vars w.0 w.1) ws ++ listed (entry_at vars w.0)
 
 -- a handle and the call that it has, where one is named
-abbrev pub request_held : Option ℕ → List (Option ℕ) → Option (ℕ × Option ℕ)
-request_held None handles = None
-request_held (Some h) handles = held handles h
+abbrev pub handle_entry : Option ℕ → List (Option ℕ) → Option (ℕ × Option ℕ)
+handle_entry None handles = None
+handle_entry (Some h) handles = entry_at handles h
 
 -- a list with what was held put back
-abbrev pub put_held : {A : Type 0} → Option (ℕ × A) → List A → List A
-put_held None xs = xs
-put_held (Some w) xs = slice_set xs w.0 w.1
+abbrev pub put_entry : {A : Type 0} → Option (ℕ × A) → List A → List A
+put_entry None xs = xs
+put_entry (Some w) xs = slice_set xs w.0 w.1
 
 -- an assignment that overwrote a cell; where there is no such cell nothing was overwritten
 abbrev pub assigned_change : Option (ℕ × ℤ) → Change
@@ -41,10 +41,10 @@ abbrev pub put_back : Program → RankWorld → ℕ → Change → RankWorld
 put_back s r from Moved = record r { rest = left_at s from; activity = Running }
 put_back s r from (Assigned cell was) = record r { rest = left_at s from; vars = slice_set r.vars cell was; activity = Running }
 put_back s r from Printed = record r { rest = left_at s from; out = take (length r.out - 1) r.out; activity = Running }
-put_back s r from (Issued handle) = record r { rest = left_at s from; handles = put_held handle r.handles; activity = Running }
+put_back s r from (Issued handle) = record r { rest = left_at s from; handles = put_entry handle r.handles; activity = Running }
 put_back s r from Trapped = record r { rest = left_at s from; activity = Running }
 put_back s r from (Matched send recv) = r
-put_back s r from (Woke cells handle) = record r { vars = write_cells cells r.vars; handles = put_held handle r.handles; activity = Blocked }
+put_back s r from (Woke cells handle) = record r { vars = write_cells cells r.vars; handles = put_entry handle r.handles; activity = Blocked }
 put_back s r from Released = r
 
 abbrev pub undone_rank : Program → RankWorld → RankRecord → RankWorld

@@ -2,8 +2,7 @@
 
 ghost use Rattle.std.specs.Prelude.{◌≡◌, ◌<◌, ◌≤◌, ◌+◌, [], ◌∷◌, length, Some, None, IfSome};
 ghost use Rattle.mpd_rank.specs.Packed.{before};
-ghost use Rattle.mpd_rank.specs.Held.{IsSmall, some_number};
-ghost use Rattle.mpd_rank.specs.Undone.{assigned_change};
+ghost use Rattle.mpd_rank.specs.Entries.{IsSmall, some_number};
 
 use mpd_queue::lists::Spot;
 use std::marker::Model;
@@ -77,43 +76,43 @@ impl Cells {
 
 /// What a cell held that was written, if one was. It takes 16 bytes. Contracts see an `Option`.
 #[derive(Clone, Copy, Debug, PartialEq, Eq)]
-pub struct HeldCell {
+pub struct OldCell {
     cell: u16,
     was: i64,
 }
 
-impl Model for HeldCell {
+impl Model for OldCell {
     ghost use Rattle.std.specs.Prelude.{ℕ, ℤ, Option};
-    ghost use Rattle.mpd_rank.specs.Held.{held_cell, cell_of, was_of, IsHeld, cell_back};
+    ghost use Rattle.mpd_rank.specs.Entries.{old_cell, cell_of, was_of, IsOldCell, cell_back};
 
     ghost Value = { Option (ℕ × ℤ) };
 
-    ghost view = { λ h. held_cell h.cell h.was };
+    ghost view = { λ h. old_cell h.cell h.was };
 
-    ghost invariant = { λ h. IsHeld h.cell h.was };
+    ghost invariant = { λ h. IsOldCell h.cell h.was };
 
     ghost inverse = { λ o. record { cell = cell_of o; was = was_of o } };
 
     ghost inverse_ok = { λ a h. (λ i. record { cell = (cell_back a.cell a.was h).0 i; was = (cell_back a.cell a.was h).1 i }) };
 }
 
-impl HeldCell {
+impl OldCell {
     /// No cell was written.
-    pub(crate) fn none() -> HeldCell
+    pub(crate) fn none() -> OldCell
         ensures { result ≡ None }
     {
-        HeldCell {
+        OldCell {
             cell: NO_CELL,
             was: 0,
         }
     }
 
     /// A cell that was written, and what it held.
-    pub(crate) fn of(cell: usize, was: i64) -> HeldCell
+    pub(crate) fn of(cell: usize, was: i64) -> OldCell
         requires { cell < 65535 }
         ensures { result ≡ Some (cell, was) }
     {
-        HeldCell {
+        OldCell {
             cell: cell as u16,
             was,
         }
@@ -132,7 +131,7 @@ impl HeldCell {
 
 /// What cells held that were written, the last first. It takes 32 bytes. Contracts see a list. There are three at most.
 #[derive(Clone, Copy, Debug, PartialEq, Eq)]
-pub struct HeldCells {
+pub struct OldCells {
     first: u16,
     second: u16,
     third: u16,
@@ -141,17 +140,17 @@ pub struct HeldCells {
     third_was: i64,
 }
 
-impl Model for HeldCells {
+impl Model for OldCells {
     ghost use Rattle.std.specs.Prelude.{ℕ, ℤ, List};
     ghost use Rattle.mpd_rank.specs.Views.{cells_code};
-    ghost use Rattle.mpd_rank.specs.Held.{held_cell, cell_of, was_of};
+    ghost use Rattle.mpd_rank.specs.Entries.{old_cell, cell_of, was_of};
     ghost use Rattle.mpd_rank.specs.Packed.{all_listed, first_of, second_of, third_of, HoldsThree, three_back};
 
     ghost Value = { List (ℕ × ℤ) };
 
     ghost coded = { cells_code };
 
-    ghost view = { λ c. all_listed (held_cell c.first c.first_was) (held_cell c.second c.second_was) (held_cell c.third c.third_was) };
+    ghost view = { λ c. all_listed (old_cell c.first c.first_was) (old_cell c.second c.second_was) (old_cell c.third c.third_was) };
 
     ghost invariant = { λ c. HoldsThree c.first c.second c.third c.first_was c.second_was c.third_was };
 
@@ -167,12 +166,12 @@ impl Model for HeldCells {
     ghost inverse_ok = { λ c h. three_back c h };
 }
 
-impl HeldCells {
+impl OldCells {
     /// No cell was written.
-    pub(crate) fn none() -> HeldCells
+    pub(crate) fn none() -> OldCells
         ensures { result ≡ [] }
     {
-        HeldCells {
+        OldCells {
             first: NO_CELL,
             second: NO_CELL,
             third: NO_CELL,
@@ -184,19 +183,19 @@ impl HeldCells {
 
     /// The same with a cell that was written behind the others, where there was one.
     #[tactic(auto, using(crate::proofs::RankLemmas::packing))]
-    pub(crate) fn with(self, held: HeldCell) -> HeldCells
+    pub(crate) fn with(self, old: OldCell) -> OldCells
         requires { length self ≤ 2 }
-        ensures value { result ≡ before held self }
+        ensures value { result ≡ before old self }
         ensures few { length result ≤ length self + 1 }
     {
-        if held.get().is_none() {
+        if old.get().is_none() {
             return self;
         }
-        HeldCells {
-            first: held.cell,
+        OldCells {
+            first: old.cell,
             second: self.first,
             third: self.second,
-            first_was: held.was,
+            first_was: old.was,
             second_was: self.first_was,
             third_was: self.second_was,
         }
@@ -206,15 +205,15 @@ impl HeldCells {
     pub(crate) fn cells(self) -> Cells
         ensures { result ≡ self }
     {
-        let first = HeldCell {
+        let first = OldCell {
             cell: self.first,
             was: self.first_was,
         };
-        let second = HeldCell {
+        let second = OldCell {
             cell: self.second,
             was: self.second_was,
         };
-        let third = HeldCell {
+        let third = OldCell {
             cell: self.third,
             was: self.third_was,
         };
@@ -228,18 +227,18 @@ impl HeldCells {
 
 /// What a handle held that was written, if one was. It takes eight bytes. Contracts see an `Option`.
 #[derive(Clone, Copy, Debug, PartialEq, Eq)]
-pub struct HeldHandle {
+pub struct OldHandle {
     handle: u32,
     call: u32,
 }
 
-impl Model for HeldHandle {
+impl Model for OldHandle {
     ghost use Rattle.std.specs.Prelude.{◌≡◌, ℕ, Option};
-    ghost use Rattle.mpd_rank.specs.Held.{held_handle, handle_of, call_of, handle_back};
+    ghost use Rattle.mpd_rank.specs.Entries.{old_handle, handle_of, call_of, handle_back};
 
     ghost Value = { Option (ℕ × Option ℕ) };
 
-    ghost view = { λ h. held_handle h.handle h.call };
+    ghost view = { λ h. old_handle h.handle h.call };
 
     ghost invariant = { λ h. h.handle ≡ 4294967295 → h.call ≡ 4294967295 };
 
@@ -270,24 +269,24 @@ fn unpacked(number: u32) -> Option<usize>
     Some(number as usize)
 }
 
-impl HeldHandle {
+impl OldHandle {
     /// No handle was written.
-    pub(crate) fn none() -> HeldHandle
+    pub(crate) fn none() -> OldHandle
         ensures { result ≡ None }
     {
-        HeldHandle {
+        OldHandle {
             handle: NO_NUMBER,
             call: NO_NUMBER,
         }
     }
 
     /// A handle that was written, and what it held.
-    pub(crate) fn of(handle: usize, call: Option<usize>) -> HeldHandle
+    pub(crate) fn of(handle: usize, call: Option<usize>) -> OldHandle
         requires handle { handle < 4294967295 }
         requires call { IsSmall call }
         ensures { result ≡ Some (handle, call) }
     {
-        HeldHandle {
+        OldHandle {
             handle: handle as u32,
             call: packed(call),
         }
@@ -310,43 +309,17 @@ impl HeldHandle {
 pub enum Change {
     Moved,
     /// The cell that was written, and what it held.
-    Assigned {
-        cell: u32,
-        was: i64,
-    },
+    Assigned { cell: u32, was: i64 },
     Printed,
     /// The handle that got the call's number, if any, and what it held.
-    Issued {
-        handle: HeldHandle,
-    },
+    Issued { handle: OldHandle },
     Trapped,
     /// Where the send and the receive stood in the lists of free calls. It is of no rank.
-    Matched {
-        send_place: Spot,
-        recv_place: Spot,
-    },
+    Matched { send_place: Spot, recv_place: Spot },
     /// The cells that were written, and what they held, and the same of the handle that was cleared, if any.
-    Woke {
-        cells: HeldCells,
-        handle: HeldHandle,
-    },
+    Woke { cells: OldCells, handle: OldHandle },
     /// All ranks went on from a barrier. It is of no rank: each is blocked again as this is taken back.
     Released,
-}
-
-impl Change {
-    /// Of an assignment. Where there was no cell to write, nothing changed.
-    pub(crate) fn assigned(held: HeldCell) -> Change
-        ensures { result ≡ assigned_change held }
-    {
-        if held.cell == NO_CELL {
-            return Change::Moved;
-        }
-        Change::Assigned {
-            cell: held.cell as u32,
-            was: held.was,
-        }
-    }
 }
 
 /// What takes the step of a rank back: the node before it, which is 0 at a wake, since that moves no rank, and what else it did.

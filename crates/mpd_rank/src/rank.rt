@@ -3,12 +3,12 @@
 ghost use Rattle.std.specs.Prelude.{◌≡◌, ◌<◌, ◌≤◌, ◌+◌, IfOk, IfSome, IfNone, [], OnOk, OnErr, is_some, IsSome, ℕ, Some, slice_set};
 ghost use Rattle.std.specs.Option.{option_map};
 ghost use Rattle.mpd_model.specs.Program.{Program};
-ghost use Rattle.mpd_rank.specs.Held.{IsSmall};
+ghost use Rattle.mpd_rank.specs.Entries.{IsSmall};
 ghost use Rattle.mpd_code.specs.Left.{left_at};
 ghost use Rattle.mpd_code.specs.Stands.{Stands};
 ghost use Rattle.mpd_model.specs.Next as next_specs;
 
-use crate::change::{Cells, Change, HeldCell, HeldCells, HeldHandle, RankRecord};
+use crate::change::{Cells, Change, OldCell, OldCells, OldHandle, RankRecord};
 use crate::plan::{Alone, LocalPlan, plan_alone, plan_node};
 use crate::standing::Standing;
 use mpd_code::code::Code;
@@ -50,7 +50,7 @@ impl Model for RankState {
       writes = r.standing.writes + r.vars.writes + r.handles.writes + r.out.writes;
     } };
 
-    ghost use Rattle.mpd_rank.specs.Held.{KeepsSmall};
+    ghost use Rattle.mpd_rank.specs.Entries.{KeepsSmall};
 
     ghost invariant = { λ r. KeepsSmall r.standing.items r.vars.items r.handles.items };
 }
@@ -72,7 +72,7 @@ impl RankState {
     ghost use Rattle.mpd_model.specs.Next.{env_of, local, woken_rank, going_on, write_cells, requested, activity_after};
     ghost use Rattle.mpd_rank.specs.Views.{rank_of, listed};
     ghost use Rattle.mpd_rank.specs.Plans.{planned, planned_alone, plan_ran, HasPlannedReceiver};
-    ghost use Rattle.mpd_rank.specs.Undone.{IsOfRank, IsOwn, undone_rank, blocked_again, held, all_held, request_held, put_held};
+    ghost use Rattle.mpd_rank.specs.Undone.{IsOfRank, IsOwn, undone_rank, blocked_again, entry_at, entries_before, handle_entry, put_entry};
     ghost use Rattle.mpd_rank.specs.Records.{local_record, plan_record, alone_record, wake_record, IsPlanned};
 
     /// A rank before its first step, with the whole body to run. An `Err` is want of memory.
@@ -188,90 +188,100 @@ impl RankState {
     }
 
     /// Writes a variable, where there is such a cell, and answers what it held.
-    fn write(&mut self, cell: usize, value: i64) -> HeldCell
+    fn write(&mut self, cell: usize, value: i64) -> OldCell
         ensures after { self.new ≡ record self.old { vars = slice_set self.old.vars cell value; writes = self.new.writes } }
-        ensures held { result ≡ held self.old.vars cell }
+        ensures was { result ≡ entry_at self.old.vars cell }
         ensures rises { self.old.writes ≤ self.new.writes }
         ensures few { self.new.writes ≤ self.old.writes + 1 }
     {
         if cell >= self.vars.len() {
-            return HeldCell::none();
+            return OldCell::none();
         }
         let was = self.vars.items()[cell];
         self.vars.set(cell, value);
-        HeldCell::of(cell, was)
+        OldCell::of(cell, was)
     }
 
     /// Writes a variable, where one is named.
-    fn write_if(&mut self, cell: Option<(usize, i64)>) -> HeldCell
+    fn write_if(&mut self, cell: Option<(usize, i64)>) -> OldCell
         ensures after { self.new ≡ record self.old { vars = write_cells (listed cell) self.old.vars; writes = self.new.writes } }
-        ensures held { listed result ≡ all_held self.old.vars (listed cell) }
+        ensures was { listed result ≡ entries_before self.old.vars (listed cell) }
         ensures rises { self.old.writes ≤ self.new.writes }
         ensures few { self.new.writes ≤ self.old.writes + 1 }
     {
         match cell {
-            None => HeldCell::none(),
+            None => OldCell::none(),
             Some((cell, value)) => self.write(cell, value),
         }
     }
 
     /// Writes cells in their order, and answers what they held, the last first.
     #[tactic(auto, using(crate::proofs::RankLemmas::writing))]
-    fn write_all(&mut self, cells: Cells) -> HeldCells
+    fn write_all(&mut self, cells: Cells) -> OldCells
         ensures after { self.new ≡ record self.old { vars = write_cells cells self.old.vars; writes = self.new.writes } }
-        ensures held { result ≡ all_held self.old.vars cells }
+        ensures was { result ≡ entries_before self.old.vars cells }
         ensures rises { self.old.writes ≤ self.new.writes }
         ensures few { self.new.writes ≤ self.old.writes + 3 }
     {
         let first = self.write_if(cells.first);
         let second = self.write_if(cells.second);
         let third = self.write_if(cells.third);
-        HeldCells::none().with(first).with(second).with(third)
+        OldCells::none().with(first).with(second).with(third)
     }
 
     /// Writes a handle, where there is such a one, and answers what it held.
-    fn hold(&mut self, handle: usize, call: Option<usize>) -> HeldHandle
+    fn write_handle(&mut self, handle: usize, call: Option<usize>) -> OldHandle
         requires { IsSmall call }
         ensures after { self.new ≡ record self.old { handles = slice_set self.old.handles handle call; writes = self.new.writes } }
-        ensures held { result ≡ held self.old.handles handle }
+        ensures was { result ≡ entry_at self.old.handles handle }
         ensures rises { self.old.writes ≤ self.new.writes }
         ensures few { self.new.writes ≤ self.old.writes + 1 }
     {
         if handle >= self.handles.len() {
-            return HeldHandle::none();
+            return OldHandle::none();
         }
         let was = self.handles.items()[handle];
         self.handles.set(handle, call);
-        HeldHandle::of(handle, was)
+        OldHandle::of(handle, was)
     }
 
     /// Writes a handle, where one is named.
-    fn request(&mut self, handle: Option<usize>, call: Option<usize>) -> HeldHandle
+    fn request(&mut self, handle: Option<usize>, call: Option<usize>) -> OldHandle
         requires { IsSmall call }
         ensures after { self.new ≡ record self.old { handles = requested handle call self.old.handles; writes = self.new.writes } }
-        ensures held { result ≡ request_held handle self.old.handles }
+        ensures was { result ≡ handle_entry handle self.old.handles }
         ensures rises { self.old.writes ≤ self.new.writes }
         ensures few { self.new.writes ≤ self.old.writes + 1 }
     {
         match handle {
-            None => HeldHandle::none(),
-            Some(handle) => self.hold(handle, call),
+            None => OldHandle::none(),
+            Some(handle) => self.write_handle(handle, call),
         }
     }
 
-    /// Writes a cell, and goes on at a node.
-    fn assign(&mut self, cell: usize, value: i64, next: u32) -> RankRecord
-        ensures after { self.new ≡ record self.old { node = next; vars = slice_set self.old.vars cell value; writes = self.new.writes } }
-        ensures recorded { result ≡ alone_record self.old (Alone.Assign cell value next) }
+    /// Writes a cell, where there is such a one, and goes on at a node.
+    fn assign(&mut self, into: usize, value: i64, next: u32) -> RankRecord
+        ensures after { self.new ≡ record self.old { node = next; vars = slice_set self.old.vars into value; writes = self.new.writes } }
+        ensures recorded { result ≡ alone_record self.old (Alone.Assign into value next) }
         ensures rises { self.old.writes + 1 ≤ self.new.writes }
         ensures few { self.new.writes ≤ self.old.writes + 2 }
     {
         let Standing { node, activity } = self.standing();
         self.stand(next, activity);
-        let was = self.write(cell, value);
+        if into >= self.vars.len() {
+            return RankRecord {
+                from: node,
+                change: Change::Moved,
+            };
+        }
+        let was = self.vars.items()[into];
+        self.vars.set(into, value);
         RankRecord {
             from: node,
-            change: Change::assigned(was),
+            change: Change::Assigned {
+                cell: into as u32,
+                was,
+            },
         }
     }
 
@@ -381,19 +391,19 @@ impl RankState {
     }
 
     /// Puts a handle back.
-    fn put_handle(&mut self, was: HeldHandle)
-        ensures after { self.new ≡ record self.old { handles = put_held was self.old.handles; writes = self.new.writes } }
+    fn put_handle(&mut self, was: OldHandle)
+        ensures after { self.new ≡ record self.old { handles = put_entry was self.old.handles; writes = self.new.writes } }
         ensures rises { self.old.writes ≤ self.new.writes }
         ensures few { self.new.writes ≤ self.old.writes + 1 }
     {
         if let Some((handle, call)) = was.get() {
-            let _ = self.hold(handle, call);
+            let _ = self.write_handle(handle, call);
         }
     }
 
     /// Takes a wake back.
-    fn unwake(&mut self, cells: HeldCells, handle: HeldHandle)
-        ensures after { self.new ≡ record self.old { vars = write_cells cells self.old.vars; handles = put_held handle self.old.handles; activity = Activity.Blocked; writes = self.new.writes } }
+    fn unwake(&mut self, cells: OldCells, handle: OldHandle)
+        ensures after { self.new ≡ record self.old { vars = write_cells cells self.old.vars; handles = put_entry handle self.old.handles; activity = Activity.Blocked; writes = self.new.writes } }
         ensures rises { self.old.writes + 1 ≤ self.new.writes }
         ensures few { self.new.writes ≤ self.old.writes + 5 }
     {
@@ -405,15 +415,14 @@ impl RankState {
 
     /// Takes a step of the rank back. It can't be refused memory. One to five writes.
     #[inline(always)]
-    pub fn restore(&mut self, done: RankRecord)
-        requires { IsOfRank done.change }
-        ensures after { (p : Program) → rank_of p self.new ≡ undone_rank p (rank_of p self.old) done }
+    pub fn restore(&mut self, done: &RankRecord)
+        requires { IsOfRank done.now.change }
+        ensures after { (p : Program) → rank_of p self.new ≡ undone_rank p (rank_of p self.old) done.now }
         ensures rank { self.new.rank ≡ self.old.rank }
         ensures rises { self.old.writes + 1 ≤ self.new.writes }
         ensures few { self.new.writes ≤ self.old.writes + 5 }
     {
-        let RankRecord { from, change } = done;
-        match change {
+        match done.change {
             Change::Woke { cells, handle } => return self.unwake(cells, handle),
             Change::Assigned { cell, was } => {
                 let _ = self.write(cell as usize, was);
@@ -425,7 +434,7 @@ impl RankState {
             Change::Moved | Change::Trapped => {}
             Change::Matched { .. } | Change::Released => unreachable!(),
         }
-        self.stand(from, Activity::Running);
+        self.stand(done.from, Activity::Running);
     }
 
     /// Does this from here on, at the node that it is at. One write.

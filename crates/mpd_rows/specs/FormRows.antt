@@ -9,7 +9,7 @@ use Rattle.mpd_model.specs.declared.token.Mark.TheVariants as m
 use Rattle.mpd_model.specs.Canonical.{mark_text, parts_text}
 use Rattle.mpd_model.specs.Declaration.{Declared}
 use Rattle.mpd_model.specs.Faults.{fault}
-use Rattle.mpd_model.specs.Grammar.{chain, bracket, place_inside, rounds, signed, atom, level, expr, target, named, source, status, fill, form_of}
+use Rattle.mpd_model.specs.Grammar.{chain, bracket, place_inside, rounds, unary, atom, level, expr, target, statement_place, source, status, fill, form_of}
 use Rattle.mpd_model.specs.Input.{Outcome, start_of, token, spelling, place, advanced, refusal, same_mark, sees, after, expect, spend, slot_in, seek}
 use Rattle.mpd_model.specs.Parts.{Hole, mark_hole, term_hole, target_hole, source_hole, status_hole, Contents, filled}
 use Rattle.mpd_model.specs.Term.{lit, cell, Target}
@@ -58,35 +58,35 @@ abbrev target_and_status : List Hole
 target_and_status = target_hole Variable ∷ status_hole ∷ []
 
 pub row_any : filled_by source_and_tag (codes "any tag 3;") ≡ Ok (None, (lit (pos 3), tt))
-unfolding chain bracket place_inside rounds signed atom level expr target named source status token spelling place advanced refusal same_mark sees after expect spend slot_in seek tokens_after front sign word number
+unfolding chain bracket place_inside rounds unary atom level expr target statement_place source status token spelling place advanced refusal same_mark sees after expect spend slot_in seek tokens_after front sign word number
 row_any = refl
 
 pub row_source : filled_by source_and_tag (codes "x tag 3;") ≡ Ok (Some (cell at_x), (lit (pos 3), tt))
-unfolding chain bracket place_inside rounds signed atom level expr target named source status token spelling place advanced refusal same_mark sees after expect spend slot_in seek tokens_after front sign word number
+unfolding chain bracket place_inside rounds unary atom level expr target statement_place source status token spelling place advanced refusal same_mark sees after expect spend slot_in seek tokens_after front sign word number
 row_source = refl
 
 pub row_no_source : filled_by source_and_tag (codes "tag 3;") ≡ Err (fault f.Expected 0)
-unfolding chain bracket place_inside rounds signed atom level expr target named source status token spelling place advanced refusal same_mark sees after expect spend slot_in seek tokens_after front sign word number
+unfolding chain bracket place_inside rounds unary atom level expr target statement_place source status token spelling place advanced refusal same_mark sees after expect spend slot_in seek tokens_after front sign word number
 row_no_source = refl
 
 pub row_status : filled_by target_and_status (codes "x status a[1] x;") ≡ Ok (into_x, (Some (record { source = into_a 1; tag = into_x }), tt))
-unfolding chain bracket place_inside rounds signed atom level expr target named source status token spelling place advanced refusal same_mark sees after expect spend slot_in seek tokens_after front sign word number
+unfolding chain bracket place_inside rounds unary atom level expr target statement_place source status token spelling place advanced refusal same_mark sees after expect spend slot_in seek tokens_after front sign word number
 row_status = refl
 
 pub row_no_status : filled_by target_and_status (codes "a[2];") ≡ Ok (into_a 2, (None, tt))
-unfolding chain bracket place_inside rounds signed atom level expr target named source status token spelling place advanced refusal same_mark sees after expect spend slot_in seek tokens_after front sign word number
+unfolding chain bracket place_inside rounds unary atom level expr target statement_place source status token spelling place advanced refusal same_mark sees after expect spend slot_in seek tokens_after front sign word number
 row_no_status = refl
 
 pub row_status_of_a_number : filled_by target_and_status (codes "x status 1;") ≡ Err (fault f.Expected 9)
-unfolding chain bracket place_inside rounds signed atom level expr target named source status token spelling place advanced refusal same_mark sees after expect spend slot_in seek tokens_after front sign word number
+unfolding chain bracket place_inside rounds unary atom level expr target statement_place source status token spelling place advanced refusal same_mark sees after expect spend slot_in seek tokens_after front sign word number
 row_status_of_a_number = refl
 
 pub row_status_of_one : filled_by target_and_status (codes "x status x;") ≡ Err (fault f.Expected 10)
-unfolding chain bracket place_inside rounds signed atom level expr target named source status token spelling place advanced refusal same_mark sees after expect spend slot_in seek tokens_after front sign word number
+unfolding chain bracket place_inside rounds unary atom level expr target statement_place source status token spelling place advanced refusal same_mark sees after expect spend slot_in seek tokens_after front sign word number
 row_status_of_one = refl
 
 pub row_no_end : filled_by target_and_status (codes "x status x x") ≡ Err (fault f.Expected 12)
-unfolding chain bracket place_inside rounds signed atom level expr target named source status token spelling place advanced refusal same_mark sees after expect spend slot_in seek tokens_after front sign word number
+unfolding chain bracket place_inside rounds unary atom level expr target statement_place source status token spelling place advanced refusal same_mark sees after expect spend slot_in seek tokens_after front sign word number
 row_no_end = refl
 
 -- ---- how they are written

@@ -52,4 +52,4 @@ pub ruleset turning = (stmts_more, stmts_done, body_turns)
 
 pub ruleset depths = (block_none, block_more)
 
-pub ruleset declaring = (decls_more, decls_done, decls_turns)
+pub ruleset declarations = (decls_more, decls_done, decls_turns)

@@ -3,17 +3,17 @@ use Rattle.std.proofs.Common.{◌≡◌, ℕ, suc, ◌+◌, ◌-◌, ◌<◌, �
 use Rattle.mpd_model.specs.Term.{Term}
 use Rattle.mpd_model.specs.declared.read_fault.FaultCode.TheVariants.{TooDeep}
 use Rattle.mpd_model.specs.Input.{Parser, Input, and_then, token, fail}
-use Rattle.mpd_model.specs.Grammar.{chain, continued, operator_at, turns, level, atom, expr}
+use Rattle.mpd_model.specs.Grammar.{chain, chain_by, operator_at, turns, level, atom, expr}
 
 chain_none : (p : Parser Term) (k n : ℕ) (left : Term) (i : Input) → n ≡ 0 → chain p k n left i ≡ Ok (left, i)
 unfolding chain
 chain_none p k n left i e = rw e refl
 
-chain_some : (p : Parser Term) (k n m : ℕ) (left : Term) (i : Input) → n ≡ suc m → chain p k n left i ≡ continued (chain p k m) p left (operator_at k (token i)) i
+chain_some : (p : Parser Term) (k n m : ℕ) (left : Term) (i : Input) → n ≡ suc m → chain p k n left i ≡ chain_by (chain p k m) p left (operator_at k (token i)) i
 unfolding chain
 chain_some p k n m left i e = rw e refl
 
-pub chain_more : (p : Parser Term) (k n at : ℕ) (left : Term) (i : Input) → at < n → chain p k (n - at) left i ≡ continued (chain p k (n - (at + 1))) p left (operator_at k (token i)) i
+pub chain_more : (p : Parser Term) (k n at : ℕ) (left : Term) (i : Input) → at < n → chain p k (n - at) left i ≡ chain_by (chain p k (n - (at + 1))) p left (operator_at k (token i)) i
 chain_more p k n at left i h = chain_some p k (n - at) (n - (at + 1)) left i (omega arith)
 
 pub chain_done : (p : Parser Term) (k n at : ℕ) (left : Term) (i : Input) → n ≤ at → chain p k (n - at) left i ≡ Ok (left, i)

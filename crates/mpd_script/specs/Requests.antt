@@ -8,15 +8,15 @@ use Rattle.mpd_model.specs.declared.token.Mark.TheVariants as m
 use Rattle.mpd_model.specs.Parts.{Hole, mark_hole, term_hole, source_hole, status_hole}
 use Rattle.mpd_model.specs.Term.{Target}
 
-abbrev pub sent_by : Bool → Option Target → SendStmt → Simple
-sent_by false None s = st.Send s
-sent_by false (Some t) s = st.Isend (record { request = t; send = s })
-sent_by true None s = st.Ssend s
-sent_by true (Some t) s = st.Issend (record { request = t; send = s })
+abbrev pub send_of : Bool → Option Target → SendStmt → Simple
+send_of false None s = st.Send s
+send_of false (Some t) s = st.Isend (record { request = t; send = s })
+send_of true None s = st.Ssend s
+send_of true (Some t) s = st.Issend (record { request = t; send = s })
 
-abbrev pub received_by : Option Target → RecvStmt → Simple
-received_by None s = st.Recv s
-received_by (Some t) s = st.Irecv (record { request = t; recv = s })
+abbrev pub recv_of : Option Target → RecvStmt → Simple
+recv_of None s = st.Recv s
+recv_of (Some t) s = st.Irecv (record { request = t; recv = s })
 
 -- what follows the value of a send, the place that a receive writes, and its source
 abbrev pub to_holes : List Hole

@@ -164,8 +164,8 @@ fn atom(alloc: Global, tokens: &mut Tokens<'_>, depth: usize) -> Result<Expr, Re
         }
         Token::Name => place_inside(alloc, tokens, depth),
         Token::Is(Mark::RoundOpen) => rounds(alloc, tokens, depth),
-        Token::Is(Mark::Minus) => signed(alloc, tokens, depth, UnaryOp::Negate),
-        Token::Is(Mark::Not) => signed(alloc, tokens, depth, UnaryOp::Not),
+        Token::Is(Mark::Minus) => unary(alloc, tokens, depth, UnaryOp::Negate),
+        Token::Is(Mark::Not) => unary(alloc, tokens, depth, UnaryOp::Not),
         _ => Err(tokens.refuse()),
     }
 }
@@ -203,14 +203,14 @@ fn rounds(alloc: Global, tokens: &mut Tokens<'_>, depth: usize) -> Result<Expr, 
 
 /// An operator before its operand, which binds more closely than any between two.
 #[cycle(expr)]
-#[tactic(auto, unfolding(mpd_model::specs::Grammar::signed))]
-fn signed(
+#[tactic(auto, unfolding(mpd_model::specs::Grammar::unary))]
+fn unary(
     alloc: Global,
     tokens: &mut Tokens<'_>,
     depth: usize,
     op: UnaryOp,
 ) -> Result<Expr, ReadFault>
-    ensures { Reads (spec.signed (spec.expr depth) op tokens.old) result tokens.new }
+    ensures { Reads (spec.unary (spec.expr depth) op tokens.old) result tokens.new }
 {
     tokens.spend()?;
     let operand = expr(alloc, tokens, depth, 0)?;

@@ -37,12 +37,12 @@ pub(crate) fn bracket(tokens: &mut Tokens<'_>) -> Result<(), ReadFault>
 }
 
 /// What follows the name of a place that stands in no expression: the index of an array, an expression of its own.
-pub(crate) fn outside(
+pub(crate) fn index_outside(
     alloc: Global,
     tokens: &mut Tokens<'_>,
     slot: Slot,
 ) -> Result<Target, ReadFault>
-    ensures { Reads (spec.outside (spec.place_of_slot slot) slot.size tokens.old) result tokens.new }
+    ensures { Reads (spec.index_outside (spec.place_of_slot slot) slot.size tokens.old) result tokens.new }
 {
     let place = place_of(slot);
     if slot.size.is_none() {
@@ -64,17 +64,17 @@ fn target(alloc: Global, tokens: &mut Tokens<'_>, kind: DeclKind) -> Result<Targ
 {
     let slot = tokens.seek(kind)?;
     tokens.advance();
-    outside(alloc, tokens, slot)
+    index_outside(alloc, tokens, slot)
 }
 
 /// The place of the kind that a statement names behind its word.
-#[tactic(auto, unfolding(mpd_model::specs::Grammar::named))]
-pub(crate) fn named(
+#[tactic(auto, unfolding(mpd_model::specs::Grammar::statement_place))]
+pub(crate) fn statement_place(
     alloc: Global,
     tokens: &mut Tokens<'_>,
     kind: DeclKind,
 ) -> Result<Target, ReadFault>
-    ensures { Reads (spec.named kind tokens.old) result tokens.new }
+    ensures { Reads (spec.statement_place kind tokens.old) result tokens.new }
 {
     match tokens.peek() {
         Token::Name => target(alloc, tokens, kind),

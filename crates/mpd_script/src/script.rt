@@ -80,11 +80,11 @@ fn natural(value: i64) -> Option<usize>
 }
 
 /// The size of an array, and what is behind it.
-#[tactic(auto, unfolding(mpd_model::specs::Grammar::sized))]
-fn sized<'a>(tokens: &mut Tokens<'a>, kind: DeclKind, name: &'a [u8]) -> Result<(), ReadFault>
+#[tactic(auto, unfolding(mpd_model::specs::Grammar::array_size))]
+fn array_size<'a>(tokens: &mut Tokens<'a>, kind: DeclKind, name: &'a [u8]) -> Result<(), ReadFault>
     requires ascii { IsAscii name.now }
     requires new { slot_in tokens.old.decls name.now ≡ None }
-    ensures { Reads (spec.sized kind name.now tokens.old) result tokens.new }
+    ensures { Reads (spec.array_size kind name.now tokens.old) result tokens.new }
 {
     match tokens.peek() {
         Token::Number(value) => match natural(value) {
@@ -118,16 +118,16 @@ fn single<'a>(
 }
 
 /// The name in a declaration, and what is behind it.
-#[tactic(auto, unfolding(mpd_model::specs::Grammar::declaring))]
-fn declaring(tokens: &mut Tokens<'_>, kind: DeclKind) -> Result<(), ReadFault>
-    ensures { Reads (spec.declaring kind tokens.old) result tokens.new }
+#[tactic(auto, unfolding(mpd_model::specs::Grammar::declarator))]
+fn declarator(tokens: &mut Tokens<'_>, kind: DeclKind) -> Result<(), ReadFault>
+    ensures { Reads (spec.declarator kind tokens.old) result tokens.new }
 {
     let name = tokens.spelling();
     let place = tokens.place();
     tokens.fresh()?;
     tokens.advance();
     if tokens.eat(Mark::SquareOpen) {
-        sized(tokens, kind, name)
+        array_size(tokens, kind, name)
     } else {
         single(tokens, kind, name, place)
     }
@@ -139,7 +139,7 @@ fn decl(tokens: &mut Tokens<'_>, kind: DeclKind) -> Result<(), ReadFault>
     ensures { Reads (spec.decl kind tokens.old) result tokens.new }
 {
     match tokens.peek() {
-        Token::Name => declaring(tokens, kind),
+        Token::Name => declarator(tokens, kind),
         _ => Err(tokens.refuse()),
     }
 }
@@ -156,7 +156,7 @@ fn declares(token: Token) -> Option<DeclKind>
 }
 
 /// The declarations, up to what begins none.
-#[tactic(auto, using(crate::proofs::BlockSteps::declaring))]
+#[tactic(auto, using(crate::proofs::BlockSteps::declarations))]
 fn decls(tokens: &mut Tokens<'_>) -> Result<(), ReadFault>
     ensures { Reads (spec.decls tokens.old) result tokens.new }
 {

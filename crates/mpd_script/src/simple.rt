@@ -4,12 +4,13 @@ ghost use Rattle.std.specs.Prelude.{◌≡◌, []};
 ghost use Rattle.mpd_model.specs.Grammar as spec;
 ghost use Rattle.mpd_model.specs.Input.{Reads};
 ghost use Rattle.mpd_model.specs.Tree.{simple};
-ghost use Rattle.mpd_script.specs.Requests.{sent_by, received_by, from_holes, tag_holes, to_holes};
+ghost use Rattle.mpd_script.specs.Requests as requests;
+ghost use Rattle.mpd_script.specs.Requests.{from_holes, tag_holes, to_holes};
 
 use crate::cursor::Tokens;
 use crate::expr::expression;
-use crate::place::{named, outside};
-use crate::stmt::begun;
+use crate::place::{index_outside, statement_place};
+use crate::stmt::begin_statement;
 use mpd_model::expr::Expr;
 use mpd_model::place::DeclKind;
 use mpd_model::read_fault::ReadFault;
@@ -27,51 +28,51 @@ pub(crate) fn by_form(alloc: Global, tokens: &mut Tokens<'_>, word: Mark) -> Res
 {
     match word {
         Mark::Print => {
-            begun(tokens)?;
-            printing(alloc, tokens)
+            begin_statement(tokens)?;
+            print_statement(alloc, tokens)
         }
         Mark::Assert => {
-            begun(tokens)?;
-            asserting(alloc, tokens)
+            begin_statement(tokens)?;
+            assert_statement(alloc, tokens)
         }
         Mark::Send => {
-            begun(tokens)?;
-            sending(alloc, tokens)
+            begin_statement(tokens)?;
+            send_statement(alloc, tokens)
         }
         Mark::Ssend => {
-            begun(tokens)?;
-            sending_synchronous(alloc, tokens)
+            begin_statement(tokens)?;
+            ssend_statement(alloc, tokens)
         }
         Mark::Recv => {
-            begun(tokens)?;
-            receiving(alloc, tokens)
+            begin_statement(tokens)?;
+            recv_statement(alloc, tokens)
         }
         Mark::Isend => {
-            begun(tokens)?;
-            sending_held(alloc, tokens)
+            begin_statement(tokens)?;
+            isend_statement(alloc, tokens)
         }
         Mark::Issend => {
-            begun(tokens)?;
-            sending_synchronous_held(alloc, tokens)
+            begin_statement(tokens)?;
+            issend_statement(alloc, tokens)
         }
         Mark::Irecv => {
-            begun(tokens)?;
-            receiving_held(alloc, tokens)
+            begin_statement(tokens)?;
+            irecv_statement(alloc, tokens)
         }
         Mark::Wait => {
-            begun(tokens)?;
-            waiting(alloc, tokens)
+            begin_statement(tokens)?;
+            wait_statement(alloc, tokens)
         }
         Mark::Barrier => {
-            begun(tokens)?;
-            ended(tokens, Simple::Barrier)
+            begin_statement(tokens)?;
+            end_statement(tokens, Simple::Barrier)
         }
         _ => Err(tokens.refuse()),
     }
 }
 
 /// The statement, with the `;` behind it.
-fn ended(tokens: &mut Tokens<'_>, made: Simple) -> Result<Stmt, ReadFault>
+fn end_statement(tokens: &mut Tokens<'_>, made: Simple) -> Result<Stmt, ReadFault>
     ensures { Reads (spec.fill [] (λ c. simple made) tokens.old) result tokens.new }
 {
     tokens.expect(Mark::Semicolon)?;
@@ -81,39 +82,39 @@ fn ended(tokens: &mut Tokens<'_>, made: Simple) -> Result<Stmt, ReadFault>
 }
 
 /// What follows `print`.
-fn printing(alloc: Global, tokens: &mut Tokens<'_>) -> Result<Stmt, ReadFault>
-    ensures { Reads (spec.formed spec.print_form tokens.old) result tokens.new }
+fn print_statement(alloc: Global, tokens: &mut Tokens<'_>) -> Result<Stmt, ReadFault>
+    ensures { Reads (spec.behind_word spec.print_form tokens.old) result tokens.new }
 {
     let value = expression(alloc, tokens)?;
-    ended(tokens, Simple::Print(value))
+    end_statement(tokens, Simple::Print(value))
 }
 
 /// What follows the name of the place that an assignment writes.
-#[tactic(auto, unfolding(mpd_model::specs::Grammar::assigning))]
-pub(crate) fn assigning(
+#[tactic(auto, unfolding(mpd_model::specs::Grammar::assignment))]
+pub(crate) fn assignment(
     alloc: Global,
     tokens: &mut Tokens<'_>,
     slot: Slot,
 ) -> Result<Stmt, ReadFault>
-    ensures { Reads (spec.assigning slot tokens.old) result tokens.new }
+    ensures { Reads (spec.assignment slot tokens.old) result tokens.new }
 {
-    let into = outside(alloc, tokens, slot)?;
+    let into = index_outside(alloc, tokens, slot)?;
     tokens.expect(Mark::Assign)?;
     let value = expression(alloc, tokens)?;
-    ended(tokens, Simple::Assign(AssignStmt { into, value }))
+    end_statement(tokens, Simple::Assign(AssignStmt { into, value }))
 }
 
 /// What follows `assert`.
-fn asserting(alloc: Global, tokens: &mut Tokens<'_>) -> Result<Stmt, ReadFault>
-    ensures { Reads (spec.formed spec.assert_form tokens.old) result tokens.new }
+fn assert_statement(alloc: Global, tokens: &mut Tokens<'_>) -> Result<Stmt, ReadFault>
+    ensures { Reads (spec.behind_word spec.assert_form tokens.old) result tokens.new }
 {
     let test = expression(alloc, tokens)?;
-    ended(tokens, Simple::Assert(test))
+    end_statement(tokens, Simple::Assert(test))
 }
 
 /// A standard or a synchronous send, or one whose request a handle gets.
 fn send_of(synchronous: bool, request: Option<Target>, send: SendStmt) -> Simple
-    ensures { result ≡ sent_by synchronous request send }
+    ensures { result ≡ requests.send_of synchronous request send }
 {
     match (synchronous, request) {
         (false, None) => Simple::Send(send),
@@ -125,7 +126,7 @@ fn send_of(synchronous: bool, request: Option<Target>, send: SendStmt) -> Simple
 
 /// A receive, or one whose request a handle gets.
 fn recv_of(request: Option<Target>, recv: RecvStmt) -> Simple
-    ensures { result ≡ received_by request recv }
+    ensures { result ≡ requests.recv_of request recv }
 {
     match request {
         None => Simple::Recv(recv),
@@ -134,34 +135,34 @@ fn recv_of(request: Option<Target>, recv: RecvStmt) -> Simple
 }
 
 /// What a send sends, to whom and with which tag. A handle gets its request, if there is one.
-fn sent(
+fn send_parts(
     alloc: Global,
     tokens: &mut Tokens<'_>,
     synchronous: bool,
     request: Option<Target>,
 ) -> Result<Stmt, ReadFault>
-    ensures { Reads (spec.fill spec.sent_holes (λ c. simple (sent_by synchronous request (spec.sent c))) tokens.old) result tokens.new }
+    ensures { Reads (spec.fill spec.send_holes (λ c. simple (requests.send_of synchronous request (spec.send_in c))) tokens.old) result tokens.new }
 {
     let value = expression(alloc, tokens)?;
-    sent_to(alloc, tokens, synchronous, request, value)
+    send_behind_value(alloc, tokens, synchronous, request, value)
 }
 
 /// The rest of a send, behind what it sends.
-fn sent_to(
+fn send_behind_value(
     alloc: Global,
     tokens: &mut Tokens<'_>,
     synchronous: bool,
     request: Option<Target>,
     value: Expr,
 ) -> Result<Stmt, ReadFault>
-    ensures { Reads (spec.fill to_holes (λ c. simple (sent_by synchronous request (spec.sent (value, c)))) tokens.old) result tokens.new }
+    ensures { Reads (spec.fill to_holes (λ c. simple (requests.send_of synchronous request (spec.send_in (value, c)))) tokens.old) result tokens.new }
 {
     tokens.expect(Mark::To)?;
     let to = expression(alloc, tokens)?;
     tokens.expect(Mark::Tag)?;
     let tag = expression(alloc, tokens)?;
     let send = SendStmt { value, to, tag };
-    ended(tokens, send_of(synchronous, request, send))
+    end_statement(tokens, send_of(synchronous, request, send))
 }
 
 /// A source or a tag of a receive: `any`, or an expression.
@@ -182,8 +183,8 @@ fn status(alloc: Global, tokens: &mut Tokens<'_>) -> Result<Option<StatusStmt>, 
     ensures { Reads (spec.status tokens.old) result tokens.new }
 {
     if tokens.eat(Mark::Status) {
-        let source = named(alloc, tokens, DeclKind::Variable)?;
-        let tag = named(alloc, tokens, DeclKind::Variable)?;
+        let source = statement_place(alloc, tokens, DeclKind::Variable)?;
+        let tag = statement_place(alloc, tokens, DeclKind::Variable)?;
         Ok(Some(StatusStmt { source, tag }))
     } else {
         Ok(None)
@@ -191,40 +192,40 @@ fn status(alloc: Global, tokens: &mut Tokens<'_>) -> Result<Option<StatusStmt>, 
 }
 
 /// Where a receive writes, from whom it takes and with which tag, and where it writes that. A handle gets its request, if there is one.
-fn received(
+fn recv_parts(
     alloc: Global,
     tokens: &mut Tokens<'_>,
     request: Option<Target>,
 ) -> Result<Stmt, ReadFault>
-    ensures { Reads (spec.fill spec.received_holes (λ c. simple (received_by request (spec.received c))) tokens.old) result tokens.new }
+    ensures { Reads (spec.fill spec.recv_holes (λ c. simple (requests.recv_of request (spec.recv_in c))) tokens.old) result tokens.new }
 {
-    let into = named(alloc, tokens, DeclKind::Variable)?;
-    received_into(alloc, tokens, request, into)
+    let into = statement_place(alloc, tokens, DeclKind::Variable)?;
+    recv_behind_place(alloc, tokens, request, into)
 }
 
 /// The rest of a receive, behind the place that it writes.
-fn received_into(
+fn recv_behind_place(
     alloc: Global,
     tokens: &mut Tokens<'_>,
     request: Option<Target>,
     into: Target,
 ) -> Result<Stmt, ReadFault>
-    ensures { Reads (spec.fill from_holes (λ c. simple (received_by request (spec.received (into, c)))) tokens.old) result tokens.new }
+    ensures { Reads (spec.fill from_holes (λ c. simple (requests.recv_of request (spec.recv_in (into, c)))) tokens.old) result tokens.new }
 {
     tokens.expect(Mark::From)?;
     let from = source(alloc, tokens)?;
-    received_from(alloc, tokens, request, into, from)
+    recv_behind_source(alloc, tokens, request, into, from)
 }
 
 /// The rest of a receive, behind its source.
-fn received_from(
+fn recv_behind_source(
     alloc: Global,
     tokens: &mut Tokens<'_>,
     request: Option<Target>,
     into: Target,
     from: Option<Expr>,
 ) -> Result<Stmt, ReadFault>
-    ensures { Reads (spec.fill tag_holes (λ c. simple (received_by request (spec.received (into, (from, c))))) tokens.old) result tokens.new }
+    ensures { Reads (spec.fill tag_holes (λ c. simple (requests.recv_of request (spec.recv_in (into, (from, c))))) tokens.old) result tokens.new }
 {
     tokens.expect(Mark::Tag)?;
     let tag = source(alloc, tokens)?;
@@ -235,58 +236,58 @@ fn received_from(
         tag,
         status,
     };
-    ended(tokens, recv_of(request, recv))
+    end_statement(tokens, recv_of(request, recv))
 }
 
 /// What follows `send`.
-fn sending(alloc: Global, tokens: &mut Tokens<'_>) -> Result<Stmt, ReadFault>
-    ensures { Reads (spec.formed spec.send_form tokens.old) result tokens.new }
+fn send_statement(alloc: Global, tokens: &mut Tokens<'_>) -> Result<Stmt, ReadFault>
+    ensures { Reads (spec.behind_word spec.send_form tokens.old) result tokens.new }
 {
-    sent(alloc, tokens, false, None)
+    send_parts(alloc, tokens, false, None)
 }
 
 /// What follows `ssend`.
-fn sending_synchronous(alloc: Global, tokens: &mut Tokens<'_>) -> Result<Stmt, ReadFault>
-    ensures { Reads (spec.formed spec.ssend_form tokens.old) result tokens.new }
+fn ssend_statement(alloc: Global, tokens: &mut Tokens<'_>) -> Result<Stmt, ReadFault>
+    ensures { Reads (spec.behind_word spec.ssend_form tokens.old) result tokens.new }
 {
-    sent(alloc, tokens, true, None)
+    send_parts(alloc, tokens, true, None)
 }
 
 /// What follows `recv`.
-fn receiving(alloc: Global, tokens: &mut Tokens<'_>) -> Result<Stmt, ReadFault>
-    ensures { Reads (spec.formed spec.recv_form tokens.old) result tokens.new }
+fn recv_statement(alloc: Global, tokens: &mut Tokens<'_>) -> Result<Stmt, ReadFault>
+    ensures { Reads (spec.behind_word spec.recv_form tokens.old) result tokens.new }
 {
-    received(alloc, tokens, None)
+    recv_parts(alloc, tokens, None)
 }
 
 /// What follows `isend`.
-fn sending_held(alloc: Global, tokens: &mut Tokens<'_>) -> Result<Stmt, ReadFault>
-    ensures { Reads (spec.formed spec.isend_form tokens.old) result tokens.new }
+fn isend_statement(alloc: Global, tokens: &mut Tokens<'_>) -> Result<Stmt, ReadFault>
+    ensures { Reads (spec.behind_word spec.isend_form tokens.old) result tokens.new }
 {
-    let request = named(alloc, tokens, DeclKind::Handle)?;
-    sent(alloc, tokens, false, Some(request))
+    let request = statement_place(alloc, tokens, DeclKind::Handle)?;
+    send_parts(alloc, tokens, false, Some(request))
 }
 
 /// What follows `issend`.
-fn sending_synchronous_held(alloc: Global, tokens: &mut Tokens<'_>) -> Result<Stmt, ReadFault>
-    ensures { Reads (spec.formed spec.issend_form tokens.old) result tokens.new }
+fn issend_statement(alloc: Global, tokens: &mut Tokens<'_>) -> Result<Stmt, ReadFault>
+    ensures { Reads (spec.behind_word spec.issend_form tokens.old) result tokens.new }
 {
-    let request = named(alloc, tokens, DeclKind::Handle)?;
-    sent(alloc, tokens, true, Some(request))
+    let request = statement_place(alloc, tokens, DeclKind::Handle)?;
+    send_parts(alloc, tokens, true, Some(request))
 }
 
 /// What follows `irecv`.
-fn receiving_held(alloc: Global, tokens: &mut Tokens<'_>) -> Result<Stmt, ReadFault>
-    ensures { Reads (spec.formed spec.irecv_form tokens.old) result tokens.new }
+fn irecv_statement(alloc: Global, tokens: &mut Tokens<'_>) -> Result<Stmt, ReadFault>
+    ensures { Reads (spec.behind_word spec.irecv_form tokens.old) result tokens.new }
 {
-    let request = named(alloc, tokens, DeclKind::Handle)?;
-    received(alloc, tokens, Some(request))
+    let request = statement_place(alloc, tokens, DeclKind::Handle)?;
+    recv_parts(alloc, tokens, Some(request))
 }
 
 /// What follows `wait`.
-fn waiting(alloc: Global, tokens: &mut Tokens<'_>) -> Result<Stmt, ReadFault>
-    ensures { Reads (spec.formed spec.wait_form tokens.old) result tokens.new }
+fn wait_statement(alloc: Global, tokens: &mut Tokens<'_>) -> Result<Stmt, ReadFault>
+    ensures { Reads (spec.behind_word spec.wait_form tokens.old) result tokens.new }
 {
-    let request = named(alloc, tokens, DeclKind::Handle)?;
-    ended(tokens, Simple::Wait(request))
+    let request = statement_place(alloc, tokens, DeclKind::Handle)?;
+    end_statement(tokens, Simple::Wait(request))
 }

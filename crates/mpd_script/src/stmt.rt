@@ -6,7 +6,7 @@ ghost use Rattle.mpd_model.specs.Input.{Reads, ReadsAll};
 
 use crate::cursor::Tokens;
 use crate::expr::expression;
-use crate::simple::{assigning, by_form};
+use crate::simple::{assignment, by_form};
 use mpd_model::place::DeclKind;
 use mpd_model::read_fault::{FaultCode, ReadFault};
 use mpd_model::stmt::{Stmt, StmtNode};
@@ -25,8 +25,8 @@ fn closes(inside: bool, token: Token) -> bool
 }
 
 /// Takes the first token of a statement.
-pub(crate) fn begun(tokens: &mut Tokens<'_>) -> Result<(), ReadFault>
-    ensures { Reads (spec.begun tokens.old) result tokens.new }
+pub(crate) fn begin_statement(tokens: &mut Tokens<'_>) -> Result<(), ReadFault>
+    ensures { Reads (spec.begin_statement tokens.old) result tokens.new }
 {
     tokens.count()?;
     tokens.advance();
@@ -89,9 +89,9 @@ fn otherwise(alloc: Global, tokens: &mut Tokens<'_>, depth: usize) -> Result<Vec
 
 /// What follows `if`.
 #[cycle(block)]
-#[tactic(auto, unfolding(mpd_model::specs::Grammar::choosing))]
-fn choosing(alloc: Global, tokens: &mut Tokens<'_>, depth: usize) -> Result<Stmt, ReadFault>
-    ensures { Reads (spec.choosing (spec.block depth) tokens.old) result tokens.new }
+#[tactic(auto, unfolding(mpd_model::specs::Grammar::if_statement))]
+fn if_statement(alloc: Global, tokens: &mut Tokens<'_>, depth: usize) -> Result<Stmt, ReadFault>
+    ensures { Reads (spec.if_statement (spec.block depth) tokens.old) result tokens.new }
 {
     let test = expression(alloc, tokens)?;
     let first = block(alloc, tokens, depth)?;
@@ -103,9 +103,9 @@ fn choosing(alloc: Global, tokens: &mut Tokens<'_>, depth: usize) -> Result<Stmt
 
 /// What follows `while`.
 #[cycle(block)]
-#[tactic(auto, unfolding(mpd_model::specs::Grammar::repeating))]
-fn repeating(alloc: Global, tokens: &mut Tokens<'_>, depth: usize) -> Result<Stmt, ReadFault>
-    ensures { Reads (spec.repeating (spec.block depth) tokens.old) result tokens.new }
+#[tactic(auto, unfolding(mpd_model::specs::Grammar::while_statement))]
+fn while_statement(alloc: Global, tokens: &mut Tokens<'_>, depth: usize) -> Result<Stmt, ReadFault>
+    ensures { Reads (spec.while_statement (spec.block depth) tokens.old) result tokens.new }
 {
     let test = expression(alloc, tokens)?;
     let inside = block(alloc, tokens, depth)?;
@@ -122,16 +122,16 @@ fn stmt(alloc: Global, tokens: &mut Tokens<'_>, depth: usize) -> Result<Stmt, Re
     match tokens.peek() {
         Token::Name => {
             let slot = tokens.seek(DeclKind::Variable)?;
-            begun(tokens)?;
-            assigning(alloc, tokens, slot)
+            begin_statement(tokens)?;
+            assignment(alloc, tokens, slot)
         }
         Token::Is(Mark::If) => {
-            begun(tokens)?;
-            choosing(alloc, tokens, depth)
+            begin_statement(tokens)?;
+            if_statement(alloc, tokens, depth)
         }
         Token::Is(Mark::While) => {
-            begun(tokens)?;
-            repeating(alloc, tokens, depth)
+            begin_statement(tokens)?;
+            while_statement(alloc, tokens, depth)
         }
         Token::Is(Mark::Waitany) => {
             tokens.count()?;

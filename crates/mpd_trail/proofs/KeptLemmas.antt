@@ -173,6 +173,22 @@ pub keeps_pop : (s : Program) (first : World) (records : List RankRecord) (steps
 keeps_pop s first records steps last u a read k =
     record { within = omega (arith, length-append records (u ∷ []), k.within); few = k.few; leads = (leads_last s first records steps last u a read k).2; whole = k.whole }
 
+-- All records are those before the last, and that one.
+to_last : (records : List RankRecord) (n : ℕ) (u : RankRecord) → length records ≡ n + 1 → u ≡ get_or records n u → records ≡ take n records ++ u ∷ []
+to_last records n u long is = sym (take_all (n + 1) records (omega (arith, long))) ∙ take_more records n u (omega (arith, long)) ∙ ap (λ x. take n records ++ x ∷ []) (sym is)
+
+pub last_can : (s : Program) (first : World) (records : List RankRecord) (steps : List Step) (last : World) (n : ℕ) (u : RankRecord) (a : Step) → length records ≡ n + 1 → u ≡ get_or records n u → a ≡ get_or steps n a
+    → Keeps s first records steps last → CanUndo last (step_record a u)
+last_can s first records steps last n u a long is read k =
+    let short : length (take n records) ≡ n = omega (arith, length-take n records, long) in
+    keeps_can s first (take n records) steps last u a (rw short read) (subst (λ (rs : List RankRecord). Keeps s first rs steps last) (to_last records n u long is) k)
+
+pub last_pop : (s : Program) (first : World) (records : List RankRecord) (steps : List Step) (last : World) (n : ℕ) (u : RankRecord) (a : Step) → length records ≡ n + 1 → u ≡ get_or records n u → a ≡ get_or steps n a
+    → Keeps s first records steps last → Keeps s first (take n records) steps (undone s last (step_record a u))
+last_pop s first records steps last n u a long is read k =
+    let short : length (take n records) ≡ n = omega (arith, length-take n records, long) in
+    keeps_pop s first (take n records) steps last u a (rw short read) (subst (λ (rs : List RankRecord). Keeps s first rs steps last) (to_last records n u long is) k)
+
 -- The step that is taken back is the one that was read.
 pub step_back : (steps : List Step) (n : ℕ) (a b : Step) → n < length steps → a ≡ get_or steps n a → take (n + 1) steps ≡ take n steps ++ b ∷ [] → b ≡ a
 step_back steps n a b h read e =
@@ -183,4 +199,4 @@ step_back steps n a b h read e =
     last_same [] b a e = ap (λ ys. get_or ys 0 a) e
     last_same (x ∷ xs) b a e = last_same xs b a (ap (drop 1) e)
 
-pub ruleset keeping = (keeps_world, keeps_reached, keeps_push, keeps_can, keeps_pop, keeps_next, keeps_other, keeps_forgotten, kept_forgotten, take_noted)
+pub ruleset keeping = (keeps_world, keeps_reached, keeps_push, last_can, last_pop, keeps_next, keeps_other, keeps_forgotten, kept_forgotten, take_noted)

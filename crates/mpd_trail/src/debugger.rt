@@ -207,6 +207,23 @@ fn take(core: &mut Core<'_>, step: Step) -> Result<RankRecord, StepFault>
     Ok(RankRecord { from, change })
 }
 
+/// Takes a step of the state back, by what takes it back, the step aside.
+#[inline(always)]
+fn take_back(core: &mut Core<'_>, step: Step, done: &RankRecord)
+    requires { CanUndo core.old.world (step_record step done.now) }
+    ensures world { core.new.world ≡ undone core.old.program core.old.world (step_record step done.now) }
+    ensures program { core.new.program ≡ core.old.program }
+    ensures rises { core.old.writes + 1 ≤ core.new.writes }
+    ensures few { core.new.writes ≤ core.old.writes + most_writes core.old.program.ranks step }
+{
+    if let Step::Local(rank) = step {
+        core.undo_local(rank, done);
+        return;
+    }
+    let RankRecord { from, change } = *done;
+    core.undo(Record { step, from, change });
+}
+
 /// Has a step as the one at a depth: what stands there already stays, with all after it. Where the depth is the end, the room
 /// that was kept is taken.
 #[tactic(auto, using(crate::proofs::StepLemmas::noting))]
@@ -374,14 +391,13 @@ impl<'c> Debugger<'c> {
         ensures few { OnOk result ((step : Step) → kept self.old.trail ≡ kept self.new.trail ++ step ∷ [] → self.new.writes ≤ self.old.writes + most_writes self.old.trail.program.ranks step) }
         ensures unwritten { OnErr result (self.new.writes ≡ self.old.writes) }
     {
-        match self.records.pop() {
-            None => Err(AtStart),
-            Some(RankRecord { from, change }) => {
-                let step = self.steps[self.records.len()];
-                self.core.undo(Record { step, from, change });
-                Ok(())
-            }
-        }
+        let Some(last) = self.records.len().checked_sub(1) else {
+            return Err(AtStart);
+        };
+        let step = self.steps[last];
+        take_back(&mut self.core, step, &self.records[last]);
+        self.records.truncate(last);
+        Ok(())
     }
 
     /// Takes a step that is enabled, as `apply` does, where fewer than 1,000,000 steps are not undone. An `Err` is want of memory,

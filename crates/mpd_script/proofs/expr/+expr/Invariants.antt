@@ -14,8 +14,8 @@ decreases-rounds l = 32 * l.depth + 1
 abbrev pub decreases-place_inside : goal.decreases-place_inside
 decreases-place_inside l = 32 * l.depth + 1
 
-abbrev pub decreases-signed : goal.decreases-signed
-decreases-signed l = 32 * l.depth + 1
+abbrev pub decreases-unary : goal.decreases-unary
+decreases-unary l = 32 * l.depth + 1
 
 abbrev pub decreases-level : goal.decreases-level
 decreases-level l = 32 * l.depth + 2 * l.of + 4

@@ -8,11 +8,11 @@ decreases-block l = 8 * l.depth
 abbrev pub decreases-otherwise : goal.decreases-otherwise
 decreases-otherwise l = 8 * l.depth + 1
 
-abbrev pub decreases-choosing : goal.decreases-choosing
-decreases-choosing l = 8 * l.depth + 2
+abbrev pub decreases-if_statement : goal.decreases-if_statement
+decreases-if_statement l = 8 * l.depth + 2
 
-abbrev pub decreases-repeating : goal.decreases-repeating
-decreases-repeating l = 8 * l.depth + 2
+abbrev pub decreases-while_statement : goal.decreases-while_statement
+decreases-while_statement l = 8 * l.depth + 2
 
 abbrev pub decreases-stmt : goal.decreases-stmt
 decreases-stmt l = 8 * l.depth + 3

@@ -1,5 +1,5 @@
 use Rattle.mpd_laws.proofs.PrintScript.{canonical_is_read}
-use Rattle.mpd_laws.proofs.printing.canonical_is_read_again.Goals as goal
+use Rattle.mpd_laws.proofs.canonical.canonical_is_read_again.Goals as goal
 
 pub returns : goal.returns
 returns c = canonical_is_read

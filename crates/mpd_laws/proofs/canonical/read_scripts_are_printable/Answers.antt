@@ -1,5 +1,5 @@
 use Rattle.mpd_laws.proofs.PrintableStatements.{read_printable}
-use Rattle.mpd_laws.proofs.printing.read_scripts_are_printable.Goals as goal
+use Rattle.mpd_laws.proofs.canonical.read_scripts_are_printable.Goals as goal
 
 pub returns : goal.returns
 returns c = read_printable

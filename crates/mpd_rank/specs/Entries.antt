@@ -4,7 +4,7 @@ use Rattle.std.proofs.Common.{inl, inr, sym, ap, ◌∙◌}
 use Rattle.std.proofs.lemmas.Bool.Decides.{eqb_tells}
 use Rattle.mpd_model.specs.declared.limits.TheConstants.{CELLS_MAX, HANDLES_MAX}
 use Rattle.mpd_rank.specs.declared.standing.Standing.{Standing}
-use Rattle.mpd_rank.specs.declared.change.HeldHandle.TheInside as handle
+use Rattle.mpd_rank.specs.declared.change.OldHandle.TheInside as handle
 
 -- a number below 4294967295, or none
 abbrev pub IsSmall : Option ℕ → Type 0
@@ -25,8 +25,8 @@ number_back n =
     ]
 
 -- a cell and what it held
-abbrev pub held_cell : ℕ → ℤ → Option (ℕ × ℤ)
-held_cell n was = cond (eqb n 65535) None (Some (n, was))
+abbrev pub old_cell : ℕ → ℤ → Option (ℕ × ℤ)
+old_cell n was = cond (eqb n 65535) None (Some (n, was))
 
 abbrev pub cell_of : Option (ℕ × ℤ) → ℕ
 cell_of None = 65535
@@ -37,8 +37,8 @@ was_of None = pos 0
 was_of (Some w) = w.1
 
 -- a handle and what it held
-abbrev pub held_handle : ℕ → ℕ → Option (ℕ × Option ℕ)
-held_handle n call = cond (eqb n 4294967295) None (Some (n, some_number call))
+abbrev pub old_handle : ℕ → ℕ → Option (ℕ × Option ℕ)
+old_handle n call = cond (eqb n 4294967295) None (Some (n, some_number call))
 
 abbrev pub handle_of : Option (ℕ × Option ℕ) → ℕ
 handle_of None = 4294967295
@@ -51,23 +51,23 @@ call_of (Some w) = number_of w.1
 -- ---- both give their numbers back
 
 -- where there is no cell, nothing was held
-abbrev pub IsHeld : ℕ → ℤ → Type 0
-IsHeld n was = n ≡ 65535 → was ≡ pos 0
+abbrev pub IsOldCell : ℕ → ℤ → Type 0
+IsOldCell n was = n ≡ 65535 → was ≡ pos 0
 
-pub cell_back : (n : ℕ) (was : ℤ) → IsHeld n was → (cell_of (held_cell n was) ≡ n) × (was_of (held_cell n was) ≡ was)
+pub cell_back : (n : ℕ) (was : ℤ) → IsOldCell n was → (cell_of (old_cell n was) ≡ n) × (was_of (old_cell n was) ≡ was)
 cell_back n was h =
-    let held : Bool → Option (ℕ × ℤ) = λ b. cond b None (Some (n, was)) in
+    let old : Bool → Option (ℕ × ℤ) = λ b. cond b None (Some (n, was)) in
     elim (eqb_tells n 65535) [
-      | inl t ↦ (ap (λ b. cell_of (held b)) t.0 ∙ sym t.1, ap (λ b. was_of (held b)) t.0 ∙ sym (h t.1))
-      | inr t ↦ (ap (λ b. cell_of (held b)) t.0, ap (λ b. was_of (held b)) t.0)
+      | inl t ↦ (ap (λ b. cell_of (old b)) t.0 ∙ sym t.1, ap (λ b. was_of (old b)) t.0 ∙ sym (h t.1))
+      | inr t ↦ (ap (λ b. cell_of (old b)) t.0, ap (λ b. was_of (old b)) t.0)
     ]
 
-pub handle_back : (a : handle.Inside) → (a.handle ≡ 4294967295 → a.call ≡ 4294967295) → record { handle = handle_of (held_handle a.handle a.call); call = call_of (held_handle a.handle a.call) } ≡ a
+pub handle_back : (a : handle.Inside) → (a.handle ≡ 4294967295 → a.call ≡ 4294967295) → record { handle = handle_of (old_handle a.handle a.call); call = call_of (old_handle a.handle a.call) } ≡ a
 handle_back a h =
-    let held : Bool → Option (ℕ × Option ℕ) = λ b. cond b None (Some (a.handle, some_number a.call)) in
+    let old : Bool → Option (ℕ × Option ℕ) = λ b. cond b None (Some (a.handle, some_number a.call)) in
     elim (eqb_tells a.handle 4294967295) [
-      | inl t ↦ (λ i. record { handle = (ap (λ b. handle_of (held b)) t.0 ∙ sym t.1) i; call = (ap (λ b. call_of (held b)) t.0 ∙ sym (h t.1)) i })
-      | inr t ↦ (λ i. record { handle = ap (λ b. handle_of (held b)) t.0 i; call = (ap (λ b. call_of (held b)) t.0 ∙ number_back a.call) i })
+      | inl t ↦ (λ i. record { handle = (ap (λ b. handle_of (old b)) t.0 ∙ sym t.1) i; call = (ap (λ b. call_of (old b)) t.0 ∙ sym (h t.1)) i })
+      | inr t ↦ (λ i. record { handle = ap (λ b. handle_of (old b)) t.0 i; call = (ap (λ b. call_of (old b)) t.0 ∙ number_back a.call) i })
     ]
 
 -- what the tapes of a rank keep: one standing, few cells and handles, and small numbers of calls

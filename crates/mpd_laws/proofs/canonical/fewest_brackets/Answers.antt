@@ -1,5 +1,5 @@
 use Rattle.mpd_laws.proofs.PrintableTerms.{fewest}
-use Rattle.mpd_laws.proofs.printing.fewest_brackets.Goals as goal
+use Rattle.mpd_laws.proofs.canonical.fewest_brackets.Goals as goal
 
 pub returns : goal.returns
 returns c = fewest
