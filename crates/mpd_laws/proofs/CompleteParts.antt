@@ -53,7 +53,7 @@ pub record Begins (i : Input) (wanted : DeclKind) (ss : List Spot) (t : Target) 
   pub kind : slot.kind ≡ wanted
   pub reads : (ls : List ℕ) (b : ℕ) (rest : List Spot) → Gives (index_outside (place_of_slot slot) slot.size (on (behind ++ rest) ls b i)) t rest ls i
 
-whole_on : (p : Place) (o : Option ℕ) (rest : List Spot) (ls : List ℕ) (b : ℕ) (i : Input) → is_some o ≡ false
+pub whole_on : (p : Place) (o : Option ℕ) (rest : List Spot) (ls : List ℕ) (b : ℕ) (i : Input) → is_some o ≡ false
     → index_outside p o (on rest ls b i) ≡ Ok (record { place = p; index = None }, on rest ls b i)
 whole_on p None rest ls b i h = refl
 whole_on p (Some n) rest ls b i h = absurd (cc)
@@ -67,7 +67,7 @@ part_on p (Some n) a z ss rest t ls b i h ha w hz le =
     (bind_to _ _ _ _ (expression_on ss (z ∷ rest) t ls b i w le (mark_stops 5 z rest (Is m.SquareClose) hz refl))
     (bind_to _ _ _ _ (expect_on m.SquareClose z rest ls (NESTING_MAX - cost ss) i hz) refl))
 
-same_place : (p q : Place) (o : Option ℕ) (t : Target) (ss us rest : List Spot) (ls : List ℕ) (b : ℕ) (i : Input) → p ≡ q → ss ≡ us
+pub same_place : (p q : Place) (o : Option ℕ) (t : Target) (ss us rest : List Spot) (ls : List ℕ) (b : ℕ) (i : Input) → p ≡ q → ss ≡ us
     → Gives (index_outside q o (on us ls b i)) t rest ls i → Gives (index_outside p o (on ss ls b i)) t rest ls i
 same_place p q o t ss us rest ls b i d e g = rw (d, e) g
 
@@ -96,7 +96,7 @@ target_begins i kind _ _ (part s a z ss p t n ha w hz) le = record {
 }
 
 -- a kind is the same as itself
-kind_is_same : (kind : DeclKind) → same_kind kind kind ≡ true
+pub kind_is_same : (kind : DeclKind) → same_kind kind kind ≡ true
 kind_is_same Variable = refl
 kind_is_same Handle = refl
 
@@ -110,7 +110,7 @@ target_on : (kind : DeclKind) (s : Spot) (slot : Slot) (ss rest : List Spot) (t 
 unfolding target advanced
 target_on kind s slot ss rest t ls b i d k g = record { left = g.left; is = bind_to _ _ _ _ (seek_on kind s slot ss ls b i d k) g.is }
 
-statement_place_as : (kind : DeclKind) (s : Spot) (ss : List Spot) (ls : List ℕ) (b : ℕ) (i : Input) → s.token ≡ Name → statement_place kind (on (s ∷ ss) ls b i) ≡ target kind (on (s ∷ ss) ls b i)
+pub statement_place_as : (kind : DeclKind) (s : Spot) (ss : List Spot) (ls : List ℕ) (b : ℕ) (i : Input) → s.token ≡ Name → statement_place kind (on (s ∷ ss) ls b i) ≡ target kind (on (s ∷ ss) ls b i)
 unfolding statement_place token
 statement_place_as kind s ss ls b i e = ap (λ u. statement_place_by kind u (on (s ∷ ss) ls b i)) e
 
@@ -118,7 +118,7 @@ statement_place_from : (kind : DeclKind) (s : Spot) (ss rest : List Spot) (t : T
     → Gives (statement_place kind (on (s ∷ ss) ls b i)) t rest ls i
 statement_place_from kind s ss rest t ls b i e g = record { left = g.left; is = statement_place_as kind s ss ls b i e ∙ g.is }
 
-statement_place_same : (kind : DeclKind) (ss us rest : List Spot) (t : Target) (ls : List ℕ) (b : ℕ) (i : Input) → ss ≡ us → Gives (statement_place kind (on us ls b i)) t rest ls i
+pub statement_place_same : (kind : DeclKind) (ss us rest : List Spot) (t : Target) (ls : List ℕ) (b : ℕ) (i : Input) → ss ≡ us → Gives (statement_place kind (on us ls b i)) t rest ls i
     → Gives (statement_place kind (on ss ls b i)) t rest ls i
 statement_place_same kind ss us rest t ls b i e g = rw e g
 
@@ -139,7 +139,7 @@ status_stops ds ps None rs us f w = f rs w
 status_stops ds ps (Some t) _ us f (then_part _ rs _ _ (by_mark s _ h) w) = mark_stops 5 s (rs ++ us) (Is m.Status) h refl
 
 -- no operator goes on with what comes before the holes
-holes_stop : (ds : List Declared) (hs : List Hole) (c : Contents hs) (rs : List Spot) (end : Spot) (rest : List Spot) → EndsTerm hs → WrittenParts ds rs (filled hs c) → end.token ≡ Is m.Semicolon
+pub holes_stop : (ds : List Declared) (hs : List Hole) (c : Contents hs) (rs : List Spot) (end : Spot) (rest : List Spot) → EndsTerm hs → WrittenParts ds rs (filled hs c) → end.token ≡ Is m.Semicolon
     → Stops 5 (rs ++ (end ∷ rest))
 holes_stop ds [] c _ end rest h no_part e = mark_stops 5 end rest (Is m.Semicolon) e refl
 holes_stop ds (mark_hole k ∷ hs) c _ end rest h (then_part _ rs _ _ (by_mark s _ x) w) e = mark_stops 5 s (rs ++ (end ∷ rest)) (Is k) x h
@@ -148,7 +148,7 @@ holes_stop ds (target_hole kind ∷ hs) c _ end rest h w e = absurd h
 holes_stop ds (source_hole ∷ hs) c _ end rest h w e = absurd h
 holes_stop ds (status_hole ∷ hs) c rs end rest h w e = status_stops ds (filled hs c.1) c.0 rs (end ∷ rest) (λ ss x. holes_stop ds hs c.1 ss end rest h x e) w
 
-no_status : (ds : List Declared) (hs : List Hole) (c : Contents hs) (rs : List Spot) (end : Spot) (rest : List Spot) → EndsStatus hs → WrittenParts ds rs (filled hs c) → end.token ≡ Is m.Semicolon
+pub no_status : (ds : List Declared) (hs : List Hole) (c : Contents hs) (rs : List Spot) (end : Spot) (rest : List Spot) → EndsStatus hs → WrittenParts ds rs (filled hs c) → end.token ≡ Is m.Semicolon
     → is_mark m.Status (token_of (rs ++ (end ∷ rest))) ≡ false
 unfolding same_mark
 no_status ds [] c _ end rest h no_part e = ap (is_mark m.Status) e
@@ -169,7 +169,7 @@ sign_is_other _ op h = absurd (cc)
 same_first : (us vs : List Spot) → us ≡ vs → is_mark m.Any (token_of vs) ≡ false → is_mark m.Any (token_of us) ≡ false
 same_first us vs e h = rw e h
 
-term_is_other : (ds : List Declared) (k : ℕ) (ss : List Spot) (t : Term) → WrittenTerm ds k ss t → (us : List Spot) → is_mark m.Any (token_of (ss ++ us)) ≡ false
+pub term_is_other : (ds : List Declared) (k : ℕ) (ss : List Spot) (t : Term) → WrittenTerm ds k ss t → (us : List Spot) → is_mark m.Any (token_of (ss ++ us)) ≡ false
 unfolding same_mark
 term_is_other ds _ _ _ (number s n h) us = ap (is_mark m.Any) h
 term_is_other ds _ _ _ (rank s h) us = ap (is_mark m.Any) h
@@ -181,7 +181,7 @@ term_is_other ds _ _ _ (signs s ss op t h w) us = sign_is_other s.token op h
 term_is_other ds _ _ _ (higher k ss t w) us = term_is_other ds k ss t w us
 term_is_other ds _ _ _ (joins k l r o op a b h v w) us = same_first (l ++ o ∷ r ++ us) (l ++ (o ∷ r ++ us)) (append_assoc l (o ∷ r) us) (term_is_other ds (left_level k) l a v (o ∷ r ++ us))
 
-any_on : (s : Spot) (us : List Spot) (ls : List ℕ) (b : ℕ) (i : Input) → is_mark m.Any s.token ≡ true → source (on (s ∷ us) ls b i) ≡ Ok (None, on us ls b i)
+pub any_on : (s : Spot) (us : List Spot) (ls : List ℕ) (b : ℕ) (i : Input) → is_mark m.Any s.token ≡ true → source (on (s ∷ us) ls b i) ≡ Ok (None, on us ls b i)
 unfolding source sees after token advanced
 any_on s us ls b i h = rw h refl
 
@@ -197,7 +197,7 @@ source_on (Some e) _ us ls b i (by_term ss _ w) le x =
 
 -- ---- a status
 
-absent_on : (us : List Spot) (ls : List ℕ) (b : ℕ) (i : Input) → is_mark m.Status (token_of us) ≡ false → status (on us ls b i) ≡ Ok (None, on us ls b i)
+pub absent_on : (us : List Spot) (ls : List ℕ) (b : ℕ) (i : Input) → is_mark m.Status (token_of us) ≡ false → status (on us ls b i) ≡ Ok (None, on us ls b i)
 unfolding status sees after token
 absent_on us ls b i h = rw h refl
 

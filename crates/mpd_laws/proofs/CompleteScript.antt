@@ -24,28 +24,28 @@ use Rattle.mpd_laws.proofs.Complete.{bind_to, expect_at}
 use Rattle.mpd_laws.proofs.CompleteStatements.{tree_opens, body_complete}
 
 -- the input with other tokens next and other declarations
-abbrev has : List Spot → List Declared → Input → Input
+abbrev pub has : List Spot → List Declared → Input → Input
 has ss ds i = record i { tokens = ss; decls = ds }
 
-expect_has : (wanted : Mark) (s : Spot) (rest : List Spot) (ds : List Declared) (i : Input) → s.token ≡ Is wanted → expect wanted (has (s ∷ rest) ds i) ≡ Ok (tt, has rest ds i)
+pub expect_has : (wanted : Mark) (s : Spot) (rest : List Spot) (ds : List Declared) (i : Input) → s.token ≡ Is wanted → expect wanted (has (s ∷ rest) ds i) ≡ Ok (tt, has rest ds i)
 expect_has wanted s rest ds i e = expect_at wanted s rest i.budget (has rest ds i) e
 
-mark_seen : (wanted : Mark) (t : Token) → t ≡ Is wanted → is_mark wanted t ≡ true
+pub mark_seen : (wanted : Mark) (t : Token) → t ≡ Is wanted → is_mark wanted t ≡ true
 unfolding same_mark
 mark_seen wanted t e = ap (is_mark wanted) e ∙ true_same the_type wanted wanted refl
 
 -- ---- a declaration
 
-fresh_has : (n : Spot) (rest : List Spot) (ds : List Declared) (i : Input) → slot_in ds n.text ≡ None → fresh (has (n ∷ rest) ds i) ≡ Ok (tt, has (n ∷ rest) ds i)
+pub fresh_has : (n : Spot) (rest : List Spot) (ds : List Declared) (i : Input) → slot_in ds n.text ≡ None → fresh (has (n ∷ rest) ds i) ≡ Ok (tt, has (n ∷ rest) ds i)
 unfolding fresh spelling
 fresh_has n rest ds i h = rw h refl
 
-add_has : (kind : DeclKind) (name : List ℕ) (size : Option ℕ) (p : ℕ) (ss : List Spot) (ds : List Declared) (i : Input) → cells_fit kind size ds ≡ true
+pub add_has : (kind : DeclKind) (name : List ℕ) (size : Option ℕ) (p : ℕ) (ss : List Spot) (ds : List Declared) (i : Input) → cells_fit kind size ds ≡ true
     → add kind name size p (has ss ds i) ≡ Ok (tt, has ss (ds ++ declared_as kind name size ∷ []) i)
 unfolding add
 add_has kind name size p ss ds i h = rw h refl
 
-no_size : (s : Spot) → s.token ≡ Is m.Semicolon → is_mark m.SquareOpen s.token ≡ false
+pub no_size : (s : Spot) → s.token ≡ Is m.Semicolon → is_mark m.SquareOpen s.token ≡ false
 unfolding same_mark
 no_size s e = ap (is_mark m.SquareOpen) e
 
@@ -69,7 +69,7 @@ unfolding array_size token
 array_size_has kind name n c z end rest ds i ec ez e h = ap (λ u. array_size_by kind name u (has (c ∷ z ∷ end ∷ rest) ds i)) ec ∙ array_size_at_has kind name n c z end rest ds i ez e h
 
 -- one of two, each with its input
-chosen : (b c : Bool) (p q : Parser (Unit {0})) (x y : Input) (o : Outcome (Unit {0})) → b ≡ c → cond c p q (cond c x y) ≡ o → cond b p q (cond b x y) ≡ o
+pub chosen : (b c : Bool) (p q : Parser (Unit {0})) (x y : Input) (o : Outcome (Unit {0})) → b ≡ c → cond c p q (cond c x y) ≡ o → cond b p q (cond b x y) ≡ o
 chosen b c p q x y o e h = rw e h
 
 declarator_has : (kind : DeclKind) (n end : Spot) (rest : List Spot) (ds : List Declared) (i : Input) → slot_in ds n.text ≡ None → end.token ≡ Is m.Semicolon → cells_fit kind None ds ≡ true
@@ -87,18 +87,18 @@ array_has kind n a c z end cells rest ds i free ea ec ez e h =
     bind_to _ _ _ _ (fresh_has n (a ∷ c ∷ z ∷ end ∷ rest) ds i free)
     (chosen (is_mark m.SquareOpen a.token) true _ _ _ _ _ (mark_seen m.SquareOpen a.token ea) (array_size_has kind n.text cells c z end rest ds i ec ez e h))
 
-decl_as : (kind : DeclKind) (n : Spot) (ss : List Spot) (ds : List Declared) (i : Input) → n.token ≡ Name → decl kind (has (n ∷ ss) ds i) ≡ declarator kind (has (n ∷ ss) ds i)
+pub decl_as : (kind : DeclKind) (n : Spot) (ss : List Spot) (ds : List Declared) (i : Input) → n.token ≡ Name → decl kind (has (n ∷ ss) ds i) ≡ declarator kind (has (n ∷ ss) ds i)
 unfolding decl token
 decl_as kind n ss ds i e = ap (λ u. decl_by kind u (has (n ∷ ss) ds i)) e
 
 -- ---- all declarations
 
-decls_more : (kind : DeclKind) (n : ℕ) (v : Spot) (ss : List Spot) (ds : List Declared) (i : Input) → declares v.token ≡ Some kind
+pub decls_more : (kind : DeclKind) (n : ℕ) (v : Spot) (ss : List Spot) (ds : List Declared) (i : Input) → declares v.token ≡ Some kind
     → decls_from (suc n) (has (v ∷ ss) ds i) ≡ and_then (decl kind (has ss ds i)) (λ u. decls_from n)
 unfolding decls_from token advanced
 decls_more kind n v ss ds i h = ap (λ o. decls_by (decls_from n) o (has (v ∷ ss) ds i)) h
 
-decls_end : (n : ℕ) (ss : List Spot) (ds : List Declared) (i : Input) → declares (token_of ss) ≡ None → decls_from (suc n) (has ss ds i) ≡ Ok (tt, has ss ds i)
+pub decls_end : (n : ℕ) (ss : List Spot) (ds : List Declared) (i : Input) → declares (token_of ss) ≡ None → decls_from (suc n) (has ss ds i) ≡ Ok (tt, has ss ds i)
 unfolding decls_from token
 decls_end n ss ds i h = ap (λ o. decls_by (decls_from n) o (has ss ds i)) h
 
@@ -152,17 +152,17 @@ all_decls ss rest es i w h a b =
 
 -- ---- the header
 
-version_has : (s : Spot) (n : ℕ) (rest : List Spot) (ds : List Declared) (i : Input) → s.token ≡ Number (pos n) → n ≡ 1 → version (has (s ∷ rest) ds i) ≡ Ok (tt, has rest ds i)
+pub version_has : (s : Spot) (n : ℕ) (rest : List Spot) (ds : List Declared) (i : Input) → s.token ≡ Number (pos n) → n ≡ 1 → version (has (s ∷ rest) ds i) ≡ Ok (tt, has rest ds i)
 unfolding version token advanced
 version_has s n rest ds i e one = ap (λ u. version_by u (has (s ∷ rest) ds i)) (e ∙ ap (λ k. Number (pos k)) one)
 
-count_fits : (n : ℕ) → 1 ≤ n → n ≤ RANKS_MAX → rank_count (pos n) ≡ Some n
+pub count_fits : (n : ℕ) → 1 ≤ n → n ≤ RANKS_MAX → rank_count (pos n) ≡ Some n
 count_fits n a b =
     let p : nat_le 1 n ≡ true = grind (arith, nat_tests) in
     let q : nat_le n RANKS_MAX ≡ true = grind (arith, nat_tests) in
     rw (p, q) refl
 
-ranks_by_has : (s : Spot) (n : ℕ) (rest : List Spot) (ds : List Declared) (i : Input) → rank_count (pos n) ≡ Some n → ranks_by (Number (pos n)) (has (s ∷ rest) ds i) ≡ Ok (n, has rest ds i)
+pub ranks_by_has : (s : Spot) (n : ℕ) (rest : List Spot) (ds : List Declared) (i : Input) → rank_count (pos n) ≡ Some n → ranks_by (Number (pos n)) (has (s ∷ rest) ds i) ≡ Ok (n, has rest ds i)
 unfolding advanced
 ranks_by_has s n rest ds i h = ap (λ o. grammar.ranks_of o (has (s ∷ rest) ds i)) h
 
@@ -189,7 +189,7 @@ header_has mpd v a r c b ss rest version count es i hm hv one ha hr hc low high 
 tree_is_no_decl : (ds : List Declared) (ss : List Spot) (t : Tree) (ls : List ℕ) → WrittenTree ds ss t ls → (r : List Spot) → declares (token_of (ss ++ r)) ≡ None
 tree_is_no_decl ds ss t ls w r = (tree_opens ds ss t ls w r).no_decl
 
-body_is_no_decl : (ds : List Declared) (ss : List Spot) (ts : List Tree) (ls : List ℕ) → WrittenBody ds ss ts ls → declares (token_of ss) ≡ None
+pub body_is_no_decl : (ds : List Declared) (ss : List Spot) (ts : List Tree) (ls : List ℕ) → WrittenBody ds ss ts ls → declares (token_of ss) ≡ None
 body_is_no_decl ds _ _ _ ended = refl
 body_is_no_decl ds _ _ _ (follows ss rs t ts ls ms v w) = tree_is_no_decl ds ss t ls v rs
 
@@ -202,7 +202,7 @@ whole_body ss ds ts ls i none_yet w deep dear few =
 
 -- ---- scripts
 
-with_version : (p : Program) (n : ℕ) → p.version ≡ n → record { version = n; ranks = p.ranks; decls = p.decls; body = p.body; lines = p.lines } ≡ p
+pub with_version : (p : Program) (n : ℕ) → p.version ≡ n → record { version = n; ranks = p.ranks; decls = p.decls; body = p.body; lines = p.lines } ≡ p
 with_version p n e = ap (λ k. record { version = k; ranks = p.ranks; decls = p.decls; body = p.body; lines = p.lines }) (sym e)
 
 script_has : (ss rs : List Spot) (p : Program) (i : Input) → p.version ≡ 1 → header (has ss [] i) ≡ Ok (p.ranks, has rs p.decls i)

@@ -53,12 +53,12 @@ while_statement_read B e xs rest t x ls ms b i w le s inside =
     let f = inside (NESTING_MAX - cost e) in
     record { left = f.left; is = bind_to _ _ _ _ (expression_on e xs t ls b i w le s) (bind_to _ _ _ _ f.is refl) }
 
-otherwise_none : (B : Parser (List Tree)) (rest : List Spot) (ls : List ℕ) (b : ℕ) (i : Input) → is_mark m.Else (token_of rest) ≡ false
+pub otherwise_none : (B : Parser (List Tree)) (rest : List Spot) (ls : List ℕ) (b : ℕ) (i : Input) → is_mark m.Else (token_of rest) ≡ false
     → otherwise B (on rest ls b i) ≡ Ok ([], on rest ls b i)
 unfolding otherwise sees after token
 otherwise_none B rest ls b i h = rw h refl
 
-otherwise_some : (B : Parser (List Tree)) (w : Spot) (rest : List Spot) (ls : List ℕ) (b : ℕ) (i : Input) → is_mark m.Else w.token ≡ true
+pub otherwise_some : (B : Parser (List Tree)) (w : Spot) (rest : List Spot) (ls : List ℕ) (b : ℕ) (i : Input) → is_mark m.Else w.token ≡ true
     → otherwise B (on (w ∷ rest) ls b i) ≡ B (on rest ls b i)
 unfolding otherwise sees after token advanced
 otherwise_some B w rest ls b i h = rw h refl
@@ -103,7 +103,7 @@ form_reads i n f c _ end by (then_part _ rs _ _ (by_mark s _ h) w) le he b ls re
     (fill_on f.holes (λ d. simple (f.made d)) c rs end rest (ls ++ s.line ∷ []) b i f.clear w (omega arith) he))
 
 -- where a word has a form, that reads the statement
-stmt_by_form : (B : Parser (List Tree)) (k : Mark) (f : Form) → form_of k ≡ Some f → stmt_by B (Is k) ≡ by_form (Some f)
+pub stmt_by_form : (B : Parser (List Tree)) (k : Mark) (f : Form) → form_of k ≡ Some f → stmt_by B (Is k) ≡ by_form (Some f)
 stmt_by_form B m.If f h = absurd (cc)
 stmt_by_form B m.While f h = absurd (cc)
 stmt_by_form B m.Waitany f h = absurd (cc)
@@ -117,10 +117,10 @@ behind_place_read slot xs us rest t e ls b i g f =
     let h = f g.left in
     record { left = h.left; is = bind_to _ _ _ _ g.is h.is }
 
-assigned_tokens : (s : Spot) (v xs us : List Spot) (end : Spot) (rest : List Spot) → v ≡ s ∷ xs → v ++ us ++ end ∷ [] ++ rest ≡ s ∷ (xs ++ (us ++ (end ∷ rest)))
+pub assigned_tokens : (s : Spot) (v xs us : List Spot) (end : Spot) (rest : List Spot) → v ≡ s ∷ xs → v ++ us ++ end ∷ [] ++ rest ≡ s ∷ (xs ++ (us ++ (end ∷ rest)))
 assigned_tokens s v xs us end rest h = rw h (simp append_assoc)
 
-assigned_line : (s : Spot) (v xs us : List Spot) → v ≡ s ∷ xs → s.line ≡ first_line (v ++ us)
+pub assigned_line : (s : Spot) (v xs us : List Spot) → v ≡ s ∷ xs → s.line ≡ first_line (v ++ us)
 assigned_line s v xs us h = rw h refl
 
 assigns_reads : (i : Input) (n : ℕ) (t : Target) (e : Term) (ss : List Spot) (end : Spot)
@@ -212,7 +212,7 @@ braces_read n a z ss rest ts ls ms b i ha hz g = record {
   is = bind_to _ _ _ _ (expect_on m.BraceOpen a ss ls b i ha) (bind_to _ _ _ _ g.is (bind_to _ _ _ _ (expect_on m.BraceClose z rest ms g.left i hz) refl));
 }
 
-brace_closes : (z : Spot) → z.token ≡ Is m.BraceClose → closes true z.token ≡ true
+pub brace_closes : (z : Spot) → z.token ≡ Is m.BraceClose → closes true z.token ≡ true
 brace_closes z e = ap (closes true) e
 
 braces_reads : (i : Input) (n k : ℕ) (a z : Spot) (ss : List Spot) (ts : List Tree) (ms : List ℕ) → n ≡ suc k → a.token ≡ Is m.BraceOpen → z.token ≡ Is m.BraceClose
@@ -223,7 +223,7 @@ braces_reads i n k a z ss ts ms en ha hz h b ls rest few =
     same_gives (block n) ts _ (a ∷ (ss ++ z ∷ rest)) rest ls (ls ++ ms) (ls ++ ms) b i (simp append_assoc) refl
     (rw en (braces_read k a z (ss ++ z ∷ rest) rest ts ls (ls ++ ms) b i ha hz inner))
 
-block_stops : (ds : List Declared) (ss : List Spot) (ts : List Tree) (ls : List ℕ) → WrittenBlock ds ss ts ls → (r : List Spot) → Stops 5 (ss ++ r)
+pub block_stops : (ds : List Declared) (ss : List Spot) (ts : List Tree) (ls : List ℕ) → WrittenBlock ds ss ts ls → (r : List Spot) → Stops 5 (ss ++ r)
 block_stops ds _ _ _ (braces a z ss ts ls ha w hz) r = mark_stops 5 a (ss ++ z ∷ [] ++ r) (Is m.BraceOpen) ha refl
 
 -- ---- bodies
@@ -295,7 +295,7 @@ closing_is_other true (Is m.BraceClose) h = refl
 closing_is_other false End h = refl
 closing_is_other _ _ h = absurd (cc)
 
-body_other : (ds : List Declared) (ss : List Spot) (ts : List Tree) (ls : List ℕ) → WrittenBody ds ss ts ls → (inside : Bool) (rest : List Spot) → closes inside (token_of rest) ≡ true
+pub body_other : (ds : List Declared) (ss : List Spot) (ts : List Tree) (ls : List ℕ) → WrittenBody ds ss ts ls → (inside : Bool) (rest : List Spot) → closes inside (token_of rest) ≡ true
     → is_mark m.Else (token_of (ss ++ rest)) ≡ false
 body_other ds _ _ _ ended inside rest h = closing_is_other inside (token_of rest) h
 body_other ds _ _ _ (follows ss rs t ts ls ms v w) inside rest h =
@@ -303,7 +303,7 @@ body_other ds _ _ _ (follows ss rs t ts ls ms v w) inside rest h =
     let x = tree_opens ds ss t ls v (rs ++ rest) in
     ap (λ r. is_mark m.Else (token_of r)) same ∙ x.other
 
-stmts_end : (B : Parser (List Tree)) (inside : Bool) (n : ℕ) (found : List Tree) (ss : List Spot) (ls : List ℕ) (b : ℕ) (i : Input) → closes inside (token_of ss) ≡ true
+pub stmts_end : (B : Parser (List Tree)) (inside : Bool) (n : ℕ) (found : List Tree) (ss : List Spot) (ls : List ℕ) (b : ℕ) (i : Input) → closes inside (token_of ss) ≡ true
     → stmts B inside (suc n) found (on ss ls b i) ≡ Ok (found, on ss ls b i)
 unfolding stmts token
 stmts_end B inside n found ss ls b i h = rw h refl

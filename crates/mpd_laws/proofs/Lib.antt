@@ -1,12 +1,8 @@
 mod CallsInOrder
-mod Complete
-mod CompleteParts
-mod CompleteStatements
 mod Counted
 mod Cuts
 mod Eligible
 mod Ends
-mod Enough
 mod EnoughBlocks
 mod GoodSpots
 mod LocalActivity
@@ -31,7 +27,11 @@ mod SoundParts
 mod SoundStatements
 mod Splits
 pub mod Cells
+pub mod Complete
+pub mod CompleteParts
 pub mod CompleteScript
+pub mod CompleteStatements
+pub mod Enough
 pub mod LineCuts
 pub mod PrintAgain
 pub mod SoundScript

@@ -16,3 +16,8 @@ mod LocalGrammar
 mod SameFault
 mod SameTokens
 mod NoScript
+mod Limited
+mod LimitedParts
+mod LimitedStatements
+mod LimitedScript
+mod LimitedLaws

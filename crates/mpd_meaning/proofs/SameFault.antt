@@ -80,7 +80,7 @@ read_fault : (o : Outcome Program) (f : ReadFault) → read_of o ≡ Err f → o
 read_fault (Ok p) f h = absurd (cc)
 read_fault (Err g) f h = cc
 
-text_reads : (text : List ℕ) → IsText text → reading text ≡ read_of (grammar.script (start_of text))
+pub text_reads : (text : List ℕ) → IsText text → reading text ≡ read_of (grammar.script (start_of text))
 unfolding reading
 text_reads text t =
     let whole : prefix_len is_text text ≡ length text = text_all is_text text (recursion_from_All (λ b. is_text b ≡ true) text t.bytes) in
@@ -90,7 +90,7 @@ text_reads text t =
     rw (a, b) refl
 
 -- a text's first input, by its tokens
-abbrev empty : Input
+abbrev pub empty : Input
 empty = record { tokens = []; end = 0; decls = []; lines = []; budget = 0 }
 
 started : (text : List ℕ) (ss : List Spot) → tokens text ≡ ss → start_of text ≡ has ss (length text) empty
@@ -108,14 +108,19 @@ tied_fault late (Err g) p f (inr late_one) e le few = let is : g ≡ f = cc in a
 split_last : (before : List Spot) (last : Spot) (behind : List Spot) → before ++ last ∷ behind ≡ (before ++ last ∷ []) ++ behind
 split_last before last behind = sym (append_assoc before (last ∷ []) behind)
 
-pub same_fault : TurnsAreEnough → TokensUpToItDecideAFault
-same_fault enough text other before behind others last f t u is is_other h le few =
+-- so does a list of tokens that begins so, whatever is behind it
+pub script_fault : TurnsAreEnough → (text : List ℕ) (before behind others : List Spot) (last : Spot) (f : ReadFault) (end : ℕ) → IsText text → tokens text ≡ before ++ last ∷ behind
+    → reading text ≡ Err f → f.place ≤ last.place → (f.code ≡ TooMany → f.place < last.place) → grammar.script (has (before ++ last ∷ others) end empty) ≡ Err f
+script_fault enough text before behind others last f end t is h le few =
     let front = before ++ last ∷ [] in
     let rises : Rises (before ++ last ∷ behind) = subst Rises is (rising 0 0 1 text).1 in
     let all = rises_behind before last behind rises in
-    let end = within_text text before last behind (subst (AllByRecursion (IsPlacedIn text)) is (placed_by_recursion text)) in
-    let tied = (script_local last.place enough).same front behind others (length text) (length other) empty (ends_last before last) all end in
+    let within = within_text text before last behind (subst (AllByRecursion (IsPlacedIn text)) is (placed_by_recursion text)) in
+    let tied = (script_local last.place enough).same front behind others (length text) end empty (ends_last before last) all within in
     let here : grammar.script (has (front ++ behind) (length text) empty) ≡ Err f =
     ap grammar.script (sym (started text (front ++ behind) (is ∙ split_last before last behind))) ∙ read_fault (grammar.script (start_of text)) f (sym (text_reads text t) ∙ h) in
-    let there = tied_fault last.place _ _ f tied here le few in
-    text_reads other u ∙ ap read_of (ap grammar.script (started other (front ++ others) (is_other ∙ split_last before last others)) ∙ there)
+    ap (λ ss. grammar.script (has ss end empty)) (split_last before last others) ∙ tied_fault last.place _ _ f tied here le few
+
+pub same_fault : TurnsAreEnough → TokensUpToItDecideAFault
+same_fault enough text other before behind others last f t u is is_other h le few =
+    text_reads other u ∙ ap read_of (ap grammar.script (started other (before ++ last ∷ others) is_other) ∙ script_fault enough text before behind others last f (length other) t is h le few)

@@ -36,3 +36,15 @@ pub fn no_script_begins_with_a_fault()
     tokens_up_to_it_decide_a_fault();
     what_is_read_is_written_within_the_limits();
 }
+
+/// What a text writes, however large, is read as that, or refused by a limit.
+pub fn only_a_limit_refuses_what_is_written()
+    ensures { fault.OnlyALimitRefusesWhatIsWritten }
+{}
+
+/// So nothing that the grammar writes, however large, begins with the tokens up to a fault that is of no limit.
+pub fn nothing_written_begins_with_a_fault()
+    ensures { fault.NothingWrittenBeginsWithAFault }
+{
+    turns_are_enough();
+}
