@@ -1,20 +1,16 @@
 -- What is written as an expression is read, or refused by a limit.
-use Rattle.std.proofs.Common.{◌≡◌, ◌≢◌, ◌⊎◌, ℕ, suc, ◌+◌, ◌-◌, ◌<◌, ◌≤◌, List, [], ◌∷◌, ◌++◌, length, Bool, true, false, nat_lt, Ok, Err, inl, inr, refl, ap, sym, subst, ◌∙◌, arith}
-use Rattle.std.proofs.lemmas.Bool.{cases_Bool}
+use Rattle.std.proofs.Common.{◌≡◌, ◌≢◌, ◌⊎◌, ℕ, suc, ◌+◌, ◌-◌, ◌<◌, List, [], ◌∷◌, ◌++◌, length, Bool, true, false, nat_lt, Ok, Err, inl, inr, refl, ap, sym, ◌∙◌, arith}
 use Rattle.mpd_model.specs.declared.limits.TheConstants.{NESTING_MAX, STATEMENTS_MAX}
 use Rattle.mpd_model.specs.declared.read_fault.FaultCode.{FaultCode}
 use Rattle.mpd_model.specs.declared.read_fault.FaultCode.TheVariants.{TooDeep}
-use Rattle.mpd_model.specs.declared.token.Mark.{Mark}
-use Rattle.mpd_model.specs.declared.token.Token.TheVariants.{Is}
 use Rattle.mpd_model.specs.Costs.{cost, Stops, at, on, Gives}
 use Rattle.mpd_model.specs.Grammar.{expr, expression, begin_statement}
-use Rattle.mpd_model.specs.Input.{Input, Outcome, Parser, and_then, advanced, count, expect}
+use Rattle.mpd_model.specs.Input.{Input, Outcome, Parser, and_then, advanced, count}
 use Rattle.mpd_model.specs.ReaderLaws.{IsNotTooDeep, with_more, leaving_more}
 use Rattle.mpd_model.specs.Term.{Term}
 use Rattle.mpd_model.specs.Tokens.{Spot}
 use Rattle.mpd_model.specs.Written.{WrittenTerm}
 use Rattle.mpd_laws.proofs.Complete.{expr_complete}
-use Rattle.mpd_laws.proofs.CompleteParts.{expect_on}
 use Rattle.mpd_laws.proofs.Enough.{expr_more}
 use Rattle.mpd_meaning.specs.FaultLaws.{IsLimit, IsRefusedByALimit}
 use Rattle.mpd_meaning.proofs.Successes.{ok_of, ok_parts}

@@ -1,18 +1,15 @@
 -- Only a limit refuses what is written, so nothing that is written begins with a fault of another kind.
-use Rattle.std.proofs.Common.{◌≡◌, ◌⊎◌, ℕ, ◌<◌, ◌≤◌, true, false, nat_lt, List, [], ◌∷◌, ◌++◌, length, Bool, Result, Ok, Err, inl, inr, refl, ap, sym, subst, ◌∙◌, arith}
+use Rattle.std.proofs.Common.{◌≡◌, ◌⊎◌, ℕ, true, nat_lt, List, ◌∷◌, ◌++◌, length, Ok, Err, inl, inr, refl, ap, sym, subst, arith}
 use Rattle.std.proofs.lemmas.Bool.{cases_Bool}
 use Rattle.std.proofs.lemmas.Bool.Decides.{nat_tests}
-use Rattle.std.specs.List.{All}
-use Rattle.mpd_model.specs.declared.read_fault.FaultCode.TheVariants.{TooMany}
 use Rattle.mpd_model.specs.declared.read_fault.ReadFault.{ReadFault}
 use Rattle.mpd_model.specs.Grammar.{max_text, is_text, read_of, reading}
 use Rattle.mpd_model.specs.Grammar as grammar
 use Rattle.mpd_model.specs.Input.{Outcome, start_of}
 use Rattle.mpd_model.specs.Program.{Program}
 use Rattle.mpd_model.specs.ReaderLaws.{TurnsAreEnough}
-use Rattle.mpd_model.specs.Tokens.{Spot, tokens}
-use Rattle.mpd_model.specs.Written.{WrittenScript}
-use Rattle.mpd_meaning.specs.FaultLaws.{IsText, IsLimit, IsRefusedByALimit, OnlyALimitRefusesWhatIsWritten, NothingWrittenBeginsWithAFault}
+use Rattle.mpd_model.specs.Tokens.{tokens}
+use Rattle.mpd_meaning.specs.FaultLaws.{IsLimit, IsRefusedByALimit, OnlyALimitRefusesWhatIsWritten, NothingWrittenBeginsWithAFault}
 use Rattle.mpd_meaning.proofs.LimitedScript.{ScriptLimited, script_limited}
 use Rattle.mpd_meaning.proofs.Local.{has}
 use Rattle.mpd_meaning.proofs.SameFault.{empty, text_reads, script_fault}

@@ -1,13 +1,11 @@
 -- The parts of a statement that are written are read, or refused by a limit.
-use Rattle.std.proofs.Common.{◌≡◌, ℕ, true, false, Option, None, Some, is_some, List, [], ◌∷◌, ◌++◌, refl, ap, ◌∙◌, append_assoc, inl, inr}
+use Rattle.std.proofs.Common.{◌≡◌, ℕ, true, false, Option, None, Some, is_some, List, [], ◌∷◌, ◌++◌, refl, ap, ◌∙◌, append_assoc, inl}
 use Rattle.mpd_model.specs.declared.place.DeclKind.{DeclKind}
 use Rattle.mpd_model.specs.declared.place.DeclKind.TheVariants.{Variable}
 use Rattle.mpd_model.specs.declared.place.Place.{Place}
 use Rattle.mpd_model.specs.declared.slot.Slot.{Slot}
 use Rattle.mpd_model.specs.declared.stmt.StatusStmt.{StatusStmt}
-use Rattle.mpd_model.specs.declared.token.Mark.{Mark}
 use Rattle.mpd_model.specs.declared.token.Mark.TheVariants as m
-use Rattle.mpd_model.specs.declared.token.Token.{Token}
 use Rattle.mpd_model.specs.declared.token.Token.TheVariants.{Name, Is}
 use Rattle.mpd_model.specs.Costs.{Stops, on}
 use Rattle.mpd_model.specs.Grammar.{expression, place_of_slot, index_outside, target, statement_place, source, status, fill, AreClear}

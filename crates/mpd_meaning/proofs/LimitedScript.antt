@@ -1,24 +1,22 @@
 -- What is written as a script is read, or refused by a limit.
-use Rattle.std.proofs.Common.{◌≡◌, ◌⊎◌, ℕ, zero, suc, ◌+◌, ◌<◌, ◌==◌, pos, Bool, true, false, nat_le, ◌&&◌, List, [], ◌∷◌, ◌++◌, length, length-append, Option, Some, None, Result, Ok, Err, inl, inr, refl, ap, sym, subst, ◌∙◌, arith}
+use Rattle.std.proofs.Common.{◌≡◌, ◌⊎◌, ℕ, zero, suc, ◌+◌, ◌<◌, pos, Bool, true, false, nat_le, ◌&&◌, List, [], ◌∷◌, ◌++◌, length, length-append, Option, Some, None, Ok, inl, inr, refl, ap, ◌∙◌, arith}
 use Rattle.std.proofs.lemmas.Bool.{cases_Bool}
 use Rattle.std.specs.Ordering.{int_eq}
 use Rattle.std.proofs.lemmas.Bool.Decides.{nat_tests}
 use Rattle.mpd_model.specs.declared.limits.TheConstants.{BLOCKS_MAX, RANKS_MAX}
 use Rattle.mpd_model.specs.declared.place.DeclKind.{DeclKind}
-use Rattle.mpd_model.specs.declared.read_fault.FaultCode.TheVariants.{TooMany}
-use Rattle.mpd_model.specs.declared.read_fault.ReadFault.{ReadFault}
 use Rattle.mpd_model.specs.declared.token.Mark.TheVariants as m
-use Rattle.mpd_model.specs.declared.token.Token.TheVariants.{Number, Name, Is}
+use Rattle.mpd_model.specs.declared.token.Token.TheVariants.{Number, Is}
 use Rattle.mpd_model.specs.Declaration.{Declared}
-use Rattle.mpd_model.specs.Costs.{on, Gives}
+use Rattle.mpd_model.specs.Costs.{on}
 use Rattle.mpd_model.specs.Grammar.{version_by, version, rank_count, ranks_of, ranks_by, ranks, array_size_at, array_size_by, array_size, single, declarator, declares, decls_from, decls, header, body, block}
 use Rattle.mpd_model.specs.Grammar as grammar
 use Rattle.mpd_model.specs.Input.{Input, Outcome, Parser, and_then, token, token_of, spelling, place, advanced, sees, is_mark, after, add, cells_fit, slot_in}
 use Rattle.mpd_model.specs.Program.{Program}
 use Rattle.mpd_model.specs.Tokens.{Spot}
-use Rattle.mpd_model.specs.Written.{WrittenBody, WrittenDecls, none, declares_one, declares_array, declared_as, WrittenScript, script}
+use Rattle.mpd_model.specs.Written.{WrittenDecls, none, declares_one, declares_array, declared_as, WrittenScript, script}
 use Rattle.mpd_laws.proofs.CompleteScript.{has, expect_has, mark_seen, fresh_has, no_size, chosen, decl_as, decls_more, decls_end, version_has, body_is_no_decl, with_version}
-use Rattle.mpd_meaning.specs.FaultLaws.{IsLimit, IsRefusedByALimit}
+use Rattle.mpd_meaning.specs.FaultLaws.{IsRefusedByALimit}
 use Rattle.mpd_meaning.proofs.Limited.{GivesOrLimited, limited_bind}
 use Rattle.mpd_meaning.proofs.LimitedStatements.{whole_limited}
 use Rattle.mpd_meaning.proofs.Successes.{ok_of}
