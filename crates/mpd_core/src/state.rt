@@ -480,6 +480,7 @@ impl<'c> Core<'c> {
     }
 
     /// Takes a local step back, as `undo` does, by what takes it back of its rank alone.
+    #[inline(always)]
     #[tactic(auto, using(crate::proofs::TagLemmas::tagging))]
     pub fn undo_local(&mut self, rank: usize, done: &RankRecord)
         requires { CanUndo self.old.world (step_record (Step.Local rank) done.now) }

@@ -87,6 +87,7 @@ impl Board {
     }
 
     /// The last call of a rank is taken back, which no pair names.
+    #[inline(never)]
     pub fn unissue(&mut self, rank: usize)
         requires some { 0 < length (calls_of self.old.board rank) }
         requires free { partner self.old.board.sets (last_call self.old.board rank) ≡ None }

@@ -102,6 +102,7 @@ impl Side {
     }
 
     /// The last call is taken back, which no pair names.
+    #[inline(never)]
     pub(crate) fn unissue(&mut self)
         requires some { 0 < length self.old.calls }
         requires free { mark_in self.old.marks (length self.old.calls - 1) ≡ None }

@@ -402,6 +402,7 @@ impl RankState {
     }
 
     /// Takes a wake back.
+    #[inline(never)]
     fn unwake(&mut self, cells: OldCells, handle: OldHandle)
         ensures after { self.new ≡ record self.old { vars = write_cells cells self.old.vars; handles = put_entry handle self.old.handles; activity = Activity.Blocked; writes = self.new.writes } }
         ensures rises { self.old.writes + 1 ≤ self.new.writes }
