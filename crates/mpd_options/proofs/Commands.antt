@@ -14,7 +14,7 @@ use Rattle.clap.proofs.OnLiterals.{clap_on_literals}
 use Rattle.mpd_options.specs.Asked.{Asked, Tool, behind, checker, found_of_command, meant, among_options, tracer, verifier, wanted}
 use Rattle.mpd_options.specs.Program.{mpdbg_app}
 use Rattle.mpd_options.proofs.Ends.{Agrees, fails_first, fails_then}
-use Rattle.mpd_options.proofs.Items.{called}
+use Rattle.mpd_options.proofs.Items.{called, some_fault}
 use Rattle.mpd_options.proofs.Turns.{State, dd, reads, reads_dashes, reads_letters, reads_long, reads_no_letters, reads_plain, ready, walk_at}
 use Rattle.mpd_options.proofs.Walks.{faults, law, rows_at}
 
@@ -124,7 +124,7 @@ fails_at_once word words fails = fails_all (word ∷ words) (fails_first (turn_f
 
 help_word : (words : List Text) → fault_of mpdbg_app (codes "help" ∷ words) ≢ []
 unfolding clap_on_literals
-help_word words = fails_at_once (codes "help") words (λ z. cc)
+help_word words = fails_at_once (codes "help") words (some_fault _ refl)
 
 top_help : (name : Text) → bytes_eq (codes "help") name ≡ true → arg_by_long shape.rules name ≡ arg_by_long shape.rules (codes "help")
 top_help name e = ap (λ n. arg_by_long shape.rules n) (sym ((bytes_eq-Decides (codes "help") name).0 e))
@@ -138,8 +138,8 @@ top_none name e h = rw (e, h) refl
 
 named_fails : (v : Option Text) → (long_fault shape.rules false (arg_by_long shape.rules (codes "help")) v nothing_held ≢ []) × (long_fault shape.rules false (arg_by_long shape.rules (codes "version")) v nothing_held ≢ [])
 unfolding clap_on_literals
-named_fails None = ((λ z. cc), (λ z. cc))
-named_fails (Some x) = ((λ z. cc), (λ z. cc))
+named_fails None = (some_fault _ refl, some_fault _ refl)
+named_fails (Some x) = (some_fault _ refl, some_fault _ refl)
 
 top_long : (name : Text) (v : Option Text) → long_fault shape.rules false (arg_by_long shape.rules name) v nothing_held ≢ []
 top_long name v =
@@ -148,17 +148,17 @@ top_long name v =
       | true ↦ λ e. subst P (sym (top_help name e)) (named_fails v).0
       | false ↦ λ e. elim (bytes_eq (codes "version") name) as (λ b. bytes_eq (codes "version") name ≡ b → long_fault shape.rules false (arg_by_long shape.rules name) v nothing_held ≢ []) [
         | true ↦ λ h. subst P (sym (top_version name h)) (named_fails v).1
-        | false ↦ λ h. subst P (sym (top_none name e h)) (λ z. cc)
+        | false ↦ λ h. subst P (sym (top_none name e h)) (some_fault _ refl)
       ] refl
     ] refl
 
 top_letter : (x : ℕ) (rest : Text) (next : Held → Kinds) → short_fault shape.rules false (arg_by_short shape.rules x) rest nothing_held next ≢ []
 unfolding clap_on_literals
 top_letter x rest next = elim (104 == x) as (λ b. (104 == x) ≡ b → short_fault shape.rules false (arg_by_short shape.rules x) rest nothing_held next ≢ []) [
-  | true ↦ λ e. rw e (λ z. cc)
+  | true ↦ λ e. rw e (some_fault _ refl)
   | false ↦ λ e. elim (86 == x) as (λ b. (86 == x) ≡ b → short_fault shape.rules false (arg_by_short shape.rules x) rest nothing_held next ≢ []) [
-    | true ↦ λ h. rw (e, h) (λ z. cc)
-    | false ↦ λ h. rw (e, h) (λ z. cc)
+    | true ↦ λ h. rw (e, h) (some_fault _ refl)
+    | false ↦ λ h. rw (e, h) (some_fault _ refl)
   ] refl
 ] refl
 
@@ -188,7 +188,7 @@ top_turns : (word : Text) → IsOther word → turn_fault shape names start word
 top_turns word other = ap (λ m. met_turn m word) (unmet word other)
 
 stray_fails : (word : Text) → step_fault shape 1 nothing_held value ≢ []
-stray_fails word = λ z. cc
+stray_fails word = some_fault _ refl
 
 abbrev short_turn : Text → Option Text → Kinds
 short_turn word s =
@@ -228,8 +228,8 @@ dashes_turn word other d =
 
 dashes_fail : (words : List Text) → whole_fault (walk_fault shape names (record start { is_trailing = true }) words) (fold (walked shape.rules names) (record start { is_trailing = true }) words) ≢ []
 unfolding clap_on_literals
-dashes_fail [] = λ z. cc
-dashes_fail (word ∷ words) = λ z. cc
+dashes_fail [] = some_fault _ refl
+dashes_fail (word ∷ words) = some_fault _ refl
 
 behind_turn : (ks ms : Kinds) (end : Walk) → whole_fault ms end ≢ [] → whole_fault (or_else ks ms) end ≢ []
 behind_turn [] ms end fails = fails

@@ -187,10 +187,19 @@ flag_used_again rows h =
     let P : Kinds → Type 0 = λ ks. ks ≢ [] in
     subst P (sym (flag_use_is rows ∙ ap (λ b. or_else (again_fault b) []) h)) (λ e. cc)
 
+-- faults are no empty list where there is a first one: told by computing to it, which is far cheaper than `cc` on such a list
+abbrev pub has_fault : Kinds → Bool
+has_fault [] = false
+has_fault (k ∷ ks) = true
+
+pub some_fault : (ks : Kinds) → has_fault ks ≡ true → ks ≢ []
+some_fault [] e = λ z. cc
+some_fault (k ∷ ks) e = λ z. cc
+
 -- an option that waits for its value still
 pub no_value : (rows : List Row) (t : Tool) (i : Item) → asks t i ≡ true → use_fault false (arg t i) [] rows ≢ []
 unfolding clap_on_literals
-no_value rows = each_asks (λ t i. use_fault false (arg t i) [] rows ≢ []) (λ e. cc) (λ e. cc) (λ e. cc) (λ e. cc) (λ e. cc)
+no_value rows = each_asks (λ t i. use_fault false (arg t i) [] rows ≢ []) (some_fault _ refl) (some_fault _ refl) (some_fault _ refl) (some_fault _ refl) (some_fault _ refl)
 
 -- ---- rows
 

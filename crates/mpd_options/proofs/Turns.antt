@@ -3,6 +3,7 @@ use Rattle.std.specs.Prelude.{encode_utf8}
 use Rattle.std.proofs.Common.{◌≡◌, ◌≢◌, ◌∙◌, ◌&&◌, ℕ, Bool, true, false, List, [], ◌∷◌, ◌++◌, ◌==◌, suc, length, Option, Some, None, is_some, not, drop, fold, codes, refl, sym, ap, ap₂, subst, if◌then◌else◌}
 use Rattle.std.specs.Option.{option_map_or}
 use Rattle.std.specs.Str.{bytes_eq, chars}
+use Rattle.std.proofs.lemmas.Bool.{true≢false}
 use Rattle.std.proofs.lemmas.Slice.Eq.{bytes_eq-Decides}
 use Rattle.clap.specs.Lexer.{long_of, short_of}
 use Rattle.clap.specs.Words.{Rule, Row, Text}
@@ -14,7 +15,7 @@ use Rattle.clap.proofs.OnLiterals.{clap_on_literals}
 use Rattle.mpd_options.specs.Asked as a
 use Rattle.mpd_options.specs.Asked.{Asked, Item, Place, Said, Tool, Word, alone, among_options, behind_dashes, behind_option, by_letters, checker, dashes, fits, if_fits, if_new, is_flag, joined, long_option, long_or_short, name_of, named, named_so, no_option, once, files_of, for_file, option_among, options_of, other_option, said_named, said_of, short_option, the_file, the_fuel, the_mode, the_runs, the_witness, the_witness_file, tracer, unsaid, verifier, wanted, with_option, with_word, word_of}
 use Rattle.mpd_options.proofs.Ends.{Agrees, IsLast, at_end, end_fault, fails_first, fails_then, held, held_for, pending_for, settles, settles_by, with_last}
-use Rattle.mpd_options.proofs.Items.{Valid, arg, asks, asks_keeps, by_long, each_asks, row_for, flag_by_long, flag_used_again, flag_used_once, flag_used_well, has_said, help_arg, keeps, no_value, reads_witness, rows_for, rules, sub, used_again, used_badly, used_once, used_well}
+use Rattle.mpd_options.proofs.Items.{Valid, arg, asks, asks_keeps, by_long, each_asks, row_for, flag_by_long, flag_used_again, flag_used_once, flag_used_well, has_said, help_arg, keeps, no_value, reads_witness, rows_for, rules, some_fault, sub, used_again, used_badly, used_once, used_well}
 
 -- ---- the options of a command
 
@@ -30,12 +31,12 @@ each_flag P c verifier e = cc
 
 help_fails : (t : Tool) (v : Option Text) (h : Held) → long_fault (rules t) false (Some (help_arg t)) v h ≢ []
 unfolding clap_on_literals
-help_fails tracer None h = fails_then (settle_fault (rules tracer) false h) _ (λ z. cc)
-help_fails tracer (Some x) h = λ z. cc
-help_fails checker None h = fails_then (settle_fault (rules checker) false h) _ (λ z. cc)
-help_fails checker (Some x) h = λ z. cc
-help_fails verifier None h = fails_then (settle_fault (rules verifier) false h) _ (λ z. cc)
-help_fails verifier (Some x) h = λ z. cc
+help_fails tracer None h = fails_then (settle_fault (rules tracer) false h) _ (some_fault _ refl)
+help_fails tracer (Some x) h = some_fault _ refl
+help_fails checker None h = fails_then (settle_fault (rules checker) false h) _ (some_fault _ refl)
+help_fails checker (Some x) h = some_fault _ refl
+help_fails verifier None h = fails_then (settle_fault (rules verifier) false h) _ (some_fault _ refl)
+help_fails verifier (Some x) h = some_fault _ refl
 
 -- no option of the command has the name
 abbrev pub Unnamed : Tool → Text → Type 0
@@ -60,7 +61,7 @@ dead_long t name v h u =
     let P : Option Rule → Type 0 = λ r. long_fault (rules t) false r v h ≢ [] in
     elim (bytes_eq (codes "help") name) as (λ b. bytes_eq (codes "help") name ≡ b → long_fault (rules t) false (arg_by_long (rules t) name) v h ≢ []) [
       | true ↦ λ e. subst P (sym (find_help t name u e)) (help_fails t v h)
-      | false ↦ λ e. subst P (sym (find_none t name u e)) (λ z. cc)
+      | false ↦ λ e. subst P (sym (find_none t name u e)) (some_fault _ refl)
     ] refl
 
 -- what `--NAME` names: an option that wants a value, a flag, or none
@@ -106,16 +107,16 @@ short_help verifier x e = rw e refl
 letter_fails : (t : Tool) (x : ℕ) (rest : Text) (h : Held) (next : Held → Kinds) → short_fault (rules t) false (arg_by_short (rules t) x) rest h next ≢ []
 unfolding clap_on_literals
 letter_fails tracer x rest h next = elim (104 == x) as (λ b. (104 == x) ≡ b → short_fault (rules tracer) false (arg_by_short (rules tracer) x) rest h next ≢ []) [
-  | true ↦ λ e. rw e (fails_first _ _ (fails_then (settle_fault (rules tracer) false h) _ (λ z. cc)))
-  | false ↦ λ e. rw e (λ z. cc)
+  | true ↦ λ e. rw e (fails_first _ _ (fails_then (settle_fault (rules tracer) false h) _ (some_fault _ refl)))
+  | false ↦ λ e. rw e (some_fault _ refl)
 ] refl
 letter_fails checker x rest h next = elim (104 == x) as (λ b. (104 == x) ≡ b → short_fault (rules checker) false (arg_by_short (rules checker) x) rest h next ≢ []) [
-  | true ↦ λ e. rw e (fails_first _ _ (fails_then (settle_fault (rules checker) false h) _ (λ z. cc)))
-  | false ↦ λ e. rw e (λ z. cc)
+  | true ↦ λ e. rw e (fails_first _ _ (fails_then (settle_fault (rules checker) false h) _ (some_fault _ refl)))
+  | false ↦ λ e. rw e (some_fault _ refl)
 ] refl
 letter_fails verifier x rest h next = elim (104 == x) as (λ b. (104 == x) ≡ b → short_fault (rules verifier) false (arg_by_short (rules verifier) x) rest h next ≢ []) [
-  | true ↦ λ e. rw e (fails_first _ _ (fails_then (settle_fault (rules verifier) false h) _ (λ z. cc)))
-  | false ↦ λ e. rw e (λ z. cc)
+  | true ↦ λ e. rw e (fails_first _ _ (fails_then (settle_fault (rules verifier) false h) _ (some_fault _ refl)))
+  | false ↦ λ e. rw e (some_fault _ refl)
 ] refl
 
 pub dead_letters : (t : Tool) (letters : Text) (x : ℕ) (xs : List ℕ) (rows : List Row) (p : Option (Text × List Text)) → chars letters ≡ x ∷ xs → bundle_fault (rules t) false letters (held rows p) ≢ []
@@ -400,15 +401,15 @@ file_walk waiting word h false =
 -- no word more is taken
 pub no_second : (t : Tool) (h : Held) → reads_witness t ≡ false → step_fault (sub t) 2 h value ≢ []
 unfolding clap_on_literals
-no_second tracer h e = λ z. cc
-no_second checker h e = λ z. cc
-no_second verifier h e = cc
+no_second tracer h e = some_fault _ refl
+no_second checker h e = some_fault _ refl
+no_second verifier h e = absurd (true≢false e)
 
 pub no_third : (t : Tool) (h : Held) → step_fault (sub t) 3 h value ≢ []
 unfolding clap_on_literals
-no_third tracer h = λ z. cc
-no_third checker h = λ z. cc
-no_third verifier h = λ z. cc
+no_third tracer h = some_fault _ refl
+no_third checker h = some_fault _ refl
+no_third verifier h = some_fault _ refl
 
 abbrev pub pair : Kinds → Walk → Turn
 pair ks w = (ks, w)

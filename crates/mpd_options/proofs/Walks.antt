@@ -14,7 +14,7 @@ use Rattle.clap.proofs.OnLiterals.{clap_on_literals}
 use Rattle.mpd_options.specs.Asked as a
 use Rattle.mpd_options.specs.Asked.{Asked, Item, Place, Said, Tool, Word, alone, among_options, behind_dashes, behind_option, by_letters, checker, dashes, fits, if_fits, if_new, is_flag, joined, long_option, long_or_short, name_of, named, named_so, no_option, once, files_of, for_file, option_among, options_of, other_option, said_named, said_of, short_option, the_file, the_fuel, the_mode, the_runs, the_witness, the_witness_file, tracer, unsaid, verifier, wanted, with_option, with_word, word_of}
 use Rattle.mpd_options.proofs.Ends.{Agrees, IsLast, at_end, end_fault, fails_first, fails_then, held, held_for, pending_for, settles, settles_by, with_last}
-use Rattle.mpd_options.proofs.Items.{Valid, arg, asks, asks_keeps, by_long, each_asks, row_for, flag_by_long, flag_used_again, flag_used_once, flag_used_well, has_said, help_arg, keeps, no_value, reads_witness, rows_for, rules, sub, used_again, used_badly, used_once, used_well}
+use Rattle.mpd_options.proofs.Items.{Valid, arg, asks, asks_keeps, by_long, each_asks, row_for, flag_by_long, flag_used_again, flag_used_once, flag_used_well, has_said, help_arg, keeps, no_value, reads_witness, rows_for, rules, some_fault, sub, used_again, used_badly, used_once, used_well}
 use Rattle.mpd_options.proofs.Turns.{asked_held, dd, dead_letters, dead_long, each_flag, file_fits, file_keeps, file_step, file_taken, free, frees, full, has_flag, InOrder, is_dashes, is_letters, is_long, is_no_letters, is_short, long_turn, names, names_flag, names_none, names_option, next_place, no_second, no_third, pair, place_at, place_by, place_of, plain_turn, reads, reads_dashes, reads_letters, reads_long, reads_no_letters, reads_plain, ready, said_at, Sound, State, Turn, turn, turns_dashes, turns_long, turns_no_letters, turns_plain, turns_short, value_turn, walk_at, walk_with, wants}
 
 -- ---- the law of all words
@@ -136,7 +136,7 @@ option_unsettled (Some v) h =
 flag_unsettled : (v : Option Text) (h : Held) (t : Tool) → has_flag t ≡ true → settle_fault (rules t) false h ≢ [] → long_fault (rules t) false (Some (arg t the_witness)) v h ≢ []
 unfolding clap_on_literals
 flag_unsettled None h = each_flag (λ t. settle_fault (rules t) false h ≢ [] → long_fault (rules t) false (Some (arg t the_witness)) None h ≢ []) (λ e. fails_first _ _ e)
-flag_unsettled (Some v) h = each_flag (λ t. settle_fault (rules t) false h ≢ [] → long_fault (rules t) false (Some (arg t the_witness)) (Some v) h ≢ []) (λ e. λ z. cc)
+flag_unsettled (Some v) h = each_flag (λ t. settle_fault (rules t) false h ≢ [] → long_fault (rules t) false (Some (arg t the_witness)) (Some v) h ≢ []) (λ e. some_fault _ refl)
 
 -- no option can follow
 long_unsettled : (t : Tool) (name : Text) (v : Option Text) (h : Held) → settle_fault (rules t) false h ≢ [] → long_fault (rules t) false (arg_by_long (rules t) name) v h ≢ []
@@ -331,7 +331,7 @@ flag_turn rows p position word = refl
 
 flag_with_value : (position : ℕ) (word v : Text) (h : Held) → (long_turn checker idle position word h (Some (arg checker the_witness)) (Some v)).0 ≢ []
 unfolding clap_on_literals
-flag_with_value position word v h = λ z. cc
+flag_with_value position word v h = some_fault _ refl
 
 named_flag : (t : Tool) → has_flag t ≡ true → (said : Said) (last : Option (Item × Text)) (v : Option Text) (word : Text) (words : List Text) → Sound t (ready said last false)
     → turn t idle (place_of (with_last said last)) word (held_for said last) ≡ long_turn t idle (place_of (with_last said last)) word (held_for said last) (Some (arg t the_witness)) v
