@@ -75,10 +75,16 @@ pub(crate) fn by_form(alloc: Global, tokens: &mut Tokens<'_>, word: Mark) -> Res
 fn end_statement(tokens: &mut Tokens<'_>, made: Simple) -> Result<Stmt, ReadFault>
     ensures { Reads (spec.fill [] (λ c. simple made) tokens.old) result tokens.new }
 {
-    tokens.expect(Mark::Semicolon)?;
-    Ok(Stmt {
-        node: StmtNode::Simple(made),
-    })
+    match tokens.expect(Mark::Semicolon) {
+        Ok(()) => Ok(Stmt {
+            node: StmtNode::Simple(made),
+        }),
+        // Dropped by name: a `?` would have the whole drop of a statement written out here, which takes a minute to check.
+        Err(fault) => {
+            drop(made);
+            Err(fault)
+        }
+    }
 }
 
 /// What follows `print`.
