@@ -67,7 +67,7 @@ part_on p (Some n) a z ss rest t ls b i h ha w hz le =
     (bind_to _ _ _ _ (expression_on ss (z ∷ rest) t ls b i w le (mark_stops 5 z rest (Is m.SquareClose) hz refl))
     (bind_to _ _ _ _ (expect_on m.SquareClose z rest ls (NESTING_MAX - cost ss) i hz) refl))
 
-pub same_place : (p q : Place) (o : Option ℕ) (t : Target) (ss us rest : List Spot) (ls : List ℕ) (b : ℕ) (i : Input) → p ≡ q → ss ≡ us
+same_place : (p q : Place) (o : Option ℕ) (t : Target) (ss us rest : List Spot) (ls : List ℕ) (b : ℕ) (i : Input) → p ≡ q → ss ≡ us
     → Gives (index_outside q o (on us ls b i)) t rest ls i → Gives (index_outside p o (on ss ls b i)) t rest ls i
 same_place p q o t ss us rest ls b i d e g = rw (d, e) g
 
@@ -96,7 +96,7 @@ target_begins i kind _ _ (part s a z ss p t n ha w hz) le = record {
 }
 
 -- a kind is the same as itself
-pub kind_is_same : (kind : DeclKind) → same_kind kind kind ≡ true
+kind_is_same : (kind : DeclKind) → same_kind kind kind ≡ true
 kind_is_same Variable = refl
 kind_is_same Handle = refl
 
@@ -118,7 +118,7 @@ statement_place_from : (kind : DeclKind) (s : Spot) (ss rest : List Spot) (t : T
     → Gives (statement_place kind (on (s ∷ ss) ls b i)) t rest ls i
 statement_place_from kind s ss rest t ls b i e g = record { left = g.left; is = statement_place_as kind s ss ls b i e ∙ g.is }
 
-pub statement_place_same : (kind : DeclKind) (ss us rest : List Spot) (t : Target) (ls : List ℕ) (b : ℕ) (i : Input) → ss ≡ us → Gives (statement_place kind (on us ls b i)) t rest ls i
+statement_place_same : (kind : DeclKind) (ss us rest : List Spot) (t : Target) (ls : List ℕ) (b : ℕ) (i : Input) → ss ≡ us → Gives (statement_place kind (on us ls b i)) t rest ls i
     → Gives (statement_place kind (on ss ls b i)) t rest ls i
 statement_place_same kind ss us rest t ls b i e g = rw e g
 

@@ -40,7 +40,7 @@ pub fresh_has : (n : Spot) (rest : List Spot) (ds : List Declared) (i : Input) �
 unfolding fresh spelling
 fresh_has n rest ds i h = rw h refl
 
-pub add_has : (kind : DeclKind) (name : List ℕ) (size : Option ℕ) (p : ℕ) (ss : List Spot) (ds : List Declared) (i : Input) → cells_fit kind size ds ≡ true
+add_has : (kind : DeclKind) (name : List ℕ) (size : Option ℕ) (p : ℕ) (ss : List Spot) (ds : List Declared) (i : Input) → cells_fit kind size ds ≡ true
     → add kind name size p (has ss ds i) ≡ Ok (tt, has ss (ds ++ declared_as kind name size ∷ []) i)
 unfolding add
 add_has kind name size p ss ds i h = rw h refl
@@ -156,13 +156,13 @@ pub version_has : (s : Spot) (n : ℕ) (rest : List Spot) (ds : List Declared) (
 unfolding version token advanced
 version_has s n rest ds i e one = ap (λ u. version_by u (has (s ∷ rest) ds i)) (e ∙ ap (λ k. Number (pos k)) one)
 
-pub count_fits : (n : ℕ) → 1 ≤ n → n ≤ RANKS_MAX → rank_count (pos n) ≡ Some n
+count_fits : (n : ℕ) → 1 ≤ n → n ≤ RANKS_MAX → rank_count (pos n) ≡ Some n
 count_fits n a b =
     let p : nat_le 1 n ≡ true = grind (arith, nat_tests) in
     let q : nat_le n RANKS_MAX ≡ true = grind (arith, nat_tests) in
     rw (p, q) refl
 
-pub ranks_by_has : (s : Spot) (n : ℕ) (rest : List Spot) (ds : List Declared) (i : Input) → rank_count (pos n) ≡ Some n → ranks_by (Number (pos n)) (has (s ∷ rest) ds i) ≡ Ok (n, has rest ds i)
+ranks_by_has : (s : Spot) (n : ℕ) (rest : List Spot) (ds : List Declared) (i : Input) → rank_count (pos n) ≡ Some n → ranks_by (Number (pos n)) (has (s ∷ rest) ds i) ≡ Ok (n, has rest ds i)
 unfolding advanced
 ranks_by_has s n rest ds i h = ap (λ o. grammar.ranks_of o (has (s ∷ rest) ds i)) h
 
