@@ -4,8 +4,8 @@
     python3 bench/local.py [RUNS [BENCH]]   (20 runs of crates/mpd_bench/out/mpd_bench, where nothing else is named)
 
 It is no part of the gate. `bench/plain.c` and the program go forward and back through `while 1 { i = i + 1; }` in turn, so that an
-hour in which the machine is slow is slow for both. For each length of the trail it tells the least of all runs, the middle one, and
-how many times as long the program took in these. Where the program isn't built, a line says so, and the status is 2.
+hour in which the machine is slow is slow for both; each run tells the mean of ten million steps. For each length of the trail it
+tells the least of all runs, the middle one, and how many times as long the program took in these. Where the program isn't built, a line says so, and the status is 2.
 """
 import os
 import re
@@ -14,8 +14,8 @@ import sys
 import tempfile
 
 TOP = os.path.dirname(os.path.dirname(os.path.abspath(__file__)))
-PLAIN = re.compile(r'^(\d+) local steps: (\d+) ns', re.M)
-OURS = re.compile(r'^a local step and its undo, on a trail of (\d+): (\d+) ns', re.M)
+PLAIN = re.compile(r'^(\d+) local steps: ([\d.]+) ns', re.M)
+OURS = re.compile(r'^a local step and its undo, on a trail of (\d+): ([\d.]+) ns', re.M)
 
 
 def times(program, line):
@@ -24,7 +24,7 @@ def times(program, line):
     found = {}
     for said in run.stdout:
         for length, took in line.findall(said):
-            found[int(length)] = int(took)
+            found[int(length)] = float(took)
         if len(found) == 3:
             break
     run.kill()

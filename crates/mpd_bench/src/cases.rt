@@ -7,6 +7,8 @@ use mpd_model::step::{CallId, Step};
 pub(crate) enum Ask {
     /// Steps, each taken by itself, and all taken back, the last first.
     Steps,
+    /// As many local steps of a rank as the line tells of, and all taken back.
+    Locals(usize),
     /// The list of enabled steps.
     Enabled,
     /// How the run has ended.
@@ -166,8 +168,8 @@ pub(crate) const KINDS: &[Kind] = &[
         locals: NONE,
         decided: NONE,
         then: &[],
-        ask: Ask::Steps,
-        measured: Measured::Decided(NUMBER),
+        ask: Ask::Locals(0),
+        measured: Measured::Fixed(&[]),
         parts: NUMBER,
         whole: 10_000_000,
     },

@@ -1,4 +1,4 @@
-//! How long it takes what the cases ask, each line in nanoseconds. All is asked once before it is measured, so that room is kept.
+//! How long it takes what the cases ask, each line in nanoseconds and tenths. All is asked once before it is measured, so that room is kept.
 
 use crate::calls::{
     ask_decision, ask_enabled, ask_outcome, code_of, forced, forget, go_back, go_on, started,
@@ -103,6 +103,14 @@ fn steps_of(
     }
 }
 
+/// Takes so many local steps of a rank, and undoes them all.
+fn locals_and_back(debugger: &mut Debugger<'_>, rank: usize, count: usize) -> Option<()> {
+    for _ in 0..count {
+        take(debugger, Step::Local(rank))?;
+    }
+    undo_all(debugger, count)
+}
+
 /// Goes to where it is measured.
 fn go_to(alloc: Global, debugger: &mut Debugger<'_>, kind: &Kind, number: usize) -> Option<()> {
     go_all_locally(debugger, of(kind.locals, number));
@@ -110,10 +118,17 @@ fn go_to(alloc: Global, debugger: &mut Debugger<'_>, kind: &Kind, number: usize)
     take_all(debugger, kind.then)
 }
 
-/// Asks once.
-fn ask(alloc: Global, debugger: &mut Debugger<'_>, what: Ask, steps: &[Step]) -> Option<()> {
+/// Asks once; a line tells of so many parts.
+fn ask(
+    alloc: Global,
+    debugger: &mut Debugger<'_>,
+    what: Ask,
+    steps: &[Step],
+    parts: usize,
+) -> Option<()> {
     match what {
         Ask::Steps => there_and_back(debugger, steps),
+        Ask::Locals(rank) => locals_and_back(debugger, rank, parts),
         Ask::Enabled => ask_enabled(alloc, debugger.core()),
         Ask::Outcome => ask_outcome(alloc, debugger.core()),
         Ask::Decision => ask_decision(alloc, debugger.core()),
@@ -135,15 +150,21 @@ fn ask(alloc: Global, debugger: &mut Debugger<'_>, what: Ask, steps: &[Step]) ->
 }
 
 /// Asks once before it is measured, and has the debugger stand as it did.
-fn ask_before(alloc: Global, debugger: &mut Debugger<'_>, what: Ask, steps: &[Step]) -> Option<()> {
+fn ask_before(
+    alloc: Global,
+    debugger: &mut Debugger<'_>,
+    what: Ask,
+    steps: &[Step],
+    parts: usize,
+) -> Option<()> {
     match what {
         Ask::Back => Some(()),
         Ask::Run => {
-            ask(alloc, debugger, what, steps)?;
+            ask(alloc, debugger, what, steps, parts)?;
             forget(debugger);
             Some(())
         }
-        _ => ask(alloc, debugger, what, steps),
+        _ => ask(alloc, debugger, what, steps, parts),
     }
 }
 
@@ -153,34 +174,42 @@ fn time_of(
     debugger: &mut Debugger<'_>,
     what: Ask,
     steps: &[Step],
+    parts: usize,
     times: usize,
 ) -> Option<u128> {
-    ask_before(rt.alloc(), debugger, what, steps)?;
+    ask_before(rt.alloc(), debugger, what, steps, parts)?;
     let begun = Instant::now(rt).ok()?;
     for _ in 0..times {
-        ask(rt.alloc(), debugger, what, steps)?;
+        ask(rt.alloc(), debugger, what, steps, parts)?;
     }
     let took = begun.elapsed(rt).ok()?;
     Some(took.as_nanos())
 }
 
-/// How long one case takes, so many times.
-fn time_of_case(rt: &HostRuntime, kind: &Kind, number: usize, times: usize) -> Option<u128> {
+/// How long one case of so many parts takes, so many times.
+fn time_of_case(
+    rt: &HostRuntime,
+    kind: &Kind,
+    number: usize,
+    parts: usize,
+    times: usize,
+) -> Option<u128> {
     let code = code_of(rt.alloc(), kind.script)?;
     let mut debugger = started(rt.alloc(), &code)?;
     go_to(rt.alloc(), &mut debugger, kind, number)?;
     let steps = steps_of(rt.alloc(), &mut debugger, kind.measured, number)?;
-    time_of(rt, &mut debugger, kind.ask, &steps, times)
+    time_of(rt, &mut debugger, kind.ask, &steps, parts, times)
 }
 
 /// Measures a case, and prints its line.
 fn measure(rt: &HostRuntime, kind: &Kind, number: usize) -> Option<()> {
     let parts = of(kind.parts, number);
     let times = kind.whole.checked_div(parts)?;
-    let took = time_of_case(rt, kind, number, times)?;
-    let each = took.checked_div(kind.whole as u128)?;
+    let took = time_of_case(rt, kind, number, parts, times)?;
+    let tenths = took.checked_mul(10)?.checked_div(kind.whole as u128)?;
+    let (each, rest) = (tenths / 10, tenths % 10);
     let what = kind.what;
-    eprintln!(rt; "{what} {number}: {each} ns").ok()
+    eprintln!(rt; "{what} {number}: {each}.{rest} ns").ok()
 }
 
 /// Measures the cases of a kind.

@@ -23,7 +23,7 @@ use mpd_match::board::Board;
 use mpd_model::call::{Activity, Call};
 use mpd_model::limits::RANKS_MAX;
 use mpd_model::step::Step;
-use mpd_rank::change::{Cells, RankRecord};
+use mpd_rank::change::{Cells, LocalRecord, RankRecord};
 use mpd_rank::rank::RankState;
 use std::alloc::{AllocError, Global};
 
@@ -90,8 +90,9 @@ fn issue_on(board: &mut Board, rank: usize, call: Option<Call>) -> Result<u32, A
 }
 
 /// The local step of one rank, whatever it issues, in the room that was kept there.
+#[inline(never)]
 #[tactic(auto, using(crate::proofs::StepLemmas::stepping, crate::proofs::TagLemmas::tagging))]
-fn step_call(code: &Code, state: &mut RankState, board: &mut Board) -> Result<RankRecord, StepFault>
+fn step_call(code: &Code, state: &mut RankState, board: &mut Board) -> Result<LocalRecord, StepFault>
     requires rank { state.old.rank < length board.old.board.calls }
     requires ranks { length board.old.board.calls ≡ code.now.program.ranks }
     requires room { 1 ≤ state.old.room }
@@ -120,8 +121,9 @@ fn step_call(code: &Code, state: &mut RankState, board: &mut Board) -> Result<Ra
 }
 
 /// The local step of one rank.
+#[inline(always)]
 #[tactic(auto, using(crate::proofs::StepLemmas::alone, crate::proofs::TagLemmas::tagging))]
-fn step_rank(code: &Code, state: &mut RankState, board: &mut Board) -> Result<RankRecord, StepFault>
+fn step_rank(code: &Code, state: &mut RankState, board: &mut Board) -> Result<LocalRecord, StepFault>
     requires rank { state.old.rank < length board.old.board.calls }
     requires ranks { length board.old.board.calls ≡ code.now.program.ranks }
     ensures ok { OnOk result (local_on code.now.program board.old.board state.old ≡ Some (rank_of code.now.program state.new, board.new.board)) }
@@ -154,13 +156,14 @@ fn step_rank(code: &Code, state: &mut RankState, board: &mut Board) -> Result<Ra
 }
 
 /// The local step of one of the ranks.
+#[inline(always)]
 #[tactic(auto, using(crate::proofs::RankLemmas::at_rank))]
 pub(crate) fn step_one(
     code: &Code,
     ranks: &mut Vec<RankState>,
     board: &mut Board,
     rank: usize,
-) -> Result<RankRecord, StepFault>
+) -> Result<LocalRecord, StepFault>
     requires within { rank < vec_len ranks.old }
     requires held { Holds code.now.program ranks.old.items board.old.board }
     ensures ok { OnOk result (next (world_in code.now.program ranks.old.items board.old.board) (Step.Local rank) ≡ Some (world_in code.now.program ranks.new.items board.new.board)) }
@@ -219,6 +222,21 @@ pub(crate) fn restore_one(ranks: &mut Vec<RankState>, rank: usize, done: &RankRe
 {
     let state = &mut ranks[rank];
     state.restore(done);
+}
+
+/// Takes a local step of one rank back.
+#[inline(always)]
+#[tactic(auto, using(crate::proofs::RankLemmas::at_rank))]
+pub(crate) fn restore_local(ranks: &mut Vec<RankState>, rank: usize, done: &LocalRecord)
+    requires { rank < vec_len ranks.old }
+    ensures after { (s : Program) → ranks_in s ranks.new.items ≡ update_at (ranks_in s ranks.old.items) rank (λ r. undone_rank s r done.now) }
+    ensures numbers { numbers_in ranks.new.items ≡ numbers_in ranks.old.items }
+    ensures size { vec_len ranks.new ≡ vec_len ranks.old }
+    ensures rises { writes_in ranks.old.items + 1 ≤ writes_in ranks.new.items }
+    ensures few { writes_in ranks.new.items ≤ writes_in ranks.old.items + 2 }
+{
+    let state = &mut ranks[rank];
+    state.restore_local(done);
 }
 
 /// Lets every rank go on from a barrier. One write a rank.

@@ -28,7 +28,7 @@ use mpd_match::record::PairRecord;
 use mpd_model::call::{Activity, CallKind, Message, Mode, RecvCall};
 use mpd_model::limits::RANKS_MAX;
 use mpd_model::step::{CallId, Step};
-use mpd_rank::change::{Cells, Change, RankRecord};
+use mpd_rank::change::{Cells, Change, LocalRecord, RankRecord};
 use mpd_rank::rank::RankState;
 use std::alloc::{AllocError, Global};
 use std::marker::Model;
@@ -280,7 +280,7 @@ impl<'c> Core<'c> {
 
     /// A local step, as `apply` takes it. It answers what takes the step back of its rank alone.
     #[inline(always)]
-    pub fn step_local(&mut self, rank: usize) -> Result<RankRecord, StepFault>
+    pub fn step_local(&mut self, rank: usize) -> Result<LocalRecord, StepFault>
         ensures ok { OnOk result (next self.old.world (Step.Local rank) ≡ Some self.new.world) }
         ensures back { IfOk result (λ done. undone self.old.program self.new.world (step_record (Step.Local rank) done) ≡ self.old.world) }
         ensures recorded { IfOk result (λ done. record_of self.old.world (Step.Local rank) ≡ Some (step_record (Step.Local rank) done)) }
@@ -315,7 +315,7 @@ impl<'c> Core<'c> {
         ensures unwritten { OnErr result (self.new.writes ≡ self.old.writes) }
         ensures looks { self.new.looks ≡ self.old.looks }
     {
-        let RankRecord { from, change } = self.step_local(rank)?;
+        let RankRecord { from, change } = self.step_local(rank)?.whole();
         Ok(Record {
             step: Step::Local(rank),
             from,
@@ -482,7 +482,7 @@ impl<'c> Core<'c> {
     /// Takes a local step back, as `undo` does, by what takes it back of its rank alone.
     #[inline(always)]
     #[tactic(auto, using(crate::proofs::TagLemmas::tagging))]
-    pub fn undo_local(&mut self, rank: usize, done: &RankRecord)
+    pub fn undo_local(&mut self, rank: usize, done: &LocalRecord)
         requires { CanUndo self.old.world (step_record (Step.Local rank) done.now) }
         ensures world { self.new.world ≡ undone self.old.program self.old.world (step_record (Step.Local rank) done.now) }
         ensures program { self.new.program ≡ self.old.program }
@@ -490,10 +490,10 @@ impl<'c> Core<'c> {
         ensures few { self.new.writes ≤ self.old.writes + 16 }
         ensures looks { self.new.looks ≡ self.old.looks }
     {
-        if let Change::Issued { .. } = done.change {
+        if let Change::Issued { .. } = done.whole().change {
             self.board.unissue(rank);
         }
-        ranks::restore_one(&mut self.ranks, rank, done);
+        ranks::restore_local(&mut self.ranks, rank, done);
     }
 
     /// Takes a release back.
@@ -522,7 +522,12 @@ impl<'c> Core<'c> {
     {
         let Record { step, from, change } = done;
         match step {
-            Step::Local(rank) => self.undo_local(rank, &RankRecord { from, change }),
+            Step::Local(rank) => {
+                if let Change::Issued { .. } = change {
+                    self.board.unissue(rank);
+                }
+                ranks::restore_one(&mut self.ranks, rank, &RankRecord { from, change });
+            }
             Step::Match(_, _) => {
                 let Change::Matched {
                     send_place,

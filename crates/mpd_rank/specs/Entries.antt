@@ -62,13 +62,18 @@ cell_back n was h =
       | inr t ↦ (ap (λ b. cell_of (old b)) t.0, ap (λ b. was_of (old b)) t.0)
     ]
 
+pub handle_numbers_back : (handle call : ℕ) → (handle ≡ 4294967295 → call ≡ 4294967295) → (handle_of (old_handle handle call) ≡ handle) × (call_of (old_handle handle call) ≡ call)
+handle_numbers_back n call h =
+    let old : Bool → Option (ℕ × Option ℕ) = λ b. cond b None (Some (n, some_number call)) in
+    elim (eqb_tells n 4294967295) [
+      | inl t ↦ (ap (λ b. handle_of (old b)) t.0 ∙ sym t.1, ap (λ b. call_of (old b)) t.0 ∙ sym (h t.1))
+      | inr t ↦ (ap (λ b. handle_of (old b)) t.0, ap (λ b. call_of (old b)) t.0 ∙ number_back call)
+    ]
+
 pub handle_back : (a : handle.Inside) → (a.handle ≡ 4294967295 → a.call ≡ 4294967295) → record { handle = handle_of (old_handle a.handle a.call); call = call_of (old_handle a.handle a.call) } ≡ a
 handle_back a h =
-    let old : Bool → Option (ℕ × Option ℕ) = λ b. cond b None (Some (a.handle, some_number a.call)) in
-    elim (eqb_tells a.handle 4294967295) [
-      | inl t ↦ (λ i. record { handle = (ap (λ b. handle_of (old b)) t.0 ∙ sym t.1) i; call = (ap (λ b. call_of (old b)) t.0 ∙ sym (h t.1)) i })
-      | inr t ↦ (λ i. record { handle = ap (λ b. handle_of (old b)) t.0 i; call = (ap (λ b. call_of (old b)) t.0 ∙ number_back a.call) i })
-    ]
+    let back = handle_numbers_back a.handle a.call h in
+    (λ i. record { handle = back.0 i; call = back.1 i })
 
 -- what the tapes of a rank keep: one standing, few cells and handles, and small numbers of calls
 pub record KeepsSmall (standing : List Standing) (vars : List ℤ) (handles : List (Option ℕ)) : Type 0 where

@@ -2,5 +2,6 @@ pub mod Views
 pub mod Packed
 pub mod Plans
 pub mod Entries
+pub mod Locals
 pub mod Undone
 pub mod Records

@@ -1,8 +1,10 @@
 //! What a step did, so that it can be taken back.
 
-ghost use Rattle.std.specs.Prelude.{◌≡◌, ◌<◌, ◌≤◌, ◌+◌, [], ◌∷◌, length, Some, None, IfSome};
+ghost use Rattle.std.specs.Prelude.{◌≡◌, ◌<◌, ◌≤◌, ◌+◌, [], ◌∷◌, length, Some, None, IfSome, pos};
 ghost use Rattle.mpd_rank.specs.Packed.{before};
 ghost use Rattle.mpd_rank.specs.Entries.{IsSmall, some_number};
+ghost use Rattle.mpd_rank.specs.Locals.{IsLocal, local_change, issued_handle};
+ghost use Rattle.mpd_rank.specs.declared.change.Change.TheVariants as Change;
 
 use mpd_queue::lists::Spot;
 use std::marker::Model;
@@ -331,3 +333,140 @@ pub struct RankRecord {
 }
 
 const _: () = prove!(size_of::<RankRecord>() == 56);
+
+/// Which kind of change a local step made.
+#[derive(Clone, Copy, Debug, PartialEq, Eq)]
+pub enum LocalKind {
+    Moved,
+    Assigned,
+    Printed,
+    Issued,
+    Trapped,
+}
+
+/// What takes a local step back, in 24 bytes. Contracts see a `RankRecord`.
+///
+/// It has its numbers side by side, and no enum that holds them: what is pushed on a trail is then stored field by field, and not
+/// copied as a whole from where its parts were stored just before, for which a processor waits (docs/SPEED.md).
+#[derive(Clone, Copy, Debug, PartialEq, Eq)]
+pub struct LocalRecord {
+    pub(crate) from: u32,
+    pub(crate) kind: LocalKind,
+    /// Of an assignment.
+    pub(crate) cell: u16,
+    pub(crate) was: i64,
+    /// Of a call.
+    handle: u32,
+    call: u32,
+}
+
+impl Model for LocalRecord {
+    ghost use Rattle.mpd_rank.specs.declared.change.RankRecord.{RankRecord};
+    ghost use Rattle.mpd_rank.specs.Locals.{local_change, IsLocal, numbers_of, numbers_back};
+
+    ghost Value = { RankRecord };
+
+    ghost view = { λ r. record { from = r.from; change = local_change r.kind r.cell r.handle r.call r.was } };
+
+    ghost invariant = { λ r. IsLocal r.kind r.cell r.handle r.call r.was };
+
+    ghost inverse = { λ r. numbers_of r };
+
+    ghost inverse_ok = { λ a h. numbers_back a h };
+}
+
+const _: () = prove!(size_of::<LocalRecord>() == 24);
+
+impl LocalRecord {
+    /// Of a step that wrote no cell and issued no call.
+    pub(crate) fn plain(from: u32, kind: LocalKind) -> LocalRecord
+        requires { IsLocal kind 0 4294967295 4294967295 (pos 0) }
+        ensures { result ≡ record { from = from; change = local_change kind 0 4294967295 4294967295 (pos 0) } }
+    {
+        LocalRecord {
+            from,
+            kind,
+            cell: 0,
+            was: 0,
+            handle: NO_NUMBER,
+            call: NO_NUMBER,
+        }
+    }
+
+    /// Of an assignment, by the cell and what it held.
+    pub(crate) fn assigned(from: u32, cell: usize, was: i64) -> LocalRecord
+        requires { cell < 65536 }
+        ensures { result ≡ record { from = from; change = Change.Assigned cell was } }
+    {
+        LocalRecord {
+            from,
+            kind: LocalKind::Assigned,
+            cell: cell as u16,
+            was,
+            handle: NO_NUMBER,
+            call: NO_NUMBER,
+        }
+    }
+
+    /// Of a call, by what the handle held that got its number, if one did.
+    pub(crate) fn issued(from: u32, handle: OldHandle) -> LocalRecord
+        ensures { result ≡ record { from = from; change = Change.Issued handle } }
+    {
+        LocalRecord {
+            from,
+            kind: LocalKind::Issued,
+            cell: 0,
+            was: 0,
+            handle: handle.handle,
+            call: handle.call,
+        }
+    }
+
+    /// The handle that got the number of a call, and what it held.
+    pub(crate) fn old_handle(&self) -> OldHandle
+        ensures { result ≡ issued_handle self.now.change }
+    {
+        OldHandle {
+            handle: self.handle,
+            call: self.call,
+        }
+    }
+
+    /// The same, made anew field by field.
+    #[inline(always)]
+    pub fn anew(self) -> LocalRecord
+        ensures { result ≡ self }
+    {
+        LocalRecord {
+            from: self.from,
+            kind: self.kind,
+            cell: self.cell,
+            was: self.was,
+            handle: self.handle,
+            call: self.call,
+        }
+    }
+
+    /// The same as the record of any step.
+    #[inline(always)]
+    pub fn whole(self) -> RankRecord
+        ensures { result ≡ self }
+    {
+        let change = match self.kind {
+            LocalKind::Moved => Change::Moved,
+            LocalKind::Assigned => Change::Assigned {
+                cell: self.cell as u32,
+                was: self.was,
+            },
+            LocalKind::Printed => Change::Printed,
+            LocalKind::Issued => Change::Issued {
+                handle: self.old_handle(),
+            },
+            LocalKind::Trapped => Change::Trapped,
+        };
+        RankRecord {
+            from: self.from,
+            change,
+        }
+    }
+}

@@ -57,6 +57,7 @@ fn plan_print(value: Result<i64, Trap>, next: u32) -> Alone
     }
 }
 
+#[inline(always)]
 fn plan_assign(write: Result<(usize, i64), Trap>, next: u32) -> Alone
     ensures { result ≡ assign_plan write next }
 {
@@ -86,6 +87,7 @@ fn plan_assert(test: Result<i64, Trap>, next: u32) -> Alone
 }
 
 /// Goes on at one node where the test holds, else at the other.
+#[inline(always)]
 fn plan_choice(test: Result<i64, Trap>, holds: u32, fails: u32) -> Alone
     ensures { result ≡ choice_plan test holds fails }
 {
@@ -116,6 +118,7 @@ fn plan_simple(simple: &Simple, env: &Env<'_>, next: u32) -> LocalPlan
 }
 
 /// What a statement that holds no other does, and the node that follows it, where it is of a kind that issues no call.
+#[inline(always)]
 fn plan_own(simple: &Simple, env: &Env<'_>, next: u32) -> Option<Alone>
     ensures { IfSome result (λ plan. LocalPlan.Alone plan ≡ simple_plan simple.now next env.now) }
 {
@@ -128,6 +131,7 @@ fn plan_own(simple: &Simple, env: &Env<'_>, next: u32) -> Option<Alone>
 }
 
 /// What a node does, where it is of a kind that issues no call.
+#[inline(always)]
 pub(crate) fn plan_alone(node: &Node, env: &Env<'_>) -> Option<Alone>
     ensures { IfSome result (λ plan. LocalPlan.Alone plan ≡ plan_of node.now.action node.now.next env.now) }
 {

@@ -8,7 +8,7 @@ ghost use Rattle.mpd_code.specs.Left.{left_at};
 ghost use Rattle.mpd_code.specs.Stands.{Stands};
 ghost use Rattle.mpd_model.specs.Next as next_specs;
 
-use crate::change::{Cells, Change, OldCell, OldCells, OldHandle, RankRecord};
+use crate::change::{Cells, Change, LocalKind, LocalRecord, OldCell, OldCells, OldHandle, RankRecord};
 use crate::plan::{Alone, LocalPlan, plan_alone, plan_node};
 use crate::standing::Standing;
 use mpd_code::code::Code;
@@ -159,6 +159,7 @@ impl RankState {
     }
 
     /// What the next local step does, where its statement is of a kind that issues no call. Nothing changes.
+    #[inline(always)]
     #[tactic(auto, using(crate::proofs::PlanLemmas::planning))]
     fn plan_alone(&self, code: &Code) -> Option<Alone>
         ensures planned { IfSome result (λ plan. IsPlanned code.now.program self.now (LocalPlan.Alone plan)) }
@@ -171,8 +172,9 @@ impl RankState {
 
     /// Takes the next local step, where its statement is of a kind that issues no call, in the room that was kept. It answers what
     /// takes the step back, in one or two writes. Where it answers nothing, nothing has changed.
+    #[inline(always)]
     #[tactic(auto, using(crate::proofs::PlanLemmas::stepping))]
-    pub fn step_alone(&mut self, code: &Code) -> Option<RankRecord>
+    pub fn step_alone(&mut self, code: &Code) -> Option<LocalRecord>
         requires { 1 ≤ self.old.room }
         ensures step { IfSome result (λ _. (count : ℕ) → local self.old.rank code.now.program.ranks count (rank_of code.now.program self.old) ≡ Some (record { rank = rank_of code.now.program self.new; call = None })) }
         ensures recorded { IfSome result (λ done. local_record self.old.rank code.now.program.ranks (rank_of code.now.program self.old) ≡ Some done) }
@@ -260,7 +262,8 @@ impl RankState {
     }
 
     /// Writes a cell, where there is such a one, and goes on at a node.
-    fn assign(&mut self, into: usize, value: i64, next: u32) -> RankRecord
+    #[inline(always)]
+    fn assign(&mut self, into: usize, value: i64, next: u32) -> LocalRecord
         ensures after { self.new ≡ record self.old { node = next; vars = slice_set self.old.vars into value; writes = self.new.writes } }
         ensures recorded { result ≡ alone_record self.old (Alone.Assign into value next) }
         ensures rises { self.old.writes + 1 ≤ self.new.writes }
@@ -269,25 +272,17 @@ impl RankState {
         let Standing { node, activity } = self.standing();
         self.stand(next, activity);
         if into >= self.vars.len() {
-            return RankRecord {
-                from: node,
-                change: Change::Moved,
-            };
+            return LocalRecord::plain(node, LocalKind::Moved);
         }
         let was = self.vars.items()[into];
         self.vars.set(into, value);
-        RankRecord {
-            from: node,
-            change: Change::Assigned {
-                cell: into as u32,
-                was,
-            },
-        }
+        LocalRecord::assigned(node, into, was)
     }
 
     /// Does what was planned and issues no call, in the room that was kept. It answers what takes the step back. One or two writes.
+    #[inline(always)]
     #[tactic(auto, using(crate::proofs::RankLemmas::committing, crate::proofs::PlanLemmas::owning))]
-    fn commit_alone(&mut self, plan: Alone) -> RankRecord
+    fn commit_alone(&mut self, plan: Alone) -> LocalRecord
         requires { 1 ≤ self.old.room }
         ensures after { (p : Program) → rank_of p self.new ≡ planned_alone p (rank_of p self.old) plan }
         ensures recorded { result ≡ alone_record self.old plan }
@@ -302,26 +297,17 @@ impl RankState {
         match plan {
             Alone::Move { next } => {
                 self.stand(next, activity);
-                RankRecord {
-                    from: node,
-                    change: Change::Moved,
-                }
+                LocalRecord::plain(node, LocalKind::Moved)
             }
             Alone::Print { value, next } => {
                 self.out.push_kept(value);
                 self.stand(next, activity);
-                RankRecord {
-                    from: node,
-                    change: Change::Printed,
-                }
+                LocalRecord::plain(node, LocalKind::Printed)
             }
             Alone::Assign { cell, value, next } => self.assign(cell, value, next),
             Alone::Trap(trap) => {
                 self.stand(node, Activity::Trapped(trap));
-                RankRecord {
-                    from: node,
-                    change: Change::Trapped,
-                }
+                LocalRecord::plain(node, LocalKind::Trapped)
             }
         }
     }
@@ -329,7 +315,7 @@ impl RankState {
     /// Does what was planned, in the room that was kept, so it can't be refused memory. `call` is the number that a call issued by
     /// the step has. It answers what takes the step back. One or two writes.
     #[tactic(auto, using(crate::proofs::RankLemmas::committing))]
-    pub fn commit(&mut self, plan: LocalPlan, call: usize) -> RankRecord
+    pub fn commit(&mut self, plan: LocalPlan, call: usize) -> LocalRecord
         requires room { 1 ≤ self.old.room }
         requires number { call < 4294967295 }
         ensures after { (p : Program) → rank_of p self.new ≡ planned p (rank_of p self.old) call plan }
@@ -347,7 +333,7 @@ impl RankState {
     }
 
     /// Goes on at a node behind a call that was issued.
-    fn issue(&mut self, issue: Issue, call: usize, next: u32) -> RankRecord
+    fn issue(&mut self, issue: Issue, call: usize, next: u32) -> LocalRecord
         requires { call < 4294967295 }
         ensures after { self.new ≡ record self.old { node = next; handles = requested issue.handle (Some call) self.old.handles; activity = activity_after issue.kind; writes = self.new.writes } }
         ensures recorded { result ≡ plan_record self.old (LocalPlan.Issue issue next) }
@@ -362,10 +348,7 @@ impl RankState {
             Activity::Running
         };
         self.stand(next, activity);
-        RankRecord {
-            from,
-            change: Change::Issued { handle },
-        }
+        LocalRecord::issued(from, handle)
     }
 
     /// Goes on after a wake, with cells written and a handle cleared. It can't be refused memory. It answers what takes the wake
@@ -434,6 +417,27 @@ impl RankState {
             Change::Issued { handle } => self.put_handle(handle),
             Change::Moved | Change::Trapped => {}
             Change::Matched { .. } | Change::Released => unreachable!(),
+        }
+        self.stand(done.from, Activity::Running);
+    }
+
+    /// Takes a local step of the rank back. It can't be refused memory. One or two writes.
+    #[inline(always)]
+    pub fn restore_local(&mut self, done: &LocalRecord)
+        ensures after { (p : Program) → rank_of p self.new ≡ undone_rank p (rank_of p self.old) done.now }
+        ensures rank { self.new.rank ≡ self.old.rank }
+        ensures rises { self.old.writes + 1 ≤ self.new.writes }
+        ensures few { self.new.writes ≤ self.old.writes + 2 }
+    {
+        match done.kind {
+            LocalKind::Assigned => {
+                let _ = self.write(done.cell as usize, done.was);
+            }
+            LocalKind::Printed => {
+                let _ = self.out.pop();
+            }
+            LocalKind::Issued => self.put_handle(done.old_handle()),
+            LocalKind::Moved | LocalKind::Trapped => {}
         }
         self.stand(done.from, Activity::Running);
     }
