@@ -1,7 +1,7 @@
 -- The records lead from the first world to the last.
 use Rattle.std.proofs.Common.{◌≡◌, ℕ, ◌<◌, ◌≤◌, ◌+◌, Bool, true, false, List, [], ◌∷◌, ◌++◌, length, take, drop, reverse, get_or, slice_get, Option, Some, None, IfSome, IsSome, refl, sym, ap, subst, ◌∙◌, arith, cond}
-use Rattle.std.specs.Option.{option_and_then, option_map}
-use Rattle.std.proofs.lemmas.List.{reverse-append, reverse-reverse, length-append, take_more, take_all, take-take, take-append-drop, length-take}
+use Rattle.std.specs.Option.{option_and_then, option_map, option_map_or}
+use Rattle.std.proofs.lemmas.List.{reverse-append, reverse-reverse, length-append, length-reverse, take_more, take_all, take-take, take-append-drop, length-take}
 use Rattle.std.proofs.lemmas.Option.{get_or_from_slice_get, slice_get_within}
 use Rattle.mpd_model.specs.declared.limits.TheConstants.{STEPS_MAX}
 use Rattle.mpd_model.specs.declared.step.Step.{Step}
@@ -14,7 +14,7 @@ use Rattle.mpd_rank.specs.declared.change.RankRecord.{RankRecord}
 use Rattle.mpd_core.specs.declared.record.Record.{Record}
 use Rattle.mpd_core.specs.Records.{record_of, step_record, local_record_at, wake_record_at}
 use Rattle.mpd_core.specs.Undone.{undone, rank_part, CanUndo}
-use Rattle.mpd_trail.specs.Kept.{LeadsTo, Keeps}
+use Rattle.mpd_trail.specs.Kept.{local_rank, LeadsTo, Keeps}
 use Rattle.mpd_trail.proofs.StepLemmas.{is_step-true, noted_there}
 
 pub fold-append : (w : World) (xs ys : List Step) → fold w (xs ++ ys) ≡ option_and_then (λ v. fold v ys) (fold w xs)
@@ -23,16 +23,54 @@ fold-append w (x ∷ xs) ys =
     elim (next w x) as (λ o. option_and_then (λ v. fold v (xs ++ ys)) o ≡ option_and_then (λ v. fold v ys) (option_and_then (λ v. fold v xs) o))
     [ None ↦ refl | Some v ↦ fold-append v xs ys ]
 
--- the last world is the fold of the steps
-pub leads_fold : (s : Program) (first : World) (us : List RankRecord) (steps : List Step) (last : World) → LeadsTo s first us steps last → fold first (reverse steps) ≡ Some last
-leads_fold s first [] [] last h = ap Some (sym h)
-leads_fold s first (u ∷ us) (a ∷ steps) last h =
-    let old : World = undone s last (step_record a u) in
-    let before : fold first (reverse steps) ≡ Some old = leads_fold s first us steps old h.2 in
+-- one step more leads on from where the others do
+fold_behind : (first old last : World) (a : Step) (steps : List Step) → fold first (reverse steps) ≡ Some old → next old a ≡ Some last → fold first (reverse (a ∷ steps)) ≡ Some last
+fold_behind first old last a steps before e =
     let split : fold first (reverse steps ++ a ∷ []) ≡ option_and_then (λ v. fold v (a ∷ [])) (fold first (reverse steps)) = fold-append first (reverse steps) (a ∷ []) in
-    ap (fold first) (reverse-append (a ∷ []) steps) ∙ split ∙ ap (option_and_then (λ v. fold v (a ∷ []))) before ∙ ap (option_and_then (λ v. fold v [])) h.0
-leads_fold s first [] (a ∷ steps) last h = absurd h
-leads_fold s first (u ∷ us) [] last h = absurd h
+    ap (fold first) (reverse-append (a ∷ []) steps) ∙ split ∙ ap (option_and_then (λ v. fold v (a ∷ []))) before ∙ ap (option_and_then (λ v. fold v [])) e
+
+-- the last world is the fold of the steps
+pub leads_fold : (s : Program) (first : World) (locals others : List RankRecord) (steps : List Step) (last : World) → LeadsTo s first locals others steps last → fold first (reverse steps) ≡ Some last
+leads_fold s first [] [] [] last h = ap Some (sym h)
+leads_fold s first (u ∷ locals) others (Local p ∷ steps) last h =
+    fold_behind first (undone s last (step_record (Local p) u)) last (Local p) steps (leads_fold s first locals others steps (undone s last (step_record (Local p) u)) h.2) h.0
+leads_fold s first locals (u ∷ others) (Match x y ∷ steps) last h =
+    fold_behind first (undone s last (step_record (Match x y) u)) last (Match x y) steps (leads_fold s first locals others steps (undone s last (step_record (Match x y) u)) h.2) h.0
+leads_fold s first locals (u ∷ others) (Wake p ∷ steps) last h =
+    fold_behind first (undone s last (step_record (Wake p) u)) last (Wake p) steps (leads_fold s first locals others steps (undone s last (step_record (Wake p) u)) h.2) h.0
+leads_fold s first locals (u ∷ others) (Release ∷ steps) last h =
+    fold_behind first (undone s last (step_record Release u)) last Release steps (leads_fold s first locals others steps (undone s last (step_record Release u)) h.2) h.0
+leads_fold s first [] (u ∷ others) [] last h = absurd h
+leads_fold s first (u ∷ locals) others [] last h = absurd h
+leads_fold s first [] others (Local p ∷ steps) last h = absurd h
+leads_fold s first locals [] (Match x y ∷ steps) last h = absurd h
+leads_fold s first locals [] (Wake p ∷ steps) last h = absurd h
+leads_fold s first locals [] (Release ∷ steps) last h = absurd h
+
+-- a step is a local one of the rank that it has
+pub is_local : (a : Step) (p : ℕ) → local_rank a ≡ Some p → a ≡ Local p
+is_local (Local q) p e = ap (λ (o : Option ℕ). Local (option_map_or (λ (x : ℕ). x) o q)) e
+is_local (Match x y) p e = cc
+is_local (Wake q) p e = cc
+is_local Release p e = cc
+
+-- what a record of a step that isn't local takes back, and what is left
+abbrev OtherLeads : Program → World → List RankRecord → RankRecord → List RankRecord → Step → List Step → World → Type 0
+OtherLeads s first locals u others a steps last = (next (undone s last (step_record a u)) a ≡ Some last) × CanUndo last (step_record a u) × LeadsTo s first locals others steps (undone s last (step_record a u))
+
+other_leads : (s : Program) (first : World) (locals others : List RankRecord) (steps : List Step) (last : World) (u : RankRecord) (a : Step) → local_rank a ≡ None → OtherLeads s first locals u others a steps last
+    → LeadsTo s first locals (u ∷ others) (a ∷ steps) last
+other_leads s first locals others steps last u (Local p) e h = cc
+other_leads s first locals others steps last u (Match x y) e h = h
+other_leads s first locals others steps last u (Wake p) e h = h
+other_leads s first locals others steps last u Release e h = h
+
+other_led : (s : Program) (first : World) (locals others : List RankRecord) (steps : List Step) (last : World) (u : RankRecord) (a : Step) → local_rank a ≡ None → LeadsTo s first locals (u ∷ others) (a ∷ steps) last
+    → OtherLeads s first locals u others a steps last
+other_led s first locals others steps last u (Local p) e h = cc
+other_led s first locals others steps last u (Match x y) e h = h
+other_led s first locals others steps last u (Wake p) e h = h
+other_led s first locals others steps last u Release e h = h
 
 -- a record of a step is that step with what the rank did at it
 is_joined : (a : Step) (o : Option RankRecord) → IfSome (option_map (step_record a) o) (λ done. done ≡ step_record a (rank_part done))
@@ -63,14 +101,15 @@ few_by true steps n most a h few = few
 few_by false steps n most a h few = omega (arith, length-append (take n steps) (a ∷ []), length-take n steps)
 
 -- where the steps not undone lead
-pub keeps_world : (s : Program) (first : World) (records : List RankRecord) (steps : List Step) (last : World) → Keeps s first records steps last → fold first (take (length records) steps) ≡ Some last
-keeps_world s first records steps last k =
-    ap (fold first) (sym (reverse-reverse (take (length records) steps))) ∙ leads_fold s first (reverse records) (reverse (take (length records) steps)) last k.leads
+pub keeps_world : (s : Program) (first : World) (locals others : List RankRecord) (steps : List Step) (last : World) → Keeps s first locals others steps last → fold first (take (length locals + length others) steps) ≡ Some last
+keeps_world s first locals others steps last k =
+    let here : List Step = take (length locals + length others) steps in
+    ap (fold first) (sym (reverse-reverse here)) ∙ leads_fold s first (reverse locals) (reverse others) (reverse here) last k.leads
 
-pub keeps_reached : (s : Standing) (records : List RankRecord) → length records ≡ s.trail.depth → Keeps s.trail.program (start s.trail.program s.trail.mode) records s.trail.steps s.world → IsReached s
-keeps_reached s records e k =
+pub keeps_reached : (s : Standing) (locals others : List RankRecord) → length locals + length others ≡ s.trail.depth → Keeps s.trail.program (start s.trail.program s.trail.mode) locals others s.trail.steps s.world → IsReached s
+keeps_reached s locals others e k =
     record {
-      world = ap (λ n. fold (start s.trail.program s.trail.mode) (take n s.trail.steps)) (sym e) ∙ keeps_world s.trail.program (start s.trail.program s.trail.mode) records s.trail.steps s.world k;
+      world = ap (λ n. fold (start s.trail.program s.trail.mode) (take n s.trail.steps)) (sym e) ∙ keeps_world s.trail.program (start s.trail.program s.trail.mode) locals others s.trail.steps s.world k;
       within = omega (arith, k.within);
       run = record { leads = k.whole; few = k.few };
     }
@@ -93,13 +132,14 @@ whole_by true first last steps n a whole there some = whole
 whole_by false first last steps n a whole there some = rw (fold_on first last (take n steps) a there) some
 
 -- The first step that is undone is enabled.
-pub keeps_next : (s : Program) (first : World) (records : List RankRecord) (steps : List Step) (last : World) (a : Step) → Keeps s first records steps last → length records < length steps → a ≡ get_or steps (length records) a → IsSome (next last a)
-keeps_next s first records steps last a k more read =
-    let n : ℕ = length records in
+pub keeps_next : (s : Program) (first : World) (locals others : List RankRecord) (steps : List Step) (last : World) (a : Step) → Keeps s first locals others steps last → length locals + length others < length steps
+    → a ≡ get_or steps (length locals + length others) a → IsSome (next last a)
+keeps_next s first locals others steps last a k more read =
+    let n : ℕ = length locals + length others in
     let front : take (n + 1) steps ≡ take n steps ++ a ∷ [] = take_more steps n a more ∙ ap (λ b. take n steps ++ b ∷ []) (sym read) in
     let split : fold first steps ≡ option_and_then (λ v. fold v (drop (n + 1) steps)) (fold first (take (n + 1) steps)) =
     ap (fold first) (sym (take-append-drop (n + 1) steps)) ∙ fold-append first (take (n + 1) steps) (drop (n + 1) steps) in
-    let there : fold first (take (n + 1) steps) ≡ next last a = ap (fold first) front ∙ fold_on first last (take n steps) a (keeps_world s first records steps last k) in
+    let there : fold first (take (n + 1) steps) ≡ next last a = ap (fold first) front ∙ fold_on first last (take n steps) a (keeps_world s first locals others steps last k) in
     let some : IsSome (fold first (take (n + 1) steps)) = some_before (λ (v : World). fold v (drop (n + 1) steps)) (fold first (take (n + 1) steps)) (rw split at k.whole) in
     rw there at some
 
@@ -117,77 +157,131 @@ of_next P o a e holds b f = subst P (same_some o a b e f) holds
 
 -- ---- other steps behind the depth
 
-pub keeps_other : (s : Program) (first : World) (records : List RankRecord) (steps others : List Step) (last : World) → Keeps s first records steps last → take (length records) others ≡ take (length records) steps
-    → IsSome (fold first others) → length others ≤ STEPS_MAX → Keeps s first records others last
-keeps_other s first records steps others last k begins whole few =
-    record {
-      within = omega (arith, ap length begins, length-take (length records) others, length-take (length records) steps, k.within);
-      few = few;
-      leads = rw begins k.leads;
-      whole = whole;
-    }
+pub keeps_other : (s : Program) (first : World) (locals others : List RankRecord) (steps changed : List Step) (last : World) → Keeps s first locals others steps last
+    → take (length locals + length others) changed ≡ take (length locals + length others) steps → IsSome (fold first changed) → length changed ≤ STEPS_MAX → Keeps s first locals others changed last
+keeps_other s first locals others steps changed last k begins whole few =
+    let n : ℕ = length locals + length others in
+    record { within = omega (arith, ap length begins, length-take n changed, length-take n steps, k.within); few = few; leads = rw begins k.leads; whole = whole }
 
-pub keeps_forgotten : (s : Program) (first : World) (records : List RankRecord) (steps : List Step) (last : World) → Keeps s first records steps last → Keeps s first records (take (length records) steps) last
-keeps_forgotten s first records steps last k =
-    keeps_other s first records steps (take (length records) steps) last k (take-take (length records) (length records) steps (omega arith)) (rw (keeps_world s first records steps last k) refl)
-    (omega (arith, length-take (length records) steps, k.few))
+pub keeps_forgotten : (s : Program) (first : World) (locals others : List RankRecord) (steps : List Step) (last : World) → Keeps s first locals others steps last
+    → Keeps s first locals others (take (length locals + length others) steps) last
+keeps_forgotten s first locals others steps last k =
+    let n : ℕ = length locals + length others in
+    keeps_other s first locals others steps (take n steps) last k (take-take n n steps (omega arith)) (rw (keeps_world s first locals others steps last k) refl) (omega (arith, length-take n steps, k.few))
 
 pub kept_forgotten : (t : Trail) → kept (forgotten t) ≡ kept t
 kept_forgotten t = take-take t.depth t.depth t.steps (omega arith)
 
--- one step more
-pub keeps_push : (s : Program) (first : World) (records : List RankRecord) (steps : List Step) (last now : World) (done : Record) (a : Step) → Keeps s first records steps last → length records < STEPS_MAX → next last a ≡ Some now
-    → undone s now done ≡ last → CanUndo now done → record_of last a ≡ Some done → Keeps s first (records ++ rank_part done ∷ []) (noted steps (length records) a) now
-keeps_push s first records steps last now done a k room e back can recorded =
-    let n : ℕ = length records in
-    let u : RankRecord = rank_part done in
+-- ---- one step more
+
+keeps_more : (s : Program) (first : World) (locals others locals2 others2 : List RankRecord) (steps : List Step) (last now : World) (a : Step) → Keeps s first locals others steps last
+    → length locals + length others < STEPS_MAX → next last a ≡ Some now → length locals2 + length others2 ≡ length locals + length others + 1
+    → LeadsTo s first (reverse locals2) (reverse others2) (a ∷ reverse (take (length locals + length others) steps)) now → Keeps s first locals2 others2 (noted steps (length locals + length others) a) now
+keeps_more s first locals others locals2 others2 steps last now a k room e long there =
+    let n : ℕ = length locals + length others in
     let front : take (n + 1) (noted steps n a) ≡ take n steps ++ a ∷ [] = take_noted steps n a k.within in
-    let long : length (records ++ u ∷ []) ≡ n + 1 = length-append records (u ∷ []) in
-    let is : done ≡ step_record a u = recorded_step last a done recorded in
-    let was : undone s now (step_record a u) ≡ last = ap (undone s now) (sym is) ∙ back in
-    let able : CanUndo now (step_record a u) = subst (CanUndo now) is can in
-    let there : LeadsTo s first (u ∷ reverse records) (a ∷ reverse (take n steps)) now =
-    (ap (λ w. next w a) was ∙ e, able, subst (LeadsTo s first (reverse records) (reverse (take n steps))) (sym was) k.leads) in
     record {
       within = omega (arith, long, ap length front, length-take (n + 1) (noted steps n a), length-append (take n steps) (a ∷ []), length-take n steps, k.within);
       few = few_by (is_step (slice_get steps n) a) steps n STEPS_MAX a room k.few;
-      leads = rw (long, front, reverse-append records (u ∷ []), reverse-append (take n steps) (a ∷ [])) there;
-      whole = whole_by (is_step (slice_get steps n) a) first last steps n a k.whole (keeps_world s first records steps last k) (rw e refl);
+      leads = rw (long, front, reverse-append (take n steps) (a ∷ [])) there;
+      whole = whole_by (is_step (slice_get steps n) a) first last steps n a k.whole (keeps_world s first locals others steps last k) (rw e refl);
     }
 
--- The newest step: it can be taken back, and without it the others are kept.
-leads_last : (s : Program) (first : World) (records : List RankRecord) (steps : List Step) (last : World) (u : RankRecord) (a : Step) → a ≡ get_or steps (length records) a → Keeps s first (records ++ u ∷ []) steps last
-    → LeadsTo s first (u ∷ reverse records) (a ∷ reverse (take (length records) steps)) last
-leads_last s first records steps last u a read k =
-    let n : ℕ = length records in
-    let long : length (records ++ u ∷ []) ≡ n + 1 = length-append records (u ∷ []) in
-    let front : take (n + 1) steps ≡ take n steps ++ a ∷ [] = take_more steps n a (omega (arith, long, k.within)) ∙ ap (λ b. take n steps ++ b ∷ []) (sym read) in
-    rw (long, front, reverse-append records (u ∷ []), reverse-append (take n steps) (a ∷ [])) at k.leads
+pub keeps_local : (s : Program) (first : World) (locals others : List RankRecord) (steps : List Step) (last now : World) (u : RankRecord) (p : ℕ) → Keeps s first locals others steps last
+    → length locals + length others < STEPS_MAX → next last (Local p) ≡ Some now → undone s now (step_record (Local p) u) ≡ last → CanUndo now (step_record (Local p) u)
+    → Keeps s first (locals ++ u ∷ []) others (noted steps (length locals + length others) (Local p)) now
+keeps_local s first locals others steps last now u p k room e back can =
+    let front : List Step = reverse (take (length locals + length others) steps) in
+    let there : LeadsTo s first (u ∷ reverse locals) (reverse others) (Local p ∷ front) now =
+    (ap (λ w. next w (Local p)) back ∙ e, can, subst (LeadsTo s first (reverse locals) (reverse others) front) (sym back) k.leads) in
+    keeps_more s first locals others (locals ++ u ∷ []) others steps last now (Local p) k room e (omega (arith, length-append locals (u ∷ []))) (rw (reverse-append locals (u ∷ [])) there)
 
-pub keeps_can : (s : Program) (first : World) (records : List RankRecord) (steps : List Step) (last : World) (u : RankRecord) (a : Step) → a ≡ get_or steps (length records) a → Keeps s first (records ++ u ∷ []) steps last
-    → CanUndo last (step_record a u)
-keeps_can s first records steps last u a read k = (leads_last s first records steps last u a read k).1
+pub keeps_apart : (s : Program) (first : World) (locals others : List RankRecord) (steps : List Step) (last now : World) (done : Record) (a : Step) → Keeps s first locals others steps last → local_rank a ≡ None
+    → length locals + length others < STEPS_MAX → next last a ≡ Some now → undone s now done ≡ last → CanUndo now done → record_of last a ≡ Some done
+    → Keeps s first locals (others ++ rank_part done ∷ []) (noted steps (length locals + length others) a) now
+keeps_apart s first locals others steps last now done a k apart room e back can recorded =
+    let u : RankRecord = rank_part done in
+    let front : List Step = reverse (take (length locals + length others) steps) in
+    let is : done ≡ step_record a u = recorded_step last a done recorded in
+    let was : undone s now (step_record a u) ≡ last = ap (undone s now) (sym is) ∙ back in
+    let able : CanUndo now (step_record a u) = subst (CanUndo now) is can in
+    let there : LeadsTo s first (reverse locals) (u ∷ reverse others) (a ∷ front) now =
+    other_leads s first (reverse locals) (reverse others) front now u a apart (ap (λ w. next w a) was ∙ e, able, subst (LeadsTo s first (reverse locals) (reverse others) front) (sym was) k.leads) in
+    keeps_more s first locals others locals (others ++ u ∷ []) steps last now a k room e (omega (arith, length-append others (u ∷ []))) (rw (reverse-append others (u ∷ [])) there)
 
-pub keeps_pop : (s : Program) (first : World) (records : List RankRecord) (steps : List Step) (last : World) (u : RankRecord) (a : Step) → a ≡ get_or steps (length records) a → Keeps s first (records ++ u ∷ []) steps last
-    → Keeps s first records steps (undone s last (step_record a u))
-keeps_pop s first records steps last u a read k =
-    record { within = omega (arith, length-append records (u ∷ []), k.within); few = k.few; leads = (leads_last s first records steps last u a read k).2; whole = k.whole }
+-- ---- The newest step: it can be taken back, and without it the others are kept.
 
 -- All records are those before the last, and that one.
 to_last : (records : List RankRecord) (n : ℕ) (u : RankRecord) → length records ≡ n + 1 → u ≡ get_or records n u → records ≡ take n records ++ u ∷ []
 to_last records n u long is = sym (take_all (n + 1) records (omega (arith, long))) ∙ take_more records n u (omega (arith, long)) ∙ ap (λ x. take n records ++ x ∷ []) (sym is)
 
-pub last_can : (s : Program) (first : World) (records : List RankRecord) (steps : List Step) (last : World) (n : ℕ) (u : RankRecord) (a : Step) → length records ≡ n + 1 → u ≡ get_or records n u → a ≡ get_or steps n a
-    → Keeps s first records steps last → CanUndo last (step_record a u)
-last_can s first records steps last n u a long is read k =
-    let short : length (take n records) ≡ n = omega (arith, length-take n records, long) in
-    keeps_can s first (take n records) steps last u a (rw short read) (subst (λ (rs : List RankRecord). Keeps s first rs steps last) (to_last records n u long is) k)
+newest_first : (records : List RankRecord) (n : ℕ) (u : RankRecord) → length records ≡ n + 1 → u ≡ get_or records n u → reverse records ≡ u ∷ reverse (take n records)
+newest_first records n u long is = ap reverse (to_last records n u long is) ∙ reverse-append (take n records) (u ∷ [])
 
-pub last_pop : (s : Program) (first : World) (records : List RankRecord) (steps : List Step) (last : World) (n : ℕ) (u : RankRecord) (a : Step) → length records ≡ n + 1 → u ≡ get_or records n u → a ≡ get_or steps n a
-    → Keeps s first records steps last → Keeps s first (take n records) steps (undone s last (step_record a u))
-last_pop s first records steps last n u a long is read k =
-    let short : length (take n records) ≡ n = omega (arith, length-take n records, long) in
-    keeps_pop s first (take n records) steps last u a (rw short read) (subst (λ (rs : List RankRecord). Keeps s first rs steps last) (to_last records n u long is) k)
+leads_last : (s : Program) (first : World) (locals others : List RankRecord) (steps : List Step) (last : World) (n : ℕ) (a : Step) → length locals + length others ≡ n + 1 → a ≡ get_or steps n a
+    → Keeps s first locals others steps last → LeadsTo s first (reverse locals) (reverse others) (a ∷ reverse (take n steps)) last
+leads_last s first locals others steps last n a long read k =
+    let front : take (n + 1) steps ≡ take n steps ++ a ∷ [] = take_more steps n a (omega (arith, long, k.within)) ∙ ap (λ b. take n steps ++ b ∷ []) (sym read) in
+    rw (long, front, reverse-append (take n steps) (a ∷ [])) at k.leads
+
+-- a step of a kind has a record of that kind
+some_local : (s : Program) (first : World) (locals others : List RankRecord) (p : ℕ) (steps : List Step) (last : World) → LeadsTo s first locals others (Local p ∷ steps) last → 0 < length locals
+some_local s first [] others p steps last h = absurd h
+some_local s first (u ∷ locals) others p steps last h = omega arith
+
+some_other : (s : Program) (first : World) (locals others : List RankRecord) (a : Step) (steps : List Step) (last : World) → local_rank a ≡ None → LeadsTo s first locals others (a ∷ steps) last → 0 < length others
+some_other s first locals (u ∷ others) a steps last e h = omega arith
+some_other s first locals [] (Local p) steps last e h = cc
+some_other s first locals [] (Match x y) steps last e h = absurd h
+some_other s first locals [] (Wake p) steps last e h = absurd h
+some_other s first locals [] Release steps last e h = absurd h
+
+pub local_there : (s : Program) (first : World) (locals others : List RankRecord) (steps : List Step) (last : World) (n p : ℕ) (a : Step) → length locals + length others ≡ n + 1 → a ≡ get_or steps n a → local_rank a ≡ Some p
+    → Keeps s first locals others steps last → 0 < length locals
+local_there s first locals others steps last n p a long read e k =
+    let front : List Step = reverse (take n steps) in
+    let there : LeadsTo s first (reverse locals) (reverse others) (Local p ∷ front) last =
+    subst (λ (b : Step). LeadsTo s first (reverse locals) (reverse others) (b ∷ front) last) (is_local a p e) (leads_last s first locals others steps last n a long read k) in
+    let some : 0 < length (reverse locals) = some_local s first (reverse locals) (reverse others) p front last there in
+    rw (length-reverse locals) at some
+
+pub other_there : (s : Program) (first : World) (locals others : List RankRecord) (steps : List Step) (last : World) (n : ℕ) (a : Step) → length locals + length others ≡ n + 1 → a ≡ get_or steps n a → local_rank a ≡ None
+    → Keeps s first locals others steps last → 0 < length others
+other_there s first locals others steps last n a long read e k =
+    let some : 0 < length (reverse others) = some_other s first (reverse locals) (reverse others) a (reverse (take n steps)) last e (leads_last s first locals others steps last n a long read k) in
+    rw (length-reverse others) at some
+
+local_last : (s : Program) (first : World) (locals others : List RankRecord) (steps : List Step) (last : World) (n m p : ℕ) (u : RankRecord) (a : Step) → length locals + length others ≡ n + 1 → length locals ≡ m + 1
+    → u ≡ get_or locals m u → a ≡ get_or steps n a → local_rank a ≡ Some p → Keeps s first locals others steps last → LeadsTo s first (u ∷ reverse (take m locals)) (reverse others) (Local p ∷ reverse (take n steps)) last
+local_last s first locals others steps last n m p u a long own is read e k =
+    subst (λ (b : Step). LeadsTo s first (u ∷ reverse (take m locals)) (reverse others) (b ∷ reverse (take n steps)) last) (is_local a p e)
+    (subst (λ (us : List RankRecord). LeadsTo s first us (reverse others) (a ∷ reverse (take n steps)) last) (newest_first locals m u own is) (leads_last s first locals others steps last n a long read k))
+
+pub local_can : (s : Program) (first : World) (locals others : List RankRecord) (steps : List Step) (last : World) (n m p : ℕ) (u : RankRecord) (a : Step) → length locals + length others ≡ n + 1 → length locals ≡ m + 1
+    → u ≡ get_or locals m u → a ≡ get_or steps n a → local_rank a ≡ Some p → Keeps s first locals others steps last → CanUndo last (step_record (Local p) u)
+local_can s first locals others steps last n m p u a long own is read e k = (local_last s first locals others steps last n m p u a long own is read e k).1
+
+pub local_pop : (s : Program) (first : World) (locals others : List RankRecord) (steps : List Step) (last : World) (n m p : ℕ) (u : RankRecord) (a : Step) → length locals + length others ≡ n + 1 → length locals ≡ m + 1
+    → u ≡ get_or locals m u → a ≡ get_or steps n a → local_rank a ≡ Some p → Keeps s first locals others steps last → Keeps s first (take m locals) others steps (undone s last (step_record (Local p) u))
+local_pop s first locals others steps last n m p u a long own is read e k =
+    let short : length (take m locals) + length others ≡ n = omega (arith, length-take m locals, long, own) in
+    record { within = omega (arith, short, long, k.within); few = k.few; leads = rw short (local_last s first locals others steps last n m p u a long own is read e k).2; whole = k.whole }
+
+other_last : (s : Program) (first : World) (locals others : List RankRecord) (steps : List Step) (last : World) (n m : ℕ) (u : RankRecord) (a : Step) → length locals + length others ≡ n + 1 → length others ≡ m + 1
+    → u ≡ get_or others m u → a ≡ get_or steps n a → local_rank a ≡ None → Keeps s first locals others steps last → OtherLeads s first (reverse locals) u (reverse (take m others)) a (reverse (take n steps)) last
+other_last s first locals others steps last n m u a long own is read e k =
+    other_led s first (reverse locals) (reverse (take m others)) (reverse (take n steps)) last u a e
+    (subst (λ (us : List RankRecord). LeadsTo s first (reverse locals) us (a ∷ reverse (take n steps)) last) (newest_first others m u own is) (leads_last s first locals others steps last n a long read k))
+
+pub other_can : (s : Program) (first : World) (locals others : List RankRecord) (steps : List Step) (last : World) (n m : ℕ) (u : RankRecord) (a : Step) → length locals + length others ≡ n + 1 → length others ≡ m + 1
+    → u ≡ get_or others m u → a ≡ get_or steps n a → local_rank a ≡ None → Keeps s first locals others steps last → CanUndo last (step_record a u)
+other_can s first locals others steps last n m u a long own is read e k = (other_last s first locals others steps last n m u a long own is read e k).1
+
+pub other_pop : (s : Program) (first : World) (locals others : List RankRecord) (steps : List Step) (last : World) (n m : ℕ) (u : RankRecord) (a : Step) → length locals + length others ≡ n + 1 → length others ≡ m + 1
+    → u ≡ get_or others m u → a ≡ get_or steps n a → local_rank a ≡ None → Keeps s first locals others steps last → Keeps s first locals (take m others) steps (undone s last (step_record a u))
+other_pop s first locals others steps last n m u a long own is read e k =
+    let short : length locals + length (take m others) ≡ n = omega (arith, length-take m others, long, own) in
+    record { within = omega (arith, short, long, k.within); few = k.few; leads = rw short (other_last s first locals others steps last n m u a long own is read e k).2; whole = k.whole }
 
 -- The step that is taken back is the one that was read.
 pub step_back : (steps : List Step) (n : ℕ) (a b : Step) → n < length steps → a ≡ get_or steps n a → take (n + 1) steps ≡ take n steps ++ b ∷ [] → b ≡ a
@@ -199,4 +293,4 @@ step_back steps n a b h read e =
     last_same [] b a e = ap (λ ys. get_or ys 0 a) e
     last_same (x ∷ xs) b a e = last_same xs b a (ap (drop 1) e)
 
-pub ruleset keeping = (keeps_world, keeps_reached, keeps_push, last_can, last_pop, keeps_next, keeps_other, keeps_forgotten, kept_forgotten, take_noted)
+pub ruleset keeping = (keeps_world, keeps_reached, local_there, other_there, local_can, other_can, local_pop, other_pop, keeps_next, keeps_other, keeps_forgotten, kept_forgotten, take_noted)

@@ -4,11 +4,10 @@ ghost use Rattle.std.specs.Prelude.{◌≡◌, ◌↔◌, ◌<◌, ◌≤◌, If
 ghost use Rattle.mpd_model.specs.Next.{next};
 ghost use Rattle.mpd_model.specs.Trail.{first_standing, IsReached, IsRun, kept, noted, applied, taken_back, redone, gone_back, forgotten, with_steps, step_eq};
 ghost use Rattle.mpd_model.specs.declared.step.Step.{Step};
-ghost use Rattle.mpd_core.specs.Records.{record_of, step_record};
-ghost use Rattle.mpd_core.specs.Undone.{undone, CanUndo};
 ghost use Rattle.mpd_core.specs.Writes.{most_writes};
 ghost use Rattle.mpd_trail.specs.Faults.{apply_fault, apply_fault_number, apply_fault_name, redo_fault_number, redo_fault_name};
-ghost use Rattle.mpd_trail.specs.Views.{standing_of};
+ghost use Rattle.mpd_trail.specs.Kept.{local_rank};
+ghost use Rattle.mpd_trail.specs.Views.{standing_of, room_in};
 ghost use Rattle.mpd_trail.specs.Writes.{most_writes_of};
 
 use mpd_code::code::Code;
@@ -18,7 +17,7 @@ use mpd_core::state::Core;
 use mpd_model::call::Mode;
 use mpd_model::limits::STEPS_MAX;
 use mpd_model::step::Step;
-use mpd_rank::change::RankRecord;
+use mpd_rank::change::{LocalRecord, RankRecord};
 use std::alloc::{AllocError, Global};
 use std::marker::Model;
 use thiserror::Error;
@@ -153,29 +152,30 @@ impl NotBefore {
 pub struct Debugger<'c> {
     mode: Mode,
     core: Core<'c>,
-    /// What takes each step back that is not undone, beside the step itself, the newest last.
-    records: Vec<RankRecord>,
+    /// What takes each step back that is not undone, beside the step itself, the newest last: local steps, and others.
+    locals: Vec<LocalRecord>,
+    others: Vec<RankRecord>,
     steps: Vec<Step>,
 }
 
 impl<'c> Model for Debugger<'c> {
-    ghost use Rattle.std.specs.Prelude.{◌-◌, min, length, vec_len, vec_capacity};
+    ghost use Rattle.std.specs.Prelude.{◌+◌, ◌-◌, min, length, vec_len, vec_capacity};
     ghost use Rattle.mpd_model.specs.World.{start};
     ghost use Rattle.mpd_trail.specs.Kept.{Keeps};
-    ghost use Rattle.mpd_trail.specs.Views.{DebuggerView, debugger_view_code};
+    ghost use Rattle.mpd_trail.specs.Views.{DebuggerView, debugger_view_code, room_in};
 
     ghost Value = { DebuggerView };
 
     ghost coded = { debugger_view_code };
 
     ghost view = { λ d. record {
-      trail = record { program = d.core.program; mode = d.mode; steps = d.steps.items; depth = length d.records.items };
+      trail = record { program = d.core.program; mode = d.mode; steps = d.steps.items; depth = length d.locals.items + length d.others.items };
       world = d.core.world;
-      room = min d.core.room (min (vec_capacity d.records - vec_len d.records) (vec_capacity d.steps - vec_len d.steps));
+      room = min d.core.room (room_in (vec_capacity d.locals - vec_len d.locals) (vec_capacity d.others - vec_len d.others) (vec_capacity d.steps - vec_len d.steps));
       writes = d.core.writes;
     } };
 
-    ghost invariant = { λ d. Keeps d.core.program (start d.core.program d.mode) d.records.items d.steps.items d.core.world };
+    ghost invariant = { λ d. Keeps d.core.program (start d.core.program d.mode) d.locals.items d.others.items d.steps.items d.core.world };
 }
 
 /// Whether two steps are one.
@@ -185,43 +185,15 @@ fn is_same(a: Step, b: Step) -> bool
     a == b
 }
 
-/// Takes a step of the state, and answers what takes it back, the step aside.
-fn take(core: &mut Core<'_>, step: Step) -> Result<RankRecord, StepFault>
-    ensures ok { OnOk result (next core.old.world step ≡ Some core.new.world) }
-    ensures back { IfOk result (λ done. undone core.old.program core.new.world (step_record step done) ≡ core.old.world) }
-    ensures recorded { IfOk result (λ done. record_of core.old.world step ≡ Some (step_record step done)) }
-    ensures can { IfOk result (λ done. CanUndo core.new.world (step_record step done)) }
-    ensures not_enabled { IsErrOf result StepFault.NotEnabled ↔ (next core.old.world step ≡ None) }
-    ensures memory { IsErrOf result StepFault.Memory → core.old.room ≡ 0 }
-    ensures err { OnErr result (core.new.world ≡ core.old.world) }
-    ensures program { core.new.program ≡ core.old.program }
-    ensures rises { OnOk result (core.old.writes + 1 ≤ core.new.writes) }
-    ensures few { OnOk result (core.new.writes ≤ core.old.writes + most_writes core.old.program.ranks step) }
-    ensures unwritten { OnErr result (core.new.writes ≡ core.old.writes) }
-{
-    if let Step::Local(rank) = step {
-        return core.step_local(rank);
-    }
-    let done = core.apply(step)?;
-    let Record { from, change, .. } = done;
-    Ok(RankRecord { from, change })
-}
-
-/// Takes a step of the state back, by what takes it back, the step aside.
+/// The rank of a local step.
 #[inline(always)]
-fn take_back(core: &mut Core<'_>, step: Step, done: &RankRecord)
-    requires { CanUndo core.old.world (step_record step done.now) }
-    ensures world { core.new.world ≡ undone core.old.program core.old.world (step_record step done.now) }
-    ensures program { core.new.program ≡ core.old.program }
-    ensures rises { core.old.writes + 1 ≤ core.new.writes }
-    ensures few { core.new.writes ≤ core.old.writes + most_writes core.old.program.ranks step }
+fn local_rank(step: Step) -> Option<usize>
+    ensures { result ≡ local_rank step }
 {
-    if let Step::Local(rank) = step {
-        core.undo_local(rank, done);
-        return;
+    match step {
+        Step::Local(rank) => Some(rank),
+        Step::Match(_, _) | Step::Wake(_) | Step::Release => None,
     }
-    let RankRecord { from, change } = *done;
-    core.undo(Record { step, from, change });
 }
 
 /// Has a step as the one at a depth: what stands there already stays, with all after it. Where the depth is the end, the room
@@ -242,17 +214,20 @@ fn note(steps: &mut Vec<Step>, depth: usize, step: Step)
     }
 }
 
-/// Keeps room for one record more, and for its step where none stands there. An `Err` is want of memory.
-fn keep_next(records: &mut Vec<RankRecord>, steps: &mut Vec<Step>) -> Result<(), AllocError>
-    requires { vec_len records.old ≤ vec_len steps.old }
-    ensures room { OnOk result (vec_len records.new < vec_capacity records.new) }
-    ensures step_room { OnOk result (vec_len records.new ≡ vec_len steps.new → vec_len steps.new < vec_capacity steps.new) }
-    ensures records { records.new.items ≡ records.old.items }
+/// Keeps room for one record more of each kind, and for its step where none stands there. An `Err` is want of memory.
+fn keep_next(locals: &mut Vec<LocalRecord>, others: &mut Vec<RankRecord>, steps: &mut Vec<Step>) -> Result<(), AllocError>
+    requires { vec_len locals.old + vec_len others.old ≤ vec_len steps.old }
+    ensures local_room { OnOk result (vec_len locals.new < vec_capacity locals.new) }
+    ensures other_room { OnOk result (vec_len others.new < vec_capacity others.new) }
+    ensures step_room { OnOk result (vec_len locals.new + vec_len others.new ≡ vec_len steps.new → vec_len steps.new < vec_capacity steps.new) }
+    ensures locals { locals.new.items ≡ locals.old.items }
+    ensures others { others.new.items ≡ others.old.items }
     ensures steps { steps.new.items ≡ steps.old.items }
-    ensures memory { OnErr result (min (vec_capacity records.old - vec_len records.old) (vec_capacity steps.old - vec_len steps.old) ≡ 0) }
+    ensures memory { OnErr result (room_in (vec_capacity locals.old - vec_len locals.old) (vec_capacity others.old - vec_len others.old) (vec_capacity steps.old - vec_len steps.old) ≡ 0) }
 {
-    records.reserve(1)?;
-    if records.len() < steps.len() {
+    locals.reserve(1)?;
+    others.reserve(1)?;
+    if locals.len() + others.len() < steps.len() {
         return Ok(());
     }
     steps.reserve(1)
@@ -268,7 +243,8 @@ impl<'c> Debugger<'c> {
         Ok(Debugger {
             mode,
             core: Core::start(alloc, code, mode)?,
-            records: Vec::new(alloc),
+            locals: Vec::new(alloc),
+            others: Vec::new(alloc),
             steps: Vec::new(alloc),
         })
     }
@@ -278,7 +254,7 @@ impl<'c> Debugger<'c> {
         ensures value { result ≡ self.now.trail.depth }
         ensures small { result ≤ STEPS_MAX }
     {
-        self.records.len()
+        self.locals.len() + self.others.len()
     }
 
     /// All steps kept, undone ones included.
@@ -298,7 +274,7 @@ impl<'c> Debugger<'c> {
         ensures few { length self.now.trail.steps ≤ STEPS_MAX }
         ensures reached { IsReached (standing_of self.now) }
     {
-        let depth = self.records.len();
+        let depth = self.locals.len() + self.others.len();
         if depth == self.steps.len() {
             return None;
         }
@@ -327,7 +303,8 @@ impl<'c> Debugger<'c> {
         ensures writes { self.new.writes ≡ self.old.writes }
     {
         self.core.keep_room()?;
-        self.records.reserve(1)?;
+        self.locals.reserve(1)?;
+        self.others.reserve(1)?;
         self.steps.reserve(1)
     }
 
@@ -355,23 +332,29 @@ impl<'c> Debugger<'c> {
         ensures few { OnOk result (self.new.writes ≤ self.old.writes + most_writes self.old.trail.program.ranks step) }
         ensures unwritten { OnErr result (self.new.writes ≡ self.old.writes) }
     {
-        let depth = self.records.len();
+        let depth = self.locals.len() + self.others.len();
         if depth >= STEPS_MAX {
             if self.core.is_enabled(step) {
                 return Err(ApplyFault::Full);
             }
             return Err(ApplyFault::NotEnabled);
         }
-        if keep_next(&mut self.records, &mut self.steps).is_err() {
+        if keep_next(&mut self.locals, &mut self.others, &mut self.steps).is_err() {
             if self.core.is_enabled(step) {
                 return Err(ApplyFault::Memory);
             }
             return Err(ApplyFault::NotEnabled);
         }
-        let done = take(&mut self.core, step)?;
-        let RankRecord { from, change } = done;
+        if let Some(rank) = local_rank(step) {
+            let done = self.core.step_local(rank)?;
+            note(&mut self.steps, depth, step);
+            self.locals.push_reserved(done.anew());
+            return Ok(());
+        }
+        let done = self.core.apply(step)?;
+        let Record { from, change, .. } = done;
         note(&mut self.steps, depth, step);
-        self.records.push_reserved(RankRecord { from, change });
+        self.others.push_reserved(RankRecord { from, change });
         Ok(())
     }
 
@@ -391,12 +374,20 @@ impl<'c> Debugger<'c> {
         ensures few { OnOk result ((step : Step) → kept self.old.trail ≡ kept self.new.trail ++ step ∷ [] → self.new.writes ≤ self.old.writes + most_writes self.old.trail.program.ranks step) }
         ensures unwritten { OnErr result (self.new.writes ≡ self.old.writes) }
     {
-        let Some(last) = self.records.len().checked_sub(1) else {
+        let Some(last) = (self.locals.len() + self.others.len()).checked_sub(1) else {
             return Err(AtStart);
         };
         let step = self.steps[last];
-        take_back(&mut self.core, step, &self.records[last]);
-        self.records.truncate(last);
+        if let Some(rank) = local_rank(step) {
+            let newest = self.locals.len() - 1;
+            self.core.undo_local(rank, &self.locals[newest]);
+            self.locals.truncate(newest);
+            return Ok(());
+        }
+        let newest = self.others.len() - 1;
+        let RankRecord { from, change } = self.others[newest];
+        self.core.undo(Record { step, from, change });
+        self.others.truncate(newest);
         Ok(())
     }
 
@@ -491,7 +482,7 @@ impl<'c> Debugger<'c> {
         ensures never_less { self.old.room ≤ self.new.room }
         ensures writes { self.new.writes ≡ self.old.writes }
     {
-        self.steps.truncate(self.records.len());
+        self.steps.truncate(self.locals.len() + self.others.len());
     }
 
     /// Has these steps as the ones that are kept. They begin with those that are not undone, and lead on from there; those behind
@@ -523,15 +514,18 @@ impl<'c> Debugger<'c> {
         ensures mode { IfOk result (λ d. d.trail.mode ≡ self.now.trail.mode) }
         ensures writes { IfOk result (λ d. d.writes ≡ 0) }
     {
-        let depth = self.records.len();
-        let mut records = Vec::new(*self.records.allocator());
-        records.extend_from_slice(self.records.as_slice())?;
+        let depth = self.locals.len() + self.others.len();
+        let mut locals = Vec::new(*self.locals.allocator());
+        locals.extend_from_slice(self.locals.as_slice())?;
+        let mut others = Vec::new(*self.others.allocator());
+        others.extend_from_slice(self.others.as_slice())?;
         let mut steps = Vec::new(*self.steps.allocator());
         steps.extend_from_slice(&self.steps[..depth])?;
         Ok(Debugger {
             mode: self.mode,
             core: self.core.copy()?,
-            records,
+            locals,
+            others,
             steps,
         })
     }
