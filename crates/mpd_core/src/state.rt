@@ -496,6 +496,22 @@ impl<'c> Core<'c> {
         ranks::restore_local(&mut self.ranks, rank, done);
     }
 
+    /// The same, by its record as that of any step.
+    #[tactic(auto, using(crate::proofs::TagLemmas::tagging))]
+    fn undo_whole(&mut self, rank: usize, done: &RankRecord)
+        requires { CanUndo self.old.world (step_record (Step.Local rank) done.now) }
+        ensures world { self.new.world ≡ undone self.old.program self.old.world (step_record (Step.Local rank) done.now) }
+        ensures program { self.new.program ≡ self.old.program }
+        ensures rises { self.old.writes + 1 ≤ self.new.writes }
+        ensures few { self.new.writes ≤ self.old.writes + 16 }
+        ensures looks { self.new.looks ≡ self.old.looks }
+    {
+        if let Change::Issued { .. } = done.change {
+            self.board.unissue(rank);
+        }
+        ranks::restore_one(&mut self.ranks, rank, done);
+    }
+
     /// Takes a release back.
     #[tactic(auto, using(crate::proofs::ReleaseLemmas::releasing, crate::proofs::TagLemmas::tagging))]
     fn undo_release(&mut self)
@@ -522,12 +538,7 @@ impl<'c> Core<'c> {
     {
         let Record { step, from, change } = done;
         match step {
-            Step::Local(rank) => {
-                if let Change::Issued { .. } = change {
-                    self.board.unissue(rank);
-                }
-                ranks::restore_one(&mut self.ranks, rank, &RankRecord { from, change });
-            }
+            Step::Local(rank) => self.undo_whole(rank, &RankRecord { from, change }),
             Step::Match(_, _) => {
                 let Change::Matched {
                     send_place,

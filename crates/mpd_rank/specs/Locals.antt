@@ -88,9 +88,9 @@ changed_back kind.Issued cell handle call was h =
 changed_back kind.Trapped cell handle call was h = (refl, (sym h.0.0, (sym h.1.0, (sym h.1.1, sym h.0.1))))
 
 abbrev pub numbers_of : RankRecord → local.Inside
-numbers_of r = record { from = r.from; kind = kind_of r.change; cell = cell_of r.change; handle = handle_of (issued_handle r.change); call = call_of (issued_handle r.change); was = was_of r.change }
+numbers_of r = record { from = r.from; kind = kind_of r.change; cell_index = cell_of r.change; was = was_of r.change; handle_index = handle_of (issued_handle r.change); call_before = call_of (issued_handle r.change) }
 
-pub numbers_back : (a : local.Inside) → IsLocal a.kind a.cell a.handle a.call a.was → numbers_of (record { from = a.from; change = local_change a.kind a.cell a.handle a.call a.was }) ≡ a
+pub numbers_back : (a : local.Inside) → IsLocal a.kind a.cell_index a.handle_index a.call_before a.was → numbers_of (record { from = a.from; change = local_change a.kind a.cell_index a.handle_index a.call_before a.was }) ≡ a
 numbers_back a h =
-    let back = changed_back a.kind a.cell a.handle a.call a.was h in
-    (λ i. record { from = a.from; kind = back.0 i; cell = back.1.0 i; handle = back.1.1.0 i; call = back.1.1.1.0 i; was = back.1.1.1.1 i })
+    let back = changed_back a.kind a.cell_index a.handle_index a.call_before a.was h in
+    (λ i. record { from = a.from; kind = back.0 i; cell_index = back.1.0 i; was = back.1.1.1.1 i; handle_index = back.1.1.0 i; call_before = back.1.1.1.0 i })

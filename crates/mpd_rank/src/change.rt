@@ -352,12 +352,12 @@ pub enum LocalKind {
 pub struct LocalRecord {
     pub(crate) from: u32,
     pub(crate) kind: LocalKind,
-    /// Of an assignment.
-    pub(crate) cell: u16,
+    /// The cell that an assignment wrote, and what it held.
+    pub(crate) cell_index: u16,
     pub(crate) was: i64,
-    /// Of a call.
-    handle: u32,
-    call: u32,
+    /// The handle that got the number of a call, and what it held.
+    handle_index: u32,
+    call_before: u32,
 }
 
 impl Model for LocalRecord {
@@ -366,9 +366,9 @@ impl Model for LocalRecord {
 
     ghost Value = { RankRecord };
 
-    ghost view = { λ r. record { from = r.from; change = local_change r.kind r.cell r.handle r.call r.was } };
+    ghost view = { λ r. record { from = r.from; change = local_change r.kind r.cell_index r.handle_index r.call_before r.was } };
 
-    ghost invariant = { λ r. IsLocal r.kind r.cell r.handle r.call r.was };
+    ghost invariant = { λ r. IsLocal r.kind r.cell_index r.handle_index r.call_before r.was };
 
     ghost inverse = { λ r. numbers_of r };
 
@@ -386,10 +386,10 @@ impl LocalRecord {
         LocalRecord {
             from,
             kind,
-            cell: 0,
+            cell_index: 0,
             was: 0,
-            handle: NO_NUMBER,
-            call: NO_NUMBER,
+            handle_index: NO_NUMBER,
+            call_before: NO_NUMBER,
         }
     }
 
@@ -401,10 +401,10 @@ impl LocalRecord {
         LocalRecord {
             from,
             kind: LocalKind::Assigned,
-            cell: cell as u16,
+            cell_index: cell as u16,
             was,
-            handle: NO_NUMBER,
-            call: NO_NUMBER,
+            handle_index: NO_NUMBER,
+            call_before: NO_NUMBER,
         }
     }
 
@@ -415,10 +415,10 @@ impl LocalRecord {
         LocalRecord {
             from,
             kind: LocalKind::Issued,
-            cell: 0,
+            cell_index: 0,
             was: 0,
-            handle: handle.handle,
-            call: handle.call,
+            handle_index: handle.handle,
+            call_before: handle.call,
         }
     }
 
@@ -427,8 +427,8 @@ impl LocalRecord {
         ensures { result ≡ issued_handle self.now.change }
     {
         OldHandle {
-            handle: self.handle,
-            call: self.call,
+            handle: self.handle_index,
+            call: self.call_before,
         }
     }
 
@@ -440,10 +440,10 @@ impl LocalRecord {
         LocalRecord {
             from: self.from,
             kind: self.kind,
-            cell: self.cell,
+            cell_index: self.cell_index,
             was: self.was,
-            handle: self.handle,
-            call: self.call,
+            handle_index: self.handle_index,
+            call_before: self.call_before,
         }
     }
 
@@ -455,7 +455,7 @@ impl LocalRecord {
         let change = match self.kind {
             LocalKind::Moved => Change::Moved,
             LocalKind::Assigned => Change::Assigned {
-                cell: self.cell as u32,
+                cell: self.cell_index as u32,
                 was: self.was,
             },
             LocalKind::Printed => Change::Printed,

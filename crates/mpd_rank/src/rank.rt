@@ -431,7 +431,7 @@ impl RankState {
     {
         match done.kind {
             LocalKind::Assigned => {
-                let _ = self.write(done.cell as usize, done.was);
+                let _ = self.write(done.cell_index as usize, done.was);
             }
             LocalKind::Printed => {
                 let _ = self.out.pop();

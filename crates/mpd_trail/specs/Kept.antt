@@ -1,6 +1,6 @@
 -- What the debugger keeps: each record takes back its step, and on the world that the step led to it can be taken back. Records of
 -- local steps stand apart from those of others. All steps kept, undone ones included, lead somewhere.
-use Rattle.std.specs.Prelude.{◌≡◌, ℕ, ◌+◌, ◌≤◌, List, [], ◌∷◌, length, take, reverse, Option, Some, None, IsSome}
+use Rattle.std.specs.Prelude.{◌≡◌, ℕ, ◌+◌, ◌≤◌, List, [], ◌∷◌, length, min, take, reverse, Option, Some, None, IsSome}
 use Rattle.mpd_model.specs.declared.limits.TheConstants.{STEPS_MAX}
 use Rattle.mpd_model.specs.declared.step.Step.{Step}
 use Rattle.mpd_model.specs.declared.step.Step.TheVariants.{Local, Match, Wake, Release}
@@ -41,3 +41,7 @@ pub record Keeps (s : Program) (first : World) (locals others : List RankRecord)
   pub few : length steps ≤ STEPS_MAX
   pub leads : LeadsTo s first (reverse locals) (reverse others) (reverse (take (length locals + length others) steps)) last
   pub whole : IsSome (fold first steps)
+
+-- for how many steps room is kept, by the room for records of local steps, of others, and for steps
+abbrev pub room_in : ℕ → ℕ → ℕ → ℕ
+room_in locals others steps = min locals (min others steps)

@@ -1,5 +1,5 @@
 -- What a debugger shows to contracts, part by part, and where it stands.
-use Rattle.std.specs.Prelude.{ℕ, min, refl}
+use Rattle.std.specs.Prelude.{ℕ, refl}
 use Rattle.std.specs.Coded.{Coded, code_by, coded×, coded_ℕ}
 use Rattle.mpd_model.specs.World.{World, world_code}
 use Rattle.mpd_model.specs.Trail.{Trail, Standing, trail_code}
@@ -20,7 +20,3 @@ debugger_view_code =
 -- where it stands
 abbrev pub standing_of : DebuggerView → Standing
 standing_of v = record { trail = v.trail; world = v.world }
-
--- for how many steps room is kept, by the room for records of local steps, of others, and for steps
-abbrev pub room_in : ℕ → ℕ → ℕ → ℕ
-room_in locals others steps = min locals (min others steps)

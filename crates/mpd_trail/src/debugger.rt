@@ -6,8 +6,8 @@ ghost use Rattle.mpd_model.specs.Trail.{first_standing, IsReached, IsRun, kept, 
 ghost use Rattle.mpd_model.specs.declared.step.Step.{Step};
 ghost use Rattle.mpd_core.specs.Writes.{most_writes};
 ghost use Rattle.mpd_trail.specs.Faults.{apply_fault, apply_fault_number, apply_fault_name, redo_fault_number, redo_fault_name};
-ghost use Rattle.mpd_trail.specs.Kept.{local_rank};
-ghost use Rattle.mpd_trail.specs.Views.{standing_of, room_in};
+ghost use Rattle.mpd_trail.specs.Kept.{local_rank, room_in};
+ghost use Rattle.mpd_trail.specs.Views.{standing_of};
 ghost use Rattle.mpd_trail.specs.Writes.{most_writes_of};
 
 use mpd_code::code::Code;
@@ -161,8 +161,8 @@ pub struct Debugger<'c> {
 impl<'c> Model for Debugger<'c> {
     ghost use Rattle.std.specs.Prelude.{◌+◌, ◌-◌, min, length, vec_len, vec_capacity};
     ghost use Rattle.mpd_model.specs.World.{start};
-    ghost use Rattle.mpd_trail.specs.Kept.{Keeps};
-    ghost use Rattle.mpd_trail.specs.Views.{DebuggerView, debugger_view_code, room_in};
+    ghost use Rattle.mpd_trail.specs.Kept.{Keeps, room_in};
+    ghost use Rattle.mpd_trail.specs.Views.{DebuggerView, debugger_view_code};
 
     ghost Value = { DebuggerView };
 
