@@ -92,7 +92,11 @@ fn issue_on(board: &mut Board, rank: usize, call: Option<Call>) -> Result<u32, A
 /// The local step of one rank, whatever it issues, in the room that was kept there.
 #[inline(never)]
 #[tactic(auto, using(crate::proofs::StepLemmas::stepping, crate::proofs::TagLemmas::tagging))]
-fn step_call(code: &Code, state: &mut RankState, board: &mut Board) -> Result<LocalRecord, StepFault>
+fn step_call(
+    code: &Code,
+    state: &mut RankState,
+    board: &mut Board,
+) -> Result<LocalRecord, StepFault>
     requires rank { state.old.rank < length board.old.board.calls }
     requires ranks { length board.old.board.calls ≡ code.now.program.ranks }
     requires room { 1 ≤ state.old.room }
@@ -123,7 +127,11 @@ fn step_call(code: &Code, state: &mut RankState, board: &mut Board) -> Result<Lo
 /// The local step of one rank.
 #[inline(always)]
 #[tactic(auto, using(crate::proofs::StepLemmas::alone, crate::proofs::TagLemmas::tagging))]
-fn step_rank(code: &Code, state: &mut RankState, board: &mut Board) -> Result<LocalRecord, StepFault>
+fn step_rank(
+    code: &Code,
+    state: &mut RankState,
+    board: &mut Board,
+) -> Result<LocalRecord, StepFault>
     requires rank { state.old.rank < length board.old.board.calls }
     requires ranks { length board.old.board.calls ≡ code.now.program.ranks }
     ensures ok { OnOk result (local_on code.now.program board.old.board state.old ≡ Some (rank_of code.now.program state.new, board.new.board)) }

@@ -8,7 +8,9 @@ ghost use Rattle.mpd_code.specs.Left.{left_at};
 ghost use Rattle.mpd_code.specs.Stands.{Stands};
 ghost use Rattle.mpd_model.specs.Next as next_specs;
 
-use crate::change::{Cells, Change, LocalKind, LocalRecord, OldCell, OldCells, OldHandle, RankRecord};
+use crate::change::{
+    Cells, Change, LocalKind, LocalRecord, OldCell, OldCells, OldHandle, RankRecord,
+};
 use crate::plan::{Alone, LocalPlan, plan_alone, plan_node};
 use crate::standing::Standing;
 use mpd_code::code::Code;

@@ -215,7 +215,11 @@ fn note(steps: &mut Vec<Step>, depth: usize, step: Step)
 }
 
 /// Keeps room for one record more of each kind, and for its step where none stands there. An `Err` is want of memory.
-fn keep_next(locals: &mut Vec<LocalRecord>, others: &mut Vec<RankRecord>, steps: &mut Vec<Step>) -> Result<(), AllocError>
+fn keep_next(
+    locals: &mut Vec<LocalRecord>,
+    others: &mut Vec<RankRecord>,
+    steps: &mut Vec<Step>,
+) -> Result<(), AllocError>
     requires { vec_len locals.old + vec_len others.old ≤ vec_len steps.old }
     ensures local_room { OnOk result (vec_len locals.new < vec_capacity locals.new) }
     ensures other_room { OnOk result (vec_len others.new < vec_capacity others.new) }
