@@ -5,7 +5,8 @@
 
 It is no part of the gate. `bench/plain.c` and the program go forward and back through `while 1 { i = i + 1; }` in turn, so that an
 hour in which the machine is slow is slow for both; each run tells the mean of ten million steps. For each length of the trail it
-tells the least of all runs, the middle one, and how many times as long the program took in these. Where the program isn't built, a line says so, and the status is 2.
+tells the least of all runs, the middle one, and how many times as long the program took in these. Where the program isn't built, a
+line says so, and the status is 2.
 """
 import os
 import re

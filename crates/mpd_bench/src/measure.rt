@@ -1,4 +1,5 @@
-//! How long it takes what the cases ask, each line in nanoseconds and tenths. All is asked once before it is measured, so that room is kept.
+//! How long it takes what the cases ask, each line in nanoseconds and tenths. All is asked once before it is measured, so that
+//! room is kept.
 
 use crate::calls::{
     ask_decision, ask_enabled, ask_outcome, code_of, forced, forget, go_back, go_on, started,

@@ -283,14 +283,4 @@ other_pop s first locals others steps last n m u a long own is read e k =
     let short : length locals + length (take m others) ≡ n = omega (arith, length-take m others, long, own) in
     record { within = omega (arith, short, long, k.within); few = k.few; leads = rw short (other_last s first locals others steps last n m u a long own is read e k).2; whole = k.whole }
 
--- The step that is taken back is the one that was read.
-pub step_back : (steps : List Step) (n : ℕ) (a b : Step) → n < length steps → a ≡ get_or steps n a → take (n + 1) steps ≡ take n steps ++ b ∷ [] → b ≡ a
-step_back steps n a b h read e =
-    let more : take (n + 1) steps ≡ take n steps ++ a ∷ [] = take_more steps n a h ∙ ap (λ c. take n steps ++ c ∷ []) (sym read) in
-    last_same (take n steps) b a (sym e ∙ more)
-  where
-    last_same : (xs : List Step) (b a : Step) → xs ++ b ∷ [] ≡ xs ++ a ∷ [] → b ≡ a
-    last_same [] b a e = ap (λ ys. get_or ys 0 a) e
-    last_same (x ∷ xs) b a e = last_same xs b a (ap (drop 1) e)
-
 pub ruleset keeping = (keeps_world, keeps_reached, local_there, other_there, local_can, other_can, local_pop, other_pop, keeps_next, keeps_other, keeps_forgotten, kept_forgotten, take_noted)
