@@ -90,22 +90,26 @@ def for_clause(text, clause):
 
 def with_field(block, field):
     """This answer with the record that it ends in replaced by what its field is; as it is where it ends in no record with it."""
-    begin = block.rfind('record {')
-    if begin < 0 or block.rstrip()[-1] != '}':
-        return block
-    parts, depth, last = [], 0, begin + len('record {')
-    for at in range(last, len(block.rstrip()) - 1):
-        sign = block[at]
-        depth += (sign in '({[') - (sign in ')}]')
-        if sign == ';' and not depth:
-            parts.append(block[last:at])
-            last = at + 1
-    parts.append(block[last : len(block.rstrip()) - 1])
-    for part in parts:
-        name, _, value = part.partition(' = ')
-        if name.strip() == field:
-            return f'{block[:begin]}{value.strip()}'
+    text = block.rstrip()
+    for found in re.finditer(r'record \{', text):
+        parts, close = parts_of(text, found.end())
+        if close == len(text) - 1:
+            said = next((value for name, _, value in (it.partition(' = ') for it in parts) if name.strip() == field), None)
+            return block if said is None else f'{text[: found.start()]}{said.strip()}'
     return block
+
+
+def parts_of(text, begin):
+    """What stands between the `;` of the record that begins here, and where its bracket closes; -1 where that isn't seen."""
+    parts, depth, last = [], 0, begin
+    for at in range(begin, len(text)):
+        depth += (text[at] in '({[') - (text[at] in ')}]')
+        if depth < 0:
+            return [*parts, text[last:at]], at
+        if text[at] == ';' and not depth:
+            parts.append(text[last:at])
+            last = at + 1
+    return parts, -1
 
 
 def without_measure(answer):

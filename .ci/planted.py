@@ -12,8 +12,6 @@ an edit as those of must-fail/, with its crate and an input that meets it:
     words: check FILE --runs 1            the words of the command line, where there are any: FILE stands for a file that has the input
     witness: TEXT                         a line of the file that WITNESS stands for in `words: verify FILE WITNESS`
 
-A body of a command that the program of this tree hasn't got yet (PARTS of compare/language.py) is passed by.
-
 What the program must answer to each input is worked out by the model of compare/, and PROGRAM, where it is named, must answer so
 to all of them. The bodies are planted together, in a few copies that `rt try` runs, with no proof: each body in half of the
 copies. Its input must be answered wrongly in each copy that has it, and rightly in each that has it not. Without `--builds` there
@@ -39,9 +37,8 @@ sys.dont_write_bytecode = True
 import explorer
 import witness
 from debugger import answer
-from edits import BadEdit, Edit, merged, touches
+from edit_files import BadEdit, Edit, merged, touches
 from explore_cases import Case
-from language import has_part
 from runs import held
 
 FOLDER = 'compare/broken'
@@ -90,10 +87,6 @@ class Planted(Edit):
         if command == 'verify' and [word for word in words if word in (FILE, WITNESS)] == [FILE, WITNESS]:
             return witness.Verification(self.input, self.witness, witness.asked_by(words)[2]).wanted()
         raise BadEdit('its words are no `check FILE` and no `verify FILE WITNESS`, with options')
-
-    def is_of_this_tree(self):
-        """Whether the program has the command."""
-        return self.words[:1] != ['verify'] or has_part('verify')
 
     def words_with(self, file, witness_file):
         """The words of the command line, with these paths."""
@@ -178,10 +171,6 @@ def main():
             failed += 1
             bodies = [it for it in bodies if it.name != name.removesuffix('.edit')]
             print(f'{name}: BAD EDIT: {error}')
-    left_out = [body.name for body in bodies if not body.is_of_this_tree()]
-    bodies = [body for body in bodies if body.is_of_this_tree()]
-    if left_out:
-        print(f'passed by, since the program has no such command yet: {", ".join(left_out)}')
     if given.program:
         for body in bodies:
             if differs(os.path.abspath(given.program), body):

@@ -4,7 +4,6 @@ from typing import NamedTuple
 
 import debugger
 import language
-from cases import share
 from debugger import BUFFERED, RENDEZVOUS
 
 
@@ -295,11 +294,6 @@ def first_word_alone(along):
 
 
 def breakages():
-    """All faults of which the model has the rules."""
-    return [breakage for breakage in all_breakages() if share(breakage.kind)]
-
-
-def all_breakages():
     return (
         Breakage('undone steps always dropped', 'script', debugger.Debugger, 'is_next_undone', lambda *_: False),
         Breakage('any tags matched', 'script', debugger, 'tags_agree', lambda *_: True),
@@ -352,8 +346,6 @@ def all_breakages():
 
 def breakages_of_modes():
     """Faults that are seen in the mode `buffered` alone."""
-    if not language.has_part('modes'):
-        return ()
     return (
         Breakage('a synchronous send complete as it is issued', 'exchanges', debugger, 'is_buffered',
                  buffered_by(lambda mode, _: mode == BUFFERED)),
@@ -373,8 +365,6 @@ def breakages_of_modes():
 
 def breakages_of_trails():
     """Faults of the words that go along the steps that are there, and of the steps that are kept for them."""
-    if not language.has_part('trail'):
-        return ()
     trail = debugger.Debugger
     return (
         Breakage('a redo that drops the rest', 'trails', trail, 'redo', dropping(trail.redo)),

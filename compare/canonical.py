@@ -12,8 +12,8 @@ import argparse
 import sys
 from random import Random
 
-from language import (COMPARISONS, LEVELS, PARTS, Assert, Assign, Barrier, Branch, Fault, Number, OwnRank, Place, Print, RankCount,
-                      Receive, Send, Unary, Wait, While, read_script, take_parts)
+from language import (COMPARISONS, LEVELS, Assert, Assign, Barrier, Branch, Fault, Number, OwnRank, Place, Print, RankCount,
+                      Receive, Send, Unary, Wait, While, read_script)
 
 OPERAND = len(LEVELS)
 
@@ -155,7 +155,6 @@ def main():
     parser.add_argument('--seed', type=int, default=1)
     parser.add_argument('--print', metavar='FILE', help='print the canonical text of a script')
     chosen = parser.parse_args()
-    take_parts(PARTS)
     if chosen.print:
         with open(chosen.print, 'rb') as file:
             sys.stdout.buffer.write(canonical(read_script(divided(file.read())[0])))

@@ -7,7 +7,7 @@ from barrier_cases import barriers_case
 from canonical import now_and_then_canonical
 from debugger import BUFFERED, RENDEZVOUS, parted
 from exchange_cases import exchanges_case
-from language import HIGHEST, LEVELS, LOWEST, has_part, has_word
+from language import HIGHEST, LEVELS, LOWEST
 from limit_cases import limits_case
 from request_cases import requests_case
 from scripts import Writer, mutated_bytes, mutated_tokens, rendered
@@ -168,8 +168,7 @@ NESTS = (('(', ')'), ('-', ''), ('a[', ']'), ('!(', ')'), ('0 + (', ')'))
 
 def operators_case(number):
     """As many operators as allowed, one more and one less, one inside the other or in a row, in each place."""
-    places = [place for place in PLACES if has_word(place.split()[0])]
-    number, place = divmod(number, len(places))
+    number, place = divmod(number, len(PLACES))
     number, change = divmod(number, 3)
     count = 64 + (0, 1, -1)[change]
     form = number % (len(NESTS) + 1)
@@ -180,7 +179,7 @@ def operators_case(number):
         times = count // len(opening.replace('a', '').replace('0', '').replace(' ', ''))
         expression = opening * times + '0' + closing * times
     words = 'local 0\n' * 3 + 'show\n'
-    return f'mpd 1; ranks 1; var x; var a[2]; req r[2];\n{places[place].format(expression)}\n---\n{words}'.encode()
+    return f'mpd 1; ranks 1; var x; var a[2]; req r[2];\n{PLACES[place].format(expression)}\n---\n{words}'.encode()
 
 
 # What may stand where a statement begins.
@@ -198,13 +197,11 @@ def statements_case(number):
 class Kind(NamedTuple):
     """What draws inputs of a kind, and its share of the inputs of a run, in hundredths.
 
-    It is `early` where there are no barriers, and `late` where there are the words `redo` and `goto`. Where there are modes, one input after the other is given in each of the `ways`: None is a script with its words on standard
-    input, a mode is a script in a file.
+    One input after the other is given in each of the `ways`: None is a script with its words on standard input, a mode is a script in
+    a file.
     """
     draw: Callable
     share: int
-    early: int
-    late: int
     ways: tuple = (None,)
 
 
@@ -212,33 +209,21 @@ SOMETIMES, MOSTLY = (None, None, RENDEZVOUS, BUFFERED), (None, RENDEZVOUS, BUFFE
 
 # 2,000 inputs of all kinds have all of those that are counted out.
 KINDS = {
-    'script': Kind(script_case, 8, 9, 7, SOMETIMES), 'mutated': Kind(mutated_case, 6, 7, 5, SOMETIMES),
-    'limits': Kind(limits_case, 5, 6, 5, SOMETIMES), 'words': Kind(words_case, 5, 7, 5), 'cut': Kind(cut_case, 2, 3, 2),
-    'names': Kind(names_case, 4, 5, 3), 'arrays': Kind(arrays_case, 3, 4, 3), 'messages': Kind(messages_case, 2, 2, 2, SOMETIMES),
-    'requests': Kind(requests_case, 5, 7, 4, SOMETIMES), 'wildcards': Kind(wildcards_case, 6, 8, 5, SOMETIMES),
-    'states': Kind(states_case, 3, 4, 3, SOMETIMES), 'traps': Kind(traps_case, 4, 5, 4), 'deep': Kind(deep_case, 2, 2, 2),
-    'barriers': Kind(barriers_case, 7, 0, 6, SOMETIMES), 'exchanges': Kind(exchanges_case, 6, 0, 5, MOSTLY),
-    'trails': Kind(trails_case, 0, 0, 7, SOMETIMES), 'statements': Kind(None, 2, 2, 2), 'arithmetic': Kind(None, 12, 12, 12),
-    'operators': Kind(None, 18, 17, 18)}
+    'script': Kind(script_case, 7, SOMETIMES), 'mutated': Kind(mutated_case, 5, SOMETIMES),
+    'limits': Kind(limits_case, 5, SOMETIMES), 'words': Kind(words_case, 5), 'cut': Kind(cut_case, 2),
+    'names': Kind(names_case, 3), 'arrays': Kind(arrays_case, 3), 'messages': Kind(messages_case, 2, SOMETIMES),
+    'requests': Kind(requests_case, 4, SOMETIMES), 'wildcards': Kind(wildcards_case, 5, SOMETIMES),
+    'states': Kind(states_case, 3, SOMETIMES), 'traps': Kind(traps_case, 4), 'deep': Kind(deep_case, 2),
+    'barriers': Kind(barriers_case, 6, SOMETIMES), 'exchanges': Kind(exchanges_case, 5, MOSTLY),
+    'trails': Kind(trails_case, 7, SOMETIMES), 'statements': Kind(None, 2), 'arithmetic': Kind(None, 12),
+    'operators': Kind(None, 18)}
 # Kinds whose inputs are counted out, and not drawn.
 NUMBERED = {'arithmetic': arithmetic_case, 'operators': operators_case, 'statements': statements_case}
 
 
-def share(kind):
-    """The share of a kind in a run, as far as the model has the rules; 0 where it hasn't those of the kind."""
-    if not has_part('barriers'):
-        return KINDS[kind].early
-    return KINDS[kind].late if has_part('trail') else KINDS[kind].share
-
-
-def kinds_there():
-    """The kinds that the model has the rules of."""
-    return [kind for kind in KINDS if share(kind)]
-
-
 def mode_of(kind, number):
     """The mode in which an input is traced with its script in a file; None where the script comes before its words."""
-    ways = KINDS[kind].ways if has_part('modes') else (None,)
+    ways = KINDS[kind].ways
     return ways[number % len(ways)]
 
 
@@ -258,11 +243,11 @@ def random_case(kind, seed, number, in_packets):
 
 def shares(count, kinds):
     """How many inputs of each kind make so many in all."""
-    whole = sum(map(share, kinds))
+    whole = sum(KINDS[kind].share for kind in kinds)
     parts = {}
     left = count
     for kind in kinds:
-        parts[kind] = left * share(kind) // whole
+        parts[kind] = left * KINDS[kind].share // whole
         left -= parts[kind]
-        whole -= share(kind)
+        whole -= KINDS[kind].share
     return parts

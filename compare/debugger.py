@@ -4,8 +4,8 @@ import argparse
 import sys
 from typing import NamedTuple, Optional
 
-from language import (PARTS, Assert, Assign, Barrier, Branch, FAULT_NAMES, Fault, Print, Receive, Send, Trap, View, Wait, While,
-                      cell_of, evaluate, has_part, read_script, take_parts)
+from language import (Assert, Assign, Barrier, Branch, FAULT_NAMES, Fault, Print, Receive, Send, Trap, View, Wait, While, cell_of, evaluate,
+                      read_script)
 
 # In the mode `rendezvous` no send is buffered, in the mode `buffered` each standard one is.
 MODES = RENDEZVOUS, BUFFERED = 'rendezvous', 'buffered'
@@ -595,7 +595,7 @@ class Debugger:
             return enabled_text(self.world)
         if words == [b'show']:
             return show(self.world, self.depth, len(self.steps))
-        return self.along(words) if has_part('trail') else REFUSED_BAD_WORD
+        return self.along(words)
 
 
 class Result(NamedTuple):
@@ -696,8 +696,6 @@ def answer_words(words):
 
 
 def main():
-    """Answers with all rules that the model has."""
-    take_parts(PARTS)
     result = answer_words(sys.argv[1:])
     sys.stdout.buffer.write(result.output)
     sys.stdout.buffer.flush()

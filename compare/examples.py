@@ -1,14 +1,15 @@
-"""The examples: scripts with words behind them, and the lessons of docs/COURSE.md (its five first scripts, and its eight mistakes), whose
-script and words are files of their own.
+"""The examples: scripts with words behind them, and the lessons of docs/COURSE.md (its five first scripts, its eight mistakes, and the
+reports at its end), whose script and words are files of their own.
 
 NAME.trace is answered by NAME.stdout. NAME.mpd with NAME.words is answered by NAME.stdout, and in the mode `buffered` by
-NAME.buffered.stdout, where that is there.
+NAME.buffered.stdout, where that is there. Each line of NAME.checks is the status and the options of a check of NAME.mpd; NAME.reports has
+what these write, one behind the other.
 """
 
 import os
 from typing import NamedTuple
 
-from debugger import BUFFERED, RENDEZVOUS
+from debugger import BUFFERED, RENDEZVOUS, Result
 
 EXAMPLES = os.path.join(os.path.dirname(os.path.abspath(__file__)), '..', 'examples')
 
@@ -43,6 +44,41 @@ def lessons():
         found.append(Lesson(name, RENDEZVOUS, f'{name}.stdout'))
         if os.path.exists(os.path.join(EXAMPLES, buffered := f'{name}.{BUFFERED}.stdout')):
             found.append(Lesson(name, BUFFERED, buffered))
+    return found
+
+
+class Checked(NamedTuple):
+    """A check of a lesson, and its result."""
+    name: str
+    options: tuple
+    wanted: Result
+
+    @property
+    def script(self):
+        """The path of the script."""
+        return os.path.join(EXAMPLES, f'{self.name}.mpd')
+
+
+def reports_of(text):
+    """The reports that stand one behind the other: each ends with the line that counts its leaves."""
+    found, lines = [], []
+    for line in text.splitlines(keepends=True):
+        lines.append(line)
+        if line.startswith(b'leaves '):
+            found.append(b''.join(lines))
+            lines = []
+    assert not lines, lines
+    return found
+
+
+def checks():
+    """All checks of lessons."""
+    found = []
+    for name in example_names('.checks'):
+        asked = [line.split() for line in open_example(f'{name}.checks').decode().splitlines()]
+        reports = reports_of(open_example(f'{name}.reports'))
+        assert len(asked) == len(reports), name
+        found += [Checked(name, tuple(options), Result(report, b'', int(status))) for (status, *options), report in zip(asked, reports)]
     return found
 
 

@@ -2,12 +2,11 @@
 
     python3 compare/explore.py PROGRAM             the worked rows, words that are wrong, and 1,000 random scripts
     python3 compare/explore.py PROGRAM --broken    and faults of the model, each of which these scripts must notice
-    python3 compare/explore.py PROGRAM --with verify    where the program of this tree hasn't got `verify` yet (PARTS of language.py)
 
 Each script is a file, checked in one mode or the other with limits drawn at random (explore_cases.py); `verify` is asked of its
 witnesses, and of changed ones (witness_cases.py). Standard output, standard error and status must be the model's. A program that
 crashes, takes too long, too much memory or writes too much differs. With `--broken` PROGRAM may be left out: the sound model stands
-for it then, with all parts. The status is 0 where scripts were compared, none differed, and all was met that can be said, which
+for it then. The status is 0 where scripts were compared, none differed, and all was met that can be said, which
 fewer than 500 scripts needn't do.
 """
 
@@ -25,7 +24,6 @@ from unittest import mock
 from debugger import BUFFERED
 from explore_cases import Case, random_case
 from explore_faults import check_faults, told_faults, verify_faults
-from language import BUILT, PARTS, take_parts
 from runs import held, limit, run_at_once
 from witness_cases import random_verifications
 from worked_explorer import CHECKS, LONG_CHECKS, LONG_TOLD, MISTAKES, MISTAKES_OF_VERIFY, TOLD, wanted_result
@@ -96,8 +94,8 @@ def checks_of(chosen, number):
 
 
 def verifications_of(chosen, number):
-    """What `verify` is asked of a script, where the program has it."""
-    return random_verifications(chosen.seed, number) if 'verify' in chosen.parts else []
+    """What `verify` is asked of a script."""
+    return random_verifications(chosen.seed, number)
 
 
 def piece(line, place):
@@ -149,7 +147,7 @@ def compare_random(chosen, pool):
         differing += len(found)
         for case, what in found:
             print(f'{kept(folder, case)}: {what}', flush=True)
-    must_meet = MUST_MEET + (MUST_MEET_OF_VERIFY if 'verify' in chosen.parts else ())
+    must_meet = MUST_MEET + MUST_MEET_OF_VERIFY
     print('; '.join(f'{name} {met[name]}' for name in must_meet))
     missed = [name for name in must_meet if not met[name]] if chosen.count >= MANY else []
     for name in missed:
@@ -174,7 +172,7 @@ def rows(chosen):
     """The worked rows, each with what is wanted."""
     for row in CHECKS + (() if chosen.short else LONG_CHECKS):
         yield Case('', None if row.script is None else row.script.encode(), row.asked), wanted_result(row)
-    for row in TOLD + (() if chosen.short else LONG_TOLD) if 'verify' in chosen.parts else ():
+    for row in TOLD + (() if chosen.short else LONG_TOLD):
         yield row.case(), row.wanted()
 
 
@@ -182,8 +180,7 @@ def mistakes(chosen, folder):
     """Words that are wrong, of files that are there."""
     script, witness = held(folder, 'script.mpd', CHECKS[0].script.encode()), held(folder, 'witness.txt', b'deadlock 0.0\nlocal 0\n')
     yield from [f'check {script} --mode fast {mistake}' for mistake in MISTAKES]
-    if 'verify' in chosen.parts:
-        yield from [f'verify --mode fast {mistake.format(FILE=script, WITNESS=witness)}' for mistake in MISTAKES_OF_VERIFY]
+    yield from [f'verify --mode fast {mistake.format(FILE=script, WITNESS=witness)}' for mistake in MISTAKES_OF_VERIFY]
 
 
 def compare_rows(chosen, pool):
@@ -201,7 +198,7 @@ def compare_rows(chosen, pool):
 def faults(chosen):
     """The faults that a program's answers show, each with what gives the cases of a script that may notice it."""
     found = [(fault, checks_of) for fault in check_faults()]
-    return found + [(fault, verifications_of) for fault in verify_faults() + told_faults() if 'verify' in chosen.parts]
+    return found + [(fault, verifications_of) for fault in verify_faults() + told_faults()]
 
 
 def is_noticed(chosen, place):
@@ -229,7 +226,6 @@ def compare_broken(chosen, pool):
 
 def prepare(chosen):
     """Readies a process for its part of a run."""
-    take_parts(chosen.parts)
     limit(chosen.memory, chosen.output)
 
 
@@ -238,8 +234,6 @@ def arguments():
     parser.add_argument('program', nargs='?', metavar='PROGRAM')
     parser.add_argument('--count', type=int, default=1000, help='how many scripts (1000)')
     parser.add_argument('--seed', type=int, default=1, help='another seed gives other scripts (1)')
-    parser.add_argument('--with', action='append', dest='parts', choices=list(PARTS), default=list(BUILT), metavar='PART',
-                        help=f'rules that the program has beside those of this tree; may be given again: {", ".join(PARTS)}')
     parser.add_argument('--broken', action='store_true', help='break the model on purpose; each fault must be noticed')
     parser.add_argument('--short', action='store_true', help='leave out the rows of 100,000 steps and more')
     parser.add_argument('--jobs', type=int, default=2, help='how many processes (2)')
@@ -249,8 +243,6 @@ def arguments():
     chosen = parser.parse_args()
     if chosen.program is None and not chosen.broken:
         parser.error('PROGRAM is left out with --broken alone')
-    if chosen.program is None:
-        chosen.parts = list(PARTS)
     if chosen.program:
         chosen.program = os.path.abspath(chosen.program)
         if not os.access(chosen.program, os.X_OK) or os.path.isdir(chosen.program):

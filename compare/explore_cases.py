@@ -276,7 +276,7 @@ def asked(random, kind, script):
         mode = random.choice(['fast', '', 'Buffered', 'buffered ', 'rendezvous,buffered'])
     if kind.ends and random.random() < 0.1:
         runs, fuel = random.choice([None, runs, runs]), None
-    return Asked(mode, runs, fuel, random.random() < 0.6)
+    return Asked(mode, runs, fuel, random.random() < 0.6, random.random() < 0.3)
 
 
 class Case(NamedTuple):

@@ -28,7 +28,7 @@ from explore_cases import KINDS, kind_of, script_of
 from explore_faults import breakages
 from explorer import CUT, NO_SUCH_STEP, NOT_STUCK, WRONG_BLOCKED, Asked, Refusal, Report, Witness
 from follow import due
-from language import PARTS, Fault, read_script, take_parts
+from language import Fault, read_script
 from policy import Choice
 
 RUNS = (5, 20, 40, 40)
@@ -417,7 +417,6 @@ def main():
     parser.add_argument('--seed', type=int, default=1, help='another seed gives other scripts (1)')
     parser.add_argument('--broken', action='store_true', help='break the model on purpose; each fault must be noticed')
     chosen = parser.parse_args()
-    take_parts(PARTS)
     met, wrong = check(chosen.seed, chosen.count)
     for what in wrong[:20] + [f'{name} was not met' for name in missed(met)]:
         print(what)

@@ -1,6 +1,6 @@
 """The explorer, in the model: the leaves that runs along decisions come to, the report of them, and witnesses of deadlocks.
 
-    python3 compare/explorer.py FILE --mode M --runs N --fuel N --witness    answers as `check` of the program does
+    python3 compare/explorer.py FILE --mode M --runs N --fuel N --witness --complete    answers as `check` of the program does
 
 compare/worked_explorer.py has rows of it, compare/explore_rules.py checks on random scripts what must hold of it, and
 compare/explore.py compares a program with it.
@@ -14,12 +14,13 @@ from typing import NamedTuple, Optional
 import policy
 from debugger import (BAD_FILE, BAD_MODE, MODES, RENDEZVOUS, Debugger, Result, blocked_calls, call_id_of, enabled_steps, file_content,
                       first_world, next_world, outcome, refusal, step_text)
-from language import PARTS, Fault, read_script, take_parts
+from language import Fault, read_script
 from policy import Forced, decision
 
 MOST_RUNS, MOST_FUEL = 65536, 1000000
 USUAL_RUNS, USUAL_FUEL = 1000, 100000
 CUT = 'cut'
+NOT_WHOLE = 4
 NO_SUCH_STEP, NOT_STUCK, WRONG_BLOCKED = 32, 33, 34
 
 
@@ -158,12 +159,19 @@ def is_bad(leaf):
     return leaf.outcome.split()[0] in ('deadlock', 'trap')
 
 
-def status(found):
-    """The status of a check by its report; what that doesn't list has no part in it."""
-    return int(any(map(is_bad, found.leaves)))
+def is_whole(found):
+    """Whether all runs are listed, each to its end."""
+    return not found.more and all(leaf.outcome != CUT for leaf in found.leaves)
 
 
-def check(text, mode=RENDEZVOUS, runs=USUAL_RUNS, fuel=USUAL_FUEL, witnesses=False):
+def status(found, complete=False):
+    """The status of a check by its report; what that doesn't list has no part in it, unless it must be whole."""
+    if any(map(is_bad, found.leaves)):
+        return 1
+    return 0 if is_whole(found) or not complete else NOT_WHOLE
+
+
+def check(text, mode=RENDEZVOUS, runs=USUAL_RUNS, fuel=USUAL_FUEL, witnesses=False, complete=False):
     """The result of a check of the text of a file, which is None where that can't be read: the mode is tested first."""
     if mode not in MODES:
         return BAD_MODE
@@ -174,7 +182,7 @@ def check(text, mode=RENDEZVOUS, runs=USUAL_RUNS, fuel=USUAL_FUEL, witnesses=Fal
     except Fault as fault:
         return refusal(text, fault)
     found = report(script, mode, runs, fuel)
-    return Result(report_text(found, witnesses).encode(), b'', status(found))
+    return Result(report_text(found, witnesses).encode(), b'', status(found, complete))
 
 
 class Asked(NamedTuple):
@@ -183,6 +191,7 @@ class Asked(NamedTuple):
     runs: Optional[int] = None
     fuel: Optional[int] = None
     witnesses: bool = False
+    complete: bool = False
 
 
 def answer(text, asked):
@@ -193,7 +202,7 @@ def answer(text, asked):
 def option_words(asked):
     """The options as words of the command line."""
     there = [(f'--{name}', str(value)) for name, value in zip(('mode', 'runs', 'fuel'), asked) if value is not None]
-    return [word for pair in there for word in pair] + ['--witness'] * asked.witnesses
+    return [word for pair in there for word in pair] + ['--witness'] * asked.witnesses + ['--complete'] * asked.complete
 
 
 def number_up_to(most):
@@ -213,13 +222,13 @@ def asked_by(words):
     parser.add_argument('--runs', type=number_up_to(MOST_RUNS), metavar='N')
     parser.add_argument('--fuel', type=number_up_to(MOST_FUEL), metavar='N')
     parser.add_argument('--witness', action='store_true')
+    parser.add_argument('--complete', action='store_true')
     chosen = parser.parse_args(words)
-    return chosen.file, Asked(chosen.mode, chosen.runs, chosen.fuel, chosen.witness)
+    return chosen.file, Asked(chosen.mode, chosen.runs, chosen.fuel, chosen.witness, chosen.complete)
 
 
 def main():
     file, asked = asked_by(sys.argv[1:])
-    take_parts(PARTS)
     result = answer(file_content(file), asked)
     sys.stdout.buffer.write(result.output)
     sys.stdout.buffer.flush()

@@ -21,7 +21,7 @@ from unittest import mock
 import debugger
 import policy
 from debugger import Debugger, Step, eligible, enabled_steps, find_call, free_calls, next_world, rank_state
-from language import PARTS, read_script, take_parts
+from language import read_script
 from order import CHOSEN, LATER, all_calls, steps_due, walks
 from policy import BREAK, CHOICE, FULL, LEAF, MAX, START, Breaks, ChangeBreak, Choice, Forced, Leaf, LineBreak, MatchBreak, Stop
 from policy_faults import breakages
@@ -323,7 +323,6 @@ def main():
     parser.add_argument('--seed', type=int, default=1)
     parser.add_argument('--broken', action='store_true', help='break the model on purpose; each fault must be noticed')
     chosen = parser.parse_args()
-    take_parts(PARTS)
     met, wrong = check(chosen.seed, chosen.count)
     for what in wrong[:20] + [f'{name} was not met' for name in missed(met)]:
         print(what)

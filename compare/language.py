@@ -29,11 +29,6 @@ RESERVED = frozenset('''
     mpd ranks var req if else while print assert send ssend isend issend recv irecv wait waitany barrier
     to from tag any status rank size'''.split())
 
-# Parts of the rules that came one after the other, each with the words of its statements.
-PARTS = {'barriers': ('barrier', 'ssend', 'issend'), 'modes': (), 'trail': (), 'verify': ()}
-# The parts that the program of this tree has; the model of a run may have more (`take_parts`).
-BUILT = ('barriers', 'modes', 'trail', 'verify')
-
 OTHER_THAN_TEXT = re.compile(rb'[^\t\n\r\x20-\x7e]')
 BLANKS = re.compile(r'(?:[\t\n\r ]+|#[^\n]*)*')
 NUMBER = re.compile(r'[0-9]+')
@@ -167,26 +162,6 @@ class Script(NamedTuple):
     handles: int
     names: dict
     body: list
-
-
-class Taken:
-    """The parts of the rules that the model has."""
-    parts = frozenset(BUILT)
-
-
-def take_parts(parts):
-    """Gives the model some parts of the rules, and no others of those that came one after the other."""
-    Taken.parts = frozenset(parts)
-    read_script.cache_clear()
-
-
-def has_part(part):
-    return part in Taken.parts
-
-
-def has_word(word):
-    """Whether a statement may begin with the word, as far as the model has the rules."""
-    return all(word not in words or has_part(part) for part, words in PARTS.items())
 
 
 def most(kind):
@@ -364,8 +339,6 @@ class Reader:
 
     def rest_of(self, word):
         """What reads the rest of the statement that begins with `word`; None where none does."""
-        if not has_word(word):
-            return None
         return {
             'if': self.branch, 'while': self.loop, 'print': self.printing, 'assert': self.assertion,
             'send': self.sending, 'recv': self.receiving, 'isend': self.with_handle(self.sending),

@@ -24,7 +24,7 @@ from breakages import buffered_by, going_on, one_left, wakes_at_barriers, withou
 from cases import KINDS
 from debugger import (BUFFERED, MODES, RENDEZVOUS, CallId, Debugger, Pair, Step, Woken, divided, eligible, enabled_steps, find_call,
                       fits, free_calls, partner, receives_ahead, sends_ahead, step_text)
-from language import BUILT, PARTS, Fault, read_script, take_parts
+from language import Fault, read_script
 
 CHOSEN = ('wildcards', 'wildcards', 'requests', 'script', 'states')
 LATER = ('barriers', 'exchanges')
@@ -332,7 +332,6 @@ def main():
     parser.add_argument('--broken', action='store_true', help='break the model on purpose; each fault must be noticed')
     parser.add_argument('--rows', type=int, metavar='N', help='write so many rows, each a list of texts in JSON')
     chosen = parser.parse_args()
-    take_parts(BUILT if chosen.rows else PARTS)
     if chosen.rows:
         found = rows(chosen.seed, chosen.rows)
         for texts in found:

@@ -26,7 +26,7 @@ import policy_faults
 import walks
 from cases import KINDS
 from debugger import MODES, divided, rank_state
-from language import PARTS, Fault, read_script, take_parts
+from language import Fault, read_script
 from policy_words import Driven
 from probing import DIVIDER, PROBES, TOP, Batch, Change, Probe, Walked, batches, report, tried
 
@@ -154,7 +154,6 @@ def expected(data):
 
 
 def walked_chunk(seed, numbers):
-    take_parts(PARTS)
     return [walk for number in numbers if (walk := walked(seed, number))]
 
 
@@ -171,7 +170,6 @@ def all_walked(pool, seed, count):
 
 def noticing(place, walks):
     """The first walk on which this broken model says otherwise, with what it says, as a batch; None where there is none."""
-    take_parts(PARTS)
     breakage = faults()[place]
     with mock.patch.object(breakage.owner, breakage.attribute, breakage.replacement):
         for walk in walks:
@@ -241,7 +239,6 @@ def unnoticed_in_model(pool, walks):
 def main():
     chosen = arguments()
     os.chdir(TOP)
-    take_parts(PARTS)
     began = time.monotonic()
     with ProcessPoolExecutor(chosen.jobs) as pool:
         walks = all_walked(pool, chosen.seed, chosen.count)

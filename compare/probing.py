@@ -16,7 +16,7 @@ TOP = os.path.dirname(os.path.dirname(os.path.abspath(__file__)))
 sys.path.append(f'{TOP}/.ci')
 sys.dont_write_bytecode = True
 
-from edits import BadEdit, Edit
+from edit_files import BadEdit, Edit
 from planted import plant
 
 PROBES = 'compare/probe'

@@ -21,7 +21,7 @@ from typing import NamedTuple
 from debugger import BUFFERED, RENDEZVOUS, Debugger, Result, divided, enabled_steps, next_world, step_of, step_text
 from explore_cases import Case
 from explorer import Asked
-from language import has_part, read_script
+from language import read_script
 from runs import run_at_once
 from shims import built
 from witness import Verification
@@ -90,8 +90,7 @@ def lively():
 
 # Words that are answered by a text alone.
 ANSWERED = ('--help', 'trace --help', '--version', 'trac', 'trace', 'trace a --mod b', 'trace a --mode b', 'trace a b', 'check --help',
-            'check a --runs 0', 'check a --mode b')
-ANSWERED_BY_VERIFY = ('verify --help', 'verify a', 'verify a b --mode c')
+            'check a --runs 0', 'check a --mode b', 'verify --help', 'verify a', 'verify a b --mode c')
 
 
 def inputs():
@@ -101,10 +100,8 @@ def inputs():
     with open(os.path.join(EXAMPLES, 'primes.trace'), 'rb') as file:
         yield 'primes.trace taken back', file.read() + b'back\n' * 90 + b'show\n'
     yield 'much to show', lively()
-    if has_part('barriers'):
-        yield 'barriers', walked(MEETINGS)
-    if has_part('trail'):
-        yield 'back and forward', along(MEETINGS)
+    yield 'barriers', walked(MEETINGS)
+    yield 'back and forward', along(MEETINGS)
 
 
 def witness_of(report):
@@ -118,8 +115,6 @@ def reports():
     """What `check` is asked of, and `verify` of one of its witnesses and of others."""
     yield 'a report with witnesses', Case('', DECIDED, Asked(witnesses=True))
     yield 'a report that is cut, buffered', Case('', DECIDED, Asked(BUFFERED, 3, 19))
-    if not has_part('verify'):
-        return
     text = witness_of(Case('', DECIDED, Asked(witnesses=True)).wanted().output)
     yield 'a witness', Verification(DECIDED, text)
     yield 'a witness of other calls', Verification(DECIDED, text.replace(b' 0.1', b' 0.1 0.1', 1))
@@ -139,7 +134,7 @@ def can_be_refused(debugger, line):
     if step is not None:
         return next_world(debugger.world, step) is not None
     if words == [b'redo']:
-        return has_part('trail') and debugger.depth < len(debugger.steps)
+        return debugger.depth < len(debugger.steps)
     return words == [b'show'] or (words == [b'enabled'] and bool(enabled_steps(debugger.world)))
 
 
@@ -258,8 +253,7 @@ def main():
         wrong += [try_file(program, *sessions[0], shim)]
         wrong += [try_file(program, 'head to head, buffered', walked(HEAD_TO_HEAD, BUFFERED), shim, BUFFERED)]
         wrong += [try_report(program, name, case, shim) for name, case in reports()]
-        answered = ANSWERED + (ANSWERED_BY_VERIFY if has_part('verify') else ())
-        wrong += [try_whole(program, f'words {words}', words.split(), shim) for words in answered]
+        wrong += [try_whole(program, f'words {words}', words.split(), shim) for words in ANSWERED]
     return 1 if any(wrong) else 0
 
 

@@ -1,7 +1,6 @@
 """Compares a program with the model, byte for byte, on many inputs: the same ones for the same seed and count.
 
     python3 compare/run.py PROGRAM                 2,000 inputs of all kinds
-    python3 compare/run.py PROGRAM --with PART     with rules that the program of this tree hasn't got yet (PARTS of language.py)
     python3 compare/run.py --broken                faults of the model, each noticed; with no program the sound model stands for it
 
 The status is 0 where inputs were compared and none differed. A program that crashes, takes too long, too much memory or
@@ -18,9 +17,9 @@ from typing import NamedTuple
 from unittest import mock
 
 from breakages import breakages
-from cases import KINDS, kinds_there, random_case, share, shares
+from cases import KINDS, random_case, shares
 from debugger import Result, answer, answer_file, answer_packets
-from language import BUILT, PARTS, read_script, take_parts
+from language import read_script
 from runs import limit, run_at_once, run_in_packets
 
 CHUNK = 8
@@ -97,13 +96,12 @@ def report(folder, kind, count, found):
 
 def prepare(chosen):
     """Readies a process for its part of a run."""
-    take_parts(chosen.parts)
     limit(chosen.memory, chosen.output)
 
 
 def compare_random(chosen, folder):
     """Compares inputs of the kinds; gives how many there were, and how many differed."""
-    counts = shares(chosen.count, chosen.kind or kinds_there())
+    counts = shares(chosen.count, chosen.kind or KINDS)
     compared = differing = 0
     with ProcessPoolExecutor(chosen.jobs, initializer=prepare, initargs=(chosen,)) as pool:
         tasks = {kind: [pool.submit(compare_chunk, chosen, kind, range(first, min(first + CHUNK, count)))
@@ -121,7 +119,7 @@ def write_cases(chosen):
     """Writes the inputs that are one file, with what must be written for each, for `rt try --cases FOLDER`."""
     os.makedirs(chosen.write, exist_ok=True)
     count = 0
-    for kind, number_of_kind in shares(chosen.count, chosen.kind or kinds_there()).items():
+    for kind, number_of_kind in shares(chosen.count, chosen.kind or KINDS).items():
         for number in range(number_of_kind):
             case = random_case(kind, chosen.seed, number, False)
             if case.mode is not None:
@@ -155,8 +153,6 @@ def arguments():
     parser.add_argument('--count', type=int, default=2000, help='inputs in all (2000); with --broken, of each kind')
     parser.add_argument('--seed', type=int, default=1, help='another seed gives other inputs (1)')
     parser.add_argument('--kind', action='append', choices=list(KINDS), help='only this kind; may be given again')
-    parser.add_argument('--with', action='append', dest='parts', choices=list(PARTS), default=list(BUILT), metavar='PART',
-                        help=f'rules that the program has beside those of this tree; may be given again: {", ".join(PARTS)}')
     parser.add_argument('--packets', action='store_true', help='each input cut into reads, and not only every third')
     parser.add_argument('--broken', action='store_true', help='break the model on purpose; each fault must be noticed')
     parser.add_argument('--write', metavar='FOLDER', help='compare nothing: write inputs and outputs for `rt try --cases`')
@@ -165,7 +161,6 @@ def arguments():
     parser.add_argument('--memory', type=int, default=4096, help='how much memory the program may take, in MiB (4096)')
     parser.add_argument('--output', type=int, default=256, help='how much the program may write, in MiB (256)')
     chosen = parser.parse_args()
-    take_parts(chosen.parts)
     if chosen.program is None and not (chosen.broken or chosen.write):
         parser.error('PROGRAM is left out with --broken or --write alone')
     if chosen.program:
@@ -174,9 +169,6 @@ def arguments():
             parser.error(f'{chosen.program} is no program')
     if chosen.broken and chosen.kind:
         parser.error('--broken has kinds of its own')
-    for kind in chosen.kind or ():
-        if not share(kind):
-            parser.error(f'{kind} is of rules that the program has not')
     return chosen
 
 

@@ -1,6 +1,6 @@
 """Random scripts: their tokens, the spacing between them, and mutations of both."""
 
-from language import HIGHEST, LEVELS, RESERVED, WORD, has_word
+from language import HIGHEST, LEVELS, RESERVED, WORD
 
 NAMES = ('x', 'y', 'i', 'j', 'a', 'b', '_', 'x1', 'Rank', 'sizes', 'tag_', 'A' * 64, 'iff', 'waitany_', 'mpd1', '_9')
 HANDLE_NAMES = ('r', 'q', 'req_', 'h', 'isend1', 'wait_', 'R' * 64, 'anyway')
@@ -49,8 +49,8 @@ def made_up_names(random, count):
 
 
 def synchronous(random, share=0.3):
-    """What stands before `send` in its word: now and then, where the rules have such sends, the `s` of a synchronous one."""
-    return 's' if has_word('ssend') and random.random() < share else ''
+    """What stands before `send` in its word: now and then the `s` of a synchronous one."""
+    return 's' if random.random() < share else ''
 
 
 class Writer:
@@ -233,7 +233,7 @@ class Writer:
         return tokens + ['}']
 
     def statement(self, depth):
-        if has_word('barrier') and self.chance(0.02):
+        if self.chance(0.02):
             return ['barrier', ';']
         draw = self.random.random()
         if draw < 0.17:
@@ -299,7 +299,7 @@ class Writer:
                 part[first], part[first + 1] = part[first + 1], part[first]
             for _ in range(self.random.randint(0, 2)):
                 part.insert(self.random.randint(0, len(part)), self.statement(1))
-        if has_word('barrier') and self.chance(0.3):
+        if self.chance(0.3):
             self.meet(parts)
         return parts
 
@@ -342,7 +342,7 @@ class Writer:
                 tokens += [name, *([] if size is None else ['[', '0', ']']), '=', *value, ';']
         if self.chance(0.5):
             tokens += self.protocol()
-        if has_word('barrier') and self.chance(0.2):
+        if self.chance(0.2):
             tokens += ['barrier', ';']
         for _ in range(self.random.choice([0, 1, 2, 3, 5])):
             tokens += self.statement(3)

@@ -1,7 +1,6 @@
 """Scripts that reach many states: many names, arrays at their limits, many messages, traps, deep nesting."""
 
 from debugger import RENDEZVOUS
-from language import has_word
 from scripts import NUMBERS, Writer, declaration, header, made_up_names, rendered, synchronous
 from walks import LONG, SHOWING, USUAL, assembled, trace_lines
 
@@ -174,7 +173,7 @@ def traps_case(random):
     ranks = random.choice([1, 2, 3])
     text = f'mpd 1; ranks {ranks}; var v; req h; var w[3]; req g[3];\n'
     for _ in range(random.randint(1, 4)):
-        statement = random.choice(TRAPPING + TRAPPING_SYNCHRONOUSLY if has_word('ssend') else TRAPPING)
+        statement = random.choice(TRAPPING + TRAPPING_SYNCHRONOUSLY)
         numbers = [random.choice([0, 1, 1, 2, 3, ranks, 'rank', 'size', 'v']) for _ in range(statement.count('{}'))]
         statement = statement.format(*numbers)
         text += random.choice(['{}', 'if rank {{ {} }}', 'if rank == 0 {{ print v; }} else {{ {} }}',

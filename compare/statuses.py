@@ -23,10 +23,11 @@ import tty
 from contextlib import contextmanager
 
 from debugger import MOST_READS, MOST_STEPS, RENDEZVOUS, Debugger, Result, Step, answer, answer_packets
-from examples import example_names, lessons, open_example, strays
-from language import MOST_OPEN_BLOCKS, MOST_OPERATORS, has_part, read_script
+from examples import EXAMPLES, checks, example_names, lessons, open_example, strays
+from language import MOST_OPEN_BLOCKS, MOST_OPERATORS, read_script
 from runs import action, content, file_of, run_in_packets, status_of
 from shims import built
+from usage_texts import ANSWERS, BEFORE_A_MODE, MISTAKES, NO_TEXT
 from worked_program import ROWS as WORKED_ROWS
 
 HERE = os.path.dirname(os.path.abspath(__file__))
@@ -136,11 +137,14 @@ def example_rows(program):
 
 
 def lesson_rows(program):
-    """Status 0 for each lesson of docs/COURSE.md, in each mode that it shows."""
+    """Status 0 for each lesson of docs/COURSE.md, in each mode that it shows, and the status of each check."""
     for lesson in lessons():
         mode = () if lesson.mode == RENDEZVOUS else ('--mode', lesson.mode)
         result = Files(file_of(open_example(f'{lesson.name}.words'))).run(program, 'trace', lesson.script, *mode)
         yield f'the lesson {lesson.name}, {lesson.mode}', result, Result(open_example(lesson.answers), b'', 0)
+    for checked in checks():
+        result = Files(None).run(program, 'check', checked.script, *checked.options)
+        yield f'the lesson {checked.name}, check {" ".join(checked.options)}', result, checked.wanted
 
 
 def refused_rows(program):
@@ -265,37 +269,23 @@ def talk_rows(program):
     process.stdin.close()
 
 
-def lacks(result, output=(), errors=()):
-    """The run, with the pieces that it should have written and hasn't in place of what it wrote; all of it, where there are none."""
-    def missing(written, pieces):
-        return b', '.join(piece for piece in pieces if piece not in written) if pieces else written
-
-    return Result(missing(result.output, output), missing(result.errors, errors), result.status)
-
-
 def no_input(program, *words):
     return Files(file_of(b'')).run(program, *words)
 
 
 def usage_rows(program):
-    """Words that ask for help (status 0) or are wrong (2): the pieces that the text must have, all on the one of the two files."""
-    answers = (('--help', b'Usage: mpdbg', b'trace', b'--version', b'Example'), ('-h', b'Usage: mpdbg', b'Example'),
-               ('help', b'Usage: mpdbg', b'Example'), ('trace --help', b'Usage: mpdbg trace', b'FILE', b'--mode', b'Example'),
-               ('help trace', b'Usage: mpdbg trace', b'Example'), ('--version', b'mpdbg '), ('-V', b'mpdbg '),
-               ('trace no-such-file --mode no-mode --help', b'Usage: mpdbg trace'))
-    for words, *pieces in answers:
-        yield f'asked for {words}', lacks(no_input(program, *words.split()), pieces), Result(b'', b'', 0)
-    mistakes = (('trac', b"'trac'", b"tip: a similar subcommand exists: 'trace'", b'Usage: mpdbg'), ('trace', b'FILE', b'Usage: mpdbg trace'),
-                ('trace a b', b"'b'"), ('trace a --mod buffered', b"'--mod'", b"tip: a similar argument exists: '--mode'"),
-                ('trace a --mode', b'--mode'), ('trace a --mode buffered --mode=buffered', b'--mode'), ('trace a -m', b"'-m'"),
-                ('--mode buffered trace a', b"'--mode'"), ('-- trace a', b"'trace'"), ('a.mpd', b"'a.mpd'"), ('help trac', b"'trac'"),
-                ('trace --version', b"'--version'"))
-    for words, *pieces in mistakes:
-        yield f'mistaken {words}', lacks(no_input(program, *words.split()), (), pieces), Result(b'', b'', 2)
-    yield 'no text', lacks(no_input(program, 'trace', b'\xff'), (), (b'UTF-8',)), Result(b'', b'', 2)
-    yield 'an empty word', lacks(no_input(program, ''), (), (b"''",)), Result(b'', b'', 2)
+    """Words that ask for help (status 0) or are wrong (2), with the whole text of each."""
+    for words, text in ANSWERS:
+        yield f'asked for {words}', no_input(program, *words.split('|')), Result(text.encode(), b'', 0)
+    for mistake in MISTAKES:
+        yield f'mistaken {mistake.words}', no_input(program, *mistake.words.split('|')), wrong_words(mistake)
+    yield 'no text', no_input(program, 'trace', b'\xff'), wrong_words(NO_TEXT)
     full_help = Files(file_of(b''), full()).run(program, '--help')
     yield 'help, output full', full_help, device()
+
+
+def wrong_words(mistake):
+    return Result(b'', mistake.text.encode(), 2)
 
 
 # A script that behaves differently in the two modes, and the words that show it.
@@ -325,7 +315,8 @@ def trace_rows(program):
         yield 'a file behind --', traced('--mode', 'buffered', '--', exchange), passes
         for mode in ('buffer', '', 'Buffered', 'buffered ', 'rendezvous buffered'):
             yield f'mode {mode!r}', traced(exchange, '--mode', mode), BAD_MODE
-        yield 'a word before a mode', lacks(traced(exchange, '--mode', 'none', '--fly'), (), (b"'--fly'",)), Result(b'', b'', 2)
+        words = BEFORE_A_MODE.words.format(FILE=exchange).split('|')
+        yield 'a word before a mode', Files(file_of(WORDS)).run(program, *words), wrong_words(BEFORE_A_MODE)
         yield 'a mode before a missing file', traced(missing, '--mode', 'none'), BAD_MODE
         yield 'a mode before a bad script', traced(bad, '--mode', 'none'), BAD_MODE
         for name in (missing, folder, '', os.path.join(exchange, 'x'), '/proc/self/mem'):
@@ -345,11 +336,12 @@ def trace_rows(program):
         yield 'the example of a file', traced(held('example', example), '--mode', 'buffered'), passes
 
 
-def at_terminal(program, *words, data=b''):
+def at_terminal(program, *words, data=b'', reading=None, output='memory', **variables):
     """A run whose standard error is a terminal, which passes each byte as it is."""
     ours, theirs = os.openpty()
     tty.setraw(theirs)
-    result = Files(file_of(data), errors=os.dup(theirs)).run(program, *words)
+    reading = file_of(data) if reading is None else reading
+    result = Files(reading, output, errors=os.dup(theirs)).run(program, *words, **variables)
     os.close(theirs)
     said = b''
     try:
@@ -361,14 +353,17 @@ def at_terminal(program, *words, data=b''):
     return result._replace(errors=said)
 
 
-# A script that is refused at a byte, what stands on its line, and what stands below that.
+# A script that is refused at a byte, what stands on its line, what stands below that, and what is told of a token that can't stand there.
 SHOWN = (
-    (b'mpd 1;ranks 1;print', b'4 expected at 19 line 1', 'mpd 1;ranks 1;print', ' ' * 19),
+    (b'mpd 1;ranks 1;print', b'4 expected at 19 line 1', 'mpd 1;ranks 1;print', ' ' * 19, 'the end of the text'),
     (b'mpd 1;\nranks 1;\n\tprint 1 & 1;\n', b'3 bad-token at 25 line 3', ' print 1 & 1;', ' ' * 9),
     (b'mpd 1;\r\nranks 17;\r\n', b'9 bad-ranks at 14 line 2', 'ranks 17; ', ' ' * 6),
     ('mpd 1;\nranks 1; # \u00fcber\n'.encode(), b'2 not-text at 18 line 2', 'ranks 1; # ??ber', ' ' * 11),
-    (b'mpd 1;\nranks 1;\nprint 1\n\n', b'4 expected at 25 line 5', '', ''),
-    (b'', b'4 expected at 0 line 1', '', ''),
+    (b'mpd 1;\nranks 1;\nprint 1\n\n', b'4 expected at 25 line 5', '', '', "the end of the text; only ';' or an operator can stand here"),
+    # the one of docs/FORMATS.md
+    (b'mpd 1;\nranks 1;\nprint 1\nprint 2;\n', b'4 expected at 24 line 4', 'print 2;', '', "'print'; only ';' or an operator can stand here"),
+    (b'mpd 1;\nranks 1;\nprint 1 +;\n', b'4 expected at 25 line 3', 'print 1 +;', ' ' * 9, "';'"),
+    (b'', b'4 expected at 0 line 1', '', '', "the end of the text; only 'mpd' can stand here"),
     (b'mpd 1;\nranks 1;\nx = 1;' + b' ' * 66 + b'# the end', b'5 unknown-name at 16 line 3', 'x = 1;' + ' ' * 66 + '...', ''),
     (b'mpd 1;\nranks 1;\nvar x; ' + b' ' * 60 + b'x = y; x = 1234567890123456789012345678901234567890;', b'5 unknown-name at 87 line 3',
      'var x; ' + ' ' * 60 + 'x = y...', ' ' * 71),
@@ -376,30 +371,124 @@ SHOWN = (
      '...' + ' ' * 32 + 'x = y; x = 12345678901234567890123456789...', ' ' * 39),
     (b' ' * 65537, b'1 too-long at 65536 line 1', '...' + ' ' * 37, ' ' * 39),
     # the end of a line, and of a text, as places
-    (b'\n' * 65534 + b'ab\n', b'1 too-long at 65536 line 65535', 'ab', '  '), (b'ab\ncd\n', b'4 expected at 0 line 1', 'ab', ''),
-    (b'mpd 1;\ncd\n', b'4 expected at 7 line 2', 'cd', ''))
+    (b'\n' * 65534 + b'ab\n', b'1 too-long at 65536 line 65535', 'ab', '  '), (b'ab\ncd\n', b'4 expected at 0 line 1', 'ab', '', "'ab'; only 'mpd' can stand here"),
+    (b'mpd 1;\ncd\n', b'4 expected at 7 line 2', 'cd', '', "'cd'; only 'ranks' can stand here"))
 
 
 def terminal_rows(program):
     """At a terminal, and there alone, the line of a script that is refused is shown, with a caret below the byte."""
     with tempfile.TemporaryDirectory() as folder:
-        for data, fault, line, below in SHOWN:
-            shown = refused(fault).errors + f'  {line}\n  {below}^\n'.encode()
+        for data, fault, line, below, *told in SHOWN:
+            shown = refused(fault).errors + f'  {line}\n  {below}^\n'.encode() + ''.join(f'  found {it}\n' for it in told).encode()
             name = os.path.join(folder, 'script')
             with open(name, 'wb') as file:
                 file.write(data)
             wanted = Result(b'', shown, 2)
             yield f'a terminal, {fault.decode()}', at_terminal(program, data=data), wanted
             yield f'a terminal and a file, {fault.decode()}', at_terminal(program, 'trace', name), wanted
-        yield 'a terminal, bad mode', at_terminal(program, 'trace', name, '--mode', 'none'), BAD_MODE
-        yield 'a terminal, no file', at_terminal(program, 'trace', folder), device()
         yield 'a terminal, no fault', at_terminal(program, data=SESSION), ENDED
+
+
+# What stands in front of each text below, and places in these, marked by `^`: what is told there of the token, by the grammar of
+# docs/LANGUAGE.md. Nothing is told where four kinds of tokens or more can stand.
+HEADER = 'mpd 1; ranks 2; var x; var a[2]; req r; '
+ENDS = 'the end of the text'
+FOUND = (
+    ('print 1 ^print 2;', "'print'; only ';' or an operator can stand here"),
+    ('print 1 # the end^', f"{ENDS}; only ';' or an operator can stand here"),
+    ('print (1 ^;', "';'; only ')' or an operator can stand here"),
+    ('print 1 < 2 ^< 3;', "'<'; only ';' or an operator that is no comparison can stand here"),
+    ('print 1 == 2 + 3 ^>= 3;', "'>='; only ';' or an operator that is no comparison can stand here"),
+    ('print 1 < 2 && 3 ^5;', "'5'; only ';' or an operator can stand here"),
+    ('print 1 ^= 1;', "'='; only ';' or an operator can stand here"),
+    ('print ^;', "';'"), ('print 1 + ^* 2;', "'*'"), ('print ^any;', "'any'"),
+    ('print a^;', "';'; only '[' can stand here"), ('print a[0 ^;', "';'; only ']' or an operator can stand here"),
+    ('x^++;', "'+'; only '=' can stand here"), ('x ^+= 1;', "'+'; only '=' can stand here"), ('x ^== 1;', "'=='; only '=' can stand here"),
+    ('x ^&& 1;', "'&&'; only '=' can stand here"), ('x ^!= 1;', "'!='; only '=' can stand here"), ('x ^! 1;', "'!'; only '=' can stand here"),
+    ('x^[0] = 1;', "'['; only '=' can stand here"), ('a ^= 1;', "'='; only '[' can stand here"),
+    ('if 1 ^print 2;', "'print'; only '{' or an operator can stand here"), ('if 1 { } else ^if 2 { }', "'if'; only '{' can stand here"),
+    ('while x ^do { }', "'do'; only '{' or an operator can stand here"),
+    ('while 1 { print 1; ^', ENDS), ('^}', "'}'"), ('print 1; ^else { }', "'else'"), ('print 1; ^var y;', "'var'"), ('^12;', "'12'"),
+    ('send 1 ^0 tag 1;', "'0'; only 'to' or an operator can stand here"), ('send 1 to 0 ^;', "';'; only 'tag' or an operator can stand here"),
+    ('send 1 to ^any tag 0;', "'any'"), ('isend ^1 to 0 tag 0;', "'1'; only a name can stand here"),
+    ('recv ^;', "';'; only a name can stand here"), ('recv x ^to 0 tag 0;', "'to'; only 'from' can stand here"),
+    ('recv x from any ^+ 1 tag 0;', "'+'; only 'tag' can stand here"),
+    ('recv x from 0 ^;', "';'; only 'tag' or an operator can stand here"),
+    ('recv x from 0 tag any ^print x;', "'print'; only 'status' or ';' can stand here"),
+    ('recv x from 0 tag 0 ^print x;', "'print'; only 'status', ';' or an operator can stand here"),
+    ('recv x from 0 tag 0 status x ^;', "';'; only a name can stand here"), ('recv x from 0 tag 0 status x x ^x;', "'x'; only ';' can stand here"),
+    ('wait ^5;', "'5'; only a name can stand here"), ('barrier ^x;', "'x'; only ';' can stand here"), ('barrier^', f"{ENDS}; only ';' can stand here"),
+    # a token is shown up to 72 bytes of it
+    (f'print 1 ^{"0" * 72};', f"""'{"0" * 72}'; only ';' or an operator can stand here"""),
+    (f'print 1 ^{"0" * 73};', f"""'{"0" * 72}...'; only ';' or an operator can stand here"""),
+    (f'barrier ^{"y" * 64}', f"""'{"y" * 64}'; only ';' can stand here"""))
+# The same of what a script begins with.
+FOUND_FIRST = (
+    ('mpd^', f'{ENDS}; only a number can stand here'), ('mpd ^x;', "'x'; only a number can stand here"),
+    ('mpd 1^', f"{ENDS}; only ';' can stand here"), ('mpd 1; ^var x;', "'var'; only 'ranks' can stand here"),
+    ('mpd 1; ranks ^two;', "'two'; only a number can stand here"), ('mpd 1; ranks 2 ^var x;', "'var'; only ';' can stand here"),
+    ('mpd 1; ranks 2; var ^;', "';'; only a name can stand here"), ('mpd 1; ranks 2; req ^1;', "'1'; only a name can stand here"),
+    ('mpd 1; ranks 2; var y^', f"{ENDS}; only ';' or '[' can stand here"), ('mpd 1; ranks 2; var y[^];', "']'; only a number can stand here"),
+    ('mpd 1; ranks 2; var y[3^;', "';'; only ']' can stand here"), ('mpd 1; ranks 2; var y[3] ^x;', "'x'; only ';' can stand here"))
+# A text of as many bytes as a script may have: one token more would make it too long, so none is told.
+FOUND_LONG = ((HEADER + 'print 1' + ' ' * 65536)[:65536] + '^', ENDS)
+
+
+def found_rows(program):
+    """At a terminal what stands where the grammar doesn't allow it, and what could stand there where that is little."""
+    for marked, told in [*((HEADER + text, told) for text, told in FOUND), *FOUND_FIRST, FOUND_LONG]:
+        front, _, rest = marked.partition('^')
+        result = at_terminal(program, data=(front + rest).encode())
+        lines = result.errors.decode().splitlines()
+        wanted = (f'mpdbg: script refused 4 expected at {len(front)} line 1', f'  found {told}', 4, 2)
+        yield f'a terminal, {marked[:200]}', (lines[0], lines[-1], len(lines), result.status), wanted
+        one_line = Files(file_of((front + rest).encode())).run(program)
+        yield f'no terminal, {marked[:200]}', one_line, refused(wanted[0].removeprefix('mpdbg: script refused ').encode())
+
+
+def why_rows(program):
+    """At a terminal a fault of a device tells which file and why, and one of a mode which modes there are."""
+    def why(what):
+        return Result(b'', device().errors + f'  {what}\n'.encode(), 3)
+
+    with tempfile.TemporaryDirectory() as folder:
+        shim = built(os.path.join(HERE, 'terminal_shim.c'), folder)
+        script, missing, denied = (os.path.join(folder, name) for name in ('script', 'missing', 'denied'))
+        for name in (script, denied):
+            with open(name, 'wb') as file:
+                file.write(EXCHANGE)
+        reasons = ((missing, 'no such file'), (folder, 'is a directory'), (denied, 'permission denied'), ('', 'no such file'),
+                   (os.path.join(script, 'x'), 'Not a directory (os error 20)'), ('/proc/self/mem', 'Input/output error (os error 5)'))
+        for name, reason in reasons:
+            for words in (('trace', name), ('check', name, '--witness'), ('verify', name, script), ('verify', script, name)):
+                yield f'a terminal, {words}', at_terminal(program, *words, LD_PRELOAD=shim), why(f"'{name}': {reason}")
+        for word in ('none', '', 'Buffered'):
+            wanted = BAD_MODE._replace(errors=BAD_MODE.errors + f"  '{word}' is none; the modes are rendezvous and buffered\n".encode())
+            yield f'a terminal, mode {word!r}', at_terminal(program, 'trace', script, '--mode', word), wanted
+        yield 'a terminal, output full', at_terminal(program, data=SESSION, output=full()), why('standard output: no space left')
+        yield 'a terminal, help and output full', at_terminal(program, '--help', output=full()), why('standard output: no space left')
+        checked = at_terminal(program, 'check', script, output=full())
+        yield 'a terminal, check and output full', checked, why('standard output: no space left')
+        unread = at_terminal(program, data=SESSION, output=unread_pipe())
+        yield 'a terminal, output unread', unread, why('standard output: Broken pipe (os error 32)')
+        from_folder = at_terminal(program, reading=os.open('/', os.O_RDONLY))
+        yield 'a terminal, input a directory', from_folder, why('standard input: is a directory')
+        behind = at_terminal(program, reading=broken_off(SESSION))
+        yield 'a terminal, input broken off', behind, why('standard input: Connection reset by peer (os error 104)')._replace(output=ENDED.output)
 
 
 # Eight messages, one of each sender, to one receiver of any source, which then counts for a while: 40,320 leaves that take seconds.
 SLOW = (b'mpd 1;\nranks 9;\nvar x;\nvar i;\nif rank == 0 { while i < 8 { recv x from any tag any; i = i + 1; } while i < 600 { i = i + 1; } }\n'
         b'else { send 1 to 0 tag 0; }\n')
-RISING = re.compile(rb'(?:\rleaves so far: [0-9]+)+\r\x1b\[K')
+# Four messages, in all orders: 24 leaves.
+FEW = b'mpd 1; ranks 5; var x; var i;\nif rank == 0 { while i < 4 { recv x from any tag 0; i = i + 1; } } else { send 1 to 0 tag 0; }\n'
+NEVER_BAD = b'every way it can end is listed: it always ends, and never in a deadlock or trap\n'
+RISING = re.compile(rb'(?:\rleaves so far: [0-9]+)+\r\x1b\[K' + NEVER_BAD)
+
+
+def told_counts(counts):
+    """What a terminal gets of these counts, each in place of the one before, and wiped at the end."""
+    return b''.join(b'\rleaves so far: %d' % count for count in counts) + b'\r\x1b[K' * bool(counts)
 
 
 def progress_rows(program):
@@ -417,9 +506,46 @@ def progress_rows(program):
         counts = [int(it) for it in re.findall(rb'[0-9]+', result.errors.partition(b'\r\x1b')[0])]
         told = bool(RISING.fullmatch(result.errors)) and counts == sorted(set(counts)) and 0 < len(counts) <= time.time() - before
         yield 'a terminal, a long check', (result._replace(errors=b''), told), (Result(report, b'', 0), True)
+        # 24 leaves, by a clock that goes on by so much at each: at the end of each second, all leaves so far are counted
+        shim, few = built(os.path.join(HERE, 'terminal_shim.c'), folder), os.path.join(folder, 'few')
+        with open(few, 'wb') as file:
+            file.write(FEW)
+        for pause, between in ((1000, 1), (999, 2), (500, 2), (400, 3), (250, 4), (42, 24), (41, 25)):
+            result = at_terminal(program, 'check', few, LD_PRELOAD=shim, CLOCK_MS=str(pause))
+            yield f'a terminal, {pause} ms for each leaf', result.errors, told_counts(range(between, 25, between)) + NEVER_BAD
         short = at_terminal(program, 'check', race)
-        yield 'a terminal, a short check', short._replace(output=b''), Result(b'', b'', 1)
+        yield 'a terminal, a short check', short._replace(output=b''), Result(b'', b'every way it can end is listed: it always ends, in 2 ways, 1 of them a deadlock\n', 1)
         yield 'no terminal, a check', Files(None).run(program, 'check', race)._replace(output=b''), Result(b'', b'', 1)
+
+
+# A script of examples/, the options of its check, the status, and what a terminal is told below the report.
+SUMMED = (
+    ('first_message', '', 0, 'every way it can end is listed: it always ends, and never in a deadlock or trap'),
+    ('first_message', '--complete', 0, 'every way it can end is listed: it always ends, and never in a deadlock or trap'),
+    ('head_to_head', '', 1, 'every way it can end is listed: it always ends, in 1 way, 1 of them a deadlock'),
+    ('trap', '', 1, 'every way it can end is listed: it always ends, in 1 way, 1 of them a trap'),
+    ('one_in_seven', '--complete', 1, 'every way it can end is listed: it always ends, in 7 ways, 1 of them a deadlock'),
+    ('one_in_seven', '--runs 6', 0, 'not everything was tried: 6 runs were listed, and there are more (--runs)'),
+    ('one_in_seven', '--runs 6 --complete', 4, 'not everything was tried: 6 runs were listed, and there are more (--runs)'),
+    ('one_in_seven', '--runs 1 --complete', 4, 'not everything was tried: 1 run was listed, and there are more (--runs)'),
+    ('one_in_seven', '--fuel 63', 0, 'not everything was tried: 1 run was cut (--fuel)'),
+    ('one_in_seven', '--fuel 63 --complete', 4, 'not everything was tried: 1 run was cut (--fuel)'),
+    ('one_in_seven', '--runs 6 --fuel 40 --complete', 4,
+     'not everything was tried: 6 runs were listed, and there are more (--runs), 6 runs were cut (--fuel)'),
+    # a deadlock was found, so the status is not that of a report that isn't whole
+    ('race', '--runs 1 --complete', 1, 'not everything was tried: 1 run was listed, and there are more (--runs)'),
+)
+
+
+def summed_rows(program):
+    """At a terminal, and there alone, a line below a report says whether everything was tried, and how the script can end; with
+    `--complete` a report that isn't whole and has nothing bad has a status of its own."""
+    for name, options, status, line in SUMMED:
+        words = ('check', os.path.join(EXAMPLES, f'{name}.mpd'), *options.split())
+        result = at_terminal(program, *words)
+        yield f'a terminal, check {name} {options}', (result.errors, result.status), (line.encode() + b'\n', status)
+        quiet = Files(None).run(program, *words)
+        yield f'no terminal, check {name} {options}', quiet, Result(result.output, b'', status)
 
 
 def deepest(block, opening, closing, cost):
@@ -459,12 +585,8 @@ def much_rows(program):
     yield f'much to show with {MUCH_MIB} MiB', result, wanted
 
 
-ROWS = (ended_rows, example_rows, refused_rows, device_rows, usage_rows, trace_rows, terminal_rows, progress_rows, interrupted_rows,
-        talk_rows, stack_rows, much_rows, full_rows, turns_rows)
-# The lessons have barriers, and their scripts are files.
-if has_part('barriers') and has_part('modes'):
-    ROWS += (lesson_rows,)
-ROWS += WORKED_ROWS
+ROWS = (ended_rows, example_rows, refused_rows, device_rows, usage_rows, trace_rows, terminal_rows, found_rows, why_rows, progress_rows, summed_rows,
+        interrupted_rows, talk_rows, stack_rows, much_rows, full_rows, turns_rows, lesson_rows, *WORKED_ROWS)
 
 
 def main():

@@ -3,7 +3,7 @@
 from typing import NamedTuple
 
 from debugger import RENDEZVOUS, CallId, Debugger, Step, enabled_steps, free_calls
-from language import Fault, has_part, read_script
+from language import Fault, read_script
 
 # Lines that are no step, or an odd one.
 ODD_LINES = (
@@ -27,7 +27,7 @@ ODD_LINES_ALONG = (
 
 
 def odd_lines():
-    return ODD_LINES + ODD_LINES_ALONG if has_part('trail') else ODD_LINES
+    return ODD_LINES + ODD_LINES_ALONG
 
 
 def digits(random, number):
@@ -140,7 +140,7 @@ class Walk:
         self.listed = random.choice(habits.listed)
         self.order = random.choice(habits.orders)
         self.other = random.choice(habits.other)
-        self.along = random.choice(habits.along) if has_part('trail') else 0.0
+        self.along = random.choice(habits.along)
         self.redos = habits.redos
         self.redos_left = 0
 

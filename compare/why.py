@@ -28,12 +28,11 @@ import debugger
 import order
 from cases import KINDS
 from debugger import CallId, Debugger, Released, divided, find_call
-from language import Fault, has_part, read_script
+from language import Fault, read_script
 from probing import DIVIDER, PROBES, TOP, Batch, Change, Probe, Walked, batches, report, tried
 
 WHY = Probe('answer.edit', 'why.rattle', 'why.rt', 'main.rattle')
-CHOSEN = ('wildcards', 'wildcards', 'wildcards', 'requests', 'script', 'states') + (
-    ('barriers', 'barriers', 'exchanges') if has_part('barriers') else ())
+CHOSEN = ('wildcards', 'wildcards', 'wildcards', 'requests', 'script', 'states', 'barriers', 'barriers', 'exchanges')
 # Worlds with more calls are not asked: the pairs of these are too many.
 MOST_CALLS = 40
 # How many walks a process makes at a time.
@@ -42,8 +41,7 @@ CHUNK = 20
 MOST_SOUGHT = 1000
 # What must have been met, or the run compared too little.
 MUST_MEET = ('worlds', 'undos', 'whys', 'pairs', 'eligible', 'held by a send', 'held by a recv', 'sends', 'receives', 'wait',
-             'blocks', 'any source', 'any tag', 'status') + (
-                 ('barrier', 'synchronous send', 'release', 'behind a barrier') if has_part('barriers') else ())
+             'blocks', 'any source', 'any tag', 'status', 'barrier', 'synchronous send', 'release', 'behind a barrier')
 
 
 def asked(world):
@@ -243,8 +241,6 @@ def standard_alone(fits):
 
 
 def breakages_of_barriers():
-    if not has_part('barriers'):
-        return ()
     return (
         Breakage('no order behind a barrier', 'cases_of', order.without_case(order.cases_of, 'blocks', 'barrier')),
         Breakage('synchronous sends in an order of their own', 'cases_of', apart(order.cases_of)),

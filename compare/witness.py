@@ -13,7 +13,7 @@ from typing import NamedTuple, Optional
 import explorer
 from debugger import BAD_FILE, BAD_MODE, MODES, RENDEZVOUS, Result, call_id_of, file_content, refusal, step_of
 from explorer import NO_SUCH_STEP, NOT_STUCK, WRONG_BLOCKED, Witness
-from language import PARTS, Fault, read_script, take_parts
+from language import Fault, read_script
 from runs import held
 
 REFUSAL_NAMES = {NO_SUCH_STEP: 'no-such-step', NOT_STUCK: 'not-stuck', WRONG_BLOCKED: 'wrong-blocked'}
@@ -116,7 +116,6 @@ def asked_by(words):
 
 def main():
     file, witness, mode = asked_by(sys.argv[1:])
-    take_parts(PARTS)
     result = Verification(file_content(file), file_content(witness), mode).wanted()
     sys.stdout.buffer.write(result.output)
     sys.stdout.buffer.flush()

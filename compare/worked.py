@@ -15,10 +15,11 @@ from typing import NamedTuple
 from unittest import mock
 
 import debugger
+import explorer
 import worked_explorer
 from debugger import BUFFERED, RENDEZVOUS, Result, answer, answer_file
-from examples import lessons, open_example
-from language import PARTS, read_script, take_parts
+from examples import checks, lessons, open_example
+from language import read_script
 from policy_words import Driven
 from worked_runs import RUNS
 from worked_texts import all_inputs, wanted_result
@@ -361,8 +362,13 @@ def lesson_problem(lesson):
     return None if (result.output, result.status) == (open_example(lesson.answers), 0) else f'{result}'
 
 
+def check_problem(checked):
+    _, asked = explorer.asked_by([checked.script, *checked.options])
+    result = explorer.answer(open_example(f'{checked.name}.mpd'), asked)
+    return None if result == checked.wanted else f'{result}'
+
+
 def main():
-    take_parts(PARTS)
     problems = [(f'{row.script} ({row.mode})', model_problem(row)) for row in ALL]
     problems += [(row.what, trace_problem(row)) for row in TRACES]
     problems += [(row.what, input_problem(row)) for row in all_inputs()]
@@ -370,6 +376,7 @@ def main():
     problems += worked_explorer.problems()
     problems += [(statement, refusal_problem(statement, fault, place)) for statement, fault, place in REFUSED]
     problems += [(f'{lesson.name} ({lesson.mode})', lesson_problem(lesson)) for lesson in lessons()]
+    problems += [(f'{checked.name}, check {" ".join(checked.options)}', check_problem(checked)) for checked in checks()]
     wrong = [(name, problem) for name, problem in problems if problem]
     for name, problem in wrong:
         print(f'{name}: {problem}')

@@ -81,6 +81,10 @@ CHECKS = (
     CheckRow(THREE, Asked(runs=1, witnesses=True), 'leaf 0 [0] done; leaves 1 more yes', 0),
     # a run without an end
     CheckRow(ON_AND_ON, Asked(fuel=5), 'leaf 0 [] cut; leaves 1 more no', 0),
+    CheckRow(ON_AND_ON, Asked(fuel=5, complete=True), 'leaf 0 [] cut; leaves 1 more no', 4),
+    CheckRow(THREE, Asked(runs=1, complete=True), 'leaf 0 [0] done; leaves 1 more yes', 4),
+    CheckRow(THREE, Asked(complete=True), OF_THREE, 1),
+    CheckRow(EMPTY, Asked(complete=True), 'leaf 0 [] done; leaves 1 more no', 0),
     CheckRow(ON_AND_ON, Asked(fuel=5, witnesses=True), 'leaf 0 [] cut; leaves 1 more no', 0),
     # as many runs, and as much fuel, as can be asked for
     CheckRow(THREE, Asked(runs=65536), OF_THREE, 1),

@@ -1,29 +1,45 @@
 -- What is answered to a witness.
-use Rattle.std.proofs.Common.{◌≡◌, ◌≢◌, ℕ, ◌+◌, Bool, true, false, List, Result, Ok, Err, refl, sym, ap, subst, ◌∙◌}
-use Rattle.std.specs.Prelude.{IfOk, string_bytes}
+use Rattle.std.proofs.Common.{◌≡◌, ◌≢◌, ℕ, ◌+◌, ◌≤◌, Bool, true, false, List, [], ◌++◌, length, ◌∷◌, Some, Result, Ok, Err, codes, refl, sym, ap, subst, ◌∙◌, append_assoc, arith}
 use Rattle.std.specs.Io.KnownBytes.{Appends}
 use Rattle.mpd_model.specs.declared.call.Mode.{Mode}
+use Rattle.mpd_model.specs.declared.outcome.Outcome.TheVariants.{Deadlock}
 use Rattle.mpd_model.specs.Program.{Program}
-use Rattle.mpd_model.specs.World.{start}
+use Rattle.mpd_model.specs.World.{World}
+use Rattle.mpd_model.specs.Next.{fold}
+use Rattle.mpd_model.specs.Outcomes.{outcome}
+use Rattle.mpd_model.specs.Texts.{line}
 use Rattle.mpd_device.specs.Seen.{SinkSeen}
 use Rattle.mpd_explore.specs.declared.report.Witness.{Witness}
 use Rattle.mpd_explore.specs.declared.verify.WitnessFault.{WitnessFault}
 use Rattle.mpd_explore.specs.declared.verify.WitnessFault.TheVariants.{NoSuchStep, NotStuck, WrongBlocked, Memory}
-use Rattle.mpd_explore.specs.Witness.{IsWitness, HasFault}
+use Rattle.mpd_explore.specs.Witness.{IsWitnessFrom, HasFault}
+use Rattle.mpd_explore.specs.Faults.{witness_fault_name}
 use Rattle.mpd_lines.specs.declared.engine.EngineFault.{EngineFault}
 use Rattle.mpd_lines.specs.declared.engine.EngineFault.TheVariants.{WriteFailed}
 use Rattle.mpd_lines.specs.Telling.{AppendsPart}
-use Rattle.mpd_check.specs.declared.judge.Answer.{Answer}
-use Rattle.mpd_check.specs.Verdict.{accepted_line, refused_line, IsVerdict, Judged}
+use Rattle.mpd_check.specs.Verdict.{accepted_line, refused_line, IsVerdict, IsVerdictFrom, Judged}
 
-pub is_accepted : (s : Program) (mode : Mode) (x : Witness) (text : List ℕ) (accepted : Bool) → IsWitness s mode x → text ≡ accepted_line → accepted ≡ true → IsVerdict s mode x text accepted
-is_accepted s mode x text true w t e = (w, t)
-is_accepted s mode x text false w t e = absurd (let h : ⊥ = cc in h)
+-- ---- the line of a refusal
 
-pub is_refused : (s : Program) (mode : Mode) (x : Witness) (text : List ℕ) (accepted : Bool) (e : WitnessFault) → HasFault (start s mode) 0 x.steps x.blocked e → (IsWitness s mode x → ⊥)
-    → text ≡ refused_line e → accepted ≡ false → IsVerdict s mode x text accepted
-is_refused s mode x text false e h n t is = (e, h, n, t)
-is_refused s mode x text true e h n t is = absurd (let h : ⊥ = cc in h)
+pub name_short : (e : WitnessFault) → length (witness_fault_name e) ≤ 16
+name_short (NoSuchStep place) = omega arith
+name_short NotStuck = omega arith
+name_short WrongBlocked = omega arith
+name_short Memory = omega arith
+
+pub ruleset naming = (name_short)
+
+-- a line that is joined from its parts
+pub line_joined : (old new a b c d e number name part : List ℕ) → a ≡ old ++ codes "refused " → b ≡ a ++ number → c ≡ b ++ 32 ∷ [] → d ≡ c ++ name → e ≡ d ++ part → new ≡ e ++ 10 ∷ []
+    → new ≡ old ++ line (codes "refused " ++ number ++ 32 ∷ name ++ part)
+line_joined old new a b c d e number name part h i j k l m = rw (m, l, k, j, i, h) (simp append_assoc)
+
+-- ---- the verdict where the verifier has accepted, and where it has found this fault
+
+pub is_accepted : (w last : World) (x : Witness) (old new : List ℕ) (accepted : Bool) → (fold w x.steps ≡ Some last) × (outcome last ≡ Some (Deadlock x.blocked)) → old ≡ [] → new ≡ old ++ accepted_line → accepted ≡ true
+    → IsVerdictFrom w x new accepted
+is_accepted w last x old new true h e t is = (record { last = last; leads = h.0; stuck = h.1 }, t ∙ ap (λ (zs : List ℕ). zs ++ accepted_line) e)
+is_accepted w last x old new false h e t is = absurd (let h : ⊥ = cc in h)
 
 -- a fault of the witness itself
 abbrev pub IsOfWitness : WitnessFault → Type 0
@@ -38,19 +54,15 @@ no_memory NotStuck i h = let x : ⊥ = cc in x
 no_memory WrongBlocked i h = let x : ⊥ = cc in x
 no_memory Memory i h = i
 
--- the verdict where the verifier has accepted, and where it has found this fault
-pub accepted_so : {E : Type 0} (s : Program) (mode : Mode) (x : Witness) (r : Result Answer E) → IsWitness s mode x → IfOk r (λ v. string_bytes v.text ≡ accepted_line) → IfOk r (λ v. v.accepted ≡ true)
-    → IfOk r (λ v. IsVerdict s mode x (string_bytes v.text) v.accepted)
-accepted_so s mode x (Ok v) w t a = is_accepted s mode x (string_bytes v.text) v.accepted w t a
-accepted_so s mode x (Err f) w t a = tt
-
-pub refused_so : {E : Type 0} (s : Program) (mode : Mode) (x : Witness) (f e : WitnessFault) (r : Result Answer E) → f ≡ e → IsOfWitness e → (f ≢ Memory → HasFault (start s mode) 0 x.steps x.blocked f)
-    → (IsWitness s mode x → f ≡ Memory) → IfOk r (λ v. string_bytes v.text ≡ refused_line e) → IfOk r (λ v. v.accepted ≡ false) → IfOk r (λ v. IsVerdict s mode x (string_bytes v.text) v.accepted)
-refused_so s mode x f e (Err g) is i h n t a = tt
-refused_so s mode x f e (Ok v) is i h n t a =
+pub is_refused : (w : World) (x : Witness) (f e : WitnessFault) (old new : List ℕ) (accepted : Bool) → f ≡ e → IsOfWitness e → (f ≢ Memory → HasFault w 0 x.steps x.blocked f) → (IsWitnessFrom w x → f ≡ Memory)
+    → old ≡ [] → new ≡ old ++ refused_line e → accepted ≡ false → IsVerdictFrom w x new accepted
+is_refused w x f e old new true is i h n b t k = absurd (let h : ⊥ = cc in h)
+is_refused w x f e old new false is i h n b t k =
     let not : f ≢ Memory = λ m. no_memory e i (sym is ∙ m) in
-    let P : WitnessFault → Type 0 = λ y. HasFault (start s mode) 0 x.steps x.blocked y in
-    is_refused s mode x (string_bytes v.text) v.accepted e (subst P is (h not)) (λ w. not (n w)) t a
+    let P : WitnessFault → Type 0 = λ y. HasFault w 0 x.steps x.blocked y in
+    (e, subst P is (h not), (λ z. not (n z)), t ∙ ap (λ (zs : List ℕ). zs ++ refused_line e) b)
+
+-- ---- what is written
 
 pub was_told : (s : Program) (mode : Mode) (x : Witness) (old new : SinkSeen) (text bytes : List ℕ) (accepted : Bool) → IsVerdict s mode x text accepted → bytes ≡ text
     → Appends old.contents new.contents bytes → new.failures ≡ old.failures → Judged s mode x old new (Ok accepted)
@@ -64,4 +76,4 @@ was_cut s mode x old new text bytes accepted v b a f =
     let P : List ℕ → Type 0 = λ t. AppendsPart old.contents new.contents t in
     (text, accepted, v, subst P b a, f)
 
-pub ruleset judging = (accepted_so, refused_so, was_told, was_cut)
+pub ruleset judging = (is_accepted, is_refused, was_told, was_cut)

@@ -1,14 +1,10 @@
 -- What a check answers.
-use Rattle.std.specs.Prelude.{◌≡◌, ℕ, ◌+◌, nat_lt, Bool, true, false, List, [], length, take, map, Result, Ok, Err}
+use Rattle.std.specs.Prelude.{◌≡◌, ℕ, ◌+◌, nat_lt, Bool, List, [], length, take, map, Result, Ok, Err}
 use Rattle.std.specs.Io.KnownBytes.{Appends}
-use Rattle.std.specs.List.{list_any}
 use Rattle.mpd_model.specs.declared.call.Mode.{Mode}
-use Rattle.mpd_model.specs.declared.outcome.Outcome.TheVariants.{Done, Leftovers, Deadlock, Trap}
 use Rattle.mpd_model.specs.Program.{Program}
 use Rattle.mpd_model.specs.World.{start}
 use Rattle.mpd_device.specs.Seen.{SinkSeen}
-use Rattle.mpd_explore.specs.declared.report.Ending.{Ending}
-use Rattle.mpd_explore.specs.declared.report.Ending.TheVariants.{Ended, Cut}
 use Rattle.mpd_explore.specs.declared.report.Leaf.{Leaf}
 use Rattle.mpd_explore.specs.declared.report.Limits.{Limits}
 use Rattle.mpd_explore.specs.Report.{shown}
@@ -18,31 +14,27 @@ use Rattle.mpd_lines.specs.declared.engine.EngineFault.{EngineFault}
 use Rattle.mpd_lines.specs.declared.engine.EngineFault.TheVariants.{ReadFailed, WriteFailed, TooManyTurns, Memory}
 use Rattle.mpd_lines.specs.Telling.{AppendsPart}
 use Rattle.mpd_check.specs.declared.Plan.{Plan}
-
--- a deadlock or a trap
-abbrev pub is_bad : Ending → Bool
-is_bad Cut = false
-is_bad (Ended Done) = false
-is_bad (Ended (Leftovers calls)) = false
-is_bad (Ended (Deadlock calls)) = true
-is_bad (Ended (Trap ranks)) = true
-
-abbrev pub is_found : Leaf → Bool
-is_found l = is_bad l.ending
+use Rattle.mpd_check.specs.declared.counts.Tally.{Tally}
+use Rattle.mpd_check.specs.Tally.{tally_of}
 
 -- the leaves that are listed of a script's runs from its start
 abbrev pub leaves_of : Program → Mode → Limits → List Leaf
 leaves_of s mode limits = take limits.runs (map shown (walk limits.fuel (start s mode)))
 
-abbrev pub found_by : Program → Mode → Limits → Bool
-found_by s mode limits = list_any is_found (leaves_of s mode limits)
+-- there are more runs than so many
+abbrev pub more_of : Program → Mode → Limits → Bool
+more_of s mode limits = nat_lt limits.runs (length (walk limits.fuel (start s mode)))
+
+-- what the report tells
+abbrev pub told_by : Program → Mode → Limits → Tally
+told_by s mode limits = tally_of (leaves_of s mode limits) (more_of s mode limits)
 
 abbrev pub check_text : Program → Mode → Plan → List ℕ
-check_text s mode plan = report_text plan.witnesses [] plan.limits.fuel (start s mode) (leaves_of s mode plan.limits) (nat_lt plan.limits.runs (length (walk plan.limits.fuel (start s mode))))
+check_text s mode plan = report_text plan.witnesses [] plan.limits.fuel (start s mode) (leaves_of s mode plan.limits) (more_of s mode plan.limits)
 
 -- The whole report was written; or a part of it until a write failed; or nothing, for want of memory.
-abbrev pub Answered : Program → Mode → Plan → SinkSeen → SinkSeen → Result Bool EngineFault → Type 0
-Answered s mode plan old new (Ok found) = Appends old.contents new.contents (check_text s mode plan) × (new.failures ≡ old.failures) × (found ≡ found_by s mode plan.limits)
+abbrev pub Answered : Program → Mode → Plan → SinkSeen → SinkSeen → Result Tally EngineFault → Type 0
+Answered s mode plan old new (Ok tally) = Appends old.contents new.contents (check_text s mode plan) × (new.failures ≡ old.failures) × (tally ≡ told_by s mode plan.limits)
 Answered s mode plan old new (Err WriteFailed) = AppendsPart old.contents new.contents (check_text s mode plan) × (new.failures ≡ old.failures + 1)
 Answered s mode plan old new (Err Memory) = new ≡ old
 Answered s mode plan old new (Err ReadFailed) = ⊥

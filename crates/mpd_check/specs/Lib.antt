@@ -1,3 +1,4 @@
+pub mod Tally
 pub mod Checked
 pub mod Pieces
 pub mod WitnessText

@@ -4,7 +4,7 @@ use std::marker::Model;
 
 /// The variables of a rank, the call that each of its handles has, its number, and how many ranks there are. Contracts see it as
 /// an `Env` of the definitions.
-#[derive(Debug, Drop)]
+#[derive(Drop)]
 pub struct Env<'v> {
     pub vars: &'v [i64],
     pub handles: &'v [Option<usize>],

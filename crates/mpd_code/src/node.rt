@@ -4,7 +4,7 @@ use mpd_model::expr::Expr;
 use mpd_model::stmt::Simple;
 
 /// A statement without the statements inside it.
-#[derive(Debug, Drop)]
+#[derive(Drop)]
 pub struct Node {
     pub action: Action,
     /// The number of the node that follows the statement.
@@ -12,7 +12,7 @@ pub struct Node {
 }
 
 /// What a node does.
-#[derive(Debug, Drop)]
+#[derive(Drop)]
 pub enum Action {
     /// A statement that holds no other.
     Simple(Simple),

@@ -1,5 +1,5 @@
 -- All ranks are blocked on a barrier, go on from it, and are blocked on it again.
-use Rattle.std.proofs.Common.{◌≡◌, ◌&&◌, ℕ, zero, suc, ◌<◌, ◌≤◌, ◌+◌, ◌-◌, Bool, true, false, nat_lt, if◌then◌else◌, List, [], ◌∷◌, ◌++◌, length, map, get_or, set, take, drop, add-one, append-nil, Option, Some, None, refl, sym, ap, ◌∙◌, arith, slice_get}
+use Rattle.std.proofs.Common.{◌≡◌, ◌&&◌, ℕ, zero, suc, ◌<◌, ◌≤◌, ◌+◌, ◌-◌, Bool, true, false, nat_lt, if◌then◌else◌, min, List, [], ◌∷◌, ◌++◌, length, map, get_or, set, take, drop, add-one, append-nil, Option, Some, None, refl, sym, ap, ◌∙◌, arith, slice_get}
 use Rattle.std.proofs.lemmas.List.{take_all, drop_all, length-map}
 use Rattle.std.specs.List.{list_all, range_with_len}
 use Rattle.mpd_model.specs.declared.step.Step.TheVariants.{Release}
@@ -11,7 +11,7 @@ use Rattle.mpd_model.specs.World.{RankWorld, World, Board, is_barrier, kind_at, 
 use Rattle.mpd_model.specs.Next.{next, with_set, is_blocked, waits, is_at_barrier, can_release, going_on, released}
 use Rattle.mpd_rank.specs.Views.{RankView, rank_of}
 use Rattle.mpd_rank.specs.Undone.{blocked_again}
-use Rattle.mpd_core.specs.Views.{ranks_in, world_in, numbers_in, writes_in, acting, Holds}
+use Rattle.mpd_core.specs.Views.{ranks_in, world_in, numbers_in, room_in, writes_in, acting, Holds}
 use Rattle.mpd_core.proofs.RankLemmas.{count_is}
 use Rattle.mpd_core.proofs.TagLemmas.{tags_same}
 
@@ -53,6 +53,13 @@ writes_acting a (v ∷ vs) = omega (arith, writes_acting a vs)
 
 pub written_all : (a : Activity) (i n : ℕ) (vs us : List RankView) → n ≡ length vs → n ≤ i → us ≡ changed (acting a) i vs → writes_in us ≡ writes_in vs + length vs
 written_all a i n vs us size last e = ap writes_in (changed_all (acting a) i n vs us size last e) ∙ writes_acting a vs
+
+room_acting : (a : Activity) (vs : List RankView) (board_room : ℕ) → room_in board_room (map (acting a) vs) ≡ room_in board_room vs
+room_acting a [] k = refl
+room_acting a (v ∷ vs) k = ap (min v.room) (room_acting a vs k)
+
+pub room_as_before : (a : Activity) (i n : ℕ) (vs us : List RankView) (board_room : ℕ) → n ≡ length vs → n ≤ i → us ≡ changed (acting a) i vs → room_in board_room vs ≤ room_in board_room us
+room_as_before a i n vs us k size last e = omega (arith, ap (room_in k) (changed_all (acting a) i n vs us size last e) ∙ room_acting a vs k)
 
 pub held_acting : (s : Program) (a : Activity) (vs ws : List RankView) (b c : Board) → Holds s vs b → ws ≡ map (acting a) vs → c.calls ≡ b.calls → Holds s ws c
 held_acting s a vs ws b c held e same = record {
@@ -156,7 +163,7 @@ release_next s vs ws b c can e is =
 pub ranks_of_script : (s : Program) (vs : List RankView) (b : Board) → Holds s vs b → length vs ≡ s.ranks
 ranks_of_script s vs b held = count_is s vs held.numbers
 
-pub ruleset changing = (changed_more, changed_all, written_all)
+pub ruleset changing = (changed_more, changed_all, written_all, room_as_before)
 
 pub ruleset at_barriers = (all_on, cannot_release, releases_all)
 

@@ -75,6 +75,31 @@ length_set vs i w = length-set vs i w
 pub room_all : (vs : List RankView) (n k : ℕ) → n ≡ length vs → 1 ≤ k → ((m : ℕ) → 1 ≤ m → 1 ≤ room_in m (take n vs)) → 1 ≤ room_in k vs
 room_all vs n k e some all = rw (sym (take_all n vs (omega (arith, e)))) (all k some)
 
+-- ---- what a step takes of the room, and what it leaves
+
+-- one at most, with one less on the board
+pub room_grown : (vs : List RankView) (k m : ℕ) → k ≤ m + 1 → room_in k vs ≤ room_in m vs + 1
+room_grown [] k m less = less
+room_grown (v ∷ vs) k m less = omega (arith, room_grown vs k m less)
+
+-- and with one less of a rank
+pub room_taken : (vs : List RankView) (n p k m : ℕ) (v w : RankView) → n ≡ length vs → p < n → v ≡ get_or vs p v → v.room ≤ w.room + 1 → k ≤ m + 1 → room_in k vs ≤ room_in m (set vs p w) + 1
+room_taken [] n p k m v w e h read rank board = absurd (omega (arith, e))
+room_taken (u ∷ vs) n zero k m v w e h read rank board = omega (arith, rank, room_grown vs k m board, ap (λ (x : RankView). x.room) read)
+room_taken (u ∷ vs) n (suc p) k m v w e h read rank board = omega (arith, room_taken vs (length vs) p k m v w refl (omega (arith, e)) read rank board)
+
+-- none, with no less on the board nor of the rank
+pub room_spared : (vs : List RankView) (n p k m : ℕ) (v w : RankView) → n ≡ length vs → p < n → v ≡ get_or vs p v → v.room ≤ w.room → k ≤ m → room_in k vs ≤ room_in m (set vs p w)
+room_spared vs n p k m v w e h read rank board = at_most (room_in k vs) (room_in k (set vs p w)) (room_in m (set vs p w)) (room_kept vs n p k v w e h read rank) (room_grows (set vs p w) k m board)
+
+-- one at most, where the board has one less and no rank has less
+pub room_less_on_board : (before after : List RankView) (k m : ℕ) → k ≤ m + 1 → ((n : ℕ) → room_in n before ≤ room_in n after) → room_in k before ≤ room_in m after + 1
+room_less_on_board before after k m board ranks = omega (arith, room_grown before k m board, ranks m)
+
 pub ruleset refused = (no_board_room)
+
+pub ruleset spending = (room_grown, room_grows, room_less_on_board)
+
+pub ruleset sparing = (room_grows, room_never_less)
 
 pub ruleset keeping = (no_board_room, room_all, room_grows, room_never_less)

@@ -77,6 +77,8 @@ fn issue_on(board: &mut Board, rank: usize, call: Option<Call>) -> Result<u32, A
     ensures err { OnErr result (board.new.board ≡ board.old.board) }
     ensures memory { OnErr result (board.old.room ≡ 0) }
     ensures for_a_call { OnErr result (IsSome call) }
+    ensures room_left { board.old.room ≤ board.new.room + 1 }
+    ensures err_room { OnErr result (board.old.room ≤ board.new.room) }
     ensures rises { board.old.writes ≤ board.new.writes }
     ensures few { board.new.writes ≤ board.old.writes + 6 }
     ensures unwritten { OnErr result (board.new.writes ≡ board.old.writes) }
@@ -111,6 +113,10 @@ fn step_call(
     ensures err { OnErr result (rank_of code.now.program state.new ≡ rank_of code.now.program state.old) }
     ensures err_board { OnErr result (board.new.board ≡ board.old.board) }
     ensures number { state.new.rank ≡ state.old.rank }
+    ensures room_left { state.old.room ≤ state.new.room + 1 }
+    ensures board_room { board.old.room ≤ board.new.room + 1 }
+    ensures err_room { OnErr result (state.old.room ≤ state.new.room) }
+    ensures err_board_room { OnErr result (board.old.room ≤ board.new.room) }
     ensures rises { OnOk result (state.old.writes + board.old.writes + 1 ≤ state.new.writes + board.new.writes) }
     ensures few { state.new.writes + board.new.writes ≤ state.old.writes + board.old.writes + 16 }
     ensures unwritten { OnErr result (state.new.writes + board.new.writes ≡ state.old.writes + board.old.writes) }
@@ -120,7 +126,10 @@ fn step_call(
     let Some(plan) = state.plan_local(code) else {
         return Err(StepFault::NotEnabled);
     };
-    let number = issue_on(board, state.number(), plan.call(state.node()))?;
+    let Some(statement) = state.next_statement(code) else {
+        unreachable!();
+    };
+    let number = issue_on(board, state.number(), plan.call(statement))?;
     Ok(state.commit(plan, number as usize))
 }
 
@@ -145,6 +154,10 @@ fn step_rank(
     ensures err { OnErr result (rank_of code.now.program state.new ≡ rank_of code.now.program state.old) }
     ensures err_board { OnErr result (board.new.board ≡ board.old.board) }
     ensures number { state.new.rank ≡ state.old.rank }
+    ensures room_left { state.old.room ≤ state.new.room + 1 }
+    ensures board_room { board.old.room ≤ board.new.room + 1 }
+    ensures err_room { OnErr result (state.old.room ≤ state.new.room) }
+    ensures err_board_room { OnErr result (board.old.room ≤ board.new.room) }
     ensures rises { OnOk result (state.old.writes + board.old.writes + 1 ≤ state.new.writes + board.new.writes) }
     ensures few { state.new.writes + board.new.writes ≤ state.old.writes + board.old.writes + 16 }
     ensures unwritten { OnErr result (state.new.writes + board.new.writes ≡ state.old.writes + board.old.writes) }
@@ -186,6 +199,8 @@ pub(crate) fn step_one(
     ensures err_board { OnErr result (board.new.board ≡ board.old.board) }
     ensures held { Holds code.now.program ranks.new.items board.new.board }
     ensures size { vec_len ranks.new ≡ vec_len ranks.old }
+    ensures room_left { room_in board.old.room ranks.old.items ≤ room_in board.new.room ranks.new.items + 1 }
+    ensures err_room { OnErr result (room_in board.old.room ranks.old.items ≤ room_in board.new.room ranks.new.items) }
     ensures rises { OnOk result (writes_in ranks.old.items + board.old.writes + 1 ≤ writes_in ranks.new.items + board.new.writes) }
     ensures few { writes_in ranks.new.items + board.new.writes ≤ writes_in ranks.old.items + board.old.writes + 16 }
     ensures unwritten { OnErr result (writes_in ranks.new.items + board.new.writes ≡ writes_in ranks.old.items + board.old.writes) }
@@ -209,6 +224,7 @@ pub(crate) fn wake_one(
     ensures of_rank { IsOfRank result.change }
     ensures numbers { numbers_in ranks.new.items ≡ numbers_in ranks.old.items }
     ensures size { vec_len ranks.new ≡ vec_len ranks.old }
+    ensures room_left { (board_room : ℕ) → room_in board_room ranks.old.items ≤ room_in board_room ranks.new.items }
     ensures rises { writes_in ranks.old.items + 1 ≤ writes_in ranks.new.items }
     ensures few { writes_in ranks.new.items ≤ writes_in ranks.old.items + 5 }
 {
@@ -225,6 +241,7 @@ pub(crate) fn restore_one(ranks: &mut Vec<RankState>, rank: usize, done: &RankRe
     ensures after { (s : Program) → ranks_in s ranks.new.items ≡ update_at (ranks_in s ranks.old.items) rank (λ r. undone_rank s r done.now) }
     ensures numbers { numbers_in ranks.new.items ≡ numbers_in ranks.old.items }
     ensures size { vec_len ranks.new ≡ vec_len ranks.old }
+    ensures room_left { (board_room : ℕ) → room_in board_room ranks.old.items ≤ room_in board_room ranks.new.items }
     ensures rises { writes_in ranks.old.items + 1 ≤ writes_in ranks.new.items }
     ensures few { writes_in ranks.new.items ≤ writes_in ranks.old.items + 5 }
 {
@@ -240,6 +257,7 @@ pub(crate) fn restore_local(ranks: &mut Vec<RankState>, rank: usize, done: &Loca
     ensures after { (s : Program) → ranks_in s ranks.new.items ≡ update_at (ranks_in s ranks.old.items) rank (λ r. undone_rank s r done.now) }
     ensures numbers { numbers_in ranks.new.items ≡ numbers_in ranks.old.items }
     ensures size { vec_len ranks.new ≡ vec_len ranks.old }
+    ensures room_left { (board_room : ℕ) → room_in board_room ranks.old.items ≤ room_in board_room ranks.new.items }
     ensures rises { writes_in ranks.old.items + 1 ≤ writes_in ranks.new.items }
     ensures few { writes_in ranks.new.items ≤ writes_in ranks.old.items + 2 }
 {
@@ -251,6 +269,7 @@ pub(crate) fn restore_local(ranks: &mut Vec<RankState>, rank: usize, done: &Loca
 #[tactic(auto, using(crate::proofs::ReleaseLemmas::changing))]
 pub(crate) fn let_go(ranks: &mut Vec<RankState>)
     ensures after { ranks.new.items ≡ map (acting Activity.Running) ranks.old.items }
+    ensures room_left { (board_room : ℕ) → room_in board_room ranks.old.items ≤ room_in board_room ranks.new.items }
     ensures writes { writes_in ranks.new.items ≡ writes_in ranks.old.items + length ranks.old.items }
 {
     for rank in 0..ranks.len() {
@@ -262,6 +281,7 @@ pub(crate) fn let_go(ranks: &mut Vec<RankState>)
 #[tactic(auto, using(crate::proofs::ReleaseLemmas::changing))]
 pub(crate) fn block_all(ranks: &mut Vec<RankState>)
     ensures after { ranks.new.items ≡ map (acting Activity.Blocked) ranks.old.items }
+    ensures room_left { (board_room : ℕ) → room_in board_room ranks.old.items ≤ room_in board_room ranks.new.items }
     ensures writes { writes_in ranks.new.items ≡ writes_in ranks.old.items + length ranks.old.items }
 {
     for rank in 0..ranks.len() {

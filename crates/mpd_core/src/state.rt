@@ -289,6 +289,8 @@ impl<'c> Core<'c> {
         ensures memory { IsErrOf result StepFault.Memory → self.old.room ≡ 0 }
         ensures err { OnErr result (self.new.world ≡ self.old.world) }
         ensures program { self.new.program ≡ self.old.program }
+        ensures room_left { self.old.room ≤ self.new.room + 1 }
+        ensures err_room { OnErr result (self.old.room ≤ self.new.room) }
         ensures rises { OnOk result (self.old.writes + 1 ≤ self.new.writes) }
         ensures few { self.new.writes ≤ self.old.writes + 16 }
         ensures unwritten { OnErr result (self.new.writes ≡ self.old.writes) }
@@ -310,6 +312,8 @@ impl<'c> Core<'c> {
         ensures memory { IsErrOf result StepFault.Memory → self.old.room ≡ 0 }
         ensures err { OnErr result (self.new.world ≡ self.old.world) }
         ensures program { self.new.program ≡ self.old.program }
+        ensures room_left { self.old.room ≤ self.new.room + 1 }
+        ensures err_room { OnErr result (self.old.room ≤ self.new.room) }
         ensures rises { OnOk result (self.old.writes + 1 ≤ self.new.writes) }
         ensures few { self.new.writes ≤ self.old.writes + 16 }
         ensures unwritten { OnErr result (self.new.writes ≡ self.old.writes) }
@@ -324,7 +328,7 @@ impl<'c> Core<'c> {
     }
 
     /// A match.
-    #[tactic(auto, using(crate::proofs::RoomLemmas::refused, crate::proofs::TagLemmas::tagging))]
+    #[tactic(auto, using(crate::proofs::RoomLemmas::refused, crate::proofs::RoomLemmas::spending, crate::proofs::TagLemmas::tagging))]
     fn apply_match(&mut self, send: CallId, recv: CallId) -> Result<Record, StepFault>
         ensures ok { OnOk result (next self.old.world (Step.Match send recv) ≡ Some self.new.world) }
         ensures back { IfOk result (λ done. undone self.old.program self.new.world done ≡ self.old.world) }
@@ -334,6 +338,8 @@ impl<'c> Core<'c> {
         ensures memory { IsErrOf result StepFault.Memory → self.old.room ≡ 0 }
         ensures err { OnErr result (self.new.world ≡ self.old.world) }
         ensures program { self.new.program ≡ self.old.program }
+        ensures room_left { self.old.room ≤ self.new.room + 1 }
+        ensures err_room { OnErr result (self.old.room ≤ self.new.room) }
         ensures writes { OnOk result (self.new.writes ≡ self.old.writes + 7) }
         ensures unwritten { OnErr result (self.new.writes ≡ self.old.writes) }
         ensures looks { self.new.looks ≡ self.old.looks + step_looks self.old.world.board (Step.Match send recv) }
@@ -376,7 +382,7 @@ impl<'c> Core<'c> {
     }
 
     /// A wake.
-    #[tactic(auto, using(crate::proofs::RankLemmas::waking_blocked, crate::proofs::RoomLemmas::refused, crate::proofs::TagLemmas::tagging))]
+    #[tactic(auto, using(crate::proofs::RankLemmas::waking_blocked, crate::proofs::RoomLemmas::refused, crate::proofs::RoomLemmas::spending, crate::proofs::TagLemmas::tagging))]
     fn apply_wake(&mut self, rank: usize) -> Result<Record, StepFault>
         ensures ok { OnOk result (next self.old.world (Step.Wake rank) ≡ Some self.new.world) }
         ensures back { IfOk result (λ done. undone self.old.program self.new.world done ≡ self.old.world) }
@@ -386,6 +392,8 @@ impl<'c> Core<'c> {
         ensures memory { IsErrOf result StepFault.Memory → self.old.room ≡ 0 }
         ensures err { OnErr result (self.new.world ≡ self.old.world) }
         ensures program { self.new.program ≡ self.old.program }
+        ensures room_left { self.old.room ≤ self.new.room + 1 }
+        ensures err_room { OnErr result (self.old.room ≤ self.new.room) }
         ensures rises { OnOk result (self.old.writes + 2 ≤ self.new.writes) }
         ensures few { self.new.writes ≤ self.old.writes + 6 }
         ensures unwritten { OnErr result (self.new.writes ≡ self.old.writes) }
@@ -408,7 +416,7 @@ impl<'c> Core<'c> {
     }
 
     /// A release.
-    #[tactic(auto, using(crate::proofs::ReleaseLemmas::releasing, crate::proofs::RoomLemmas::refused, crate::proofs::TagLemmas::tagging))]
+    #[tactic(auto, using(crate::proofs::ReleaseLemmas::releasing, crate::proofs::RoomLemmas::refused, crate::proofs::RoomLemmas::spending, crate::proofs::TagLemmas::tagging))]
     fn apply_release(&mut self) -> Result<Record, StepFault>
         ensures ok { OnOk result (next self.old.world Step.Release ≡ Some self.new.world) }
         ensures back { IfOk result (λ done. undone self.old.program self.new.world done ≡ self.old.world) }
@@ -418,6 +426,8 @@ impl<'c> Core<'c> {
         ensures memory { IsErrOf result StepFault.Memory → self.old.room ≡ 0 }
         ensures err { OnErr result (self.new.world ≡ self.old.world) }
         ensures program { self.new.program ≡ self.old.program }
+        ensures room_left { self.old.room ≤ self.new.room + 1 }
+        ensures err_room { OnErr result (self.old.room ≤ self.new.room) }
         ensures writes { OnOk result (self.new.writes ≡ self.old.writes + self.old.program.ranks + 1) }
         ensures unwritten { OnErr result (self.new.writes ≡ self.old.writes) }
         ensures looks { self.new.looks ≡ self.old.looks }
@@ -465,6 +475,8 @@ impl<'c> Core<'c> {
         ensures memory { IsErrOf result StepFault.Memory → self.old.room ≡ 0 }
         ensures err { OnErr result (self.new.world ≡ self.old.world) }
         ensures program { self.new.program ≡ self.old.program }
+        ensures room_left { self.old.room ≤ self.new.room + 1 }
+        ensures err_room { OnErr result (self.old.room ≤ self.new.room) }
         ensures rises { OnOk result (self.old.writes + 1 ≤ self.new.writes) }
         ensures few { self.new.writes ≤ self.old.writes + most_writes self.old.program.ranks step }
         ensures unwritten { OnErr result (self.new.writes ≡ self.old.writes) }
@@ -481,11 +493,12 @@ impl<'c> Core<'c> {
 
     /// Takes a local step back, as `undo` does, by what takes it back of its rank alone.
     #[inline(always)]
-    #[tactic(auto, using(crate::proofs::TagLemmas::tagging))]
+    #[tactic(auto, using(crate::proofs::RoomLemmas::sparing, crate::proofs::TagLemmas::tagging))]
     pub fn undo_local(&mut self, rank: usize, done: &LocalRecord)
         requires { CanUndo self.old.world (step_record (Step.Local rank) done.now) }
         ensures world { self.new.world ≡ undone self.old.program self.old.world (step_record (Step.Local rank) done.now) }
         ensures program { self.new.program ≡ self.old.program }
+        ensures room_left { self.old.room ≤ self.new.room }
         ensures rises { self.old.writes + 1 ≤ self.new.writes }
         ensures few { self.new.writes ≤ self.old.writes + 16 }
         ensures looks { self.new.looks ≡ self.old.looks }
@@ -497,11 +510,12 @@ impl<'c> Core<'c> {
     }
 
     /// The same, by its record as that of any step.
-    #[tactic(auto, using(crate::proofs::TagLemmas::tagging))]
+    #[tactic(auto, using(crate::proofs::RoomLemmas::sparing, crate::proofs::TagLemmas::tagging))]
     fn undo_whole(&mut self, rank: usize, done: &RankRecord)
         requires { CanUndo self.old.world (step_record (Step.Local rank) done.now) }
         ensures world { self.new.world ≡ undone self.old.program self.old.world (step_record (Step.Local rank) done.now) }
         ensures program { self.new.program ≡ self.old.program }
+        ensures room_left { self.old.room ≤ self.new.room }
         ensures rises { self.old.writes + 1 ≤ self.new.writes }
         ensures few { self.new.writes ≤ self.old.writes + 16 }
         ensures looks { self.new.looks ≡ self.old.looks }
@@ -513,11 +527,12 @@ impl<'c> Core<'c> {
     }
 
     /// Takes a release back.
-    #[tactic(auto, using(crate::proofs::ReleaseLemmas::releasing, crate::proofs::TagLemmas::tagging))]
+    #[tactic(auto, using(crate::proofs::ReleaseLemmas::releasing, crate::proofs::RoomLemmas::sparing, crate::proofs::TagLemmas::tagging))]
     fn undo_release(&mut self)
         requires { last_set self.old.world.board ≡ Some sets.Barrier }
         ensures world { self.new.world ≡ record { ranks = map blocked_again self.old.world.ranks; board = without_last_set self.old.world.board } }
         ensures program { self.new.program ≡ self.old.program }
+        ensures room_left { self.old.room ≤ self.new.room }
         ensures writes { self.new.writes ≡ self.old.writes + self.old.program.ranks + 1 }
         ensures looks { self.new.looks ≡ self.old.looks }
     {
@@ -527,11 +542,12 @@ impl<'c> Core<'c> {
 
     /// Takes back the step that a record is of, the record of the last step not undone. It can't be refused memory. The state is
     /// the one before that step. It takes 1 to 16 writes, for a release two more for each rank at most.
-    #[tactic(auto, using(crate::proofs::TagLemmas::tagging))]
+    #[tactic(auto, using(crate::proofs::RoomLemmas::sparing, crate::proofs::TagLemmas::tagging))]
     pub fn undo(&mut self, done: Record)
         requires { CanUndo self.old.world done }
         ensures world { self.new.world ≡ undone self.old.program self.old.world done }
         ensures program { self.new.program ≡ self.old.program }
+        ensures room_left { self.old.room ≤ self.new.room }
         ensures rises { self.old.writes + 1 ≤ self.new.writes }
         ensures few { self.new.writes ≤ self.old.writes + most_writes self.old.program.ranks done.step }
         ensures looks { self.new.looks ≡ self.old.looks }

@@ -10,7 +10,7 @@ use crate::steps::Steps;
 use std::cmp;
 
 /// How far a device still goes before it fails in each call.
-#[derive(Clone, Copy, Debug, PartialEq, Eq)]
+#[derive(Clone, Copy)]
 pub enum Limit {
     /// So many calls.
     Calls(u64),

@@ -1,24 +1,24 @@
 -- What `verify` finds is so.
-use Rattle.std.proofs.Common.{◌≡◌, ◌≢◌, ℕ, zero, suc, ◌<◌, ◌+◌, ◌==◌, ◌&&◌, Bool, true, false, eq-eqb, List, [], ◌∷◌, ◌++◌, length, take, get_or, Option, Some, None, IsSome, Result, Ok, Err, IfErr, OnOk, refl, ap, ◌∙◌, arith, add-one}
-use Rattle.std.proofs.lemmas.List.{take_more}
+use Rattle.std.proofs.Common.{◌≡◌, ◌≢◌, ℕ, zero, suc, ◌<◌, ◌+◌, ◌==◌, ◌&&◌, Bool, true, false, eq-eqb, List, [], ◌∷◌, ◌++◌, length, take, get_or, Option, Some, None, IsSome, Result, Ok, Err, IfErr, OnOk, refl, sym, ap, subst, ◌∙◌, arith, add-one}
+use Rattle.std.proofs.lemmas.List.{take_more, take_all}
+use Rattle.std.proofs.lemmas.Option.{slice_get-get_or, slice_get_past}
 use Rattle.std.proofs.lemmas.Bool.{eqb-true}
 use Rattle.std.specs.Bool.{Decides}
 use Rattle.std.specs.Option.{option_and_then}
-use Rattle.mpd_model.specs.declared.call.Mode.{Mode}
 use Rattle.mpd_model.specs.declared.step.CallId.{CallId}
 use Rattle.mpd_model.specs.declared.step.Step.{Step}
 use Rattle.mpd_model.specs.declared.outcome.Outcome.{Outcome}
 use Rattle.mpd_model.specs.declared.outcome.Outcome.TheVariants.{Done, Leftovers, Deadlock, Trap}
-use Rattle.mpd_model.specs.Program.{Program}
-use Rattle.mpd_model.specs.World.{World, start}
+use Rattle.mpd_model.specs.World.{World}
 use Rattle.mpd_model.specs.Next.{next, fold}
 use Rattle.mpd_model.specs.Outcomes.{outcome}
+use Rattle.mpd_core.specs.Listed.{listed}
 use Rattle.mpd_trail.proofs.KeptLemmas.{fold-append}
 use Rattle.mpd_explore.specs.declared.report.Witness.{Witness}
 use Rattle.mpd_explore.specs.declared.verify.WitnessFault.{WitnessFault}
 use Rattle.mpd_explore.specs.declared.verify.WitnessFault.TheVariants.{NoSuchStep, NotStuck, WrongBlocked, Memory}
-use Rattle.mpd_explore.specs.Stops.{StopsAt}
-use Rattle.mpd_explore.specs.Witness.{IsWitness, HasFault, FaultAtEnd, FaultBy}
+use Rattle.mpd_explore.specs.Stops.{StopsAt, WantsMemory}
+use Rattle.mpd_explore.specs.Witness.{IsWitnessFrom, HasFault, FaultAtEnd, FaultBy}
 
 -- ---- calls that are one
 
@@ -59,6 +59,22 @@ leads_more first w v i steps d within there is = fold_more first w i steps d wit
 pub stops_here : (first w : World) (i : ℕ) (steps : List Step) (d : Step) (e : WitnessFault) → i < length steps → fold first (take i steps) ≡ Some w → (e ≡ NoSuchStep i) × (next w (get_or steps i d) ≡ None) → StopsAt first steps e
 stops_here first w i steps d e within there h =
     record { place = i; is = h.0; before = rw there refl; refused = rw (← add-one) (fold_more first w i steps d within there ∙ h.1) }
+
+-- ---- where memory was refused
+
+pub wants_here : (first w v : World) (i : ℕ) (steps : List Step) (d : Step) → i < length steps → fold first (take i steps) ≡ Some w → IsSome (next w (get_or steps i d)) → v ≡ w → WantsMemory first steps v
+wants_here first w v i steps d within there some same = record {
+  place = i;
+  before = there ∙ ap Some (sym same);
+  wants = rw (slice_get-get_or steps i d within) (subst (λ (u : World). IsSome (next u (get_or steps i d))) (sym same) some);
+}
+
+pub wants_at_end : (first v : World) (steps : List Step) → fold first steps ≡ Some v → 0 < listed (outcome v) → WantsMemory first steps v
+wants_at_end first v steps leads some = record {
+  place = length steps;
+  before = ap (fold first) (take_all (length steps) steps (omega arith)) ∙ leads;
+  wants = rw (slice_get_past steps (length steps) (omega arith)) some;
+}
 
 -- ---- where it stops is its fault
 
@@ -119,20 +135,32 @@ no_fault w i (a ∷ more) blocked last e leads stuck h = no_fault_by (next w a) 
 
 -- ---- what is found of a witness
 
-only_memory : (s : Program) (mode : Mode) (x : Witness) (e : WitnessFault) → IsWitness s mode x → (e ≢ Memory → HasFault (start s mode) 0 x.steps x.blocked e) → e ≡ Memory
-only_memory s mode x (NoSuchStep i) h f = absurd (no_fault (start s mode) 0 x.steps x.blocked h.last (NoSuchStep i) h.leads h.stuck (f (λ same. cc)))
-only_memory s mode x NotStuck h f = absurd (no_fault (start s mode) 0 x.steps x.blocked h.last NotStuck h.leads h.stuck (f (λ same. cc)))
-only_memory s mode x WrongBlocked h f = absurd (no_fault (start s mode) 0 x.steps x.blocked h.last WrongBlocked h.leads h.stuck (f (λ same. cc)))
-only_memory s mode x Memory h f = refl
+pub only_memory : (w : World) (x : Witness) (e : WitnessFault) → IsWitnessFrom w x → (e ≢ Memory → HasFault w 0 x.steps x.blocked e) → e ≡ Memory
+only_memory w x (NoSuchStep i) h f = absurd (no_fault w 0 x.steps x.blocked h.last (NoSuchStep i) h.leads h.stuck (f (λ same. cc)))
+only_memory w x NotStuck h f = absurd (no_fault w 0 x.steps x.blocked h.last NotStuck h.leads h.stuck (f (λ same. cc)))
+only_memory w x WrongBlocked h f = absurd (no_fault w 0 x.steps x.blocked h.last WrongBlocked h.leads h.stuck (f (λ same. cc)))
+only_memory w x Memory h f = refl
 
 -- a witness is refused for want of memory alone
-pub accepted_by : (s : Program) (mode : Mode) (x : Witness) (r : Result Unit WitnessFault) → IfErr r (λ e. e ≢ Memory → HasFault (start s mode) 0 x.steps x.blocked e) → IsWitness s mode x → IfErr r (λ e. e ≡ Memory)
-accepted_by s mode x (Ok u) f h = tt
-accepted_by s mode x (Err e) f h = only_memory s mode x e h f
+pub accepted_by : (w : World) (x : Witness) (r : Result Unit WitnessFault) → IfErr r (λ e. e ≢ Memory → HasFault w 0 x.steps x.blocked e) → IsWitnessFrom w x → IfErr r (λ e. e ≡ Memory)
+accepted_by w x (Ok u) f h = tt
+accepted_by w x (Err e) f h = only_memory w x e h f
 
 -- and what is accepted is one
-pub witnessed : (s : Program) (mode : Mode) (x : Witness) (last : World) (r : Result Unit WitnessFault) → OnOk r ((fold (start s mode) x.steps ≡ Some last) × (outcome last ≡ Some (Deadlock x.blocked))) → OnOk r (IsWitness s mode x)
-witnessed s mode x last (Ok u) h = record { last = last; leads = h.0; stuck = h.1 }
-witnessed s mode x last (Err e) h = tt
+pub witnessed : (w last : World) (x : Witness) (r : Result Unit WitnessFault) → OnOk r ((fold w x.steps ≡ Some last) × (outcome last ≡ Some (Deadlock x.blocked))) → OnOk r (IsWitnessFrom w x)
+witnessed w last x (Ok u) h = record { last = last; leads = h.0; stuck = h.1 }
+witnessed w last x (Err e) h = tt
 
-pub ruleset verifying = (fault_of_stop, fault_of_end)
+-- ---- the same of a list that is read through a reference
+
+pub stop_fault : (w : World) (steps given : List Step) (blocked : List CallId) (e : WitnessFault) → given ≡ steps → StopsAt w given e → HasFault w 0 steps blocked e
+stop_fault w steps given blocked e same h = subst (λ (xs : List Step). HasFault w 0 xs blocked e) same (fault_of_stop w given blocked e h)
+
+pub end_fault : (w last : World) (steps given : List Step) (blocked told : List CallId) (r : Result Unit WitnessFault) → given ≡ steps → told ≡ blocked → fold w given ≡ Some last
+    → IfErr r (λ e. e ≢ Memory → FaultAtEnd (outcome last) told e) → IfErr r (λ e. e ≢ Memory → HasFault w 0 steps blocked e)
+end_fault w last steps given blocked told (Ok u) same calls leads h = tt
+end_fault w last steps given blocked told (Err e) same calls leads h =
+    λ k. subst (λ (xs : List Step). HasFault w 0 xs blocked e) same (subst (λ (bs : List CallId). HasFault w 0 given bs e) calls (fault_of_end w last 0 given told e leads (h k)))
+
+pub wants_last : (w last : World) (steps given : List Step) → given ≡ steps → fold w given ≡ Some last → 0 < listed (outcome last) → WantsMemory w steps last
+wants_last w last steps given same leads some = subst (λ (xs : List Step). WantsMemory w xs last) same (wants_at_end w last given leads some)

@@ -1,8 +1,10 @@
 -- Where the steps of a witness stop.
-use Rattle.std.specs.Prelude.{◌≡◌, ℕ, suc, List, take, None, IsSome}
+use Rattle.std.specs.Prelude.{◌≡◌, ◌<◌, ℕ, suc, List, take, slice_get, Option, None, Some, IsSome}
 use Rattle.mpd_model.specs.declared.step.Step.{Step}
 use Rattle.mpd_model.specs.World.{World}
-use Rattle.mpd_model.specs.Next.{fold}
+use Rattle.mpd_model.specs.Next.{next, fold}
+use Rattle.mpd_model.specs.Outcomes.{outcome}
+use Rattle.mpd_core.specs.Listed.{listed}
 use Rattle.mpd_explore.specs.declared.verify.WitnessFault.{WitnessFault}
 use Rattle.mpd_explore.specs.declared.verify.WitnessFault.TheVariants.{NoSuchStep}
 
@@ -12,3 +14,14 @@ pub record StopsAt (w : World) (steps : List Step) (e : WitnessFault) : Type 0 w
   pub is : e ≡ NoSuchStep place
   pub before : IsSome (fold w (take place steps))
   pub refused : fold w (take (suc place) steps) ≡ None
+
+-- what wants memory in a world: the step that is next, where it is enabled, or behind the last one what lists how the run has ended
+abbrev pub WantsNext : World → Option Step → Type 0
+WantsNext v (Some a) = IsSome (next v a)
+WantsNext v None = 0 < listed (outcome v)
+
+-- Where memory may be refused: so many steps were taken, which lead here, and what is next wants memory.
+pub record WantsMemory (w : World) (steps : List Step) (v : World) : Type 0 where
+  pub place : ℕ
+  pub before : fold w (take place steps) ≡ Some v
+  pub wants : WantsNext v (slice_get steps place)

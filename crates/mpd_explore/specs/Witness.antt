@@ -21,11 +21,15 @@ use Rattle.mpd_explore.specs.Search.{At}
 use Rattle.mpd_explore.specs.declared.verify.WitnessFault.{WitnessFault}
 use Rattle.mpd_explore.specs.declared.verify.WitnessFault.TheVariants.{NoSuchStep, NotStuck, WrongBlocked}
 
--- Its steps lead from the start to a deadlock, and what it says is blocked is what is blocked there.
-pub record IsWitness (s : Program) (mode : Mode) (x : Witness) : Type 0 where
+-- Its steps lead from here to a deadlock, and what it says is blocked is what is blocked there.
+pub record IsWitnessFrom (w : World) (x : Witness) : Type 0 where
   pub last : World
-  pub leads : fold (start s mode) x.steps ≡ Some last
+  pub leads : fold w x.steps ≡ Some last
   pub stuck : outcome last ≡ Some (Deadlock x.blocked)
+
+-- The same from the start of a script.
+abbrev pub IsWitness : Program → Mode → Witness → Type 0
+IsWitness s mode x = IsWitnessFrom (start s mode) x
 
 -- The first fault: a step that isn't enabled, with its place; else an end that is no deadlock; else another list.
 abbrev pub FaultAtEnd : Option Outcome → List CallId → WitnessFault → Type 0
@@ -51,6 +55,13 @@ WitnessBy s mode steps (Ended Done) = Unit {0}
 WitnessBy s mode steps (Ended (Leftovers calls)) = Unit {0}
 WitnessBy s mode steps (Ended (Trap ranks)) = Unit {0}
 WitnessBy s mode steps (Ended (Deadlock blocked)) = IsWitness s mode (record { steps = steps; blocked = blocked })
+
+abbrev pub IsDeadlock : Ending → Type 0
+IsDeadlock (Ended (Deadlock blocked)) = Unit {0}
+IsDeadlock (Ended Done) = ⊥
+IsDeadlock (Ended (Leftovers calls)) = ⊥
+IsDeadlock (Ended (Trap ranks)) = ⊥
+IsDeadlock Cut = ⊥
 
 -- Its choices tell one run from the state that some steps lead to, which ends as it says; where that is a deadlock, these steps and
 -- those of the run are a witness of it.

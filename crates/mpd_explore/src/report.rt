@@ -5,14 +5,14 @@ use mpd_model::outcome::{CallList, Outcome};
 use std::marker::Model;
 
 /// How many leaves are listed at most, and how many steps a run has at most.
-#[derive(Clone, Copy, Debug, PartialEq, Eq)]
+#[derive(Clone, Copy)]
 pub struct Limits {
     pub runs: usize,
     pub fuel: usize,
 }
 
 /// Numbers of candidates, from 0, one for each choice, in order; contracts see them as a list.
-#[derive(Debug, Drop)]
+#[derive(Drop)]
 pub struct ChoiceList {
     pub items: Vec<usize>,
 }
@@ -26,7 +26,7 @@ impl Model for ChoiceList {
 }
 
 /// How a run ends.
-#[derive(Debug, Drop)]
+#[derive(Drop)]
 pub enum Ending {
     /// No step is enabled, and this is what the state is.
     Ended(Outcome),
@@ -35,21 +35,21 @@ pub enum Ending {
 }
 
 /// A run: the candidates that it takes at its choices, and how it ends. Its steps follow from its choices, and are not kept.
-#[derive(Debug, Drop)]
+#[derive(Drop)]
 pub struct Leaf {
     pub choices: ChoiceList,
     pub ending: Ending,
 }
 
 /// The first leaves, in the order of their choices, and whether there are more.
-#[derive(Debug, Drop)]
+#[derive(Drop)]
 pub struct Report {
     pub leaves: Vec<Leaf>,
     pub more: bool,
 }
 
 /// Steps from the start that lead to a deadlock, and the calls that are blocked there, by rank.
-#[derive(Debug, Drop)]
+#[derive(Drop)]
 pub struct Witness {
     pub steps: StepList,
     pub blocked: CallList,

@@ -16,7 +16,7 @@ use mpd_trail::debugger::Debugger;
 use std::alloc::{AllocError, Global};
 
 /// A choice that is open: the depth where it is, its candidates, and the one that is taken.
-#[derive(Debug, Drop)]
+#[derive(Drop)]
 pub(crate) struct Open {
     pub(crate) depth: usize,
     pub(crate) candidates: StepList,
@@ -24,7 +24,7 @@ pub(crate) struct Open {
 }
 
 /// The depth where a search begins, and the one where its fuel ends.
-#[derive(Clone, Copy, Debug, PartialEq, Eq)]
+#[derive(Clone, Copy)]
 pub(crate) struct Bounds {
     pub(crate) base: usize,
     pub(crate) limit: usize,

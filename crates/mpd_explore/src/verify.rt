@@ -1,11 +1,12 @@
 //! Whether a witness is one. It uses the forward steps of a core alone: no trail, no decision and no undo.
 
-ghost use Rattle.std.specs.Prelude.{◌≡◌, ◌≢◌, ◌↔◌, IsTrue, IfOk, IfErr, OnOk, Some, None, codes};
+ghost use Rattle.std.specs.Prelude.{◌≡◌, ◌≢◌, ◌↔◌, ◌<◌, IsTrue, IfOk, IfErr, OnOk, OnErr, IsErrOf, IsSome, Some, None, codes};
 ghost use Rattle.mpd_model.specs.World.{start};
 ghost use Rattle.mpd_model.specs.Next.{next, fold};
 ghost use Rattle.mpd_model.specs.Outcomes.{outcome};
-ghost use Rattle.mpd_explore.specs.Stops.{StopsAt};
-ghost use Rattle.mpd_explore.specs.Witness.{IsWitness, HasFault, FaultAtEnd};
+ghost use Rattle.mpd_core.specs.Listed.{listed};
+ghost use Rattle.mpd_explore.specs.Stops.{StopsAt, WantsMemory};
+ghost use Rattle.mpd_explore.specs.Witness.{IsWitness, IsWitnessFrom, HasFault, FaultAtEnd};
 ghost use Rattle.mpd_explore.specs.Faults.{witness_fault_number, witness_fault_name};
 
 use crate::report::Witness;
@@ -68,10 +69,11 @@ fn is_same(a: &[CallId], b: &[CallId]) -> bool
     a == b
 }
 
-/// Whether a state is a deadlock in which these calls are blocked.
+/// Whether a state is a deadlock in which these calls are blocked. `Memory` comes only where how the run has ended lists something.
 fn check_end(alloc: Global, core: &Core<'_>, blocked: &[CallId]) -> Result<(), WitnessFault>
     ensures ok { OnOk result (outcome core.now.world ≡ Some (Outcome.Deadlock blocked.now)) }
     ensures fault { IfErr result (λ e. e ≢ WitnessFault.Memory → FaultAtEnd (outcome core.now.world) blocked.now e) }
+    ensures memory { IsErrOf result WitnessFault.Memory → 0 < listed (outcome core.now.world) }
 {
     let outcome = match core.outcome(alloc) {
         Ok(outcome) => outcome,
@@ -92,10 +94,12 @@ fn check_end(alloc: Global, core: &Core<'_>, blocked: &[CallId]) -> Result<(), W
     }
 }
 
-/// Takes the step of a witness that stands at this place.
+/// Takes the step of a witness that stands at this place. `Memory` comes only where the relation of steps has that step.
 fn take_step(core: &mut Core<'_>, step: Step, place: usize) -> Result<(), WitnessFault>
     ensures ok { OnOk result (next core.old.world step ≡ Some core.new.world) }
     ensures fault { IfErr result (λ e. e ≢ WitnessFault.Memory → (e ≡ WitnessFault.NoSuchStep place) × (next core.old.world step ≡ None)) }
+    ensures memory { IsErrOf result WitnessFault.Memory → IsSome (next core.old.world step) }
+    ensures err { OnErr result (core.new.world ≡ core.old.world) }
 {
     match core.apply(step) {
         Ok(_) => Ok(()),
@@ -108,6 +112,7 @@ fn take_step(core: &mut Core<'_>, step: Step, place: usize) -> Result<(), Witnes
 fn take_steps(core: &mut Core<'_>, steps: &[Step]) -> Result<(), WitnessFault>
     ensures ok { OnOk result (fold core.old.world steps.now ≡ Some core.new.world) }
     ensures fault { IfErr result (λ e. e ≢ WitnessFault.Memory → StopsAt core.old.world steps.now e) }
+    ensures memory { IsErrOf result WitnessFault.Memory → WantsMemory core.old.world steps.now core.new.world }
 {
     for place in 0..steps.len() {
         take_step(core, steps[place], place)?;
@@ -115,11 +120,17 @@ fn take_steps(core: &mut Core<'_>, steps: &[Step]) -> Result<(), WitnessFault>
     Ok(())
 }
 
-/// Takes the steps of a witness from where a core stands, and looks at the end.
-#[tactic(auto, using(crate::proofs::VerifyLemmas::verifying))]
-fn check_from(alloc: Global, core: &mut Core<'_>, witness: &Witness) -> Result<(), WitnessFault>
+/// The same as `verify`, from where a core stands, which is left where the steps have led. `Memory` comes only where the step that is
+/// next there is one that the relation of steps has, or where none is left and how the run has ended lists something.
+pub fn verify_from(
+    alloc: Global,
+    core: &mut Core<'_>,
+    witness: &Witness,
+) -> Result<(), WitnessFault>
     ensures ok { OnOk result ((fold core.old.world witness.now.steps ≡ Some core.new.world) × (outcome core.new.world ≡ Some (Outcome.Deadlock witness.now.blocked))) }
     ensures fault { IfErr result (λ e. e ≢ WitnessFault.Memory → HasFault core.old.world 0 witness.now.steps witness.now.blocked e) }
+    ensures accepted { IsWitnessFrom core.old.world witness.now → IfErr result (λ e. e ≡ WitnessFault.Memory) }
+    ensures memory { IsErrOf result WitnessFault.Memory → WantsMemory core.old.world witness.now.steps core.new.world }
 {
     take_steps(core, &witness.steps.items)?;
     check_end(alloc, core, &witness.blocked.items)
@@ -127,7 +138,7 @@ fn check_from(alloc: Global, core: &mut Core<'_>, witness: &Witness) -> Result<(
 
 /// Whether a witness is one (docs/DEFINITIONS.md, "Witnesses"): its steps are taken from the start, and none is taken back. It is
 /// refused for the first step that is not enabled where it stands (32), else where the end is no deadlock (33), else where other
-/// calls are blocked in it (34). `Memory` is that a growth was refused.
+/// calls are blocked in it (34). `Memory` is that a growth was refused, for the start or where `verify_from` says.
 pub fn verify(alloc: Global, code: &Code, mode: Mode, witness: &Witness) -> Result<(), WitnessFault>
     ensures ok { OnOk result (IsWitness code.now.program mode witness.now) }
     ensures fault { IfErr result (λ e. e ≢ WitnessFault.Memory → HasFault (start code.now.program mode) 0 witness.now.steps witness.now.blocked e) }
@@ -136,5 +147,5 @@ pub fn verify(alloc: Global, code: &Code, mode: Mode, witness: &Witness) -> Resu
     let Ok(mut core) = Core::start(alloc, code, mode) else {
         return Err(WitnessFault::Memory);
     };
-    check_from(alloc, &mut core, witness)
+    verify_from(alloc, &mut core, witness)
 }

@@ -11,7 +11,7 @@ pub trait Watch {
 }
 
 /// Tells nobody.
-#[derive(Clone, Copy, Debug)]
+#[derive(Clone, Copy)]
 pub struct Unwatched;
 
 impl Watch for Unwatched {

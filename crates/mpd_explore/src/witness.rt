@@ -1,13 +1,13 @@
 //! The witness of a leaf: its run is made again, along its choices.
 
-ghost use Rattle.std.specs.Prelude.{◌≡◌, ◌+◌, ◌≤◌, ◌<◌, ◌++◌, [], IfOk, OnOk, IsSome, Some, length};
+ghost use Rattle.std.specs.Prelude.{◌≡◌, ◌+◌, ◌≤◌, ◌<◌, ◌++◌, [], IfOk, OnOk, OnErr, IsSome, Some, length};
 ghost use Rattle.mpd_model.specs.Trail.{kept, IsReached};
 ghost use Rattle.mpd_trail.specs.Run.{first_of};
 ghost use Rattle.mpd_trail.specs.Views.{standing_of};
 ghost use Rattle.mpd_explore.specs.Walk.{run_at, steps_by};
 ghost use Rattle.mpd_explore.specs.Search.{AllEnabled, At, Safe};
 ghost use Rattle.mpd_model.specs.Decisions.{decision};
-ghost use Rattle.mpd_explore.specs.Witness.{ahead, Follows, witness_by};
+ghost use Rattle.mpd_explore.specs.Witness.{ahead, Follows, witness_by, IsDeadlock};
 
 use crate::explore::put_back;
 use crate::report::{Ending, Leaf, Witness};
@@ -126,7 +126,7 @@ fn retrace(
 
 /// The witness of a leaf that `explore` listed, where that is a deadlock: the steps of its run, made again from where the debugger
 /// stands, behind those that led here. The fuel is the one of that exploration. The debugger is left as found, also where memory
-/// is refused, which is what an `Err` says.
+/// is refused, which is what an `Err` says; that comes only where the leaf is a deadlock.
 pub fn witness_of(
     alloc: Global,
     debugger: &mut Debugger<'_>,
@@ -140,6 +140,7 @@ pub fn witness_of(
     ensures trail { debugger.new.trail ≡ debugger.old.trail }
     ensures world { debugger.new.world ≡ debugger.old.world }
     ensures reached { IsReached (standing_of debugger.new) }
+    ensures memory { OnErr result (IsDeadlock leaf.now.ending) }
 {
     let _ = debugger.core();
     let Ending::Ended(Outcome::Deadlock(calls)) = &leaf.ending else {

@@ -1,7 +1,7 @@
 mod CallsInOrder
 mod Counted
 mod Cuts
-mod Eligible
+pub mod Eligible
 mod Ends
 mod EnoughBlocks
 mod GoodSpots
@@ -25,7 +25,7 @@ mod Signs
 mod Sound
 mod SoundParts
 mod SoundStatements
-mod Splits
+pub mod Splits
 pub mod Cells
 pub mod Complete
 pub mod CompleteParts

@@ -5,7 +5,7 @@ use Rattle.mpd_device.specs.declared.device.DeviceFault.{DeviceFault}
 use Rattle.mpd_lines.specs.Forward.{ended_from, part_from}
 use Rattle.mpd_lines.specs.Gathering.{Gathers, Gathered, Relieved, Written, Fed}
 use Rattle.mpd_lines.proofs.SentLaws.{appends_none, appends_append}
-use Rattle.mpd_lines.proofs.TellingLaws.{says_append, says_one}
+use Rattle.mpd_lines.proofs.TellingLaws.{says_append, says_one, breaks_one, breaks_behind, breaks_before, breaks_along}
 use Rattle.mpd_lines.proofs.ForwardLaws.{ended_append, part_append}
 
 pub relieve_none : (bytes : List ℕ) (w : SinkSeen) → Relieved bytes w w bytes (Ok _)
@@ -31,32 +31,31 @@ gathers_append A d m e ls ks w0 w1 w2 o0 o1 o2 a b = (
 )
 
 -- one line was answered, and what waits was written where it was much
-pub gathered_one : {D : Type 0} (A : D → List ℕ → List ℕ → D → Type 0) (d e : D) (l before out after : List ℕ) (v w : SinkSeen) (r : Result (Unit {0}) DeviceFault)
-    → ((text : List ℕ) × (out ≡ before ++ text) × A d l text e) → Relieved out v w after r → Gathered A d (l ∷ []) v before w after e r
-gathered_one A d e l before out after v w (Ok u) said h = ((said.0, h.0, h.1 ∙ said.1, h.2, says_one A d e l said.0 said.2), h.3)
-gathered_one A d e l before out after v w (Err f) said h =
-    ((l ∷ [], [], e, h.0.1, refl, (said.0, h.0.0, h.0.2 ∙ said.1, h.0.3, says_one A d e l said.0 said.2)), h.1)
+pub gathered_one : {D : Type 0} (A : D → List ℕ → List ℕ → D → Type 0) (below : ℕ) (d e : D) (l before out after : List ℕ) (v w : SinkSeen) (r : Result (Unit {0}) DeviceFault)
+    → length before < below → ((text : List ℕ) × (out ≡ before ++ text) × A d l text e) → Relieved out v w after r → length after < below → Gathered A below d (l ∷ []) v before w after e r
+gathered_one A below d e l before out after v w (Ok u) some said h few = ((said.0, h.0, h.1 ∙ said.1, h.2, says_one A d e l said.0 said.2), h.3, few)
+gathered_one A below d e l before out after v w (Err f) some said h few = (breaks_one A below d e l before said.0 out v.contents w.contents some said.1 said.2 h.0, h.1)
 
-pub gathered_long : {D : Type 0} (A : D → List ℕ → List ℕ → D → Type 0) (d e : D) (before out after : List ℕ) (v w : SinkSeen) (r : Result (Unit {0}) DeviceFault)
-    → ((text : List ℕ) × (out ≡ before ++ text) × ((line : List ℕ) → 4096 < length line → A d line text e)) → Relieved out v w after r
-    → (line : List ℕ) → 4096 < length line → Gathered A d (line ∷ []) v before w after e r
-gathered_long A d e before out after v w r said h line lt = gathered_one A d e line before out after v w r (said.0, said.1, said.2 line lt) h
+pub gathered_long : {D : Type 0} (A : D → List ℕ → List ℕ → D → Type 0) (below : ℕ) (d e : D) (before out after : List ℕ) (v w : SinkSeen) (r : Result (Unit {0}) DeviceFault)
+    → length before < below → ((text : List ℕ) × (out ≡ before ++ text) × ((line : List ℕ) → 4096 < length line → A d line text e)) → Relieved out v w after r → length after < below
+    → (line : List ℕ) → 4096 < length line → Gathered A below d (line ∷ []) v before w after e r
+gathered_long A below d e before out after v w r some said h few line lt = gathered_one A below d e line before out after v w r some (said.0, said.1, said.2 line lt) h few
 
 -- no line was to be answered
-pub gathered_none : {D : Type 0} (A : D → List ℕ → List ℕ → D → Type 0) (d : D) (w : SinkSeen) (out : List ℕ) → Gathered A d [] w out w out d (Ok _)
-gathered_none A d w out = (gathers_none A d w.contents out, refl)
+pub gathered_none : {D : Type 0} (A : D → List ℕ → List ℕ → D → Type 0) (below : ℕ) (d : D) (w : SinkSeen) (out : List ℕ) → length out < below → Gathered A below d [] w out w out d (Ok _)
+gathered_none A below d w out few = (gathers_none A d w.contents out, refl, few)
 
 pub ruleset gathering = (gathered_one, gathered_long, gathered_none)
 
 -- before the first byte of a piece
-pub fed_none : {D : Type 0} (A : D → List ℕ → List ℕ → D → Type 0) (d : D) (p z : List ℕ) (w : SinkSeen) (out : List ℕ) → Fed A d p z w out w out d p z
-fed_none A d p z w out = record { lines = []; ended = refl; part = refl; gathered = gathers_none A d w.contents out; failures = refl }
+pub fed_none : {D : Type 0} (A : D → List ℕ → List ℕ → D → Type 0) (below : ℕ) (d : D) (p z : List ℕ) (w : SinkSeen) (out : List ℕ) → length out < below → Fed A below d p z w out w out d p z
+fed_none A below d p z w out few = record { lines = []; ended = refl; part = refl; gathered = gathers_none A d w.contents out; failures = refl; few = few }
 
 -- one byte more was fed
-pub fed_more : {D : Type 0} (A : D → List ℕ → List ℕ → D → Type 0) (d m e : D) (p z q r rest left : List ℕ) (b : ℕ) (v0 v1 v2 : SinkSeen) (o0 o1 o2 : List ℕ)
-    → Fed A d p z v0 o0 v1 o1 m q rest → rest ≡ b ∷ left → r ≡ part_from q (b ∷ []) → Gathered A m (ended_from q (b ∷ [])) v1 o1 v2 o2 e (Ok _)
-    → Fed A d p z v0 o0 v2 o2 e r left
-fed_more A d m e p z q r rest left b v0 v1 v2 o0 o1 o2 f is part g = record {
+pub fed_more : {D : Type 0} (A : D → List ℕ → List ℕ → D → Type 0) (below : ℕ) (d m e : D) (p z q r rest left : List ℕ) (b : ℕ) (v0 v1 v2 : SinkSeen) (o0 o1 o2 : List ℕ)
+    → Fed A below d p z v0 o0 v1 o1 m q rest → rest ≡ b ∷ left → r ≡ part_from q (b ∷ []) → Gathered A below m (ended_from q (b ∷ [])) v1 o1 v2 o2 e (Ok _)
+    → Fed A below d p z v0 o0 v2 o2 e r left
+fed_more A below d m e p z q r rest left b v0 v1 v2 o0 o1 o2 f is part g = record {
   lines = f.lines ++ ended_from q (b ∷ []);
   ended = append_assoc f.lines (ended_from q (b ∷ [])) (ended_from r left)
       ∙ ap (λ x. f.lines ++ x) (ap (λ x. ended_from q (b ∷ []) ++ ended_from x left) part ∙ sym (ended_append q (b ∷ []) left) ∙ ap (λ x. ended_from q x) (sym is))
@@ -64,35 +63,30 @@ fed_more A d m e p z q r rest left b v0 v1 v2 o0 o1 o2 f is part g = record {
   part = ap (λ x. part_from x left) part ∙ sym (part_append q (b ∷ []) left) ∙ ap (λ x. part_from q x) (sym is) ∙ f.part;
   gathered = gathers_append A d m e f.lines (ended_from q (b ∷ [])) v0.contents v1.contents v2.contents o0 o1 o2 f.gathered g.0;
   failures = g.1 ∙ f.failures;
+  few = g.2;
 }
 
 -- a write failed at this byte
-pub fed_loses : {D : Type 0} (A : D → List ℕ → List ℕ → D → Type 0) (d m e : D) (p z q rest left : List ℕ) (b : ℕ) (v0 v1 v2 : SinkSeen) (o0 o1 o2 : List ℕ) (fault : DeviceFault)
-    → Fed A d p z v0 o0 v1 o1 m q rest → rest ≡ b ∷ left → Gathered A m (ended_from q (b ∷ [])) v1 o1 v2 o2 e (Err fault)
-    → Gathered A d (ended_from p z) v0 o0 v2 o2 e (Err fault)
-fed_loses A d m e p z q rest left b v0 v1 v2 o0 o1 o2 fault f is g =
-    let l = g.0 in
-    let next : l.0 ++ (l.1 ++ ended_from (part_from q (b ∷ [])) left) ≡ ended_from q rest =
-    sym (append_assoc l.0 l.1 (ended_from (part_from q (b ∷ [])) left)) ∙ ap (λ x. x ++ ended_from (part_from q (b ∷ [])) left) l.4
-    ∙ sym (ended_append q (b ∷ []) left) ∙ ap (λ x. ended_from q x) (sym is) in (
-      (
-        f.lines ++ l.0,
-        l.1 ++ ended_from (part_from q (b ∷ [])) left,
-        l.2,
-        l.3,
-        append_assoc f.lines l.0 (l.1 ++ ended_from (part_from q (b ∷ [])) left) ∙ ap (λ x. f.lines ++ x) next ∙ f.ended,
-        gathers_append A d m l.2 f.lines l.0 v0.contents v1.contents v2.contents o0 o1 l.3 f.gathered l.5,
-      ),
+pub fed_breaks : {D : Type 0} (A : D → List ℕ → List ℕ → D → Type 0) (below : ℕ) (d m e : D) (p z q rest left : List ℕ) (b : ℕ) (v0 v1 v2 : SinkSeen) (o0 o1 o2 : List ℕ) (fault : DeviceFault)
+    → Fed A below d p z v0 o0 v1 o1 m q rest → rest ≡ b ∷ left → Gathered A below m (ended_from q (b ∷ [])) v1 o1 v2 o2 e (Err fault)
+    → Gathered A below d (ended_from p z) v0 o0 v2 o2 e (Err fault)
+fed_breaks A below d m e p z q rest left b v0 v1 v2 o0 o1 o2 fault f is g =
+    let more = ended_from (part_from q (b ∷ [])) left in
+    let next : ended_from q (b ∷ []) ++ more ≡ ended_from q rest = sym (ended_append q (b ∷ []) left) ∙ ap (λ x. ended_from q x) (sym is) in
+    let all : f.lines ++ (ended_from q (b ∷ []) ++ more) ≡ ended_from p z = ap (λ x. f.lines ++ x) next ∙ f.ended in (
+      breaks_along A below d e (f.lines ++ (ended_from q (b ∷ []) ++ more)) (ended_from p z) v0.contents v2.contents o0 o0 all refl
+          (breaks_behind A below d m e f.lines (ended_from q (b ∷ []) ++ more) v0.contents v1.contents v2.contents o0 o1 f.gathered
+          (breaks_before A below m e (ended_from q (b ∷ [])) more v1.contents v2.contents o1 g.0)),
       g.1 ∙ ap (λ n. n + 1) f.failures,
     )
 
 -- all of the piece was fed
-pub fed_all : {D : Type 0} (A : D → List ℕ → List ℕ → D → Type 0) (d e : D) (p z q rest : List ℕ) (v w : SinkSeen) (o0 o1 : List ℕ)
-    → Fed A d p z v o0 w o1 e q rest → rest ≡ [] → Gathered A d (ended_from p z) v o0 w o1 e (Ok _)
-fed_all {D} A d e p z q rest v w o0 o1 f none =
+pub fed_all : {D : Type 0} (A : D → List ℕ → List ℕ → D → Type 0) (below : ℕ) (d e : D) (p z q rest : List ℕ) (v w : SinkSeen) (o0 o1 : List ℕ)
+    → Fed A below d p z v o0 w o1 e q rest → rest ≡ [] → Gathered A below d (ended_from p z) v o0 w o1 e (Ok _)
+fed_all {D} A below d e p z q rest v w o0 o1 f none =
     let lines : f.lines ≡ ended_from p z = sym (append-nil f.lines) ∙ ap (λ x. f.lines ++ ended_from q x) (sym none) ∙ f.ended in
     let P : List (List ℕ) → Type 0 = λ x. Gathers A d x v.contents o0 w.contents o1 e in
-    (subst P lines f.gathered, f.failures)
+    (subst P lines f.gathered, f.failures, f.few)
 
 pub drop_next : (xs : List ℕ) (i : ℕ) → i < length xs → drop i xs ≡ get_or xs i 0 ∷ drop (i + 1) xs
 drop_next xs i lt = drop-cons xs i 0 lt ∙ ap (λ n. get_or xs i 0 ∷ drop n xs) (sym (add-one i))

@@ -1,6 +1,7 @@
 -- What a desk says, line after line.
-use Rattle.std.proofs.Common.{◌≡◌, ℕ, List, [], ◌∷◌, ◌++◌, Option, refl, ap, sym, subst, ◌∙◌, append_assoc, append-nil}
-use Rattle.mpd_lines.specs.Telling.{SaysInTurn, Tells, TellsPart}
+use Rattle.std.proofs.Common.{◌≡◌, ℕ, ◌+◌, ◌<◌, List, [], ◌∷◌, ◌++◌, length, length-append, arith, Option, refl, ap, sym, subst, ◌∙◌, append_assoc, append-nil}
+use Rattle.mpd_lines.specs.Telling.{SaysInTurn, Tells, TellsPart, BreaksOff, AppendsPart}
+use Rattle.mpd_lines.specs.Gathering.{Gathers}
 use Rattle.mpd_lines.proofs.SentLaws.{appends_none, appends_append}
 
 pub says_append : {D : Type 0} (A : D → List ℕ → List ℕ → D → Type 0) (d m e : D) (ls ks : List (List ℕ)) (t u : List ℕ)
@@ -29,20 +30,114 @@ pub tells_along : {D : Type 0} (A : D → List ℕ → List ℕ → D → Type 0
     → ls ≡ ks → Tells A d ls w0 w1 e → Tells A d ks w0 w1 e
 tells_along {D} A d e ls ks w0 w1 is t = let P : List (List ℕ) → Type 0 = λ x. Tells A d x w0 w1 e in subst P is t
 
--- what was told, and then a part of what follows
-pub part_append : {D : Type 0} (A : D → List ℕ → List ℕ → D → Type 0) (d m : D) (ls ks : List (List ℕ)) (w0 w1 w2 : Option (List ℕ))
-    → Tells A d ls w0 w1 m → TellsPart A m ks w1 w2 → TellsPart A d (ls ++ ks) w0 w2
-part_append A d m ls ks w0 w1 w2 t u = (
-  ls ++ u.0,
-  u.1,
-  u.2,
-  t.0 ++ u.3,
-  u.4,
-  append_assoc ls u.0 u.1 ∙ ap (λ x. ls ++ x) u.5,
-  appends_append w0 w1 w2 t.0 u.3 t.1 u.6,
-  says_along A d u.2 (ls ++ u.0) (t.0 ++ (u.3 ++ u.4)) ((t.0 ++ u.3) ++ u.4) (sym (append_assoc t.0 u.3 u.4)) (says_append A d m u.2 ls u.0 t.0 (u.3 ++ u.4) t.2 u.7),
-)
+-- ---- where a write failed
 
-pub part_along : {D : Type 0} (A : D → List ℕ → List ℕ → D → Type 0) (d : D) (ls ks : List (List ℕ)) (w0 w1 : Option (List ℕ))
-    → ls ≡ ks → TellsPart A d ls w0 w1 → TellsPart A d ks w0 w1
-part_along {D} A d ls ks w0 w1 is t = let P : List (List ℕ) → Type 0 = λ x. TellsPart A d x w0 w1 in subst P is t
+-- nothing was asked, and a part of what waited was written
+pub breaks_none : {D : Type 0} (A : D → List ℕ → List ℕ → D → Type 0) (below : ℕ) (d : D) (w0 w1 : Option (List ℕ)) (out : List ℕ)
+    → length out < below → AppendsPart w0 w1 out → BreaksOff A below d [] w0 out w1 d
+breaks_none A below d w0 w1 out few h = record {
+  earlier = [];
+  last = [];
+  others = [];
+  asked = refl;
+  one = omega arith;
+  between = d;
+  said = [];
+  answer = [];
+  told = (refl, refl);
+  answered = (refl, refl);
+  written = h.0;
+  unwritten = h.1;
+  whole = h.2 ∙ sym (append-nil out);
+  appends = h.3;
+  late = (let same = ap length (append-nil out) in omega (arith, few, same));
+}
+
+-- one line was asked, and a part of what waited with its answer was written
+pub breaks_one : {D : Type 0} (A : D → List ℕ → List ℕ → D → Type 0) (below : ℕ) (d e : D) (l before text out : List ℕ) (w0 w1 : Option (List ℕ))
+    → length before < below → out ≡ before ++ text → A d l text e → AppendsPart w0 w1 out → BreaksOff A below d (l ∷ []) w0 before w1 e
+breaks_one A below d e l before text out w0 w1 few is said h = record {
+  earlier = [];
+  last = l ∷ [];
+  others = [];
+  asked = refl;
+  one = omega arith;
+  between = d;
+  said = [];
+  answer = text;
+  told = (refl, refl);
+  answered = says_one A d e l text said;
+  written = h.0;
+  unwritten = h.1;
+  whole = h.2 ∙ is;
+  appends = h.3;
+  late = (let same = ap length (append-nil before) in omega (arith, few, same));
+}
+
+-- what was gathered before, and then a write failed
+pub breaks_behind : {D : Type 0} (A : D → List ℕ → List ℕ → D → Type 0) (below : ℕ) (d m e : D) (ls ks : List (List ℕ)) (w0 w1 w2 : Option (List ℕ)) (o0 o1 : List ℕ)
+    → Gathers A d ls w0 o0 w1 o1 m → BreaksOff A below m ks w1 o1 w2 e → BreaksOff A below d (ls ++ ks) w0 o0 w2 e
+breaks_behind A below d m e ls ks w0 w1 w2 o0 o1 a b = record {
+  earlier = ls ++ b.earlier;
+  last = b.last;
+  others = b.others;
+  asked = append_assoc ls b.earlier (b.last ++ b.others) ∙ ap (λ x. ls ++ x) b.asked;
+  one = b.one;
+  between = b.between;
+  said = a.0 ++ b.said;
+  answer = b.answer;
+  told = says_append A d m b.between ls b.earlier a.0 b.said a.4 b.told;
+  answered = b.answered;
+  written = a.1 ++ b.written;
+  unwritten = b.unwritten;
+  whole = append_assoc a.1 b.written b.unwritten ∙ ap (λ x. a.1 ++ x) b.whole ∙ sym (append_assoc a.1 o1 (b.said ++ b.answer)) ∙ ap (λ x. x ++ (b.said ++ b.answer)) a.2
+      ∙ append_assoc o0 a.0 (b.said ++ b.answer) ∙ ap (λ x. o0 ++ x) (sym (append_assoc a.0 b.said b.answer));
+  appends = appends_append w0 w1 w2 a.1 b.written a.3 b.appends;
+  late = (let late = b.late in let same = ap length a.2 in
+      omega (arith, late, same, length-append a.1 o1, length-append o0 a.0, length-append o1 b.said, length-append o0 (a.0 ++ b.said), length-append a.0 b.said, length-append a.1 b.written));
+}
+
+-- lines that were not asked any more
+pub breaks_before : {D : Type 0} (A : D → List ℕ → List ℕ → D → Type 0) (below : ℕ) (d e : D) (ls ks : List (List ℕ)) (w0 w1 : Option (List ℕ)) (out : List ℕ)
+    → BreaksOff A below d ls w0 out w1 e → BreaksOff A below d (ls ++ ks) w0 out w1 e
+breaks_before A below d e ls ks w0 w1 out b = record {
+  earlier = b.earlier;
+  last = b.last;
+  others = b.others ++ ks;
+  asked = ap (λ x. b.earlier ++ x) (sym (append_assoc b.last b.others ks)) ∙ sym (append_assoc b.earlier (b.last ++ b.others) ks) ∙ ap (λ x. x ++ ks) b.asked;
+  one = b.one;
+  between = b.between;
+  said = b.said;
+  answer = b.answer;
+  told = b.told;
+  answered = b.answered;
+  written = b.written;
+  unwritten = b.unwritten;
+  whole = b.whole;
+  appends = b.appends;
+  late = b.late;
+}
+
+pub breaks_along : {D : Type 0} (A : D → List ℕ → List ℕ → D → Type 0) (below : ℕ) (d e : D) (ls ks : List (List ℕ)) (w0 w1 : Option (List ℕ)) (o0 o1 : List ℕ)
+    → ls ≡ ks → o0 ≡ o1 → BreaksOff A below d ls w0 o0 w1 e → BreaksOff A below d ks w0 o1 w1 e
+breaks_along A below d e ls ks w0 w1 o0 o1 is out b =
+    subst (λ x. BreaksOff A below d ks w0 x w1 e) out (subst (λ (x : List (List ℕ)). BreaksOff A below d x w0 o0 w1 e) is b)
+
+-- what was told, and then a write failed
+pub breaks_told : {D : Type 0} (A : D → List ℕ → List ℕ → D → Type 0) (below : ℕ) (d m e : D) (ls ks : List (List ℕ)) (w0 w1 w2 : Option (List ℕ))
+    → Tells A d ls w0 w1 m → BreaksOff A below m ks w1 [] w2 e → BreaksOff A below d (ls ++ ks) w0 [] w2 e
+breaks_told A below d m e ls ks w0 w1 w2 t b = breaks_behind A below d m e ls ks w0 w1 w2 [] [] (t.0, t.0, append-nil t.0, t.1, t.2) b
+
+-- a part of the answers was written
+pub breaks_part : {D : Type 0} (A : D → List ℕ → List ℕ → D → Type 0) (below : ℕ) (d e : D) (ls : List (List ℕ)) (w0 w1 : Option (List ℕ))
+    → BreaksOff A below d ls w0 [] w1 e → TellsPart A d ls w0 w1
+breaks_part A below d e ls w0 w1 b = (
+  b.earlier ++ b.last,
+  b.others,
+  e,
+  b.written,
+  b.unwritten,
+  append_assoc b.earlier b.last b.others ∙ b.asked,
+  b.appends,
+  says_along A d e (b.earlier ++ b.last) (b.said ++ b.answer) (b.written ++ b.unwritten) (sym b.whole) (says_append A d b.between e b.earlier b.last b.said b.answer b.told b.answered),
+)

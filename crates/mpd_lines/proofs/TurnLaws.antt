@@ -1,5 +1,5 @@
 -- Turns, one after another.
-use Rattle.std.proofs.Common.{◌≡◌, ℕ, zero, suc, ◌+◌, ◌<◌, List, [], ◌++◌, length, Option, Some, None, Result, Ok, Err, refl, ap, sym, subst, ◌∙◌, append_assoc, append-nil, length-append, arith, inl, inr}
+use Rattle.std.proofs.Common.{◌≡◌, ℕ, zero, suc, ◌+◌, ◌*◌, ◌<◌, ◌≤◌, List, [], ◌++◌, length, Option, Some, None, Result, Ok, Err, refl, ap, sym, subst, ◌∙◌, append_assoc, append-nil, length-append, arith, inl, inr}
 use Rattle.std.specs.Io.KnownBytes.{Consumes, IsAtEnd, Keeps}
 use Rattle.mpd_model.specs.Lines.{lines_of, ended_lines}
 use Rattle.mpd_device.specs.Seen.{SourceSeen, SinkSeen}
@@ -15,7 +15,7 @@ use Rattle.mpd_lines.specs.declared.engine.EngineFault.{EngineFault}
 use Rattle.mpd_lines.specs.declared.engine.EngineFault.TheVariants.{ReadFailed, WriteFailed, TooManyTurns, Memory}
 use Rattle.mpd_lines.specs.declared.engine.Turn.{Turn}
 use Rattle.mpd_lines.specs.declared.engine.Turn.TheVariants.{More, End}
-use Rattle.mpd_lines.proofs.TellingLaws.{tells_append, tells_along, part_append as tells_part_append, part_along}
+use Rattle.mpd_lines.proofs.TellingLaws.{tells_append, tells_along, breaks_told, breaks_along}
 use Rattle.mpd_lines.proofs.ForwardLaws.{ended_append, part_append, all_lines, whole_lines}
 
 consumes_none : (s : Option (List ℕ)) → Consumes s s []
@@ -50,25 +50,25 @@ ends_one : (n before after : ℕ) → after ≡ before + ends_of {E = DeviceFaul
 ends_one zero before after e h = e
 ends_one (suc n) before after e h = absurd (omega (arith, h))
 
-pub turned_more : {D : Type 0} (A : D → List ℕ → List ℕ → D → Type 0) (d e : D) (p q piece front : List ℕ) (n : ℕ) (s t : SourceSeen) (v w : SinkSeen)
-    → Consumes s.remaining t.remaining front → piece ≡ front → 0 < length piece → t.ends ≡ s.ends + ends_of {E = DeviceFault} (Ok n) → (n ≡ 0 → ⊥) → q ≡ part_from p piece
-    → Spoken A d (ended_from p piece) v w e (Ok _) → Turned A d p s t v w e q (Ok More)
-turned_more A d e p q piece front n s t v w c is some ends not part told =
-    (piece, consumes_same s.remaining t.remaining piece front is c, some, ends_some n s.ends t.ends ends not, part, told.0)
+pub turned_more : {D : Type 0} (A : D → List ℕ → List ℕ → D → Type 0) (below : ℕ) (d e : D) (p q piece front : List ℕ) (n : ℕ) (s t : SourceSeen) (v w : SinkSeen)
+    → Consumes s.remaining t.remaining front → piece ≡ front → 0 < length piece → length piece ≤ 4096 → t.ends ≡ s.ends + ends_of {E = DeviceFault} (Ok n) → (n ≡ 0 → ⊥) → q ≡ part_from p piece
+    → Spoken A below d (ended_from p piece) v w e (Ok _) → Turned A below d p s t v w e q (Ok More)
+turned_more A below d e p q piece front n s t v w c is some few ends not part told =
+    (piece, consumes_same s.remaining t.remaining piece front is c, some, ends_some n s.ends t.ends ends not, part, told.0, few)
 
-pub turned_end : {D : Type 0} (A : D → List ℕ → List ℕ → D → Type 0) (d e : D) (p q front : List ℕ) (n : ℕ) (s t : SourceSeen) (v w : SinkSeen)
+pub turned_end : {D : Type 0} (A : D → List ℕ → List ℕ → D → Type 0) (below : ℕ) (d e : D) (p q front : List ℕ) (n : ℕ) (s t : SourceSeen) (v w : SinkSeen)
     → Consumes s.remaining t.remaining front → [] ≡ front → IsAtEnd t.remaining → t.ends ≡ s.ends + ends_of {E = DeviceFault} (Ok n) → n ≡ 0
-    → Spoken A d (last_line p) v w e (Ok _) → Turned A d p s t v w e q (Ok End)
-turned_end A d e p q front n s t v w c is end ends none told =
+    → Spoken A below d (last_line p) v w e (Ok _) → Turned A below d p s t v w e q (Ok End)
+turned_end A below d e p q front n s t v w c is end ends none told =
     (consumes_same s.remaining t.remaining [] front is c, end, ends_one n s.ends t.ends ends none, told.0)
 
-pub turned_lost : {D : Type 0} (A : D → List ℕ → List ℕ → D → Type 0) (d e : D) (p q piece front : List ℕ) (f : DeviceFault) (s t : SourceSeen) (v w : SinkSeen)
-    → Consumes s.remaining t.remaining front → piece ≡ front → Spoken A d (ended_from p piece) v w e (Err f) → Turned A d p s t v w e q (Err WriteFailed)
-turned_lost A d e p q piece front f s t v w c is told = inl (piece, consumes_same s.remaining t.remaining piece front is c, told.0)
+pub turned_lost : {D : Type 0} (A : D → List ℕ → List ℕ → D → Type 0) (below : ℕ) (d e : D) (p q piece front : List ℕ) (f : DeviceFault) (s t : SourceSeen) (v w : SinkSeen)
+    → Consumes s.remaining t.remaining front → piece ≡ front → length piece ≤ 4096 → Spoken A below d (ended_from p piece) v w e (Err f) → Turned A below d p s t v w e q (Err WriteFailed)
+turned_lost A below d e p q piece front f s t v w c is few told = inl (piece, consumes_same s.remaining t.remaining piece front is c, told.0, few)
 
-pub turned_lost_end : {D : Type 0} (A : D → List ℕ → List ℕ → D → Type 0) (d e : D) (p q front : List ℕ) (f : DeviceFault) (s t : SourceSeen) (v w : SinkSeen)
-    → Consumes s.remaining t.remaining front → [] ≡ front → IsAtEnd t.remaining → Spoken A d (last_line p) v w e (Err f) → Turned A d p s t v w e q (Err WriteFailed)
-turned_lost_end A d e p q front f s t v w c is end told = inr (consumes_same s.remaining t.remaining [] front is c, end, told.0)
+pub turned_lost_end : {D : Type 0} (A : D → List ℕ → List ℕ → D → Type 0) (below : ℕ) (d e : D) (p q front : List ℕ) (f : DeviceFault) (s t : SourceSeen) (v w : SinkSeen)
+    → Consumes s.remaining t.remaining front → [] ≡ front → IsAtEnd t.remaining → Spoken A below d (last_line p) v w e (Err f) → Turned A below d p s t v w e q (Err WriteFailed)
+turned_lost_end A below d e p q front f s t v w c is end told = inr (consumes_same s.remaining t.remaining [] front is c, end, told.0)
 
 -- ---- many turns
 
@@ -85,12 +85,13 @@ part_more before read q r piece is on =
 ended_last : (before read q : List ℕ) → q ≡ part_from [] (before ++ read) → ended_from [] (before ++ read) ++ last_line q ≡ lines_of (before ++ read)
 ended_last before read q is = ap (λ x. ended_from [] (before ++ read) ++ last_line x) is ∙ all_lines (before ++ read)
 
-pub so_far_none : {D : Type 0} (A : D → List ℕ → List ℕ → D → Type 0) (d e : D) (before p q : List ℕ) (s : SourceSeen) (v w : SinkSeen)
-    → p ≡ [] → Spoken A d (ended_from p before) v w e (Ok _) → q ≡ part_from p before → SoFar A d before 0 s s v w e q
-so_far_none {D} A d e before p q s v w none told part = record {
+pub so_far_none : {D : Type 0} (A : D → List ℕ → List ℕ → D → Type 0) (below : ℕ) (d e : D) (before p q : List ℕ) (s : SourceSeen) (v w : SinkSeen)
+    → p ≡ [] → Spoken A below d (ended_from p before) v w e (Ok _) → q ≡ part_from p before → SoFar A d before 0 s s v w e q
+so_far_none {D} A below d e before p q s v w none told part = record {
   read = [];
   consumed = consumes_none s.remaining;
   count = omega arith;
+  most = omega arith;
   part = part ∙ ap (λ x. part_from x before) none ∙ ap (λ x. part_from [] x) (sym (append-nil before));
   told = tells_along A d e (ended_from p before) (ended_from [] (before ++ [])) v.contents w.contents
       (ap (λ x. ended_from x before) none ∙ ap (λ x. ended_from [] x) (sym (append-nil before))) told.0;
@@ -100,12 +101,13 @@ so_far_none {D} A d e before p q s v w none told part = record {
   writes = told.1;
 }
 
-pub so_far_more : {D : Type 0} (A : D → List ℕ → List ℕ → D → Type 0) (d m e : D) (before p q : List ℕ) (n : ℕ) (s0 s1 s2 : SourceSeen) (v0 v1 v2 : SinkSeen)
-    → SoFar A d before n s0 s1 v0 v1 m p → Turned A m p s1 s2 v1 v2 e q (Ok More) → CountedOnce s1 s2 v1 v2 (Ok More) → SoFar A d before (n + 1) s0 s2 v0 v2 e q
-so_far_more A d m e before p q n s0 s1 s2 v0 v1 v2 f t c = record {
+pub so_far_more : {D : Type 0} (A : D → List ℕ → List ℕ → D → Type 0) (below : ℕ) (d m e : D) (before p q : List ℕ) (n : ℕ) (s0 s1 s2 : SourceSeen) (v0 v1 v2 : SinkSeen)
+    → SoFar A d before n s0 s1 v0 v1 m p → Turned A below m p s1 s2 v1 v2 e q (Ok More) → CountedOnce s1 s2 v1 v2 (Ok More) → SoFar A d before (n + 1) s0 s2 v0 v2 e q
+so_far_more A below d m e before p q n s0 s1 s2 v0 v1 v2 f t c = record {
   read = f.read ++ t.0;
   consumed = consumes_append s0.remaining s1.remaining s2.remaining f.read t.0 f.consumed t.1;
   count = (let le = f.count in let some = t.2 in omega (arith, le, some, length-append f.read t.0));
+  most = (let le = f.most in let few = t.6 in omega (arith, le, few, length-append f.read t.0));
   part = part_more before f.read p q t.0 f.part t.4;
   told = tells_along A d e (ended_from [] (before ++ f.read) ++ ended_from p t.0) (ended_from [] (before ++ (f.read ++ t.0))) v0.contents v2.contents
       (ended_more before f.read p t.0 f.part)
@@ -116,65 +118,71 @@ so_far_more A d m e before p q n s0 s1 s2 v0 v1 v2 f t c = record {
   writes = (let a = f.writes in let b = c.writes_failed in omega (arith, a, b));
 }
 
-pub served_end : {D : Type 0} (A : D → List ℕ → List ℕ → D → Type 0) (d m e : D) (before p q : List ℕ) (n turns : ℕ) (s0 s1 s2 : SourceSeen) (v0 v1 v2 : SinkSeen)
-    → SoFar A d before n s0 s1 v0 v1 m p → Turned A m p s1 s2 v1 v2 e q (Ok End) → Served A d before turns s0 s2 v0 v2 e (Ok _)
-served_end A d m e before p q n turns s0 s1 s2 v0 v1 v2 f t = (
+pub served_end : {D : Type 0} (A : D → List ℕ → List ℕ → D → Type 0) (below : ℕ) (d m e : D) (before p q : List ℕ) (n turns : ℕ) (s0 s1 s2 : SourceSeen) (v0 v1 v2 : SinkSeen)
+    → n < turns → SoFar A d before n s0 s1 v0 v1 m p → Turned A below m p s1 s2 v1 v2 e q (Ok End) → Served A below d before turns s0 s2 v0 v2 e (Ok _)
+served_end A below d m e before p q n turns s0 s1 s2 v0 v1 v2 lt f t = (
   f.read,
   consumes_end s0.remaining s1.remaining s2.remaining f.read f.consumed t.0,
   t.1,
   (let a = t.2 in let b = f.ends in omega (arith, a, b)),
   tells_along A d e (ended_from [] (before ++ f.read) ++ last_line p) (lines_of (before ++ f.read)) v0.contents v2.contents (ended_last before f.read p f.part)
       (tells_append A d m e (ended_from [] (before ++ f.read)) (last_line p) v0.contents v1.contents v2.contents f.told t.3),
+  (let le = f.most in omega (arith, le, lt)),
 )
 
-pub served_fault : {D : Type 0} (A : D → List ℕ → List ℕ → D → Type 0) (d m e : D) (before p q : List ℕ) (n turns : ℕ) (s0 s1 s2 : SourceSeen) (v0 v1 v2 : SinkSeen) (fault : EngineFault)
-    → SoFar A d before n s0 s1 v0 v1 m p → Turned A m p s1 s2 v1 v2 e q (Err fault) → Served A d before turns s0 s2 v0 v2 e (Err fault)
-served_fault {D} A d m e before p q n turns s0 s1 s2 v0 v1 v2 ReadFailed f t =
+pub served_fault : {D : Type 0} (A : D → List ℕ → List ℕ → D → Type 0) (below : ℕ) (d m e : D) (before p q : List ℕ) (n turns : ℕ) (s0 s1 s2 : SourceSeen) (v0 v1 v2 : SinkSeen) (fault : EngineFault)
+    → n < turns → SoFar A d before n s0 s1 v0 v1 m p → Turned A below m p s1 s2 v1 v2 e q (Err fault) → Served A below d before turns s0 s2 v0 v2 e (Err fault)
+served_fault {D} A below d m e before p q n turns s0 s1 s2 v0 v1 v2 ReadFailed lt f t =
     let P : D → Type 0 = λ x. Tells A d (ended_lines (before ++ f.read)) v0.contents v2.contents x in
     let Q : SinkSeen → Type 0 = λ x. Tells A d (ended_lines (before ++ f.read)) v0.contents x.contents m in (
       f.read,
       consumes_keeps s0.remaining s1.remaining s2.remaining f.read f.consumed t.0,
       t.1 ∙ f.ends,
       subst P (sym t.3) (subst Q (sym t.2) (tells_along A d m (ended_from [] (before ++ f.read)) (ended_lines (before ++ f.read)) v0.contents v1.contents (whole_lines (before ++ f.read)) f.told)),
+      (let le = f.most in omega (arith, le, lt)),
     )
-served_fault A d m e before p q n turns s0 s1 s2 v0 v1 v2 WriteFailed f (inl t) = (
+served_fault A below d m e before p q n turns s0 s1 s2 v0 v1 v2 WriteFailed lt f (inl t) = (
   f.read ++ t.0,
   consumes_append s0.remaining s1.remaining s2.remaining f.read t.0 f.consumed t.1,
-  inl (part_along A d (ended_from [] (before ++ f.read) ++ ended_from p t.0) (ended_lines (before ++ (f.read ++ t.0))) v0.contents v2.contents
-      (ended_more before f.read p t.0 f.part ∙ whole_lines (before ++ (f.read ++ t.0)))
-      (tells_part_append A d m (ended_from [] (before ++ f.read)) (ended_from p t.0) v0.contents v1.contents v2.contents f.told t.2)),
+  inl (breaks_along A below d e (ended_from [] (before ++ f.read) ++ ended_from p t.0) (ended_lines (before ++ (f.read ++ t.0))) v0.contents v2.contents [] []
+      (ended_more before f.read p t.0 f.part ∙ whole_lines (before ++ (f.read ++ t.0))) refl
+      (breaks_told A below d m e (ended_from [] (before ++ f.read)) (ended_from p t.0) v0.contents v1.contents v2.contents f.told t.2)),
+  (let le = f.most in let few = t.3 in omega (arith, le, few, lt, length-append f.read t.0)),
 )
-served_fault A d m e before p q n turns s0 s1 s2 v0 v1 v2 WriteFailed f (inr t) = (
+served_fault A below d m e before p q n turns s0 s1 s2 v0 v1 v2 WriteFailed lt f (inr t) = (
   f.read,
   consumes_end s0.remaining s1.remaining s2.remaining f.read f.consumed t.0,
   inr (
     t.1,
-    part_along A d (ended_from [] (before ++ f.read) ++ last_line p) (lines_of (before ++ f.read)) v0.contents v2.contents (ended_last before f.read p f.part)
-        (tells_part_append A d m (ended_from [] (before ++ f.read)) (last_line p) v0.contents v1.contents v2.contents f.told t.2),
+    breaks_along A below d e (ended_from [] (before ++ f.read) ++ last_line p) (lines_of (before ++ f.read)) v0.contents v2.contents [] [] (ended_last before f.read p f.part) refl
+        (breaks_told A below d m e (ended_from [] (before ++ f.read)) (last_line p) v0.contents v1.contents v2.contents f.told t.2),
   ),
+  (let le = f.most in omega (arith, le, lt)),
 )
-served_fault A d m e before p q n turns s0 s1 s2 v0 v1 v2 TooManyTurns f t = absurd t
-served_fault A d m e before p q n turns s0 s1 s2 v0 v1 v2 Memory f t = absurd t
+served_fault A below d m e before p q n turns s0 s1 s2 v0 v1 v2 TooManyTurns lt f t = absurd t
+served_fault A below d m e before p q n turns s0 s1 s2 v0 v1 v2 Memory lt f t = absurd t
 
 -- a write failed before the first read
-pub served_before : {D : Type 0} (A : D → List ℕ → List ℕ → D → Type 0) (d e : D) (before p : List ℕ) (turns : ℕ) (s : SourceSeen) (v w : SinkSeen) (f : DeviceFault)
-    → p ≡ [] → Spoken A d (ended_from p before) v w e (Err f) → Served A d before turns s s v w e (Err WriteFailed)
-served_before A d e before p turns s v w f none told = (
+pub served_before : {D : Type 0} (A : D → List ℕ → List ℕ → D → Type 0) (below : ℕ) (d e : D) (before p : List ℕ) (turns : ℕ) (s : SourceSeen) (v w : SinkSeen) (f : DeviceFault)
+    → p ≡ [] → Spoken A below d (ended_from p before) v w e (Err f) → Served A below d before turns s s v w e (Err WriteFailed)
+served_before A below d e before p turns s v w f none told = (
   [],
   consumes_none s.remaining,
-  inl (part_along A d (ended_from p before) (ended_lines (before ++ [])) v.contents w.contents
-      (ap (λ x. ended_from x before) none ∙ ap (λ x. ended_from [] x) (sym (append-nil before)) ∙ whole_lines (before ++ [])) told.0),
+  inl (breaks_along A below d e (ended_from p before) (ended_lines (before ++ [])) v.contents w.contents [] []
+      (ap (λ x. ended_from x before) none ∙ ap (λ x. ended_from [] x) (sym (append-nil before)) ∙ whole_lines (before ++ [])) refl told.0),
+  omega arith,
 )
 
-pub served_turns : {D : Type 0} (A : D → List ℕ → List ℕ → D → Type 0) (d e : D) (before q : List ℕ) (n turns : ℕ) (s t : SourceSeen) (v w : SinkSeen)
-    → SoFar A d before n s t v w e q → turns ≡ n → Served A d before turns s t v w e (Err TooManyTurns)
-served_turns A d e before q n turns s t v w f is = (
+pub served_turns : {D : Type 0} (A : D → List ℕ → List ℕ → D → Type 0) (below : ℕ) (d e : D) (before q : List ℕ) (n turns : ℕ) (s t : SourceSeen) (v w : SinkSeen)
+    → SoFar A d before n s t v w e q → turns ≡ n → Served A below d before turns s t v w e (Err TooManyTurns)
+served_turns A below d e before q n turns s t v w f is = (
   f.read,
   f.consumed,
   (let le = f.count in omega (arith, le, is)),
   (let a = f.calls in omega (arith, a, is)),
   f.ends,
   tells_along A d e (ended_from [] (before ++ f.read)) (ended_lines (before ++ f.read)) v.contents w.contents (whole_lines (before ++ f.read)) f.told,
+  (let le = f.most in omega (arith, le, is)),
 )
 
 -- the calls of so many turns, and of one more

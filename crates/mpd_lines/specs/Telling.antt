@@ -1,5 +1,5 @@
 -- What a desk says to lines, one after another, and how much of it was written.
-use Rattle.std.specs.Prelude.{◌≡◌, ℕ, List, [], ◌∷◌, ◌++◌, Option}
+use Rattle.std.specs.Prelude.{◌≡◌, ℕ, ◌+◌, ◌<◌, ◌≤◌, Bool, if◌then◌else◌, List, [], ◌∷◌, ◌++◌, length, Option}
 use Rattle.std.specs.Io.KnownBytes.{Appends}
 
 -- the desk d, asked these lines in their order, says this text and is e then
@@ -17,6 +17,30 @@ abbrev pub TellsPart : {D : Type 0} → (D → List ℕ → List ℕ → D → T
 TellsPart {D} says d ls old new =
     (first : List (List ℕ)) × (others : List (List ℕ)) × (e : D) × (text : List ℕ) × (unwritten : List ℕ)
     × (first ++ others ≡ ls) × Appends old new text × SaysInTurn says d first (text ++ unwritten) e
+
+-- fewer bytes of answers than these wait whenever a line is asked: so many where a desk's answers are gathered, else none at all
+abbrev pub waiting_below : Bool → ℕ
+waiting_below gathers = if gathers then 65536 else 1
+
+-- A write failed. The desk d was asked the first so many of these lines, and is e. Of the bytes that had waited before, and of its
+-- answers behind them, a first part was written, and nothing else. The last line stands apart: of what stood ahead of its answer
+-- fewer bytes than `below` are unwritten, so none where that is 1.
+pub record BreaksOff {D : Type 0} (says : D → List ℕ → List ℕ → D → Type 0) (below : ℕ) (d : D) (ls : List (List ℕ)) (old : Option (List ℕ)) (before : List ℕ) (new : Option (List ℕ)) (e : D) : Type 0 where
+  pub earlier : List (List ℕ)
+  pub last : List (List ℕ)
+  pub others : List (List ℕ)
+  pub asked : earlier ++ (last ++ others) ≡ ls
+  pub one : length last ≤ 1
+  pub between : D
+  pub said : List ℕ
+  pub answer : List ℕ
+  pub told : SaysInTurn says d earlier said between
+  pub answered : SaysInTurn says between last answer e
+  pub written : List ℕ
+  pub unwritten : List ℕ
+  pub whole : written ++ unwritten ≡ before ++ (said ++ answer)
+  pub appends : Appends old new written
+  pub late : length (before ++ said) < length written + below
 
 -- a part of these bytes was written, from their beginning on, and nothing else
 abbrev pub AppendsPart : Option (List ℕ) → Option (List ℕ) → List ℕ → Type 0

@@ -1,9 +1,9 @@
 -- What one read and the answers to it have brought, and many of them.
-use Rattle.std.specs.Prelude.{◌≡◌, ℕ, ◌+◌, ◌<◌, ◌≤◌, ◌⊎◌, List, [], ◌++◌, length, Result, Ok, Err}
+use Rattle.std.specs.Prelude.{◌≡◌, ℕ, ◌+◌, ◌*◌, ◌<◌, ◌≤◌, ◌⊎◌, List, [], ◌++◌, length, Result, Ok, Err}
 use Rattle.std.specs.Io.KnownBytes.{Consumes, IsAtEnd, Keeps}
 use Rattle.mpd_device.specs.Seen.{SourceSeen, SinkSeen}
 use Rattle.mpd_lines.specs.Forward.{ended_from, part_from, last_line}
-use Rattle.mpd_lines.specs.Telling.{Tells, TellsPart}
+use Rattle.mpd_lines.specs.Telling.{Tells, BreaksOff}
 use Rattle.mpd_lines.specs.FaultWords.{failed_reads, failed_writes}
 use Rattle.mpd_lines.specs.declared.engine.EngineFault.{EngineFault}
 use Rattle.mpd_lines.specs.declared.engine.EngineFault.TheVariants.{ReadFailed, WriteFailed, TooManyTurns, Memory}
@@ -11,18 +11,18 @@ use Rattle.mpd_lines.specs.declared.engine.Turn.{Turn}
 use Rattle.mpd_lines.specs.declared.engine.Turn.TheVariants.{More, End}
 
 -- One read, behind the part p of a line, which leaves the part q: when the turn is over, the answers to all lines that have ended are written.
-abbrev pub Turned : {D : Type 0} → (D → List ℕ → List ℕ → D → Type 0) → D → List ℕ → SourceSeen → SourceSeen → SinkSeen → SinkSeen → D → List ℕ → Result Turn EngineFault → Type 0
-Turned says d p s t v w e q (Ok More) =
+abbrev pub Turned : {D : Type 0} → (D → List ℕ → List ℕ → D → Type 0) → ℕ → D → List ℕ → SourceSeen → SourceSeen → SinkSeen → SinkSeen → D → List ℕ → Result Turn EngineFault → Type 0
+Turned says below d p s t v w e q (Ok More) =
     (piece : List ℕ) × Consumes s.remaining t.remaining piece × (0 < length piece) × (t.ends ≡ s.ends) × (q ≡ part_from p piece)
-    × Tells says d (ended_from p piece) v.contents w.contents e
-Turned says d p s t v w e q (Ok End) =
+    × Tells says d (ended_from p piece) v.contents w.contents e × (length piece ≤ 4096)
+Turned says below d p s t v w e q (Ok End) =
     Consumes s.remaining t.remaining [] × IsAtEnd t.remaining × (t.ends ≡ s.ends + 1) × Tells says d (last_line p) v.contents w.contents e
-Turned says d p s t v w e q (Err ReadFailed) = Keeps s.remaining t.remaining × (t.ends ≡ s.ends) × (w ≡ v) × (e ≡ d)
-Turned says d p s t v w e q (Err WriteFailed) =
-    ((piece : List ℕ) × Consumes s.remaining t.remaining piece × TellsPart says d (ended_from p piece) v.contents w.contents)
-    ⊎ (Consumes s.remaining t.remaining [] × IsAtEnd t.remaining × TellsPart says d (last_line p) v.contents w.contents)
-Turned says d p s t v w e q (Err TooManyTurns) = ⊥
-Turned says d p s t v w e q (Err Memory) = ⊥
+Turned says below d p s t v w e q (Err ReadFailed) = Keeps s.remaining t.remaining × (t.ends ≡ s.ends) × (w ≡ v) × (e ≡ d)
+Turned says below d p s t v w e q (Err WriteFailed) =
+    ((piece : List ℕ) × Consumes s.remaining t.remaining piece × BreaksOff says below d (ended_from p piece) v.contents [] w.contents e × (length piece ≤ 4096))
+    ⊎ (Consumes s.remaining t.remaining [] × IsAtEnd t.remaining × BreaksOff says below d (last_line p) v.contents [] w.contents e)
+Turned says below d p s t v w e q (Err TooManyTurns) = ⊥
+Turned says below d p s t v w e q (Err Memory) = ⊥
 
 -- one read was made, and so many calls failed
 pub record CountedOnce (s t : SourceSeen) (v w : SinkSeen) (result : Result Turn EngineFault) : Type 0 where
@@ -35,6 +35,7 @@ pub record SoFar {D : Type 0} (says : D → List ℕ → List ℕ → D → Type
   pub read : List ℕ
   pub consumed : Consumes s.remaining t.remaining read
   pub count : turn ≤ length read
+  pub most : length read ≤ 4096 * turn
   pub part : q ≡ part_from [] (before ++ read)
   pub told : Tells says d (ended_from [] (before ++ read)) v.contents w.contents e
   pub calls : t.calls ≡ s.calls + turn

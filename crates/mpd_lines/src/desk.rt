@@ -9,6 +9,15 @@ pub const ROOM: usize = 64;
 /// What answers lines. An answer that fits into the room takes no memory; where a longer one is refused memory, the desk
 /// says so in the room. So a line is always answered.
 pub trait LineDesk {
+    ghost use Rattle.std.specs.Prelude.{Bool};
+
+    /// Whether answers are gathered, up to 64 KiB of them, and written together; else each is written before the next line is asked.
+    ghost gathers: { Bool };
+
+    /// The same, told to the engine.
+    fn is_gathering(&self) -> bool
+        ensures { result ≡ gathers };
+
     /// The desk before, the line, the text of the answer, and the desk after.
     ghost says: { Self → List ℕ → List ℕ → Self → Type 0 };
 

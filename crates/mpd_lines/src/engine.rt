@@ -4,6 +4,7 @@ ghost use Rattle.mpd_lines.specs.FaultWords.{engine_fault_number, engine_fault_n
 ghost use Rattle.mpd_lines.specs.Forward.{ended_from, part_from, last_line};
 ghost use Rattle.mpd_lines.specs.Gathering.{Spoken};
 ghost use Rattle.mpd_lines.specs.Served.{Served, Counted};
+ghost use Rattle.mpd_lines.specs.Telling.{waiting_below};
 ghost use Rattle.mpd_lines.specs.Turned.{Turned, CountedOnce};
 
 use crate::desk::LineDesk;
@@ -61,7 +62,7 @@ impl EngineFault {
 }
 
 /// What one read has brought.
-#[derive(Clone, Copy, Debug)]
+#[derive(Clone, Copy)]
 enum Turn {
     /// Bytes.
     More,
@@ -79,7 +80,7 @@ fn tell<W: Sink, D: LineDesk>(
     piece: &[u8],
 ) -> Result<(), DeviceFault>
     requires { outbox.old ≡ [] }
-    ensures spoken { Spoken D.says desk.old (ended_from feeder.old piece.now) (W.seen sink.old) (W.seen sink.new) desk.new result }
+    ensures spoken { Spoken D.says (waiting_below D.gathers) desk.old (ended_from feeder.old piece.now) (W.seen sink.old) (W.seen sink.new) desk.new result }
     ensures part { OnOk result (feeder.new ≡ part_from feeder.old piece.now) }
     ensures none { OnOk result (outbox.new ≡ []) }
 {
@@ -96,7 +97,7 @@ fn tell_last<W: Sink, D: LineDesk>(
     sink: &mut W,
 ) -> Result<(), DeviceFault>
     requires { outbox.old ≡ [] }
-    ensures spoken { Spoken D.says desk.old (last_line feeder.old) (W.seen sink.old) (W.seen sink.new) desk.new result }
+    ensures spoken { Spoken D.says (waiting_below D.gathers) desk.old (last_line feeder.old) (W.seen sink.old) (W.seen sink.new) desk.new result }
     ensures none { OnOk result (outbox.new ≡ []) }
 {
     feeder.finish(desk, outbox, sink)?;
@@ -113,7 +114,7 @@ fn take_turn<S: Source, W: Sink, D: LineDesk>(
     sink: &mut W,
 ) -> Result<Turn, EngineFault>
     requires { outbox.old ≡ [] }
-    ensures turned { Turned D.says desk.old feeder.old (S.seen source.old) (S.seen source.new) (W.seen sink.old) (W.seen sink.new) desk.new feeder.new result }
+    ensures turned { Turned D.says (waiting_below D.gathers) desk.old feeder.old (S.seen source.old) (S.seen source.new) (W.seen sink.old) (W.seen sink.new) desk.new feeder.new result }
     ensures counted { CountedOnce (S.seen source.old) (S.seen source.new) (W.seen sink.old) (W.seen sink.new) result }
     ensures none { OnOk result (outbox.new ≡ []) }
 {
@@ -141,7 +142,7 @@ pub fn run<S: Source, W: Sink, D: LineDesk>(
     sink: &mut W,
     desk: &mut D,
 ) -> Result<(), EngineFault>
-    ensures served { Served D.says desk.old [] READS_MAX (S.seen source.old) (S.seen source.new) (W.seen sink.old) (W.seen sink.new) desk.new result }
+    ensures served { Served D.says (waiting_below D.gathers) desk.old [] READS_MAX (S.seen source.old) (S.seen source.new) (W.seen sink.old) (W.seen sink.new) desk.new result }
     ensures counted { Counted READS_MAX (failed_reads result) (failed_writes result) (S.seen source.old) (S.seen source.new) (W.seen sink.old) (W.seen sink.new) }
 {
     run_behind(alloc, source, sink, desk, &[], READS_MAX)
@@ -156,7 +157,7 @@ pub fn run_behind<S: Source, W: Sink, D: LineDesk>(
     before: &[u8],
     turns: usize,
 ) -> Result<(), EngineFault>
-    ensures served { Served D.says desk.old before.now turns (S.seen source.old) (S.seen source.new) (W.seen sink.old) (W.seen sink.new) desk.new result }
+    ensures served { Served D.says (waiting_below D.gathers) desk.old before.now turns (S.seen source.old) (S.seen source.new) (W.seen sink.old) (W.seen sink.new) desk.new result }
     ensures counted { Counted turns (failed_reads result) (failed_writes result) (S.seen source.old) (S.seen source.new) (W.seen sink.old) (W.seen sink.new) }
 {
     let Ok(feeder) = Feeder::new(alloc) else {
@@ -180,7 +181,7 @@ fn run_kept<S: Source, W: Sink, D: LineDesk>(
 ) -> Result<(), EngineFault>
     requires part { feeder ≡ [] }
     requires none { outbox ≡ [] }
-    ensures served { Served D.says desk.old before.now turns (S.seen source.old) (S.seen source.new) (W.seen sink.old) (W.seen sink.new) desk.new result }
+    ensures served { Served D.says (waiting_below D.gathers) desk.old before.now turns (S.seen source.old) (S.seen source.new) (W.seen sink.old) (W.seen sink.new) desk.new result }
     ensures counted { Counted turns (failed_reads result) (failed_writes result) (S.seen source.old) (S.seen source.new) (W.seen sink.old) (W.seen sink.new) }
 {
     match tell(&mut feeder, &mut outbox, desk, sink, before) {

@@ -2,6 +2,7 @@
 ghost use Rattle.std.specs.Prelude.{◌≡◌, ◌+◌, ◌<◌, ◌≤◌, [], ◌∷◌, ◌++◌, length, IfOk, OnOk};
 ghost use Rattle.mpd_model.specs.Lines.{bare};
 ghost use Rattle.mpd_lines.specs.Gathering.{Gathered};
+ghost use Rattle.mpd_lines.specs.Telling.{waiting_below};
 ghost use Rattle.mpd_lines.specs.Forward.{ended_from, part_from, last_line};
 
 use crate::desk::LineDesk;
@@ -53,7 +54,8 @@ impl Feeder {
         outbox: &mut Outbox,
         sink: &mut W,
     ) -> Result<(), DeviceFault>
-        ensures gathered { Gathered D.says desk.old (ended_from self.old piece.now) (W.seen sink.old) outbox.old (W.seen sink.new) outbox.new desk.new result }
+        requires { length outbox.old < waiting_below D.gathers }
+        ensures gathered { Gathered D.says (waiting_below D.gathers) desk.old (ended_from self.old piece.now) (W.seen sink.old) outbox.old (W.seen sink.new) outbox.new desk.new result }
         ensures part { OnOk result (self.new ≡ part_from self.old piece.now) }
     {
         for byte in piece {
@@ -73,7 +75,8 @@ impl Feeder {
         outbox: &mut Outbox,
         sink: &mut W,
     ) -> Result<(), DeviceFault>
-        ensures { Gathered D.says desk.old (last_line self.old) (W.seen sink.old) outbox.old (W.seen sink.new) outbox.new desk.new result }
+        requires { length outbox.old < waiting_below D.gathers }
+        ensures { Gathered D.says (waiting_below D.gathers) desk.old (last_line self.old) (W.seen sink.old) outbox.old (W.seen sink.new) outbox.new desk.new result }
     {
         if self.is_long {
             return outbox.refuse_long(desk, sink);
@@ -95,7 +98,8 @@ impl Feeder {
         outbox: &mut Outbox,
         sink: &mut W,
     ) -> Result<(), DeviceFault>
-        ensures gathered { Gathered D.says desk.old (ended_from self.old (byte ∷ [])) (W.seen sink.old) outbox.old (W.seen sink.new) outbox.new desk.new result }
+        requires { length outbox.old < waiting_below D.gathers }
+        ensures gathered { Gathered D.says (waiting_below D.gathers) desk.old (ended_from self.old (byte ∷ [])) (W.seen sink.old) outbox.old (W.seen sink.new) outbox.new desk.new result }
         ensures part { OnOk result (self.new ≡ part_from self.old (byte ∷ [])) }
     {
         if byte == b'\n' {
@@ -116,7 +120,8 @@ impl Feeder {
         outbox: &mut Outbox,
         sink: &mut W,
     ) -> Result<(), DeviceFault>
-        ensures { Gathered D.says desk.old (bare (self.now ++ 10 ∷ []) ∷ []) (W.seen sink.old) outbox.old (W.seen sink.new) outbox.new desk.new result }
+        requires { length outbox.old < waiting_below D.gathers }
+        ensures { Gathered D.says (waiting_below D.gathers) desk.old (bare (self.now ++ 10 ∷ []) ∷ []) (W.seen sink.old) outbox.old (W.seen sink.new) outbox.new desk.new result }
     {
         if self.is_long {
             return outbox.refuse_long(desk, sink);

@@ -1,6 +1,7 @@
 //! Answers that wait to be written.
 ghost use Rattle.std.specs.Prelude.{◌≡◌, ◌+◌, ◌<◌, ◌≤◌, [], ◌∷◌, length, IfOk, vec_len, vec_capacity, ℕ, List};
 ghost use Rattle.mpd_lines.specs.Gathering.{Gathered, Relieved, Written};
+ghost use Rattle.mpd_lines.specs.Telling.{waiting_below};
 
 use crate::desk::{LineDesk, ROOM};
 use mpd_device::device::{DeviceFault, Sink};
@@ -8,8 +9,8 @@ use mpd_model::limits::LINE_MAX;
 use std::alloc::{AllocError, Global};
 use std::marker::Model;
 
-/// As soon as so many bytes wait, they are written.
-pub(crate) const WAITING_MAX: usize = 65_536;
+/// As soon as so many bytes of gathered answers wait, they are written.
+const WAITING_MAX: usize = 65_536;
 
 /// Answers that wait to be written. There is always room for a short one.
 #[derive(Drop)]
@@ -41,14 +42,24 @@ pub fn write_all<W: Sink>(sink: &mut W, bytes: &[u8]) -> Result<(), DeviceFault>
     Ok(())
 }
 
-/// Writes what waits, where that is much. What a failed write has left is dropped.
+/// As soon as so many bytes wait, they are written.
+fn waiting_below(gathers: bool) -> usize
+    ensures value { result ≡ waiting_below gathers }
+    ensures some { 0 < result }
+    ensures few { result ≤ WAITING_MAX }
+{
+    if gathers { WAITING_MAX } else { 1 }
+}
+
+/// Writes what waits, where that isn't fewer than so many bytes. What a failed write has left is dropped.
 #[tactic(auto, using(crate::proofs::GatherLaws::relieving))]
-fn relieve<W: Sink>(waiting: &mut Vec<u8>, sink: &mut W) -> Result<(), DeviceFault>
+fn relieve<W: Sink>(waiting: &mut Vec<u8>, below: usize, sink: &mut W) -> Result<(), DeviceFault>
+    requires { 0 < below }
     ensures relieved { Relieved waiting.old.items (W.seen sink.old) (W.seen sink.new) waiting.new.items result }
-    ensures few { vec_len waiting.new < WAITING_MAX }
+    ensures few { vec_len waiting.new < below }
     ensures capacity { vec_capacity waiting.new ≡ vec_capacity waiting.old }
 {
-    if waiting.len() < WAITING_MAX {
+    if waiting.len() < below {
         return Ok(());
     }
     let written = write_all(sink, waiting);
@@ -74,11 +85,12 @@ impl Outbox {
         line: &[u8],
         sink: &mut W,
     ) -> Result<(), DeviceFault>
-        requires { length line.now ≤ LINE_MAX }
-        ensures { Gathered D.says desk.old (line.now ∷ []) (W.seen sink.old) self.old (W.seen sink.new) self.new desk.new result }
+        requires line { length line.now ≤ LINE_MAX }
+        requires few { length self.old < waiting_below D.gathers }
+        ensures { Gathered D.says (waiting_below D.gathers) desk.old (line.now ∷ []) (W.seen sink.old) self.old (W.seen sink.new) self.new desk.new result }
     {
         desk.answer(line, &mut self.waiting);
-        relieve(&mut self.waiting, sink)
+        relieve(&mut self.waiting, waiting_below(desk.is_gathering()), sink)
     }
 
     /// Gathers the answer to a line that is too long, and writes what waits where that is much.
@@ -88,10 +100,11 @@ impl Outbox {
         desk: &mut D,
         sink: &mut W,
     ) -> Result<(), DeviceFault>
-        ensures { (line : List ℕ) → LINE_MAX < length line → Gathered D.says desk.old (line ∷ []) (W.seen sink.old) self.old (W.seen sink.new) self.new desk.new result }
+        requires { length self.old < waiting_below D.gathers }
+        ensures { (line : List ℕ) → LINE_MAX < length line → Gathered D.says (waiting_below D.gathers) desk.old (line ∷ []) (W.seen sink.old) self.old (W.seen sink.new) self.new desk.new result }
     {
         desk.refuse_long(&mut self.waiting);
-        relieve(&mut self.waiting, sink)
+        relieve(&mut self.waiting, waiting_below(desk.is_gathering()), sink)
     }
 
     /// Writes all that waits. What a failed write has left is dropped.

@@ -3,7 +3,7 @@
 use mpd_queue::lists::Spot;
 
 /// Where the calls of a pair stood before it, in the lists of free calls. It takes eight bytes.
-#[derive(Clone, Copy, Debug, PartialEq, Eq)]
+#[derive(Clone, Copy)]
 pub struct PairRecord {
     pub send_spot: Spot,
     pub recv_spot: Spot,

@@ -14,7 +14,7 @@ use std::marker::Model;
 
 /// The free calls that fit a free call, by rank and then by number, each with the earlier call that holds back their match:
 /// None where the two are eligible. Contracts see a list.
-#[derive(Debug, Drop)]
+#[derive(Drop)]
 pub struct Why {
     pub partners: Vec<(CallId, Option<CallId>)>,
 }

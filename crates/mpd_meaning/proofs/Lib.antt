@@ -1,5 +1,5 @@
-mod Members
-mod Listed
+pub mod Members
+pub mod Listed
 mod Twice
 mod Reached
 mod Successes
@@ -21,3 +21,11 @@ mod LimitedParts
 mod LimitedStatements
 mod LimitedScript
 mod LimitedLaws
+mod Viable
+mod ViableTerms
+mod ViableParts
+mod ViableTrees
+mod ViableHeader
+mod ViableScript
+mod FirstWrong
+mod NamesDeclared

@@ -79,7 +79,7 @@ match_listed b s r hs hr =
     (in_flat (λ p. map (λ i. Match (call_id p i) r) (call_numbers b p)) (rank_numbers b) s.rank (Match s r) hs.rank
     (in_map (λ i. Match (call_id s.rank i) r) (call_numbers b s.rank) s.index hs.index)))
 
-listed : (w : World) → HasCalls w → (a : Step) → is_some (next w a) ≡ true → In (steps_of w) a
+pub listed : (w : World) → HasCalls w → (a : Step) → is_some (next w a) ≡ true → In (steps_of w) a
 listed w h (Local p) e =
     let ranks = rank_numbers w.board in
     in_left (map Local ranks) (Release ∷ (map Wake ranks ++ matches_in w.board)) (Local p)

@@ -48,7 +48,7 @@ each_case false false P xs ys zs x y z = z
 later_rising : (p : ℕ) (ss : List Spot) → IsRising (p + 1) ss → IsRising p ss
 later_rising p ss h = (lower p (p + 1) ss (omega arith) h.0, h.1)
 
-rising : (skip place line : ℕ) (z : List ℕ) → IsRising place (tokens_after skip place line z)
+pub rising : (skip place line : ℕ) (z : List ℕ) → IsRising place (tokens_after skip place line z)
 unfolding tokens_after
 rising skip place line [] = (tt, tt)
 rising (suc skip) place line (b ∷ z) = later_rising place (tokens_after skip (place + 1) line z) (rising skip (place + 1) line z)

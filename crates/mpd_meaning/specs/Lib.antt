@@ -2,3 +2,4 @@ pub mod StepLaws
 pub mod ReadingLaws
 pub mod TokenLaws
 pub mod FaultLaws
+pub mod PrefixLaws

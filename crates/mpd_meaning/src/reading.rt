@@ -1,6 +1,7 @@
 //! What holds of reading a script (docs/DEFINITIONS.md, "Texts").
 
 ghost use Rattle.mpd_meaning.specs.FaultLaws as fault;
+ghost use Rattle.mpd_meaning.specs.PrefixLaws as prefix;
 ghost use Rattle.mpd_meaning.specs.ReadingLaws as law;
 
 use mpd_laws::reading::{expressions_are_written, turns_are_enough, written_scripts_are_read};
@@ -47,4 +48,22 @@ pub fn nothing_written_begins_with_a_fault()
     ensures { fault.NothingWrittenBeginsWithAFault }
 {
     turns_are_enough();
+}
+
+/// What stands before a fault can be completed: it isn't wrong yet.
+pub fn what_stands_before_a_fault_can_be_completed()
+    ensures { prefix.WhatStandsBeforeAFaultCanBeCompleted }
+{}
+
+/// Only tokens that declare what they name can be completed.
+pub fn only_what_is_declared_is_named()
+    ensures { prefix.OnlyWhatIsDeclaredIsNamed }
+{}
+
+/// So a fault of no limit is at the first token that can't be right: what stands before it can be completed, and with it nothing can.
+pub fn a_fault_is_at_the_first_wrong_token()
+    ensures { prefix.AFaultIsAtTheFirstWrongToken }
+{
+    what_stands_before_a_fault_can_be_completed();
+    nothing_written_begins_with_a_fault();
 }

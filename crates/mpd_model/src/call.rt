@@ -3,7 +3,7 @@
 use crate::step::CallId;
 
 /// How standard sends behave (MPI 4.0, section 3.4; docs/DEFINITIONS.md, "Modes").
-#[derive(Clone, Copy, Debug, PartialEq, Eq)]
+#[derive(Clone, Copy, PartialEq, Eq)]
 pub enum Mode {
     /// No send is buffered: it is complete once it is paired.
     Rendezvous,
@@ -12,7 +12,7 @@ pub enum Mode {
 }
 
 /// A call that a rank has issued. It never changes.
-#[derive(Clone, Copy, Debug, PartialEq, Eq)]
+#[derive(Clone, Copy)]
 pub struct Call {
     /// The number, in text order, of the statement that issued it.
     pub statement: usize,
@@ -20,7 +20,7 @@ pub struct Call {
 }
 
 /// A standard or a synchronous send.
-#[derive(Clone, Copy, Debug, PartialEq, Eq)]
+#[derive(Clone, Copy)]
 pub struct SendCall {
     /// Its destination, 0 to 15.
     pub to: usize,
@@ -35,14 +35,14 @@ pub struct SendCall {
 }
 
 /// The cells that the source and the tag of a message go to (MPI 4.0, section 3.2.5).
-#[derive(Clone, Copy, Debug, PartialEq, Eq)]
+#[derive(Clone, Copy)]
 pub struct StatusCells {
     pub source: usize,
     pub tag: usize,
 }
 
 /// A receive.
-#[derive(Clone, Copy, Debug, PartialEq, Eq)]
+#[derive(Clone, Copy)]
 pub struct RecvCall {
     /// Its source, 0 to 15; none is any.
     pub from: Option<usize>,
@@ -57,7 +57,7 @@ pub struct RecvCall {
 }
 
 /// A wait. What it waits for is fixed as it is issued.
-#[derive(Clone, Copy, Debug, PartialEq, Eq)]
+#[derive(Clone, Copy)]
 pub struct WaitCall {
     /// The number of the handle that it clears, from 0.
     pub handle: usize,
@@ -66,7 +66,7 @@ pub struct WaitCall {
 }
 
 /// What a call is.
-#[derive(Clone, Copy, Debug, PartialEq, Eq)]
+#[derive(Clone, Copy)]
 pub enum CallKind {
     /// A standard or a synchronous send (MPI 4.0, sections 3.2.1, 3.4 and 3.7.2).
     Send(SendCall),
@@ -79,7 +79,7 @@ pub enum CallKind {
 }
 
 /// A call that a statement issues.
-#[derive(Clone, Copy, Debug, PartialEq, Eq)]
+#[derive(Clone, Copy)]
 pub struct Issue {
     pub kind: CallKind,
     /// The handle that gets the call's number, of a call that its rank doesn't wait for.
@@ -87,7 +87,7 @@ pub struct Issue {
 }
 
 /// What a receive gets of the send that it is paired with: value, sender and tag (MPI 4.0, section 3.2.5).
-#[derive(Clone, Copy, Debug, PartialEq, Eq)]
+#[derive(Clone, Copy)]
 pub struct Message {
     pub value: i64,
     pub source: usize,
@@ -95,7 +95,7 @@ pub struct Message {
 }
 
 /// Why a rank is trapped (docs/LANGUAGE.md, "Traps").
-#[derive(Clone, Copy, Debug, PartialEq, Eq)]
+#[derive(Clone, Copy, PartialEq, Eq)]
 pub enum Trap {
     /// A value outside -9223372036854775808 to 9223372036854775807.
     Overflow,
@@ -112,7 +112,7 @@ pub enum Trap {
 }
 
 /// What a rank is doing. A running rank with no statement left has ended.
-#[derive(Clone, Copy, Debug, PartialEq, Eq)]
+#[derive(Clone, Copy, PartialEq, Eq)]
 pub enum Activity {
     Running,
     /// Waits for its last call to be complete.
@@ -121,7 +121,7 @@ pub enum Activity {
 }
 
 /// What a step other than a local one formed.
-#[derive(Clone, Copy, Debug, PartialEq, Eq)]
+#[derive(Clone, Copy)]
 pub enum MatchSet {
     /// A send and its receive.
     Pair(CallId, CallId),

@@ -5,7 +5,7 @@ use crate::step::Step;
 use std::marker::Model;
 
 /// Steps in order, which contracts see as a list.
-#[derive(Debug, Drop)]
+#[derive(Drop)]
 pub struct StepList {
     pub items: Vec<Step>,
 }
@@ -20,7 +20,7 @@ impl Model for StepList {
 }
 
 /// What comes next in a state (docs/DEFINITIONS.md, "Decisions").
-#[derive(Debug, Drop)]
+#[derive(Drop)]
 pub enum Decision {
     /// This step, which nobody has to choose.
     Forced(Step),

@@ -8,7 +8,7 @@ use std::alloc::{AllocError, Global};
 use std::marker::Model;
 
 /// An operator between two operands (docs/LANGUAGE.md, "Expressions").
-#[derive(Clone, Copy, Debug, PartialEq, Eq)]
+#[derive(Clone, Copy)]
 pub enum BinaryOp {
     /// `||`, which leaves its right side where the left isn't 0.
     Or,
@@ -30,7 +30,7 @@ pub enum BinaryOp {
 }
 
 /// An operator before its operand.
-#[derive(Clone, Copy, Debug, PartialEq, Eq)]
+#[derive(Clone, Copy)]
 pub enum UnaryOp {
     /// `-`.
     Negate,
@@ -40,14 +40,14 @@ pub enum UnaryOp {
 
 /// An expression, which contracts see as a `Term`.
 #[cycle(expr)]
-#[derive(Debug, Drop)]
+#[derive(Drop)]
 pub struct Expr {
     pub node: ExprNode,
 }
 
 /// What an expression is made of.
 #[cycle(expr)]
-#[derive(Debug, Drop)]
+#[derive(Drop)]
 pub enum ExprNode {
     Number(i64),
     /// The number of the rank that evaluates it.

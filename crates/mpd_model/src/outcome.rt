@@ -5,14 +5,14 @@ use crate::step::CallId;
 use std::marker::Model;
 
 /// A rank that is trapped, and why.
-#[derive(Clone, Copy, Debug, PartialEq, Eq)]
+#[derive(Clone, Copy)]
 pub struct TrappedRank {
     pub rank: usize,
     pub trap: Trap,
 }
 
 /// Calls, by rank and then by number, which contracts see as a list.
-#[derive(Debug, Drop)]
+#[derive(Drop)]
 pub struct CallList {
     pub items: Vec<CallId>,
 }
@@ -27,7 +27,7 @@ impl Model for CallList {
 }
 
 /// Trapped ranks in ascending order, which contracts see as a list.
-#[derive(Debug, Drop)]
+#[derive(Drop)]
 pub struct TrapList {
     pub items: Vec<TrappedRank>,
 }
@@ -42,7 +42,7 @@ impl Model for TrapList {
 }
 
 /// What a state is in which no step is enabled (docs/DEFINITIONS.md, "Outcomes").
-#[derive(Debug, Drop)]
+#[derive(Drop)]
 pub enum Outcome {
     /// Every rank has ended, and no call is free.
     Done,

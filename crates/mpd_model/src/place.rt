@@ -5,7 +5,7 @@ ghost use Rattle.std.specs.Prelude.{◌≡◌};
 use std::marker::Model;
 
 /// What a declaration declares.
-#[derive(Clone, Copy, Debug, PartialEq, Eq)]
+#[derive(Clone, Copy)]
 pub enum DeclKind {
     /// A variable, `var`.
     Variable,
@@ -14,7 +14,7 @@ pub enum DeclKind {
 }
 
 /// A declaration of a script, which contracts see as a `Declared`.
-#[derive(Debug, Drop)]
+#[derive(Drop)]
 pub struct Decl {
     pub kind: DeclKind,
     /// At most 64 bytes.
@@ -35,7 +35,7 @@ impl Model for Decl {
 }
 
 /// What a name stands for: its declaration, and the cells of that.
-#[derive(Clone, Copy, Debug, PartialEq, Eq)]
+#[derive(Clone, Copy)]
 pub struct Place {
     /// The declaration's number in text order, from 0.
     pub declaration: usize,

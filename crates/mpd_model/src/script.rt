@@ -6,7 +6,7 @@ use std::marker::Model;
 
 /// A script, which contracts see as a `Program`. It keeps the limits of docs/LANGUAGE.md, "Limits", and has names, places and
 /// numbers as the grammar allows them, so that it can be printed and read again.
-#[derive(Debug, Drop)]
+#[derive(Drop)]
 pub struct Script {
     /// The version of the language, 1.
     pub version: usize,

@@ -3,7 +3,7 @@
 use crate::place::DeclKind;
 
 /// What a declared name stands for.
-#[derive(Clone, Copy, Debug)]
+#[derive(Clone, Copy)]
 pub struct Slot {
     pub kind: DeclKind,
     /// The declaration's number in text order, from 0.

@@ -5,7 +5,7 @@ use crate::place::Place;
 use std::marker::Model;
 
 /// A place that a statement names outside of an expression, a variable or a handle. Contracts see it as a `Target`.
-#[derive(Debug, Drop)]
+#[derive(Drop)]
 pub struct Target {
     pub place: Place,
     /// The index, where the place is an array.
@@ -25,13 +25,13 @@ impl Model for Target {
 
 /// A statement, which contracts see as a `Tree`.
 #[cycle(stmt)]
-#[derive(Debug, Drop)]
+#[derive(Drop)]
 pub struct Stmt {
     pub node: StmtNode,
 }
 
 /// What a send sends (MPI 4.0, sections 3.2.1 and 3.4).
-#[derive(Debug, Drop)]
+#[derive(Drop)]
 pub struct SendStmt {
     pub value: Expr,
     /// The destination.
@@ -40,14 +40,14 @@ pub struct SendStmt {
 }
 
 /// The places that the source and the tag of a message are written to (MPI 4.0, section 3.2.5).
-#[derive(Debug, Drop)]
+#[derive(Drop)]
 pub struct StatusStmt {
     pub source: Target,
     pub tag: Target,
 }
 
 /// What a receive takes, and where it goes (MPI 4.0, section 3.2.4).
-#[derive(Debug, Drop)]
+#[derive(Drop)]
 pub struct RecvStmt {
     /// The place that the value is written to.
     pub into: Target,
@@ -59,7 +59,7 @@ pub struct RecvStmt {
 }
 
 /// A nonblocking send (MPI 4.0, section 3.7.2).
-#[derive(Debug, Drop)]
+#[derive(Drop)]
 pub struct IsendStmt {
     /// The handle that gets the request.
     pub request: Target,
@@ -67,7 +67,7 @@ pub struct IsendStmt {
 }
 
 /// A nonblocking receive (MPI 4.0, section 3.7.2).
-#[derive(Debug, Drop)]
+#[derive(Drop)]
 pub struct IrecvStmt {
     /// The handle that gets the request.
     pub request: Target,
@@ -75,14 +75,14 @@ pub struct IrecvStmt {
 }
 
 /// An assignment.
-#[derive(Debug, Drop)]
+#[derive(Drop)]
 pub struct AssignStmt {
     pub into: Target,
     pub value: Expr,
 }
 
 /// A statement that holds no other (docs/LANGUAGE.md, "Statements").
-#[derive(Debug, Drop)]
+#[derive(Drop)]
 pub enum Simple {
     Print(Expr),
     Assign(AssignStmt),
@@ -104,7 +104,7 @@ pub enum Simple {
 
 /// What a statement is made of (docs/LANGUAGE.md, "Statements").
 #[cycle(stmt)]
-#[derive(Debug, Drop)]
+#[derive(Drop)]
 pub enum StmtNode {
     Simple(Simple),
     If(Expr, Vec<Stmt>, Vec<Stmt>),

@@ -1,7 +1,7 @@
 //! What a text is cut into (docs/LANGUAGE.md, "Tokens").
 
 /// A sign or a reserved word.
-#[derive(Clone, Copy, Debug, PartialEq, Eq)]
+#[derive(Clone, Copy)]
 pub enum Mark {
     Semicolon,
     BraceOpen,
@@ -53,7 +53,7 @@ pub enum Mark {
 }
 
 /// What stands at a place of a text.
-#[derive(Clone, Copy, Debug)]
+#[derive(Clone, Copy)]
 pub enum Token {
     /// Digits, by their value.
     Number(i64),
@@ -67,7 +67,7 @@ pub enum Token {
 }
 
 /// A kind of bytes, of which tokens and comments are runs.
-#[derive(Clone, Copy, Debug)]
+#[derive(Clone, Copy)]
 pub enum Class {
     Digit,
     /// What may stand in a name behind its first byte.

@@ -6,7 +6,7 @@ ghost use Rattle.mpd_model.specs.Words.{words, has_word, is_dot, is_blank, is_no
 use crate::step::{CallId, Step};
 
 /// What a line of trace words asks for.
-#[derive(Clone, Copy, Debug, PartialEq, Eq)]
+#[derive(Clone, Copy)]
 pub enum Command {
     /// Take a step.
     Step(Step),

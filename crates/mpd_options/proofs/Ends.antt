@@ -14,7 +14,7 @@ use Rattle.clap.specs.declared.builder.value_parser.Reading.{Reading}
 use Rattle.clap.specs.declared.error.kind.ErrorKind.TheVariants as kind
 use Rattle.clap.specs.declared.parser.matches.ValueSource.TheVariants.{DefaultValue}
 use Rattle.clap.proofs.OnLiterals.{clap_on_literals}
-use Rattle.mpd_options.specs.Asked.{Asked, Item, Said, Tool, checker, default_of, fits, found, found_check, found_in, found_trace, found_verify, most_fuel, most_runs, name_of, or_default, said_of, text_of, the_file, the_fuel, the_mode, the_runs, the_witness, the_witness_file, tracer, verifier}
+use Rattle.mpd_options.specs.Asked.{Asked, Item, Said, Tool, checker, default_of, fits, found, found_check, found_in, found_trace, found_verify, most_fuel, most_runs, name_of, or_default, said_of, text_of, the_file, the_fuel, the_mode, the_runs, the_witness, the_complete, the_witness_file, tracer, verifier}
 use Rattle.mpd_options.specs.Numbers.{flag_in, number_in}
 use Rattle.mpd_options.proofs.Items.{Valid, arg, by_id, has_is, has_said, keeps, made, named_row, or_row, row_at, row_at_more, row_for, row_said, rows_for, rules, sub, used_once, used_well, values_at_end}
 
@@ -85,6 +85,7 @@ checker_row the_mode = refl
 checker_row the_runs = refl
 checker_row the_fuel = refl
 checker_row the_witness = refl
+checker_row the_complete = refl
 
 verifier_file : rules_row (name_of the_file) (rules verifier) ≡ default_row the_file
 unfolding clap_on_literals
@@ -125,10 +126,10 @@ first_ended t i said own h = ap (option_and_then (λ (r : Row). slice_get r.valu
 one_ended : (t : Tool) (i : Item) (said : Said) → Owns t i → Valid said → one_of (name_of i) (ended t said) ≡ text_of said i
 one_ended t i said own h = ap (option_and_then row_text) (row_ended t i said own h) ∙ one_text i (said_of i said) (default_of i)
 
-five_same : (f f' m m' r r' n n' w w' : Option Text) → f ≡ f' → m ≡ m' → r ≡ r' → n ≡ n' → w ≡ w'
-    → found_check f m (option_and_then (number_in 1 most_runs) r) (option_and_then (number_in 1 most_fuel) n) (option_and_then flag_in w)
-    ≡ found_check f' m' (option_and_then (number_in 1 most_runs) r') (option_and_then (number_in 1 most_fuel) n') (option_and_then flag_in w')
-five_same f f' m m' r r' n n' w w' a b c d e = rw (a, b, c, d, e) refl
+six_same : (f f' m m' r r' n n' w w' x x' : Option Text) → f ≡ f' → m ≡ m' → r ≡ r' → n ≡ n' → w ≡ w' → x ≡ x'
+    → found_check f m (option_and_then (number_in 1 most_runs) r) (option_and_then (number_in 1 most_fuel) n) (option_and_then flag_in w) (option_and_then flag_in x)
+    ≡ found_check f' m' (option_and_then (number_in 1 most_runs) r') (option_and_then (number_in 1 most_fuel) n') (option_and_then flag_in w') (option_and_then flag_in x')
+six_same f f' m m' r r' n n' w w' x x' a b c d e g = rw (a, b, c, d, e, g) refl
 
 three_same : (f f' w w' m m' : Option Text) → f ≡ f' → w ≡ w' → m ≡ m' → found_verify f w m ≡ found_verify f' w' m'
 three_same f f' w w' m m' a b c = rw (a, b, c) refl
@@ -136,8 +137,9 @@ three_same f f' w w' m m' a b c = rw (a, b, c) refl
 pub found_ended : (t : Tool) (said : Said) → Valid said → found_in t (ended t said) ≡ found t (text_of said)
 found_ended tracer said h = ap₂ found_trace (first_ended tracer the_file said tracer_file h) (first_ended tracer the_mode said tracer_mode h)
 found_ended checker said h =
-    five_same _ _ _ _ _ _ _ _ _ _ (first_ended checker the_file said (checker_row the_file) h) (first_ended checker the_mode said (checker_row the_mode) h)
+    six_same _ _ _ _ _ _ _ _ _ _ _ _ (first_ended checker the_file said (checker_row the_file) h) (first_ended checker the_mode said (checker_row the_mode) h)
     (one_ended checker the_runs said (checker_row the_runs) h) (one_ended checker the_fuel said (checker_row the_fuel) h) (one_ended checker the_witness said (checker_row the_witness) h)
+    (one_ended checker the_complete said (checker_row the_complete) h)
 found_ended verifier said h =
     three_same _ _ _ _ _ _ (first_ended verifier the_file said verifier_file h) (first_ended verifier the_witness_file said verifier_witness h) (first_ended verifier the_mode said verifier_mode h)
 
@@ -148,7 +150,7 @@ item_named name =
     if bytes_eq name (codes "FILE") then Some the_file
     else (if bytes_eq name (codes "WITNESS") then Some the_witness_file
     else (if bytes_eq name (codes "mode") then Some the_mode
-    else (if bytes_eq name (codes "runs") then Some the_runs else (if bytes_eq name (codes "fuel") then Some the_fuel else (if bytes_eq name (codes "witness") then Some the_witness else None)))))
+    else (if bytes_eq name (codes "runs") then Some the_runs else (if bytes_eq name (codes "fuel") then Some the_fuel else (if bytes_eq name (codes "witness") then Some the_witness else (if bytes_eq name (codes "complete") then Some the_complete else None))))))
 
 named_is : (i : Item) → item_named (name_of i) ≡ Some i
 named_is the_file = refl
@@ -157,6 +159,7 @@ named_is the_mode = refl
 named_is the_runs = refl
 named_is the_fuel = refl
 named_is the_witness = refl
+named_is the_complete = refl
 
 same_item : (i j : Item) → bytes_eq (name_of i) (name_of j) ≡ true → i ≡ j
 same_item i j e = (let same : Some i ≡ Some j = sym (named_is i) ∙ ap item_named ((bytes_eq-Decides (name_of i) (name_of j)).0 e) ∙ named_is j in cc)
@@ -179,13 +182,15 @@ is_trace None m d = refl
 is_trace (Some f) None d = refl
 is_trace (Some f) (Some m) d = refl
 
-is_check : (f m : Option Text) (d : Text) (r n : Option ℕ) (w : Option Bool) → is_some r ≡ true → is_some n ≡ true → is_some w ≡ true → is_some (found_check (or_default f None) (or_default m (Some d)) r n w) ≡ is_some f
-is_check None m d r n w a b c = refl
-is_check (Some f) None d (Some r) (Some n) (Some w) a b c = refl
-is_check (Some f) (Some m) d (Some r) (Some n) (Some w) a b c = refl
-is_check (Some f) m d None n w a b c = cc
-is_check (Some f) m d (Some r) None w a b c = cc
-is_check (Some f) m d (Some r) (Some n) None a b c = cc
+is_check : (f m : Option Text) (d : Text) (r n : Option ℕ) (w x : Option Bool) → is_some r ≡ true → is_some n ≡ true → is_some w ≡ true → is_some x ≡ true
+    → is_some (found_check (or_default f None) (or_default m (Some d)) r n w x) ≡ is_some f
+is_check None m d r n w x a b c e = refl
+is_check (Some f) None d (Some r) (Some n) (Some w) (Some x) a b c e = refl
+is_check (Some f) (Some m) d (Some r) (Some n) (Some w) (Some x) a b c e = refl
+is_check (Some f) m d None n w x a b c e = cc
+is_check (Some f) m d (Some r) None w x a b c e = cc
+is_check (Some f) m d (Some r) (Some n) None x a b c e = cc
+is_check (Some f) m d (Some r) (Some n) (Some w) None a b c e = cc
 
 is_verify : (f w m : Option Text) (d : Text) → is_some (found_verify (or_default f None) (or_default w None) (or_default m (Some d))) ≡ (is_some f && is_some w)
 is_verify None w m d = refl
@@ -203,9 +208,11 @@ asks_with_files : (t : Tool) (said : Said) → Valid said → is_some (found t (
 asks_with_files tracer said h = is_trace (said_of the_file said) (said_of the_mode said) (codes "rendezvous")
 asks_with_files checker said h =
     is_check (said_of the_file said) (said_of the_mode said) (codes "rendezvous") (option_and_then (number_in 1 most_runs) (text_of said the_runs)) (option_and_then (number_in 1 most_fuel) (text_of said the_fuel)) (option_and_then flag_in (text_of said the_witness))
+    (option_and_then flag_in (text_of said the_complete))
     (read_said (number_in 1 most_runs) (codes "1000") (said_of the_runs said) refl (λ v e. said_fits the_runs v said h e))
     (read_said (number_in 1 most_fuel) (codes "100000") (said_of the_fuel said) refl (λ v e. said_fits the_fuel v said h e))
     (read_said flag_in (codes "false") (said_of the_witness said) refl (λ v e. said_fits the_witness v said h e))
+    (read_said flag_in (codes "false") (said_of the_complete said) refl (λ v e. said_fits the_complete v said h e))
 asks_with_files verifier said h = is_verify (said_of the_file said) (said_of the_witness_file said) (said_of the_mode said) (codes "rendezvous")
 
 -- ---- faults at the end
@@ -273,7 +280,7 @@ no_defaults_fault (a ∷ rest) rows h = ap (λ ks. or_else ks (defaults_fault (w
 pub takes_defaults : (t : Tool) → Takes (rules t)
 unfolding clap_on_literals
 takes_defaults tracer = (refl, (refl, (refl, tt)))
-takes_defaults checker = (refl, (refl, (refl, (refl, (refl, (refl, tt))))))
+takes_defaults checker = (refl, (refl, (refl, (refl, (refl, (refl, (refl, tt)))))))
 takes_defaults verifier = (refl, (refl, (refl, (refl, tt))))
 
 -- ---- what is held is settled

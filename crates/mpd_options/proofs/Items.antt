@@ -16,7 +16,7 @@ use Rattle.clap.specs.declared.error.kind.ErrorKind.TheVariants as kind
 use Rattle.clap.specs.declared.parser.matches.ValueSource.{ValueSource}
 use Rattle.clap.specs.declared.parser.matches.ValueSource.TheVariants.{CommandLine}
 use Rattle.clap.proofs.OnLiterals.{clap_on_literals}
-use Rattle.mpd_options.specs.Asked.{Item, Said, Tool, checker, fits, most_fuel, most_runs, name_of, said_named, said_of, the_file, the_fuel, the_mode, the_runs, the_witness, the_witness_file, tracer, verifier}
+use Rattle.mpd_options.specs.Asked.{Item, Said, Tool, checker, fits, most_fuel, most_runs, name_of, said_named, said_of, the_file, the_fuel, the_mode, the_runs, the_witness, the_complete, the_witness_file, tracer, verifier}
 use Rattle.mpd_options.specs.Program.{mpdbg_app}
 use Rattle.mpd_options.proofs.NumberReads.{accepts_number}
 
@@ -64,6 +64,7 @@ keeps t the_mode = asks t the_mode
 keeps t the_runs = asks t the_runs
 keeps t the_fuel = asks t the_fuel
 keeps t the_witness = false
+keeps t the_complete = false
 
 pub each_asks : (P : Tool → Item → Type 0) → P tracer the_mode → P checker the_mode → P checker the_runs → P checker the_fuel → P verifier the_mode → (t : Tool) (i : Item) → asks t i ≡ true → P t i
 each_asks P a b c d m tracer the_file e = cc
@@ -72,18 +73,21 @@ each_asks P a b c d m tracer the_mode e = a
 each_asks P a b c d m tracer the_runs e = cc
 each_asks P a b c d m tracer the_fuel e = cc
 each_asks P a b c d m tracer the_witness e = cc
+each_asks P a b c d m tracer the_complete e = cc
 each_asks P a b c d m checker the_file e = cc
 each_asks P a b c d m checker the_witness_file e = cc
 each_asks P a b c d m checker the_mode e = b
 each_asks P a b c d m checker the_runs e = c
 each_asks P a b c d m checker the_fuel e = d
 each_asks P a b c d m checker the_witness e = cc
+each_asks P a b c d m checker the_complete e = cc
 each_asks P a b c d m verifier the_file e = cc
 each_asks P a b c d m verifier the_witness_file e = cc
 each_asks P a b c d m verifier the_mode e = m
 each_asks P a b c d m verifier the_runs e = cc
 each_asks P a b c d m verifier the_fuel e = cc
 each_asks P a b c d m verifier the_witness e = cc
+each_asks P a b c d m verifier the_complete e = cc
 
 pub each_keeps : (P : Tool → Item → Type 0) → P tracer the_file → P checker the_file → P verifier the_file → P verifier the_witness_file
     → P tracer the_mode → P checker the_mode → P checker the_runs → P checker the_fuel → P verifier the_mode → (t : Tool) (i : Item) → keeps t i ≡ true → P t i
@@ -93,18 +97,21 @@ each_keeps P f g h w a b c d m tracer the_mode e = a
 each_keeps P f g h w a b c d m tracer the_runs e = cc
 each_keeps P f g h w a b c d m tracer the_fuel e = cc
 each_keeps P f g h w a b c d m tracer the_witness e = cc
+each_keeps P f g h w a b c d m tracer the_complete e = cc
 each_keeps P f g h w a b c d m checker the_file e = g
 each_keeps P f g h w a b c d m checker the_witness_file e = cc
 each_keeps P f g h w a b c d m checker the_mode e = b
 each_keeps P f g h w a b c d m checker the_runs e = c
 each_keeps P f g h w a b c d m checker the_fuel e = d
 each_keeps P f g h w a b c d m checker the_witness e = cc
+each_keeps P f g h w a b c d m checker the_complete e = cc
 each_keeps P f g h w a b c d m verifier the_file e = h
 each_keeps P f g h w a b c d m verifier the_witness_file e = w
 each_keeps P f g h w a b c d m verifier the_mode e = m
 each_keeps P f g h w a b c d m verifier the_runs e = cc
 each_keeps P f g h w a b c d m verifier the_fuel e = cc
 each_keeps P f g h w a b c d m verifier the_witness e = cc
+each_keeps P f g h w a b c d m verifier the_complete e = cc
 
 pub asks_keeps : (t : Tool) (i : Item) → asks t i ≡ true → keeps t i ≡ true
 asks_keeps = each_asks (λ t i. keeps t i ≡ true) refl refl refl refl refl
@@ -117,9 +124,26 @@ pub by_long : (t : Tool) (i : Item) → asks t i ≡ true → arg_by_long (rules
 unfolding clap_on_literals
 by_long = each_asks (λ t i. arg_by_long (rules t) (name_of i) ≡ Some (arg t i)) refl refl refl refl refl
 
-pub flag_by_long : arg_by_long (rules checker) (name_of the_witness) ≡ Some (arg checker the_witness)
+-- the flags, which have no value
+abbrev pub flags : Tool → Item → Bool
+flags checker the_witness = true
+flags checker the_complete = true
+flags _ _ = false
+
+pub each_flag : (P : Tool → Item → Type 0) → P checker the_witness → P checker the_complete → (t : Tool) (i : Item) → flags t i ≡ true → P t i
+each_flag P w x tracer i e = cc
+each_flag P w x checker the_file e = cc
+each_flag P w x checker the_witness_file e = cc
+each_flag P w x checker the_mode e = cc
+each_flag P w x checker the_runs e = cc
+each_flag P w x checker the_fuel e = cc
+each_flag P w x checker the_witness e = w
+each_flag P w x checker the_complete e = x
+each_flag P w x verifier i e = cc
+
+pub flag_by_long : (t : Tool) (i : Item) → flags t i ≡ true → arg_by_long (rules t) (name_of i) ≡ Some (arg t i)
 unfolding clap_on_literals
-flag_by_long = refl
+flag_by_long = each_flag (λ t i. arg_by_long (rules t) (name_of i) ≡ Some (arg t i)) refl refl
 
 -- ---- a use of an item
 
@@ -130,6 +154,7 @@ accepted the_mode text = true
 accepted the_runs text = is_unsigned_in 1 most_runs text
 accepted the_fuel text = is_unsigned_in 1 most_fuel text
 accepted the_witness text = true
+accepted the_complete text = true
 
 accepted_fits : (t : Tool) (i : Item) (v : Text) → keeps t i ≡ true → accepted i v ≡ fits i v
 accepted_fits t i v k =
@@ -148,9 +173,9 @@ use_is : (v : Text) (rows : List Row) (t : Tool) (i : Item) → keeps t i ≡ tr
 unfolding clap_on_literals
 use_is v rows = each_keeps (λ t i. use_fault false (arg t i) (v ∷ []) rows ≡ or_else (again_fault (has_row (name_of i) rows)) (value_fault kind.ValueValidation (accepted i v))) refl refl refl refl refl refl refl refl refl
 
-flag_use_is : (rows : List Row) → use_fault false (arg checker the_witness) [] rows ≡ or_else (again_fault (has_row (name_of the_witness) rows)) []
+flag_use_is : (rows : List Row) (t : Tool) (i : Item) → flags t i ≡ true → use_fault false (arg t i) [] rows ≡ or_else (again_fault (has_row (name_of i) rows)) []
 unfolding clap_on_literals
-flag_use_is rows = refl
+flag_use_is rows = each_flag (λ t i. use_fault false (arg t i) [] rows ≡ or_else (again_fault (has_row (name_of i) rows)) []) refl refl
 
 abbrev fault_by : Bool → Bool → Kinds
 fault_by again taken = or_else (again_fault again) (value_fault kind.ValueValidation taken)
@@ -179,13 +204,13 @@ used_badly t i v rows k f =
     let P : Kinds → Type 0 = λ ks. ks ≢ [] in
     subst P (sym (use_by t i v rows (has_row (name_of i) rows) false k refl f)) (unfit (has_row (name_of i) rows))
 
-pub flag_used_well : (rows : List Row) → has_row (name_of the_witness) rows ≡ false → use_fault false (arg checker the_witness) [] rows ≡ []
-flag_used_well rows h = flag_use_is rows ∙ ap (λ b. or_else (again_fault b) []) h
+pub flag_used_well : (t : Tool) (i : Item) (rows : List Row) → flags t i ≡ true → has_row (name_of i) rows ≡ false → use_fault false (arg t i) [] rows ≡ []
+flag_used_well t i rows flag h = flag_use_is rows t i flag ∙ ap (λ b. or_else (again_fault b) []) h
 
-pub flag_used_again : (rows : List Row) → has_row (name_of the_witness) rows ≡ true → use_fault false (arg checker the_witness) [] rows ≢ []
-flag_used_again rows h =
+pub flag_used_again : (t : Tool) (i : Item) (rows : List Row) → flags t i ≡ true → has_row (name_of i) rows ≡ true → use_fault false (arg t i) [] rows ≢ []
+flag_used_again t i rows flag h =
     let P : Kinds → Type 0 = λ ks. ks ≢ [] in
-    subst P (sym (flag_use_is rows ∙ ap (λ b. or_else (again_fault b) []) h)) (λ e. cc)
+    subst P (sym (flag_use_is rows t i flag ∙ ap (λ b. or_else (again_fault b) []) h)) (λ e. cc)
 
 -- faults are no empty list where there is a first one: told by computing to it, which is far cheaper than `cc` on such a list
 abbrev pub has_fault : Kinds → Bool
@@ -238,12 +263,12 @@ at_end_of i v rows h = ap (λ rs. with_values (name_of i) AsWritten CommandLine 
 pub used_once : (t : Tool) (i : Item) (v : Text) (rows : List Row) → keeps t i ≡ true → has_row (name_of i) rows ≡ false → used (arg t i) (v ∷ []) rows ≡ rows ++ row_for i v CommandLine ∷ []
 used_once t i v rows k h = used_is v rows t i k ∙ at_end_of i v rows h
 
-flag_used_is : (rows : List Row) → used (arg checker the_witness) [] rows ≡ with_values (name_of the_witness) AsWritten CommandLine (codes "true" ∷ []) (without (name_of the_witness) rows)
+flag_used_is : (rows : List Row) (t : Tool) (i : Item) → flags t i ≡ true → used (arg t i) [] rows ≡ with_values (name_of i) AsWritten CommandLine (codes "true" ∷ []) (without (name_of i) rows)
 unfolding clap_on_literals
-flag_used_is rows = refl
+flag_used_is rows = each_flag (λ t i. used (arg t i) [] rows ≡ with_values (name_of i) AsWritten CommandLine (codes "true" ∷ []) (without (name_of i) rows)) refl refl
 
-pub flag_used_once : (rows : List Row) → has_row (name_of the_witness) rows ≡ false → used (arg checker the_witness) [] rows ≡ rows ++ row_for the_witness (codes "true") CommandLine ∷ []
-flag_used_once rows h = flag_used_is rows ∙ at_end_of the_witness (codes "true") rows h
+pub flag_used_once : (t : Tool) (i : Item) (rows : List Row) → flags t i ≡ true → has_row (name_of i) rows ≡ false → used (arg t i) [] rows ≡ rows ++ row_for i (codes "true") CommandLine ∷ []
+flag_used_once t i rows flag h = flag_used_is rows t i flag ∙ at_end_of i (codes "true") rows h
 
 -- ---- the row of a name
 

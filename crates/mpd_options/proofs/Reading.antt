@@ -15,7 +15,7 @@ use Rattle.clap.specs.declared.parser.matches.ArgMatches.TheViews.{out-ArgMatche
 use Rattle.clap.specs.declared.parser.matches.Found.{Found}
 use Rattle.clap.proofs.OnLiterals.{clap_on_literals}
 use Rattle.clap.proofs.WalkLemmas.{first_value-rows, one_text-rows}
-use Rattle.mpd_options.specs.Asked.{Asked, IsFound, IsInRange, Item, Tool, asked, check, checker, found, found_by, found_check, found_in, found_of_command, found_trace, found_verify, meant, most_fuel, most_runs, text_in, the_file, the_fuel, the_mode, the_runs, the_witness, the_witness_file, tool_named, trace, tracer, verifier, verify}
+use Rattle.mpd_options.specs.Asked.{Asked, IsFound, IsInRange, Item, Tool, asked, check, checker, found, found_by, found_check, found_in, found_of_command, found_trace, found_verify, meant, most_fuel, most_runs, text_in, the_file, the_fuel, the_mode, the_runs, the_witness, the_complete, the_witness_file, tool_named, trace, tracer, verifier, verify}
 use Rattle.mpd_options.specs.Numbers.{flag_in, number_in, without_plus}
 use Rattle.mpd_options.specs.declared.options.Options.{Options}
 use Rattle.mpd_options.specs.declared.options.Options.TheVariants.{Plain, Trace, Check, Verify}
@@ -159,29 +159,31 @@ some_three (Some f) None m e = cc
 some_three (Some f) (Some w) None e = cc
 some_three (Some f) (Some w) (Some m) e = (refl, refl, refl)
 
-pub record HasAll (f m : Option Text) (r n : Option ℕ) (w : Option Bool) : Type 0 where
+pub record HasAll (f m : Option Text) (r n : Option ℕ) (w x : Option Bool) : Type 0 where
   pub file : is_some f ≡ true
   pub mode : is_some m ≡ true
   pub runs : is_some r ≡ true
   pub fuel : is_some n ≡ true
   pub witness : is_some w ≡ true
+  pub complete : is_some x ≡ true
 
-some_all : (f m : Option Text) (r n : Option ℕ) (w : Option Bool) → is_some (found_check f m r n w) ≡ true → HasAll f m r n w
-some_all None m r n w e = cc
-some_all (Some f) None r n w e = cc
-some_all (Some f) (Some m) None n w e = cc
-some_all (Some f) (Some m) (Some r) None w e = cc
-some_all (Some f) (Some m) (Some r) (Some n) None e = cc
-some_all (Some f) (Some m) (Some r) (Some n) (Some w) e = record { file = refl; mode = refl; runs = refl; fuel = refl; witness = refl }
+some_all : (f m : Option Text) (r n : Option ℕ) (w x : Option Bool) → is_some (found_check f m r n w x) ≡ true → HasAll f m r n w x
+some_all None m r n w x e = cc
+some_all (Some f) None r n w x e = cc
+some_all (Some f) (Some m) None n w x e = cc
+some_all (Some f) (Some m) (Some r) None w x e = cc
+some_all (Some f) (Some m) (Some r) (Some n) None x e = cc
+some_all (Some f) (Some m) (Some r) (Some n) (Some w) None e = cc
+some_all (Some f) (Some m) (Some r) (Some n) (Some w) (Some x) e = record { file = refl; mode = refl; runs = refl; fuel = refl; witness = refl; complete = refl }
 
 pub has_file : (t : Tool) (rows : List Row) → is_some (found_in t rows) ≡ true → is_some (first_of (codes "FILE") rows) ≡ true
 has_file tracer rows e = (some_both _ _ e).0
-has_file checker rows e = (some_all _ _ _ _ _ e).file
+has_file checker rows e = (some_all _ _ _ _ _ _ e).file
 has_file verifier rows e = (some_three _ _ _ e).0
 
 pub has_mode : (t : Tool) (rows : List Row) → is_some (found_in t rows) ≡ true → is_some (first_of (codes "mode") rows) ≡ true
 has_mode tracer rows e = (some_both _ _ e).1
-has_mode checker rows e = (some_all _ _ _ _ _ e).mode
+has_mode checker rows e = (some_all _ _ _ _ _ _ e).mode
 has_mode verifier rows e = (some_three _ _ _ e).2
 
 not_found : (r : Option (Bor Text)) (o : Option Text) → o ≡ text_at r → r ≡ None → is_some o ≡ true → ⊥
@@ -242,16 +244,17 @@ flag_found f id b on off some = flag_some (one_of id (rows_of f)) b (λ e. on (o
 
 pub has_all : (f : Found) → is_some (found_in checker (rows_of f)) ≡ true
     → HasAll (first_of (codes "FILE") (rows_of f)) (first_of (codes "mode") (rows_of f)) (number_at most_runs (codes "runs") f) (number_at most_fuel (codes "fuel") f) (flag_at (codes "witness") f)
-has_all f e = some_all _ _ _ _ _ e
+    (flag_at (codes "complete") f)
+has_all f e = some_all _ _ _ _ _ _ e
 
-pub all_found : (f : Found) (file mode : Text) (runs fuel : ℕ) (witness : Bool) → first_of (codes "FILE") (rows_of f) ≡ Some file → first_of (codes "mode") (rows_of f) ≡ Some mode
-    → number_at most_runs (codes "runs") f ≡ Some runs → number_at most_fuel (codes "fuel") f ≡ Some fuel → flag_at (codes "witness") f ≡ Some witness
-    → Some (check file mode runs fuel witness) ≡ found_in checker (rows_of f)
-all_found f file mode runs fuel witness a b c d e = sym (five a b c d e)
+pub all_found : (f : Found) (file mode : Text) (runs fuel : ℕ) (witness complete : Bool) → first_of (codes "FILE") (rows_of f) ≡ Some file → first_of (codes "mode") (rows_of f) ≡ Some mode
+    → number_at most_runs (codes "runs") f ≡ Some runs → number_at most_fuel (codes "fuel") f ≡ Some fuel → flag_at (codes "witness") f ≡ Some witness → flag_at (codes "complete") f ≡ Some complete
+    → Some (check file mode runs fuel witness complete) ≡ found_in checker (rows_of f)
+all_found f file mode runs fuel witness complete a b c d e g = sym (six a b c d e g)
   where
-    five : {f' m' : Option Text} {r' n' : Option ℕ} {w' : Option Bool} → f' ≡ Some file → m' ≡ Some mode → r' ≡ Some runs → n' ≡ Some fuel → w' ≡ Some witness
-        → found_check f' m' r' n' w' ≡ Some (check file mode runs fuel witness)
-    five a b c d e = rw (a, b, c, d, e) refl
+    six : {f' m' : Option Text} {r' n' : Option ℕ} {w' x' : Option Bool} → f' ≡ Some file → m' ≡ Some mode → r' ≡ Some runs → n' ≡ Some fuel → w' ≡ Some witness → x' ≡ Some complete
+        → found_check f' m' r' n' w' x' ≡ Some (check file mode runs fuel witness complete)
+    six a b c d e g = rw (a, b, c, d, e, g) refl
 
 -- ---- numbers lie in their ranges
 
@@ -259,28 +262,30 @@ in_range : (high : ℕ) (t : Option Text) (n : ℕ) → option_and_then (number_
 in_range high None n e = cc
 in_range high (Some t) n e = (let facts = of_digits 1 high (without_plus t) n e in (facts.least, facts.most))
 
-same_parts : (f m : Option Text) (r n : Option ℕ) (w : Option Bool) (file mode : Text) (runs fuel : ℕ) (witness : Bool) → Some (check file mode runs fuel witness) ≡ found_check f m r n w → (r ≡ Some runs) × (n ≡ Some fuel)
-same_parts None m r n w file mode runs fuel witness e = cc
-same_parts (Some f) None r n w file mode runs fuel witness e = cc
-same_parts (Some f) (Some m) None n w file mode runs fuel witness e = cc
-same_parts (Some f) (Some m) (Some r) None w file mode runs fuel witness e = cc
-same_parts (Some f) (Some m) (Some r) (Some n) None file mode runs fuel witness e = cc
-same_parts (Some f) (Some m) (Some r) (Some n) (Some w) file mode runs fuel witness e = (cc, cc)
+same_parts : (f m : Option Text) (r n : Option ℕ) (w x : Option Bool) (file mode : Text) (runs fuel : ℕ) (witness complete : Bool) → Some (check file mode runs fuel witness complete) ≡ found_check f m r n w x
+    → (r ≡ Some runs) × (n ≡ Some fuel)
+same_parts None m r n w x file mode runs fuel witness complete e = cc
+same_parts (Some f) None r n w x file mode runs fuel witness complete e = cc
+same_parts (Some f) (Some m) None n w x file mode runs fuel witness complete e = cc
+same_parts (Some f) (Some m) (Some r) None w x file mode runs fuel witness complete e = cc
+same_parts (Some f) (Some m) (Some r) (Some n) None x file mode runs fuel witness complete e = cc
+same_parts (Some f) (Some m) (Some r) (Some n) (Some w) None file mode runs fuel witness complete e = cc
+same_parts (Some f) (Some m) (Some r) (Some n) (Some w) (Some x) file mode runs fuel witness complete e = (cc, cc)
 
-no_trace : (f m : Option Text) (file mode : Text) (runs fuel : ℕ) (witness : Bool) → Some (check file mode runs fuel witness) ≡ found_trace f m → ⊥
-no_trace None m file mode runs fuel witness e = cc
-no_trace (Some f) None file mode runs fuel witness e = cc
-no_trace (Some f) (Some m) file mode runs fuel witness e = cc
+no_trace : (f m : Option Text) (file mode : Text) (runs fuel : ℕ) (witness complete : Bool) → Some (check file mode runs fuel witness complete) ≡ found_trace f m → ⊥
+no_trace None m file mode runs fuel witness complete e = cc
+no_trace (Some f) None file mode runs fuel witness complete e = cc
+no_trace (Some f) (Some m) file mode runs fuel witness complete e = cc
 
-no_verify : (f w m : Option Text) (file mode : Text) (runs fuel : ℕ) (witness : Bool) → Some (check file mode runs fuel witness) ≡ found_verify f w m → ⊥
-no_verify None w m file mode runs fuel witness e = cc
-no_verify (Some f) None m file mode runs fuel witness e = cc
-no_verify (Some f) (Some w) None file mode runs fuel witness e = cc
-no_verify (Some f) (Some w) (Some m) file mode runs fuel witness e = cc
+no_verify : (f w m : Option Text) (file mode : Text) (runs fuel : ℕ) (witness complete : Bool) → Some (check file mode runs fuel witness complete) ≡ found_verify f w m → ⊥
+no_verify None w m file mode runs fuel witness complete e = cc
+no_verify (Some f) None m file mode runs fuel witness complete e = cc
+no_verify (Some f) (Some w) None file mode runs fuel witness complete e = cc
+no_verify (Some f) (Some w) (Some m) file mode runs fuel witness complete e = cc
 
-range_check : (text : Item → Option Text) (file mode : Text) (runs fuel : ℕ) (witness : Bool) → Some (check file mode runs fuel witness) ≡ found checker text → (1 ≤ runs) × (runs ≤ most_runs) × (1 ≤ fuel) × (fuel ≤ most_fuel)
-range_check text file mode runs fuel witness e =
-    let parts = same_parts (text the_file) (text the_mode) (option_and_then (number_in 1 most_runs) (text the_runs)) (option_and_then (number_in 1 most_fuel) (text the_fuel)) (option_and_then flag_in (text the_witness)) file mode runs fuel witness e in
+range_check : (text : Item → Option Text) (file mode : Text) (runs fuel : ℕ) (witness complete : Bool) → Some (check file mode runs fuel witness complete) ≡ found checker text → (1 ≤ runs) × (runs ≤ most_runs) × (1 ≤ fuel) × (fuel ≤ most_fuel)
+range_check text file mode runs fuel witness complete e =
+    let parts = same_parts (text the_file) (text the_mode) (option_and_then (number_in 1 most_runs) (text the_runs)) (option_and_then (number_in 1 most_fuel) (text the_fuel)) (option_and_then flag_in (text the_witness)) (option_and_then flag_in (text the_complete)) file mode runs fuel witness complete e in
     let r = in_range most_runs (text the_runs) runs parts.0 in
     let n = in_range most_fuel (text the_fuel) fuel parts.1 in
     (r.0, r.1, n.0, n.1)
@@ -289,10 +294,10 @@ range_by : (o : Option Tool) (rows : List Row) (options : Options) → Some (ask
 range_by o rows Plain e = tt
 range_by o rows (Trace file mode) e = tt
 range_by o rows (Verify file witness mode) e = tt
-range_by None rows (Check file mode runs fuel witness) e = cc
-range_by (Some tracer) rows (Check file mode runs fuel witness) e = absurd (no_trace (text_in rows the_file) (text_in rows the_mode) file.now mode.now runs fuel witness e)
-range_by (Some verifier) rows (Check file mode runs fuel witness) e = absurd (no_verify (text_in rows the_file) (text_in rows the_witness_file) (text_in rows the_mode) file.now mode.now runs fuel witness e)
-range_by (Some checker) rows (Check file mode runs fuel witness) e = range_check (text_in rows) file.now mode.now runs fuel witness e
+range_by None rows (Check file mode runs fuel witness complete) e = cc
+range_by (Some tracer) rows (Check file mode runs fuel witness complete) e = absurd (no_trace (text_in rows the_file) (text_in rows the_mode) file.now mode.now runs fuel witness complete e)
+range_by (Some verifier) rows (Check file mode runs fuel witness complete) e = absurd (no_verify (text_in rows the_file) (text_in rows the_witness_file) (text_in rows the_mode) file.now mode.now runs fuel witness complete e)
+range_by (Some checker) rows (Check file mode runs fuel witness complete) e = range_check (text_in rows) file.now mode.now runs fuel witness complete e
 
 pub range_of : (command : Option (Text × List Row)) (options : Options) → Some (asked options) ≡ found_of_command command → IsInRange options
 range_of None options e = none_asked options e

@@ -13,21 +13,11 @@ use Rattle.clap.specs.Walk.{Held, Walk, Waiting, idle, option, Step, trailing, v
 use Rattle.clap.specs.declared.parser.matches.ValueSource.TheVariants.{CommandLine}
 use Rattle.clap.proofs.OnLiterals.{clap_on_literals}
 use Rattle.mpd_options.specs.Asked as a
-use Rattle.mpd_options.specs.Asked.{Asked, Item, Place, Said, Tool, Word, alone, among_options, behind_dashes, behind_option, by_letters, checker, dashes, fits, if_fits, if_new, is_flag, joined, long_option, long_or_short, name_of, named, named_so, no_option, once, files_of, for_file, option_among, options_of, other_option, said_named, said_of, short_option, the_file, the_fuel, the_mode, the_runs, the_witness, the_witness_file, tracer, unsaid, verifier, wanted, with_option, with_word, word_of}
+use Rattle.mpd_options.specs.Asked.{Asked, Item, Place, Said, Tool, Word, alone, among_options, behind_dashes, behind_option, by_letters, checker, dashes, fits, if_fits, if_new, is_flag, joined, long_option, long_or_short, name_of, named, named_so, no_option, once, files_of, for_file, option_among, options_of, other_option, said_named, said_of, short_option, the_file, the_fuel, the_mode, the_runs, the_witness, the_complete, the_witness_file, tracer, unsaid, verifier, wanted, with_option, with_word, word_of}
 use Rattle.mpd_options.proofs.Ends.{Agrees, IsLast, at_end, end_fault, fails_first, fails_then, held, held_for, pending_for, settles, settles_by, with_last}
-use Rattle.mpd_options.proofs.Items.{Valid, arg, asks, asks_keeps, by_long, each_asks, row_for, flag_by_long, flag_used_again, flag_used_once, flag_used_well, has_said, help_arg, keeps, no_value, reads_witness, rows_for, rules, some_fault, sub, used_again, used_badly, used_once, used_well}
+use Rattle.mpd_options.proofs.Items.{Valid, arg, asks, asks_keeps, by_long, each_asks, row_for, flags, flag_by_long, has_said, help_arg, keeps, no_value, reads_witness, rows_for, rules, some_fault, sub, used_again, used_badly, used_once, used_well}
 
 -- ---- the options of a command
-
-abbrev pub has_flag : Tool → Bool
-has_flag tracer = false
-has_flag checker = true
-has_flag verifier = false
-
-pub each_flag : (P : Tool → Type 0) → P checker → (t : Tool) → has_flag t ≡ true → P t
-each_flag P c tracer e = cc
-each_flag P c checker e = c
-each_flag P c verifier e = cc
 
 help_fails : (t : Tool) (v : Option Text) (h : Held) → long_fault (rules t) false (Some (help_arg t)) v h ≢ []
 unfolding clap_on_literals
@@ -42,18 +32,19 @@ help_fails verifier (Some x) h = some_fault _ refl
 abbrev pub Unnamed : Tool → Text → Type 0
 Unnamed tracer name = bytes_eq (codes "mode") name ≡ false
 Unnamed checker name = (bytes_eq (codes "mode") name ≡ false) × (bytes_eq (codes "runs") name ≡ false) × (bytes_eq (codes "fuel") name ≡ false) × (bytes_eq (codes "witness") name ≡ false)
+    × (bytes_eq (codes "complete") name ≡ false)
 Unnamed verifier name = bytes_eq (codes "mode") name ≡ false
 
 find_help : (t : Tool) (name : Text) → Unnamed t name → bytes_eq (codes "help") name ≡ true → arg_by_long (rules t) name ≡ Some (help_arg t)
 unfolding clap_on_literals
 find_help tracer name u h = rw (u, h) refl
-find_help checker name u h = rw (u.0, u.1, u.2, u.3, h) refl
+find_help checker name u h = rw (u.0, u.1, u.2, u.3, u.4, h) refl
 find_help verifier name u h = rw (u, h) refl
 
 find_none : (t : Tool) (name : Text) → Unnamed t name → bytes_eq (codes "help") name ≡ false → arg_by_long (rules t) name ≡ None
 unfolding clap_on_literals
 find_none tracer name u h = rw (u, h) refl
-find_none checker name u h = rw (u.0, u.1, u.2, u.3, h) refl
+find_none checker name u h = rw (u.0, u.1, u.2, u.3, u.4, h) refl
 find_none verifier name u h = rw (u, h) refl
 
 pub dead_long : (t : Tool) (name : Text) (v : Option Text) (h : Held) → Unnamed t name → long_fault (rules t) false (arg_by_long (rules t) name) v h ≢ []
@@ -67,7 +58,7 @@ dead_long t name v h u =
 -- what `--NAME` names: an option that wants a value, a flag, or none
 pub data Names (t : Tool) (name : Text) : Type 0 where
   names_option : (i : Item) → asks t i ≡ true → option_among (options_of t) name ≡ Some i → arg_by_long (rules t) name ≡ Some (arg t i) → Names t name
-  names_flag : has_flag t ≡ true → option_among (options_of t) name ≡ Some the_witness → arg_by_long (rules t) name ≡ Some (arg t the_witness) → Names t name
+  names_flag : (i : Item) → flags t i ≡ true → option_among (options_of t) name ≡ Some i → arg_by_long (rules t) name ≡ Some (arg t i) → Names t name
   names_none : Unnamed t name → option_among (options_of t) name ≡ None → Names t name
 
 long_named : (t : Tool) (i : Item) (name : Text) → bytes_eq (name_of i) name ≡ true → arg_by_long (rules t) (name_of i) ≡ Some (arg t i) → arg_by_long (rules t) name ≡ Some (arg t i)
@@ -85,8 +76,11 @@ names checker name = elim (bytes_eq (codes "mode") name) as (λ b. bytes_eq (cod
     | false ↦ λ r. elim (bytes_eq (codes "fuel") name) as (λ b. bytes_eq (codes "fuel") name ≡ b → Names checker name) [
       | true ↦ λ f. names_option the_fuel refl (rw (m, r, f) refl) (long_named checker the_fuel name f (by_long checker the_fuel refl))
       | false ↦ λ f. elim (bytes_eq (codes "witness") name) as (λ b. bytes_eq (codes "witness") name ≡ b → Names checker name) [
-        | true ↦ λ w. names_flag refl (rw (m, r, f, w) refl) (long_named checker the_witness name w flag_by_long)
-        | false ↦ λ w. names_none (m, r, f, w) (rw (m, r, f, w) refl)
+        | true ↦ λ w. names_flag the_witness refl (rw (m, r, f, w) refl) (long_named checker the_witness name w (flag_by_long checker the_witness refl))
+        | false ↦ λ w. elim (bytes_eq (codes "complete") name) as (λ b. bytes_eq (codes "complete") name ≡ b → Names checker name) [
+          | true ↦ λ x. names_flag the_complete refl (rw (m, r, f, w, x) refl) (long_named checker the_complete name x (flag_by_long checker the_complete refl))
+          | false ↦ λ x. names_none (m, r, f, w, x) (rw (m, r, f, w, x) refl)
+        ] refl
       ] refl
     ] refl
   ] refl
@@ -342,18 +336,21 @@ each_file P a b c d tracer the_mode e = cc
 each_file P a b c d tracer the_runs e = cc
 each_file P a b c d tracer the_fuel e = cc
 each_file P a b c d tracer the_witness e = cc
+each_file P a b c d tracer the_complete e = cc
 each_file P a b c d checker the_file e = b
 each_file P a b c d checker the_witness_file e = cc
 each_file P a b c d checker the_mode e = cc
 each_file P a b c d checker the_runs e = cc
 each_file P a b c d checker the_fuel e = cc
 each_file P a b c d checker the_witness e = cc
+each_file P a b c d checker the_complete e = cc
 each_file P a b c d verifier the_file e = c
 each_file P a b c d verifier the_witness_file e = d
 each_file P a b c d verifier the_mode e = cc
 each_file P a b c d verifier the_runs e = cc
 each_file P a b c d verifier the_fuel e = cc
 each_file P a b c d verifier the_witness e = cc
+each_file P a b c d verifier the_complete e = cc
 
 pub file_keeps : (t : Tool) (i : Item) → is_file t i ≡ true → keeps t i ≡ true
 file_keeps = each_file (λ t i. keeps t i ≡ true) refl refl refl refl

@@ -12,10 +12,10 @@ use Rattle.clap.specs.Walk.{Held, Walk, Waiting, idle, option, Step, trailing, v
 use Rattle.clap.specs.declared.parser.matches.ValueSource.TheVariants.{CommandLine}
 use Rattle.clap.proofs.OnLiterals.{clap_on_literals}
 use Rattle.mpd_options.specs.Asked as a
-use Rattle.mpd_options.specs.Asked.{Asked, Item, Place, Said, Tool, Word, alone, among_options, behind_dashes, behind_option, by_letters, checker, dashes, fits, if_fits, if_new, is_flag, joined, long_option, long_or_short, name_of, named, named_so, no_option, once, files_of, for_file, option_among, options_of, other_option, said_named, said_of, short_option, the_file, the_fuel, the_mode, the_runs, the_witness, the_witness_file, tracer, unsaid, verifier, wanted, with_option, with_word, word_of}
+use Rattle.mpd_options.specs.Asked.{Asked, Item, Place, Said, Tool, Word, alone, among_options, behind_dashes, behind_option, by_letters, checker, dashes, fits, if_fits, if_new, is_flag, joined, long_option, long_or_short, name_of, named, named_so, no_option, once, files_of, for_file, option_among, options_of, other_option, said_named, said_of, short_option, the_file, the_fuel, the_mode, the_runs, the_witness, the_complete, the_witness_file, tracer, unsaid, verifier, wanted, with_option, with_word, word_of}
 use Rattle.mpd_options.proofs.Ends.{Agrees, IsLast, at_end, end_fault, fails_first, fails_then, held, held_for, pending_for, settles, settles_by, with_last}
-use Rattle.mpd_options.proofs.Items.{Valid, arg, asks, asks_keeps, by_long, each_asks, row_for, flag_by_long, flag_used_again, flag_used_once, flag_used_well, has_said, help_arg, keeps, no_value, reads_witness, rows_for, rules, some_fault, sub, used_again, used_badly, used_once, used_well}
-use Rattle.mpd_options.proofs.Turns.{asked_held, dd, dead_letters, dead_long, each_flag, file_fits, file_keeps, file_step, file_taken, free, frees, full, has_flag, InOrder, is_dashes, is_letters, is_long, is_no_letters, is_short, long_turn, names, names_flag, names_none, names_option, next_place, no_second, no_third, pair, place_at, place_by, place_of, plain_turn, reads, reads_dashes, reads_letters, reads_long, reads_no_letters, reads_plain, ready, said_at, Sound, State, Turn, turn, turns_dashes, turns_long, turns_no_letters, turns_plain, turns_short, value_turn, walk_at, walk_with, wants}
+use Rattle.mpd_options.proofs.Items.{Valid, arg, asks, asks_keeps, by_long, each_asks, row_for, each_flag, flags, flag_used_again, flag_used_once, flag_used_well, has_said, help_arg, keeps, no_value, reads_witness, rows_for, rules, some_fault, sub, used_again, used_badly, used_once, used_well}
+use Rattle.mpd_options.proofs.Turns.{asked_held, dd, dead_letters, dead_long, file_fits, file_keeps, file_step, file_taken, free, frees, full, InOrder, is_dashes, is_letters, is_long, is_no_letters, is_short, long_turn, names, names_flag, names_none, names_option, next_place, no_second, no_third, pair, place_at, place_by, place_of, plain_turn, reads, reads_dashes, reads_letters, reads_long, reads_no_letters, reads_plain, ready, said_at, Sound, State, Turn, turn, turns_dashes, turns_long, turns_no_letters, turns_plain, turns_short, value_turn, walk_at, walk_with, wants}
 
 -- ---- the law of all words
 
@@ -133,10 +133,10 @@ option_unsettled (Some v) h =
     each_asks (λ t i. settle_fault (rules t) false h ≢ [] → long_fault (rules t) false (Some (arg t i)) (Some v) h ≢ [])
     (λ e. fails_first _ _ e) (λ e. fails_first _ _ e) (λ e. fails_first _ _ e) (λ e. fails_first _ _ e) (λ e. fails_first _ _ e)
 
-flag_unsettled : (v : Option Text) (h : Held) (t : Tool) → has_flag t ≡ true → settle_fault (rules t) false h ≢ [] → long_fault (rules t) false (Some (arg t the_witness)) v h ≢ []
+flag_unsettled : (v : Option Text) (h : Held) (t : Tool) (i : Item) → flags t i ≡ true → settle_fault (rules t) false h ≢ [] → long_fault (rules t) false (Some (arg t i)) v h ≢ []
 unfolding clap_on_literals
-flag_unsettled None h = each_flag (λ t. settle_fault (rules t) false h ≢ [] → long_fault (rules t) false (Some (arg t the_witness)) None h ≢ []) (λ e. fails_first _ _ e)
-flag_unsettled (Some v) h = each_flag (λ t. settle_fault (rules t) false h ≢ [] → long_fault (rules t) false (Some (arg t the_witness)) (Some v) h ≢ []) (λ e. some_fault _ refl)
+flag_unsettled None h = each_flag (λ t i. settle_fault (rules t) false h ≢ [] → long_fault (rules t) false (Some (arg t i)) None h ≢ []) (λ e. fails_first _ _ e) (λ e. fails_first _ _ e)
+flag_unsettled (Some v) h = each_flag (λ t i. settle_fault (rules t) false h ≢ [] → long_fault (rules t) false (Some (arg t i)) (Some v) h ≢ []) (λ e. some_fault _ refl) (λ e. some_fault _ refl)
 
 -- no option can follow
 long_unsettled : (t : Tool) (name : Text) (v : Option Text) (h : Held) → settle_fault (rules t) false h ≢ [] → long_fault (rules t) false (arg_by_long (rules t) name) v h ≢ []
@@ -144,7 +144,7 @@ long_unsettled t name v h fails =
     let P : Option Rule → Type 0 = λ r. long_fault (rules t) false r v h ≢ [] in
     elim (names t name) [
       | names_option i asking n r ↦ subst P (sym r) (option_unsettled v h t i asking fails)
-      | names_flag flag n r ↦ subst P (sym r) (flag_unsettled v h t flag fails)
+      | names_flag i flag n r ↦ subst P (sym r) (flag_unsettled v h t i flag fails)
       | names_none u n ↦ dead_long t name v h u
     ]
 
@@ -324,27 +324,36 @@ gives_option t said last i v word words asking h is w laws =
     (λ rows new f. used_well t i v rows k new f) (λ rows again. used_again t i v rows k again) (λ rows f. used_badly t i v rows k f) (λ rows new. used_once t i v rows k new)
     (same_place v all t i asking) laws
 
-flag_turn : (rows : List Row) (p : Option (Text × List Text)) (position : ℕ) (word : Text)
-    → long_turn checker idle position word (held rows p) (Some (arg checker the_witness)) None ≡ given_turn checker the_witness [] (settle_fault (rules checker) false (held rows p)) (settled (rules checker) (held rows p)) position
+flag_turn : (rows : List Row) (p : Option (Text × List Text)) (position : ℕ) (word : Text) (t : Tool) (i : Item) → flags t i ≡ true
+    → long_turn t idle position word (held rows p) (Some (arg t i)) None ≡ given_turn t i [] (settle_fault (rules t) false (held rows p)) (settled (rules t) (held rows p)) position
 unfolding clap_on_literals
-flag_turn rows p position word = refl
+flag_turn rows p position word =
+    each_flag (λ t i. long_turn t idle position word (held rows p) (Some (arg t i)) None ≡ given_turn t i [] (settle_fault (rules t) false (held rows p)) (settled (rules t) (held rows p)) position) refl refl
 
-flag_with_value : (position : ℕ) (word v : Text) (h : Held) → (long_turn checker idle position word h (Some (arg checker the_witness)) (Some v)).0 ≢ []
+flag_with_value : (position : ℕ) (word v : Text) (h : Held) (t : Tool) (i : Item) → flags t i ≡ true → (long_turn t idle position word h (Some (arg t i)) (Some v)).0 ≢ []
 unfolding clap_on_literals
-flag_with_value position word v h = some_fault _ refl
+flag_with_value position word v h = each_flag (λ t i. (long_turn t idle position word h (Some (arg t i)) (Some v)).0 ≢ []) (some_fault _ refl) (some_fault _ refl)
 
-named_flag : (t : Tool) → has_flag t ≡ true → (said : Said) (last : Option (Item × Text)) (v : Option Text) (word : Text) (words : List Text) → Sound t (ready said last false)
-    → turn t idle (place_of (with_last said last)) word (held_for said last) ≡ long_turn t idle (place_of (with_last said last)) word (held_for said last) (Some (arg t the_witness)) v
-    → word_of t word ≡ named the_witness v → Laws t words → Law t (word ∷ words) (ready said last false)
-named_flag tracer flag said last v word words h is w laws = (let bad : false ≡ true = flag in cc)
-named_flag checker flag said last None word words h is w laws =
+is_a_flag : (t : Tool) (i : Item) → flags t i ≡ true → is_flag i ≡ true
+is_a_flag = each_flag (λ t i. is_flag i ≡ true) refl refl
+
+flag_fits : (t : Tool) (i : Item) → flags t i ≡ true → fits i (codes "true") ≡ true
+flag_fits = each_flag (λ t i. fits i (codes "true") ≡ true) refl refl
+
+flag_place : (said : Said) (t : Tool) (i : Item) → flags t i ≡ true → SamePlace i (codes "true") said
+flag_place said = each_flag (λ t i. SamePlace i (codes "true") said) (refl, (λ o. o)) (refl, (λ o. o))
+
+named_flag : (t : Tool) (i : Item) → flags t i ≡ true → (said : Said) (last : Option (Item × Text)) (v : Option Text) (word : Text) (words : List Text) → Sound t (ready said last false)
+    → turn t idle (place_of (with_last said last)) word (held_for said last) ≡ long_turn t idle (place_of (with_last said last)) word (held_for said last) (Some (arg t i)) v
+    → word_of t word ≡ named i v → Laws t words → Law t (word ∷ words) (ready said last false)
+named_flag t i flag said last None word words h is w laws =
     let all = with_last said last in
-    given checker said last the_witness [] (codes "true") word words h (is ∙ flag_turn (rows_for said) (pending_for last) (place_of all) word)
-    (means checker among_options word words all (named the_witness None) w)
-    (λ rows new f. flag_used_well rows new) (λ rows again. flag_used_again rows again) (λ rows f. (let bad : true ≡ false = f in cc)) (λ rows new. flag_used_once rows new) (refl, (λ o. o)) laws
-named_flag checker flag said last (Some v) word words h is w laws =
-    dies checker (ready said last false) word words _ is (flag_with_value (place_of (with_last said last)) word v (held_for said last)) (means checker among_options word words (with_last said last) (named the_witness (Some v)) w)
-named_flag verifier flag said last v word words h is w laws = (let bad : false ≡ true = flag in cc)
+    given t said last i [] (codes "true") word words h (is ∙ flag_turn (rows_for said) (pending_for last) (place_of all) word t i flag)
+    (means t among_options word words all (named i None) w ∙ ap (λ b. alone b i all (wanted t words)) (is_a_flag t i flag))
+    (λ rows new f. flag_used_well t i rows flag new) (λ rows again. flag_used_again t i rows flag again) (λ rows f. (let bad : true ≡ false = sym (flag_fits t i flag) ∙ f in cc)) (λ rows new. flag_used_once t i rows flag new) (flag_place all t i flag) laws
+named_flag t i flag said last (Some v) word words h is w laws =
+    dies t (ready said last false) word words _ is (flag_with_value (place_of (with_last said last)) word v (held_for said last) t i flag)
+    (means t among_options word words (with_last said last) (named i (Some v)) w ∙ ap (λ b. joined b i v (with_last said last) (wanted t words)) (is_a_flag t i flag))
 
 named_option : (t : Tool) (said : Said) (last : Option (Item × Text)) (i : Item) (v : Option Text) (word : Text) (words : List Text) → asks t i ≡ true → Sound t (ready said last false)
     → turn t idle (place_of (with_last said last)) word (held_for said last) ≡ long_turn t idle (place_of (with_last said last)) word (held_for said last) (Some (arg t i)) v
@@ -359,7 +368,7 @@ among_long t said last name v word words h d l laws =
     let g = held_for said last in
     elim (names t name) [
       | names_option i asking n r ↦ named_option t said last i v word words asking h (turns_long t None p word g name v _ d l r) (is_long t word name v (Some i) d l n) laws
-      | names_flag flag n r ↦ named_flag t flag said last v word words h (turns_long t None p word g name v _ d l r) (is_long t word name v (Some the_witness) d l n) laws
+      | names_flag i flag n r ↦ named_flag t i flag said last v word words h (turns_long t None p word g name v _ d l r) (is_long t word name v (Some i) d l n) laws
       | names_none u n ↦ dies t (ready said last false) word words _ (turns_long t None p word g name v _ d l refl) (fails_first _ _ (dead_long t name v g u))
           (means t among_options word words (with_last said last) other_option (is_long t word name v None d l n))
     ]

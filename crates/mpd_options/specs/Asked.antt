@@ -8,17 +8,18 @@ use Rattle.mpd_options.specs.declared.options.Options.{Options}
 use Rattle.mpd_options.specs.declared.options.Options.TheVariants.{Plain, Trace, Check, Verify}
 
 -- what is asked for: a script and its trace on standard input, the trace of a file, a look for deadlocks in one, or a check of
--- a witness; with the words of files and mode, how many runs, the fuel of each, and whether a witness is wanted
+-- a witness; with the words of files and mode, how many runs, the fuel of each, whether a witness is wanted, and whether all runs
+-- must be tried
 pub data Asked : Type 0 where
   plain : Asked
   trace : List ℕ → List ℕ → Asked
-  check : List ℕ → List ℕ → ℕ → ℕ → Bool → Asked
+  check : List ℕ → List ℕ → ℕ → ℕ → Bool → Bool → Asked
   verify : List ℕ → List ℕ → List ℕ → Asked
 
 abbrev pub asked : Options → Asked
 asked Plain = plain
 asked (Trace file mode) = trace file.now mode.now
-asked (Check file mode runs fuel witness) = check file.now mode.now runs fuel witness
+asked (Check file mode runs fuel witness complete) = check file.now mode.now runs fuel witness complete
 asked (Verify file witness mode) = verify file.now witness.now mode.now
 
 abbrev pub most_runs : ℕ
@@ -31,7 +32,7 @@ most_fuel = 1000000
 abbrev pub IsInRange : Options → Type 0
 IsInRange Plain = ⊤
 IsInRange (Trace file mode) = ⊤
-IsInRange (Check file mode runs fuel witness) = (1 ≤ runs) × (runs ≤ most_runs) × (1 ≤ fuel) × (fuel ≤ most_fuel)
+IsInRange (Check file mode runs fuel witness complete) = (1 ≤ runs) × (runs ≤ most_runs) × (1 ≤ fuel) × (fuel ≤ most_fuel)
 IsInRange (Verify file witness mode) = ⊤
 
 -- the commands
@@ -53,6 +54,7 @@ pub data Item : Type 0 where
   the_runs : Item
   the_fuel : Item
   the_witness : Item
+  the_complete : Item
 
 abbrev pub name_of : Item → List ℕ
 name_of the_file = codes "FILE"
@@ -61,10 +63,11 @@ name_of the_mode = codes "mode"
 name_of the_runs = codes "runs"
 name_of the_fuel = codes "fuel"
 name_of the_witness = codes "witness"
+name_of the_complete = codes "complete"
 
 abbrev pub options_of : Tool → List Item
 options_of tracer = the_mode ∷ []
-options_of checker = the_mode ∷ the_runs ∷ the_fuel ∷ the_witness ∷ []
+options_of checker = the_mode ∷ the_runs ∷ the_fuel ∷ the_witness ∷ the_complete ∷ []
 options_of verifier = the_mode ∷ []
 
 -- what the words that are no options name, in this order
@@ -79,6 +82,7 @@ option_among items name = find (λ item. bytes_eq (name_of item) name) items
 -- a flag has no value in words
 abbrev pub is_flag : Item → Bool
 is_flag the_witness = true
+is_flag the_complete = true
 is_flag _ = false
 
 -- a text can be the value of an item
@@ -89,6 +93,7 @@ fits the_mode text = true
 fits the_runs text = is_some (number_in 1 most_runs text)
 fits the_fuel text = is_some (number_in 1 most_fuel text)
 fits the_witness text = is_some (flag_in text)
+fits the_complete text = is_some (flag_in text)
 
 -- the value of an item of which nothing is said
 abbrev pub default_of : Item → Option (List ℕ)
@@ -98,6 +103,7 @@ default_of the_mode = Some (codes "rendezvous")
 default_of the_runs = Some (codes "1000")
 default_of the_fuel = Some (codes "100000")
 default_of the_witness = Some (codes "false")
+default_of the_complete = Some (codes "false")
 
 -- what a word behind a command is: `--`, `--NAME` or `--NAME=V` of an option, another option, or none
 pub data Word : Type 0 where
@@ -197,9 +203,9 @@ found_trace None mode = None
 found_trace (Some file) None = None
 found_trace (Some file) (Some mode) = Some (trace file mode)
 
-abbrev pub found_check : Option (List ℕ) → Option (List ℕ) → Option ℕ → Option ℕ → Option Bool → Option Asked
-found_check (Some file) (Some mode) (Some runs) (Some fuel) (Some witness) = Some (check file mode runs fuel witness)
-found_check _ _ _ _ _ = None
+abbrev pub found_check : Option (List ℕ) → Option (List ℕ) → Option ℕ → Option ℕ → Option Bool → Option Bool → Option Asked
+found_check (Some file) (Some mode) (Some runs) (Some fuel) (Some witness) (Some complete) = Some (check file mode runs fuel witness complete)
+found_check _ _ _ _ _ _ = None
 
 abbrev pub found_verify : Option (List ℕ) → Option (List ℕ) → Option (List ℕ) → Option Asked
 found_verify (Some file) (Some witness) (Some mode) = Some (verify file witness mode)
@@ -210,7 +216,7 @@ abbrev pub found : Tool → (Item → Option (List ℕ)) → Option Asked
 found tracer text = found_trace (text the_file) (text the_mode)
 found checker text =
     found_check (text the_file) (text the_mode) (option_and_then (number_in 1 most_runs) (text the_runs)) (option_and_then (number_in 1 most_fuel) (text the_fuel))
-    (option_and_then flag_in (text the_witness))
+    (option_and_then flag_in (text the_witness)) (option_and_then flag_in (text the_complete))
 found verifier text = found_verify (text the_file) (text the_witness_file) (text the_mode)
 
 abbrev pub or_default : Option (List ℕ) → Option (List ℕ) → Option (List ℕ)
@@ -248,6 +254,7 @@ text_in rows the_mode = first_of (name_of the_mode) rows
 text_in rows the_runs = one_of (name_of the_runs) rows
 text_in rows the_fuel = one_of (name_of the_fuel) rows
 text_in rows the_witness = one_of (name_of the_witness) rows
+text_in rows the_complete = one_of (name_of the_complete) rows
 
 abbrev pub found_in : Tool → List Row → Option Asked
 found_in t rows = found t (text_in rows)

@@ -12,7 +12,7 @@ names words file mode = (codes "trace" ∷ words, Some (trace file mode))
 
 -- words behind `check`, and what they ask for of the file `a`
 abbrev asks : List (List ℕ) → List ℕ → ℕ → ℕ → Bool → Row
-asks words mode runs fuel witness = (codes "check" ∷ words, Some (check (codes "a") mode runs fuel witness))
+asks words mode runs fuel witness = (codes "check" ∷ words, Some (check (codes "a") mode runs fuel witness false))
 
 -- words behind `check a` that make them ask for nothing
 abbrev spoils : List (List ℕ) → Row
@@ -81,9 +81,11 @@ rows =
     ∷ asks (codes "a" ∷ codes "--fuel" ∷ codes "1" ∷ []) (codes "rendezvous") 1000 1 false
     ∷ asks (codes "--fuel=1000000" ∷ codes "a" ∷ []) (codes "rendezvous") 1000 1000000 false
     ∷ asks (codes "--fuel" ∷ codes "20" ∷ codes "--witness" ∷ codes "--runs" ∷ codes "30" ∷ codes "--mode=buffered" ∷ codes "--" ∷ codes "a" ∷ []) (codes "buffered") 30 20 true
-    ∷ (codes "check" ∷ codes "--" ∷ codes "--witness" ∷ [], Some (check (codes "--witness") (codes "rendezvous") 1000 100000 false))
-    ∷ (codes "check" ∷ codes "check" ∷ [], Some (check (codes "check") (codes "rendezvous") 1000 100000 false))
-    ∷ (codes "check" ∷ codes "--mode" ∷ codes "trace" ∷ codes "trace" ∷ [], Some (check (codes "trace") (codes "trace") 1000 100000 false))
+    ∷ (codes "check" ∷ codes "--" ∷ codes "--witness" ∷ [], Some (check (codes "--witness") (codes "rendezvous") 1000 100000 false false))
+    ∷ (codes "check" ∷ codes "check" ∷ [], Some (check (codes "check") (codes "rendezvous") 1000 100000 false false))
+    ∷ (codes "check" ∷ codes "--mode" ∷ codes "trace" ∷ codes "trace" ∷ [], Some (check (codes "trace") (codes "trace") 1000 100000 false false))
+    ∷ (codes "check" ∷ codes "a" ∷ codes "--complete" ∷ [], Some (check (codes "a") (codes "rendezvous") 1000 100000 false true))
+    ∷ (codes "check" ∷ codes "--complete" ∷ codes "--witness" ∷ codes "a" ∷ codes "--runs=5" ∷ [], Some (check (codes "a") (codes "rendezvous") 5 100000 true true))
     ∷ names (codes "check" ∷ []) (codes "check") (codes "rendezvous")
     ∷ nothing (codes "check" ∷ [])
     ∷ nothing (codes "check" ∷ codes "--witness" ∷ [])
@@ -111,6 +113,8 @@ rows =
     ∷ spoils (codes "--runs" ∷ codes "-5" ∷ [])
     ∷ spoils (codes "--witness=true" ∷ [])
     ∷ spoils (codes "--witness" ∷ codes "--witness" ∷ [])
+    ∷ spoils (codes "--complete=true" ∷ [])
+    ∷ spoils (codes "--complete" ∷ codes "--complete" ∷ [])
     ∷ spoils (codes "--runs" ∷ codes "5" ∷ codes "--runs" ∷ codes "5" ∷ [])
     ∷ spoils (codes "--fuel=5" ∷ codes "--fuel=5" ∷ [])
     ∷ spoils (codes "--mode=b" ∷ codes "--mode=b" ∷ [])

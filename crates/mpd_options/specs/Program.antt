@@ -30,6 +30,9 @@ number_rule name most default = record (new_rule name) {
 abbrev pub witness_rule : Rule
 witness_rule = record (new_rule (codes "witness")) { long = Some (codes "witness"); action = Some SetTrue }
 
+abbrev pub complete_rule : Rule
+complete_rule = record (new_rule (codes "complete")) { long = Some (codes "complete"); action = Some SetTrue }
+
 abbrev pub runs_rule : Rule
 runs_rule = number_rule (codes "runs") most_runs (codes "1000")
 
@@ -47,7 +50,7 @@ abbrev pub numbers_app : App
 numbers_app = with_rule (with_rule (script_app (codes "check")) runs_rule) fuel_rule
 
 abbrev pub check_app : App
-check_app = with_rule numbers_app witness_rule
+check_app = with_rule (with_rule numbers_app witness_rule) complete_rule
 
 abbrev pub verify_app : App
 verify_app = with_rule (script_app (codes "verify")) (file_rule (codes "WITNESS"))

@@ -6,7 +6,7 @@ ghost use Rattle.clap.specs.Words.{app_of, rule_of};
 ghost use Rattle.clap.specs.declared.builder.command.Command.TheViews.{out-Command as fields_of};
 ghost use Rattle.mpd_options.specs.Help.{example_of};
 ghost use Rattle.mpd_options.specs.declared.command.Topic.TheVariants.{Check, Program, Trace, Verify};
-ghost use Rattle.mpd_options.specs.Program.{check_app, file_rule, fuel_rule, mode_rule, mpdbg_app, named_app, number_rule, numbers_app, runs_rule, script_app, trace_app, verify_app, witness_rule};
+ghost use Rattle.mpd_options.specs.Program.{check_app, file_rule, fuel_rule, mode_rule, mpdbg_app, named_app, number_rule, numbers_app, runs_rule, script_app, trace_app, verify_app, witness_rule, complete_rule};
 
 use clap::builder::ValueParser;
 use clap::{Arg, ArgAction, Command};
@@ -26,6 +26,9 @@ pub(crate) const FUEL: &str = "fuel";
 
 /// The flag that asks for a witness, without its hyphens.
 pub(crate) const WITNESS: &str = "witness";
+
+/// The flag that asks whether all runs were tried, without its hyphens.
+pub(crate) const COMPLETE: &str = "complete";
 
 /// The word of a witness's file.
 pub(crate) const WITNESS_FILE: &str = "WITNESS";
@@ -70,7 +73,7 @@ const CHECK_EXAMPLE: &str = "Example:
 const VERIFY_ABOUT: &str = "Check a witness that check has written";
 
 const VERIFY_EXAMPLE: &str = "Example:
-  ./mpdbg check examples/race.mpd --witness | grep -A 1 '^leaf 1 ' | ./mpdbg verify examples/race.mpd /dev/stdin";
+  ./mpdbg check examples/race.mpd --witness | grep -A 1 deadlock | head -2 | ./mpdbg verify examples/race.mpd /dev/stdin";
 
 /// What help speaks of: the program, or one of its commands.
 #[derive(Clone, Copy)]
@@ -180,6 +183,17 @@ fn witness_flag<'a>(alloc: Global) -> Arg<'a>
         .help("Print the trace words of a run that comes to a deadlock")
 }
 
+/// `--complete`.
+fn complete_flag<'a>(alloc: Global) -> Arg<'a>
+    ensures rule { rule_of result ≡ complete_rule }
+    ensures own { result.global ≡ false }
+{
+    Arg::new(alloc, COMPLETE)
+        .long(COMPLETE)
+        .action(ArgAction::SetTrue)
+        .help("End with status 4 where nothing was found and not all was tried")
+}
+
 /// The command with what help says of it, and its example.
 fn with_help<'a>(command: Command<'a>, topic: Topic) -> Command<'a>
     ensures app { app_of result ≡ app_of command.entry }
@@ -219,13 +233,15 @@ fn numbers_command<'a>(alloc: Global) -> Result<Command<'a>, AllocError>
         .arg(fuel_option(alloc))
 }
 
-/// `mpdbg check FILE --mode M --runs N --fuel N --witness`.
+/// `mpdbg check FILE --mode M --runs N --fuel N --witness --complete`.
 fn check_command<'a>(alloc: Global) -> Result<Command<'a>, AllocError>
     ensures app { IfOk result (λ c. app_of c ≡ check_app) }
     ensures own { IfOk result (λ c. (fields_of c).has_globals ≡ false) }
     ensures example { IfOk result (λ c. option_map (λ (t : Bor (List ℕ)). t.now) (fields_of c).after_help ≡ Some (example_of Check)) }
 {
-    let command = numbers_command(alloc)?.arg(witness_flag(alloc))?;
+    let command = numbers_command(alloc)?
+        .arg(witness_flag(alloc))?
+        .arg(complete_flag(alloc))?;
     Ok(with_help(command, Topic::Check))
 }
 

@@ -5,7 +5,7 @@ ghost use Rattle.mpd_options.specs.Asked.{IsFound, IsInRange, asked, checker, fo
 ghost use Rattle.mpd_options.specs.Refused.{IsRefused, is_answer, usage_of, usage_status, usage_text};
 
 use crate::command::{
-    CHECK, FILE, FUEL, MODE, RUNS, TRACE, VERIFY, WITNESS, WITNESS_FILE, program,
+    CHECK, COMPLETE, FILE, FUEL, MODE, RUNS, TRACE, VERIFY, WITNESS, WITNESS_FILE, program,
 };
 use clap::ArgMatches;
 use clap::error::ErrorKind;
@@ -18,7 +18,7 @@ const NOT_TEXT: &str =
     "error: invalid UTF-8 was detected in one or more arguments\n\nFor more information, try '--help'.\n";
 
 /// What a command line asks for.
-#[derive(Clone, Copy, Debug, PartialEq, Eq)]
+#[derive(Clone, Copy)]
 pub enum Options<'a> {
     /// No word: a script and its trace are on standard input.
     Plain,
@@ -41,6 +41,8 @@ pub enum Options<'a> {
         fuel: usize,
         /// Whether the trace words of a run that comes to a deadlock are wanted.
         witness: bool,
+        /// Whether the status is to tell that not all runs were tried.
+        complete: bool,
     },
     /// Check a witness for the script of a file.
     Verify {
@@ -54,7 +56,7 @@ pub enum Options<'a> {
 }
 
 /// Why a command line asks for nothing that can be done. Its `Display` is the text for the user, with its line feeds.
-#[derive(Debug, Drop)]
+#[derive(Drop)]
 pub enum UsageFault {
     /// Help or the version was asked for, or the words are wrong.
     Usage(clap::Error),
@@ -161,12 +163,14 @@ fn check_in<'a>(check: &ArgMatches<'a>) -> Options<'a>
         unreachable!()
     };
     let wants_witness = check.get_flag(WITNESS);
+    let is_complete = check.get_flag(COMPLETE);
     Options::Check {
         file,
         mode,
         runs,
         fuel,
         witness: wants_witness,
+        complete: is_complete,
     }
 }
 

@@ -269,12 +269,29 @@ going_halted_last places max old now made cause x g all is halts =
     let k : made ≡ max = omega (arith, g.within, all) in
     subst (λ (n : ℕ). Ended places max old now (stop_at n cause)) k (going_halted places max old now made cause x g is halts)
 
-pub going_broken : (places : List (Option Break)) (max : ℕ) (old now new : Standing) (made : ℕ) → Going places max old now made → new.trail ≡ now.trail → Broken old new
-going_broken places max old now new made g same = record {
+behind_some : (a : Step) (mark : Option ℕ) (more : Ran) → 0 < length (behind a mark more).steps
+behind_some a (Some n) more = omega arith
+behind_some a None more = omega arith
+
+-- a run that is to take a step makes one
+makes_by : (places : List (Option Break)) (max : ℕ) (old now : Standing) (made : ℕ) (a : Step) (x : Ahead) (g : Going places max old now made) → made < max → x ≡ ahead_of now.trail.depth (decision now.world) → x ≡ Take a
+    → (o : Option World) → next now.world a ≡ o → IsSome o → 0 < length (ran_from places max old).steps
+makes_by places max old now made a x g lt is takes None leads some = absurd (let h : ⊥ = cc in h)
+makes_by places max old now made a x g lt is takes (Some v) leads some =
+    let new : Standing = record { trail = now.trail; world = v } in
+    let mark : Option ℕ = lowest_mark now.trail.program places now.world a v in
+    let more : Ran = behind a mark (ran old.trail.program places (max - (made + 1)) (now.trail.depth + 1) v) in
+    let total : ran_from places max old ≡ behind_all g.taken more = total_more places max old now new made a x mark g lt is takes leads refl in
+    omega (arith, ap (λ (r : Ran). length r.steps) total, length-append g.taken more.steps, behind_some a mark (ran old.trail.program places (max - (made + 1)) (now.trail.depth + 1) v))
+
+pub going_broken : (places : List (Option Break)) (max : ℕ) (old now new : Standing) (made : ℕ) (a : Step) (x : Ahead) → Going places max old now made → made < max → x ≡ ahead_of now.trail.depth (decision now.world) → x ≡ Take a
+    → new.trail ≡ now.trail → Broken places max old new
+going_broken places max old now new made a x g lt is takes same = record {
   begins = ap (λ (t : Trail). take old.trail.depth (kept t)) same ∙ g.begins;
   deeper = subst (λ (t : Trail). old.trail.depth ≤ t.depth) (sym same) g.deeper;
   program = ap (λ (t : Trail). t.program) same ∙ g.program;
   mode = ap (λ (t : Trail). t.mode) same ∙ g.mode;
+  makes = makes_by places max old now made a x g lt is takes (next now.world a) refl (ahead_enabled now.world now.trail.depth x a is takes);
 }
 
 -- ---- after a refusal
@@ -285,11 +302,11 @@ take_less (suc n) zero xs le = absurd (omega (arith, le))
 take_less (suc n) (suc m) [] le = refl
 take_less (suc n) (suc m) (x ∷ xs) le = ap (λ ys. x ∷ ys) (take_less n m xs (omega (arith, le)))
 
-pub back_begins : (old now : Standing) (steps : List Step) → Broken old now → steps ≡ old.trail.steps → take old.trail.depth steps ≡ take old.trail.depth (kept now.trail)
-back_begins old now steps b same = ap (take old.trail.depth) same ∙ sym b.begins
+pub back_begins : (places : List (Option Break)) (max : ℕ) (old now : Standing) (steps : List Step) → Broken places max old now → steps ≡ old.trail.steps → take old.trail.depth steps ≡ take old.trail.depth (kept now.trail)
+back_begins places max old now steps b same = ap (take old.trail.depth) same ∙ sym b.begins
 
-pub back_run : (old now : Standing) (steps : List Step) → Broken old now → IsReached old → steps ≡ old.trail.steps → IsRun now.trail.program now.trail.mode steps
-back_run old now steps b r same =
+pub back_run : (places : List (Option Break)) (max : ℕ) (old now : Standing) (steps : List Step) → Broken places max old now → IsReached old → steps ≡ old.trail.steps → IsRun now.trail.program now.trail.mode steps
+back_run places max old now steps b r same =
     subst (λ (xs : List Step). IsRun now.trail.program now.trail.mode xs) (sym same)
     (subst (λ (p : Program). IsRun p now.trail.mode old.trail.steps) (sym b.program) (subst (λ (m : Mode). IsRun old.trail.program m old.trail.steps) (sym b.mode) r.run))
 
@@ -302,11 +319,11 @@ same_trail old now steps p m e =
     ∙ ap (λ (q : Mode). trail_of old.trail.program q steps old.trail.depth) m
     ∙ ap (λ (q : List Step). trail_of old.trail.program old.trail.mode q old.trail.depth) e
 
-pub back_some : (old now new : Standing) (steps : List Step) → Broken old now → steps ≡ old.trail.steps → new.trail ≡ with_steps (gone_back now.trail old.trail.depth) steps → new.trail ≡ old.trail
-back_some old now new steps b same put = put ∙ same_trail old now steps b.program b.mode same
+pub back_some : (places : List (Option Break)) (max : ℕ) (old now new : Standing) (steps : List Step) → Broken places max old now → steps ≡ old.trail.steps → new.trail ≡ with_steps (gone_back now.trail old.trail.depth) steps → new.trail ≡ old.trail
+back_some places max old now new steps b same put = put ∙ same_trail old now steps b.program b.mode same
 
-pub back_none : (old now new : Standing) → Broken old now → IsReached old → length old.trail.steps ≡ old.trail.depth → new.trail ≡ forgotten (gone_back now.trail old.trail.depth) → new.trail ≡ old.trail
-back_none old now new b r all forgets =
+pub back_none : (places : List (Option Break)) (max : ℕ) (old now new : Standing) → Broken places max old now → IsReached old → length old.trail.steps ≡ old.trail.depth → new.trail ≡ forgotten (gone_back now.trail old.trail.depth) → new.trail ≡ old.trail
+back_none places max old now new b r all forgets =
     forgets ∙ same_trail old now (take old.trail.depth now.trail.steps) b.program b.mode
     (sym (take_less old.trail.depth now.trail.depth now.trail.steps b.deeper) ∙ b.begins ∙ take_all old.trail.depth old.trail.steps (omega (arith, all)))
 
@@ -320,16 +337,16 @@ pub ruleset going = (going_begins, going_more, going_marked, going_halted, going
 
 -- ---- what was set aside
 
-pub saved_begins : {V : Type 0} (f : V → List Step) (old now : Standing) (d : ℕ) (o : Option V) → d ≡ old.trail.depth → Broken old now → IfSome o (λ v. f v ≡ old.trail.steps) → IfSome o (λ v. take d (f v) ≡ take d (kept now.trail))
-saved_begins f old now d None e b h = tt
-saved_begins f old now d (Some v) e b h =
-    ap (λ (n : ℕ). take n (f v)) e ∙ back_begins old now (f v) b h ∙ ap (λ (n : ℕ). take n (kept now.trail)) (sym e)
+pub saved_begins : {V : Type 0} (places : List (Option Break)) (max : ℕ) (f : V → List Step) (old now : Standing) (d : ℕ) (o : Option V) → d ≡ old.trail.depth → Broken places max old now → IfSome o (λ v. f v ≡ old.trail.steps) → IfSome o (λ v. take d (f v) ≡ take d (kept now.trail))
+saved_begins places max f old now d None e b h = tt
+saved_begins places max f old now d (Some v) e b h =
+    ap (λ (n : ℕ). take n (f v)) e ∙ back_begins places max old now (f v) b h ∙ ap (λ (n : ℕ). take n (kept now.trail)) (sym e)
 
-pub saved_run : {V : Type 0} (f : V → List Step) (old now : Standing) (o : Option V) → Broken old now → IsReached old → IfSome o (λ v. f v ≡ old.trail.steps) → IfSome o (λ v. IsRun now.trail.program now.trail.mode (f v))
-saved_run f old now None b r h = tt
-saved_run f old now (Some v) b r h = back_run old now (f v) b r h
+pub saved_run : {V : Type 0} (places : List (Option Break)) (max : ℕ) (f : V → List Step) (old now : Standing) (o : Option V) → Broken places max old now → IsReached old → IfSome o (λ v. f v ≡ old.trail.steps) → IfSome o (λ v. IsRun now.trail.program now.trail.mode (f v))
+saved_run places max f old now None b r h = tt
+saved_run places max f old now (Some v) b r h = back_run places max old now (f v) b r h
 
-pub put_trail : {V : Type 0} (f : V → List Step) (old now new : Standing) (d : ℕ) (o : Option V) → d ≡ old.trail.depth → Broken old now → IsReached old → IfSome o (λ v. f v ≡ old.trail.steps) → IfNone o (length old.trail.steps ≡ old.trail.depth)
+pub put_trail : {V : Type 0} (places : List (Option Break)) (max : ℕ) (f : V → List Step) (old now new : Standing) (d : ℕ) (o : Option V) → d ≡ old.trail.depth → Broken places max old now → IsReached old → IfSome o (λ v. f v ≡ old.trail.steps) → IfNone o (length old.trail.steps ≡ old.trail.depth)
     → IfSome o (λ v. new.trail ≡ with_steps (gone_back now.trail d) (f v)) → IfNone o (new.trail ≡ forgotten (gone_back now.trail d)) → new.trail ≡ old.trail
-put_trail f old now new d None e b r some none put forgets = back_none old now new b r none (forgets ∙ ap (λ (n : ℕ). forgotten (gone_back now.trail n)) e)
-put_trail f old now new d (Some v) e b r some none put forgets = back_some old now new (f v) b some (put ∙ ap (λ (n : ℕ). with_steps (gone_back now.trail n) (f v)) e)
+put_trail places max f old now new d None e b r some none put forgets = back_none places max old now new b r none (forgets ∙ ap (λ (n : ℕ). forgotten (gone_back now.trail n)) e)
+put_trail places max f old now new d (Some v) e b r some none put forgets = back_some places max old now new (f v) b some (put ∙ ap (λ (n : ℕ). with_steps (gone_back now.trail n) (f v)) e)

@@ -1,5 +1,5 @@
 -- What a run does next, and where it stands in the end.
-use Rattle.std.specs.Prelude.{◌≡◌, ℕ, ◌≤◌, ◌==◌, if◌then◌else◌, List, take, Option, Some, Result, Ok, Err}
+use Rattle.std.specs.Prelude.{◌≡◌, ℕ, ◌<◌, ◌≤◌, ◌==◌, if◌then◌else◌, List, length, take, Option, Some, Result, Ok, Err}
 use Rattle.mpd_model.specs.declared.limits.TheConstants.{STEPS_MAX}
 use Rattle.mpd_model.specs.declared.decision.Decision.{Decision}
 use Rattle.mpd_model.specs.declared.decision.Decision.TheVariants as next_is
@@ -27,13 +27,14 @@ pub record Ended (places : List (Option Break)) (max : ℕ) (old new : Standing)
   pub trail : new.trail ≡ all_applied old.trail (ran_from places max old).steps
   pub world : fold old.world (ran_from places max old).steps ≡ Some new.world
 
--- a run that was refused memory on its way: the steps before it still stand
-pub record Broken (old new : Standing) : Type 0 where
+-- a run that was refused memory on its way: the steps before it still stand, and it was to make a step at least
+pub record Broken (places : List (Option Break)) (max : ℕ) (old new : Standing) : Type 0 where
   pub begins : take old.trail.depth (kept new.trail) ≡ kept old.trail
   pub deeper : old.trail.depth ≤ new.trail.depth
   pub program : new.trail.program ≡ old.trail.program
   pub mode : new.trail.mode ≡ old.trail.mode
+  pub makes : 0 < length (ran_from places max old).steps
 
 abbrev pub Went : {E : Type 0} → List (Option Break) → ℕ → Standing → Standing → Result Stop E → Type 0
 Went places max old new (Ok stop) = Ended places max old new stop
-Went places max old new (Err e) = Broken old new
+Went places max old new (Err e) = Broken places max old new

@@ -1,6 +1,6 @@
 //! Runs that go by themselves, forward along decisions, and back.
 
-ghost use Rattle.std.specs.Prelude.{◌≡◌, ◌<◌, ◌≤◌, ◌+◌, ◌-◌, ◌++◌, ◌∷◌, [], IfOk, OnOk, OnErr, IfSome, IfNone, IsSome, Some, length, take, slice_get};
+ghost use Rattle.std.specs.Prelude.{◌≡◌, ◌<◌, ◌≤◌, ◌+◌, ◌-◌, ◌⊎◌, ◌++◌, ◌∷◌, [], IfOk, OnOk, OnErr, IfSome, IfNone, IsSome, Some, length, take, slice_get};
 ghost use Rattle.mpd_model.specs.Next.{next, fold};
 ghost use Rattle.mpd_model.specs.Trail.{IsReached, IsRun, applied, kept, gone_back, forgotten, with_steps};
 ghost use Rattle.mpd_model.specs.Decisions.{decision};
@@ -68,7 +68,8 @@ fn take(
     Ok(lower(told, changed))
 }
 
-/// Runs along decisions, and where memory is refused on the way leaves the steps that it made.
+/// Runs along decisions, and where memory is refused on the way leaves the steps that it made. It is refused only where it makes a
+/// step.
 #[tactic(auto, using(crate::proofs::RunLemmas::going))]
 fn go(debugger: &mut Debugger<'_>, breaks: &Breaks, max: usize) -> Result<Stop, AllocError>
     ensures went { Went breaks.now max (standing_of debugger.old) (standing_of debugger.new) result }
@@ -97,10 +98,11 @@ fn go(debugger: &mut Debugger<'_>, breaks: &Breaks, max: usize) -> Result<Stop, 
     }
 }
 
-/// All steps kept, where some are undone. An `Err` is want of memory.
+/// All steps kept, where some are undone. An `Err` is want of memory, and comes only there.
 fn set_aside(alloc: Global, debugger: &Debugger<'_>) -> Result<Option<Vec<Step>>, AllocError>
     ensures some { IfOk result (λ saved. IfSome saved (λ steps. steps.items ≡ debugger.now.trail.steps)) }
     ensures none { IfOk result (λ saved. IfNone saved (length debugger.now.trail.steps ≡ debugger.now.trail.depth)) }
+    ensures memory { OnErr result (debugger.now.trail.depth < length debugger.now.trail.steps) }
 {
     let _ = debugger.core();
     let steps = debugger.steps();
@@ -130,7 +132,8 @@ fn put_back(debugger: &mut Debugger<'_>, depth: usize, saved: Option<Vec<Step>>)
 
 /// Runs along decisions (docs/DEFINITIONS.md, "Runs"): it makes every forced step, and stops behind the first that a breakpoint
 /// marks, and before a step at a leaf, at a choice, where 1,000,000 steps are not undone, or after `max` steps, in this order. An
-/// `Err` is want of memory, and then the state and all steps, undone ones too, are as before.
+/// `Err` is want of memory, and then the state and all steps, undone ones too, are as before; it comes only where steps are undone,
+/// whose list is set aside, or where the run makes a step.
 pub fn run(
     alloc: Global,
     debugger: &mut Debugger<'_>,
@@ -143,6 +146,7 @@ pub fn run(
     ensures reached { IsReached (standing_of debugger.new) }
     ensures err { OnErr result (debugger.new.trail ≡ debugger.old.trail) }
     ensures err_world { OnErr result (debugger.new.world ≡ debugger.old.world) }
+    ensures memory { OnErr result ((debugger.old.trail.depth < length debugger.old.trail.steps) ⊎ (0 < length (ran debugger.old.trail.program breaks.now max debugger.old.trail.depth debugger.old.world).steps)) }
 {
     let _ = debugger.core();
     let depth = debugger.depth();

@@ -6,7 +6,7 @@ use std::marker::Model;
 const NO_ITEM: u32 = u32::MAX;
 
 /// The number of an item, or none. Contracts see an `Option`.
-#[derive(Clone, Copy, Debug, PartialEq, Eq)]
+#[derive(Clone, Copy)]
 pub(crate) struct Link {
     number: u32,
 }

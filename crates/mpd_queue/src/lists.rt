@@ -1,5 +1,5 @@
 //! Disjoint lists of numbers, in one vector of cells.
-ghost use Rattle.std.specs.Prelude.{◌≡◌, ℕ, ◌+◌, ◌<◌, ◌≤◌, Option, Some, length, is_none, IsOk, OnOk, OnErr, IfOk};
+ghost use Rattle.std.specs.Prelude.{◌≡◌, ℕ, ◌+◌, ◌<◌, ◌≤◌, Option, Some, length, IsOk, OnOk, OnErr, IfOk};
 ghost use Rattle.mpd_queue.specs.InOrder.{list_at, places_in, places, first_of, next_of, empty_lists, with_inserted, with_removed, with_pushed, with_newest_dropped, HasSpot};
 
 use crate::link::Link;
@@ -13,7 +13,7 @@ use std::marker::Model;
 const MOST_CELLS: usize = 4294967295;
 
 /// Where an item stood in its list. Only `unlink` makes one. It takes four bytes.
-#[derive(Clone, Copy, Debug, PartialEq, Eq)]
+#[derive(Clone, Copy)]
 pub struct Spot {
     next: Link,
 }
@@ -193,14 +193,6 @@ impl Lists {
             }
             None => unreachable!(),
         }
-    }
-
-    /// Whether a list has no item. No look.
-    pub fn is_empty(&self, list: usize) -> bool
-        requires { list < length self.now.lists }
-        ensures { result ≡ is_none (first_of (list_at self.now.lists list)) }
-    {
-        self.links.next(list, Link::none()).item().is_none()
     }
 
     /// The first item of a list. One look.

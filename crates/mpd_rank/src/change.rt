@@ -16,7 +16,7 @@ const NO_NUMBER: u32 = u32::MAX;
 const NO_CELL: u16 = u16::MAX;
 
 /// Cells that a wake writes, in order, each with its new value. Contracts see a list. There are three at most.
-#[derive(Clone, Copy, Debug, PartialEq, Eq)]
+#[derive(Clone, Copy)]
 pub struct Cells {
     pub(crate) first: Option<(usize, i64)>,
     pub(crate) second: Option<(usize, i64)>,
@@ -77,7 +77,7 @@ impl Cells {
 }
 
 /// What a cell held that was written, if one was. It takes 16 bytes. Contracts see an `Option`.
-#[derive(Clone, Copy, Debug, PartialEq, Eq)]
+#[derive(Clone, Copy)]
 pub struct OldCell {
     cell: u16,
     was: i64,
@@ -132,7 +132,7 @@ impl OldCell {
 }
 
 /// What cells held that were written, the last first. It takes 32 bytes. Contracts see a list. There are three at most.
-#[derive(Clone, Copy, Debug, PartialEq, Eq)]
+#[derive(Clone, Copy)]
 pub struct OldCells {
     first: u16,
     second: u16,
@@ -228,7 +228,7 @@ impl OldCells {
 }
 
 /// What a handle held that was written, if one was. It takes eight bytes. Contracts see an `Option`.
-#[derive(Clone, Copy, Debug, PartialEq, Eq)]
+#[derive(Clone, Copy)]
 pub struct OldHandle {
     handle: u32,
     call: u32,
@@ -307,7 +307,7 @@ impl OldHandle {
 }
 
 /// What a step did beside moving its rank's node.
-#[derive(Clone, Copy, Debug, PartialEq, Eq)]
+#[derive(Clone, Copy)]
 pub enum Change {
     Moved,
     /// The cell that was written, and what it held.
@@ -326,7 +326,7 @@ pub enum Change {
 
 /// What takes the step of a rank back: the node before it, which is 0 at a wake, since that moves no rank, and what else it did.
 /// It holds no collection, and takes 56 bytes.
-#[derive(Clone, Copy, Debug, PartialEq, Eq)]
+#[derive(Clone, Copy)]
 pub struct RankRecord {
     pub from: u32,
     pub change: Change,
@@ -335,7 +335,7 @@ pub struct RankRecord {
 const _: () = prove!(size_of::<RankRecord>() == 56);
 
 /// Which kind of change a local step made.
-#[derive(Clone, Copy, Debug, PartialEq, Eq)]
+#[derive(Clone, Copy)]
 pub enum LocalKind {
     Moved,
     Assigned,
@@ -348,7 +348,7 @@ pub enum LocalKind {
 ///
 /// It has its numbers side by side, and no enum that holds them: what is pushed on a trail is then stored field by field, and not
 /// copied as a whole from where its parts were stored just before, for which a processor waits (docs/SPEED.md).
-#[derive(Clone, Copy, Debug, PartialEq, Eq)]
+#[derive(Clone, Copy)]
 pub struct LocalRecord {
     pub(crate) from: u32,
     pub(crate) kind: LocalKind,

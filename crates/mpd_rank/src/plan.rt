@@ -13,7 +13,7 @@ use mpd_model::call::{Call, Issue, Trap};
 use mpd_model::stmt::Simple;
 
 /// What a local step does that issues no call.
-#[derive(Clone, Copy, Debug, PartialEq, Eq)]
+#[derive(Clone, Copy)]
 pub enum Alone {
     /// Goes on at a node.
     Move { next: u32 },
@@ -25,7 +25,7 @@ pub enum Alone {
 }
 
 /// What a local step does. A plan without a call is small, and a call large: so `Alone` is a type of its own.
-#[derive(Clone, Copy, Debug, PartialEq, Eq)]
+#[derive(Clone, Copy)]
 pub enum LocalPlan {
     /// Issues no call.
     Alone(Alone),

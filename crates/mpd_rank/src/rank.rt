@@ -154,6 +154,7 @@ impl RankState {
         ensures step { (count : ℕ) → local self.now.rank code.now.program.ranks count (rank_of code.now.program self.now) ≡ option_map (plan_ran code.now.program (rank_of code.now.program self.now) count self.now.node) result }
         ensures recorded { local_record self.now.rank code.now.program.ranks (rank_of code.now.program self.now) ≡ option_map (plan_record self.now) result }
         ensures receiver { IfSome result (λ plan. HasPlannedReceiver code.now.program.ranks plan) }
+        ensures statement { IfSome result (λ _. IsSome (first_number (left_at code.now.program self.now.node))) }
     {
         let node = self.next_node(code)?;
         let env = self.env(code);
@@ -184,6 +185,7 @@ impl RankState {
         ensures own { IfSome result (λ done. IsOwn done.change) }
         ensures rank { self.new.rank ≡ self.old.rank }
         ensures none { IfNone result (self.new ≡ self.old) }
+        ensures room_left { self.old.room ≤ self.new.room + 1 }
         ensures rises { IfSome result (λ _. self.old.writes + 1 ≤ self.new.writes) }
         ensures few { self.new.writes ≤ self.old.writes + 2 }
     {
@@ -292,6 +294,7 @@ impl RankState {
         ensures of_rank { IsOfRank result.change }
         ensures rank { self.new.rank ≡ self.old.rank }
         ensures back { (p : Program) → self.old.activity ≡ Activity.Running → undone_rank p (rank_of p self.new) result ≡ rank_of p self.old }
+        ensures room_left { self.old.room ≤ self.new.room + 1 }
         ensures rises { self.old.writes + 1 ≤ self.new.writes }
         ensures few { self.new.writes ≤ self.old.writes + 2 }
     {
@@ -325,6 +328,7 @@ impl RankState {
         ensures of_rank { IsOfRank result.change }
         ensures rank { self.new.rank ≡ self.old.rank }
         ensures back { (p : Program) → self.old.activity ≡ Activity.Running → undone_rank p (rank_of p self.new) result ≡ rank_of p self.old }
+        ensures room_left { self.old.room ≤ self.new.room + 1 }
         ensures rises { self.old.writes + 1 ≤ self.new.writes }
         ensures few { self.new.writes ≤ self.old.writes + 2 }
     {
@@ -362,6 +366,7 @@ impl RankState {
         ensures of_rank { IsOfRank result.change }
         ensures rank { self.new.rank ≡ self.old.rank }
         ensures back { (p : Program) → self.old.activity ≡ Activity.Blocked → undone_rank p (rank_of p self.new) result ≡ rank_of p self.old }
+        ensures room_left { self.old.room ≤ self.new.room }
         ensures rises { self.old.writes + 1 ≤ self.new.writes }
         ensures few { self.new.writes ≤ self.old.writes + 5 }
     {
@@ -405,6 +410,7 @@ impl RankState {
         requires { IsOfRank done.now.change }
         ensures after { (p : Program) → rank_of p self.new ≡ undone_rank p (rank_of p self.old) done.now }
         ensures rank { self.new.rank ≡ self.old.rank }
+        ensures room_left { self.old.room ≤ self.new.room }
         ensures rises { self.old.writes + 1 ≤ self.new.writes }
         ensures few { self.new.writes ≤ self.old.writes + 5 }
     {
@@ -428,6 +434,7 @@ impl RankState {
     pub fn restore_local(&mut self, done: &LocalRecord)
         ensures after { (p : Program) → rank_of p self.new ≡ undone_rank p (rank_of p self.old) done.now }
         ensures rank { self.new.rank ≡ self.old.rank }
+        ensures room_left { self.old.room ≤ self.new.room }
         ensures rises { self.old.writes + 1 ≤ self.new.writes }
         ensures few { self.new.writes ≤ self.old.writes + 2 }
     {
@@ -495,7 +502,8 @@ impl RankState {
 
     /// The number of its next statement, where it has one.
     pub fn next_statement(&self, code: &Code) -> Option<usize>
-        ensures { result ≡ first_number (left_at code.now.program self.now.node) }
+        ensures statement { result ≡ first_number (left_at code.now.program self.now.node) }
+        ensures node { IfSome result (λ number. number ≡ self.now.node) }
     {
         let node = self.standing().node as usize;
         match code.node(node) {
@@ -509,13 +517,6 @@ impl RankState {
         ensures { result ≡ self.now.rank }
     {
         self.rank as usize
-    }
-
-    /// Where it goes on: the number of a node, or of the end.
-    pub fn node(&self) -> usize
-        ensures { result ≡ self.now.node }
-    {
-        self.standing().node as usize
     }
 
     /// Its variables.

@@ -3,7 +3,7 @@
 use mpd_model::call::Activity;
 
 /// Where a rank goes on, and what it is doing.
-#[derive(Clone, Copy, Debug, PartialEq, Eq)]
+#[derive(Clone, Copy)]
 pub struct Standing {
     pub node: u32,
     pub activity: Activity,

@@ -3,6 +3,7 @@
 ghost use Rattle.std.specs.Prelude.{◌≡◌, ◌≤◌, ◌-◌};
 ghost use Rattle.mpd_model.specs.Grammar as spec;
 ghost use Rattle.mpd_model.specs.Input.{Reads};
+ghost use Rattle.mpd_model.specs.declared.token.Token.TheVariants.{Is};
 
 use crate::cursor::Tokens;
 use crate::place::{bracket, place_of};
@@ -31,24 +32,34 @@ const DISJUNCTION: usize = 5;
 /// The level of a whole expression.
 const WHOLE: usize = DISJUNCTION;
 
+/// The operator that a mark is, and its level.
+fn operator_of(mark: Mark) -> Option<(BinaryOp, usize)>
+    ensures { result ≡ spec.operator (Is mark) }
+{
+    match mark {
+        Mark::Or => Some((BinaryOp::Or, DISJUNCTION)),
+        Mark::And => Some((BinaryOp::And, CONJUNCTION)),
+        Mark::Equal => Some((BinaryOp::Equal, COMPARISON)),
+        Mark::NotEqual => Some((BinaryOp::NotEqual, COMPARISON)),
+        Mark::Less => Some((BinaryOp::Less, COMPARISON)),
+        Mark::AtMost => Some((BinaryOp::AtMost, COMPARISON)),
+        Mark::Greater => Some((BinaryOp::Greater, COMPARISON)),
+        Mark::AtLeast => Some((BinaryOp::AtLeast, COMPARISON)),
+        Mark::Plus => Some((BinaryOp::Add, SUM)),
+        Mark::Minus => Some((BinaryOp::Subtract, SUM)),
+        Mark::Times => Some((BinaryOp::Multiply, PRODUCT)),
+        Mark::Divide => Some((BinaryOp::Divide, PRODUCT)),
+        Mark::Remainder => Some((BinaryOp::Remainder, PRODUCT)),
+        _ => None,
+    }
+}
+
 /// An operator and its level.
 fn operator(token: Token) -> Option<(BinaryOp, usize)>
     ensures { result ≡ spec.operator token }
 {
     match token {
-        Token::Is(Mark::Or) => Some((BinaryOp::Or, DISJUNCTION)),
-        Token::Is(Mark::And) => Some((BinaryOp::And, CONJUNCTION)),
-        Token::Is(Mark::Equal) => Some((BinaryOp::Equal, COMPARISON)),
-        Token::Is(Mark::NotEqual) => Some((BinaryOp::NotEqual, COMPARISON)),
-        Token::Is(Mark::Less) => Some((BinaryOp::Less, COMPARISON)),
-        Token::Is(Mark::AtMost) => Some((BinaryOp::AtMost, COMPARISON)),
-        Token::Is(Mark::Greater) => Some((BinaryOp::Greater, COMPARISON)),
-        Token::Is(Mark::AtLeast) => Some((BinaryOp::AtLeast, COMPARISON)),
-        Token::Is(Mark::Plus) => Some((BinaryOp::Add, SUM)),
-        Token::Is(Mark::Minus) => Some((BinaryOp::Subtract, SUM)),
-        Token::Is(Mark::Times) => Some((BinaryOp::Multiply, PRODUCT)),
-        Token::Is(Mark::Divide) => Some((BinaryOp::Divide, PRODUCT)),
-        Token::Is(Mark::Remainder) => Some((BinaryOp::Remainder, PRODUCT)),
+        Token::Is(mark) => operator_of(mark),
         _ => None,
     }
 }

@@ -13,7 +13,7 @@ use Rattle.mpd_model.specs.Trail.{Standing, first_standing}
 use Rattle.mpd_model.specs.declared.call.Mode.TheVariants.{Rendezvous}
 use Rattle.mpd_model.specs.declared.read_fault.ReadFault.{ReadFault}
 use Rattle.mpd_model.specs.declared.read_fault.FaultCode.TheVariants as code
-use Rattle.mpd_lines.specs.Telling.{Tells, TellsPart}
+use Rattle.mpd_lines.specs.Telling.{Tells, TellsPart, waiting_below}
 use Rattle.mpd_lines.specs.Served.{Served, Counted}
 use Rattle.mpd_lines.specs.declared.engine.EngineFault.{EngineFault}
 use Rattle.mpd_lines.specs.declared.engine.EngineFault.TheVariants as engine
@@ -24,6 +24,7 @@ use Rattle.mpd_trace.specs.declared.plain.HeadEnd.{HeadEnd}
 use Rattle.mpd_trace.specs.declared.plain.HeadEnd.TheVariants.{InputEnds, LineDivides, TooLong}
 use Rattle.mpd_trace.specs.declared.plain.PlainFault.{PlainFault}
 use Rattle.mpd_trace.specs.declared.plain.PlainFault.TheVariants.{Script, Engine}
+use Rattle.mpd_lines.proofs.TellingLaws.{breaks_part}
 use Rattle.mpd_trace.proofs.CollectLaws.{consumes_append}
 use Rattle.mpd_trace.proofs.OpenLaws.{divider_came}
 
@@ -134,7 +135,7 @@ part_by : (d : Standing) (ls ks : List (List ℕ)) (v w : SinkSeen) → ls ≡ k
 part_by d ls ks v w is t = let P : List (List ℕ) → Type 0 = λ x. TellsPart AnswerOrMemory d x v.contents w.contents in subst P is t
 
 pub plain_all : (read script behind text : List ℕ) (n turns : ℕ) (s t u : SourceSeen) (v w : SinkSeen) (p : Program) (e : Standing) → text ≡ script → Consumes s.remaining t.remaining read
-    → Behind read n s t script behind → reading text ≡ Ok p → Served AnswerOrMemory (first_standing p Rendezvous) behind turns t u v w e (Ok _) → PlainServed s u v w (Ok _)
+    → Behind read n s t script behind → reading text ≡ Ok p → Served AnswerOrMemory (waiting_below true) (first_standing p Rendezvous) behind turns t u v w e (Ok _) → PlainServed s u v w (Ok _)
 plain_all read script behind text n turns s t u v w p e same c b ok h = (
   read ++ h.0,
   consumes_append s.remaining t.remaining u.remaining read h.0 c h.1,
@@ -163,24 +164,25 @@ so_far read script behind text more n s t v w p e same b ok h = inr (
 
 pub plain_fault : (f : EngineFault) (read script behind text : List ℕ) (n turns : ℕ) (s t u : SourceSeen) (v w : SinkSeen) (p : Program) (e : Standing) → text ≡ script → Consumes s.remaining t.remaining read
     → Behind read n s t script behind → reading text ≡ Ok p → n + turns ≡ 1000000 → t.calls ≡ s.calls + n
-    → Served AnswerOrMemory (first_standing p Rendezvous) behind turns t u v w e (Err f) → PlainServed s u v w (Err (Engine f))
+    → Served AnswerOrMemory (waiting_below true) (first_standing p Rendezvous) behind turns t u v w e (Err f) → PlainServed s u v w (Err (Engine f))
 plain_fault engine.ReadFailed read script behind text n turns s t u v w p e same c b ok all calls h = (
   read ++ h.0,
   consumes_append s.remaining t.remaining u.remaining read h.0 c h.1,
   h.2 ∙ b.0,
   so_far read script behind text h.0 n s t v w p e same b ok h.3,
 )
-plain_fault engine.WriteFailed read script behind text n turns s t u v w p e same c b ok all calls (more, consumed, inl h) = (
+plain_fault engine.WriteFailed read script behind text n turns s t u v w p e same c b ok all calls (more, consumed, inl h, few) = (
   read ++ more,
   consumes_append s.remaining t.remaining u.remaining read more c consumed,
   divider_came read script behind more b.1,
   inl (
     p,
     reads_so read script behind text more p same (b.1 more) ok,
-    part_by (first_standing p Rendezvous) (ended_lines (behind ++ more)) (ended_lines (divided (read ++ more)).1) v w (ap (λ (x : Halves). ended_lines x.1) (sym (b.1 more))) h,
+    part_by (first_standing p Rendezvous) (ended_lines (behind ++ more)) (ended_lines (divided (read ++ more)).1) v w (ap (λ (x : Halves). ended_lines x.1) (sym (b.1 more)))
+        (breaks_part AnswerOrMemory (waiting_below true) (first_standing p Rendezvous) e (ended_lines (behind ++ more)) v.contents w.contents h),
   ),
 )
-plain_fault engine.WriteFailed read script behind text n turns s t u v w p e same c b ok all calls (more, consumed, inr h) = (
+plain_fault engine.WriteFailed read script behind text n turns s t u v w p e same c b ok all calls (more, consumed, inr h, few) = (
   read ++ more,
   consumes_append s.remaining t.remaining u.remaining read more c consumed,
   divider_came read script behind more b.1,
@@ -189,7 +191,8 @@ plain_fault engine.WriteFailed read script behind text n turns s t u v w p e sam
     (
       p,
       reads_so read script behind text more p same (b.1 more) ok,
-      part_by (first_standing p Rendezvous) (lines_of (behind ++ more)) (lines_of (divided (read ++ more)).1) v w (ap (λ (x : Halves). lines_of x.1) (sym (b.1 more))) h.1,
+      part_by (first_standing p Rendezvous) (lines_of (behind ++ more)) (lines_of (divided (read ++ more)).1) v w (ap (λ (x : Halves). lines_of x.1) (sym (b.1 more)))
+          (breaks_part AnswerOrMemory (waiting_below true) (first_standing p Rendezvous) e (lines_of (behind ++ more)) v.contents w.contents h.1),
     ),
   ),
 )

@@ -5,3 +5,4 @@ pub mod Plain
 pub mod PlainFaults
 pub mod FileText
 pub mod Excerpts
+pub mod Allowed

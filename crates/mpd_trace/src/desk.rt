@@ -228,9 +228,17 @@ impl<'c> TraceDesk<'c> {
 }
 
 impl<'c> LineDesk for TraceDesk<'c> {
+    ghost use Rattle.std.specs.Prelude.{true};
     ghost use Rattle.mpd_model.specs.Answers.{AnswerOrMemory};
 
+    // nothing is seen of the debugger behind the answers, so they may wait for one another
+    ghost gathers = { true };
+
     ghost says = { AnswerOrMemory };
+
+    fn is_gathering(&self) -> bool {
+        true
+    }
 
     fn answer(&mut self, line: &[u8], out: &mut Vec<u8>) {
         answer_line(*out.allocator(), &mut self.debugger, line, out)

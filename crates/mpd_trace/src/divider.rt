@@ -13,7 +13,7 @@ use std::marker::Model;
 const LINE_ROOM: usize = 8;
 
 /// What a piece of the input has brought.
-#[derive(Clone, Copy, Debug)]
+#[derive(Clone, Copy)]
 pub enum Division {
     /// The line that divides may still come.
     Open,
@@ -24,7 +24,7 @@ pub enum Division {
 }
 
 /// What a byte of the input has brought.
-#[derive(Clone, Copy, Debug)]
+#[derive(Clone, Copy)]
 enum Taken {
     Open,
     Here,

@@ -116,7 +116,7 @@ fn first_shown(column: usize) -> usize
 }
 
 /// Adds the part of a line from a byte on, 72 bytes at most, with `...` where it was cut.
-fn push_part(out: &mut String, line: &[u8], from: usize) -> Result<(), AllocError>
+pub(crate) fn push_part(out: &mut String, line: &[u8], from: usize) -> Result<(), AllocError>
     ensures { OnOk result (string_bytes out.new ≡ string_bytes out.old ++ part_shown line.now from) }
 {
     let rest = from_byte(line, from);

@@ -1,9 +1,10 @@
 //! A script and the lines of a trace from one source.
-ghost use Rattle.std.specs.Prelude.{◌≡◌, ◌≤◌, length, IfOk, IfErr, ◌==◌, count_by};
+ghost use Rattle.std.specs.Prelude.{◌≡◌, ◌≤◌, length, true, IfOk, IfErr, ◌==◌, count_by};
 ghost use Rattle.mpd_model.specs.Trail.{Standing, first_standing};
 ghost use Rattle.mpd_model.specs.Answers.{AnswerOrMemory};
 ghost use Rattle.mpd_lines.specs.FaultWords.{failed_reads, failed_writes};
 ghost use Rattle.mpd_lines.specs.Served.{Served, Counted};
+ghost use Rattle.mpd_lines.specs.Telling.{waiting_below};
 ghost use Rattle.mpd_trace.specs.Collected.{Collected, CollectCounted};
 ghost use Rattle.mpd_trace.specs.Plain.{line_at, PlainServed, KeepsRefused};
 ghost use Rattle.mpd_trace.specs.PlainFaults.{fault_line, fault_status, refused_as, plain_failed_reads, plain_failed_writes};
@@ -22,7 +23,7 @@ use std::alloc::Global;
 use std::fmt;
 
 /// Why no more of the input was read for the script.
-#[derive(Clone, Copy, Debug)]
+#[derive(Clone, Copy)]
 pub enum HeadEnd {
     /// The input has ended before a line that divides, or with it.
     InputEnds,
@@ -194,7 +195,7 @@ fn trace_script<S: Source, W: Sink>(
     before: &[u8],
     turns: usize,
 ) -> Result<(), EngineFault>
-    ensures served { (e : Standing) × Served AnswerOrMemory (first_standing script Mode.Rendezvous) before.now turns (S.seen source.old) (S.seen source.new) (W.seen sink.old) (W.seen sink.new) e result }
+    ensures served { (e : Standing) × Served AnswerOrMemory (waiting_below true) (first_standing script Mode.Rendezvous) before.now turns (S.seen source.old) (S.seen source.new) (W.seen sink.old) (W.seen sink.new) e result }
     ensures counted { Counted turns (failed_reads result) (failed_writes result) (S.seen source.old) (S.seen source.new) (W.seen sink.old) (W.seen sink.new) }
 {
     let Ok(code) = lower(alloc, script) else {

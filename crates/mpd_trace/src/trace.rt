@@ -1,10 +1,11 @@
 //! Traces a script: trace words in, answers out.
 
-ghost use Rattle.std.specs.Prelude.{[]};
+ghost use Rattle.std.specs.Prelude.{[], true};
 ghost use Rattle.mpd_model.specs.Trail.{Standing, first_standing};
 ghost use Rattle.mpd_model.specs.Answers.{AnswerOrMemory};
 ghost use Rattle.mpd_lines.specs.FaultWords.{failed_reads, failed_writes};
 ghost use Rattle.mpd_lines.specs.Served.{Served, Counted};
+ghost use Rattle.mpd_lines.specs.Telling.{waiting_below};
 
 use crate::desk::TraceDesk;
 use mpd_code::code::Code;
@@ -25,7 +26,7 @@ pub fn trace<S: Source, W: Sink>(
     source: &mut S,
     sink: &mut W,
 ) -> Result<(), EngineFault>
-    ensures served { (e : Standing) × Served AnswerOrMemory (first_standing code.now.program mode) [] READS_MAX (S.seen source.old) (S.seen source.new) (W.seen sink.old) (W.seen sink.new) e result }
+    ensures served { (e : Standing) × Served AnswerOrMemory (waiting_below true) (first_standing code.now.program mode) [] READS_MAX (S.seen source.old) (S.seen source.new) (W.seen sink.old) (W.seen sink.new) e result }
     ensures counted { Counted READS_MAX (failed_reads result) (failed_writes result) (S.seen source.old) (S.seen source.new) (W.seen sink.old) (W.seen sink.new) }
 {
     trace_behind(alloc, code, mode, source, sink, &[], READS_MAX)
@@ -41,7 +42,7 @@ pub(crate) fn trace_behind<S: Source, W: Sink>(
     before: &[u8],
     turns: usize,
 ) -> Result<(), EngineFault>
-    ensures served { (e : Standing) × Served AnswerOrMemory (first_standing code.now.program mode) before.now turns (S.seen source.old) (S.seen source.new) (W.seen sink.old) (W.seen sink.new) e result }
+    ensures served { (e : Standing) × Served AnswerOrMemory (waiting_below true) (first_standing code.now.program mode) before.now turns (S.seen source.old) (S.seen source.new) (W.seen sink.old) (W.seen sink.new) e result }
     ensures counted { Counted turns (failed_reads result) (failed_writes result) (S.seen source.old) (S.seen source.new) (W.seen sink.old) (W.seen sink.new) }
 {
     let Ok(mut desk) = TraceDesk::start(alloc, code, mode) else {

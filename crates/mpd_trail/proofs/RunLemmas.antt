@@ -1,21 +1,24 @@
 -- One command, and a run that goes on by one.
-use Rattle.std.proofs.Common.{◌≡◌, ℕ, ◌<◌, ◌≤◌, ◌+◌, ◌-◌, List, [], ◌∷◌, ◌++◌, length, get_or, take, drop, Some, None, IsSome, refl, sym, ap, ◌∙◌, arith, slice_get}
+use Rattle.std.proofs.Common.{◌≡◌, ℕ, ◌<◌, ◌≤◌, ◌+◌, ◌-◌, List, [], ◌∷◌, ◌++◌, length, get_or, take, drop, Some, None, IsSome, refl, sym, ap, subst, ◌∙◌, arith, slice_get}
 use Rattle.std.proofs.lemmas.List.{take_more, take_all, length-take, drop_more, get_or-take}
 use Rattle.std.proofs.lemmas.Option.{slice_get-get_or}
 use Rattle.mpd_model.specs.declared.limits.TheConstants.{STEPS_MAX}
 use Rattle.mpd_model.specs.declared.step.Step.{Step}
 use Rattle.mpd_model.specs.declared.step.Step.TheVariants.{Release}
+use Rattle.std.specs.List.{AllByRecursion}
+use Rattle.mpd_model.specs.declared.call.Mode.{Mode}
+use Rattle.mpd_model.specs.Program.{Program}
 use Rattle.mpd_model.specs.World.{start}
 use Rattle.mpd_model.specs.Next.{next, fold}
-use Rattle.mpd_model.specs.Trail.{Trail, IsReached, kept, applied, taken_back, redone, gone_back}
+use Rattle.mpd_model.specs.Trail.{Trail, Standing, IsReached, opening, first_standing, kept, applied, taken_back, redone, gone_back}
 use Rattle.mpd_core.specs.Writes.{most_writes}
 use Rattle.mpd_trail.specs.Writes.{most_writes_of}
 use Rattle.mpd_trail.specs.declared.run.Command.{Command}
 use Rattle.mpd_trail.specs.declared.run.Command.TheVariants.{Apply, Undo, Redo, UndoTo}
 use Rattle.mpd_trail.specs.declared.run.Reply.{Reply}
 use Rattle.mpd_trail.specs.declared.run.Reply.TheVariants.{Done, NotEnabled, Full, AtStart, NoRedo, NotBefore, Memory}
-use Rattle.mpd_trail.specs.Run.{first_of, Takes, Answers, Run, SameScript, Written}
-use Rattle.mpd_trail.specs.Views.{DebuggerView, standing_of}
+use Rattle.mpd_trail.specs.Run.{first_of, Takes, Answers, taken, Run, RunFrom, steps_in, IsGiven, SameScript, Written}
+use Rattle.mpd_trail.specs.Views.{DebuggerView, Place, place_of, standing_of}
 use Rattle.mpd_trail.proofs.KeptLemmas.{fold_on}
 
 -- one step more leads where the next world is
@@ -105,20 +108,104 @@ pub ruleset answering = (applied_done, applied_none, applied_full, applied_memor
 
 -- ---- lists of commands
 
-run_on : (old mid new : Trail) (before between after : ℕ) (cs : List Command) (rs : List Reply) (c : Command) (r : Reply) → Run old before cs rs mid between
-    → Answers mid c r new → Written mid.program.ranks (kept mid) c r (kept new) between after → Run old before (cs ++ c ∷ []) (rs ++ r ∷ []) new after
-run_on old mid new before between after [] [] c r same h writes = (new, after, rw (← same.0) h, rw (← same.0, ← same.1) writes, (refl, refl))
-run_on old mid new before between after (d ∷ ds) (t ∷ ts) c r run h writes =
-    (run.0, run.1, run.2, run.3, run_on run.0 mid new run.1 between after ds ts c r run.4 h writes)
-run_on old mid new before between after [] (t ∷ ts) c r run h writes = absurd run
-run_on old mid new before between after (d ∷ ds) [] c r run h writes = absurd run
+run_on : (old mid new : Place) (cs : List Command) (rs : List Reply) (c : Command) (r : Reply) → Run old cs rs mid
+    → Answers mid.trail c r new.trail → Written mid.trail.program.ranks (kept mid.trail) c r (kept new.trail) mid.writes new.writes → (r ≡ Memory → mid.room ≡ 0) → mid.room ≤ new.room + taken c r
+    → Run old (cs ++ c ∷ []) (rs ++ r ∷ []) new
+run_on old mid new [] [] c r same h writes memory room =
+    let first : Answers old.trail c r new.trail × Written old.trail.program.ranks (kept old.trail) c r (kept new.trail) old.writes new.writes × (r ≡ Memory → old.room ≡ 0) × (old.room ≤ new.room + taken c r) =
+    subst (λ (p : Place). Answers p.trail c r new.trail × Written p.trail.program.ranks (kept p.trail) c r (kept new.trail) p.writes new.writes × (r ≡ Memory → p.room ≡ 0) × (p.room ≤ new.room + taken c r)) same (h, writes, memory, room) in
+    (new, first.0, first.1, first.2, first.3, refl)
+run_on old mid new (d ∷ ds) (t ∷ ts) c r run h writes memory room =
+    (run.0, run.1, run.2, run.3, run.4, run_on run.0 mid new ds ts c r run.5 h writes memory room)
+run_on old mid new [] (t ∷ ts) c r run h writes memory room = absurd run
+run_on old mid new (d ∷ ds) [] c r run h writes memory room = absurd run
 
 -- the next command of a list
-pub run_more : (old mid new : Trail) (before between after : ℕ) (cs : List Command) (rs : List Reply) (i : ℕ) (d : Command) (r : Reply) → i < length cs
-    → Run old before (take i cs) rs mid between → Answers mid (get_or cs i d) r new → Written mid.program.ranks (kept mid) (get_or cs i d) r (kept new) between after
-    → Run old before (take (i + 1) cs) (rs ++ r ∷ []) new after
-run_more old mid new before between after cs rs i d r h run step writes =
-    rw (take_more cs i d h) (run_on old mid new before between after (take i cs) rs (get_or cs i d) r run step writes)
+pub run_more : (old mid new : Place) (cs : List Command) (rs : List Reply) (i : ℕ) (d : Command) (r : Reply) → i < length cs
+    → Run old (take i cs) rs mid → Answers mid.trail (get_or cs i d) r new.trail → Written mid.trail.program.ranks (kept mid.trail) (get_or cs i d) r (kept new.trail) mid.writes new.writes
+    → (r ≡ Memory → mid.room ≡ 0) → mid.room ≤ new.room + taken (get_or cs i d) r → Run old (take (i + 1) cs) (rs ++ r ∷ []) new
+run_more old mid new cs rs i d r h run step writes memory room =
+    rw (take_more cs i d h) (run_on old mid new (take i cs) rs (get_or cs i d) r run step writes memory room)
+
+-- ---- the room that a list takes
+
+taken_few : (c : Command) (r : Reply) → taken c r ≤ taken c Done
+taken_few (Apply a) Done = omega arith
+taken_few (Apply a) r = omega arith
+taken_few Undo r = omega arith
+taken_few Redo Done = omega arith
+taken_few Redo r = omega arith
+taken_few (UndoTo depth) r = omega arith
+
+pub run_room : (old new : Place) (cs : List Command) (rs : List Reply) → Run old cs rs new → old.room ≤ new.room + steps_in cs
+run_room old new [] [] run = omega (arith, ap (λ (p : Place). p.room) run)
+run_room old new (c ∷ cs) (r ∷ rs) run = omega (arith, run.4, taken_few c r, run_room run.0 new cs rs run.5)
+run_room old new [] (r ∷ rs) run = absurd run
+run_room old new (c ∷ cs) [] run = absurd run
+
+-- only what takes a step is refused memory
+no_memory : (old new : Place) (c : Command) (r : Reply) → Answers old.trail c r new.trail → (r ≡ Memory → old.room ≡ 0) → taken c Done ≤ old.room → r ≡ Memory → ⊥
+no_memory old new (Apply a) r h memory some is = absurd (omega (arith, some, memory is))
+no_memory old new Redo r h memory some is = absurd (omega (arith, some, memory is))
+no_memory old new Undo r h memory some is = absurd (subst (λ q. Answers old.trail Undo q new.trail) is h)
+no_memory old new (UndoTo depth) r h memory some is = absurd (subst (λ q. Answers old.trail (UndoTo depth) q new.trail) is h)
+
+-- behind room for all steps of a list nothing is refused memory
+pub run_given : (old new : Place) (cs : List Command) (rs : List Reply) → Run old cs rs new → steps_in cs ≤ old.room → AllByRecursion IsGiven rs
+run_given old new [] [] run enough = tt
+run_given old new (c ∷ cs) (r ∷ rs) run enough =
+    (no_memory old run.0 c r run.1 run.3 (omega (arith, enough)), run_given run.0 new cs rs run.5 (omega (arith, enough, run.4, taken_few c r)))
+run_given old new [] (r ∷ rs) run enough = absurd run
+run_given old new (c ∷ cs) [] run enough = absurd run
+
+-- the same once all commands are done
+pub room_in_all : (v n : DebuggerView) (cs : List Command) (rs : List Reply) (i : ℕ) → Run (place_of v) (take i cs) rs (place_of n) → length cs ≤ i → v.room ≤ n.room + steps_in cs
+room_in_all v n cs rs i run all = run_room (place_of v) (place_of n) cs rs (subst (λ xs. Run (place_of v) xs rs (place_of n)) (take_all i cs all) run)
+
+pub given_in_all : (v n : DebuggerView) (cs : List Command) (rs : List Reply) (i : ℕ) → Run (place_of v) (take i cs) rs (place_of n) → length cs ≤ i → steps_in cs ≤ v.room → AllByRecursion IsGiven rs
+given_in_all v n cs rs i run all enough = run_given (place_of v) (place_of n) cs rs (subst (λ xs. Run (place_of v) xs rs (place_of n)) (take_all i cs all) run) enough
+
+-- ---- a run that keeps room for a step before each command
+
+pub run_begins : (v n : DebuggerView) (rs : List Reply) → rs ≡ [] → n.trail ≡ v.trail → n.writes ≡ v.writes → RunFrom v.trail v.writes [] rs (place_of n)
+run_begins v n rs none trail writes = rw none (n.room, (λ i. record { trail = trail i; room = n.room; writes = writes i }))
+
+pub given_begins : (rs : List Reply) → rs ≡ [] → AllByRecursion IsGiven rs
+given_begins rs none = rw none tt
+
+-- the next command, behind which room is kept
+pub run_kept_more : (old : Trail) (writes : ℕ) (v m k : DebuggerView) (cs : List Command) (rs : List Reply) (i : ℕ) (d : Command) (r : Reply) → i < length cs → RunFrom old writes (take i cs) rs (place_of v)
+    → Answers v.trail (get_or cs i d) r m.trail → Written v.trail.program.ranks (kept v.trail) (get_or cs i d) r (kept m.trail) v.writes m.writes → (r ≡ Memory → v.room ≡ 0) → v.room ≤ m.room + taken (get_or cs i d) r
+    → k.trail ≡ m.trail → k.writes ≡ m.writes → m.room ≤ k.room → RunFrom old writes (take (i + 1) cs) (rs ++ r ∷ []) (place_of k)
+run_kept_more old writes v m k cs rs i d r h run step written memory room trail count more =
+    let c : Command = get_or cs i d in
+    let there : Written v.trail.program.ranks (kept v.trail) c r (kept k.trail) v.writes m.writes = subst (λ (t : Trail). Written v.trail.program.ranks (kept v.trail) c r (kept t) v.writes m.writes) (sym trail) written in (
+      run.0,
+      run_more (record { trail = old; room = run.0; writes = writes }) (place_of v) (place_of k) cs rs i d r h run.1
+          (subst (λ (t : Trail). Answers v.trail c r t) (sym trail) step)
+          (subst (λ (n : ℕ). Written v.trail.program.ranks (kept v.trail) c r (kept k.trail) v.writes n) (sym count) there)
+          memory (omega (arith, room, more)),
+    )
+
+pub given_more : (rs : List Reply) (r : Reply) (n : ℕ) → AllByRecursion IsGiven rs → (r ≡ Memory → n ≡ 0) → 1 ≤ n → AllByRecursion IsGiven (rs ++ r ∷ [])
+given_more [] r n all memory some = ((λ is. absurd (omega (arith, memory is, some))), tt)
+given_more (x ∷ rs) r n all memory some = (all.0, given_more rs r n all.1 memory some)
+
+-- once all commands are done
+pub run_ends : (old : Trail) (writes : ℕ) (n : DebuggerView) (cs : List Command) (rs : List Reply) (i : ℕ) → RunFrom old writes (take i cs) rs (place_of n) → length cs ≤ i → RunFrom old writes cs rs (place_of n)
+run_ends old writes n cs rs i run all = subst (λ xs. RunFrom old writes xs rs (place_of n)) (take_all i cs all) run
+
+-- a run from the start of a script
+pub run_of : (p : Program) (mode : Mode) (v : DebuggerView) (cs : List Command) (rs : List Reply) (new : Place) → standing_of v ≡ first_standing p mode → v.writes ≡ 0 → RunFrom v.trail v.writes cs rs new → RunFrom (opening p mode) 0 cs rs new
+run_of p mode v cs rs new first none run =
+    let from : record { trail = v.trail; room = run.0; writes = v.writes } ≡ record { trail = opening p mode; room = run.0; writes = 0 } = (λ i. record { trail = ap (λ (x : Standing). x.trail) first i; room = run.0; writes = none i }) in
+    (run.0, subst (λ (q : Place). Run q cs rs new) from run.1)
+
+pub ruleset spending = (room_in_all, given_in_all)
+
+pub ruleset keeping_room = (run_begins, given_begins, run_ends, same_stays)
+
+pub ruleset replaying = (run_of)
 
 pub same_trans : (a b c : Trail) → SameScript a b → SameScript b c → SameScript a c
 same_trans a b c x y = record { program = y.program ∙ x.program; mode = y.mode ∙ x.mode }

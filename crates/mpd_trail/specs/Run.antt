@@ -7,6 +7,7 @@ use Rattle.mpd_model.specs.World.{World, start}
 use Rattle.mpd_model.specs.Next.{next, fold}
 use Rattle.mpd_model.specs.Trail.{Trail, Standing, kept, applied, taken_back, redone, gone_back}
 use Rattle.mpd_core.specs.Writes.{most_writes}
+use Rattle.mpd_trail.specs.Views.{Place}
 use Rattle.mpd_trail.specs.Writes.{most_writes_of}
 use Rattle.mpd_trail.specs.declared.run.Command.{Command}
 use Rattle.mpd_trail.specs.declared.run.Reply.{Reply}
@@ -82,13 +83,33 @@ abbrev pub Written : ℕ → List Step → Command → Reply → List Step → �
 Written ranks old c Done new before after = Raised old c before after × Bounded ranks old c new before after
 Written ranks old c r new before after = after ≡ before
 
--- A list of commands, with a reply to each: the trail, and how many writes there were, before and after.
-abbrev pub Run : Trail → ℕ → List Command → List Reply → Trail → ℕ → Type 0
-Run old before [] [] new after = (new ≡ old) × (after ≡ before)
-Run old before (c ∷ cs) (r ∷ rs) new after =
-    (mid : Trail) × (between : ℕ) × Answers old c r mid × Written old.program.ranks (kept old) c r (kept mid) before between × Run mid between cs rs new after
-Run old before [] (r ∷ rs) new after = ⊥
-Run old before (c ∷ cs) [] new after = ⊥
+-- For how many steps a command takes room at most: for one where a step is taken, or taken again, and else for none.
+abbrev pub taken : Command → Reply → ℕ
+taken (Apply a) Done = 1
+taken Redo Done = 1
+taken c r = 0
+
+-- A list of commands, with a reply to each. Memory is refused only where no room was left.
+abbrev pub Run : Place → List Command → List Reply → Place → Type 0
+Run old [] [] new = new ≡ old
+Run old (c ∷ cs) (r ∷ rs) new =
+    (mid : Place) × Answers old.trail c r mid.trail × Written old.trail.program.ranks (kept old.trail) c r (kept mid.trail) old.writes mid.writes
+    × (r ≡ Memory → old.room ≡ 0) × (old.room ≤ mid.room + taken c r) × Run mid cs rs new
+Run old [] (r ∷ rs) new = ⊥
+Run old (c ∷ cs) [] new = ⊥
+
+-- A run from a trail and a count of writes, with some room.
+abbrev pub RunFrom : Trail → ℕ → List Command → List Reply → Place → Type 0
+RunFrom old writes cs rs new = (room : ℕ) × Run (record { trail = old; room = room; writes = writes }) cs rs new
+
+-- how many of the commands take a step, or take one again
+abbrev pub steps_in : List Command → ℕ
+steps_in [] = 0
+steps_in (c ∷ cs) = taken c Done + steps_in cs
+
+-- what was asked for wasn't refused memory
+abbrev pub IsGiven : Reply → Type 0
+IsGiven r = r ≡ Memory → ⊥
 
 pub record SameScript (old new : Trail) : Type 0 where
   pub program : new.program ≡ old.program

@@ -20,3 +20,12 @@ debugger_view_code =
 -- where it stands
 abbrev pub standing_of : DebuggerView → Standing
 standing_of v = record { trail = v.trail; world = v.world }
+
+-- where a list of commands has come: the trail, for how many steps room is left, and how many writes there were
+pub record Place : Type 0 where
+  pub trail : Trail
+  pub room : ℕ
+  pub writes : ℕ
+
+abbrev pub place_of : DebuggerView → Place
+place_of v = record { trail = v.trail; room = v.room; writes = v.writes }

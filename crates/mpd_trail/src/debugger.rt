@@ -202,7 +202,8 @@ fn local_rank(step: Step) -> Option<usize>
 fn note(steps: &mut Vec<Step>, depth: usize, step: Step)
     requires within { depth ≤ vec_len steps.old }
     requires room { depth ≡ vec_len steps.old → vec_len steps.old < vec_capacity steps.old }
-    ensures { steps.new.items ≡ noted steps.old.items depth step }
+    ensures noted { steps.new.items ≡ noted steps.old.items depth step }
+    ensures room_left { vec_capacity steps.old - vec_len steps.old ≤ (vec_capacity steps.new - vec_len steps.new) + 1 }
 {
     if depth == steps.len() {
         steps.push_reserved(step);
@@ -227,6 +228,7 @@ fn keep_next(
     ensures locals { locals.new.items ≡ locals.old.items }
     ensures others { others.new.items ≡ others.old.items }
     ensures steps { steps.new.items ≡ steps.old.items }
+    ensures never_less { room_in (vec_capacity locals.old - vec_len locals.old) (vec_capacity others.old - vec_len others.old) (vec_capacity steps.old - vec_len steps.old) ≤ room_in (vec_capacity locals.new - vec_len locals.new) (vec_capacity others.new - vec_len others.new) (vec_capacity steps.new - vec_len steps.new) }
     ensures memory { OnErr result (room_in (vec_capacity locals.old - vec_len locals.old) (vec_capacity others.old - vec_len others.old) (vec_capacity steps.old - vec_len steps.old) ≡ 0) }
 {
     locals.reserve(1)?;
@@ -300,6 +302,7 @@ impl<'c> Debugger<'c> {
     #[tactic(auto, using(crate::proofs::KeptLemmas::keeping))]
     pub fn keep_room(&mut self) -> Result<(), AllocError>
         ensures room { OnOk result (1 ≤ self.new.room) }
+        ensures never_less { self.old.room ≤ self.new.room }
         ensures memory { OnErr result (self.old.room ≡ 0) }
         ensures trail { self.new.trail ≡ self.old.trail }
         ensures world { self.new.world ≡ self.old.world }
@@ -332,6 +335,8 @@ impl<'c> Debugger<'c> {
         ensures err_world { OnErr result (self.new.world ≡ self.old.world) }
         ensures program { self.new.trail.program ≡ self.old.trail.program }
         ensures mode { self.new.trail.mode ≡ self.old.trail.mode }
+        ensures room_left { self.old.room ≤ self.new.room + 1 }
+        ensures err_room { OnErr result (self.old.room ≤ self.new.room) }
         ensures rises { OnOk result (self.old.writes + 1 ≤ self.new.writes) }
         ensures few { OnOk result (self.new.writes ≤ self.old.writes + most_writes self.old.trail.program.ranks step) }
         ensures unwritten { OnErr result (self.new.writes ≡ self.old.writes) }
@@ -374,6 +379,7 @@ impl<'c> Debugger<'c> {
         ensures err_world { OnErr result (self.new.world ≡ self.old.world) }
         ensures program { self.new.trail.program ≡ self.old.trail.program }
         ensures mode { self.new.trail.mode ≡ self.old.trail.mode }
+        ensures room_left { self.old.room ≤ self.new.room }
         ensures rises { OnOk result (self.old.writes + 1 ≤ self.new.writes) }
         ensures few { OnOk result ((step : Step) → kept self.old.trail ≡ kept self.new.trail ++ step ∷ [] → self.new.writes ≤ self.old.writes + most_writes self.old.trail.program.ranks step) }
         ensures unwritten { OnErr result (self.new.writes ≡ self.old.writes) }
@@ -409,6 +415,8 @@ impl<'c> Debugger<'c> {
         ensures err_world { OnErr result (self.new.world ≡ self.old.world) }
         ensures program { self.new.trail.program ≡ self.old.trail.program }
         ensures mode { self.new.trail.mode ≡ self.old.trail.mode }
+        ensures room_left { self.old.room ≤ self.new.room + 1 }
+        ensures err_room { OnErr result (self.old.room ≤ self.new.room) }
         ensures rises { OnOk result (self.old.writes + 1 ≤ self.new.writes) }
         ensures few { OnOk result (self.new.writes ≤ self.old.writes + most_writes self.old.trail.program.ranks step) }
         ensures unwritten { OnErr result (self.new.writes ≡ self.old.writes) }
@@ -436,6 +444,8 @@ impl<'c> Debugger<'c> {
         ensures err_world { OnErr result (self.new.world ≡ self.old.world) }
         ensures program { self.new.trail.program ≡ self.old.trail.program }
         ensures mode { self.new.trail.mode ≡ self.old.trail.mode }
+        ensures room_left { self.old.room ≤ self.new.room + 1 }
+        ensures err_room { OnErr result (self.old.room ≤ self.new.room) }
         ensures rises { OnOk result (self.old.writes + 1 ≤ self.new.writes) }
         ensures few { OnOk result ((step : Step) → slice_get self.old.trail.steps self.old.trail.depth ≡ Some step → self.new.writes ≤ self.old.writes + most_writes self.old.trail.program.ranks step) }
         ensures unwritten { OnErr result (self.new.writes ≡ self.old.writes) }
@@ -460,6 +470,7 @@ impl<'c> Debugger<'c> {
         ensures err_world { OnErr result (self.new.world ≡ self.old.world) }
         ensures program { self.new.trail.program ≡ self.old.trail.program }
         ensures mode { self.new.trail.mode ≡ self.old.trail.mode }
+        ensures room_left { self.old.room ≤ self.new.room }
         ensures rises { OnOk result (self.old.writes + (self.old.trail.depth - depth) ≤ self.new.writes) }
         ensures few { OnOk result (self.new.writes ≤ self.old.writes + most_writes_of self.old.trail.program.ranks (drop depth (kept self.old.trail))) }
         ensures unwritten { OnErr result (self.new.writes ≡ self.old.writes) }

@@ -4,7 +4,7 @@ use Rattle.mpd_trace.proofs.TraceLaws.{served_from}
 use Rattle.mpd_trace.proofs.trace.trace_behind.Goals as goal
 
 pub returns-in_default-clause-served : goal.returns-in_default-clause-served
-returns-in_default-clause-served g c = (first_standing c.args.code.now.program c.args.mode, (refl, refl))
+returns-in_default-clause-served g c = (first_standing c.args.code.now.program c.args.mode, (refl, refl, refl))
 
 pub returns-clause-served : goal.returns-clause-served
 returns-clause-served g c = (

@@ -19,6 +19,7 @@ loop-self-preserved c =
       least = omega (arith, deep);
       most = omega (arith, deep, i.most);
       reached = c.undo.ensures.reached;
+      room = omega (arith, i.room, c.undo.ensures.room_left);
       rises = search rules;
       few = back_few s m n c.core.ensures.reached i.trail back some i.most (search rules) i.few;
     }

@@ -10,6 +10,7 @@ invariant-loop-self l = record {
   least : l.depth ≤ l.self.trail.depth;
   most : l.self.trail.depth ≤ l.fn.self.trail.depth;
   reached : IsReached (standing_of l.self);
+  room : l.fn.self.room ≤ l.self.room;
   rises : l.fn.self.writes + (l.fn.self.trail.depth - l.self.trail.depth) ≤ l.self.writes;
   few : l.self.writes ≤ l.fn.self.writes + most_writes_of l.fn.self.trail.program.ranks (drop l.self.trail.depth (kept l.fn.self.trail));
 }

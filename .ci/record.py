@@ -1,0 +1,132 @@
+"""What is remembered of earlier runs of the gate (docs/GATE.md, "What is remembered").
+
+`.ci/refused.txt` has a line for each crate: its name, how many edits it has, and a digest of all that tells whether they are
+refused. `.ci/edits.py --record` writes it, where all edits of all crates were refused. An edit of a crate whose digest is the same
+is remembered; a twentieth of these are tried nevertheless, so that a wrong record is found.
+"""
+import hashlib
+import os
+import re
+import subprocess
+
+FILE = '.ci/refused.txt'
+
+# The files of .ci/ by which edits are judged.
+JUDGES = ('assumed.py', 'copies.py', 'edit_files.py', 'edits.py', 'record.py', 'rounds.py', 'told.py')
+
+# The folders of a crate that its own checks read, its edits among them, and those that checks of crates above it read.
+OWN, SEEN_ABOVE = ('must-fail', 'proofs', 'specs', 'src'), ('specs', 'src')
+
+# Of the edits that are remembered, one of so many is tried.
+SHARE = 20
+
+# A name of what a proof file of a crate has.
+OF_PROOFS = re.compile(rb'\bRattle\.(\w+)\.proofs\b')
+
+HEAD = '# Written by .ci/edits.py --record, where all edits of all crates were refused, and never by hand: crate, edits, digest.\n'
+
+
+def bytes_of(file):
+    with open(file, 'rb') as it:
+        return it.read()
+
+
+def files_below(folder):
+    """The files below a folder, in order; texts for a reader are none of a crate's."""
+    return sorted(f'{at}/{it}' for at, _, files in os.walk(folder) for it in files if not it.endswith('.md'))
+
+
+def digest_of(parts):
+    """A digest of named pieces of bytes, of which none runs into the next."""
+    whole = hashlib.sha256()
+    for name, said in parts:
+        whole.update(f'{len(name.encode())} {len(said)} {name}\n'.encode() + said)
+    return whole.hexdigest()
+
+
+def files_of(root, crate, folders):
+    """The files of a crate in these folders, each with what it has."""
+    found = [it for folder in folders for it in files_below(f'{root}/crates/{crate}/{folder}')]
+    return [(os.path.relpath(it, root), bytes_of(it)) for it in found]
+
+
+def names_proofs_of(root, crate):
+    """The other crates whose proof files this one's files name."""
+    named = {name.decode() for _, said in files_of(root, crate, ('proofs', 'specs', 'src')) for name in OF_PROOFS.findall(said)}
+    return named - {crate}
+
+
+def kit_of(repository):
+    return bytes_of(f'{repository.kit}/KIT-ID')
+
+
+def pieces(repository, crate):
+    """All that tells whether the edits of a crate are refused: its own files, what is read of the crates below it, their lines of
+    crates.txt, what judges edits, and the kit."""
+    root, below = repository.root, repository.below(crate)
+    found = [('kit', kit_of(repository))]
+    found += [(f'.ci/{it}', bytes_of(f'{root}/.ci/{it}')) for it in JUDGES]
+    found += [(f'uses of {it}', ' '.join(repository.uses[it]).encode()) for it in [crate, *sorted(below)]]
+    named = {name for it in [crate, *below] for name in names_proofs_of(root, it)}
+    for used in sorted(below):
+        found += files_of(root, used, ('proofs', *SEEN_ABOVE) if used in named else SEEN_ABOVE)
+    return found + files_of(root, crate, OWN)
+
+
+def digest(repository, crate):
+    return digest_of(pieces(repository, crate))
+
+
+def read(root):
+    """The record: for each crate how many edits were refused, and the digest then."""
+    if not os.path.exists(f'{root}/{FILE}'):
+        return {}
+    lines = bytes_of(f'{root}/{FILE}').decode().splitlines()
+    found = [re.fullmatch(r'(\w+) (\d+) ([0-9a-f]{64})', it) for it in lines]
+    return {it[1]: (int(it[2]), it[3]) for it in found if it}
+
+
+def write(repository, crates, digests):
+    """Writes the record of these crates, all of whose edits were refused, unless the tree isn't what it was at the start."""
+    changed = [it.name for it in crates if digest(repository, it.name) != digests[it.name]]
+    if changed:
+        return f'{FILE} is not written: files that tell of {" ".join(changed)} were changed since the run began'
+    lines = [f'{it.name} {len(it.edits)} {digests[it.name]}\n' for it in sorted(crates, key=lambda it: it.name)]
+    with open(f'{repository.root}/{FILE}', 'w', encoding='utf-8') as it:
+        it.write(HEAD + ''.join(lines))
+    return f'{FILE} is written: {len(lines)} crates, {sum(len(it.edits) for it in crates)} edits'
+
+
+def draw(names, seed):
+    """A twentieth of these names, one at least where there are any: side by side in their order, from a place that the seed tells,
+    so that each has the same chance, and few crates are begun."""
+    names = sorted(names)
+    if not names:
+        return set()
+    begin = int(hashlib.sha256(seed.encode()).hexdigest(), 16) % len(names)
+    return {names[(begin + it) % len(names)] for it in range(-(-len(names) // SHARE))}
+
+
+def seed_of(root, digests):
+    """The commit of this tree; where it is in no repository of its own, the digests of its crates."""
+    asked = ['git', '-C', root, 'rev-parse', '--show-toplevel', 'HEAD']
+    try:
+        ran = subprocess.run(asked, stdin=subprocess.DEVNULL, capture_output=True, text=True)
+    except OSError:
+        ran = None
+    top, _, commit = ran.stdout.strip().partition('\n') if ran and not ran.returncode else ('', '', '')
+    return commit if top and os.path.samefile(top, root) else ' '.join(digests[it] for it in sorted(digests))
+
+
+def take_due(repository, crates, digests):
+    """Leaves each of these crates the edits that are due: all where the record doesn't answer for it, and else those that are drawn.
+    Says which, and answers the names of those that are drawn."""
+    kept = read(repository.root)
+    remembered = [it for it in crates if kept.get(it.name) == (len(it.edits), digests[it.name]) and not it.bad]
+    drawn = draw([edit.name for it in remembered for edit in it.edits], seed_of(repository.root, digests))
+    changed = [it for it in crates if it not in remembered]
+    print(f'edits of crates that {FILE} does not answer for: {sum(len(it.edits) + len(it.bad) for it in changed)} ({" ".join(it.name for it in changed) or "no crate"})')
+    print(f'edits of the others: {sum(len(it.edits) for it in remembered)}, of which these {len(drawn)} are drawn: {" ".join(sorted(drawn)) or "none"}', flush=True)
+    for crate in remembered:
+        crate.edits = [it for it in crate.edits if it.name in drawn]
+    return drawn

@@ -1,0 +1,700 @@
+#!/usr/bin/env python3
+"""Tests of the harness of the gate, on small sources: that an edit counts as refused rests on how .ci/ reads sources and checks.
+
+    .ci/test_harness.py    at the top of the repository
+"""
+import os
+import re
+import shutil
+import subprocess
+import sys
+import tempfile
+import types
+import unittest
+
+sys.dont_write_bytecode = True
+sys.path.insert(0, os.path.dirname(os.path.abspath(__file__)))
+
+import assumed
+import copies
+import edit_files
+import landing
+import processes
+import record
+import rounds
+import told
+
+SOURCE = """//! A module.
+
+/// A list.
+pub struct List {
+    items: Vec<u64>,
+}
+
+impl List {
+    /// How many.
+    #[inline(always)]
+    pub fn len(&self) -> usize
+        ensures exact { result ≡ length self.now }
+        ensures few { result ≤ 9 }
+    {
+        self.items.len()
+    }
+
+    fn first(&self) -> u64 {
+        self.items[0]
+    }
+}
+
+impl Clone for List {
+    fn clone(&self) -> List {
+        List { items: self.items.clone() }
+    }
+}
+
+/// One side.
+#[cycle(side)]
+fn left(count: u64)
+    requires { count ≤ 9 }
+{
+    if count > 0 {
+        right(count - 1);
+    }
+}
+
+/// The other.
+#[cycle(side)]
+#[inline(never)]
+pub(crate) fn right(count: u64) {
+    left(count);
+}
+
+/// No code.
+pub fn law()
+    ensures { true }
+{}
+"""
+
+ANSWERS = """use Rattle.std.proofs.Common.{rules}
+use Rattle.small.proofs.list.List.len.Goals as goal
+
+pub helper : Nat
+helper = 1
+
+pub returns-clause-exact : goal.returns-clause-exact
+returns-clause-exact c = search rules
+
+pub returns-clause-few : goal.returns-clause-few
+returns-clause-few c = omega arith
+
+pub returns : goal.returns
+returns c =
+    let n = c.args in
+    record {
+      exact = one (two; three) n;
+      few = record { inner = four; outer = five };
+    }
+"""
+
+OF_CYCLE = """use Rattle.small.proofs.list.+side.Goals as goal
+
+abbrev pub decreases-left : goal.decreases-left
+decreases-left l = l.count.now
+
+pub left-returns : goal.left-returns
+left-returns t c =
+    search rules
+
+pub left-right-requires : goal.left-right-requires
+left-right-requires t c =
+    (omega (arith, n), omega arith)
+
+pub right-returns : goal.right-returns
+right-returns t c = search rules
+"""
+
+
+def head(name, text=SOURCE):
+    return next(it for it in copies.HEAD.finditer(text) if it[3] == name)
+
+
+def place(piece, text=SOURCE):
+    begin = text.index(piece)
+    return begin, begin + len(piece)
+
+
+class WithFolder(unittest.TestCase):
+    """A test with a folder of its own, and files there."""
+
+    def setUp(self):
+        room = tempfile.TemporaryDirectory()
+        self.addCleanup(room.cleanup)
+        self.folder = room.name
+
+    def write(self, file, text):
+        os.makedirs(os.path.dirname(f'{self.folder}/{file}'), exist_ok=True)
+        with open(f'{self.folder}/{file}', 'w', encoding='utf-8') as it:
+            it.write(text)
+
+    def read(self, file):
+        with open(f'{self.folder}/{file}', encoding='utf-8') as it:
+            return it.read()
+
+
+class Heads(unittest.TestCase):
+    """Where a function begins and ends."""
+
+    def test_the_function_around_a_piece(self):
+        for piece, name in (('self.items.len()', 'len'), ('self.items[0]', 'first'), ('self.items.clone()', 'clone'), ('right(count - 1);', 'left'), ('    left(count);', 'right')):
+            self.assertEqual(copies.head_around(SOURCE, *place(piece))[3], name)
+
+    def test_what_is_in_no_function(self):
+        for piece in ('items: Vec<u64>', 'A module', 'impl Clone'):
+            self.assertIsNone(copies.head_around(SOURCE, *place(piece)))
+
+    def test_a_piece_of_two_functions_is_in_none(self):
+        begin, end = place('self.items.len()')[0], place('self.items[0]')[1]
+        self.assertIsNone(copies.head_around(SOURCE, begin, end))
+
+    def test_the_end(self):
+        self.assertTrue(SOURCE[: copies.end_of(SOURCE, head('len'))].endswith('        self.items.len()\n    }'))
+        self.assertTrue(SOURCE[: copies.end_of(SOURCE, head('left'))].endswith('        right(count - 1);\n    }\n}'))
+        self.assertEqual(copies.end_of('fn open() {\n    1\n', head('open', 'fn open() {\n    1\n')), -1)
+
+    def test_the_begin_is_at_its_doc_comment(self):
+        for name, begins in (('len', '    /// How many.'), ('first', '    fn first'), ('left', '/// One side.'), ('right', '/// The other.')):
+            self.assertTrue(SOURCE[copies.start_of(SOURCE, head(name)) :].startswith(begins), name)
+
+    def test_the_begin_is_behind_what_opens_a_block(self):
+        text = 'mod inner {\nfn first() {\n    1\n}\n'
+        self.assertTrue(text[copies.start_of(text, head('first', text)) :].startswith('fn first'))
+
+    def test_the_cycle_of_calls(self):
+        self.assertEqual([head(it)[2] for it in ('left', 'right', 'len', 'law')], ['side', 'side', None, None])
+
+    def test_enclosing_takes_the_cycle_along(self):
+        line = {name: SOURCE[: head(name).end()].count('\n') + 1 for name in ('left', 'right', 'first')}
+        found = edit_files.enclosing(SOURCE, *place('right(count - 1);'))
+        self.assertEqual(found, {('left', line['left']), ('right', line['right'])})
+        self.assertEqual(edit_files.enclosing(SOURCE, *place('self.items[0]')), {('first', line['first'])})
+        self.assertEqual(edit_files.enclosing(SOURCE, *place('A module')), set())
+
+
+class Bodies(WithFolder):
+    """What is granted of a crate, and how its bodies are emptied."""
+
+    def body(self, name):
+        text = SOURCE[copies.start_of(SOURCE, head(name)) : copies.end_of(SOURCE, head(name))]
+        begin = assumed.body_of(text, head(name)[1])
+        return begin if begin is None else text[begin:]
+
+    def test_where_a_body_begins(self):
+        self.assertEqual(self.body('len'), '{\n        self.items.len()\n    }')
+        self.assertEqual(self.body('first'), '{\n        self.items[0]\n    }')
+        self.assertTrue(self.body('left').startswith('{\n    if count > 0 {'))
+        self.assertIsNone(self.body('law'))
+
+    def granted(self):
+        self.write('src/list.rt', SOURCE)
+        self.write('src/lib.rt', '#[cfg(test)]\nmod rows;\nmod list;\n')
+        self.write('src/rows.rt', 'fn of_tests() {\n    1\n}\n')
+        return assumed.grants(self.folder, ['small::mpd_device++steps++A+Destruct::drop', 'small::List+Destruct::drop'])
+
+    def test_what_is_granted(self):
+        found = {it.folder for it in self.granted()}
+        self.assertEqual(found, {f'proofs/{it}' for it in ('list/List/len', 'list/List/first', 'list/left', 'list/right', 'List+Destruct/drop')})
+
+    def test_what_is_judged_is_not_granted_nor_is_its_cycle(self):
+        names = {it.name for it in assumed.granted(self.granted(), {'left', 'len'})}
+        self.assertEqual(names, {'first', 'drop'})
+
+    def test_a_granted_function_is_empty_and_in_no_cycle(self):
+        regions = {it.name: it.regions() for it in self.granted() if it.original}
+        text = edit_files.merged(self.folder, {'src/list.rt': regions['right'] + regions['len']})['src/list.rt']
+        self.assertIn('/// The other.\n#[inline(never)]\npub(crate) fn right(count: u64) {\n    loop {}\n}', text)
+        self.assertIn('few { result ≤ 9 }\n    {\n        loop {}\n    }', text)
+        self.assertIn('/// One side.\n#[cycle(side)]', text)
+
+    def test_what_stands_for_its_proof(self):
+        given = [it for it in self.granted() if it.name in ('left', 'len')]
+        for file in ('proofs/list/+side/Answers.antt', 'proofs/list/List/len/Answers.antt', 'proofs/list/List/first/Answers.antt'):
+            self.write(file, 'an answer')
+        assumed.assume(self.folder, 'small', given)
+        self.assertIn('use Rattle.small.proofs.list.List.len.Statement as stated', self.read('proofs/list/List/len/Proof.antt'))
+        left = {at.removeprefix(f'{self.folder}/') for at, _, files in os.walk(f'{self.folder}/proofs') if 'Answers.antt' in files}
+        self.assertEqual(left, {'proofs/list/List/first'})
+        self.assertIn('assumed = ?', self.read('proofs/Assumed.antt'))
+
+
+class Answers(unittest.TestCase):
+    """The proof files of copies."""
+
+    def test_the_answer_to_the_clause_alone_is_kept(self):
+        found = copies.for_clause(ANSWERS, 'exact')
+        self.assertIn('pub returns : goal.returns\nreturns c = search rules\n', found)
+        self.assertNotIn('omega arith', found)
+        self.assertNotIn('clause', found)
+        self.assertIn('pub helper : Nat', found)
+
+    def test_of_an_answer_to_all_the_field_is_kept(self):
+        self.assertIn('let n = c.args in\n    one (two; three) n\n', copies.for_clause(ANSWERS, 'exact'))
+        self.assertIn('let n = c.args in\n    record { inner = four; outer = five }\n', copies.with_field(ANSWERS.split('\n\n')[-1], 'few') + '\n')
+
+    def test_a_copy_that_ensures_nothing_has_no_answer(self):
+        found = copies.for_clause(ANSWERS, 'requires')
+        self.assertNotIn('returns', found)
+        self.assertIn('pub helper : Nat', found)
+
+    def test_of_several_records_the_last_one_has_the_field(self):
+        block = 'returns c =\n    let n = record { few = 1 } in\n    record { few = 2 }'
+        self.assertEqual(copies.with_field(block, 'few'), 'returns c =\n    let n = record { few = 1 } in\n    2')
+
+    def test_an_answer_with_no_such_field_stays(self):
+        for block in ('returns c = search rules', 'returns c =\n    record {\n      exact = one;\n    }'):
+            self.assertEqual(copies.with_field(block, 'few'), block)
+
+    def test_outside_of_its_cycle(self):
+        found = copies.outside_of_cycle(OF_CYCLE, 'left')
+        self.assertIn('pub returns : goal.returns\nreturns c =\n    search rules', found)
+        self.assertIn('pub right-requires : goal.right-requires\nright-requires c =\n    omega arith', found)
+        self.assertNotIn('right-returns', found)
+        self.assertNotIn('(omega (arith, n),', found)
+
+    def test_a_measure_is_said_of_its_function(self):
+        self.assertIn('right-returns', copies.outside_of_cycle(OF_CYCLE, 'right').replace('pub returns', 'right-returns'))
+        self.assertIsNone(copies.outside_of_cycle(OF_CYCLE, 'middle'))
+
+    def test_without_the_fall_of_the_measure(self):
+        self.assertEqual(copies.without_measure('a =\n    (f (1, 2), g (3, 4))'), 'a =\n    g (3, 4)')
+        for answer in ('a =\n    omega arith', 'a =\n    (f (1, 2))'):
+            self.assertEqual(copies.without_measure(answer), answer)
+
+
+class Copied(WithFolder):
+    """Functions that are copied."""
+
+    def original(self, name):
+        self.write('src/list.rt', SOURCE)
+        return copies.Original(self.folder, 'src/list.rt', SOURCE, head(name))
+
+    def test_which_can_be(self):
+        self.assertEqual([self.original(it).can_be_copied() for it in ('len', 'first', 'left', 'clone')], [True, True, True, False])
+        self.assertEqual([self.original(it).owner for it in ('len', 'left', 'clone')], ['List', None, None])
+
+    def test_its_clauses(self):
+        self.assertEqual(self.original('len').clauses(), ['exact', 'few'])
+        self.assertEqual(self.original('first').clauses(), [])
+
+    def test_a_copy_has_the_edit_and_one_clause(self):
+        begin, end = place('self.items.len()')
+        text = self.original('len').source('len_turned_1', begin, end, '7', 'few')
+        self.assertIn('pub fn len_turned_1(&self) -> usize\n        ensures { result ≤ 9 }\n    {\n        7\n    }', text)
+        self.assertNotIn('length', text)
+
+    def test_a_copy_for_what_a_call_requires_ensures_nothing(self):
+        self.assertNotIn('ensures', self.original('len').source('len_as_it_is', clause='requires'))
+
+    def test_a_copy_is_in_no_cycle(self):
+        text = self.original('right').source('right_turned_1')
+        self.assertNotIn('cycle', text)
+        self.assertIn('left(count);', text)
+
+    def test_its_proof_files_have_its_name(self):
+        original = self.original('len')
+        self.write('proofs/list/List/len/Answers.antt', ANSWERS)
+        self.write('proofs/list/List/first/Answers.antt', ANSWERS)
+        found = original.proofs('len_turned_1', 'few')
+        self.assertEqual(list(found), ['proofs/list/List/len_turned_1/Answers.antt'])
+        self.assertIn('use Rattle.small.proofs.list.List.len_turned_1.Goals as goal', *found.values())
+
+    def test_a_refusal_counts_where_the_control_is_proved(self):
+        made = copies.Copies()
+        edit = types.SimpleNamespace(function='List::len', clause='few')
+        self.assertEqual(made.add(edit, self.original('len'), (*place('self.items.len()'), '7')), 'List::len_turned_1')
+        control = 'List::len_as_it_is_for_few'
+        self.assertEqual(set(made.controls.values()), {control})
+        for word, fault in (('proved', None), ('depends on a hole in Assumed', None), ('no proof: c', f'{control}: no proof: c')):
+            said = told.Told({}, f'fn small::list::{control}: {word}\nlogic=not-proved')
+            self.assertEqual(made.fault(said, self.original('len'), 'few'), fault)
+        self.assertEqual(made.fault(told.Told({}, ''), self.original('len'), 'few'), f'{control}: it was not checked')
+
+
+class Judged(unittest.TestCase):
+    """What counts as refused."""
+
+    def told(self, *lines):
+        return told.Told({}, '\n'.join([*lines, 'logic=not-proved']))
+
+    def verdict(self, *lines, judged='List::len', lemma=None):
+        edit = types.SimpleNamespace(judged=judged, lemma=lemma, name='small/len.wrong.edit')
+        return told.judge(edit, self.told(*lines))
+
+    def test_a_fault_of_its_own(self):
+        for lines in (
+            ['note: src/list.rt:3:5: it is not proved that it holds', 'fn small::list::List::len: no proof'],
+            ['fn small::list::List::len: no proof: the search has given up'],
+            ['./proofs/list/List/len/Answers.antt:3:1: error: types differ', 'fn small::list::List::len: no proof'],
+            ['./proofs/list/other/Answers.antt:3:1: error: types differ', 'fn small::list::List::len: no proof: expected answers in ./proofs/list/other/'],
+        ):
+            self.assertTrue(self.verdict(*lines).is_refused, lines)
+
+    def test_a_fault_of_what_it_calls_is_none(self):
+        for lines in (
+            ['fn small::list::List::len: no proof: it calls `small::list::first`, which is not proved'],
+            ['fn small::list::List::len: no proof: it calls `first`, `second` and `third`, which are not proved'],
+            ['fn small::list::List::len: no proof: in `small::list::left`, of this cycle of calls: it calls `first`, which is not proved'],
+        ):
+            verdict = self.verdict(*lines)
+            self.assertFalse(verdict.is_refused, lines)
+            self.assertIn('has no fault of its own', verdict.text)
+
+    def test_a_note_of_another_function_is_none(self):
+        verdict = self.verdict('note: src/list.rt:9:5: it is not proved that it holds', 'fn small::list::first: no proof', 'fn small::list::List::len: proved')
+        self.assertFalse(verdict.is_refused)
+        self.assertIn('is still proved', verdict.text)
+        verdict = self.verdict('note: src/list.rt:9:5: it is not proved that it holds', 'fn small::list::first: no proof', 'fn small::list::List::len: no proof: it calls `first`, which is not proved')
+        self.assertFalse(verdict.is_refused)
+
+    def test_what_is_proved_has_no_reasons(self):
+        said = self.told('note: src/list.rt:9:5: it is not proved that it holds', 'fn small::list::first: proved')
+        self.assertEqual(said.reasons('small::list::first'), [])
+
+    def test_a_closure_is_its_own(self):
+        lines = ['note: src/list.rt:3:5: it is not proved that it holds', 'fn small::list::List::fn::len::0: no proof', 'fn small::list::List::len: no proof: it calls `small`, which is not proved']
+        self.assertTrue(self.verdict(*lines).is_refused)
+
+    def test_what_is_granted_is_proved(self):
+        for word in ('proved', 'no holes', 'depends on a hole in Assumed'):
+            self.assertFalse(self.verdict(f'fn small::list::List::len: {word}').is_refused)
+
+    def test_a_proof_file_that_names_what_was_taken_away_is_none(self):
+        verdict = self.verdict('proofs/list/List/len/Answers.antt:3:1: error: `c` has no field few', 'fn small::list::List::len: no proof')
+        self.assertFalse(verdict.is_refused)
+        self.assertIn('names what the edit took away', verdict.text)
+
+    def test_goals_that_wait_are_tried_again(self):
+        verdict = self.verdict('`search` has not tried the goals of `small::list::List::len`', 'fn small::list::List::len: no proof: it calls `first`, which is not proved')
+        self.assertEqual((verdict.is_refused, verdict.is_open), (False, True))
+        verdict = self.verdict('fn small::list::List::len: could not tell')
+        self.assertEqual((verdict.is_refused, verdict.is_open), (False, True))
+
+    def test_a_name_of_no_function_or_two_is_bad(self):
+        for lines in ([], ['fn small::a::List::len: no proof: x', 'fn small::b::List::len: no proof: x']):
+            verdict = self.verdict(*lines)
+            self.assertFalse(verdict.is_refused)
+            self.assertIn('BAD EDIT', verdict.text)
+        self.assertEqual(self.told('fn small::list::List::relen: proved').named('List::len'), [])
+        self.assertEqual(self.told('fn small::list::MyList::len: proved').named('List::len'), [])
+
+    def test_lemmas(self):
+        error = './specs/Lib.antt:3:1: error: `few`: types differ'
+        self.assertTrue(self.verdict(error, judged=None, lemma='few').is_refused)
+        for lines in ([], ['./specs/Lib.antt:3:1: error: `more`: types differ'], ['./specs/Lib.antt:3:1: error: `few`: `x` is not in scope']):
+            self.assertFalse(self.verdict(*lines, judged=None, lemma='few').is_refused, lines)
+
+    def test_what_is_unread(self):
+        for line in ('./src/list.rt:3:1: error: expected a type', 'specs/Lib.antt:3:1: error: `few`: `x` is not in scope', 'specs/Lib.antt:3:1: error: expected the end'):
+            self.assertTrue(told.is_unread(line), line)
+        for line in ('specs/Lib.antt:3:1: error: `few`: types differ', './proofs/Lib.antt:3:1: error: expected the end', 'note: src/list.rt:3:1: it is not proved'):
+            self.assertFalse(told.is_unread(line), line)
+
+    def test_what_did_not_reach_the_prover(self):
+        self.assertTrue(self.told().is_judged)
+        self.assertFalse(told.Told({}, 'src/list.rt:3:1: error: expected a type').is_judged)
+
+
+class Edits(WithFolder):
+    """What an edit's file says, and which edits are tried together."""
+
+    def edit(self, name, *lines):
+        self.write('src/list.rt', SOURCE)
+        self.write('src/lib.rt', 'mod list;\n')
+        self.write(f'must-fail/{name}.edit', '\n'.join(lines) + '\n')
+        found = edit_files.Edit(self.folder, f'{self.folder}/must-fail/{name}.edit')
+        found.read()
+        return found
+
+    def of(self, function, old, new, *more):
+        return self.edit(function.rpartition('::')[2], f'fn: {function}', 'file: src/list.rt', f'old: {old}', f'new: {new}', *more)
+
+    def test_its_region(self):
+        begin, end, new = self.of('List::len', 'self.items.len()', 'self.items.len() + 1').regions()['src/list.rt']
+        self.assertEqual((SOURCE[:begin] + new + SOURCE[end:]), SOURCE.replace('self.items.len()', 'self.items.len() + 1'))
+
+    def test_what_is_no_edit(self):
+        pair = ['file: src/list.rt', 'old: self.items.len()', 'new: 7']
+        for lines in (pair, ['fn: a', 'lemma: b', *pair], ['fn: a', *pair[:2]], ['fn: a', *pair[1:]], ['fn: a', 'file: ../list.rt', *pair[1:]], ['fn: a', 'file: src/../src/list.rt', *pair[1:]], ['fn: a', 'huh: x', *pair]):
+            with self.assertRaises(edit_files.BadEdit, msg=lines):
+                self.edit('bad', *lines)
+        for old, new in (('self.items', '7'), ('nowhere', '7'), ('self.items.len()', 'self.items.len()')):
+            with self.assertRaises(edit_files.BadEdit, msg=old):
+                self.of('List::len', old, new).regions()
+        with self.assertRaises(edit_files.BadEdit):
+            self.of('List::len', 'self.items.len()', '7', 'clause: many').original()
+
+    def test_what_is_copied(self):
+        self.assertIsNotNone(self.of('List::len', 'self.items.len()', '7', 'clause: few').original())
+        # (one that wants the refusal of a caller, one of a trait's method, and one of what is in no function)
+        self.assertIsNone(self.of('List::first', 'self.items.len()', '7').original())
+        self.assertIsNone(self.of('ListClone::clone', 'self.items.clone()', 'Vec::new()').original())
+        self.assertIsNone(self.of('List::len', 'items: Vec<u64>,', 'items: Vec<u32>,').original())
+
+    def test_what_changes_with_it(self):
+        self.assertEqual({name for name, _ in self.of('right', '    left(count);', '    left(count + 1);').changed()}, {'left', 'right'})
+        self.assertIsNone(self.of('List::len', 'items: Vec<u64>,', 'items: Vec<u32>,').changed())
+
+    def test_copies_go_into_one_round(self):
+        edits = [self.of('List::len', 'self.items.len()', '7'), self.of('List::first', 'self.items[0]', '7'), self.of('ListClone::clone', 'self.items.clone()', 'Vec::new()')]
+        made = rounds.Round(edits)
+        self.assertEqual([it.judged for it in made.taken], ['List::len_turned_1', 'List::first_turned_1'])
+        text = made.texts([])['src/list.rt']
+        self.assertTrue(text.replace(' ', '').count('self.items.len()') >= 1 and 'fn len_turned_1' in text and 'fn first_turned_1' in text)
+
+    def test_in_place_a_cycle_has_one_edit_in_a_round(self):
+        edits = [self.of('left', 'right(count - 1);', 'right(count);'), self.of('right', '    left(count);', '    left(count + 1);'), self.of('List::len', 'self.items.len()', '7')]
+        for it in edits:
+            it.is_for_a_copy = False
+        self.assertEqual([it.function for it in rounds.Round(edits).taken], ['left', 'List::len'])
+
+    def test_a_type_has_a_round_of_its_own(self):
+        edits = [self.of('List::len', 'items: Vec<u64>,', 'items: Vec<u32>,'), self.of('left', 'right(count - 1);', 'right(count);')]
+        for it in edits:
+            it.is_for_a_copy = False
+        self.assertEqual(len(rounds.Round(edits).taken), 1)
+        self.assertEqual([it.function for it in rounds.Round(edits[::-1]).taken], ['left'])
+
+    def test_what_touches(self):
+        regions = {'src/list.rt': [(10, 20, 'x')]}
+        for file, begin, end, wanted in (('src/list.rt', 20, 22, True), ('src/list.rt', 5, 10, True), ('src/list.rt', 21, 22, False), ('src/lib.rt', 12, 15, False)):
+            self.assertEqual(edit_files.touches(regions, {file: (begin, end, 'y')}), wanted)
+
+
+class Remembered(WithFolder):
+    """What is remembered of earlier runs."""
+
+    def setUp(self):
+        super().setUp()
+        self.write('crates.txt', '# libraries\nlow: std\nside: std\nhigh: low std   # above\n')
+        self.write('KIT-ID', 'kit 1')
+        for judge in record.JUDGES:
+            self.write(f'.ci/{judge}', judge)
+        for crate in ('low', 'side', 'high'):
+            for file in ('src/lib.rt', 'specs/Lib.antt', 'proofs/Lib.antt', 'must-fail/a.b.edit', 'must-fail/README.md'):
+                self.write(f'crates/{crate}/{file}', f'{crate} {file}')
+
+    def repository(self):
+        found = rounds.Repository(self.folder)
+        found.kit = self.folder
+        return found
+
+    def digests(self):
+        return {it: record.digest(self.repository(), it) for it in ('low', 'side', 'high')}
+
+    def changed_by(self, file, text):
+        before = self.digests()
+        self.write(file, text)
+        after = self.digests()
+        return {it for it in before if before[it] != after[it]}
+
+    def test_what_a_digest_depends_on(self):
+        for file, crates in (
+            ('crates/low/src/lib.rt', {'low', 'high'}),
+            ('crates/low/src/new.rt', {'low', 'high'}),
+            ('crates/low/specs/Lib.antt', {'low', 'high'}),
+            ('crates/low/proofs/Lib.antt', {'low'}),
+            ('crates/low/must-fail/a.b.edit', {'low'}),
+            ('crates/low/must-fail/c.d.edit', {'low'}),
+            ('crates/high/proofs/new/Lib.antt', {'high'}),
+            ('crates/side/src/lib.rt', {'side'}),
+            ('crates/low/must-fail/README.md', set()),
+            ('crates/low/out/rlib', set()),
+            ('crates/low/stdin', set()),
+            ('docs/GATE.md', set()),
+            ('.ci/copies.py', {'low', 'side', 'high'}),
+            ('.ci/run', set()),
+            ('KIT-ID', {'low', 'side', 'high'}),
+        ):
+            self.assertEqual(self.changed_by(file, f'changed {file}'), crates, file)
+
+    def test_a_file_that_is_gone_changes_it(self):
+        before = self.digests()
+        os.remove(f'{self.folder}/crates/low/must-fail/a.b.edit')
+        self.assertNotEqual(before['low'], self.digests()['low'])
+
+    def test_a_file_that_moves_changes_it(self):
+        before = self.digests()
+        os.rename(f'{self.folder}/crates/low/src/lib.rt', f'{self.folder}/crates/low/src/main.rt')
+        self.assertNotEqual(before['low'], self.digests()['low'])
+
+    def test_proof_files_that_are_named_above(self):
+        self.write('crates/high/proofs/Lib.antt', 'use Rattle.low.proofs.Lib.{lemma}')
+        self.assertEqual(self.changed_by('crates/low/proofs/Lib.antt', 'another'), {'low', 'high'})
+
+    def test_lines_of_crates_txt(self):
+        self.assertEqual(self.changed_by('crates.txt', 'low: std\nhigh: low std\nside: std\n'), set())
+        self.assertEqual(self.changed_by('crates.txt', 'low: std thiserror\nside: std\nhigh: low std\n'), {'low', 'high'})
+
+    def test_pieces_do_not_run_into_one_another(self):
+        self.assertNotEqual(record.digest_of([('a', b'bc')]), record.digest_of([('ab', b'c')]))
+        self.assertNotEqual(record.digest_of([('a', b'1'), ('b', b'')]), record.digest_of([('a', b''), ('b', b'1')]))
+
+    def test_the_draw(self):
+        names = [f'crate/{it:03}.edit' for it in range(200)]
+        counts = [len(record.draw(names[:many], 'seed')) for many in (0, 1, 20, 21, 200)]
+        self.assertEqual(counts, [0, 1, 1, 2, 10])
+        self.assertEqual(record.draw(names[::-1], 'seed'), record.draw(names, 'seed'))
+        drawn = [record.draw(names, f'commit {it}') for it in range(400)]
+        self.assertEqual(set().union(*drawn), set(names))
+        self.assertLess(max(sum(name in it for it in drawn) for name in names), 60)
+
+    def crates(self):
+        # (each a file of the crate's edits, as .ci/rounds.py reads them)
+        return [types.SimpleNamespace(name=it, edits=[types.SimpleNamespace(name=f'{it}/{at}.edit') for at in range(count)], bad=[]) for it, count in (('high', 30), ('low', 25), ('side', 5))]
+
+    def due(self, crates):
+        keep, sys.stdout = sys.stdout, open(os.devnull, 'w', encoding='utf-8')
+        try:
+            return record.take_due(self.repository(), crates, self.digests())
+        finally:
+            sys.stdout.close()
+            sys.stdout = keep
+
+    def test_what_is_due(self):
+        crates = self.crates()
+        self.assertEqual(self.due(crates), set())
+        self.assertEqual([len(it.edits) for it in crates], [30, 25, 5])
+        record.write(self.repository(), self.crates(), self.digests())
+        crates = self.crates()
+        drawn = self.due(crates)
+        self.assertEqual(len(drawn), 3)
+        self.assertEqual({edit.name for it in crates for edit in it.edits}, drawn)
+        self.write('crates/low/src/lib.rt', 'changed')
+        crates = self.crates()
+        drawn = self.due(crates)
+        self.assertEqual(len(crates[0].edits) + len(crates[1].edits), 55)
+        self.assertEqual({edit.name for edit in crates[2].edits}, drawn)
+        self.assertEqual(len(drawn), 1)
+
+    def test_a_crate_with_another_count_or_a_bad_edit_is_due(self):
+        record.write(self.repository(), self.crates(), self.digests())
+        crates = self.crates()
+        crates[0].edits.pop()
+        crates[2].bad.append('a bad edit')
+        self.due(crates)
+        self.assertEqual([len(crates[0].edits), len(crates[2].edits)], [29, 5])
+
+    def test_the_record(self):
+        self.assertEqual(record.read(self.folder), {})
+        digests = self.digests()
+        record.write(self.repository(), self.crates(), digests)
+        self.assertEqual(record.read(self.folder), {it: (count, digests[it]) for it, count in (('high', 30), ('low', 25), ('side', 5))})
+
+    def test_nothing_is_recorded_of_a_tree_that_has_changed(self):
+        digests = self.digests()
+        self.write('crates/side/src/lib.rt', 'changed')
+        self.assertIn('is not written', record.write(self.repository(), self.crates(), digests))
+        self.assertEqual(record.read(self.folder), {})
+
+    def test_the_seed_of_a_tree_without_a_repository(self):
+        self.assertEqual(record.seed_of(self.folder, {'b': '2', 'a': '1'}), '1 2')
+
+
+@unittest.skipUnless(shutil.which('git'), 'there is no git')
+class Landing(WithFolder):
+    """What differs from a commit."""
+
+    def setUp(self):
+        super().setUp()
+        for file in ('README.md', 'crates/low/src/lib.rt', '.gitignore'):
+            self.write(file, 'out/\n')
+        self.git('init', '-q')
+        self.commit()
+
+    def git(self, *words):
+        # (a hook of git's says in the environment which repository is meant)
+        apart = {name: value for name, value in os.environ.items() if not name.startswith('GIT_')}
+        subprocess.run(['git', '-C', self.folder, '-c', 'user.name=a', '-c', 'user.email=a@b', *words], check=True, env=apart)
+
+    def commit(self):
+        self.git('add', '-A')
+        self.git('commit', '-q', '-m', 'as it is')
+
+    def test_docs_alone(self):
+        self.assertTrue(landing.is_of_docs(self.folder, 'HEAD'))
+        for file in ('README.md', 'docs/new.md', 'crates/low/out/kept'):
+            self.write(file, 'changed')
+            self.assertTrue(landing.is_of_docs(self.folder, 'HEAD'), file)
+
+    def test_another_file(self):
+        for file in ('crates/low/src/lib.rt', 'crates/low/src/new.rt', '.gitignore', '.ci/refused.txt', 'docs/new.md.py'):
+            self.write(file, 'changed')
+            self.assertEqual(landing.changed(self.folder, 'HEAD'), [file])
+            self.assertFalse(landing.is_of_docs(self.folder, 'HEAD'), file)
+            self.git('clean', '-qfd')
+            self.git('checkout', '-q', '.')
+
+    def test_a_file_that_is_gone_or_renamed(self):
+        os.rename(f'{self.folder}/crates/low/src/lib.rt', f'{self.folder}/lib.md')
+        self.assertFalse(landing.is_of_docs(self.folder, 'HEAD'))
+        self.git('add', '-A')
+        self.assertFalse(landing.is_of_docs(self.folder, 'HEAD'))
+
+    def test_what_is_committed_behind_it(self):
+        self.write('crates/low/src/lib.rt', 'changed')
+        self.commit()
+        self.assertFalse(landing.is_of_docs(self.folder, 'HEAD~1'))
+        self.assertTrue(landing.is_of_docs(self.folder, 'HEAD'))
+
+    def test_the_seed_of_a_draw_is_the_commit(self):
+        first = record.seed_of(self.folder, {'a': '1'})
+        self.assertRegex(first, '^[0-9a-f]{40,64}$')
+        self.write('README.md', 'changed')
+        self.commit()
+        self.assertNotEqual(record.seed_of(self.folder, {'a': '1'}), first)
+        self.assertEqual(record.seed_of(f'{self.folder}/crates', {'a': '1'}), '1')
+
+    def test_what_cannot_be_told(self):
+        for commit in ('nowhere', '', '--help'):
+            self.assertFalse(landing.is_of_docs(self.folder, commit), commit)
+
+
+class Processes(unittest.TestCase):
+    """How many checks rt ci makes."""
+
+    LISTED = {
+        2: (1, ['python3', '/kit/bin/rt', 'ci']),
+        3: (2, ['/kit/bin/rattle', 'check', '--jobs', '1', '']),
+        4: (2, ['/kit/bin/rattle', 'build', '--jobs', '3', '']),
+        5: (4, ['/kit/bin/rattle', 'build', '--jobs', '3', '']),
+        6: (2, ['sh', '-c', 'read _']),
+        7: (6, ['/kit/bin/rattle', 'check', '']),
+        8: (1, ['/kit/bin/rattle', 'check', '']),
+    }
+
+    def test_its_checks(self):
+        self.assertEqual(processes.checks(self.LISTED, 2), 1 + 3 + 1)
+        self.assertEqual(processes.checks(self.LISTED, 3), 0)
+
+    def test_those_below(self):
+        self.assertEqual(processes.below(self.LISTED, 2), [3, 4, 6, 5, 7])
+        self.assertIn(os.getpid(), processes.below(processes.listed(), os.getppid()))
+
+
+class Layout(unittest.TestCase):
+    """What the repository itself is held to."""
+
+    def test_all_judges_enter_the_digest(self):
+        here = os.path.dirname(os.path.abspath(__file__))
+        reads, left = set(), ['edits']
+        while left:
+            name = left.pop()
+            if name not in reads and os.path.exists(f'{here}/{name}.py'):
+                reads.add(name)
+                with open(f'{here}/{name}.py', encoding='utf-8') as it:
+                    left += re.findall(r'(?m)^(?:from|import) (\w+)', it.read())
+        # (how many processes run judges nothing)
+        self.assertEqual({f'{it}.py' for it in reads} - {'processes.py'}, {*record.JUDGES})
+
+
+if __name__ == '__main__':
+    unittest.main()

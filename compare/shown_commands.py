@@ -1,0 +1,255 @@
+"""Runs every command that README.md, docs/*.md and the texts of help show, as it stands, and compares what is shown of its answers.
+
+    python3 compare/shown_commands.py PROGRAM
+
+The commands run at the top of a copy of the repository in which `./mpdbg` is the built program. Pages show them in blocks that are
+indented by four spaces, and in code within a line; what stands behind two spaces is said of a command. Where a block stands right
+below a command, with nothing said between, it is what the command answers, whole. Blocks of words with their answers, tables of
+these, states, and scripts, are compared with the examples that they are taken from. What is no command of the program is named in
+NOT_RUN, and a block that is none of all that in EXCERPTS: a block or a command that is new to this list is wrong here. The status is 0
+where each command ended as it must.
+"""
+
+import glob
+import os
+import re
+import shutil
+import subprocess
+import sys
+import tempfile
+from typing import NamedTuple, Optional
+
+from debugger import Result
+
+TOP = os.path.join(os.path.dirname(os.path.abspath(__file__)), '..')
+SECONDS = 60
+
+# What begins a command that is not run here, since it is none of the program.
+NOT_RUN = ('.ci/', 'GATE_', 'rt ', 'python3 ', 'git ', './mpdbg --prove')
+# What begins a command that is run.
+RUN = ('./mpdbg', 'cat ', 'sed ', 'echo ')
+# How a block begins that shows neither commands nor what one of the commands answers: a line of another command, or a form.
+EXCERPTS = {
+    'README.md': ('proving ', 'checked as it runs'),
+    'docs/FORMATS.md': ('enabled local 3', 'handles 1', 'leaf N ', 'witness N: ', 'leaf 1 [1] deadlock', 'deadlock 0.1', 'mpdbg: script refused', 'mpdbg: device',
+                        'every way it can end'),
+    'docs/GATE.md': ('fn: ',)}
+# Files that a page names by a word: a script, words for it, and a witness of it, which is made.
+FILES = {'FILE': 'examples/race.mpd', 'WORDS': 'examples/race.words', 'WITNESS': 'made.witness'}
+MAKING = './mpdbg check examples/race.mpd --witness | grep -A 1 deadlock | head -2 > made.witness'
+# What is typed behind a script that is read from standard input with it.
+TYPED = {'cat examples/first_message.mpd - | ./mpdbg': '---\n'}
+# What the examples of help answer.
+HELP = {'--help': 'first.stdout', 'trace --help': 'ok 1\n', 'verify --help': 'accepted\n',
+        'check --help': 'leaf 0 [] deadlock 0.0 1.0\nwitness 0: local 0, local 1\nleaves 1 more no\n'}
+
+
+class Shown(NamedTuple):
+    """A command of a page, and what stands below it as its answer, if that does."""
+    where: str
+    command: str
+    answer: Optional[str] = None
+
+
+class Block(NamedTuple):
+    """Lines of a page that are indented or fenced, the number of the first, and whether nothing is said before them behind the last."""
+    number: int
+    lines: list
+    is_fenced: bool
+    follows: bool
+
+    @property
+    def text(self):
+        return '\n'.join([*self.lines, ''])
+
+
+def read(path):
+    with open(path, encoding='utf-8') as file:
+        return file.read()
+
+
+def blocks_of(page):
+    """The blocks of a page."""
+    found, lines, fenced, said = [], [], False, True
+    for number, line in enumerate([*read(f'{TOP}/{page}').split('\n'), ''], 1):
+        if line.startswith('```'):
+            if fenced:
+                found.append(Block(number - len(lines), lines, True, False))
+                lines, said = [], True
+            fenced = not fenced
+        elif fenced:
+            lines.append(line)
+        elif line.startswith('    ') and line.strip():
+            lines.append(line[4:])
+        else:
+            if lines:
+                found.append(Block(number - len(lines), lines, False, not said))
+                lines, said = [], False
+            said = said or bool(line.strip())
+    return found
+
+
+def command_of(line):
+    """A command without what is said of it."""
+    return re.split(r'\s{2,}', line.strip())[0]
+
+
+def is_command(line):
+    return line.startswith(RUN + NOT_RUN)
+
+
+def with_files(command):
+    """A command with the files that a page names by a word."""
+    return re.sub(r'\b(?:FILE|WORDS|WITNESS)\b', lambda word: FILES[word[0]], command)
+
+
+class Page:
+    """The commands of a page, and what else it shows."""
+
+    def __init__(self, page):
+        self.page, self.commands, self.problems, self.compared = page, [], [], 0
+        self.script = None
+        lines = read(f'{TOP}/{page}').split('\n')
+        self.names = [(number, name) for number, line in enumerate(lines, 1) for name in re.findall(r'examples/(\w+)\.mpd', line)]
+        for block in blocks_of(page):
+            self.take(block)
+        self.inline(lines)
+        self.tables(lines)
+
+    def name_before(self, number):
+        """The example that was named last before a line, or in it."""
+        return [name for line, name in self.names if line <= number][-1]
+
+    def wrong(self, number, what):
+        self.problems.append(f'{self.page}, line {number}: {what}')
+
+    def take(self, block):
+        """Sorts out what a block is."""
+        first = block.lines[0]
+        if block.is_fenced:
+            self.fenced(block)
+        elif is_command(first):
+            for number, line in enumerate(block.lines, block.number):
+                if not is_command(line):
+                    self.wrong(number, f'no command: {line}')
+                elif not line.startswith(NOT_RUN):
+                    self.commands.append(Shown(f'{self.page}, line {number}', command_of(line)))
+        elif block.follows and self.commands:
+            self.commands[-1] = self.commands[-1]._replace(answer=block.text)
+        elif all(re.search(r'\S {2,}\S', line) for line in block.lines) and not first.startswith(EXCERPTS.get(self.page, ())):
+            self.spoken(block.number, [tuple(re.split(r' {2,}', line, maxsplit=1)) for line in block.lines])
+        elif not first.startswith(EXCERPTS.get(self.page, ())):
+            self.wrong(block.number, f'a block of a kind that is not known: {first}')
+
+    def fenced(self, block):
+        """A script is that of an example, where it says what it shows, and else it is one; a state is one that its example answers."""
+        if block.lines[0].startswith('#'):
+            self.compared += 1
+            if block.text not in [read(path) for path in glob.glob(f'{TOP}/examples/*.mpd')]:
+                self.wrong(block.number, f'no example is this script: {block.lines[0]}')
+        elif block.lines[0] == 'mpd 1;':
+            self.commands.append(Shown(f'{self.page}, line {block.number}', f"./mpdbg <<'---'\n{block.text}---", ''))
+        elif block.lines[0].startswith('depth '):
+            self.compared += 1
+            if block.text not in read(f'{TOP}/examples/{self.name_before(block.number)}.stdout'):
+                self.wrong(block.number, 'the example answers no such state')
+
+    def spoken(self, number, turns):
+        """Words with their answers are some of those of the example, one behind the other."""
+        self.compared += 1
+        name = self.name_before(number)
+        words, answers = (read(f'{TOP}/examples/{name}.{ending}').splitlines() for ending in ('words', 'stdout'))
+        all_turns, rest = [], iter(answers)
+        for word in words:
+            answer = next(rest)
+            all_turns.append((word, answer))
+            while word == 'show' and answer != 'end':
+                answer = next(rest)
+        if not any(all_turns[at:at + len(turns)] == turns for at in range(len(all_turns))):
+            self.wrong(number, f'{name} answers otherwise than {turns}')
+
+    def tables(self, lines):
+        """A table whose rows have a word and its answer in code; `show` has its answer below."""
+        rows = []
+        for number, line in enumerate([*lines, ''], 1):
+            if turn := re.match(r'\| `([^`]+)` \| `((?:enabled|ok|refused)[^`]*)` \| ', line):
+                rows.append(turn.groups())
+            elif rows:
+                self.spoken(number - len(rows), rows)
+                rows = []
+
+    def inline(self, lines):
+        """Commands in code within a line, but not forms of them, which have a word in capitals or dots."""
+        for number, line in enumerate(lines, 1):
+            if line.startswith('    ') or line.startswith('|'):
+                continue
+            for command in re.findall(r'`([^`]+)`', line):
+                if command.startswith(('./mpdbg ', 'sed ')) and not command.startswith(NOT_RUN) and '..' not in command:
+                    self.commands.append(Shown(f'{self.page}, line {number}', command))
+
+
+def help_commands(copy):
+    """The commands that the texts of help show behind `Example:`, and what they answer."""
+    for words, wanted in HELP.items():
+        text = subprocess.run(['./mpdbg', *words.split()], cwd=copy, capture_output=True, text=True, check=True).stdout
+        example = text.partition('\nExample:\n')[2].strip()
+        yield Shown(words, example, read(f'{TOP}/examples/{wanted}') if wanted.endswith('.stdout') else wanted)
+
+
+def run(copy, command):
+    """What a command gives at the top of the copy."""
+    ran = subprocess.run(['bash', '-c', with_files(command)], cwd=copy, input=TYPED.get(command, '').encode(), capture_output=True,
+                         timeout=SECONDS, check=False)
+    return Result(ran.stdout, ran.stderr, ran.returncode)
+
+
+def answer_of_example(command):
+    """What the examples have as the answer of a trace with its words, if the command is one."""
+    if command == './mpdbg < examples/first.trace':
+        return read(f'{TOP}/examples/first.stdout')
+    traced = re.fullmatch(r'\./mpdbg trace examples/(\w+)\.mpd(?: --mode (\w+))? < examples/\1\.words', with_files(command))
+    if traced is None:
+        return None
+    return read(f'{TOP}/examples/{traced[1]}{f".{traced[2]}" if traced[2] == "buffered" else ""}.stdout')
+
+
+def problem_of(shown, result):
+    """What is wrong with what a command gave; None where nothing is."""
+    said = result.output.decode()
+    status = 1 if re.search(r'^leaf .*\] (?:deadlock|trap) ', said, re.M) and '|' not in shown.command else 0
+    if not shown.command or result.errors or result.status != status:
+        return f'status {result.status}, {result.errors.decode()!r}'
+    if shown.command.startswith('./mpdbg verify') and said != 'accepted\n':
+        return f'a witness that is not accepted: {said}'
+    wanted = answer_of_example(shown.command) if shown.answer is None else shown.answer
+    return None if wanted is None or said == wanted else f'answered {said!r}, wanted {wanted!r}'
+
+
+def make_copy(copy, program):
+    """What a reader has before them, with the program built."""
+    shutil.copytree(f'{TOP}/examples', f'{copy}/examples')
+    shutil.copy(program, f'{copy}/mpdbg')
+    subprocess.run(['bash', '-c', MAKING], cwd=copy, check=True)
+
+
+def main():
+    if len(sys.argv) != 2:
+        sys.exit(__doc__)
+    names = ['README.md', *sorted(f'docs/{os.path.basename(path)}' for path in glob.glob(f'{TOP}/docs/*.md'))]
+    pages = [Page(name) for name in names]
+    problems = [problem for page in pages for problem in page.problems]
+    with tempfile.TemporaryDirectory(prefix='shown-') as copy:
+        make_copy(copy, os.path.abspath(sys.argv[1]))
+        commands = [shown for page in pages for shown in page.commands] + [*help_commands(copy)]
+        for shown in commands:
+            if problem := problem_of(shown, run(copy, shown.command)):
+                problems.append(f'{shown.where}: {shown.command}: {problem}')
+    for problem in problems:
+        print(problem)
+    compared = sum(page.compared for page in pages)
+    print(f'{len(commands)} commands run, {compared} other blocks compared, {len(problems)} wrong')
+    return 1 if problems or not commands or not compared else 0
+
+
+if __name__ == '__main__':
+    sys.exit(main())

@@ -1,0 +1,186 @@
+"""The texts of the command line, whole: help, the version, and what wrong words are answered.
+
+compare/statuses.py runs them. Each was written by hand: what the commands, words and options are called, and what they are for, is that
+of docs/FORMATS.md and crates/mpd_options, and how it is laid out are the rules of `clap` 4. Help has what a command is for, its usage,
+its arguments, its options in two columns with `-h` last, and the example. A fault has what is wrong, a tip where there is one, the
+usage, and where help is. The usage has `[OPTIONS]` where nothing that was given is named in it, and else what was given and what is
+required alone.
+"""
+
+from typing import NamedTuple
+
+PROGRAM = """\
+A reversible debugger of small MPI rank scripts.
+
+Without words it reads a script from standard input, up to a line ---, and answers the trace words behind it.
+
+Usage: mpdbg <COMMAND>
+
+Commands:
+  trace   Trace the script of a file
+  check   Look for deadlocks: try the choices of wildcard receives one after another
+  verify  Check a witness that check has written
+  help    Print this message or the help of the given subcommand(s)
+
+Options:
+  -h, --help     Print help
+  -V, --version  Print version
+
+Example:
+  ./mpdbg < examples/first.trace
+"""
+
+TRACE = """\
+Trace the script of a file
+
+Usage: mpdbg trace [OPTIONS] <FILE>
+
+Arguments:
+  <FILE>  The script
+
+Options:
+      --mode <M>  How standard sends behave: rendezvous or buffered [default: rendezvous]
+  -h, --help      Print help
+
+Trace words stand on standard input, one a line:
+  local P, match S R, wake P, release   take a step, such as match 0.0 1.0
+  back                                  take the last step back
+  redo, goto N                          take it again, take steps back until N are left
+  enabled, show                         list the steps that are enabled, show the state
+
+Example:
+  echo 'local 0' | ./mpdbg trace examples/exchange.mpd --mode buffered
+"""
+
+CHECK = """\
+Look for deadlocks: try the choices of wildcard receives one after another
+
+Usage: mpdbg check [OPTIONS] <FILE>
+
+Arguments:
+  <FILE>  The script
+
+Options:
+      --mode <M>  How standard sends behave: rendezvous or buffered [default: rendezvous]
+      --runs <N>  How many runs are tried at most, 1 to 65536 [default: 1000]
+      --fuel <N>  How many steps each run takes at most, 1 to 1000000 [default: 100000]
+      --witness   Print the trace words of a run that comes to a deadlock
+      --complete  End with status 4 where nothing was found and not all was tried
+  -h, --help      Print help
+
+Example:
+  ./mpdbg check examples/exchange.mpd --witness
+"""
+
+VERIFY = """\
+Check a witness that check has written
+
+Usage: mpdbg verify [OPTIONS] <FILE> <WITNESS>
+
+Arguments:
+  <FILE>     The script
+  <WITNESS>  The file of the witness
+
+Options:
+      --mode <M>  How standard sends behave: rendezvous or buffered [default: rendezvous]
+  -h, --help      Print help
+
+Example:
+  ./mpdbg check examples/race.mpd --witness | grep -A 1 deadlock | head -2 | ./mpdbg verify examples/race.mpd /dev/stdin
+"""
+
+VERSION = 'mpdbg 0.1.0\n'
+
+# Words, parted by `|`, and what they print. What stands in front of `--help` isn't looked at.
+ANSWERS = (
+    ('--help', PROGRAM), ('-h', PROGRAM), ('help', PROGRAM), ('--version', VERSION), ('-V', VERSION),
+    ('trace|--help', TRACE), ('trace|-h', TRACE), ('help|trace', TRACE), ('trace|no-such-file|--mode|no-mode|--help', TRACE),
+    ('check|--help', CHECK), ('check|-h', CHECK), ('help|check', CHECK), ('check|a|--runs|5|-h', CHECK),
+    ('verify|--help', VERIFY), ('verify|-h', VERIFY), ('help|verify', VERIFY), ('verify|a|b|--help', VERIFY))
+
+NO_COMMAND = 'mpdbg <COMMAND>'
+OF_TRACE, OF_CHECK, OF_VERIFY = (f'mpdbg {rest}' for rest in ('trace [OPTIONS] <FILE>', 'check [OPTIONS] <FILE>', 'verify [OPTIONS] <FILE> <WITNESS>'))
+
+
+class Mistake(NamedTuple):
+    """Words, parted by `|`, what is wrong with them, the usage that is shown, if one is, and a tip, if there is one."""
+    words: str
+    what: str
+    usage: str = ''
+    tip: str = ''
+
+    @property
+    def text(self):
+        parts = [f'error: {self.what}', *[f'  tip: {self.tip}'] * bool(self.tip), *[f'Usage: {self.usage}'] * bool(self.usage)]
+        return '\n\n'.join([*parts, "For more information, try '--help'.\n"])
+
+
+def unknown(words, word, usage, tip=''):
+    return Mistake(words, f"unexpected argument '{word}' found", usage, tip)
+
+
+def hyphened(words, word, usage):
+    """A word with a hyphen that is no option, where the command takes a word that may be meant."""
+    return unknown(words, word, usage, f"to pass '{word}' as a value, use '-- {word}'")
+
+
+def missing(words, names, usage):
+    return Mistake(words, '\n  '.join(['the following required arguments were not provided:', *names]), usage)
+
+
+def bad_number(words, value, option, why):
+    return Mistake(words, f"invalid value '{value}' for '--{option} <N>': {why}")
+
+
+NO_DIGIT, TOO_LARGE = 'invalid digit found in string', 'number too large to fit in target type'
+
+MISTAKES = (
+    # commands
+    Mistake('trac', "unrecognized subcommand 'trac'", NO_COMMAND, "a similar subcommand exists: 'trace'"),
+    Mistake('verfy|a|b', "unrecognized subcommand 'verfy'", NO_COMMAND, "a similar subcommand exists: 'verify'"),
+    Mistake('a.mpd', "unrecognized subcommand 'a.mpd'", NO_COMMAND),
+    Mistake('', "unrecognized subcommand ''", NO_COMMAND),
+    Mistake('help|trac', "unrecognized subcommand 'trac'", NO_COMMAND),
+    Mistake('help|trace|x', "unrecognized subcommand 'x'", OF_TRACE),
+    unknown('--fly', '--fly', NO_COMMAND),
+    unknown('-x', '-x', NO_COMMAND),
+    unknown('--mode|buffered|trace|a', '--mode', NO_COMMAND, "'trace --mode' exists"),
+    unknown('--|trace|a', 'trace', NO_COMMAND, "subcommand 'trace' exists; to use it, remove the '--' before it"),
+    # files
+    missing('trace', ['<FILE>'], 'mpdbg trace <FILE>'),
+    missing('check', ['<FILE>'], 'mpdbg check <FILE>'),
+    missing('verify', ['<FILE>', '<WITNESS>'], 'mpdbg verify <FILE> <WITNESS>'),
+    missing('verify|a', ['<WITNESS>'], 'mpdbg verify <FILE> <WITNESS>'),
+    unknown('trace|a|b', 'b', OF_TRACE),
+    unknown('check|a|b', 'b', OF_CHECK),
+    unknown('verify|a|b|c', 'c', OF_VERIFY),
+    # options
+    unknown('trace|a|--mod|buffered', '--mod', 'mpdbg trace --mode <M> <FILE>', "a similar argument exists: '--mode'"),
+    unknown('check|a|--witnes', '--witnes', 'mpdbg check --witness <FILE>', "a similar argument exists: '--witness'"),
+    hyphened('trace|a|-m', '-m', OF_TRACE),
+    hyphened('trace|-x', '-x', OF_TRACE),
+    hyphened('trace|--version', '--version', OF_TRACE),
+    hyphened('trace|a|--witness', '--witness', 'mpdbg trace <FILE>'),
+    hyphened('verify|a|b|--runs|1', '--runs', 'mpdbg verify <FILE> <WITNESS>'),
+    hyphened('check|a|--runs|-1', '-1', OF_CHECK),
+    Mistake('trace|a|--mode', "a value is required for '--mode <M>' but none was supplied"),
+    Mistake('check|a|--fuel', "a value is required for '--fuel <N>' but none was supplied"),
+    Mistake('trace|a|--mode|buffered|--mode=buffered', "the argument '--mode <M>' cannot be used multiple times", OF_TRACE),
+    Mistake('verify|a|b|--mode=c|--mode=c', "the argument '--mode <M>' cannot be used multiple times", OF_VERIFY),
+    Mistake('check|a|--runs|5|--runs=5', "the argument '--runs <N>' cannot be used multiple times", OF_CHECK),
+    Mistake('check|a|--witness|--witness', "the argument '--witness' cannot be used multiple times", OF_CHECK),
+    Mistake('check|a|--witness=true', "unexpected value 'true' for '--witness' found; no more were expected", 'mpdbg check --witness <FILE>'),
+    # numbers
+    bad_number('check|a|--runs|0', '0', 'runs', '0 is not in 1..=65536'),
+    bad_number('check|a|--runs=65537', '65537', 'runs', '65537 is not in 1..=65536'),
+    bad_number('check|a|--fuel|0', '0', 'fuel', '0 is not in 1..=1000000'),
+    bad_number('check|a|--fuel|1000001', '1000001', 'fuel', '1000001 is not in 1..=1000000'),
+    bad_number('check|a|--fuel|ten', 'ten', 'fuel', NO_DIGIT),
+    bad_number('check|a|--fuel|1.5', '1.5', 'fuel', NO_DIGIT),
+    bad_number('check|a|--runs=', '', 'runs', 'cannot parse integer from empty string'),
+    bad_number('check|a|--runs|99999999999999999999', '99999999999999999999', 'runs', TOO_LARGE))
+
+# Words that are wrong, behind a mode that is none: `{FILE}` is there.
+BEFORE_A_MODE = hyphened('trace|{FILE}|--mode|none|--fly', '--fly', 'mpdbg trace --mode <M> <FILE>')
+# A word that is no text.
+NO_TEXT = Mistake('', 'invalid UTF-8 was detected in one or more arguments')

@@ -1,0 +1,40 @@
+-- What a report tells of a script, counted, and the status of its check.
+use Rattle.std.specs.Prelude.{ℕ, ◌&&◌, ◌||◌, ◌==◌, nat_lt, not, if◌then◌else◌, Bool, true, false, List, length, count_by}
+use Rattle.mpd_model.specs.declared.outcome.Outcome.TheVariants as outcome
+use Rattle.mpd_explore.specs.declared.report.Ending.{Ending}
+use Rattle.mpd_explore.specs.declared.report.Ending.TheVariants.{Ended}
+use Rattle.mpd_explore.specs.declared.report.Ending.TheVariants as ends
+use Rattle.mpd_explore.specs.declared.report.Leaf.{Leaf}
+use Rattle.mpd_check.specs.declared.counts.Kind.{Kind}
+use Rattle.mpd_check.specs.declared.counts.Kind.TheVariants.{Deadlock, Trap, Cut}
+use Rattle.mpd_check.specs.declared.counts.Tally.{Tally}
+
+abbrev pub ends_so : Kind → Ending → Bool
+ends_so Deadlock (Ended (outcome.Deadlock calls)) = true
+ends_so Trap (Ended (outcome.Trap ranks)) = true
+ends_so Cut ends.Cut = true
+ends_so kind ending = false
+
+abbrev pub is_of : Kind → Leaf → Bool
+is_of kind l = ends_so kind l.ending
+
+abbrev pub tally_of : List Leaf → Bool → Tally
+tally_of leaves more = record {
+  runs = length leaves;
+  deadlocks = count_by (is_of Deadlock) leaves;
+  traps = count_by (is_of Trap) leaves;
+  cut = count_by (is_of Cut) leaves;
+  more = more;
+}
+
+-- a deadlock or a trap is listed
+abbrev pub is_bad : Tally → Bool
+is_bad t = nat_lt 0 t.deadlocks || nat_lt 0 t.traps
+
+-- all runs are listed, each to its end
+abbrev pub is_whole : Tally → Bool
+is_whole t = not t.more && t.cut == 0
+
+-- 1 where something bad is listed; else 4 where the report must be whole and isn't; else 0
+abbrev pub status_of : Bool → Tally → ℕ
+status_of complete t = if is_bad t then 1 else (if complete && not (is_whole t) then 4 else 0)

@@ -1,0 +1,104 @@
+//! What a report tells of a script, counted (docs/FORMATS.md, "Reports").
+
+ghost use Rattle.std.specs.Prelude.{◌≡◌, ◌<◌, length, count_by};
+ghost use Rattle.mpd_check.specs.Tally.{tally_of, is_of, is_bad, is_whole, status_of};
+
+use mpd_explore::report::{Ending, Leaf, Report};
+use mpd_model::outcome::Outcome;
+
+/// The status of a check that has listed a deadlock or a trap.
+pub const FOUND: u8 = 1;
+
+/// The status of a check that must be whole and isn't.
+pub const NOT_WHOLE: u8 = 4;
+
+/// How a run ends, as far as it is counted.
+#[derive(Clone, Copy)]
+enum Kind {
+    Deadlock,
+    Trap,
+    Cut,
+}
+
+/// What a report tells of a script.
+#[derive(Clone, Copy)]
+pub struct Tally {
+    /// How many runs it lists.
+    pub runs: usize,
+    /// How many of them end in a deadlock.
+    pub deadlocks: usize,
+    /// How many end with a trap.
+    pub traps: usize,
+    /// How many were cut, since their fuel was used up.
+    pub cut: usize,
+    /// Whether there are more runs than it lists.
+    pub more: bool,
+}
+
+impl Tally {
+    /// Whether the report lists a deadlock or a trap.
+    pub fn is_bad(self) -> bool
+        ensures { result ≡ is_bad self }
+    {
+        self.deadlocks > 0 || self.traps > 0
+    }
+
+    /// Whether it is whole: there are no more runs than it lists, and none was cut.
+    pub fn is_whole(self) -> bool
+        ensures { result ≡ is_whole self }
+    {
+        !self.more && self.cut == 0
+    }
+
+    /// The status that a check ends with: 1 where a deadlock or a trap is listed; else 4 where the report must be whole and isn't;
+    /// else 0.
+    pub fn status(self, complete: bool) -> u8
+        ensures { result ≡ status_of complete self }
+    {
+        if self.is_bad() {
+            return FOUND;
+        }
+        if complete && !self.is_whole() {
+            return NOT_WHOLE;
+        }
+        0
+    }
+}
+
+/// Whether a run ends so.
+fn is_of(kind: Kind, leaf: &Leaf) -> bool
+    ensures { result ≡ is_of kind leaf.now }
+{
+    match &leaf.ending {
+        Ending::Ended(Outcome::Deadlock(_)) => matches!(kind, Kind::Deadlock),
+        Ending::Ended(Outcome::Trap(_)) => matches!(kind, Kind::Trap),
+        Ending::Ended(Outcome::Done | Outcome::Leftovers(_)) => false,
+        Ending::Cut => matches!(kind, Kind::Cut),
+    }
+}
+
+/// How many of some runs end so.
+fn count(kind: Kind, leaves: &[Leaf]) -> usize
+    ensures { result ≡ count_by (is_of kind) leaves.now }
+{
+    let mut found = 0;
+    for leaf in leaves {
+        if is_of(kind, leaf) {
+            found += 1;
+        }
+    }
+    found
+}
+
+/// What a report tells.
+pub(crate) fn tally_of(report: &Report) -> Tally
+    ensures { result ≡ tally_of report.now.leaves.items report.now.more }
+{
+    Tally {
+        runs: report.leaves.len(),
+        deadlocks: count(Kind::Deadlock, &report.leaves),
+        traps: count(Kind::Trap, &report.leaves),
+        cut: count(Kind::Cut, &report.leaves),
+        more: report.more,
+    }
+}

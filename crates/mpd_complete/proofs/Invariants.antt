@@ -1,0 +1,108 @@
+-- What every world of a run keeps: pairs name calls that were issued, and each rank has its list of calls.
+use Rattle.std.proofs.Common.{◌≡◌, ℕ, Bool, true, false, Option, Some, None, is_some, List, [], ◌∷◌, length, refl, sym, ap, subst, ◌∙◌, arith}
+use Rattle.std.proofs.lemmas.List.{length-set, length-map, length-replicate}
+use Rattle.mpd_model.specs.declared.step.CallId.{CallId}
+use Rattle.mpd_model.specs.declared.step.Step.{Step}
+use Rattle.mpd_model.specs.declared.step.Step.TheVariants.{Local, Match, Wake, Release}
+use Rattle.mpd_model.specs.declared.call.Call.{Call}
+use Rattle.mpd_model.specs.declared.call.CallKind.{CallKind}
+use Rattle.mpd_model.specs.declared.call.Mode.{Mode}
+use Rattle.mpd_model.specs.declared.call.MatchSet.TheVariants.{Pair, Woke}
+use Rattle.mpd_model.specs.declared.call.MatchSet.TheVariants as set
+use Rattle.mpd_model.specs.Program.{Program}
+use Rattle.mpd_model.specs.World.{World, Board, RankWorld, start, start_rank, id_eq, kind_at, partner, eligible, last_call}
+use Rattle.mpd_model.specs.Next.{released, going_on, next, fold}
+use Rattle.mpd_model.specs.Why.{or_else}
+use Rattle.mpd_model.specs.Decisions.{is_open_match, takes_any}
+use Rattle.mpd_meaning.specs.StepLaws.{HasCalls}
+use Rattle.mpd_complete.proofs.Sets.{partner_more, else_none, partner_by}
+use Rattle.mpd_complete.proofs.Worlds.{joined_from}
+use Rattle.mpd_complete.proofs.Moves.{Known, issued_calls, moved, paired, awake, kind_kept, partner_formed}
+use Rattle.mpd_complete.proofs.Pairs.{Later, moved_later, paired_later, send_known, recv_known}
+use Rattle.mpd_complete.proofs.Diamond.{local_step, wake_step, match_step, release_step}
+
+pub record Sound (w : World) : Type 0 where
+  pub known : Known w.board
+  pub has : HasCalls w
+
+-- what a step keeps of it
+pub record Keeps (w v : World) : Type 0 where
+  pub sound : Sound w → Sound v
+  pub later : Later w.board v.board
+
+-- ---- a local step or a wake
+
+issued_length : (calls : List (List Call)) (p : ℕ) (o : Option Call) → length (issued_calls calls p o) ≡ length calls
+issued_length calls p None = refl
+issued_length calls p (Some c) = length-set calls p _
+
+moved_keeps : (w : World) (p : ℕ) (r : RankWorld) (o : Option Call) (m : Option CallId) → Keeps w (moved w p r o m)
+moved_keeps w p r o m = record {
+  sound = λ h. record {
+    known = λ c d e.
+        let was = h.known c d (sym (partner_formed w.board.sets m c) ∙ e) in
+        ap (λ (k : Option CallKind). is_some k) (kind_kept w p r o m d was) ∙ was;
+    has = let a = length-set w.ranks p r in let b = issued_length w.board.calls p o in let c = h.has in omega (arith, a, b, c);
+  };
+  later = moved_later w p r o m;
+}
+
+-- ---- a match
+
+partner_known : (b : Board) (s r d : CallId) (x y : Bool) → is_some (kind_at b s) ≡ true → is_some (kind_at b r) ≡ true → partner_by x y s r None ≡ Some d → is_some (kind_at b d) ≡ true
+partner_known b s r d true y hs hr e = let is : r ≡ d = cc in ap (λ (c : CallId). is_some (kind_at b c)) (sym is) ∙ hr
+partner_known b s r d false true hs hr e = let is : s ≡ d = cc in ap (λ (c : CallId). is_some (kind_at b c)) (sym is) ∙ hs
+partner_known b s r d false false hs hr e = absurd (cc)
+
+either_known : (b : Board) (s r c d : CallId) → Known b → is_some (kind_at b s) ≡ true → is_some (kind_at b r) ≡ true
+    → (o : Option CallId) → partner b.sets c ≡ o → or_else o (partner (Pair s r ∷ []) c) ≡ Some d → is_some (kind_at b d) ≡ true
+either_known b s r c d h hs hr (Some z) at e = h c d (at ∙ e)
+either_known b s r c d h hs hr None at e = partner_known b s r d (id_eq s c) (id_eq r c) hs hr e
+
+paired_keeps : (w : World) (s r : CallId) → eligible w.board s r ≡ true → Keeps w (paired w s r)
+paired_keeps w s r e = record {
+  sound = λ h. record {
+    known = λ c d is.
+        either_known w.board s r c d h.known (send_known w.board s r e) (recv_known w.board s r e) (partner w.board.sets c) refl (sym (partner_more w.board.sets (Pair s r ∷ []) c) ∙ is);
+    has = h.has;
+  };
+  later = paired_later w s r;
+}
+
+-- ---- a release
+
+released_keeps : (w : World) → Keeps w (released w)
+released_keeps w = record {
+  sound = λ h. record { known = λ c d e. h.known c d (sym (same c) ∙ e); has = let a = length-map w.ranks going_on in let b = h.has in omega (arith, a, b) };
+  later = record { kinds = λ c known. refl; partners = λ c known. ap (λ (o : Option CallId). is_some o) (same c) ∙ known };
+}
+  where
+    same : (c : CallId) → partner (released w).board.sets c ≡ partner w.board.sets c
+    same c = partner_more w.board.sets (set.Barrier ∷ []) c ∙ else_none (partner w.board.sets c)
+
+-- ---- any step
+
+pub keeps : (w : World) (a : Step) (v : World) → next w a ≡ Some v → Keeps w v
+keeps w (Local p) v e = let a = local_step w p v e in subst (Keeps w) a.is (moved_keeps w p a.ran.rank a.ran.call None)
+keeps w (Match s r) v e = let m = match_step w s r v e in subst (Keeps w) m.1 (paired_keeps w s r m.0)
+keeps w (Wake p) v e = let a = wake_step w p v e in subst (Keeps w) a.is (moved_keeps w p (awake w p a.rank) None (Some (last_call w.board p)))
+keeps w Release v e = subst (Keeps w) (release_step w v e).1 (released_keeps w)
+
+pub fold_sound : (steps : List Step) (u w : World) → fold u steps ≡ Some w → Sound u → Sound w
+fold_sound [] u w e h = let same : u ≡ w = cc in subst Sound same h
+fold_sound (a ∷ steps) u w e h =
+    let after = joined_from (λ v. fold v steps) (next u a) w e in
+    fold_sound steps after.0 w after.2 ((keeps u a after.0 after.1).sound h)
+
+pub start_sound : (s : Program) (mode : Mode) → Sound (start s mode)
+start_sound s mode = record {
+  known = λ c d e. absurd (cc);
+  has = let a = length-replicate s.ranks (start_rank s) in let b = length-replicate {A = List Call} s.ranks [] in omega (arith, a, b);
+}
+
+-- a step that nobody has to choose stays so
+pub stays_named : (w : World) (a b : Step) (u v : World) → next w a ≡ Some u → next w b ≡ Some v → is_open_match w.board a ≡ false → is_open_match v.board a ≡ false
+stays_named w (Local p) b u v e f h = refl
+stays_named w (Wake p) b u v e f h = refl
+stays_named w Release b u v e f h = refl
+stays_named w (Match s r) b u v e f h = ap takes_any ((keeps w b v f).later.kinds r (recv_known w.board s r (match_step w s r u e).0)) ∙ h

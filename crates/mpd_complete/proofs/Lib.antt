@@ -1,0 +1,15 @@
+mod Sets
+mod Worlds
+mod Moves
+mod Pairs
+mod Diamond
+mod Invariants
+mod Views
+mod Walks
+mod Plain
+mod Asleep
+mod Complete
+mod Runs
+mod Once
+mod Reports
+mod Fuel

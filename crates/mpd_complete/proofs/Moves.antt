@@ -1,0 +1,228 @@
+-- A local step and a wake in one form: one rank is written, it may issue a call, and a wake may be formed. What that leaves as it was.
+use Rattle.std.proofs.Common.{◌≡◌, ◌≢◌, ℕ, ◌-◌, Bool, true, ◌&&◌, ◌||◌, not, Option, Some, None, is_some, option_and_then, List, [], ◌∷◌, ◌++◌, length, slice_get, slice_set, inl, inr, refl, sym, ap, subst, ◌∙◌}
+use Rattle.std.proofs.lemmas.Bool.Decides.{eqb_tells}
+use Rattle.std.proofs.lemmas.List.{length-set, set_comm}
+use Rattle.std.specs.Option.{option_map}
+use Rattle.mpd_model.specs.declared.step.CallId.{CallId}
+use Rattle.mpd_model.specs.declared.step.Step.TheVariants.{Local, Wake}
+use Rattle.mpd_model.specs.declared.call.Call.{Call}
+use Rattle.mpd_model.specs.declared.call.CallKind.{CallKind}
+use Rattle.mpd_model.specs.declared.call.CallKind.TheVariants.{Send, Recv, Wait, Barrier}
+use Rattle.mpd_model.specs.declared.call.MatchSet.{MatchSet}
+use Rattle.mpd_model.specs.declared.call.MatchSet.TheVariants.{Pair, Woke}
+use Rattle.mpd_model.specs.World.{World, Board, RankWorld, call_id, listed_calls, calls_of, kind_of, kind_at, partner, is_barrier, is_buffered, is_done, message_of, awaited_by, awaited, complete_by, complete, last_call}
+use Rattle.mpd_model.specs.Next.{Ran, local, local_at, stepped, with_issued, with_set, waits, can_wake, writes_of, writes_by, cleared_by, put_at, woken_rank, wake_writes, wake_clears, woken, next}
+use Rattle.mpd_complete.specs.Same.{SameSets, Same}
+use Rattle.mpd_complete.proofs.Sets.{partner_more, else_none, sets_refl, sets_swapped, woke_disjoint}
+use Rattle.mpd_laws.proofs.Splits.{others_kept, read_written, same_or_end}
+use Rattle.mpd_complete.proofs.Worlds.{taken, with_sets}
+
+abbrev pub issued_calls : List (List Call) → ℕ → Option Call → List (List Call)
+issued_calls calls p None = calls
+issued_calls calls p (Some c) = slice_set calls p (listed_calls (slice_get calls p) ++ c ∷ [])
+
+abbrev pub formed : List MatchSet → Option CallId → List MatchSet
+formed sets None = sets
+formed sets (Some d) = sets ++ Woke d ∷ []
+
+abbrev pub moved : World → ℕ → RankWorld → Option Call → Option CallId → World
+moved w p r o m = record { ranks = slice_set w.ranks p r; board = record { mode = w.board.mode; calls = issued_calls w.board.calls p o; sets = formed w.board.sets m } }
+
+issued_is : (b : Board) (p : ℕ) (o : Option Call) → with_issued b p o ≡ record { mode = b.mode; calls = issued_calls b.calls p o; sets = b.sets }
+issued_is b p None = refl
+issued_is b p (Some c) = refl
+
+pub stepped_is : (w : World) (p : ℕ) (x : Ran) → stepped w p x ≡ moved w p x.rank x.call None
+stepped_is w p x = λ i. record { ranks = slice_set w.ranks p x.rank; board = issued_is w.board p x.call i }
+
+-- the rank that a wake leaves
+abbrev pub awake : World → ℕ → RankWorld → RankWorld
+awake w p r = woken_rank (wake_writes w.board p) (wake_clears w.board p) r
+
+pub woken_is : (w : World) (p : ℕ) (r : RankWorld) → slice_get w.ranks p ≡ Some r → woken w p ≡ moved w p (awake w p r) None (Some (last_call w.board p))
+woken_is w p r e = λ i. record { ranks = put_at w.ranks p (e i) (woken_rank (wake_writes w.board p) (wake_clears w.board p)); board = with_set w.board (Woke (last_call w.board p)) }
+
+-- ---- what stays
+
+pub calls_elsewhere : (calls : List (List Call)) (p q : ℕ) (o : Option Call) → q ≢ p → slice_get (issued_calls calls p o) q ≡ slice_get calls q
+calls_elsewhere calls p q None ne = refl
+calls_elsewhere calls p q (Some c) ne = others_kept calls p q (listed_calls (slice_get calls p) ++ c ∷ []) ne
+
+kind_elsewhere : (w : World) (p : ℕ) (r : RankWorld) (o : Option Call) (m : Option CallId) (c : CallId) → c.rank ≢ p → kind_at (moved w p r o m).board c ≡ kind_at w.board c
+kind_elsewhere w p r o m c ne = ap (λ (l : Option (List Call)). kind_of (slice_get (listed_calls l) c.index)) (calls_elsewhere w.board.calls p c.rank o ne)
+
+unknown : (o : Option Call) → o ≡ None → is_some (kind_of o) ≡ true → ⊥
+unknown None e f = cc
+unknown (Some c) e f = cc
+
+kept_more : (ls : List Call) (d : Call) (i : ℕ) → is_some (kind_of (slice_get ls i)) ≡ true → kind_of (slice_get (ls ++ d ∷ []) i) ≡ kind_of (slice_get ls i)
+kept_more ls d i known =
+    elim (same_or_end ls d i) [
+      | inl h ↦ ap kind_of h.here
+      | inr h ↦ absurd (unknown (slice_get ls i) h.before known)
+    ]
+
+kept_here : (calls : List (List Call)) (p i : ℕ) (o : Option Call) (l : Option (List Call)) → slice_get calls p ≡ l → is_some (kind_of (slice_get (listed_calls l) i)) ≡ true
+    → kind_of (slice_get (listed_calls (slice_get (issued_calls calls p o) p)) i) ≡ kind_of (slice_get (listed_calls l) i)
+kept_here calls p i None l e known = ap (λ (z : Option (List Call)). kind_of (slice_get (listed_calls z) i)) e
+kept_here calls p i (Some d) None e known = absurd (cc)
+kept_here calls p i (Some d) (Some ls) e known =
+    ap (λ (z : Option (List Call)). kind_of (slice_get (listed_calls z) i)) (read_written calls p ls (listed_calls (slice_get calls p) ++ d ∷ []) e)
+    ∙ ap (λ (z : Option (List Call)). kind_of (slice_get (listed_calls z ++ d ∷ []) i)) e
+    ∙ kept_more ls d i known
+
+-- a call that was issued is what it was
+pub kind_kept : (w : World) (p : ℕ) (r : RankWorld) (o : Option Call) (m : Option CallId) (c : CallId) → is_some (kind_at w.board c) ≡ true → kind_at (moved w p r o m).board c ≡ kind_at w.board c
+kind_kept w p r o m c known =
+    elim (eqb_tells c.rank p) [
+      | inl at ↦
+          subst (λ (q : ℕ). is_some (kind_at w.board (call_id q c.index)) ≡ true → kind_at (moved w p r o m).board (call_id q c.index) ≡ kind_at w.board (call_id q c.index)) (sym at.1)
+          (λ here. kept_here w.board.calls p c.index o (slice_get w.board.calls p) refl here) known
+      | inr off ↦ kind_elsewhere w p r o m c off.1
+    ]
+
+pub partner_formed : (sets : List MatchSet) (m : Option CallId) (c : CallId) → partner (formed sets m) c ≡ partner sets c
+partner_formed sets None c = refl
+partner_formed sets (Some d) c = partner_more sets (Woke d ∷ []) c ∙ else_none (partner sets c)
+
+-- ---- a local step of another rank
+
+local_elsewhere : (w : World) (p : ℕ) (r : RankWorld) (o : Option Call) (m : Option CallId) (q : ℕ) → q ≢ p → local_at (moved w p r o m) q ≡ local_at w q
+local_elsewhere w p r o m q ne =
+    λ i. option_and_then (local q (length-set w.ranks p r i) (length (listed_calls (calls_elsewhere w.board.calls p q o ne i)))) (others_kept w.ranks p q r ne i)
+
+pub local_again : (w : World) (p : ℕ) (r : RankWorld) (o : Option Call) (m : Option CallId) (q : ℕ) (y : Ran) → q ≢ p → local_at w q ≡ Some y
+    → next (moved w p r o m) (Local q) ≡ Some (moved (moved w p r o m) q y.rank y.call None)
+local_again w p r o m q y ne e =
+    ap (option_map (stepped (moved w p r o m) q)) (local_elsewhere w p r o m q ne ∙ e) ∙ ap (λ (v : World). Some v) (stepped_is (moved w p r o m) q y)
+
+-- ---- a wake of another rank
+
+-- the calls that pairs name were issued
+abbrev pub Known : Board → Type 0
+Known b = (c d : CallId) → partner b.sets c ≡ Some d → is_some (kind_at b d) ≡ true
+
+-- two boards with the same calls of a rank, and the same partners
+record Beside (b e : Board) (q : ℕ) : Type 0 where
+  mode : e.mode ≡ b.mode
+  partners : (c : CallId) → partner e.sets c ≡ partner b.sets c
+  kinds : (i : ℕ) → kind_at e (call_id q i) ≡ kind_at b (call_id q i)
+  known : (c : CallId) → is_some (kind_at b c) ≡ true → kind_at e c ≡ kind_at b c
+  last : length (calls_of e q) ≡ length (calls_of b q)
+
+moved_beside : (w : World) (p : ℕ) (r : RankWorld) (o : Option Call) (m : Option CallId) (q : ℕ) → q ≢ p → Beside w.board (moved w p r o m).board q
+moved_beside w p r o m q ne = record {
+  mode = refl;
+  partners = partner_formed w.board.sets m;
+  kinds = λ i. kind_elsewhere w p r o m (call_id q i) ne;
+  known = kind_kept w p r o m;
+  last = ap (λ (l : Option (List Call)). length (listed_calls l)) (calls_elsewhere w.board.calls p q o ne);
+}
+
+done_beside : (b e : Board) (q : ℕ) → Beside b e q → (i : ℕ) → is_done e (call_id q i) ≡ is_done b (call_id q i)
+done_beside b e q h i = λ j. is_some (h.partners (call_id q i) j) || is_buffered (h.mode j) (h.kinds i j)
+
+complete_beside : (b e : Board) (q : ℕ) → Beside b e q → (i : ℕ) (k : Option CallKind) → complete_by e (awaited_by (call_id q i) k) ≡ complete_by b (awaited_by (call_id q i) k)
+complete_beside b e q h i (Some (Wait t)) = target t.target
+  where
+    target : (o : Option ℕ) → complete_by e (option_map (call_id q) o) ≡ complete_by b (option_map (call_id q) o)
+    target None = refl
+    target (Some j) = done_beside b e q h j
+complete_beside b e q h i (Some (Send s)) = done_beside b e q h i
+complete_beside b e q h i (Some (Recv r)) = done_beside b e q h i
+complete_beside b e q h i (Some Barrier) = done_beside b e q h i
+complete_beside b e q h i None = done_beside b e q h i
+
+complete_at : (b e : Board) (q : ℕ) → Beside b e q → (i : ℕ) → complete e (call_id q i) ≡ complete b (call_id q i)
+complete_at b e q h i =
+    ap (λ (k : Option CallKind). not (is_barrier k) && complete_by e (awaited_by (call_id q i) k)) (h.kinds i)
+    ∙ ap (λ (t : Bool). not (is_barrier (kind_at b (call_id q i))) && t) (complete_beside b e q h i (kind_at b (call_id q i)))
+
+writes_at : (b e : Board) (q : ℕ) → Beside b e q → Known b → (i : ℕ) → writes_by e (Some (call_id q i)) ≡ writes_by b (Some (call_id q i))
+writes_at b e q h all i =
+    (λ j. writes_of (h.kinds i j) (option_and_then (λ s. message_of s (kind_at e s)) (h.partners (call_id q i) j)))
+    ∙ ap (writes_of (kind_at b (call_id q i))) (message (partner b.sets (call_id q i)) refl)
+  where
+    message : (o : Option CallId) → partner b.sets (call_id q i) ≡ o → option_and_then (λ s. message_of s (kind_at e s)) o ≡ option_and_then (λ s. message_of s (kind_at b s)) o
+    message None is = refl
+    message (Some s) is = ap (message_of s) (h.known s (all (call_id q i) s is))
+
+writes_beside : (b e : Board) (q : ℕ) → Beside b e q → Known b → (i : ℕ) (k : Option CallKind) → writes_by e (awaited_by (call_id q i) k) ≡ writes_by b (awaited_by (call_id q i) k)
+writes_beside b e q h all i (Some (Wait t)) = target t.target
+  where
+    target : (o : Option ℕ) → writes_by e (option_map (call_id q) o) ≡ writes_by b (option_map (call_id q) o)
+    target None = refl
+    target (Some j) = writes_at b e q h all j
+writes_beside b e q h all i (Some (Send s)) = writes_at b e q h all i
+writes_beside b e q h all i (Some (Recv r)) = writes_at b e q h all i
+writes_beside b e q h all i (Some Barrier) = writes_at b e q h all i
+writes_beside b e q h all i None = writes_at b e q h all i
+
+-- what a wake is of
+record WakesAlike (w v : World) (q : ℕ) : Type 0 where
+  can : can_wake v q ≡ can_wake w q
+  writes : wake_writes v.board q ≡ wake_writes w.board q
+  clears : wake_clears v.board q ≡ wake_clears w.board q
+  call : last_call v.board q ≡ last_call w.board q
+
+wakes_alike : (w v : World) (q : ℕ) → Beside w.board v.board q → Known w.board → slice_get v.ranks q ≡ slice_get w.ranks q → WakesAlike w v q
+wakes_alike w v q h all rank =
+    let n : ℕ = length (calls_of w.board q) - 1 in
+    record {
+      can = (λ i. waits (rank i) && complete v.board (last i)) ∙ ap (λ (t : Bool). waits (slice_get w.ranks q) && t) (complete_at w.board v.board q h n);
+      writes = ap (λ (c : CallId). writes_by v.board (awaited v.board c)) last
+          ∙ ap (λ (k : Option CallKind). writes_by v.board (awaited_by (call_id q n) k)) (h.kinds n)
+          ∙ writes_beside w.board v.board q h all n (kind_at w.board (call_id q n));
+      clears = ap (λ (c : CallId). cleared_by (kind_at v.board c)) last ∙ ap cleared_by (h.kinds n);
+      call = last;
+    }
+  where
+    last : last_call v.board q ≡ last_call w.board q
+    last = ap (λ (n : ℕ). call_id q (n - 1)) h.last
+
+pub wake_again : (w : World) (p : ℕ) (r : RankWorld) (o : Option Call) (m : Option CallId) (q : ℕ) (s : RankWorld) → q ≢ p → Known w.board → slice_get w.ranks q ≡ Some s → can_wake w q ≡ true
+    → next (moved w p r o m) (Wake q) ≡ Some (moved (moved w p r o m) q (awake w q s) None (Some (last_call w.board q)))
+wake_again w p r o m q s ne all at can =
+    let rank = others_kept w.ranks p q r ne in
+    let alike = wakes_alike w (moved w p r o m) q (moved_beside w p r o m q ne) all rank in
+    taken (can_wake (moved w p r o m) q) (woken (moved w p r o m) q) (alike.can ∙ can)
+    ∙ ap (λ (v : World). Some v) (woken_is (moved w p r o m) q s (rank ∙ at))
+    ∙ (λ i. Some (moved (moved w p r o m) q (woken_rank (alike.writes i) (alike.clears i) s) None (Some (alike.call i))))
+
+-- ---- two ranks, in either order
+
+issued_swapped : (calls : List (List Call)) (p q : ℕ) (o k : Option Call) → p ≢ q → issued_calls (issued_calls calls p o) q k ≡ issued_calls (issued_calls calls q k) p o
+issued_swapped calls p q None k ne = refl
+issued_swapped calls p q (Some c) None ne = refl
+issued_swapped calls p q (Some c) (Some d) ne =
+    let here : List Call = listed_calls (slice_get calls p) ++ c ∷ [] in
+    let there : List Call = listed_calls (slice_get calls q) ++ d ∷ [] in
+    ap (λ (l : Option (List Call)). slice_set (slice_set calls p here) q (listed_calls l ++ d ∷ [])) (others_kept calls p q here (λ e. ne (sym e)))
+    ∙ set_comm calls p q here there ne
+    ∙ sym (ap (λ (l : Option (List Call)). slice_set (slice_set calls q there) p (listed_calls l ++ c ∷ [])) (others_kept calls q p there ne))
+
+formed_swapped : (sets : List MatchSet) (m n : Option CallId) → SameSets (formed (formed sets m) n) (formed (formed sets n) m)
+formed_swapped sets None n = sets_refl (formed sets n)
+formed_swapped sets (Some d) None = sets_refl (sets ++ Woke d ∷ [])
+formed_swapped sets (Some d) (Some e) = sets_swapped sets (Woke d) (Woke e) (woke_disjoint d (Woke e))
+
+pub moved_swapped : (w : World) (p : ℕ) (r : RankWorld) (o : Option Call) (m : Option CallId) (q : ℕ) (s : RankWorld) (k : Option Call) (n : Option CallId) → p ≢ q
+    → Same (moved (moved w p r o m) q s k n) (moved (moved w q s k n) p r o m)
+moved_swapped w p r o m q s k n ne = record {
+  ranks = set_comm w.ranks p q r s ne;
+  mode = refl;
+  calls = issued_swapped w.board.calls p q o k ne;
+  sets = formed_swapped w.board.sets m n;
+}
+
+-- ---- a pair joins
+
+abbrev pub paired : World → CallId → CallId → World
+paired w s t = with_sets w (w.board.sets ++ Pair s t ∷ [])
+
+formed_paired : (sets : List MatchSet) (m : Option CallId) (s t : CallId) → SameSets (formed sets m ++ Pair s t ∷ []) (formed (sets ++ Pair s t ∷ []) m)
+formed_paired sets None s t = sets_refl (sets ++ Pair s t ∷ [])
+formed_paired sets (Some d) s t = sets_swapped sets (Woke d) (Pair s t) (woke_disjoint d (Pair s t))
+
+pub moved_paired : (w : World) (p : ℕ) (r : RankWorld) (o : Option Call) (m : Option CallId) (s t : CallId) → Same (paired (moved w p r o m) s t) (moved (paired w s t) p r o m)
+moved_paired w p r o m s t = record { ranks = refl; mode = refl; calls = refl; sets = formed_paired w.board.sets m s t }

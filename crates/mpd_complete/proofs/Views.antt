@@ -1,0 +1,158 @@
+-- What a decision says of all steps that are enabled.
+use Rattle.std.proofs.Common.{◌≡◌, Bool, true, false, Option, Some, None, is_some, is_none, List, [], ◌∷◌, inl, refl}
+use Rattle.std.specs.List.{filter}
+use Rattle.mpd_model.specs.declared.step.Step.{Step}
+use Rattle.mpd_model.specs.declared.step.Step.TheVariants.{Local, Match, Wake, Release}
+use Rattle.mpd_model.specs.declared.call.CallKind.{CallKind}
+use Rattle.mpd_model.specs.declared.call.CallKind.TheVariants.{Send, Recv, Wait, Barrier}
+use Rattle.mpd_model.specs.declared.outcome.Outcome.{Outcome}
+use Rattle.mpd_model.specs.declared.decision.Decision.{Decision}
+use Rattle.mpd_model.specs.declared.decision.Decision.TheVariants.{Forced, Choice, Leaf}
+use Rattle.mpd_model.specs.World.{World, Board, kind_at, receives}
+use Rattle.mpd_model.specs.Next.{next, is_enabled, steps_of, enabled}
+use Rattle.mpd_model.specs.Decisions.{is_local, is_release, is_wake, names_source, takes_any, is_named_match, is_open_match, first_enabled, choices, chosen_from, decided, decision}
+use Rattle.mpd_model.specs.Why.{first_in, or_else}
+use Rattle.mpd_model.specs.Outcomes.{ending}
+use Rattle.mpd_laws.proofs.Eligible.{agrees, fitting_recv}
+use Rattle.mpd_meaning.proofs.Members.{In, in_filter, filter_from}
+use Rattle.mpd_meaning.proofs.Listed.{listed}
+use Rattle.mpd_complete.proofs.Invariants.{Sound}
+use Rattle.mpd_complete.proofs.Diamond.{match_step}
+
+-- ---- lists
+
+pub world_of : {A : Type 0} (o : Option A) → is_some o ≡ true → (x : A) × (o ≡ Some x)
+world_of None e = absurd (cc)
+world_of (Some x) e = (x, refl)
+
+first_member : {A : Type 0} (xs : List A) (x : A) → first_in xs ≡ Some x → In xs x
+first_member [] x e = absurd (cc)
+first_member (y ∷ ys) x e = let is : y ≡ x = cc in inl is
+
+none_first : {A : Type 0} (xs : List A) (x : A) → first_in xs ≡ None → In xs x → ⊥
+none_first [] x e h = h
+none_first (y ∷ ys) x e h = absurd (cc)
+
+-- ---- what is enabled is listed
+
+pub in_enabled : (w : World) → Sound w → (a : Step) → is_some (next w a) ≡ true → In (enabled w) a
+in_enabled w h a e = in_filter (is_enabled w) (steps_of w) a e (listed w h.has a e)
+
+pub from_enabled : (w : World) (a : Step) → In (enabled w) a → is_some (next w a) ≡ true
+from_enabled w a h = (filter_from (is_enabled w) (steps_of w) a h).1
+
+-- ---- the views
+
+-- no step is enabled
+abbrev pub Stuck : World → Type 0
+Stuck w = (a : Step) → is_some (next w a) ≡ true → ⊥
+
+pub record ForcedView (w : World) (a : Step) : Type 0 where
+  pub world : World
+  pub leads : next w a ≡ Some world
+  pub named : is_open_match w.board a ≡ false
+
+pub record ChoiceView (w : World) (candidates : List Step) : Type 0 where
+  pub listed : (a : Step) → is_some (next w a) ≡ true → In candidates a
+  pub one : Step
+  pub leads : is_some (next w one) ≡ true
+  pub each : (a : Step) → In candidates a → is_some (next w a) ≡ true
+  pub opens : (a : Step) → In candidates a → is_open_match w.board a ≡ true
+
+pub record LeafView (w : World) (o : Outcome) : Type 0 where
+  pub stuck : Stuck w
+  pub is : o ≡ ending w
+
+abbrev pub View : World → Decision → Type 0
+View w (Forced a) = ForcedView w a
+View w (Choice candidates) = ChoiceView w candidates
+View w (Leaf o) = LeafView w o
+
+forced_view : (w : World) (test : Step → Bool) (a : Step) → first_enabled w test ≡ Some a → (test a ≡ true → is_open_match w.board a ≡ false) → ForcedView w a
+forced_view w test a e named =
+    let found = filter_from test (enabled w) a (first_member (filter test (enabled w)) a e) in
+    let after = world_of (next w a) (from_enabled w a found.0) in
+    record { world = after.0; leads = after.1; named = named found.1 }
+
+-- where none is first, no enabled step passes
+none_passes : (w : World) → Sound w → (test : Step → Bool) → first_enabled w test ≡ None → (a : Step) → is_some (next w a) ≡ true → test a ≡ true → ⊥
+none_passes w h test e a on t = none_first (filter test (enabled w)) a e (in_filter test (enabled w) a t (in_enabled w h a on))
+
+local_named : (b : Board) (a : Step) → is_local a ≡ true → is_open_match b a ≡ false
+local_named b (Local p) e = refl
+local_named b (Match s r) e = absurd (cc)
+local_named b (Wake p) e = refl
+local_named b Release e = refl
+
+release_named : (b : Board) (a : Step) → is_release a ≡ true → is_open_match b a ≡ false
+release_named b (Local p) e = refl
+release_named b (Match s r) e = absurd (cc)
+release_named b (Wake p) e = refl
+release_named b Release e = refl
+
+wake_named : (b : Board) (a : Step) → is_wake a ≡ true → is_open_match b a ≡ false
+wake_named b (Local p) e = refl
+wake_named b (Match s r) e = absurd (cc)
+wake_named b (Wake p) e = refl
+wake_named b Release e = refl
+
+some_is_not_none : {A : Type 0} (o : Option A) → is_some o ≡ true → is_none o ≡ false
+some_is_not_none None e = absurd (cc)
+some_is_not_none (Some x) e = refl
+
+source_named : (k : Option CallKind) → names_source k ≡ true → takes_any k ≡ false
+source_named (Some (Recv r)) e = some_is_not_none r.from e
+source_named (Some (Send s)) e = refl
+source_named (Some (Wait t)) e = refl
+source_named (Some Barrier) e = refl
+source_named None e = refl
+
+match_named : (b : Board) (a : Step) → is_named_match b a ≡ true → is_open_match b a ≡ false
+match_named b (Local p) e = refl
+match_named b (Match s r) e = source_named (kind_at b r) e
+match_named b (Wake p) e = refl
+match_named b Release e = refl
+
+none_or_some : {A : Type 0} (o : Option A) → (is_some o ≡ true → ⊥) → is_none o ≡ true
+none_or_some None h = refl
+none_or_some (Some x) h = absurd (h refl)
+
+takes_any_by : (k : Option CallKind) → receives k ≡ true → (names_source k ≡ true → ⊥) → takes_any k ≡ true
+takes_any_by (Some (Recv r)) e h = none_or_some r.from h
+takes_any_by (Some (Send s)) e h = absurd (cc)
+takes_any_by (Some (Wait t)) e h = absurd (cc)
+takes_any_by (Some Barrier) e h = absurd (cc)
+takes_any_by None e h = absurd (cc)
+
+-- a step that is no other is a match of a receive of any source
+open_by : (w : World) (a : Step) → is_some (next w a) ≡ true → (is_local a ≡ true → ⊥) → (is_release a ≡ true → ⊥) → (is_wake a ≡ true → ⊥) → (is_named_match w.board a ≡ true → ⊥)
+    → is_open_match w.board a ≡ true
+open_by w (Local p) on l r k n = absurd (l refl)
+open_by w Release on l r k n = absurd (r refl)
+open_by w (Wake p) on l r k n = absurd (k refl)
+open_by w (Match s t) on l r k n =
+    let after = world_of (next w (Match s t)) on in
+    let e = (match_step w s t after.0 after.1).0 in
+    takes_any_by (kind_at w.board t) (fitting_recv (kind_at w.board s) (kind_at w.board t) s.rank t.rank (agrees w.board s t e).fit).0 n
+
+chosen_view : (w : World) → (some : List Step) → ((a : Step) → is_some (next w a) ≡ true → In some a) → ((a : Step) → In some a → is_some (next w a) ≡ true)
+    → ((a : Step) → In some a → is_open_match w.board a ≡ true) → View w (chosen_from w some)
+chosen_view w [] all on opens = record { stuck = all; is = refl }
+chosen_view w (a ∷ more) all on opens = record { listed = all; one = a; leads = on a (inl refl); each = on; opens = opens }
+
+view_by : (w : World) → Sound w → (a b c d : Option Step) → first_enabled w is_local ≡ a → first_enabled w is_release ≡ b → first_enabled w is_wake ≡ c → first_enabled w (is_named_match w.board) ≡ d
+    → View w (decided w (or_else a (or_else b (or_else c d))))
+view_by w h (Some x) b c d ea eb ec ed = forced_view w is_local x ea (local_named w.board x)
+view_by w h None (Some x) c d ea eb ec ed = forced_view w is_release x eb (release_named w.board x)
+view_by w h None None (Some x) d ea eb ec ed = forced_view w is_wake x ec (wake_named w.board x)
+view_by w h None None None (Some x) ea eb ec ed = forced_view w (is_named_match w.board) x ed (match_named w.board x)
+view_by w h None None None None ea eb ec ed =
+    chosen_view w (choices w)
+    (λ a on. in_filter (is_open_match w.board) (enabled w) a
+    (open_by w a on (none_passes w h is_local ea a on) (none_passes w h is_release eb a on) (none_passes w h is_wake ec a on) (none_passes w h (is_named_match w.board) ed a on)) (in_enabled w h a on))
+    (λ a i. from_enabled w a (filter_from (is_open_match w.board) (enabled w) a i).0)
+    (λ a i. (filter_from (is_open_match w.board) (enabled w) a i).1)
+
+pub view : (w : World) → Sound w → View w (decision w)
+unfolding decision
+view w h = view_by w h (first_enabled w is_local) (first_enabled w is_release) (first_enabled w is_wake) (first_enabled w (is_named_match w.board)) refl refl refl refl

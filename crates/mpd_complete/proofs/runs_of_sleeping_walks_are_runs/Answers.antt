@@ -1,0 +1,5 @@
+use Rattle.mpd_complete.proofs.Runs.{sleeping_walks_run}
+use Rattle.mpd_complete.proofs.runs_of_sleeping_walks_are_runs.Goals as goal
+
+pub returns : goal.returns
+returns c = sleeping_walks_run

@@ -1,0 +1,20 @@
+//! The tests of the libraries: what only a direct call shows (docs/TRIED.md, "Tests and rows"). They stand apart from the program, so
+//! that their check reads neither it nor what reads its command line.
+#![tactic(auto)]
+
+#[cfg(test)]
+mod board_rows;
+#[cfg(test)]
+mod code_rows;
+#[cfg(test)]
+mod device_rows;
+#[cfg(test)]
+mod helpers;
+#[cfg(test)]
+mod policy_rows;
+#[cfg(test)]
+mod text_rows;
+#[cfg(test)]
+mod trail_rows;
+#[cfg(test)]
+mod witness_rows;

@@ -1,0 +1,57 @@
+//! What a report tells of all runs, in one line for a person (docs/FORMATS.md, "Reports").
+
+use mpd_check::counts::Tally;
+use std::io;
+
+/// Says how many of something there are, and what it is.
+fn say_many<R: Eprint>(rt: &R, count: usize, what: &str) -> io::Result<()> {
+    if count == 0 {
+        return Ok(());
+    }
+    if count == 1 {
+        return eprint!(rt; ", 1 of them {what}");
+    }
+    eprint!(rt; ", {count} of them {what}")
+}
+
+/// Says how a script can end, where all its runs are listed, each to its end.
+fn say_whole<R: Eprint>(rt: &R, tally: Tally) -> io::Result<()> {
+    eprint!(rt; "every way it can end is listed: it always ends, ")?;
+    if !tally.is_bad() {
+        return eprintln!(rt; "and never in a deadlock or trap");
+    }
+    let runs = tally.runs;
+    let ways = if runs == 1 { "way" } else { "ways" };
+    eprint!(rt; "in {runs} {ways}")?;
+    say_many(rt, tally.deadlocks, "a deadlock")?;
+    say_many(rt, tally.traps, "a trap")?;
+    eprintln!(rt; "")
+}
+
+/// Says what wasn't tried.
+fn say_part<R: Eprint>(rt: &R, tally: Tally) -> io::Result<()> {
+    eprint!(rt; "not everything was tried: ")?;
+    if tally.more {
+        let runs = tally.runs;
+        let are = if runs == 1 { "run was" } else { "runs were" };
+        eprint!(rt; "{runs} {are} listed, and there are more (--runs)")?;
+    }
+    if tally.cut == 0 {
+        return eprintln!(rt; "");
+    }
+    if tally.more {
+        eprint!(rt; ", ")?;
+    }
+    let cut = tally.cut;
+    let are = if cut == 1 { "run was" } else { "runs were" };
+    eprintln!(rt; "{cut} {are} cut (--fuel)")
+}
+
+/// Says in one line what a report tells of all runs: that every way is listed in which the script can end, or what wasn't tried.
+pub(crate) fn say_tally<R: Eprint>(rt: &R, tally: Tally) -> io::Result<()> {
+    if tally.is_whole() {
+        say_whole(rt, tally)
+    } else {
+        say_part(rt, tally)
+    }
+}

@@ -1,0 +1,194 @@
+//! Why the program ends before its input does, and what a person is told of it (docs/FORMATS.md, "Faults and statuses").
+
+use mpd_lines::engine::EngineFault;
+use mpd_model::read_fault::{FaultCode, ReadFault};
+use mpd_options::options::UsageFault;
+use mpd_trace::allowed::allowed;
+use mpd_trace::excerpt::excerpt;
+use mpd_trace::plain::PlainFault;
+use std::io;
+use std::io::{Error, ErrorKind};
+
+/// The status where the mode's word or the file of a witness is none.
+const WRONG: u8 = 2;
+
+/// Why the program ends before its input does.
+#[derive(Drop)]
+pub(crate) enum Fault<'a> {
+    /// The words of the command line are wrong, or ask for help.
+    Usage(UsageFault),
+    /// The mode's word, which is none.
+    BadMode(&'a str),
+    /// The file of a witness has none: this line, 1 or 2, is the first that is wrong.
+    BadWitness(usize),
+    /// A file of this name can't be opened or read.
+    File(&'a str, Option<Error>),
+    /// A script, standard input or output, or memory.
+    Plain(PlainFault),
+}
+
+impl<'a> From<UsageFault> for Fault<'a> {
+    fn from(fault: UsageFault) -> Fault<'a> {
+        Fault::Usage(fault)
+    }
+}
+
+impl<'a> From<PlainFault> for Fault<'a> {
+    fn from(fault: PlainFault) -> Fault<'a> {
+        Fault::Plain(fault)
+    }
+}
+
+impl<'a> From<EngineFault> for Fault<'a> {
+    fn from(fault: EngineFault) -> Fault<'a> {
+        Fault::Plain(PlainFault::Engine(fault))
+    }
+}
+
+/// What a person at a terminal is told below the line of a fault.
+#[derive(Clone, Copy)]
+pub(crate) struct Notes<'t> {
+    /// Whether standard error is a terminal: only there more than the one line is said.
+    pub(crate) is_terminal: bool,
+    /// The script that is refused.
+    pub(crate) text: &'t [u8],
+    /// Why the last read of standard input, and the last write to standard output, failed.
+    pub(crate) input: Option<Error>,
+    pub(crate) output: Option<Error>,
+}
+
+impl<'t> Notes<'t> {
+    /// Before anything is read or written.
+    pub(crate) fn of_words(is_terminal: bool) -> Notes<'t> {
+        Notes {
+            is_terminal,
+            text: &[],
+            input: None,
+            output: None,
+        }
+    }
+}
+
+/// Says why a call of a device failed.
+fn say_why<R: Eprint>(rt: &R, error: Option<Error>) -> io::Result<()> {
+    let Some(error) = error else {
+        return eprintln!(rt; "no reason was given");
+    };
+    match error.kind() {
+        ErrorKind::NotFound => eprintln!(rt; "no such file"),
+        ErrorKind::IsADirectory => eprintln!(rt; "is a directory"),
+        ErrorKind::PermissionDenied => eprintln!(rt; "permission denied"),
+        ErrorKind::StorageFull => eprintln!(rt; "no space left"),
+        _ => eprintln!(rt; "{error}"),
+    }
+}
+
+/// Says why a file can't be opened or read.
+fn say_file<R: Eprint>(rt: &R, file: &str, error: Option<Error>) -> io::Result<()> {
+    eprint!(rt; "  '{file}': ")?;
+    say_why(rt, error)
+}
+
+/// Says why a standard stream can't be read or written.
+fn say_stream<R: Eprint>(rt: &R, stream: &str, error: Option<Error>) -> io::Result<()> {
+    eprint!(rt; "  {stream}: ")?;
+    say_why(rt, error)
+}
+
+/// Shows the line of a script that is refused, and what could stand at its place where the grammar allows little.
+fn say_refused<R: Eprint + AllocGlobal>(rt: &R, fault: ReadFault, text: &[u8]) -> io::Result<()> {
+    if let Ok(lines) = excerpt(rt.alloc(), text, fault.place) {
+        eprint!(rt; "{lines}")?;
+    }
+    if let FaultCode::Expected = fault.code {
+        if let Ok(line) = allowed(rt.alloc(), text, fault.place) {
+            eprint!(rt; "{line}")?;
+        }
+    }
+    Ok(())
+}
+
+/// Says more of a fault of a script, a standard stream or memory.
+fn say_plain<R: Eprint + AllocGlobal>(
+    rt: &R,
+    fault: PlainFault,
+    notes: &Notes<'_>,
+) -> io::Result<()> {
+    match fault {
+        PlainFault::Script(refused, _) => say_refused(rt, refused, notes.text),
+        PlainFault::Engine(EngineFault::ReadFailed) => {
+            say_stream(rt, "standard input", notes.input)
+        }
+        PlainFault::Engine(EngineFault::WriteFailed) => {
+            say_stream(rt, "standard output", notes.output)
+        }
+        PlainFault::Engine(_) => Ok(()),
+    }
+}
+
+/// Says a fault of usage: help goes to standard output, all else to standard error. Answers the status.
+fn tell_usage<R: Print + Eprint + AllocGlobal>(rt: &R, fault: UsageFault, notes: &Notes<'_>) -> u8 {
+    if !fault.is_answer() {
+        let _unwritten = eprint!(rt; "{fault}");
+        return fault.status();
+    }
+    match print!(rt; "{fault}") {
+        Ok(()) => fault.status(),
+        Err(error) => {
+            let notes = Notes {
+                is_terminal: notes.is_terminal,
+                text: notes.text,
+                input: notes.input,
+                output: Some(error),
+            };
+            tell_plain(rt, PlainFault::Engine(EngineFault::WriteFailed), &notes)
+        }
+    }
+}
+
+/// Says a fault of a script, a standard stream or memory. Answers the status.
+fn tell_plain<R: Eprint + AllocGlobal>(rt: &R, fault: PlainFault, notes: &Notes<'_>) -> u8 {
+    let _unwritten = eprintln!(rt; "{fault}");
+    if notes.is_terminal {
+        let _unwritten = say_plain(rt, fault, notes);
+    }
+    fault.status()
+}
+
+/// Says that a file can't be opened or read. Answers the status.
+fn tell_file<R: Eprint>(rt: &R, file: &str, error: Option<Error>, is_terminal: bool) -> u8 {
+    let fault = PlainFault::Engine(EngineFault::ReadFailed);
+    let _unwritten = eprintln!(rt; "{fault}");
+    if is_terminal {
+        let _unwritten = say_file(rt, file, error);
+    }
+    fault.status()
+}
+
+/// Says that a word is no mode. Answers the status.
+fn tell_mode<R: Eprint>(rt: &R, word: &str, is_terminal: bool) -> u8 {
+    let _unwritten = eprintln!(rt; "mpdbg: bad mode");
+    if is_terminal {
+        let _unwritten = eprintln!(rt; "  '{word}' is none; the modes are rendezvous and buffered");
+    }
+    WRONG
+}
+
+/// Says a fault by one line, and at a terminal what else is known of it, and answers the status that the program ends with.
+/// Where it can't be written, the status is the same.
+pub(crate) fn tell<R: Print + Eprint + AllocGlobal>(
+    rt: &R,
+    fault: Fault<'_>,
+    notes: &Notes<'_>,
+) -> u8 {
+    match fault {
+        Fault::Usage(fault) => tell_usage(rt, fault, notes),
+        Fault::BadMode(word) => tell_mode(rt, word, notes.is_terminal),
+        Fault::BadWitness(line) => {
+            let _unwritten = eprintln!(rt; "mpdbg: bad witness line {line}");
+            WRONG
+        }
+        Fault::File(file, error) => tell_file(rt, file, error, notes.is_terminal),
+        Fault::Plain(fault) => tell_plain(rt, fault, notes),
+    }
+}
