@@ -11,6 +11,7 @@ an edit as those of must-fail/, with its crate and an input that meets it:
     in: TEXT                              a line of the input; `in N: TEXT` is N such lines, `wide N: TEXT` one line of N such texts
     words: check FILE --runs 1            the words of the command line, where there are any: FILE stands for a file that has the input
     witness: TEXT                         a line of the file that WITNESS stands for in `words: verify FILE WITNESS`
+    script: TEXT                          a line of the file that FILE stands for in `words: run FILE`; the input is then read as requests
 
 What the program must answer to each input is worked out by the model of compare/, and PROGRAM, where it is named, must answer so
 to all of them. The bodies are planted together, in a few copies that `rt try` runs, with no proof: each body in half of the
@@ -35,8 +36,9 @@ sys.path[:0] = [HERE, f'{os.path.dirname(HERE)}/compare']
 sys.dont_write_bytecode = True
 
 import explorer
+import session
 import witness
-from debugger import answer
+from debugger import RENDEZVOUS, answer
 from edit_files import BadEdit, Edit, merged, touches
 from explore_cases import Case
 from runs import held
@@ -52,12 +54,12 @@ class Planted(Edit):
     def __init__(self, path):
         super().__init__('', path)
         self.name = os.path.basename(path).removesuffix('.edit')
-        self.lines, self.words, self.witness_lines = [], [], []
+        self.lines, self.words, self.witness_lines, self.script_lines = [], [], [], []
         self.read()
         if not self.lines:
             raise BadEdit('it has no input')
         self.input = lined(self.lines)
-        self.witness = lined(self.witness_lines)
+        self.witness, self.script = lined(self.witness_lines), lined(self.script_lines)
         self.wanted = self.answer_of_model()
 
     def reads(self, key, value):
@@ -73,6 +75,8 @@ class Planted(Edit):
             self.words = value.split()
         elif key == 'witness':
             self.witness_lines.append(value)
+        elif key == 'script':
+            self.script_lines.append(value)
         else:
             return False
         return True
@@ -82,30 +86,36 @@ class Planted(Edit):
         if not self.words:
             return answer(self.input)
         command, *words = self.words
+        if self.script and command == 'run' and words[:1] == [FILE] and words[1:2] in ([], ['--mode']):
+            return session.serve(self.script, self.input, words[2] if words[2:] else RENDEZVOUS)
         if command == 'check' and words.count(FILE) == 1:
             return Case(self.name, self.input, explorer.asked_by(words)[1]).wanted()
         if command == 'verify' and [word for word in words if word in (FILE, WITNESS)] == [FILE, WITNESS]:
             return witness.Verification(self.input, self.witness, witness.asked_by(words)[2]).wanted()
-        raise BadEdit('its words are no `check FILE` and no `verify FILE WITNESS`, with options')
+        raise BadEdit('its words are no `check FILE`, no `verify FILE WITNESS` and no `run FILE` with a script, with options')
 
     def words_with(self, file, witness_file):
         """The words of the command line, with these paths."""
         return [{FILE: file, WITNESS: witness_file}.get(word, word) for word in self.words]
 
     def write(self, cases, data):
-        """Writes its input, words and answer to a folder, as `rt try --cases` takes them, and a witness to another."""
+        """Writes its input, words and answer to a folder, as `rt try --cases` takes them, and a witness or a script to another."""
         held(cases, self.name, self.input)
         held(cases, f'{self.name}.stdout', self.wanted.output)
         if self.words:
-            held(cases, f'{self.name}.args', '\n'.join(self.words_with('{}', f'{self.name}.witness')).encode())
+            file = f'{self.name}.script' if self.script else '{}'
+            held(cases, f'{self.name}.args', '\n'.join(self.words_with(file, f'{self.name}.witness')).encode())
         if self.witness:
             held(data, f'{self.name}.witness', self.witness)
+        if self.script:
+            held(data, f'{self.name}.script', self.script)
 
     def run(self, program):
         """What a program gives for its input."""
         with tempfile.TemporaryDirectory() as folder:
-            words = self.words_with(held(folder, 'input', self.input), held(folder, 'witness', self.witness))
-            return subprocess.run([program, *words], input=b'' if words else self.input, capture_output=True, timeout=120)
+            words = self.words_with(held(folder, 'input', self.script or self.input), held(folder, 'witness', self.witness))
+            given = self.input if self.script or not words else b''
+            return subprocess.run([program, *words], input=given, capture_output=True, timeout=120)
 
 
 def lined(lines):

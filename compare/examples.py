@@ -3,7 +3,8 @@ reports at its end), whose script and words are files of their own.
 
 NAME.trace is answered by NAME.stdout. NAME.mpd with NAME.words is answered by NAME.stdout, and in the mode `buffered` by
 NAME.buffered.stdout, where that is there. Each line of NAME.checks is the status and the options of a check of NAME.mpd; NAME.reports has
-what these write, one behind the other.
+what these write, one behind the other. The lines of NAME.requests are the requests of a session on NAME.mpd, and NAME.replies has its
+replies. client.py drives a session by itself; docs/SESSIONS.md shows what it writes.
 """
 
 import os
@@ -82,7 +83,13 @@ def checks():
     return found
 
 
+def dialogues():
+    """The names of all sessions."""
+    return example_names('.requests')
+
+
 def strays():
     """Files of answers that nothing asks for."""
     asked = {f'{name}.stdout' for name in example_names('.trace')} | {lesson.answers for lesson in lessons()}
-    return sorted({f'{name}.stdout' for name in example_names('.stdout')} - asked)
+    asked |= {f'{name}.replies' for name in dialogues()}
+    return sorted({f'{name}{ending}' for ending in ('.stdout', '.replies') for name in example_names(ending)} - asked)

@@ -1,4 +1,4 @@
-"""Runs the built program on more than random inputs have: candidates, calls, steps, blocked calls, bytes of a path and of a witness.
+"""Runs the built program on more than random inputs have: candidates, calls, steps, blocked calls, bytes of a path, a witness and a reply.
 
     python3 compare/large.py PROGRAM
 
@@ -6,6 +6,7 @@ What must be answered was worked out by hand from docs/FORMATS.md, and is writte
 ranks, the model answers the same. The status is 0 where each run ended as it must.
 """
 
+import json
 import os
 import sys
 import tempfile
@@ -223,7 +224,73 @@ def blocked_rows(folder):
     yield 'the last step twice', verified(calls, [*steps, 'local 15']), said('refused 32 no-such-step at 16', status=1)
 
 
-ROWS = (candidate_rows, call_rows, path_rows, long_witness_rows, step_rows, enabled_rows, blocked_rows)
+# ---- replies
+
+def text_reply(**fields):
+    """A reply that is answered ok, as it is written."""
+    return json.dumps({**fields, 'ok': True}, sort_keys=True, separators=(',', ':'))
+
+
+# A decision walks all receives that are free, so fewer rounds of the same script are matched.
+FEWER = 5_000
+
+
+def call_texts(rounds, is_matched):
+    """The texts of all calls of so many rounds, all of them matched or none."""
+    for turn in range(rounds):
+        yield f'isend to 0 tag 0 value {turn} ' + (f'with 0.{2 * turn + 1}' if is_matched else 'free')
+        yield 'irecv from 0 tag 0 ' + (f'with 0.{2 * turn} value {turn}' if is_matched else 'free')
+
+
+def free_turns(rounds):
+    """Requests of a session, each with its reply: all calls are issued, and none is matched."""
+    local = 4 * rounds + 1
+    receives, sends = ([f'0.{2 * turn + place}' for turn in range(1, rounds)] for place in (1, 0))
+    return (
+        (f'{{"cmd":"run","max":{local}}}', text_reply(depth=local, steps=local, stop='max', version=1)),
+        ('{"cmd":"calls","rank":0}', text_reply(calls=list(call_texts(rounds, False)), version=1)),
+        # the first receive holds back all others from the first send, and the first send all others from the last receive
+        ('{"cmd":"why","rank":0,"call":0}', text_reply(partners=['0.1 eligible', *(f'{it} held by 0.1' for it in receives)], version=1)),
+        (f'{{"cmd":"why","rank":0,"call":{2 * rounds - 1}}}',
+         text_reply(partners=['0.0 held by 0.1', *(f'{it} held by 0.0' for it in sends)], version=1)),
+        ('{"cmd":"enabled"}', text_reply(steps=['match 0.0 0.1'], version=1)), ('{"cmd":"next"}', text_reply(depth=local + 1, step='match 0.0 0.1', version=2)),
+        (f'{{"cmd":"back","count":{local}}}', text_reply(depth=1, version=3)), ('{"cmd":"run-back"}', text_reply(depth=0, steps=1, stop='start', version=4)),
+        (f'{{"cmd":"redo","count":{local + 1}}}', text_reply(depth=local + 1, version=5)))
+
+
+def matched_turns(rounds):
+    """The same where all calls are matched."""
+    local, last = 4 * rounds + 1, 5 * rounds + 1
+    pairs = [f'pair 0.{2 * turn} 0.{2 * turn + 1}' for turn in range(rounds)]
+    return (
+        ('{"cmd":"run","max":1000000}', text_reply(depth=last, steps=last, stop='leaf', version=1)),
+        ('{"cmd":"state"}', text_reply(depth=last, outcome='done', ranks=['ended'], sets=pairs, undone=0, version=1)),
+        ('{"cmd":"calls","rank":0}', text_reply(calls=list(call_texts(rounds, True)), version=1)),
+        ('{"cmd":"vars","rank":0}', text_reply(handles=[2 * rounds - 1], out=[], vars=[rounds, 0], version=1)),
+        (f'{{"cmd":"back","count":{rounds}}}', text_reply(depth=local, version=2)),
+        (f'{{"cmd":"explore","runs":1,"fuel":{rounds}}}', text_reply(leaves=['[] done'], more=False, version=2)),
+        (f'{{"cmd":"explore","runs":1,"fuel":{rounds - 1}}}', text_reply(leaves=['[] cut'], more=False, version=2)),
+        (f'{{"cmd":"redo","count":{rounds}}}', text_reply(depth=last, version=3)),
+        ('{"cmd":"run-back"}', text_reply(depth=0, steps=last, stop='start', version=4)))
+
+
+def session_rows(folder):
+    """Sessions whose replies have 100,000 texts of calls, 5,000 sets, and 32,760 leaves, or one less."""
+    yield f'a session of {2 * ROUNDS} calls', *dialogue(folder, 'calls', CALLS, free_turns(ROUNDS))
+    yield f'a session of {FEWER} pairs', *dialogue(folder, 'pairs', CALLS.replace(str(ROUNDS), str(FEWER)), matched_turns(FEWER))
+    leaves = [line.split(' ', 2)[2] for line in gathered(16, 4, 32_760, 'no').split('; ')[:-1]]
+    turns = [(f'{{"cmd":"explore","runs":{runs},"fuel":1000000}}', text_reply(leaves=leaves[:runs], more=runs < len(leaves), version=0))
+             for runs in (32_760, 32_759)]
+    yield f'{len(leaves)} leaves in a reply', *dialogue(folder, 'gather', gathering(16, 4), turns)
+
+
+def dialogue(folder, name, script, turns):
+    """What the program replies to requests, and what it must."""
+    data = ''.join(f'{request}\n' for request, _ in turns)
+    return folder.run('run', folder.file(name, script), data=data), said(*(reply for _, reply in turns))
+
+
+ROWS = (candidate_rows, call_rows, path_rows, long_witness_rows, step_rows, enabled_rows, blocked_rows, session_rows)
 
 
 def first_difference(result, wanted):

@@ -6,8 +6,9 @@ A run may end with the right answers up to one of them, `mpdbg: memory` and stat
 place of an answer that can be refused: then the state stands, and all answers behind it are right. Where all allocations from
 one on are refused it is the same. The sessions have their scripts on standard input, one also in a file, and one in a file alone,
 in the mode `buffered`. What `check` and `verify` answer, words of the command line that ask for help, and those that are wrong, are
-answered as ever, or by `mpdbg: memory`, status 3, with nothing written. The status is 0 where every run did one of these. The
-allocations are refused by a shared object, which is built from bench/malloc_shim.c where none is named.
+answered as ever, or by `mpdbg: memory`, status 3, with nothing written. A session of `run` has two lines of its own for this
+(session_memory.py). The status is 0 where every run did one of these. The allocations are refused by a shared object, which is built
+from bench/malloc_shim.c where none is named.
 """
 
 import argparse
@@ -18,6 +19,8 @@ import tempfile
 from collections import Counter
 from typing import NamedTuple
 
+import session
+import session_memory
 from debugger import BUFFERED, RENDEZVOUS, Debugger, Result, divided, enabled_steps, next_world, step_of, step_text
 from explore_cases import Case
 from explorer import Asked
@@ -31,6 +34,8 @@ SHIM = os.path.join(HERE, '..', 'bench', 'malloc_shim.c')
 EXAMPLES = os.path.join(HERE, '..', 'examples')
 SECONDS = 20
 REFUSED = b'refused memory\n'
+# How sessions of `run` must have gone on, in one run or another.
+MET_IN_SESSIONS = ('ended', 'memory', 'unprinted')
 
 # A state with much to show: pending and posted calls, an array, requests, some of them lost, and a deadlock.
 MUCH = (b'mpd 1; ranks 4; var a[40]; var x; req r[3];\nwhile x < 3 { a[x] = x * 1000000007; x = x + 1; }\n'
@@ -89,7 +94,7 @@ def lively():
 
 
 # Words that are answered by a text alone.
-ANSWERED = ('--help', 'trace --help', '--version', 'trac', 'trace', 'trace a --mod b', 'trace a --mode b', 'trace a b', 'check --help',
+ANSWERED = ('--help', 'trace --help', 'run --help', 'run a --mode b', '--version', 'trac', 'trace', 'trace a --mod b', 'trace a --mode b', 'trace a b', 'check --help',
             'check a --runs 0', 'check a --mode b', 'verify --help', 'verify a', 'verify a b --mode c')
 
 
@@ -187,8 +192,8 @@ class Shim(NamedTuple):
         return result, inside + outside, count
 
 
-def refuse_each(name, run, problem_of):
-    """Refuses each allocation of a run alone, and then each one with all behind it; gives how many runs were wrong."""
+def refuse_each(name, run, problem_of, kind_of=kind_of, must_meet=()):
+    """Refuses each allocation of a run alone, and then each one with all behind it; gives how many runs were wrong, or kinds not met."""
     _, count, _ = run()
     kinds = Counter()
     wrong = 0
@@ -196,17 +201,20 @@ def refuse_each(name, run, problem_of):
         for number in range(1, count + 1):
             result, _, refused = run(**{variable: str(number)})
             kinds[kind_of(result)] += 1
-            if what := problem_of(result) if refused else 'nothing was refused':
+            if what := problem_of(result, refused) if refused else 'nothing was refused':
                 wrong += 1
                 print(f'{name}, {variable}={number}: {what}', flush=True)
     told = ', '.join(f'{number} {kind}' for kind, number in sorted(kinds.items()))
     print(f'{name}: {count} allocations, {kinds.total()} runs: {told}; {wrong} wrong', flush=True)
-    return wrong + (count == 0)
+    unmet = [kind for kind in must_meet if not kinds[kind]]
+    if unmet:
+        print(f'{name}: not met: {", ".join(unmet)}')
+    return wrong + (count == 0) + len(unmet)
 
 
 def try_input(program, name, data, shim):
     """A session on standard input."""
-    return refuse_each(name, lambda **refused: shim.run(program, data, **refused), lambda result: problem(data, result))
+    return refuse_each(name, lambda **refused: shim.run(program, data, **refused), lambda result, _: problem(data, result))
 
 
 def try_file(program, name, data, shim, mode=RENDEZVOUS):
@@ -218,7 +226,22 @@ def try_file(program, name, data, shim, mode=RENDEZVOUS):
         lines = data[len(script) + len(b'---\n'):]
         words = ('trace', file.name, '--mode', 'buffered') if mode == BUFFERED else ('trace', file.name)
         return refuse_each(f'{name}, its script in a file', lambda **refused: shim.run(program, lines, words, **refused),
-                           lambda result: problem(data, result, mode))
+                           lambda result, _: problem(data, result, mode))
+
+
+def try_session(program, asked, shim):
+    """A session of `run`, which is answered rightly where nothing is refused."""
+    with tempfile.NamedTemporaryFile() as file:
+        file.write(asked.script)
+        file.flush()
+
+        def run(**refused):
+            return shim.run(program, asked.data, ('run', file.name, '--mode', asked.mode), **refused)
+
+        if run()[0] != session.serve(asked.script, asked.data, asked.mode):
+            print(f'{asked.name}: not what the model answers')
+            return 1
+        return refuse_each(asked.name, run, lambda *seen: session_memory.problem(asked, *seen), session_memory.kind_of, MET_IN_SESSIONS)
 
 
 def try_whole(program, name, words, shim):
@@ -226,7 +249,7 @@ def try_whole(program, name, words, shim):
     right = shim.run(program, b'', words)[0]
     allowed = (right, Result(b'', b'mpdbg: memory\n', 3))
     return refuse_each(name, lambda **refused: shim.run(program, b'', words, **refused),
-                       lambda result: None if result in allowed else f'status {result.status}, {result.output + result.errors}')
+                       lambda result, _: None if result in allowed else f'status {result.status}, {result.output + result.errors}')
 
 
 def try_report(program, name, case, shim):
@@ -252,6 +275,7 @@ def main():
         wrong = [try_input(program, name, data, shim) for name, data in sessions]
         wrong += [try_file(program, *sessions[0], shim)]
         wrong += [try_file(program, 'head to head, buffered', walked(HEAD_TO_HEAD, BUFFERED), shim, BUFFERED)]
+        wrong += [try_session(program, asked, shim) for asked in session_memory.sessions()]
         wrong += [try_report(program, name, case, shim) for name, case in reports()]
         wrong += [try_whole(program, f'words {words}', words.split(), shim) for words in ANSWERED]
     return 1 if any(wrong) else 0

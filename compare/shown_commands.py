@@ -5,7 +5,8 @@
 The commands run at the top of a copy of the repository in which `./mpdbg` is the built program. Pages show them in blocks that are
 indented by four spaces, and in code within a line; what stands behind two spaces is said of a command. Where a block stands right
 below a command, with nothing said between, it is what the command answers, whole. Blocks of words with their answers, tables of
-these, states, and scripts, are compared with the examples that they are taken from. What is no command of the program is named in
+these, requests with their replies, states, and scripts, are compared with the examples that they are taken from, and the requests of
+each example are answered by the program. What is no command of the program is named in
 NOT_RUN, and a block that is none of all that in EXCERPTS: a block or a command that is new to this list is wrong here. The status is 0
 where each command ended as it must.
 """
@@ -20,19 +21,20 @@ import tempfile
 from typing import NamedTuple, Optional
 
 from debugger import Result
+from examples import dialogues
 
 TOP = os.path.join(os.path.dirname(os.path.abspath(__file__)), '..')
 SECONDS = 60
 
 # What begins a command that is not run here, since it is none of the program.
-NOT_RUN = ('.ci/', 'GATE_', 'rt ', 'python3 ', 'git ', './mpdbg --prove')
+NOT_RUN = ('.ci/', 'GATE_', 'rt ', 'python3 compare/', 'python3 bench/', 'git ', './mpdbg --prove')
 # What begins a command that is run.
-RUN = ('./mpdbg', 'cat ', 'sed ', 'echo ')
+RUN = ('./mpdbg', 'cat ', 'sed ', 'echo ', 'python3 examples/')
 # How a block begins that shows neither commands nor what one of the commands answers: a line of another command, or a form.
 EXCERPTS = {
     'README.md': ('proving ', 'checked as it runs'),
     'docs/FORMATS.md': ('enabled local 3', 'handles 1', 'leaf N ', 'witness N: ', 'leaf 1 [1] deadlock', 'deadlock 0.1', 'mpdbg: script refused', 'mpdbg: device',
-                        'every way it can end'),
+                        'every way it can end', 'JSON requests'),
     'docs/GATE.md': ('fn: ',)}
 # Files that a page names by a word: a script, words for it, and a witness of it, which is made.
 FILES = {'FILE': 'examples/race.mpd', 'WORDS': 'examples/race.words', 'WITNESS': 'made.witness'}
@@ -41,6 +43,7 @@ MAKING = './mpdbg check examples/race.mpd --witness | grep -A 1 deadlock | head 
 TYPED = {'cat examples/first_message.mpd - | ./mpdbg': '---\n'}
 # What the examples of help answer.
 HELP = {'--help': 'first.stdout', 'trace --help': 'ok 1\n', 'verify --help': 'accepted\n',
+        'run --help': '{"depth":6,"ok":true,"steps":6,"stop":"choice","version":1}\n',
         'check --help': 'leaf 0 [] deadlock 0.0 1.0\nwitness 0: local 0, local 1\nleaves 1 more no\n'}
 
 
@@ -155,10 +158,11 @@ class Page:
                 self.wrong(block.number, 'the example answers no such state')
 
     def spoken(self, number, turns):
-        """Words with their answers are some of those of the example, one behind the other."""
+        """Words with their answers, or requests with their replies, are some of those of the example, one behind the other."""
         self.compared += 1
         name = self.name_before(number)
-        words, answers = (read(f'{TOP}/examples/{name}.{ending}').splitlines() for ending in ('words', 'stdout'))
+        endings = ('requests', 'replies') if turns[0][0].startswith('{') else ('words', 'stdout')
+        words, answers = (read(f'{TOP}/examples/{name}.{ending}').splitlines() for ending in endings)
         all_turns, rest = [], iter(answers)
         for word in words:
             answer = next(rest)
@@ -204,9 +208,11 @@ def run(copy, command):
 
 
 def answer_of_example(command):
-    """What the examples have as the answer of a trace with its words, if the command is one."""
+    """What the examples have as the answer of a trace with its words, or of a session with its requests, if the command is one."""
     if command == './mpdbg < examples/first.trace':
         return read(f'{TOP}/examples/first.stdout')
+    if asked := re.fullmatch(r'\./mpdbg run examples/(\w+)\.mpd < examples/\1\.requests', command):
+        return read(f'{TOP}/examples/{asked[1]}.replies')
     traced = re.fullmatch(r'\./mpdbg trace examples/(\w+)\.mpd(?: --mode (\w+))? < examples/\1\.words', with_files(command))
     if traced is None:
         return None
@@ -241,6 +247,7 @@ def main():
     with tempfile.TemporaryDirectory(prefix='shown-') as copy:
         make_copy(copy, os.path.abspath(sys.argv[1]))
         commands = [shown for page in pages for shown in page.commands] + [*help_commands(copy)]
+        commands += [Shown(f'examples/{name}.requests', f'./mpdbg run examples/{name}.mpd < examples/{name}.requests') for name in dialogues()]
         for shown in commands:
             if problem := problem_of(shown, run(copy, shown.command)):
                 problems.append(f'{shown.where}: {shown.command}: {problem}')

@@ -5,7 +5,7 @@
 The examples, and the worked rows of compare/worked_program.py; devices that are full, closed, broken off, too short or interrupted;
 each fault of a script; the words of the command line, and the order in which they are tested; a script from a file; a refused
 script and a long check at a terminal; as many steps and reads as there may be; the deepest scripts on a small stack; more answers than memory;
-answers that come before the next read. The status is 0 where every run ended as it must.
+answers that come before the next read; and all that of `run` (session_statuses.py). The status is 0 where every run ended as it must.
 """
 
 import itertools
@@ -13,25 +13,22 @@ import os
 import re
 import resource
 import select
-import signal
-import socket
 import subprocess
 import sys
 import tempfile
 import time
-import tty
-from contextlib import contextmanager
 
 from debugger import MOST_READS, MOST_STEPS, RENDEZVOUS, Debugger, Result, Step, answer, answer_packets
+from devices import SECONDS, Files, at_terminal, broken_off, device, file_of_any_size, full, refused, soft_limit, unread_pipe
 from examples import EXAMPLES, checks, example_names, lessons, open_example, strays
 from language import MOST_OPEN_BLOCKS, MOST_OPERATORS, read_script
-from runs import action, content, file_of, run_in_packets, status_of
+from runs import file_of, run_in_packets
+from session_statuses import ROWS as SESSION_ROWS
 from shims import built
 from usage_texts import ANSWERS, BEFORE_A_MODE, MISTAKES, NO_TEXT
 from worked_program import ROWS as WORKED_ROWS
 
 HERE = os.path.dirname(os.path.abspath(__file__))
-SECONDS = 60
 # What the deepest scripts are run with (docs/LANGUAGE.md, "Limits").
 STACK_KIB = 512
 # The memory for answers that have many times as many bytes.
@@ -54,70 +51,6 @@ FAULTS = (
     (b'mpd 1;\nranks 1;\nvar a[1025];\n', b'8 too-many at 22 line 3'),
     (b'mpd 1;\nranks 17;\n', b'9 bad-ranks at 13 line 2'),
     (b'mpd 2;\n', b'10 not-in-version at 4 line 1'))
-
-
-def refused(fault):
-    return Result(b'', b'mpdbg: script refused ' + fault + b'\n', 2)
-
-
-@contextmanager
-def soft_limit(kind, number):
-    """Has what is started get a limit, and this process its own again."""
-    soft, hard = resource.getrlimit(kind)
-    resource.setrlimit(kind, (number, hard))
-    try:
-        yield
-    finally:
-        resource.setrlimit(kind, (soft, hard))
-
-
-class Files:
-    """The three files of a run: a number, or None for a closed one; those in memory are read when it has ended."""
-
-    def __init__(self, reading, output='memory', errors='memory'):
-        self.numbers = [reading, *(os.memfd_create('written') if file == 'memory' else file for file in (output, errors))]
-
-    def run(self, *words, **variables):
-        """Runs a program with its words, and gives what it wrote to each of the two files, where that is in memory."""
-        actions = [action(place, number) for place, number in enumerate(self.numbers)]
-        process = os.posix_spawnp(words[0], words, {**os.environ, **variables}, file_actions=actions,
-                                 setsigdef=(signal.SIGPIPE,))
-        handle = os.pidfd_open(process)
-        status = status_of(process, handle, SECONDS)
-        written = [b'' if number is None or not is_memory(number) else content(number) for number in self.numbers[1:]]
-        for number in [handle, *self.numbers]:
-            if number is not None:
-                os.close(number)
-        return Result(*written, status)
-
-
-def is_memory(number):
-    return '/memfd:written' in os.readlink(f'/proc/self/fd/{number}')
-
-
-def full():
-    """A device that takes no byte."""
-    return os.open('/dev/full', os.O_WRONLY)
-
-
-def unread_pipe():
-    """The writing end of a pipe that nobody reads any more."""
-    reading, writing = os.pipe()
-    os.close(reading)
-    return writing
-
-
-def broken_off(data):
-    """A connection that brings the bytes and then fails, since its other side left with bytes that it hadn't read."""
-    ours, theirs = socket.socketpair()
-    theirs.sendall(b'unread')
-    ours.sendall(data)
-    ours.close()
-    return theirs.detach()
-
-
-def device(output=b''):
-    return Result(output, b'mpdbg: device\n', 3)
 
 
 def ended_rows(program):
@@ -181,14 +114,6 @@ def device_rows(program):
             result = Files(file_of_any_size(SESSION), errors=writing).run(program)
         with open(reading, 'rb') as errors:
             yield f'output of {size} bytes', result._replace(errors=errors.read()), device(ENDED.output[:size])
-
-
-def file_of_any_size(data):
-    """A pipe that brings the bytes, for a process that may write no file."""
-    reading, writing = os.pipe()
-    os.write(writing, data)
-    os.close(writing)
-    return reading
 
 
 LOOP = b'mpd 1; ranks 2; while 1 { }\n'
@@ -334,23 +259,6 @@ def trace_rows(program):
         yield 'a trace of no words', traced(exchange, data=b''), Result(b'', b'', 0)
         example = open_example('exchange.mpd')
         yield 'the example of a file', traced(held('example', example), '--mode', 'buffered'), passes
-
-
-def at_terminal(program, *words, data=b'', reading=None, output='memory', **variables):
-    """A run whose standard error is a terminal, which passes each byte as it is."""
-    ours, theirs = os.openpty()
-    tty.setraw(theirs)
-    reading = file_of(data) if reading is None else reading
-    result = Files(reading, output, errors=os.dup(theirs)).run(program, *words, **variables)
-    os.close(theirs)
-    said = b''
-    try:
-        while piece := os.read(ours, 1 << 16):
-            said += piece
-    except OSError:
-        pass
-    os.close(ours)
-    return result._replace(errors=said)
 
 
 # A script that is refused at a byte, what stands on its line, what stands below that, and what is told of a token that can't stand there.
@@ -586,7 +494,7 @@ def much_rows(program):
 
 
 ROWS = (ended_rows, example_rows, refused_rows, device_rows, usage_rows, trace_rows, terminal_rows, found_rows, why_rows, progress_rows, summed_rows,
-        interrupted_rows, talk_rows, stack_rows, much_rows, full_rows, turns_rows, lesson_rows, *WORKED_ROWS)
+        interrupted_rows, talk_rows, stack_rows, much_rows, full_rows, turns_rows, lesson_rows, *WORKED_ROWS, *SESSION_ROWS)
 
 
 def main():

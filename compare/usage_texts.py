@@ -18,6 +18,7 @@ Usage: mpdbg <COMMAND>
 
 Commands:
   trace   Trace the script of a file
+  run     Answer JSON requests on the script of a file
   check   Look for deadlocks: try the choices of wildcard receives one after another
   verify  Check a witness that check has written
   help    Print this message or the help of the given subcommand(s)
@@ -50,6 +51,27 @@ Trace words stand on standard input, one a line:
 
 Example:
   echo 'local 0' | ./mpdbg trace examples/exchange.mpd --mode buffered
+"""
+
+RUN = """\
+Answer JSON requests on the script of a file
+
+Usage: mpdbg run [OPTIONS] <FILE>
+
+Arguments:
+  <FILE>  The script
+
+Options:
+      --mode <M>  How standard sends behave: rendezvous or buffered [default: rendezvous]
+  -h, --help      Print help
+
+Requests stand on standard input, a JSON object on each line, and each is answered by one line:
+  step, next, run, back, redo, goto, run-back   go forward and back
+  state, enabled, vars, calls, why              look at where it stands
+  break, unbreak, breaks, explore               set breakpoints, list the runs from here
+
+Example:
+  echo '{"cmd":"run","max":100}' | ./mpdbg run examples/race.mpd
 """
 
 CHECK = """\
@@ -95,11 +117,13 @@ VERSION = 'mpdbg 0.1.0\n'
 ANSWERS = (
     ('--help', PROGRAM), ('-h', PROGRAM), ('help', PROGRAM), ('--version', VERSION), ('-V', VERSION),
     ('trace|--help', TRACE), ('trace|-h', TRACE), ('help|trace', TRACE), ('trace|no-such-file|--mode|no-mode|--help', TRACE),
+    ('run|--help', RUN), ('run|-h', RUN), ('help|run', RUN), ('run|no-such-file|--mode|no-mode|--help', RUN),
     ('check|--help', CHECK), ('check|-h', CHECK), ('help|check', CHECK), ('check|a|--runs|5|-h', CHECK),
     ('verify|--help', VERIFY), ('verify|-h', VERIFY), ('help|verify', VERIFY), ('verify|a|b|--help', VERIFY))
 
 NO_COMMAND = 'mpdbg <COMMAND>'
-OF_TRACE, OF_CHECK, OF_VERIFY = (f'mpdbg {rest}' for rest in ('trace [OPTIONS] <FILE>', 'check [OPTIONS] <FILE>', 'verify [OPTIONS] <FILE> <WITNESS>'))
+OF_TRACE, OF_RUN, OF_CHECK, OF_VERIFY = (
+    f'mpdbg {rest}' for rest in ('trace [OPTIONS] <FILE>', 'run [OPTIONS] <FILE>', 'check [OPTIONS] <FILE>', 'verify [OPTIONS] <FILE> <WITNESS>'))
 
 
 class Mistake(NamedTuple):
@@ -137,6 +161,9 @@ NO_DIGIT, TOO_LARGE = 'invalid digit found in string', 'number too large to fit 
 MISTAKES = (
     # commands
     Mistake('trac', "unrecognized subcommand 'trac'", NO_COMMAND, "a similar subcommand exists: 'trace'"),
+    Mistake('rum|a', "unrecognized subcommand 'rum'", NO_COMMAND, "a similar subcommand exists: 'run'"),
+    Mistake('Run|a', "unrecognized subcommand 'Run'", NO_COMMAND, "a similar subcommand exists: 'run'"),
+    Mistake('help|run|x', "unrecognized subcommand 'x'", OF_RUN),
     Mistake('verfy|a|b', "unrecognized subcommand 'verfy'", NO_COMMAND, "a similar subcommand exists: 'verify'"),
     Mistake('a.mpd', "unrecognized subcommand 'a.mpd'", NO_COMMAND),
     Mistake('', "unrecognized subcommand ''", NO_COMMAND),
@@ -148,15 +175,22 @@ MISTAKES = (
     unknown('--|trace|a', 'trace', NO_COMMAND, "subcommand 'trace' exists; to use it, remove the '--' before it"),
     # files
     missing('trace', ['<FILE>'], 'mpdbg trace <FILE>'),
+    missing('run', ['<FILE>'], 'mpdbg run <FILE>'),
+    missing('run|--mode|buffered', ['<FILE>'], 'mpdbg run --mode <M> <FILE>'),
     missing('check', ['<FILE>'], 'mpdbg check <FILE>'),
     missing('verify', ['<FILE>', '<WITNESS>'], 'mpdbg verify <FILE> <WITNESS>'),
     missing('verify|a', ['<WITNESS>'], 'mpdbg verify <FILE> <WITNESS>'),
     unknown('trace|a|b', 'b', OF_TRACE),
+    unknown('run|a|b', 'b', OF_RUN),
     unknown('check|a|b', 'b', OF_CHECK),
     unknown('verify|a|b|c', 'c', OF_VERIFY),
     # options
     unknown('trace|a|--mod|buffered', '--mod', 'mpdbg trace --mode <M> <FILE>', "a similar argument exists: '--mode'"),
     unknown('check|a|--witnes', '--witnes', 'mpdbg check --witness <FILE>', "a similar argument exists: '--witness'"),
+    unknown('run|a|--mod|buffered', '--mod', 'mpdbg run --mode <M> <FILE>', "a similar argument exists: '--mode'"),
+    hyphened('run|a|--witness', '--witness', 'mpdbg run <FILE>'),
+    hyphened('run|a|--port|1', '--port', 'mpdbg run <FILE>'),
+    hyphened('run|a|-m', '-m', OF_RUN),
     hyphened('trace|a|-m', '-m', OF_TRACE),
     hyphened('trace|-x', '-x', OF_TRACE),
     hyphened('trace|--version', '--version', OF_TRACE),
@@ -166,6 +200,8 @@ MISTAKES = (
     Mistake('trace|a|--mode', "a value is required for '--mode <M>' but none was supplied"),
     Mistake('check|a|--fuel', "a value is required for '--fuel <N>' but none was supplied"),
     Mistake('trace|a|--mode|buffered|--mode=buffered', "the argument '--mode <M>' cannot be used multiple times", OF_TRACE),
+    Mistake('run|a|--mode', "a value is required for '--mode <M>' but none was supplied"),
+    Mistake('run|a|--mode=b|--mode|b', "the argument '--mode <M>' cannot be used multiple times", OF_RUN),
     Mistake('verify|a|b|--mode=c|--mode=c', "the argument '--mode <M>' cannot be used multiple times", OF_VERIFY),
     Mistake('check|a|--runs|5|--runs=5', "the argument '--runs <N>' cannot be used multiple times", OF_CHECK),
     Mistake('check|a|--witness|--witness', "the argument '--witness' cannot be used multiple times", OF_CHECK),

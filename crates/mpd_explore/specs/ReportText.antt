@@ -21,9 +21,13 @@ abbrev pub ending_text : Ending → List ℕ
 ending_text (Ended o) = outcome_text o
 ending_text Cut = codes "cut"
 
+-- `[0 2] deadlock 0.1 1.0`
+abbrev pub leaf_text : Leaf → List ℕ
+leaf_text l = codes "[" ++ choices_text l.choices ++ codes "] " ++ ending_text l.ending
+
 -- `leaf 1 [0 2] deadlock 0.1 1.0`
 abbrev pub leaf_line : ℕ → Leaf → List ℕ
-leaf_line n l = line (codes "leaf " ++ decimal n ++ codes " [" ++ choices_text l.choices ++ codes "] " ++ ending_text l.ending)
+leaf_line n l = line (codes "leaf " ++ decimal n ++ 32 ∷ leaf_text l)
 
 -- `witness 1: local 0, local 1`
 abbrev pub witness_line : ℕ → Witness → List ℕ

@@ -7,7 +7,7 @@ ghost use Rattle.mpd_model.specs.Texts.{steps_text};
 ghost use Rattle.mpd_trail.specs.Views.{standing_of};
 ghost use Rattle.mpd_explore.specs.Walk.{run_at};
 ghost use Rattle.mpd_explore.specs.Witness.{HasWitness};
-ghost use Rattle.mpd_explore.specs.ReportText.{choices_text, ending_text, leaf_line, witness_line, witness_part, leaves_text, report_text};
+ghost use Rattle.mpd_explore.specs.ReportText.{choices_text, ending_text, leaf_line, leaf_text, witness_line, witness_part, leaves_text, report_text};
 
 use crate::report::{Ending, Leaf, Report, Witness};
 use crate::witness::witness_of;
@@ -45,14 +45,22 @@ fn push_ending(alloc: Global, out: &mut String, ending: &Ending) -> Result<(), A
     Ok(())
 }
 
+/// Adds the text of a leaf: its choices, and how it ends, as `[0 2] deadlock 0.1 1.0`. An `Err` is want of memory.
+pub fn push_leaf_text(alloc: Global, out: &mut String, leaf: &Leaf) -> Result<(), AllocError>
+    ensures { OnOk result (string_bytes out.new ≡ string_bytes out.old ++ leaf_text leaf.now) }
+{
+    out.push('[')?;
+    push_choices(out, &leaf.choices.items)?;
+    out.push_str("] ")?;
+    push_ending(alloc, out, &leaf.ending)
+}
+
 /// Adds the line of a leaf.
 fn push_leaf(alloc: Global, out: &mut String, number: usize, leaf: &Leaf) -> Result<(), AllocError>
     ensures { OnOk result (string_bytes out.new ≡ string_bytes out.old ++ leaf_line number leaf.now) }
 {
-    write!(out, "leaf {number} [")?;
-    push_choices(out, &leaf.choices.items)?;
-    out.push_str("] ")?;
-    push_ending(alloc, out, &leaf.ending)?;
+    write!(out, "leaf {number} ")?;
+    push_leaf_text(alloc, out, leaf)?;
     out.push('\n')?;
     Ok(())
 }

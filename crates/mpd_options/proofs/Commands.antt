@@ -11,10 +11,10 @@ use Rattle.clap.specs.Faults.{fault_of, walk_fault, settle_fault, turn_fault, st
 use Rattle.clap.specs.Simple.{names_of, subcommand_of, entered}
 use Rattle.clap.specs.Walk.{Held, Walk, Names, idle, Step, value, trailing, Outcome, plain, nothing_held, finished, settled, walk_from, walked, arg_by_long, arg_by_short, long_or_other, short_or_plain, after_flag, after_step, subcommand_or_other, bundle, bundle_met, subcommand_met}
 use Rattle.clap.proofs.OnLiterals.{clap_on_literals}
-use Rattle.mpd_options.specs.Asked.{Asked, Tool, behind, checker, found_of_command, meant, among_options, tracer, verifier, wanted}
+use Rattle.mpd_options.specs.Asked.{Asked, Tool, behind, checker, found_of_command, meant, among_options, runner, tracer, verifier, wanted}
 use Rattle.mpd_options.specs.Program.{mpdbg_app}
 use Rattle.mpd_options.proofs.Ends.{Agrees, fails_first, fails_then}
-use Rattle.mpd_options.proofs.Items.{called, some_fault}
+use Rattle.mpd_options.proofs.Items.{NamesNone, by_name, called, some_fault, tools}
 use Rattle.mpd_options.proofs.Turns.{State, dd, reads, reads_dashes, reads_letters, reads_long, reads_no_letters, reads_plain, ready, walk_at}
 use Rattle.mpd_options.proofs.Walks.{faults, law, rows_at}
 
@@ -65,12 +65,14 @@ AgreesAll (Some x) ks command = (ks ≡ []) × (found_of_command command ≡ Som
 behind_command : (t : Tool) (words : List Text) → walk_over (called t ∷ words) ≡ stopped_at start (called t) words
 unfolding clap_on_literals
 behind_command tracer words = stays words [] start (codes "trace")
+behind_command runner words = stays words [] start (codes "run")
 behind_command checker words = stays words [] start (codes "check")
 behind_command verifier words = stays words [] start (codes "verify")
 
 command_walk : (t : Tool) (words : List Text) → walk_fault shape names start (called t ∷ words) ≡ []
 unfolding clap_on_literals
 command_walk tracer words = no_fault words [] start (codes "trace")
+command_walk runner words = no_fault words [] start (codes "run")
 command_walk checker words = no_fault words [] start (codes "check")
 command_walk verifier words = no_fault words [] start (codes "verify")
 
@@ -84,6 +86,7 @@ at_first = ready [] None false
 whole_command : (t : Tool) (words : List Text) → whole_fault [] (stopped_at start (called t) words) ≡ faults t (walk_at at_first) words
 unfolding clap_on_literals
 whole_command tracer words = and_nothing (faults tracer (walk_at at_first) words)
+whole_command runner words = and_nothing (faults runner (walk_at at_first) words)
 whole_command checker words = and_nothing (faults checker (walk_at at_first) words)
 whole_command verifier words = and_nothing (faults verifier (walk_at at_first) words)
 
@@ -93,6 +96,7 @@ command_fault t words =
 
 entered_at : (t : Tool) (words : List Text) → entered top (Some (called t, words)) ≡ Some (called t, rows_at t (walk_at at_first) words)
 entered_at tracer words = refl
+entered_at runner words = refl
 entered_at checker words = refl
 entered_at verifier words = refl
 
@@ -102,6 +106,7 @@ command_found t words = ap (λ (w : Walk). entered top w.stopped) (behind_comman
 lift : (t : Tool) (o : Option Asked) (ks : Kinds) (rows : List Row) → Agrees t o ks rows → AgreesAll o ks (Some (called t, rows))
 lift t None ks rows h = h
 lift tracer (Some x) ks rows h = h
+lift runner (Some x) ks rows h = h
 lift checker (Some x) ks rows h = h
 lift verifier (Some x) ks rows h = h
 
@@ -173,7 +178,7 @@ top_letters (y ∷ ys) x xs e = rw e (top_letter x (drop (length (encode_utf8 x)
 
 -- the word names no command
 abbrev IsOther : Text → Type 0
-IsOther word = (bytes_eq (codes "trace") word ≡ false) × (bytes_eq (codes "check") word ≡ false) × (bytes_eq (codes "verify") word ≡ false) × (bytes_eq (codes "help") word ≡ false)
+IsOther word = (bytes_eq (codes "trace") word ≡ false) × (bytes_eq (codes "run") word ≡ false) × (bytes_eq (codes "check") word ≡ false) × (bytes_eq (codes "verify") word ≡ false) × (bytes_eq (codes "help") word ≡ false)
 
 -- the turn of a first word, by the command that it names
 abbrev met_turn : Option Text → Text → Kinds
@@ -182,7 +187,7 @@ met_turn met word =
     or_else (other_fault shape met word nothing_held) (step_fault shape 1 step.0 step.1)
 
 unmet : (word : Text) → IsOther word → subcommand_met names idle word ≡ None
-unmet word other = rw (other.0, other.1, other.2, other.3) refl
+unmet word other = rw (other.0, other.1, other.2, other.3, other.4) refl
 
 top_turns : (word : Text) → IsOther word → turn_fault shape names start word ≡ met_turn None word
 top_turns word other = ap (λ m. met_turn m word) (unmet word other)
@@ -261,12 +266,6 @@ first_word word words other =
       | reads_plain d l s ↦ now _ (as_short word None d l s) (stray_fails word)
     ]
 
-other_word : (word : Text) (words : List Text) → bytes_eq (codes "trace") word ≡ false → bytes_eq (codes "check") word ≡ false → bytes_eq (codes "verify") word ≡ false → fault_of mpdbg_app (word ∷ words) ≢ []
-other_word word words t c v = elim (bytes_eq (codes "help") word) as (λ b. bytes_eq (codes "help") word ≡ b → fault_of mpdbg_app (word ∷ words) ≢ []) [
-  | true ↦ λ e. let P : Text → Type 0 = λ w. fault_of mpdbg_app (w ∷ words) ≢ [] in subst P ((bytes_eq-Decides (codes "help") word).0 e) (help_word words)
-  | false ↦ λ e. first_word word words (t, c, v, e)
-] refl
-
 -- ---- all words
 
 turned_about : (name word : Text) → bytes_eq word name ≡ false → bytes_eq name word ≡ false
@@ -278,38 +277,21 @@ turned_about name word e = elim (bytes_eq name word) as (λ b. bytes_eq name wor
     same_text : (x : Text) → bytes_eq x x ≡ true
     same_text x = (bytes_eq-Decides x x).1 refl
 
+other_word : (word : Text) (words : List Text) → NamesNone word tools → fault_of mpdbg_app (word ∷ words) ≢ []
+other_word word words n = elim (bytes_eq (codes "help") word) as (λ b. bytes_eq (codes "help") word ≡ b → fault_of mpdbg_app (word ∷ words) ≢ []) [
+  | true ↦ λ e. let P : Text → Type 0 = λ w. fault_of mpdbg_app (w ∷ words) ≢ [] in subst P ((bytes_eq-Decides (codes "help") word).0 e) (help_word words)
+  | false ↦ λ e. first_word word words (turned_about (codes "trace") word n.0, turned_about (codes "run") word n.1.0, turned_about (codes "check") word n.1.1.0, turned_about (codes "verify") word n.1.1.1.0, e)
+] refl
+
 -- the law where the first word is this command's
-abbrev LawOf : Option Tool → Text → List Text → Type 0
-LawOf o word words = AgreesAll (behind o words) (fault_of mpdbg_app (word ∷ words)) (subcommand_of mpdbg_app (word ∷ words))
+abbrev LawOf : Text → List Text → Option Tool → Type 0
+LawOf word words o = AgreesAll (behind o words) (fault_of mpdbg_app (word ∷ words)) (subcommand_of mpdbg_app (word ∷ words))
 
-named_law : (t : Tool) (word : Text) (words : List Text) → bytes_eq word (called t) ≡ true → LawOf (Some t) word words
-named_law t word words e = let P : Text → Type 0 = λ w. LawOf (Some t) w words in subst P (sym ((bytes_eq-Decides word (called t)).0 e)) (command_law t words)
-
--- the command that a word names, where it is not the first, or neither the first nor the second
-abbrev second : Text → Bool → Option Tool
-second word c = if c then Some checker else (if bytes_eq word (codes "verify") then Some verifier else None)
-
-abbrev third : Bool → Option Tool
-third v = if v then Some verifier else None
-
-third_law : (word : Text) (words : List Text) → bytes_eq word (codes "trace") ≡ false → bytes_eq word (codes "check") ≡ false → LawOf (third (bytes_eq word (codes "verify"))) word words
-third_law word words e c = elim (bytes_eq word (codes "verify")) as (λ b. bytes_eq word (codes "verify") ≡ b → LawOf (third b) word words) [
-  | true ↦ λ v. named_law verifier word words v
-  | false ↦ λ v. other_word word words (turned_about (codes "trace") word e) (turned_about (codes "check") word c) (turned_about (codes "verify") word v)
-] refl
-
-second_law : (word : Text) (words : List Text) → bytes_eq word (codes "trace") ≡ false → LawOf (second word (bytes_eq word (codes "check"))) word words
-second_law word words e = elim (bytes_eq word (codes "check")) as (λ b. bytes_eq word (codes "check") ≡ b → LawOf (second word b) word words) [
-  | true ↦ λ c. named_law checker word words c
-  | false ↦ λ c. third_law word words e c
-] refl
+named_law : (t : Tool) (word : Text) (words : List Text) → bytes_eq word (called t) ≡ true → LawOf word words (Some t)
+named_law t word words e = let P : Text → Type 0 = λ w. LawOf w words (Some t) in subst P (sym ((bytes_eq-Decides word (called t)).0 e)) (command_law t words)
 
 pub meant_law : (word : Text) (words : List Text) → AgreesAll (meant (word ∷ words)) (fault_of mpdbg_app (word ∷ words)) (subcommand_of mpdbg_app (word ∷ words))
-meant_law word words =
-    elim (bytes_eq word (codes "trace")) as (λ b. bytes_eq word (codes "trace") ≡ b → LawOf (if b then Some tracer else second word (bytes_eq word (codes "check"))) word words) [
-      | true ↦ λ e. named_law tracer word words e
-      | false ↦ λ e. second_law word words e
-    ] refl
+meant_law word words = by_name (LawOf word words) word tools (λ t e. named_law t word words e) (λ n. other_word word words n)
 
 pub is_plain_app : is_simple_and_free mpdbg_app ≡ true
 unfolding clap_on_literals

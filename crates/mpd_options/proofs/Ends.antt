@@ -14,7 +14,7 @@ use Rattle.clap.specs.declared.builder.value_parser.Reading.{Reading}
 use Rattle.clap.specs.declared.error.kind.ErrorKind.TheVariants as kind
 use Rattle.clap.specs.declared.parser.matches.ValueSource.TheVariants.{DefaultValue}
 use Rattle.clap.proofs.OnLiterals.{clap_on_literals}
-use Rattle.mpd_options.specs.Asked.{Asked, Item, Said, Tool, checker, default_of, fits, found, found_check, found_in, found_trace, found_verify, most_fuel, most_runs, name_of, or_default, said_of, text_of, the_file, the_fuel, the_mode, the_runs, the_witness, the_complete, the_witness_file, tracer, verifier}
+use Rattle.mpd_options.specs.Asked.{Asked, Item, Said, Tool, checker, default_of, fits, found, found_check, found_in, found_of_file, found_verify, most_fuel, most_runs, name_of, or_default, said_of, text_of, the_file, the_fuel, the_mode, the_runs, the_witness, the_complete, the_witness_file, run, runner, trace, tracer, verifier}
 use Rattle.mpd_options.specs.Numbers.{flag_in, number_in}
 use Rattle.mpd_options.proofs.Items.{Valid, arg, by_id, has_is, has_said, keeps, made, named_row, or_row, row_at, row_at_more, row_for, row_said, rows_for, rules, sub, used_once, used_well, values_at_end}
 
@@ -77,6 +77,14 @@ tracer_mode : rules_row (name_of the_mode) (rules tracer) ≡ default_row the_mo
 unfolding clap_on_literals
 tracer_mode = refl
 
+runner_file : rules_row (name_of the_file) (rules runner) ≡ default_row the_file
+unfolding clap_on_literals
+runner_file = refl
+
+runner_mode : rules_row (name_of the_mode) (rules runner) ≡ default_row the_mode
+unfolding clap_on_literals
+runner_mode = refl
+
 checker_row : (i : Item) → rules_row (name_of i) (rules checker) ≡ default_row i
 unfolding clap_on_literals
 checker_row the_file = refl
@@ -135,7 +143,8 @@ three_same : (f f' w w' m m' : Option Text) → f ≡ f' → w ≡ w' → m ≡ 
 three_same f f' w w' m m' a b c = rw (a, b, c) refl
 
 pub found_ended : (t : Tool) (said : Said) → Valid said → found_in t (ended t said) ≡ found t (text_of said)
-found_ended tracer said h = ap₂ found_trace (first_ended tracer the_file said tracer_file h) (first_ended tracer the_mode said tracer_mode h)
+found_ended tracer said h = ap₂ (found_of_file trace) (first_ended tracer the_file said tracer_file h) (first_ended tracer the_mode said tracer_mode h)
+found_ended runner said h = ap₂ (found_of_file run) (first_ended runner the_file said runner_file h) (first_ended runner the_mode said runner_mode h)
 found_ended checker said h =
     six_same _ _ _ _ _ _ _ _ _ _ _ _ (first_ended checker the_file said (checker_row the_file) h) (first_ended checker the_mode said (checker_row the_mode) h)
     (one_ended checker the_runs said (checker_row the_runs) h) (one_ended checker the_fuel said (checker_row the_fuel) h) (one_ended checker the_witness said (checker_row the_witness) h)
@@ -177,10 +186,10 @@ read_said : {A : Type 0} (read : Text → Option A) (d : Text) (said : Option Te
 read_said read d None e h = e
 read_said read d (Some v) e h = h v refl
 
-is_trace : (f m : Option Text) (d : Text) → is_some (found_trace (or_default f None) (or_default m (Some d))) ≡ is_some f
-is_trace None m d = refl
-is_trace (Some f) None d = refl
-is_trace (Some f) (Some m) d = refl
+is_of_file : (asks : Text → Text → Asked) (f m : Option Text) (d : Text) → is_some (found_of_file asks (or_default f None) (or_default m (Some d))) ≡ is_some f
+is_of_file asks None m d = refl
+is_of_file asks (Some f) None d = refl
+is_of_file asks (Some f) (Some m) d = refl
 
 is_check : (f m : Option Text) (d : Text) (r n : Option ℕ) (w x : Option Bool) → is_some r ≡ true → is_some n ≡ true → is_some w ≡ true → is_some x ≡ true
     → is_some (found_check (or_default f None) (or_default m (Some d)) r n w x) ≡ is_some f
@@ -201,11 +210,13 @@ is_verify (Some f) (Some w) (Some m) d = refl
 -- each word of a file is there
 abbrev has_files : Tool → Bool → Bool → Bool
 has_files tracer file witness = file
+has_files runner file witness = file
 has_files checker file witness = file
 has_files verifier file witness = file && witness
 
 asks_with_files : (t : Tool) (said : Said) → Valid said → is_some (found t (text_of said)) ≡ has_files t (is_some (said_of the_file said)) (is_some (said_of the_witness_file said))
-asks_with_files tracer said h = is_trace (said_of the_file said) (said_of the_mode said) (codes "rendezvous")
+asks_with_files tracer said h = is_of_file trace (said_of the_file said) (said_of the_mode said) (codes "rendezvous")
+asks_with_files runner said h = is_of_file run (said_of the_file said) (said_of the_mode said) (codes "rendezvous")
 asks_with_files checker said h =
     is_check (said_of the_file said) (said_of the_mode said) (codes "rendezvous") (option_and_then (number_in 1 most_runs) (text_of said the_runs)) (option_and_then (number_in 1 most_fuel) (text_of said the_fuel)) (option_and_then flag_in (text_of said the_witness))
     (option_and_then flag_in (text_of said the_complete))
@@ -223,6 +234,7 @@ given_row i (Some v) = refl
 
 file_row : (t : Tool) → Owns t the_file
 file_row tracer = tracer_file
+file_row runner = runner_file
 file_row checker = checker_row the_file
 file_row verifier = verifier_file
 
@@ -234,6 +246,7 @@ witness_given said h = ap (λ o. option_map_or (λ (r : Row). explicit_source r.
 
 files_given : (t : Tool) (said : Said) → Valid said → has_files t (is_given (codes "FILE") (ended t said)) (is_given (codes "WITNESS") (ended t said)) ≡ has_files t (is_some (said_of the_file said)) (is_some (said_of the_witness_file said))
 files_given tracer said h = file_given tracer said h
+files_given runner said h = file_given runner said h
 files_given checker said h = file_given checker said h
 files_given verifier said h = ap₂ (λ a b. a && b) (file_given verifier said h) (witness_given said h)
 
@@ -253,6 +266,7 @@ not_one false = refl
 check_is : (t : Tool) (rows : List Row) → check_fault (sub t) rows false ≡ missing_by (has_files t (is_given (codes "FILE") rows) (is_given (codes "WITNESS") rows))
 unfolding clap_on_literals
 check_is tracer rows = not_one (is_given (codes "FILE") rows)
+check_is runner rows = not_one (is_given (codes "FILE") rows)
 check_is checker rows = not_one (is_given (codes "FILE") rows)
 check_is verifier rows = not_both (is_given (codes "FILE") rows) (is_given (codes "WITNESS") rows)
 
@@ -280,6 +294,7 @@ no_defaults_fault (a ∷ rest) rows h = ap (λ ks. or_else ks (defaults_fault (w
 pub takes_defaults : (t : Tool) → Takes (rules t)
 unfolding clap_on_literals
 takes_defaults tracer = (refl, (refl, (refl, tt)))
+takes_defaults runner = (refl, (refl, (refl, tt)))
 takes_defaults checker = (refl, (refl, (refl, (refl, (refl, (refl, (refl, tt)))))))
 takes_defaults verifier = (refl, (refl, (refl, (refl, tt))))
 

@@ -16,17 +16,40 @@ use Rattle.clap.specs.declared.error.kind.ErrorKind.TheVariants as kind
 use Rattle.clap.specs.declared.parser.matches.ValueSource.{ValueSource}
 use Rattle.clap.specs.declared.parser.matches.ValueSource.TheVariants.{CommandLine}
 use Rattle.clap.proofs.OnLiterals.{clap_on_literals}
-use Rattle.mpd_options.specs.Asked.{Item, Said, Tool, checker, fits, most_fuel, most_runs, name_of, said_named, said_of, the_file, the_fuel, the_mode, the_runs, the_witness, the_complete, the_witness_file, tracer, verifier}
+use Rattle.mpd_options.specs.Asked.{Item, Said, Tool, checker, fits, most_fuel, most_runs, name_of, said_named, said_of, the_file, the_fuel, the_mode, the_runs, the_witness, the_complete, the_witness_file, runner, tracer, verifier}
 use Rattle.mpd_options.specs.Program.{mpdbg_app}
 use Rattle.mpd_options.proofs.NumberReads.{accepts_number}
 
 abbrev pub called : Tool → Text
 called tracer = codes "trace"
+called runner = codes "run"
 called checker = codes "check"
 called verifier = codes "verify"
 
+-- the first of these commands that a word names
+abbrev pub named_among : List Tool → Text → Option Tool
+named_among [] word = None
+named_among (t ∷ tools) word = if bytes_eq word (called t) then Some t else named_among tools word
+
+abbrev pub tools : List Tool
+tools = tracer ∷ runner ∷ checker ∷ verifier ∷ []
+
+-- the word names none of these commands
+abbrev pub NamesNone : Text → List Tool → Type 0
+NamesNone word [] = Unit {0}
+NamesNone word (t ∷ rest) = (bytes_eq word (called t) ≡ false) × NamesNone word rest
+
+-- by cases on what a word names among these commands: one of them, or none
+pub by_name : (P : Option Tool → Type 0) (word : Text) (rest : List Tool) → ((t : Tool) → bytes_eq word (called t) ≡ true → P (Some t)) → (NamesNone word rest → P None) → P (named_among rest word)
+by_name P word [] some other = other tt
+by_name P word (t ∷ rest) some other = elim (bytes_eq word (called t)) as (λ b. bytes_eq word (called t) ≡ b → P (if b then Some t else named_among rest word)) [
+  | true ↦ λ e. some t e
+  | false ↦ λ e. by_name P word rest some (λ others. other (e, others))
+] refl
+
 abbrev pub sub : Tool → Shape
 sub tracer = option_map_or (λ s. s) (find (λ s. answers_to (codes "trace") (label_of s)) (built mpdbg_app).subs) (new_shape [])
+sub runner = option_map_or (λ s. s) (find (λ s. answers_to (codes "run") (label_of s)) (built mpdbg_app).subs) (new_shape [])
 sub checker = option_map_or (λ s. s) (find (λ s. answers_to (codes "check") (label_of s)) (built mpdbg_app).subs) (new_shape [])
 sub verifier = option_map_or (λ s. s) (find (λ s. answers_to (codes "verify") (label_of s)) (built mpdbg_app).subs) (new_shape [])
 
@@ -41,18 +64,24 @@ help_arg t = unwrap_or (arg_by_id (rules t) (codes "help")) (new_rule [])
 
 -- ---- the items that take a value in words
 
+abbrev pub is_mode : Item → Bool
+is_mode the_mode = true
+is_mode _ = false
+
 -- options that want a value
 abbrev pub asks : Tool → Item → Bool
-asks tracer the_mode = true
+asks tracer i = is_mode i
+asks runner i = is_mode i
 asks checker the_mode = true
 asks checker the_runs = true
 asks checker the_fuel = true
-asks verifier the_mode = true
-asks _ _ = false
+asks checker _ = false
+asks verifier i = is_mode i
 
 -- the witness has a word of its own
 abbrev pub reads_witness : Tool → Bool
 reads_witness tracer = false
+reads_witness runner = false
 reads_witness checker = false
 reads_witness verifier = true
 
@@ -66,63 +95,66 @@ keeps t the_fuel = asks t the_fuel
 keeps t the_witness = false
 keeps t the_complete = false
 
-pub each_asks : (P : Tool → Item → Type 0) → P tracer the_mode → P checker the_mode → P checker the_runs → P checker the_fuel → P verifier the_mode → (t : Tool) (i : Item) → asks t i ≡ true → P t i
-each_asks P a b c d m tracer the_file e = cc
-each_asks P a b c d m tracer the_witness_file e = cc
-each_asks P a b c d m tracer the_mode e = a
-each_asks P a b c d m tracer the_runs e = cc
-each_asks P a b c d m tracer the_fuel e = cc
-each_asks P a b c d m tracer the_witness e = cc
-each_asks P a b c d m tracer the_complete e = cc
-each_asks P a b c d m checker the_file e = cc
-each_asks P a b c d m checker the_witness_file e = cc
-each_asks P a b c d m checker the_mode e = b
-each_asks P a b c d m checker the_runs e = c
-each_asks P a b c d m checker the_fuel e = d
-each_asks P a b c d m checker the_witness e = cc
-each_asks P a b c d m checker the_complete e = cc
-each_asks P a b c d m verifier the_file e = cc
-each_asks P a b c d m verifier the_witness_file e = cc
-each_asks P a b c d m verifier the_mode e = m
-each_asks P a b c d m verifier the_runs e = cc
-each_asks P a b c d m verifier the_fuel e = cc
-each_asks P a b c d m verifier the_witness e = cc
-each_asks P a b c d m verifier the_complete e = cc
+mode_alone : (Q : Item → Type 0) → Q the_mode → (i : Item) → is_mode i ≡ true → Q i
+mode_alone Q m the_file e = cc
+mode_alone Q m the_witness_file e = cc
+mode_alone Q m the_mode e = m
+mode_alone Q m the_runs e = cc
+mode_alone Q m the_fuel e = cc
+mode_alone Q m the_witness e = cc
+mode_alone Q m the_complete e = cc
 
-pub each_keeps : (P : Tool → Item → Type 0) → P tracer the_file → P checker the_file → P verifier the_file → P verifier the_witness_file
-    → P tracer the_mode → P checker the_mode → P checker the_runs → P checker the_fuel → P verifier the_mode → (t : Tool) (i : Item) → keeps t i ≡ true → P t i
-each_keeps P f g h w a b c d m tracer the_file e = f
-each_keeps P f g h w a b c d m tracer the_witness_file e = cc
-each_keeps P f g h w a b c d m tracer the_mode e = a
-each_keeps P f g h w a b c d m tracer the_runs e = cc
-each_keeps P f g h w a b c d m tracer the_fuel e = cc
-each_keeps P f g h w a b c d m tracer the_witness e = cc
-each_keeps P f g h w a b c d m tracer the_complete e = cc
-each_keeps P f g h w a b c d m checker the_file e = g
-each_keeps P f g h w a b c d m checker the_witness_file e = cc
-each_keeps P f g h w a b c d m checker the_mode e = b
-each_keeps P f g h w a b c d m checker the_runs e = c
-each_keeps P f g h w a b c d m checker the_fuel e = d
-each_keeps P f g h w a b c d m checker the_witness e = cc
-each_keeps P f g h w a b c d m checker the_complete e = cc
-each_keeps P f g h w a b c d m verifier the_file e = h
-each_keeps P f g h w a b c d m verifier the_witness_file e = w
-each_keeps P f g h w a b c d m verifier the_mode e = m
-each_keeps P f g h w a b c d m verifier the_runs e = cc
-each_keeps P f g h w a b c d m verifier the_fuel e = cc
-each_keeps P f g h w a b c d m verifier the_witness e = cc
-each_keeps P f g h w a b c d m verifier the_complete e = cc
+pub each_asks : (P : Tool → Item → Type 0) → P tracer the_mode → P runner the_mode → P checker the_mode → P checker the_runs → P checker the_fuel → P verifier the_mode → (t : Tool) (i : Item) → asks t i ≡ true → P t i
+each_asks P a r b c d m tracer i e = mode_alone (P tracer) a i e
+each_asks P a r b c d m runner i e = mode_alone (P runner) r i e
+each_asks P a r b c d m checker the_file e = cc
+each_asks P a r b c d m checker the_witness_file e = cc
+each_asks P a r b c d m checker the_mode e = b
+each_asks P a r b c d m checker the_runs e = c
+each_asks P a r b c d m checker the_fuel e = d
+each_asks P a r b c d m checker the_witness e = cc
+each_asks P a r b c d m checker the_complete e = cc
+each_asks P a r b c d m verifier i e = mode_alone (P verifier) m i e
+
+-- a command of one file, whose only option that wants a value is the mode
+one_file : (t : Tool) → reads_witness t ≡ false → asks t the_runs ≡ false → asks t the_fuel ≡ false → (Q : Item → Type 0) → Q the_file → Q the_mode → (i : Item) → keeps t i ≡ true → Q i
+one_file t only runs fuel Q f m the_file e = f
+one_file t only runs fuel Q f m the_witness_file e = cc
+one_file t only runs fuel Q f m the_mode e = m
+one_file t only runs fuel Q f m the_runs e = cc
+one_file t only runs fuel Q f m the_fuel e = cc
+one_file t only runs fuel Q f m the_witness e = cc
+one_file t only runs fuel Q f m the_complete e = cc
+
+pub each_keeps : (P : Tool → Item → Type 0) → P tracer the_file → P runner the_file → P checker the_file → P verifier the_file → P verifier the_witness_file
+    → P tracer the_mode → P runner the_mode → P checker the_mode → P checker the_runs → P checker the_fuel → P verifier the_mode → (t : Tool) (i : Item) → keeps t i ≡ true → P t i
+each_keeps P f q g h w a r b c d m tracer i e = one_file tracer refl refl refl (P tracer) f a i e
+each_keeps P f q g h w a r b c d m runner i e = one_file runner refl refl refl (P runner) q r i e
+each_keeps P f q g h w a r b c d m checker the_file e = g
+each_keeps P f q g h w a r b c d m checker the_witness_file e = cc
+each_keeps P f q g h w a r b c d m checker the_mode e = b
+each_keeps P f q g h w a r b c d m checker the_runs e = c
+each_keeps P f q g h w a r b c d m checker the_fuel e = d
+each_keeps P f q g h w a r b c d m checker the_witness e = cc
+each_keeps P f q g h w a r b c d m checker the_complete e = cc
+each_keeps P f q g h w a r b c d m verifier the_file e = h
+each_keeps P f q g h w a r b c d m verifier the_witness_file e = w
+each_keeps P f q g h w a r b c d m verifier the_mode e = m
+each_keeps P f q g h w a r b c d m verifier the_runs e = cc
+each_keeps P f q g h w a r b c d m verifier the_fuel e = cc
+each_keeps P f q g h w a r b c d m verifier the_witness e = cc
+each_keeps P f q g h w a r b c d m verifier the_complete e = cc
 
 pub asks_keeps : (t : Tool) (i : Item) → asks t i ≡ true → keeps t i ≡ true
-asks_keeps = each_asks (λ t i. keeps t i ≡ true) refl refl refl refl refl
+asks_keeps = each_asks (λ t i. keeps t i ≡ true) refl refl refl refl refl refl
 
 pub by_id : (t : Tool) (i : Item) → keeps t i ≡ true → arg_by_id (rules t) (name_of i) ≡ Some (arg t i)
 unfolding clap_on_literals
-by_id = each_keeps (λ t i. arg_by_id (rules t) (name_of i) ≡ Some (arg t i)) refl refl refl refl refl refl refl refl refl
+by_id = each_keeps (λ t i. arg_by_id (rules t) (name_of i) ≡ Some (arg t i)) refl refl refl refl refl refl refl refl refl refl refl
 
 pub by_long : (t : Tool) (i : Item) → asks t i ≡ true → arg_by_long (rules t) (name_of i) ≡ Some (arg t i)
 unfolding clap_on_literals
-by_long = each_asks (λ t i. arg_by_long (rules t) (name_of i) ≡ Some (arg t i)) refl refl refl refl refl
+by_long = each_asks (λ t i. arg_by_long (rules t) (name_of i) ≡ Some (arg t i)) refl refl refl refl refl refl
 
 -- the flags, which have no value
 abbrev pub flags : Tool → Item → Bool
@@ -132,6 +164,7 @@ flags _ _ = false
 
 pub each_flag : (P : Tool → Item → Type 0) → P checker the_witness → P checker the_complete → (t : Tool) (i : Item) → flags t i ≡ true → P t i
 each_flag P w x tracer i e = cc
+each_flag P w x runner i e = cc
 each_flag P w x checker the_file e = cc
 each_flag P w x checker the_witness_file e = cc
 each_flag P w x checker the_mode e = cc
@@ -158,7 +191,7 @@ accepted the_complete text = true
 
 accepted_fits : (t : Tool) (i : Item) (v : Text) → keeps t i ≡ true → accepted i v ≡ fits i v
 accepted_fits t i v k =
-    each_keeps (λ t i. accepted i v ≡ fits i v) refl refl refl refl refl refl (accepts_number 1 most_runs v (omega arith)) (accepts_number 1 most_fuel v (omega arith)) refl t i k
+    each_keeps (λ t i. accepted i v ≡ fits i v) refl refl refl refl refl refl refl refl (accepts_number 1 most_runs v (omega arith)) (accepts_number 1 most_fuel v (omega arith)) refl t i k
 
 -- the fault of a value, by whether it is taken
 abbrev value_fault : ErrorKind → Bool → Kinds
@@ -171,7 +204,7 @@ again_fault again = if again && not false then kind.ArgumentConflict ∷ [] else
 use_is : (v : Text) (rows : List Row) (t : Tool) (i : Item) → keeps t i ≡ true
     → use_fault false (arg t i) (v ∷ []) rows ≡ or_else (again_fault (has_row (name_of i) rows)) (value_fault kind.ValueValidation (accepted i v))
 unfolding clap_on_literals
-use_is v rows = each_keeps (λ t i. use_fault false (arg t i) (v ∷ []) rows ≡ or_else (again_fault (has_row (name_of i) rows)) (value_fault kind.ValueValidation (accepted i v))) refl refl refl refl refl refl refl refl refl
+use_is v rows = each_keeps (λ t i. use_fault false (arg t i) (v ∷ []) rows ≡ or_else (again_fault (has_row (name_of i) rows)) (value_fault kind.ValueValidation (accepted i v))) refl refl refl refl refl refl refl refl refl refl refl
 
 flag_use_is : (rows : List Row) (t : Tool) (i : Item) → flags t i ≡ true → use_fault false (arg t i) [] rows ≡ or_else (again_fault (has_row (name_of i) rows)) []
 unfolding clap_on_literals
@@ -224,7 +257,7 @@ some_fault (k ∷ ks) e = λ z. cc
 -- an option that waits for its value still
 pub no_value : (rows : List Row) (t : Tool) (i : Item) → asks t i ≡ true → use_fault false (arg t i) [] rows ≢ []
 unfolding clap_on_literals
-no_value rows = each_asks (λ t i. use_fault false (arg t i) [] rows ≢ []) (some_fault _ refl) (some_fault _ refl) (some_fault _ refl) (some_fault _ refl) (some_fault _ refl)
+no_value rows = each_asks (λ t i. use_fault false (arg t i) [] rows ≢ []) (some_fault _ refl) (some_fault _ refl) (some_fault _ refl) (some_fault _ refl) (some_fault _ refl) (some_fault _ refl)
 
 -- ---- rows
 
@@ -255,7 +288,7 @@ values_at_end id how source values (r ∷ rs) h =
 
 used_is : (v : Text) (rows : List Row) (t : Tool) (i : Item) → keeps t i ≡ true → used (arg t i) (v ∷ []) rows ≡ with_values (name_of i) AsWritten CommandLine (v ∷ []) (without (name_of i) rows)
 unfolding clap_on_literals
-used_is v rows = each_keeps (λ t i. used (arg t i) (v ∷ []) rows ≡ with_values (name_of i) AsWritten CommandLine (v ∷ []) (without (name_of i) rows)) refl refl refl refl refl refl refl refl refl
+used_is v rows = each_keeps (λ t i. used (arg t i) (v ∷ []) rows ≡ with_values (name_of i) AsWritten CommandLine (v ∷ []) (without (name_of i) rows)) refl refl refl refl refl refl refl refl refl refl refl
 
 at_end_of : (i : Item) (v : Text) (rows : List Row) → has_row (name_of i) rows ≡ false → with_values (name_of i) AsWritten CommandLine (v ∷ []) (without (name_of i) rows) ≡ rows ++ row_for i v CommandLine ∷ []
 at_end_of i v rows h = ap (λ rs. with_values (name_of i) AsWritten CommandLine (v ∷ []) rs) (without_none (name_of i) rows h) ∙ values_at_end (name_of i) AsWritten CommandLine (v ∷ []) rows h

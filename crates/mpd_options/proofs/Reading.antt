@@ -1,5 +1,5 @@
 -- What a parse of the words says of what they ask for.
-use Rattle.std.proofs.Common.{◌≡◌, ◌∙◌, ◌<◌, ◌≤◌, ◌^◌, ◌==◌, ℕ, Bool, true, false, List, [], ◌∷◌, length, map, Option, Some, None, option_map, is_some, inl, inr, codes, refl, sym, ap, ap₂, subst, if◌then◌else◌, arith}
+use Rattle.std.proofs.Common.{◌≡◌, ◌∙◌, ◌<◌, ◌≤◌, ◌^◌, ℕ, Bool, true, false, List, [], ◌∷◌, length, map, Option, Some, None, option_map, is_some, inl, inr, codes, refl, sym, ap, ap₂, subst, if◌then◌else◌, arith}
 use Rattle.std.specs.Prelude.{Result, option_and_then}
 use Rattle.std.specs.Borrow.{Bor}
 use Rattle.std.specs.Str.{bytes_eq}
@@ -15,10 +15,10 @@ use Rattle.clap.specs.declared.parser.matches.ArgMatches.TheViews.{out-ArgMatche
 use Rattle.clap.specs.declared.parser.matches.Found.{Found}
 use Rattle.clap.proofs.OnLiterals.{clap_on_literals}
 use Rattle.clap.proofs.WalkLemmas.{first_value-rows, one_text-rows}
-use Rattle.mpd_options.specs.Asked.{Asked, IsFound, IsInRange, Item, Tool, asked, check, checker, found, found_by, found_check, found_in, found_of_command, found_trace, found_verify, meant, most_fuel, most_runs, text_in, the_file, the_fuel, the_mode, the_runs, the_witness, the_complete, the_witness_file, tool_named, trace, tracer, verifier, verify}
+use Rattle.mpd_options.specs.Asked.{Asked, IsFound, IsInRange, Item, Tool, asked, check, checker, found, found_by, found_check, found_in, found_of_command, found_of_file, found_verify, meant, most_fuel, most_runs, text_in, the_file, the_fuel, the_mode, the_runs, the_witness, the_complete, the_witness_file, tool_named, run, runner, trace, tracer, verifier, verify}
 use Rattle.mpd_options.specs.Numbers.{flag_in, number_in, without_plus}
 use Rattle.mpd_options.specs.declared.options.Options.{Options}
-use Rattle.mpd_options.specs.declared.options.Options.TheVariants.{Plain, Trace, Check, Verify}
+use Rattle.mpd_options.specs.declared.options.Options.TheVariants.{Plain, Trace, Run, Check, Verify}
 use Rattle.mpd_options.specs.Program.{mpdbg_app}
 use Rattle.mpd_options.specs.Refused.{IsRefused, is_memory, usage_of}
 use Rattle.mpd_options.specs.declared.options.UsageFault.TheVariants.{Usage, Memory}
@@ -90,6 +90,7 @@ named n r (Some b) t rows name is = (let e : n b ≡ t = cc in let f : r b ≡ r
 -- the command that was found
 named_tool : (t : Tool) (rows : List Row) → found_of_command (Some (called t, rows)) ≡ found_in t rows
 named_tool tracer rows = refl
+named_tool runner rows = refl
 named_tool checker rows = refl
 named_tool verifier rows = refl
 
@@ -98,46 +99,6 @@ pub command_is : (t : Tool) (m : ArgMatches) (rows : List Row) → subcommand_na
 command_is t m rows name is =
     ap found_of_command (named (λ b. (out-SubCommand (box_value b)).name.now) (λ b. rows_of (found_of (out-SubCommand (box_value b)).matches)) (out-ArgMatches m).subcommand (called t) rows name is)
     ∙ named_tool t rows
-
--- it is one of ours
-abbrev NotNamed : {S : Type 0} → (S → Text) → Option S → Text → Type 0
-NotNamed n s name = option_map n s ≡ Some name → ⊥
-
-not_third : (word : Text) (rows : List Row) → (word ≡ codes "verify" → ⊥) → is_some (found_by (if bytes_eq word (codes "verify") then Some verifier else None) rows) ≡ true → ⊥
-not_third word rows verifies = elim (bytes_eq word (codes "verify")) as (λ c. bytes_eq word (codes "verify") ≡ c → is_some (found_by (if c then Some verifier else None) rows) ≡ true → ⊥) [
-  | true ↦ λ e h. verifies ((bytes_eq-Decides word (codes "verify")).0 e)
-  | false ↦ λ e h. (let bad : false ≡ true = h in cc)
-] refl
-
-abbrev second : Text → Bool → Option Tool
-second word c = if c then Some checker else (if bytes_eq word (codes "verify") then Some verifier else None)
-
-not_second : (word : Text) (rows : List Row) → (word ≡ codes "check" → ⊥) → (word ≡ codes "verify" → ⊥) → is_some (found_by (second word (bytes_eq word (codes "check"))) rows) ≡ true → ⊥
-not_second word rows checks verifies = elim (bytes_eq word (codes "check")) as (λ c. bytes_eq word (codes "check") ≡ c → is_some (found_by (second word c) rows) ≡ true → ⊥) [
-  | true ↦ λ e h. checks ((bytes_eq-Decides word (codes "check")).0 e)
-  | false ↦ λ e h. not_third word rows verifies h
-] refl
-
-not_first : (word : Text) (rows : List Row) → (word ≡ codes "trace" → ⊥) → (word ≡ codes "check" → ⊥) → (word ≡ codes "verify" → ⊥) → is_some (found_by (tool_named word) rows) ≡ true → ⊥
-not_first word rows traces checks verifies =
-    elim (bytes_eq word (codes "trace")) as (λ c. bytes_eq word (codes "trace") ≡ c → is_some (found_by (if c then Some tracer else second word (bytes_eq word (codes "check"))) rows) ≡ true → ⊥) [
-      | true ↦ λ e h. traces ((bytes_eq-Decides word (codes "trace")).0 e)
-      | false ↦ λ e h. not_second word rows checks verifies h
-    ] refl
-
-only_named : {S : Type 0} (n : S → Text) (r : S → List Row) (s : Option S) → NotNamed n s (codes "trace") → NotNamed n s (codes "check") → NotNamed n s (codes "verify")
-    → is_some (found_of_command (option_map (λ b. let q : Text × List Row = (n b, r b) in q) s)) ≡ true → ⊥
-only_named n r None traces checks verifies some = (let bad : false ≡ true = some in cc)
-only_named n r (Some b) traces checks verifies some = not_first (n b) (r b) (λ e. traces (ap Some e)) (λ e. checks (ap Some e)) (λ e. verifies (ap Some e)) some
-
-pub one_of_ours : (m : ArgMatches) → (subcommand_name_of m ≡ Some (codes "trace") → ⊥) → (subcommand_name_of m ≡ Some (codes "check") → ⊥) → (subcommand_name_of m ≡ Some (codes "verify") → ⊥)
-    → is_some (found_of_command (subcommand_rows_of m)) ≡ true → ⊥
-one_of_ours m traces checks verifies some =
-    only_named (λ b. (out-SubCommand (box_value b)).name.now) (λ b. rows_of (found_of (out-SubCommand (box_value b)).matches)) (out-ArgMatches m).subcommand traces checks verifies some
-
--- what a look-up that failed says of the name
-pub not_named : (b : Bool) (P : Type 0) → b ≡ false → (P → b ≡ true) → P → ⊥
-not_named b P failed looks h = (let bad : false ≡ true = sym failed ∙ looks h in cc)
 
 -- ---- texts
 
@@ -148,10 +109,10 @@ text_at = option_map (λ (s : Bor Text). s.now)
 pub value_is : (f : Found) (r : Option (Bor Text)) (id : Text) → text_at r ≡ first_value f id → first_of id (rows_of f) ≡ text_at r
 value_is f r id e = sym (e ∙ first_value-rows f id)
 
-some_both : (f m : Option Text) → is_some (found_trace f m) ≡ true → (is_some f ≡ true) × (is_some m ≡ true)
-some_both None m e = cc
-some_both (Some f) None e = cc
-some_both (Some f) (Some m) e = (refl, refl)
+some_both : (asks : Text → Text → Asked) (f m : Option Text) → is_some (found_of_file asks f m) ≡ true → (is_some f ≡ true) × (is_some m ≡ true)
+some_both asks None m e = cc
+some_both asks (Some f) None e = cc
+some_both asks (Some f) (Some m) e = (refl, refl)
 
 some_three : (f w m : Option Text) → is_some (found_verify f w m) ≡ true → (is_some f ≡ true) × (is_some w ≡ true) × (is_some m ≡ true)
 some_three None w m e = cc
@@ -177,12 +138,14 @@ some_all (Some f) (Some m) (Some r) (Some n) (Some w) None e = cc
 some_all (Some f) (Some m) (Some r) (Some n) (Some w) (Some x) e = record { file = refl; mode = refl; runs = refl; fuel = refl; witness = refl; complete = refl }
 
 pub has_file : (t : Tool) (rows : List Row) → is_some (found_in t rows) ≡ true → is_some (first_of (codes "FILE") rows) ≡ true
-has_file tracer rows e = (some_both _ _ e).0
+has_file tracer rows e = (some_both trace _ _ e).0
+has_file runner rows e = (some_both run _ _ e).0
 has_file checker rows e = (some_all _ _ _ _ _ _ e).file
 has_file verifier rows e = (some_three _ _ _ e).0
 
 pub has_mode : (t : Tool) (rows : List Row) → is_some (found_in t rows) ≡ true → is_some (first_of (codes "mode") rows) ≡ true
-has_mode tracer rows e = (some_both _ _ e).1
+has_mode tracer rows e = (some_both trace _ _ e).1
+has_mode runner rows e = (some_both run _ _ e).1
 has_mode checker rows e = (some_all _ _ _ _ _ _ e).mode
 has_mode verifier rows e = (some_three _ _ _ e).2
 
@@ -198,8 +161,8 @@ no_word f r id e none some = not_found r _ (value_is f r id e) none some
 pub text_is : (f : Found) (r : Option (Bor Text)) (id : Text) (text : Bor Text) → text_at r ≡ first_value f id → r ≡ Some text → first_of id (rows_of f) ≡ Some text.now
 text_is f r id text e is = value_is f r id e ∙ ap text_at is
 
-pub both_found : {f m : Option Text} (file mode : Text) → f ≡ Some file → m ≡ Some mode → Some (trace file mode) ≡ found_trace f m
-both_found file mode e h = sym (ap₂ found_trace e h)
+pub both_found : {f m : Option Text} (asks : Text → Text → Asked) (file mode : Text) → f ≡ Some file → m ≡ Some mode → Some (asks file mode) ≡ found_of_file asks f m
+both_found asks file mode e h = sym (ap₂ (found_of_file asks) e h)
 
 pub three_found : {f w m : Option Text} (file witness mode : Text) → f ≡ Some file → w ≡ Some witness → m ≡ Some mode → Some (verify file witness mode) ≡ found_verify f w m
 three_found file witness mode e h k = rw (e, h, k) refl
@@ -272,10 +235,10 @@ same_parts (Some f) (Some m) (Some r) (Some n) None x file mode runs fuel witnes
 same_parts (Some f) (Some m) (Some r) (Some n) (Some w) None file mode runs fuel witness complete e = cc
 same_parts (Some f) (Some m) (Some r) (Some n) (Some w) (Some x) file mode runs fuel witness complete e = (cc, cc)
 
-no_trace : (f m : Option Text) (file mode : Text) (runs fuel : ℕ) (witness complete : Bool) → Some (check file mode runs fuel witness complete) ≡ found_trace f m → ⊥
-no_trace None m file mode runs fuel witness complete e = cc
-no_trace (Some f) None file mode runs fuel witness complete e = cc
-no_trace (Some f) (Some m) file mode runs fuel witness complete e = cc
+no_file : (asks : Text → Text → Asked) (x : Asked) (f m : Option Text) → ((file mode : Text) → x ≡ asks file mode → ⊥) → Some x ≡ found_of_file asks f m → ⊥
+no_file asks x None m other e = cc
+no_file asks x (Some f) None other e = cc
+no_file asks x (Some f) (Some m) other e = other f m cc
 
 no_verify : (f w m : Option Text) (file mode : Text) (runs fuel : ℕ) (witness complete : Bool) → Some (check file mode runs fuel witness complete) ≡ found_verify f w m → ⊥
 no_verify None w m file mode runs fuel witness complete e = cc
@@ -293,9 +256,13 @@ range_check text file mode runs fuel witness complete e =
 range_by : (o : Option Tool) (rows : List Row) (options : Options) → Some (asked options) ≡ found_by o rows → IsInRange options
 range_by o rows Plain e = tt
 range_by o rows (Trace file mode) e = tt
+range_by o rows (Run file mode) e = tt
 range_by o rows (Verify file witness mode) e = tt
 range_by None rows (Check file mode runs fuel witness complete) e = cc
-range_by (Some tracer) rows (Check file mode runs fuel witness complete) e = absurd (no_trace (text_in rows the_file) (text_in rows the_mode) file.now mode.now runs fuel witness complete e)
+range_by (Some tracer) rows (Check file mode runs fuel witness complete) e =
+    absurd (no_file trace (check file.now mode.now runs fuel witness complete) (text_in rows the_file) (text_in rows the_mode) (λ f m h. cc) e)
+range_by (Some runner) rows (Check file mode runs fuel witness complete) e =
+    absurd (no_file run (check file.now mode.now runs fuel witness complete) (text_in rows the_file) (text_in rows the_mode) (λ f m h. cc) e)
 range_by (Some verifier) rows (Check file mode runs fuel witness complete) e = absurd (no_verify (text_in rows the_file) (text_in rows the_witness_file) (text_in rows the_mode) file.now mode.now runs fuel witness complete e)
 range_by (Some checker) rows (Check file mode runs fuel witness complete) e = range_check (text_in rows) file.now mode.now runs fuel witness complete e
 

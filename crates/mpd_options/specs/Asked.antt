@@ -5,20 +5,22 @@ use Rattle.clap.specs.Lexer.{long_of, short_of}
 use Rattle.clap.specs.Words.{Row, first_of, one_of}
 use Rattle.mpd_options.specs.Numbers.{flag_in, number_in}
 use Rattle.mpd_options.specs.declared.options.Options.{Options}
-use Rattle.mpd_options.specs.declared.options.Options.TheVariants.{Plain, Trace, Check, Verify}
+use Rattle.mpd_options.specs.declared.options.Options.TheVariants.{Plain, Trace, Run, Check, Verify}
 
--- what is asked for: a script and its trace on standard input, the trace of a file, a look for deadlocks in one, or a check of
--- a witness; with the words of files and mode, how many runs, the fuel of each, whether a witness is wanted, and whether all runs
--- must be tried
+-- what is asked for: a script and its trace on standard input, the trace of a file, answers to requests on one, a look for deadlocks
+-- in one, or a check of a witness; with the words of files and mode, how many runs, the fuel of each, whether a witness is wanted,
+-- and whether all runs must be tried
 pub data Asked : Type 0 where
   plain : Asked
   trace : List ℕ → List ℕ → Asked
+  run : List ℕ → List ℕ → Asked
   check : List ℕ → List ℕ → ℕ → ℕ → Bool → Bool → Asked
   verify : List ℕ → List ℕ → List ℕ → Asked
 
 abbrev pub asked : Options → Asked
 asked Plain = plain
 asked (Trace file mode) = trace file.now mode.now
+asked (Run file mode) = run file.now mode.now
 asked (Check file mode runs fuel witness complete) = check file.now mode.now runs fuel witness complete
 asked (Verify file witness mode) = verify file.now witness.now mode.now
 
@@ -32,19 +34,22 @@ most_fuel = 1000000
 abbrev pub IsInRange : Options → Type 0
 IsInRange Plain = ⊤
 IsInRange (Trace file mode) = ⊤
+IsInRange (Run file mode) = ⊤
 IsInRange (Check file mode runs fuel witness complete) = (1 ≤ runs) × (runs ≤ most_runs) × (1 ≤ fuel) × (fuel ≤ most_fuel)
 IsInRange (Verify file witness mode) = ⊤
 
 -- the commands
 pub data Tool : Type 0 where
   tracer : Tool
+  runner : Tool
   checker : Tool
   verifier : Tool
 
 -- the command that a word names
 abbrev pub tool_named : List ℕ → Option Tool
 tool_named word =
-    if bytes_eq word (codes "trace") then Some tracer else (if bytes_eq word (codes "check") then Some checker else (if bytes_eq word (codes "verify") then Some verifier else None))
+    if bytes_eq word (codes "trace") then Some tracer
+    else (if bytes_eq word (codes "run") then Some runner else (if bytes_eq word (codes "check") then Some checker else (if bytes_eq word (codes "verify") then Some verifier else None)))
 
 -- what words say something of: the words of files stand alone, and the others are options
 pub data Item : Type 0 where
@@ -67,12 +72,14 @@ name_of the_complete = codes "complete"
 
 abbrev pub options_of : Tool → List Item
 options_of tracer = the_mode ∷ []
+options_of runner = the_mode ∷ []
 options_of checker = the_mode ∷ the_runs ∷ the_fuel ∷ the_witness ∷ the_complete ∷ []
 options_of verifier = the_mode ∷ []
 
 -- what the words that are no options name, in this order
 abbrev pub files_of : Tool → List Item
 files_of tracer = the_file ∷ []
+files_of runner = the_file ∷ []
 files_of checker = the_file ∷ []
 files_of verifier = the_file ∷ the_witness_file ∷ []
 
@@ -198,10 +205,11 @@ with_word t among_options (named item value) word said next = with_option item v
 with_word t among_options other_option word said next = None
 with_word t among_options no_option word said next = for_file (unsaid (files_of t) said) word said (next among_options)
 
-abbrev pub found_trace : Option (List ℕ) → Option (List ℕ) → Option Asked
-found_trace None mode = None
-found_trace (Some file) None = None
-found_trace (Some file) (Some mode) = Some (trace file mode)
+-- what a command of one file asks for, by the texts of the file and the mode
+abbrev pub found_of_file : (List ℕ → List ℕ → Asked) → Option (List ℕ) → Option (List ℕ) → Option Asked
+found_of_file asks None mode = None
+found_of_file asks (Some file) None = None
+found_of_file asks (Some file) (Some mode) = Some (asks file mode)
 
 abbrev pub found_check : Option (List ℕ) → Option (List ℕ) → Option ℕ → Option ℕ → Option Bool → Option Bool → Option Asked
 found_check (Some file) (Some mode) (Some runs) (Some fuel) (Some witness) (Some complete) = Some (check file mode runs fuel witness complete)
@@ -213,7 +221,8 @@ found_verify _ _ _ = None
 
 -- what a command asks for, by the text of each of its items: each file there must be, and each number lies in its range
 abbrev pub found : Tool → (Item → Option (List ℕ)) → Option Asked
-found tracer text = found_trace (text the_file) (text the_mode)
+found tracer text = found_of_file trace (text the_file) (text the_mode)
+found runner text = found_of_file run (text the_file) (text the_mode)
 found checker text =
     found_check (text the_file) (text the_mode) (option_and_then (number_in 1 most_runs) (text the_runs)) (option_and_then (number_in 1 most_fuel) (text the_fuel))
     (option_and_then flag_in (text the_witness)) (option_and_then flag_in (text the_complete))

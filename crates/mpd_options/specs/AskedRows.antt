@@ -1,7 +1,7 @@
 -- Worked rows of what words ask for.
 use Rattle.std.specs.Prelude.{◌≡◌, ℕ, Bool, true, false, List, [], ◌∷◌, map, Option, Some, None, codes, refl}
 use Rattle.std.specs.Str.{chars}
-use Rattle.mpd_options.specs.Asked.{Asked, plain, trace, check, verify, meant}
+use Rattle.mpd_options.specs.Asked.{Asked, plain, trace, run, check, verify, meant}
 
 abbrev Row : Type 0
 Row = List (List ℕ) × Option Asked
@@ -9,6 +9,10 @@ Row = List (List ℕ) × Option Asked
 -- words behind `trace`, and the file and the mode that they name
 abbrev names : List (List ℕ) → List ℕ → List ℕ → Row
 names words file mode = (codes "trace" ∷ words, Some (trace file mode))
+
+-- words behind `run`, and the file and the mode that they name
+abbrev runs : List (List ℕ) → List ℕ → List ℕ → Row
+runs words file mode = (codes "run" ∷ words, Some (run file mode))
 
 -- words behind `check`, and what they ask for of the file `a`
 abbrev asks : List (List ℕ) → List ℕ → ℕ → ℕ → Bool → Row
@@ -69,6 +73,42 @@ rows =
     ∷ nothing (codes "--version" ∷ [])
     ∷ nothing (codes "" ∷ [])
     ∷ nothing (codes "Trace" ∷ codes "a" ∷ [])
+    ∷ runs (codes "a" ∷ []) (codes "a") (codes "rendezvous")
+    ∷ runs (codes "" ∷ []) [] (codes "rendezvous")
+    ∷ runs (codes "-" ∷ []) (codes "-") (codes "rendezvous")
+    ∷ runs (codes "run" ∷ []) (codes "run") (codes "rendezvous")
+    ∷ runs (codes "trace" ∷ []) (codes "trace") (codes "rendezvous")
+    ∷ runs (codes "a" ∷ codes "--mode" ∷ codes "buffered" ∷ []) (codes "a") (codes "buffered")
+    ∷ runs (codes "--mode" ∷ codes "buffered" ∷ codes "a" ∷ []) (codes "a") (codes "buffered")
+    ∷ runs (codes "a" ∷ codes "--mode=b" ∷ []) (codes "a") (codes "b")
+    ∷ runs (codes "--mode=" ∷ codes "a" ∷ []) (codes "a") []
+    ∷ runs (codes "--mode" ∷ codes "run" ∷ codes "run" ∷ []) (codes "run") (codes "run")
+    ∷ runs (codes "--" ∷ codes "a" ∷ []) (codes "a") (codes "rendezvous")
+    ∷ runs (codes "--" ∷ codes "--mode" ∷ []) (codes "--mode") (codes "rendezvous")
+    ∷ runs (codes "--mode" ∷ codes "b" ∷ codes "--" ∷ codes "-x" ∷ []) (codes "-x") (codes "b")
+    ∷ runs (codes "a" ∷ codes "--" ∷ []) (codes "a") (codes "rendezvous")
+    ∷ names (codes "run" ∷ []) (codes "run") (codes "rendezvous")
+    ∷ nothing (codes "run" ∷ [])
+    ∷ nothing (codes "run" ∷ codes "--" ∷ [])
+    ∷ nothing (codes "run" ∷ codes "a" ∷ codes "b" ∷ [])
+    ∷ nothing (codes "run" ∷ codes "a" ∷ codes "--" ∷ codes "b" ∷ [])
+    ∷ nothing (codes "run" ∷ codes "--mode" ∷ codes "b" ∷ [])
+    ∷ nothing (codes "run" ∷ codes "a" ∷ codes "--mode" ∷ [])
+    ∷ nothing (codes "run" ∷ codes "a" ∷ codes "--mode" ∷ codes "--" ∷ codes "b" ∷ [])
+    ∷ nothing (codes "run" ∷ codes "a" ∷ codes "--mode" ∷ codes "b" ∷ codes "--mode=b" ∷ [])
+    ∷ nothing (codes "run" ∷ codes "a" ∷ codes "--runs" ∷ codes "5" ∷ [])
+    ∷ nothing (codes "run" ∷ codes "a" ∷ codes "--fuel=5" ∷ [])
+    ∷ nothing (codes "run" ∷ codes "a" ∷ codes "--witness" ∷ [])
+    ∷ nothing (codes "run" ∷ codes "a" ∷ codes "-m" ∷ [])
+    ∷ nothing (codes "run" ∷ codes "--help" ∷ [])
+    ∷ nothing (codes "run" ∷ codes "-h" ∷ codes "a" ∷ [])
+    ∷ nothing (codes "runs" ∷ codes "a" ∷ [])
+    ∷ nothing (codes "ru" ∷ codes "a" ∷ [])
+    ∷ nothing (codes "Run" ∷ codes "a" ∷ [])
+    ∷ nothing (codes "run=a" ∷ [])
+    ∷ nothing (codes "--" ∷ codes "run" ∷ codes "a" ∷ [])
+    ∷ nothing (codes "--mode" ∷ codes "b" ∷ codes "run" ∷ codes "a" ∷ [])
+    ∷ nothing (codes "help" ∷ codes "run" ∷ [])
     ∷ asks (codes "a" ∷ []) (codes "rendezvous") 1000 100000 false
     ∷ asks (codes "a" ∷ codes "--witness" ∷ []) (codes "rendezvous") 1000 100000 true
     ∷ asks (codes "--witness" ∷ codes "a" ∷ []) (codes "rendezvous") 1000 100000 true

@@ -46,6 +46,9 @@ script_app name = with_rule (with_rule (new_app name) (file_rule (codes "FILE"))
 abbrev pub trace_app : App
 trace_app = script_app (codes "trace")
 
+abbrev pub run_app : App
+run_app = script_app (codes "run")
+
 abbrev pub numbers_app : App
 numbers_app = with_rule (with_rule (script_app (codes "check")) runs_rule) fuel_rule
 
@@ -60,4 +63,4 @@ named_app = let app = new_app (codes "mpdbg") in record app { top = record app.t
 
 -- `mpdbg` and its commands
 abbrev pub mpdbg_app : App
-mpdbg_app = with_subcommand (with_subcommand (with_subcommand named_app trace_app.top) check_app.top) verify_app.top
+mpdbg_app = with_subcommand (with_subcommand (with_subcommand (with_subcommand named_app trace_app.top) run_app.top) check_app.top) verify_app.top

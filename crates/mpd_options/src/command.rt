@@ -5,8 +5,8 @@ ghost use Rattle.std.specs.Borrow.{Bor};
 ghost use Rattle.clap.specs.Words.{app_of, rule_of};
 ghost use Rattle.clap.specs.declared.builder.command.Command.TheViews.{out-Command as fields_of};
 ghost use Rattle.mpd_options.specs.Help.{example_of};
-ghost use Rattle.mpd_options.specs.declared.command.Topic.TheVariants.{Check, Program, Trace, Verify};
-ghost use Rattle.mpd_options.specs.Program.{check_app, file_rule, fuel_rule, mode_rule, mpdbg_app, named_app, number_rule, numbers_app, runs_rule, script_app, trace_app, verify_app, witness_rule, complete_rule};
+ghost use Rattle.mpd_options.specs.declared.command.Topic.TheVariants.{Check, Program, Run, Trace, Verify};
+ghost use Rattle.mpd_options.specs.Program.{check_app, file_rule, fuel_rule, mode_rule, mpdbg_app, named_app, number_rule, numbers_app, run_app, runs_rule, script_app, trace_app, verify_app, witness_rule, complete_rule};
 
 use clap::builder::ValueParser;
 use clap::{Arg, ArgAction, Command};
@@ -36,6 +36,9 @@ pub(crate) const WITNESS_FILE: &str = "WITNESS";
 /// The word of the command that traces a script.
 pub(crate) const TRACE: &str = "trace";
 
+/// The word of the command that answers requests.
+pub(crate) const RUN: &str = "run";
+
 /// The word of the command that looks for deadlocks.
 pub(crate) const CHECK: &str = "check";
 
@@ -64,6 +67,17 @@ const TRACE_EXAMPLE: &str = "Trace words stand on standard input, one a line:
 Example:
   echo 'local 0' | ./mpdbg trace examples/exchange.mpd --mode buffered";
 
+const RUN_ABOUT: &str = "Answer JSON requests on the script of a file";
+
+const RUN_EXAMPLE: &str =
+    "Requests stand on standard input, a JSON object on each line, and each is answered by one line:
+  step, next, run, back, redo, goto, run-back   go forward and back
+  state, enabled, vars, calls, why              look at where it stands
+  break, unbreak, breaks, explore               set breakpoints, list the runs from here
+
+Example:
+  echo '{\"cmd\":\"run\",\"max\":100}' | ./mpdbg run examples/race.mpd";
+
 const CHECK_ABOUT: &str =
     "Look for deadlocks: try the choices of wildcard receives one after another";
 
@@ -82,6 +96,8 @@ pub enum Topic {
     Program,
     /// `mpdbg trace`.
     Trace,
+    /// `mpdbg run`.
+    Run,
     /// `mpdbg check`.
     Check,
     /// `mpdbg verify`.
@@ -93,6 +109,7 @@ fn about<'a>(topic: Topic) -> &'a str {
     match topic {
         Topic::Program => ABOUT,
         Topic::Trace => TRACE_ABOUT,
+        Topic::Run => RUN_ABOUT,
         Topic::Check => CHECK_ABOUT,
         Topic::Verify => VERIFY_ABOUT,
     }
@@ -105,6 +122,7 @@ fn example<'a>(topic: Topic) -> &'a str
     match topic {
         Topic::Program => EXAMPLE,
         Topic::Trace => TRACE_EXAMPLE,
+        Topic::Run => RUN_EXAMPLE,
         Topic::Check => CHECK_EXAMPLE,
         Topic::Verify => VERIFY_EXAMPLE,
     }
@@ -223,6 +241,16 @@ fn trace_command<'a>(alloc: Global) -> Result<Command<'a>, AllocError>
     Ok(with_help(command, Topic::Trace))
 }
 
+/// `mpdbg run FILE --mode M`.
+fn run_command<'a>(alloc: Global) -> Result<Command<'a>, AllocError>
+    ensures app { IfOk result (λ c. app_of c ≡ run_app) }
+    ensures own { IfOk result (λ c. (fields_of c).has_globals ≡ false) }
+    ensures example { IfOk result (λ c. option_map (λ (t : Bor (List ℕ)). t.now) (fields_of c).after_help ≡ Some (example_of Run)) }
+{
+    let command = script_command(alloc, RUN)?;
+    Ok(with_help(command, Topic::Run))
+}
+
 /// `mpdbg check FILE --mode M --runs N --fuel N`.
 fn numbers_command<'a>(alloc: Global) -> Result<Command<'a>, AllocError>
     ensures app { IfOk result (λ c. app_of c ≡ numbers_app) }
@@ -274,6 +302,7 @@ pub(crate) fn program<'a>(alloc: Global) -> Result<Command<'a>, AllocError>
 {
     let command = named_program(alloc)?
         .subcommand(trace_command(alloc)?)?
+        .subcommand(run_command(alloc)?)?
         .subcommand(check_command(alloc)?)?
         .subcommand(verify_command(alloc)?)?;
     Ok(with_help(command, Topic::Program))

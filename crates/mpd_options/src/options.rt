@@ -1,11 +1,11 @@
 //! What the words of a command line ask for.
 ghost use Rattle.std.specs.Prelude.{◌≡◌, ◌<◌, IfOk, IfErr, Some, true, is_some, length, map};
 ghost use Rattle.clap.specs.Words.{first_of, found_of, rows_of, subcommand_rows_of};
-ghost use Rattle.mpd_options.specs.Asked.{IsFound, IsInRange, asked, checker, found_in, found_of_command, meant, tracer, verifier};
+ghost use Rattle.mpd_options.specs.Asked.{IsFound, IsInRange, asked, checker, found_in, found_of_command, meant, runner, tracer, verifier};
 ghost use Rattle.mpd_options.specs.Refused.{IsRefused, is_answer, usage_of, usage_status, usage_text};
 
 use crate::command::{
-    CHECK, COMPLETE, FILE, FUEL, MODE, RUNS, TRACE, VERIFY, WITNESS, WITNESS_FILE, program,
+    CHECK, COMPLETE, FILE, FUEL, MODE, RUN, RUNS, TRACE, VERIFY, WITNESS, WITNESS_FILE, program,
 };
 use clap::ArgMatches;
 use clap::error::ErrorKind;
@@ -24,6 +24,13 @@ pub enum Options<'a> {
     Plain,
     /// Trace the script of a file, by trace words on standard input.
     Trace {
+        /// The file's word.
+        file: &'a str,
+        /// The mode's word, whatever it is; `rendezvous` where there is none.
+        mode: &'a str,
+    },
+    /// Answer requests on the script of a file, which stand on standard input.
+    Run {
         /// The file's word.
         file: &'a str,
         /// The mode's word, whatever it is; `rendezvous` where there is none.
@@ -149,6 +156,16 @@ fn trace_in<'a>(trace: &ArgMatches<'a>) -> Options<'a>
     Options::Trace { file, mode }
 }
 
+/// What the words behind `run` ask for.
+fn run_in<'a>(run: &ArgMatches<'a>) -> Options<'a>
+    requires { is_some (found_in runner (rows_of (found_of run.now))) ≡ true }
+    ensures { Some (asked result) ≡ found_in runner (rows_of (found_of run.now)) }
+{
+    let file = word_in(run, FILE);
+    let mode = word_in(run, MODE);
+    Options::Run { file, mode }
+}
+
 /// What the words behind `check` ask for.
 fn check_in<'a>(check: &ArgMatches<'a>) -> Options<'a>
     requires { is_some (found_in checker (rows_of (found_of check.now))) ≡ true }
@@ -196,6 +213,9 @@ fn options_in<'a>(matches: &ArgMatches<'a>) -> Options<'a>
 {
     if let Some(trace) = matches.subcommand_matches(TRACE) {
         return trace_in(trace);
+    }
+    if let Some(run) = matches.subcommand_matches(RUN) {
+        return run_in(run);
     }
     if let Some(check) = matches.subcommand_matches(CHECK) {
         return check_in(check);

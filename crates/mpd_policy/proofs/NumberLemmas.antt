@@ -1,7 +1,13 @@
 -- The lowest number of a range that passes a test.
-use Rattle.std.proofs.Common.{◌≡◌, ℕ, zero, suc, ◌+◌, ◌-◌, ◌<◌, ◌≤◌, Bool, true, false, ◌||◌, cond, Option, Some, None, IfSome, List, [], ◌∷◌, inl, inr, refl, sym, ap, subst, ◌∙◌, arith}
+use Rattle.std.proofs.Common.{◌≡◌, ℕ, zero, suc, ◌+◌, ◌-◌, ◌<◌, ◌≤◌, Bool, true, false, ◌||◌, cond, Option, Some, None, IfSome, List, [], ◌∷◌, length, inl, inr, refl, sym, ap, subst, ◌∙◌, arith}
 use Rattle.std.proofs.lemmas.Bool.{lt-ltb, le-ltb}
 use Rattle.std.specs.List.{filter, range_with_len}
+use Rattle.mpd_model.specs.declared.step.Step.{Step}
+use Rattle.mpd_model.specs.declared.breakpoint.Break.{Break}
+use Rattle.mpd_model.specs.Program.{Program}
+use Rattle.mpd_model.specs.World.{World}
+use Rattle.mpd_model.specs.Breakpoints.{break_at, marked_by, lowest_mark}
+use Rattle.mpd_model.specs.Running.{mark_of}
 use Rattle.mpd_model.specs.Why.{first_in}
 use Rattle.mpd_match.proofs.Bools.{bool_tells}
 use Rattle.mpd_policy.specs.Places.{lower}
@@ -83,5 +89,16 @@ both_lowest t u v each i (suc n) =
 
 pub number_begins : (t : ℕ → Bool) (n m : ℕ) → m ≡ n → number_from t 0 n ≡ number_from t 0 m
 number_begins t n m e = ap (number_from t 0) (sym e)
+
+-- where no place is taken
+pub unmarked : (s : Program) (places : List (Option Break)) (old : World) (a : Step) (new : World) → ((n : ℕ) → break_at places n ≡ None) → None ≡ lowest_mark s places old a new
+unmarked s places old a new free =
+    number_end (λ n. marked_by s (break_at places n) old a new) 0 (length places) _ (λ k le. ap (λ (place : Option Break). marked_by s place old a new) (free k)) refl
+
+pub unmarked_at : (s : Program) (places : List (Option Break)) → ((n : ℕ) → break_at places n ≡ None) → (old : Option World) (a : Option Step) (new : Option World) → None ≡ mark_of s places old a new
+unmarked_at s places free (Some old) (Some a) (Some new) = unmarked s places old a new free
+unmarked_at s places free (Some old) (Some a) None = refl
+unmarked_at s places free (Some old) None new = refl
+unmarked_at s places free None a new = refl
 
 pub ruleset numbering = (number_begins, number_on)

@@ -47,3 +47,38 @@ pub none_removed : (places : List (Option Break)) (n : ℕ) → length places �
 none_removed places n size past = sym (set_past places n None (omega (arith, size, past)))
 
 pub ruleset removing = (none_found, none_removed)
+
+-- ---- the number behind the last place that is taken
+
+pub record EndsAt (places : List (Option Break)) (end number : ℕ) : Type 0 where
+  pub within : end ≤ number
+  pub free : (n : ℕ) → end ≤ n → n < number → break_at places n ≡ None
+
+pub end_begins : (places : List (Option Break)) → EndsAt places 0 0
+end_begins places = record { within = omega arith; free = λ n le lt. absurd (omega (arith, lt)) }
+
+pub end_taken : (places : List (Option Break)) (end number : ℕ) → EndsAt places (number + 1) (number + 1)
+end_taken places end number = record { within = omega arith; free = λ n le lt. absurd (omega (arith, le, lt)) }
+
+is_free_place : (o : Option Break) → is_some o ≡ false → o ≡ None
+is_free_place None e = refl
+is_free_place (Some b) e = absurd (cc)
+
+pub end_free : (places : List (Option Break)) (end number : ℕ) → EndsAt places end number → is_some (break_at places number) ≡ false → EndsAt places end (number + 1)
+end_free places end number h e = record {
+  within = omega (arith, h.within);
+  free = λ n le lt.
+      elim (cases_lt n number) [
+        | inl below ↦ h.free n le below
+        | inr at ↦ let same : n ≡ number = omega (arith, at, lt) in ap (break_at places) same ∙ is_free_place (break_at places number) e
+      ];
+}
+
+pub end_found : (places : List (Option Break)) (end number bound : ℕ) → EndsAt places end number → bound ≤ number → ((n : ℕ) → bound ≤ n → break_at places n ≡ None) → (n : ℕ) → end ≤ n → break_at places n ≡ None
+end_found places end number bound h past free n le =
+    elim (cases_lt n number) [
+      | inl below ↦ h.free n le below
+      | inr at ↦ free n (omega (arith, at, past))
+    ]
+
+pub ruleset ending = (end_begins, end_taken, end_free, end_found)

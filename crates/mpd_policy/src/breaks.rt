@@ -1,6 +1,6 @@
 //! Breakpoints in numbered places.
 
-ghost use Rattle.std.specs.Prelude.{◌≡◌, ℕ, ◌<◌, ◌≤◌, length, IfSome, IfNone, Some, None, is_some, slice_set};
+ghost use Rattle.std.specs.Prelude.{◌≡◌, ℕ, ◌<◌, ◌≤◌, length, IfSome, IfNone, Some, None, true, is_some, slice_set};
 ghost use Rattle.mpd_model.specs.Breakpoints.{no_breaks, break_at, lowest_free};
 
 use mpd_model::breakpoint::Break;
@@ -11,7 +11,7 @@ use std::marker::Model;
 #[derive(Drop)]
 pub struct Breaks {
     places: [Option<Break>; BREAKS_MAX],
-    /// No place from here on was ever taken.
+    /// Every place from here on is free.
     used: usize,
 }
 
@@ -58,6 +58,29 @@ impl Breaks {
         ensures size { length self.now ≡ BREAKS_MAX }
     {
         self.used
+    }
+
+    /// Whether no breakpoint is set.
+    pub(crate) fn is_unset(&self) -> bool
+        ensures { result ≡ true → (n : ℕ) → break_at self.now n ≡ None }
+    {
+        self.bound() == 0
+    }
+
+    /// The number behind the last place that is taken.
+    #[tactic(auto, using(crate::proofs::PlaceLemmas::ending))]
+    fn end(&self) -> usize
+        ensures within { result ≤ BREAKS_MAX }
+        ensures free { (n : ℕ) → result ≤ n → break_at self.now n ≡ None }
+    {
+        let mut end = 0;
+        let count = self.bound();
+        for number in 0..count {
+            if self.get(number).is_some() {
+                end = number + 1;
+            }
+        }
+        end
     }
 
     /// The lowest number that is free.
@@ -112,6 +135,7 @@ impl Breaks {
         }
         let found = self.get(number).is_some();
         self.put(number, None);
+        self.used = self.end();
         found
     }
 }

@@ -45,7 +45,7 @@ fn look_ahead(debugger: &Debugger<'_>) -> Ahead
 }
 
 /// Takes a step that is enabled, and answers the lowest number that marks it. An `Err` is want of memory, and nothing has changed.
-fn take(
+fn take_watched(
     debugger: &mut Debugger<'_>,
     breaks: &Breaks,
     step: Step,
@@ -66,6 +66,30 @@ fn take(
     let told = breaks.lowest_told(core, step);
     let changed = breaks.lowest_changed(core, &values);
     Ok(lower(told, changed))
+}
+
+/// Takes a step that is enabled, and answers the lowest number that marks it; where no breakpoint is set, nothing is looked at for
+/// them. An `Err` is want of memory, and nothing has changed.
+fn take(
+    debugger: &mut Debugger<'_>,
+    breaks: &Breaks,
+    step: Step,
+) -> Result<Option<usize>, AllocError>
+    requires enabled { IsSome (next debugger.old.world step) }
+    requires few { debugger.old.trail.depth < STEPS_MAX }
+    ensures mark { IfOk result (λ n. n ≡ lowest_mark debugger.old.trail.program breaks.now debugger.old.world step debugger.new.world) }
+    ensures ok { OnOk result (debugger.new.trail ≡ applied debugger.old.trail step) }
+    ensures world { OnOk result (next debugger.old.world step ≡ Some debugger.new.world) }
+    ensures steps { OnOk result (kept debugger.new.trail ≡ kept debugger.old.trail ++ step ∷ []) }
+    ensures reached { IsReached (standing_of debugger.new) }
+    ensures err { OnErr result (debugger.new.trail ≡ debugger.old.trail) }
+    ensures err_world { OnErr result (debugger.new.world ≡ debugger.old.world) }
+{
+    if breaks.is_unset() {
+        debugger.forward(step)?;
+        return Ok(None);
+    }
+    take_watched(debugger, breaks, step)
 }
 
 /// Runs along decisions, and where memory is refused on the way leaves the steps that it made. It is refused only where it makes a
@@ -161,7 +185,7 @@ pub fn run(
 }
 
 /// Takes the last step back, and answers the lowest number that marks it.
-fn take_back(debugger: &mut Debugger<'_>, breaks: &Breaks) -> Option<usize>
+fn take_back_watched(debugger: &mut Debugger<'_>, breaks: &Breaks) -> Option<usize>
     requires { 0 < debugger.old.trail.depth }
     ensures mark { result ≡ mark_at breaks.now debugger.old.trail (debugger.old.trail.depth - 1) }
     ensures trail { debugger.new.trail ≡ gone_back debugger.old.trail (debugger.old.trail.depth - 1) }
@@ -175,6 +199,20 @@ fn take_back(debugger: &mut Debugger<'_>, breaks: &Breaks) -> Option<usize>
     let _ = debugger.undo();
     let changed = breaks.lowest_changed(debugger.core(), &values);
     lower(told, changed)
+}
+
+/// Takes the last step back, and answers the lowest number that marks it; where no breakpoint is set, nothing is looked at for them.
+fn take_back(debugger: &mut Debugger<'_>, breaks: &Breaks) -> Option<usize>
+    requires { 0 < debugger.old.trail.depth }
+    ensures mark { result ≡ mark_at breaks.now debugger.old.trail (debugger.old.trail.depth - 1) }
+    ensures trail { debugger.new.trail ≡ gone_back debugger.old.trail (debugger.old.trail.depth - 1) }
+    ensures reached { IsReached (standing_of debugger.new) }
+{
+    if breaks.is_unset() {
+        let _ = debugger.undo();
+        return None;
+    }
+    take_back_watched(debugger, breaks)
 }
 
 /// Runs back: it takes steps back until it has taken back one that a breakpoint marks, or to the start. It takes no memory.

@@ -10,6 +10,10 @@ pub returns-in-Trace : goal.returns-in-Trace
 unfolding example_of
 returns-in-Trace c = sym (ap example_of c.in-Trace.is)
 
+pub returns-in-Run : goal.returns-in-Run
+unfolding example_of
+returns-in-Run c = sym (ap example_of c.in-Run.is)
+
 pub returns-in-Check : goal.returns-in-Check
 unfolding example_of
 returns-in-Check c = sym (ap example_of c.in-Check.is)

@@ -1,5 +1,5 @@
 use Rattle.clap.specs.Words.{found_of, rows_of}
-use Rattle.mpd_options.specs.Asked.{tracer}
+use Rattle.mpd_options.specs.Asked.{trace, tracer}
 use Rattle.mpd_options.proofs.Reading.{both_found, has_file, has_mode}
 use Rattle.mpd_options.proofs.options.trace_in.Goals as goal
 
@@ -10,4 +10,4 @@ pub word_in-mode-requires : goal.word_in-mode-requires
 word_in-mode-requires c = has_mode tracer (rows_of (found_of c.args.trace.now)) c.requires
 
 pub returns : goal.returns
-returns c = both_found c.word_in-file.result.now c.word_in-mode.result.now c.word_in-file.ensures c.word_in-mode.ensures
+returns c = both_found trace c.word_in-file.result.now c.word_in-mode.result.now c.word_in-file.ensures c.word_in-mode.ensures

@@ -1,0 +1,11 @@
+use Rattle.std.proofs.Common.{◌++◌, ◌∙◌, ap, map, string_bytes, Option}
+use Rattle.mpd_model.specs.declared.breakpoint.Break.{Break}
+use Rattle.mpd_model.specs.Breakpoints.{break_at}
+use Rattle.mpd_session.specs.Effects.{place_texts}
+use Rattle.mpd_session.proofs.LookLemmas.{joined_more}
+use Rattle.mpd_session.proofs.breaks.list.Goals as goal
+
+pub loop-number-preserved : goal.loop-number-preserved
+loop-number-preserved c =
+    joined_more (λ n. place_texts n (break_at c.args.breaks.now n)) c.loop-number.number 64 (map string_bytes c.loop-number.items.items) _ _ c.loop-number-test.true c.loop-number.invariant
+    (c.in_ok-push_place.ensures ∙ ap (λ (o : Option Break). map string_bytes c.loop-number.items.items ++ place_texts c.loop-number.number o) c.get.ensures)

@@ -1,0 +1,77 @@
+//! Commands that run by themselves, and the runs from here.
+
+ghost use Rattle.std.specs.Prelude.{◌≡◌, ◌+◌, ◌≤◌, IfOk, OnOk, OnErr, length, map, take, nat_lt};
+ghost use Rattle.mpd_model.specs.Trail.{IsReached};
+ghost use Rattle.mpd_trail.specs.Views.{standing_of};
+ghost use Rattle.mpd_explore.specs.Walk.{walk};
+ghost use Rattle.mpd_explore.specs.Report.{shown};
+ghost use Rattle.mpd_session.specs.Effects.{run_effect, run_back_effect};
+
+use crate::effect::{Effect, is_within};
+use mpd_explore::explore::explore;
+use mpd_explore::report::{Limits, Report};
+use mpd_explore::watch::Unwatched;
+use mpd_model::limits::STEPS_MAX;
+use mpd_policy::breaks::Breaks;
+use mpd_policy::run as policy;
+use mpd_trail::debugger::Debugger;
+use mpd_wire::reply::{Answer, Refusal};
+use std::alloc::{AllocError, Global};
+
+/// Runs along decisions. An `Err` is want of memory, and then nothing has changed.
+#[tactic(auto, using(crate::proofs::RunLemmas::running))]
+pub fn run(
+    alloc: Global,
+    debugger: &mut Debugger<'_>,
+    breaks: &Breaks,
+    max: usize,
+) -> Result<Effect, AllocError>
+    ensures effect { IfOk result (λ effect. effect ≡ (run_effect debugger.old.trail breaks.now debugger.old.world max).0) }
+    ensures trail { OnOk result (debugger.new.trail ≡ (run_effect debugger.old.trail breaks.now debugger.old.world max).1) }
+    ensures err { OnErr result (debugger.new.trail ≡ debugger.old.trail) }
+{
+    if !is_within(1, STEPS_MAX, max) {
+        return Ok(Effect::Refused(Refusal::BadNumber));
+    }
+    let stop = policy::run(alloc, debugger, breaks, max)?;
+    Ok(Effect::Changed(Answer::Ran {
+        depth: debugger.depth(),
+        stop,
+    }))
+}
+
+/// Runs back. It takes no memory.
+#[tactic(auto, using(crate::proofs::RunLemmas::running))]
+pub fn run_back(debugger: &mut Debugger<'_>, breaks: &Breaks) -> Effect
+    ensures effect { result ≡ (run_back_effect debugger.old.trail breaks.now).0 }
+    ensures trail { debugger.new.trail ≡ (run_back_effect debugger.old.trail breaks.now).1 }
+{
+    let stop = policy::run_back(debugger, breaks);
+    Effect::Changed(Answer::Ran {
+        depth: debugger.depth(),
+        stop,
+    })
+}
+
+/// The first leaves of the runs from here. Where steps are undone, a copy goes along them, so that these are kept. An `Err` is want
+/// of memory, and nothing changes in any case.
+#[tactic(auto, using(crate::proofs::RunLemmas::copying))]
+pub fn report(
+    alloc: Global,
+    debugger: &mut Debugger<'_>,
+    runs: usize,
+    fuel: usize,
+) -> Result<Report, AllocError>
+    requires { debugger.old.trail.depth + fuel ≤ STEPS_MAX }
+    ensures leaves { IfOk result (λ r. r.leaves.items ≡ take runs (map shown (walk fuel debugger.old.world))) }
+    ensures more { IfOk result (λ r. r.more ≡ nat_lt runs (length (walk fuel debugger.old.world))) }
+    ensures trail { debugger.new.trail ≡ debugger.old.trail }
+{
+    let _ = debugger.core();
+    let limits = Limits { runs, fuel };
+    if debugger.steps().len() == debugger.depth() {
+        return explore(alloc, debugger, limits, &mut Unwatched);
+    }
+    let mut copy = debugger.copy()?;
+    explore(alloc, &mut copy, limits, &mut Unwatched)
+}

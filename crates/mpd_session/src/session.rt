@@ -1,0 +1,157 @@
+//! A session, which answers requests one at a time.
+
+ghost use Rattle.std.specs.Prelude.{◌≡◌, ℕ, IfOk, OnOk, OnErr, true};
+ghost use Rattle.mpd_model.specs.Trail.{IsReached};
+ghost use Rattle.mpd_trail.specs.Views.{standing_of};
+ghost use Rattle.mpd_session.specs.Held.{opened};
+ghost use Rattle.mpd_session.specs.Respond.{carried, respond, reply_to, version_then, raised, is_current, may_want};
+
+use crate::effect::Effect;
+use crate::limits::VERSION_MAX;
+use crate::{breaks, looks, runs, steps};
+use mpd_code::code::Code;
+use mpd_model::call::Mode;
+use mpd_policy::breaks::Breaks;
+use mpd_trail::debugger::Debugger;
+use mpd_wire::desk::{Desk, DeskFault};
+use mpd_wire::reply::{Refusal, Reply};
+use mpd_wire::request::{Command, Request};
+use std::alloc::{AllocError, Global};
+use std::marker::Model;
+
+/// The version behind a change.
+fn raised(version: u64) -> u64
+    ensures { result ≡ raised version }
+{
+    if version == VERSION_MAX {
+        return version;
+    }
+    version + 1
+}
+
+/// Whether a request is for a version, where it names one.
+fn is_current(version: u64, at: Option<u64>) -> bool
+    ensures { result ≡ is_current version at }
+{
+    match at {
+        None => true,
+        Some(at) => at == version,
+    }
+}
+
+/// Raises the version where something has changed.
+fn count(version: &mut u64, effect: &Effect)
+    ensures { version.new ≡ version_then version.old effect.now }
+{
+    match effect {
+        Effect::Refused(_) | Effect::Told(_) => {}
+        Effect::Changed(_) => *version = raised(*version),
+    }
+}
+
+/// The reply that tells what a command came to. The version is the one behind it.
+fn reply_with(version: u64, effect: Effect) -> Reply
+    ensures { (before : ℕ) → version ≡ version_then before effect → result ≡ reply_to before effect }
+{
+    match effect {
+        Effect::Refused(refusal) => Reply::Refused(refusal),
+        Effect::Told(answer) | Effect::Changed(answer) => Reply::Done { version, answer },
+    }
+}
+
+/// Carries out a command. An `Err` is want of memory, and then nothing has changed.
+fn carry_out(
+    alloc: Global,
+    debugger: &mut Debugger<'_>,
+    breaks: &mut Breaks,
+    command: Command,
+) -> Result<Effect, AllocError>
+    ensures effect { IfOk result (λ effect. effect ≡ (carried debugger.old.trail breaks.old debugger.old.world command).0) }
+    ensures trail { OnOk result (debugger.new.trail ≡ (carried debugger.old.trail breaks.old debugger.old.world command).1.0) }
+    ensures breaks { OnOk result (breaks.new ≡ (carried debugger.old.trail breaks.old debugger.old.world command).1.1) }
+    ensures err { OnErr result (debugger.new.trail ≡ debugger.old.trail) }
+    ensures err_breaks { OnErr result (breaks.new ≡ breaks.old) }
+    ensures wants { OnErr result (may_want command ≡ true) }
+{
+    match command {
+        Command::Step(step) => steps::step(debugger, step),
+        Command::Next(choice) => steps::next(alloc, debugger, choice),
+        Command::Run(max) => runs::run(alloc, debugger, breaks, max),
+        Command::Back(count) => Ok(steps::back(debugger, count)),
+        Command::Redo(count) => steps::redo(debugger, count),
+        Command::Goto(depth) => Ok(steps::goto(debugger, depth)),
+        Command::RunBack => Ok(runs::run_back(debugger, breaks)),
+        Command::Enabled => looks::enabled(alloc, debugger.core()),
+        Command::State => looks::state(alloc, debugger),
+        Command::Vars(rank) => looks::vars(alloc, debugger.core(), rank),
+        Command::Calls(rank) => looks::calls(alloc, debugger.core(), rank),
+        Command::Why(call) => looks::why(alloc, debugger.core(), call),
+        Command::Break(stop) => Ok(breaks::add(debugger.core(), breaks, stop)),
+        Command::Unbreak(number) => Ok(breaks::remove(breaks, number)),
+        Command::Breaks => breaks::list(alloc, breaks),
+        Command::Explore { runs, fuel } => looks::explore(alloc, debugger, runs, fuel),
+    }
+}
+
+/// A debugger with breakpoints and a version; contracts see what it holds.
+#[derive(Drop)]
+pub struct Session<'c> {
+    debugger: Debugger<'c>,
+    breaks: Breaks,
+    version: u64,
+}
+
+impl<'c> Model for Session<'c> {
+    ghost use Rattle.mpd_session.specs.Held.{Held, held_code};
+
+    ghost Value = { Held };
+
+    ghost coded = { held_code };
+
+    ghost view = { λ s. record { trail = s.debugger.trail; breaks = s.breaks; version = s.version } };
+}
+
+impl<'c> Session<'c> {
+    /// No step was taken, no breakpoint is set, and the version is 0. An `Err` is want of memory.
+    pub fn start(alloc: Global, code: &'c Code, mode: Mode) -> Result<Session<'c>, AllocError>
+        ensures { IfOk result (λ s. s ≡ opened code.now.program mode) }
+    {
+        Ok(Session {
+            debugger: Debugger::start(alloc, code, mode)?,
+            breaks: Breaks::new(),
+            version: 0,
+        })
+    }
+
+    /// Answers a request (docs/SESSIONS.md, "Requests"). An `Err` is want of memory, and then nothing has changed.
+    #[tactic(auto, using(crate::proofs::AnswerLemmas::answering))]
+    pub fn answer(&mut self, alloc: Global, request: &Request) -> Result<Reply, AllocError>
+        ensures reply { IfOk result (λ reply. reply ≡ (respond self.old request.now).0) }
+        ensures held { OnOk result (self.new ≡ (respond self.old request.now).1) }
+        ensures err { OnErr result (self.new ≡ self.old) }
+        ensures wants { OnErr result (may_want request.now.command ≡ true) }
+        ensures current { OnErr result (is_current self.old.version request.now.at ≡ true) }
+    {
+        let _ = self.debugger.core();
+        let now = self.version;
+        if !is_current(now, request.at) {
+            return Ok(Reply::Refused(Refusal::Stale { now }));
+        }
+        let effect = carry_out(alloc, &mut self.debugger, &mut self.breaks, request.command)?;
+        count(&mut self.version, &effect);
+        Ok(reply_with(self.version, effect))
+    }
+}
+
+impl<'c> Desk for Session<'c> {
+    ghost use Rattle.mpd_session.specs.Respond.{Responds};
+
+    ghost asks = { Responds };
+
+    fn ask(&mut self, alloc: Global, request: &Request) -> Result<Reply, DeskFault> {
+        match self.answer(alloc, request) {
+            Ok(reply) => Ok(reply),
+            Err(_) => Err(DeskFault::Memory),
+        }
+    }
+}

@@ -1,0 +1,4 @@
+pub mod Json
+pub mod Texts
+pub mod SayLemmas
+pub mod EndLemmas

@@ -1,0 +1,5 @@
+pub mod Requests
+pub mod Replies
+pub mod Says
+pub mod Ended
+pub mod RequestRows

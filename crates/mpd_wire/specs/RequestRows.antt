@@ -1,0 +1,80 @@
+-- Worked rows: what some lines are read as, by computing.
+use Rattle.std.specs.Prelude.{◌≡◌, [], ◌∷◌, codes, Some, None, Result, Ok, Err, refl}
+use Rattle.std.specs.Str.{chars, is_utf8}
+use Rattle.serde_json.proofs.OnLiterals.{serde_json_on_literals}
+use Rattle.mpd_model.specs.declared.breakpoint.Break.TheVariants as on
+use Rattle.mpd_model.specs.World.{call_id}
+use Rattle.mpd_wire.specs.declared.request.Command.{Command}
+use Rattle.mpd_wire.specs.declared.request.Command.TheVariants as command
+use Rattle.mpd_wire.specs.declared.request.Request.{Request}
+use Rattle.mpd_wire.specs.declared.request.WireFault.{WireFault}
+use Rattle.mpd_wire.specs.declared.request.WireFault.TheVariants.{NotJson, BadField, UnknownCommand}
+use Rattle.mpd_wire.specs.Requests.{break_shape, shape_of, is_own, command_in, asked, json_of, request_in}
+
+-- a request for whatever version there is
+abbrev plain : Command → Result Request WireFault
+plain c = Ok (record { command = c; at = None })
+
+-- of a key that stands twice the last value counts
+pub row_doubled_key : request_in (codes "{\"cmd\":\"back\",\"count\":1,\"count\":2}") ≡ plain (command.Back 2)
+unfolding is_utf8 chars serde_json_on_literals break_shape shape_of is_own command_in asked json_of
+row_doubled_key = refl
+
+pub row_version : request_in (codes " { \"at\" : 7 , \"cmd\" : \"state\" } ") ≡ Ok (record { command = command.State; at = Some 7 })
+unfolding is_utf8 chars serde_json_on_literals break_shape shape_of is_own command_in asked json_of
+row_version = refl
+
+pub row_escape : request_in (codes "{\"cmd\":\"\\u0073tate\"}") ≡ plain command.State
+unfolding is_utf8 chars serde_json_on_literals break_shape shape_of is_own command_in asked json_of
+row_escape = refl
+
+pub row_change : request_in (codes "{\"cmd\":\"break\",\"kind\":\"change\",\"rank\":0,\"cell\":3}") ≡ plain (command.Break (on.Change 0 3))
+unfolding is_utf8 chars serde_json_on_literals break_shape shape_of is_own command_in asked json_of
+row_change = refl
+
+pub row_why : request_in (codes "{\"call\":4,\"cmd\":\"why\",\"rank\":2}") ≡ plain (command.Why (call_id 2 4))
+unfolding is_utf8 chars serde_json_on_literals break_shape shape_of is_own command_in asked json_of
+row_why = refl
+
+-- numbers are whole, and fit 64 bits
+pub row_float : request_in (codes "{\"cmd\":\"back\",\"count\":1.0}") ≡ Err BadField
+unfolding is_utf8 chars serde_json_on_literals break_shape shape_of is_own command_in asked json_of
+row_float = refl
+
+pub row_exponent : request_in (codes "{\"cmd\":\"back\",\"count\":1e0}") ≡ Err BadField
+unfolding is_utf8 chars serde_json_on_literals break_shape shape_of is_own command_in asked json_of
+row_exponent = refl
+
+pub row_negative : request_in (codes "{\"cmd\":\"goto\",\"depth\":-1}") ≡ Err BadField
+unfolding is_utf8 chars serde_json_on_literals break_shape shape_of is_own command_in asked json_of
+row_negative = refl
+
+-- a field is there or isn't: null is no absent field
+pub row_null : request_in (codes "{\"choice\":null,\"cmd\":\"next\"}") ≡ Err BadField
+unfolding is_utf8 chars serde_json_on_literals break_shape shape_of is_own command_in asked json_of
+row_null = refl
+
+pub row_absent : request_in (codes "{\"cmd\":\"next\"}") ≡ plain (command.Next None)
+unfolding is_utf8 chars serde_json_on_literals break_shape shape_of is_own command_in asked json_of
+row_absent = refl
+
+pub row_too_many : request_in (codes "{\"cmd\":\"state\",\"id\":1}") ≡ Err BadField
+unfolding is_utf8 chars serde_json_on_literals break_shape shape_of is_own command_in asked json_of
+row_too_many = refl
+
+pub row_no_object : request_in (codes "[\"state\"]") ≡ Err BadField
+unfolding is_utf8 chars serde_json_on_literals break_shape shape_of is_own command_in asked json_of
+row_no_object = refl
+
+-- a command that there is not is told before its fields
+pub row_unknown : request_in (codes "{\"cmd\":\"halt\",\"id\":null}") ≡ Err UnknownCommand
+unfolding is_utf8 chars serde_json_on_literals break_shape shape_of is_own command_in asked json_of
+row_unknown = refl
+
+pub row_not_json : request_in (codes "{\"cmd\":\"state\",}") ≡ Err NotJson
+unfolding is_utf8 chars serde_json_on_literals break_shape shape_of is_own command_in asked json_of
+row_not_json = refl
+
+pub row_not_utf8 : request_in (34 ∷ 255 ∷ 34 ∷ []) ≡ Err NotJson
+unfolding is_utf8 chars serde_json_on_literals break_shape shape_of is_own command_in asked json_of
+row_not_utf8 = refl

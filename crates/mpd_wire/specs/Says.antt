@@ -1,0 +1,70 @@
+-- What a line is answered, and where that leaves the desk.
+use Rattle.std.specs.Prelude.{◌≡◌, ℕ, suc, ◌+◌, ◌==◌, ◌⊎◌, if◌then◌else◌, List, [], ◌∷◌, ◌++◌, codes, Result, Ok, Err}
+use Rattle.mpd_wire.specs.declared.request.Request.{Request}
+use Rattle.mpd_wire.specs.declared.request.WireFault.{WireFault}
+use Rattle.mpd_wire.specs.declared.request.WireFault.TheVariants as fault
+use Rattle.mpd_wire.specs.declared.reply.Reply.{Reply}
+use Rattle.mpd_wire.specs.declared.reply.Reply.TheVariants.{Refused}
+use Rattle.mpd_wire.specs.declared.reply.Refusal.TheVariants as refusal
+use Rattle.mpd_wire.specs.Requests.{request_in}
+use Rattle.mpd_wire.specs.Replies.{reply_line}
+
+-- the two lines that stand in the place of a reply: where memory is refused before the desk has taken the request, and behind that
+abbrev pub memory_line : List ℕ
+memory_line = codes "{\"error\":\"memory\",\"ok\":false}\n"
+
+abbrev pub unprinted_line : List ℕ
+unprinted_line = codes "{\"error\":\"unprinted\",\"ok\":false}\n"
+
+-- what answers a line that is no request
+unfoldable pub fault_line : WireFault → List ℕ
+fault_line fault.LineTooLong = reply_line (Refused refusal.LineTooLong)
+fault_line fault.NotJson = reply_line (Refused refusal.NotJson)
+fault_line fault.BadField = reply_line (Refused refusal.BadField)
+fault_line fault.UnknownCommand = reply_line (Refused refusal.UnknownCommand)
+fault_line fault.Memory = memory_line
+
+-- the line of a reply, or the one that stands in its place
+abbrev pub Told : Reply → List ℕ → Type 0
+Told r text = (text ≡ reply_line r) ⊎ (text ≡ unprinted_line)
+
+-- A request was asked. The desk has taken it, and replies; or memory was refused, and it is as before.
+abbrev pub Asked : {D : Type 0} → (D → Request → Reply → D → Type 0) → D → Request → List ℕ → D → Type 0
+Asked asks d q text e = ((r : Reply) × asks d q r e × Told r text) ⊎ ((e ≡ d) × (text ≡ memory_line))
+
+-- A line is a request, or isn't for this reason; or memory was refused, and the desk is as before.
+abbrev pub Took : {D : Type 0} → (D → Request → Reply → D → Type 0) → D → Result Request WireFault → List ℕ → D → Type 0
+Took asks d (Ok q) text e = Asked asks d q text e ⊎ ((e ≡ d) × (text ≡ memory_line))
+Took asks d (Err f) text e = (e ≡ d) × ((text ≡ fault_line f) ⊎ (text ≡ memory_line))
+
+-- an empty line is passed over
+abbrev pub Says : {D : Type 0} → (D → Request → Reply → D → Type 0) → D → List ℕ → List ℕ → D → Type 0
+Says asks d [] text e = (text ≡ []) × (e ≡ d)
+Says asks d (b ∷ l) text e = Took asks d (request_in (b ∷ l)) text e
+
+-- ---- the same, of what is added to a text
+
+abbrev pub AddsTold : Reply → List ℕ → List ℕ → Type 0
+AddsTold r before after = (text : List ℕ) × (after ≡ before ++ text) × Told r text
+
+abbrev pub AddsAsked : {D : Type 0} → (D → Request → Reply → D → Type 0) → D → Request → List ℕ → List ℕ → D → Type 0
+AddsAsked asks d q before after e = (text : List ℕ) × (after ≡ before ++ text) × Asked asks d q text e
+
+abbrev pub AddsTook : {D : Type 0} → (D → Request → Reply → D → Type 0) → D → Result Request WireFault → List ℕ → List ℕ → D → Type 0
+AddsTook asks d r before after e = (text : List ℕ) × (after ≡ before ++ text) × Took asks d r text e
+
+-- ---- how many lines are answered
+
+-- all that aren't empty
+abbrev pub answered : List (List ℕ) → ℕ
+answered [] = 0
+answered ([] ∷ ls) = answered ls
+answered ((b ∷ l) ∷ ls) = suc (answered ls)
+
+-- what counts them, one line at a time, as far as 64 bits go
+abbrev pub one_more : ℕ → ℕ
+one_more n = if n == 18446744073709551615 then n else n + 1
+
+abbrev pub counted : ℕ → List ℕ → ℕ
+counted n [] = n
+counted n (b ∷ l) = one_more n

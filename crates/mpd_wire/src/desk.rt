@@ -1,0 +1,27 @@
+//! What answers requests.
+
+ghost use Rattle.std.specs.Prelude.{◌≡◌, IfOk, OnErr};
+ghost use Rattle.mpd_wire.specs.declared.request.Request.{Request};
+ghost use Rattle.mpd_wire.specs.declared.reply.Reply.{Reply};
+
+use crate::reply::Reply;
+use crate::request::Request;
+use std::alloc::Global;
+
+/// Why a desk has not taken a request.
+#[derive(Clone, Copy)]
+pub enum DeskFault {
+    /// Memory was refused.
+    Memory,
+}
+
+/// What answers requests, one after another. A request that isn't taken leaves it as it was.
+pub trait Desk {
+    /// The desk before, the request, the reply, and the desk after.
+    ghost asks: { Self → Request → Reply → Self → Type 0 };
+
+    /// Takes a request, and replies to it.
+    fn ask(&mut self, alloc: Global, request: &Request) -> Result<Reply, DeskFault>
+        ensures ok { IfOk result (λ reply. asks self.old request.now reply self.new) }
+        ensures err { OnErr result (self.new ≡ self.old) };
+}
