@@ -1,3 +1,5 @@
 pub mod Effects
 pub mod Held
 pub mod Respond
+pub mod History
+pub mod Audit

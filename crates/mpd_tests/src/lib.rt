@@ -5,6 +5,8 @@
 #[cfg(test)]
 mod board_rows;
 #[cfg(test)]
+mod book_rows;
+#[cfg(test)]
 mod code_rows;
 #[cfg(test)]
 mod device_rows;

@@ -1,3 +1,4 @@
+pub mod SameLemmas
 pub mod Json
 pub mod Texts
 pub mod SayLemmas

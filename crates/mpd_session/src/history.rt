@@ -1,0 +1,38 @@
+//! What is kept of the requests of a session: in its history, and by each client.
+
+use mpd_wire::reply::Reply;
+use mpd_wire::request::Request;
+
+/// How many entries a history has at most.
+pub const HISTORY_MAX: usize = 65_536;
+
+/// A request that was answered, as the history has it.
+#[derive(Drop)]
+pub struct Entry {
+    /// Who asked.
+    pub client: usize,
+    /// What was asked.
+    pub request: Request,
+    /// What was replied.
+    pub reply: Reply,
+}
+
+/// A request that was answered, as its client keeps it.
+#[derive(Drop)]
+pub struct Receipt {
+    /// The number of its entry, from 0.
+    pub entry: usize,
+    /// What was asked.
+    pub request: Request,
+    /// What was replied.
+    pub reply: Reply,
+}
+
+/// The receipts that one client kept, in the order of its requests.
+#[derive(Drop)]
+pub struct Log {
+    /// Whose they are.
+    pub client: usize,
+    /// What it kept.
+    pub receipts: Vec<Receipt>,
+}
