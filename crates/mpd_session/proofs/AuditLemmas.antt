@@ -7,8 +7,10 @@ use Rattle.std.proofs.lemmas.List.Quantifiers.{all_pairs_push}
 use Rattle.std.proofs.lemmas.Bool.Decides.{Decides-eqb, Decides-like, Decides-not}
 use Rattle.std.specs.Bool.{Decides}
 use Rattle.std.specs.List.{All, AllPairs, HoldsAt}
+use Rattle.mpd_session.specs.declared.history.Entry.{Entry}
 use Rattle.mpd_session.specs.declared.history.Receipt.{Receipt}
-use Rattle.mpd_session.specs.Audit.{IsRising, IsApart}
+use Rattle.mpd_session.specs.declared.history.Log.{Log}
+use Rattle.mpd_session.specs.Audit.{IsRising, IsApart, Agrees, receipts_in}
 
 -- ---- all of a list
 
@@ -27,7 +29,6 @@ module _ {X : Type 0} (P : X → Type 0) (xs : List X) where
 module _ {X : Type 0} (R : X → X → Type 0) (xs : List X) where
   pub pairs_more : (i : ℕ) (x : X) → i < length xs → x ≡ get_or xs i x → All (λ y. R y x) (take i xs) → AllPairs R (take i xs) → AllPairs R (take (i + 1) xs)
   pairs_more i x within at new before =
-      let last : get_or xs i x ≡ x = sym at in
       subst (AllPairs R) (sym (take_more xs i x within)) (all_pairs_push R (take i xs) (get_or xs i x) before (λ k d lt. subst (R (get_or (take i xs) k d)) at (new k d lt)))
 
   pub pairs_before : (i : ℕ) (x : X) → i < length xs → x ≡ get_or xs i x → AllPairs R xs → All (λ y. R y x) (take i xs)
@@ -96,10 +97,7 @@ walk_more rs others i next after r free rising within at walked inside below dec
 pub walk_ends : (rs others : List Receipt) (i next : ℕ) → length rs ≤ i → Walked rs others i next → Decides true (IsApart rs others)
 walk_ends rs others i next end walked = all_hold (λ r. All (λ s. r.entry ≢ s.entry) others) rs i end walked.apart
 
--- a place with smaller numbers before it, and no smaller one on it, tells of all that rises behind it
-pub none_there : (rs : List Receipt) (n entry : ℕ) → length rs ≤ n → All (λ s. s.entry < entry) (take n rs) → Decides true (All (λ s. entry ≢ s.entry) rs)
-none_there rs n entry end below = (λ e. All-weaker (λ s. s.entry < entry) (λ s. entry ≢ s.entry) (λ s lt same. absurd (omega arith)) rs (subst (All (λ s. s.entry < entry)) (take_all n rs end) below), λ h. refl)
-
+-- smaller numbers before a place and a larger one on it: what rises has no such number
 pub none_from : (rs : List Receipt) (n entry : ℕ) (x : Receipt) → n < length rs → x ≡ get_or rs n x → All (λ s. s.entry < entry) (take n rs) → entry < x.entry → IsRising rs → All (λ s. entry ≢ s.entry) rs
 none_from rs n entry x within at below above rising k d lt same =
     let y : Receipt = get_or rs k d in
@@ -125,3 +123,8 @@ free_there rs n entry x within below there rising =
     (λ apart. none_from rs n entry y within at below (omega arith) rising)
     (λ all same. all n x within (sym same))
     (Decides-not (nat_eq y.entry entry) (Decides-eqb y.entry entry))
+
+-- ---- both tests of an audit
+
+pub agreed : (kept history : List Entry) (logs : List Log) (size : ℕ) (counted agreeing : Bool) → kept ≡ history → length kept ≡ size → Decides counted (receipts_in logs ≡ size) → counted ≡ true → Decides agreeing (Agrees kept logs) → agreeing ≡ true → (receipts_in logs ≡ length history) × Agrees history logs
+agreed kept history logs size counted agreeing same long counts is_counted decides is_agreeing = (counts.0 is_counted ∙ sym long ∙ ap length same, subst (λ (es : List Entry). Agrees es logs) same (decides.0 is_agreeing))

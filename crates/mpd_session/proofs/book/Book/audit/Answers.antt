@@ -2,21 +2,20 @@ use Rattle.std.proofs.Common.{◌≡◌, List, length, refl, ap, sym, subst, ◌
 use Rattle.mpd_session.specs.declared.history.Entry.{Entry}
 use Rattle.mpd_session.specs.History.{Kept}
 use Rattle.mpd_session.specs.Audit.{Agrees, receipts_in}
+use Rattle.mpd_session.proofs.AuditLemmas.{agreed}
 use Rattle.mpd_session.proofs.CountLemmas.{each_has}
 use Rattle.mpd_session.proofs.book.Book.audit.Goals as goal
 
--- what the history is, and how many receipts there are, where both tests are passed
-passed : (c : goal.Then-agrees) → (receipts_in c.args.logs.now ≡ length c.args.self.now.history) × Agrees c.args.self.now.history c.args.logs.now
-passed c =
-    let same : c.deref.result.now ≡ c.args.self.now.history = c.deref.ensures.value ∙ ap (λ (k : Kept). k.history) c.self.view_is in
-    let count : receipts_in c.args.logs.now ≡ c.len.result = c.has_count.ensures.0 c.if-not-has_count.false in
-    (count ∙ c.len.ensures ∙ sym c.deref.ensures.len ∙ ap length same, subst (λ (es : List Entry). Agrees es c.args.logs.now) same (c.agrees.ensures.0 c.if-agrees.true))
-
 pub returns-then-agrees-clause-ok : goal.returns-then-agrees-clause-ok
-returns-then-agrees-clause-ok c = (λ e. passed c, λ h. refl)
+returns-then-agrees-clause-ok c = (
+  λ e. agreed c.deref.result.now c.args.self.now.history c.args.logs.now c.len.result c.has_count.result c.agrees.result (c.deref.ensures.value ∙ ap (λ (k : Kept). k.history) c.self.view_is) (c.deref.ensures.len ∙ sym c.len.ensures) c.has_count.ensures c.if-not-has_count.false c.agrees.ensures c.if-agrees.true,
+  λ h. refl,
+)
 
 pub returns-then-agrees-clause-each : goal.returns-then-agrees-clause-each
-returns-then-agrees-clause-each c = each_has c.args.self.now.history c.args.logs.now (passed c).0 (passed c).1
+returns-then-agrees-clause-each c =
+    let both : (receipts_in c.args.logs.now ≡ length c.args.self.now.history) × Agrees c.args.self.now.history c.args.logs.now = agreed c.deref.result.now c.args.self.now.history c.args.logs.now c.len.result c.has_count.result c.agrees.result (c.deref.ensures.value ∙ ap (λ (k : Kept). k.history) c.self.view_is) (c.deref.ensures.len ∙ sym c.len.ensures) c.has_count.ensures c.if-not-has_count.false c.agrees.ensures c.if-agrees.true in
+    each_has c.args.self.now.history c.args.logs.now both.0 both.1
 
 pub returns-else-agrees-clause-ok : goal.returns-else-agrees-clause-ok
 returns-else-agrees-clause-ok c =
