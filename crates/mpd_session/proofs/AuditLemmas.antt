@@ -9,7 +9,7 @@ use Rattle.std.specs.Bool.{Decides}
 use Rattle.std.specs.List.{All, AllPairs, HoldsAt}
 use Rattle.mpd_session.specs.declared.history.Entry.{Entry}
 use Rattle.mpd_session.specs.declared.history.Receipt.{Receipt}
-use Rattle.mpd_session.specs.declared.history.Log.{Log}
+use Rattle.mpd_session.specs.History.{Noted}
 use Rattle.mpd_session.specs.Audit.{IsRising, IsApart, Agrees, receipts_in}
 
 -- ---- all of a list
@@ -126,5 +126,5 @@ free_there rs n entry x within below there rising =
 
 -- ---- both tests of an audit
 
-pub agreed : (kept history : List Entry) (logs : List Log) (size : ℕ) (counted agreeing : Bool) → kept ≡ history → length kept ≡ size → Decides counted (receipts_in logs ≡ size) → counted ≡ true → Decides agreeing (Agrees kept logs) → agreeing ≡ true → (receipts_in logs ≡ length history) × Agrees history logs
-agreed kept history logs size counted agreeing same long counts is_counted decides is_agreeing = (counts.0 is_counted ∙ sym long ∙ ap length same, subst (λ (es : List Entry). Agrees es logs) same (decides.0 is_agreeing))
+pub agreed : {X : Type 0} (f : X → Noted) (kept history : List Entry) (logs : List X) (size : ℕ) (counted agreeing : Bool) → kept ≡ history → length kept ≡ size → Decides counted (receipts_in f logs ≡ size) → counted ≡ true → Decides agreeing (Agrees f kept logs) → agreeing ≡ true → (receipts_in f logs ≡ length history) × Agrees f history logs
+agreed f kept history logs size counted agreeing same long counts is_counted decides is_agreeing = (counts.0 is_counted ∙ sym long ∙ ap length same, subst (λ (es : List Entry). Agrees f es logs) same (decides.0 is_agreeing))

@@ -3,7 +3,7 @@ use Rattle.std.specs.Prelude.{◌≡◌, ◌≢◌, ◌<◌, ℕ, List, Some, le
 use Rattle.std.specs.List.{All, AllPairs, Any, sum_by}
 use Rattle.mpd_session.specs.declared.history.Entry.{Entry}
 use Rattle.mpd_session.specs.declared.history.Receipt.{Receipt}
-use Rattle.mpd_session.specs.declared.history.Log.{Log}
+use Rattle.mpd_session.specs.History.{Noted}
 
 -- a client's receipt is of an entry: its number is that entry's, and client, request and reply are the same
 abbrev pub IsOf : List Entry → ℕ → Receipt → Type 0
@@ -17,18 +17,20 @@ IsRising receipts = AllPairs (λ r s. r.entry < s.entry) receipts
 abbrev pub IsApart : List Receipt → List Receipt → Type 0
 IsApart receipts others = All (λ r. All (λ s. r.entry ≢ s.entry) others) receipts
 
--- the receipts of a log are of entries of its client, and rising
-abbrev pub IsKept : List Entry → Log → Type 0
-IsKept history log = All (IsOf history log.client) log.receipts.items × IsRising log.receipts.items
+-- the receipts that a client keeps are of entries of its own, and rising
+abbrev pub IsKept : List Entry → Noted → Type 0
+IsKept history kept = All (IsOf history kept.client) kept.receipts × IsRising kept.receipts
 
--- each log is kept, and no two of them have a receipt of one entry
-abbrev pub Agrees : List Entry → List Log → Type 0
-Agrees history logs = All (IsKept history) logs × AllPairs (λ l m. IsApart l.receipts.items m.receipts.items) logs
+-- ---- of several clients, each of which keeps what `log` says
 
--- how many receipts all logs have together
-abbrev pub receipts_in : List Log → ℕ
-receipts_in logs = sum_by (λ l. length l.receipts.items) logs
+-- what each keeps is of its entries, and no two have a receipt of one entry
+abbrev pub Agrees : {X : Type 0} → (X → Noted) → List Entry → List X → Type 0
+Agrees log history xs = All (λ x. IsKept history (log x)) xs × AllPairs (λ x y. IsApart (log x).receipts (log y).receipts) xs
 
--- an entry, by its number, has a receipt in a log
-abbrev pub HasReceipt : List Log → ℕ → Type 0
-HasReceipt logs n = Any (λ l. Any (λ r. r.entry ≡ n) l.receipts.items) logs
+-- how many receipts they have together
+abbrev pub receipts_in : {X : Type 0} → (X → Noted) → List X → ℕ
+receipts_in log xs = sum_by (λ x. length (log x).receipts) xs
+
+-- an entry, by its number, has a receipt
+abbrev pub HasReceipt : {X : Type 0} → (X → Noted) → List X → ℕ → Type 0
+HasReceipt log xs n = Any (λ x. Any (λ r. r.entry ≡ n) (log x).receipts) xs

@@ -105,3 +105,7 @@ respond s q = respond_at s (world_of s.trail) q
 -- the session held s when it was asked q, has replied r, and holds t now
 abbrev pub Responds : Held → Request → Reply → Held → Type 0
 Responds s q r t = (r ≡ (respond s q).0) × (t ≡ (respond s q).1)
+
+-- a session by itself keeps no history, so it never says that this is full
+abbrev pub KeepsNoHistory : Held → Type 0
+KeepsNoHistory s = ⊥

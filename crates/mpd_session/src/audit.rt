@@ -3,9 +3,10 @@
 ghost use Rattle.std.specs.Prelude.{◌≡◌, ◌≢◌, ◌≤◌, ◌<◌, length, take};
 ghost use Rattle.std.specs.List.{All, AllPairs, HoldsAt};
 ghost use Rattle.std.specs.Bool.{Decides};
+ghost use Rattle.mpd_session.specs.History.{noted};
 ghost use Rattle.mpd_session.specs.Audit.{IsOf, IsRising, IsApart, IsKept, Agrees, receipts_in};
 
-use crate::history::{Entry, Log, Receipt};
+use crate::history::{Entry, Log, Logged, Receipt};
 use mpd_wire::same::{same_reply, same_request};
 
 /// Why the receipts of clients don't agree with a history (docs/DEFINITIONS.md, "Sessions"). The first of these that holds is told.
@@ -19,15 +20,16 @@ pub enum AuditFault {
 }
 
 /// Whether all logs have so many receipts together.
-pub(crate) fn has_count(logs: &[Log], count: usize) -> bool
-    ensures { Decides result (receipts_in logs.now ≡ count) }
+pub(crate) fn has_count<T: Logged>(logs: &[T], count: usize) -> bool
+    ensures { Decides result (receipts_in T.logged logs.now ≡ count) }
 {
     let mut left = count;
-    for log in logs {
-        if log.receipts.len() > left {
+    for kept in logs {
+        let receipts = &kept.log().receipts;
+        if receipts.len() > left {
             return false;
         }
-        left -= log.receipts.len();
+        left -= receipts.len();
     }
     left == 0
 }
@@ -72,17 +74,17 @@ fn is_rising(receipts: &[Receipt]) -> bool
 
 /// Whether the receipts of a log are of entries of its client, and rising.
 fn is_kept(history: &[Entry], log: &Log) -> bool
-    ensures { Decides result (IsKept history.now log.now) }
+    ensures { Decides result (IsKept history.now (noted log.now)) }
 {
     are_of(history, log.client, &log.receipts) && is_rising(&log.receipts)
 }
 
 /// Whether this holds of all logs.
-fn are_kept(history: &[Entry], logs: &[Log]) -> bool
-    ensures { Decides result (All (IsKept history.now) logs.now) }
+fn are_kept<T: Logged>(history: &[Entry], logs: &[T]) -> bool
+    ensures { Decides result (All (λ l. IsKept history.now (T.logged l)) logs.now) }
 {
-    for log in logs {
-        if !is_kept(history, log) {
+    for kept in logs {
+        if !is_kept(history, kept.log()) {
             return false;
         }
     }
@@ -136,13 +138,13 @@ fn is_apart(receipts: &[Receipt], others: &[Receipt]) -> bool
 }
 
 /// Whether no entry has a receipt in one of these logs and among these receipts.
-fn are_before(logs: &[Log], receipts: &[Receipt]) -> bool
-    requires logs { All (λ l. IsRising l.receipts.items) logs.now }
+fn are_before<T: Logged>(logs: &[T], receipts: &[Receipt]) -> bool
+    requires logs { All (λ l. IsRising (T.logged l).receipts) logs.now }
     requires rising { IsRising receipts.now }
-    ensures { Decides result (All (λ l. IsApart l.receipts.items receipts.now) logs.now) }
+    ensures { Decides result (All (λ l. IsApart (T.logged l).receipts receipts.now) logs.now) }
 {
-    for log in logs {
-        if !is_apart(&log.receipts, receipts) {
+    for kept in logs {
+        if !is_apart(&kept.log().receipts, receipts) {
             return false;
         }
     }
@@ -150,12 +152,12 @@ fn are_before(logs: &[Log], receipts: &[Receipt]) -> bool
 }
 
 /// Whether no entry has receipts in two logs.
-fn are_apart(logs: &[Log]) -> bool
-    requires { All (λ l. IsRising l.receipts.items) logs.now }
-    ensures { Decides result (AllPairs (λ l m. IsApart l.receipts.items m.receipts.items) logs.now) }
+fn are_apart<T: Logged>(logs: &[T]) -> bool
+    requires { All (λ l. IsRising (T.logged l).receipts) logs.now }
+    ensures { Decides result (AllPairs (λ l m. IsApart (T.logged l).receipts (T.logged m).receipts) logs.now) }
 {
     for place in 0..logs.len() {
-        if !are_before(&logs[..place], &logs[place].receipts) {
+        if !are_before(&logs[..place], &logs[place].log().receipts) {
             return false;
         }
     }
@@ -163,8 +165,8 @@ fn are_apart(logs: &[Log]) -> bool
 }
 
 /// Whether the receipts of clients agree with a history.
-pub(crate) fn agrees(history: &[Entry], logs: &[Log]) -> bool
-    ensures { Decides result (Agrees history.now logs.now) }
+pub(crate) fn agrees<T: Logged>(history: &[Entry], logs: &[T]) -> bool
+    ensures { Decides result (Agrees T.logged history.now logs.now) }
 {
     are_kept(history, logs) && are_apart(logs)
 }

@@ -8,7 +8,7 @@ ghost use Rattle.mpd_session.specs.History.{IsReplay};
 ghost use Rattle.mpd_session.specs.Audit.{Agrees, HasReceipt, receipts_in};
 
 use crate::audit::{AuditFault, agrees, has_count};
-use crate::history::{Entry, HISTORY_MAX, Log, Receipt};
+use crate::history::{Entry, HISTORY_MAX, Logged, Receipt};
 use crate::session::Session;
 use mpd_wire::reply::Reply;
 use mpd_wire::request::Request;
@@ -107,6 +107,7 @@ impl<'c> Book<'c> {
         ensures receipt { IfOk result (λ r. r.0 ≡ record { entry = length self.old.history; request = request.now; reply = r.1 }) }
         ensures history { IfOk result (λ r. self.new.history ≡ self.old.history ++ record { client = client; request = request.now; reply = r.1 } ∷ []) }
         ensures session { OnOk result (self.new.session ≡ (respond self.old.session request.now).1) }
+        ensures replay { IsReplay self.old.history self.old.session }
         ensures full { IsErrOf result TakeFault.HistoryFull ↔ (length self.old.history ≡ HISTORY_MAX) }
         ensures err { OnErr result (self.new ≡ self.old) }
     {
@@ -143,10 +144,10 @@ impl<'c> Book<'c> {
     /// logs: so each entry has one receipt. Else `CountsDiffer` (57) where there are more receipts than entries, or fewer, and
     /// `ReceiptDiffers` (58) where there are as many. Entries are numbered from 0. It takes no memory: each receipt is looked at
     /// twice, and any two logs are walked along side by side.
-    pub fn audit(&self, logs: &[Log]) -> Result<(), AuditFault>
-        ensures ok { IsOk result ↔ ((receipts_in logs.now ≡ length self.now.history) × Agrees self.now.history logs.now) }
-        ensures each { OnOk result ((n : ℕ) → n < length self.now.history → HasReceipt logs.now n) }
-        ensures counts { IsErrOf result AuditFault.CountsDiffer ↔ (receipts_in logs.now ≢ length self.now.history) }
+    pub fn audit<T: Logged>(&self, logs: &[T]) -> Result<(), AuditFault>
+        ensures ok { IsOk result ↔ ((receipts_in T.logged logs.now ≡ length self.now.history) × Agrees T.logged self.now.history logs.now) }
+        ensures each { OnOk result ((n : ℕ) → n < length self.now.history → HasReceipt T.logged logs.now n) }
+        ensures counts { IsErrOf result AuditFault.CountsDiffer ↔ (receipts_in T.logged logs.now ≢ length self.now.history) }
     {
         if !has_count(logs, self.history.len()) {
             return Err(AuditFault::CountsDiffer);

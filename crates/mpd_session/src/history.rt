@@ -1,5 +1,8 @@
 //! What is kept of the requests of a session: in its history, and by each client.
 
+ghost use Rattle.std.specs.Prelude.{◌≡◌};
+ghost use Rattle.mpd_session.specs.History.{Noted, noted};
+
 use mpd_wire::reply::Reply;
 use mpd_wire::request::Request;
 
@@ -35,4 +38,24 @@ pub struct Log {
     pub client: usize,
     /// What it kept.
     pub receipts: Vec<Receipt>,
+}
+
+/// What has a log.
+pub trait Logged {
+    /// What the log keeps.
+    ghost logged: { Self → Noted };
+
+    /// The log.
+    fn log(&self) -> &Log
+        ensures { noted result.now ≡ logged self.now };
+}
+
+impl Logged for Log {
+    ghost use Rattle.mpd_session.specs.History.{noted};
+
+    ghost logged = { noted };
+
+    fn log(&self) -> &Log {
+        self
+    }
 }

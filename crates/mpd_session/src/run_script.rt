@@ -4,7 +4,7 @@ ghost use Rattle.mpd_lines.specs.FaultWords.{failed_reads, failed_writes};
 ghost use Rattle.mpd_lines.specs.Served.{Counted};
 ghost use Rattle.mpd_wire.specs.Ended.{Ended};
 ghost use Rattle.mpd_session.specs.Held.{Held, opened};
-ghost use Rattle.mpd_session.specs.Respond.{Responds};
+ghost use Rattle.mpd_session.specs.Respond.{Responds, KeepsNoHistory};
 
 use crate::session::Session;
 use mpd_code::code::Code;
@@ -26,7 +26,7 @@ pub fn run_script<S: Source, W: Sink>(
     source: &mut S,
     sink: &mut W,
 ) -> Result<End, EngineFault>
-    ensures served { (e : Held) × Ended Responds (opened code.now.program mode) (S.seen source.old) (S.seen source.new) (W.seen sink.old) (W.seen sink.new) e result }
+    ensures served { (e : Held) × Ended Responds KeepsNoHistory (opened code.now.program mode) (S.seen source.old) (S.seen source.new) (W.seen sink.old) (W.seen sink.new) e result }
     ensures counted { Counted READS_MAX (failed_reads result) (failed_writes result) (S.seen source.old) (S.seen source.new) (W.seen sink.old) (W.seen sink.new) }
 {
     let Ok(mut session) = Session::start(alloc, code, mode) else {

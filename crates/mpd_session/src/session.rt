@@ -123,6 +123,13 @@ impl<'c> Session<'c> {
         })
     }
 
+    /// The code of its script.
+    pub fn code(&self) -> &'c Code
+        ensures { result.now.program ≡ self.now.trail.program }
+    {
+        self.debugger.core().code()
+    }
+
     /// Answers a request (docs/SESSIONS.md, "Requests"). An `Err` is want of memory, and then nothing has changed.
     #[tactic(auto, using(crate::proofs::AnswerLemmas::answering))]
     pub fn answer(&mut self, alloc: Global, request: &Request) -> Result<Reply, AllocError>
@@ -144,9 +151,11 @@ impl<'c> Session<'c> {
 }
 
 impl<'c> Desk for Session<'c> {
-    ghost use Rattle.mpd_session.specs.Respond.{Responds};
+    ghost use Rattle.mpd_session.specs.Respond.{Responds, KeepsNoHistory};
 
     ghost asks = { Responds };
+
+    ghost is_full = { KeepsNoHistory };
 
     fn ask(&mut self, alloc: Global, request: &Request) -> Result<Reply, DeskFault> {
         match self.answer(alloc, request) {

@@ -14,8 +14,8 @@ use Rattle.mpd_wire.specs.Says.{Says, answered}
 
 -- The desk d answers the lines of a source, each before the next is asked, and is e then. At the end of the input all of its lines
 -- were answered, and those that aren't empty are counted; what stands where a fault ended it is told of any desk of lines.
-abbrev pub Ended : {D : Type 0} → (D → Request → Reply → D → Type 0) → D → SourceSeen → SourceSeen → SinkSeen → SinkSeen → D → Result End EngineFault → Type 0
-Ended asks d s t v w e (Ok end) =
+abbrev pub Ended : {D : Type 0} → (D → Request → Reply → D → Type 0) → (D → Type 0) → D → SourceSeen → SourceSeen → SinkSeen → SinkSeen → D → Result End EngineFault → Type 0
+Ended asks full d s t v w e (Ok end) =
     (read : List ℕ) × Consumes s.remaining t.remaining read × IsAtEnd t.remaining × (t.ends ≡ s.ends + 1)
-    × Tells (Says asks) d (lines_of read) v.contents w.contents e × (length read ≤ 4096 * READS_MAX) × (end.lines ≡ answered (lines_of read))
-Ended asks d s t v w e (Err f) = Served (Says asks) (waiting_below false) d [] READS_MAX s t v w e (Err f)
+    × Tells (Says asks full) d (lines_of read) v.contents w.contents e × (length read ≤ 4096 * READS_MAX) × (end.lines ≡ answered (lines_of read))
+Ended asks full d s t v w e (Err f) = Served (Says asks full) (waiting_below false) d [] READS_MAX s t v w e (Err f)

@@ -28,30 +28,37 @@ fault_line fault.Memory = memory_line
 abbrev pub Told : Reply → List ℕ → Type 0
 Told r text = (text ≡ reply_line r) ⊎ (text ≡ unprinted_line)
 
--- A request was asked. The desk has taken it, and replies; or memory was refused, and it is as before.
-abbrev pub Asked : {D : Type 0} → (D → Request → Reply → D → Type 0) → D → Request → List ℕ → D → Type 0
-Asked asks d q text e = ((r : Reply) × asks d q r e × Told r text) ⊎ ((e ≡ d) × (text ≡ memory_line))
+-- what answers a request that the desk has not taken: its history is full, or memory was refused
+abbrev pub full_line : List ℕ
+full_line = reply_line (Refused refusal.HistoryFull)
+
+abbrev pub NotTaken : {D : Type 0} → (D → Type 0) → D → List ℕ → Type 0
+NotTaken full d text = (full d × (text ≡ full_line)) ⊎ (text ≡ memory_line)
+
+-- A request was asked. The desk has taken it, and replies; or it has not, and is as before.
+abbrev pub Asked : {D : Type 0} → (D → Request → Reply → D → Type 0) → (D → Type 0) → D → Request → List ℕ → D → Type 0
+Asked asks full d q text e = ((r : Reply) × asks d q r e × Told r text) ⊎ ((e ≡ d) × NotTaken full d text)
 
 -- A line is a request, or isn't for this reason; or memory was refused, and the desk is as before.
-abbrev pub Took : {D : Type 0} → (D → Request → Reply → D → Type 0) → D → Result Request WireFault → List ℕ → D → Type 0
-Took asks d (Ok q) text e = Asked asks d q text e ⊎ ((e ≡ d) × (text ≡ memory_line))
-Took asks d (Err f) text e = (e ≡ d) × ((text ≡ fault_line f) ⊎ (text ≡ memory_line))
+abbrev pub Took : {D : Type 0} → (D → Request → Reply → D → Type 0) → (D → Type 0) → D → Result Request WireFault → List ℕ → D → Type 0
+Took asks full d (Ok q) text e = Asked asks full d q text e ⊎ ((e ≡ d) × (text ≡ memory_line))
+Took asks full d (Err f) text e = (e ≡ d) × ((text ≡ fault_line f) ⊎ (text ≡ memory_line))
 
 -- an empty line is passed over
-abbrev pub Says : {D : Type 0} → (D → Request → Reply → D → Type 0) → D → List ℕ → List ℕ → D → Type 0
-Says asks d [] text e = (text ≡ []) × (e ≡ d)
-Says asks d (b ∷ l) text e = Took asks d (request_in (b ∷ l)) text e
+abbrev pub Says : {D : Type 0} → (D → Request → Reply → D → Type 0) → (D → Type 0) → D → List ℕ → List ℕ → D → Type 0
+Says asks full d [] text e = (text ≡ []) × (e ≡ d)
+Says asks full d (b ∷ l) text e = Took asks full d (request_in (b ∷ l)) text e
 
 -- ---- the same, of what is added to a text
 
 abbrev pub AddsTold : Reply → List ℕ → List ℕ → Type 0
 AddsTold r before after = (text : List ℕ) × (after ≡ before ++ text) × Told r text
 
-abbrev pub AddsAsked : {D : Type 0} → (D → Request → Reply → D → Type 0) → D → Request → List ℕ → List ℕ → D → Type 0
-AddsAsked asks d q before after e = (text : List ℕ) × (after ≡ before ++ text) × Asked asks d q text e
+abbrev pub AddsAsked : {D : Type 0} → (D → Request → Reply → D → Type 0) → (D → Type 0) → D → Request → List ℕ → List ℕ → D → Type 0
+AddsAsked asks full d q before after e = (text : List ℕ) × (after ≡ before ++ text) × Asked asks full d q text e
 
-abbrev pub AddsTook : {D : Type 0} → (D → Request → Reply → D → Type 0) → D → Result Request WireFault → List ℕ → List ℕ → D → Type 0
-AddsTook asks d r before after e = (text : List ℕ) × (after ≡ before ++ text) × Took asks d r text e
+abbrev pub AddsTook : {D : Type 0} → (D → Request → Reply → D → Type 0) → (D → Type 0) → D → Result Request WireFault → List ℕ → List ℕ → D → Type 0
+AddsTook asks full d r before after e = (text : List ℕ) × (after ≡ before ++ text) × Took asks full d r text e
 
 -- ---- how many lines are answered
 

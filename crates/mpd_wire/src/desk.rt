@@ -1,6 +1,6 @@
 //! What answers requests.
 
-ghost use Rattle.std.specs.Prelude.{◌≡◌, IfOk, OnErr};
+ghost use Rattle.std.specs.Prelude.{◌≡◌, IfOk, OnErr, IsErrOf};
 ghost use Rattle.mpd_wire.specs.declared.request.Request.{Request};
 ghost use Rattle.mpd_wire.specs.declared.reply.Reply.{Reply};
 
@@ -11,6 +11,8 @@ use std::alloc::Global;
 /// Why a desk has not taken a request.
 #[derive(Clone, Copy)]
 pub enum DeskFault {
+    /// The history of the desk is full (56).
+    HistoryFull,
     /// Memory was refused.
     Memory,
 }
@@ -20,8 +22,12 @@ pub trait Desk {
     /// The desk before, the request, the reply, and the desk after.
     ghost asks: { Self → Request → Reply → Self → Type 0 };
 
+    /// What is so of a desk that says that its history is full.
+    ghost is_full: { Self → Type 0 };
+
     /// Takes a request, and replies to it.
     fn ask(&mut self, alloc: Global, request: &Request) -> Result<Reply, DeskFault>
         ensures ok { IfOk result (λ reply. asks self.old request.now reply self.new) }
+        ensures full { IsErrOf result DeskFault.HistoryFull → is_full self.old }
         ensures err { OnErr result (self.new ≡ self.old) };
 }

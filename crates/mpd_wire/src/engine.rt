@@ -26,6 +26,9 @@ const MEMORY: &[u8] = b"{\"error\":\"memory\",\"ok\":false}\n";
 /// What stands in the place of a reply whose text is refused memory: the desk has taken the request.
 const UNPRINTED: &[u8] = b"{\"error\":\"unprinted\",\"ok\":false}\n";
 
+/// What answers a request where the history of the desk is full; it takes no memory.
+const HISTORY_FULL: &[u8] = b"{\"error\":\"history-full\",\"ok\":false}\n";
+
 /// The line of a reply. An `Err` is want of memory.
 fn print_line(alloc: Global, reply: &Reply) -> Result<String, AllocError>
     ensures { IfOk result (λ t. string_bytes t ≡ reply_line reply.now) }
@@ -70,11 +73,12 @@ fn fault_line(fault: WireFault) -> &'static [u8]
 #[tactic(auto, using(crate::proofs::SayLemmas::asking))]
 fn ask<D: Desk>(alloc: Global, desk: &mut D, request: &Request, out: &mut Vec<u8>)
     requires { vec_len out.old + ROOM ≤ vec_capacity out.old }
-    ensures asked { AddsAsked D.asks desk.old request.now out.old.items out.new.items desk.new }
+    ensures asked { AddsAsked D.asks D.is_full desk.old request.now out.old.items out.new.items desk.new }
     ensures capacity { vec_capacity out.old ≤ vec_capacity out.new }
 {
     match desk.ask(alloc, request) {
         Ok(reply) => tell(alloc, &reply, out),
+        Err(DeskFault::HistoryFull) => push_all(out, HISTORY_FULL),
         Err(DeskFault::Memory) => push_all(out, MEMORY),
     }
 }
@@ -84,7 +88,7 @@ fn ask<D: Desk>(alloc: Global, desk: &mut D, request: &Request, out: &mut Vec<u8
 fn take<D: Desk>(alloc: Global, desk: &mut D, line: &[u8], out: &mut Vec<u8>)
     requires line { length line.now ≤ LINE_MAX }
     requires room { vec_len out.old + ROOM ≤ vec_capacity out.old }
-    ensures took { AddsTook D.asks desk.old (request_in line.now) out.old.items out.new.items desk.new }
+    ensures took { AddsTook D.asks D.is_full desk.old (request_in line.now) out.old.items out.new.items desk.new }
     ensures capacity { vec_capacity out.old ≤ vec_capacity out.new }
 {
     match parse(alloc, line) {
@@ -117,7 +121,7 @@ impl<'d, D: Desk> LineDesk for JsonDesk<'d, D> {
     // others may see what the desk has done, so the reply to each request is written before the next is asked
     ghost gathers = { false };
 
-    ghost says = { λ d line text e. Says D.asks d.desk.now line text e.desk.now × (e.desk.ghost_name ≡ d.desk.ghost_name) × (e.lines ≡ counted d.lines line) };
+    ghost says = { λ d line text e. Says D.asks D.is_full d.desk.now line text e.desk.now × (e.desk.ghost_name ≡ d.desk.ghost_name) × (e.lines ≡ counted d.lines line) };
 
     fn is_gathering(&self) -> bool {
         false
@@ -156,7 +160,7 @@ pub fn serve<S: Source, W: Sink, D: Desk>(
     sink: &mut W,
     desk: &mut D,
 ) -> Result<End, EngineFault>
-    ensures served { Ended D.asks desk.old (S.seen source.old) (S.seen source.new) (W.seen sink.old) (W.seen sink.new) desk.new result }
+    ensures served { Ended D.asks D.is_full desk.old (S.seen source.old) (S.seen source.new) (W.seen sink.old) (W.seen sink.new) desk.new result }
     ensures counted { Counted READS_MAX (failed_reads result) (failed_writes result) (S.seen source.old) (S.seen source.new) (W.seen sink.old) (W.seen sink.new) }
 {
     let mut lines = JsonDesk { desk, lines: 0 };

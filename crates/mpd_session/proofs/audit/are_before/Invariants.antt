@@ -3,5 +3,5 @@ use Rattle.std.specs.List.{All}
 use Rattle.mpd_session.specs.Audit.{IsApart}
 use Rattle.mpd_session.proofs.audit.are_before.Given as goal
 
-abbrev pub invariant-loop-log : goal.invariant-loop-log
-invariant-loop-log l = All (λ m. IsApart m.receipts.items l.receipts) (take l.log-index l.logs)
+abbrev pub invariant-loop-kept : goal.invariant-loop-kept
+invariant-loop-kept g l = All (λ m. IsApart (g.T.Logged.logged m).receipts l.receipts) (take l.kept-index l.logs)

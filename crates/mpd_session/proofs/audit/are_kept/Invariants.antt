@@ -3,5 +3,5 @@ use Rattle.std.specs.List.{All}
 use Rattle.mpd_session.specs.Audit.{IsKept}
 use Rattle.mpd_session.proofs.audit.are_kept.Given as goal
 
-abbrev pub invariant-loop-log : goal.invariant-loop-log
-invariant-loop-log l = All (IsKept l.history) (take l.log-index l.logs)
+abbrev pub invariant-loop-kept : goal.invariant-loop-kept
+invariant-loop-kept g l = All (λ x. IsKept l.history (g.T.Logged.logged x)) (take l.kept-index l.logs)
