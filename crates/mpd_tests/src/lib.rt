@@ -15,6 +15,8 @@ mod helpers;
 #[cfg(test)]
 mod policy_rows;
 #[cfg(test)]
+mod shared_rows;
+#[cfg(test)]
 mod text_rows;
 #[cfg(test)]
 mod trail_rows;

@@ -12,6 +12,9 @@ use std::io::{Error, ErrorKind};
 /// The status where the mode's word or the file of a witness is none.
 const WRONG: u8 = 2;
 
+/// The status where a port can't be listened on, or where clients' receipts don't agree with their history.
+const FAILED: u8 = 3;
+
 /// Why the program ends before its input does.
 #[derive(Drop)]
 pub(crate) enum Fault<'a> {
@@ -25,6 +28,10 @@ pub(crate) enum Fault<'a> {
     File(&'a str, Option<Error>),
     /// A script, standard input or output, or memory.
     Plain(PlainFault),
+    /// A port can't be listened on, or no client accepted.
+    Listener(Error),
+    /// The receipts of clients don't agree with their history: 57 or 58 (docs/DEFINITIONS.md, "Sessions").
+    Settle(u8),
 }
 
 impl<'a> From<UsageFault> for Fault<'a> {
@@ -165,6 +172,15 @@ fn tell_file<R: Eprint>(rt: &R, file: &str, error: Option<Error>, is_terminal: b
     fault.status()
 }
 
+/// Says that a port can't be listened on. Answers the status.
+fn tell_listener<R: Eprint>(rt: &R, error: Error, is_terminal: bool) -> u8 {
+    let _unwritten = eprintln!(rt; "mpdbg: device");
+    if is_terminal {
+        let _unwritten = say_stream(rt, "port", Some(error));
+    }
+    FAILED
+}
+
 /// Says that a word is no mode. Answers the status.
 fn tell_mode<R: Eprint>(rt: &R, word: &str, is_terminal: bool) -> u8 {
     let _unwritten = eprintln!(rt; "mpdbg: bad mode");
@@ -190,5 +206,10 @@ pub(crate) fn tell<R: Print + Eprint + AllocGlobal>(
         }
         Fault::File(file, error) => tell_file(rt, file, error, notes.is_terminal),
         Fault::Plain(fault) => tell_plain(rt, fault, notes),
+        Fault::Listener(error) => tell_listener(rt, error, notes.is_terminal),
+        Fault::Settle(number) => {
+            let _unwritten = eprintln!(rt; "mpdbg: settle {number}");
+            FAILED
+        }
     }
 }
