@@ -94,8 +94,8 @@ def lively():
 
 
 # Words that are answered by a text alone.
-ANSWERED = ('--help', 'trace --help', 'run --help', 'run a --mode b', '--version', 'trac', 'trace', 'trace a --mod b', 'trace a --mode b', 'trace a b', 'check --help',
-            'check a --runs 0', 'check a --mode b', 'verify --help', 'verify a', 'verify a b --mode c')
+ANSWERED = ('--help', 'trace --help', 'run --help', 'run a --mode b', '--version', 'trac', 'trace', 'trace a --mod b', 'trace a --mode b', 'trace a b', 'serve --help', 'serve a',
+            'serve a --port 0', 'check --help', 'check a --runs 0', 'check a --mode b', 'verify --help', 'verify a', 'verify a b --mode c')
 
 
 def inputs():

@@ -41,7 +41,7 @@ FILES = {'FILE': 'examples/race.mpd', 'WORDS': 'examples/race.words', 'WITNESS':
 MAKING = './mpdbg check examples/race.mpd --witness | grep -A 1 deadlock | head -2 > made.witness'
 # What is typed behind a script that is read from standard input with it.
 TYPED = {'cat examples/first_message.mpd - | ./mpdbg': '---\n'}
-# What the examples of help answer.
+# What the examples of help answer, but for that of `serve`, which waits for its clients.
 HELP = {'--help': 'first.stdout', 'trace --help': 'ok 1\n', 'verify --help': 'accepted\n',
         'run --help': '{"depth":6,"ok":true,"steps":6,"stop":"choice","version":1}\n',
         'check --help': 'leaf 0 [] deadlock 0.0 1.0\nwitness 0: local 0, local 1\nleaves 1 more no\n'}

@@ -4,7 +4,7 @@ compare/statuses.py runs them. Each was written by hand: what the commands, word
 of docs/FORMATS.md and crates/mpd_options, and how it is laid out are the rules of `clap` 4. Help has what a command is for, its usage,
 its arguments, its options in two columns with `-h` last, and the example. A fault has what is wrong, a tip where there is one, the
 usage, and where help is. The usage has `[OPTIONS]` where nothing that was given is named in it, and else what was given and what is
-required alone.
+required alone: options first, those that are required before others, and then the words of files.
 """
 
 from typing import NamedTuple
@@ -19,6 +19,7 @@ Usage: mpdbg <COMMAND>
 Commands:
   trace   Trace the script of a file
   run     Answer JSON requests on the script of a file
+  serve   Answer JSON requests of several clients, on one session
   check   Look for deadlocks: try the choices of wildcard receives one after another
   verify  Check a witness that check has written
   help    Print this message or the help of the given subcommand(s)
@@ -74,6 +75,28 @@ Example:
   echo '{"cmd":"run","max":100}' | ./mpdbg run examples/race.mpd
 """
 
+SERVE = """\
+Answer JSON requests of several clients, on one session
+
+Usage: mpdbg serve [OPTIONS] --port <P> --clients <N> <FILE>
+
+Arguments:
+  <FILE>  The script
+
+Options:
+      --mode <M>     How standard sends behave: rendezvous or buffered [default: rendezvous]
+      --port <P>     The port that it listens on, 1 to 65535
+      --clients <N>  How many clients it answers, 1 to 16
+  -h, --help         Print help
+
+It listens on 127.0.0.1 at port P, prints `listening P`, and answers N clients at once.
+Each of them sends the requests of `mpdbg run`, and all are answered on the one session.
+When all have left, it prints how many requests were taken: `served E`.
+
+Example:
+  ./mpdbg serve examples/race.mpd --port 4000 --clients 2
+"""
+
 CHECK = """\
 Look for deadlocks: try the choices of wildcard receives one after another
 
@@ -118,12 +141,16 @@ ANSWERS = (
     ('--help', PROGRAM), ('-h', PROGRAM), ('help', PROGRAM), ('--version', VERSION), ('-V', VERSION),
     ('trace|--help', TRACE), ('trace|-h', TRACE), ('help|trace', TRACE), ('trace|no-such-file|--mode|no-mode|--help', TRACE),
     ('run|--help', RUN), ('run|-h', RUN), ('help|run', RUN), ('run|no-such-file|--mode|no-mode|--help', RUN),
+    ('serve|--help', SERVE), ('serve|-h', SERVE), ('help|serve', SERVE), ('serve|no-such-file|--port|1|--mode|no-mode|--help', SERVE),
     ('check|--help', CHECK), ('check|-h', CHECK), ('help|check', CHECK), ('check|a|--runs|5|-h', CHECK),
     ('verify|--help', VERIFY), ('verify|-h', VERIFY), ('help|verify', VERIFY), ('verify|a|b|--help', VERIFY))
 
 NO_COMMAND = 'mpdbg <COMMAND>'
-OF_TRACE, OF_RUN, OF_CHECK, OF_VERIFY = (
-    f'mpdbg {rest}' for rest in ('trace [OPTIONS] <FILE>', 'run [OPTIONS] <FILE>', 'check [OPTIONS] <FILE>', 'verify [OPTIONS] <FILE> <WITNESS>'))
+OF_TRACE, OF_RUN, OF_SERVE, OF_CHECK, OF_VERIFY = (
+    f'mpdbg {rest}' for rest in ('trace [OPTIONS] <FILE>', 'run [OPTIONS] <FILE>', 'serve [OPTIONS] --port <P> --clients <N> <FILE>', 'check [OPTIONS] <FILE>',
+                                 'verify [OPTIONS] <FILE> <WITNESS>'))
+# What `serve` wants, where something that was given is named.
+WANTED_OF_SERVE = 'mpdbg serve --port <P> --clients <N> <FILE>'
 
 
 class Mistake(NamedTuple):
@@ -152,8 +179,8 @@ def missing(words, names, usage):
     return Mistake(words, '\n  '.join(['the following required arguments were not provided:', *names]), usage)
 
 
-def bad_number(words, value, option, why):
-    return Mistake(words, f"invalid value '{value}' for '--{option} <N>': {why}")
+def bad_number(words, value, option, why, name='N'):
+    return Mistake(words, f"invalid value '{value}' for '--{option} <{name}>': {why}")
 
 
 NO_DIGIT, TOO_LARGE = 'invalid digit found in string', 'number too large to fit in target type'
@@ -164,6 +191,9 @@ MISTAKES = (
     Mistake('rum|a', "unrecognized subcommand 'rum'", NO_COMMAND, "a similar subcommand exists: 'run'"),
     Mistake('Run|a', "unrecognized subcommand 'Run'", NO_COMMAND, "a similar subcommand exists: 'run'"),
     Mistake('help|run|x', "unrecognized subcommand 'x'", OF_RUN),
+    Mistake('serv|a', "unrecognized subcommand 'serv'", NO_COMMAND, "a similar subcommand exists: 'serve'"),
+    Mistake('Serve|a', "unrecognized subcommand 'Serve'", NO_COMMAND, "a similar subcommand exists: 'serve'"),
+    Mistake('help|serve|x', "unrecognized subcommand 'x'", OF_SERVE),
     Mistake('verfy|a|b', "unrecognized subcommand 'verfy'", NO_COMMAND, "a similar subcommand exists: 'verify'"),
     Mistake('a.mpd', "unrecognized subcommand 'a.mpd'", NO_COMMAND),
     Mistake('', "unrecognized subcommand ''", NO_COMMAND),
@@ -172,16 +202,25 @@ MISTAKES = (
     unknown('--fly', '--fly', NO_COMMAND),
     unknown('-x', '-x', NO_COMMAND),
     unknown('--mode|buffered|trace|a', '--mode', NO_COMMAND, "'trace --mode' exists"),
+    unknown('--port|1|serve|a|--clients|1', '--port', NO_COMMAND, "'serve --port' exists"),
     unknown('--|trace|a', 'trace', NO_COMMAND, "subcommand 'trace' exists; to use it, remove the '--' before it"),
-    # files
+    # files, and options that must be there
     missing('trace', ['<FILE>'], 'mpdbg trace <FILE>'),
     missing('run', ['<FILE>'], 'mpdbg run <FILE>'),
     missing('run|--mode|buffered', ['<FILE>'], 'mpdbg run --mode <M> <FILE>'),
+    missing('serve', ['--port <P>', '--clients <N>', '<FILE>'], WANTED_OF_SERVE),
+    missing('serve|a', ['--port <P>', '--clients <N>'], WANTED_OF_SERVE),
+    missing('serve|a|--port|4000', ['--clients <N>'], WANTED_OF_SERVE),
+    missing('serve|a|--clients=2', ['--port <P>'], WANTED_OF_SERVE),
+    missing('serve|--port|4000|--clients|2', ['<FILE>'], WANTED_OF_SERVE),
+    missing('serve|--port|4000|--|--clients', ['--clients <N>'], WANTED_OF_SERVE),
+    missing('serve|a|--mode|buffered|--clients|2', ['--port <P>'], 'mpdbg serve --port <P> --clients <N> --mode <M> <FILE>'),
     missing('check', ['<FILE>'], 'mpdbg check <FILE>'),
     missing('verify', ['<FILE>', '<WITNESS>'], 'mpdbg verify <FILE> <WITNESS>'),
     missing('verify|a', ['<WITNESS>'], 'mpdbg verify <FILE> <WITNESS>'),
     unknown('trace|a|b', 'b', OF_TRACE),
     unknown('run|a|b', 'b', OF_RUN),
+    unknown('serve|a|b|--port|1|--clients|1', 'b', OF_SERVE),
     unknown('check|a|b', 'b', OF_CHECK),
     unknown('verify|a|b|c', 'c', OF_VERIFY),
     # options
@@ -191,6 +230,12 @@ MISTAKES = (
     hyphened('run|a|--witness', '--witness', 'mpdbg run <FILE>'),
     hyphened('run|a|--port|1', '--port', 'mpdbg run <FILE>'),
     hyphened('run|a|-m', '-m', OF_RUN),
+    unknown('serve|a|--prot|4000|--clients|2', '--prot', WANTED_OF_SERVE, "a similar argument exists: '--port'"),
+    unknown('serve|--port|4000|a|--client|2', '--client', WANTED_OF_SERVE, "a similar argument exists: '--clients'"),
+    hyphened('serve|a|--runs|5', '--runs', WANTED_OF_SERVE),
+    hyphened('serve|a|-p|4000', '-p', OF_SERVE),
+    hyphened('serve|a|--port|-1', '-1', OF_SERVE),
+    hyphened('check|a|--clients|2', '--clients', 'mpdbg check <FILE>'),
     hyphened('trace|a|-m', '-m', OF_TRACE),
     hyphened('trace|-x', '-x', OF_TRACE),
     hyphened('trace|--version', '--version', OF_TRACE),
@@ -202,11 +247,22 @@ MISTAKES = (
     Mistake('trace|a|--mode|buffered|--mode=buffered', "the argument '--mode <M>' cannot be used multiple times", OF_TRACE),
     Mistake('run|a|--mode', "a value is required for '--mode <M>' but none was supplied"),
     Mistake('run|a|--mode=b|--mode|b', "the argument '--mode <M>' cannot be used multiple times", OF_RUN),
+    Mistake('serve|a|--clients|2|--port', "a value is required for '--port <P>' but none was supplied"),
+    Mistake('serve|a|--port|--clients|2', "a value is required for '--port <P>' but none was supplied"),
+    Mistake('serve|a|--port|4000|--clients|2|--port=4000', "the argument '--port <P>' cannot be used multiple times", OF_SERVE),
+    Mistake('serve|a|--clients=2|--clients=0', "the argument '--clients <N>' cannot be used multiple times", OF_SERVE),
     Mistake('verify|a|b|--mode=c|--mode=c', "the argument '--mode <M>' cannot be used multiple times", OF_VERIFY),
     Mistake('check|a|--runs|5|--runs=5', "the argument '--runs <N>' cannot be used multiple times", OF_CHECK),
     Mistake('check|a|--witness|--witness', "the argument '--witness' cannot be used multiple times", OF_CHECK),
     Mistake('check|a|--witness=true', "unexpected value 'true' for '--witness' found; no more were expected", 'mpdbg check --witness <FILE>'),
     # numbers
+    bad_number('serve|a|--port|0|--clients|2', '0', 'port', '0 is not in 1..=65535', 'P'),
+    bad_number('serve|a|--port=65536|--clients|2', '65536', 'port', '65536 is not in 1..=65535', 'P'),
+    bad_number('serve|a|--port|ten|--clients|2', 'ten', 'port', NO_DIGIT, 'P'),
+    bad_number('serve|a|--port=|--clients|2', '', 'port', 'cannot parse integer from empty string', 'P'),
+    bad_number('serve|a|--port=0', '0', 'port', '0 is not in 1..=65535', 'P'),
+    bad_number('serve|a|--port|4000|--clients|0', '0', 'clients', '0 is not in 1..=16'),
+    bad_number('serve|a|--port|4000|--clients=17', '17', 'clients', '17 is not in 1..=16'),
     bad_number('check|a|--runs|0', '0', 'runs', '0 is not in 1..=65536'),
     bad_number('check|a|--runs=65537', '65537', 'runs', '65537 is not in 1..=65536'),
     bad_number('check|a|--fuel|0', '0', 'fuel', '0 is not in 1..=1000000'),

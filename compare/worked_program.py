@@ -100,10 +100,12 @@ CHECKED = (
     ('check|c|--witness', Result(b'leaf 0 [] deadlock 0.0\nwitness 0: local 0\nleaves 1 more no\n', b'', 1)))
 
 # Words that ask for help or the version, status 0, and wrong words, status 2; standard input has a script that would be traced.
-ANSWERED = ('--help', 'help', 'help|trace', 'trace|--help', 'help|check', 'check|--help', '--version')
+ANSWERED = ('--help', 'help', 'help|trace', 'trace|--help', 'help|serve', 'serve|--help', 'help|check', 'check|--help', '--version')
 MISTAKEN = (
     'trace', 'trace|a|b', 'trace|a|--mode', 'trace|a|--mode|--|b', 'trace|a|--mode|b|--mode=b', 'trace|a|-m|b', '--|trace|a', 'a',
-    '--mode|buffered', 'trace|a|--witness', 'check', 'check|a|b', 'check|a|--runs|0', 'check|a|--runs|65537', 'check|a|--fuel|0',
+    '--mode|buffered', 'trace|a|--witness', 'serve', 'serve|a', 'serve|a|--port|4000', 'serve|a|--clients|2', 'serve|--port|4000|--clients|2',
+    'serve|a|--port|0|--clients|2', 'serve|a|--port|65536|--clients|2', 'serve|a|--port|4000|--clients|0', 'serve|a|--port|4000|--clients|17',
+    'serve|a|--port|4000|--clients|2|--port|4000', 'check', 'check|a|b', 'check|a|--runs|0', 'check|a|--runs|65537', 'check|a|--fuel|0',
     'check|a|--fuel|1000001', 'check|a|--fuel|ten', 'check|a|--runs=', 'check|a|--runs|5|--runs=5', 'check|a|--witness=true',
     'check|a|--witness|--witness')
 

@@ -11,7 +11,7 @@ use Rattle.clap.specs.Faults.{fault_of, walk_fault, settle_fault, turn_fault, st
 use Rattle.clap.specs.Simple.{names_of, subcommand_of, entered}
 use Rattle.clap.specs.Walk.{Held, Walk, Names, idle, Step, value, trailing, Outcome, plain, nothing_held, finished, settled, walk_from, walked, arg_by_long, arg_by_short, long_or_other, short_or_plain, after_flag, after_step, subcommand_or_other, bundle, bundle_met, subcommand_met}
 use Rattle.clap.proofs.OnLiterals.{clap_on_literals}
-use Rattle.mpd_options.specs.Asked.{Asked, Tool, behind, checker, found_of_command, meant, among_options, runner, tracer, verifier, wanted}
+use Rattle.mpd_options.specs.Asked.{Asked, Tool, behind, checker, found_of_command, meant, among_options, runner, server, tracer, verifier, wanted}
 use Rattle.mpd_options.specs.Program.{mpdbg_app}
 use Rattle.mpd_options.proofs.Ends.{Agrees, fails_first, fails_then}
 use Rattle.mpd_options.proofs.Items.{NamesNone, by_name, called, some_fault, tools}
@@ -66,6 +66,7 @@ behind_command : (t : Tool) (words : List Text) → walk_over (called t ∷ word
 unfolding clap_on_literals
 behind_command tracer words = stays words [] start (codes "trace")
 behind_command runner words = stays words [] start (codes "run")
+behind_command server words = stays words [] start (codes "serve")
 behind_command checker words = stays words [] start (codes "check")
 behind_command verifier words = stays words [] start (codes "verify")
 
@@ -73,6 +74,7 @@ command_walk : (t : Tool) (words : List Text) → walk_fault shape names start (
 unfolding clap_on_literals
 command_walk tracer words = no_fault words [] start (codes "trace")
 command_walk runner words = no_fault words [] start (codes "run")
+command_walk server words = no_fault words [] start (codes "serve")
 command_walk checker words = no_fault words [] start (codes "check")
 command_walk verifier words = no_fault words [] start (codes "verify")
 
@@ -87,6 +89,7 @@ whole_command : (t : Tool) (words : List Text) → whole_fault [] (stopped_at st
 unfolding clap_on_literals
 whole_command tracer words = and_nothing (faults tracer (walk_at at_first) words)
 whole_command runner words = and_nothing (faults runner (walk_at at_first) words)
+whole_command server words = and_nothing (faults server (walk_at at_first) words)
 whole_command checker words = and_nothing (faults checker (walk_at at_first) words)
 whole_command verifier words = and_nothing (faults verifier (walk_at at_first) words)
 
@@ -97,6 +100,7 @@ command_fault t words =
 entered_at : (t : Tool) (words : List Text) → entered top (Some (called t, words)) ≡ Some (called t, rows_at t (walk_at at_first) words)
 entered_at tracer words = refl
 entered_at runner words = refl
+entered_at server words = refl
 entered_at checker words = refl
 entered_at verifier words = refl
 
@@ -107,6 +111,7 @@ lift : (t : Tool) (o : Option Asked) (ks : Kinds) (rows : List Row) → Agrees t
 lift t None ks rows h = h
 lift tracer (Some x) ks rows h = h
 lift runner (Some x) ks rows h = h
+lift server (Some x) ks rows h = h
 lift checker (Some x) ks rows h = h
 lift verifier (Some x) ks rows h = h
 
@@ -178,7 +183,9 @@ top_letters (y ∷ ys) x xs e = rw e (top_letter x (drop (length (encode_utf8 x)
 
 -- the word names no command
 abbrev IsOther : Text → Type 0
-IsOther word = (bytes_eq (codes "trace") word ≡ false) × (bytes_eq (codes "run") word ≡ false) × (bytes_eq (codes "check") word ≡ false) × (bytes_eq (codes "verify") word ≡ false) × (bytes_eq (codes "help") word ≡ false)
+IsOther word =
+    (bytes_eq (codes "trace") word ≡ false) × (bytes_eq (codes "run") word ≡ false) × (bytes_eq (codes "serve") word ≡ false) × (bytes_eq (codes "check") word ≡ false) × (bytes_eq (codes "verify") word ≡ false)
+    × (bytes_eq (codes "help") word ≡ false)
 
 -- the turn of a first word, by the command that it names
 abbrev met_turn : Option Text → Text → Kinds
@@ -187,7 +194,7 @@ met_turn met word =
     or_else (other_fault shape met word nothing_held) (step_fault shape 1 step.0 step.1)
 
 unmet : (word : Text) → IsOther word → subcommand_met names idle word ≡ None
-unmet word other = rw (other.0, other.1, other.2, other.3, other.4) refl
+unmet word other = rw (other.0, other.1, other.2, other.3, other.4, other.5) refl
 
 top_turns : (word : Text) → IsOther word → turn_fault shape names start word ≡ met_turn None word
 top_turns word other = ap (λ m. met_turn m word) (unmet word other)
@@ -280,7 +287,14 @@ turned_about name word e = elim (bytes_eq name word) as (λ b. bytes_eq name wor
 other_word : (word : Text) (words : List Text) → NamesNone word tools → fault_of mpdbg_app (word ∷ words) ≢ []
 other_word word words n = elim (bytes_eq (codes "help") word) as (λ b. bytes_eq (codes "help") word ≡ b → fault_of mpdbg_app (word ∷ words) ≢ []) [
   | true ↦ λ e. let P : Text → Type 0 = λ w. fault_of mpdbg_app (w ∷ words) ≢ [] in subst P ((bytes_eq-Decides (codes "help") word).0 e) (help_word words)
-  | false ↦ λ e. first_word word words (turned_about (codes "trace") word n.0, turned_about (codes "run") word n.1.0, turned_about (codes "check") word n.1.1.0, turned_about (codes "verify") word n.1.1.1.0, e)
+  | false ↦ λ e. first_word word words (
+    turned_about (codes "trace") word n.0,
+    turned_about (codes "run") word n.1.0,
+    turned_about (codes "serve") word n.1.1.0,
+    turned_about (codes "check") word n.1.1.1.0,
+    turned_about (codes "verify") word n.1.1.1.1.0,
+    e,
+  )
 ] refl
 
 -- the law where the first word is this command's

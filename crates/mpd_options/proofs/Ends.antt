@@ -14,7 +14,7 @@ use Rattle.clap.specs.declared.builder.value_parser.Reading.{Reading}
 use Rattle.clap.specs.declared.error.kind.ErrorKind.TheVariants as kind
 use Rattle.clap.specs.declared.parser.matches.ValueSource.TheVariants.{DefaultValue}
 use Rattle.clap.proofs.OnLiterals.{clap_on_literals}
-use Rattle.mpd_options.specs.Asked.{Asked, Item, Said, Tool, checker, default_of, fits, found, found_check, found_in, found_of_file, found_verify, most_fuel, most_runs, name_of, or_default, said_of, text_of, the_file, the_fuel, the_mode, the_runs, the_witness, the_complete, the_witness_file, run, runner, trace, tracer, verifier}
+use Rattle.mpd_options.specs.Asked.{Asked, Item, Said, Tool, checker, default_of, fits, found, found_check, found_in, found_of_file, found_serve, found_verify, most_clients, most_fuel, most_port, most_runs, name_of, or_default, said_of, text_of, the_clients, the_file, the_fuel, the_mode, the_port, the_runs, the_witness, the_complete, the_witness_file, run, runner, server, trace, tracer, verifier}
 use Rattle.mpd_options.specs.Numbers.{flag_in, number_in}
 use Rattle.mpd_options.proofs.Items.{Valid, arg, by_id, has_is, has_said, keeps, made, named_row, or_row, row_at, row_at_more, row_for, row_said, rows_for, rules, sub, used_once, used_well, values_at_end}
 
@@ -85,11 +85,29 @@ runner_mode : rules_row (name_of the_mode) (rules runner) ≡ default_row the_mo
 unfolding clap_on_literals
 runner_mode = refl
 
+server_file : rules_row (name_of the_file) (rules server) ≡ default_row the_file
+unfolding clap_on_literals
+server_file = refl
+
+server_mode : rules_row (name_of the_mode) (rules server) ≡ default_row the_mode
+unfolding clap_on_literals
+server_mode = refl
+
+server_port : rules_row (name_of the_port) (rules server) ≡ default_row the_port
+unfolding clap_on_literals
+server_port = refl
+
+server_clients : rules_row (name_of the_clients) (rules server) ≡ default_row the_clients
+unfolding clap_on_literals
+server_clients = refl
+
 checker_row : (i : Item) → rules_row (name_of i) (rules checker) ≡ default_row i
 unfolding clap_on_literals
 checker_row the_file = refl
 checker_row the_witness_file = refl
 checker_row the_mode = refl
+checker_row the_port = refl
+checker_row the_clients = refl
 checker_row the_runs = refl
 checker_row the_fuel = refl
 checker_row the_witness = refl
@@ -134,6 +152,10 @@ first_ended t i said own h = ap (option_and_then (λ (r : Row). slice_get r.valu
 one_ended : (t : Tool) (i : Item) (said : Said) → Owns t i → Valid said → one_of (name_of i) (ended t said) ≡ text_of said i
 one_ended t i said own h = ap (option_and_then row_text) (row_ended t i said own h) ∙ one_text i (said_of i said) (default_of i)
 
+four_same : (f f' m m' p p' c c' : Option Text) → f ≡ f' → m ≡ m' → p ≡ p' → c ≡ c'
+    → found_serve f m (option_and_then (number_in 1 most_port) p) (option_and_then (number_in 1 most_clients) c) ≡ found_serve f' m' (option_and_then (number_in 1 most_port) p') (option_and_then (number_in 1 most_clients) c')
+four_same f f' m m' p p' c c' a b d e = rw (a, b, d, e) refl
+
 six_same : (f f' m m' r r' n n' w w' x x' : Option Text) → f ≡ f' → m ≡ m' → r ≡ r' → n ≡ n' → w ≡ w' → x ≡ x'
     → found_check f m (option_and_then (number_in 1 most_runs) r) (option_and_then (number_in 1 most_fuel) n) (option_and_then flag_in w) (option_and_then flag_in x)
     ≡ found_check f' m' (option_and_then (number_in 1 most_runs) r') (option_and_then (number_in 1 most_fuel) n') (option_and_then flag_in w') (option_and_then flag_in x')
@@ -145,6 +167,8 @@ three_same f f' w w' m m' a b c = rw (a, b, c) refl
 pub found_ended : (t : Tool) (said : Said) → Valid said → found_in t (ended t said) ≡ found t (text_of said)
 found_ended tracer said h = ap₂ (found_of_file trace) (first_ended tracer the_file said tracer_file h) (first_ended tracer the_mode said tracer_mode h)
 found_ended runner said h = ap₂ (found_of_file run) (first_ended runner the_file said runner_file h) (first_ended runner the_mode said runner_mode h)
+found_ended server said h =
+    four_same _ _ _ _ _ _ _ _ (first_ended server the_file said server_file h) (first_ended server the_mode said server_mode h) (one_ended server the_port said server_port h) (one_ended server the_clients said server_clients h)
 found_ended checker said h =
     six_same _ _ _ _ _ _ _ _ _ _ _ _ (first_ended checker the_file said (checker_row the_file) h) (first_ended checker the_mode said (checker_row the_mode) h)
     (one_ended checker the_runs said (checker_row the_runs) h) (one_ended checker the_fuel said (checker_row the_fuel) h) (one_ended checker the_witness said (checker_row the_witness) h)
@@ -152,19 +176,23 @@ found_ended checker said h =
 found_ended verifier said h =
     three_same _ _ _ _ _ _ (first_ended verifier the_file said verifier_file h) (first_ended verifier the_witness_file said verifier_witness h) (first_ended verifier the_mode said verifier_mode h)
 
--- ---- something is asked for where each file was said
+-- ---- something is asked for where all was said that must be
 
 abbrev item_named : Text → Option Item
 item_named name =
     if bytes_eq name (codes "FILE") then Some the_file
     else (if bytes_eq name (codes "WITNESS") then Some the_witness_file
     else (if bytes_eq name (codes "mode") then Some the_mode
-    else (if bytes_eq name (codes "runs") then Some the_runs else (if bytes_eq name (codes "fuel") then Some the_fuel else (if bytes_eq name (codes "witness") then Some the_witness else (if bytes_eq name (codes "complete") then Some the_complete else None))))))
+    else (if bytes_eq name (codes "port") then Some the_port
+    else (if bytes_eq name (codes "clients") then Some the_clients
+    else (if bytes_eq name (codes "runs") then Some the_runs else (if bytes_eq name (codes "fuel") then Some the_fuel else (if bytes_eq name (codes "witness") then Some the_witness else (if bytes_eq name (codes "complete") then Some the_complete else None))))))))
 
 named_is : (i : Item) → item_named (name_of i) ≡ Some i
 named_is the_file = refl
 named_is the_witness_file = refl
 named_is the_mode = refl
+named_is the_port = refl
+named_is the_clients = refl
 named_is the_runs = refl
 named_is the_fuel = refl
 named_is the_witness = refl
@@ -186,10 +214,24 @@ read_said : {A : Type 0} (read : Text → Option A) (d : Text) (said : Option Te
 read_said read d None e h = e
 read_said read d (Some v) e h = h v refl
 
+-- and where there is no default
+read_needed : {A : Type 0} (read : Text → Option A) (said : Option Text) → ((v : Text) → said ≡ Some v → is_some (read v) ≡ true) → is_some (option_and_then read (or_default said None)) ≡ is_some said
+read_needed read None h = refl
+read_needed read (Some v) h = h v refl
+
 is_of_file : (asks : Text → Text → Asked) (f m : Option Text) (d : Text) → is_some (found_of_file asks (or_default f None) (or_default m (Some d))) ≡ is_some f
 is_of_file asks None m d = refl
 is_of_file asks (Some f) None d = refl
 is_of_file asks (Some f) (Some m) d = refl
+
+is_serve : (f m : Option Text) (d : Text) (p c : Option ℕ) → is_some (found_serve (or_default f None) (or_default m (Some d)) p c) ≡ (is_some f && (is_some p && is_some c))
+is_serve None m d p c = refl
+is_serve (Some f) None d None c = refl
+is_serve (Some f) (Some m) d None c = refl
+is_serve (Some f) None d (Some p) None = refl
+is_serve (Some f) (Some m) d (Some p) None = refl
+is_serve (Some f) None d (Some p) (Some c) = refl
+is_serve (Some f) (Some m) d (Some p) (Some c) = refl
 
 is_check : (f m : Option Text) (d : Text) (r n : Option ℕ) (w x : Option Bool) → is_some r ≡ true → is_some n ≡ true → is_some w ≡ true → is_some x ≡ true
     → is_some (found_check (or_default f None) (or_default m (Some d)) r n w x) ≡ is_some f
@@ -207,52 +249,66 @@ is_verify (Some f) None m d = refl
 is_verify (Some f) (Some w) None d = refl
 is_verify (Some f) (Some w) (Some m) d = refl
 
--- each word of a file is there
-abbrev has_files : Tool → Bool → Bool → Bool
-has_files tracer file witness = file
-has_files runner file witness = file
-has_files checker file witness = file
-has_files verifier file witness = file && witness
+-- each item is there that must be: the files, and the options that have no default
+abbrev has_needed : Tool → (Item → Bool) → Bool
+has_needed tracer has = has the_file
+has_needed runner has = has the_file
+has_needed server has = has the_file && (has the_port && has the_clients)
+has_needed checker has = has the_file
+has_needed verifier has = has the_file && has the_witness_file
 
-asks_with_files : (t : Tool) (said : Said) → Valid said → is_some (found t (text_of said)) ≡ has_files t (is_some (said_of the_file said)) (is_some (said_of the_witness_file said))
-asks_with_files tracer said h = is_of_file trace (said_of the_file said) (said_of the_mode said) (codes "rendezvous")
-asks_with_files runner said h = is_of_file run (said_of the_file said) (said_of the_mode said) (codes "rendezvous")
-asks_with_files checker said h =
+-- whether something was said of an item
+abbrev is_said : Said → Item → Bool
+is_said said i = is_some (said_of i said)
+
+asks_if_needed : (t : Tool) (said : Said) → Valid said → is_some (found t (text_of said)) ≡ has_needed t (is_said said)
+asks_if_needed tracer said h = is_of_file trace (said_of the_file said) (said_of the_mode said) (codes "rendezvous")
+asks_if_needed runner said h = is_of_file run (said_of the_file said) (said_of the_mode said) (codes "rendezvous")
+asks_if_needed server said h =
+    is_serve (said_of the_file said) (said_of the_mode said) (codes "rendezvous") (option_and_then (number_in 1 most_port) (text_of said the_port)) (option_and_then (number_in 1 most_clients) (text_of said the_clients))
+    ∙ ap₂ (λ p c. is_said said the_file && (p && c)) (read_needed (number_in 1 most_port) (said_of the_port said) (λ v e. said_fits the_port v said h e))
+    (read_needed (number_in 1 most_clients) (said_of the_clients said) (λ v e. said_fits the_clients v said h e))
+asks_if_needed checker said h =
     is_check (said_of the_file said) (said_of the_mode said) (codes "rendezvous") (option_and_then (number_in 1 most_runs) (text_of said the_runs)) (option_and_then (number_in 1 most_fuel) (text_of said the_fuel)) (option_and_then flag_in (text_of said the_witness))
     (option_and_then flag_in (text_of said the_complete))
     (read_said (number_in 1 most_runs) (codes "1000") (said_of the_runs said) refl (λ v e. said_fits the_runs v said h e))
     (read_said (number_in 1 most_fuel) (codes "100000") (said_of the_fuel said) refl (λ v e. said_fits the_fuel v said h e))
     (read_said flag_in (codes "false") (said_of the_witness said) refl (λ v e. said_fits the_witness v said h e))
     (read_said flag_in (codes "false") (said_of the_complete said) refl (λ v e. said_fits the_complete v said h e))
-asks_with_files verifier said h = is_verify (said_of the_file said) (said_of the_witness_file said) (said_of the_mode said) (codes "rendezvous")
+asks_if_needed verifier said h = is_verify (said_of the_file said) (said_of the_witness_file said) (said_of the_mode said) (codes "rendezvous")
 
 -- ---- faults at the end
 
-given_row : (i : Item) (x : Option Text) → option_map_or (λ (r : Row). explicit_source r.source) (or_row (named_row (name_of i) x) None) false ≡ is_some x
-given_row i None = refl
-given_row i (Some v) = refl
+given_row : (i : Item) (x d : Option Text) → d ≡ None → option_map_or (λ (r : Row). explicit_source r.source) (or_row (named_row (name_of i) x) (option_map (λ v. row_for i v DefaultValue) d)) false ≡ is_some x
+given_row i None None e = refl
+given_row i (Some v) None e = refl
+given_row i x (Some v) e = cc
 
-file_row : (t : Tool) → Owns t the_file
-file_row tracer = tracer_file
-file_row runner = runner_file
-file_row checker = checker_row the_file
-file_row verifier = verifier_file
+-- whether an item was given
+abbrev is_given_in : List Row → Item → Bool
+is_given_in rows i = is_given (name_of i) rows
 
-file_given : (t : Tool) (said : Said) → Valid said → is_given (codes "FILE") (ended t said) ≡ is_some (said_of the_file said)
-file_given t said h = ap (λ o. option_map_or (λ (r : Row). explicit_source r.source) o false) (row_ended t the_file said (file_row t) h) ∙ given_row the_file (said_of the_file said)
+given_said : (t : Tool) (i : Item) (said : Said) → Owns t i → default_of i ≡ None → Valid said → is_given_in (ended t said) i ≡ is_said said i
+given_said t i said own needed h =
+    ap (λ o. option_map_or (λ (r : Row). explicit_source r.source) o false) (row_ended t i said own h) ∙ given_row i (said_of i said) (default_of i) needed
 
-witness_given : (said : Said) → Valid said → is_given (codes "WITNESS") (ended verifier said) ≡ is_some (said_of the_witness_file said)
-witness_given said h = ap (λ o. option_map_or (λ (r : Row). explicit_source r.source) o false) (row_ended verifier the_witness_file said verifier_witness h) ∙ given_row the_witness_file (said_of the_witness_file said)
+needed_given : (t : Tool) (said : Said) → Valid said → has_needed t (is_given_in (ended t said)) ≡ has_needed t (is_said said)
+needed_given tracer said h = given_said tracer the_file said tracer_file refl h
+needed_given runner said h = given_said runner the_file said runner_file refl h
+needed_given server said h =
+    ap₂ (λ a b. a && b) (given_said server the_file said server_file refl h) (ap₂ (λ a b. a && b) (given_said server the_port said server_port refl h) (given_said server the_clients said server_clients refl h))
+needed_given checker said h = given_said checker the_file said (checker_row the_file) refl h
+needed_given verifier said h = ap₂ (λ a b. a && b) (given_said verifier the_file said verifier_file refl h) (given_said verifier the_witness_file said verifier_witness refl h)
 
-files_given : (t : Tool) (said : Said) → Valid said → has_files t (is_given (codes "FILE") (ended t said)) (is_given (codes "WITNESS") (ended t said)) ≡ has_files t (is_some (said_of the_file said)) (is_some (said_of the_witness_file said))
-files_given tracer said h = file_given tracer said h
-files_given runner said h = file_given runner said h
-files_given checker said h = file_given checker said h
-files_given verifier said h = ap₂ (λ a b. a && b) (file_given verifier said h) (witness_given said h)
-
--- the fault of words that are left out, by whether any is
+-- the fault of what is left out, by whether nothing is
 abbrev missing_by : Bool → Kinds
 missing_by all = if all then [] else kind.MissingRequiredArgument ∷ []
+
+not_all : (a b c : Bool) → (if not a || (not b || (not c || false)) then kind.MissingRequiredArgument ∷ [] else []) ≡ missing_by (a && (b && c))
+not_all true true true = refl
+not_all true true false = refl
+not_all true false c = refl
+not_all false b c = refl
 
 not_both : (a b : Bool) → (if not a || (not b || false) then kind.MissingRequiredArgument ∷ [] else []) ≡ missing_by (a && b)
 not_both true true = refl
@@ -263,18 +319,19 @@ not_one : (a : Bool) → (if not a || false then kind.MissingRequiredArgument �
 not_one true = refl
 not_one false = refl
 
-check_is : (t : Tool) (rows : List Row) → check_fault (sub t) rows false ≡ missing_by (has_files t (is_given (codes "FILE") rows) (is_given (codes "WITNESS") rows))
+check_is : (t : Tool) (rows : List Row) → check_fault (sub t) rows false ≡ missing_by (has_needed t (is_given_in rows))
 unfolding clap_on_literals
 check_is tracer rows = not_one (is_given (codes "FILE") rows)
 check_is runner rows = not_one (is_given (codes "FILE") rows)
+check_is server rows = not_all (is_given (codes "FILE") rows) (is_given (codes "port") rows) (is_given (codes "clients") rows)
 check_is checker rows = not_one (is_given (codes "FILE") rows)
 check_is verifier rows = not_both (is_given (codes "FILE") rows) (is_given (codes "WITNESS") rows)
 
-with_files : (t : Tool) (rows : List Row) → has_files t (is_given (codes "FILE") rows) (is_given (codes "WITNESS") rows) ≡ true → check_fault (sub t) rows false ≡ []
-with_files t rows e = check_is t rows ∙ ap missing_by e
+with_needed : (t : Tool) (rows : List Row) → has_needed t (is_given_in rows) ≡ true → check_fault (sub t) rows false ≡ []
+with_needed t rows e = check_is t rows ∙ ap missing_by e
 
-without_files : (t : Tool) (rows : List Row) → has_files t (is_given (codes "FILE") rows) (is_given (codes "WITNESS") rows) ≡ false → check_fault (sub t) rows false ≢ []
-without_files t rows e = let P : Kinds → Type 0 = λ ks. ks ≢ [] in subst P (sym (check_is t rows ∙ ap missing_by e)) (λ z. cc)
+without_needed : (t : Tool) (rows : List Row) → has_needed t (is_given_in rows) ≡ false → check_fault (sub t) rows false ≢ []
+without_needed t rows e = let P : Kinds → Type 0 = λ ks. ks ≢ [] in subst P (sym (check_is t rows ∙ ap missing_by e)) (λ z. cc)
 
 abbrev Takes : List Rule → Type 0
 Takes [] = Unit {0}
@@ -295,6 +352,7 @@ pub takes_defaults : (t : Tool) → Takes (rules t)
 unfolding clap_on_literals
 takes_defaults tracer = (refl, (refl, (refl, tt)))
 takes_defaults runner = (refl, (refl, (refl, tt)))
+takes_defaults server = (refl, (refl, (refl, (refl, (refl, tt)))))
 takes_defaults checker = (refl, (refl, (refl, (refl, (refl, (refl, (refl, tt)))))))
 takes_defaults verifier = (refl, (refl, (refl, (refl, tt))))
 
@@ -370,11 +428,11 @@ pub at_end : (t : Tool) (said : Said) (last : Option (Item × Text)) → Valid (
     → Agrees t (found t (text_of (with_last said last))) (end_fault t (held_for said last)) (finished (rules t) (held_for said last))
 at_end t said last h l =
     let all = with_last said last in
-    let asks = asks_with_files t all h in
+    let asks = asks_if_needed t all h in
     let P : Kinds → Type 0 = λ ks. Agrees t (found t (text_of all)) ks (finished (rules t) (held_for said last)) in
     let Q : Held → Type 0 = λ g. Agrees t (found t (text_of all)) (check_fault (sub t) (ended t all) false) (fold with_default g.rows (rules t)) in
     subst P (sym (end_is t said last h l)) (subst Q (sym (settles t said last h l).1)
     (agrees_by t (found t (text_of all)) (check_fault (sub t) (ended t all) false) (ended t all)
-    (λ e. without_files t (ended t all) (files_given t all h ∙ sym asks ∙ e))
-    (λ e. with_files t (ended t all) (files_given t all h ∙ sym asks ∙ e))
+    (λ e. without_needed t (ended t all) (needed_given t all h ∙ sym asks ∙ e))
+    (λ e. with_needed t (ended t all) (needed_given t all h ∙ sym asks ∙ e))
     (found_ended t all h)))

@@ -2,6 +2,7 @@
 use Rattle.std.proofs.Common.{◌≡◌, ◌≢◌, ◌∙◌, ◌&&◌, ◌||◌, Bool, true, false, not, List, [], ◌∷◌, ◌++◌, cond, Option, Some, None, is_some, option_map, find, codes, refl, sym, ap, ap₂, subst, if◌then◌else◌, unwrap_or, arith}
 use Rattle.std.specs.Option.{option_map_or}
 use Rattle.std.specs.Str.{bytes_eq}
+use Rattle.std.proofs.lemmas.Bool.{true≢false}
 use Rattle.std.proofs.lemmas.Slice.Eq.{bytes_eq-Decides}
 use Rattle.clap.specs.Words.{Row, Rule, Shape, Text, built}
 use Rattle.clap.specs.Kinds.{Kinds, or_else}
@@ -16,13 +17,14 @@ use Rattle.clap.specs.declared.error.kind.ErrorKind.TheVariants as kind
 use Rattle.clap.specs.declared.parser.matches.ValueSource.{ValueSource}
 use Rattle.clap.specs.declared.parser.matches.ValueSource.TheVariants.{CommandLine}
 use Rattle.clap.proofs.OnLiterals.{clap_on_literals}
-use Rattle.mpd_options.specs.Asked.{Item, Said, Tool, checker, fits, most_fuel, most_runs, name_of, said_named, said_of, the_file, the_fuel, the_mode, the_runs, the_witness, the_complete, the_witness_file, runner, tracer, verifier}
+use Rattle.mpd_options.specs.Asked.{Item, Said, Tool, checker, fits, most_clients, most_fuel, most_port, most_runs, name_of, said_named, said_of, the_clients, the_file, the_fuel, the_mode, the_port, the_runs, the_witness, the_complete, the_witness_file, runner, server, tracer, verifier}
 use Rattle.mpd_options.specs.Program.{mpdbg_app}
 use Rattle.mpd_options.proofs.NumberReads.{accepts_number}
 
 abbrev pub called : Tool → Text
 called tracer = codes "trace"
 called runner = codes "run"
+called server = codes "serve"
 called checker = codes "check"
 called verifier = codes "verify"
 
@@ -32,7 +34,7 @@ named_among [] word = None
 named_among (t ∷ tools) word = if bytes_eq word (called t) then Some t else named_among tools word
 
 abbrev pub tools : List Tool
-tools = tracer ∷ runner ∷ checker ∷ verifier ∷ []
+tools = tracer ∷ runner ∷ server ∷ checker ∷ verifier ∷ []
 
 -- the word names none of these commands
 abbrev pub NamesNone : Text → List Tool → Type 0
@@ -50,6 +52,7 @@ by_name P word (t ∷ rest) some other = elim (bytes_eq word (called t)) as (λ 
 abbrev pub sub : Tool → Shape
 sub tracer = option_map_or (λ s. s) (find (λ s. answers_to (codes "trace") (label_of s)) (built mpdbg_app).subs) (new_shape [])
 sub runner = option_map_or (λ s. s) (find (λ s. answers_to (codes "run") (label_of s)) (built mpdbg_app).subs) (new_shape [])
+sub server = option_map_or (λ s. s) (find (λ s. answers_to (codes "serve") (label_of s)) (built mpdbg_app).subs) (new_shape [])
 sub checker = option_map_or (λ s. s) (find (λ s. answers_to (codes "check") (label_of s)) (built mpdbg_app).subs) (new_shape [])
 sub verifier = option_map_or (λ s. s) (find (λ s. answers_to (codes "verify") (label_of s)) (built mpdbg_app).subs) (new_shape [])
 
@@ -72,6 +75,10 @@ is_mode _ = false
 abbrev pub asks : Tool → Item → Bool
 asks tracer i = is_mode i
 asks runner i = is_mode i
+asks server the_mode = true
+asks server the_port = true
+asks server the_clients = true
+asks server _ = false
 asks checker the_mode = true
 asks checker the_runs = true
 asks checker the_fuel = true
@@ -82,6 +89,7 @@ asks verifier i = is_mode i
 abbrev pub reads_witness : Tool → Bool
 reads_witness tracer = false
 reads_witness runner = false
+reads_witness server = false
 reads_witness checker = false
 reads_witness verifier = true
 
@@ -90,6 +98,8 @@ abbrev pub keeps : Tool → Item → Bool
 keeps t the_file = true
 keeps t the_witness_file = reads_witness t
 keeps t the_mode = asks t the_mode
+keeps t the_port = asks t the_port
+keeps t the_clients = asks t the_clients
 keeps t the_runs = asks t the_runs
 keeps t the_fuel = asks t the_fuel
 keeps t the_witness = false
@@ -99,62 +109,95 @@ mode_alone : (Q : Item → Type 0) → Q the_mode → (i : Item) → is_mode i �
 mode_alone Q m the_file e = cc
 mode_alone Q m the_witness_file e = cc
 mode_alone Q m the_mode e = m
+mode_alone Q m the_port e = cc
+mode_alone Q m the_clients e = cc
 mode_alone Q m the_runs e = cc
 mode_alone Q m the_fuel e = cc
 mode_alone Q m the_witness e = cc
 mode_alone Q m the_complete e = cc
 
-pub each_asks : (P : Tool → Item → Type 0) → P tracer the_mode → P runner the_mode → P checker the_mode → P checker the_runs → P checker the_fuel → P verifier the_mode → (t : Tool) (i : Item) → asks t i ≡ true → P t i
-each_asks P a r b c d m tracer i e = mode_alone (P tracer) a i e
-each_asks P a r b c d m runner i e = mode_alone (P runner) r i e
-each_asks P a r b c d m checker the_file e = cc
-each_asks P a r b c d m checker the_witness_file e = cc
-each_asks P a r b c d m checker the_mode e = b
-each_asks P a r b c d m checker the_runs e = c
-each_asks P a r b c d m checker the_fuel e = d
-each_asks P a r b c d m checker the_witness e = cc
-each_asks P a r b c d m checker the_complete e = cc
-each_asks P a r b c d m verifier i e = mode_alone (P verifier) m i e
+pub each_asks : (P : Tool → Item → Type 0) → P tracer the_mode → P runner the_mode → P server the_mode → P server the_port → P server the_clients
+    → P checker the_mode → P checker the_runs → P checker the_fuel → P verifier the_mode → (t : Tool) (i : Item) → asks t i ≡ true → P t i
+each_asks P a r s p k b c d m tracer i e = mode_alone (P tracer) a i e
+each_asks P a r s p k b c d m runner i e = mode_alone (P runner) r i e
+each_asks P a r s p k b c d m server the_file e = cc
+each_asks P a r s p k b c d m server the_witness_file e = cc
+each_asks P a r s p k b c d m server the_mode e = s
+each_asks P a r s p k b c d m server the_port e = p
+each_asks P a r s p k b c d m server the_clients e = k
+each_asks P a r s p k b c d m server the_runs e = cc
+each_asks P a r s p k b c d m server the_fuel e = cc
+each_asks P a r s p k b c d m server the_witness e = cc
+each_asks P a r s p k b c d m server the_complete e = cc
+each_asks P a r s p k b c d m checker the_file e = cc
+each_asks P a r s p k b c d m checker the_witness_file e = cc
+each_asks P a r s p k b c d m checker the_mode e = b
+each_asks P a r s p k b c d m checker the_port e = cc
+each_asks P a r s p k b c d m checker the_clients e = cc
+each_asks P a r s p k b c d m checker the_runs e = c
+each_asks P a r s p k b c d m checker the_fuel e = d
+each_asks P a r s p k b c d m checker the_witness e = cc
+each_asks P a r s p k b c d m checker the_complete e = cc
+each_asks P a r s p k b c d m verifier i e = mode_alone (P verifier) m i e
 
 -- a command of one file, whose only option that wants a value is the mode
-one_file : (t : Tool) → reads_witness t ≡ false → asks t the_runs ≡ false → asks t the_fuel ≡ false → (Q : Item → Type 0) → Q the_file → Q the_mode → (i : Item) → keeps t i ≡ true → Q i
-one_file t only runs fuel Q f m the_file e = f
-one_file t only runs fuel Q f m the_witness_file e = cc
-one_file t only runs fuel Q f m the_mode e = m
-one_file t only runs fuel Q f m the_runs e = cc
-one_file t only runs fuel Q f m the_fuel e = cc
-one_file t only runs fuel Q f m the_witness e = cc
-one_file t only runs fuel Q f m the_complete e = cc
+abbrev AsksMode : Tool → Type 0
+AsksMode t = (reads_witness t ≡ false) × (asks t the_port ≡ false) × (asks t the_clients ≡ false) × (asks t the_runs ≡ false) × (asks t the_fuel ≡ false)
 
-pub each_keeps : (P : Tool → Item → Type 0) → P tracer the_file → P runner the_file → P checker the_file → P verifier the_file → P verifier the_witness_file
-    → P tracer the_mode → P runner the_mode → P checker the_mode → P checker the_runs → P checker the_fuel → P verifier the_mode → (t : Tool) (i : Item) → keeps t i ≡ true → P t i
-each_keeps P f q g h w a r b c d m tracer i e = one_file tracer refl refl refl (P tracer) f a i e
-each_keeps P f q g h w a r b c d m runner i e = one_file runner refl refl refl (P runner) q r i e
-each_keeps P f q g h w a r b c d m checker the_file e = g
-each_keeps P f q g h w a r b c d m checker the_witness_file e = cc
-each_keeps P f q g h w a r b c d m checker the_mode e = b
-each_keeps P f q g h w a r b c d m checker the_runs e = c
-each_keeps P f q g h w a r b c d m checker the_fuel e = d
-each_keeps P f q g h w a r b c d m checker the_witness e = cc
-each_keeps P f q g h w a r b c d m checker the_complete e = cc
-each_keeps P f q g h w a r b c d m verifier the_file e = h
-each_keeps P f q g h w a r b c d m verifier the_witness_file e = w
-each_keeps P f q g h w a r b c d m verifier the_mode e = m
-each_keeps P f q g h w a r b c d m verifier the_runs e = cc
-each_keeps P f q g h w a r b c d m verifier the_fuel e = cc
-each_keeps P f q g h w a r b c d m verifier the_witness e = cc
-each_keeps P f q g h w a r b c d m verifier the_complete e = cc
+one_file : (t : Tool) → AsksMode t → (Q : Item → Type 0) → Q the_file → Q the_mode → (i : Item) → keeps t i ≡ true → Q i
+one_file t only Q f m the_file e = f
+one_file t only Q f m the_witness_file e = absurd (true≢false (sym e ∙ only.0))
+one_file t only Q f m the_mode e = m
+one_file t only Q f m the_port e = absurd (true≢false (sym e ∙ only.1))
+one_file t only Q f m the_clients e = absurd (true≢false (sym e ∙ only.2))
+one_file t only Q f m the_runs e = absurd (true≢false (sym e ∙ only.3))
+one_file t only Q f m the_fuel e = absurd (true≢false (sym e ∙ only.4))
+one_file t only Q f m the_witness e = cc
+one_file t only Q f m the_complete e = cc
+
+pub each_keeps : (P : Tool → Item → Type 0) → P tracer the_file → P runner the_file → P server the_file → P checker the_file → P verifier the_file → P verifier the_witness_file
+    → P tracer the_mode → P runner the_mode → P server the_mode → P server the_port → P server the_clients → P checker the_mode → P checker the_runs → P checker the_fuel → P verifier the_mode
+    → (t : Tool) (i : Item) → keeps t i ≡ true → P t i
+each_keeps P f q o g h w a r s p k b c d m tracer i e = one_file tracer (refl, refl, refl, refl, refl) (P tracer) f a i e
+each_keeps P f q o g h w a r s p k b c d m runner i e = one_file runner (refl, refl, refl, refl, refl) (P runner) q r i e
+each_keeps P f q o g h w a r s p k b c d m server the_file e = o
+each_keeps P f q o g h w a r s p k b c d m server the_witness_file e = cc
+each_keeps P f q o g h w a r s p k b c d m server the_mode e = s
+each_keeps P f q o g h w a r s p k b c d m server the_port e = p
+each_keeps P f q o g h w a r s p k b c d m server the_clients e = k
+each_keeps P f q o g h w a r s p k b c d m server the_runs e = cc
+each_keeps P f q o g h w a r s p k b c d m server the_fuel e = cc
+each_keeps P f q o g h w a r s p k b c d m server the_witness e = cc
+each_keeps P f q o g h w a r s p k b c d m server the_complete e = cc
+each_keeps P f q o g h w a r s p k b c d m checker the_file e = g
+each_keeps P f q o g h w a r s p k b c d m checker the_witness_file e = cc
+each_keeps P f q o g h w a r s p k b c d m checker the_mode e = b
+each_keeps P f q o g h w a r s p k b c d m checker the_port e = cc
+each_keeps P f q o g h w a r s p k b c d m checker the_clients e = cc
+each_keeps P f q o g h w a r s p k b c d m checker the_runs e = c
+each_keeps P f q o g h w a r s p k b c d m checker the_fuel e = d
+each_keeps P f q o g h w a r s p k b c d m checker the_witness e = cc
+each_keeps P f q o g h w a r s p k b c d m checker the_complete e = cc
+each_keeps P f q o g h w a r s p k b c d m verifier the_file e = h
+each_keeps P f q o g h w a r s p k b c d m verifier the_witness_file e = w
+each_keeps P f q o g h w a r s p k b c d m verifier the_mode e = m
+each_keeps P f q o g h w a r s p k b c d m verifier the_port e = cc
+each_keeps P f q o g h w a r s p k b c d m verifier the_clients e = cc
+each_keeps P f q o g h w a r s p k b c d m verifier the_runs e = cc
+each_keeps P f q o g h w a r s p k b c d m verifier the_fuel e = cc
+each_keeps P f q o g h w a r s p k b c d m verifier the_witness e = cc
+each_keeps P f q o g h w a r s p k b c d m verifier the_complete e = cc
 
 pub asks_keeps : (t : Tool) (i : Item) → asks t i ≡ true → keeps t i ≡ true
-asks_keeps = each_asks (λ t i. keeps t i ≡ true) refl refl refl refl refl refl
+asks_keeps = each_asks (λ t i. keeps t i ≡ true) refl refl refl refl refl refl refl refl refl
 
 pub by_id : (t : Tool) (i : Item) → keeps t i ≡ true → arg_by_id (rules t) (name_of i) ≡ Some (arg t i)
 unfolding clap_on_literals
-by_id = each_keeps (λ t i. arg_by_id (rules t) (name_of i) ≡ Some (arg t i)) refl refl refl refl refl refl refl refl refl refl refl
+by_id = each_keeps (λ t i. arg_by_id (rules t) (name_of i) ≡ Some (arg t i)) refl refl refl refl refl refl refl refl refl refl refl refl refl refl refl
 
 pub by_long : (t : Tool) (i : Item) → asks t i ≡ true → arg_by_long (rules t) (name_of i) ≡ Some (arg t i)
 unfolding clap_on_literals
-by_long = each_asks (λ t i. arg_by_long (rules t) (name_of i) ≡ Some (arg t i)) refl refl refl refl refl refl
+by_long = each_asks (λ t i. arg_by_long (rules t) (name_of i) ≡ Some (arg t i)) refl refl refl refl refl refl refl refl refl
 
 -- the flags, which have no value
 abbrev pub flags : Tool → Item → Bool
@@ -165,9 +208,12 @@ flags _ _ = false
 pub each_flag : (P : Tool → Item → Type 0) → P checker the_witness → P checker the_complete → (t : Tool) (i : Item) → flags t i ≡ true → P t i
 each_flag P w x tracer i e = cc
 each_flag P w x runner i e = cc
+each_flag P w x server i e = cc
 each_flag P w x checker the_file e = cc
 each_flag P w x checker the_witness_file e = cc
 each_flag P w x checker the_mode e = cc
+each_flag P w x checker the_port e = cc
+each_flag P w x checker the_clients e = cc
 each_flag P w x checker the_runs e = cc
 each_flag P w x checker the_fuel e = cc
 each_flag P w x checker the_witness e = w
@@ -184,6 +230,8 @@ abbrev accepted : Item → Text → Bool
 accepted the_file text = true
 accepted the_witness_file text = true
 accepted the_mode text = true
+accepted the_port text = is_unsigned_in 1 most_port text
+accepted the_clients text = is_unsigned_in 1 most_clients text
 accepted the_runs text = is_unsigned_in 1 most_runs text
 accepted the_fuel text = is_unsigned_in 1 most_fuel text
 accepted the_witness text = true
@@ -191,7 +239,8 @@ accepted the_complete text = true
 
 accepted_fits : (t : Tool) (i : Item) (v : Text) → keeps t i ≡ true → accepted i v ≡ fits i v
 accepted_fits t i v k =
-    each_keeps (λ t i. accepted i v ≡ fits i v) refl refl refl refl refl refl refl refl (accepts_number 1 most_runs v (omega arith)) (accepts_number 1 most_fuel v (omega arith)) refl t i k
+    each_keeps (λ t i. accepted i v ≡ fits i v) refl refl refl refl refl refl refl refl refl (accepts_number 1 most_port v (omega arith)) (accepts_number 1 most_clients v (omega arith)) refl
+    (accepts_number 1 most_runs v (omega arith)) (accepts_number 1 most_fuel v (omega arith)) refl t i k
 
 -- the fault of a value, by whether it is taken
 abbrev value_fault : ErrorKind → Bool → Kinds
@@ -204,7 +253,7 @@ again_fault again = if again && not false then kind.ArgumentConflict ∷ [] else
 use_is : (v : Text) (rows : List Row) (t : Tool) (i : Item) → keeps t i ≡ true
     → use_fault false (arg t i) (v ∷ []) rows ≡ or_else (again_fault (has_row (name_of i) rows)) (value_fault kind.ValueValidation (accepted i v))
 unfolding clap_on_literals
-use_is v rows = each_keeps (λ t i. use_fault false (arg t i) (v ∷ []) rows ≡ or_else (again_fault (has_row (name_of i) rows)) (value_fault kind.ValueValidation (accepted i v))) refl refl refl refl refl refl refl refl refl refl refl
+use_is v rows = each_keeps (λ t i. use_fault false (arg t i) (v ∷ []) rows ≡ or_else (again_fault (has_row (name_of i) rows)) (value_fault kind.ValueValidation (accepted i v))) refl refl refl refl refl refl refl refl refl refl refl refl refl refl refl
 
 flag_use_is : (rows : List Row) (t : Tool) (i : Item) → flags t i ≡ true → use_fault false (arg t i) [] rows ≡ or_else (again_fault (has_row (name_of i) rows)) []
 unfolding clap_on_literals
@@ -257,7 +306,7 @@ some_fault (k ∷ ks) e = λ z. cc
 -- an option that waits for its value still
 pub no_value : (rows : List Row) (t : Tool) (i : Item) → asks t i ≡ true → use_fault false (arg t i) [] rows ≢ []
 unfolding clap_on_literals
-no_value rows = each_asks (λ t i. use_fault false (arg t i) [] rows ≢ []) (some_fault _ refl) (some_fault _ refl) (some_fault _ refl) (some_fault _ refl) (some_fault _ refl) (some_fault _ refl)
+no_value rows = each_asks (λ t i. use_fault false (arg t i) [] rows ≢ []) (some_fault _ refl) (some_fault _ refl) (some_fault _ refl) (some_fault _ refl) (some_fault _ refl) (some_fault _ refl) (some_fault _ refl) (some_fault _ refl) (some_fault _ refl)
 
 -- ---- rows
 
@@ -288,7 +337,7 @@ values_at_end id how source values (r ∷ rs) h =
 
 used_is : (v : Text) (rows : List Row) (t : Tool) (i : Item) → keeps t i ≡ true → used (arg t i) (v ∷ []) rows ≡ with_values (name_of i) AsWritten CommandLine (v ∷ []) (without (name_of i) rows)
 unfolding clap_on_literals
-used_is v rows = each_keeps (λ t i. used (arg t i) (v ∷ []) rows ≡ with_values (name_of i) AsWritten CommandLine (v ∷ []) (without (name_of i) rows)) refl refl refl refl refl refl refl refl refl refl refl
+used_is v rows = each_keeps (λ t i. used (arg t i) (v ∷ []) rows ≡ with_values (name_of i) AsWritten CommandLine (v ∷ []) (without (name_of i) rows)) refl refl refl refl refl refl refl refl refl refl refl refl refl refl refl
 
 at_end_of : (i : Item) (v : Text) (rows : List Row) → has_row (name_of i) rows ≡ false → with_values (name_of i) AsWritten CommandLine (v ∷ []) (without (name_of i) rows) ≡ rows ++ row_for i v CommandLine ∷ []
 at_end_of i v rows h = ap (λ rs. with_values (name_of i) AsWritten CommandLine (v ∷ []) rs) (without_none (name_of i) rows h) ∙ values_at_end (name_of i) AsWritten CommandLine (v ∷ []) rows h

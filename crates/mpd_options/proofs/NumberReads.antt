@@ -116,9 +116,9 @@ to_digits (c ∷ cs) e =
     let small : digit_value c < 10 = omega (arith, is_decimal c parts.0, top) in
     (small, to_digits cs parts.1)
 
-pub number_read : {E : Type 0} (G : List ℕ → Result ℕ E → Type 0) (low high : ℕ) (text : List ℕ) (n : ℕ) (r : Option ℕ) → ((u : List ℕ) (x : Result ℕ E) → G u x → ParsesUnsigned 64 10 u x)
-    → high < 2 ^ 64 → number_in low high text ≡ Some n → ReadsOne G text r → r ≡ Some n
-number_read G low high text n r parses small is gives =
+pub number_read : {E : Type 0} (bits : ℕ) (G : List ℕ → Result ℕ E → Type 0) (low high : ℕ) (text : List ℕ) (n : ℕ) (r : Option ℕ) → ((u : List ℕ) (x : Result ℕ E) → G u x → ParsesUnsigned bits 10 u x)
+    → high < 2 ^ bits → number_in low high text ≡ Some n → ReadsOne G text r → r ≡ Some n
+number_read bits G low high text n r parses small is gives =
     let facts = of_digits low high (without_plus text) n is in
     let parts = both _ _ facts.number in
     let value : digits_value 10 (without_leading_plus text) ≡ n = ap (digits_value 10) (plus_same text) ∙ value_same (without_plus text) 0 parts.1 ∙ facts.value in

@@ -15,10 +15,10 @@ use Rattle.clap.specs.declared.parser.matches.ArgMatches.TheViews.{out-ArgMatche
 use Rattle.clap.specs.declared.parser.matches.Found.{Found}
 use Rattle.clap.proofs.OnLiterals.{clap_on_literals}
 use Rattle.clap.proofs.WalkLemmas.{first_value-rows, one_text-rows}
-use Rattle.mpd_options.specs.Asked.{Asked, IsFound, IsInRange, Item, Tool, asked, check, checker, found, found_by, found_check, found_in, found_of_command, found_of_file, found_verify, meant, most_fuel, most_runs, text_in, the_file, the_fuel, the_mode, the_runs, the_witness, the_complete, the_witness_file, tool_named, run, runner, trace, tracer, verifier, verify}
+use Rattle.mpd_options.specs.Asked.{Asked, IsFound, IsInRange, Item, Tool, asked, check, checker, found, found_by, found_check, found_in, found_of_command, found_of_file, found_serve, found_verify, meant, most_clients, most_fuel, most_port, most_runs, text_in, the_clients, the_file, the_fuel, the_mode, the_port, the_runs, the_witness, the_complete, the_witness_file, tool_named, run, runner, serve, server, trace, tracer, verifier, verify}
 use Rattle.mpd_options.specs.Numbers.{flag_in, number_in, without_plus}
 use Rattle.mpd_options.specs.declared.options.Options.{Options}
-use Rattle.mpd_options.specs.declared.options.Options.TheVariants.{Plain, Trace, Run, Check, Verify}
+use Rattle.mpd_options.specs.declared.options.Options.TheVariants.{Plain, Trace, Run, Serve, Check, Verify}
 use Rattle.mpd_options.specs.Program.{mpdbg_app}
 use Rattle.mpd_options.specs.Refused.{IsRefused, is_memory, usage_of}
 use Rattle.mpd_options.specs.declared.options.UsageFault.TheVariants.{Usage, Memory}
@@ -91,6 +91,7 @@ named n r (Some b) t rows name is = (let e : n b ≡ t = cc in let f : r b ≡ r
 named_tool : (t : Tool) (rows : List Row) → found_of_command (Some (called t, rows)) ≡ found_in t rows
 named_tool tracer rows = refl
 named_tool runner rows = refl
+named_tool server rows = refl
 named_tool checker rows = refl
 named_tool verifier rows = refl
 
@@ -120,6 +121,19 @@ some_three (Some f) None m e = cc
 some_three (Some f) (Some w) None e = cc
 some_three (Some f) (Some w) (Some m) e = (refl, refl, refl)
 
+pub record HasServed (f m : Option Text) (p c : Option ℕ) : Type 0 where
+  pub file : is_some f ≡ true
+  pub mode : is_some m ≡ true
+  pub port : is_some p ≡ true
+  pub clients : is_some c ≡ true
+
+some_served : (f m : Option Text) (p c : Option ℕ) → is_some (found_serve f m p c) ≡ true → HasServed f m p c
+some_served None m p c e = cc
+some_served (Some f) None p c e = cc
+some_served (Some f) (Some m) None c e = cc
+some_served (Some f) (Some m) (Some p) None e = cc
+some_served (Some f) (Some m) (Some p) (Some c) e = record { file = refl; mode = refl; port = refl; clients = refl }
+
 pub record HasAll (f m : Option Text) (r n : Option ℕ) (w x : Option Bool) : Type 0 where
   pub file : is_some f ≡ true
   pub mode : is_some m ≡ true
@@ -140,12 +154,14 @@ some_all (Some f) (Some m) (Some r) (Some n) (Some w) (Some x) e = record { file
 pub has_file : (t : Tool) (rows : List Row) → is_some (found_in t rows) ≡ true → is_some (first_of (codes "FILE") rows) ≡ true
 has_file tracer rows e = (some_both trace _ _ e).0
 has_file runner rows e = (some_both run _ _ e).0
+has_file server rows e = (some_served _ _ _ _ e).file
 has_file checker rows e = (some_all _ _ _ _ _ _ e).file
 has_file verifier rows e = (some_three _ _ _ e).0
 
 pub has_mode : (t : Tool) (rows : List Row) → is_some (found_in t rows) ≡ true → is_some (first_of (codes "mode") rows) ≡ true
 has_mode tracer rows e = (some_both trace _ _ e).1
 has_mode runner rows e = (some_both run _ _ e).1
+has_mode server rows e = (some_served _ _ _ _ e).mode
 has_mode checker rows e = (some_all _ _ _ _ _ _ e).mode
 has_mode verifier rows e = (some_three _ _ _ e).2
 
@@ -172,17 +188,17 @@ three_found file witness mode e h k = rw (e, h, k) refl
 abbrev number_at : ℕ → Text → Found → Option ℕ
 number_at most id f = option_and_then (number_in 1 most) (one_of id (rows_of f))
 
-read_some : {E : Type 0} (G : List ℕ → Result ℕ E → Type 0) (most : ℕ) (o : Option Text) (r : Option ℕ) → ((u : List ℕ) (x : Result ℕ E) → G u x → ParsesUnsigned 64 10 u x) → most < 2 ^ 64
+read_some : {E : Type 0} (bits : ℕ) (G : List ℕ → Result ℕ E → Type 0) (most : ℕ) (o : Option Text) (r : Option ℕ) → ((u : List ℕ) (x : Result ℕ E) → G u x → ParsesUnsigned bits 10 u x) → most < 2 ^ bits
     → ((t : Text) → o ≡ Some t → ReadsOne G t r) → is_some (option_and_then (number_in 1 most) o) ≡ true → r ≡ option_and_then (number_in 1 most) o
-read_some G most None r parses small reads some = cc
-read_some G most (Some t) r parses small reads some = elim (number_in 1 most t) as (λ x. number_in 1 most t ≡ x → is_some x ≡ true → r ≡ x) [
+read_some bits G most None r parses small reads some = cc
+read_some bits G most (Some t) r parses small reads some = elim (number_in 1 most t) as (λ x. number_in 1 most t ≡ x → is_some x ≡ true → r ≡ x) [
   | None ↦ λ e h. cc
-  | Some n ↦ λ e h. number_read G 1 most t n r parses small e (reads t refl)
+  | Some n ↦ λ e h. number_read bits G 1 most t n r parses small e (reads t refl)
 ] refl some
 
-pub number_found : {E : Type 0} (G : List ℕ → Result ℕ E → Type 0) (most : ℕ) (f : Found) (id : Text) (r : Option ℕ) → ((u : List ℕ) (x : Result ℕ E) → G u x → ParsesUnsigned 64 10 u x) → most < 2 ^ 64
+pub number_found : {E : Type 0} (bits : ℕ) (G : List ℕ → Result ℕ E → Type 0) (most : ℕ) (f : Found) (id : Text) (r : Option ℕ) → ((u : List ℕ) (x : Result ℕ E) → G u x → ParsesUnsigned bits 10 u x) → most < 2 ^ bits
     → ((t : Text) → one_text f id ≡ Some t → ReadsOne G t r) → is_some (number_at most id f) ≡ true → r ≡ number_at most id f
-number_found G most f id r parses small reads some = read_some G most (one_of id (rows_of f)) r parses small (λ t e. reads t (one_text-rows f id ∙ e)) some
+number_found bits G most f id r parses small reads some = read_some bits G most (one_of id (rows_of f)) r parses small (λ t e. reads t (one_text-rows f id ∙ e)) some
 
 pub no_number : (r o : Option ℕ) → r ≡ o → r ≡ None → is_some o ≡ true → ⊥
 no_number r o e none some = (let bad : false ≡ true = sym (ap is_some (sym e ∙ none)) ∙ some in cc)
@@ -205,6 +221,17 @@ flag_some (Some t) b on off some =
 pub flag_found : (f : Found) (id : Text) (b : Bool) → (one_text f id ≡ Some (codes "true") → b ≡ true) → (one_text f id ≡ Some (codes "false") → b ≡ false) → is_some (flag_at id f) ≡ true → flag_at id f ≡ Some b
 flag_found f id b on off some = flag_some (one_of id (rows_of f)) b (λ e. on (one_text-rows f id ∙ e)) (λ e. off (one_text-rows f id ∙ e)) some
 
+pub has_served : (f : Found) → is_some (found_in server (rows_of f)) ≡ true
+    → HasServed (first_of (codes "FILE") (rows_of f)) (first_of (codes "mode") (rows_of f)) (number_at most_port (codes "port") f) (number_at most_clients (codes "clients") f)
+has_served f e = some_served _ _ _ _ e
+
+pub served_found : (f : Found) (file mode : Text) (port clients : ℕ) → first_of (codes "FILE") (rows_of f) ≡ Some file → first_of (codes "mode") (rows_of f) ≡ Some mode
+    → number_at most_port (codes "port") f ≡ Some port → number_at most_clients (codes "clients") f ≡ Some clients → Some (serve file mode port clients) ≡ found_in server (rows_of f)
+served_found f file mode port clients a b c d = sym (four a b c d)
+  where
+    four : {f' m' : Option Text} {p' c' : Option ℕ} → f' ≡ Some file → m' ≡ Some mode → p' ≡ Some port → c' ≡ Some clients → found_serve f' m' p' c' ≡ Some (serve file mode port clients)
+    four a b c d = rw (a, b, c, d) refl
+
 pub has_all : (f : Found) → is_some (found_in checker (rows_of f)) ≡ true
     → HasAll (first_of (codes "FILE") (rows_of f)) (first_of (codes "mode") (rows_of f)) (number_at most_runs (codes "runs") f) (number_at most_fuel (codes "fuel") f) (flag_at (codes "witness") f)
     (flag_at (codes "complete") f)
@@ -221,54 +248,81 @@ all_found f file mode runs fuel witness complete a b c d e g = sym (six a b c d 
 
 -- ---- numbers lie in their ranges
 
-in_range : (high : ℕ) (t : Option Text) (n : ℕ) → option_and_then (number_in 1 high) t ≡ Some n → (1 ≤ n) × (n ≤ high)
-in_range high None n e = cc
-in_range high (Some t) n e = (let facts = of_digits 1 high (without_plus t) n e in (facts.least, facts.most))
+-- what is asked for has each number in its range
+abbrev HasRange : Asked → Type 0
+HasRange (serve file mode port clients) = (1 ≤ port) × (port ≤ most_port) × (1 ≤ clients) × (clients ≤ most_clients)
+HasRange (check file mode runs fuel witness complete) = (1 ≤ runs) × (runs ≤ most_runs) × (1 ≤ fuel) × (fuel ≤ most_fuel)
+HasRange _ = Unit {0}
 
-same_parts : (f m : Option Text) (r n : Option ℕ) (w x : Option Bool) (file mode : Text) (runs fuel : ℕ) (witness complete : Bool) → Some (check file mode runs fuel witness complete) ≡ found_check f m r n w x
-    → (r ≡ Some runs) × (n ≡ Some fuel)
-same_parts None m r n w x file mode runs fuel witness complete e = cc
-same_parts (Some f) None r n w x file mode runs fuel witness complete e = cc
-same_parts (Some f) (Some m) None n w x file mode runs fuel witness complete e = cc
-same_parts (Some f) (Some m) (Some r) None w x file mode runs fuel witness complete e = cc
-same_parts (Some f) (Some m) (Some r) (Some n) None x file mode runs fuel witness complete e = cc
-same_parts (Some f) (Some m) (Some r) (Some n) (Some w) None file mode runs fuel witness complete e = cc
-same_parts (Some f) (Some m) (Some r) (Some n) (Some w) (Some x) file mode runs fuel witness complete e = (cc, cc)
+range_asked : (options : Options) → HasRange (asked options) → IsInRange options
+range_asked Plain h = tt
+range_asked (Trace file mode) h = tt
+range_asked (Run file mode) h = tt
+range_asked (Serve file mode port clients) h = h
+range_asked (Check file mode runs fuel witness complete) h = h
+range_asked (Verify file witness mode) h = tt
 
-no_file : (asks : Text → Text → Asked) (x : Asked) (f m : Option Text) → ((file mode : Text) → x ≡ asks file mode → ⊥) → Some x ≡ found_of_file asks f m → ⊥
-no_file asks x None m other e = cc
-no_file asks x (Some f) None other e = cc
-no_file asks x (Some f) (Some m) other e = other f m cc
+abbrev RangeOf : Option Asked → Type 0
+RangeOf None = Unit {0}
+RangeOf (Some x) = HasRange x
 
-no_verify : (f w m : Option Text) (file mode : Text) (runs fuel : ℕ) (witness complete : Bool) → Some (check file mode runs fuel witness complete) ≡ found_verify f w m → ⊥
-no_verify None w m file mode runs fuel witness complete e = cc
-no_verify (Some f) None m file mode runs fuel witness complete e = cc
-no_verify (Some f) (Some w) None file mode runs fuel witness complete e = cc
-no_verify (Some f) (Some w) (Some m) file mode runs fuel witness complete e = cc
+-- a number that was found lies in its range
+abbrev Within : ℕ → Option ℕ → Type 0
+Within high None = Unit {0}
+Within high (Some n) = (1 ≤ n) × (n ≤ high)
 
-range_check : (text : Item → Option Text) (file mode : Text) (runs fuel : ℕ) (witness complete : Bool) → Some (check file mode runs fuel witness complete) ≡ found checker text → (1 ≤ runs) × (runs ≤ most_runs) × (1 ≤ fuel) × (fuel ≤ most_fuel)
-range_check text file mode runs fuel witness complete e =
-    let parts = same_parts (text the_file) (text the_mode) (option_and_then (number_in 1 most_runs) (text the_runs)) (option_and_then (number_in 1 most_fuel) (text the_fuel)) (option_and_then flag_in (text the_witness)) (option_and_then flag_in (text the_complete)) file mode runs fuel witness complete e in
-    let r = in_range most_runs (text the_runs) runs parts.0 in
-    let n = in_range most_fuel (text the_fuel) fuel parts.1 in
-    (r.0, r.1, n.0, n.1)
+within : (high : ℕ) (t : Text) (o : Option ℕ) → number_in 1 high t ≡ o → Within high o
+within high t None e = tt
+within high t (Some n) e = (let facts = of_digits 1 high (without_plus t) n e in (facts.least, facts.most))
 
-range_by : (o : Option Tool) (rows : List Row) (options : Options) → Some (asked options) ≡ found_by o rows → IsInRange options
-range_by o rows Plain e = tt
-range_by o rows (Trace file mode) e = tt
-range_by o rows (Run file mode) e = tt
-range_by o rows (Verify file witness mode) e = tt
-range_by None rows (Check file mode runs fuel witness complete) e = cc
-range_by (Some tracer) rows (Check file mode runs fuel witness complete) e =
-    absurd (no_file trace (check file.now mode.now runs fuel witness complete) (text_in rows the_file) (text_in rows the_mode) (λ f m h. cc) e)
-range_by (Some runner) rows (Check file mode runs fuel witness complete) e =
-    absurd (no_file run (check file.now mode.now runs fuel witness complete) (text_in rows the_file) (text_in rows the_mode) (λ f m h. cc) e)
-range_by (Some verifier) rows (Check file mode runs fuel witness complete) e = absurd (no_verify (text_in rows the_file) (text_in rows the_witness_file) (text_in rows the_mode) file.now mode.now runs fuel witness complete e)
-range_by (Some checker) rows (Check file mode runs fuel witness complete) e = range_check (text_in rows) file.now mode.now runs fuel witness complete e
+read_within : (high : ℕ) (t : Option Text) → Within high (option_and_then (number_in 1 high) t)
+read_within high None = tt
+read_within high (Some t) = within high t (number_in 1 high t) refl
+
+file_range : (asks : Text → Text → Asked) (f m : Option Text) → ((f m : Text) → HasRange (asks f m)) → RangeOf (found_of_file asks f m)
+file_range asks None m h = tt
+file_range asks (Some f) None h = tt
+file_range asks (Some f) (Some m) h = h f m
+
+serve_range : (f m : Option Text) (p c : Option ℕ) → Within most_port p → Within most_clients c → RangeOf (found_serve f m p c)
+serve_range None m p c a b = tt
+serve_range (Some f) None p c a b = tt
+serve_range (Some f) (Some m) None c a b = tt
+serve_range (Some f) (Some m) (Some p) None a b = tt
+serve_range (Some f) (Some m) (Some p) (Some c) a b = (a.0, a.1, b.0, b.1)
+
+check_range : (f m : Option Text) (r n : Option ℕ) (w x : Option Bool) → Within most_runs r → Within most_fuel n → RangeOf (found_check f m r n w x)
+check_range None m r n w x a b = tt
+check_range (Some f) None r n w x a b = tt
+check_range (Some f) (Some m) None n w x a b = tt
+check_range (Some f) (Some m) (Some r) None w x a b = tt
+check_range (Some f) (Some m) (Some r) (Some n) None x a b = tt
+check_range (Some f) (Some m) (Some r) (Some n) (Some w) None a b = tt
+check_range (Some f) (Some m) (Some r) (Some n) (Some w) (Some x) a b = (a.0, a.1, b.0, b.1)
+
+verify_range : (f w m : Option Text) → RangeOf (found_verify f w m)
+verify_range None w m = tt
+verify_range (Some f) None m = tt
+verify_range (Some f) (Some w) None = tt
+verify_range (Some f) (Some w) (Some m) = tt
+
+found_range : (t : Tool) (text : Item → Option Text) → RangeOf (found t text)
+found_range tracer text = file_range trace (text the_file) (text the_mode) (λ f m. tt)
+found_range runner text = file_range run (text the_file) (text the_mode) (λ f m. tt)
+found_range server text =
+    serve_range (text the_file) (text the_mode) (option_and_then (number_in 1 most_port) (text the_port)) (option_and_then (number_in 1 most_clients) (text the_clients)) (read_within most_port (text the_port)) (read_within most_clients (text the_clients))
+found_range checker text =
+    check_range (text the_file) (text the_mode) (option_and_then (number_in 1 most_runs) (text the_runs)) (option_and_then (number_in 1 most_fuel) (text the_fuel)) (option_and_then flag_in (text the_witness)) (option_and_then flag_in (text the_complete))
+    (read_within most_runs (text the_runs)) (read_within most_fuel (text the_fuel))
+found_range verifier text = verify_range (text the_file) (text the_witness_file) (text the_mode)
+
+range_by : (o : Option Tool) (rows : List Row) → RangeOf (found_by o rows)
+range_by None rows = tt
+range_by (Some t) rows = found_range t (text_in rows)
+
+command_range : (command : Option (Text × List Row)) → RangeOf (found_of_command command)
+command_range None = tt
+command_range (Some command) = range_by (tool_named command.0) command.1
 
 pub range_of : (command : Option (Text × List Row)) (options : Options) → Some (asked options) ≡ found_of_command command → IsInRange options
-range_of None options e = none_asked options e
-  where
-    none_asked : (options : Options) → Some (asked options) ≡ None → IsInRange options
-    none_asked options e = cc
-range_of (Some command) options e = range_by (tool_named command.0) command.1 options e
+range_of command options e = range_asked options (subst RangeOf (sym e) (command_range command))

@@ -11,7 +11,7 @@ use Rattle.clap.specs.Kinds.{Kinds, or_else}
 use Rattle.clap.specs.Faults.{settle_fault, turn_fault, step_fault, long_fault, bundle_fault, flags_fault, short_fault, flag_word_fault}
 use Rattle.clap.specs.Walk.{Held, Walk, Waiting, idle, option, Step, trailing, value, Outcome, plain, walked, settled, arg_by_long, arg_by_short, arg_by_index, is_pending, long_met, long_or_other, short_or_plain, plain_word, pushed, after_flag, after_step, to_positional, bundle, bundle_met}
 use Rattle.clap.proofs.OnLiterals.{clap_on_literals}
-use Rattle.mpd_options.specs.Asked.{Item, Place, Said, Tool, among_options, behind_dashes, behind_option, by_letters, checker, dashes, fits, long_or_short, name_of, named_so, no_option, files_of, option_among, options_of, other_option, said_of, short_option, the_file, the_fuel, the_mode, the_runs, the_witness, the_complete, the_witness_file, runner, tracer, unsaid, verifier, word_of}
+use Rattle.mpd_options.specs.Asked.{Item, Place, Said, Tool, among_options, behind_dashes, behind_option, by_letters, checker, dashes, fits, long_or_short, name_of, named_so, no_option, files_of, option_among, options_of, other_option, said_of, short_option, the_clients, the_file, the_fuel, the_mode, the_port, the_runs, the_witness, the_complete, the_witness_file, runner, server, tracer, unsaid, verifier, word_of}
 use Rattle.mpd_options.proofs.Ends.{IsLast, fails_first, fails_then, held, held_for, settles, with_last}
 use Rattle.mpd_options.proofs.Items.{Valid, arg, asks, by_long, flags, flag_by_long, help_arg, keeps, reads_witness, rows_for, rules, some_fault, sub}
 
@@ -23,6 +23,8 @@ help_fails tracer None h = fails_then (settle_fault (rules tracer) false h) _ (s
 help_fails tracer (Some x) h = some_fault _ refl
 help_fails runner None h = fails_then (settle_fault (rules runner) false h) _ (some_fault _ refl)
 help_fails runner (Some x) h = some_fault _ refl
+help_fails server None h = fails_then (settle_fault (rules server) false h) _ (some_fault _ refl)
+help_fails server (Some x) h = some_fault _ refl
 help_fails checker None h = fails_then (settle_fault (rules checker) false h) _ (some_fault _ refl)
 help_fails checker (Some x) h = some_fault _ refl
 help_fails verifier None h = fails_then (settle_fault (rules verifier) false h) _ (some_fault _ refl)
@@ -32,6 +34,7 @@ help_fails verifier (Some x) h = some_fault _ refl
 abbrev pub Unnamed : Tool → Text → Type 0
 Unnamed tracer name = bytes_eq (codes "mode") name ≡ false
 Unnamed runner name = bytes_eq (codes "mode") name ≡ false
+Unnamed server name = (bytes_eq (codes "mode") name ≡ false) × (bytes_eq (codes "port") name ≡ false) × (bytes_eq (codes "clients") name ≡ false)
 Unnamed checker name = (bytes_eq (codes "mode") name ≡ false) × (bytes_eq (codes "runs") name ≡ false) × (bytes_eq (codes "fuel") name ≡ false) × (bytes_eq (codes "witness") name ≡ false)
     × (bytes_eq (codes "complete") name ≡ false)
 Unnamed verifier name = bytes_eq (codes "mode") name ≡ false
@@ -40,6 +43,7 @@ find_help : (t : Tool) (name : Text) → Unnamed t name → bytes_eq (codes "hel
 unfolding clap_on_literals
 find_help tracer name u h = rw (u, h) refl
 find_help runner name u h = rw (u, h) refl
+find_help server name u h = rw (u.0, u.1, u.2, h) refl
 find_help checker name u h = rw (u.0, u.1, u.2, u.3, u.4, h) refl
 find_help verifier name u h = rw (u, h) refl
 
@@ -47,6 +51,7 @@ find_none : (t : Tool) (name : Text) → Unnamed t name → bytes_eq (codes "hel
 unfolding clap_on_literals
 find_none tracer name u h = rw (u, h) refl
 find_none runner name u h = rw (u, h) refl
+find_none server name u h = rw (u.0, u.1, u.2, h) refl
 find_none checker name u h = rw (u.0, u.1, u.2, u.3, u.4, h) refl
 find_none verifier name u h = rw (u, h) refl
 
@@ -77,6 +82,16 @@ names_mode t name only asking unnamed = elim (bytes_eq (codes "mode") name) as (
 pub names : (t : Tool) (name : Text) → Names t name
 names tracer name = names_mode tracer name refl refl (λ e. e)
 names runner name = names_mode runner name refl refl (λ e. e)
+names server name = elim (bytes_eq (codes "mode") name) as (λ b. bytes_eq (codes "mode") name ≡ b → Names server name) [
+  | true ↦ λ m. names_option the_mode refl (rw m refl) (long_named server the_mode name m (by_long server the_mode refl))
+  | false ↦ λ m. elim (bytes_eq (codes "port") name) as (λ b. bytes_eq (codes "port") name ≡ b → Names server name) [
+    | true ↦ λ p. names_option the_port refl (rw (m, p) refl) (long_named server the_port name p (by_long server the_port refl))
+    | false ↦ λ p. elim (bytes_eq (codes "clients") name) as (λ b. bytes_eq (codes "clients") name ≡ b → Names server name) [
+      | true ↦ λ c. names_option the_clients refl (rw (m, p, c) refl) (long_named server the_clients name c (by_long server the_clients refl))
+      | false ↦ λ c. names_none (m, p, c) (rw (m, p, c) refl)
+    ] refl
+  ] refl
+] refl
 names checker name = elim (bytes_eq (codes "mode") name) as (λ b. bytes_eq (codes "mode") name ≡ b → Names checker name) [
   | true ↦ λ m. names_option the_mode refl (rw m refl) (long_named checker the_mode name m (by_long checker the_mode refl))
   | false ↦ λ m. elim (bytes_eq (codes "runs") name) as (λ b. bytes_eq (codes "runs") name ≡ b → Names checker name) [
@@ -105,6 +120,10 @@ letter_fails tracer x rest h next = elim (104 == x) as (λ b. (104 == x) ≡ b �
 ] refl
 letter_fails runner x rest h next = elim (104 == x) as (λ b. (104 == x) ≡ b → short_fault (rules runner) false (arg_by_short (rules runner) x) rest h next ≢ []) [
   | true ↦ λ e. rw e (fails_first _ _ (fails_then (settle_fault (rules runner) false h) _ (some_fault _ refl)))
+  | false ↦ λ e. rw e (some_fault _ refl)
+] refl
+letter_fails server x rest h next = elim (104 == x) as (λ b. (104 == x) ≡ b → short_fault (rules server) false (arg_by_short (rules server) x) rest h next ≢ []) [
+  | true ↦ λ e. rw e (fails_first _ _ (fails_then (settle_fault (rules server) false h) _ (some_fault _ refl)))
   | false ↦ λ e. rw e (some_fault _ refl)
 ] refl
 letter_fails checker x rest h next = elim (104 == x) as (λ b. (104 == x) ≡ b → short_fault (rules checker) false (arg_by_short (rules checker) x) rest h next ≢ []) [
@@ -262,6 +281,8 @@ turns tracer None position word h = refl
 turns tracer (Some id) position word h = refl
 turns runner None position word h = refl
 turns runner (Some id) position word h = refl
+turns server None position word h = refl
+turns server (Some id) position word h = refl
 turns checker None position word h = refl
 turns checker (Some id) position word h = refl
 turns verifier None position word h = refl
@@ -339,28 +360,33 @@ only_file : (t : Tool) → reads_witness t ≡ false → (Q : Item → Type 0) �
 only_file t only Q f the_file e = f
 only_file t only Q f the_witness_file e = cc
 only_file t only Q f the_mode e = cc
+only_file t only Q f the_port e = cc
+only_file t only Q f the_clients e = cc
 only_file t only Q f the_runs e = cc
 only_file t only Q f the_fuel e = cc
 only_file t only Q f the_witness e = cc
 only_file t only Q f the_complete e = cc
 
-each_file : (P : Tool → Item → Type 0) → P tracer the_file → P runner the_file → P checker the_file → P verifier the_file → P verifier the_witness_file → (t : Tool) (i : Item) → is_file t i ≡ true → P t i
-each_file P a r b c d tracer i e = only_file tracer refl (P tracer) a i e
-each_file P a r b c d runner i e = only_file runner refl (P runner) r i e
-each_file P a r b c d checker i e = only_file checker refl (P checker) b i e
-each_file P a r b c d verifier the_file e = c
-each_file P a r b c d verifier the_witness_file e = d
-each_file P a r b c d verifier the_mode e = cc
-each_file P a r b c d verifier the_runs e = cc
-each_file P a r b c d verifier the_fuel e = cc
-each_file P a r b c d verifier the_witness e = cc
-each_file P a r b c d verifier the_complete e = cc
+each_file : (P : Tool → Item → Type 0) → P tracer the_file → P runner the_file → P server the_file → P checker the_file → P verifier the_file → P verifier the_witness_file → (t : Tool) (i : Item) → is_file t i ≡ true → P t i
+each_file P a r s b c d tracer i e = only_file tracer refl (P tracer) a i e
+each_file P a r s b c d runner i e = only_file runner refl (P runner) r i e
+each_file P a r s b c d server i e = only_file server refl (P server) s i e
+each_file P a r s b c d checker i e = only_file checker refl (P checker) b i e
+each_file P a r s b c d verifier the_file e = c
+each_file P a r s b c d verifier the_witness_file e = d
+each_file P a r s b c d verifier the_mode e = cc
+each_file P a r s b c d verifier the_port e = cc
+each_file P a r s b c d verifier the_clients e = cc
+each_file P a r s b c d verifier the_runs e = cc
+each_file P a r s b c d verifier the_fuel e = cc
+each_file P a r s b c d verifier the_witness e = cc
+each_file P a r s b c d verifier the_complete e = cc
 
 pub file_keeps : (t : Tool) (i : Item) → is_file t i ≡ true → keeps t i ≡ true
-file_keeps = each_file (λ t i. keeps t i ≡ true) refl refl refl refl refl
+file_keeps = each_file (λ t i. keeps t i ≡ true) refl refl refl refl refl refl
 
 pub file_fits : (word : Text) (t : Tool) (i : Item) → is_file t i ≡ true → fits i word ≡ true
-file_fits word = each_file (λ t i. fits i word ≡ true) refl refl refl refl refl
+file_fits word = each_file (λ t i. fits i word ≡ true) refl refl refl refl refl refl
 
 file_step_by : (b : Bool) (ks : Kinds) → (if b && false then [] else ks) ≡ ks
 file_step_by true ks = refl
@@ -376,6 +402,7 @@ file_step h =
     each_file (λ t i. step_fault (sub t) (seat i) h value ≡ settle_fault (rules t) false h)
     (file_step_by (is_pending (arg tracer the_file) h.pending) (settle_fault (rules tracer) false h))
     (file_step_by (is_pending (arg runner the_file) h.pending) (settle_fault (rules runner) false h))
+    (file_step_by (is_pending (arg server the_file) h.pending) (settle_fault (rules server) false h))
     (file_step_by (is_pending (arg checker the_file) h.pending) (settle_fault (rules checker) false h))
     (file_step_by (is_pending (arg verifier the_file) h.pending) (settle_fault (rules verifier) false h))
     (file_step_by (is_pending (arg verifier the_witness_file) h.pending) (settle_fault (rules verifier) false h))
@@ -391,6 +418,7 @@ file_walk waiting word h true =
     each_file (FileWalk waiting word h true)
     (ap (λ g. walk_with (pushed (name_of the_file) word g) idle (suc (seat the_file)) true) (file_held_by (is_pending (arg tracer the_file) h.pending) h (settled (rules tracer) h)))
     (ap (λ g. walk_with (pushed (name_of the_file) word g) idle (suc (seat the_file)) true) (file_held_by (is_pending (arg runner the_file) h.pending) h (settled (rules runner) h)))
+    (ap (λ g. walk_with (pushed (name_of the_file) word g) idle (suc (seat the_file)) true) (file_held_by (is_pending (arg server the_file) h.pending) h (settled (rules server) h)))
     (ap (λ g. walk_with (pushed (name_of the_file) word g) idle (suc (seat the_file)) true) (file_held_by (is_pending (arg checker the_file) h.pending) h (settled (rules checker) h)))
     (ap (λ g. walk_with (pushed (name_of the_file) word g) idle (suc (seat the_file)) true) (file_held_by (is_pending (arg verifier the_file) h.pending) h (settled (rules verifier) h)))
     (ap (λ g. walk_with (pushed (name_of the_witness_file) word g) idle (suc (seat the_witness_file)) true) (file_held_by (is_pending (arg verifier the_witness_file) h.pending) h (settled (rules verifier) h)))
@@ -398,6 +426,7 @@ file_walk waiting word h false =
     each_file (FileWalk waiting word h false)
     (ap (λ g. walk_with (pushed (name_of the_file) word g) idle (suc (seat the_file)) false) (file_held_by (is_pending (arg tracer the_file) h.pending) h (settled (rules tracer) h)))
     (ap (λ g. walk_with (pushed (name_of the_file) word g) idle (suc (seat the_file)) false) (file_held_by (is_pending (arg runner the_file) h.pending) h (settled (rules runner) h)))
+    (ap (λ g. walk_with (pushed (name_of the_file) word g) idle (suc (seat the_file)) false) (file_held_by (is_pending (arg server the_file) h.pending) h (settled (rules server) h)))
     (ap (λ g. walk_with (pushed (name_of the_file) word g) idle (suc (seat the_file)) false) (file_held_by (is_pending (arg checker the_file) h.pending) h (settled (rules checker) h)))
     (ap (λ g. walk_with (pushed (name_of the_file) word g) idle (suc (seat the_file)) false) (file_held_by (is_pending (arg verifier the_file) h.pending) h (settled (rules verifier) h)))
     (ap (λ g. walk_with (pushed (name_of the_witness_file) word g) idle (suc (seat the_witness_file)) false) (file_held_by (is_pending (arg verifier the_witness_file) h.pending) h (settled (rules verifier) h)))
@@ -407,6 +436,7 @@ pub no_second : (t : Tool) (h : Held) → reads_witness t ≡ false → step_fau
 unfolding clap_on_literals
 no_second tracer h e = some_fault _ refl
 no_second runner h e = some_fault _ refl
+no_second server h e = some_fault _ refl
 no_second checker h e = some_fault _ refl
 no_second verifier h e = absurd (true≢false e)
 
@@ -414,6 +444,7 @@ pub no_third : (t : Tool) (h : Held) → step_fault (sub t) 3 h value ≢ []
 unfolding clap_on_literals
 no_third tracer h = some_fault _ refl
 no_third runner h = some_fault _ refl
+no_third server h = some_fault _ refl
 no_third checker h = some_fault _ refl
 no_third verifier h = some_fault _ refl
 
@@ -434,12 +465,14 @@ pub data Free (t : Tool) (said : Said) : Type 0 where
 first_unsaid : (t : Tool) (said : Said) → said_of the_file said ≡ None → unsaid (files_of t) said ≡ Some the_file
 first_unsaid tracer said e = rw e refl
 first_unsaid runner said e = rw e refl
+first_unsaid server said e = rw e refl
 first_unsaid checker said e = rw e refl
 first_unsaid verifier said e = rw e refl
 
 one_said : (t : Tool) (said : Said) (f : Text) → reads_witness t ≡ false → said_of the_file said ≡ Some f → unsaid (files_of t) said ≡ None
 one_said tracer said f only e = rw e refl
 one_said runner said f only e = rw e refl
+one_said server said f only e = rw e refl
 one_said checker said f only e = rw e refl
 one_said verifier said f only e = cc
 
@@ -447,6 +480,7 @@ one_said verifier said f only e = cc
 free_second : (t : Tool) (said : Said) (f : Text) → said_of the_file said ≡ Some f → reads_witness t ≡ true → said_of the_witness_file said ≡ None → Free t said
 free_second tracer said f e both w = cc
 free_second runner said f e both w = cc
+free_second server said f e both w = cc
 free_second checker said f e both w = cc
 free_second verifier said f e both w =
     free the_witness_file refl (rw (e, w) refl) w (ap₂ next_place e w) (λ word. ap (λ o. next_place o (Some word)) e) (λ word new. (let bad : Some f ≡ None = sym e ∙ new in cc))
@@ -462,6 +496,7 @@ full_second t said f (Some x) e only w = full (one_said t said f only e) (subst 
 full_third : (t : Tool) (said : Said) (f x : Text) → said_of the_file said ≡ Some f → reads_witness t ≡ true → said_of the_witness_file said ≡ Some x → Free t said
 full_third tracer said f x e both w = cc
 full_third runner said f x e both w = cc
+full_third server said f x e both w = cc
 full_third checker said f x e both w = cc
 full_third verifier said f x e both w = full (rw (e, w) refl) (subst (Ends verifier) (sym (ap₂ next_place e w)) (λ h. no_third verifier h))
 

@@ -9,7 +9,7 @@ use Rattle.clap.specs.Walk.{Held, Walk, Waiting, idle, option, value, walked, fi
 use Rattle.clap.specs.declared.parser.matches.ValueSource.TheVariants.{CommandLine}
 use Rattle.clap.proofs.OnLiterals.{clap_on_literals}
 use Rattle.mpd_options.specs.Asked as a
-use Rattle.mpd_options.specs.Asked.{Asked, Item, Place, Said, Tool, Word, alone, among_options, behind_dashes, behind_option, by_letters, checker, dashes, fits, if_fits, if_new, is_flag, joined, long_option, long_or_short, name_of, named, named_so, no_option, once, files_of, for_file, option_among, options_of, other_option, said_named, said_of, short_option, the_file, the_fuel, the_mode, the_runs, the_witness, the_complete, the_witness_file, runner, tracer, unsaid, verifier, wanted, with_option, with_word, word_of}
+use Rattle.mpd_options.specs.Asked.{Asked, Item, Place, Said, Tool, Word, alone, among_options, behind_dashes, behind_option, by_letters, checker, dashes, fits, if_fits, if_new, is_flag, joined, long_option, long_or_short, name_of, named, named_so, no_option, once, files_of, for_file, option_among, options_of, other_option, said_named, said_of, short_option, the_file, the_fuel, the_mode, the_runs, the_witness, the_complete, the_witness_file, runner, server, tracer, unsaid, verifier, wanted, with_option, with_word, word_of}
 use Rattle.mpd_options.proofs.Ends.{Agrees, at_end, end_fault, fails_first, held, held_for, pending_for, settles, settles_by, with_last}
 use Rattle.mpd_options.proofs.Items.{Valid, arg, asks, asks_keeps, each_asks, row_for, each_flag, flags, flag_used_again, flag_used_once, flag_used_well, has_said, no_value, rows_for, rules, some_fault, sub, used_again, used_badly, used_once, used_well}
 use Rattle.mpd_options.proofs.Turns.{asked_held, dd, dead_letters, dead_long, file_fits, file_keeps, file_step, file_taken, free, frees, full, InOrder, is_dashes, is_letters, is_long, is_no_letters, is_short, long_turn, names, names_flag, names_none, names_option, next_place, no_second, no_third, pair, place_at, place_by, place_of, plain_turn, reads, reads_dashes, reads_letters, reads_long, reads_no_letters, reads_plain, ready, said_at, Sound, State, Turn, turn, turns_dashes, turns_long, turns_no_letters, turns_plain, turns_short, value_turn, walk_at, walk_with, wants}
@@ -92,6 +92,7 @@ stray : (t : Tool) (h : Held) (f x : Option Text) → settle_fault (rules t) fal
 stray t h None x fails = let P : Kinds → Type 0 = λ ks. ks ≢ [] in subst P (sym (file_step h t the_file refl)) fails
 stray tracer h (Some f) None fails = no_second tracer h refl
 stray runner h (Some f) None fails = no_second runner h refl
+stray server h (Some f) None fails = no_second server h refl
 stray checker h (Some f) None fails = no_second checker h refl
 stray verifier h (Some f) None fails = let P : Kinds → Type 0 = λ ks. ks ≢ [] in subst P (sym (file_step h verifier the_witness_file refl)) fails
 stray t h (Some f) (Some x) fails = no_third t h
@@ -117,6 +118,7 @@ trailing_turn : (t : Tool) (h : Held) (waiting : Waiting) (position : ℕ) (word
 unfolding walked
 trailing_turn tracer h waiting position word = refl
 trailing_turn runner h waiting position word = refl
+trailing_turn server h waiting position word = refl
 trailing_turn checker h waiting position word = refl
 trailing_turn verifier h waiting position word = refl
 
@@ -127,10 +129,10 @@ fails_trailing t (word ∷ words) h waiting f x fails = fails_now t (walk_with h
 
 option_unsettled : (v : Option Text) (h : Held) (t : Tool) (i : Item) → asks t i ≡ true → settle_fault (rules t) false h ≢ [] → long_fault (rules t) false (Some (arg t i)) v h ≢ []
 unfolding clap_on_literals
-option_unsettled None h = each_asks (λ t i. settle_fault (rules t) false h ≢ [] → long_fault (rules t) false (Some (arg t i)) None h ≢ []) (λ e. e) (λ e. e) (λ e. e) (λ e. e) (λ e. e) (λ e. e)
+option_unsettled None h = each_asks (λ t i. settle_fault (rules t) false h ≢ [] → long_fault (rules t) false (Some (arg t i)) None h ≢ []) (λ e. e) (λ e. e) (λ e. e) (λ e. e) (λ e. e) (λ e. e) (λ e. e) (λ e. e) (λ e. e)
 option_unsettled (Some v) h =
     each_asks (λ t i. settle_fault (rules t) false h ≢ [] → long_fault (rules t) false (Some (arg t i)) (Some v) h ≢ [])
-    (λ e. fails_first _ _ e) (λ e. fails_first _ _ e) (λ e. fails_first _ _ e) (λ e. fails_first _ _ e) (λ e. fails_first _ _ e) (λ e. fails_first _ _ e)
+    (λ e. fails_first _ _ e) (λ e. fails_first _ _ e) (λ e. fails_first _ _ e) (λ e. fails_first _ _ e) (λ e. fails_first _ _ e) (λ e. fails_first _ _ e) (λ e. fails_first _ _ e) (λ e. fails_first _ _ e) (λ e. fails_first _ _ e)
 
 flag_unsettled : (v : Option Text) (h : Held) (t : Tool) (i : Item) → flags t i ≡ true → settle_fault (rules t) false h ≢ [] → long_fault (rules t) false (Some (arg t i)) v h ≢ []
 unfolding clap_on_literals
@@ -171,7 +173,7 @@ given_at rows i v f x = walk_with (held rows (Some (name_of i, v ∷ []))) idle 
 takes_value : (rows : List Row) (position : ℕ) (word : Text) (t : Tool) (i : Item) → asks t i ≡ true
     → plain_turn t (option (name_of i)) position word (held rows (Some (name_of i, []))) ≡ pair [] (walk_with (held rows (Some (name_of i, word ∷ []))) idle position false)
 unfolding clap_on_literals
-takes_value rows position word = each_asks (λ t i. plain_turn t (option (name_of i)) position word (held rows (Some (name_of i, []))) ≡ pair [] (walk_with (held rows (Some (name_of i, word ∷ []))) idle position false)) refl refl refl refl refl refl
+takes_value rows position word = each_asks (λ t i. plain_turn t (option (name_of i)) position word (held rows (Some (name_of i, []))) ≡ pair [] (walk_with (held rows (Some (name_of i, word ∷ []))) idle position false)) refl refl refl refl refl refl refl refl refl
 
 stuck_empty : (t : Tool) (rows : List Row) (i : Item) → asks t i ≡ true → Stuck t rows i []
 stuck_empty t rows i asking = let P : Kinds → Type 0 = λ ks. ks ≢ [] in subst P (sym (settles_by t rows i [] (asks_keeps t i asking))) (no_value rows t i asking)
@@ -242,10 +244,10 @@ asks_turn : (rows : List Row) (p : Option (Text × List Text)) (position : ℕ) 
     → long_turn t idle position word (held rows p) (Some (arg t i)) None ≡ pair (or_else (settle_fault (rules t) false (held rows p)) []) (pending_walk (settled (rules t) (held rows p)) i position)
 unfolding clap_on_literals
 asks_turn rows p position word =
-    each_asks (λ t i. long_turn t idle position word (held rows p) (Some (arg t i)) None ≡ pair (or_else (settle_fault (rules t) false (held rows p)) []) (pending_walk (settled (rules t) (held rows p)) i position)) refl refl refl refl refl refl
+    each_asks (λ t i. long_turn t idle position word (held rows p) (Some (arg t i)) None ≡ pair (or_else (settle_fault (rules t) false (held rows p)) []) (pending_walk (settled (rules t) (held rows p)) i position)) refl refl refl refl refl refl refl refl refl
 
 not_flag : (t : Tool) (i : Item) → asks t i ≡ true → is_flag i ≡ false
-not_flag = each_asks (λ t i. is_flag i ≡ false) refl refl refl refl refl refl
+not_flag = each_asks (λ t i. is_flag i ≡ false) refl refl refl refl refl refl refl refl refl
 
 asks_option : (t : Tool) (said : Said) (last : Option (Item × Text)) (i : Item) (word : Text) (words : List Text) → asks t i ≡ true → Sound t (ready said last false)
     → turn t idle (place_of (with_last said last)) word (held_for said last) ≡ long_turn t idle (place_of (with_last said last)) word (held_for said last) (Some (arg t i)) None
@@ -306,11 +308,11 @@ gives_turn : (rows : List Row) (p : Option (Text × List Text)) (position : ℕ)
     → long_turn t idle position word (held rows p) (Some (arg t i)) (Some v) ≡ given_turn t i (v ∷ []) (settle_fault (rules t) false (held rows p)) (settled (rules t) (held rows p)) position
 unfolding clap_on_literals
 gives_turn rows p position word v =
-    each_asks (λ t i. long_turn t idle position word (held rows p) (Some (arg t i)) (Some v) ≡ given_turn t i (v ∷ []) (settle_fault (rules t) false (held rows p)) (settled (rules t) (held rows p)) position) refl refl refl refl refl refl
+    each_asks (λ t i. long_turn t idle position word (held rows p) (Some (arg t i)) (Some v) ≡ given_turn t i (v ∷ []) (settle_fault (rules t) false (held rows p)) (settled (rules t) (held rows p)) position) refl refl refl refl refl refl refl refl refl
 
 same_place : (v : Text) (said : Said) (t : Tool) (i : Item) → asks t i ≡ true → SamePlace i v said
 same_place v said =
-    each_asks (λ t i. SamePlace i v said) (refl, (λ o. o)) (refl, (λ o. o)) (refl, (λ o. o)) (refl, (λ o. o)) (refl, (λ o. o)) (refl, (λ o. o))
+    each_asks (λ t i. SamePlace i v said) (refl, (λ o. o)) (refl, (λ o. o)) (refl, (λ o. o)) (refl, (λ o. o)) (refl, (λ o. o)) (refl, (λ o. o)) (refl, (λ o. o)) (refl, (λ o. o)) (refl, (λ o. o))
 
 gives_option : (t : Tool) (said : Said) (last : Option (Item × Text)) (i : Item) (v word : Text) (words : List Text) → asks t i ≡ true → Sound t (ready said last false)
     → turn t idle (place_of (with_last said last)) word (held_for said last) ≡ long_turn t idle (place_of (with_last said last)) word (held_for said last) (Some (arg t i)) (Some v)

@@ -5,15 +5,16 @@ use Rattle.clap.specs.Lexer.{long_of, short_of}
 use Rattle.clap.specs.Words.{Row, first_of, one_of}
 use Rattle.mpd_options.specs.Numbers.{flag_in, number_in}
 use Rattle.mpd_options.specs.declared.options.Options.{Options}
-use Rattle.mpd_options.specs.declared.options.Options.TheVariants.{Plain, Trace, Run, Check, Verify}
+use Rattle.mpd_options.specs.declared.options.Options.TheVariants.{Plain, Trace, Run, Serve, Check, Verify}
 
--- what is asked for: a script and its trace on standard input, the trace of a file, answers to requests on one, a look for deadlocks
--- in one, or a check of a witness; with the words of files and mode, how many runs, the fuel of each, whether a witness is wanted,
--- and whether all runs must be tried
+-- what is asked for: a script and its trace on standard input, the trace of a file, answers to requests on one, of one or of several
+-- clients, a look for deadlocks in one, or a check of a witness; with the words of files and mode, the port, how many clients, how many
+-- runs, the fuel of each, whether a witness is wanted, and whether all runs must be tried
 pub data Asked : Type 0 where
   plain : Asked
   trace : List ℕ → List ℕ → Asked
   run : List ℕ → List ℕ → Asked
+  serve : List ℕ → List ℕ → ℕ → ℕ → Asked
   check : List ℕ → List ℕ → ℕ → ℕ → Bool → Bool → Asked
   verify : List ℕ → List ℕ → List ℕ → Asked
 
@@ -21,8 +22,15 @@ abbrev pub asked : Options → Asked
 asked Plain = plain
 asked (Trace file mode) = trace file.now mode.now
 asked (Run file mode) = run file.now mode.now
+asked (Serve file mode port clients) = serve file.now mode.now port clients
 asked (Check file mode runs fuel witness complete) = check file.now mode.now runs fuel witness complete
 asked (Verify file witness mode) = verify file.now witness.now mode.now
+
+abbrev pub most_port : ℕ
+most_port = 65535
+
+abbrev pub most_clients : ℕ
+most_clients = 16
 
 abbrev pub most_runs : ℕ
 most_runs = 65536
@@ -35,6 +43,7 @@ abbrev pub IsInRange : Options → Type 0
 IsInRange Plain = ⊤
 IsInRange (Trace file mode) = ⊤
 IsInRange (Run file mode) = ⊤
+IsInRange (Serve file mode port clients) = (1 ≤ port) × (port ≤ most_port) × (1 ≤ clients) × (clients ≤ most_clients)
 IsInRange (Check file mode runs fuel witness complete) = (1 ≤ runs) × (runs ≤ most_runs) × (1 ≤ fuel) × (fuel ≤ most_fuel)
 IsInRange (Verify file witness mode) = ⊤
 
@@ -42,6 +51,7 @@ IsInRange (Verify file witness mode) = ⊤
 pub data Tool : Type 0 where
   tracer : Tool
   runner : Tool
+  server : Tool
   checker : Tool
   verifier : Tool
 
@@ -49,13 +59,16 @@ pub data Tool : Type 0 where
 abbrev pub tool_named : List ℕ → Option Tool
 tool_named word =
     if bytes_eq word (codes "trace") then Some tracer
-    else (if bytes_eq word (codes "run") then Some runner else (if bytes_eq word (codes "check") then Some checker else (if bytes_eq word (codes "verify") then Some verifier else None)))
+    else (if bytes_eq word (codes "run") then Some runner
+    else (if bytes_eq word (codes "serve") then Some server else (if bytes_eq word (codes "check") then Some checker else (if bytes_eq word (codes "verify") then Some verifier else None))))
 
 -- what words say something of: the words of files stand alone, and the others are options
 pub data Item : Type 0 where
   the_file : Item
   the_witness_file : Item
   the_mode : Item
+  the_port : Item
+  the_clients : Item
   the_runs : Item
   the_fuel : Item
   the_witness : Item
@@ -65,6 +78,8 @@ abbrev pub name_of : Item → List ℕ
 name_of the_file = codes "FILE"
 name_of the_witness_file = codes "WITNESS"
 name_of the_mode = codes "mode"
+name_of the_port = codes "port"
+name_of the_clients = codes "clients"
 name_of the_runs = codes "runs"
 name_of the_fuel = codes "fuel"
 name_of the_witness = codes "witness"
@@ -73,6 +88,7 @@ name_of the_complete = codes "complete"
 abbrev pub options_of : Tool → List Item
 options_of tracer = the_mode ∷ []
 options_of runner = the_mode ∷ []
+options_of server = the_mode ∷ the_port ∷ the_clients ∷ []
 options_of checker = the_mode ∷ the_runs ∷ the_fuel ∷ the_witness ∷ the_complete ∷ []
 options_of verifier = the_mode ∷ []
 
@@ -80,6 +96,7 @@ options_of verifier = the_mode ∷ []
 abbrev pub files_of : Tool → List Item
 files_of tracer = the_file ∷ []
 files_of runner = the_file ∷ []
+files_of server = the_file ∷ []
 files_of checker = the_file ∷ []
 files_of verifier = the_file ∷ the_witness_file ∷ []
 
@@ -97,16 +114,20 @@ abbrev pub fits : Item → List ℕ → Bool
 fits the_file text = true
 fits the_witness_file text = true
 fits the_mode text = true
+fits the_port text = is_some (number_in 1 most_port text)
+fits the_clients text = is_some (number_in 1 most_clients text)
 fits the_runs text = is_some (number_in 1 most_runs text)
 fits the_fuel text = is_some (number_in 1 most_fuel text)
 fits the_witness text = is_some (flag_in text)
 fits the_complete text = is_some (flag_in text)
 
--- the value of an item of which nothing is said
+-- the value of an item of which nothing is said; where it has none, something must be said of it
 abbrev pub default_of : Item → Option (List ℕ)
 default_of the_file = None
 default_of the_witness_file = None
 default_of the_mode = Some (codes "rendezvous")
+default_of the_port = None
+default_of the_clients = None
 default_of the_runs = Some (codes "1000")
 default_of the_fuel = Some (codes "100000")
 default_of the_witness = Some (codes "false")
@@ -211,6 +232,10 @@ found_of_file asks None mode = None
 found_of_file asks (Some file) None = None
 found_of_file asks (Some file) (Some mode) = Some (asks file mode)
 
+abbrev pub found_serve : Option (List ℕ) → Option (List ℕ) → Option ℕ → Option ℕ → Option Asked
+found_serve (Some file) (Some mode) (Some port) (Some clients) = Some (serve file mode port clients)
+found_serve _ _ _ _ = None
+
 abbrev pub found_check : Option (List ℕ) → Option (List ℕ) → Option ℕ → Option ℕ → Option Bool → Option Bool → Option Asked
 found_check (Some file) (Some mode) (Some runs) (Some fuel) (Some witness) (Some complete) = Some (check file mode runs fuel witness complete)
 found_check _ _ _ _ _ _ = None
@@ -219,10 +244,11 @@ abbrev pub found_verify : Option (List ℕ) → Option (List ℕ) → Option (Li
 found_verify (Some file) (Some witness) (Some mode) = Some (verify file witness mode)
 found_verify _ _ _ = None
 
--- what a command asks for, by the text of each of its items: each file there must be, and each number lies in its range
+-- what a command asks for, by the text of each of its items: each must have one, and each number lies in its range
 abbrev pub found : Tool → (Item → Option (List ℕ)) → Option Asked
 found tracer text = found_of_file trace (text the_file) (text the_mode)
 found runner text = found_of_file run (text the_file) (text the_mode)
+found server text = found_serve (text the_file) (text the_mode) (option_and_then (number_in 1 most_port) (text the_port)) (option_and_then (number_in 1 most_clients) (text the_clients))
 found checker text =
     found_check (text the_file) (text the_mode) (option_and_then (number_in 1 most_runs) (text the_runs)) (option_and_then (number_in 1 most_fuel) (text the_fuel))
     (option_and_then flag_in (text the_witness)) (option_and_then flag_in (text the_complete))
@@ -241,7 +267,7 @@ at_end t among_options said = found t (text_of said)
 at_end t behind_dashes said = found t (text_of said)
 
 -- what the words behind a command ask for: the words of its files, which are no options, in their order, and each option at
--- most once, anywhere; behind `--` no word is an option
+-- most once, and once where it has no default, anywhere; behind `--` no word is an option
 abbrev pub wanted : Tool → List (List ℕ) → Place → Said → Option Asked
 wanted t [] place said = at_end t place said
 wanted t (word ∷ words) place said = with_word t place (word_of t word) word said (wanted t words)
@@ -260,6 +286,8 @@ abbrev pub text_in : List Row → Item → Option (List ℕ)
 text_in rows the_file = first_of (name_of the_file) rows
 text_in rows the_witness_file = first_of (name_of the_witness_file) rows
 text_in rows the_mode = first_of (name_of the_mode) rows
+text_in rows the_port = one_of (name_of the_port) rows
+text_in rows the_clients = one_of (name_of the_clients) rows
 text_in rows the_runs = one_of (name_of the_runs) rows
 text_in rows the_fuel = one_of (name_of the_fuel) rows
 text_in rows the_witness = one_of (name_of the_witness) rows

@@ -1,7 +1,7 @@
 -- Worked rows of what words ask for.
 use Rattle.std.specs.Prelude.{◌≡◌, ℕ, Bool, true, false, List, [], ◌∷◌, map, Option, Some, None, codes, refl}
 use Rattle.std.specs.Str.{chars}
-use Rattle.mpd_options.specs.Asked.{Asked, plain, trace, run, check, verify, meant}
+use Rattle.mpd_options.specs.Asked.{Asked, plain, trace, run, serve, check, verify, meant}
 
 abbrev Row : Type 0
 Row = List (List ℕ) × Option Asked
@@ -13,6 +13,14 @@ names words file mode = (codes "trace" ∷ words, Some (trace file mode))
 -- words behind `run`, and the file and the mode that they name
 abbrev runs : List (List ℕ) → List ℕ → List ℕ → Row
 runs words file mode = (codes "run" ∷ words, Some (run file mode))
+
+-- words behind `serve`, and the mode, the port and how many clients they ask for, of the file `a`
+abbrev serves : List (List ℕ) → List ℕ → ℕ → ℕ → Row
+serves words mode port clients = (codes "serve" ∷ words, Some (serve (codes "a") mode port clients))
+
+-- words behind `serve a` that make them ask for nothing
+abbrev wastes : List (List ℕ) → Row
+wastes words = (codes "serve" ∷ codes "a" ∷ words, None)
 
 -- words behind `check`, and what they ask for of the file `a`
 abbrev asks : List (List ℕ) → List ℕ → ℕ → ℕ → Bool → Row
@@ -109,6 +117,60 @@ rows =
     ∷ nothing (codes "--" ∷ codes "run" ∷ codes "a" ∷ [])
     ∷ nothing (codes "--mode" ∷ codes "b" ∷ codes "run" ∷ codes "a" ∷ [])
     ∷ nothing (codes "help" ∷ codes "run" ∷ [])
+    ∷ serves (codes "a" ∷ codes "--port" ∷ codes "4000" ∷ codes "--clients" ∷ codes "2" ∷ []) (codes "rendezvous") 4000 2
+    ∷ serves (codes "--port" ∷ codes "4000" ∷ codes "--clients" ∷ codes "2" ∷ codes "a" ∷ []) (codes "rendezvous") 4000 2
+    ∷ serves (codes "--clients=2" ∷ codes "a" ∷ codes "--port=4000" ∷ []) (codes "rendezvous") 4000 2
+    ∷ serves (codes "--clients" ∷ codes "2" ∷ codes "--port" ∷ codes "4000" ∷ codes "--" ∷ codes "a" ∷ []) (codes "rendezvous") 4000 2
+    ∷ serves (codes "a" ∷ codes "--port" ∷ codes "1" ∷ codes "--clients" ∷ codes "1" ∷ []) (codes "rendezvous") 1 1
+    ∷ serves (codes "a" ∷ codes "--port" ∷ codes "65535" ∷ codes "--clients" ∷ codes "16" ∷ []) (codes "rendezvous") 65535 16
+    ∷ serves (codes "a" ∷ codes "--port=+007" ∷ codes "--clients=016" ∷ []) (codes "rendezvous") 7 16
+    ∷ serves (codes "a" ∷ codes "--mode" ∷ codes "buffered" ∷ codes "--port" ∷ codes "4000" ∷ codes "--clients" ∷ codes "2" ∷ []) (codes "buffered") 4000 2
+    ∷ serves (codes "--mode=b" ∷ codes "--port" ∷ codes "80" ∷ codes "a" ∷ codes "--clients" ∷ codes "3" ∷ codes "--" ∷ []) (codes "b") 80 3
+    ∷ (codes "serve" ∷ codes "--port=5" ∷ codes "--clients=6" ∷ codes "--" ∷ codes "--port" ∷ [], Some (serve (codes "--port") (codes "rendezvous") 5 6))
+    ∷ (codes "serve" ∷ codes "serve" ∷ codes "--port=5" ∷ codes "--clients=6" ∷ [], Some (serve (codes "serve") (codes "rendezvous") 5 6))
+    ∷ (codes "serve" ∷ codes "" ∷ codes "--mode=" ∷ codes "--port=5" ∷ codes "--clients=6" ∷ [], Some (serve [] [] 5 6))
+    ∷ names (codes "serve" ∷ []) (codes "serve") (codes "rendezvous")
+    ∷ runs (codes "serve" ∷ []) (codes "serve") (codes "rendezvous")
+    ∷ nothing (codes "serve" ∷ [])
+    ∷ wastes []
+    ∷ wastes (codes "--clients" ∷ codes "2" ∷ [])
+    ∷ wastes (codes "--port" ∷ codes "4000" ∷ [])
+    ∷ wastes (codes "--port" ∷ codes "4000" ∷ codes "--" ∷ codes "--clients" ∷ codes "2" ∷ [])
+    ∷ wastes (codes "--mode" ∷ codes "buffered" ∷ [])
+    ∷ wastes (codes "--port" ∷ codes "0" ∷ codes "--clients" ∷ codes "2" ∷ [])
+    ∷ wastes (codes "--port" ∷ codes "65536" ∷ codes "--clients" ∷ codes "2" ∷ [])
+    ∷ wastes (codes "--port=99999999999999999999" ∷ codes "--clients=2" ∷ [])
+    ∷ wastes (codes "--port" ∷ codes "ten" ∷ codes "--clients" ∷ codes "2" ∷ [])
+    ∷ wastes (codes "--port=" ∷ codes "--clients" ∷ codes "2" ∷ [])
+    ∷ wastes (codes "--port" ∷ codes "-1" ∷ codes "--clients" ∷ codes "2" ∷ [])
+    ∷ wastes (codes "--port" ∷ codes "4000" ∷ codes "--clients" ∷ codes "0" ∷ [])
+    ∷ wastes (codes "--port" ∷ codes "4000" ∷ codes "--clients" ∷ codes "17" ∷ [])
+    ∷ wastes (codes "--port=4000" ∷ codes "--clients=2.0" ∷ [])
+    ∷ wastes (codes "--port" ∷ codes "4000" ∷ codes "--clients" ∷ codes "2" ∷ codes "--port" ∷ codes "4000" ∷ [])
+    ∷ wastes (codes "--port=4000" ∷ codes "--port=4001" ∷ codes "--clients=2" ∷ [])
+    ∷ wastes (codes "--port" ∷ codes "4000" ∷ codes "--clients" ∷ codes "2" ∷ codes "--clients=2" ∷ [])
+    ∷ wastes (codes "--clients" ∷ codes "2" ∷ codes "--port" ∷ [])
+    ∷ wastes (codes "--port" ∷ codes "--clients" ∷ codes "2" ∷ [])
+    ∷ wastes (codes "--port" ∷ codes "--" ∷ codes "4000" ∷ codes "--clients" ∷ codes "2" ∷ [])
+    ∷ wastes (codes "--port" ∷ codes "4000" ∷ codes "--clients" ∷ codes "2" ∷ codes "b" ∷ [])
+    ∷ wastes (codes "--port" ∷ codes "4000" ∷ codes "--clients" ∷ codes "2" ∷ codes "--" ∷ codes "b" ∷ [])
+    ∷ wastes (codes "--port" ∷ codes "4000" ∷ codes "--clients" ∷ codes "2" ∷ codes "--mode" ∷ codes "b" ∷ codes "--mode" ∷ codes "b" ∷ [])
+    ∷ wastes (codes "--port" ∷ codes "4000" ∷ codes "--clients" ∷ codes "2" ∷ codes "--runs" ∷ codes "5" ∷ [])
+    ∷ wastes (codes "--port" ∷ codes "4000" ∷ codes "--clients" ∷ codes "2" ∷ codes "-p" ∷ [])
+    ∷ wastes (codes "--prot" ∷ codes "4000" ∷ codes "--clients" ∷ codes "2" ∷ [])
+    ∷ wastes (codes "--port" ∷ codes "4000" ∷ codes "--client" ∷ codes "2" ∷ [])
+    ∷ wastes (codes "--port" ∷ codes "4000" ∷ codes "--clients" ∷ codes "2" ∷ codes "--help" ∷ [])
+    ∷ nothing (codes "serve" ∷ codes "--port" ∷ codes "4000" ∷ codes "--clients" ∷ codes "2" ∷ [])
+    ∷ nothing (codes "serve" ∷ codes "--port" ∷ codes "4000" ∷ codes "--clients" ∷ codes "2" ∷ codes "--" ∷ [])
+    ∷ nothing (codes "serve" ∷ codes "-h" ∷ [])
+    ∷ nothing (codes "help" ∷ codes "serve" ∷ [])
+    ∷ nothing (codes "serves" ∷ codes "a" ∷ codes "--port" ∷ codes "4000" ∷ codes "--clients" ∷ codes "2" ∷ [])
+    ∷ nothing (codes "Serve" ∷ codes "a" ∷ codes "--port" ∷ codes "4000" ∷ codes "--clients" ∷ codes "2" ∷ [])
+    ∷ nothing (codes "--port" ∷ codes "4000" ∷ codes "serve" ∷ codes "a" ∷ codes "--clients" ∷ codes "2" ∷ [])
+    ∷ nothing (codes "--" ∷ codes "serve" ∷ codes "a" ∷ codes "--port" ∷ codes "4000" ∷ codes "--clients" ∷ codes "2" ∷ [])
+    ∷ nothing (codes "run" ∷ codes "a" ∷ codes "--port" ∷ codes "4000" ∷ codes "--clients" ∷ codes "2" ∷ [])
+    ∷ nothing (codes "trace" ∷ codes "a" ∷ codes "--port" ∷ codes "4000" ∷ [])
+    ∷ nothing (codes "check" ∷ codes "a" ∷ codes "--clients" ∷ codes "2" ∷ [])
     ∷ asks (codes "a" ∷ []) (codes "rendezvous") 1000 100000 false
     ∷ asks (codes "a" ∷ codes "--witness" ∷ []) (codes "rendezvous") 1000 100000 true
     ∷ asks (codes "--witness" ∷ codes "a" ∷ []) (codes "rendezvous") 1000 100000 true

@@ -5,8 +5,8 @@ ghost use Rattle.std.specs.Borrow.{Bor};
 ghost use Rattle.clap.specs.Words.{app_of, rule_of};
 ghost use Rattle.clap.specs.declared.builder.command.Command.TheViews.{out-Command as fields_of};
 ghost use Rattle.mpd_options.specs.Help.{example_of};
-ghost use Rattle.mpd_options.specs.declared.command.Topic.TheVariants.{Check, Program, Run, Trace, Verify};
-ghost use Rattle.mpd_options.specs.Program.{check_app, file_rule, fuel_rule, mode_rule, mpdbg_app, named_app, number_rule, numbers_app, run_app, runs_rule, script_app, trace_app, verify_app, witness_rule, complete_rule};
+ghost use Rattle.mpd_options.specs.declared.command.Topic.TheVariants.{Check, Program, Run, Serve, Trace, Verify};
+ghost use Rattle.mpd_options.specs.Program.{check_app, clients_rule, file_rule, fuel_rule, mode_rule, mpdbg_app, named_app, number_rule, numbers_app, port_rule, required_number_rule, run_app, runs_rule, script_app, serve_app, trace_app, verify_app, witness_rule, complete_rule};
 
 use clap::builder::ValueParser;
 use clap::{Arg, ArgAction, Command};
@@ -17,6 +17,12 @@ pub(crate) const FILE: &str = "FILE";
 
 /// The option of the mode, without its hyphens.
 pub(crate) const MODE: &str = "mode";
+
+/// The option of the port, without its hyphens.
+pub(crate) const PORT: &str = "port";
+
+/// The option of how many clients are answered, without its hyphens.
+pub(crate) const CLIENTS: &str = "clients";
 
 /// The option of how many runs are tried, without its hyphens.
 pub(crate) const RUNS: &str = "runs";
@@ -39,11 +45,18 @@ pub(crate) const TRACE: &str = "trace";
 /// The word of the command that answers requests.
 pub(crate) const RUN: &str = "run";
 
+/// The word of the command that answers requests of several clients.
+pub(crate) const SERVE: &str = "serve";
+
 /// The word of the command that looks for deadlocks.
 pub(crate) const CHECK: &str = "check";
 
 /// The word of the command that checks a witness.
 pub(crate) const VERIFY: &str = "verify";
+
+const MOST_PORT: u64 = 65_535;
+
+const MOST_CLIENTS: u64 = 16;
 
 const MOST_RUNS: u64 = 65_536;
 
@@ -78,6 +91,16 @@ const RUN_EXAMPLE: &str =
 Example:
   echo '{\"cmd\":\"run\",\"max\":100}' | ./mpdbg run examples/race.mpd";
 
+const SERVE_ABOUT: &str = "Answer JSON requests of several clients, on one session";
+
+const SERVE_EXAMPLE: &str =
+    "It listens on 127.0.0.1 at port P, prints `listening P`, and answers N clients at once.
+Each of them sends the requests of `mpdbg run`, and all are answered on the one session.
+When all have left, it prints how many requests were taken: `served E`.
+
+Example:
+  ./mpdbg serve examples/race.mpd --port 4000 --clients 2";
+
 const CHECK_ABOUT: &str =
     "Look for deadlocks: try the choices of wildcard receives one after another";
 
@@ -98,6 +121,8 @@ pub enum Topic {
     Trace,
     /// `mpdbg run`.
     Run,
+    /// `mpdbg serve`.
+    Serve,
     /// `mpdbg check`.
     Check,
     /// `mpdbg verify`.
@@ -110,6 +135,7 @@ fn about<'a>(topic: Topic) -> &'a str {
         Topic::Program => ABOUT,
         Topic::Trace => TRACE_ABOUT,
         Topic::Run => RUN_ABOUT,
+        Topic::Serve => SERVE_ABOUT,
         Topic::Check => CHECK_ABOUT,
         Topic::Verify => VERIFY_ABOUT,
     }
@@ -123,6 +149,7 @@ fn example<'a>(topic: Topic) -> &'a str
         Topic::Program => EXAMPLE,
         Topic::Trace => TRACE_EXAMPLE,
         Topic::Run => RUN_EXAMPLE,
+        Topic::Serve => SERVE_EXAMPLE,
         Topic::Check => CHECK_EXAMPLE,
         Topic::Verify => VERIFY_EXAMPLE,
     }
@@ -170,6 +197,44 @@ fn number_option<'a>(
         .value_parser(ValueParser::unsigned(1, most))
         .default_value(default)
         .help(help)
+}
+
+/// An option that must be there, whose value is a number from 1 to `most`.
+fn required_number<'a>(
+    alloc: Global,
+    name: &'a str,
+    value_name: &'a str,
+    most: u64,
+    help: &'a str,
+) -> Arg<'a>
+    ensures rule { rule_of result ≡ required_number_rule name.entry.now most }
+    ensures own { result.global ≡ false }
+{
+    Arg::new(alloc, name)
+        .long(name)
+        .value_name(value_name)
+        .required(true)
+        .action(ArgAction::Set)
+        .value_parser(ValueParser::unsigned(1, most))
+        .help(help)
+}
+
+/// `--port P`.
+fn port_option<'a>(alloc: Global) -> Arg<'a>
+    ensures rule { rule_of result ≡ port_rule }
+    ensures own { result.global ≡ false }
+{
+    let help = "The port that it listens on, 1 to 65535";
+    required_number(alloc, PORT, "P", MOST_PORT, help)
+}
+
+/// `--clients N`.
+fn clients_option<'a>(alloc: Global) -> Arg<'a>
+    ensures rule { rule_of result ≡ clients_rule }
+    ensures own { result.global ≡ false }
+{
+    let help = "How many clients it answers, 1 to 16";
+    required_number(alloc, CLIENTS, "N", MOST_CLIENTS, help)
 }
 
 /// `--runs N`.
@@ -251,6 +316,18 @@ fn run_command<'a>(alloc: Global) -> Result<Command<'a>, AllocError>
     Ok(with_help(command, Topic::Run))
 }
 
+/// `mpdbg serve FILE --mode M --port P --clients N`.
+fn serve_command<'a>(alloc: Global) -> Result<Command<'a>, AllocError>
+    ensures app { IfOk result (λ c. app_of c ≡ serve_app) }
+    ensures own { IfOk result (λ c. (fields_of c).has_globals ≡ false) }
+    ensures example { IfOk result (λ c. option_map (λ (t : Bor (List ℕ)). t.now) (fields_of c).after_help ≡ Some (example_of Serve)) }
+{
+    let command = script_command(alloc, SERVE)?
+        .arg(port_option(alloc))?
+        .arg(clients_option(alloc))?;
+    Ok(with_help(command, Topic::Serve))
+}
+
 /// `mpdbg check FILE --mode M --runs N --fuel N`.
 fn numbers_command<'a>(alloc: Global) -> Result<Command<'a>, AllocError>
     ensures app { IfOk result (λ c. app_of c ≡ numbers_app) }
@@ -303,6 +380,7 @@ pub(crate) fn program<'a>(alloc: Global) -> Result<Command<'a>, AllocError>
     let command = named_program(alloc)?
         .subcommand(trace_command(alloc)?)?
         .subcommand(run_command(alloc)?)?
+        .subcommand(serve_command(alloc)?)?
         .subcommand(check_command(alloc)?)?
         .subcommand(verify_command(alloc)?)?;
     Ok(with_help(command, Topic::Program))

@@ -1,11 +1,12 @@
 //! What the words of a command line ask for.
 ghost use Rattle.std.specs.Prelude.{◌≡◌, ◌<◌, IfOk, IfErr, Some, true, is_some, length, map};
 ghost use Rattle.clap.specs.Words.{first_of, found_of, rows_of, subcommand_rows_of};
-ghost use Rattle.mpd_options.specs.Asked.{IsFound, IsInRange, asked, checker, found_in, found_of_command, meant, runner, tracer, verifier};
+ghost use Rattle.mpd_options.specs.Asked.{IsFound, IsInRange, asked, checker, found_in, found_of_command, meant, runner, server, tracer, verifier};
 ghost use Rattle.mpd_options.specs.Refused.{IsRefused, is_answer, usage_of, usage_status, usage_text};
 
 use crate::command::{
-    CHECK, COMPLETE, FILE, FUEL, MODE, RUN, RUNS, TRACE, VERIFY, WITNESS, WITNESS_FILE, program,
+    CHECK, CLIENTS, COMPLETE, FILE, FUEL, MODE, PORT, RUN, RUNS, SERVE, TRACE, VERIFY, WITNESS,
+    WITNESS_FILE, program,
 };
 use clap::ArgMatches;
 use clap::error::ErrorKind;
@@ -35,6 +36,17 @@ pub enum Options<'a> {
         file: &'a str,
         /// The mode's word, whatever it is; `rendezvous` where there is none.
         mode: &'a str,
+    },
+    /// Answer requests of several clients on the script of a file.
+    Serve {
+        /// The file's word.
+        file: &'a str,
+        /// The mode's word, whatever it is; `rendezvous` where there is none.
+        mode: &'a str,
+        /// The port that is listened on.
+        port: u16,
+        /// How many clients are answered.
+        clients: usize,
     },
     /// Look for deadlocks in the script of a file.
     Check {
@@ -166,6 +178,27 @@ fn run_in<'a>(run: &ArgMatches<'a>) -> Options<'a>
     Options::Run { file, mode }
 }
 
+/// What the words behind `serve` ask for.
+fn serve_in<'a>(serve: &ArgMatches<'a>) -> Options<'a>
+    requires { is_some (found_in server (rows_of (found_of serve.now))) ≡ true }
+    ensures { Some (asked result) ≡ found_in server (rows_of (found_of serve.now)) }
+{
+    let file = word_in(serve, FILE);
+    let mode = word_in(serve, MODE);
+    let Some(port) = serve.get_one::<u16>(PORT) else {
+        unreachable!()
+    };
+    let Some(clients) = serve.get_one::<usize>(CLIENTS) else {
+        unreachable!()
+    };
+    Options::Serve {
+        file,
+        mode,
+        port,
+        clients,
+    }
+}
+
 /// What the words behind `check` ask for.
 fn check_in<'a>(check: &ArgMatches<'a>) -> Options<'a>
     requires { is_some (found_in checker (rows_of (found_of check.now))) ≡ true }
@@ -216,6 +249,9 @@ fn options_in<'a>(matches: &ArgMatches<'a>) -> Options<'a>
     }
     if let Some(run) = matches.subcommand_matches(RUN) {
         return run_in(run);
+    }
+    if let Some(serve) = matches.subcommand_matches(SERVE) {
+        return serve_in(serve);
     }
     if let Some(check) = matches.subcommand_matches(CHECK) {
         return check_in(check);

@@ -14,6 +14,10 @@ pub returns-in-Run : goal.returns-in-Run
 unfolding example_of
 returns-in-Run c = sym (ap example_of c.in-Run.is)
 
+pub returns-in-Serve : goal.returns-in-Serve
+unfolding example_of
+returns-in-Serve c = sym (ap example_of c.in-Serve.is)
+
 pub returns-in-Check : goal.returns-in-Check
 unfolding example_of
 returns-in-Check c = sym (ap example_of c.in-Check.is)

@@ -4,7 +4,7 @@ use Rattle.mpd_options.specs.Asked.{checker}
 use Rattle.mpd_options.proofs.Reading.{command_is}
 use Rattle.mpd_options.proofs.options.options_in.Goals as goal
 
-pub returns-in-Some-subcommand_matches-2 : goal.returns-in-Some-subcommand_matches-2
-returns-in-Some-subcommand_matches-2 c =
-    let found = c.in-Some-subcommand_matches-2.ensures in
-    c.check_in.ensures ∙ sym (command_is checker c.args.matches.now (rows_of (found_of c.in-Some-subcommand_matches-2.check.now)) (found.found.0 refl) found.rows)
+pub returns-in-Some-subcommand_matches-3 : goal.returns-in-Some-subcommand_matches-3
+returns-in-Some-subcommand_matches-3 c =
+    let found = c.in-Some-subcommand_matches-3.ensures in
+    c.check_in.ensures ∙ sym (command_is checker c.args.matches.now (rows_of (found_of c.in-Some-subcommand_matches-3.check.now)) (found.found.0 refl) found.rows)
