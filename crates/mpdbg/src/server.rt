@@ -17,14 +17,13 @@ use mpd_shared::settle::SettleFault;
 use mpd_shared::shared::Shared;
 use mpd_wire::engine::serve;
 use std::alloc::Global;
-use std::io;
 use std::io::ErrorKind;
 use std::marker::Brand;
 use std::net::{TcpListener, TcpStream};
 use std::sync::Wait;
 use std::sync::ledger::Blank;
-use std::thread;
 use std::thread::Threads;
+use std::{io, thread};
 
 /// How many clients there are, and whether a person sees on standard error that they come and leave.
 #[derive(Clone, Copy)]
@@ -54,17 +53,18 @@ fn serve_client<L: Opening, R: Wait + Eprint>(
     let seat = desk.into_seat();
     if is_terminal {
         let log = seat.log();
-        let _unwritten = eprintln!(rt; "client {} left after {} requests", log.client, log.receipts.len());
+        let _unwritten = eprintln!(rt;
+            "client {} left after {} requests",
+            log.client,
+            log.receipts.len()
+        );
     }
     seat
 }
 
 /// Whether an accept that failed so is made again: a signal has interrupted it, or the client has left before it was accepted.
 fn is_passing(kind: ErrorKind) -> bool {
-    matches!(
-        kind,
-        ErrorKind::Interrupted | ErrorKind::ConnectionAborted
-    )
+    matches!(kind, ErrorKind::Interrupted | ErrorKind::ConnectionAborted)
 }
 
 /// Accepts a client.
@@ -98,10 +98,21 @@ fn serve_all<L: Opening + Send + Sync, R: Threads + Wait + Sync + Eprint>(
             for seat in seats {
                 let stream = accept(rt, listener)?;
                 if audience.is_terminal {
-                    let _unwritten = eprintln!(rt; "client {} of {} is here", seat.log().client, audience.clients);
+                    let _unwritten = eprintln!(rt;
+                        "client {} of {} is here",
+                        seat.log().client,
+                        audience.clients
+                    );
                 }
                 let is_terminal = audience.is_terminal;
-                let client = scope.spawn(move || serve_client(rt, alloc, shared, seat, stream, is_terminal));
+                let client = scope.spawn(move || serve_client(
+                    rt,
+                    alloc,
+                    shared,
+                    seat,
+                    stream,
+                    is_terminal,
+                ));
                 if let Ok(client) = client {
                     running.push(client)?;
                 }
@@ -163,7 +174,12 @@ fn entries_of<'a, R: Threads + Wait + Sync + Eprint>(
 }
 
 /// Writes a line: a word, and a number.
-fn say<'a, W: Sink>(alloc: Global, sink: &mut W, word: &str, number: usize) -> Result<(), Fault<'a>> {
+fn say<'a, W: Sink>(
+    alloc: Global,
+    sink: &mut W,
+    word: &str,
+    number: usize,
+) -> Result<(), Fault<'a>> {
     let Ok(line) = format!(in alloc; "{word} {number}\n") else {
         return Err(Fault::from(EngineFault::Memory));
     };
