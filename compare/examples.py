@@ -4,7 +4,9 @@ reports at its end), whose script and words are files of their own.
 NAME.trace is answered by NAME.stdout. NAME.mpd with NAME.words is answered by NAME.stdout, and in the mode `buffered` by
 NAME.buffered.stdout, where that is there. Each line of NAME.checks is the status and the options of a check of NAME.mpd; NAME.reports has
 what these write, one behind the other. The lines of NAME.requests are the requests of a session on NAME.mpd, and NAME.replies has its
-replies. client.py drives a session by itself; docs/SESSIONS.md shows what it writes.
+replies. client.py drives a session by itself; docs/SESSIONS.md shows what it writes. NAME.dialogue is a session on NAME.mpd that clients
+share: `0 > LINE` is what client 0 sends, `0 < LINE` what it is replied, one behind the other, and the last line is what `serve` says when
+all have left. socket_client.py is such a client.
 """
 
 import os
@@ -86,6 +88,26 @@ def checks():
 def dialogues():
     """The names of all sessions."""
     return example_names('.requests')
+
+
+class Spoken(NamedTuple):
+    """A line that a client of a shared session sends, or that it is replied."""
+    client: int
+    is_sent: bool
+    line: str
+
+
+def shared_dialogue(name):
+    """What is spoken in a session that clients share, in its order, and the last line of the server."""
+    *spoken, last = open_example(f'{name}.dialogue').decode().splitlines()
+    parts = [line.split(' ', 2) for line in spoken]
+    assert all(sign in '<>' for _, sign, _ in parts), name
+    return [Spoken(int(client), sign == '>', line) for client, sign, line in parts], last
+
+
+def shared_dialogues():
+    """The names of all sessions that clients share."""
+    return example_names('.dialogue')
 
 
 def strays():

@@ -308,6 +308,15 @@ ANSWERS = {
 CHANGING = frozenset(['step', 'next', 'run', 'back', 'redo', 'goto', 'run-back', 'break', 'unbreak'])
 
 
+def copied(session):
+    """A session like this one, which goes on by itself."""
+    copy = Session.__new__(Session)
+    copy.debugger, copy.breaks, copy.version = Debugger.__new__(Debugger), Breaks(), session.version
+    copy.debugger.worlds, copy.debugger.steps = list(session.debugger.worlds), list(session.debugger.steps)
+    copy.breaks.places = list(session.breaks.places)
+    return copy
+
+
 # ---- bytes (docs/SESSIONS.md, "Replies" and "The engine")
 
 def reply_bytes(reply):

@@ -7,10 +7,10 @@ import explorer
 import policy
 import policy_faults
 import session
-from debugger import Debugger, enabled_steps, next_world, step_text
+from debugger import enabled_steps, next_world, step_text
 from policy import FULL, Breaks, ChangeBreak, Choice, Forced, Leaf, Stop
 from policy_faults import Breakage
-from session import BAD_NUMBER, Refused, Session, must_be
+from session import BAD_NUMBER, Refused, Session, copied, must_be
 
 
 class Sound(NamedTuple):
@@ -37,12 +37,8 @@ def at_last(self, request):
 
 def refusal_first(self, request):
     """The reply of a request that changes a session where its refusals come before that for the version: it is tried on a copy."""
-    copy = Session.__new__(Session)
-    copy.debugger, copy.breaks, copy.version = Debugger.__new__(Debugger), Breaks(), self.version
-    copy.debugger.worlds, copy.debugger.steps = list(self.debugger.worlds), list(self.debugger.steps)
-    copy.breaks.places = list(self.breaks.places)
     try:
-        copy.told(request)
+        copied(self).told(request)
     except Refused as refused:
         return refused.reply()
     return SOUND.answer(self, request)
