@@ -3,7 +3,6 @@ client, which are those of `run`.
 """
 
 import os
-import re
 import socket
 import subprocess
 import sys
@@ -21,7 +20,7 @@ from served_program import DEVICE, free_port
 from session import Refused, lines_of, parse
 from session_cases import random_case
 from turn_by_turn import answered
-from worked_sessions import STATE, deep, ran, step
+from worked_sessions import STATE, deep, no, ran, step
 
 NO_DEVICE = Result(b'', DEVICE, 3)
 AGAIN = 4
@@ -165,14 +164,15 @@ def outputs(tried):
 
 
 def at_terminal(tried):
-    """At a terminal each client that comes is told, on standard error; standard output is as ever."""
+    """At a terminal each client that comes or leaves is told, on standard error; standard output is as ever."""
     ours, theirs = os.openpty()
     tty.setraw(theirs)
     with tried.serve(SCRIPT, 2, errors=theirs) as server:
         one, other = server.ask_for(2)
         one.must(step('local 0'), deep(1, 1))
         other.must(step('local 0'), deep(2, 2))
-        server.must_end(2)
+        other.must(step('wake 0'), no('not-enabled'))
+        server.must_end(3)
     os.close(theirs)
     said = b''
     try:
@@ -181,10 +181,10 @@ def at_terminal(tried):
     except OSError:
         pass
     os.close(ours)
-    found = re.findall(r'client (\d+) of (\d+)', said.decode())
-    if ('1', '2') not in found or ('2', '2') not in found:
+    came, left = said.decode().splitlines()[:2], said.decode().splitlines()[2:]
+    if came != [f'client {number} of 2 is here' for number in (0, 1)] or sorted(left) != ['client 0 left after 1 request', 'client 1 left after 2 requests']:
         raise Wrong(f'a terminal is told {said!r}')
-    return 2
+    return 3
 
 
 def example_client(tried):

@@ -5,8 +5,9 @@
 The commands run at the top of a copy of the repository in which `./mpdbg` is the built program. Pages show them in blocks that are
 indented by four spaces, and in code within a line; what stands behind two spaces is said of a command. Where a block stands right
 below a command, with nothing said between, it is what the command answers, whole. Blocks of words with their answers, tables of
-these, requests with their replies, states, and scripts, are compared with the examples that they are taken from, and the requests of
-each example are answered by the program. What is no command of the program is named in
+these, requests with their replies, dialogues, states, and scripts, are compared with the examples that they are taken from, and the
+requests of each example are answered by the program. Where `serve` is shown, as many clients come as it waits for, and leave; where a
+client is, it has a server. What is no command of the program is named in
 NOT_RUN, and a block that is none of all that in EXCERPTS: a block or a command that is new to this list is wrong here. The status is 0
 where each command ended as it must.
 """
@@ -15,6 +16,7 @@ import glob
 import os
 import re
 import shutil
+import socket
 import subprocess
 import sys
 import tempfile
@@ -37,13 +39,13 @@ EXCERPTS = {
                         'every way it can end', 'JSON requests'),
     'docs/GATE.md': ('fn: ',)}
 # Files that a page names by a word: a script, words for it, and a witness of it, which is made.
-FILES = {'FILE': 'examples/race.mpd', 'WORDS': 'examples/race.words', 'WITNESS': 'made.witness'}
+FILES = {'FILE': 'examples/race.mpd', 'WORDS': 'examples/race.words', 'WITNESS': 'made.witness', '--port P': '--port 7007', '--clients N': '--clients 2'}
 MAKING = './mpdbg check examples/race.mpd --witness | grep -A 1 deadlock | head -2 > made.witness'
 # What is typed behind a script that is read from standard input with it.
 TYPED = {'cat examples/first_message.mpd - | ./mpdbg': '---\n'}
-# What the examples of help answer, but for that of `serve`, which waits for its clients.
+# What the examples of help answer.
 HELP = {'--help': 'first.stdout', 'trace --help': 'ok 1\n', 'verify --help': 'accepted\n',
-        'run --help': '{"depth":6,"ok":true,"steps":6,"stop":"choice","version":1}\n',
+        'serve --help': 'listening 4000\nserved 0\n', 'run --help': '{"depth":6,"ok":true,"steps":6,"stop":"choice","version":1}\n',
         'check --help': 'leaf 0 [] deadlock 0.0 1.0\nwitness 0: local 0, local 1\nleaves 1 more no\n'}
 
 
@@ -103,7 +105,7 @@ def is_command(line):
 
 def with_files(command):
     """A command with the files that a page names by a word."""
-    return re.sub(r'\b(?:FILE|WORDS|WITNESS)\b', lambda word: FILES[word[0]], command)
+    return re.sub(r'\b(?:FILE|WORDS|WITNESS)\b|--port P\b|--clients N\b', lambda word: FILES[word[0]], command)
 
 
 class Page:
@@ -137,6 +139,8 @@ class Page:
                     self.wrong(number, f'no command: {line}')
                 elif not line.startswith(NOT_RUN):
                     self.commands.append(Shown(f'{self.page}, line {number}', command_of(line)))
+        elif re.match(r'\d [<>] ', first):
+            self.dialogue(block)
         elif block.follows and self.commands:
             self.commands[-1] = self.commands[-1]._replace(answer=block.text)
         elif all(re.search(r'\S {2,}\S', line) for line in block.lines) and not first.startswith(EXCERPTS.get(self.page, ())):
@@ -172,6 +176,12 @@ class Page:
         if not any(all_turns[at:at + len(turns)] == turns for at in range(len(all_turns))):
             self.wrong(number, f'{name} answers otherwise than {turns}')
 
+    def dialogue(self, block):
+        """What clients of one session say and are told is in the dialogue of an example."""
+        self.compared += 1
+        if block.text not in read(f'{TOP}/examples/{self.name_before(block.number)}.dialogue'):
+            self.wrong(block.number, 'the example has no such dialogue')
+
     def tables(self, lines):
         """A table whose rows have a word and its answer in code; `show` has its answer below."""
         rows = []
@@ -202,15 +212,46 @@ def help_commands(copy):
 
 def run(copy, command):
     """What a command gives at the top of the copy."""
-    ran = subprocess.run(['bash', '-c', with_files(command)], cwd=copy, input=TYPED.get(command, '').encode(), capture_output=True,
+    command = with_files(command)
+    if served := re.fullmatch(r'\./mpdbg serve .* --port (\d+) --clients (\d+)', command):
+        return with_clients(copy, command, int(served[1]), int(served[2]))
+    if asked := re.fullmatch(r'python3 examples/socket_client\.py (\d+)', command):
+        return with_server(copy, command, int(asked[1]))
+    ran = subprocess.run(['bash', '-c', command], cwd=copy, input=TYPED.get(command, '').encode(), capture_output=True,
                          timeout=SECONDS, check=False)
     return Result(ran.stdout, ran.stderr, ran.returncode)
+
+
+def started(copy, command):
+    """A server, and what it says once it listens."""
+    server = subprocess.Popen(['bash', '-c', f'exec {command}'], cwd=copy, stdin=subprocess.DEVNULL, stdout=subprocess.PIPE, stderr=subprocess.PIPE)
+    return server, server.stdout.readline()
+
+
+def with_clients(copy, command, port, clients):
+    """What a server gives whose clients come, and leave at once."""
+    server, said = started(copy, command)
+    if said:
+        for client in [socket.create_connection(('127.0.0.1', port), SECONDS) for _ in range(clients)]:
+            client.close()
+    output, errors = server.communicate(timeout=SECONDS)
+    return Result(said + output, errors, server.returncode)
+
+
+def with_server(copy, command, port):
+    """What a client gives that has a session for itself."""
+    server, _ = started(copy, f'./mpdbg serve examples/two_clients.mpd --port {port} --clients 1')
+    ran = subprocess.run(['bash', '-c', command], cwd=copy, stdin=subprocess.DEVNULL, capture_output=True, timeout=SECONDS, check=False)
+    server.communicate(timeout=SECONDS)
+    return Result(ran.stdout, ran.stderr, ran.returncode or server.returncode)
 
 
 def answer_of_example(command):
     """What the examples have as the answer of a trace with its words, or of a session with its requests, if the command is one."""
     if command == './mpdbg < examples/first.trace':
         return read(f'{TOP}/examples/first.stdout')
+    if served := re.search(r'^\./mpdbg serve .* --port (\d+) ', with_files(command)):
+        return f'listening {served[1]}\nserved 0\n'
     if asked := re.fullmatch(r'\./mpdbg run examples/(\w+)\.mpd < examples/\1\.requests', command):
         return read(f'{TOP}/examples/{asked[1]}.replies')
     traced = re.fullmatch(r'\./mpdbg trace examples/(\w+)\.mpd(?: --mode (\w+))? < examples/\1\.words', with_files(command))

@@ -46,6 +46,13 @@ class Desk:
             return reply_bytes(refused.reply())
 
 
+def is_request(line):
+    try:
+        return parse(line) is not None
+    except Refused:
+        return False
+
+
 class Lines:
     """Cuts what comes into lines; of one that is too long no more is kept than shows that it is."""
 
@@ -66,8 +73,8 @@ class Lines:
 class Seat:
     """A client: its connection, and the desk that answers it."""
 
-    def __init__(self, desk, connection):
-        self.desk, self.connection, self.lines = desk, connection, Lines()
+    def __init__(self, desk, connection, number):
+        self.desk, self.connection, self.number, self.lines, self.taken = desk, connection, number, Lines(), 0
 
     def run(self):
         """Serves the client until it leaves, or its device fails, which ends it alone."""
@@ -77,6 +84,12 @@ class Seat:
             self.failed()
         finally:
             self.connection.close()
+            self.leave()
+
+    def leave(self):
+        """A terminal is told how many requests were taken."""
+        if sys.stderr.isatty():
+            print(f'client {self.number} left after {self.taken} request{"" if self.taken == 1 else "s"}', file=sys.stderr, flush=True)
 
     def failed(self):
         """A device of this client has failed."""
@@ -92,7 +105,9 @@ class Seat:
     def answer(self, lines):
         for line in lines:
             if line:
-                self.write(self.desk.answer(line))
+                reply = self.desk.answer(line)
+                self.taken += is_request(line) and reply != reply_bytes(HISTORY_FULL)
+                self.write(reply)
 
     def write(self, reply):
         self.connection.sendall(reply)
@@ -106,18 +121,18 @@ class Server:
 
     def run(self):
         self.tell(f'listening {self.listener.getsockname()[1]}')
-        self.wait([self.begun(self.accepted(number)) for number in range(1, self.clients + 1)])
+        self.wait([self.begun(self.accepted(number)) for number in range(self.clients)])
         self.tell(f'served {self.desk.entries}')
 
     def tell(self, text):
         print(text, flush=True)
 
     def accepted(self, number):
-        """The seat of the next client, of this number from 1, which a terminal is told."""
+        """The seat of the next client, of this number from 0, which a terminal is told."""
         connection, _ = self.listener.accept()
         if sys.stderr.isatty():
             print(f'client {number} of {self.clients} is here', file=sys.stderr, flush=True)
-        return Seat(self.desk, connection)
+        return Seat(self.desk, connection, number)
 
     def begun(self, seat):
         """The thread that serves a seat."""

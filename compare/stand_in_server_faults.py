@@ -94,7 +94,7 @@ def in_turn(self, seat):
 def when_all_are_here(self):
     """What serves nobody before all have come."""
     self.tell(f'listening {self.listener.getsockname()[1]}')
-    seats = [self.accepted(number) for number in range(1, self.clients + 1)]
+    seats = [self.accepted(number) for number in range(self.clients)]
     self.wait([self.begun(seat) for seat in seats])
     self.tell(f'served {self.desk.entries}')
 
@@ -125,10 +125,10 @@ def not_flushed(self, text):
 
 def told_behind_the_first(self):
     told, self.tell = self.tell, lambda text: None
-    first = self.accepted(1)
+    first = self.accepted(0)
     self.tell = told
     self.tell(f'listening {self.listener.getsockname()[1]}')
-    self.wait([self.begun(first), *(self.begun(self.accepted(number)) for number in range(2, self.clients + 1))])
+    self.wait([self.begun(first), *(self.begun(self.accepted(number)) for number in range(1, self.clients))])
     self.tell(f'served {self.desk.entries}')
 
 

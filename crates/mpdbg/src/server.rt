@@ -8,7 +8,7 @@ use mpd_device::device::{FromReader, Sink, ToWriter};
 use mpd_lines::engine::EngineFault;
 use mpd_lines::outbox::write_all;
 use mpd_model::call::Mode;
-use mpd_session::history::Logged;
+use mpd_session::history::{Log, Logged};
 use mpd_session::session::Session;
 use mpd_shared::desk::SeatDesk;
 use mpd_shared::opening::Opening;
@@ -34,6 +34,15 @@ pub(crate) struct Audience {
     pub(crate) is_terminal: bool,
 }
 
+/// Says that a client has left, and how many of its requests were taken.
+fn say_left<R: Eprint>(rt: &R, log: &Log) -> io::Result<()> {
+    let client = log.client;
+    match log.receipts.len() {
+        1 => eprintln!(rt; "client {client} left after 1 request"),
+        count => eprintln!(rt; "client {client} left after {count} requests"),
+    }
+}
+
 /// Answers the requests of a client until it leaves or its connection fails, and gives its seat back.
 fn serve_client<L: Opening, R: Wait + Eprint>(
     rt: &R,
@@ -52,12 +61,7 @@ fn serve_client<L: Opening, R: Wait + Eprint>(
     let _ended = serve(alloc, &mut source, &mut sink, &mut desk);
     let seat = desk.into_seat();
     if is_terminal {
-        let log = seat.log();
-        let _unwritten = eprintln!(rt;
-            "client {} left after {} requests",
-            log.client,
-            log.receipts.len()
-        );
+        let _unwritten = say_left(rt, seat.log());
     }
     seat
 }
