@@ -137,17 +137,34 @@ fn two_seats_are_used_in_turn(rt: HostRuntime) {
     same(&rt, entries_in_turn(&rt, alloc, &code), Some(TURNS.len()));
 }
 
-/// Asks the same a hundred times by a seat.
-fn ask_often<L: Opening, R: Wait>(
+/// What two threads ask at once, each by a seat.
+trait Table<S, R> {
+    /// Asks the same a hundred times by a seat.
+    fn ask_often(&self, rt: &R, alloc: Global, seat: S) -> S;
+}
+
+impl<L: Opening, R: Wait> Table<Seat<L>, R> for Shared<'_, L> {
+    fn ask_often(&self, rt: &R, alloc: Global, mut seat: Seat<L>) -> Seat<L> {
+        for _time in 0..100 {
+            let _reply = self.call(rt, alloc, &mut seat, &STATE);
+        }
+        seat
+    }
+}
+
+/// Two seats are asked by at once, on threads of their own.
+fn ask_by_both<T: Table<S, R> + Sync, S: Send, R: Threads + Wait + Sync>(
     rt: &R,
     alloc: Global,
-    shared: &Shared<'_, L>,
-    mut seat: Seat<L>,
-) -> Seat<L> {
-    for _time in 0..100 {
-        let _reply = shared.call(rt, alloc, &mut seat, &STATE);
-    }
-    seat
+    table: &T,
+    first: S,
+    second: S,
+) -> (S, S) {
+    join(
+        rt,
+        || table.ask_often(rt, alloc, first),
+        || table.ask_often(rt, alloc, second),
+    )
 }
 
 /// Two clients ask on threads of their own, and then settle: how many entries the history has.
@@ -167,11 +184,7 @@ fn ask_at_once<L: Opening + Send + Sync, R: Threads + Wait + Sync>(
     let (shared, mut seats) = Shared::<L>::new(alloc, blank, session, 2).ok()?;
     let second = seats.pop()?;
     let first = seats.pop()?;
-    let (first, second) = join(
-        rt,
-        || ask_often(rt, alloc, &shared, first),
-        || ask_often(rt, alloc, &shared, second),
-    );
+    let (first, second) = ask_by_both(rt, alloc, &shared, first, second);
     seats.push(first).ok()?;
     seats.push(second).ok()?;
     let book = shared.settle(seats).ok()?;

@@ -43,25 +43,44 @@ fn say_left<R: Eprint>(rt: &R, log: &Log) -> io::Result<()> {
     }
 }
 
-/// Answers the requests of a client until it leaves or its connection fails, and gives its seat back.
-fn serve_client<L: Opening, R: Wait + Eprint>(
+/// What clients share, as the threads see it that serve them.
+trait Table<S, R> {
+    /// Answers the requests of a client until it leaves or its connection fails, and gives its seat back.
+    fn serve(&self, rt: &R, alloc: Global, seat: S, stream: &TcpStream) -> S;
+
+    /// What its seat keeps.
+    fn log<'s>(&self, seat: &'s S) -> &'s Log;
+}
+
+impl<L: Opening, R: Wait> Table<Seat<L>, R> for Shared<'_, L> {
+    fn serve(&self, rt: &R, alloc: Global, seat: Seat<L>, stream: &TcpStream) -> Seat<L> {
+        let mut source = FromReader::new(stream);
+        let mut sink = ToWriter::new(stream);
+        let mut desk = SeatDesk::new(rt, self, seat);
+        // what fails here ends this client alone
+        let _ended = serve(alloc, &mut source, &mut sink, &mut desk);
+        desk.into_seat()
+    }
+
+    fn log<'s>(&self, seat: &'s Seat<L>) -> &'s Log {
+        seat.log()
+    }
+}
+
+/// Serves a client, and says at a terminal that it has left.
+fn serve_client<T: Table<S, R>, S, R: Wait + Eprint>(
     rt: &R,
     alloc: Global,
-    shared: &Shared<'_, L>,
-    seat: Seat<L>,
+    table: &T,
+    seat: S,
     stream: TcpStream,
     is_terminal: bool,
-) -> Seat<L> {
+) -> S {
     // where it can't be set, each reply takes longer
     let _slower = stream.set_nodelay(true);
-    let mut source = FromReader::new(&stream);
-    let mut sink = ToWriter::new(&stream);
-    let mut desk = SeatDesk::new(rt, shared, seat);
-    // what fails here ends this client alone
-    let _ended = serve(alloc, &mut source, &mut sink, &mut desk);
-    let seat = desk.into_seat();
+    let seat = table.serve(rt, alloc, seat, &stream);
     if is_terminal {
-        let _unwritten = say_left(rt, seat.log());
+        let _unwritten = say_left(rt, table.log(&seat));
     }
     seat
 }
@@ -85,48 +104,44 @@ fn accept<R: Wait>(rt: &R, listener: &TcpListener) -> io::Result<TcpStream> {
 
 /// Accepts a client for each seat, and serves it on a thread of its own from then on. Answers the seats, once all clients have left.
 /// Where no thread can be started the client is let go, with its seat, which has no receipt.
-fn serve_all<L: Opening + Send + Sync, R: Threads + Wait + Sync + Eprint>(
+fn serve_all<T: Table<S, R> + Sync, S: Send + Drop, R: Threads + Wait + Sync + Eprint>(
     rt: &R,
     alloc: Global,
-    shared: &Shared<'_, L>,
-    seats: Vec<Seat<L>>,
+    table: &T,
+    seats: Vec<S>,
     listener: &TcpListener,
     audience: Audience,
-) -> io::Result<Vec<Seat<L>>> {
-    thread::scope(
-        thread::scope_env(),
-        rt,
-        |scope| -> io::Result<Vec<Seat<L>>> {
-            let mut running = Vec::with_capacity(alloc, seats.len())?;
-            let mut back = Vec::with_capacity(alloc, seats.len())?;
-            for seat in seats {
-                let stream = accept(rt, listener)?;
-                if audience.is_terminal {
-                    let _unwritten = eprintln!(rt;
-                        "client {} of {} is here",
-                        seat.log().client,
-                        audience.clients
-                    );
-                }
-                let is_terminal = audience.is_terminal;
-                let client = scope.spawn(move || serve_client(
-                    rt,
-                    alloc,
-                    shared,
-                    seat,
-                    stream,
-                    is_terminal,
-                ));
-                if let Ok(client) = client {
-                    running.push(client)?;
-                }
+) -> io::Result<Vec<S>> {
+    thread::scope(thread::scope_env(), rt, |scope| -> io::Result<Vec<S>> {
+        let mut running = Vec::with_capacity(alloc, seats.len())?;
+        let mut back = Vec::with_capacity(alloc, seats.len())?;
+        for seat in seats {
+            let stream = accept(rt, listener)?;
+            if audience.is_terminal {
+                let _unwritten = eprintln!(rt;
+                    "client {} of {} is here",
+                    table.log(&seat).client,
+                    audience.clients
+                );
             }
-            for client in running {
-                back.push(client.join(rt))?;
+            let is_terminal = audience.is_terminal;
+            let client = scope.spawn(move || serve_client(
+                rt,
+                alloc,
+                table,
+                seat,
+                stream,
+                is_terminal,
+            ));
+            if let Ok(client) = client {
+                running.push(client)?;
             }
-            Ok(back)
-        },
-    )
+        }
+        for client in running {
+            back.push(client.join(rt))?;
+        }
+        Ok(back)
+    })
 }
 
 /// Serves the clients on a session at the start of a script, and answers how many entries its history has in the end.
