@@ -1,10 +1,10 @@
 """Plants wrong bodies in `serve`, each of which the scenario that it names must notice (docs/TRIED.md, "Clients that share a session").
 
-    python3 compare/served_planted.py [--builds N]    two builds without proofs, some 2 minutes each (no part of the gate)
+    python3 compare/served_planted.py [--only BODY]..    a build without proofs for each, some 2 minutes (no part of the gate)
 
 Each file of compare/served_broken/ is such a body, as those of compare/broken/ (.ci/planted.py), with the scenario of
-compare/serving.py that must find it. Half of the bodies are planted in each build, another half in each where there are builds enough:
-the scenario must find something wrong in each that has the body, and nothing in the others. The status is 0 where that is so.
+compare/serving.py that must find it. Each is planted alone, and without any the scenarios must find nothing. The status is 0 where
+that is so.
 """
 
 import argparse
@@ -19,7 +19,7 @@ TOP = os.path.dirname(HERE)
 sys.path[:0] = [HERE, os.path.join(TOP, '.ci')]
 
 from edit_files import Edit  # noqa: E402
-from planted import plant, words  # noqa: E402
+from planted import plant  # noqa: E402
 from served_program import Tried  # noqa: E402
 from serving import BY_NAME, came_of  # noqa: E402
 
@@ -55,30 +55,30 @@ def built(bodies, room):
     return program
 
 
-def found_in(build, bodies, taken):
-    """Of each body whether its scenario finds something wrong in a build."""
+def found_with(bodies, scenarios):
+    """What these scenarios find wrong in a program with these bodies."""
     with tempfile.TemporaryDirectory(prefix='served-') as room:
-        program = built([body for body, word in zip(bodies, taken) if build in word], room)
-        return [came_of(Tried((program,), seconds=20), body.scenario).problem for body in bodies]
+        program = built(bodies, room)
+        return [came_of(Tried((program,), seconds=20), scenario).problem for scenario in scenarios]
 
 
 def main():
     parser = argparse.ArgumentParser(description=__doc__, formatter_class=argparse.RawDescriptionHelpFormatter)
-    parser.add_argument('--builds', type=int, default=2, metavar='N', help='how many builds (2)')
+    parser.add_argument('--only', action='append', metavar='BODY', help='a body in the place of all, by its name')
     chosen = parser.parse_args()
     os.chdir(TOP)
     bodies = [Body(f'{FOLDER}/{name}') for name in sorted(os.listdir(FOLDER))]
+    bodies = [body for body in bodies if chosen.only is None or body.name in chosen.only]
     if unknown := [body.name for body in bodies if body.scenario not in BY_NAME]:
         sys.exit(f'no scenario: {unknown}')
-    builds, taken = words(len(bodies), chosen.builds)
-    found = [found_in(build, bodies, taken) for build in range(builds)]
-    wrong = 0
-    for place, (body, word) in enumerate(zip(bodies, taken)):
-        problems = [of_build[place] for of_build in found]
-        is_noticed = all((problem is not None) == (build in word) for build, problem in enumerate(problems))
-        wrong += not is_noticed
-        print(f'{body.name}: {"noticed" if is_noticed else "NOT NOTICED"} by {body.scenario}: {problems}')
-    print(f'{len(bodies)} wrong bodies, {len(bodies) - wrong} noticed')
+    wrong = [problem for problem in found_with([], sorted({body.scenario for body in bodies})) if problem]
+    for problem in wrong:
+        print(f'without a wrong body: {problem}')
+    for body in bodies:
+        [problem] = found_with([body], [body.scenario])
+        print(f'{body.name}: {f"noticed by {body.scenario}: {problem}" if problem else "NOT NOTICED"}', flush=True)
+        wrong += [] if problem else [body.name]
+    print(f'{len(bodies)} wrong bodies, {len(wrong)} wrong')
     return 1 if wrong or not bodies else 0
 
 

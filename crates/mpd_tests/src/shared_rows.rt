@@ -153,7 +153,7 @@ impl<L: Opening, R: Wait> Table<Seat<L>, R> for Shared<'_, L> {
 }
 
 /// Two seats are asked by at once, on threads of their own.
-fn ask_by_both<T: Table<S, R> + Sync, S: Send, R: Threads + Wait + Sync>(
+fn ask_by_both<T: Table<S, R> + Sync, S: Send + Drop, R: Threads + Wait + Sync>(
     rt: &R,
     alloc: Global,
     table: &T,
