@@ -1,6 +1,7 @@
 //! `mpdbg serve`: one session for the clients that connect (docs/SESSIONS.md, "Several clients").
 
 ghost use Rattle.std.specs.Prelude.{◌≡◌};
+ghost use Rattle.std.specs.Thread.{IsSend, IsSync};
 
 use crate::tell::Fault;
 use mpd_code::code::Code;
@@ -112,36 +113,44 @@ fn serve_all<T: Table<S, R> + Sync, S: Send + Drop, R: Threads + Wait + Sync + E
     listener: &TcpListener,
     audience: Audience,
 ) -> io::Result<Vec<S>> {
-    thread::scope(thread::scope_env(), rt, |scope| -> io::Result<Vec<S>> {
-        let mut running = Vec::with_capacity(alloc, seats.len())?;
-        let mut back = Vec::with_capacity(alloc, seats.len())?;
-        for seat in seats {
-            let stream = accept(rt, listener)?;
-            if audience.is_terminal {
-                let _unwritten = eprintln!(rt;
-                    "client {} of {} is here",
-                    table.log(&seat).client,
-                    audience.clients
-                );
+    thread::scope(
+        thread::scope_env(),
+        rt,
+        |scope| -> io::Result<Vec<S>>
+            requires table { IsSync T.row }
+            requires seats { IsSend S.row }
+            requires runtime { IsSync R.row }
+        {
+            let mut running = Vec::with_capacity(alloc, seats.len())?;
+            let mut back = Vec::with_capacity(alloc, seats.len())?;
+            for seat in seats {
+                let stream = accept(rt, listener)?;
+                if audience.is_terminal {
+                    let _unwritten = eprintln!(rt;
+                        "client {} of {} is here",
+                        table.log(&seat).client,
+                        audience.clients
+                    );
+                }
+                let is_terminal = audience.is_terminal;
+                let client = scope.spawn(move || serve_client(
+                    rt,
+                    alloc,
+                    table,
+                    seat,
+                    stream,
+                    is_terminal,
+                ));
+                if let Ok(client) = client {
+                    running.push(client)?;
+                }
             }
-            let is_terminal = audience.is_terminal;
-            let client = scope.spawn(move || serve_client(
-                rt,
-                alloc,
-                table,
-                seat,
-                stream,
-                is_terminal,
-            ));
-            if let Ok(client) = client {
-                running.push(client)?;
+            for client in running {
+                back.push(client.join(rt))?;
             }
-        }
-        for client in running {
-            back.push(client.join(rt))?;
-        }
-        Ok(back)
-    })
+            Ok(back)
+        },
+    )
 }
 
 /// Serves the clients on a session at the start of a script, and answers how many entries its history has in the end.
