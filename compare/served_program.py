@@ -2,6 +2,7 @@
 
 import os
 import random
+import resource
 import select
 import socket
 import subprocess
@@ -17,6 +18,8 @@ from served_clients import HERE, Client, Wrong, must_be
 PORTS = range(20000, 32000)
 DEVICE = b'mpdbg: device\n'
 MIB = 1 << 20
+# A user who has no other process, so that the threads of a program are all that are counted of it.
+ALONE = 54321
 
 
 def is_free(port):
@@ -34,13 +37,22 @@ def free_port():
     return next(port for port in iter(lambda: random.choice(PORTS), None) if is_free(port))
 
 
+def few_threads(count):
+    """What gives a program a user of its own, who may have so many threads."""
+    def begin():
+        resource.setrlimit(resource.RLIMIT_NPROC, (count, count))
+        os.setresuid(ALONE, ALONE, ALONE)
+    return begin
+
+
 class Serving:
     """A program that serves a script: a context, behind which it has ended."""
 
-    def __init__(self, words, until, errors=None, output=None):
+    def __init__(self, words, until, errors=None, output=None, threads=None):
         self.until, self.errors = until, os.memfd_create('errors')
         self.process = subprocess.Popen(words, stdin=subprocess.DEVNULL, stdout=subprocess.PIPE if output is None else output,
-                                        stderr=self.errors if errors is None else errors)
+                                        stderr=self.errors if errors is None else errors,
+                                        preexec_fn=threads and few_threads(threads))
         self.said, self.port, self.clients = b'', None, []
 
     def __enter__(self):
@@ -147,6 +159,7 @@ class Tried(NamedTuple):
         """A program that listens: on that port, or on one that is free. The script's file may go once it listens."""
         for _ in range(5):
             with tempfile.TemporaryDirectory(prefix='serving-') as folder:
+                os.chmod(folder, 0o711)
                 found = port or free_port()
                 serving = Serving(self.words_for(held(folder, 'script.mpd', script), found, clients, mode), self.until(), **files)
                 try:

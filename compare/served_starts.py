@@ -146,6 +146,20 @@ def is_told(client):
         return False
 
 
+def no_thread(tried):
+    """Where no thread can be started for a client it is let go, and the others are served. The stand-in isn't tried, and root alone can."""
+    if os.geteuid() or tried.words[0] == sys.executable:
+        return 1
+    with tried.serve(SCRIPT, 3, threads=2) as server:
+        one = server.client()
+        one.must(step('local 0'), deep(1, 1))
+        for other in server.ask_for(2):
+            must_be(other.rest(), '', 'a client without a thread')
+        one.must(step('local 0'), deep(2, 2))
+        server.must_end(2)
+    return 2
+
+
 # ---- outputs
 
 def outputs(tried):

@@ -46,7 +46,7 @@ SCENARIOS = (
     Scenario('a line without an end', served_leavers.endless), Scenario('replies that nobody reads', served_leavers.unread),
     Scenario('started again', served_starts.again), Scenario('a port that is taken', served_starts.taken_port),
     Scenario('wrong words', served_starts.wrong_words), Scenario('one address', served_starts.one_address),
-    Scenario('so many clients', served_starts.so_many_clients), Scenario('outputs', served_starts.outputs),
+    Scenario('so many clients', served_starts.so_many_clients), Scenario('no thread', served_starts.no_thread), Scenario('outputs', served_starts.outputs),
     Scenario('a terminal', served_starts.at_terminal), Scenario('the example', served_starts.example_client),
     Scenario('sessions of one client', served_starts.as_run), Scenario('a full history', served_crowds.full_history),
     *(Scenario(f'a crowd, {crowd.name}', served_crowds.scenario_of(crowd)) for crowd in served_crowds.CROWDS))
