@@ -4,8 +4,9 @@ ghost use Rattle.std.specs.Prelude.{◌≡◌};
 ghost use Rattle.std.specs.Thread.{IsSend, IsSync};
 
 use crate::tell::Fault;
+use itoa::Buffer;
 use mpd_code::code::Code;
-use mpd_device::device::{FromReader, Sink, ToWriter};
+use mpd_device::device::{DeviceFault, FromReader, Sink, ToWriter};
 use mpd_lines::engine::EngineFault;
 use mpd_lines::outbox::write_all;
 use mpd_model::call::Mode;
@@ -18,7 +19,7 @@ use mpd_shared::settle::SettleFault;
 use mpd_shared::shared::Shared;
 use mpd_wire::engine::serve;
 use std::alloc::Global;
-use std::io::ErrorKind;
+use std::io::{Error, ErrorKind};
 use std::marker::Brand;
 use std::net::{TcpListener, TcpStream};
 use std::sync::Wait;
@@ -26,12 +27,14 @@ use std::sync::ledger::Blank;
 use std::thread::Threads;
 use std::{io, thread};
 
-/// How many clients there are, and whether a person sees on standard error that they come and leave.
+/// Where clients come, and how many.
 #[derive(Clone, Copy)]
-pub(crate) struct Audience {
-    /// How many clients are accepted, 1 to 16.
+pub(crate) struct Arrivals<'l> {
+    /// What they connect to.
+    pub(crate) listener: &'l TcpListener,
+    /// How many are accepted, 1 to 16.
     pub(crate) clients: usize,
-    /// Whether standard error is a terminal.
+    /// Whether standard error is a terminal: there a person sees who comes and leaves.
     pub(crate) is_terminal: bool,
 }
 
@@ -110,8 +113,7 @@ fn serve_all<T: Table<S, R> + Sync, S: Send + Drop, R: Threads + Wait + Sync + E
     alloc: Global,
     table: &T,
     seats: Vec<S>,
-    listener: &TcpListener,
-    audience: Audience,
+    arrivals: Arrivals<'_>,
 ) -> io::Result<Vec<S>> {
     thread::scope(
         thread::scope_env(),
@@ -124,15 +126,15 @@ fn serve_all<T: Table<S, R> + Sync, S: Send + Drop, R: Threads + Wait + Sync + E
             let mut running = Vec::with_capacity(alloc, seats.len())?;
             let mut back = Vec::with_capacity(alloc, seats.len())?;
             for seat in seats {
-                let stream = accept(rt, listener)?;
-                if audience.is_terminal {
+                let stream = accept(rt, arrivals.listener)?;
+                if arrivals.is_terminal {
                     let _unwritten = eprintln!(rt;
                         "client {} of {} is here",
                         table.log(&seat).client,
-                        audience.clients
+                        arrivals.clients
                     );
                 }
-                let is_terminal = audience.is_terminal;
+                let is_terminal = arrivals.is_terminal;
                 let client = scope.spawn(move || serve_client(
                     rt,
                     alloc,
@@ -153,18 +155,60 @@ fn serve_all<T: Table<S, R> + Sync, S: Send + Drop, R: Threads + Wait + Sync + E
     )
 }
 
+/// Writes a line: a word, and a number. It takes no memory.
+fn say<W: Sink>(sink: &mut W, word: &str, number: usize) -> Result<(), DeviceFault> {
+    write_all(sink, word.as_bytes())?;
+    let mut digits = Buffer::new();
+    write_all(sink, digits.format(number).as_bytes())?;
+    write_all(sink, b"\n")
+}
+
+/// Why clients were not served to the end.
+fn fault_of<'a>(error: Error) -> Fault<'a> {
+    match error.kind() {
+        ErrorKind::OutOfMemory => Fault::from(EngineFault::Memory),
+        _ => Fault::Listener(error),
+    }
+}
+
+/// Serves clients by their seats, from where it has written that it listens.
+fn serve_seats<'a, L: Opening + Send + Sync, R: Threads + Wait + Sync + Eprint, W: Sink>(
+    rt: &R,
+    alloc: Global,
+    shared: &Shared<'_, L>,
+    seats: Vec<Seat<L>>,
+    arrivals: Arrivals<'_>,
+    sink: &mut W,
+) -> Result<Vec<Seat<L>>, Fault<'a>> {
+    let port = match arrivals.listener.local_addr() {
+        Ok(address) => address.port(),
+        Err(error) => {
+            drop(seats);
+            return Err(Fault::Listener(error));
+        }
+    };
+    let Ok(()) = say(sink, "listening ", usize::from(port)) else {
+        drop(seats);
+        return Err(Fault::from(EngineFault::WriteFailed));
+    };
+    match serve_all(rt, alloc, shared, seats, arrivals) {
+        Ok(back) => Ok(back),
+        Err(error) => Err(fault_of(error)),
+    }
+}
+
 /// Serves the clients on a session at the start of a script, and answers how many entries its history has in the end.
-fn host<'a, L: Opening + Send + Sync, R: Threads + Wait + Sync + Eprint>(
+fn host<'a, L: Opening + Send + Sync, R: Threads + Wait + Sync + Eprint, W: Sink>(
     rt: &R,
     alloc: Global,
     blank: Blank,
     script: &(Mode, Code),
-    listener: &TcpListener,
-    audience: Audience,
+    arrivals: Arrivals<'_>,
+    sink: &mut W,
 ) -> Result<usize, Fault<'a>>
     requires name { blank.name ≡ L.name }
     requires blank { blank.parts ≡ L.parts }
-    requires parts { L.parts ≡ audience.clients }
+    requires parts { L.parts ≡ arrivals.clients }
     requires program { script.now.1.program ≡ L.program }
     requires mode { script.now.0 ≡ L.mode }
 {
@@ -172,15 +216,15 @@ fn host<'a, L: Opening + Send + Sync, R: Threads + Wait + Sync + Eprint>(
     let Ok(session) = Session::start(alloc, code, *mode) else {
         return Err(Fault::from(EngineFault::Memory));
     };
-    let Ok((shared, seats)) = Shared::<L>::new(alloc, blank, session, audience.clients) else {
+    let Ok((shared, seats)) = Shared::<L>::new(alloc, blank, session, arrivals.clients) else {
         return Err(Fault::from(EngineFault::Memory));
     };
-    let back = match serve_all(rt, alloc, &shared, seats, listener, audience) {
+    let back = match serve_seats(rt, alloc, &shared, seats, arrivals, sink) {
         Ok(back) => back,
-        Err(error) if error.kind() == ErrorKind::OutOfMemory => {
-            return Err(Fault::from(EngineFault::Memory));
+        Err(fault) => {
+            drop(shared);
+            return Err(fault);
         }
-        Err(error) => return Err(Fault::Listener(error)),
     };
     match shared.settle(back) {
         Ok(book) => Ok(book.len()),
@@ -190,48 +234,30 @@ fn host<'a, L: Opening + Send + Sync, R: Threads + Wait + Sync + Eprint>(
 }
 
 /// The same, with a ledger of its own.
-fn entries_of<'a, R: Threads + Wait + Sync + Eprint>(
+fn entries_of<'a, R: Threads + Wait + Sync + Eprint, W: Sink>(
     rt: &R,
     alloc: Global,
     script: &(Mode, Code),
-    listener: &TcpListener,
-    audience: Audience,
-) -> Result<usize, Fault<'a>> {
-    let blank = Blank::new(audience.clients as u64);
-    host::<Brand, R>(rt, alloc, blank, script, listener, audience)
-}
-
-/// Writes a line: a word, and a number.
-fn say<'a, W: Sink>(
-    alloc: Global,
+    arrivals: Arrivals<'_>,
     sink: &mut W,
-    word: &str,
-    number: usize,
-) -> Result<(), Fault<'a>> {
-    let Ok(line) = format!(in alloc; "{word} {number}\n") else {
-        return Err(Fault::from(EngineFault::Memory));
-    };
-    match write_all(sink, line.as_bytes()) {
-        Ok(()) => Ok(()),
-        Err(_) => Err(Fault::from(EngineFault::WriteFailed)),
-    }
+) -> Result<usize, Fault<'a>> {
+    let blank = Blank::new(arrivals.clients as u64);
+    host::<Brand, R, W>(rt, alloc, blank, script, arrivals, sink)
 }
 
 /// Serves so many clients of a listener with one session on a script. It writes `listening P` before the first is accepted, and
-/// `served E` once all have left: so many requests have entries in the history.
+/// `served E` once all have left: so many requests have entries in the history. Memory for the session and its seats is taken before
+/// anything is written.
 pub(crate) fn serve_clients<'a, R: Threads + Wait + Sync + Eprint, W: Sink>(
     rt: &R,
     alloc: Global,
     script: &(Mode, Code),
-    listener: &TcpListener,
-    audience: Audience,
+    arrivals: Arrivals<'_>,
     sink: &mut W,
 ) -> Result<(), Fault<'a>> {
-    let port = match listener.local_addr() {
-        Ok(address) => address.port(),
-        Err(error) => return Err(Fault::Listener(error)),
-    };
-    say(alloc, sink, "listening", usize::from(port))?;
-    let entries = entries_of(rt, alloc, script, listener, audience)?;
-    say(alloc, sink, "served", entries)
+    let entries = entries_of(rt, alloc, script, arrivals, sink)?;
+    match say(sink, "served ", entries) {
+        Ok(()) => Ok(()),
+        Err(_) => Err(Fault::from(EngineFault::WriteFailed)),
+    }
 }
