@@ -15,9 +15,6 @@ from typing import NamedTuple
 from language import read_script
 from session import CHANGING, Refused, Session, copied, parse, reply_bytes
 from served_clients import shortened
-from stand_in import HISTORY_FULL
-
-HISTORY_FULL_BYTES = reply_bytes(HISTORY_FULL)
 
 
 class Turn(NamedTuple):
@@ -78,13 +75,11 @@ def version_of(turn):
 
 
 def told_of(client, place, turn):
-    """What is told by a turn; None where its line is no request, or the history is full."""
+    """What is told by a turn; None where its line is no request. A history that is full fits nowhere."""
     request, refusal = request_of(turn.line)
     if request is None:
         if turn.reply != refusal:
             raise Misfit(f'{said(turn)}, and not {refusal}')
-        return None
-    if turn.reply + b'\n' == HISTORY_FULL_BYTES:
         return None
     return Told(client, place, turn, request, None if error_of(turn) else version_of(turn))
 
