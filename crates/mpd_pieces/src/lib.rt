@@ -1,0 +1,4 @@
+//! The runs of a script in pieces, cut by their first choices: for workers that explore parts of them.
+#![tactic(auto)]
+
+pub mod split;
