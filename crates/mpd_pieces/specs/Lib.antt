@@ -1,5 +1,5 @@
 pub mod Pieces
-pub mod Led
+pub mod Along
 pub mod Faults
 pub mod PieceLaws
 pub mod PieceRows

@@ -1,5 +1,5 @@
 -- What the pieces of a walk say of the whole.
-use Rattle.std.specs.Prelude.{◌≡◌, ℕ, List, flat_map, map, take, length, nat_lt}
+use Rattle.std.specs.Prelude.{◌≡◌, ℕ, flat_map, map, take, length, nat_lt}
 use Rattle.std.specs.List.{AllByRecursion}
 use Rattle.mpd_model.specs.World.{World}
 use Rattle.mpd_explore.specs.Walk.{walk}

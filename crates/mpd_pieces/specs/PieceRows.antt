@@ -1,5 +1,5 @@
 -- Worked rows of pieces and of the parts of a report. What is wanted was worked out by hand.
-use Rattle.std.specs.Prelude.{◌≡◌, ℕ, pos, Bool, true, false, map, List, [], ◌∷◌, Option, Some, None, codes, refl}
+use Rattle.std.specs.Prelude.{◌≡◌, ℕ, pos, Bool, true, false, map, List, [], ◌∷◌, None, codes, refl}
 use Rattle.mpd_model.specs.declared.place.DeclKind.TheVariants.{Variable}
 use Rattle.mpd_model.specs.declared.place.Place.{Place}
 use Rattle.mpd_model.specs.declared.expr.BinaryOp.TheVariants.{Equal}

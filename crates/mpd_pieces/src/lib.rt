@@ -1,4 +1,6 @@
 //! The runs of a script in pieces, cut by their first choices: for workers that explore parts of them.
 #![tactic(auto)]
 
+pub mod explore_at;
+mod follow;
 pub mod split;
