@@ -57,7 +57,7 @@ longer_none (suc n) w = refl
 
 -- ---- a forced step
 
-walk_forced : (n : ℕ) (x : List ℕ) (w v : World) (a : Step) → decision w ≡ Forced a → next w a ≡ Some v → walk_at (suc n) x w ≡ map (stepped a) (walk_at n x v)
+pub walk_forced : (n : ℕ) (x : List ℕ) (w v : World) (a : Step) → decision w ≡ Forced a → next w a ≡ Some v → walk_at (suc n) x w ≡ map (stepped a) (walk_at n x v)
 unfolding walk_at
 walk_forced n [] w v a forced step = walk_is n w (Forced a) forced ∙ ap (λ o. map (stepped a) (runs_of (walk n) o)) step ∙ ap (map (stepped a)) (sym (walk_whole n v))
 walk_forced n (c ∷ cs) w v a forced step = ap (beginning (walk_at n) w c cs) forced ∙ ap (λ o. map (stepped a) (runs_of (walk_at n (c ∷ cs)) o)) step

@@ -1,2 +1,3 @@
 pub mod AlongLemmas
 pub mod BehindLemmas
+pub mod PieceLemmas

@@ -1,5 +1,5 @@
 -- Where a debugger stands that has gone along some choices, and what a piece becomes by one choice more.
-use Rattle.std.specs.Prelude.{◌≡◌, ℕ, zero, suc, ◌+◌, List, [], ◌∷◌, ◌++◌, map, slice_get, Option, Some, None}
+use Rattle.std.specs.Prelude.{◌≡◌, ℕ, zero, suc, ◌+◌, List, [], ◌∷◌, ◌++◌, length, map, flat_map, slice_get, Option, Some, None}
 use Rattle.std.specs.List.{range_with_len}
 use Rattle.std.specs.Option.{option_map}
 use Rattle.mpd_model.specs.declared.step.Step.{Step}
@@ -10,7 +10,8 @@ use Rattle.mpd_model.specs.Next.{next}
 use Rattle.mpd_model.specs.Decisions.{decision}
 use Rattle.mpd_model.specs.Trail.{Standing, kept, IsReached}
 use Rattle.mpd_explore.specs.Walk.{prefixed, runs_of, run_at}
-use Rattle.mpd_pieces.specs.Pieces.{led_by, pieces, walk_at, Reaches}
+use Rattle.mpd_pieces.specs.declared.split.Piece.{Piece}
+use Rattle.mpd_pieces.specs.Pieces.{led_by, pieces, numbered, walk_at, Reaches}
 
 -- ---- one choice more
 
@@ -60,3 +61,24 @@ pub record Going (fuel : ℕ) (choices : List ℕ) (d : Standing) (left : List �
   pub spent : e.trail.depth + rest ≡ d.trail.depth + fuel
   pub along : Along fuel d.world taken beyond.path rest e.world
   pub reaches : Reaches rest left e.world
+
+-- ---- on to the next choice
+
+-- A forced step was taken, or there is a choice of so many candidates; none stands for the end of a run.
+abbrev pub Looked : Standing → Option ℕ → Standing → Type 0
+Looked d None e = (e.trail.depth ≡ d.trail.depth + 1) × ((n : ℕ) → pieces 1 (suc n) d.world ≡ pieces 1 n e.world)
+Looked d (Some m) e = (n : ℕ) → pieces 1 (suc n) d.world ≡ counted m
+
+-- ---- pieces that are added
+
+-- These were added, numbered behind those before.
+pub record Adds (old : List Piece) (lists : List (List ℕ)) (new : List Piece) : Type 0 where
+  pub numbers : (xs : List (List ℕ)) → old ≡ numbered 0 xs → new ≡ numbered 0 (xs ++ lists)
+  pub count : length new ≡ length old + length lists
+
+-- what all of some pieces become
+abbrev pub all_longer : ℕ → World → List Piece → List (List ℕ)
+all_longer fuel w ps = flat_map (λ (p : Piece). longer fuel p.choices w) ps
+
+abbrev pub choices_of : List Piece → List (List ℕ)
+choices_of ps = map (λ (p : Piece). p.choices) ps

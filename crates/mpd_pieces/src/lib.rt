@@ -3,4 +3,5 @@
 
 pub mod explore_at;
 mod follow;
+pub mod laws;
 pub mod split;

@@ -1,0 +1,18 @@
+//! What pieces say of the whole walk: laws, which have no code.
+
+ghost use Rattle.mpd_pieces.specs.PieceLaws as law;
+
+/// The walks of all pieces, joined in order, are the walk: so they have each of its runs once, in its order.
+pub fn pieces_join_to_the_walk()
+    ensures { law.PiecesJoinToTheWalk }
+{}
+
+/// Some run begins with the choices of each piece, as `explore_at` requires.
+pub fn each_piece_is_reached()
+    ensures { law.EachPieceIsReached }
+{}
+
+/// Cut by no choice, the report of a split is the whole one.
+pub fn no_choice_is_the_whole()
+    ensures { law.NoChoiceIsTheWhole }
+{}
