@@ -1,3 +1,4 @@
 pub mod AlongLemmas
 pub mod BehindLemmas
 pub mod PieceLemmas
+pub mod SplitLemmas

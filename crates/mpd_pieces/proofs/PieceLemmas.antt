@@ -324,7 +324,7 @@ each_candidate n i w (a ∷ more) h =
     ap (λ xs. xs ++ branched (pieces 0 n) w (suc i) more) (one_led n i (next w a) (first_enabled w a more h))
     ∙ ap (λ xs. (i ∷ []) ∷ xs) (each_candidate n (suc i) w more (enabled_rest w a more h) ∙ ap (λ q. map (λ c. c ∷ []) (range_with_len q (length more))) (sym (add-one i)))
 
-counted_some : (m : ℕ) → 0 < m → counted m ≡ map (λ c. c ∷ []) (range_with_len 0 m)
+pub counted_some : (m : ℕ) → 0 < m → counted m ≡ map (λ c. c ∷ []) (range_with_len 0 m)
 counted_some zero h = absurd (omega (arith, h))
 counted_some (suc m) h = refl
 
