@@ -2,3 +2,4 @@ pub mod AlongLemmas
 pub mod BehindLemmas
 pub mod PieceLemmas
 pub mod SplitLemmas
+pub mod ReportLemmas

@@ -1,7 +1,8 @@
 -- The pieces of a walk: one choice more, all of them joined, and how many there are.
 use Rattle.std.proofs.Common.{◌≡◌, ℕ, zero, suc, ◌<◌, ◌≤◌, ◌+◌, ◌-◌, nat_lt, Bool, true, false, ◌||◌, List, [], ◌∷◌, ◌++◌, length, take, drop, map, slice_get, Option, Some, None, IsSome, refl, sym, ap, ◌∙◌, arith, add-one, append_assoc, append-nil}
 use Rattle.std.specs.List.{AllByRecursion, flat_map, list_any, range_with_len}
-use Rattle.std.proofs.lemmas.List.{length-append, length-map}
+use Rattle.std.proofs.lemmas.Bool.Decides.{nat_tests}
+use Rattle.std.proofs.lemmas.List.{length-append, length-map, take_all}
 use Rattle.std.proofs.lemmas.Grind.{flat_map-append}
 use Rattle.std.proofs.lemmas.List.Folds.{flat_map-map}
 use Rattle.mpd_model.specs.declared.step.Step.{Step}
@@ -11,7 +12,8 @@ use Rattle.mpd_model.specs.declared.decision.Decision.TheVariants.{Forced, Choic
 use Rattle.mpd_model.specs.World.{World}
 use Rattle.mpd_model.specs.Next.{next}
 use Rattle.mpd_model.specs.Decisions.{decision, CanFollow}
-use Rattle.mpd_explore.specs.Walk.{stepped, chosen, runs_of, branches, followed, walk}
+use Rattle.mpd_explore.specs.declared.report.Leaf as leaf
+use Rattle.mpd_explore.specs.Walk.{Run, stepped, chosen, runs_of, branches, followed, walk}
 use Rattle.mpd_explore.specs.Search.{AllEnabled}
 use Rattle.mpd_explore.specs.Report.{shown}
 use Rattle.mpd_explore.proofs.RunLemmas.{walk_is}
@@ -308,6 +310,31 @@ whole_more runs fuel w = ap (list_any (λ cs. nat_lt runs (length (walk_at fuel 
 
 pub no_choice : (runs fuel : ℕ) (w : World) → (split_report 0 runs fuel w ≡ take runs (map shown (walk fuel w))) × (split_more 0 runs fuel w ≡ nat_lt runs (length (walk fuel w)))
 no_choice runs fuel w = (whole_report runs fuel w, whole_more runs fuel w)
+
+-- ---- no piece has more
+
+neither : (a b : Bool) → (a || b) ≡ false → (a ≡ false) × (b ≡ false)
+neither true b h = cc
+neither false b h = (refl, h)
+
+not_less : (m n : ℕ) → nat_lt m n ≡ false → n ≤ m
+not_less m n h = grind (arith, nat_tests)
+
+map_joins : (f : Run → leaf.Leaf) (xs ys : List Run) → map f (xs ++ ys) ≡ map f xs ++ map f ys
+map_joins f [] ys = refl
+map_joins f (x ∷ xs) ys = ap (λ zs. f x ∷ zs) (map_joins f xs ys)
+
+no_more_of : (runs : ℕ) (of : List ℕ → List Run) (xs : List (List ℕ)) → list_any (λ cs. nat_lt runs (length (of cs))) xs ≡ false → flat_map (λ cs. take runs (map shown (of cs))) xs ≡ map shown (flat_map of xs)
+no_more_of runs of [] h = refl
+no_more_of runs of (x ∷ xs) h =
+    let both = neither (nat_lt runs (length (of x))) (list_any (λ cs. nat_lt runs (length (of cs))) xs) h in
+    let few : length (map shown (of x)) ≤ runs = omega (arith, length-map (of x) shown, not_less runs (length (of x)) both.0) in
+    ap (λ ls. ls ++ flat_map (λ cs. take runs (map shown (of cs))) xs) (take_all runs (map shown (of x)) few)
+    ∙ ap (λ ls. map shown (of x) ++ ls) (no_more_of runs of xs both.1)
+    ∙ sym (map_joins shown (of x) (flat_map of xs))
+
+pub no_more : (k runs fuel : ℕ) (w : World) → split_more k runs fuel w ≡ false → split_report k runs fuel w ≡ map shown (walk fuel w)
+no_more k runs fuel w h = no_more_of runs (λ cs. walk_at fuel cs w) (pieces k fuel w) h ∙ ap (map shown) (pieces_join k fuel w)
 
 -- ---- the pieces of one choice
 

@@ -58,7 +58,7 @@ counted_none m none = ap (λ q. length (counted q)) none
 
 -- ---- all of some pieces
 
-take_next : (ps : List Piece) (i : ℕ) (p : Piece) → i < length ps → p ≡ get_or ps i p → take (i + 1) ps ≡ take i ps ++ p ∷ []
+pub take_next : (ps : List Piece) (i : ℕ) (p : Piece) → i < length ps → p ≡ get_or ps i p → take (i + 1) ps ≡ take i ps ++ p ∷ []
 take_next ps i p within read = take_more ps i p within ∙ ap (λ q. take i ps ++ q ∷ []) (sym read)
 
 longer_next : (fuel : ℕ) (w : World) (ps : List Piece) (i : ℕ) (p : Piece) → i < length ps → p ≡ get_or ps i p → all_longer fuel w (take (i + 1) ps) ≡ all_longer fuel w (take i ps) ++ longer fuel p.choices w
@@ -120,7 +120,7 @@ still_all fuel w ps i h same = ap (all_longer fuel w) (sym (take_all i ps h)) �
 longer_of : (fuel : ℕ) (w : World) (ps : List Piece) → all_longer fuel w ps ≡ flat_map (λ cs. longer fuel cs w) (choices_of ps)
 longer_of fuel w ps = sym (flat_map-map (λ cs. longer fuel cs w) (λ (p : Piece). p.choices) ps)
 
-choices_are : (fuel k : ℕ) (w : World) (ps : List Piece) → ps ≡ numbered 0 (pieces k fuel w) → choices_of ps ≡ pieces k fuel w
+pub choices_are : (fuel k : ℕ) (w : World) (ps : List Piece) → ps ≡ numbered 0 (pieces k fuel w) → choices_of ps ≡ pieces k fuel w
 choices_are fuel k w ps is = ap choices_of is ∙ numbered_choices 0 (pieces k fuel w)
 
 pub level_reached : (fuel k : ℕ) (w : World) (ps : List Piece) → ps ≡ numbered 0 (pieces k fuel w) → AllByRecursion (λ cs. Reaches fuel cs w) (choices_of ps)

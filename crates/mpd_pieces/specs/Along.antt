@@ -1,6 +1,6 @@
 -- Where a debugger stands that has gone along some choices, and what a piece becomes by one choice more.
-use Rattle.std.specs.Prelude.{◌≡◌, ℕ, zero, suc, ◌+◌, List, [], ◌∷◌, ◌++◌, length, map, flat_map, slice_get, Option, Some, None}
-use Rattle.std.specs.List.{range_with_len}
+use Rattle.std.specs.Prelude.{◌≡◌, ℕ, zero, suc, ◌+◌, nat_lt, Bool, List, [], ◌∷◌, ◌++◌, length, map, flat_map, slice_get, Option, Some, None}
+use Rattle.std.specs.List.{list_any, range_with_len}
 use Rattle.std.specs.Option.{option_map}
 use Rattle.mpd_model.specs.declared.step.Step.{Step}
 use Rattle.mpd_model.specs.declared.decision.Decision.{Decision}
@@ -9,9 +9,10 @@ use Rattle.mpd_model.specs.World.{World}
 use Rattle.mpd_model.specs.Next.{next}
 use Rattle.mpd_model.specs.Decisions.{decision}
 use Rattle.mpd_model.specs.Trail.{Standing, kept, IsReached}
+use Rattle.mpd_explore.specs.declared.report.Leaf as leaf
 use Rattle.mpd_explore.specs.Walk.{prefixed, runs_of, run_at}
 use Rattle.mpd_pieces.specs.declared.split.Piece.{Piece}
-use Rattle.mpd_pieces.specs.Pieces.{led_by, pieces, numbered, walk_at, Reaches}
+use Rattle.mpd_pieces.specs.Pieces.{led_by, pieces, numbered, walk_at, Reaches, part}
 
 -- ---- one choice more
 
@@ -82,3 +83,11 @@ all_longer fuel w ps = flat_map (λ (p : Piece). longer fuel p.choices w) ps
 
 abbrev pub choices_of : List Piece → List (List ℕ)
 choices_of ps = map (λ (p : Piece). p.choices) ps
+
+-- ---- the parts of some pieces
+
+abbrev pub parts : ℕ → ℕ → World → List Piece → List leaf.Leaf
+parts runs fuel w ps = flat_map (λ (p : Piece). part runs fuel p.choices w) ps
+
+abbrev pub has_more : ℕ → ℕ → World → List Piece → Bool
+has_more runs fuel w ps = list_any (λ (p : Piece). nat_lt runs (length (walk_at fuel p.choices w))) ps

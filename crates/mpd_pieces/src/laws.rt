@@ -16,3 +16,8 @@ pub fn each_piece_is_reached()
 pub fn no_choice_is_the_whole()
     ensures { law.NoChoiceIsTheWhole }
 {}
+
+/// Where no piece has more, the report of a split has the leaf of each run, in the order of the walk.
+pub fn no_more_is_the_whole()
+    ensures { law.NoMoreIsTheWhole }
+{}
