@@ -313,7 +313,7 @@ no_choice runs fuel w = (whole_report runs fuel w, whole_more runs fuel w)
 
 -- ---- no piece has more
 
-neither : (a b : Bool) → (a || b) ≡ false → (a ≡ false) × (b ≡ false)
+pub neither : (a b : Bool) → (a || b) ≡ false → (a ≡ false) × (b ≡ false)
 neither true b h = cc
 neither false b h = (refl, h)
 

@@ -88,6 +88,7 @@ pub fn explore_by_pieces<W: Watch>(
     requires fits { debugger.old.trail.depth + limits.fuel ≤ STEPS_MAX }
     ensures leaves { IfOk result (λ r. r.leaves.items ≡ split_report choices limits.runs limits.fuel debugger.old.world) }
     ensures more { IfOk result (λ r. r.more ≡ split_more choices limits.runs limits.fuel debugger.old.world) }
+    ensures few { OnOk result (length (pieces choices limits.fuel debugger.old.world) ≤ PIECES_MAX) }
     ensures many { IsErrOf result SplitFault.TooManyPieces → PIECES_MAX < length (pieces choices limits.fuel debugger.old.world) }
     ensures trail { debugger.new.trail ≡ debugger.old.trail }
     ensures world { debugger.new.world ≡ debugger.old.world }

@@ -1,6 +1,6 @@
 //! Cutting the runs of a script into pieces.
 
-ghost use Rattle.std.specs.Prelude.{◌≡◌, ◌+◌, ◌-◌, ◌<◌, ◌≤◌, ◌++◌, ◌∷◌, [], false, map, length, IfOk, OnOk, IsErrOf};
+ghost use Rattle.std.specs.Prelude.{◌≡◌, ◌+◌, ◌-◌, ◌<◌, ◌≤◌, ◌++◌, ◌∷◌, ◌||◌, [], false, map, length, IfOk, OnOk, IsErrOf};
 ghost use Rattle.std.specs.List.{AllByRecursion, range_with_len};
 ghost use Rattle.mpd_model.specs.Trail.{IsReached};
 ghost use Rattle.mpd_trail.specs.Views.{standing_of};
@@ -247,7 +247,7 @@ fn push_grown(
 
 /// Whether one of two is so.
 fn either(one: bool, other: bool) -> bool
-    ensures { result ≡ false → (one ≡ false) × (other ≡ false) }
+    ensures { result ≡ (one || other) }
 {
     one || other
 }

@@ -1,8 +1,9 @@
-use Rattle.std.proofs.Common.{◌≡◌, ap, ◌∙◌}
+use Rattle.std.proofs.Common.{◌≡◌, sym, ap, ◌∙◌}
 use Rattle.mpd_pieces.specs.declared.split.Piece.{Piece}
 use Rattle.mpd_pieces.specs.declared.split.SplitFault.TheVariants.{TooManyPieces}
 use Rattle.mpd_pieces.specs.declared.split.TheConstants.{PIECES_MAX}
 use Rattle.mpd_pieces.specs.Along.{Adds, longer}
+use Rattle.mpd_pieces.proofs.PieceLemmas.{neither}
 use Rattle.mpd_pieces.proofs.SplitLemmas.{reached_at, grown_more, grown_many, still_more, grown_all, still_all, same_fault}
 use Rattle.mpd_pieces.proofs.split.grown.Goals as goal
 
@@ -29,7 +30,7 @@ loop-piece-preserved c =
     record {
       adds = grown_more c.args.fuel w c.args.from.now c.loop-piece.piece-index p cs c.loop-piece.made.items c.push_grown.new.made.items c.loop-piece-test.true c.piece-item.is own i.adds adds;
       few = c.in-Ok.ensures.few;
-      still = λ h. let both = c.either-grows.ensures h in still_more c.args.fuel w c.args.from.now c.loop-piece.piece-index p cs c.loop-piece-test.true c.piece-item.is own (rw i.world at (c.in-Ok.ensures.still both.1)) (i.still both.0);
+      still = λ h. let both = neither c.loop-piece.grows c.in-Ok.more (sym c.either-grows.ensures ∙ h) in still_more c.args.fuel w c.args.from.now c.loop-piece.piece-index p cs c.loop-piece-test.true c.piece-item.is own (rw i.world at (c.in-Ok.ensures.still both.1)) (i.still both.0);
       trail = c.in-Ok.ensures.trail ∙ i.trail;
       world = c.in-Ok.ensures.world ∙ i.world;
       reached = c.in-Ok.ensures.reached;
