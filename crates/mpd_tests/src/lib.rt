@@ -13,6 +13,8 @@ mod device_rows;
 #[cfg(test)]
 mod helpers;
 #[cfg(test)]
+mod piece_rows;
+#[cfg(test)]
 mod policy_rows;
 #[cfg(test)]
 mod shared_rows;

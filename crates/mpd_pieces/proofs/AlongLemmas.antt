@@ -1,0 +1,283 @@
+-- One step along some choices, and many.
+use Rattle.std.proofs.Common.{◌≡◌, ℕ, zero, suc, ◌<◌, ◌≤◌, ◌-◌, List, [], ◌∷◌, ◌++◌, length, take, map, slice_get, Option, Some, None, refl, sym, ap, ◌∙◌, arith, append_assoc, append-nil}
+use Rattle.std.specs.Option.{option_map}
+use Rattle.std.proofs.lemmas.List.{length-append, take-append-le}
+use Rattle.std.proofs.lemmas.Option.{slice_get_within}
+use Rattle.mpd_model.specs.declared.step.Step.{Step}
+use Rattle.mpd_model.specs.declared.outcome.Outcome.{Outcome}
+use Rattle.mpd_model.specs.declared.decision.Decision.{Decision}
+use Rattle.mpd_model.specs.declared.decision.Decision.TheVariants.{Forced, Choice, Leaf}
+use Rattle.mpd_model.specs.World.{World}
+use Rattle.mpd_model.specs.Next.{next}
+use Rattle.mpd_model.specs.Decisions.{decision}
+use Rattle.mpd_model.specs.Trail.{Standing, IsReached, kept}
+use Rattle.mpd_explore.specs.Walk.{Run, stepped, chosen, prefixed, runs_of, walk, run_from, run_taken, run_at}
+use Rattle.mpd_explore.proofs.RunLemmas.{walk_is}
+use Rattle.mpd_explore.proofs.SearchLemmas.{Went, length-kept}
+use Rattle.mpd_explore.proofs.WitnessLemmas.{run_is}
+use Rattle.mpd_pieces.specs.Pieces.{led_by, cut_by, pieces, runs_by, beginning, walk_at, InState, ByCandidate, BeginsSo, Reaches}
+use Rattle.mpd_pieces.specs.Along.{lists_by, longer_by, longer, Along, Beyond, Going}
+
+-- ---- runs with nothing in front, and with two things
+
+map_same : {A : Type 0} (xs : List A) → map (λ x. x) xs ≡ xs
+map_same [] = refl
+map_same (x ∷ xs) = ap (λ ys. x ∷ ys) (map_same xs)
+
+option_same : {A : Type 0} (o : Option A) → option_map (λ x. x) o ≡ o
+option_same None = refl
+option_same (Some x) = refl
+
+prefixed_twice : (cs ds : List ℕ) (p q : List Step) (r : Run) → prefixed cs p (prefixed ds q r) ≡ prefixed (cs ++ ds) (p ++ q) r
+prefixed_twice cs ds p q r = λ i. record { choices = sym (append_assoc cs ds r.choices) i; steps = sym (append_assoc p q r.steps) i; ending = r.ending }
+
+map_twice : (cs ds : List ℕ) (p q : List Step) (rs : List Run) → map (prefixed cs p) (map (prefixed ds q) rs) ≡ map (prefixed (cs ++ ds) (p ++ q)) rs
+map_twice cs ds p q [] = refl
+map_twice cs ds p q (r ∷ rs) = λ i. prefixed_twice cs ds p q r i ∷ map_twice cs ds p q rs i
+
+option_twice : (cs ds : List ℕ) (p q : List Step) (o : Option Run) → option_map (prefixed cs p) (option_map (prefixed ds q) o) ≡ option_map (prefixed (cs ++ ds) (p ++ q)) o
+option_twice cs ds p q None = refl
+option_twice cs ds p q (Some r) = ap Some (prefixed_twice cs ds p q r)
+
+lists_twice : (cs ds : List ℕ) (xs : List (List ℕ)) → map (λ x. cs ++ x) (map (λ x. ds ++ x) xs) ≡ map (λ x. (cs ++ ds) ++ x) xs
+lists_twice cs ds [] = refl
+lists_twice cs ds (x ∷ xs) = λ i. sym (append_assoc cs ds x) i ∷ lists_twice cs ds xs i
+
+-- ---- without choices
+
+pub walk_whole : (n : ℕ) (w : World) → walk_at n [] w ≡ walk n w
+unfolding walk_at
+walk_whole zero w = refl
+walk_whole (suc n) w = refl
+
+pub longer_none : (n : ℕ) (w : World) → longer n [] w ≡ pieces 1 n w
+unfolding longer
+longer_none zero w = refl
+longer_none (suc n) w = refl
+
+-- ---- a forced step
+
+pub walk_forced : (n : ℕ) (x : List ℕ) (w v : World) (a : Step) → decision w ≡ Forced a → next w a ≡ Some v → walk_at (suc n) x w ≡ map (stepped a) (walk_at n x v)
+unfolding walk_at
+walk_forced n [] w v a forced step = walk_is n w (Forced a) forced ∙ ap (λ o. map (stepped a) (runs_of (walk n) o)) step ∙ ap (map (stepped a)) (sym (walk_whole n v))
+walk_forced n (c ∷ cs) w v a forced step = ap (beginning (walk_at n) w c cs) forced ∙ ap (λ o. map (stepped a) (runs_of (walk_at n (c ∷ cs)) o)) step
+
+run_forced : (n : ℕ) (x : List ℕ) (w v : World) (a : Step) → decision w ≡ Forced a → next w a ≡ Some v → run_at (suc n) x w ≡ option_map (stepped a) (run_at n x v)
+run_forced n x w v a forced step = run_is n x w (Forced a) forced ∙ ap (λ o. option_map (stepped a) (run_from (run_at n x) o)) step
+
+pub pieces_is : (k n : ℕ) (w : World) (d : Decision) → decision w ≡ d → pieces (suc k) (suc n) w ≡ cut_by (pieces (suc k) n) (pieces k n) w d
+unfolding pieces
+pieces_is k n w d e = ap (cut_by (pieces (suc k) n) (pieces k n) w) e
+
+pub pieces_forced : (k n : ℕ) (w v : World) (a : Step) → decision w ≡ Forced a → next w a ≡ Some v → pieces (suc k) (suc n) w ≡ pieces (suc k) n v
+pieces_forced k n w v a forced step = pieces_is k n w (Forced a) forced ∙ ap (runs_of (pieces (suc k) n)) step
+
+pub longer_forced : (n : ℕ) (x : List ℕ) (w v : World) (a : Step) → decision w ≡ Forced a → next w a ≡ Some v → longer (suc n) x w ≡ longer n x v
+unfolding longer
+longer_forced n [] w v a forced step = pieces_forced 0 n w v a forced step ∙ sym (longer_none n v)
+longer_forced n (c ∷ cs) w v a forced step = ap (longer_by (longer n) w c cs) forced ∙ ap (runs_of (longer n (c ∷ cs))) step
+
+along_forced : (n : ℕ) (w v : World) (a : Step) → decision w ≡ Forced a → next w a ≡ Some v → Along (suc n) w [] (a ∷ []) n v
+along_forced n w v a forced step =
+    record {
+      walks = λ x. walk_forced n x w v a forced step;
+      runs = λ x. run_forced n x w v a forced step;
+      lists = λ x. longer_forced n x w v a forced step ∙ sym (map_same (longer n x v));
+    }
+
+-- ---- a choice
+
+pub walk_chosen : (n c : ℕ) (x : List ℕ) (w v : World) (candidates : List Step) (a : Step) → decision w ≡ Choice candidates → slice_get candidates c ≡ Some a → next w a ≡ Some v → walk_at (suc n) (c ∷ x) w ≡ map (chosen c a) (walk_at n x v)
+unfolding walk_at
+walk_chosen n c x w v candidates a choice read step =
+    ap (beginning (walk_at n) w c x) choice ∙ ap (runs_by (walk_at n x) w c) read ∙ ap (λ o. map (chosen c a) (runs_of (walk_at n x) o)) step
+
+run_chosen : (n c : ℕ) (x : List ℕ) (w v : World) (candidates : List Step) (a : Step) → decision w ≡ Choice candidates → slice_get candidates c ≡ Some a → next w a ≡ Some v → run_at (suc n) (c ∷ x) w ≡ option_map (chosen c a) (run_at n x v)
+run_chosen n c x w v candidates a choice read step =
+    run_is n (c ∷ x) w (Choice candidates) choice ∙ ap (run_taken (run_at n x) w c) read ∙ ap (λ o. option_map (chosen c a) (run_from (run_at n x) o)) step
+
+pub longer_chosen : (n c : ℕ) (x : List ℕ) (w v : World) (candidates : List Step) (a : Step) → decision w ≡ Choice candidates → slice_get candidates c ≡ Some a → next w a ≡ Some v → longer (suc n) (c ∷ x) w ≡ led_by c (longer n x v)
+unfolding longer
+longer_chosen n c x w v candidates a choice read step =
+    ap (longer_by (longer n) w c x) choice ∙ ap (lists_by (longer n x) w c) read ∙ ap (λ o. led_by c (runs_of (longer n x) o)) step
+
+along_chosen : (n c : ℕ) (w v : World) (candidates : List Step) (a : Step) → decision w ≡ Choice candidates → slice_get candidates c ≡ Some a → next w a ≡ Some v → Along (suc n) w (c ∷ []) (a ∷ []) n v
+along_chosen n c w v candidates a choice read step =
+    record {
+      walks = λ x. walk_chosen n c x w v candidates a choice read step;
+      runs = λ x. run_chosen n c x w v candidates a choice read step;
+      lists = λ x. longer_chosen n c x w v candidates a choice read step;
+    }
+
+-- ---- no step, and one way behind another
+
+along_none : (n : ℕ) (w : World) → Along n w [] [] n w
+along_none n w =
+    record {
+      walks = λ x. sym (map_same (walk_at n x w));
+      runs = λ x. sym (option_same (run_at n x w));
+      lists = λ x. sym (map_same (longer n x w));
+    }
+
+along_then : (fuel m n : ℕ) (w v u : World) (cs ds : List ℕ) (p q : List Step) → Along fuel w cs p m v → Along m v ds q n u → Along fuel w (cs ++ ds) (p ++ q) n u
+along_then fuel m n w v u cs ds p q a b =
+    record {
+      walks = λ x. ap (λ y. walk_at fuel y w) (append_assoc cs ds x) ∙ a.walks (ds ++ x) ∙ ap (map (prefixed cs p)) (b.walks x) ∙ map_twice cs ds p q (walk_at n x u);
+      runs = λ x. ap (λ y. run_at fuel y w) (append_assoc cs ds x) ∙ a.runs (ds ++ x) ∙ ap (option_map (prefixed cs p)) (b.runs x) ∙ option_twice cs ds p q (run_at n x u);
+      lists = λ x. ap (λ y. longer fuel y w) (append_assoc cs ds x) ∙ a.lists (ds ++ x) ∙ ap (map (λ y. cs ++ y)) (b.lists x) ∙ lists_twice cs ds (longer n x u);
+    }
+
+-- ---- some run begins so
+
+by_state : (P : World → Type 0) (o : Option World) (v : World) → o ≡ Some v → InState P o → P v
+by_state P o v e h = rw e at h
+
+by_candidate : (P : World → Type 0) (w : World) (o : Option Step) (a : Step) → o ≡ Some a → ByCandidate P w o → InState P (next w a)
+by_candidate P w o a e h = rw e at h
+
+begins_by : (reaches : List ℕ → World → Type 0) (w : World) (c : ℕ) (cs : List ℕ) (d e : Decision) → d ≡ e → BeginsSo reaches w c cs d → BeginsSo reaches w c cs e
+begins_by reaches w c cs d e is h = rw is at h
+
+reaches_is : (n c : ℕ) (cs : List ℕ) (w : World) (d : Decision) → decision w ≡ d → Reaches (suc n) (c ∷ cs) w → BeginsSo (Reaches n) w c cs d
+unfolding Reaches
+reaches_is n c cs w d is h = begins_by (Reaches n) w c cs (decision w) d is h
+
+pub reaches_none : (n : ℕ) (w : World) → Reaches n [] w
+unfolding Reaches
+reaches_none zero w = tt
+reaches_none (suc n) w = tt
+
+-- there is fuel for a choice
+reaches_fuel : (n c : ℕ) (cs : List ℕ) (w : World) → Reaches n (c ∷ cs) w → 0 < n
+unfolding Reaches
+reaches_fuel zero c cs w h = absurd h
+reaches_fuel (suc n) c cs w h = omega arith
+
+reaches_forced : (n c : ℕ) (cs : List ℕ) (w v : World) (a : Step) → decision w ≡ Forced a → next w a ≡ Some v → Reaches (suc n) (c ∷ cs) w → Reaches n (c ∷ cs) v
+reaches_forced n c cs w v a forced step h = by_state (Reaches n (c ∷ cs)) (next w a) v step (reaches_is n c cs w (Forced a) forced h)
+
+reaches_chosen : (n c : ℕ) (cs : List ℕ) (w v : World) (candidates : List Step) (a : Step) → decision w ≡ Choice candidates → slice_get candidates c ≡ Some a → next w a ≡ Some v → Reaches (suc n) (c ∷ cs) w → Reaches n cs v
+reaches_chosen n c cs w v candidates a choice read step h =
+    by_state (Reaches n cs) (next w a) v step (by_candidate (Reaches n cs) w (slice_get candidates c) a read (reaches_is n c cs w (Choice candidates) choice h))
+
+candidate_within : (P : World → Type 0) (w : World) (c : ℕ) (candidates : List Step) (o : Option Step) → slice_get candidates c ≡ o → ByCandidate P w o → c < length candidates
+candidate_within P w c candidates None e h = absurd h
+candidate_within P w c candidates (Some a) e h = slice_get_within candidates c a e
+
+reaches_within : (n c : ℕ) (cs : List ℕ) (w : World) (candidates : List Step) → decision w ≡ Choice candidates → Reaches (suc n) (c ∷ cs) w → c < length candidates
+reaches_within n c cs w candidates choice h = candidate_within (Reaches n cs) w c candidates (slice_get candidates c) refl (reaches_is n c cs w (Choice candidates) choice h)
+
+reaches_no_leaf : (n c : ℕ) (cs : List ℕ) (w : World) (o : Outcome) → decision w ≡ Leaf o → Reaches (suc n) (c ∷ cs) w → ⊥
+reaches_no_leaf n c cs w o leaf h = reaches_is n c cs w (Leaf o) leaf h
+
+-- ---- a debugger
+
+pub beyond_same : (d e : Standing) → e.trail ≡ d.trail → IsReached e → Beyond d e
+beyond_same d e same reached = record { program = ap (λ t. t.program) same; mode = ap (λ t. t.mode) same; reached = reached; path = []; kept_is = ap kept same ∙ sym (append-nil (kept d.trail)) }
+
+abbrev pub beyond_then : (c d e : Standing) → Beyond c d → Beyond d e → Beyond c e
+beyond_then c d e x y =
+    record { program = y.program ∙ x.program; mode = y.mode ∙ x.mode; reached = y.reached; path = x.path ++ y.path; kept_is = y.kept_is ∙ ap (λ p. p ++ y.path) x.kept_is ∙ append_assoc (kept c.trail) x.path y.path }
+
+abbrev pub beyond_went : (d e : Standing) (a : Step) → Went d a e → Beyond d e
+beyond_went d e a went = record { program = went.program; mode = went.mode; reached = went.reached; path = a ∷ []; kept_is = went.kept_is }
+
+pub beyond_depth : (d e : Standing) → IsReached d → Beyond d e → d.trail.depth ≤ e.trail.depth
+beyond_depth d e reached h = omega (arith, length-kept d reached, length-kept e h.reached, ap length h.kept_is, length-append (kept d.trail) h.path)
+
+pub beyond_below : (d e : Standing) → IsReached d → Beyond d e → take d.trail.depth (kept e.trail) ≡ take d.trail.depth (kept d.trail)
+beyond_below d e reached h = ap (take d.trail.depth) h.kept_is ∙ take-append-le d.trail.depth (kept d.trail) h.path (omega (arith, length-kept d reached))
+
+-- ---- and one that goes along choices
+
+pub going_none : (fuel : ℕ) (choices : List ℕ) (d : Standing) → IsReached d → Reaches fuel choices d.world → Going fuel choices d choices d
+going_none fuel choices d reached h =
+    record { beyond = record { program = refl; mode = refl; reached = reached; path = []; kept_is = sym (append-nil (kept d.trail)) }; taken = []; joined = refl; rest = fuel; spent = refl; along = along_none fuel d.world; reaches = h }
+
+fuel_left : (limit : ℕ) (d : Standing) → 0 < limit - d.trail.depth → limit - d.trail.depth ≡ suc (limit - suc d.trail.depth)
+fuel_left limit d room = omega arith
+
+forced_on : (limit c : ℕ) (cs : List ℕ) (d e : Standing) (a : Step) → Reaches (limit - d.trail.depth) (c ∷ cs) d.world → decision d.world ≡ Forced a → Went d a e → Going (limit - d.trail.depth) (c ∷ cs) d (c ∷ cs) e
+forced_on limit c cs d e a h forced went =
+    let room : 0 < limit - d.trail.depth = reaches_fuel (limit - d.trail.depth) c cs d.world h in
+    let n : ℕ = limit - suc d.trail.depth in
+    let left : limit - d.trail.depth ≡ suc n = fuel_left limit d room in
+    record {
+      beyond = beyond_went d e a went;
+      taken = [];
+      joined = refl;
+      rest = n;
+      spent = omega (arith, went.depth);
+      along = rw left (along_forced n d.world e.world a forced went.world);
+      reaches = reaches_forced n c cs d.world e.world a forced went.world (rw left at h);
+    }
+
+pub choice_within : (limit c : ℕ) (cs : List ℕ) (d : Standing) (candidates : List Step) → Reaches (limit - d.trail.depth) (c ∷ cs) d.world → decision d.world ≡ Choice candidates → c < length candidates
+choice_within limit c cs d candidates h choice =
+    let left : limit - d.trail.depth ≡ suc (limit - suc d.trail.depth) = fuel_left limit d (reaches_fuel (limit - d.trail.depth) c cs d.world h) in
+    reaches_within (limit - suc d.trail.depth) c cs d.world candidates choice (rw left at h)
+
+pub going_chosen : (limit c : ℕ) (cs : List ℕ) (d e : Standing) (candidates : List Step) (a : Step) → Reaches (limit - d.trail.depth) (c ∷ cs) d.world → decision d.world ≡ Choice candidates → slice_get candidates c ≡ Some a → Went d a e
+    → Going (limit - d.trail.depth) (c ∷ cs) d cs e
+going_chosen limit c cs d e candidates a h choice read went =
+    let room : 0 < limit - d.trail.depth = reaches_fuel (limit - d.trail.depth) c cs d.world h in
+    let n : ℕ = limit - suc d.trail.depth in
+    let left : limit - d.trail.depth ≡ suc n = fuel_left limit d room in
+    record {
+      beyond = beyond_went d e a went;
+      taken = c ∷ [];
+      joined = refl;
+      rest = n;
+      spent = omega (arith, went.depth);
+      along = rw left (along_chosen n c d.world e.world candidates a choice read went.world);
+      reaches = reaches_chosen n c cs d.world e.world candidates a choice read went.world (rw left at h);
+    }
+
+leaf_on : (limit c : ℕ) (cs : List ℕ) (d : Standing) (o : Outcome) → Reaches (limit - d.trail.depth) (c ∷ cs) d.world → decision d.world ≡ Leaf o → ⊥
+leaf_on limit c cs d o h leaf =
+    let left : limit - d.trail.depth ≡ suc (limit - suc d.trail.depth) = fuel_left limit d (reaches_fuel (limit - d.trail.depth) c cs d.world h) in
+    reaches_no_leaf (limit - suc d.trail.depth) c cs d.world o leaf (rw left at h)
+
+room_on : (limit c : ℕ) (cs : List ℕ) (d : Standing) → Reaches (limit - d.trail.depth) (c ∷ cs) d.world → d.trail.depth < limit
+room_on limit c cs d h = omega (arith, reaches_fuel (limit - d.trail.depth) c cs d.world h)
+
+pub going_then : (fuel m : ℕ) (choices left more : List ℕ) (c d e : Standing) (x : Going fuel choices c left d) → x.rest ≡ m → Going m left d more e → Going fuel choices c more e
+going_then fuel m choices left more c d e x is y =
+    let here : Along x.rest d.world y.taken y.beyond.path y.rest e.world = rw is y.along in
+    record {
+      beyond = beyond_then c d e x.beyond y.beyond;
+      taken = x.taken ++ y.taken;
+      joined = append_assoc x.taken y.taken more ∙ ap (λ z. x.taken ++ z) y.joined ∙ x.joined;
+      rest = y.rest;
+      spent = omega (arith, x.spent, y.spent, is);
+      along = along_then fuel x.rest y.rest c.world d.world e.world x.taken y.taken x.beyond.path y.beyond.path x.along here;
+      reaches = y.reaches;
+    }
+
+-- ---- where there is a choice to be made
+
+pub some_room : (limit : ℕ) (left : List ℕ) (d : Standing) → 0 < length left → Reaches (limit - d.trail.depth) left d.world → d.trail.depth < limit
+some_room limit [] d some h = absurd (omega (arith, some))
+some_room limit (c ∷ cs) d some h = room_on limit c cs d h
+
+pub no_leaf : (limit : ℕ) (left : List ℕ) (d : Standing) (o : Outcome) → 0 < length left → Reaches (limit - d.trail.depth) left d.world → decision d.world ≡ Leaf o → ⊥
+no_leaf limit [] d o some h leaf = absurd (omega (arith, some))
+no_leaf limit (c ∷ cs) d o some h leaf = leaf_on limit c cs d o h leaf
+
+pub going_forced : (limit : ℕ) (left : List ℕ) (d e : Standing) (a : Step) → 0 < length left → Reaches (limit - d.trail.depth) left d.world → decision d.world ≡ Forced a → Went d a e → Going (limit - d.trail.depth) left d left e
+going_forced limit [] d e a some h forced went = absurd (omega (arith, some))
+going_forced limit (c ∷ cs) d e a some h forced went = forced_on limit c cs d e a h forced went
+
+-- no fuel is left
+pub none_left : (n : ℕ) (left : List ℕ) (w : World) → n ≡ 0 → Reaches n left w → left ≡ []
+none_left n [] w e h = refl
+none_left n (c ∷ cs) w e h = absurd (omega (arith, e, reaches_fuel n c cs w h))
+
+pub going_ended : (fuel : ℕ) (choices left : List ℕ) (d e : Standing) → Going fuel choices d left e → left ≡ [] → Going fuel choices d [] e
+going_ended fuel choices left d e h is = rw is at h
+
+-- ---- a loop along choices
+
+-- so much fuel is left
+pub rest_is : (limit : ℕ) (choices left : List ℕ) (d e : Standing) (h : Going (limit - d.trail.depth) choices d left e) → d.trail.depth ≤ limit → h.rest ≡ limit - e.trail.depth
+rest_is limit choices left d e h within = omega (arith, h.spent)

@@ -1,0 +1,105 @@
+-- What is behind some choices, told from where these begin.
+use Rattle.std.proofs.Common.{◌≡◌, ℕ, zero, suc, ◌<◌, ◌≤◌, ◌+◌, List, [], ◌∷◌, ◌++◌, length, take, drop, map, get_or, refl, sym, ap, subst, ◌∙◌, arith, append_assoc, append-nil}
+use Rattle.std.specs.Option.{option_map}
+use Rattle.std.specs.List.{AllByRecursion}
+use Rattle.std.proofs.lemmas.List.{length-map, take-map, take_all, drop_all}
+use Rattle.std.proofs.Math.ListN.{set}
+use Rattle.mpd_model.specs.declared.call.Mode.{Mode}
+use Rattle.mpd_model.specs.declared.step.Step.{Step}
+use Rattle.mpd_model.specs.Program.{Program}
+use Rattle.mpd_model.specs.Trail.{Trail, Standing, IsReached, kept, gone_back, forgotten}
+use Rattle.mpd_explore.specs.declared.report.Leaf as leaf
+use Rattle.mpd_explore.specs.Walk.{Run, prefixed, walk, run_at}
+use Rattle.mpd_explore.specs.Report.{shown}
+use Rattle.mpd_explore.specs.Witness.{WitnessBy, HasWitness}
+use Rattle.mpd_explore.proofs.CollectLemmas.{as_found}
+use Rattle.mpd_pieces.specs.Pieces.{walk_at, part, behind}
+use Rattle.mpd_pieces.specs.Along.{Beyond, Going}
+use Rattle.mpd_pieces.proofs.AlongLemmas.{walk_whole, beyond_below, beyond_depth}
+
+-- ---- choices in front of each of a list
+
+-- one leaf more
+front_next : (f : leaf.Leaf → leaf.Leaf) (old now : List leaf.Leaf) (i : ℕ) (x y : leaf.Leaf) → i < length old → now ≡ map f (take i old) ++ drop i old → y ≡ f (get_or now i x) → set now i y ≡ map f (take (suc i) old) ++ drop (suc i) old
+front_next f [] now i x y within is h = absurd (omega (arith, within))
+front_next f (o ∷ old) now zero x y within is h = ap (λ ls. set ls 0 y) is ∙ ap (λ l. l ∷ old) (h ∙ ap (λ ls. f (get_or ls 0 x)) is)
+front_next f (o ∷ old) now (suc i) x y within is h =
+    ap (λ ls. set ls (suc i) y) is ∙ ap (λ ls. f o ∷ ls) (front_next f old (map f (take i old) ++ drop i old) i x y (omega (arith, within)) refl (h ∙ ap (λ ls. f (get_or ls (suc i) x)) is))
+
+pub front_more : (f : leaf.Leaf → leaf.Leaf) (old now : List leaf.Leaf) (i n : ℕ) (x y : leaf.Leaf) → i < length old → now ≡ map f (take i old) ++ drop i old → y ≡ f (get_or now i x) → n ≡ suc i → set now i y ≡ map f (take n old) ++ drop n old
+front_more f old now i n x y within is h e = rw e (front_next f old now i x y within is h)
+
+pub front_all : (f : leaf.Leaf → leaf.Leaf) (old now : List leaf.Leaf) (i : ℕ) → now ≡ map f (take i old) ++ drop i old → length old ≤ i → now ≡ map f old
+front_all f old now i is h = is ∙ ap (λ ls. map f ls ++ drop i old) (take_all i old h) ∙ ap (λ ls. map f old ++ ls) (drop_all i old h) ∙ append-nil (map f old)
+
+-- ---- what a report has of the runs that begin with some choices
+
+shown_behind : (cs : List ℕ) (p : List Step) (rs : List Run) → map (behind cs) (map shown rs) ≡ map shown (map (prefixed cs p) rs)
+shown_behind cs p [] = refl
+shown_behind cs p (r ∷ rs) = ap (λ ls. shown (prefixed cs p r) ∷ ls) (shown_behind cs p rs)
+
+-- all choices are made
+all_made : (fuel : ℕ) (choices : List ℕ) (d e : Standing) (h : Going fuel choices d [] e) → h.taken ≡ choices
+all_made fuel choices d e h = sym (append-nil h.taken) ∙ h.joined
+
+walk_behind : (fuel n : ℕ) (choices : List ℕ) (d e : Standing) (h : Going fuel choices d [] e) → h.rest ≡ n → walk_at fuel choices d.world ≡ map (prefixed choices h.beyond.path) (walk n e.world)
+walk_behind fuel n choices d e h left =
+    ap (λ cs. walk_at fuel cs d.world) (sym h.joined) ∙ h.along.walks []
+    ∙ ap (λ cs. map (prefixed cs h.beyond.path) (walk_at h.rest [] e.world)) (all_made fuel choices d e h)
+    ∙ ap (map (prefixed choices h.beyond.path)) (walk_whole h.rest e.world ∙ ap (λ m. walk m e.world) left)
+
+pub part_is : (fuel n runs : ℕ) (choices : List ℕ) (d e : Standing) (h : Going fuel choices d [] e) → h.rest ≡ n → map (behind choices) (take runs (map shown (walk n e.world))) ≡ part runs fuel choices d.world
+part_is fuel n runs choices d e h left =
+    sym (take-map (behind choices) runs (map shown (walk n e.world)))
+    ∙ ap (take runs) (shown_behind choices h.beyond.path (walk n e.world) ∙ ap (map shown) (sym (walk_behind fuel n choices d e h left)))
+
+pub many_is : (fuel n : ℕ) (choices : List ℕ) (d e : Standing) (h : Going fuel choices d [] e) → h.rest ≡ n → length (walk n e.world) ≡ length (walk_at fuel choices d.world)
+many_is fuel n choices d e h left = sym (ap length (walk_behind fuel n choices d e h left) ∙ length-map (walk n e.world) (prefixed choices h.beyond.path))
+
+-- ---- and their witnesses
+
+run_behind : (fuel n : ℕ) (choices x : List ℕ) (d e : Standing) (h : Going fuel choices d [] e) → h.rest ≡ n → run_at fuel (choices ++ x) d.world ≡ option_map (prefixed choices h.beyond.path) (run_at n x e.world)
+run_behind fuel n choices x d e h left =
+    ap (λ cs. run_at fuel (cs ++ x) d.world) (sym (all_made fuel choices d e h)) ∙ h.along.runs x
+    ∙ ap (λ cs. option_map (prefixed cs h.beyond.path) (run_at h.rest x e.world)) (all_made fuel choices d e h)
+    ∙ ap (λ m. option_map (prefixed choices h.beyond.path) (run_at m x e.world)) left
+
+witness_behind : (fuel n : ℕ) (choices : List ℕ) (d e : Standing) (s : Program) (mode : Mode) (l : leaf.Leaf) (h : Going fuel choices d [] e) → h.rest ≡ n → HasWitness s mode (kept e.trail) n e.world l → HasWitness s mode (kept d.trail) fuel d.world (behind choices l)
+witness_behind fuel n choices d e s mode l h left x =
+    record {
+      run = prefixed choices h.beyond.path x.run;
+      by = run_behind fuel n choices l.choices d e h left ∙ ap (option_map (prefixed choices h.beyond.path)) x.by;
+      ending = x.ending;
+      witness = subst (λ (p : List Step). WitnessBy s mode p l.ending) (ap (λ p. p ++ x.run.steps) h.beyond.kept_is ∙ append_assoc (kept d.trail) h.beyond.path x.run.steps) x.witness;
+    }
+
+all_behind : (fuel n : ℕ) (choices : List ℕ) (d e : Standing) (s : Program) (mode : Mode) (ls : List leaf.Leaf) (h : Going fuel choices d [] e) → h.rest ≡ n → AllByRecursion (HasWitness s mode (kept e.trail) n e.world) ls → AllByRecursion (HasWitness s mode (kept d.trail) fuel d.world) (map (behind choices) ls)
+all_behind fuel n choices d e s mode [] h left x = tt
+all_behind fuel n choices d e s mode (l ∷ ls) h left x = (witness_behind fuel n choices d e s mode l h left x.0, all_behind fuel n choices d e s mode ls h left x.1)
+
+pub witnesses_behind : (fuel n : ℕ) (choices : List ℕ) (d e : Standing) (ls now : List leaf.Leaf) (h : Going fuel choices d [] e) → h.rest ≡ n → now ≡ map (behind choices) ls → AllByRecursion (HasWitness e.trail.program e.trail.mode (kept e.trail) n e.world) ls
+    → AllByRecursion (HasWitness d.trail.program d.trail.mode (kept d.trail) fuel d.world) now
+witnesses_behind fuel n choices d e ls now h left is x =
+    let own : AllByRecursion (HasWitness d.trail.program d.trail.mode (kept e.trail) n e.world) ls = rw (h.beyond.program, h.beyond.mode) at x in
+    rw is (all_behind fuel n choices d e d.trail.program d.trail.mode ls h left own)
+
+forgotten_on : (fuel : ℕ) (choices : List ℕ) (d e f : Standing) → Going fuel choices d [] e → f.trail ≡ forgotten e.trail → f.world ≡ e.world → kept f.trail ≡ kept e.trail → IsReached f → Going fuel choices d [] f
+forgotten_on fuel choices d e f h trail world same reached =
+    record {
+      beyond = record { program = ap (λ (t : Trail). t.program) trail ∙ h.beyond.program; mode = ap (λ (t : Trail). t.mode) trail ∙ h.beyond.mode; reached = reached; path = h.beyond.path; kept_is = same ∙ h.beyond.kept_is };
+      taken = h.taken;
+      joined = h.joined;
+      rest = h.rest;
+      spent = ap (λ (t : Trail). t.depth + h.rest) trail ∙ h.spent;
+      along = rw world h.along;
+      reaches = rw world h.reaches;
+    }
+
+-- the same where undone steps are forgotten
+pub going_forgotten : (fuel m : ℕ) (choices : List ℕ) (d e f : Standing) → m ≡ fuel → Going m choices d [] e → f.trail ≡ forgotten e.trail → f.world ≡ e.world → kept f.trail ≡ kept e.trail → IsReached f → Going fuel choices d [] f
+going_forgotten fuel m choices d e f is h trail world same reached = forgotten_on fuel choices d e f (rw is at h) trail world same reached
+
+-- ---- as found
+
+pub trail_found : (d m e : Standing) → IsReached d → length d.trail.steps ≡ d.trail.depth → Beyond d m → e.trail ≡ forgotten (gone_back m.trail d.trail.depth) → e.trail ≡ d.trail
+trail_found d m e reached clean h is = as_found d.trail m.trail e.trail clean (beyond_depth d m reached h) h.program h.mode (beyond_below d m reached h) is

@@ -1,0 +1,5 @@
+pub mod AlongLemmas
+pub mod BehindLemmas
+pub mod PieceLemmas
+pub mod SplitLemmas
+pub mod ReportLemmas

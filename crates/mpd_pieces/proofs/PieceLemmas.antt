@@ -1,0 +1,402 @@
+-- The pieces of a walk: one choice more, all of them joined, and how many there are.
+use Rattle.std.proofs.Common.{◌≡◌, ℕ, zero, suc, ◌<◌, ◌≤◌, ◌+◌, ◌-◌, nat_lt, Bool, true, false, ◌||◌, List, [], ◌∷◌, ◌++◌, length, take, drop, map, slice_get, Option, Some, None, IsSome, refl, sym, ap, ◌∙◌, arith, add-one, append_assoc, append-nil}
+use Rattle.std.specs.List.{AllByRecursion, flat_map, list_any, range_with_len}
+use Rattle.std.proofs.lemmas.Bool.Decides.{nat_tests}
+use Rattle.std.proofs.lemmas.List.{length-append, length-map, take_all}
+use Rattle.std.proofs.lemmas.Grind.{flat_map-append}
+use Rattle.std.proofs.lemmas.List.Folds.{flat_map-map}
+use Rattle.mpd_model.specs.declared.step.Step.{Step}
+use Rattle.mpd_model.specs.declared.outcome.Outcome.{Outcome}
+use Rattle.mpd_model.specs.declared.decision.Decision.{Decision}
+use Rattle.mpd_model.specs.declared.decision.Decision.TheVariants.{Forced, Choice, Leaf}
+use Rattle.mpd_model.specs.World.{World}
+use Rattle.mpd_model.specs.Next.{next}
+use Rattle.mpd_model.specs.Decisions.{decision, CanFollow}
+use Rattle.mpd_explore.specs.declared.report.Leaf as leaf
+use Rattle.mpd_explore.specs.Walk.{Run, stepped, chosen, runs_of, branches, followed, walk}
+use Rattle.mpd_explore.specs.Search.{AllEnabled}
+use Rattle.mpd_explore.specs.Report.{shown}
+use Rattle.mpd_explore.proofs.RunLemmas.{walk_is}
+use Rattle.mpd_explore.proofs.WitnessLemmas.{AllFollow}
+use Rattle.mpd_pieces.specs.Pieces.{led_by, branched, cut_by, pieces, numbered, walk_at, InState, ByCandidate, BeginsSo, Reaches, part, split_report, split_more}
+use Rattle.mpd_pieces.specs.Along.{counted, longer, Adds, choices_of}
+use Rattle.mpd_pieces.specs.declared.split.Piece.{Piece}
+use Rattle.mpd_pieces.proofs.AlongLemmas.{walk_whole, walk_forced, walk_chosen, longer_none, longer_forced, longer_chosen, pieces_is, reaches_none}
+
+-- ---- lists
+
+map_all : {A B C : Type 0} (h : B → C) (f : A → List B) (xs : List A) → flat_map (λ x. map h (f x)) xs ≡ map h (flat_map f xs)
+map_all h f [] = refl
+map_all h f (x ∷ xs) = ap (λ zs. map h (f x) ++ zs) (map_all h f xs) ∙ sym (map_joined h (f x) (flat_map f xs)) where
+  map_joined : {B C : Type 0} (g : B → C) (xs ys : List B) → map g (xs ++ ys) ≡ map g xs ++ map g ys
+  map_joined g [] ys = refl
+  map_joined g (y ∷ xs) ys = ap (λ zs. g y ∷ zs) (map_joined g xs ys)
+
+-- the candidate at a place of the list
+drop_next : (xs ys : List Step) (i : ℕ) (a : Step) → drop i xs ≡ a ∷ ys → drop (suc i) xs ≡ ys
+drop_next [] ys zero a e = cc
+drop_next [] ys (suc i) a e = cc
+drop_next (x ∷ xs) ys zero a e = cc
+drop_next (x ∷ xs) ys (suc i) a e = drop_next xs ys i a e
+
+drop_read : (xs ys : List Step) (i : ℕ) (a : Step) → drop i xs ≡ a ∷ ys → slice_get xs i ≡ Some a
+drop_read [] ys zero a e = cc
+drop_read [] ys (suc i) a e = cc
+drop_read (x ∷ xs) ys zero a e = cc
+drop_read (x ∷ xs) ys (suc i) a e = drop_read xs ys i a e
+
+pub pieces_none : (n : ℕ) (w : World) → pieces 0 n w ≡ [] ∷ []
+unfolding pieces
+pieces_none zero w = refl
+pieces_none (suc n) w = refl
+
+one_list : {A : Type 0} (f : List ℕ → List A) → flat_map f ([] ∷ []) ≡ f []
+one_list f = append-nil (f [])
+
+-- ---- one choice more
+
+longer_state : (k n : ℕ) (w : World) (a : Step) (o : Option World) → decision w ≡ Forced a → next w a ≡ o → ((v : World) → flat_map (λ cs. longer n cs v) (pieces (suc k) n v) ≡ pieces (suc (suc k)) n v)
+    → flat_map (λ cs. longer (suc n) cs w) (runs_of (pieces (suc k) n) o) ≡ runs_of (pieces (suc (suc k)) n) o
+longer_state k n w a None forced e all = refl
+longer_state k n w a (Some v) forced e all = (λ i. flat_map (λ cs. longer_forced n cs w v a forced e i) (pieces (suc k) n v)) ∙ all v
+
+longer_candidate : (k n c : ℕ) (w : World) (candidates : List Step) (a : Step) (o : Option World) → decision w ≡ Choice candidates → slice_get candidates c ≡ Some a → next w a ≡ o → ((v : World) → flat_map (λ cs. longer n cs v) (pieces k n v) ≡ pieces (suc k) n v)
+    → flat_map (λ cs. longer (suc n) cs w) (led_by c (runs_of (pieces k n) o)) ≡ led_by c (runs_of (pieces (suc k) n) o)
+longer_candidate k n c w candidates a None choice read e all = refl
+longer_candidate k n c w candidates a (Some v) choice read e all =
+    flat_map-map (λ cs. longer (suc n) cs w) (λ cs. c ∷ cs) (pieces k n v)
+    ∙ (λ i. flat_map (λ cs. longer_chosen n c cs w v candidates a choice read e i) (pieces k n v))
+    ∙ map_all (λ cs. c ∷ cs) (λ cs. longer n cs v) (pieces k n v)
+    ∙ ap (led_by c) (all v)
+
+longer_branched : (k n i : ℕ) (w : World) (candidates more : List Step) → decision w ≡ Choice candidates → drop i candidates ≡ more → ((v : World) → flat_map (λ cs. longer n cs v) (pieces k n v) ≡ pieces (suc k) n v)
+    → flat_map (λ cs. longer (suc n) cs w) (branched (pieces k n) w i more) ≡ branched (pieces (suc k) n) w i more
+longer_branched k n i w candidates [] choice e all = refl
+longer_branched k n i w candidates (a ∷ more) choice e all =
+    flat_map-append (λ cs. longer (suc n) cs w) (led_by i (runs_of (pieces k n) (next w a))) (branched (pieces k n) w (suc i) more)
+    ∙ ap (λ xs. xs ++ flat_map (λ cs. longer (suc n) cs w) (branched (pieces k n) w (suc i) more)) (longer_candidate k n i w candidates a (next w a) choice (drop_read candidates more i a e) refl all)
+    ∙ ap (λ xs. led_by i (runs_of (pieces (suc k) n) (next w a)) ++ xs) (longer_branched k n (suc i) w candidates more choice (drop_next candidates more i a e) all)
+
+longer_cut : (k n : ℕ) (w : World) (d : Decision) → decision w ≡ d → ((v : World) → flat_map (λ cs. longer n cs v) (pieces (suc k) n v) ≡ pieces (suc (suc k)) n v) → ((v : World) → flat_map (λ cs. longer n cs v) (pieces k n v) ≡ pieces (suc k) n v)
+    → flat_map (λ cs. longer (suc n) cs w) (cut_by (pieces (suc k) n) (pieces k n) w d) ≡ cut_by (pieces (suc (suc k)) n) (pieces (suc k) n) w d
+longer_cut k n w (Forced a) e same less = longer_state k n w a (next w a) e refl same
+longer_cut k n w (Choice candidates) e same less = longer_branched k n 0 w candidates candidates e refl less
+longer_cut k n w (Leaf o) e same less = one_list (λ cs. longer (suc n) cs w) ∙ longer_none (suc n) w ∙ pieces_is 0 n w (Leaf o) e
+
+-- the pieces of one choice more are what each piece becomes
+pub all_longer_are : (n k : ℕ) (w : World) → flat_map (λ cs. longer n cs w) (pieces k n w) ≡ pieces (suc k) n w
+unfolding pieces longer
+all_longer_are zero zero w = refl
+all_longer_are zero (suc k) w = refl
+all_longer_are (suc n) zero w = one_list (λ cs. longer (suc n) cs w)
+all_longer_are (suc n) (suc k) w = longer_cut k n w (decision w) refl (λ v. all_longer_are n (suc k) v) (λ v. all_longer_are n k v)
+
+-- where a choice more makes no difference, none does
+pub never_longer : (fuel k j : ℕ) (w : World) → pieces (suc k) fuel w ≡ pieces k fuel w → pieces (k + j) fuel w ≡ pieces k fuel w
+never_longer fuel k zero w e = ap (λ m. pieces m fuel w) (omega arith)
+never_longer fuel k (suc j) w e =
+    let more : k + suc j ≡ suc (k + j) = omega arith in
+    ap (λ m. pieces m fuel w) more ∙ sym (all_longer_are fuel (k + j) w) ∙ ap (flat_map (λ cs. longer fuel cs w)) (never_longer fuel k j w e) ∙ all_longer_are fuel k w ∙ e
+
+-- ---- all pieces joined
+
+walk_state : (k n : ℕ) (w : World) (a : Step) (o : Option World) → decision w ≡ Forced a → next w a ≡ o → ((v : World) → flat_map (λ cs. walk_at n cs v) (pieces (suc k) n v) ≡ walk n v)
+    → flat_map (λ cs. walk_at (suc n) cs w) (runs_of (pieces (suc k) n) o) ≡ map (stepped a) (runs_of (walk n) o)
+walk_state k n w a None forced e all = refl
+walk_state k n w a (Some v) forced e all =
+    (λ i. flat_map (λ cs. walk_forced n cs w v a forced e i) (pieces (suc k) n v)) ∙ map_all (stepped a) (λ cs. walk_at n cs v) (pieces (suc k) n v) ∙ ap (map (stepped a)) (all v)
+
+walk_candidate : (k n c : ℕ) (w : World) (candidates : List Step) (a : Step) (o : Option World) → decision w ≡ Choice candidates → slice_get candidates c ≡ Some a → next w a ≡ o → ((v : World) → flat_map (λ cs. walk_at n cs v) (pieces k n v) ≡ walk n v)
+    → flat_map (λ cs. walk_at (suc n) cs w) (led_by c (runs_of (pieces k n) o)) ≡ map (chosen c a) (runs_of (walk n) o)
+walk_candidate k n c w candidates a None choice read e all = refl
+walk_candidate k n c w candidates a (Some v) choice read e all =
+    flat_map-map (λ cs. walk_at (suc n) cs w) (λ cs. c ∷ cs) (pieces k n v)
+    ∙ (λ i. flat_map (λ cs. walk_chosen n c cs w v candidates a choice read e i) (pieces k n v))
+    ∙ map_all (chosen c a) (λ cs. walk_at n cs v) (pieces k n v)
+    ∙ ap (map (chosen c a)) (all v)
+
+walk_branched : (k n i : ℕ) (w : World) (candidates more : List Step) → decision w ≡ Choice candidates → drop i candidates ≡ more → ((v : World) → flat_map (λ cs. walk_at n cs v) (pieces k n v) ≡ walk n v)
+    → flat_map (λ cs. walk_at (suc n) cs w) (branched (pieces k n) w i more) ≡ branches (walk n) w i more
+walk_branched k n i w candidates [] choice e all = refl
+walk_branched k n i w candidates (a ∷ more) choice e all =
+    flat_map-append (λ cs. walk_at (suc n) cs w) (led_by i (runs_of (pieces k n) (next w a))) (branched (pieces k n) w (suc i) more)
+    ∙ ap (λ xs. xs ++ flat_map (λ cs. walk_at (suc n) cs w) (branched (pieces k n) w (suc i) more)) (walk_candidate k n i w candidates a (next w a) choice (drop_read candidates more i a e) refl all)
+    ∙ ap (λ xs. map (chosen i a) (runs_of (walk n) (next w a)) ++ xs) (walk_branched k n (suc i) w candidates more choice (drop_next candidates more i a e) all)
+
+walk_cut : (k n : ℕ) (w : World) (d : Decision) → decision w ≡ d → ((v : World) → flat_map (λ cs. walk_at n cs v) (pieces (suc k) n v) ≡ walk n v) → ((v : World) → flat_map (λ cs. walk_at n cs v) (pieces k n v) ≡ walk n v)
+    → flat_map (λ cs. walk_at (suc n) cs w) (cut_by (pieces (suc k) n) (pieces k n) w d) ≡ followed (walk n) (walk n) w d
+walk_cut k n w (Forced a) e same less = walk_state k n w a (next w a) e refl same
+walk_cut k n w (Choice candidates) e same less = walk_branched k n 0 w candidates candidates e refl less
+walk_cut k n w (Leaf o) e same less = one_list (λ cs. walk_at (suc n) cs w) ∙ walk_whole (suc n) w ∙ walk_is n w (Leaf o) e
+
+walks_joined : (n k : ℕ) (w : World) → flat_map (λ cs. walk_at n cs w) (pieces k n w) ≡ walk n w
+unfolding pieces
+walks_joined zero zero w = one_list (λ cs. walk_at 0 cs w) ∙ walk_whole 0 w
+walks_joined zero (suc k) w = one_list (λ cs. walk_at 0 cs w) ∙ walk_whole 0 w
+walks_joined (suc n) zero w = one_list (λ cs. walk_at (suc n) cs w) ∙ walk_whole (suc n) w
+walks_joined (suc n) (suc k) w = walk_cut k n w (decision w) refl (λ v. walks_joined n (suc k) v) (λ v. walks_joined n k v) ∙ sym (walk_is n w (decision w) refl)
+
+pub pieces_join : (k fuel : ℕ) (w : World) → flat_map (λ cs. walk_at fuel cs w) (pieces k fuel w) ≡ walk fuel w
+pieces_join k fuel w = walks_joined fuel k w
+
+-- ---- some run begins with the choices of each
+
+into_state : (P : World → Type 0) (o : Option World) (v : World) → o ≡ Some v → P v → InState P o
+into_state P o v e h = rw e h
+
+into_candidate : (P : World → Type 0) (w : World) (o : Option Step) (a : Step) → o ≡ Some a → InState P (next w a) → ByCandidate P w o
+into_candidate P w o a e h = rw e h
+
+into_reaches : (n c : ℕ) (cs : List ℕ) (w : World) (d : Decision) → decision w ≡ d → BeginsSo (Reaches n) w c cs d → Reaches (suc n) (c ∷ cs) w
+unfolding Reaches
+into_reaches n c cs w d is h = rw is h
+
+reached_forced : (n : ℕ) (cs : List ℕ) (w v : World) (a : Step) → decision w ≡ Forced a → next w a ≡ Some v → Reaches n cs v → Reaches (suc n) cs w
+reached_forced n [] w v a forced step h = reaches_none (suc n) w
+reached_forced n (c ∷ cs) w v a forced step h = into_reaches n c cs w (Forced a) forced (into_state (Reaches n (c ∷ cs)) (next w a) v step h)
+
+reached_chosen : (n c : ℕ) (cs : List ℕ) (w v : World) (candidates : List Step) (a : Step) → decision w ≡ Choice candidates → slice_get candidates c ≡ Some a → next w a ≡ Some v → Reaches n cs v → Reaches (suc n) (c ∷ cs) w
+reached_chosen n c cs w v candidates a choice read step h =
+    into_reaches n c cs w (Choice candidates) choice (into_candidate (Reaches n cs) w (slice_get candidates c) a read (into_state (Reaches n cs) (next w a) v step h))
+
+all_by : {A : Type 0} (P Q : A → Type 0) (xs : List A) → ((x : A) → P x → Q x) → AllByRecursion P xs → AllByRecursion Q xs
+all_by P Q [] f h = tt
+all_by P Q (x ∷ xs) f h = (f x h.0, all_by P Q xs f h.1)
+
+all_led : (P Q : List ℕ → Type 0) (c : ℕ) (xs : List (List ℕ)) → ((x : List ℕ) → P x → Q (c ∷ x)) → AllByRecursion P xs → AllByRecursion Q (led_by c xs)
+all_led P Q c [] f h = tt
+all_led P Q c (x ∷ xs) f h = (f x h.0, all_led P Q c xs f h.1)
+
+all_join : {A : Type 0} (P : A → Type 0) (xs ys : List A) → AllByRecursion P xs → AllByRecursion P ys → AllByRecursion P (xs ++ ys)
+all_join P [] ys h k = k
+all_join P (x ∷ xs) ys h k = (h.0, all_join P xs ys h.1 k)
+
+AllReached : ℕ → ℕ → World → Type 0
+AllReached k n w = AllByRecursion (λ cs. Reaches n cs w) (pieces k n w)
+
+reach_state : (k n : ℕ) (w : World) (a : Step) (o : Option World) → decision w ≡ Forced a → next w a ≡ o → ((v : World) → AllReached (suc k) n v) → AllByRecursion (λ cs. Reaches (suc n) cs w) (runs_of (pieces (suc k) n) o)
+unfolding AllReached
+reach_state k n w a None forced e all = tt
+reach_state k n w a (Some v) forced e all = all_by (λ cs. Reaches n cs v) (λ cs. Reaches (suc n) cs w) (pieces (suc k) n v) (λ cs h. reached_forced n cs w v a forced e h) (all v)
+
+reach_candidate : (k n c : ℕ) (w : World) (candidates : List Step) (a : Step) (o : Option World) → decision w ≡ Choice candidates → slice_get candidates c ≡ Some a → next w a ≡ o → ((v : World) → AllReached k n v)
+    → AllByRecursion (λ cs. Reaches (suc n) cs w) (led_by c (runs_of (pieces k n) o))
+unfolding AllReached
+reach_candidate k n c w candidates a None choice read e all = tt
+reach_candidate k n c w candidates a (Some v) choice read e all =
+    all_led (λ cs. Reaches n cs v) (λ cs. Reaches (suc n) cs w) c (pieces k n v) (λ cs h. reached_chosen n c cs w v candidates a choice read e h) (all v)
+
+reach_branched : (k n i : ℕ) (w : World) (candidates more : List Step) → decision w ≡ Choice candidates → drop i candidates ≡ more → ((v : World) → AllReached k n v) → AllByRecursion (λ cs. Reaches (suc n) cs w) (branched (pieces k n) w i more)
+reach_branched k n i w candidates [] choice e all = tt
+reach_branched k n i w candidates (a ∷ more) choice e all =
+    all_join (λ cs. Reaches (suc n) cs w) (led_by i (runs_of (pieces k n) (next w a))) (branched (pieces k n) w (suc i) more)
+    (reach_candidate k n i w candidates a (next w a) choice (drop_read candidates more i a e) refl all)
+    (reach_branched k n (suc i) w candidates more choice (drop_next candidates more i a e) all)
+
+reach_cut : (k n : ℕ) (w : World) (d : Decision) → decision w ≡ d → ((v : World) → AllReached (suc k) n v) → ((v : World) → AllReached k n v) → AllByRecursion (λ cs. Reaches (suc n) cs w) (cut_by (pieces (suc k) n) (pieces k n) w d)
+reach_cut k n w (Forced a) e same less = reach_state k n w a (next w a) e refl same
+reach_cut k n w (Choice candidates) e same less = reach_branched k n 0 w candidates candidates e refl less
+reach_cut k n w (Leaf o) e same less = (reaches_none (suc n) w, tt)
+
+all_reached : (n k : ℕ) (w : World) → AllReached k n w
+unfolding pieces AllReached
+all_reached zero zero w = (reaches_none 0 w, tt)
+all_reached zero (suc k) w = (reaches_none 0 w, tt)
+all_reached (suc n) zero w = (reaches_none (suc n) w, tt)
+all_reached (suc n) (suc k) w = reach_cut k n w (decision w) refl (λ v. all_reached n (suc k) v) (λ v. all_reached n k v)
+
+pub pieces_reached : (k fuel : ℕ) (w : World) → AllByRecursion (λ cs. Reaches fuel cs w) (pieces k fuel w)
+unfolding AllReached
+pieces_reached k fuel w = all_reached fuel k w
+
+-- ---- there is one, and never fewer by a choice more
+
+Some_of : ℕ → ℕ → Type 0
+Some_of k n = (w : World) → 0 < length (pieces k n w)
+
+some_state : (k n : ℕ) (o : Option World) → Some_of k n → IsSome o → 0 < length (runs_of (pieces k n) o)
+unfolding Some_of
+some_state k n None all h = cc
+some_state k n (Some v) all h = all v
+
+first_enabled : (w : World) (a : Step) (more : List Step) → AllEnabled w (a ∷ more) → IsSome (next w a)
+first_enabled w a more h = h 0 a (omega arith)
+
+some_cut : (k n : ℕ) (w : World) (d : Decision) → CanFollow w d → Some_of (suc k) n → Some_of k n → 0 < length (cut_by (pieces (suc k) n) (pieces k n) w d)
+some_cut k n w (Forced a) h same less = some_state (suc k) n (next w a) same h
+some_cut k n w (Choice []) h same less = absurd (omega (arith, h.0))
+some_cut k n w (Choice (a ∷ more)) h same less =
+    omega (arith, length-append (led_by 0 (runs_of (pieces k n) (next w a))) (branched (pieces k n) w 1 more), length-map (runs_of (pieces k n) (next w a)) (λ cs. 0 ∷ cs), some_state k n (next w a) less (first_enabled w a more h.1))
+some_cut k n w (Leaf o) h same less = omega arith
+
+pieces_some : (n k : ℕ) → AllFollow → Some_of k n
+unfolding pieces Some_of
+pieces_some zero zero law w = omega arith
+pieces_some zero (suc k) law w = omega arith
+pieces_some (suc n) zero law w = omega arith
+pieces_some (suc n) (suc k) law w = some_cut k n w (decision w) (law w) (pieces_some n (suc k) law) (pieces_some n k law)
+
+some_piece : (n k : ℕ) (w : World) → AllFollow → 0 < length (pieces k n w)
+unfolding Some_of
+some_piece n k w law = pieces_some n k law w
+
+Rises : ℕ → ℕ → Type 0
+Rises k n = (w : World) → length (pieces k n w) ≤ length (pieces (suc k) n w)
+
+rise_state : (k n : ℕ) (o : Option World) → Rises k n → length (runs_of (pieces k n) o) ≤ length (runs_of (pieces (suc k) n) o)
+unfolding Rises
+rise_state k n None all = omega arith
+rise_state k n (Some v) all = all v
+
+rise_branched : (k n i : ℕ) (w : World) (candidates : List Step) → Rises k n → length (branched (pieces k n) w i candidates) ≤ length (branched (pieces (suc k) n) w i candidates)
+rise_branched k n i w [] all = omega arith
+rise_branched k n i w (a ∷ more) all =
+    let xs = runs_of (pieces k n) (next w a) in
+    let ys = runs_of (pieces (suc k) n) (next w a) in
+    omega (
+      arith,
+      length-append (led_by i xs) (branched (pieces k n) w (suc i) more),
+      length-map xs (λ cs. i ∷ cs),
+      length-append (led_by i ys) (branched (pieces (suc k) n) w (suc i) more),
+      length-map ys (λ cs. i ∷ cs),
+      rise_state k n (next w a) all,
+      rise_branched k n (suc i) w more all,
+    )
+
+rise_cut : (k n : ℕ) (w : World) (d : Decision) → Rises (suc k) n → Rises k n → length (cut_by (pieces (suc k) n) (pieces k n) w d) ≤ length (cut_by (pieces (suc (suc k)) n) (pieces (suc k) n) w d)
+rise_cut k n w (Forced a) same less = rise_state (suc k) n (next w a) same
+rise_cut k n w (Choice candidates) same less = rise_branched k n 0 w candidates less
+rise_cut k n w (Leaf o) same less = omega arith
+
+first_rise : (n : ℕ) (w : World) (m : ℕ) → 0 < m → length (pieces 0 n w) ≤ m
+first_rise n w m h = omega (arith, ap length (pieces_none n w))
+
+rises : (n k : ℕ) → AllFollow → Rises k n
+unfolding pieces Rises
+rises zero zero law w = omega arith
+rises zero (suc k) law w = omega arith
+rises (suc n) zero law w = first_rise (suc n) w (length (pieces 1 (suc n) w)) (some_piece (suc n) 1 w law)
+rises (suc n) (suc k) law w = rise_cut k n w (decision w) (rises n (suc k) law) (rises n k law)
+
+rises_by : (fuel k j : ℕ) (w : World) → AllFollow → length (pieces k fuel w) ≤ length (pieces (k + j) fuel w)
+unfolding Rises
+rises_by fuel k zero w law = omega (arith, ap (λ m. length (pieces m fuel w)) (add_none k)) where
+  add_none : (m : ℕ) → m + 0 ≡ m
+  add_none m = omega arith
+rises_by fuel k (suc j) w law =
+    let more : k + suc j ≡ suc (k + j) = omega arith in
+    omega (arith, ap (λ m. length (pieces m fuel w)) more, rises_by fuel k j w law, rises fuel (k + j) law w)
+
+split_sum : (k m : ℕ) → k ≤ m → k + (m - k) ≡ m
+split_sum k m h = omega arith
+
+pub never_fewer : (fuel k m : ℕ) (w : World) → AllFollow → k ≤ m → length (pieces k fuel w) ≤ length (pieces m fuel w)
+never_fewer fuel k m w law h = omega (arith, ap (λ q. length (pieces q fuel w)) (split_sum k m h), rises_by fuel k (m - k) w law)
+
+pub all_the_same : (fuel k m : ℕ) (w : World) → k ≤ m → pieces (suc k) fuel w ≡ pieces k fuel w → pieces m fuel w ≡ pieces k fuel w
+all_the_same fuel k m w h e = ap (λ q. pieces q fuel w) (sym (split_sum k m h)) ∙ never_longer fuel k (m - k) w e
+
+-- ---- cut by no choice
+
+or_nothing : (b : Bool) → (b || false) ≡ b
+or_nothing true = refl
+or_nothing false = refl
+
+whole_report : (runs fuel : ℕ) (w : World) → split_report 0 runs fuel w ≡ take runs (map shown (walk fuel w))
+whole_report runs fuel w = ap (flat_map (λ cs. part runs fuel cs w)) (pieces_none fuel w) ∙ one_list (λ cs. part runs fuel cs w) ∙ ap (λ rs. take runs (map shown rs)) (walk_whole fuel w)
+
+whole_more : (runs fuel : ℕ) (w : World) → split_more 0 runs fuel w ≡ nat_lt runs (length (walk fuel w))
+whole_more runs fuel w = ap (list_any (λ cs. nat_lt runs (length (walk_at fuel cs w)))) (pieces_none fuel w) ∙ or_nothing (nat_lt runs (length (walk_at fuel [] w))) ∙ ap (λ rs. nat_lt runs (length rs)) (walk_whole fuel w)
+
+pub no_choice : (runs fuel : ℕ) (w : World) → (split_report 0 runs fuel w ≡ take runs (map shown (walk fuel w))) × (split_more 0 runs fuel w ≡ nat_lt runs (length (walk fuel w)))
+no_choice runs fuel w = (whole_report runs fuel w, whole_more runs fuel w)
+
+-- ---- no piece has more
+
+pub neither : (a b : Bool) → (a || b) ≡ false → (a ≡ false) × (b ≡ false)
+neither true b h = cc
+neither false b h = (refl, h)
+
+not_less : (m n : ℕ) → nat_lt m n ≡ false → n ≤ m
+not_less m n h = grind (arith, nat_tests)
+
+map_joins : (f : Run → leaf.Leaf) (xs ys : List Run) → map f (xs ++ ys) ≡ map f xs ++ map f ys
+map_joins f [] ys = refl
+map_joins f (x ∷ xs) ys = ap (λ zs. f x ∷ zs) (map_joins f xs ys)
+
+no_more_of : (runs : ℕ) (of : List ℕ → List Run) (xs : List (List ℕ)) → list_any (λ cs. nat_lt runs (length (of cs))) xs ≡ false → flat_map (λ cs. take runs (map shown (of cs))) xs ≡ map shown (flat_map of xs)
+no_more_of runs of [] h = refl
+no_more_of runs of (x ∷ xs) h =
+    let both = neither (nat_lt runs (length (of x))) (list_any (λ cs. nat_lt runs (length (of cs))) xs) h in
+    let few : length (map shown (of x)) ≤ runs = omega (arith, length-map (of x) shown, not_less runs (length (of x)) both.0) in
+    ap (λ ls. ls ++ flat_map (λ cs. take runs (map shown (of cs))) xs) (take_all runs (map shown (of x)) few)
+    ∙ ap (λ ls. map shown (of x) ++ ls) (no_more_of runs of xs both.1)
+    ∙ sym (map_joins shown (of x) (flat_map of xs))
+
+pub no_more : (k runs fuel : ℕ) (w : World) → split_more k runs fuel w ≡ false → split_report k runs fuel w ≡ map shown (walk fuel w)
+no_more k runs fuel w h = no_more_of runs (λ cs. walk_at fuel cs w) (pieces k fuel w) h ∙ ap (map shown) (pieces_join k fuel w)
+
+-- ---- the pieces of one choice
+
+enabled_rest : (w : World) (a : Step) (more : List Step) → AllEnabled w (a ∷ more) → AllEnabled w more
+enabled_rest w a more h = λ k d within. h (suc k) d (omega (arith, within))
+
+one_led : (n c : ℕ) (o : Option World) → IsSome o → led_by c (runs_of (pieces 0 n) o) ≡ (c ∷ []) ∷ []
+one_led n c None h = cc
+one_led n c (Some v) h = ap (led_by c) (pieces_none n v)
+
+each_candidate : (n i : ℕ) (w : World) (candidates : List Step) → AllEnabled w candidates → branched (pieces 0 n) w i candidates ≡ map (λ c. c ∷ []) (range_with_len i (length candidates))
+each_candidate n i w [] h = refl
+each_candidate n i w (a ∷ more) h =
+    ap (λ xs. xs ++ branched (pieces 0 n) w (suc i) more) (one_led n i (next w a) (first_enabled w a more h))
+    ∙ ap (λ xs. (i ∷ []) ∷ xs) (each_candidate n (suc i) w more (enabled_rest w a more h) ∙ ap (λ q. map (λ c. c ∷ []) (range_with_len q (length more))) (sym (add-one i)))
+
+pub counted_some : (m : ℕ) → 0 < m → counted m ≡ map (λ c. c ∷ []) (range_with_len 0 m)
+counted_some zero h = absurd (omega (arith, h))
+counted_some (suc m) h = refl
+
+pub choice_counted : (n : ℕ) (w : World) (candidates : List Step) → decision w ≡ Choice candidates → CanFollow w (Choice candidates) → pieces 1 (suc n) w ≡ counted (length candidates)
+choice_counted n w candidates choice h = pieces_is 0 n w (Choice candidates) choice ∙ each_candidate n 0 w candidates h.1 ∙ sym (counted_some (length candidates) h.0)
+
+pub leaf_counted : (n : ℕ) (w : World) (o : Outcome) → decision w ≡ Leaf o → pieces 1 (suc n) w ≡ counted 0
+leaf_counted n w o leaf = pieces_is 0 n w (Leaf o) leaf
+
+pub fuel_counted : (n : ℕ) (w : World) → n ≡ 0 → pieces 1 n w ≡ counted 0
+unfolding pieces
+fuel_counted n w e = ap (λ m. pieces 1 m w) e
+
+-- ---- pieces are numbered in order
+
+numbered_join : (i : ℕ) (xs ys : List (List ℕ)) → numbered i (xs ++ ys) ≡ numbered i xs ++ numbered (i + length xs) ys
+numbered_join i [] ys = ap (λ n. numbered n ys) (omega arith)
+numbered_join i (x ∷ xs) ys = ap (λ ps. record { number = i; choices = x } ∷ ps) (numbered_join (suc i) xs ys ∙ ap (λ n. numbered (suc i) xs ++ numbered n ys) (move i (length xs))) where
+  move : (a b : ℕ) → suc a + b ≡ a + suc b
+  move a b = omega arith
+
+numbered_long : (i : ℕ) (xs : List (List ℕ)) → length (numbered i xs) ≡ length xs
+numbered_long i [] = refl
+numbered_long i (x ∷ xs) = ap suc (numbered_long (suc i) xs)
+
+pub numbered_choices : (i : ℕ) (xs : List (List ℕ)) → choices_of (numbered i xs) ≡ xs
+numbered_choices i [] = refl
+numbered_choices i (x ∷ xs) = ap (λ ys. x ∷ ys) (numbered_choices (suc i) xs)
+
+pub adds_none : (ps : List Piece) → Adds ps [] ps
+adds_none ps = record { numbers = λ xs e. e ∙ ap (numbered 0) (sym (append-nil xs)); count = omega arith }
+
+pub adds_one : (old new : List Piece) (cs : List ℕ) → new ≡ old ++ record { number = length old; choices = cs } ∷ [] → Adds old (cs ∷ []) new
+adds_one old new cs is =
+    record {
+      numbers = λ xs e. is ∙ ap (λ ps. ps ++ record { number = length old; choices = cs } ∷ []) e ∙ ap (λ n. numbered 0 xs ++ record { number = n; choices = cs } ∷ []) (ap length e ∙ numbered_long 0 xs) ∙ sym (numbered_join 0 xs (cs ∷ []) ∙ ap (λ n. numbered 0 xs ++ numbered n (cs ∷ [])) (omega arith));
+      count = ap length is ∙ length-append old (record { number = length old; choices = cs } ∷ []);
+    }
+
+pub adds_then : (old mid new : List Piece) (xs ys : List (List ℕ)) → Adds old xs mid → Adds mid ys new → Adds old (xs ++ ys) new
+adds_then old mid new xs ys a b =
+    record {
+      numbers = λ zs e. b.numbers (zs ++ xs) (a.numbers zs e) ∙ ap (numbered 0) (append_assoc zs xs ys);
+      count = omega (arith, a.count, b.count, length-append xs ys);
+    }
+
+pub adds_same : (old new : List Piece) (xs ys : List (List ℕ)) → xs ≡ ys → Adds old xs new → Adds old ys new
+adds_same old new xs ys e h = rw e at h

@@ -1,0 +1,93 @@
+-- Where a debugger stands that has gone along some choices, and what a piece becomes by one choice more.
+use Rattle.std.specs.Prelude.{◌≡◌, ℕ, zero, suc, ◌+◌, nat_lt, Bool, List, [], ◌∷◌, ◌++◌, length, map, flat_map, slice_get, Option, Some, None}
+use Rattle.std.specs.List.{list_any, range_with_len}
+use Rattle.std.specs.Option.{option_map}
+use Rattle.mpd_model.specs.declared.step.Step.{Step}
+use Rattle.mpd_model.specs.declared.decision.Decision.{Decision}
+use Rattle.mpd_model.specs.declared.decision.Decision.TheVariants.{Forced, Choice, Leaf}
+use Rattle.mpd_model.specs.World.{World}
+use Rattle.mpd_model.specs.Next.{next}
+use Rattle.mpd_model.specs.Decisions.{decision}
+use Rattle.mpd_model.specs.Trail.{Standing, kept, IsReached}
+use Rattle.mpd_explore.specs.declared.report.Leaf as leaf
+use Rattle.mpd_explore.specs.Walk.{prefixed, runs_of, run_at}
+use Rattle.mpd_pieces.specs.declared.split.Piece.{Piece}
+use Rattle.mpd_pieces.specs.Pieces.{led_by, pieces, numbered, walk_at, Reaches, part}
+
+-- ---- one choice more
+
+abbrev pub lists_by : (World → List (List ℕ)) → World → ℕ → Option Step → List (List ℕ)
+lists_by lists w c None = []
+lists_by lists w c (Some a) = led_by c (runs_of lists (next w a))
+
+abbrev pub longer_by : (List ℕ → World → List (List ℕ)) → World → ℕ → List ℕ → Decision → List (List ℕ)
+longer_by lists w c cs (Forced a) = runs_of (lists (c ∷ cs)) (next w a)
+longer_by lists w c cs (Choice candidates) = lists_by (lists cs) w c (slice_get candidates c)
+longer_by lists w c cs (Leaf o) = []
+
+-- What a piece becomes where one choice more is made: a piece for each candidate of the next choice, or itself where there is none.
+unfoldable pub longer : ℕ → List ℕ → World → List (List ℕ)
+longer n [] w = pieces 1 n w
+longer zero (c ∷ cs) w = []
+longer (suc n) (c ∷ cs) w = longer_by (longer n) w c cs (decision w)
+
+-- the pieces of one choice, by how many candidates it has; none stands for an end before it
+abbrev pub counted : ℕ → List (List ℕ)
+counted zero = [] ∷ []
+counted (suc m) = map (λ i. i ∷ []) (range_with_len 0 (suc m))
+
+-- ---- along some choices
+
+-- Steps that make some choices lead from one world to another, and so much of the fuel is left: what begins there with whatever choices
+-- is what begins here with those in front.
+pub record Along (fuel : ℕ) (w : World) (choices : List ℕ) (path : List Step) (rest : ℕ) (v : World) : Type 0 where
+  pub walks : (x : List ℕ) → walk_at fuel (choices ++ x) w ≡ map (prefixed choices path) (walk_at rest x v)
+  pub runs : (x : List ℕ) → run_at fuel (choices ++ x) w ≡ option_map (prefixed choices path) (run_at rest x v)
+  pub lists : (x : List ℕ) → longer fuel (choices ++ x) w ≡ map (λ cs. choices ++ cs) (longer rest x v)
+
+-- a debugger that stands where another stood, or has gone on from there
+pub record Beyond (d e : Standing) : Type 0 where
+  pub program : e.trail.program ≡ d.trail.program
+  pub mode : e.trail.mode ≡ d.trail.mode
+  pub reached : IsReached e
+  pub path : List Step
+  pub kept_is : kept e.trail ≡ kept d.trail ++ path
+
+-- One that has gone on along some choices, of which these are still to be made.
+pub record Going (fuel : ℕ) (choices : List ℕ) (d : Standing) (left : List ℕ) (e : Standing) : Type 0 where
+  pub beyond : Beyond d e
+  pub taken : List ℕ
+  pub joined : taken ++ left ≡ choices
+  pub rest : ℕ
+  pub spent : e.trail.depth + rest ≡ d.trail.depth + fuel
+  pub along : Along fuel d.world taken beyond.path rest e.world
+  pub reaches : Reaches rest left e.world
+
+-- ---- on to the next choice
+
+-- A forced step was taken, or there is a choice of so many candidates; none stands for the end of a run.
+abbrev pub Looked : Standing → Option ℕ → Standing → Type 0
+Looked d None e = (e.trail.depth ≡ d.trail.depth + 1) × ((n : ℕ) → pieces 1 (suc n) d.world ≡ pieces 1 n e.world)
+Looked d (Some m) e = (n : ℕ) → pieces 1 (suc n) d.world ≡ counted m
+
+-- ---- pieces that are added
+
+-- These were added, numbered behind those before.
+pub record Adds (old : List Piece) (lists : List (List ℕ)) (new : List Piece) : Type 0 where
+  pub numbers : (xs : List (List ℕ)) → old ≡ numbered 0 xs → new ≡ numbered 0 (xs ++ lists)
+  pub count : length new ≡ length old + length lists
+
+-- what all of some pieces become
+abbrev pub all_longer : ℕ → World → List Piece → List (List ℕ)
+all_longer fuel w ps = flat_map (λ (p : Piece). longer fuel p.choices w) ps
+
+abbrev pub choices_of : List Piece → List (List ℕ)
+choices_of ps = map (λ (p : Piece). p.choices) ps
+
+-- ---- the parts of some pieces
+
+abbrev pub parts : ℕ → ℕ → World → List Piece → List leaf.Leaf
+parts runs fuel w ps = flat_map (λ (p : Piece). part runs fuel p.choices w) ps
+
+abbrev pub has_more : ℕ → ℕ → World → List Piece → Bool
+has_more runs fuel w ps = list_any (λ (p : Piece). nat_lt runs (length (walk_at fuel p.choices w))) ps

@@ -1,0 +1,100 @@
+-- The walk cut into pieces by the first choices of its runs.
+use Rattle.std.specs.Prelude.{ℕ, zero, suc, nat_lt, Bool, List, [], ◌∷◌, ◌++◌, length, take, map, flat_map, slice_get, Option, Some, None}
+use Rattle.std.specs.List.{list_any}
+use Rattle.mpd_model.specs.declared.step.Step.{Step}
+use Rattle.mpd_model.specs.declared.decision.Decision.{Decision}
+use Rattle.mpd_model.specs.declared.decision.Decision.TheVariants.{Forced, Choice, Leaf}
+use Rattle.mpd_model.specs.World.{World}
+use Rattle.mpd_model.specs.Next.{next}
+use Rattle.mpd_model.specs.Decisions.{decision}
+use Rattle.mpd_explore.specs.declared.report.Leaf as leaf
+use Rattle.mpd_explore.specs.Walk.{Run, stepped, chosen, runs_of, walk}
+use Rattle.mpd_explore.specs.Report.{shown}
+use Rattle.mpd_pieces.specs.declared.split.Piece.{Piece}
+
+-- ---- pieces
+
+-- lists of choices with a choice in front of each
+abbrev pub led_by : ℕ → List (List ℕ) → List (List ℕ)
+led_by i lists = map (λ cs. i ∷ cs) lists
+
+-- the pieces by each of some candidates, of which the first is number i
+abbrev pub branched : (World → List (List ℕ)) → World → ℕ → List Step → List (List ℕ)
+branched more w i [] = []
+branched more w i (a ∷ candidates) = led_by i (runs_of more (next w a)) ++ branched more w (suc i) candidates
+
+-- the pieces after a decision, where fuel is left and a choice is still to be made
+abbrev pub cut_by : (World → List (List ℕ)) → (World → List (List ℕ)) → World → Decision → List (List ℕ)
+cut_by forced picked w (Forced a) = runs_of forced (next w a)
+cut_by forced picked w (Choice candidates) = branched picked w 0 candidates
+cut_by forced picked w (Leaf o) = [] ∷ []
+
+-- The choices of the runs from a state with so much fuel, each stopped right behind its k-th choice, or at its leaf where that comes
+-- sooner, in order.
+unfoldable pub pieces : ℕ → ℕ → World → List (List ℕ)
+pieces zero n w = [] ∷ []
+pieces (suc k) zero w = [] ∷ []
+pieces (suc k) (suc n) w = cut_by (pieces (suc k) n) (pieces k n) w (decision w)
+
+-- numbered in order, the first with number i
+abbrev pub numbered : ℕ → List (List ℕ) → List Piece
+numbered i [] = []
+numbered i (cs ∷ more) = record { number = i; choices = cs } ∷ numbered (suc i) more
+
+-- ---- the runs of a piece
+
+-- the runs by a candidate of a choice, where there is one of that number
+abbrev pub runs_by : (World → List Run) → World → ℕ → Option Step → List Run
+runs_by runs w c None = []
+runs_by runs w c (Some a) = map (chosen c a) (runs_of runs (next w a))
+
+-- the runs after a decision that begin with a choice and those behind it
+abbrev pub beginning : (List ℕ → World → List Run) → World → ℕ → List ℕ → Decision → List Run
+beginning runs w c cs (Forced a) = map (stepped a) (runs_of (runs (c ∷ cs)) (next w a))
+beginning runs w c cs (Choice candidates) = runs_by (runs cs) w c (slice_get candidates c)
+beginning runs w c cs (Leaf o) = []
+
+-- the runs of the walk that begin with these choices
+unfoldable pub walk_at : ℕ → List ℕ → World → List Run
+walk_at n [] w = walk n w
+walk_at zero (c ∷ cs) w = []
+walk_at (suc n) (c ∷ cs) w = beginning (walk_at n) w c cs (decision w)
+
+-- ---- whether some run begins so
+
+abbrev pub InState : (World → Type 0) → Option World → Type 0
+InState P None = ⊥
+InState P (Some w) = P w
+
+abbrev pub ByCandidate : (World → Type 0) → World → Option Step → Type 0
+ByCandidate P w None = ⊥
+ByCandidate P w (Some a) = InState P (next w a)
+
+abbrev pub BeginsSo : (List ℕ → World → Type 0) → World → ℕ → List ℕ → Decision → Type 0
+BeginsSo reaches w c cs (Forced a) = InState (reaches (c ∷ cs)) (next w a)
+BeginsSo reaches w c cs (Choice candidates) = ByCandidate (reaches cs) w (slice_get candidates c)
+BeginsSo reaches w c cs (Leaf o) = ⊥
+
+-- some run from a state with so much fuel begins with these choices
+unfoldable pub Reaches : ℕ → List ℕ → World → Type 0
+Reaches n [] w = Unit {0}
+Reaches zero (c ∷ cs) w = ⊥
+Reaches (suc n) (c ∷ cs) w = BeginsSo (Reaches n) w c cs (decision w)
+
+-- ---- a report by its parts
+
+-- what a report has of the runs that begin with these choices
+abbrev pub part : ℕ → ℕ → List ℕ → World → List leaf.Leaf
+part runs fuel cs w = take runs (map shown (walk_at fuel cs w))
+
+-- a leaf of what is behind some choices, told from where these begin
+abbrev pub behind : List ℕ → leaf.Leaf → leaf.Leaf
+behind choices l = record { choices = choices ++ l.choices; ending = l.ending }
+
+-- the parts of all pieces, joined in order
+abbrev pub split_report : ℕ → ℕ → ℕ → World → List leaf.Leaf
+split_report k runs fuel w = flat_map (λ cs. part runs fuel cs w) (pieces k fuel w)
+
+-- whether some piece has more
+abbrev pub split_more : ℕ → ℕ → ℕ → World → Bool
+split_more k runs fuel w = list_any (λ cs. nat_lt runs (length (walk_at fuel cs w))) (pieces k fuel w)

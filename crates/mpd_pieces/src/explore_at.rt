@@ -1,0 +1,102 @@
+//! Exploring the runs that begin with some choices.
+
+ghost use Rattle.std.specs.Prelude.{◌≡◌, ◌+◌, ◌<◌, ◌≤◌, ◌⊎◌, nat_lt, map, take, IfOk, OnOk, OnErr, length};
+ghost use Rattle.std.specs.List.{AllByRecursion};
+ghost use Rattle.mpd_model.specs.Trail.{kept, IsReached};
+ghost use Rattle.mpd_trail.specs.Views.{standing_of};
+ghost use Rattle.mpd_explore.specs.Witness.{HasWitness};
+ghost use Rattle.mpd_pieces.specs.Pieces.{Reaches, walk_at, part, behind};
+ghost use Rattle.mpd_pieces.specs.Along.{Beyond};
+
+use crate::follow::{follow, put_back};
+use mpd_explore::explore::explore;
+use mpd_explore::report::{ChoiceList, Leaf, Limits, Report};
+use mpd_explore::watch::Watch;
+use mpd_model::limits::STEPS_MAX;
+use mpd_trail::debugger::Debugger;
+use std::alloc::{AllocError, Global};
+
+/// Puts choices in front of those of a leaf.
+fn put_choices(alloc: Global, leaf: &mut Leaf, choices: &[usize]) -> Result<(), AllocError>
+    ensures { OnOk result (leaf.new ≡ behind choices.now leaf.old) }
+{
+    let mut items = Vec::from_slice(alloc, choices)?;
+    items.extend_from_slice(&leaf.choices.items)?;
+    leaf.choices = ChoiceList { items };
+    Ok(())
+}
+
+/// Puts choices in front of those of each leaf. An `Err` is want of memory, and comes only where there is a leaf.
+fn put_in_front(alloc: Global, leaves: &mut Vec<Leaf>, choices: &[usize]) -> Result<(), AllocError>
+    ensures leaves { OnOk result (leaves.new.items ≡ map (behind choices.now) leaves.old.items) }
+    ensures memory { OnErr result (0 < length leaves.old.items) }
+{
+    for place in 0..leaves.len() {
+        put_choices(alloc, &mut leaves[place], choices)?;
+    }
+    Ok(())
+}
+
+/// The first leaves of the runs that begin with some choices. The debugger is left anywhere behind where it stood.
+fn explore_behind<W: Watch>(
+    alloc: Global,
+    debugger: &mut Debugger<'_>,
+    choices: &[usize],
+    limits: Limits,
+    watch: &mut W,
+) -> Result<Report, AllocError>
+    requires fits { debugger.old.trail.depth + limits.fuel ≤ STEPS_MAX }
+    requires reaches { Reaches limits.fuel choices.now debugger.old.world }
+    ensures leaves { IfOk result (λ r. r.leaves.items ≡ part limits.runs limits.fuel choices.now debugger.old.world) }
+    ensures more { IfOk result (λ r. r.more ≡ nat_lt limits.runs (length (walk_at limits.fuel choices.now debugger.old.world))) }
+    ensures witnesses { IfOk result (λ r. AllByRecursion (HasWitness debugger.old.trail.program debugger.old.trail.mode (kept debugger.old.trail) limits.fuel debugger.old.world) r.leaves.items) }
+    ensures beyond { Beyond (standing_of debugger.old) (standing_of debugger.new) }
+    ensures memory { OnErr result ((0 < limits.runs) ⊎ (0 < length choices.now)) }
+{
+    let base = debugger.depth();
+    let limit = base + limits.fuel;
+    follow(alloc, debugger, limit, choices)?;
+    debugger.forget_undone();
+    let rest = Limits {
+        runs: limits.runs,
+        fuel: limit - debugger.depth(),
+    };
+    let mut report = explore(alloc, debugger, rest, watch)?;
+    match put_in_front(alloc, &mut report.leaves, choices) {
+        Ok(()) => Ok(report),
+        Err(fault) => {
+            drop(report);
+            Err(fault)
+        }
+    }
+}
+
+/// The first leaves of the runs from here that begin with some choices, and whether there are more of these (docs/DEFINITIONS.md,
+/// "Pieces"). Fuel counts from here, and so do the choices of each leaf, which has a run, and a deadlock a witness, as those of `explore`
+/// do. Some run has these choices, as those of each piece of `split` by that fuel; no undone step is kept, and the depth and the fuel
+/// are at most 1,000,000 steps together. The debugger is left as found, also where memory is refused, which is what an `Err` says; that
+/// comes only where a leaf is asked for, or there is a choice. `watch` is told of each leaf as `explore` tells it, counted from 1.
+pub fn explore_at<W: Watch>(
+    alloc: Global,
+    debugger: &mut Debugger<'_>,
+    choices: &[usize],
+    limits: Limits,
+    watch: &mut W,
+) -> Result<Report, AllocError>
+    requires clean { length debugger.old.trail.steps ≡ debugger.old.trail.depth }
+    requires fits { debugger.old.trail.depth + limits.fuel ≤ STEPS_MAX }
+    requires reaches { Reaches limits.fuel choices.now debugger.old.world }
+    ensures leaves { IfOk result (λ r. r.leaves.items ≡ part limits.runs limits.fuel choices.now debugger.old.world) }
+    ensures more { IfOk result (λ r. r.more ≡ nat_lt limits.runs (length (walk_at limits.fuel choices.now debugger.old.world))) }
+    ensures witnesses { IfOk result (λ r. AllByRecursion (HasWitness debugger.old.trail.program debugger.old.trail.mode (kept debugger.old.trail) limits.fuel debugger.old.world) r.leaves.items) }
+    ensures trail { debugger.new.trail ≡ debugger.old.trail }
+    ensures world { debugger.new.world ≡ debugger.old.world }
+    ensures reached { IsReached (standing_of debugger.new) }
+    ensures memory { OnErr result ((0 < limits.runs) ⊎ (0 < length choices.now)) }
+{
+    let _ = debugger.core();
+    let base = debugger.depth();
+    let found = explore_behind(alloc, debugger, choices, limits, watch);
+    put_back(debugger, base);
+    found
+}

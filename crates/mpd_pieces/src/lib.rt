@@ -1,0 +1,8 @@
+//! The runs of a script in pieces, cut by their first choices: for workers that explore parts of them.
+#![tactic(auto)]
+
+pub mod by_pieces;
+pub mod explore_at;
+mod follow;
+pub mod laws;
+pub mod split;

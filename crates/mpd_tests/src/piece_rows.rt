@@ -1,0 +1,188 @@
+//! Rows of pieces, worked out by hand from docs/DEFINITIONS.md, "Pieces", by direct calls: no word of the program makes one.
+
+use crate::helpers::{Row, each, lowered, same};
+use mpd_code::code::Code;
+use mpd_explore::explore::explore;
+use mpd_explore::print::push_leaf_text;
+use mpd_explore::report::{Leaf, Limits, Report};
+use mpd_explore::watch::Unwatched;
+use mpd_model::call::Mode;
+use mpd_pieces::by_pieces::explore_by_pieces;
+use mpd_pieces::split::{Piece, SplitFault, split};
+use mpd_trail::debugger::Debugger;
+use std::alloc::Global;
+use std::process::Abort;
+
+/// Three receives, each of which takes what any of 15 ranks sends.
+const CROWD: &[u8] =
+    b"mpd 1; ranks 16; var x; var i;\nwhile i < 3 { if rank == 0 { recv x from any tag any; } else { send i to 0 tag 0; } i = i + 1; }";
+
+/// Two sends, of which a receive of any source takes either; the second receive wants that of the third rank.
+const RACE: &[u8] =
+    b"mpd 1; ranks 3; var x; var y;\nif rank == 0 { recv x from any tag any; recv y from 2 tag any; } else { send rank to 0 tag 0; }";
+
+/// As many steps as any run here has, and more.
+const FUEL: usize = 1_000;
+
+/// A script that is split, and what comes of it: how many pieces, and the number and choices of the last.
+struct Splits {
+    choices: usize,
+    fuel: usize,
+    found: Result<(usize, usize, &'static [usize]), SplitFault>,
+}
+
+const SPLITS: &[Splits] = &[
+    Splits {
+        choices: 0,
+        fuel: FUEL,
+        found: Ok((1, 0, &[])),
+    },
+    Splits {
+        choices: 1,
+        fuel: FUEL,
+        found: Ok((15, 14, &[14])),
+    },
+    Splits {
+        choices: 2,
+        fuel: FUEL,
+        found: Ok((225, 224, &[14, 14])),
+    },
+    Splits {
+        choices: 2,
+        fuel: 10,
+        found: Ok((1, 0, &[])),
+    },
+    Splits {
+        choices: 3,
+        fuel: FUEL,
+        found: Err(SplitFault::TooManyPieces),
+    },
+];
+
+/// Asserts how many pieces there are, and what the last is.
+fn are(rt: &impl Abort, pieces: &[Piece], wanted: (usize, usize, &'static [usize])) {
+    let (count, number, choices) = wanted;
+    same(rt, pieces.len(), count);
+    let Some(last) = pieces.last() else {
+        panic!(rt; "no piece");
+    };
+    same(rt, last.number, number);
+    same(rt, last.choices.items.as_slice(), choices);
+}
+
+/// Asserts what comes of a split.
+fn splits_so(rt: &impl Abort, alloc: Global, code: &Code, row: &Splits) {
+    let mut debugger = Debugger::start(alloc, code, Mode::Rendezvous).expect(rt, "a debugger");
+    let fuel = row.fuel;
+    assert!(rt; fuel <= FUEL);
+    match (split(alloc, &mut debugger, row.choices, fuel), row.found) {
+        (Ok(pieces), Ok(wanted)) => are(rt, &pieces, wanted),
+        (Err(fault), Err(wanted)) => same(rt, fault, wanted),
+        _ => panic!(rt; "another answer"),
+    }
+}
+
+impl Row for Splits {
+    fn holds(&self, rt: &impl Abort, alloc: Global) {
+        let code = lowered(rt, alloc, CROWD);
+        splits_so(rt, alloc, &code, self);
+    }
+}
+
+#[test]
+fn cuts_runs_into_pieces(rt: HostRuntime) {
+    each(&rt, rt.alloc(), SPLITS);
+}
+
+/// Both runs of the race.
+const BOTH: &[&str] = &["[0] done", "[1] deadlock 0.1 1.0"];
+
+/// A report of the race, made piece by piece or, where no number of choices is there, in one: with so many leaves of each piece at
+/// most, its leaves, and whether there are more.
+struct Reports {
+    choices: Option<usize>,
+    runs: usize,
+    leaves: &'static [&'static str],
+    more: bool,
+}
+
+const REPORTS: &[Reports] = &[
+    Reports {
+        choices: None,
+        runs: 9,
+        leaves: BOTH,
+        more: false,
+    },
+    Reports {
+        choices: Some(1),
+        runs: 9,
+        leaves: BOTH,
+        more: false,
+    },
+    Reports {
+        choices: Some(1),
+        runs: 1,
+        leaves: BOTH,
+        more: false,
+    },
+    Reports {
+        choices: Some(0),
+        runs: 1,
+        leaves: &["[0] done"],
+        more: true,
+    },
+    Reports {
+        choices: Some(1),
+        runs: 0,
+        leaves: &[],
+        more: true,
+    },
+];
+
+/// Asserts the text of a leaf.
+fn reads(rt: &impl Abort, alloc: Global, leaf: &Leaf, wanted: &str) {
+    let mut text = String::new(alloc);
+    push_leaf_text(alloc, &mut text, leaf).expect(rt, "memory for a text");
+    same(rt, text.as_str(), wanted);
+}
+
+/// Asserts what a report says.
+fn says(rt: &impl Abort, alloc: Global, report: &Report, row: &Reports) {
+    same(rt, report.more, row.more);
+    same(rt, report.leaves.len(), row.leaves.len());
+    for (leaf, wanted) in report.leaves.iter().zip(row.leaves) {
+        reads(rt, alloc, leaf, wanted);
+    }
+}
+
+/// Asserts what comes of an exploration.
+fn reports_so(rt: &impl Abort, alloc: Global, code: &Code, row: &Reports) {
+    let mut debugger = Debugger::start(alloc, code, Mode::Rendezvous).expect(rt, "a debugger");
+    let limits = Limits {
+        runs: row.runs,
+        fuel: FUEL,
+    };
+    let report = match row.choices {
+        None => explore(alloc, &mut debugger, limits, &mut Unwatched).expect(rt, "a report"),
+        Some(choices) => explore_by_pieces(
+            alloc,
+            &mut debugger,
+            choices,
+            limits,
+            &mut Unwatched,
+        ).expect(rt, "the parts of a report"),
+    };
+    says(rt, alloc, &report, row);
+}
+
+impl Row for Reports {
+    fn holds(&self, rt: &impl Abort, alloc: Global) {
+        let code = lowered(rt, alloc, RACE);
+        reports_so(rt, alloc, &code, self);
+    }
+}
+
+#[test]
+fn joins_the_parts_of_a_report(rt: HostRuntime) {
+    each(&rt, rt.alloc(), REPORTS);
+}
