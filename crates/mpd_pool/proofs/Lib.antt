@@ -1,0 +1,5 @@
+mod Keeps
+mod Places
+mod Workers
+mod Joined
+mod Crossing

@@ -1,0 +1,147 @@
+//! What a worker does: it draws numbers of pieces, and explores these.
+ghost use Rattle.std.specs.Prelude.{◌≡◌, ◌<◌, true, false, length, IfOk, OnErr, OnOk};
+ghost use Rattle.crossbeam_deque.specs.Handles.{view, IsPassOf, stealer_deque};
+ghost use Rattle.mpd_trail.specs.Views.{standing_of};
+ghost use Rattle.mpd_pieces.specs.Pieces.{Reaches};
+ghost use Rattle.mpd_pool.specs.Numbers.{hand};
+ghost use Rattle.mpd_pool.specs.Parts.{IsPart, AtNumber, CanExplore, CanBegin};
+ghost use Rattle.mpd_pool.specs.Brought.{AllRight, CanStart};
+
+use crate::deque::{Taken, Thief, WorkerPass};
+use crate::gate::Gate;
+use crossbeam_deque::Steal;
+use mpd_explore::report::{Limits, Report};
+use mpd_explore::watch::Unwatched;
+use mpd_pieces::explore_at::explore_at;
+use mpd_pieces::split::Piece;
+use mpd_trail::debugger::Debugger;
+use std::alloc::{AllocError, Global};
+use std::sync::Wait;
+use std::thread;
+
+/// The report of a piece, and its number.
+#[derive(Drop)]
+pub(crate) struct Brought {
+    pub(crate) piece: usize,
+    pub(crate) report: Report,
+}
+
+/// What a worker is given: a debugger of its own, and what it draws numbers by.
+#[derive(Drop)]
+pub(crate) struct Job<'c> {
+    pub(crate) debugger: Debugger<'c>,
+    pub(crate) pass: WorkerPass,
+}
+
+/// What a worker brings.
+#[derive(Drop)]
+pub(crate) struct Batch {
+    pub(crate) pass: WorkerPass,
+    pub(crate) brought: Vec<Brought>,
+}
+
+/// Explores a piece. The debugger is left as found.
+fn explore_piece(
+    alloc: Global,
+    debugger: &mut Debugger<'_>,
+    piece: &Piece,
+    limits: Limits,
+) -> Result<Report, AllocError>
+    requires can { CanBegin (standing_of debugger.old) limits }
+    requires reaches { Reaches limits.fuel piece.now.choices debugger.old.world }
+    ensures part { IfOk result (λ r. IsPart (standing_of debugger.old) limits piece.now.choices r) }
+    ensures same { standing_of debugger.new ≡ standing_of debugger.old }
+{
+    explore_at(
+        alloc,
+        debugger,
+        &piece.choices.items,
+        limits,
+        &mut Unwatched,
+    )
+}
+
+/// Tells that a piece of some number is begun, and explores it. The debugger is left as found.
+pub(crate) fn compute<G: Gate>(
+    alloc: Global,
+    debugger: &mut Debugger<'_>,
+    pieces: &[Piece],
+    limits: Limits,
+    gate: &G,
+    number: usize,
+) -> Result<Report, AllocError>
+    requires within { number < length pieces.now }
+    requires can { CanExplore (standing_of debugger.old) limits pieces.now }
+    ensures part { IfOk result (λ r. AtNumber (standing_of debugger.old) limits pieces.now number r) }
+    ensures same { standing_of debugger.new ≡ standing_of debugger.old }
+{
+    gate.begin(number);
+    explore_piece(alloc, debugger, &pieces[number], limits)
+}
+
+/// Adds the report of a piece to those that are brought.
+fn bring<G: Gate>(
+    alloc: Global,
+    debugger: &mut Debugger<'_>,
+    pieces: &[Piece],
+    limits: Limits,
+    gate: &G,
+    number: usize,
+    brought: &mut Vec<Brought>,
+) -> Result<(), AllocError>
+    requires within { number < length pieces.now }
+    requires can { CanExplore (standing_of debugger.old) limits pieces.now }
+    requires right { AllRight (standing_of debugger.old) limits pieces.now brought.old.items }
+    ensures right { AllRight (standing_of debugger.old) limits pieces.now brought.new.items }
+    ensures same { standing_of debugger.new ≡ standing_of debugger.old }
+{
+    brought.reserve(1)?;
+    let report = compute(alloc, debugger, pieces, limits, gate, number)?;
+    brought.push_reserved(Brought {
+        piece: number,
+        report,
+    });
+    Ok(())
+}
+
+/// Draws numbers until none is left or memory is refused, and explores the piece of each.
+pub(crate) fn work<G: Gate, R: Wait>(
+    rt: &R,
+    alloc: Global,
+    thief: &Thief,
+    pieces: &[Piece],
+    limits: Limits,
+    gate: &G,
+    job: Job<'_>,
+) -> Batch
+    requires can { CanStart (stealer_deque thief.now) limits pieces.now job }
+    ensures pass { IsPassOf (stealer_deque thief.now) result.pass × (view result.pass ≡ hand false true (length pieces.now)) }
+    ensures right { AllRight (standing_of job.entry.debugger) limits pieces.now result.brought.items }
+{
+    let Job {
+        mut debugger,
+        mut pass,
+    } = job;
+    let mut brought = Vec::new(alloc);
+    for _ in rt.forever() {
+        match thief.steal_as::<Taken>(&mut pass) {
+            Steal::Success(number) => {
+                let added = bring(
+                    alloc,
+                    &mut debugger,
+                    pieces,
+                    limits,
+                    gate,
+                    number,
+                    &mut brought,
+                );
+                if added.is_err() {
+                    break;
+                }
+            }
+            Steal::Empty => break,
+            Steal::Retry => thread::yield_now(),
+        }
+    }
+    Batch { pass, brought }
+}
