@@ -74,7 +74,6 @@ entry_send = search (sendable, crosses) depth 100 fits 20000
 pub book_send : (κ : NamedLft) → IsSend (Book.the_row κ)
 book_send κ = search (entry_send, session_send, sendable, crosses) depth 100 fits 20000
 
-
 module _ (κ : NamedLft) (L : RattleType) (o : opening.Ghosts L.Denot) (l : ledger.Ghosts L.Denot) where
   pub locked_send : IsSend (Locked.the_row κ L o l)
   locked_send = search (book_send, calls.the_send, sendable, crosses) depth 100 fits 50000

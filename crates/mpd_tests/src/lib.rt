@@ -17,6 +17,8 @@ mod piece_rows;
 #[cfg(test)]
 mod policy_rows;
 #[cfg(test)]
+mod pool_rows;
+#[cfg(test)]
 mod shared_rows;
 #[cfg(test)]
 mod text_rows;

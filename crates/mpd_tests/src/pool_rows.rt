@@ -1,0 +1,169 @@
+//! One script explored by one, two and sixteen workers, cut by no choice and by one: the report is that of one exploration.
+
+ghost use Rattle.std.specs.Prelude.{◌≤◌};
+ghost use Rattle.mpd_model.specs.declared.limits.TheConstants.{STEPS_MAX};
+
+use crate::helpers::{lowered, same};
+use mpd_code::code::Code;
+use mpd_explore::print::print_report;
+use mpd_explore::report::Limits;
+use mpd_model::call::Mode;
+use mpd_pool::check::{CheckPlan, check};
+use mpd_pool::gate::{Gate, Ungated};
+use mpd_trail::debugger::Debugger;
+use std::alloc::Global;
+use std::marker::Sync;
+use std::sync::Wait;
+use std::sync::atomic::{AtomicU64, Ordering};
+use std::thread;
+use std::thread::Threads;
+use std::time::Duration;
+
+/// Two sends, of which a receive of any source takes either; the second receive wants that of the third rank.
+const RACE: &[u8] =
+    b"mpd 1; ranks 3; var x; var y; if rank == 0 { recv x from any tag any; recv y from 2 tag any; } else { send rank to 0 tag 0; }";
+
+const REPORT: &str = "leaf 0 [0] done\nleaf 1 [1] deadlock 0.1 1.0\nleaves 2 more no\n";
+
+/// So many workers, and what they find: nothing where their number is refused.
+#[derive(Clone, Copy)]
+struct Crew {
+    split: usize,
+    workers: usize,
+    found: Option<&'static str>,
+}
+
+const CREWS: &[Crew] = &[
+    Crew {
+        split: 0,
+        workers: 1,
+        found: Some(REPORT),
+    },
+    Crew {
+        split: 0,
+        workers: 2,
+        found: Some(REPORT),
+    },
+    Crew {
+        split: 0,
+        workers: 16,
+        found: Some(REPORT),
+    },
+    Crew {
+        split: 1,
+        workers: 1,
+        found: Some(REPORT),
+    },
+    Crew {
+        split: 1,
+        workers: 2,
+        found: Some(REPORT),
+    },
+    Crew {
+        split: 1,
+        workers: 16,
+        found: Some(REPORT),
+    },
+    Crew {
+        split: 1,
+        workers: 0,
+        found: None,
+    },
+    Crew {
+        split: 1,
+        workers: 17,
+        found: None,
+    },
+];
+
+/// The printed report of so many workers, if there is one.
+fn report_of<G: Gate, R: Threads + Wait + Sync>(
+    rt: &R,
+    alloc: Global,
+    code: &Code,
+    plan: CheckPlan,
+    workers: usize,
+    gate: &G,
+) -> Option<String>
+    requires { plan.limits.fuel ≤ STEPS_MAX }
+{
+    let mut debugger = Debugger::start(alloc, code, Mode::Rendezvous).ok()?;
+    let report = check(rt, alloc, &mut debugger, plan, workers, gate).ok()?;
+    print_report(alloc, &mut debugger, plan.limits.fuel, &report, false).ok()
+}
+
+/// Whether workers find a text, or nothing.
+fn finds<G: Gate, R: Threads + Wait + Sync>(
+    rt: &R,
+    alloc: Global,
+    code: &Code,
+    crew: &Crew,
+    gate: &G,
+) -> bool {
+    let plan = CheckPlan {
+        split: crew.split,
+        limits: Limits {
+            runs: 10,
+            fuel: 100,
+        },
+    };
+    match (
+        report_of(rt, alloc, code, plan, crew.workers, gate),
+        crew.found,
+    ) {
+        (Some(text), Some(wanted)) => text.as_str() == wanted,
+        (None, None) => true,
+        _ => false,
+    }
+}
+
+#[test]
+fn the_report_is_the_same_for_every_number_of_workers(rt: HostRuntime) {
+    let alloc = rt.alloc();
+    let code = lowered(&rt, alloc, RACE);
+    for crew in CREWS {
+        same(&rt, finds(&rt, alloc, &code, crew, &Ungated), true);
+    }
+}
+
+/// Two pieces of which each waits until the other is begun.
+#[derive(Drop)]
+struct Meeting<'r> {
+    rt: &'r HostRuntime,
+    begun: [AtomicU64; 2],
+    met: AtomicU64,
+}
+
+impl<'r> Gate for Meeting<'r> {
+    fn begin(&self, piece: usize) {
+        if piece > 1 {
+            return;
+        }
+        self.begun[piece].store(1, Ordering::SeqCst);
+        for _turn in 0..5000u64 {
+            if self.begun[1 - piece].load(Ordering::SeqCst) == 1 {
+                self.met.fetch_add(1, Ordering::SeqCst);
+                return;
+            }
+            thread::sleep(self.rt, Duration::from_millis(1));
+        }
+    }
+}
+
+#[test]
+fn two_workers_explore_at_once(rt: HostRuntime) {
+    let alloc = rt.alloc();
+    let code = lowered(&rt, alloc, RACE);
+    let gate = Meeting {
+        rt: &rt,
+        begun: [AtomicU64::new(0), AtomicU64::new(0)],
+        met: AtomicU64::new(0),
+    };
+    let crew = Crew {
+        split: 1,
+        workers: 2,
+        found: Some(REPORT),
+    };
+    same(&rt, finds(&rt, alloc, &code, &crew, &gate), true);
+    same(&rt, gate.met.load(Ordering::SeqCst), 2);
+}
