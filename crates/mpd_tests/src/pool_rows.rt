@@ -126,27 +126,51 @@ fn the_report_is_the_same_for_every_number_of_workers(rt: HostRuntime) {
     }
 }
 
-/// Two pieces of which each waits until the other is begun.
+/// Which of two pieces are begun, and how often one has seen the other begun.
+#[derive(Drop)]
+struct Begun {
+    first: AtomicU64,
+    second: AtomicU64,
+    met: AtomicU64,
+}
+
+/// Waits until the other piece is begun, and notes it: 5,000 turns of a millisecond at most.
+fn wait_for(rt: &HostRuntime, other: &AtomicU64, met: &AtomicU64) {
+    for _turn in 0..5000u64 {
+        if other.load(Ordering::SeqCst) == 1 {
+            met.fetch_add(1, Ordering::SeqCst);
+            return;
+        }
+        thread::sleep(rt, Duration::from_millis(1));
+    }
+}
+
+impl Begun {
+    fn begin(&self, rt: &HostRuntime, piece: usize) {
+        match piece {
+            0 => {
+                self.first.store(1, Ordering::SeqCst);
+                wait_for(rt, &self.second, &self.met);
+            }
+            1 => {
+                self.second.store(1, Ordering::SeqCst);
+                wait_for(rt, &self.first, &self.met);
+            }
+            _ => {}
+        }
+    }
+}
+
+/// Each of two pieces waits until the other is begun.
 #[derive(Drop)]
 struct Meeting<'r> {
     rt: &'r HostRuntime,
-    begun: [AtomicU64; 2],
-    met: AtomicU64,
+    begun: &'r Begun,
 }
 
 impl<'r> Gate for Meeting<'r> {
     fn begin(&self, piece: usize) {
-        if piece > 1 {
-            return;
-        }
-        self.begun[piece].store(1, Ordering::SeqCst);
-        for _turn in 0..5000u64 {
-            if self.begun[1 - piece].load(Ordering::SeqCst) == 1 {
-                self.met.fetch_add(1, Ordering::SeqCst);
-                return;
-            }
-            thread::sleep(self.rt, Duration::from_millis(1));
-        }
+        self.begun.begin(self.rt, piece);
     }
 }
 
@@ -154,10 +178,14 @@ impl<'r> Gate for Meeting<'r> {
 fn two_workers_explore_at_once(rt: HostRuntime) {
     let alloc = rt.alloc();
     let code = lowered(&rt, alloc, RACE);
+    let begun = Begun {
+        first: AtomicU64::new(0),
+        second: AtomicU64::new(0),
+        met: AtomicU64::new(0),
+    };
     let gate = Meeting {
         rt: &rt,
-        begun: [AtomicU64::new(0), AtomicU64::new(0)],
-        met: AtomicU64::new(0),
+        begun: &begun,
     };
     let crew = Crew {
         split: 1,
@@ -165,5 +193,5 @@ fn two_workers_explore_at_once(rt: HostRuntime) {
         found: Some(REPORT),
     };
     same(&rt, finds(&rt, alloc, &code, &crew, &gate), true);
-    same(&rt, gate.met.load(Ordering::SeqCst), 2);
+    same(&rt, begun.met.load(Ordering::SeqCst), 2);
 }
