@@ -3,6 +3,7 @@ client, which are those of `run`.
 """
 
 import os
+import select
 import socket
 import subprocess
 import sys
@@ -177,6 +178,14 @@ def outputs(tried):
     return 1
 
 
+def told_of(terminal, text, until):
+    """What a terminal is told up to a text, or until then: two threads may tell at the same time, so who leaves next waits for it."""
+    said = b''
+    while text not in said and select.select([terminal], [], [], max(0, until - time.monotonic()))[0]:
+        said += os.read(terminal, 1 << 16)
+    return said
+
+
 def at_terminal(tried):
     """At a terminal each client that comes or leaves is told, on standard error; standard output is as ever."""
     ours, theirs = os.openpty()
@@ -186,9 +195,10 @@ def at_terminal(tried):
         one.must(step('local 0'), deep(1, 1))
         other.must(step('local 0'), deep(2, 2))
         other.must(step('wake 0'), no('not-enabled'))
+        one.leave()
+        said = told_of(ours, b'request\n', server.until)
         server.must_end(3)
     os.close(theirs)
-    said = b''
     try:
         while piece := os.read(ours, 1 << 16):
             said += piece
@@ -196,7 +206,7 @@ def at_terminal(tried):
         pass
     os.close(ours)
     came, left = said.decode().splitlines()[:2], said.decode().splitlines()[2:]
-    if came != [f'client {number} of 2 is here' for number in (0, 1)] or sorted(left) != ['client 0 left after 1 request', 'client 1 left after 2 requests']:
+    if came != [f'client {number} of 2 is here' for number in (0, 1)] or left != ['client 0 left after 1 request', 'client 1 left after 2 requests']:
         raise Wrong(f'a terminal is told {said!r}')
     return 3
 

@@ -89,7 +89,7 @@ class Seat:
     def leave(self):
         """A terminal is told how many requests were taken."""
         if sys.stderr.isatty():
-            print(f'client {self.number} left after {self.taken} request{"" if self.taken == 1 else "s"}', file=sys.stderr, flush=True)
+            os.write(2, f'client {self.number} left after {self.taken} request{"" if self.taken == 1 else "s"}\n'.encode())
 
     def failed(self):
         """A device of this client has failed."""
@@ -131,7 +131,7 @@ class Server:
         """The seat of the next client, of this number from 0, which a terminal is told."""
         connection, _ = self.listener.accept()
         if sys.stderr.isatty():
-            print(f'client {number} of {self.clients} is here', file=sys.stderr, flush=True)
+            os.write(2, f'client {number} of {self.clients} is here\n'.encode())
         return Seat(self.desk, connection, number)
 
     def begun(self, seat):
