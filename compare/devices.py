@@ -85,6 +85,18 @@ def file_of_any_size(data):
     return reading
 
 
+def rest_told(terminal):
+    """What a terminal is told up to its end; it is closed then."""
+    said = b''
+    try:
+        while piece := os.read(terminal, 1 << 16):
+            said += piece
+    except OSError:
+        pass
+    os.close(terminal)
+    return said
+
+
 def at_terminal(program, *words, data=b'', reading=None, output='memory', **variables):
     """A run whose standard error is a terminal, which passes each byte as it is."""
     ours, theirs = os.openpty()
@@ -92,11 +104,4 @@ def at_terminal(program, *words, data=b'', reading=None, output='memory', **vari
     reading = file_of(data) if reading is None else reading
     result = Files(reading, output, errors=os.dup(theirs)).run(program, *words, **variables)
     os.close(theirs)
-    said = b''
-    try:
-        while piece := os.read(ours, 1 << 16):
-            said += piece
-    except OSError:
-        pass
-    os.close(ours)
-    return result._replace(errors=said)
+    return result._replace(errors=rest_told(ours))

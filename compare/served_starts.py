@@ -12,7 +12,7 @@ import time
 import tty
 
 from debugger import BAD_MODE, Result
-from devices import refused
+from devices import refused, rest_told
 from examples import EXAMPLES
 from runs import held
 from served_clients import HERE, Wrong, must_be
@@ -199,12 +199,7 @@ def at_terminal(tried):
         said = told_of(ours, b'request\n', server.until)
         server.must_end(3)
     os.close(theirs)
-    try:
-        while piece := os.read(ours, 1 << 16):
-            said += piece
-    except OSError:
-        pass
-    os.close(ours)
+    said += rest_told(ours)
     came, left = said.decode().splitlines()[:2], said.decode().splitlines()[2:]
     if came != [f'client {number} of 2 is here' for number in (0, 1)] or left != ['client 0 left after 1 request', 'client 1 left after 2 requests']:
         raise Wrong(f'a terminal is told {said!r}')
