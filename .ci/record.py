@@ -1,13 +1,15 @@
 """What is remembered of earlier runs of the gate (docs/GATE.md, "What is remembered").
 
-`.ci/refused.txt` has a line for each crate: its name, how many edits it has, and a digest of all that tells whether they are
-refused. `.ci/edits.py --record` writes it, where all edits of all crates were refused. An edit of a crate whose digest is the same
-is remembered; a twentieth of these are tried nevertheless, so that a wrong record is found.
+`.ci/refused.txt` has a line for each crate: its name, how many edits it has, how many processor seconds they took, and a digest of
+all that tells whether they are refused. `.ci/edits.py --record` writes it, where all edits of all crates were refused. An edit of a
+crate whose digest is the same is remembered; a twentieth of these are tried nevertheless, so that a wrong record is found. The
+seconds tell nothing of the edits, but which crate is begun first.
 """
 import hashlib
 import os
 import re
 import subprocess
+from typing import NamedTuple
 
 FILE = '.ci/refused.txt'
 
@@ -23,7 +25,17 @@ SHARE = 20
 # A name of what a proof file of a crate has.
 OF_PROOFS = re.compile(rb'\bRattle\.(\w+)\.proofs\b')
 
-HEAD = '# Written by .ci/edits.py --record, where all edits of all crates were refused, and never by hand: crate, edits, digest.\n'
+HEAD = '# Written by .ci/edits.py --record, where all edits of all crates were refused, and never by hand: crate, edits, seconds, digest.\n'
+
+# What an edit is reckoned to take where nothing is remembered of its crate.
+SECONDS = 8
+
+
+class Kept(NamedTuple):
+    """What is remembered of a crate: how many edits were refused, the digest then, and how many processor seconds they took."""
+    edits: int
+    digest: str
+    seconds: int
 
 
 def bytes_of(file):
@@ -78,12 +90,20 @@ def digest(repository, crate):
 
 
 def read(root):
-    """The record: for each crate how many edits were refused, and the digest then."""
+    """The record: what is remembered of each crate."""
     if not os.path.exists(f'{root}/{FILE}'):
         return {}
     lines = bytes_of(f'{root}/{FILE}').decode().splitlines()
-    found = [re.fullmatch(r'(\w+) (\d+) ([0-9a-f]{64})', it) for it in lines]
-    return {it[1]: (int(it[2]), it[3]) for it in found if it}
+    found = [re.fullmatch(r'(\w+) (\d+) (\d+) ([0-9a-f]{64})', it) for it in lines]
+    return {it[1]: Kept(int(it[2]), it[4], int(it[3])) for it in found if it}
+
+
+def longest_first(kept, crates):
+    """These crates, those whose edits are likely to take longest first: by what they took when they were remembered."""
+    def likely(crate):
+        known = kept.get(crate.name)
+        return len(crate.edits) * (known.seconds / known.edits if known and known.edits else SECONDS)
+    return sorted(crates, key=likely, reverse=True)
 
 
 def write(repository, crates, digests):
@@ -91,7 +111,7 @@ def write(repository, crates, digests):
     changed = [it.name for it in crates if digest(repository, it.name) != digests[it.name]]
     if changed:
         return f'{FILE} is not written: files that tell of {" ".join(changed)} were changed since the run began'
-    lines = [f'{it.name} {len(it.edits)} {digests[it.name]}\n' for it in sorted(crates, key=lambda it: it.name)]
+    lines = [f'{it.name} {len(it.edits)} {it.seconds:.0f} {digests[it.name]}\n' for it in sorted(crates, key=lambda it: it.name)]
     with open(f'{repository.root}/{FILE}', 'w', encoding='utf-8') as it:
         it.write(HEAD + ''.join(lines))
     return f'{FILE} is written: {len(lines)} crates, {sum(len(it.edits) for it in crates)} edits'
@@ -122,7 +142,7 @@ def take_due(repository, crates, digests):
     """Leaves each of these crates the edits that are due: all where the record doesn't answer for it, and else those that are drawn.
     Says which, and answers the names of those that are drawn."""
     kept = read(repository.root)
-    remembered = [it for it in crates if kept.get(it.name) == (len(it.edits), digests[it.name]) and not it.bad]
+    remembered = [it for it in crates if it.name in kept and kept[it.name][:2] == (len(it.edits), digests[it.name]) and not it.bad]
     drawn = draw([edit.name for it in remembered for edit in it.edits], seed_of(repository.root, digests))
     changed = [it for it in crates if it not in remembered]
     print(f'edits of crates that {FILE} does not answer for: {sum(len(it.edits) + len(it.bad) for it in changed)} ({" ".join(it.name for it in changed) or "no crate"})')

@@ -98,11 +98,6 @@ class Crate:
             except BadEdit as error:
                 self.bad.append(Verdict(edit, False, f'BAD EDIT: {error}'))
 
-    def size(self):
-        """What its checks are likely to take, to begin with the longest."""
-        files = [f'{at}/{it}' for part in PARTS for at, _, them in os.walk(f'{self.folder}/{part}') for it in them]
-        return len(self.edits) * 20 + sum(len(text_of(it).split('\n')) for it in files)
-
     def tried(self, proofs, log=None):
         """Tries all edits, each round over what those before it proved, and answers a verdict for each."""
         self.began, self.rounds, self.seconds, done = time.time(), 0, 0, list(self.bad)

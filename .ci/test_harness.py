@@ -549,7 +549,7 @@ class Remembered(WithFolder):
 
     def crates(self):
         # (each a file of the crate's edits, as .ci/rounds.py reads them)
-        return [types.SimpleNamespace(name=it, edits=[types.SimpleNamespace(name=f'{it}/{at}.edit') for at in range(count)], bad=[]) for it, count in (('high', 30), ('low', 25), ('side', 5))]
+        return [types.SimpleNamespace(name=it, edits=[types.SimpleNamespace(name=f'{it}/{at}.edit') for at in range(count)], bad=[], seconds=took) for it, count, took in (('high', 30, 29.6), ('low', 25, 200), ('side', 5, 100))]
 
     def due(self, crates):
         keep, sys.stdout = sys.stdout, open(os.devnull, 'w', encoding='utf-8')
@@ -587,7 +587,19 @@ class Remembered(WithFolder):
         self.assertEqual(record.read(self.folder), {})
         digests = self.digests()
         record.write(self.repository(), self.crates(), digests)
-        self.assertEqual(record.read(self.folder), {it: (count, digests[it]) for it, count in (('high', 30), ('low', 25), ('side', 5))})
+        self.assertEqual(record.read(self.folder), {it: (count, digests[it], took) for it, count, took in (('high', 30, 30), ('low', 25, 200), ('side', 5, 100))})
+
+    def test_which_crate_is_begun_first(self):
+        def order(crates):
+            return [it.name for it in record.longest_first(record.read(self.folder), crates)]
+
+        self.assertEqual(order(self.crates()), ['high', 'low', 'side'])
+        record.write(self.repository(), self.crates(), self.digests())
+        self.assertEqual(order(self.crates()), ['low', 'side', 'high'])
+        self.write('crates/low/src/lib.rt', 'changed')
+        crates = self.crates()
+        del crates[1].edits[10:]
+        self.assertEqual(order(crates), ['side', 'low', 'high'])
 
     def test_nothing_is_recorded_of_a_tree_that_has_changed(self):
         digests = self.digests()
