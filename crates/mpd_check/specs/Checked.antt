@@ -1,41 +1,130 @@
 -- What a check answers.
-use Rattle.std.specs.Prelude.{◌≡◌, ℕ, ◌+◌, nat_lt, Bool, List, [], length, take, map, Result, Ok, Err}
+use Rattle.std.specs.Prelude.{◌≡◌, ◌⊎◌, ◌<◌, ◌≤◌, ℕ, ◌+◌, ◌++◌, nat_lt, Bool, List, [], length, map, slice_get, Option, Some, Result, Ok, Err, codes, string_bytes}
+use Rattle.std.specs.Fmt.{decimal}
 use Rattle.std.specs.Io.KnownBytes.{Appends}
 use Rattle.mpd_model.specs.declared.call.Mode.{Mode}
 use Rattle.mpd_model.specs.Program.{Program}
 use Rattle.mpd_model.specs.World.{start}
+use Rattle.mpd_model.specs.Texts.{line}
 use Rattle.mpd_device.specs.Seen.{SinkSeen}
 use Rattle.mpd_explore.specs.declared.report.Leaf.{Leaf}
-use Rattle.mpd_explore.specs.declared.report.Limits.{Limits}
-use Rattle.mpd_explore.specs.Report.{shown}
 use Rattle.mpd_explore.specs.ReportText.{report_text}
-use Rattle.mpd_explore.specs.Walk.{walk}
+use Rattle.mpd_pieces.specs.declared.split.TheConstants.{PIECES_MAX}
+use Rattle.mpd_pieces.specs.Pieces.{pieces, part, walk_at, split_report, split_more}
+use Rattle.mpd_pool.specs.declared.check.TheConstants.{WORKERS_MAX}
 use Rattle.mpd_lines.specs.declared.engine.EngineFault.{EngineFault}
 use Rattle.mpd_lines.specs.declared.engine.EngineFault.TheVariants.{ReadFailed, WriteFailed, TooManyTurns, Memory}
 use Rattle.mpd_lines.specs.Telling.{AppendsPart}
-use Rattle.mpd_check.specs.declared.Plan.{Plan}
+use Rattle.mpd_check.specs.declared.plan.Plan.{Plan}
+use Rattle.mpd_check.specs.declared.plan.CheckFault.{CheckFault}
+use Rattle.mpd_check.specs.declared.plan.CheckFault.TheVariants.{BadWorkers, TooManyPieces, NoSuchPiece, Engine}
 use Rattle.mpd_check.specs.declared.counts.Tally.{Tally}
+use Rattle.mpd_check.specs.declared.Told.{Told}
 use Rattle.mpd_check.specs.Tally.{tally_of}
 
--- the leaves that are listed of a script's runs from its start
-abbrev pub leaves_of : Program → Mode → Limits → List Leaf
-leaves_of s mode limits = take limits.runs (map shown (walk limits.fuel (start s mode)))
+-- ---- what is told of a script's runs from its start
 
--- there are more runs than so many
-abbrev pub more_of : Program → Mode → Limits → Bool
-more_of s mode limits = nat_lt limits.runs (length (walk limits.fuel (start s mode)))
+-- the choices of each piece
+abbrev pub pieces_of : Program → Mode → Plan → List (List ℕ)
+pieces_of s mode plan = pieces plan.split plan.limits.fuel (start s mode)
 
--- what the report tells
-abbrev pub told_by : Program → Mode → Limits → Tally
-told_by s mode limits = tally_of (leaves_of s mode limits) (more_of s mode limits)
+-- the leaves that are listed, and whether there are more
+abbrev pub leaves_of : Program → Mode → Plan → List Leaf
+leaves_of s mode plan = split_report plan.split plan.limits.runs plan.limits.fuel (start s mode)
 
-abbrev pub check_text : Program → Mode → Plan → List ℕ
-check_text s mode plan = report_text plan.witnesses [] plan.limits.fuel (start s mode) (leaves_of s mode plan.limits) (more_of s mode plan.limits)
+abbrev pub more_of : Program → Mode → Plan → Bool
+more_of s mode plan = split_more plan.split plan.limits.runs plan.limits.fuel (start s mode)
 
--- The whole report was written; or a part of it until a write failed; or nothing, for want of memory.
-abbrev pub Answered : Program → Mode → Plan → SinkSeen → SinkSeen → Result Tally EngineFault → Type 0
-Answered s mode plan old new (Ok tally) = Appends old.contents new.contents (check_text s mode plan) × (new.failures ≡ old.failures) × (tally ≡ told_by s mode plan.limits)
-Answered s mode plan old new (Err WriteFailed) = AppendsPart old.contents new.contents (check_text s mode plan) × (new.failures ≡ old.failures + 1)
-Answered s mode plan old new (Err Memory) = new ≡ old
-Answered s mode plan old new (Err ReadFailed) = ⊥
-Answered s mode plan old new (Err TooManyTurns) = ⊥
+-- the same of the runs that begin with the choices of one piece
+abbrev pub leaves_at : Program → Mode → Plan → List ℕ → List Leaf
+leaves_at s mode plan choices = part plan.limits.runs plan.limits.fuel choices (start s mode)
+
+abbrev pub more_at : Program → Mode → Plan → List ℕ → Bool
+more_at s mode plan choices = nat_lt plan.limits.runs (length (walk_at plan.limits.fuel choices (start s mode)))
+
+-- a report of these leaves
+abbrev pub text_of : Program → Mode → Plan → List Leaf → Bool → List ℕ
+text_of s mode plan leaves more = report_text plan.witnesses [] plan.limits.fuel (start s mode) leaves more
+
+-- how many pieces there are: `pieces 225`
+abbrev pub count_text : ℕ → List ℕ
+count_text count = line (codes "pieces " ++ decimal count)
+
+-- ---- what is answered
+
+-- so many workers there may be
+abbrev pub IsCrew : ℕ → Type 0
+IsCrew workers = (0 < workers) × (workers ≤ WORKERS_MAX)
+
+abbrev pub AreFew : Program → Mode → Plan → Type 0
+AreFew s mode plan = length (pieces_of s mode plan) ≤ PIECES_MAX
+
+-- the whole text was written
+abbrev pub Wrote : List ℕ → SinkSeen → SinkSeen → Type 0
+Wrote text old new = Appends old.contents new.contents text × (new.failures ≡ old.failures)
+
+-- a part of it was, until a write failed
+abbrev pub WrotePart : List ℕ → SinkSeen → SinkSeen → Type 0
+WrotePart text old new = AppendsPart old.contents new.contents text × (new.failures ≡ old.failures + 1)
+
+-- what was told is written
+abbrev pub Put : List ℕ → Tally → SinkSeen → SinkSeen → Result Tally CheckFault → Type 0
+Put text told old new (Ok tally) = Wrote text old new × (tally ≡ told)
+Put text told old new (Err (Engine WriteFailed)) = WrotePart text old new
+Put text told old new (Err (Engine ReadFailed)) = ⊥
+Put text told old new (Err (Engine TooManyTurns)) = ⊥
+Put text told old new (Err (Engine Memory)) = ⊥
+Put text told old new (Err BadWorkers) = ⊥
+Put text told old new (Err TooManyPieces) = ⊥
+Put text told old new (Err (NoSuchPiece number count)) = ⊥
+
+-- The whole report was written, or a part of it until a write failed; or nothing: the number of workers is refused, else there are too
+-- many pieces, or memory was refused.
+abbrev pub Answered : Program → Mode → Plan → ℕ → SinkSeen → SinkSeen → Result Tally CheckFault → Type 0
+Answered s mode plan workers old new (Ok tally) =
+    Wrote (text_of s mode plan (leaves_of s mode plan) (more_of s mode plan)) old new × (tally ≡ tally_of (leaves_of s mode plan) (more_of s mode plan)) × IsCrew workers × AreFew s mode plan
+Answered s mode plan workers old new (Err (Engine WriteFailed)) = WrotePart (text_of s mode plan (leaves_of s mode plan) (more_of s mode plan)) old new × IsCrew workers × AreFew s mode plan
+Answered s mode plan workers old new (Err (Engine Memory)) = (new ≡ old) × IsCrew workers
+Answered s mode plan workers old new (Err (Engine ReadFailed)) = ⊥
+Answered s mode plan workers old new (Err (Engine TooManyTurns)) = ⊥
+Answered s mode plan workers old new (Err BadWorkers) = (new ≡ old) × (IsCrew workers → ⊥)
+Answered s mode plan workers old new (Err TooManyPieces) = (new ≡ old) × IsCrew workers × (PIECES_MAX < length (pieces_of s mode plan))
+Answered s mode plan workers old new (Err (NoSuchPiece number count)) = ⊥
+
+-- The part of the report that the piece of a number has is told; or there are too many pieces, or so few.
+abbrev pub PartTold : Program → Mode → Plan → ℕ → Result Told CheckFault → Type 0
+PartTold s mode plan number (Ok told) =
+    (choices : List ℕ) × (slice_get (pieces_of s mode plan) number ≡ Some choices) × AreFew s mode plan
+    × (string_bytes told.text ≡ text_of s mode plan (leaves_at s mode plan choices) (more_at s mode plan choices)) × (told.tally ≡ tally_of (leaves_at s mode plan choices) (more_at s mode plan choices))
+PartTold s mode plan number (Err (Engine WriteFailed)) = ⊥
+PartTold s mode plan number (Err (Engine Memory)) = Unit {0}
+PartTold s mode plan number (Err (Engine ReadFailed)) = ⊥
+PartTold s mode plan number (Err (Engine TooManyTurns)) = ⊥
+PartTold s mode plan number (Err BadWorkers) = ⊥
+PartTold s mode plan number (Err TooManyPieces) = PIECES_MAX < length (pieces_of s mode plan)
+PartTold s mode plan number (Err (NoSuchPiece asked count)) = (asked ≡ number) × (count ≡ length (pieces_of s mode plan)) × (count ≤ number) × AreFew s mode plan
+
+-- The part of the report that the piece of a number has was written; or nothing: there are too many pieces, or so few.
+abbrev pub PartAnswered : Program → Mode → Plan → ℕ → SinkSeen → SinkSeen → Result Tally CheckFault → Type 0
+PartAnswered s mode plan number old new (Ok tally) =
+    (choices : List ℕ) × (slice_get (pieces_of s mode plan) number ≡ Some choices) × AreFew s mode plan
+    × Wrote (text_of s mode plan (leaves_at s mode plan choices) (more_at s mode plan choices)) old new × (tally ≡ tally_of (leaves_at s mode plan choices) (more_at s mode plan choices))
+PartAnswered s mode plan number old new (Err (Engine WriteFailed)) =
+    (choices : List ℕ) × (slice_get (pieces_of s mode plan) number ≡ Some choices) × AreFew s mode plan × WrotePart (text_of s mode plan (leaves_at s mode plan choices) (more_at s mode plan choices)) old new
+PartAnswered s mode plan number old new (Err (Engine Memory)) = new ≡ old
+PartAnswered s mode plan number old new (Err (Engine ReadFailed)) = ⊥
+PartAnswered s mode plan number old new (Err (Engine TooManyTurns)) = ⊥
+PartAnswered s mode plan number old new (Err BadWorkers) = ⊥
+PartAnswered s mode plan number old new (Err TooManyPieces) = (new ≡ old) × (PIECES_MAX < length (pieces_of s mode plan))
+PartAnswered s mode plan number old new (Err (NoSuchPiece asked count)) = (new ≡ old) × (asked ≡ number) × (count ≡ length (pieces_of s mode plan)) × (count ≤ number) × AreFew s mode plan
+
+-- How many pieces there are was written; or nothing, where they are too many.
+abbrev pub Counted : Program → Mode → Plan → SinkSeen → SinkSeen → Result Unit CheckFault → Type 0
+Counted s mode plan old new (Ok done) = Wrote (count_text (length (pieces_of s mode plan))) old new × AreFew s mode plan
+Counted s mode plan old new (Err (Engine WriteFailed)) = WrotePart (count_text (length (pieces_of s mode plan))) old new × AreFew s mode plan
+Counted s mode plan old new (Err (Engine Memory)) = new ≡ old
+Counted s mode plan old new (Err (Engine ReadFailed)) = ⊥
+Counted s mode plan old new (Err (Engine TooManyTurns)) = ⊥
+Counted s mode plan old new (Err BadWorkers) = ⊥
+Counted s mode plan old new (Err TooManyPieces) = (new ≡ old) × (PIECES_MAX < length (pieces_of s mode plan))
+Counted s mode plan old new (Err (NoSuchPiece number count)) = ⊥

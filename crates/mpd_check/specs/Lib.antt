@@ -1,4 +1,5 @@
 pub mod Tally
+pub mod Refused
 pub mod Checked
 pub mod Pieces
 pub mod WitnessText

@@ -5,95 +5,143 @@
 pub mod counts;
 pub mod judge;
 pub mod laws;
+pub mod part;
 mod pieces;
+pub mod plan;
 pub mod witness_file;
 pub mod witness_text;
 
-ghost use Rattle.std.specs.Prelude.{◌≡◌, ◌≤◌, IfOk, string_bytes};
-ghost use Rattle.mpd_check.specs.Checked.{told_by, check_text, Answered};
+ghost use Rattle.std.specs.Prelude.{◌≡◌, ◌↔◌, ◌≤◌, ◌<◌, ◌⊎◌, true, IfOk, OnOk, IsErrOf, length, string_bytes};
+ghost use Rattle.mpd_check.specs.Checked.{pieces_of, leaves_of, more_of, text_of, AreFew, IsCrew, Answered, Put};
+ghost use Rattle.mpd_check.specs.Refused.{refused_by};
+ghost use Rattle.mpd_check.specs.Tally.{tally_of};
 
 use crate::counts::{Tally, tally_of};
+use crate::plan::{CheckFault, Plan};
 use mpd_code::code::Code;
 use mpd_device::device::Sink;
-use mpd_explore::explore::explore;
 use mpd_explore::print::print_report;
-use mpd_explore::report::Limits;
-use mpd_explore::watch::Watch;
 use mpd_lines::engine::EngineFault;
 use mpd_lines::outbox::write_all;
 use mpd_model::call::Mode;
 use mpd_model::limits::STEPS_MAX;
+use mpd_pieces::split::PIECES_MAX;
+use mpd_pool::check::{CheckPlan, PoolFault, WORKERS_MAX};
+use mpd_pool::gate::Gate;
 use mpd_trail::debugger::Debugger;
-use std::alloc::{AllocError, Global};
-
-/// What is asked of a check: how far it goes, and whether it tells the witness of each deadlock.
-#[derive(Clone, Copy)]
-pub struct Plan {
-    pub limits: Limits,
-    pub witnesses: bool,
-}
+use std::alloc::Global;
+use std::marker::Sync;
+use std::sync::Wait;
+use std::thread::Threads;
 
 /// A report as text, and what it tells.
 #[derive(Drop)]
-struct Told {
-    text: String,
-    tally: Tally,
+pub(crate) struct Told {
+    pub(crate) text: String,
+    pub(crate) tally: Tally,
 }
 
-/// Explores a script from its start, and makes the report's text. An `Err` is want of memory.
-fn tell<P: Watch>(
+/// Why a check is refused whose workers or pieces are.
+fn refused(fault: PoolFault) -> CheckFault
+    ensures { result ≡ refused_by fault }
+{
+    match fault {
+        PoolFault::BadWorkers => CheckFault::BadWorkers,
+        PoolFault::TooManyPieces => CheckFault::TooManyPieces,
+        PoolFault::Memory => CheckFault::Engine(EngineFault::Memory),
+    }
+}
+
+/// Whether so many workers there may be: 1 to 16.
+pub fn is_crew(workers: usize) -> bool
+    ensures { result ≡ true ↔ IsCrew workers }
+{
+    workers > 0 && workers <= WORKERS_MAX
+}
+
+/// Writes the text of a report, and answers what it tells.
+pub(crate) fn put<W: Sink>(told: Told, sink: &mut W) -> Result<Tally, CheckFault>
+    ensures { Put (string_bytes told.text) told.tally (W.seen sink.old) (W.seen sink.new) result }
+{
+    if write_all(sink, told.text.as_bytes()).is_err() {
+        return Err(CheckFault::Engine(EngineFault::WriteFailed));
+    }
+    Ok(told.tally)
+}
+
+/// Explores a script from its start by so many workers, and makes the report's text.
+fn tell<G: Gate, R: Threads + Wait + Sync>(
+    rt: &R,
     alloc: Global,
     code: &Code,
     mode: Mode,
     plan: Plan,
-    watch: &mut P,
-) -> Result<Told, AllocError>
+    workers: usize,
+    gate: &G,
+) -> Result<Told, PoolFault>
     requires { plan.limits.fuel ≤ STEPS_MAX }
-    ensures text { IfOk result (λ told. string_bytes told.text ≡ check_text code.now.program mode plan) }
-    ensures tally { IfOk result (λ told. told.tally ≡ told_by code.now.program mode plan.limits) }
+    ensures text { IfOk result (λ told. string_bytes told.text ≡ text_of code.now.program mode plan (leaves_of code.now.program mode plan) (more_of code.now.program mode plan)) }
+    ensures tally { IfOk result (λ told. told.tally ≡ tally_of (leaves_of code.now.program mode plan) (more_of code.now.program mode plan)) }
+    ensures workers { IsErrOf result PoolFault.BadWorkers → (workers ≡ 0) ⊎ (WORKERS_MAX < workers) }
+    ensures few { OnOk result (AreFew code.now.program mode plan) }
+    ensures many { IsErrOf result PoolFault.TooManyPieces → PIECES_MAX < length (pieces_of code.now.program mode plan) }
 {
-    let Plan { limits, witnesses } = plan;
-    let mut debugger = Debugger::start(alloc, code, mode)?;
-    let report = match explore(alloc, &mut debugger, limits, watch) {
+    let Ok(mut debugger) = Debugger::start(alloc, code, mode) else {
+        return Err(PoolFault::Memory);
+    };
+    let cut = CheckPlan {
+        split: plan.split,
+        limits: plan.limits,
+    };
+    let report = match mpd_pool::check::check(rt, alloc, &mut debugger, cut, workers, gate) {
         Ok(report) => report,
         Err(fault) => {
             drop(debugger);
             return Err(fault);
         }
     };
-    let printed = print_report(alloc, &mut debugger, limits.fuel, &report, witnesses);
+    let printed = print_report(
+        alloc,
+        &mut debugger,
+        plan.limits.fuel,
+        &report,
+        plan.witnesses,
+    );
     drop(debugger);
     let tally = tally_of(&report);
     drop(report);
     match printed {
         Ok(text) => Ok(Told { text, tally }),
-        Err(fault) => Err(fault),
+        Err(_) => Err(PoolFault::Memory),
     }
 }
 
-/// Explores a script from its start in a mode, and writes the report to a sink (docs/FORMATS.md, "Reports"). It answers what
-/// the report tells: how many runs it lists, how many of them end in a deadlock, with a trap, or cut, and whether there are more. `Memory` comes only before anything is written, and `WriteFailed` (46) only where a write
-/// failed. The fuel is at most 1,000,000 steps. `watch` is told of each leaf as it is found, and of
-/// the end before anything is written; nothing else depends on it.
-pub fn check<W: Sink, P: Watch>(
+/// Explores a script from its start in a mode, by 1 to 16 workers, and writes the report to a sink (docs/FORMATS.md, "Reports"): the
+/// same for every number of workers. It answers what the report tells: how many runs it lists, how many of them end in a deadlock, with
+/// a trap, or cut, and whether there are more. It is refused where there are to be no workers or more than 16 (35), then where there are
+/// more than 1,024 pieces (31); `WriteFailed` (46) comes only where a write failed, and `Memory` only before anything is written. The fuel
+/// is at most 1,000,000 steps. `gate` is told how far the exploration is, and of its end before anything is written; nothing else
+/// depends on it.
+pub fn check<W: Sink, G: Gate, R: Threads + Wait + Sync>(
+    rt: &R,
     alloc: Global,
     code: &Code,
     mode: Mode,
     plan: Plan,
+    workers: usize,
     sink: &mut W,
-    watch: &mut P,
-) -> Result<Tally, EngineFault>
+    gate: &G,
+) -> Result<Tally, CheckFault>
     requires { plan.limits.fuel ≤ STEPS_MAX }
-    ensures { Answered code.now.program mode plan (W.seen sink.old) (W.seen sink.new) result }
+    ensures { Answered code.now.program mode plan workers (W.seen sink.old) (W.seen sink.new) result }
 {
-    let told = tell(alloc, code, mode, plan, watch);
-    watch.end();
-    let Ok(told) = told else {
-        return Err(EngineFault::Memory);
-    };
-    let Told { text, tally } = told;
-    if write_all(sink, text.as_bytes()).is_err() {
-        return Err(EngineFault::WriteFailed);
+    if !is_crew(workers) {
+        return Err(CheckFault::BadWorkers);
     }
-    Ok(tally)
+    let told = tell(rt, alloc, code, mode, plan, workers, gate);
+    gate.done();
+    match told {
+        Ok(told) => put(told, sink),
+        Err(fault) => Err(refused(fault)),
+    }
 }

@@ -213,8 +213,8 @@ fn cut(alloc: Global, debugger: &mut Debugger<'_>, plan: CheckPlan) -> Result<Ve
 /// here, and `runs` is for each piece; there is more where some piece has more. No undone step is kept, and the depth and the fuel are at
 /// most 1,000,000 steps together. Each leaf has a run, and each deadlock a witness, as those of `explore` do. It is refused where there
 /// are to be no workers or more than 16 (35), where there are more than 1,024 pieces (31), or for want of memory. A worker that wants
-/// memory stops, and what it doesn't bring is computed here. The debugger is left as found, also where it is refused. `gate` is told of
-/// each piece by whoever computes it, before it does.
+/// memory stops, and what it doesn't bring is computed here. The debugger is left as found, also where it is refused. `gate` is told how
+/// many pieces there are, and by whoever computes one of it before and behind that, and of each leaf.
 pub fn check<G: Gate, R: Threads + Wait + Sync>(
     rt: &R,
     alloc: Global,
@@ -243,6 +243,7 @@ pub fn check<G: Gate, R: Threads + Wait + Sync>(
         Ok(pieces) => pieces,
         Err(fault) => return Err(fault),
     };
+    gate.cut(pieces.len());
     match explore_pieces(rt, alloc, debugger, &pieces, plan.limits, workers, gate) {
         Ok(report) => Ok(report),
         Err(_) => Err(PoolFault::Memory),

@@ -1,9 +1,21 @@
-//! Who is told of pieces before they are computed.
+//! Who is told how far an exploration by pieces is.
 
-/// Who is told of each piece by whoever computes it, before it does. No contract speaks of these calls, and nothing depends on them.
+/// Who is told how far an exploration by pieces is, by whoever explores. No contract speaks of these calls, and nothing depends on them.
 pub trait Gate: Sync {
+    /// So many pieces there are. It is told once, before the first of them is begun.
+    fn cut(&self, _pieces: usize) {}
+
     /// A piece is about to be computed.
     fn begin(&self, piece: usize);
+
+    /// A leaf of some piece was found.
+    fn leaf(&self) {}
+
+    /// A piece is computed, or memory was refused for it.
+    fn end(&self, _piece: usize) {}
+
+    /// Nothing more will be told. Who explores and then writes a report calls it between the two.
+    fn done(&self) {}
 }
 
 /// Tells nobody.

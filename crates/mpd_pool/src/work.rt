@@ -11,7 +11,7 @@ use crate::deque::{Taken, Thief, WorkerPass};
 use crate::gate::Gate;
 use crossbeam_deque::Steal;
 use mpd_explore::report::{Limits, Report};
-use mpd_explore::watch::Unwatched;
+use mpd_explore::watch::Watch;
 use mpd_pieces::explore_at::explore_at;
 use mpd_pieces::split::Piece;
 use mpd_trail::debugger::Debugger;
@@ -40,12 +40,26 @@ pub(crate) struct Batch {
     pub(crate) brought: Vec<Brought>,
 }
 
+/// Tells a gate of the leaves of a piece.
+struct Leaves<'g, G> {
+    gate: &'g G,
+}
+
+impl<'g, G: Gate> Watch for Leaves<'g, G> {
+    fn leaf(&mut self, _count: usize) {
+        self.gate.leaf();
+    }
+
+    fn end(&mut self) {}
+}
+
 /// Explores a piece. The debugger is left as found.
-fn explore_piece(
+fn explore_piece<G: Gate>(
     alloc: Global,
     debugger: &mut Debugger<'_>,
     piece: &Piece,
     limits: Limits,
+    gate: &G,
 ) -> Result<Report, AllocError>
     requires can { CanBegin (standing_of debugger.old) limits }
     requires reaches { Reaches limits.fuel piece.now.choices debugger.old.world }
@@ -57,11 +71,11 @@ fn explore_piece(
         debugger,
         &piece.choices.items,
         limits,
-        &mut Unwatched,
+        &mut Leaves { gate },
     )
 }
 
-/// Tells that a piece of some number is begun, and explores it. The debugger is left as found.
+/// Explores the piece of some number, and tells where it is begun and ended. The debugger is left as found.
 pub(crate) fn compute<G: Gate>(
     alloc: Global,
     debugger: &mut Debugger<'_>,
@@ -76,7 +90,9 @@ pub(crate) fn compute<G: Gate>(
     ensures same { standing_of debugger.new ≡ standing_of debugger.old }
 {
     gate.begin(number);
-    explore_piece(alloc, debugger, &pieces[number], limits)
+    let found = explore_piece(alloc, debugger, &pieces[number], limits, gate);
+    gate.end(number);
+    found
 }
 
 /// Adds the report of a piece to those that are brought.

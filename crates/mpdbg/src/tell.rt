@@ -3,6 +3,7 @@
 use mpd_lines::engine::EngineFault;
 use mpd_model::read_fault::{FaultCode, ReadFault};
 use mpd_options::options::UsageFault;
+use mpd_pool::check::PoolFault;
 use mpd_trace::allowed::allowed;
 use mpd_trace::excerpt::excerpt;
 use mpd_trace::plain::PlainFault;
@@ -26,6 +27,12 @@ pub(crate) enum Fault<'a> {
     BadWitness(usize),
     /// A file of this name can't be opened or read.
     File(&'a str, Option<Error>),
+    /// There are to be no workers, or more than 16.
+    Workers,
+    /// There are more than 1,024 pieces.
+    Pieces,
+    /// There is no piece of this number, but so many.
+    Piece { number: usize, count: usize },
     /// A script, standard input or output, or memory.
     Plain(PlainFault),
     /// A port can't be listened on, or no client accepted.
@@ -190,6 +197,15 @@ fn tell_mode<R: Eprint>(rt: &R, word: &str, is_terminal: bool) -> u8 {
     WRONG
 }
 
+/// Says that so many workers, or so many pieces, there can't be. Answers the status.
+fn tell_refused<R: Eprint>(rt: &R, fault: PoolFault, hint: &str, is_terminal: bool) -> u8 {
+    let _unwritten = eprintln!(rt; "mpdbg: refused {} {}", fault.number(), fault.name());
+    if is_terminal {
+        let _unwritten = eprintln!(rt; "  {hint}");
+    }
+    WRONG
+}
+
 /// Says a fault by one line, and at a terminal what else is known of it, and answers the status that the program ends with.
 /// Where it can't be written, the status is the same.
 pub(crate) fn tell<R: Print + Eprint + AllocGlobal>(
@@ -205,6 +221,12 @@ pub(crate) fn tell<R: Print + Eprint + AllocGlobal>(
             WRONG
         }
         Fault::File(file, error) => tell_file(rt, file, error, notes.is_terminal),
+        Fault::Workers => tell_refused(rt, PoolFault::BadWorkers, "1 to 16 workers can be had (--workers)", notes.is_terminal),
+        Fault::Pieces => tell_refused(rt, PoolFault::TooManyPieces, "there can be 1,024; fewer choices make fewer (--split)", notes.is_terminal),
+        Fault::Piece { number, count } => {
+            let _unwritten = eprintln!(rt; "mpdbg: no piece {number} of {count}");
+            WRONG
+        }
         Fault::Plain(fault) => tell_plain(rt, fault, notes),
         Fault::Listener(error) => tell_listener(rt, error, notes.is_terminal),
         Fault::Settle(number) => {

@@ -1,0 +1,182 @@
+//! One piece of a script's runs, and how many pieces there are (docs/FORMATS.md, "Pieces of a report").
+
+ghost use Rattle.std.specs.Prelude.{◌≡◌, ◌≤◌, ◌<◌, IfOk, OnOk, IsErrOf, length, string_bytes};
+ghost use Rattle.mpd_model.specs.Trail.{first_standing};
+ghost use Rattle.mpd_trail.specs.Views.{standing_of};
+ghost use Rattle.mpd_pieces.specs.Pieces.{numbered, Reaches};
+ghost use Rattle.mpd_check.specs.Checked.{pieces_of, leaves_at, more_at, text_of, count_text, AreFew, Counted, PartAnswered, PartTold};
+ghost use Rattle.mpd_check.specs.Refused.{split_refused};
+ghost use Rattle.mpd_check.specs.Tally.{tally_of};
+
+use crate::counts::{Tally, tally_of};
+use crate::plan::{CheckFault, Plan};
+use crate::{Told, put};
+use mpd_code::code::Code;
+use mpd_device::device::Sink;
+use mpd_explore::print::print_report;
+use mpd_explore::watch::Watch;
+use mpd_lines::engine::EngineFault;
+use mpd_lines::outbox::write_all;
+use mpd_model::call::Mode;
+use mpd_model::limits::STEPS_MAX;
+use mpd_pieces::explore_at::explore_at;
+use mpd_pieces::split::{PIECES_MAX, Piece, SplitFault, split};
+use mpd_trail::debugger::Debugger;
+use std::alloc::{AllocError, Global};
+
+/// A debugger at the start of a script, and the pieces of its runs.
+#[derive(Drop)]
+struct Begun<'c> {
+    debugger: Debugger<'c>,
+    pieces: Vec<Piece>,
+}
+
+/// Starts a script, and cuts its runs into pieces.
+fn begin<'c>(
+    alloc: Global,
+    code: &'c Code,
+    mode: Mode,
+    plan: Plan,
+) -> Result<Begun<'c>, SplitFault>
+    requires { plan.limits.fuel ≤ STEPS_MAX }
+    ensures standing { IfOk result (λ b. standing_of b.debugger ≡ first_standing code.now.program mode) }
+    ensures pieces { IfOk result (λ b. b.pieces.items ≡ numbered 0 (pieces_of code.now.program mode plan)) }
+    ensures few { OnOk result (AreFew code.now.program mode plan) }
+    ensures many { IsErrOf result SplitFault.TooManyPieces → PIECES_MAX < length (pieces_of code.now.program mode plan) }
+{
+    let Ok(mut debugger) = Debugger::start(alloc, code, mode) else {
+        return Err(SplitFault::Memory);
+    };
+    match split(alloc, &mut debugger, plan.split, plan.limits.fuel) {
+        Ok(pieces) => Ok(Begun { debugger, pieces }),
+        Err(fault) => {
+            drop(debugger);
+            Err(fault)
+        }
+    }
+}
+
+/// Why pieces are refused.
+fn refused(fault: SplitFault) -> CheckFault
+    ensures { result ≡ split_refused fault }
+{
+    match fault {
+        SplitFault::TooManyPieces => CheckFault::TooManyPieces,
+        SplitFault::Memory => CheckFault::Engine(EngineFault::Memory),
+    }
+}
+
+/// The text of how many pieces there are.
+fn count_text(alloc: Global, count: usize) -> Result<String, AllocError>
+    ensures { IfOk result (λ t. string_bytes t ≡ count_text count) }
+{
+    let mut out = String::new(alloc);
+    write!(out, "pieces {count}\n")?;
+    Ok(out)
+}
+
+/// Writes into how many pieces the runs of a script from its start are cut, as `pieces 225`. It is refused where there are more than
+/// 1,024 (31); `WriteFailed` (46) comes only where a write failed, and `Memory` only before anything is written. The fuel is at most
+/// 1,000,000 steps.
+pub fn count_pieces<W: Sink>(
+    alloc: Global,
+    code: &Code,
+    mode: Mode,
+    plan: Plan,
+    sink: &mut W,
+) -> Result<(), CheckFault>
+    requires { plan.limits.fuel ≤ STEPS_MAX }
+    ensures { Counted code.now.program mode plan (W.seen sink.old) (W.seen sink.new) result }
+{
+    let begun = match begin(alloc, code, mode, plan) {
+        Ok(begun) => begun,
+        Err(fault) => return Err(refused(fault)),
+    };
+    let count = begun.pieces.len();
+    drop(begun);
+    let Ok(text) = count_text(alloc, count) else {
+        return Err(CheckFault::Engine(EngineFault::Memory));
+    };
+    match write_all(sink, text.as_bytes()) {
+        Ok(()) => Ok(()),
+        Err(_) => Err(CheckFault::Engine(EngineFault::WriteFailed)),
+    }
+}
+
+/// The text of the part of a report that some choices have, and what it tells. The debugger is at the start of the script.
+fn tell_at<P: Watch>(
+    alloc: Global,
+    debugger: &mut Debugger<'_>,
+    plan: Plan,
+    choices: &[usize],
+    watch: &mut P,
+) -> Result<Told, AllocError>
+    requires fuel { plan.limits.fuel ≤ STEPS_MAX }
+    requires standing { standing_of debugger.old ≡ first_standing debugger.old.trail.program debugger.old.trail.mode }
+    requires reaches { Reaches plan.limits.fuel choices.now debugger.old.world }
+    ensures text { IfOk result (λ told. string_bytes told.text ≡ text_of debugger.old.trail.program debugger.old.trail.mode plan (leaves_at debugger.old.trail.program debugger.old.trail.mode plan choices.now) (more_at debugger.old.trail.program debugger.old.trail.mode plan choices.now)) }
+    ensures tally { IfOk result (λ told. told.tally ≡ tally_of (leaves_at debugger.old.trail.program debugger.old.trail.mode plan choices.now) (more_at debugger.old.trail.program debugger.old.trail.mode plan choices.now)) }
+{
+    let report = explore_at(alloc, debugger, choices, plan.limits, watch)?;
+    let printed = print_report(alloc, debugger, plan.limits.fuel, &report, plan.witnesses);
+    let tally = tally_of(&report);
+    drop(report);
+    match printed {
+        Ok(text) => Ok(Told { text, tally }),
+        Err(fault) => Err(fault),
+    }
+}
+
+/// The same of the piece of a number, from the start of a script on.
+fn tell_piece<P: Watch>(
+    alloc: Global,
+    code: &Code,
+    mode: Mode,
+    plan: Plan,
+    number: usize,
+    watch: &mut P,
+) -> Result<Told, CheckFault>
+    requires { plan.limits.fuel ≤ STEPS_MAX }
+    ensures { PartTold code.now.program mode plan number result }
+{
+    let Begun {
+        mut debugger,
+        pieces,
+    } = match begin(alloc, code, mode, plan) {
+        Ok(begun) => begun,
+        Err(fault) => return Err(refused(fault)),
+    };
+    let Some(piece) = pieces.get(number) else {
+        let count = pieces.len();
+        return Err(CheckFault::NoSuchPiece { number, count });
+    };
+    match tell_at(alloc, &mut debugger, plan, &piece.choices.items, watch) {
+        Ok(told) => Ok(told),
+        Err(_) => Err(CheckFault::Engine(EngineFault::Memory)),
+    }
+}
+
+/// Explores the runs of a script that the piece of a number has, and writes its part of the report to a sink: its leaves numbered from
+/// 0, and whether it has more. The parts of all pieces joined in their order, with their leaves numbered through, are the report of
+/// `check`. It is refused where there are more than 1,024 pieces (31), or no piece has the number; `WriteFailed` (46) comes only where a
+/// write failed, and `Memory` only before anything is written. The fuel is at most 1,000,000 steps. `watch` is told of each leaf as it
+/// is found, and of the end before anything is written; nothing else depends on it.
+pub fn check_piece<W: Sink, P: Watch>(
+    alloc: Global,
+    code: &Code,
+    mode: Mode,
+    plan: Plan,
+    number: usize,
+    sink: &mut W,
+    watch: &mut P,
+) -> Result<Tally, CheckFault>
+    requires { plan.limits.fuel ≤ STEPS_MAX }
+    ensures { PartAnswered code.now.program mode plan number (W.seen sink.old) (W.seen sink.new) result }
+{
+    let told = tell_piece(alloc, code, mode, plan, number, watch);
+    watch.end();
+    match told {
+        Ok(told) => put(told, sink),
+        Err(fault) => Err(fault),
+    }
+}

@@ -1,0 +1,147 @@
+//! `mpdbg check`: a script explored by workers, a piece of it alone, or how many pieces there are.
+
+ghost use Rattle.std.specs.Prelude.{◌≤◌};
+
+use crate::progress::{OfPiece, Progress};
+use crate::summary::say_tally;
+use crate::tell::Fault;
+use mpd_check::counts::Tally;
+use mpd_check::part::{check_piece, count_pieces};
+use mpd_check::plan::{CheckFault, Plan};
+use mpd_check::{check, is_crew};
+use mpd_code::code::Code;
+use mpd_device::device::Sink;
+use mpd_model::call::Mode;
+use mpd_model::limits::STEPS_MAX;
+use std::marker::Sync;
+use std::rt::Clock;
+use std::sync::Wait;
+use std::thread::Threads;
+
+/// What is looked at.
+#[derive(Clone, Copy)]
+pub(crate) enum Part {
+    /// All pieces.
+    Whole,
+    /// The piece of this number.
+    Piece(usize),
+    /// How many pieces there are, and no run.
+    Count,
+}
+
+/// What is looked at, by the words: a number of pieces is asked for before one of them.
+pub(crate) fn part_of(piece: Option<usize>, count_pieces: bool) -> Part {
+    match (count_pieces, piece) {
+        (true, _) => Part::Count,
+        (false, Some(number)) => Part::Piece(number),
+        (false, None) => Part::Whole,
+    }
+}
+
+/// What is asked of `check`.
+#[derive(Clone, Copy)]
+pub(crate) struct Asked {
+    pub(crate) plan: Plan,
+    pub(crate) workers: usize,
+    pub(crate) part: Part,
+    /// Whether the status is to tell that not all runs were tried.
+    pub(crate) complete: bool,
+}
+
+/// Explores all pieces, and tells at a terminal how far that is and what came of it.
+fn check_all<R: Clock + Eprint + Threads + Wait + Sync + AllocGlobal, W: Sink>(
+    rt: &R,
+    script: &(Mode, Code),
+    asked: Asked,
+    sink: &mut W,
+    is_terminal: bool,
+) -> Result<Tally, CheckFault>
+    requires { asked.plan.limits.fuel ≤ STEPS_MAX }
+{
+    let progress = Progress::new(rt, is_terminal);
+    let (mode, code) = script;
+    let tally = check(
+        rt,
+        rt.alloc(),
+        code,
+        *mode,
+        asked.plan,
+        asked.workers,
+        sink,
+        &progress,
+    )?;
+    if is_terminal {
+        let _unwritten = say_tally(rt, tally);
+    }
+    Ok(tally)
+}
+
+/// Explores one piece, and tells at a terminal how far that is.
+fn check_one<R: Clock + Eprint + AllocGlobal, W: Sink>(
+    rt: &R,
+    script: &(Mode, Code),
+    plan: Plan,
+    number: usize,
+    sink: &mut W,
+    is_terminal: bool,
+) -> Result<Tally, CheckFault>
+    requires { plan.limits.fuel ≤ STEPS_MAX }
+{
+    let progress = Progress::new(rt, is_terminal);
+    let mut watch = OfPiece {
+        progress: &progress,
+    };
+    let (mode, code) = script;
+    check_piece(rt.alloc(), code, *mode, plan, number, sink, &mut watch)
+}
+
+/// Why a check is refused.
+fn fault_of<'a>(fault: CheckFault) -> Fault<'a> {
+    match fault {
+        CheckFault::BadWorkers => Fault::Workers,
+        CheckFault::TooManyPieces => Fault::Pieces,
+        CheckFault::NoSuchPiece { number, count } => Fault::Piece { number, count },
+        CheckFault::Engine(fault) => Fault::from(fault),
+    }
+}
+
+/// Looks for deadlocks in a script, and answers the status of the program.
+fn status_of<R: Clock + Eprint + Threads + Wait + Sync + AllocGlobal, W: Sink>(
+    rt: &R,
+    script: &(Mode, Code),
+    asked: Asked,
+    sink: &mut W,
+    is_terminal: bool,
+) -> Result<u8, CheckFault>
+    requires { asked.plan.limits.fuel ≤ STEPS_MAX }
+{
+    if !is_crew(asked.workers) {
+        return Err(CheckFault::BadWorkers);
+    }
+    let tally = match asked.part {
+        Part::Whole => check_all(rt, script, asked, sink, is_terminal)?,
+        Part::Piece(number) => check_one(rt, script, asked.plan, number, sink, is_terminal)?,
+        Part::Count => {
+            let (mode, code) = script;
+            count_pieces(rt.alloc(), code, *mode, asked.plan, sink)?;
+            return Ok(0);
+        }
+    };
+    Ok(tally.status(asked.complete))
+}
+
+/// Looks for deadlocks in a script, and answers the status of the program. The number of workers is tested first.
+pub(crate) fn check_script<'a, R: Clock + Eprint + Threads + Wait + Sync + AllocGlobal, W: Sink>(
+    rt: &R,
+    script: &(Mode, Code),
+    asked: Asked,
+    sink: &mut W,
+    is_terminal: bool,
+) -> Result<u8, Fault<'a>>
+    requires { asked.plan.limits.fuel ≤ STEPS_MAX }
+{
+    match status_of(rt, script, asked, sink, is_terminal) {
+        Ok(status) => Ok(status),
+        Err(fault) => Err(fault_of(fault)),
+    }
+}
