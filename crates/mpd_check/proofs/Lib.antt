@@ -5,3 +5,4 @@ mod VerdictLemmas
 mod ClearTexts
 mod RoundTrip
 mod ReportRead
+mod CheckLemmas
