@@ -41,6 +41,7 @@ pub(crate) struct Batch {
 }
 
 /// Tells a gate of the leaves of a piece.
+#[derive(Drop)]
 struct Leaves<'g, G> {
     gate: &'g G,
 }

@@ -114,6 +114,7 @@ impl<'a, R: Clock + Eprint + Sync> Gate for Progress<'a, R> {
 }
 
 /// The same, told of one piece alone.
+#[derive(Drop)]
 pub(crate) struct OfPiece<'p, 'a, R> {
     pub(crate) progress: &'p Progress<'a, R>,
 }
