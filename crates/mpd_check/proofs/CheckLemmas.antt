@@ -1,12 +1,22 @@
 -- What is told of a check is what is answered.
-use Rattle.std.proofs.Common.{◌≡◌, ◌<◌, ◌≤◌, ℕ, Bool, List, length, Option, Some, None, slice_get, Result, Ok, Err, IsErrOf, string_bytes, refl, sym, ap, ◌∙◌}
+use Rattle.std.proofs.Common.{◌≡◌, ◌<◌, ◌≤◌, ℕ, Bool, List, length, Option, Some, None, slice_get, get_or, map, Result, Ok, Err, IsErrOf, string_bytes, refl, sym, ap, subst, ◌∙◌}
+use Rattle.std.specs.Option.{option_map}
+use Rattle.std.proofs.lemmas.List.{length-map}
+use Rattle.std.proofs.lemmas.Option.{slice_get-map, slice_get_read}
 use Rattle.mpd_model.specs.declared.call.Mode.{Mode}
 use Rattle.mpd_model.specs.Program.{Program}
+use Rattle.mpd_model.specs.World.{start}
+use Rattle.mpd_model.specs.Trail.{Standing, first_standing}
 use Rattle.mpd_device.specs.Seen.{SinkSeen}
 use Rattle.mpd_lines.specs.declared.engine.EngineFault.TheVariants.{ReadFailed, WriteFailed, TooManyTurns, Memory}
 use Rattle.mpd_pieces.specs.declared.split.TheConstants.{PIECES_MAX}
+use Rattle.mpd_pieces.specs.declared.split.Piece.{Piece}
 use Rattle.mpd_pieces.specs.declared.split.SplitFault.{SplitFault}
 use Rattle.mpd_pieces.specs.declared.split.SplitFault.TheVariants as split
+use Rattle.mpd_pieces.specs.Pieces.{numbered, Reaches}
+use Rattle.mpd_pieces.specs.Along.{choices_of}
+use Rattle.mpd_pieces.proofs.PieceLemmas.{numbered_choices}
+use Rattle.mpd_pieces.proofs.SplitLemmas.{reached_at, level_reached}
 use Rattle.mpd_pool.specs.declared.check.PoolFault.{PoolFault}
 use Rattle.mpd_pool.specs.declared.check.PoolFault.TheVariants as pool
 use Rattle.mpd_check.specs.declared.Told.{Told}
@@ -16,7 +26,7 @@ use Rattle.mpd_check.specs.declared.plan.CheckFault.TheVariants.{BadWorkers, Too
 use Rattle.mpd_check.specs.declared.counts.Tally.{Tally}
 use Rattle.mpd_check.specs.Tally.{tally_of}
 use Rattle.mpd_check.specs.Refused.{refused_by, split_refused}
-use Rattle.mpd_check.specs.Checked.{pieces_of, leaves_of, more_of, text_of, IsCrew, AreFew, Put, Answered, PartTold, PartAnswered}
+use Rattle.mpd_check.specs.Checked.{pieces_of, leaves_of, more_of, text_of, leaves_at, more_at, count_text, IsCrew, AreFew, Put, PutCount, Answered, PartTold, PartAnswered, Counted}
 
 -- ---- a report of all pieces
 
@@ -57,6 +67,41 @@ refused_part s mode plan number old new (Engine Memory) same p = same
 refused_part s mode plan number old new BadWorkers same p = p
 refused_part s mode plan number old new TooManyPieces same p = (same, p)
 refused_part s mode plan number old new (NoSuchPiece n m) same p = (same, p.0, p.1, p.2, p.3)
+
+-- the piece of a number, and how many there are
+pub count_is : (xs : List (List ℕ)) (ps : List Piece) → ps ≡ numbered 0 xs → length ps ≡ length xs
+count_is xs ps is = sym (length-map ps (λ (p : Piece). p.choices)) ∙ ap (λ (qs : List Piece). length (choices_of qs)) is ∙ ap length (numbered_choices 0 xs)
+
+piece_at : (xs : List (List ℕ)) (ps : List Piece) (i : ℕ) (p : Piece) → ps ≡ numbered 0 xs → i < length ps → p ≡ get_or ps i p → slice_get xs i ≡ Some p.choices
+piece_at xs ps i p is within read =
+    ap (λ (ys : List (List ℕ)). slice_get ys i) (sym (ap choices_of is ∙ numbered_choices 0 xs)) ∙ slice_get-map (λ (q : Piece). q.choices) ps i ∙ ap (option_map (λ (q : Piece). q.choices)) (slice_get_read ps (length ps) i p refl within read)
+
+pub piece_told : (s : Program) (mode : Mode) (plan : Plan) (ps : List Piece) (number : ℕ) (p : Piece) (told : Told) → ps ≡ numbered 0 (pieces_of s mode plan) → number < length ps → p ≡ get_or ps number p → AreFew s mode plan
+    → string_bytes told.text ≡ text_of s mode plan (leaves_at s mode plan p.choices) (more_at s mode plan p.choices) → told.tally ≡ tally_of (leaves_at s mode plan p.choices) (more_at s mode plan p.choices) → PartTold s mode plan number (Ok told)
+piece_told s mode plan ps number p told is within read few text tally = (p.choices, piece_at (pieces_of s mode plan) ps number p is within read, few, text, tally)
+
+pub none_told : (s : Program) (mode : Mode) (plan : Plan) (ps : List Piece) (number : ℕ) → ps ≡ numbered 0 (pieces_of s mode plan) → length ps ≤ number → AreFew s mode plan → PartTold s mode plan number (Err (NoSuchPiece number (length ps)))
+none_told s mode plan ps number is past few = (refl, count_is (pieces_of s mode plan) ps is, past, few)
+
+pub reached_number : (s : Program) (mode : Mode) (plan : Plan) (ps : List Piece) (number : ℕ) (p : Piece) (d : Standing) → d ≡ first_standing s mode → ps ≡ numbered 0 (pieces_of s mode plan) → number < length ps → p ≡ get_or ps number p → Reaches plan.limits.fuel p.choices d.world
+reached_number s mode plan ps number p d is pieces within read =
+    reached_at plan.limits.fuel (start s mode) d.world ps number p p.choices within read refl (ap (λ (x : Standing). x.world) is) (level_reached plan.limits.fuel plan.split (start s mode) ps pieces)
+
+pub same_start : (s : Program) (mode : Mode) (plan : Plan) (number : ℕ) (d : Standing) (r : Result Told CheckFault) → d ≡ first_standing s mode → PartTold d.trail.program d.trail.mode plan number r → PartTold s mode plan number r
+same_start s mode plan number d r is h = subst (λ (x : Standing). PartTold x.trail.program x.trail.mode plan number r) is h
+
+-- ---- how many pieces there are
+
+pub put_counted : (s : Program) (mode : Mode) (plan : Plan) (old new : SinkSeen) (text : List ℕ) (count : ℕ) (ps : List Piece) (r : Result Unit CheckFault) → text ≡ count_text count → count ≡ length ps → ps ≡ numbered 0 (pieces_of s mode plan) → AreFew s mode plan → PutCount text old new r
+    → Counted s mode plan old new r
+put_counted s mode plan old new text count ps (Ok u) is many pieces few h = (rw (is ∙ ap count_text (many ∙ count_is (pieces_of s mode plan) ps pieces)) at h, few)
+put_counted s mode plan old new text count ps (Err (Engine WriteFailed)) is many pieces few h = (rw (is ∙ ap count_text (many ∙ count_is (pieces_of s mode plan) ps pieces)) at h, few)
+put_counted s mode plan old new text count ps (Err (Engine ReadFailed)) is many pieces few h = h
+put_counted s mode plan old new text count ps (Err (Engine TooManyTurns)) is many pieces few h = h
+put_counted s mode plan old new text count ps (Err (Engine Memory)) is many pieces few h = absurd h
+put_counted s mode plan old new text count ps (Err BadWorkers) is many pieces few h = h
+put_counted s mode plan old new text count ps (Err TooManyPieces) is many pieces few h = absurd h
+put_counted s mode plan old new text count ps (Err (NoSuchPiece n m)) is many pieces few h = h
 
 pub none_begun : (s : Program) (mode : Mode) (plan : Plan) (number : ℕ) (f : SplitFault) → (f ≡ split.TooManyPieces → PIECES_MAX < length (pieces_of s mode plan)) → PartTold s mode plan number (Err (split_refused f))
 none_begun s mode plan number split.TooManyPieces many = many refl

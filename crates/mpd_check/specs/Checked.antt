@@ -118,6 +118,17 @@ PartAnswered s mode plan number old new (Err BadWorkers) = ⊥
 PartAnswered s mode plan number old new (Err TooManyPieces) = (new ≡ old) × (PIECES_MAX < length (pieces_of s mode plan))
 PartAnswered s mode plan number old new (Err (NoSuchPiece asked count)) = (new ≡ old) × (asked ≡ number) × (count ≡ length (pieces_of s mode plan)) × (count ≤ number) × AreFew s mode plan
 
+-- a text of how many pieces there are is written
+abbrev pub PutCount : List ℕ → SinkSeen → SinkSeen → Result Unit CheckFault → Type 0
+PutCount text old new (Ok done) = Wrote text old new
+PutCount text old new (Err (Engine WriteFailed)) = WrotePart text old new
+PutCount text old new (Err (Engine ReadFailed)) = ⊥
+PutCount text old new (Err (Engine TooManyTurns)) = ⊥
+PutCount text old new (Err (Engine Memory)) = ⊥
+PutCount text old new (Err BadWorkers) = ⊥
+PutCount text old new (Err TooManyPieces) = ⊥
+PutCount text old new (Err (NoSuchPiece number count)) = ⊥
+
 -- How many pieces there are was written; or nothing, where they are too many.
 abbrev pub Counted : Program → Mode → Plan → SinkSeen → SinkSeen → Result Unit CheckFault → Type 0
 Counted s mode plan old new (Ok done) = Wrote (count_text (length (pieces_of s mode plan))) old new × AreFew s mode plan

@@ -4,7 +4,7 @@ ghost use Rattle.std.specs.Prelude.{◌≡◌, ◌≤◌, ◌<◌, IfOk, OnOk, I
 ghost use Rattle.mpd_model.specs.Trail.{first_standing};
 ghost use Rattle.mpd_trail.specs.Views.{standing_of};
 ghost use Rattle.mpd_pieces.specs.Pieces.{numbered, Reaches};
-ghost use Rattle.mpd_check.specs.Checked.{pieces_of, leaves_at, more_at, text_of, count_text, AreFew, Counted, PartAnswered, PartTold};
+ghost use Rattle.mpd_check.specs.Checked.{pieces_of, leaves_at, more_at, text_of, count_text, AreFew, Counted, PutCount, PartAnswered, PartTold};
 ghost use Rattle.mpd_check.specs.Refused.{split_refused};
 ghost use Rattle.mpd_check.specs.Tally.{tally_of};
 
@@ -75,6 +75,16 @@ fn count_text(alloc: Global, count: usize) -> Result<String, AllocError>
     Ok(out)
 }
 
+/// Writes the text of how many pieces there are.
+fn put_count<W: Sink>(text: String, sink: &mut W) -> Result<(), CheckFault>
+    ensures { PutCount (string_bytes text) (W.seen sink.old) (W.seen sink.new) result }
+{
+    if write_all(sink, text.as_bytes()).is_err() {
+        return Err(CheckFault::Engine(EngineFault::WriteFailed));
+    }
+    Ok(())
+}
+
 /// Writes into how many pieces the runs of a script from its start are cut, as `pieces 225`. It is refused where there are more than
 /// 1,024 (31); `WriteFailed` (46) comes only where a write failed, and `Memory` only before anything is written. The fuel is at most
 /// 1,000,000 steps.
@@ -94,30 +104,27 @@ pub fn count_pieces<W: Sink>(
     };
     let count = begun.pieces.len();
     drop(begun);
-    let Ok(text) = count_text(alloc, count) else {
-        return Err(CheckFault::Engine(EngineFault::Memory));
-    };
-    match write_all(sink, text.as_bytes()) {
-        Ok(()) => Ok(()),
-        Err(_) => Err(CheckFault::Engine(EngineFault::WriteFailed)),
+    match count_text(alloc, count) {
+        Ok(text) => put_count(text, sink),
+        Err(_) => Err(CheckFault::Engine(EngineFault::Memory)),
     }
 }
 
-/// The text of the part of a report that some choices have, and what it tells. The debugger is at the start of the script.
+/// The text of the part of a report that a piece has, and what it tells. The debugger is at the start of the script.
 fn tell_at<P: Watch>(
     alloc: Global,
     debugger: &mut Debugger<'_>,
     plan: Plan,
-    choices: &[usize],
+    piece: &Piece,
     watch: &mut P,
 ) -> Result<Told, AllocError>
     requires fuel { plan.limits.fuel ≤ STEPS_MAX }
     requires standing { standing_of debugger.old ≡ first_standing debugger.old.trail.program debugger.old.trail.mode }
-    requires reaches { Reaches plan.limits.fuel choices.now debugger.old.world }
-    ensures text { IfOk result (λ told. string_bytes told.text ≡ text_of debugger.old.trail.program debugger.old.trail.mode plan (leaves_at debugger.old.trail.program debugger.old.trail.mode plan choices.now) (more_at debugger.old.trail.program debugger.old.trail.mode plan choices.now)) }
-    ensures tally { IfOk result (λ told. told.tally ≡ tally_of (leaves_at debugger.old.trail.program debugger.old.trail.mode plan choices.now) (more_at debugger.old.trail.program debugger.old.trail.mode plan choices.now)) }
+    requires reaches { Reaches plan.limits.fuel piece.now.choices debugger.old.world }
+    ensures text { IfOk result (λ told. string_bytes told.text ≡ text_of debugger.old.trail.program debugger.old.trail.mode plan (leaves_at debugger.old.trail.program debugger.old.trail.mode plan piece.now.choices) (more_at debugger.old.trail.program debugger.old.trail.mode plan piece.now.choices)) }
+    ensures tally { IfOk result (λ told. told.tally ≡ tally_of (leaves_at debugger.old.trail.program debugger.old.trail.mode plan piece.now.choices) (more_at debugger.old.trail.program debugger.old.trail.mode plan piece.now.choices)) }
 {
-    let report = explore_at(alloc, debugger, choices, plan.limits, watch)?;
+    let report = explore_at(alloc, debugger, &piece.choices.items, plan.limits, watch)?;
     let printed = print_report(alloc, debugger, plan.limits.fuel, &report, plan.witnesses);
     let tally = tally_of(&report);
     drop(report);
@@ -127,7 +134,32 @@ fn tell_at<P: Watch>(
     }
 }
 
-/// The same of the piece of a number, from the start of a script on.
+/// The same of the piece of a number, where there is one. The debugger is at the start of the script.
+fn tell_number<P: Watch>(
+    alloc: Global,
+    debugger: &mut Debugger<'_>,
+    plan: Plan,
+    pieces: &[Piece],
+    number: usize,
+    watch: &mut P,
+) -> Result<Told, CheckFault>
+    requires fuel { plan.limits.fuel ≤ STEPS_MAX }
+    requires standing { standing_of debugger.old ≡ first_standing debugger.old.trail.program debugger.old.trail.mode }
+    requires pieces { pieces.now ≡ numbered 0 (pieces_of debugger.old.trail.program debugger.old.trail.mode plan) }
+    requires few { AreFew debugger.old.trail.program debugger.old.trail.mode plan }
+    ensures { PartTold debugger.old.trail.program debugger.old.trail.mode plan number result }
+{
+    let count = pieces.len();
+    if number >= count {
+        return Err(CheckFault::NoSuchPiece { number, count });
+    }
+    match tell_at(alloc, debugger, plan, &pieces[number], watch) {
+        Ok(told) => Ok(told),
+        Err(_) => Err(CheckFault::Engine(EngineFault::Memory)),
+    }
+}
+
+/// The same from the start of a script on.
 fn tell_piece<P: Watch>(
     alloc: Global,
     code: &Code,
@@ -139,21 +171,15 @@ fn tell_piece<P: Watch>(
     requires { plan.limits.fuel ≤ STEPS_MAX }
     ensures { PartTold code.now.program mode plan number result }
 {
-    let Begun {
-        mut debugger,
-        pieces,
-    } = match begin(alloc, code, mode, plan) {
+    let begun = match begin(alloc, code, mode, plan) {
         Ok(begun) => begun,
         Err(fault) => return Err(refused(fault)),
     };
-    let Some(piece) = pieces.get(number) else {
-        let count = pieces.len();
-        return Err(CheckFault::NoSuchPiece { number, count });
-    };
-    match tell_at(alloc, &mut debugger, plan, &piece.choices.items, watch) {
-        Ok(told) => Ok(told),
-        Err(_) => Err(CheckFault::Engine(EngineFault::Memory)),
-    }
+    let Begun {
+        mut debugger,
+        pieces,
+    } = begun;
+    tell_number(alloc, &mut debugger, plan, &pieces, number, watch)
 }
 
 /// Explores the runs of a script that the piece of a number has, and writes its part of the report to a sink: its leaves numbered from
