@@ -12,20 +12,24 @@ use Rattle.clap.specs.Simple.{names_of, subcommand_of, entered}
 use Rattle.clap.specs.Walk.{Held, Walk, Names, idle, Step, value, trailing, Outcome, plain, nothing_held, finished, settled, walk_from, walked, arg_by_long, arg_by_short, long_or_other, short_or_plain, after_flag, after_step, subcommand_or_other, bundle, bundle_met, subcommand_met}
 use Rattle.clap.proofs.OnLiterals.{clap_on_literals}
 use Rattle.mpd_options.specs.Asked.{Asked, Tool, behind, checker, found_of_command, meant, among_options, runner, server, tracer, verifier, wanted}
-use Rattle.mpd_options.specs.Program.{mpdbg_app}
+use Rattle.mpd_options.specs.Program.{Lies, mpdbg_app, only_deadlock}
 use Rattle.mpd_options.proofs.Ends.{Agrees, fails_first, fails_then}
 use Rattle.mpd_options.proofs.Items.{NamesNone, by_name, called, some_fault, tools}
 use Rattle.mpd_options.proofs.Turns.{State, dd, reads, reads_dashes, reads_letters, reads_long, reads_no_letters, reads_plain, ready, walk_at}
 use Rattle.mpd_options.proofs.Walks.{faults, law, rows_at}
 
-abbrev top : App
-top = built mpdbg_app
+abbrev top : Lies → App
+top lie = built (mpdbg_app (only_deadlock lie))
+
+-- neither the program's own options nor the names of its commands hold the words of `--until`
+abbrev anywhere : Lies
+anywhere = ((0, 0), (0, 0))
 
 abbrev shape : Shape
-shape = top.top
+shape = (top anywhere).top
 
 abbrev names : Names
-names = names_of top
+names = names_of (top anywhere)
 
 abbrev start : Walk
 start = walk_from nothing_held
@@ -46,16 +50,16 @@ no_fault [] seen w name = refl
 no_fault (word ∷ words) seen w name = no_fault words (seen ++ word ∷ []) w name
 
 -- what all words come to, by the walk over them
-abbrev whole_fault : Kinds → Walk → Kinds
-whole_fault ks end =
-    or_else ks (or_else (entered_fault top end.stopped) (or_else (settle_fault shape.rules shape.args_override_self end.held)
-    (or_else (defaults_fault (settled shape.rules end.held).rows shape.rules) (check_fault shape (finished shape.rules end.held) (is_some (entered top end.stopped))))))
+abbrev whole_fault : Lies → Kinds → Walk → Kinds
+whole_fault lie ks end =
+    or_else ks (or_else (entered_fault (top lie) end.stopped) (or_else (settle_fault shape.rules shape.args_override_self end.held)
+    (or_else (defaults_fault (settled shape.rules end.held).rows shape.rules) (check_fault shape (finished shape.rules end.held) (is_some (entered (top lie) end.stopped))))))
 
 abbrev walk_over : List Text → Walk
 walk_over words = fold (walked shape.rules names) start words
 
-all_faults : (words : List Text) → fault_of mpdbg_app words ≡ whole_fault (walk_fault shape names start words) (walk_over words)
-all_faults words = refl
+all_faults : (lie : Lies) (words : List Text) → fault_of (mpdbg_app (only_deadlock lie)) words ≡ whole_fault lie (walk_fault shape names start words) (walk_over words)
+all_faults lie words = refl
 
 -- where nothing is asked for something fails, and else nothing does, and that is what was found
 abbrev pub AgreesAll : Option Asked → Kinds → Option (Text × List Row) → Type 0
@@ -85,27 +89,27 @@ and_nothing (k ∷ ks) = refl
 abbrev at_first : State
 at_first = ready [] None false
 
-whole_command : (t : Tool) (words : List Text) → whole_fault [] (stopped_at start (called t) words) ≡ faults t (walk_at at_first) words
+whole_command : (lie : Lies) (t : Tool) (words : List Text) → whole_fault lie [] (stopped_at start (called t) words) ≡ faults lie t (walk_at at_first) words
 unfolding clap_on_literals
-whole_command tracer words = and_nothing (faults tracer (walk_at at_first) words)
-whole_command runner words = and_nothing (faults runner (walk_at at_first) words)
-whole_command server words = and_nothing (faults server (walk_at at_first) words)
-whole_command checker words = and_nothing (faults checker (walk_at at_first) words)
-whole_command verifier words = and_nothing (faults verifier (walk_at at_first) words)
+whole_command lie tracer words = and_nothing (faults lie tracer (walk_at at_first) words)
+whole_command lie runner words = and_nothing (faults lie runner (walk_at at_first) words)
+whole_command lie server words = and_nothing (faults lie server (walk_at at_first) words)
+whole_command lie checker words = and_nothing (faults lie checker (walk_at at_first) words)
+whole_command lie verifier words = and_nothing (faults lie verifier (walk_at at_first) words)
 
-command_fault : (t : Tool) (words : List Text) → fault_of mpdbg_app (called t ∷ words) ≡ faults t (walk_at at_first) words
-command_fault t words =
-    all_faults (called t ∷ words) ∙ ap (λ ks. whole_fault ks (walk_over (called t ∷ words))) (command_walk t words) ∙ ap (λ end. whole_fault [] end) (behind_command t words) ∙ whole_command t words
+command_fault : (lie : Lies) (t : Tool) (words : List Text) → fault_of (mpdbg_app (only_deadlock lie)) (called t ∷ words) ≡ faults lie t (walk_at at_first) words
+command_fault lie t words =
+    all_faults lie (called t ∷ words) ∙ ap (λ ks. whole_fault lie ks (walk_over (called t ∷ words))) (command_walk t words) ∙ ap (λ end. whole_fault lie [] end) (behind_command t words) ∙ whole_command lie t words
 
-entered_at : (t : Tool) (words : List Text) → entered top (Some (called t, words)) ≡ Some (called t, rows_at t (walk_at at_first) words)
-entered_at tracer words = refl
-entered_at runner words = refl
-entered_at server words = refl
-entered_at checker words = refl
-entered_at verifier words = refl
+entered_at : (lie : Lies) (t : Tool) (words : List Text) → entered (top lie) (Some (called t, words)) ≡ Some (called t, rows_at lie t (walk_at at_first) words)
+entered_at lie tracer words = refl
+entered_at lie runner words = refl
+entered_at lie server words = refl
+entered_at lie checker words = refl
+entered_at lie verifier words = refl
 
-command_found : (t : Tool) (words : List Text) → subcommand_of mpdbg_app (called t ∷ words) ≡ Some (called t, rows_at t (walk_at at_first) words)
-command_found t words = ap (λ (w : Walk). entered top w.stopped) (behind_command t words) ∙ entered_at t words
+command_found : (lie : Lies) (t : Tool) (words : List Text) → subcommand_of (mpdbg_app (only_deadlock lie)) (called t ∷ words) ≡ Some (called t, rows_at lie t (walk_at at_first) words)
+command_found lie t words = ap (λ (w : Walk). entered (top lie) w.stopped) (behind_command t words) ∙ entered_at lie t words
 
 lift : (t : Tool) (o : Option Asked) (ks : Kinds) (rows : List Row) → Agrees t o ks rows → AgreesAll o ks (Some (called t, rows))
 lift t None ks rows h = h
@@ -115,26 +119,26 @@ lift server (Some x) ks rows h = h
 lift checker (Some x) ks rows h = h
 lift verifier (Some x) ks rows h = h
 
-command_law : (t : Tool) (words : List Text) → AgreesAll (wanted t words among_options []) (fault_of mpdbg_app (called t ∷ words)) (subcommand_of mpdbg_app (called t ∷ words))
-command_law t words =
+command_law : (lie : Lies) (t : Tool) (words : List Text) → AgreesAll (wanted t words among_options []) (fault_of (mpdbg_app (only_deadlock lie)) (called t ∷ words)) (subcommand_of (mpdbg_app (only_deadlock lie)) (called t ∷ words))
+command_law lie t words =
     let o = wanted t words among_options [] in
-    let P : Kinds → Type 0 = λ ks. AgreesAll o ks (subcommand_of mpdbg_app (called t ∷ words)) in
-    let Q : Option (Text × List Row) → Type 0 = λ c. AgreesAll o (faults t (walk_at at_first) words) c in
-    subst P (sym (command_fault t words))
-    (subst Q (sym (command_found t words)) (lift t o (faults t (walk_at at_first) words) (rows_at t (walk_at at_first) words) (law t words at_first (tt, tt, (λ e. refl)))))
+    let P : Kinds → Type 0 = λ ks. AgreesAll o ks (subcommand_of (mpdbg_app (only_deadlock lie)) (called t ∷ words)) in
+    let Q : Option (Text × List Row) → Type 0 = λ c. AgreesAll o (faults lie t (walk_at at_first) words) c in
+    subst P (sym (command_fault lie t words))
+    (subst Q (sym (command_found lie t words)) (lift t o (faults lie t (walk_at at_first) words) (rows_at lie t (walk_at at_first) words) (law lie t words at_first (tt, tt, (λ e. refl)))))
 
 -- ---- another first word
 
-fails_all : (words : List Text) → walk_fault shape names start words ≢ [] → fault_of mpdbg_app words ≢ []
-fails_all words fails = let P : Kinds → Type 0 = λ ks. ks ≢ [] in subst P (sym (all_faults words)) (fails_first (walk_fault shape names start words) _ fails)
+fails_all : (lie : Lies) (words : List Text) → walk_fault shape names start words ≢ [] → fault_of (mpdbg_app (only_deadlock lie)) words ≢ []
+fails_all lie words fails = let P : Kinds → Type 0 = λ ks. ks ≢ [] in subst P (sym (all_faults lie words)) (fails_first (walk_fault shape names start words) _ fails)
 
-fails_at_once : (word : Text) (words : List Text) → turn_fault shape names start word ≢ [] → fault_of mpdbg_app (word ∷ words) ≢ []
+fails_at_once : (lie : Lies) (word : Text) (words : List Text) → turn_fault shape names start word ≢ [] → fault_of (mpdbg_app (only_deadlock lie)) (word ∷ words) ≢ []
 unfolding walk_fault
-fails_at_once word words fails = fails_all (word ∷ words) (fails_first (turn_fault shape names start word) _ fails)
+fails_at_once lie word words fails = fails_all lie (word ∷ words) (fails_first (turn_fault shape names start word) _ fails)
 
-help_word : (words : List Text) → fault_of mpdbg_app (codes "help" ∷ words) ≢ []
+help_word : (lie : Lies) (words : List Text) → fault_of (mpdbg_app (only_deadlock lie)) (codes "help" ∷ words) ≢ []
 unfolding clap_on_literals
-help_word words = fails_at_once (codes "help") words (some_fault _ refl)
+help_word lie words = fails_at_once lie (codes "help") words (some_fault _ refl)
 
 top_help : (name : Text) → bytes_eq (codes "help") name ≡ true → arg_by_long shape.rules name ≡ arg_by_long shape.rules (codes "help")
 top_help name e = ap (λ n. arg_by_long shape.rules n) (sym ((bytes_eq-Decides (codes "help") name).0 e))
@@ -238,35 +242,35 @@ dashes_turn word other d =
     ap (λ m. let step = subcommand_or_other shape.rules m idle 1 word nothing_held in after_step shape.rules word start step.0 step.1) (unmet word other)
     ∙ ap (λ b. let step = if b then (let q : Held × Step = (nothing_held, trailing 1) in q) else long_or_other shape.rules idle word (long_of word) nothing_held in after_step shape.rules word start step.0 step.1) d
 
-dashes_fail : (words : List Text) → whole_fault (walk_fault shape names (record start { is_trailing = true }) words) (fold (walked shape.rules names) (record start { is_trailing = true }) words) ≢ []
+dashes_fail : (lie : Lies) (words : List Text) → whole_fault lie (walk_fault shape names (record start { is_trailing = true }) words) (fold (walked shape.rules names) (record start { is_trailing = true }) words) ≢ []
 unfolding clap_on_literals
-dashes_fail [] = some_fault _ refl
-dashes_fail (word ∷ words) = some_fault _ refl
+dashes_fail lie [] = some_fault _ refl
+dashes_fail lie (word ∷ words) = some_fault _ refl
 
-behind_turn : (ks ms : Kinds) (end : Walk) → whole_fault ms end ≢ [] → whole_fault (or_else ks ms) end ≢ []
-behind_turn [] ms end fails = fails
-behind_turn (k ∷ ks) ms end fails = λ e. cc
+behind_turn : (lie : Lies) (ks ms : Kinds) (end : Walk) → whole_fault lie ms end ≢ [] → whole_fault lie (or_else ks ms) end ≢ []
+behind_turn lie [] ms end fails = fails
+behind_turn lie (k ∷ ks) ms end fails = λ e. cc
 
-first_dashes : (word : Text) (words : List Text) → IsOther word → bytes_eq word dd ≡ true → fault_of mpdbg_app (word ∷ words) ≢ []
+first_dashes : (lie : Lies) (word : Text) (words : List Text) → IsOther word → bytes_eq word dd ≡ true → fault_of (mpdbg_app (only_deadlock lie)) (word ∷ words) ≢ []
 unfolding walk_fault
-first_dashes word words other d =
+first_dashes lie word words other d =
     let P : Kinds → Type 0 = λ ks. ks ≢ [] in
-    let Q : Walk → Type 0 = λ w. whole_fault (or_else (turn_fault shape names start word) (walk_fault shape names w words)) (fold (walked shape.rules names) w words) ≢ [] in
-    subst P (sym (all_faults (word ∷ words))) (subst Q (sym (dashes_turn word other d))
-    (behind_turn (turn_fault shape names start word) (walk_fault shape names (record start { is_trailing = true }) words) (fold (walked shape.rules names) (record start { is_trailing = true }) words) (dashes_fail words)))
+    let Q : Walk → Type 0 = λ w. whole_fault lie (or_else (turn_fault shape names start word) (walk_fault shape names w words)) (fold (walked shape.rules names) w words) ≢ [] in
+    subst P (sym (all_faults lie (word ∷ words))) (subst Q (sym (dashes_turn word other d))
+    (behind_turn lie (turn_fault shape names start word) (walk_fault shape names (record start { is_trailing = true }) words) (fold (walked shape.rules names) (record start { is_trailing = true }) words) (dashes_fail lie words)))
 
 stray_bundle : (word letters : Text) → chars letters ≡ [] → (let met = short_or_plain shape.rules idle word (Some letters) nothing_held in step_fault shape 1 met.0 met.1) ≢ []
 stray_bundle word letters e =
     let P : Held × Outcome → Type 0 = λ q. bundle_turn word q ≢ [] in
     subst P (sym (no_top_bundle letters e)) (stray_fails word)
 
-first_word : (word : Text) (words : List Text) → IsOther word → fault_of mpdbg_app (word ∷ words) ≢ []
-first_word word words other =
+first_word : (lie : Lies) (word : Text) (words : List Text) → IsOther word → fault_of (mpdbg_app (only_deadlock lie)) (word ∷ words) ≢ []
+first_word lie word words other =
     let P : Kinds → Type 0 = λ ks. ks ≢ [] in
-    let now : (ks : Kinds) → met_turn None word ≡ ks → ks ≢ [] → fault_of mpdbg_app (word ∷ words) ≢ [] =
-    λ ks e fails. fails_at_once word words (subst P (sym (top_turns word other ∙ e)) fails) in
+    let now : (ks : Kinds) → met_turn None word ≡ ks → ks ≢ [] → fault_of (mpdbg_app (only_deadlock lie)) (word ∷ words) ≢ [] =
+    λ ks e fails. fails_at_once lie word words (subst P (sym (top_turns word other ∙ e)) fails) in
     elim (reads word) [
-      | reads_dashes d ↦ first_dashes word words other d
+      | reads_dashes d ↦ first_dashes lie word words other d
       | reads_long name v d l ↦ now _ (as_long word (Some (name, v)) d l) (fails_first _ _ (top_long name v))
       | reads_letters letters x xs d l s e ↦ now _ (as_short word (Some letters) d l s) (fails_first _ _ (top_letters letters x xs e))
       | reads_no_letters letters d l s e ↦ now _ (as_short word (Some letters) d l s) (fails_then (bundle_fault shape.rules false letters nothing_held) _ (stray_bundle word letters e))
@@ -284,10 +288,10 @@ turned_about name word e = elim (bytes_eq name word) as (λ b. bytes_eq name wor
     same_text : (x : Text) → bytes_eq x x ≡ true
     same_text x = (bytes_eq-Decides x x).1 refl
 
-other_word : (word : Text) (words : List Text) → NamesNone word tools → fault_of mpdbg_app (word ∷ words) ≢ []
-other_word word words n = elim (bytes_eq (codes "help") word) as (λ b. bytes_eq (codes "help") word ≡ b → fault_of mpdbg_app (word ∷ words) ≢ []) [
-  | true ↦ λ e. let P : Text → Type 0 = λ w. fault_of mpdbg_app (w ∷ words) ≢ [] in subst P ((bytes_eq-Decides (codes "help") word).0 e) (help_word words)
-  | false ↦ λ e. first_word word words (
+other_word : (lie : Lies) (word : Text) (words : List Text) → NamesNone word tools → fault_of (mpdbg_app (only_deadlock lie)) (word ∷ words) ≢ []
+other_word lie word words n = elim (bytes_eq (codes "help") word) as (λ b. bytes_eq (codes "help") word ≡ b → fault_of (mpdbg_app (only_deadlock lie)) (word ∷ words) ≢ []) [
+  | true ↦ λ e. let P : Text → Type 0 = λ w. fault_of (mpdbg_app (only_deadlock lie)) (w ∷ words) ≢ [] in subst P ((bytes_eq-Decides (codes "help") word).0 e) (help_word lie words)
+  | false ↦ λ e. first_word lie word words (
     turned_about (codes "trace") word n.0,
     turned_about (codes "run") word n.1.0,
     turned_about (codes "serve") word n.1.1.0,
@@ -298,17 +302,17 @@ other_word word words n = elim (bytes_eq (codes "help") word) as (λ b. bytes_eq
 ] refl
 
 -- the law where the first word is this command's
-abbrev LawOf : Text → List Text → Option Tool → Type 0
-LawOf word words o = AgreesAll (behind o words) (fault_of mpdbg_app (word ∷ words)) (subcommand_of mpdbg_app (word ∷ words))
+abbrev LawOf : Lies → Text → List Text → Option Tool → Type 0
+LawOf lie word words o = AgreesAll (behind o words) (fault_of (mpdbg_app (only_deadlock lie)) (word ∷ words)) (subcommand_of (mpdbg_app (only_deadlock lie)) (word ∷ words))
 
-named_law : (t : Tool) (word : Text) (words : List Text) → bytes_eq word (called t) ≡ true → LawOf word words (Some t)
-named_law t word words e = let P : Text → Type 0 = λ w. LawOf w words (Some t) in subst P (sym ((bytes_eq-Decides word (called t)).0 e)) (command_law t words)
+named_law : (lie : Lies) (t : Tool) (word : Text) (words : List Text) → bytes_eq word (called t) ≡ true → LawOf lie word words (Some t)
+named_law lie t word words e = let P : Text → Type 0 = λ w. LawOf lie w words (Some t) in subst P (sym ((bytes_eq-Decides word (called t)).0 e)) (command_law lie t words)
 
-pub meant_law : (word : Text) (words : List Text) → AgreesAll (meant (word ∷ words)) (fault_of mpdbg_app (word ∷ words)) (subcommand_of mpdbg_app (word ∷ words))
-meant_law word words = by_name (LawOf word words) word tools (λ t e. named_law t word words e) (λ n. other_word word words n)
+pub meant_law : (lie : Lies) (word : Text) (words : List Text) → AgreesAll (meant (word ∷ words)) (fault_of (mpdbg_app (only_deadlock lie)) (word ∷ words)) (subcommand_of (mpdbg_app (only_deadlock lie)) (word ∷ words))
+meant_law lie word words = by_name (LawOf lie word words) word tools (λ t e. named_law lie t word words e) (λ n. other_word lie word words n)
 
-pub is_plain_app : is_simple_and_free mpdbg_app ≡ true
+pub is_plain_app : (lie : Lies) → is_simple_and_free (mpdbg_app (only_deadlock lie)) ≡ true
 unfolding clap_on_literals
-is_plain_app = refl
+is_plain_app lie = refl
 
 pub ruleset reading = (meant_law, is_plain_app)

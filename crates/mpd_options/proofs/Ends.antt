@@ -14,8 +14,10 @@ use Rattle.clap.specs.declared.builder.value_parser.Reading.{Reading}
 use Rattle.clap.specs.declared.error.kind.ErrorKind.TheVariants as kind
 use Rattle.clap.specs.declared.parser.matches.ValueSource.TheVariants.{DefaultValue}
 use Rattle.clap.proofs.OnLiterals.{clap_on_literals}
-use Rattle.mpd_options.specs.Asked.{Asked, Item, Said, Tool, checker, default_of, fits, found, found_check, found_in, found_of_file, found_serve, found_verify, most_clients, most_fuel, most_port, most_runs, name_of, or_default, said_of, text_of, the_clients, the_file, the_fuel, the_mode, the_port, the_runs, the_witness, the_complete, the_witness_file, run, runner, server, trace, tracer, verifier}
+use Rattle.mpd_options.specs.Asked.{Asked, Item, Said, Tool, checker, default_of, fits, found, found_check, found_in, found_of_file, found_options, found_serve, found_verify, most_clients, most_fuel, most_piece, most_port, most_runs, most_split, most_workers, name_of, number_if_given, options_of_items, or_default, said_of, text_in, text_of, the_clients, the_complete, the_file, the_fuel, the_mode, the_piece, the_pieces, the_port, the_runs, the_split, the_until, the_witness, the_witness_file, the_workers, run, runner, server, trace, tracer, until_bad_in, verifier}
 use Rattle.mpd_options.specs.Numbers.{flag_in, number_in}
+use Rattle.mpd_options.specs.declared.options.CheckOptions.{CheckOptions}
+use Rattle.mpd_options.specs.Program.{Lies}
 use Rattle.mpd_options.proofs.Items.{Valid, arg, by_id, has_is, has_said, keeps, made, named_row, or_row, row_at, row_at_more, row_for, row_said, rows_for, rules, sub, used_once, used_well, values_at_end}
 
 -- ---- the defaults
@@ -69,72 +71,77 @@ with_defaults_at id (a ∷ rest) rows =
 abbrev default_row : Item → Option Row
 default_row i = option_map (λ v. row_for i v DefaultValue) (default_of i)
 
-tracer_file : rules_row (name_of the_file) (rules tracer) ≡ default_row the_file
+tracer_file : (lie : Lies) → rules_row (name_of the_file) (rules lie tracer) ≡ default_row the_file
 unfolding clap_on_literals
-tracer_file = refl
+tracer_file lie = refl
 
-tracer_mode : rules_row (name_of the_mode) (rules tracer) ≡ default_row the_mode
+tracer_mode : (lie : Lies) → rules_row (name_of the_mode) (rules lie tracer) ≡ default_row the_mode
 unfolding clap_on_literals
-tracer_mode = refl
+tracer_mode lie = refl
 
-runner_file : rules_row (name_of the_file) (rules runner) ≡ default_row the_file
+runner_file : (lie : Lies) → rules_row (name_of the_file) (rules lie runner) ≡ default_row the_file
 unfolding clap_on_literals
-runner_file = refl
+runner_file lie = refl
 
-runner_mode : rules_row (name_of the_mode) (rules runner) ≡ default_row the_mode
+runner_mode : (lie : Lies) → rules_row (name_of the_mode) (rules lie runner) ≡ default_row the_mode
 unfolding clap_on_literals
-runner_mode = refl
+runner_mode lie = refl
 
-server_file : rules_row (name_of the_file) (rules server) ≡ default_row the_file
+server_file : (lie : Lies) → rules_row (name_of the_file) (rules lie server) ≡ default_row the_file
 unfolding clap_on_literals
-server_file = refl
+server_file lie = refl
 
-server_mode : rules_row (name_of the_mode) (rules server) ≡ default_row the_mode
+server_mode : (lie : Lies) → rules_row (name_of the_mode) (rules lie server) ≡ default_row the_mode
 unfolding clap_on_literals
-server_mode = refl
+server_mode lie = refl
 
-server_port : rules_row (name_of the_port) (rules server) ≡ default_row the_port
+server_port : (lie : Lies) → rules_row (name_of the_port) (rules lie server) ≡ default_row the_port
 unfolding clap_on_literals
-server_port = refl
+server_port lie = refl
 
-server_clients : rules_row (name_of the_clients) (rules server) ≡ default_row the_clients
+server_clients : (lie : Lies) → rules_row (name_of the_clients) (rules lie server) ≡ default_row the_clients
 unfolding clap_on_literals
-server_clients = refl
+server_clients lie = refl
 
-checker_row : (i : Item) → rules_row (name_of i) (rules checker) ≡ default_row i
+checker_row : (lie : Lies) (i : Item) → rules_row (name_of i) (rules lie checker) ≡ default_row i
 unfolding clap_on_literals
-checker_row the_file = refl
-checker_row the_witness_file = refl
-checker_row the_mode = refl
-checker_row the_port = refl
-checker_row the_clients = refl
-checker_row the_runs = refl
-checker_row the_fuel = refl
-checker_row the_witness = refl
-checker_row the_complete = refl
+checker_row lie the_file = refl
+checker_row lie the_witness_file = refl
+checker_row lie the_mode = refl
+checker_row lie the_port = refl
+checker_row lie the_clients = refl
+checker_row lie the_runs = refl
+checker_row lie the_fuel = refl
+checker_row lie the_split = refl
+checker_row lie the_workers = refl
+checker_row lie the_until = refl
+checker_row lie the_witness = refl
+checker_row lie the_complete = refl
+checker_row lie the_piece = refl
+checker_row lie the_pieces = refl
 
-verifier_file : rules_row (name_of the_file) (rules verifier) ≡ default_row the_file
+verifier_file : (lie : Lies) → rules_row (name_of the_file) (rules lie verifier) ≡ default_row the_file
 unfolding clap_on_literals
-verifier_file = refl
+verifier_file lie = refl
 
-verifier_witness : rules_row (name_of the_witness_file) (rules verifier) ≡ default_row the_witness_file
+verifier_witness : (lie : Lies) → rules_row (name_of the_witness_file) (rules lie verifier) ≡ default_row the_witness_file
 unfolding clap_on_literals
-verifier_witness = refl
+verifier_witness lie = refl
 
-verifier_mode : rules_row (name_of the_mode) (rules verifier) ≡ default_row the_mode
+verifier_mode : (lie : Lies) → rules_row (name_of the_mode) (rules lie verifier) ≡ default_row the_mode
 unfolding clap_on_literals
-verifier_mode = refl
+verifier_mode lie = refl
 
 -- ---- what is found at last
 
-abbrev ended : Tool → Said → List Row
-ended t said = fold with_default (rows_for said) (rules t)
+abbrev ended : Lies → Tool → Said → List Row
+ended lie t said = fold with_default (rows_for said) (rules lie t)
 
-abbrev Owns : Tool → Item → Type 0
-Owns t i = rules_row (name_of i) (rules t) ≡ default_row i
+abbrev Owns : Lies → Tool → Item → Type 0
+Owns lie t i = rules_row (name_of i) (rules lie t) ≡ default_row i
 
-row_ended : (t : Tool) (i : Item) (said : Said) → Owns t i → Valid said → row_at (name_of i) (ended t said) ≡ or_row (named_row (name_of i) (said_of i said)) (default_row i)
-row_ended t i said own h = with_defaults_at (name_of i) (rules t) (rows_for said) ∙ ap₂ or_row (row_said (name_of i) said h) own
+row_ended : (lie : Lies) (t : Tool) (i : Item) (said : Said) → Owns lie t i → Valid said → row_at (name_of i) (ended lie t said) ≡ or_row (named_row (name_of i) (said_of i said)) (default_row i)
+row_ended lie t i said own h = with_defaults_at (name_of i) (rules lie t) (rows_for said) ∙ ap₂ or_row (row_said (name_of i) said h) own
 
 first_text : (i : Item) (x y : Option Text) → option_and_then (λ (r : Row). slice_get r.values 0) (or_row (named_row (name_of i) x) (option_map (λ v. row_for i v DefaultValue) y)) ≡ or_default x y
 first_text i None None = refl
@@ -146,35 +153,44 @@ one_text i None None = refl
 one_text i None (Some v) = refl
 one_text i (Some w) y = refl
 
-first_ended : (t : Tool) (i : Item) (said : Said) → Owns t i → Valid said → first_of (name_of i) (ended t said) ≡ text_of said i
-first_ended t i said own h = ap (option_and_then (λ (r : Row). slice_get r.values 0)) (row_ended t i said own h) ∙ first_text i (said_of i said) (default_of i)
+first_ended : (lie : Lies) (t : Tool) (i : Item) (said : Said) → Owns lie t i → Valid said → first_of (name_of i) (ended lie t said) ≡ text_of said i
+first_ended lie t i said own h = ap (option_and_then (λ (r : Row). slice_get r.values 0)) (row_ended lie t i said own h) ∙ first_text i (said_of i said) (default_of i)
 
-one_ended : (t : Tool) (i : Item) (said : Said) → Owns t i → Valid said → one_of (name_of i) (ended t said) ≡ text_of said i
-one_ended t i said own h = ap (option_and_then row_text) (row_ended t i said own h) ∙ one_text i (said_of i said) (default_of i)
+one_ended : (lie : Lies) (t : Tool) (i : Item) (said : Said) → Owns lie t i → Valid said → one_of (name_of i) (ended lie t said) ≡ text_of said i
+one_ended lie t i said own h = ap (option_and_then row_text) (row_ended lie t i said own h) ∙ one_text i (said_of i said) (default_of i)
 
 four_same : (f f' m m' p p' c c' : Option Text) → f ≡ f' → m ≡ m' → p ≡ p' → c ≡ c'
     → found_serve f m (option_and_then (number_in 1 most_port) p) (option_and_then (number_in 1 most_clients) c) ≡ found_serve f' m' (option_and_then (number_in 1 most_port) p') (option_and_then (number_in 1 most_clients) c')
 four_same f f' m m' p p' c c' a b d e = rw (a, b, d, e) refl
 
-six_same : (f f' m m' r r' n n' w w' x x' : Option Text) → f ≡ f' → m ≡ m' → r ≡ r' → n ≡ n' → w ≡ w' → x ≡ x'
-    → found_check f m (option_and_then (number_in 1 most_runs) r) (option_and_then (number_in 1 most_fuel) n) (option_and_then flag_in w) (option_and_then flag_in x)
-    ≡ found_check f' m' (option_and_then (number_in 1 most_runs) r') (option_and_then (number_in 1 most_fuel) n') (option_and_then flag_in w') (option_and_then flag_in x')
-six_same f f' m m' r r' n n' w w' x x' a b c d e g = rw (a, b, c, d, e, g) refl
+-- each item has a row of its own in a look for deadlocks, or none
+text_ended : (lie : Lies) (i : Item) (said : Said) → Valid said → text_in (ended lie checker said) i ≡ text_of said i
+text_ended lie the_file said h = first_ended lie checker the_file said (checker_row lie the_file) h
+text_ended lie the_witness_file said h = first_ended lie checker the_witness_file said (checker_row lie the_witness_file) h
+text_ended lie the_mode said h = first_ended lie checker the_mode said (checker_row lie the_mode) h
+text_ended lie the_port said h = one_ended lie checker the_port said (checker_row lie the_port) h
+text_ended lie the_clients said h = one_ended lie checker the_clients said (checker_row lie the_clients) h
+text_ended lie the_runs said h = one_ended lie checker the_runs said (checker_row lie the_runs) h
+text_ended lie the_fuel said h = one_ended lie checker the_fuel said (checker_row lie the_fuel) h
+text_ended lie the_split said h = one_ended lie checker the_split said (checker_row lie the_split) h
+text_ended lie the_workers said h = one_ended lie checker the_workers said (checker_row lie the_workers) h
+text_ended lie the_until said h = first_ended lie checker the_until said (checker_row lie the_until) h
+text_ended lie the_witness said h = one_ended lie checker the_witness said (checker_row lie the_witness) h
+text_ended lie the_complete said h = one_ended lie checker the_complete said (checker_row lie the_complete) h
+text_ended lie the_piece said h = one_ended lie checker the_piece said (checker_row lie the_piece) h
+text_ended lie the_pieces said h = one_ended lie checker the_pieces said (checker_row lie the_pieces) h
 
 three_same : (f f' w w' m m' : Option Text) → f ≡ f' → w ≡ w' → m ≡ m' → found_verify f w m ≡ found_verify f' w' m'
 three_same f f' w w' m m' a b c = rw (a, b, c) refl
 
-pub found_ended : (t : Tool) (said : Said) → Valid said → found_in t (ended t said) ≡ found t (text_of said)
-found_ended tracer said h = ap₂ (found_of_file trace) (first_ended tracer the_file said tracer_file h) (first_ended tracer the_mode said tracer_mode h)
-found_ended runner said h = ap₂ (found_of_file run) (first_ended runner the_file said runner_file h) (first_ended runner the_mode said runner_mode h)
-found_ended server said h =
-    four_same _ _ _ _ _ _ _ _ (first_ended server the_file said server_file h) (first_ended server the_mode said server_mode h) (one_ended server the_port said server_port h) (one_ended server the_clients said server_clients h)
-found_ended checker said h =
-    six_same _ _ _ _ _ _ _ _ _ _ _ _ (first_ended checker the_file said (checker_row the_file) h) (first_ended checker the_mode said (checker_row the_mode) h)
-    (one_ended checker the_runs said (checker_row the_runs) h) (one_ended checker the_fuel said (checker_row the_fuel) h) (one_ended checker the_witness said (checker_row the_witness) h)
-    (one_ended checker the_complete said (checker_row the_complete) h)
-found_ended verifier said h =
-    three_same _ _ _ _ _ _ (first_ended verifier the_file said verifier_file h) (first_ended verifier the_witness_file said verifier_witness h) (first_ended verifier the_mode said verifier_mode h)
+pub found_ended : (lie : Lies) (t : Tool) (said : Said) → Valid said → found_in t (ended lie t said) ≡ found t (text_of said)
+found_ended lie tracer said h = ap₂ (found_of_file trace) (first_ended lie tracer the_file said (tracer_file lie) h) (first_ended lie tracer the_mode said (tracer_mode lie) h)
+found_ended lie runner said h = ap₂ (found_of_file run) (first_ended lie runner the_file said (runner_file lie) h) (first_ended lie runner the_mode said (runner_mode lie) h)
+found_ended lie server said h =
+    four_same _ _ _ _ _ _ _ _ (first_ended lie server the_file said (server_file lie) h) (first_ended lie server the_mode said (server_mode lie) h) (one_ended lie server the_port said (server_port lie) h) (one_ended lie server the_clients said (server_clients lie) h)
+found_ended lie checker said h = let texts : text_in (ended lie checker said) ≡ text_of said = λ j i. text_ended lie i said h j in ap (found checker) texts
+found_ended lie verifier said h =
+    three_same _ _ _ _ _ _ (first_ended lie verifier the_file said (verifier_file lie) h) (first_ended lie verifier the_witness_file said (verifier_witness lie) h) (first_ended lie verifier the_mode said (verifier_mode lie) h)
 
 -- ---- something is asked for where all was said that must be
 
@@ -185,7 +201,13 @@ item_named name =
     else (if bytes_eq name (codes "mode") then Some the_mode
     else (if bytes_eq name (codes "port") then Some the_port
     else (if bytes_eq name (codes "clients") then Some the_clients
-    else (if bytes_eq name (codes "runs") then Some the_runs else (if bytes_eq name (codes "fuel") then Some the_fuel else (if bytes_eq name (codes "witness") then Some the_witness else (if bytes_eq name (codes "complete") then Some the_complete else None))))))))
+    else (if bytes_eq name (codes "runs") then Some the_runs
+    else (if bytes_eq name (codes "fuel") then Some the_fuel
+    else (if bytes_eq name (codes "split") then Some the_split
+    else (if bytes_eq name (codes "workers") then Some the_workers
+    else (if bytes_eq name (codes "until") then Some the_until
+    else (if bytes_eq name (codes "witness") then Some the_witness
+    else (if bytes_eq name (codes "complete") then Some the_complete else (if bytes_eq name (codes "piece") then Some the_piece else (if bytes_eq name (codes "pieces") then Some the_pieces else None)))))))))))))
 
 named_is : (i : Item) → item_named (name_of i) ≡ Some i
 named_is the_file = refl
@@ -195,8 +217,13 @@ named_is the_port = refl
 named_is the_clients = refl
 named_is the_runs = refl
 named_is the_fuel = refl
+named_is the_split = refl
+named_is the_workers = refl
+named_is the_until = refl
 named_is the_witness = refl
 named_is the_complete = refl
+named_is the_piece = refl
+named_is the_pieces = refl
 
 same_item : (i j : Item) → bytes_eq (name_of i) (name_of j) ≡ true → i ≡ j
 same_item i j e = (let same : Some i ≡ Some j = sym (named_is i) ∙ ap item_named ((bytes_eq-Decides (name_of i) (name_of j)).0 e) ∙ named_is j in cc)
@@ -233,15 +260,54 @@ is_serve (Some f) (Some m) d (Some p) None = refl
 is_serve (Some f) None d (Some p) (Some c) = refl
 is_serve (Some f) (Some m) d (Some p) (Some c) = refl
 
-is_check : (f m : Option Text) (d : Text) (r n : Option ℕ) (w x : Option Bool) → is_some r ≡ true → is_some n ≡ true → is_some w ≡ true → is_some x ≡ true
-    → is_some (found_check (or_default f None) (or_default m (Some d)) r n w x) ≡ is_some f
-is_check None m d r n w x a b c e = refl
-is_check (Some f) None d (Some r) (Some n) (Some w) (Some x) a b c e = refl
-is_check (Some f) (Some m) d (Some r) (Some n) (Some w) (Some x) a b c e = refl
-is_check (Some f) m d None n w x a b c e = cc
-is_check (Some f) m d (Some r) None w x a b c e = cc
-is_check (Some f) m d (Some r) (Some n) None x a b c e = cc
-is_check (Some f) m d (Some r) (Some n) (Some w) None a b c e = cc
+-- each of these is there
+all_there : (r n s k : Option ℕ) (u w x : Option Bool) (i : Option (Option ℕ)) (p : Option Bool) → is_some r ≡ true → is_some n ≡ true → is_some s ≡ true → is_some k ≡ true → is_some u ≡ true → is_some w ≡ true
+    → is_some x ≡ true → is_some i ≡ true → is_some p ≡ true → is_some (options_of_items r n s k u w x i p) ≡ true
+all_there (Some r) (Some n) (Some s) (Some k) (Some u) (Some w) (Some x) (Some i) (Some p) a b c d e f g h j = refl
+all_there None n s k u w x i p a b c d e f g h j = cc
+all_there (Some r) None s k u w x i p a b c d e f g h j = cc
+all_there (Some r) (Some n) None k u w x i p a b c d e f g h j = cc
+all_there (Some r) (Some n) (Some s) None u w x i p a b c d e f g h j = cc
+all_there (Some r) (Some n) (Some s) (Some k) None w x i p a b c d e f g h j = cc
+all_there (Some r) (Some n) (Some s) (Some k) (Some u) None x i p a b c d e f g h j = cc
+all_there (Some r) (Some n) (Some s) (Some k) (Some u) (Some w) None i p a b c d e f g h j = cc
+all_there (Some r) (Some n) (Some s) (Some k) (Some u) (Some w) (Some x) None p a b c d e f g h j = cc
+all_there (Some r) (Some n) (Some s) (Some k) (Some u) (Some w) (Some x) (Some i) None a b c d e f g h j = cc
+
+-- a number that need not be there
+given_number : (low high : ℕ) (said : Option Text) → ((v : Text) → said ≡ Some v → is_some (number_in low high v) ≡ true) → is_some (number_if_given low high (or_default said None)) ≡ true
+given_number low high None h = refl
+given_number low high (Some v) h = some_kept (number_in low high v) (h v refl)
+  where
+    some_kept : (o : Option ℕ) → is_some o ≡ true → is_some (option_map Some o) ≡ true
+    some_kept None e = cc
+    some_kept (Some n) e = refl
+
+-- a word of where the report ends, which need not be there
+given_until : (said : Option Text) → ((v : Text) → said ≡ Some v → bytes_eq v (codes "deadlock") ≡ true) → is_some (until_bad_in (or_default said None)) ≡ true
+given_until None h = refl
+given_until (Some v) h = ap (λ b. is_some (if b then Some true else None)) (h v refl)
+
+options_there : (said : Said) → Valid said → is_some (found_options (text_of said)) ≡ true
+options_there said h =
+    all_there (option_and_then (number_in 1 most_runs) (text_of said the_runs)) (option_and_then (number_in 1 most_fuel) (text_of said the_fuel))
+    (option_and_then (number_in 0 most_split) (text_of said the_split)) (option_and_then (number_in 0 most_workers) (text_of said the_workers)) (until_bad_in (text_of said the_until))
+    (option_and_then flag_in (text_of said the_witness)) (option_and_then flag_in (text_of said the_complete)) (number_if_given 0 most_piece (text_of said the_piece)) (option_and_then flag_in (text_of said the_pieces))
+    (read_said (number_in 1 most_runs) (codes "1000") (said_of the_runs said) refl (λ v e. said_fits the_runs v said h e))
+    (read_said (number_in 1 most_fuel) (codes "100000") (said_of the_fuel said) refl (λ v e. said_fits the_fuel v said h e))
+    (read_said (number_in 0 most_split) (codes "1") (said_of the_split said) refl (λ v e. said_fits the_split v said h e))
+    (read_said (number_in 0 most_workers) (codes "4") (said_of the_workers said) refl (λ v e. said_fits the_workers v said h e))
+    (given_until (said_of the_until said) (λ v e. said_fits the_until v said h e))
+    (read_said flag_in (codes "false") (said_of the_witness said) refl (λ v e. said_fits the_witness v said h e))
+    (read_said flag_in (codes "false") (said_of the_complete said) refl (λ v e. said_fits the_complete v said h e))
+    (given_number 0 most_piece (said_of the_piece said) (λ v e. said_fits the_piece v said h e))
+    (read_said flag_in (codes "false") (said_of the_pieces said) refl (λ v e. said_fits the_pieces v said h e))
+
+is_check : (f m : Option Text) (d : Text) (o : Option CheckOptions) → is_some o ≡ true → is_some (found_check (or_default f None) (or_default m (Some d)) o) ≡ is_some f
+is_check None m d o e = refl
+is_check (Some f) None d (Some o) e = refl
+is_check (Some f) (Some m) d (Some o) e = refl
+is_check (Some f) m d None e = cc
 
 is_verify : (f w m : Option Text) (d : Text) → is_some (found_verify (or_default f None) (or_default w None) (or_default m (Some d))) ≡ (is_some f && is_some w)
 is_verify None w m d = refl
@@ -268,13 +334,7 @@ asks_if_needed server said h =
     is_serve (said_of the_file said) (said_of the_mode said) (codes "rendezvous") (option_and_then (number_in 1 most_port) (text_of said the_port)) (option_and_then (number_in 1 most_clients) (text_of said the_clients))
     ∙ ap₂ (λ p c. is_said said the_file && (p && c)) (read_needed (number_in 1 most_port) (said_of the_port said) (λ v e. said_fits the_port v said h e))
     (read_needed (number_in 1 most_clients) (said_of the_clients said) (λ v e. said_fits the_clients v said h e))
-asks_if_needed checker said h =
-    is_check (said_of the_file said) (said_of the_mode said) (codes "rendezvous") (option_and_then (number_in 1 most_runs) (text_of said the_runs)) (option_and_then (number_in 1 most_fuel) (text_of said the_fuel)) (option_and_then flag_in (text_of said the_witness))
-    (option_and_then flag_in (text_of said the_complete))
-    (read_said (number_in 1 most_runs) (codes "1000") (said_of the_runs said) refl (λ v e. said_fits the_runs v said h e))
-    (read_said (number_in 1 most_fuel) (codes "100000") (said_of the_fuel said) refl (λ v e. said_fits the_fuel v said h e))
-    (read_said flag_in (codes "false") (said_of the_witness said) refl (λ v e. said_fits the_witness v said h e))
-    (read_said flag_in (codes "false") (said_of the_complete said) refl (λ v e. said_fits the_complete v said h e))
+asks_if_needed checker said h = is_check (said_of the_file said) (said_of the_mode said) (codes "rendezvous") (found_options (text_of said)) (options_there said h)
 asks_if_needed verifier said h = is_verify (said_of the_file said) (said_of the_witness_file said) (said_of the_mode said) (codes "rendezvous")
 
 -- ---- faults at the end
@@ -288,17 +348,17 @@ given_row i x (Some v) e = cc
 abbrev is_given_in : List Row → Item → Bool
 is_given_in rows i = is_given (name_of i) rows
 
-given_said : (t : Tool) (i : Item) (said : Said) → Owns t i → default_of i ≡ None → Valid said → is_given_in (ended t said) i ≡ is_said said i
-given_said t i said own needed h =
-    ap (λ o. option_map_or (λ (r : Row). explicit_source r.source) o false) (row_ended t i said own h) ∙ given_row i (said_of i said) (default_of i) needed
+given_said : (lie : Lies) (t : Tool) (i : Item) (said : Said) → Owns lie t i → default_of i ≡ None → Valid said → is_given_in (ended lie t said) i ≡ is_said said i
+given_said lie t i said own needed h =
+    ap (λ o. option_map_or (λ (r : Row). explicit_source r.source) o false) (row_ended lie t i said own h) ∙ given_row i (said_of i said) (default_of i) needed
 
-needed_given : (t : Tool) (said : Said) → Valid said → has_needed t (is_given_in (ended t said)) ≡ has_needed t (is_said said)
-needed_given tracer said h = given_said tracer the_file said tracer_file refl h
-needed_given runner said h = given_said runner the_file said runner_file refl h
-needed_given server said h =
-    ap₂ (λ a b. a && b) (given_said server the_file said server_file refl h) (ap₂ (λ a b. a && b) (given_said server the_port said server_port refl h) (given_said server the_clients said server_clients refl h))
-needed_given checker said h = given_said checker the_file said (checker_row the_file) refl h
-needed_given verifier said h = ap₂ (λ a b. a && b) (given_said verifier the_file said verifier_file refl h) (given_said verifier the_witness_file said verifier_witness refl h)
+needed_given : (lie : Lies) (t : Tool) (said : Said) → Valid said → has_needed t (is_given_in (ended lie t said)) ≡ has_needed t (is_said said)
+needed_given lie tracer said h = given_said lie tracer the_file said (tracer_file lie) refl h
+needed_given lie runner said h = given_said lie runner the_file said (runner_file lie) refl h
+needed_given lie server said h =
+    ap₂ (λ a b. a && b) (given_said lie server the_file said (server_file lie) refl h) (ap₂ (λ a b. a && b) (given_said lie server the_port said (server_port lie) refl h) (given_said lie server the_clients said (server_clients lie) refl h))
+needed_given lie checker said h = given_said lie checker the_file said (checker_row lie the_file) refl h
+needed_given lie verifier said h = ap₂ (λ a b. a && b) (given_said lie verifier the_file said (verifier_file lie) refl h) (given_said lie verifier the_witness_file said (verifier_witness lie) refl h)
 
 -- the fault of what is left out, by whether nothing is
 abbrev missing_by : Bool → Kinds
@@ -319,19 +379,19 @@ not_one : (a : Bool) → (if not a || false then kind.MissingRequiredArgument �
 not_one true = refl
 not_one false = refl
 
-check_is : (t : Tool) (rows : List Row) → check_fault (sub t) rows false ≡ missing_by (has_needed t (is_given_in rows))
+check_is : (lie : Lies) (t : Tool) (rows : List Row) → check_fault (sub lie t) rows false ≡ missing_by (has_needed t (is_given_in rows))
 unfolding clap_on_literals
-check_is tracer rows = not_one (is_given (codes "FILE") rows)
-check_is runner rows = not_one (is_given (codes "FILE") rows)
-check_is server rows = not_all (is_given (codes "FILE") rows) (is_given (codes "port") rows) (is_given (codes "clients") rows)
-check_is checker rows = not_one (is_given (codes "FILE") rows)
-check_is verifier rows = not_both (is_given (codes "FILE") rows) (is_given (codes "WITNESS") rows)
+check_is lie tracer rows = not_one (is_given (codes "FILE") rows)
+check_is lie runner rows = not_one (is_given (codes "FILE") rows)
+check_is lie server rows = not_all (is_given (codes "FILE") rows) (is_given (codes "port") rows) (is_given (codes "clients") rows)
+check_is lie checker rows = not_one (is_given (codes "FILE") rows)
+check_is lie verifier rows = not_both (is_given (codes "FILE") rows) (is_given (codes "WITNESS") rows)
 
-with_needed : (t : Tool) (rows : List Row) → has_needed t (is_given_in rows) ≡ true → check_fault (sub t) rows false ≡ []
-with_needed t rows e = check_is t rows ∙ ap missing_by e
+with_needed : (lie : Lies) (t : Tool) (rows : List Row) → has_needed t (is_given_in rows) ≡ true → check_fault (sub lie t) rows false ≡ []
+with_needed lie t rows e = check_is lie t rows ∙ ap missing_by e
 
-without_needed : (t : Tool) (rows : List Row) → has_needed t (is_given_in rows) ≡ false → check_fault (sub t) rows false ≢ []
-without_needed t rows e = let P : Kinds → Type 0 = λ ks. ks ≢ [] in subst P (sym (check_is t rows ∙ ap missing_by e)) (λ z. cc)
+without_needed : (lie : Lies) (t : Tool) (rows : List Row) → has_needed t (is_given_in rows) ≡ false → check_fault (sub lie t) rows false ≢ []
+without_needed lie t rows e = let P : Kinds → Type 0 = λ ks. ks ≢ [] in subst P (sym (check_is lie t rows ∙ ap missing_by e)) (λ z. cc)
 
 abbrev Takes : List Rule → Type 0
 Takes [] = Unit {0}
@@ -348,13 +408,13 @@ unfolding defaults_fault
 no_defaults_fault [] rows h = refl
 no_defaults_fault (a ∷ rest) rows h = ap (λ ks. or_else ks (defaults_fault (with_default rows a) rest)) (no_default_fault rows a h.0) ∙ no_defaults_fault rest (with_default rows a) h.1
 
-pub takes_defaults : (t : Tool) → Takes (rules t)
+pub takes_defaults : (lie : Lies) (t : Tool) → Takes (rules lie t)
 unfolding clap_on_literals
-takes_defaults tracer = (refl, (refl, (refl, tt)))
-takes_defaults runner = (refl, (refl, (refl, tt)))
-takes_defaults server = (refl, (refl, (refl, (refl, (refl, tt)))))
-takes_defaults checker = (refl, (refl, (refl, (refl, (refl, (refl, (refl, tt)))))))
-takes_defaults verifier = (refl, (refl, (refl, (refl, tt))))
+takes_defaults lie tracer = (refl, (refl, (refl, tt)))
+takes_defaults lie runner = (refl, (refl, (refl, tt)))
+takes_defaults lie server = (refl, (refl, (refl, (refl, (refl, tt)))))
+takes_defaults lie checker = (refl, (refl, (refl, (refl, (refl, (refl, (refl, (refl, (refl, (refl, (refl, (refl, tt))))))))))))
+takes_defaults lie verifier = (refl, (refl, (refl, (refl, tt))))
 
 -- ---- what is held is settled
 
@@ -385,22 +445,22 @@ abbrev pub IsLast : Tool → Option (Item × Text) → Type 0
 IsLast t None = Unit {0}
 IsLast t (Some entry) = keeps t entry.0 ≡ true
 
-pub settles_by : (t : Tool) (rows : List Row) (i : Item) (values : List Text) → keeps t i ≡ true → settle_fault (rules t) false (held rows (Some (name_of i, values))) ≡ use_fault false (arg t i) values rows
-settles_by t rows i values k = ap (λ o. option_map_or (λ a. use_fault false a values rows) o []) (by_id t i k)
+pub settles_by : (lie : Lies) (t : Tool) (rows : List Row) (i : Item) (values : List Text) → keeps t i ≡ true → settle_fault (rules lie t) false (held rows (Some (name_of i, values))) ≡ use_fault false (arg lie t i) values rows
+settles_by lie t rows i values k = ap (λ o. option_map_or (λ a. use_fault false a values rows) o []) (by_id lie t i k)
 
-settled_by : (t : Tool) (rows : List Row) (i : Item) (values : List Text) → keeps t i ≡ true → settled (rules t) (held rows (Some (name_of i, values))) ≡ held (used (arg t i) values rows) None
-settled_by t rows i values k = ap (λ o. held (used_by_id o values rows) None) (by_id t i k)
+settled_by : (lie : Lies) (t : Tool) (rows : List Row) (i : Item) (values : List Text) → keeps t i ≡ true → settled (rules lie t) (held rows (Some (name_of i, values))) ≡ held (used (arg lie t i) values rows) None
+settled_by lie t rows i values k = ap (λ o. held (used_by_id o values rows) None) (by_id lie t i k)
 
 new_row : (i : Item) (said : Said) → Valid said → said_of i said ≡ None → has_row (name_of i) (rows_for said) ≡ false
 new_row i said h e = has_said i said h ∙ ap is_some e
 
-pub settles : (t : Tool) (said : Said) (last : Option (Item × Text)) → Valid (with_last said last) → IsLast t last
-    → (settle_fault (rules t) false (held_for said last) ≡ []) × (settled (rules t) (held_for said last) ≡ held (rows_for (with_last said last)) None)
-settles t said None h l = (refl, refl)
-settles t said (Some entry) h l =
+pub settles : (lie : Lies) (t : Tool) (said : Said) (last : Option (Item × Text)) → Valid (with_last said last) → IsLast t last
+    → (settle_fault (rules lie t) false (held_for said last) ≡ []) × (settled (rules lie t) (held_for said last) ≡ held (rows_for (with_last said last)) None)
+settles lie t said None h l = (refl, refl)
+settles lie t said (Some entry) h l =
     let new = new_row entry.0 said h.2 h.0 in (
-      settles_by t (rows_for said) entry.0 (entry.1 ∷ []) l ∙ used_well t entry.0 entry.1 (rows_for said) l new h.1,
-      settled_by t (rows_for said) entry.0 (entry.1 ∷ []) l ∙ ap (λ rows. held rows None) (used_once t entry.0 entry.1 (rows_for said) l new),
+      settles_by lie t (rows_for said) entry.0 (entry.1 ∷ []) l ∙ used_well lie t entry.0 entry.1 (rows_for said) l new h.1,
+      settled_by lie t (rows_for said) entry.0 (entry.1 ∷ []) l ∙ ap (λ rows. held rows None) (used_once lie t entry.0 entry.1 (rows_for said) l new),
     )
 
 -- ---- the end
@@ -414,25 +474,25 @@ agrees_by : (t : Tool) (o : Option Asked) (ks : Kinds) (rows : List Row) → (is
 agrees_by t None ks rows bad good same = bad refl
 agrees_by t (Some x) ks rows bad good same = (good refl, same)
 
-abbrev pub end_fault : Tool → Held → Kinds
-end_fault t h = or_else (settle_fault (rules t) false h) (or_else (defaults_fault (settled (rules t) h).rows (rules t)) (check_fault (sub t) (finished (rules t) h) false))
+abbrev pub end_fault : Lies → Tool → Held → Kinds
+end_fault lie t h = or_else (settle_fault (rules lie t) false h) (or_else (defaults_fault (settled (rules lie t) h).rows (rules lie t)) (check_fault (sub lie t) (finished (rules lie t) h) false))
 
-end_is : (t : Tool) (said : Said) (last : Option (Item × Text)) → Valid (with_last said last) → IsLast t last → end_fault t (held_for said last) ≡ check_fault (sub t) (ended t (with_last said last)) false
-end_is t said last h l =
-    let s = settles t said last h l in
-    ap (λ ks. or_else ks (or_else (defaults_fault (settled (rules t) (held_for said last)).rows (rules t)) (check_fault (sub t) (finished (rules t) (held_for said last)) false))) s.0
-    ∙ ap (λ (g : Held). or_else (defaults_fault g.rows (rules t)) (check_fault (sub t) (fold with_default g.rows (rules t)) false)) s.1
-    ∙ ap (λ ks. or_else ks (check_fault (sub t) (ended t (with_last said last)) false)) (no_defaults_fault (rules t) (rows_for (with_last said last)) (takes_defaults t))
+end_is : (lie : Lies) (t : Tool) (said : Said) (last : Option (Item × Text)) → Valid (with_last said last) → IsLast t last → end_fault lie t (held_for said last) ≡ check_fault (sub lie t) (ended lie t (with_last said last)) false
+end_is lie t said last h l =
+    let s = settles lie t said last h l in
+    ap (λ ks. or_else ks (or_else (defaults_fault (settled (rules lie t) (held_for said last)).rows (rules lie t)) (check_fault (sub lie t) (finished (rules lie t) (held_for said last)) false))) s.0
+    ∙ ap (λ (g : Held). or_else (defaults_fault g.rows (rules lie t)) (check_fault (sub lie t) (fold with_default g.rows (rules lie t)) false)) s.1
+    ∙ ap (λ ks. or_else ks (check_fault (sub lie t) (ended lie t (with_last said last)) false)) (no_defaults_fault (rules lie t) (rows_for (with_last said last)) (takes_defaults lie t))
 
-pub at_end : (t : Tool) (said : Said) (last : Option (Item × Text)) → Valid (with_last said last) → IsLast t last
-    → Agrees t (found t (text_of (with_last said last))) (end_fault t (held_for said last)) (finished (rules t) (held_for said last))
-at_end t said last h l =
+pub at_end : (lie : Lies) (t : Tool) (said : Said) (last : Option (Item × Text)) → Valid (with_last said last) → IsLast t last
+    → Agrees t (found t (text_of (with_last said last))) (end_fault lie t (held_for said last)) (finished (rules lie t) (held_for said last))
+at_end lie t said last h l =
     let all = with_last said last in
     let asks = asks_if_needed t all h in
-    let P : Kinds → Type 0 = λ ks. Agrees t (found t (text_of all)) ks (finished (rules t) (held_for said last)) in
-    let Q : Held → Type 0 = λ g. Agrees t (found t (text_of all)) (check_fault (sub t) (ended t all) false) (fold with_default g.rows (rules t)) in
-    subst P (sym (end_is t said last h l)) (subst Q (sym (settles t said last h l).1)
-    (agrees_by t (found t (text_of all)) (check_fault (sub t) (ended t all) false) (ended t all)
-    (λ e. without_needed t (ended t all) (needed_given t all h ∙ sym asks ∙ e))
-    (λ e. with_needed t (ended t all) (needed_given t all h ∙ sym asks ∙ e))
-    (found_ended t all h)))
+    let P : Kinds → Type 0 = λ ks. Agrees t (found t (text_of all)) ks (finished (rules lie t) (held_for said last)) in
+    let Q : Held → Type 0 = λ g. Agrees t (found t (text_of all)) (check_fault (sub lie t) (ended lie t all) false) (fold with_default g.rows (rules lie t)) in
+    subst P (sym (end_is lie t said last h l)) (subst Q (sym (settles lie t said last h l).1)
+    (agrees_by t (found t (text_of all)) (check_fault (sub lie t) (ended lie t all) false) (ended lie t all)
+    (λ e. without_needed lie t (ended lie t all) (needed_given lie t all h ∙ sym asks ∙ e))
+    (λ e. with_needed lie t (ended lie t all) (needed_given lie t all h ∙ sym asks ∙ e))
+    (found_ended lie t all h)))

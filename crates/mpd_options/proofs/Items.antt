@@ -2,7 +2,6 @@
 use Rattle.std.proofs.Common.{◌≡◌, ◌≢◌, ◌∙◌, ◌&&◌, ◌||◌, Bool, true, false, not, List, [], ◌∷◌, ◌++◌, cond, Option, Some, None, is_some, option_map, find, codes, refl, sym, ap, ap₂, subst, if◌then◌else◌, unwrap_or, arith}
 use Rattle.std.specs.Option.{option_map_or}
 use Rattle.std.specs.Str.{bytes_eq}
-use Rattle.std.proofs.lemmas.Bool.{true≢false}
 use Rattle.std.proofs.lemmas.Slice.Eq.{bytes_eq-Decides}
 use Rattle.clap.specs.Words.{Row, Rule, Shape, Text, built}
 use Rattle.clap.specs.Kinds.{Kinds, or_else}
@@ -17,8 +16,8 @@ use Rattle.clap.specs.declared.error.kind.ErrorKind.TheVariants as kind
 use Rattle.clap.specs.declared.parser.matches.ValueSource.{ValueSource}
 use Rattle.clap.specs.declared.parser.matches.ValueSource.TheVariants.{CommandLine}
 use Rattle.clap.proofs.OnLiterals.{clap_on_literals}
-use Rattle.mpd_options.specs.Asked.{Item, Said, Tool, checker, fits, most_clients, most_fuel, most_port, most_runs, name_of, said_named, said_of, the_clients, the_file, the_fuel, the_mode, the_port, the_runs, the_witness, the_complete, the_witness_file, runner, server, tracer, verifier}
-use Rattle.mpd_options.specs.Program.{mpdbg_app}
+use Rattle.mpd_options.specs.Asked.{Item, Said, Tool, checker, fits, most_clients, most_fuel, most_piece, most_port, most_runs, most_split, most_workers, name_of, said_named, said_of, the_clients, the_complete, the_file, the_fuel, the_mode, the_piece, the_pieces, the_port, the_runs, the_split, the_until, the_witness, the_witness_file, the_workers, runner, server, tracer, verifier}
+use Rattle.mpd_options.specs.Program.{Lies, mpdbg_app, only_deadlock}
 use Rattle.mpd_options.proofs.NumberReads.{accepts_number}
 
 abbrev pub called : Tool → Text
@@ -49,21 +48,21 @@ by_name P word (t ∷ rest) some other = elim (bytes_eq word (called t)) as (λ 
   | false ↦ λ e. by_name P word rest some (λ others. other (e, others))
 ] refl
 
-abbrev pub sub : Tool → Shape
-sub tracer = option_map_or (λ s. s) (find (λ s. answers_to (codes "trace") (label_of s)) (built mpdbg_app).subs) (new_shape [])
-sub runner = option_map_or (λ s. s) (find (λ s. answers_to (codes "run") (label_of s)) (built mpdbg_app).subs) (new_shape [])
-sub server = option_map_or (λ s. s) (find (λ s. answers_to (codes "serve") (label_of s)) (built mpdbg_app).subs) (new_shape [])
-sub checker = option_map_or (λ s. s) (find (λ s. answers_to (codes "check") (label_of s)) (built mpdbg_app).subs) (new_shape [])
-sub verifier = option_map_or (λ s. s) (find (λ s. answers_to (codes "verify") (label_of s)) (built mpdbg_app).subs) (new_shape [])
+abbrev pub sub : Lies → Tool → Shape
+sub lie tracer = option_map_or (λ s. s) (find (λ s. answers_to (codes "trace") (label_of s)) (built (mpdbg_app (only_deadlock lie))).subs) (new_shape [])
+sub lie runner = option_map_or (λ s. s) (find (λ s. answers_to (codes "run") (label_of s)) (built (mpdbg_app (only_deadlock lie))).subs) (new_shape [])
+sub lie server = option_map_or (λ s. s) (find (λ s. answers_to (codes "serve") (label_of s)) (built (mpdbg_app (only_deadlock lie))).subs) (new_shape [])
+sub lie checker = option_map_or (λ s. s) (find (λ s. answers_to (codes "check") (label_of s)) (built (mpdbg_app (only_deadlock lie))).subs) (new_shape [])
+sub lie verifier = option_map_or (λ s. s) (find (λ s. answers_to (codes "verify") (label_of s)) (built (mpdbg_app (only_deadlock lie))).subs) (new_shape [])
 
-abbrev pub rules : Tool → List Rule
-rules t = (sub t).rules
+abbrev pub rules : Lies → Tool → List Rule
+rules lie t = (sub lie t).rules
 
-abbrev pub arg : Tool → Item → Rule
-arg t item = unwrap_or (arg_by_id (rules t) (name_of item)) (new_rule [])
+abbrev pub arg : Lies → Tool → Item → Rule
+arg lie t item = unwrap_or (arg_by_id (rules lie t) (name_of item)) (new_rule [])
 
-abbrev pub help_arg : Tool → Rule
-help_arg t = unwrap_or (arg_by_id (rules t) (codes "help")) (new_rule [])
+abbrev pub help_arg : Lies → Tool → Rule
+help_arg lie t = unwrap_or (arg_by_id (rules lie t) (codes "help")) (new_rule [])
 
 -- ---- the items that take a value in words
 
@@ -82,6 +81,10 @@ asks server _ = false
 asks checker the_mode = true
 asks checker the_runs = true
 asks checker the_fuel = true
+asks checker the_split = true
+asks checker the_workers = true
+asks checker the_until = true
+asks checker the_piece = true
 asks checker _ = false
 asks verifier i = is_mode i
 
@@ -102,127 +105,95 @@ keeps t the_port = asks t the_port
 keeps t the_clients = asks t the_clients
 keeps t the_runs = asks t the_runs
 keeps t the_fuel = asks t the_fuel
-keeps t the_witness = false
-keeps t the_complete = false
+keeps t the_split = asks t the_split
+keeps t the_workers = asks t the_workers
+keeps t the_until = asks t the_until
+keeps t the_piece = asks t the_piece
+keeps t _ = false
 
 mode_alone : (Q : Item → Type 0) → Q the_mode → (i : Item) → is_mode i ≡ true → Q i
-mode_alone Q m the_file e = cc
-mode_alone Q m the_witness_file e = cc
 mode_alone Q m the_mode e = m
-mode_alone Q m the_port e = cc
-mode_alone Q m the_clients e = cc
-mode_alone Q m the_runs e = cc
-mode_alone Q m the_fuel e = cc
-mode_alone Q m the_witness e = cc
-mode_alone Q m the_complete e = cc
+mode_alone Q m _ e = cc
 
 pub each_asks : (P : Tool → Item → Type 0) → P tracer the_mode → P runner the_mode → P server the_mode → P server the_port → P server the_clients
-    → P checker the_mode → P checker the_runs → P checker the_fuel → P verifier the_mode → (t : Tool) (i : Item) → asks t i ≡ true → P t i
-each_asks P a r s p k b c d m tracer i e = mode_alone (P tracer) a i e
-each_asks P a r s p k b c d m runner i e = mode_alone (P runner) r i e
-each_asks P a r s p k b c d m server the_file e = cc
-each_asks P a r s p k b c d m server the_witness_file e = cc
-each_asks P a r s p k b c d m server the_mode e = s
-each_asks P a r s p k b c d m server the_port e = p
-each_asks P a r s p k b c d m server the_clients e = k
-each_asks P a r s p k b c d m server the_runs e = cc
-each_asks P a r s p k b c d m server the_fuel e = cc
-each_asks P a r s p k b c d m server the_witness e = cc
-each_asks P a r s p k b c d m server the_complete e = cc
-each_asks P a r s p k b c d m checker the_file e = cc
-each_asks P a r s p k b c d m checker the_witness_file e = cc
-each_asks P a r s p k b c d m checker the_mode e = b
-each_asks P a r s p k b c d m checker the_port e = cc
-each_asks P a r s p k b c d m checker the_clients e = cc
-each_asks P a r s p k b c d m checker the_runs e = c
-each_asks P a r s p k b c d m checker the_fuel e = d
-each_asks P a r s p k b c d m checker the_witness e = cc
-each_asks P a r s p k b c d m checker the_complete e = cc
-each_asks P a r s p k b c d m verifier i e = mode_alone (P verifier) m i e
-
--- a command of one file, whose only option that wants a value is the mode
-abbrev AsksMode : Tool → Type 0
-AsksMode t = (reads_witness t ≡ false) × (asks t the_port ≡ false) × (asks t the_clients ≡ false) × (asks t the_runs ≡ false) × (asks t the_fuel ≡ false)
-
-one_file : (t : Tool) → AsksMode t → (Q : Item → Type 0) → Q the_file → Q the_mode → (i : Item) → keeps t i ≡ true → Q i
-one_file t only Q f m the_file e = f
-one_file t only Q f m the_witness_file e = absurd (true≢false (sym e ∙ only.0))
-one_file t only Q f m the_mode e = m
-one_file t only Q f m the_port e = absurd (true≢false (sym e ∙ only.1))
-one_file t only Q f m the_clients e = absurd (true≢false (sym e ∙ only.2))
-one_file t only Q f m the_runs e = absurd (true≢false (sym e ∙ only.3))
-one_file t only Q f m the_fuel e = absurd (true≢false (sym e ∙ only.4))
-one_file t only Q f m the_witness e = cc
-one_file t only Q f m the_complete e = cc
+    → P checker the_mode → P checker the_runs → P checker the_fuel → P checker the_split → P checker the_workers → P checker the_until → P checker the_piece → P verifier the_mode
+    → (t : Tool) (i : Item) → asks t i ≡ true → P t i
+each_asks P a r s p k b c d f w u n m tracer i e = mode_alone (P tracer) a i e
+each_asks P a r s p k b c d f w u n m runner i e = mode_alone (P runner) r i e
+each_asks P a r s p k b c d f w u n m server the_mode e = s
+each_asks P a r s p k b c d f w u n m server the_port e = p
+each_asks P a r s p k b c d f w u n m server the_clients e = k
+each_asks P a r s p k b c d f w u n m server _ e = cc
+each_asks P a r s p k b c d f w u n m checker the_mode e = b
+each_asks P a r s p k b c d f w u n m checker the_runs e = c
+each_asks P a r s p k b c d f w u n m checker the_fuel e = d
+each_asks P a r s p k b c d f w u n m checker the_split e = f
+each_asks P a r s p k b c d f w u n m checker the_workers e = w
+each_asks P a r s p k b c d f w u n m checker the_until e = u
+each_asks P a r s p k b c d f w u n m checker the_piece e = n
+each_asks P a r s p k b c d f w u n m checker _ e = cc
+each_asks P a r s p k b c d f w u n m verifier i e = mode_alone (P verifier) m i e
 
 pub each_keeps : (P : Tool → Item → Type 0) → P tracer the_file → P runner the_file → P server the_file → P checker the_file → P verifier the_file → P verifier the_witness_file
-    → P tracer the_mode → P runner the_mode → P server the_mode → P server the_port → P server the_clients → P checker the_mode → P checker the_runs → P checker the_fuel → P verifier the_mode
+    → P tracer the_mode → P runner the_mode → P server the_mode → P server the_port → P server the_clients
+    → P checker the_mode → P checker the_runs → P checker the_fuel → P checker the_split → P checker the_workers → P checker the_until → P checker the_piece → P verifier the_mode
     → (t : Tool) (i : Item) → keeps t i ≡ true → P t i
-each_keeps P f q o g h w a r s p k b c d m tracer i e = one_file tracer (refl, refl, refl, refl, refl) (P tracer) f a i e
-each_keeps P f q o g h w a r s p k b c d m runner i e = one_file runner (refl, refl, refl, refl, refl) (P runner) q r i e
-each_keeps P f q o g h w a r s p k b c d m server the_file e = o
-each_keeps P f q o g h w a r s p k b c d m server the_witness_file e = cc
-each_keeps P f q o g h w a r s p k b c d m server the_mode e = s
-each_keeps P f q o g h w a r s p k b c d m server the_port e = p
-each_keeps P f q o g h w a r s p k b c d m server the_clients e = k
-each_keeps P f q o g h w a r s p k b c d m server the_runs e = cc
-each_keeps P f q o g h w a r s p k b c d m server the_fuel e = cc
-each_keeps P f q o g h w a r s p k b c d m server the_witness e = cc
-each_keeps P f q o g h w a r s p k b c d m server the_complete e = cc
-each_keeps P f q o g h w a r s p k b c d m checker the_file e = g
-each_keeps P f q o g h w a r s p k b c d m checker the_witness_file e = cc
-each_keeps P f q o g h w a r s p k b c d m checker the_mode e = b
-each_keeps P f q o g h w a r s p k b c d m checker the_port e = cc
-each_keeps P f q o g h w a r s p k b c d m checker the_clients e = cc
-each_keeps P f q o g h w a r s p k b c d m checker the_runs e = c
-each_keeps P f q o g h w a r s p k b c d m checker the_fuel e = d
-each_keeps P f q o g h w a r s p k b c d m checker the_witness e = cc
-each_keeps P f q o g h w a r s p k b c d m checker the_complete e = cc
-each_keeps P f q o g h w a r s p k b c d m verifier the_file e = h
-each_keeps P f q o g h w a r s p k b c d m verifier the_witness_file e = w
-each_keeps P f q o g h w a r s p k b c d m verifier the_mode e = m
-each_keeps P f q o g h w a r s p k b c d m verifier the_port e = cc
-each_keeps P f q o g h w a r s p k b c d m verifier the_clients e = cc
-each_keeps P f q o g h w a r s p k b c d m verifier the_runs e = cc
-each_keeps P f q o g h w a r s p k b c d m verifier the_fuel e = cc
-each_keeps P f q o g h w a r s p k b c d m verifier the_witness e = cc
-each_keeps P f q o g h w a r s p k b c d m verifier the_complete e = cc
+each_keeps P x q o g h y a r s p k b c d f w u n m tracer the_file e = x
+each_keeps P x q o g h y a r s p k b c d f w u n m tracer the_mode e = a
+each_keeps P x q o g h y a r s p k b c d f w u n m tracer _ e = cc
+each_keeps P x q o g h y a r s p k b c d f w u n m runner the_file e = q
+each_keeps P x q o g h y a r s p k b c d f w u n m runner the_mode e = r
+each_keeps P x q o g h y a r s p k b c d f w u n m runner _ e = cc
+each_keeps P x q o g h y a r s p k b c d f w u n m server the_file e = o
+each_keeps P x q o g h y a r s p k b c d f w u n m server the_mode e = s
+each_keeps P x q o g h y a r s p k b c d f w u n m server the_port e = p
+each_keeps P x q o g h y a r s p k b c d f w u n m server the_clients e = k
+each_keeps P x q o g h y a r s p k b c d f w u n m server _ e = cc
+each_keeps P x q o g h y a r s p k b c d f w u n m checker the_file e = g
+each_keeps P x q o g h y a r s p k b c d f w u n m checker the_mode e = b
+each_keeps P x q o g h y a r s p k b c d f w u n m checker the_runs e = c
+each_keeps P x q o g h y a r s p k b c d f w u n m checker the_fuel e = d
+each_keeps P x q o g h y a r s p k b c d f w u n m checker the_split e = f
+each_keeps P x q o g h y a r s p k b c d f w u n m checker the_workers e = w
+each_keeps P x q o g h y a r s p k b c d f w u n m checker the_until e = u
+each_keeps P x q o g h y a r s p k b c d f w u n m checker the_piece e = n
+each_keeps P x q o g h y a r s p k b c d f w u n m checker _ e = cc
+each_keeps P x q o g h y a r s p k b c d f w u n m verifier the_file e = h
+each_keeps P x q o g h y a r s p k b c d f w u n m verifier the_witness_file e = y
+each_keeps P x q o g h y a r s p k b c d f w u n m verifier the_mode e = m
+each_keeps P x q o g h y a r s p k b c d f w u n m verifier _ e = cc
 
 pub asks_keeps : (t : Tool) (i : Item) → asks t i ≡ true → keeps t i ≡ true
-asks_keeps = each_asks (λ t i. keeps t i ≡ true) refl refl refl refl refl refl refl refl refl
+asks_keeps = each_asks (λ t i. keeps t i ≡ true) refl refl refl refl refl refl refl refl refl refl refl refl refl
 
-pub by_id : (t : Tool) (i : Item) → keeps t i ≡ true → arg_by_id (rules t) (name_of i) ≡ Some (arg t i)
+pub by_id : (lie : Lies) (t : Tool) (i : Item) → keeps t i ≡ true → arg_by_id (rules lie t) (name_of i) ≡ Some (arg lie t i)
 unfolding clap_on_literals
-by_id = each_keeps (λ t i. arg_by_id (rules t) (name_of i) ≡ Some (arg t i)) refl refl refl refl refl refl refl refl refl refl refl refl refl refl refl
+by_id lie = each_keeps (λ t i. arg_by_id (rules lie t) (name_of i) ≡ Some (arg lie t i)) refl refl refl refl refl refl refl refl refl refl refl refl refl refl refl refl refl refl refl
 
-pub by_long : (t : Tool) (i : Item) → asks t i ≡ true → arg_by_long (rules t) (name_of i) ≡ Some (arg t i)
+pub by_long : (lie : Lies) (t : Tool) (i : Item) → asks t i ≡ true → arg_by_long (rules lie t) (name_of i) ≡ Some (arg lie t i)
 unfolding clap_on_literals
-by_long = each_asks (λ t i. arg_by_long (rules t) (name_of i) ≡ Some (arg t i)) refl refl refl refl refl refl refl refl refl
+by_long lie = each_asks (λ t i. arg_by_long (rules lie t) (name_of i) ≡ Some (arg lie t i)) refl refl refl refl refl refl refl refl refl refl refl refl refl
 
 -- the flags, which have no value
 abbrev pub flags : Tool → Item → Bool
 flags checker the_witness = true
 flags checker the_complete = true
+flags checker the_pieces = true
 flags _ _ = false
 
-pub each_flag : (P : Tool → Item → Type 0) → P checker the_witness → P checker the_complete → (t : Tool) (i : Item) → flags t i ≡ true → P t i
-each_flag P w x tracer i e = cc
-each_flag P w x runner i e = cc
-each_flag P w x server i e = cc
-each_flag P w x checker the_file e = cc
-each_flag P w x checker the_witness_file e = cc
-each_flag P w x checker the_mode e = cc
-each_flag P w x checker the_port e = cc
-each_flag P w x checker the_clients e = cc
-each_flag P w x checker the_runs e = cc
-each_flag P w x checker the_fuel e = cc
-each_flag P w x checker the_witness e = w
-each_flag P w x checker the_complete e = x
-each_flag P w x verifier i e = cc
+pub each_flag : (P : Tool → Item → Type 0) → P checker the_witness → P checker the_complete → P checker the_pieces → (t : Tool) (i : Item) → flags t i ≡ true → P t i
+each_flag P w x y checker the_witness e = w
+each_flag P w x y checker the_complete e = x
+each_flag P w x y checker the_pieces e = y
+each_flag P w x y checker _ e = cc
+each_flag P w x y tracer i e = cc
+each_flag P w x y runner i e = cc
+each_flag P w x y server i e = cc
+each_flag P w x y verifier i e = cc
 
-pub flag_by_long : (t : Tool) (i : Item) → flags t i ≡ true → arg_by_long (rules t) (name_of i) ≡ Some (arg t i)
+pub flag_by_long : (lie : Lies) (t : Tool) (i : Item) → flags t i ≡ true → arg_by_long (rules lie t) (name_of i) ≡ Some (arg lie t i)
 unfolding clap_on_literals
-flag_by_long = each_flag (λ t i. arg_by_long (rules t) (name_of i) ≡ Some (arg t i)) refl refl
+flag_by_long lie = each_flag (λ t i. arg_by_long (rules lie t) (name_of i) ≡ Some (arg lie t i)) refl refl refl
 
 -- ---- a use of an item
 
@@ -234,65 +205,87 @@ accepted the_port text = is_unsigned_in 1 most_port text
 accepted the_clients text = is_unsigned_in 1 most_clients text
 accepted the_runs text = is_unsigned_in 1 most_runs text
 accepted the_fuel text = is_unsigned_in 1 most_fuel text
-accepted the_witness text = true
-accepted the_complete text = true
+accepted the_split text = is_unsigned_in 0 most_split text
+accepted the_workers text = is_unsigned_in 0 most_workers text
+accepted the_until text = bytes_eq (codes "deadlock") text || false
+accepted the_piece text = is_unsigned_in 0 most_piece text
+accepted _ text = true
+
+same_either_way : (a b : Text) → bytes_eq a b ≡ bytes_eq b a
+same_either_way a b = elim (bytes_eq a b) as (λ x. bytes_eq a b ≡ x → x ≡ bytes_eq b a) [
+  | true ↦ λ e. sym ((bytes_eq-Decides b a).1 (sym ((bytes_eq-Decides a b).0 e)))
+  | false ↦ λ e. elim (bytes_eq b a) as (λ y. bytes_eq b a ≡ y → false ≡ y) [
+    | true ↦ λ h. sym e ∙ (bytes_eq-Decides a b).1 (sym ((bytes_eq-Decides b a).0 h))
+    | false ↦ λ h. refl
+  ] refl
+] refl
+
+or_nothing : (b : Bool) → (b || false) ≡ b
+or_nothing true = refl
+or_nothing false = refl
 
 accepted_fits : (t : Tool) (i : Item) (v : Text) → keeps t i ≡ true → accepted i v ≡ fits i v
 accepted_fits t i v k =
     each_keeps (λ t i. accepted i v ≡ fits i v) refl refl refl refl refl refl refl refl refl (accepts_number 1 most_port v (omega arith)) (accepts_number 1 most_clients v (omega arith)) refl
-    (accepts_number 1 most_runs v (omega arith)) (accepts_number 1 most_fuel v (omega arith)) refl t i k
+    (accepts_number 1 most_runs v (omega arith)) (accepts_number 1 most_fuel v (omega arith)) (accepts_number 0 most_split v (omega arith)) (accepts_number 0 most_workers v (omega arith))
+    (or_nothing (bytes_eq (codes "deadlock") v) ∙ same_either_way (codes "deadlock") v) (accepts_number 0 most_piece v (omega arith)) refl t i k
 
 -- the fault of a value, by whether it is taken
 abbrev value_fault : ErrorKind → Bool → Kinds
 value_fault k taken = or_else (if taken then [] else k ∷ []) []
 
+-- the kind of fault of a value of an item that isn't taken
+abbrev refused_as : Item → ErrorKind
+refused_as the_until = kind.InvalidValue
+refused_as _ = kind.ValueValidation
+
 -- the fault of a use, by whether there was one before
 abbrev again_fault : Bool → Kinds
 again_fault again = if again && not false then kind.ArgumentConflict ∷ [] else []
 
-use_is : (v : Text) (rows : List Row) (t : Tool) (i : Item) → keeps t i ≡ true
-    → use_fault false (arg t i) (v ∷ []) rows ≡ or_else (again_fault (has_row (name_of i) rows)) (value_fault kind.ValueValidation (accepted i v))
+use_is : (lie : Lies) (v : Text) (rows : List Row) (t : Tool) (i : Item) → keeps t i ≡ true
+    → use_fault false (arg lie t i) (v ∷ []) rows ≡ or_else (again_fault (has_row (name_of i) rows)) (value_fault (refused_as i) (accepted i v))
 unfolding clap_on_literals
-use_is v rows = each_keeps (λ t i. use_fault false (arg t i) (v ∷ []) rows ≡ or_else (again_fault (has_row (name_of i) rows)) (value_fault kind.ValueValidation (accepted i v))) refl refl refl refl refl refl refl refl refl refl refl refl refl refl refl
+use_is lie v rows = each_keeps (λ t i. use_fault false (arg lie t i) (v ∷ []) rows ≡ or_else (again_fault (has_row (name_of i) rows)) (value_fault (refused_as i) (accepted i v))) refl refl refl refl refl refl refl refl refl refl refl refl refl refl refl refl refl refl refl
 
-flag_use_is : (rows : List Row) (t : Tool) (i : Item) → flags t i ≡ true → use_fault false (arg t i) [] rows ≡ or_else (again_fault (has_row (name_of i) rows)) []
+flag_use_is : (lie : Lies) (rows : List Row) (t : Tool) (i : Item) → flags t i ≡ true → use_fault false (arg lie t i) [] rows ≡ or_else (again_fault (has_row (name_of i) rows)) []
 unfolding clap_on_literals
-flag_use_is rows = each_flag (λ t i. use_fault false (arg t i) [] rows ≡ or_else (again_fault (has_row (name_of i) rows)) []) refl refl
+flag_use_is lie rows = each_flag (λ t i. use_fault false (arg lie t i) [] rows ≡ or_else (again_fault (has_row (name_of i) rows)) []) refl refl refl
 
-abbrev fault_by : Bool → Bool → Kinds
-fault_by again taken = or_else (again_fault again) (value_fault kind.ValueValidation taken)
+abbrev fault_by : ErrorKind → Bool → Bool → Kinds
+fault_by k again taken = or_else (again_fault again) (value_fault k taken)
 
-use_by : (t : Tool) (i : Item) (v : Text) (rows : List Row) (again taken : Bool) → keeps t i ≡ true → has_row (name_of i) rows ≡ again → fits i v ≡ taken → use_fault false (arg t i) (v ∷ []) rows ≡ fault_by again taken
-use_by t i v rows again taken k h f = use_is v rows t i k ∙ ap₂ fault_by h (accepted_fits t i v k ∙ f)
+use_by : (lie : Lies) (t : Tool) (i : Item) (v : Text) (rows : List Row) (again taken : Bool) → keeps t i ≡ true → has_row (name_of i) rows ≡ again → fits i v ≡ taken → use_fault false (arg lie t i) (v ∷ []) rows ≡ fault_by (refused_as i) again taken
+use_by lie t i v rows again taken k h f = use_is lie v rows t i k ∙ ap₂ (fault_by (refused_as i)) h (accepted_fits t i v k ∙ f)
 
 -- a first use whose value fits
-pub used_well : (t : Tool) (i : Item) (v : Text) (rows : List Row) → keeps t i ≡ true → has_row (name_of i) rows ≡ false → fits i v ≡ true → use_fault false (arg t i) (v ∷ []) rows ≡ []
-used_well t i v rows k h f = use_by t i v rows false true k h f
+pub used_well : (lie : Lies) (t : Tool) (i : Item) (v : Text) (rows : List Row) → keeps t i ≡ true → has_row (name_of i) rows ≡ false → fits i v ≡ true → use_fault false (arg lie t i) (v ∷ []) rows ≡ []
+used_well lie t i v rows k h f = use_by lie t i v rows false true k h f
 
-taken_or_not : (taken : Bool) → fault_by true taken ≢ []
-taken_or_not taken = λ e. cc
+taken_or_not : (k : ErrorKind) (taken : Bool) → fault_by k true taken ≢ []
+taken_or_not k taken = λ e. cc
 
 -- a second use
-pub used_again : (t : Tool) (i : Item) (v : Text) (rows : List Row) → keeps t i ≡ true → has_row (name_of i) rows ≡ true → use_fault false (arg t i) (v ∷ []) rows ≢ []
-used_again t i v rows k h = let P : Kinds → Type 0 = λ ks. ks ≢ [] in subst P (sym (use_by t i v rows true (fits i v) k h refl)) (taken_or_not (fits i v))
+pub used_again : (lie : Lies) (t : Tool) (i : Item) (v : Text) (rows : List Row) → keeps t i ≡ true → has_row (name_of i) rows ≡ true → use_fault false (arg lie t i) (v ∷ []) rows ≢ []
+used_again lie t i v rows k h = let P : Kinds → Type 0 = λ ks. ks ≢ [] in subst P (sym (use_by lie t i v rows true (fits i v) k h refl)) (taken_or_not (refused_as i) (fits i v))
 
-unfit : (again : Bool) → fault_by again false ≢ []
-unfit true = λ e. cc
-unfit false = λ e. cc
+unfit : (k : ErrorKind) (again : Bool) → fault_by k again false ≢ []
+unfit k true = λ e. cc
+unfit k false = λ e. cc
 
 -- a value that doesn't fit
-pub used_badly : (t : Tool) (i : Item) (v : Text) (rows : List Row) → keeps t i ≡ true → fits i v ≡ false → use_fault false (arg t i) (v ∷ []) rows ≢ []
-used_badly t i v rows k f =
+pub used_badly : (lie : Lies) (t : Tool) (i : Item) (v : Text) (rows : List Row) → keeps t i ≡ true → fits i v ≡ false → use_fault false (arg lie t i) (v ∷ []) rows ≢ []
+used_badly lie t i v rows k f =
     let P : Kinds → Type 0 = λ ks. ks ≢ [] in
-    subst P (sym (use_by t i v rows (has_row (name_of i) rows) false k refl f)) (unfit (has_row (name_of i) rows))
+    subst P (sym (use_by lie t i v rows (has_row (name_of i) rows) false k refl f)) (unfit (refused_as i) (has_row (name_of i) rows))
 
-pub flag_used_well : (t : Tool) (i : Item) (rows : List Row) → flags t i ≡ true → has_row (name_of i) rows ≡ false → use_fault false (arg t i) [] rows ≡ []
-flag_used_well t i rows flag h = flag_use_is rows t i flag ∙ ap (λ b. or_else (again_fault b) []) h
+pub flag_used_well : (lie : Lies) (t : Tool) (i : Item) (rows : List Row) → flags t i ≡ true → has_row (name_of i) rows ≡ false → use_fault false (arg lie t i) [] rows ≡ []
+flag_used_well lie t i rows flag h = flag_use_is lie rows t i flag ∙ ap (λ b. or_else (again_fault b) []) h
 
-pub flag_used_again : (t : Tool) (i : Item) (rows : List Row) → flags t i ≡ true → has_row (name_of i) rows ≡ true → use_fault false (arg t i) [] rows ≢ []
-flag_used_again t i rows flag h =
+pub flag_used_again : (lie : Lies) (t : Tool) (i : Item) (rows : List Row) → flags t i ≡ true → has_row (name_of i) rows ≡ true → use_fault false (arg lie t i) [] rows ≢ []
+flag_used_again lie t i rows flag h =
     let P : Kinds → Type 0 = λ ks. ks ≢ [] in
-    subst P (sym (flag_use_is rows t i flag ∙ ap (λ b. or_else (again_fault b) []) h)) (λ e. cc)
+    subst P (sym (flag_use_is lie rows t i flag ∙ ap (λ b. or_else (again_fault b) []) h)) (λ e. cc)
 
 -- faults are no empty list where there is a first one: told by computing to it, which is far cheaper than `cc` on such a list
 abbrev pub has_fault : Kinds → Bool
@@ -304,9 +297,9 @@ some_fault [] e = λ z. cc
 some_fault (k ∷ ks) e = λ z. cc
 
 -- an option that waits for its value still
-pub no_value : (rows : List Row) (t : Tool) (i : Item) → asks t i ≡ true → use_fault false (arg t i) [] rows ≢ []
+pub no_value : (lie : Lies) (rows : List Row) (t : Tool) (i : Item) → asks t i ≡ true → use_fault false (arg lie t i) [] rows ≢ []
 unfolding clap_on_literals
-no_value rows = each_asks (λ t i. use_fault false (arg t i) [] rows ≢ []) (some_fault _ refl) (some_fault _ refl) (some_fault _ refl) (some_fault _ refl) (some_fault _ refl) (some_fault _ refl) (some_fault _ refl) (some_fault _ refl) (some_fault _ refl)
+no_value lie rows = each_asks (λ t i. use_fault false (arg lie t i) [] rows ≢ []) (some_fault _ refl) (some_fault _ refl) (some_fault _ refl) (some_fault _ refl) (some_fault _ refl) (some_fault _ refl) (some_fault _ refl) (some_fault _ refl) (some_fault _ refl) (some_fault _ refl) (some_fault _ refl) (some_fault _ refl) (some_fault _ refl)
 
 -- ---- rows
 
@@ -335,22 +328,22 @@ values_at_end id how source values (r ∷ rs) h =
       | false ↦ λ e q. rw q (ap (λ xs. r ∷ xs) (values_at_end id how source values rs e))
     ] h refl
 
-used_is : (v : Text) (rows : List Row) (t : Tool) (i : Item) → keeps t i ≡ true → used (arg t i) (v ∷ []) rows ≡ with_values (name_of i) AsWritten CommandLine (v ∷ []) (without (name_of i) rows)
+used_is : (lie : Lies) (v : Text) (rows : List Row) (t : Tool) (i : Item) → keeps t i ≡ true → used (arg lie t i) (v ∷ []) rows ≡ with_values (name_of i) AsWritten CommandLine (v ∷ []) (without (name_of i) rows)
 unfolding clap_on_literals
-used_is v rows = each_keeps (λ t i. used (arg t i) (v ∷ []) rows ≡ with_values (name_of i) AsWritten CommandLine (v ∷ []) (without (name_of i) rows)) refl refl refl refl refl refl refl refl refl refl refl refl refl refl refl
+used_is lie v rows = each_keeps (λ t i. used (arg lie t i) (v ∷ []) rows ≡ with_values (name_of i) AsWritten CommandLine (v ∷ []) (without (name_of i) rows)) refl refl refl refl refl refl refl refl refl refl refl refl refl refl refl refl refl refl refl
 
 at_end_of : (i : Item) (v : Text) (rows : List Row) → has_row (name_of i) rows ≡ false → with_values (name_of i) AsWritten CommandLine (v ∷ []) (without (name_of i) rows) ≡ rows ++ row_for i v CommandLine ∷ []
 at_end_of i v rows h = ap (λ rs. with_values (name_of i) AsWritten CommandLine (v ∷ []) rs) (without_none (name_of i) rows h) ∙ values_at_end (name_of i) AsWritten CommandLine (v ∷ []) rows h
 
-pub used_once : (t : Tool) (i : Item) (v : Text) (rows : List Row) → keeps t i ≡ true → has_row (name_of i) rows ≡ false → used (arg t i) (v ∷ []) rows ≡ rows ++ row_for i v CommandLine ∷ []
-used_once t i v rows k h = used_is v rows t i k ∙ at_end_of i v rows h
+pub used_once : (lie : Lies) (t : Tool) (i : Item) (v : Text) (rows : List Row) → keeps t i ≡ true → has_row (name_of i) rows ≡ false → used (arg lie t i) (v ∷ []) rows ≡ rows ++ row_for i v CommandLine ∷ []
+used_once lie t i v rows k h = used_is lie v rows t i k ∙ at_end_of i v rows h
 
-flag_used_is : (rows : List Row) (t : Tool) (i : Item) → flags t i ≡ true → used (arg t i) [] rows ≡ with_values (name_of i) AsWritten CommandLine (codes "true" ∷ []) (without (name_of i) rows)
+flag_used_is : (lie : Lies) (rows : List Row) (t : Tool) (i : Item) → flags t i ≡ true → used (arg lie t i) [] rows ≡ with_values (name_of i) AsWritten CommandLine (codes "true" ∷ []) (without (name_of i) rows)
 unfolding clap_on_literals
-flag_used_is rows = each_flag (λ t i. used (arg t i) [] rows ≡ with_values (name_of i) AsWritten CommandLine (codes "true" ∷ []) (without (name_of i) rows)) refl refl
+flag_used_is lie rows = each_flag (λ t i. used (arg lie t i) [] rows ≡ with_values (name_of i) AsWritten CommandLine (codes "true" ∷ []) (without (name_of i) rows)) refl refl refl
 
-pub flag_used_once : (t : Tool) (i : Item) (rows : List Row) → flags t i ≡ true → has_row (name_of i) rows ≡ false → used (arg t i) [] rows ≡ rows ++ row_for i (codes "true") CommandLine ∷ []
-flag_used_once t i rows flag h = flag_used_is rows t i flag ∙ at_end_of i (codes "true") rows h
+pub flag_used_once : (lie : Lies) (t : Tool) (i : Item) (rows : List Row) → flags t i ≡ true → has_row (name_of i) rows ≡ false → used (arg lie t i) [] rows ≡ rows ++ row_for i (codes "true") CommandLine ∷ []
+flag_used_once lie t i rows flag h = flag_used_is lie rows t i flag ∙ at_end_of i (codes "true") rows h
 
 -- ---- the row of a name
 

@@ -128,3 +128,30 @@ number_read bits G low high text n r parses small is gives =
     read : (o : Option ℕ) → digits_value 10 (without_leading_plus text) ≡ n → IsNumeral 10 (without_leading_plus text) → n ≤ high → ReadsOne G text o → o ≡ Some n
     read (Some v) value numeral most h = ap Some ((parses text (Ok v) h).1 ∙ value)
     read None value numeral most h = absurd (parses text (Err h.0) h.1 (numeral, omega (arith, value, most, small)))
+
+-- ---- one text, two ranges
+
+-- what is a number of a range is one of a wider range
+pub in_wider : (low high most : ℕ) (text : List ℕ) → high ≤ most → is_some (number_in low high text) ≡ true → is_some (number_in 0 most text) ≡ true
+in_wider low high most text top some = elim (number_in low high text) as (λ o. number_in low high text ≡ o → is_some o ≡ true → is_some (number_in 0 most text) ≡ true) [
+  | None ↦ λ e h. cc
+  | Some n ↦ λ e h. wide n (of_digits low high (without_plus text) n e)
+] refl some
+  where
+    wide : (n : ℕ) → IsNumberOf low high (without_plus text) n → is_some (number_in 0 most text) ≡ true
+    wide n facts =
+        let v = number_after 0 (without_plus text) in
+        let bound : v ≤ most = omega (arith, facts.value, facts.most, top) in
+        let least : 0 ≤ v = omega arith in
+        some_if (is_number (without_plus text) && (nat_le 0 v && nat_le v most)) v ∙ and_from _ _ facts.number (and_from _ _ (le-leb 0 v least) (le-leb v most bound))
+
+-- and it is the same number in both
+pub same_number : (low high least most : ℕ) (text : List ℕ) (n : ℕ) → number_in least most text ≡ Some n → is_some (number_in low high text) ≡ true → number_in low high text ≡ Some n
+same_number low high least most text n e some = elim (number_in low high text) as (λ o. number_in low high text ≡ o → is_some o ≡ true → o ≡ Some n) [
+  | None ↦ λ q h. cc
+  | Some m ↦ λ q h.
+      let here = of_digits low high (without_plus text) m q in
+      let there = of_digits least most (without_plus text) n e in
+      let same : m ≡ n = sym here.value ∙ there.value in
+      ap Some same
+] refl some

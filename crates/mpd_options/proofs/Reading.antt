@@ -1,6 +1,6 @@
 -- What a parse of the words says of what they ask for.
 use Rattle.std.proofs.Common.{◌≡◌, ◌∙◌, ◌<◌, ◌≤◌, ◌^◌, ℕ, Bool, true, false, List, [], ◌∷◌, length, map, Option, Some, None, option_map, is_some, inl, inr, codes, refl, sym, ap, ap₂, subst, if◌then◌else◌, arith}
-use Rattle.std.specs.Prelude.{Result, option_and_then}
+use Rattle.std.specs.Prelude.{Result, IfSome, option_and_then}
 use Rattle.std.specs.Borrow.{Bor}
 use Rattle.std.specs.Str.{bytes_eq}
 use Rattle.std.specs.Str.Parse.{ParsesUnsigned}
@@ -15,16 +15,17 @@ use Rattle.clap.specs.declared.parser.matches.ArgMatches.TheViews.{out-ArgMatche
 use Rattle.clap.specs.declared.parser.matches.Found.{Found}
 use Rattle.clap.proofs.OnLiterals.{clap_on_literals}
 use Rattle.clap.proofs.WalkLemmas.{first_value-rows, one_text-rows}
-use Rattle.mpd_options.specs.Asked.{Asked, IsFound, IsInRange, Item, Tool, asked, check, checker, found, found_by, found_check, found_in, found_of_command, found_of_file, found_serve, found_verify, meant, most_clients, most_fuel, most_port, most_runs, text_in, the_clients, the_file, the_fuel, the_mode, the_port, the_runs, the_witness, the_complete, the_witness_file, tool_named, run, runner, serve, server, trace, tracer, verifier, verify}
-use Rattle.mpd_options.specs.Numbers.{flag_in, number_in, without_plus}
+use Rattle.mpd_options.specs.Asked.{AreInRange, Asked, IsFound, IsInRange, Item, Tool, asked, check, checker, found, found_by, found_check, found_in, found_of_command, found_of_file, found_options, found_serve, found_verify, meant, most_clients, most_fuel, most_piece, most_port, most_runs, most_split, most_workers, number_if_given, options_of_items, text_in, the_clients, the_complete, the_file, the_fuel, the_mode, the_piece, the_pieces, the_port, the_runs, the_split, the_until, the_witness, the_witness_file, the_workers, tool_named, run, runner, serve, server, trace, tracer, until_bad_in, verifier, verify}
+use Rattle.mpd_options.specs.Numbers.{flag_in, most_usize, number_in, without_plus}
+use Rattle.mpd_options.specs.declared.options.CheckOptions.{CheckOptions}
 use Rattle.mpd_options.specs.declared.options.Options.{Options}
 use Rattle.mpd_options.specs.declared.options.Options.TheVariants.{Plain, Trace, Run, Serve, Check, Verify}
-use Rattle.mpd_options.specs.Program.{mpdbg_app}
+use Rattle.mpd_options.specs.Program.{Choices, Lies, mpdbg_app, only_deadlock}
 use Rattle.mpd_options.specs.Refused.{IsRefused, is_memory, usage_of}
 use Rattle.mpd_options.specs.declared.options.UsageFault.TheVariants.{Usage, Memory}
 use Rattle.mpd_options.proofs.Commands.{AgreesAll, meant_law, is_plain_app}
 use Rattle.mpd_options.proofs.Items.{called}
-use Rattle.mpd_options.proofs.NumberReads.{number_read, of_digits}
+use Rattle.mpd_options.proofs.NumberReads.{in_wider, number_read, of_digits, same_number}
 
 pub some_words : {A : Type 0} (f : A → Text) (xs : List A) → 0 < length xs → 0 < length (map f xs)
 some_words f [] some = some
@@ -42,42 +43,68 @@ refused_none (Some x) ks command k h among = absurd (not_among k ks h.0 among)
 not_memory : (k : ErrorKind) → is_memory k ≡ false → k ≡ OutOfMemory → ⊥
 not_memory k other is = (let bad : true ≡ false = sym (ap is_memory is) ∙ other in cc)
 
-refused_so : (e : Error) (word : Text) (words : List Text) → HasKind (fault_of mpdbg_app (word ∷ words)) e → IsRefused (usage_of e) (word ∷ words)
-refused_so e word words h =
+refused_so : (lie : Lies) (e : Error) (word : Text) (words : List Text) → HasKind (fault_of (mpdbg_app (only_deadlock lie)) (word ∷ words)) e → IsRefused (usage_of e) (word ∷ words)
+refused_so lie e word words h =
     elim (is_memory (kind_of e)) as (λ b. is_memory (kind_of e) ≡ b → IsRefused (if b then Memory else Usage e) (word ∷ words)) [
       | true ↦ λ m. tt
       | false ↦ λ m. usage_so m h
     ] refl
   where
-    usage_so : is_memory (kind_of e) ≡ false → HasKind (fault_of mpdbg_app (word ∷ words)) e → IsRefused (Usage e) (word ∷ words)
+    usage_so : is_memory (kind_of e) ≡ false → HasKind (fault_of (mpdbg_app (only_deadlock lie)) (word ∷ words)) e → IsRefused (Usage e) (word ∷ words)
     usage_so m (inl is) = absurd (not_memory (kind_of e) m is)
-    usage_so m (inr among) = (refused_none (meant (word ∷ words)) (fault_of mpdbg_app (word ∷ words)) (subcommand_of mpdbg_app (word ∷ words)) (kind_of e) (meant_law word words) among, among, m)
+    usage_so m (inr among) = (
+      refused_none (meant (word ∷ words)) (fault_of (mpdbg_app (only_deadlock lie)) (word ∷ words)) (subcommand_of (mpdbg_app (only_deadlock lie)) (word ∷ words)) (kind_of e) (meant_law lie word words) among,
+      (lie, among),
+      m,
+    )
 
-pub refused_by : (a : App) (e : Error) (words : List Text) → a ≡ mpdbg_app → 0 < length words → (is_simple_and_free a ≡ true → HasKind (fault_of a words) e) → IsRefused (usage_of e) words
-refused_by a e [] is some h = absurd (omega (arith, some))
-refused_by a e (word ∷ words) is some h =
+pub refused_by : (lie : Lies) (a : App) (e : Error) (words : List Text) → a ≡ mpdbg_app (only_deadlock lie) → 0 < length words → (is_simple_and_free a ≡ true → HasKind (fault_of a words) e) → IsRefused (usage_of e) words
+refused_by lie a e [] is some h = absurd (omega (arith, some))
+refused_by lie a e (word ∷ words) is some h =
     let P : App → Type 0 = λ x. is_simple_and_free x ≡ true → HasKind (fault_of x (word ∷ words)) e in
-    refused_so e word words (subst P is h is_plain_app)
+    refused_so lie e word words (subst P is h (is_plain_app lie))
 
 -- ---- where they are taken
 
-plain_is_simple : is_simple mpdbg_app ≡ true
+plain_is_simple : (lie : Lies) → is_simple (mpdbg_app (only_deadlock lie)) ≡ true
 unfolding clap_on_literals
-plain_is_simple = refl
+plain_is_simple lie = refl
 
 taken_some : (o : Option Asked) (ks : Kinds) (command : Option (Text × List Row)) → AgreesAll o ks command → ks ≡ [] → (found_of_command command ≡ o) × (is_some o ≡ true)
 taken_some None ks command h e = absurd (h e)
 taken_some (Some x) ks command h e = (h.1, refl)
 
-pub taken_by : (a : App) (m : ArgMatches) (words : List Text) → a ≡ mpdbg_app → 0 < length words → (is_simple_and_free a ≡ true → fault_of a words ≡ []) → HasMatchesOf a words m
+pub taken_by : (lie : Lies) (a : App) (m : ArgMatches) (words : List Text) → a ≡ mpdbg_app (only_deadlock lie) → 0 < length words → (is_simple_and_free a ≡ true → fault_of a words ≡ []) → HasMatchesOf a words m
     → IsFound words (subcommand_rows_of m)
-taken_by a m [] is some free has = absurd (omega (arith, some))
-taken_by a m (word ∷ words) is some free has =
+taken_by lie a m [] is some free has = absurd (omega (arith, some))
+taken_by lie a m (word ∷ words) is some free has =
+    let app = mpdbg_app (only_deadlock lie) in
     let P : App → Type 0 = λ x. is_simple_and_free x ≡ true → fault_of x (word ∷ words) ≡ [] in
     let Q : App → Type 0 = λ x. HasMatchesOf x (word ∷ words) m in
-    let same : subcommand_rows_of m ≡ subcommand_of mpdbg_app (word ∷ words) = (subst Q is has plain_is_simple).1 in
+    let same : subcommand_rows_of m ≡ subcommand_of app (word ∷ words) = (subst Q is has (plain_is_simple lie)).1 in
     let R : Option (Text × List Row) → Type 0 = λ c. IsFound (word ∷ words) c in
-    subst R (sym same) (taken_some (meant (word ∷ words)) (fault_of mpdbg_app (word ∷ words)) (subcommand_of mpdbg_app (word ∷ words)) (meant_law word words) (subst P is free is_plain_app))
+    subst R (sym same) (taken_some (meant (word ∷ words)) (fault_of app (word ∷ words)) (subcommand_of app (word ∷ words)) (meant_law lie word words) (subst P is free (is_plain_app lie)))
+
+-- ---- where the words of `--until` lie
+
+abbrev head_of : List Text → Text
+head_of [] = []
+head_of (t ∷ ts) = t
+
+abbrev is_one : List Text → Bool
+is_one (t ∷ []) = true
+is_one _ = false
+
+lies_by : (p : ℕ × ℕ) (xs : List (Bor Text)) → map (λ (s : Bor Text). s.now) xs ≡ codes "deadlock" ∷ [] → (lie : Lies) × ((let w : Choices = record { ref_ptr = p; now = xs } in w) ≡ only_deadlock lie)
+lies_by p [] e = (let bad : false ≡ true = ap is_one e in cc)
+lies_by p (b ∷ []) e =
+    let text : b.now ≡ codes "deadlock" = ap head_of e in
+    ((p, b.ref_ptr), ap (λ (t : Text). let w : Choices = record { ref_ptr = p; now = (record { ref_ptr = b.ref_ptr; now = t }) ∷ [] } in w) text)
+lies_by p (b ∷ c ∷ rest) e = (let bad : false ≡ true = ap is_one e in cc)
+
+-- what `clap` was given is the one word, wherever it lies
+pub lies : (w : Choices) → map (λ (s : Bor Text). s.now) w.now ≡ codes "deadlock" ∷ [] → (lie : Lies) × (w ≡ only_deadlock lie)
+lies w e = lies_by w.ref_ptr w.now e
 
 -- ---- what the getters give
 
@@ -134,35 +161,49 @@ some_served (Some f) (Some m) None c e = cc
 some_served (Some f) (Some m) (Some p) None e = cc
 some_served (Some f) (Some m) (Some p) (Some c) e = record { file = refl; mode = refl; port = refl; clients = refl }
 
-pub record HasAll (f m : Option Text) (r n : Option ℕ) (w x : Option Bool) : Type 0 where
-  pub file : is_some f ≡ true
-  pub mode : is_some m ≡ true
+some_check : (f m : Option Text) (o : Option CheckOptions) → is_some (found_check f m o) ≡ true → (is_some f ≡ true) × (is_some m ≡ true) × (is_some o ≡ true)
+some_check None m o e = cc
+some_check (Some f) None o e = cc
+some_check (Some f) (Some m) None e = cc
+some_check (Some f) (Some m) (Some o) e = (refl, refl, refl)
+
+-- how deadlocks are looked for: each item says something, but a piece that need not be there
+pub record HasItems (r n s k : Option ℕ) (u w x : Option Bool) (i : Option (Option ℕ)) (p : Option Bool) : Type 0 where
   pub runs : is_some r ≡ true
   pub fuel : is_some n ≡ true
+  pub split : is_some s ≡ true
+  pub workers : is_some k ≡ true
+  pub until : is_some u ≡ true
   pub witness : is_some w ≡ true
   pub complete : is_some x ≡ true
+  pub piece : is_some i ≡ true
+  pub pieces : is_some p ≡ true
 
-some_all : (f m : Option Text) (r n : Option ℕ) (w x : Option Bool) → is_some (found_check f m r n w x) ≡ true → HasAll f m r n w x
-some_all None m r n w x e = cc
-some_all (Some f) None r n w x e = cc
-some_all (Some f) (Some m) None n w x e = cc
-some_all (Some f) (Some m) (Some r) None w x e = cc
-some_all (Some f) (Some m) (Some r) (Some n) None x e = cc
-some_all (Some f) (Some m) (Some r) (Some n) (Some w) None e = cc
-some_all (Some f) (Some m) (Some r) (Some n) (Some w) (Some x) e = record { file = refl; mode = refl; runs = refl; fuel = refl; witness = refl; complete = refl }
+some_items : (r n s k : Option ℕ) (u w x : Option Bool) (i : Option (Option ℕ)) (p : Option Bool) → is_some (options_of_items r n s k u w x i p) ≡ true → HasItems r n s k u w x i p
+some_items None n s k u w x i p e = cc
+some_items (Some r) None s k u w x i p e = cc
+some_items (Some r) (Some n) None k u w x i p e = cc
+some_items (Some r) (Some n) (Some s) None u w x i p e = cc
+some_items (Some r) (Some n) (Some s) (Some k) None w x i p e = cc
+some_items (Some r) (Some n) (Some s) (Some k) (Some u) None x i p e = cc
+some_items (Some r) (Some n) (Some s) (Some k) (Some u) (Some w) None i p e = cc
+some_items (Some r) (Some n) (Some s) (Some k) (Some u) (Some w) (Some x) None p e = cc
+some_items (Some r) (Some n) (Some s) (Some k) (Some u) (Some w) (Some x) (Some i) None e = cc
+some_items (Some r) (Some n) (Some s) (Some k) (Some u) (Some w) (Some x) (Some i) (Some p) e =
+    record { runs = refl; fuel = refl; split = refl; workers = refl; until = refl; witness = refl; complete = refl; piece = refl; pieces = refl }
 
 pub has_file : (t : Tool) (rows : List Row) → is_some (found_in t rows) ≡ true → is_some (first_of (codes "FILE") rows) ≡ true
 has_file tracer rows e = (some_both trace _ _ e).0
 has_file runner rows e = (some_both run _ _ e).0
 has_file server rows e = (some_served _ _ _ _ e).file
-has_file checker rows e = (some_all _ _ _ _ _ _ e).file
+has_file checker rows e = (some_check _ _ _ e).0
 has_file verifier rows e = (some_three _ _ _ e).0
 
 pub has_mode : (t : Tool) (rows : List Row) → is_some (found_in t rows) ≡ true → is_some (first_of (codes "mode") rows) ≡ true
 has_mode tracer rows e = (some_both trace _ _ e).1
 has_mode runner rows e = (some_both run _ _ e).1
 has_mode server rows e = (some_served _ _ _ _ e).mode
-has_mode checker rows e = (some_all _ _ _ _ _ _ e).mode
+has_mode checker rows e = (some_check _ _ _ e).1
 has_mode verifier rows e = (some_three _ _ _ e).2
 
 not_found : (r : Option (Bor Text)) (o : Option Text) → o ≡ text_at r → r ≡ None → is_some o ≡ true → ⊥
@@ -185,20 +226,44 @@ three_found file witness mode e h k = rw (e, h, k) refl
 
 -- ---- numbers and the flag
 
-abbrev number_at : ℕ → Text → Found → Option ℕ
-number_at most id f = option_and_then (number_in 1 most) (one_of id (rows_of f))
+abbrev number_at : ℕ → ℕ → Text → Found → Option ℕ
+number_at low most id f = option_and_then (number_in low most) (one_of id (rows_of f))
 
-read_some : {E : Type 0} (bits : ℕ) (G : List ℕ → Result ℕ E → Type 0) (most : ℕ) (o : Option Text) (r : Option ℕ) → ((u : List ℕ) (x : Result ℕ E) → G u x → ParsesUnsigned bits 10 u x) → most < 2 ^ bits
-    → ((t : Text) → o ≡ Some t → ReadsOne G t r) → is_some (option_and_then (number_in 1 most) o) ≡ true → r ≡ option_and_then (number_in 1 most) o
-read_some bits G most None r parses small reads some = cc
-read_some bits G most (Some t) r parses small reads some = elim (number_in 1 most t) as (λ x. number_in 1 most t ≡ x → is_some x ≡ true → r ≡ x) [
+read_some : {E : Type 0} (bits : ℕ) (G : List ℕ → Result ℕ E → Type 0) (low most : ℕ) (o : Option Text) (r : Option ℕ) → ((u : List ℕ) (x : Result ℕ E) → G u x → ParsesUnsigned bits 10 u x) → most < 2 ^ bits
+    → ((t : Text) → o ≡ Some t → ReadsOne G t r) → is_some (option_and_then (number_in low most) o) ≡ true → r ≡ option_and_then (number_in low most) o
+read_some bits G low most None r parses small reads some = cc
+read_some bits G low most (Some t) r parses small reads some = elim (number_in low most t) as (λ x. number_in low most t ≡ x → is_some x ≡ true → r ≡ x) [
   | None ↦ λ e h. cc
-  | Some n ↦ λ e h. number_read bits G 1 most t n r parses small e (reads t refl)
+  | Some n ↦ λ e h. number_read bits G low most t n r parses small e (reads t refl)
 ] refl some
 
-pub number_found : {E : Type 0} (bits : ℕ) (G : List ℕ → Result ℕ E → Type 0) (most : ℕ) (f : Found) (id : Text) (r : Option ℕ) → ((u : List ℕ) (x : Result ℕ E) → G u x → ParsesUnsigned bits 10 u x) → most < 2 ^ bits
-    → ((t : Text) → one_text f id ≡ Some t → ReadsOne G t r) → is_some (number_at most id f) ≡ true → r ≡ number_at most id f
-number_found bits G most f id r parses small reads some = read_some bits G most (one_of id (rows_of f)) r parses small (λ t e. reads t (one_text-rows f id ∙ e)) some
+pub number_found : {E : Type 0} (bits : ℕ) (G : List ℕ → Result ℕ E → Type 0) (low most : ℕ) (f : Found) (id : Text) (r : Option ℕ) → ((u : List ℕ) (x : Result ℕ E) → G u x → ParsesUnsigned bits 10 u x) → most < 2 ^ bits
+    → ((t : Text) → one_text f id ≡ Some t → ReadsOne G t r) → is_some (number_at low most id f) ≡ true → r ≡ number_at low most id f
+number_found bits G low most f id r parses small reads some = read_some bits G low most (one_of id (rows_of f)) r parses small (λ t e. reads t (one_text-rows f id ∙ e)) some
+
+-- a number of a range is one of all that a `usize` holds, and the same
+pub number_there : (low high : ℕ) (o : Option Text) → high ≤ most_usize → is_some (option_and_then (number_in low high) o) ≡ true → is_some (option_and_then (number_in 0 most_usize) o) ≡ true
+number_there low high None top some = cc
+number_there low high (Some t) top some = in_wider low high most_usize t top some
+
+pub number_is : (low high : ℕ) (o : Option Text) (n : ℕ) → option_and_then (number_in 0 most_usize) o ≡ Some n → is_some (option_and_then (number_in low high) o) ≡ true → option_and_then (number_in low high) o ≡ Some n
+number_is low high None n e some = cc
+number_is low high (Some t) n e some = same_number low high 0 most_usize t n e some
+
+-- a number that need not be there
+read_given : {E : Type 0} (bits : ℕ) (G : List ℕ → Result ℕ E → Type 0) (low most : ℕ) (o : Option Text) (r : Option ℕ) → ((u : List ℕ) (x : Result ℕ E) → G u x → ParsesUnsigned bits 10 u x) → most < 2 ^ bits
+    → (o ≡ None → r ≡ None) → ((t : Text) → o ≡ Some t → ReadsOne G t r) → is_some (number_if_given low most o) ≡ true → number_if_given low most o ≡ Some r
+read_given bits G low most None r parses small none reads some = ap Some (sym (none refl))
+read_given bits G low most (Some t) r parses small none reads some = elim (number_in low most t) as (λ x. number_in low most t ≡ x → is_some (option_map Some x) ≡ true → option_map Some x ≡ Some r) [
+  | None ↦ λ e h. cc
+  | Some n ↦ λ e h. ap Some (sym (number_read bits G low most t n r parses small e (reads t refl)))
+] refl some
+
+pub given_found : {E : Type 0} (bits : ℕ) (G : List ℕ → Result ℕ E → Type 0) (low most : ℕ) (f : Found) (id : Text) (r : Option ℕ) → ((u : List ℕ) (x : Result ℕ E) → G u x → ParsesUnsigned bits 10 u x) → most < 2 ^ bits
+    → (one_text f id ≡ None → r ≡ None) → ((t : Text) → one_text f id ≡ Some t → ReadsOne G t r)
+    → is_some (number_if_given low most (one_of id (rows_of f))) ≡ true → number_if_given low most (one_of id (rows_of f)) ≡ Some r
+given_found bits G low most f id r parses small none reads some =
+    read_given bits G low most (one_of id (rows_of f)) r parses small (λ e. none (one_text-rows f id ∙ e)) (λ t e. reads t (one_text-rows f id ∙ e)) some
 
 pub no_number : (r o : Option ℕ) → r ≡ o → r ≡ None → is_some o ≡ true → ⊥
 no_number r o e none some = (let bad : false ≡ true = sym (ap is_some (sym e ∙ none)) ∙ some in cc)
@@ -222,36 +287,69 @@ pub flag_found : (f : Found) (id : Text) (b : Bool) → (one_text f id ≡ Some 
 flag_found f id b on off some = flag_some (one_of id (rows_of f)) b (λ e. on (one_text-rows f id ∙ e)) (λ e. off (one_text-rows f id ∙ e)) some
 
 pub has_served : (f : Found) → is_some (found_in server (rows_of f)) ≡ true
-    → HasServed (first_of (codes "FILE") (rows_of f)) (first_of (codes "mode") (rows_of f)) (number_at most_port (codes "port") f) (number_at most_clients (codes "clients") f)
+    → HasServed (first_of (codes "FILE") (rows_of f)) (first_of (codes "mode") (rows_of f)) (number_at 1 most_port (codes "port") f) (number_at 1 most_clients (codes "clients") f)
 has_served f e = some_served _ _ _ _ e
 
 pub served_found : (f : Found) (file mode : Text) (port clients : ℕ) → first_of (codes "FILE") (rows_of f) ≡ Some file → first_of (codes "mode") (rows_of f) ≡ Some mode
-    → number_at most_port (codes "port") f ≡ Some port → number_at most_clients (codes "clients") f ≡ Some clients → Some (serve file mode port clients) ≡ found_in server (rows_of f)
+    → number_at 1 most_port (codes "port") f ≡ Some port → number_at 1 most_clients (codes "clients") f ≡ Some clients → Some (serve file mode port clients) ≡ found_in server (rows_of f)
 served_found f file mode port clients a b c d = sym (four a b c d)
   where
     four : {f' m' : Option Text} {p' c' : Option ℕ} → f' ≡ Some file → m' ≡ Some mode → p' ≡ Some port → c' ≡ Some clients → found_serve f' m' p' c' ≡ Some (serve file mode port clients)
     four a b c d = rw (a, b, c, d) refl
 
-pub has_all : (f : Found) → is_some (found_in checker (rows_of f)) ≡ true
-    → HasAll (first_of (codes "FILE") (rows_of f)) (first_of (codes "mode") (rows_of f)) (number_at most_runs (codes "runs") f) (number_at most_fuel (codes "fuel") f) (flag_at (codes "witness") f)
-    (flag_at (codes "complete") f)
-has_all f e = some_all _ _ _ _ _ _ e
+pub has_options : (f : Found) → is_some (found_in checker (rows_of f)) ≡ true → is_some (found_options (text_in (rows_of f))) ≡ true
+has_options f e = (some_check _ _ _ e).2
 
-pub all_found : (f : Found) (file mode : Text) (runs fuel : ℕ) (witness complete : Bool) → first_of (codes "FILE") (rows_of f) ≡ Some file → first_of (codes "mode") (rows_of f) ≡ Some mode
-    → number_at most_runs (codes "runs") f ≡ Some runs → number_at most_fuel (codes "fuel") f ≡ Some fuel → flag_at (codes "witness") f ≡ Some witness → flag_at (codes "complete") f ≡ Some complete
-    → Some (check file mode runs fuel witness complete) ≡ found_in checker (rows_of f)
-all_found f file mode runs fuel witness complete a b c d e g = sym (six a b c d e g)
+pub check_found : (f : Found) (file mode : Text) (options : CheckOptions) → first_of (codes "FILE") (rows_of f) ≡ Some file → first_of (codes "mode") (rows_of f) ≡ Some mode
+    → found_options (text_in (rows_of f)) ≡ Some options → Some (check file mode options) ≡ found_in checker (rows_of f)
+check_found f file mode options a b c = sym (all_three a b c)
   where
-    six : {f' m' : Option Text} {r' n' : Option ℕ} {w' x' : Option Bool} → f' ≡ Some file → m' ≡ Some mode → r' ≡ Some runs → n' ≡ Some fuel → w' ≡ Some witness → x' ≡ Some complete
-        → found_check f' m' r' n' w' x' ≡ Some (check file mode runs fuel witness complete)
-    six a b c d e g = rw (a, b, c, d, e, g) refl
+    all_three : {f' m' : Option Text} {o' : Option CheckOptions} → f' ≡ Some file → m' ≡ Some mode → o' ≡ Some options → found_check f' m' o' ≡ Some (check file mode options)
+    all_three a b c = rw (a, b, c) refl
+
+pub has_items : (f : Found) → is_some (found_options (text_in (rows_of f))) ≡ true
+    → HasItems (number_at 1 most_runs (codes "runs") f) (number_at 1 most_fuel (codes "fuel") f) (number_at 0 most_split (codes "split") f) (number_at 0 most_workers (codes "workers") f)
+    (until_bad_in (first_of (codes "until") (rows_of f))) (flag_at (codes "witness") f) (flag_at (codes "complete") f) (number_if_given 0 most_piece (one_of (codes "piece") (rows_of f))) (flag_at (codes "pieces") f)
+has_items f e = some_items _ _ _ _ _ _ _ _ _ e
+
+abbrev options_with : ℕ → ℕ → ℕ → ℕ → Bool → Bool → Bool → Option ℕ → Bool → CheckOptions
+options_with runs fuel split workers until witness complete piece pieces =
+    record { runs = runs; fuel = fuel; split = split; workers = workers; until_bad = until; witness = witness; complete = complete; piece = piece; count_pieces = pieces }
+
+pub items_found : (f : Found) (runs fuel split workers : ℕ) (until witness complete : Bool) (piece : Option ℕ) (pieces : Bool) → number_at 1 most_runs (codes "runs") f ≡ Some runs → number_at 1 most_fuel (codes "fuel") f ≡ Some fuel
+    → number_at 0 most_split (codes "split") f ≡ Some split → number_at 0 most_workers (codes "workers") f ≡ Some workers → until_bad_in (first_of (codes "until") (rows_of f)) ≡ Some until
+    → flag_at (codes "witness") f ≡ Some witness → flag_at (codes "complete") f ≡ Some complete
+    → number_if_given 0 most_piece (one_of (codes "piece") (rows_of f)) ≡ Some piece → flag_at (codes "pieces") f ≡ Some pieces
+    → Some (options_with runs fuel split workers until witness complete piece pieces) ≡ found_options (text_in (rows_of f))
+items_found f runs fuel split workers until witness complete piece pieces a b c d e g h k m = sym (all_nine a b c d e g h k m)
+  where
+    all_nine : {r n s l : Option ℕ} {u w x : Option Bool} {i : Option (Option ℕ)} {p : Option Bool} → r ≡ Some runs → n ≡ Some fuel → s ≡ Some split → l ≡ Some workers → u ≡ Some until → w ≡ Some witness
+        → x ≡ Some complete → i ≡ Some piece → p ≡ Some pieces → options_of_items r n s l u w x i p ≡ Some (options_with runs fuel split workers until witness complete piece pieces)
+    all_nine a b c d e g h k m = rw (a, b, c, d, e, g, h, k, m) refl
+
+-- a word that was found is the one that there is
+until_taken : (t : Text) → is_some (until_bad_in (Some t)) ≡ true → until_bad_in (Some t) ≡ Some true
+until_taken t = elim (bytes_eq t (codes "deadlock")) as (λ x. is_some (if x then Some true else None) ≡ true → (if x then Some true else None) ≡ Some true) [
+  | true ↦ λ h. refl
+  | false ↦ λ h. cc
+]
+
+until_by : (o : Option Text) (r : Option (Bor Text)) → o ≡ text_at r → is_some (until_bad_in o) ≡ true → until_bad_in o ≡ Some (is_some r)
+until_by o None e some = ap until_bad_in e
+until_by o (Some b) e some =
+    let here : until_bad_in o ≡ until_bad_in (Some b.now) = ap until_bad_in e in
+    here ∙ until_taken b.now (sym (ap is_some here) ∙ some)
+
+pub until_found : (f : Found) (r : Option (Bor Text)) → text_at r ≡ first_value f (codes "until") → is_some (until_bad_in (first_of (codes "until") (rows_of f))) ≡ true
+    → until_bad_in (first_of (codes "until") (rows_of f)) ≡ Some (is_some r)
+until_found f r e some = until_by (first_of (codes "until") (rows_of f)) r (value_is f r (codes "until") e) some
 
 -- ---- numbers lie in their ranges
 
 -- what is asked for has each number in its range
 abbrev HasRange : Asked → Type 0
 HasRange (serve file mode port clients) = (1 ≤ port) × (port ≤ most_port) × (1 ≤ clients) × (clients ≤ most_clients)
-HasRange (check file mode runs fuel witness complete) = (1 ≤ runs) × (runs ≤ most_runs) × (1 ≤ fuel) × (fuel ≤ most_fuel)
+HasRange (check file mode options) = AreInRange options
 HasRange _ = Unit {0}
 
 range_asked : (options : Options) → HasRange (asked options) → IsInRange options
@@ -259,7 +357,7 @@ range_asked Plain h = tt
 range_asked (Trace file mode) h = tt
 range_asked (Run file mode) h = tt
 range_asked (Serve file mode port clients) h = h
-range_asked (Check file mode runs fuel witness complete) h = h
+range_asked (Check file mode options) h = h
 range_asked (Verify file witness mode) h = tt
 
 abbrev RangeOf : Option Asked → Type 0
@@ -267,38 +365,71 @@ RangeOf None = Unit {0}
 RangeOf (Some x) = HasRange x
 
 -- a number that was found lies in its range
-abbrev Within : ℕ → Option ℕ → Type 0
-Within high None = Unit {0}
-Within high (Some n) = (1 ≤ n) × (n ≤ high)
+abbrev Within : ℕ → ℕ → Option ℕ → Type 0
+Within low high None = Unit {0}
+Within low high (Some n) = (low ≤ n) × (n ≤ high)
 
-within : (high : ℕ) (t : Text) (o : Option ℕ) → number_in 1 high t ≡ o → Within high o
-within high t None e = tt
-within high t (Some n) e = (let facts = of_digits 1 high (without_plus t) n e in (facts.least, facts.most))
+within : (low high : ℕ) (t : Text) (o : Option ℕ) → number_in low high t ≡ o → Within low high o
+within low high t None e = tt
+within low high t (Some n) e = (let facts = of_digits low high (without_plus t) n e in (facts.least, facts.most))
 
-read_within : (high : ℕ) (t : Option Text) → Within high (option_and_then (number_in 1 high) t)
-read_within high None = tt
-read_within high (Some t) = within high t (number_in 1 high t) refl
+read_within : (low high : ℕ) (t : Option Text) → Within low high (option_and_then (number_in low high) t)
+read_within low high None = tt
+read_within low high (Some t) = within low high t (number_in low high t) refl
+
+abbrev PieceWithin : Option (Option ℕ) → Type 0
+PieceWithin None = Unit {0}
+PieceWithin (Some o) = IfSome o (λ n. n ≤ most_piece)
+
+piece_read : (t : Text) (o : Option ℕ) → number_in 0 most_piece t ≡ o → PieceWithin (option_map Some o)
+piece_read t None e = tt
+piece_read t (Some n) e = (let facts = of_digits 0 most_piece (without_plus t) n e in facts.most)
+
+piece_within : (t : Option Text) → PieceWithin (number_if_given 0 most_piece t)
+piece_within None = tt
+piece_within (Some t) = piece_read t (number_in 0 most_piece t) refl
 
 file_range : (asks : Text → Text → Asked) (f m : Option Text) → ((f m : Text) → HasRange (asks f m)) → RangeOf (found_of_file asks f m)
 file_range asks None m h = tt
 file_range asks (Some f) None h = tt
 file_range asks (Some f) (Some m) h = h f m
 
-serve_range : (f m : Option Text) (p c : Option ℕ) → Within most_port p → Within most_clients c → RangeOf (found_serve f m p c)
+serve_range : (f m : Option Text) (p c : Option ℕ) → Within 1 most_port p → Within 1 most_clients c → RangeOf (found_serve f m p c)
 serve_range None m p c a b = tt
 serve_range (Some f) None p c a b = tt
 serve_range (Some f) (Some m) None c a b = tt
 serve_range (Some f) (Some m) (Some p) None a b = tt
 serve_range (Some f) (Some m) (Some p) (Some c) a b = (a.0, a.1, b.0, b.1)
 
-check_range : (f m : Option Text) (r n : Option ℕ) (w x : Option Bool) → Within most_runs r → Within most_fuel n → RangeOf (found_check f m r n w x)
-check_range None m r n w x a b = tt
-check_range (Some f) None r n w x a b = tt
-check_range (Some f) (Some m) None n w x a b = tt
-check_range (Some f) (Some m) (Some r) None w x a b = tt
-check_range (Some f) (Some m) (Some r) (Some n) None x a b = tt
-check_range (Some f) (Some m) (Some r) (Some n) (Some w) None a b = tt
-check_range (Some f) (Some m) (Some r) (Some n) (Some w) (Some x) a b = (a.0, a.1, b.0, b.1)
+abbrev OptionsRange : Option CheckOptions → Type 0
+OptionsRange None = Unit {0}
+OptionsRange (Some o) = AreInRange o
+
+items_range : (r n s k : Option ℕ) (u w x : Option Bool) (i : Option (Option ℕ)) (p : Option Bool) → Within 1 most_runs r → Within 1 most_fuel n → Within 0 most_split s → Within 0 most_workers k → PieceWithin i
+    → OptionsRange (options_of_items r n s k u w x i p)
+items_range None n s k u w x i p a b c d e = tt
+items_range (Some r) None s k u w x i p a b c d e = tt
+items_range (Some r) (Some n) None k u w x i p a b c d e = tt
+items_range (Some r) (Some n) (Some s) None u w x i p a b c d e = tt
+items_range (Some r) (Some n) (Some s) (Some k) None w x i p a b c d e = tt
+items_range (Some r) (Some n) (Some s) (Some k) (Some u) None x i p a b c d e = tt
+items_range (Some r) (Some n) (Some s) (Some k) (Some u) (Some w) None i p a b c d e = tt
+items_range (Some r) (Some n) (Some s) (Some k) (Some u) (Some w) (Some x) None p a b c d e = tt
+items_range (Some r) (Some n) (Some s) (Some k) (Some u) (Some w) (Some x) (Some i) None a b c d e = tt
+items_range (Some r) (Some n) (Some s) (Some k) (Some u) (Some w) (Some x) (Some i) (Some p) a b c d e = (a.0, a.1, b.0, b.1, c.1, d.1, e)
+
+options_range : (text : Item → Option Text) → OptionsRange (found_options text)
+options_range text =
+    items_range (option_and_then (number_in 1 most_runs) (text the_runs)) (option_and_then (number_in 1 most_fuel) (text the_fuel))
+    (option_and_then (number_in 0 most_split) (text the_split)) (option_and_then (number_in 0 most_workers) (text the_workers)) (until_bad_in (text the_until))
+    (option_and_then flag_in (text the_witness)) (option_and_then flag_in (text the_complete)) (number_if_given 0 most_piece (text the_piece)) (option_and_then flag_in (text the_pieces))
+    (read_within 1 most_runs (text the_runs)) (read_within 1 most_fuel (text the_fuel)) (read_within 0 most_split (text the_split)) (read_within 0 most_workers (text the_workers)) (piece_within (text the_piece))
+
+check_range : (f m : Option Text) (o : Option CheckOptions) → OptionsRange o → RangeOf (found_check f m o)
+check_range None m o h = tt
+check_range (Some f) None o h = tt
+check_range (Some f) (Some m) None h = tt
+check_range (Some f) (Some m) (Some o) h = h
 
 verify_range : (f w m : Option Text) → RangeOf (found_verify f w m)
 verify_range None w m = tt
@@ -310,10 +441,8 @@ found_range : (t : Tool) (text : Item → Option Text) → RangeOf (found t text
 found_range tracer text = file_range trace (text the_file) (text the_mode) (λ f m. tt)
 found_range runner text = file_range run (text the_file) (text the_mode) (λ f m. tt)
 found_range server text =
-    serve_range (text the_file) (text the_mode) (option_and_then (number_in 1 most_port) (text the_port)) (option_and_then (number_in 1 most_clients) (text the_clients)) (read_within most_port (text the_port)) (read_within most_clients (text the_clients))
-found_range checker text =
-    check_range (text the_file) (text the_mode) (option_and_then (number_in 1 most_runs) (text the_runs)) (option_and_then (number_in 1 most_fuel) (text the_fuel)) (option_and_then flag_in (text the_witness)) (option_and_then flag_in (text the_complete))
-    (read_within most_runs (text the_runs)) (read_within most_fuel (text the_fuel))
+    serve_range (text the_file) (text the_mode) (option_and_then (number_in 1 most_port) (text the_port)) (option_and_then (number_in 1 most_clients) (text the_clients)) (read_within 1 most_port (text the_port)) (read_within 1 most_clients (text the_clients))
+found_range checker text = check_range (text the_file) (text the_mode) (found_options text) (options_range text)
 found_range verifier text = verify_range (text the_file) (text the_witness_file) (text the_mode)
 
 range_by : (o : Option Tool) (rows : List Row) → RangeOf (found_by o rows)

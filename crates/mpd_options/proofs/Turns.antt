@@ -1,6 +1,6 @@
 -- What `clap` makes of one word behind a command.
-use Rattle.std.specs.Prelude.{encode_utf8}
-use Rattle.std.proofs.Common.{◌≡◌, ◌≢◌, ◌∙◌, ◌&&◌, ℕ, Bool, true, false, List, [], ◌∷◌, ◌==◌, suc, length, Option, Some, None, drop, codes, refl, sym, ap, ap₂, subst, if◌then◌else◌}
+use Rattle.std.specs.Prelude.{◌⊎◌, encode_utf8}
+use Rattle.std.proofs.Common.{◌≡◌, ◌≢◌, ◌∙◌, ◌&&◌, ℕ, Bool, true, false, List, [], ◌∷◌, ◌==◌, cond, suc, length, Option, Some, None, drop, inl, inr, codes, refl, sym, ap, ap₂, subst, if◌then◌else◌}
 use Rattle.std.specs.Option.{option_map_or}
 use Rattle.std.specs.Str.{bytes_eq, chars}
 use Rattle.std.proofs.lemmas.Bool.{true≢false}
@@ -11,144 +11,147 @@ use Rattle.clap.specs.Kinds.{Kinds, or_else}
 use Rattle.clap.specs.Faults.{settle_fault, turn_fault, step_fault, long_fault, bundle_fault, flags_fault, short_fault, flag_word_fault}
 use Rattle.clap.specs.Walk.{Held, Walk, Waiting, idle, option, Step, trailing, value, Outcome, plain, walked, settled, arg_by_long, arg_by_short, arg_by_index, is_pending, long_met, long_or_other, short_or_plain, plain_word, pushed, after_flag, after_step, to_positional, bundle, bundle_met}
 use Rattle.clap.proofs.OnLiterals.{clap_on_literals}
-use Rattle.mpd_options.specs.Asked.{Item, Place, Said, Tool, among_options, behind_dashes, behind_option, by_letters, checker, dashes, fits, long_or_short, name_of, named_so, no_option, files_of, option_among, options_of, other_option, said_of, short_option, the_clients, the_file, the_fuel, the_mode, the_port, the_runs, the_witness, the_complete, the_witness_file, runner, server, tracer, unsaid, verifier, word_of}
+use Rattle.mpd_options.specs.Asked.{Item, Place, Said, Tool, among_options, behind_dashes, behind_option, by_letters, checker, dashes, fits, long_or_short, name_of, named_so, no_option, files_of, option_among, options_of, other_option, said_of, short_option, the_file, the_witness_file, runner, server, tracer, unsaid, verifier, word_of}
+use Rattle.mpd_options.specs.Program.{Lies}
 use Rattle.mpd_options.proofs.Ends.{IsLast, fails_first, fails_then, held, held_for, settles, with_last}
 use Rattle.mpd_options.proofs.Items.{Valid, arg, asks, by_long, flags, flag_by_long, help_arg, keeps, reads_witness, rows_for, rules, some_fault, sub}
 
 -- ---- the options of a command
 
-help_fails : (t : Tool) (v : Option Text) (h : Held) → long_fault (rules t) false (Some (help_arg t)) v h ≢ []
+help_fails : (lie : Lies) (t : Tool) (v : Option Text) (h : Held) → long_fault (rules lie t) false (Some (help_arg lie t)) v h ≢ []
 unfolding clap_on_literals
-help_fails tracer None h = fails_then (settle_fault (rules tracer) false h) _ (some_fault _ refl)
-help_fails tracer (Some x) h = some_fault _ refl
-help_fails runner None h = fails_then (settle_fault (rules runner) false h) _ (some_fault _ refl)
-help_fails runner (Some x) h = some_fault _ refl
-help_fails server None h = fails_then (settle_fault (rules server) false h) _ (some_fault _ refl)
-help_fails server (Some x) h = some_fault _ refl
-help_fails checker None h = fails_then (settle_fault (rules checker) false h) _ (some_fault _ refl)
-help_fails checker (Some x) h = some_fault _ refl
-help_fails verifier None h = fails_then (settle_fault (rules verifier) false h) _ (some_fault _ refl)
-help_fails verifier (Some x) h = some_fault _ refl
+help_fails lie tracer None h = fails_then (settle_fault (rules lie tracer) false h) _ (some_fault _ refl)
+help_fails lie tracer (Some x) h = some_fault _ refl
+help_fails lie runner None h = fails_then (settle_fault (rules lie runner) false h) _ (some_fault _ refl)
+help_fails lie runner (Some x) h = some_fault _ refl
+help_fails lie server None h = fails_then (settle_fault (rules lie server) false h) _ (some_fault _ refl)
+help_fails lie server (Some x) h = some_fault _ refl
+help_fails lie checker None h = fails_then (settle_fault (rules lie checker) false h) _ (some_fault _ refl)
+help_fails lie checker (Some x) h = some_fault _ refl
+help_fails lie verifier None h = fails_then (settle_fault (rules lie verifier) false h) _ (some_fault _ refl)
+help_fails lie verifier (Some x) h = some_fault _ refl
+
+-- none of these has the name
+abbrev pub NoneNamed : List Item → Text → Type 0
+NoneNamed [] name = Unit {0}
+NoneNamed (i ∷ items) name = (bytes_eq (name_of i) name ≡ false) × NoneNamed items name
 
 -- no option of the command has the name
 abbrev pub Unnamed : Tool → Text → Type 0
-Unnamed tracer name = bytes_eq (codes "mode") name ≡ false
-Unnamed runner name = bytes_eq (codes "mode") name ≡ false
-Unnamed server name = (bytes_eq (codes "mode") name ≡ false) × (bytes_eq (codes "port") name ≡ false) × (bytes_eq (codes "clients") name ≡ false)
-Unnamed checker name = (bytes_eq (codes "mode") name ≡ false) × (bytes_eq (codes "runs") name ≡ false) × (bytes_eq (codes "fuel") name ≡ false) × (bytes_eq (codes "witness") name ≡ false)
-    × (bytes_eq (codes "complete") name ≡ false)
-Unnamed verifier name = bytes_eq (codes "mode") name ≡ false
+Unnamed t name = NoneNamed (options_of t) name
 
-find_help : (t : Tool) (name : Text) → Unnamed t name → bytes_eq (codes "help") name ≡ true → arg_by_long (rules t) name ≡ Some (help_arg t)
+find_help : (lie : Lies) (t : Tool) (name : Text) → Unnamed t name → bytes_eq (codes "help") name ≡ true → arg_by_long (rules lie t) name ≡ Some (help_arg lie t)
 unfolding clap_on_literals
-find_help tracer name u h = rw (u, h) refl
-find_help runner name u h = rw (u, h) refl
-find_help server name u h = rw (u.0, u.1, u.2, h) refl
-find_help checker name u h = rw (u.0, u.1, u.2, u.3, u.4, h) refl
-find_help verifier name u h = rw (u, h) refl
+find_help lie tracer name u h = rw (u.0, h) refl
+find_help lie runner name u h = rw (u.0, h) refl
+find_help lie server name u h = rw (u.0, u.1.0, u.1.1.0, h) refl
+find_help lie checker name u h = rw (u.0, u.1.0, u.1.1.0, u.1.1.1.0, u.1.1.1.1.0, u.1.1.1.1.1.0, u.1.1.1.1.1.1.0, u.1.1.1.1.1.1.1.0, u.1.1.1.1.1.1.1.1.0, u.1.1.1.1.1.1.1.1.1.0, h) refl
+find_help lie verifier name u h = rw (u.0, h) refl
 
-find_none : (t : Tool) (name : Text) → Unnamed t name → bytes_eq (codes "help") name ≡ false → arg_by_long (rules t) name ≡ None
+find_none : (lie : Lies) (t : Tool) (name : Text) → Unnamed t name → bytes_eq (codes "help") name ≡ false → arg_by_long (rules lie t) name ≡ None
 unfolding clap_on_literals
-find_none tracer name u h = rw (u, h) refl
-find_none runner name u h = rw (u, h) refl
-find_none server name u h = rw (u.0, u.1, u.2, h) refl
-find_none checker name u h = rw (u.0, u.1, u.2, u.3, u.4, h) refl
-find_none verifier name u h = rw (u, h) refl
+find_none lie tracer name u h = rw (u.0, h) refl
+find_none lie runner name u h = rw (u.0, h) refl
+find_none lie server name u h = rw (u.0, u.1.0, u.1.1.0, h) refl
+find_none lie checker name u h = rw (u.0, u.1.0, u.1.1.0, u.1.1.1.0, u.1.1.1.1.0, u.1.1.1.1.1.0, u.1.1.1.1.1.1.0, u.1.1.1.1.1.1.1.0, u.1.1.1.1.1.1.1.1.0, u.1.1.1.1.1.1.1.1.1.0, h) refl
+find_none lie verifier name u h = rw (u.0, h) refl
 
-pub dead_long : (t : Tool) (name : Text) (v : Option Text) (h : Held) → Unnamed t name → long_fault (rules t) false (arg_by_long (rules t) name) v h ≢ []
-dead_long t name v h u =
-    let P : Option Rule → Type 0 = λ r. long_fault (rules t) false r v h ≢ [] in
-    elim (bytes_eq (codes "help") name) as (λ b. bytes_eq (codes "help") name ≡ b → long_fault (rules t) false (arg_by_long (rules t) name) v h ≢ []) [
-      | true ↦ λ e. subst P (sym (find_help t name u e)) (help_fails t v h)
-      | false ↦ λ e. subst P (sym (find_none t name u e)) (some_fault _ refl)
+pub dead_long : (lie : Lies) (t : Tool) (name : Text) (v : Option Text) (h : Held) → Unnamed t name → long_fault (rules lie t) false (arg_by_long (rules lie t) name) v h ≢ []
+dead_long lie t name v h u =
+    let P : Option Rule → Type 0 = λ r. long_fault (rules lie t) false r v h ≢ [] in
+    elim (bytes_eq (codes "help") name) as (λ b. bytes_eq (codes "help") name ≡ b → long_fault (rules lie t) false (arg_by_long (rules lie t) name) v h ≢ []) [
+      | true ↦ λ e. subst P (sym (find_help lie t name u e)) (help_fails lie t v h)
+      | false ↦ λ e. subst P (sym (find_none lie t name u e)) (some_fault _ refl)
     ] refl
 
 -- what `--NAME` names: an option that wants a value, a flag, or none
-pub data Names (t : Tool) (name : Text) : Type 0 where
-  names_option : (i : Item) → asks t i ≡ true → option_among (options_of t) name ≡ Some i → arg_by_long (rules t) name ≡ Some (arg t i) → Names t name
-  names_flag : (i : Item) → flags t i ≡ true → option_among (options_of t) name ≡ Some i → arg_by_long (rules t) name ≡ Some (arg t i) → Names t name
-  names_none : Unnamed t name → option_among (options_of t) name ≡ None → Names t name
+pub data Names (lie : Lies) (t : Tool) (name : Text) : Type 0 where
+  names_option : (i : Item) → asks t i ≡ true → option_among (options_of t) name ≡ Some i → arg_by_long (rules lie t) name ≡ Some (arg lie t i) → Names lie t name
+  names_flag : (i : Item) → flags t i ≡ true → option_among (options_of t) name ≡ Some i → arg_by_long (rules lie t) name ≡ Some (arg lie t i) → Names lie t name
+  names_none : Unnamed t name → option_among (options_of t) name ≡ None → Names lie t name
 
-long_named : (t : Tool) (i : Item) (name : Text) → bytes_eq (name_of i) name ≡ true → arg_by_long (rules t) (name_of i) ≡ Some (arg t i) → arg_by_long (rules t) name ≡ Some (arg t i)
-long_named t i name e l = subst (λ n. arg_by_long (rules t) n ≡ Some (arg t i)) ((bytes_eq-Decides (name_of i) name).0 e) l
+long_named : (lie : Lies) (t : Tool) (i : Item) (name : Text) → bytes_eq (name_of i) name ≡ true → arg_by_long (rules lie t) (name_of i) ≡ Some (arg lie t i) → arg_by_long (rules lie t) name ≡ Some (arg lie t i)
+long_named lie t i name e l = subst (λ n. arg_by_long (rules lie t) n ≡ Some (arg lie t i)) ((bytes_eq-Decides (name_of i) name).0 e) l
 
--- where the mode is the only option
-names_mode : (t : Tool) (name : Text) → options_of t ≡ the_mode ∷ [] → asks t the_mode ≡ true → (bytes_eq (codes "mode") name ≡ false → Unnamed t name) → Names t name
-names_mode t name only asking unnamed = elim (bytes_eq (codes "mode") name) as (λ b. bytes_eq (codes "mode") name ≡ b → Names t name) [
-  | true ↦ λ e. names_option the_mode asking (ap (λ items. option_among items name) only ∙ rw e refl) (long_named t the_mode name e (by_long t the_mode asking))
-  | false ↦ λ e. names_none (unnamed e) (ap (λ items. option_among items name) only ∙ rw e refl)
+-- each of these is an option of the command that wants a value, or a flag
+abbrev AreOptions : Tool → List Item → Type 0
+AreOptions t [] = Unit {0}
+AreOptions t (i ∷ items) = ((asks t i ≡ true) ⊎ (flags t i ≡ true)) × AreOptions t items
+
+own_options : (t : Tool) → AreOptions t (options_of t)
+own_options tracer = (inl refl, tt)
+own_options runner = (inl refl, tt)
+own_options server = (inl refl, (inl refl, (inl refl, tt)))
+own_options checker = (inl refl, (inl refl, (inl refl, (inl refl, (inl refl, (inl refl, (inr refl, (inr refl, (inl refl, (inr refl, tt))))))))))
+own_options verifier = (inl refl, tt)
+
+-- the first of these that has the name, or that none has it
+data Sought (t : Tool) (items : List Item) (name : Text) : Type 0 where
+  sought : (i : Item) → (asks t i ≡ true) ⊎ (flags t i ≡ true) → option_among items name ≡ Some i → bytes_eq (name_of i) name ≡ true → Sought t items name
+  not_there : NoneNamed items name → option_among items name ≡ None → Sought t items name
+
+-- behind one that hasn't the name
+sought_behind : (t : Tool) (i : Item) (items : List Item) (name : Text) → bytes_eq (name_of i) name ≡ false → Sought t items name → Sought t (i ∷ items) name
+sought_behind t i items name e (sought j kind there is) = sought j kind (ap (λ b. cond b (Some i) (option_among items name)) e ∙ there) is
+sought_behind t i items name e (not_there unnamed there) = not_there (e, unnamed) (ap (λ b. cond b (Some i) (option_among items name)) e ∙ there)
+
+seek : (t : Tool) (items : List Item) (name : Text) → AreOptions t items → Sought t items name
+seek t [] name own = not_there tt refl
+seek t (i ∷ items) name own = elim (bytes_eq (name_of i) name) as (λ b. bytes_eq (name_of i) name ≡ b → Sought t (i ∷ items) name) [
+  | true ↦ λ e. sought i own.0 (ap (λ b. cond b (Some i) (option_among items name)) e) e
+  | false ↦ λ e. sought_behind t i items name e (seek t items name own.1)
 ] refl
 
-pub names : (t : Tool) (name : Text) → Names t name
-names tracer name = names_mode tracer name refl refl (λ e. e)
-names runner name = names_mode runner name refl refl (λ e. e)
-names server name = elim (bytes_eq (codes "mode") name) as (λ b. bytes_eq (codes "mode") name ≡ b → Names server name) [
-  | true ↦ λ m. names_option the_mode refl (rw m refl) (long_named server the_mode name m (by_long server the_mode refl))
-  | false ↦ λ m. elim (bytes_eq (codes "port") name) as (λ b. bytes_eq (codes "port") name ≡ b → Names server name) [
-    | true ↦ λ p. names_option the_port refl (rw (m, p) refl) (long_named server the_port name p (by_long server the_port refl))
-    | false ↦ λ p. elim (bytes_eq (codes "clients") name) as (λ b. bytes_eq (codes "clients") name ≡ b → Names server name) [
-      | true ↦ λ c. names_option the_clients refl (rw (m, p, c) refl) (long_named server the_clients name c (by_long server the_clients refl))
-      | false ↦ λ c. names_none (m, p, c) (rw (m, p, c) refl)
-    ] refl
-  ] refl
-] refl
-names checker name = elim (bytes_eq (codes "mode") name) as (λ b. bytes_eq (codes "mode") name ≡ b → Names checker name) [
-  | true ↦ λ m. names_option the_mode refl (rw m refl) (long_named checker the_mode name m (by_long checker the_mode refl))
-  | false ↦ λ m. elim (bytes_eq (codes "runs") name) as (λ b. bytes_eq (codes "runs") name ≡ b → Names checker name) [
-    | true ↦ λ r. names_option the_runs refl (rw (m, r) refl) (long_named checker the_runs name r (by_long checker the_runs refl))
-    | false ↦ λ r. elim (bytes_eq (codes "fuel") name) as (λ b. bytes_eq (codes "fuel") name ≡ b → Names checker name) [
-      | true ↦ λ f. names_option the_fuel refl (rw (m, r, f) refl) (long_named checker the_fuel name f (by_long checker the_fuel refl))
-      | false ↦ λ f. elim (bytes_eq (codes "witness") name) as (λ b. bytes_eq (codes "witness") name ≡ b → Names checker name) [
-        | true ↦ λ w. names_flag the_witness refl (rw (m, r, f, w) refl) (long_named checker the_witness name w (flag_by_long checker the_witness refl))
-        | false ↦ λ w. elim (bytes_eq (codes "complete") name) as (λ b. bytes_eq (codes "complete") name ≡ b → Names checker name) [
-          | true ↦ λ x. names_flag the_complete refl (rw (m, r, f, w, x) refl) (long_named checker the_complete name x (flag_by_long checker the_complete refl))
-          | false ↦ λ x. names_none (m, r, f, w, x) (rw (m, r, f, w, x) refl)
-        ] refl
-      ] refl
-    ] refl
-  ] refl
-] refl
-names verifier name = names_mode verifier name refl refl (λ e. e)
+named_by_kind : (lie : Lies) (t : Tool) (i : Item) (name : Text) → (asks t i ≡ true) ⊎ (flags t i ≡ true) → option_among (options_of t) name ≡ Some i → bytes_eq (name_of i) name ≡ true → Names lie t name
+named_by_kind lie t i name (inl asking) there e = names_option i asking there (long_named lie t i name e (by_long lie t i asking))
+named_by_kind lie t i name (inr flag) there e = names_flag i flag there (long_named lie t i name e (flag_by_long lie t i flag))
+
+names_by : (lie : Lies) (t : Tool) (name : Text) → Sought t (options_of t) name → Names lie t name
+names_by lie t name (sought i kind there e) = named_by_kind lie t i name kind there e
+names_by lie t name (not_there unnamed there) = names_none unnamed there
+
+pub names : (lie : Lies) (t : Tool) (name : Text) → Names lie t name
+names lie t name = names_by lie t name (seek t (options_of t) name (own_options t))
 
 -- ---- letters
 
-letter_fails : (t : Tool) (x : ℕ) (rest : Text) (h : Held) (next : Held → Kinds) → short_fault (rules t) false (arg_by_short (rules t) x) rest h next ≢ []
+letter_fails : (lie : Lies) (t : Tool) (x : ℕ) (rest : Text) (h : Held) (next : Held → Kinds) → short_fault (rules lie t) false (arg_by_short (rules lie t) x) rest h next ≢ []
 unfolding clap_on_literals
-letter_fails tracer x rest h next = elim (104 == x) as (λ b. (104 == x) ≡ b → short_fault (rules tracer) false (arg_by_short (rules tracer) x) rest h next ≢ []) [
-  | true ↦ λ e. rw e (fails_first _ _ (fails_then (settle_fault (rules tracer) false h) _ (some_fault _ refl)))
+letter_fails lie tracer x rest h next = elim (104 == x) as (λ b. (104 == x) ≡ b → short_fault (rules lie tracer) false (arg_by_short (rules lie tracer) x) rest h next ≢ []) [
+  | true ↦ λ e. rw e (fails_first _ _ (fails_then (settle_fault (rules lie tracer) false h) _ (some_fault _ refl)))
   | false ↦ λ e. rw e (some_fault _ refl)
 ] refl
-letter_fails runner x rest h next = elim (104 == x) as (λ b. (104 == x) ≡ b → short_fault (rules runner) false (arg_by_short (rules runner) x) rest h next ≢ []) [
-  | true ↦ λ e. rw e (fails_first _ _ (fails_then (settle_fault (rules runner) false h) _ (some_fault _ refl)))
+letter_fails lie runner x rest h next = elim (104 == x) as (λ b. (104 == x) ≡ b → short_fault (rules lie runner) false (arg_by_short (rules lie runner) x) rest h next ≢ []) [
+  | true ↦ λ e. rw e (fails_first _ _ (fails_then (settle_fault (rules lie runner) false h) _ (some_fault _ refl)))
   | false ↦ λ e. rw e (some_fault _ refl)
 ] refl
-letter_fails server x rest h next = elim (104 == x) as (λ b. (104 == x) ≡ b → short_fault (rules server) false (arg_by_short (rules server) x) rest h next ≢ []) [
-  | true ↦ λ e. rw e (fails_first _ _ (fails_then (settle_fault (rules server) false h) _ (some_fault _ refl)))
+letter_fails lie server x rest h next = elim (104 == x) as (λ b. (104 == x) ≡ b → short_fault (rules lie server) false (arg_by_short (rules lie server) x) rest h next ≢ []) [
+  | true ↦ λ e. rw e (fails_first _ _ (fails_then (settle_fault (rules lie server) false h) _ (some_fault _ refl)))
   | false ↦ λ e. rw e (some_fault _ refl)
 ] refl
-letter_fails checker x rest h next = elim (104 == x) as (λ b. (104 == x) ≡ b → short_fault (rules checker) false (arg_by_short (rules checker) x) rest h next ≢ []) [
-  | true ↦ λ e. rw e (fails_first _ _ (fails_then (settle_fault (rules checker) false h) _ (some_fault _ refl)))
+letter_fails lie checker x rest h next = elim (104 == x) as (λ b. (104 == x) ≡ b → short_fault (rules lie checker) false (arg_by_short (rules lie checker) x) rest h next ≢ []) [
+  | true ↦ λ e. rw e (fails_first _ _ (fails_then (settle_fault (rules lie checker) false h) _ (some_fault _ refl)))
   | false ↦ λ e. rw e (some_fault _ refl)
 ] refl
-letter_fails verifier x rest h next = elim (104 == x) as (λ b. (104 == x) ≡ b → short_fault (rules verifier) false (arg_by_short (rules verifier) x) rest h next ≢ []) [
-  | true ↦ λ e. rw e (fails_first _ _ (fails_then (settle_fault (rules verifier) false h) _ (some_fault _ refl)))
+letter_fails lie verifier x rest h next = elim (104 == x) as (λ b. (104 == x) ≡ b → short_fault (rules lie verifier) false (arg_by_short (rules lie verifier) x) rest h next ≢ []) [
+  | true ↦ λ e. rw e (fails_first _ _ (fails_then (settle_fault (rules lie verifier) false h) _ (some_fault _ refl)))
   | false ↦ λ e. rw e (some_fault _ refl)
 ] refl
 
-pub dead_letters : (t : Tool) (letters : Text) (x : ℕ) (xs : List ℕ) (rows : List Row) (p : Option (Text × List Text)) → chars letters ≡ x ∷ xs → bundle_fault (rules t) false letters (held rows p) ≢ []
+pub dead_letters : (lie : Lies) (t : Tool) (letters : Text) (x : ℕ) (xs : List ℕ) (rows : List Row) (p : Option (Text × List Text)) → chars letters ≡ x ∷ xs → bundle_fault (rules lie t) false letters (held rows p) ≢ []
 unfolding clap_on_literals
-dead_letters t [] x xs rows p e = (let bad : (let l : List ℕ = [] in l) ≡ x ∷ xs = e in cc)
-dead_letters t (y ∷ ys) x xs rows p e = rw e (letter_fails t x (drop (length (encode_utf8 x)) (y ∷ ys)) (held rows p) _)
+dead_letters lie t [] x xs rows p e = (let bad : (let l : List ℕ = [] in l) ≡ x ∷ xs = e in cc)
+dead_letters lie t (y ∷ ys) x xs rows p e = rw e (letter_fails lie t x (drop (length (encode_utf8 x)) (y ∷ ys)) (held rows p) _)
 
-no_letters : (t : Tool) (letters : Text) (h : Held) → chars letters ≡ [] → bundle_fault (rules t) false letters h ≡ []
+no_letters : (lie : Lies) (t : Tool) (letters : Text) (h : Held) → chars letters ≡ [] → bundle_fault (rules lie t) false letters h ≡ []
 unfolding flags_fault
-no_letters t [] h e = refl
-no_letters t (y ∷ ys) h e = rw e refl
+no_letters lie t [] h e = refl
+no_letters lie t (y ∷ ys) h e = rw e refl
 
-no_bundle : (t : Tool) (letters : Text) (h : Held) → chars letters ≡ [] → bundle (rules t) letters h ≡ (let q : Held × Outcome = (record h { skip = 0 }, plain) in q)
+no_bundle : (lie : Lies) (t : Tool) (letters : Text) (h : Held) → chars letters ≡ [] → bundle (rules lie t) letters h ≡ (let q : Held × Outcome = (record h { skip = 0 }, plain) in q)
 unfolding bundle_met
-no_bundle t [] h e = refl
-no_bundle t (y ∷ ys) h e = rw e refl
+no_bundle lie t [] h e = refl
+no_bundle lie t (y ∷ ys) h e = rw e refl
 
 -- ---- what a word is to `clap`
 
@@ -249,100 +252,100 @@ Sound t (wants said i) = (said_of i said ≡ None) × (asks t i ≡ true) × Val
 
 -- ---- one word, where a walk stands before `--`
 
-abbrev pub met_by : Tool → Waiting → ℕ → Text → Held → Bool → Option (Text × Option Text) → Held × Step
-met_by t waiting position word h d l = if d then (h, trailing position) else long_or_other (rules t) waiting word l h
+abbrev pub met_by : Lies → Tool → Waiting → ℕ → Text → Held → Bool → Option (Text × Option Text) → Held × Step
+met_by lie t waiting position word h d l = if d then (h, trailing position) else long_or_other (rules lie t) waiting word l h
 
-abbrev pub turn_by : Tool → Waiting → ℕ → Text → Held → Bool → Option (Text × Option Text) → Kinds
-turn_by t waiting position word h d l =
-    or_else (if d then [] else flag_word_fault (rules t) false l word h) (step_fault (sub t) position (met_by t waiting position word h d l).0 (met_by t waiting position word h d l).1)
+abbrev pub turn_by : Lies → Tool → Waiting → ℕ → Text → Held → Bool → Option (Text × Option Text) → Kinds
+turn_by lie t waiting position word h d l =
+    or_else (if d then [] else flag_word_fault (rules lie t) false l word h) (step_fault (sub lie t) position (met_by lie t waiting position word h d l).0 (met_by lie t waiting position word h d l).1)
 
-abbrev pub walk_by : Tool → Waiting → ℕ → Text → Held → Bool → Option (Text × Option Text) → Walk
-walk_by t waiting position word h d l =
-    after_step (rules t) word (walk_with h waiting position false) (met_by t waiting position word h d l).0 (met_by t waiting position word h d l).1
+abbrev pub walk_by : Lies → Tool → Waiting → ℕ → Text → Held → Bool → Option (Text × Option Text) → Walk
+walk_by lie t waiting position word h d l =
+    after_step (rules lie t) word (walk_with h waiting position false) (met_by lie t waiting position word h d l).0 (met_by lie t waiting position word h d l).1
 
 -- what a walk makes of a word: its faults, and where it stands behind it
 abbrev pub Turn : Type 0
 Turn = Kinds × Walk
 
-abbrev pub turn : Tool → Waiting → ℕ → Text → Held → Turn
-turn t waiting position word h = (turn_fault (sub t) [] (walk_with h waiting position false) word, walked (rules t) [] (walk_with h waiting position false) word)
+abbrev pub turn : Lies → Tool → Waiting → ℕ → Text → Held → Turn
+turn lie t waiting position word h = (turn_fault (sub lie t) [] (walk_with h waiting position false) word, walked (rules lie t) [] (walk_with h waiting position false) word)
 
-abbrev pub turned : Tool → Waiting → ℕ → Text → Held → Bool → Option (Text × Option Text) → Turn
-turned t waiting position word h d l = (turn_by t waiting position word h d l, walk_by t waiting position word h d l)
+abbrev pub turned : Lies → Tool → Waiting → ℕ → Text → Held → Bool → Option (Text × Option Text) → Turn
+turned lie t waiting position word h d l = (turn_by lie t waiting position word h d l, walk_by lie t waiting position word h d l)
 
 -- nothing, or an option
 abbrev pub waiting_for : Option Text → Waiting
 waiting_for None = idle
 waiting_for (Some id) = option id
 
-turns : (t : Tool) (o : Option Text) (position : ℕ) (word : Text) (h : Held) → turn t (waiting_for o) position word h ≡ turned t (waiting_for o) position word h (bytes_eq word dd) (long_of word)
+turns : (lie : Lies) (t : Tool) (o : Option Text) (position : ℕ) (word : Text) (h : Held) → turn lie t (waiting_for o) position word h ≡ turned lie t (waiting_for o) position word h (bytes_eq word dd) (long_of word)
 unfolding walked
-turns tracer None position word h = refl
-turns tracer (Some id) position word h = refl
-turns runner None position word h = refl
-turns runner (Some id) position word h = refl
-turns server None position word h = refl
-turns server (Some id) position word h = refl
-turns checker None position word h = refl
-turns checker (Some id) position word h = refl
-turns verifier None position word h = refl
-turns verifier (Some id) position word h = refl
+turns lie tracer None position word h = refl
+turns lie tracer (Some id) position word h = refl
+turns lie runner None position word h = refl
+turns lie runner (Some id) position word h = refl
+turns lie server None position word h = refl
+turns lie server (Some id) position word h = refl
+turns lie checker None position word h = refl
+turns lie checker (Some id) position word h = refl
+turns lie verifier None position word h = refl
+turns lie verifier (Some id) position word h = refl
 
-turns_so : (t : Tool) (o : Option Text) (position : ℕ) (word : Text) (h : Held) (d : Bool) (l : Option (Text × Option Text)) → bytes_eq word dd ≡ d → long_of word ≡ l
-    → turn t (waiting_for o) position word h ≡ turned t (waiting_for o) position word h d l
-turns_so t o position word h d l de le =
-    turns t o position word h ∙ ap (λ b. turned t (waiting_for o) position word h b (long_of word)) de ∙ ap (λ p. turned t (waiting_for o) position word h d p) le
+turns_so : (lie : Lies) (t : Tool) (o : Option Text) (position : ℕ) (word : Text) (h : Held) (d : Bool) (l : Option (Text × Option Text)) → bytes_eq word dd ≡ d → long_of word ≡ l
+    → turn lie t (waiting_for o) position word h ≡ turned lie t (waiting_for o) position word h d l
+turns_so lie t o position word h d l de le =
+    turns lie t o position word h ∙ ap (λ b. turned lie t (waiting_for o) position word h b (long_of word)) de ∙ ap (λ p. turned lie t (waiting_for o) position word h d p) le
 
-pub turns_dashes : (t : Tool) (o : Option Text) (position : ℕ) (word : Text) (h : Held) → bytes_eq word dd ≡ true
-    → turn t (waiting_for o) position word h ≡ (let q : Turn = ([], walk_with h (waiting_for o) position true) in q)
-turns_dashes t o position word h d = turns_so t o position word h true (long_of word) d refl
+pub turns_dashes : (lie : Lies) (t : Tool) (o : Option Text) (position : ℕ) (word : Text) (h : Held) → bytes_eq word dd ≡ true
+    → turn lie t (waiting_for o) position word h ≡ (let q : Turn = ([], walk_with h (waiting_for o) position true) in q)
+turns_dashes lie t o position word h d = turns_so lie t o position word h true (long_of word) d refl
 
 -- an option by its argument
-abbrev pub long_turn : Tool → Waiting → ℕ → Text → Held → Option Rule → Option Text → Turn
-long_turn t waiting position word h r v =
-    let met = after_flag (rules t) waiting word (long_met (rules t) r v h).0 (long_met (rules t) r v h).1 in
-    (or_else (long_fault (rules t) false r v h) (step_fault (sub t) position met.0 met.1), after_step (rules t) word (walk_with h waiting position false) met.0 met.1)
+abbrev pub long_turn : Lies → Tool → Waiting → ℕ → Text → Held → Option Rule → Option Text → Turn
+long_turn lie t waiting position word h r v =
+    let met = after_flag (rules lie t) waiting word (long_met (rules lie t) r v h).0 (long_met (rules lie t) r v h).1 in
+    (or_else (long_fault (rules lie t) false r v h) (step_fault (sub lie t) position met.0 met.1), after_step (rules lie t) word (walk_with h waiting position false) met.0 met.1)
 
-pub turns_long : (t : Tool) (o : Option Text) (position : ℕ) (word : Text) (h : Held) (name : Text) (v : Option Text) (r : Option Rule) → bytes_eq word dd ≡ false → long_of word ≡ Some (name, v) → arg_by_long (rules t) name ≡ r
-    → turn t (waiting_for o) position word h ≡ long_turn t (waiting_for o) position word h r v
-turns_long t o position word h name v r d l e = turns_so t o position word h false (Some (name, v)) d l ∙ ap (λ x. long_turn t (waiting_for o) position word h x v) e
+pub turns_long : (lie : Lies) (t : Tool) (o : Option Text) (position : ℕ) (word : Text) (h : Held) (name : Text) (v : Option Text) (r : Option Rule) → bytes_eq word dd ≡ false → long_of word ≡ Some (name, v) → arg_by_long (rules lie t) name ≡ r
+    → turn lie t (waiting_for o) position word h ≡ long_turn lie t (waiting_for o) position word h r v
+turns_long lie t o position word h name v r d l e = turns_so lie t o position word h false (Some (name, v)) d l ∙ ap (λ x. long_turn lie t (waiting_for o) position word h x v) e
 
 -- letters
-abbrev pub short_turn : Tool → Waiting → ℕ → Text → Held → Option Text → Turn
-short_turn t waiting position word h s =
-    let met = short_or_plain (rules t) waiting word s h in
-    (or_else (option_map_or (λ flags. bundle_fault (rules t) false flags h) s []) (step_fault (sub t) position met.0 met.1), after_step (rules t) word (walk_with h waiting position false) met.0 met.1)
+abbrev pub short_turn : Lies → Tool → Waiting → ℕ → Text → Held → Option Text → Turn
+short_turn lie t waiting position word h s =
+    let met = short_or_plain (rules lie t) waiting word s h in
+    (or_else (option_map_or (λ flags. bundle_fault (rules lie t) false flags h) s []) (step_fault (sub lie t) position met.0 met.1), after_step (rules lie t) word (walk_with h waiting position false) met.0 met.1)
 
-pub turns_short : (t : Tool) (o : Option Text) (position : ℕ) (word : Text) (h : Held) (s : Option Text) → bytes_eq word dd ≡ false → long_of word ≡ None → short_of word ≡ s
-    → turn t (waiting_for o) position word h ≡ short_turn t (waiting_for o) position word h s
-turns_short t o position word h s d l e = turns_so t o position word h false None d l ∙ ap (λ x. short_turn t (waiting_for o) position word h x) e
+pub turns_short : (lie : Lies) (t : Tool) (o : Option Text) (position : ℕ) (word : Text) (h : Held) (s : Option Text) → bytes_eq word dd ≡ false → long_of word ≡ None → short_of word ≡ s
+    → turn lie t (waiting_for o) position word h ≡ short_turn lie t (waiting_for o) position word h s
+turns_short lie t o position word h s d l e = turns_so lie t o position word h false None d l ∙ ap (λ x. short_turn lie t (waiting_for o) position word h x) e
 
 -- no option
-abbrev pub plain_turn : Tool → Waiting → ℕ → Text → Held → Turn
-plain_turn t waiting position word h =
-    let met = plain_word (rules t) waiting word h in
-    (step_fault (sub t) position met.0 met.1, after_step (rules t) word (walk_with h waiting position false) met.0 met.1)
+abbrev pub plain_turn : Lies → Tool → Waiting → ℕ → Text → Held → Turn
+plain_turn lie t waiting position word h =
+    let met = plain_word (rules lie t) waiting word h in
+    (step_fault (sub lie t) position met.0 met.1, after_step (rules lie t) word (walk_with h waiting position false) met.0 met.1)
 
-abbrev pub bundle_turn : Tool → Waiting → ℕ → Text → Held → Kinds → Held × Outcome → Turn
-bundle_turn t waiting position word h ks q =
-    let met = after_flag (rules t) waiting word q.0 q.1 in
-    (or_else ks (step_fault (sub t) position met.0 met.1), after_step (rules t) word (walk_with h waiting position false) met.0 met.1)
+abbrev pub bundle_turn : Lies → Tool → Waiting → ℕ → Text → Held → Kinds → Held × Outcome → Turn
+bundle_turn lie t waiting position word h ks q =
+    let met = after_flag (rules lie t) waiting word q.0 q.1 in
+    (or_else ks (step_fault (sub lie t) position met.0 met.1), after_step (rules lie t) word (walk_with h waiting position false) met.0 met.1)
 
-pub turns_no_letters : (t : Tool) (o : Option Text) (position : ℕ) (word : Text) (rows : List Row) (p : Option (Text × List Text)) (letters : Text) → bytes_eq word dd ≡ false → long_of word ≡ None → short_of word ≡ Some letters
-    → chars letters ≡ [] → turn t (waiting_for o) position word (held rows p) ≡ plain_turn t (waiting_for o) position word (held rows p)
-turns_no_letters t o position word rows p letters d l s e =
-    turns_short t o position word (held rows p) (Some letters) d l s
-    ∙ ap (λ ks. bundle_turn t (waiting_for o) position word (held rows p) ks (bundle (rules t) letters (held rows p))) (no_letters t letters (held rows p) e)
-    ∙ ap (λ q. bundle_turn t (waiting_for o) position word (held rows p) [] q) (no_bundle t letters (held rows p) e)
+pub turns_no_letters : (lie : Lies) (t : Tool) (o : Option Text) (position : ℕ) (word : Text) (rows : List Row) (p : Option (Text × List Text)) (letters : Text) → bytes_eq word dd ≡ false → long_of word ≡ None → short_of word ≡ Some letters
+    → chars letters ≡ [] → turn lie t (waiting_for o) position word (held rows p) ≡ plain_turn lie t (waiting_for o) position word (held rows p)
+turns_no_letters lie t o position word rows p letters d l s e =
+    turns_short lie t o position word (held rows p) (Some letters) d l s
+    ∙ ap (λ ks. bundle_turn lie t (waiting_for o) position word (held rows p) ks (bundle (rules lie t) letters (held rows p))) (no_letters lie t letters (held rows p) e)
+    ∙ ap (λ q. bundle_turn lie t (waiting_for o) position word (held rows p) [] q) (no_bundle lie t letters (held rows p) e)
 
-pub turns_plain : (t : Tool) (o : Option Text) (position : ℕ) (word : Text) (rows : List Row) (p : Option (Text × List Text)) → bytes_eq word dd ≡ false → long_of word ≡ None → short_of word ≡ None
-    → turn t (waiting_for o) position word (held rows p) ≡ plain_turn t (waiting_for o) position word (held rows p)
-turns_plain t o position word rows p d l s = turns_short t o position word (held rows p) None d l s
+pub turns_plain : (lie : Lies) (t : Tool) (o : Option Text) (position : ℕ) (word : Text) (rows : List Row) (p : Option (Text × List Text)) → bytes_eq word dd ≡ false → long_of word ≡ None → short_of word ≡ None
+    → turn lie t (waiting_for o) position word (held rows p) ≡ plain_turn lie t (waiting_for o) position word (held rows p)
+turns_plain lie t o position word rows p d l s = turns_short lie t o position word (held rows p) None d l s
 
 -- ---- a word that goes to a file's place
 
-abbrev pub value_turn : Tool → Waiting → ℕ → Text → Held → Bool → Turn
-value_turn t waiting position word h b = (step_fault (sub t) position h value, to_positional (rules t) (arg_by_index (rules t) position) word (walk_with h waiting position b) h)
+abbrev pub value_turn : Lies → Tool → Waiting → ℕ → Text → Held → Bool → Turn
+value_turn lie t waiting position word h b = (step_fault (sub lie t) position h value, to_positional (rules lie t) (arg_by_index (rules lie t) position) word (walk_with h waiting position b) h)
 
 -- the files whose words a command wants
 abbrev pub is_file : Tool → Item → Bool
@@ -355,32 +358,18 @@ abbrev pub seat : Item → ℕ
 seat the_witness_file = 2
 seat _ = 1
 
--- a command with no word for a witness
-only_file : (t : Tool) → reads_witness t ≡ false → (Q : Item → Type 0) → Q the_file → (i : Item) → is_file t i ≡ true → Q i
-only_file t only Q f the_file e = f
-only_file t only Q f the_witness_file e = cc
-only_file t only Q f the_mode e = cc
-only_file t only Q f the_port e = cc
-only_file t only Q f the_clients e = cc
-only_file t only Q f the_runs e = cc
-only_file t only Q f the_fuel e = cc
-only_file t only Q f the_witness e = cc
-only_file t only Q f the_complete e = cc
-
 each_file : (P : Tool → Item → Type 0) → P tracer the_file → P runner the_file → P server the_file → P checker the_file → P verifier the_file → P verifier the_witness_file → (t : Tool) (i : Item) → is_file t i ≡ true → P t i
-each_file P a r s b c d tracer i e = only_file tracer refl (P tracer) a i e
-each_file P a r s b c d runner i e = only_file runner refl (P runner) r i e
-each_file P a r s b c d server i e = only_file server refl (P server) s i e
-each_file P a r s b c d checker i e = only_file checker refl (P checker) b i e
+each_file P a r s b c d tracer the_file e = a
+each_file P a r s b c d tracer _ e = cc
+each_file P a r s b c d runner the_file e = r
+each_file P a r s b c d runner _ e = cc
+each_file P a r s b c d server the_file e = s
+each_file P a r s b c d server _ e = cc
+each_file P a r s b c d checker the_file e = b
+each_file P a r s b c d checker _ e = cc
 each_file P a r s b c d verifier the_file e = c
 each_file P a r s b c d verifier the_witness_file e = d
-each_file P a r s b c d verifier the_mode e = cc
-each_file P a r s b c d verifier the_port e = cc
-each_file P a r s b c d verifier the_clients e = cc
-each_file P a r s b c d verifier the_runs e = cc
-each_file P a r s b c d verifier the_fuel e = cc
-each_file P a r s b c d verifier the_witness e = cc
-each_file P a r s b c d verifier the_complete e = cc
+each_file P a r s b c d verifier _ e = cc
 
 pub file_keeps : (t : Tool) (i : Item) → is_file t i ≡ true → keeps t i ≡ true
 file_keeps = each_file (λ t i. keeps t i ≡ true) refl refl refl refl refl refl
@@ -396,71 +385,71 @@ file_held_by : (b : Bool) (h g : Held) → (if b && false then h else g) ≡ g
 file_held_by true h g = refl
 file_held_by false h g = refl
 
-pub file_step : (h : Held) (t : Tool) (i : Item) → is_file t i ≡ true → step_fault (sub t) (seat i) h value ≡ settle_fault (rules t) false h
+pub file_step : (lie : Lies) (h : Held) (t : Tool) (i : Item) → is_file t i ≡ true → step_fault (sub lie t) (seat i) h value ≡ settle_fault (rules lie t) false h
 unfolding clap_on_literals
-file_step h =
-    each_file (λ t i. step_fault (sub t) (seat i) h value ≡ settle_fault (rules t) false h)
-    (file_step_by (is_pending (arg tracer the_file) h.pending) (settle_fault (rules tracer) false h))
-    (file_step_by (is_pending (arg runner the_file) h.pending) (settle_fault (rules runner) false h))
-    (file_step_by (is_pending (arg server the_file) h.pending) (settle_fault (rules server) false h))
-    (file_step_by (is_pending (arg checker the_file) h.pending) (settle_fault (rules checker) false h))
-    (file_step_by (is_pending (arg verifier the_file) h.pending) (settle_fault (rules verifier) false h))
-    (file_step_by (is_pending (arg verifier the_witness_file) h.pending) (settle_fault (rules verifier) false h))
+file_step lie h =
+    each_file (λ t i. step_fault (sub lie t) (seat i) h value ≡ settle_fault (rules lie t) false h)
+    (file_step_by (is_pending (arg lie tracer the_file) h.pending) (settle_fault (rules lie tracer) false h))
+    (file_step_by (is_pending (arg lie runner the_file) h.pending) (settle_fault (rules lie runner) false h))
+    (file_step_by (is_pending (arg lie server the_file) h.pending) (settle_fault (rules lie server) false h))
+    (file_step_by (is_pending (arg lie checker the_file) h.pending) (settle_fault (rules lie checker) false h))
+    (file_step_by (is_pending (arg lie verifier the_file) h.pending) (settle_fault (rules lie verifier) false h))
+    (file_step_by (is_pending (arg lie verifier the_witness_file) h.pending) (settle_fault (rules lie verifier) false h))
 
 -- the walk behind such a word
-abbrev pub FileWalk : Waiting → Text → Held → Bool → Tool → Item → Type 0
-FileWalk waiting word h b t i =
-    to_positional (rules t) (arg_by_index (rules t) (seat i)) word (walk_with h waiting (seat i) b) h ≡ walk_with (pushed (name_of i) word (settled (rules t) h)) idle (suc (seat i)) b
+abbrev pub FileWalk : Lies → Waiting → Text → Held → Bool → Tool → Item → Type 0
+FileWalk lie waiting word h b t i =
+    to_positional (rules lie t) (arg_by_index (rules lie t) (seat i)) word (walk_with h waiting (seat i) b) h ≡ walk_with (pushed (name_of i) word (settled (rules lie t) h)) idle (suc (seat i)) b
 
-file_walk : (waiting : Waiting) (word : Text) (h : Held) (b : Bool) (t : Tool) (i : Item) → is_file t i ≡ true → FileWalk waiting word h b t i
+file_walk : (lie : Lies) (waiting : Waiting) (word : Text) (h : Held) (b : Bool) (t : Tool) (i : Item) → is_file t i ≡ true → FileWalk lie waiting word h b t i
 unfolding clap_on_literals
-file_walk waiting word h true =
-    each_file (FileWalk waiting word h true)
-    (ap (λ g. walk_with (pushed (name_of the_file) word g) idle (suc (seat the_file)) true) (file_held_by (is_pending (arg tracer the_file) h.pending) h (settled (rules tracer) h)))
-    (ap (λ g. walk_with (pushed (name_of the_file) word g) idle (suc (seat the_file)) true) (file_held_by (is_pending (arg runner the_file) h.pending) h (settled (rules runner) h)))
-    (ap (λ g. walk_with (pushed (name_of the_file) word g) idle (suc (seat the_file)) true) (file_held_by (is_pending (arg server the_file) h.pending) h (settled (rules server) h)))
-    (ap (λ g. walk_with (pushed (name_of the_file) word g) idle (suc (seat the_file)) true) (file_held_by (is_pending (arg checker the_file) h.pending) h (settled (rules checker) h)))
-    (ap (λ g. walk_with (pushed (name_of the_file) word g) idle (suc (seat the_file)) true) (file_held_by (is_pending (arg verifier the_file) h.pending) h (settled (rules verifier) h)))
-    (ap (λ g. walk_with (pushed (name_of the_witness_file) word g) idle (suc (seat the_witness_file)) true) (file_held_by (is_pending (arg verifier the_witness_file) h.pending) h (settled (rules verifier) h)))
-file_walk waiting word h false =
-    each_file (FileWalk waiting word h false)
-    (ap (λ g. walk_with (pushed (name_of the_file) word g) idle (suc (seat the_file)) false) (file_held_by (is_pending (arg tracer the_file) h.pending) h (settled (rules tracer) h)))
-    (ap (λ g. walk_with (pushed (name_of the_file) word g) idle (suc (seat the_file)) false) (file_held_by (is_pending (arg runner the_file) h.pending) h (settled (rules runner) h)))
-    (ap (λ g. walk_with (pushed (name_of the_file) word g) idle (suc (seat the_file)) false) (file_held_by (is_pending (arg server the_file) h.pending) h (settled (rules server) h)))
-    (ap (λ g. walk_with (pushed (name_of the_file) word g) idle (suc (seat the_file)) false) (file_held_by (is_pending (arg checker the_file) h.pending) h (settled (rules checker) h)))
-    (ap (λ g. walk_with (pushed (name_of the_file) word g) idle (suc (seat the_file)) false) (file_held_by (is_pending (arg verifier the_file) h.pending) h (settled (rules verifier) h)))
-    (ap (λ g. walk_with (pushed (name_of the_witness_file) word g) idle (suc (seat the_witness_file)) false) (file_held_by (is_pending (arg verifier the_witness_file) h.pending) h (settled (rules verifier) h)))
+file_walk lie waiting word h true =
+    each_file (FileWalk lie waiting word h true)
+    (ap (λ g. walk_with (pushed (name_of the_file) word g) idle (suc (seat the_file)) true) (file_held_by (is_pending (arg lie tracer the_file) h.pending) h (settled (rules lie tracer) h)))
+    (ap (λ g. walk_with (pushed (name_of the_file) word g) idle (suc (seat the_file)) true) (file_held_by (is_pending (arg lie runner the_file) h.pending) h (settled (rules lie runner) h)))
+    (ap (λ g. walk_with (pushed (name_of the_file) word g) idle (suc (seat the_file)) true) (file_held_by (is_pending (arg lie server the_file) h.pending) h (settled (rules lie server) h)))
+    (ap (λ g. walk_with (pushed (name_of the_file) word g) idle (suc (seat the_file)) true) (file_held_by (is_pending (arg lie checker the_file) h.pending) h (settled (rules lie checker) h)))
+    (ap (λ g. walk_with (pushed (name_of the_file) word g) idle (suc (seat the_file)) true) (file_held_by (is_pending (arg lie verifier the_file) h.pending) h (settled (rules lie verifier) h)))
+    (ap (λ g. walk_with (pushed (name_of the_witness_file) word g) idle (suc (seat the_witness_file)) true) (file_held_by (is_pending (arg lie verifier the_witness_file) h.pending) h (settled (rules lie verifier) h)))
+file_walk lie waiting word h false =
+    each_file (FileWalk lie waiting word h false)
+    (ap (λ g. walk_with (pushed (name_of the_file) word g) idle (suc (seat the_file)) false) (file_held_by (is_pending (arg lie tracer the_file) h.pending) h (settled (rules lie tracer) h)))
+    (ap (λ g. walk_with (pushed (name_of the_file) word g) idle (suc (seat the_file)) false) (file_held_by (is_pending (arg lie runner the_file) h.pending) h (settled (rules lie runner) h)))
+    (ap (λ g. walk_with (pushed (name_of the_file) word g) idle (suc (seat the_file)) false) (file_held_by (is_pending (arg lie server the_file) h.pending) h (settled (rules lie server) h)))
+    (ap (λ g. walk_with (pushed (name_of the_file) word g) idle (suc (seat the_file)) false) (file_held_by (is_pending (arg lie checker the_file) h.pending) h (settled (rules lie checker) h)))
+    (ap (λ g. walk_with (pushed (name_of the_file) word g) idle (suc (seat the_file)) false) (file_held_by (is_pending (arg lie verifier the_file) h.pending) h (settled (rules lie verifier) h)))
+    (ap (λ g. walk_with (pushed (name_of the_witness_file) word g) idle (suc (seat the_witness_file)) false) (file_held_by (is_pending (arg lie verifier the_witness_file) h.pending) h (settled (rules lie verifier) h)))
 
 -- no word more is taken
-pub no_second : (t : Tool) (h : Held) → reads_witness t ≡ false → step_fault (sub t) 2 h value ≢ []
+pub no_second : (lie : Lies) (t : Tool) (h : Held) → reads_witness t ≡ false → step_fault (sub lie t) 2 h value ≢ []
 unfolding clap_on_literals
-no_second tracer h e = some_fault _ refl
-no_second runner h e = some_fault _ refl
-no_second server h e = some_fault _ refl
-no_second checker h e = some_fault _ refl
-no_second verifier h e = absurd (true≢false e)
+no_second lie tracer h e = some_fault _ refl
+no_second lie runner h e = some_fault _ refl
+no_second lie server h e = some_fault _ refl
+no_second lie checker h e = some_fault _ refl
+no_second lie verifier h e = absurd (true≢false e)
 
-pub no_third : (t : Tool) (h : Held) → step_fault (sub t) 3 h value ≢ []
+pub no_third : (lie : Lies) (t : Tool) (h : Held) → step_fault (sub lie t) 3 h value ≢ []
 unfolding clap_on_literals
-no_third tracer h = some_fault _ refl
-no_third runner h = some_fault _ refl
-no_third server h = some_fault _ refl
-no_third checker h = some_fault _ refl
-no_third verifier h = some_fault _ refl
+no_third lie tracer h = some_fault _ refl
+no_third lie runner h = some_fault _ refl
+no_third lie server h = some_fault _ refl
+no_third lie checker h = some_fault _ refl
+no_third lie verifier h = some_fault _ refl
 
 abbrev pub pair : Kinds → Walk → Turn
 pair ks w = (ks, w)
 
-pub file_taken : (t : Tool) (said : Said) (last : Option (Item × Text)) (b : Bool) (word : Text) (i : Item) → is_file t i ≡ true → Valid (with_last said last) → IsLast t last
-    → value_turn t idle (seat i) word (held_for said last) b ≡ pair [] (walk_with (held_for (with_last said last) (Some (i, word))) idle (suc (seat i)) b)
-file_taken t said last b word i file h l =
-    let s = settles t said last h l in
-    ap₂ pair (file_step (held_for said last) t i file ∙ s.0) (file_walk idle word (held_for said last) b t i file ∙ ap (λ g. walk_with (pushed (name_of i) word g) idle (suc (seat i)) b) s.1)
+pub file_taken : (lie : Lies) (t : Tool) (said : Said) (last : Option (Item × Text)) (b : Bool) (word : Text) (i : Item) → is_file t i ≡ true → Valid (with_last said last) → IsLast t last
+    → value_turn lie t idle (seat i) word (held_for said last) b ≡ pair [] (walk_with (held_for (with_last said last) (Some (i, word))) idle (suc (seat i)) b)
+file_taken lie t said last b word i file h l =
+    let s = settles lie t said last h l in
+    ap₂ pair (file_step lie (held_for said last) t i file ∙ s.0) (file_walk lie idle word (held_for said last) b t i file ∙ ap (λ g. walk_with (pushed (name_of i) word g) idle (suc (seat i)) b) s.1)
 
 -- where the next word goes that is no option: to a file, or nowhere
-pub data Free (t : Tool) (said : Said) : Type 0 where
-  free : (i : Item) → is_file t i ≡ true → unsaid (files_of t) said ≡ Some i → said_of i said ≡ None → place_of said ≡ seat i → ((word : Text) → place_of ((i, word) ∷ said) ≡ suc (seat i)) → ((word : Text) → InOrder ((i, word) ∷ said)) → Free t said
-  full : unsaid (files_of t) said ≡ None → ((h : Held) → step_fault (sub t) (place_of said) h value ≢ []) → Free t said
+pub data Free (lie : Lies) (t : Tool) (said : Said) : Type 0 where
+  free : (i : Item) → is_file t i ≡ true → unsaid (files_of t) said ≡ Some i → said_of i said ≡ None → place_of said ≡ seat i → ((word : Text) → place_of ((i, word) ∷ said) ≡ suc (seat i)) → ((word : Text) → InOrder ((i, word) ∷ said)) → Free lie t said
+  full : unsaid (files_of t) said ≡ None → ((h : Held) → step_fault (sub lie t) (place_of said) h value ≢ []) → Free lie t said
 
 first_unsaid : (t : Tool) (said : Said) → said_of the_file said ≡ None → unsaid (files_of t) said ≡ Some the_file
 first_unsaid tracer said e = rw e refl
@@ -477,37 +466,37 @@ one_said checker said f only e = rw e refl
 one_said verifier said f only e = cc
 
 -- behind the file's word
-free_second : (t : Tool) (said : Said) (f : Text) → said_of the_file said ≡ Some f → reads_witness t ≡ true → said_of the_witness_file said ≡ None → Free t said
-free_second tracer said f e both w = cc
-free_second runner said f e both w = cc
-free_second server said f e both w = cc
-free_second checker said f e both w = cc
-free_second verifier said f e both w =
+free_second : (lie : Lies) (t : Tool) (said : Said) (f : Text) → said_of the_file said ≡ Some f → reads_witness t ≡ true → said_of the_witness_file said ≡ None → Free lie t said
+free_second lie tracer said f e both w = cc
+free_second lie runner said f e both w = cc
+free_second lie server said f e both w = cc
+free_second lie checker said f e both w = cc
+free_second lie verifier said f e both w =
     free the_witness_file refl (rw (e, w) refl) w (ap₂ next_place e w) (λ word. ap (λ o. next_place o (Some word)) e) (λ word new. (let bad : Some f ≡ None = sym e ∙ new in cc))
 
 -- a word at this place is one too many
-abbrev pub Ends : Tool → ℕ → Type 0
-Ends t n = (h : Held) → step_fault (sub t) n h value ≢ []
+abbrev pub Ends : Lies → Tool → ℕ → Type 0
+Ends lie t n = (h : Held) → step_fault (sub lie t) n h value ≢ []
 
-full_second : (t : Tool) (said : Said) (f : Text) (o : Option Text) → said_of the_file said ≡ Some f → reads_witness t ≡ false → said_of the_witness_file said ≡ o → Free t said
-full_second t said f None e only w = full (one_said t said f only e) (subst (Ends t) (sym (ap₂ next_place e w)) (λ h. no_second t h only))
-full_second t said f (Some x) e only w = full (one_said t said f only e) (subst (Ends t) (sym (ap₂ next_place e w)) (λ h. no_third t h))
+full_second : (lie : Lies) (t : Tool) (said : Said) (f : Text) (o : Option Text) → said_of the_file said ≡ Some f → reads_witness t ≡ false → said_of the_witness_file said ≡ o → Free lie t said
+full_second lie t said f None e only w = full (one_said t said f only e) (subst (Ends lie t) (sym (ap₂ next_place e w)) (λ h. no_second lie t h only))
+full_second lie t said f (Some x) e only w = full (one_said t said f only e) (subst (Ends lie t) (sym (ap₂ next_place e w)) (λ h. no_third lie t h))
 
-full_third : (t : Tool) (said : Said) (f x : Text) → said_of the_file said ≡ Some f → reads_witness t ≡ true → said_of the_witness_file said ≡ Some x → Free t said
-full_third tracer said f x e both w = cc
-full_third runner said f x e both w = cc
-full_third server said f x e both w = cc
-full_third checker said f x e both w = cc
-full_third verifier said f x e both w = full (rw (e, w) refl) (subst (Ends verifier) (sym (ap₂ next_place e w)) (λ h. no_third verifier h))
+full_third : (lie : Lies) (t : Tool) (said : Said) (f x : Text) → said_of the_file said ≡ Some f → reads_witness t ≡ true → said_of the_witness_file said ≡ Some x → Free lie t said
+full_third lie tracer said f x e both w = cc
+full_third lie runner said f x e both w = cc
+full_third lie server said f x e both w = cc
+full_third lie checker said f x e both w = cc
+full_third lie verifier said f x e both w = full (rw (e, w) refl) (subst (Ends lie verifier) (sym (ap₂ next_place e w)) (λ h. no_third lie verifier h))
 
-pub frees : (t : Tool) (said : Said) → InOrder said → Free t said
-frees t said order = elim (said_of the_file said) as (λ o. said_of the_file said ≡ o → Free t said) [
+pub frees : (lie : Lies) (t : Tool) (said : Said) → InOrder said → Free lie t said
+frees lie t said order = elim (said_of the_file said) as (λ o. said_of the_file said ≡ o → Free lie t said) [
   | None ↦ λ e. free the_file refl (first_unsaid t said e) e (ap (λ o. next_place o (said_of the_witness_file said)) e) (λ word. ap (next_place (Some word)) (order e)) (λ word new. (let bad : Some word ≡ None = new in cc))
-  | Some f ↦ λ e. elim (reads_witness t) as (λ b. reads_witness t ≡ b → Free t said) [
-    | false ↦ λ only. full_second t said f (said_of the_witness_file said) e only refl
-    | true ↦ λ both. elim (said_of the_witness_file said) as (λ o. said_of the_witness_file said ≡ o → Free t said) [
-      | None ↦ λ w. free_second t said f e both w
-      | Some x ↦ λ w. full_third t said f x e both w
+  | Some f ↦ λ e. elim (reads_witness t) as (λ b. reads_witness t ≡ b → Free lie t said) [
+    | false ↦ λ only. full_second lie t said f (said_of the_witness_file said) e only refl
+    | true ↦ λ both. elim (said_of the_witness_file said) as (λ o. said_of the_witness_file said ≡ o → Free lie t said) [
+      | None ↦ λ w. free_second lie t said f e both w
+      | Some x ↦ λ w. full_third lie t said f x e both w
     ] refl
   ] refl
 ] refl

@@ -1,21 +1,22 @@
 -- What the words of a command line ask for.
-use Rattle.std.specs.Prelude.{◌≡◌, ◌≤◌, ⊤, ℕ, Bool, true, false, not, if◌then◌else◌, List, [], ◌∷◌, Option, Some, None, find, is_some, option_and_then, codes}
+use Rattle.std.specs.Prelude.{◌≡◌, ◌≤◌, ⊤, IfSome, ℕ, Bool, true, false, not, if◌then◌else◌, List, [], ◌∷◌, Option, Some, None, find, is_some, option_and_then, option_map, codes}
 use Rattle.std.specs.Str.{bytes_eq, chars}
 use Rattle.clap.specs.Lexer.{long_of, short_of}
 use Rattle.clap.specs.Words.{Row, first_of, one_of}
 use Rattle.mpd_options.specs.Numbers.{flag_in, number_in}
+use Rattle.mpd_options.specs.declared.options.CheckOptions.{CheckOptions}
 use Rattle.mpd_options.specs.declared.options.Options.{Options}
 use Rattle.mpd_options.specs.declared.options.Options.TheVariants.{Plain, Trace, Run, Serve, Check, Verify}
 
 -- what is asked for: a script and its trace on standard input, the trace of a file, answers to requests on one, of one or of several
--- clients, a look for deadlocks in one, or a check of a witness; with the words of files and mode, the port, how many clients, how many
--- runs, the fuel of each, whether a witness is wanted, and whether all runs must be tried
+-- clients, a look for deadlocks in one, or a check of a witness; with the words of files and mode, the port, how many clients, and how
+-- deadlocks are looked for
 pub data Asked : Type 0 where
   plain : Asked
   trace : List ℕ → List ℕ → Asked
   run : List ℕ → List ℕ → Asked
   serve : List ℕ → List ℕ → ℕ → ℕ → Asked
-  check : List ℕ → List ℕ → ℕ → ℕ → Bool → Bool → Asked
+  check : List ℕ → List ℕ → CheckOptions → Asked
   verify : List ℕ → List ℕ → List ℕ → Asked
 
 abbrev pub asked : Options → Asked
@@ -23,7 +24,7 @@ asked Plain = plain
 asked (Trace file mode) = trace file.now mode.now
 asked (Run file mode) = run file.now mode.now
 asked (Serve file mode port clients) = serve file.now mode.now port clients
-asked (Check file mode runs fuel witness complete) = check file.now mode.now runs fuel witness complete
+asked (Check file mode options) = check file.now mode.now options
 asked (Verify file witness mode) = verify file.now witness.now mode.now
 
 abbrev pub most_port : ℕ
@@ -38,13 +39,27 @@ most_runs = 65536
 abbrev pub most_fuel : ℕ
 most_fuel = 1000000
 
+abbrev pub most_split : ℕ
+most_split = 8
+
+abbrev pub most_workers : ℕ
+most_workers = 1000
+
+abbrev pub most_piece : ℕ
+most_piece = 1023
+
+-- each number of a look for deadlocks lies in its range
+abbrev pub AreInRange : CheckOptions → Type 0
+AreInRange o =
+    (1 ≤ o.runs) × (o.runs ≤ most_runs) × (1 ≤ o.fuel) × (o.fuel ≤ most_fuel) × (o.split ≤ most_split) × (o.workers ≤ most_workers) × IfSome o.piece (λ n. n ≤ most_piece)
+
 -- each number lies in its range
 abbrev pub IsInRange : Options → Type 0
 IsInRange Plain = ⊤
 IsInRange (Trace file mode) = ⊤
 IsInRange (Run file mode) = ⊤
 IsInRange (Serve file mode port clients) = (1 ≤ port) × (port ≤ most_port) × (1 ≤ clients) × (clients ≤ most_clients)
-IsInRange (Check file mode runs fuel witness complete) = (1 ≤ runs) × (runs ≤ most_runs) × (1 ≤ fuel) × (fuel ≤ most_fuel)
+IsInRange (Check file mode options) = AreInRange options
 IsInRange (Verify file witness mode) = ⊤
 
 -- the commands
@@ -71,8 +86,13 @@ pub data Item : Type 0 where
   the_clients : Item
   the_runs : Item
   the_fuel : Item
+  the_split : Item
+  the_workers : Item
+  the_until : Item
   the_witness : Item
   the_complete : Item
+  the_piece : Item
+  the_pieces : Item
 
 abbrev pub name_of : Item → List ℕ
 name_of the_file = codes "FILE"
@@ -82,14 +102,19 @@ name_of the_port = codes "port"
 name_of the_clients = codes "clients"
 name_of the_runs = codes "runs"
 name_of the_fuel = codes "fuel"
+name_of the_split = codes "split"
+name_of the_workers = codes "workers"
+name_of the_until = codes "until"
 name_of the_witness = codes "witness"
 name_of the_complete = codes "complete"
+name_of the_piece = codes "piece"
+name_of the_pieces = codes "pieces"
 
 abbrev pub options_of : Tool → List Item
 options_of tracer = the_mode ∷ []
 options_of runner = the_mode ∷ []
 options_of server = the_mode ∷ the_port ∷ the_clients ∷ []
-options_of checker = the_mode ∷ the_runs ∷ the_fuel ∷ the_witness ∷ the_complete ∷ []
+options_of checker = the_mode ∷ the_runs ∷ the_fuel ∷ the_split ∷ the_workers ∷ the_until ∷ the_witness ∷ the_complete ∷ the_piece ∷ the_pieces ∷ []
 options_of verifier = the_mode ∷ []
 
 -- what the words that are no options name, in this order
@@ -107,6 +132,7 @@ option_among items name = find (λ item. bytes_eq (name_of item) name) items
 abbrev pub is_flag : Item → Bool
 is_flag the_witness = true
 is_flag the_complete = true
+is_flag the_pieces = true
 is_flag _ = false
 
 -- a text can be the value of an item
@@ -118,10 +144,15 @@ fits the_port text = is_some (number_in 1 most_port text)
 fits the_clients text = is_some (number_in 1 most_clients text)
 fits the_runs text = is_some (number_in 1 most_runs text)
 fits the_fuel text = is_some (number_in 1 most_fuel text)
+fits the_split text = is_some (number_in 0 most_split text)
+fits the_workers text = is_some (number_in 0 most_workers text)
+fits the_until text = bytes_eq text (codes "deadlock")
 fits the_witness text = is_some (flag_in text)
 fits the_complete text = is_some (flag_in text)
+fits the_piece text = is_some (number_in 0 most_piece text)
+fits the_pieces text = is_some (flag_in text)
 
--- the value of an item of which nothing is said; where it has none, something must be said of it
+-- the value of an item of which nothing is said; where it has none, something must be said of it, but of a piece and of where the report ends
 abbrev pub default_of : Item → Option (List ℕ)
 default_of the_file = None
 default_of the_witness_file = None
@@ -130,8 +161,13 @@ default_of the_port = None
 default_of the_clients = None
 default_of the_runs = Some (codes "1000")
 default_of the_fuel = Some (codes "100000")
+default_of the_split = Some (codes "1")
+default_of the_workers = Some (codes "4")
+default_of the_until = None
 default_of the_witness = Some (codes "false")
 default_of the_complete = Some (codes "false")
+default_of the_piece = None
+default_of the_pieces = Some (codes "false")
 
 -- what a word behind a command is: `--`, `--NAME` or `--NAME=V` of an option, another option, or none
 pub data Word : Type 0 where
@@ -236,22 +272,42 @@ abbrev pub found_serve : Option (List ℕ) → Option (List ℕ) → Option ℕ 
 found_serve (Some file) (Some mode) (Some port) (Some clients) = Some (serve file mode port clients)
 found_serve _ _ _ _ = None
 
-abbrev pub found_check : Option (List ℕ) → Option (List ℕ) → Option ℕ → Option ℕ → Option Bool → Option Bool → Option Asked
-found_check (Some file) (Some mode) (Some runs) (Some fuel) (Some witness) (Some complete) = Some (check file mode runs fuel witness complete)
-found_check _ _ _ _ _ _ = None
+-- the number of a text that need not be there
+abbrev pub number_if_given : ℕ → ℕ → Option (List ℕ) → Option (Option ℕ)
+number_if_given low high None = Some None
+number_if_given low high (Some text) = option_map Some (number_in low high text)
+
+-- whether the report ends behind the first deadlock or trap, by a text that need not be there
+abbrev pub until_bad_in : Option (List ℕ) → Option Bool
+until_bad_in None = Some false
+until_bad_in (Some text) = if bytes_eq text (codes "deadlock") then Some true else None
+
+-- how deadlocks are looked for, by what each item says
+abbrev pub options_of_items : Option ℕ → Option ℕ → Option ℕ → Option ℕ → Option Bool → Option Bool → Option Bool → Option (Option ℕ) → Option Bool → Option CheckOptions
+options_of_items (Some runs) (Some fuel) (Some split) (Some workers) (Some until) (Some witness) (Some complete) (Some piece) (Some pieces) =
+    Some (record { runs = runs; fuel = fuel; split = split; workers = workers; until_bad = until; witness = witness; complete = complete; piece = piece; count_pieces = pieces })
+options_of_items _ _ _ _ _ _ _ _ _ = None
+
+abbrev pub found_options : (Item → Option (List ℕ)) → Option CheckOptions
+found_options text =
+    options_of_items (option_and_then (number_in 1 most_runs) (text the_runs)) (option_and_then (number_in 1 most_fuel) (text the_fuel))
+    (option_and_then (number_in 0 most_split) (text the_split)) (option_and_then (number_in 0 most_workers) (text the_workers)) (until_bad_in (text the_until))
+    (option_and_then flag_in (text the_witness)) (option_and_then flag_in (text the_complete)) (number_if_given 0 most_piece (text the_piece)) (option_and_then flag_in (text the_pieces))
+
+abbrev pub found_check : Option (List ℕ) → Option (List ℕ) → Option CheckOptions → Option Asked
+found_check (Some file) (Some mode) (Some options) = Some (check file mode options)
+found_check _ _ _ = None
 
 abbrev pub found_verify : Option (List ℕ) → Option (List ℕ) → Option (List ℕ) → Option Asked
 found_verify (Some file) (Some witness) (Some mode) = Some (verify file witness mode)
 found_verify _ _ _ = None
 
--- what a command asks for, by the text of each of its items: each must have one, and each number lies in its range
+-- what a command asks for, by the text of each of its items: each must have one, but a piece and where the report ends, and each number lies in its range
 abbrev pub found : Tool → (Item → Option (List ℕ)) → Option Asked
 found tracer text = found_of_file trace (text the_file) (text the_mode)
 found runner text = found_of_file run (text the_file) (text the_mode)
 found server text = found_serve (text the_file) (text the_mode) (option_and_then (number_in 1 most_port) (text the_port)) (option_and_then (number_in 1 most_clients) (text the_clients))
-found checker text =
-    found_check (text the_file) (text the_mode) (option_and_then (number_in 1 most_runs) (text the_runs)) (option_and_then (number_in 1 most_fuel) (text the_fuel))
-    (option_and_then flag_in (text the_witness)) (option_and_then flag_in (text the_complete))
+found checker text = found_check (text the_file) (text the_mode) (found_options text)
 found verifier text = found_verify (text the_file) (text the_witness_file) (text the_mode)
 
 abbrev pub or_default : Option (List ℕ) → Option (List ℕ) → Option (List ℕ)
@@ -290,8 +346,13 @@ text_in rows the_port = one_of (name_of the_port) rows
 text_in rows the_clients = one_of (name_of the_clients) rows
 text_in rows the_runs = one_of (name_of the_runs) rows
 text_in rows the_fuel = one_of (name_of the_fuel) rows
+text_in rows the_split = one_of (name_of the_split) rows
+text_in rows the_workers = one_of (name_of the_workers) rows
+text_in rows the_until = first_of (name_of the_until) rows
 text_in rows the_witness = one_of (name_of the_witness) rows
 text_in rows the_complete = one_of (name_of the_complete) rows
+text_in rows the_piece = one_of (name_of the_piece) rows
+text_in rows the_pieces = one_of (name_of the_pieces) rows
 
 abbrev pub found_in : Tool → List Row → Option Asked
 found_in t rows = found t (text_in rows)

@@ -2,6 +2,7 @@
 use Rattle.std.specs.Prelude.{◌≡◌, ℕ, Bool, true, false, List, [], ◌∷◌, map, Option, Some, None, codes, refl}
 use Rattle.std.specs.Str.{chars}
 use Rattle.mpd_options.specs.Asked.{Asked, plain, trace, run, serve, check, verify, meant}
+use Rattle.mpd_options.specs.declared.options.CheckOptions.{CheckOptions}
 
 abbrev Row : Type 0
 Row = List (List ℕ) × Option Asked
@@ -22,9 +23,13 @@ serves words mode port clients = (codes "serve" ∷ words, Some (serve (codes "a
 abbrev wastes : List (List ℕ) → Row
 wastes words = (codes "serve" ∷ codes "a" ∷ words, None)
 
+-- how deadlocks are looked for where nothing is said of it
+abbrev by_default : CheckOptions
+by_default = record { runs = 1000; fuel = 100000; split = 1; workers = 4; until_bad = false; witness = false; complete = false; piece = None; count_pieces = false }
+
 -- words behind `check`, and what they ask for of the file `a`
 abbrev asks : List (List ℕ) → List ℕ → ℕ → ℕ → Bool → Row
-asks words mode runs fuel witness = (codes "check" ∷ words, Some (check (codes "a") mode runs fuel witness false))
+asks words mode runs fuel witness = (codes "check" ∷ words, Some (check (codes "a") mode (record by_default { runs = runs; fuel = fuel; witness = witness })))
 
 -- words behind `check a` that make them ask for nothing
 abbrev spoils : List (List ℕ) → Row
@@ -183,11 +188,11 @@ rows =
     ∷ asks (codes "a" ∷ codes "--fuel" ∷ codes "1" ∷ []) (codes "rendezvous") 1000 1 false
     ∷ asks (codes "--fuel=1000000" ∷ codes "a" ∷ []) (codes "rendezvous") 1000 1000000 false
     ∷ asks (codes "--fuel" ∷ codes "20" ∷ codes "--witness" ∷ codes "--runs" ∷ codes "30" ∷ codes "--mode=buffered" ∷ codes "--" ∷ codes "a" ∷ []) (codes "buffered") 30 20 true
-    ∷ (codes "check" ∷ codes "--" ∷ codes "--witness" ∷ [], Some (check (codes "--witness") (codes "rendezvous") 1000 100000 false false))
-    ∷ (codes "check" ∷ codes "check" ∷ [], Some (check (codes "check") (codes "rendezvous") 1000 100000 false false))
-    ∷ (codes "check" ∷ codes "--mode" ∷ codes "trace" ∷ codes "trace" ∷ [], Some (check (codes "trace") (codes "trace") 1000 100000 false false))
-    ∷ (codes "check" ∷ codes "a" ∷ codes "--complete" ∷ [], Some (check (codes "a") (codes "rendezvous") 1000 100000 false true))
-    ∷ (codes "check" ∷ codes "--complete" ∷ codes "--witness" ∷ codes "a" ∷ codes "--runs=5" ∷ [], Some (check (codes "a") (codes "rendezvous") 5 100000 true true))
+    ∷ (codes "check" ∷ codes "--" ∷ codes "--witness" ∷ [], Some (check (codes "--witness") (codes "rendezvous") by_default))
+    ∷ (codes "check" ∷ codes "check" ∷ [], Some (check (codes "check") (codes "rendezvous") by_default))
+    ∷ (codes "check" ∷ codes "--mode" ∷ codes "trace" ∷ codes "trace" ∷ [], Some (check (codes "trace") (codes "trace") by_default))
+    ∷ (codes "check" ∷ codes "a" ∷ codes "--complete" ∷ [], Some (check (codes "a") (codes "rendezvous") (record by_default { complete = true })))
+    ∷ (codes "check" ∷ codes "--complete" ∷ codes "--witness" ∷ codes "a" ∷ codes "--runs=5" ∷ [], Some (check (codes "a") (codes "rendezvous") (record by_default { runs = 5; witness = true; complete = true })))
     ∷ names (codes "check" ∷ []) (codes "check") (codes "rendezvous")
     ∷ nothing (codes "check" ∷ [])
     ∷ nothing (codes "check" ∷ codes "--witness" ∷ [])

@@ -8,7 +8,7 @@ use Rattle.clap.specs.Takes.{flags_pass, walk_passes}
 use Rattle.clap.specs.Walk.{bundle_met, walked}
 use Rattle.clap.specs.declared.error.kind.ErrorKind.{ErrorKind}
 use Rattle.clap.specs.declared.error.kind.ErrorKind.TheVariants as kind
-use Rattle.mpd_options.specs.Program.{mpdbg_app}
+use Rattle.mpd_options.specs.Program.{Lies, mpdbg_app, only_deadlock}
 use Rattle.mpd_options.specs.Refused.{asks_for_help}
 
 -- words, the kinds that their fault can have, and the status for each
@@ -189,6 +189,6 @@ rows =
 abbrev kinds_and_status : Kinds → Kinds × List ℕ
 kinds_and_status ks = (ks, map (λ k. if asks_for_help k then 0 else 2) ks)
 
-pub faults_worked : map (λ (row : Row). kinds_and_status (fault_of mpdbg_app row.0)) rows ≡ map (λ (row : Row). let q : Kinds × List ℕ = (row.1, row.2) in q) rows
+pub faults_worked : (lie : Lies) → map (λ (row : Row). kinds_and_status (fault_of (mpdbg_app (only_deadlock lie)) row.0)) rows ≡ map (λ (row : Row). let q : Kinds × List ℕ = (row.1, row.2) in q) rows
 unfolding walked bundle_met chars encode_utf8 flags_pass walk_passes flags_fault walk_fault defaults_fault
-faults_worked = refl
+faults_worked lie = refl

@@ -1,5 +1,6 @@
 pub mod Asked
 pub mod AskedRows
+pub mod CheckRows
 pub mod FaultRows
 pub mod Help
 pub mod Numbers

@@ -26,5 +26,9 @@ digits_in low high digits = let n = number_after 0 digits in if is_number digits
 abbrev pub number_in : ℕ → ℕ → List ℕ → Option ℕ
 number_in low high text = digits_in low high (without_plus text)
 
+-- the most that a `usize` holds
+abbrev pub most_usize : ℕ
+most_usize = 18446744073709551615
+
 abbrev pub flag_in : List ℕ → Option Bool
 flag_in text = if bytes_eq text (codes "true") then Some true else (if bytes_eq text (codes "false") then Some false else None)

@@ -1,9 +1,10 @@
 -- The command line as `clap` knows it.
 use Rattle.std.specs.Prelude.{ℕ, List, [], ◌∷◌, Some, true, codes}
+use Rattle.std.specs.Borrow.{Bor}
 use Rattle.clap.specs.Words.{App, Rule, new_app, new_rule, with_rule, with_subcommand}
 use Rattle.clap.specs.declared.builder.action.ArgAction.TheVariants.{Set, SetTrue}
-use Rattle.clap.specs.declared.builder.value_parser.ValueParser.TheVariants.{Unsigned}
-use Rattle.mpd_options.specs.Asked.{most_clients, most_fuel, most_port, most_runs}
+use Rattle.clap.specs.declared.builder.value_parser.ValueParser.TheVariants.{Names, Unsigned}
+use Rattle.mpd_options.specs.Asked.{most_clients, most_fuel, most_piece, most_port, most_runs, most_split, most_workers}
 
 -- the word of a file, which must be there
 abbrev pub file_rule : List ℕ → Rule
@@ -17,13 +18,13 @@ mode_rule = record (new_rule (codes "mode")) {
   defaults = codes "rendezvous" ∷ [];
 }
 
--- an option whose value is a number, from 1 on
-abbrev pub number_rule : List ℕ → ℕ → List ℕ → Rule
-number_rule name most default = record (new_rule name) {
+-- an option whose value is a number
+abbrev pub number_rule : List ℕ → ℕ → ℕ → List ℕ → Rule
+number_rule name least most default = record (new_rule name) {
   long = Some name;
   value_names = 1;
   action = Some Set;
-  parser = Some (Unsigned 1 most);
+  parser = Some (Unsigned least most);
   defaults = default ∷ [];
 }
 
@@ -37,17 +38,58 @@ required_number_rule name most = record (new_rule name) {
   parser = Some (Unsigned 1 most);
 }
 
-abbrev pub witness_rule : Rule
-witness_rule = record (new_rule (codes "witness")) { long = Some (codes "witness"); action = Some SetTrue }
-
-abbrev pub complete_rule : Rule
-complete_rule = record (new_rule (codes "complete")) { long = Some (codes "complete"); action = Some SetTrue }
+abbrev pub flag_rule : List ℕ → Rule
+flag_rule name = record (new_rule name) { long = Some name; action = Some SetTrue }
 
 abbrev pub runs_rule : Rule
-runs_rule = number_rule (codes "runs") most_runs (codes "1000")
+runs_rule = number_rule (codes "runs") 1 most_runs (codes "1000")
 
 abbrev pub fuel_rule : Rule
-fuel_rule = number_rule (codes "fuel") most_fuel (codes "100000")
+fuel_rule = number_rule (codes "fuel") 1 most_fuel (codes "100000")
+
+abbrev pub split_rule : Rule
+split_rule = number_rule (codes "split") 0 most_split (codes "1")
+
+abbrev pub workers_rule : Rule
+workers_rule = number_rule (codes "workers") 0 most_workers (codes "4")
+
+-- words that an option takes
+abbrev pub Choices : Type 0
+Choices = Bor (List (Bor (List ℕ)))
+
+-- where the words that `--until` takes lie: their list, and the only one
+abbrev pub Lies : Type 0
+Lies = (ℕ × ℕ) × (ℕ × ℕ)
+
+abbrev pub only_deadlock : Lies → Choices
+only_deadlock lie = record { ref_ptr = lie.0; now = (record { ref_ptr = lie.1; now = codes "deadlock" }) ∷ [] }
+
+-- it may be left out, and has no default
+abbrev pub until_rule : Choices → Rule
+until_rule words = record (new_rule (codes "until")) {
+  long = Some (codes "until");
+  value_names = 1;
+  action = Some Set;
+  parser = Some (Names words);
+}
+
+-- nor has this
+abbrev pub piece_rule : Rule
+piece_rule = record (new_rule (codes "piece")) {
+  long = Some (codes "piece");
+  value_names = 1;
+  action = Some Set;
+  parser = Some (Unsigned 0 most_piece);
+}
+
+abbrev pub witness_rule : Rule
+witness_rule = flag_rule (codes "witness")
+
+abbrev pub complete_rule : Rule
+complete_rule = flag_rule (codes "complete")
+
+abbrev pub pieces_rule : Rule
+pieces_rule = flag_rule (codes "pieces")
 
 abbrev pub port_rule : Rule
 port_rule = required_number_rule (codes "port") most_port
@@ -71,8 +113,12 @@ serve_app = with_rule (with_rule (script_app (codes "serve")) port_rule) clients
 abbrev pub numbers_app : App
 numbers_app = with_rule (with_rule (script_app (codes "check")) runs_rule) fuel_rule
 
-abbrev pub check_app : App
-check_app = with_rule (with_rule numbers_app witness_rule) complete_rule
+abbrev pub work_app : App
+work_app = with_rule (with_rule numbers_app split_rule) workers_rule
+
+-- by the words that `--until` takes
+abbrev pub check_app : Choices → App
+check_app words = with_rule (with_rule (with_rule (with_rule (with_rule work_app (until_rule words)) witness_rule) complete_rule) piece_rule) pieces_rule
 
 abbrev pub verify_app : App
 verify_app = with_rule (script_app (codes "verify")) (file_rule (codes "WITNESS"))
@@ -80,6 +126,7 @@ verify_app = with_rule (script_app (codes "verify")) (file_rule (codes "WITNESS"
 abbrev pub named_app : App
 named_app = let app = new_app (codes "mpdbg") in record app { top = record app.top { has_version = true; no_binary_name = true; subcommand_required = true } }
 
--- `mpdbg` and its commands
-abbrev pub mpdbg_app : App
-mpdbg_app = with_subcommand (with_subcommand (with_subcommand (with_subcommand (with_subcommand named_app trace_app.top) run_app.top) serve_app.top) check_app.top) verify_app.top
+-- `mpdbg` and its commands, by the words that `--until` takes
+abbrev pub mpdbg_app : Choices → App
+mpdbg_app words =
+    with_subcommand (with_subcommand (with_subcommand (with_subcommand (with_subcommand named_app trace_app.top) run_app.top) serve_app.top) (check_app words).top) verify_app.top

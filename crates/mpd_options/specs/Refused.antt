@@ -5,7 +5,7 @@ use Rattle.clap.specs.declared.error.Error.{Error}
 use Rattle.clap.specs.declared.error.kind.ErrorKind.{ErrorKind}
 use Rattle.clap.specs.declared.error.kind.ErrorKind.TheVariants as kind
 use Rattle.mpd_options.specs.Asked.{meant}
-use Rattle.mpd_options.specs.Program.{mpdbg_app}
+use Rattle.mpd_options.specs.Program.{Lies, mpdbg_app, only_deadlock}
 use Rattle.mpd_options.specs.declared.options.UsageFault.{UsageFault}
 use Rattle.mpd_options.specs.declared.options.UsageFault.TheVariants.{Usage, NotText, Memory}
 
@@ -17,9 +17,13 @@ is_memory _ = false
 abbrev pub usage_of : Error → UsageFault
 usage_of e = if is_memory (kind_of e) then Memory else Usage e
 
+-- `clap` has this kind of fault for the words, with the words of `--until` wherever they lie
+abbrev pub IsFaultOf : List (List ℕ) → ErrorKind → Type 0
+IsFaultOf words k = (lie : Lies) × IsAmong k (fault_of (mpdbg_app (only_deadlock lie)) words)
+
 -- the words ask for nothing, and the fault is one that `clap` has for them; or memory was refused, which takes a word
 abbrev pub IsRefused : UsageFault → List (List ℕ) → Type 0
-IsRefused (Usage e) words = (meant words ≡ None) × IsAmong (kind_of e) (fault_of mpdbg_app words) × (is_memory (kind_of e) ≡ false)
+IsRefused (Usage e) words = (meant words ≡ None) × IsFaultOf words (kind_of e) × (is_memory (kind_of e) ≡ false)
 IsRefused NotText words = ⊥
 IsRefused Memory [] = ⊥
 IsRefused Memory (word ∷ words) = Unit {0}

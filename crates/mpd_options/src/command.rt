@@ -1,12 +1,12 @@
 //! The command line as `clap` knows it: its commands, their words, and the texts of help.
 
-ghost use Rattle.std.specs.Prelude.{◌≡◌, IfOk, ℕ, List, Some, option_map, false};
+ghost use Rattle.std.specs.Prelude.{◌≡◌, ◌∷◌, IfOk, ℕ, List, [], Some, codes, map, option_map, false};
 ghost use Rattle.std.specs.Borrow.{Bor};
 ghost use Rattle.clap.specs.Words.{app_of, rule_of};
 ghost use Rattle.clap.specs.declared.builder.command.Command.TheViews.{out-Command as fields_of};
 ghost use Rattle.mpd_options.specs.Help.{example_of};
 ghost use Rattle.mpd_options.specs.declared.command.Topic.TheVariants.{Check, Program, Run, Serve, Trace, Verify};
-ghost use Rattle.mpd_options.specs.Program.{check_app, clients_rule, file_rule, fuel_rule, mode_rule, mpdbg_app, named_app, number_rule, numbers_app, port_rule, required_number_rule, run_app, runs_rule, script_app, serve_app, trace_app, verify_app, witness_rule, complete_rule};
+ghost use Rattle.mpd_options.specs.Program.{check_app, clients_rule, complete_rule, file_rule, flag_rule, fuel_rule, mode_rule, mpdbg_app, named_app, number_rule, numbers_app, piece_rule, pieces_rule, port_rule, required_number_rule, run_app, runs_rule, script_app, serve_app, split_rule, trace_app, until_rule, verify_app, witness_rule, work_app, workers_rule};
 
 use clap::builder::ValueParser;
 use clap::{Arg, ArgAction, Command};
@@ -30,11 +30,26 @@ pub(crate) const RUNS: &str = "runs";
 /// The option of the fuel of a run, without its hyphens.
 pub(crate) const FUEL: &str = "fuel";
 
+/// The option of by how many choices the runs are cut into pieces, without its hyphens.
+pub(crate) const SPLIT: &str = "split";
+
+/// The option of how many workers make the report, without its hyphens.
+pub(crate) const WORKERS: &str = "workers";
+
+/// The option of where the report ends, without its hyphens.
+pub(crate) const UNTIL: &str = "until";
+
 /// The flag that asks for a witness, without its hyphens.
 pub(crate) const WITNESS: &str = "witness";
 
 /// The flag that asks whether all runs were tried, without its hyphens.
 pub(crate) const COMPLETE: &str = "complete";
+
+/// The option of the piece that is wanted alone, without its hyphens.
+pub(crate) const PIECE: &str = "piece";
+
+/// The flag that asks how many pieces there are, without its hyphens.
+pub(crate) const PIECES: &str = "pieces";
 
 /// The word of a witness's file.
 pub(crate) const WITNESS_FILE: &str = "WITNESS";
@@ -61,6 +76,12 @@ const MOST_CLIENTS: u64 = 16;
 const MOST_RUNS: u64 = 65_536;
 
 const MOST_FUEL: u64 = 1_000_000;
+
+const MOST_SPLIT: u64 = 8;
+
+const MOST_WORKERS: u64 = 1_000;
+
+const MOST_PIECE: u64 = 1_023;
 
 const ABOUT: &str = "A reversible debugger of small MPI rank scripts.
 
@@ -179,22 +200,24 @@ fn mode_option<'a>(alloc: Global) -> Arg<'a>
         .help("How standard sends behave: rendezvous or buffered")
 }
 
-/// An option whose value is a number from 1 to `most`.
+/// An option whose value is a number from `least` to `most`.
 fn number_option<'a>(
     alloc: Global,
     name: &'a str,
+    value_name: &'a str,
+    least: u64,
     most: u64,
     default: &'a str,
     help: &'a str,
 ) -> Arg<'a>
-    ensures rule { rule_of result ≡ number_rule name.entry.now most default.entry.now }
+    ensures rule { rule_of result ≡ number_rule name.entry.now least most default.entry.now }
     ensures own { result.global ≡ false }
 {
     Arg::new(alloc, name)
         .long(name)
-        .value_name("N")
+        .value_name(value_name)
         .action(ArgAction::Set)
-        .value_parser(ValueParser::unsigned(1, most))
+        .value_parser(ValueParser::unsigned(least, most))
         .default_value(default)
         .help(help)
 }
@@ -243,7 +266,7 @@ fn runs_option<'a>(alloc: Global) -> Arg<'a>
     ensures own { result.global ≡ false }
 {
     let help = "How many runs are tried at most, 1 to 65536";
-    number_option(alloc, RUNS, MOST_RUNS, "1000", help)
+    number_option(alloc, RUNS, "N", 1, MOST_RUNS, "1000", help)
 }
 
 /// `--fuel N`.
@@ -252,7 +275,56 @@ fn fuel_option<'a>(alloc: Global) -> Arg<'a>
     ensures own { result.global ≡ false }
 {
     let help = "How many steps each run takes at most, 1 to 1000000";
-    number_option(alloc, FUEL, MOST_FUEL, "100000", help)
+    number_option(alloc, FUEL, "N", 1, MOST_FUEL, "100000", help)
+}
+
+/// `--split K`.
+fn split_option<'a>(alloc: Global) -> Arg<'a>
+    ensures rule { rule_of result ≡ split_rule }
+    ensures own { result.global ≡ false }
+{
+    let help = "By how many choices the runs are cut into pieces, 0 to 8";
+    number_option(alloc, SPLIT, "K", 0, MOST_SPLIT, "1", help)
+}
+
+/// `--workers N`.
+fn workers_option<'a>(alloc: Global) -> Arg<'a>
+    ensures rule { rule_of result ≡ workers_rule }
+    ensures own { result.global ≡ false }
+{
+    let help = "How many workers make the report, 1 to 16";
+    number_option(alloc, WORKERS, "N", 0, MOST_WORKERS, "4", help)
+}
+
+/// The words that `--until` takes.
+pub(crate) fn only_deadlock<'a>() -> &'a [&'a str]
+    ensures { map (λ s. s.now) result.now ≡ codes "deadlock" ∷ [] }
+{
+    &["deadlock"]
+}
+
+/// `--until END`, which takes one of these words.
+fn until_option<'a>(alloc: Global, words: &'a [&'a str]) -> Arg<'a>
+    ensures rule { rule_of result ≡ until_rule words.entry }
+    ensures own { result.global ≡ false }
+{
+    Arg::new(alloc, UNTIL)
+        .long(UNTIL)
+        .value_name("END")
+        .action(ArgAction::Set)
+        .value_parser(ValueParser::Names(words))
+        .help("List the runs up to the first that ends in a deadlock or a trap")
+}
+
+/// A flag.
+fn flag<'a>(alloc: Global, name: &'a str, help: &'a str) -> Arg<'a>
+    ensures rule { rule_of result ≡ flag_rule name.entry.now }
+    ensures own { result.global ≡ false }
+{
+    Arg::new(alloc, name)
+        .long(name)
+        .action(ArgAction::SetTrue)
+        .help(help)
 }
 
 /// `--witness`.
@@ -260,10 +332,8 @@ fn witness_flag<'a>(alloc: Global) -> Arg<'a>
     ensures rule { rule_of result ≡ witness_rule }
     ensures own { result.global ≡ false }
 {
-    Arg::new(alloc, WITNESS)
-        .long(WITNESS)
-        .action(ArgAction::SetTrue)
-        .help("Print the trace words of a run that comes to a deadlock")
+    let help = "Print the trace words of a run that comes to a deadlock";
+    flag(alloc, WITNESS, help)
 }
 
 /// `--complete`.
@@ -271,10 +341,30 @@ fn complete_flag<'a>(alloc: Global) -> Arg<'a>
     ensures rule { rule_of result ≡ complete_rule }
     ensures own { result.global ≡ false }
 {
-    Arg::new(alloc, COMPLETE)
-        .long(COMPLETE)
-        .action(ArgAction::SetTrue)
-        .help("End with status 4 where nothing was found and not all was tried")
+    let help = "End with status 4 where nothing was found and not all was tried";
+    flag(alloc, COMPLETE, help)
+}
+
+/// `--piece N`.
+fn piece_option<'a>(alloc: Global) -> Arg<'a>
+    ensures rule { rule_of result ≡ piece_rule }
+    ensures own { result.global ≡ false }
+{
+    Arg::new(alloc, PIECE)
+        .long(PIECE)
+        .value_name("N")
+        .action(ArgAction::Set)
+        .value_parser(ValueParser::unsigned(0, MOST_PIECE))
+        .help("Print the part of the report that piece N has, 0 to 1023")
+}
+
+/// `--pieces`.
+fn pieces_flag<'a>(alloc: Global) -> Arg<'a>
+    ensures rule { rule_of result ≡ pieces_rule }
+    ensures own { result.global ≡ false }
+{
+    let help = "Print how many pieces there are, and nothing else";
+    flag(alloc, PIECES, help)
 }
 
 /// The command with what help says of it, and its example.
@@ -338,15 +428,28 @@ fn numbers_command<'a>(alloc: Global) -> Result<Command<'a>, AllocError>
         .arg(fuel_option(alloc))
 }
 
-/// `mpdbg check FILE --mode M --runs N --fuel N --witness --complete`.
-fn check_command<'a>(alloc: Global) -> Result<Command<'a>, AllocError>
-    ensures app { IfOk result (λ c. app_of c ≡ check_app) }
+/// `mpdbg check FILE --mode M --runs N --fuel N --split K --workers N`.
+fn work_command<'a>(alloc: Global) -> Result<Command<'a>, AllocError>
+    ensures app { IfOk result (λ c. app_of c ≡ work_app) }
+    ensures own { IfOk result (λ c. (fields_of c).has_globals ≡ false) }
+{
+    numbers_command(alloc)?
+        .arg(split_option(alloc))?
+        .arg(workers_option(alloc))
+}
+
+/// `mpdbg check FILE`, with all its options, by the words that `--until` takes.
+fn check_command<'a>(alloc: Global, until: &'a [&'a str]) -> Result<Command<'a>, AllocError>
+    ensures app { IfOk result (λ c. app_of c ≡ check_app until.entry) }
     ensures own { IfOk result (λ c. (fields_of c).has_globals ≡ false) }
     ensures example { IfOk result (λ c. option_map (λ (t : Bor (List ℕ)). t.now) (fields_of c).after_help ≡ Some (example_of Check)) }
 {
-    let command = numbers_command(alloc)?
+    let command = work_command(alloc)?
+        .arg(until_option(alloc, until))?
         .arg(witness_flag(alloc))?
-        .arg(complete_flag(alloc))?;
+        .arg(complete_flag(alloc))?
+        .arg(piece_option(alloc))?
+        .arg(pieces_flag(alloc))?;
     Ok(with_help(command, Topic::Check))
 }
 
@@ -372,16 +475,16 @@ fn named_program<'a>(alloc: Global) -> Result<Command<'a>, AllocError>
         .bin_name("mpdbg")
 }
 
-/// `mpdbg` and its commands.
-pub(crate) fn program<'a>(alloc: Global) -> Result<Command<'a>, AllocError>
-    ensures app { IfOk result (λ c. app_of c ≡ mpdbg_app) }
+/// `mpdbg` and its commands, by the words that `--until` of `check` takes.
+pub(crate) fn program<'a>(alloc: Global, until: &'a [&'a str]) -> Result<Command<'a>, AllocError>
+    ensures app { IfOk result (λ c. app_of c ≡ mpdbg_app until.entry) }
     ensures example { IfOk result (λ c. option_map (λ (t : Bor (List ℕ)). t.now) (fields_of c).after_help ≡ Some (example_of Program)) }
 {
     let command = named_program(alloc)?
         .subcommand(trace_command(alloc)?)?
         .subcommand(run_command(alloc)?)?
         .subcommand(serve_command(alloc)?)?
-        .subcommand(check_command(alloc)?)?
+        .subcommand(check_command(alloc, until)?)?
         .subcommand(verify_command(alloc)?)?;
     Ok(with_help(command, Topic::Program))
 }

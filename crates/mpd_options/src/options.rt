@@ -1,12 +1,13 @@
 //! What the words of a command line ask for.
-ghost use Rattle.std.specs.Prelude.{◌≡◌, ◌<◌, IfOk, IfErr, Some, true, is_some, length, map};
-ghost use Rattle.clap.specs.Words.{first_of, found_of, rows_of, subcommand_rows_of};
-ghost use Rattle.mpd_options.specs.Asked.{IsFound, IsInRange, asked, checker, found_in, found_of_command, meant, runner, server, tracer, verifier};
+ghost use Rattle.std.specs.Prelude.{◌≡◌, ◌<◌, IfOk, IfErr, Some, true, is_some, length, map, option_and_then};
+ghost use Rattle.clap.specs.Words.{first_of, found_of, one_of, rows_of, subcommand_rows_of};
+ghost use Rattle.mpd_options.specs.Asked.{IsFound, IsInRange, asked, checker, found_in, found_of_command, found_options, meant, most_piece, number_if_given, runner, server, text_in, tracer, until_bad_in, verifier};
+ghost use Rattle.mpd_options.specs.Numbers.{flag_in, most_usize, number_in};
 ghost use Rattle.mpd_options.specs.Refused.{IsRefused, is_answer, usage_of, usage_status, usage_text};
 
 use crate::command::{
-    CHECK, CLIENTS, COMPLETE, FILE, FUEL, MODE, PORT, RUN, RUNS, SERVE, TRACE, VERIFY, WITNESS,
-    WITNESS_FILE, program,
+    CHECK, CLIENTS, COMPLETE, FILE, FUEL, MODE, PIECE, PIECES, PORT, RUN, RUNS, SERVE, SPLIT,
+    TRACE, UNTIL, VERIFY, WITNESS, WITNESS_FILE, WORKERS, only_deadlock, program,
 };
 use clap::ArgMatches;
 use clap::error::ErrorKind;
@@ -17,6 +18,29 @@ use std::fmt;
 /// What is said of words that are no text, as `clap` says it.
 const NOT_TEXT: &str =
     "error: invalid UTF-8 was detected in one or more arguments\n\nFor more information, try '--help'.\n";
+
+/// How deadlocks are looked for.
+#[derive(Clone, Copy)]
+pub struct CheckOptions {
+    /// How many runs are tried at most.
+    pub runs: usize,
+    /// How many steps each run takes at most.
+    pub fuel: usize,
+    /// By how many choices the runs are cut into pieces.
+    pub split: usize,
+    /// How many workers make the report.
+    pub workers: usize,
+    /// Whether the report ends behind the first run that ends in a deadlock or a trap.
+    pub until_bad: bool,
+    /// Whether the trace words of a run that comes to a deadlock are wanted.
+    pub witness: bool,
+    /// Whether the status is to tell that not all runs were tried.
+    pub complete: bool,
+    /// The number of the piece whose part of the report is wanted alone.
+    pub piece: Option<usize>,
+    /// Whether it is only asked how many pieces there are.
+    pub count_pieces: bool,
+}
 
 /// What a command line asks for.
 #[derive(Clone, Copy)]
@@ -54,14 +78,8 @@ pub enum Options<'a> {
         file: &'a str,
         /// The mode's word, whatever it is; `rendezvous` where there is none.
         mode: &'a str,
-        /// How many runs are tried at most.
-        runs: usize,
-        /// How many steps each run takes at most.
-        fuel: usize,
-        /// Whether the trace words of a run that comes to a deadlock are wanted.
-        witness: bool,
-        /// Whether the status is to tell that not all runs were tried.
-        complete: bool,
+        /// How it looks for them.
+        options: CheckOptions,
     },
     /// Check a witness for the script of a file.
     Verify {
@@ -199,6 +217,68 @@ fn serve_in<'a>(serve: &ArgMatches<'a>) -> Options<'a>
     }
 }
 
+/// The number of this name, which was found.
+fn number_of<'a>(matches: &ArgMatches<'a>, name: &str) -> usize
+    requires { is_some (option_and_then (number_in 0 most_usize) (one_of name.now (rows_of (found_of matches.now)))) ≡ true }
+    ensures { option_and_then (number_in 0 most_usize) (one_of name.now (rows_of (found_of matches.now))) ≡ Some result }
+{
+    let Some(number) = matches.get_one::<usize>(name) else {
+        unreachable!()
+    };
+    number
+}
+
+/// Whether the flag of this name was given.
+fn flag_of<'a>(matches: &ArgMatches<'a>, name: &str) -> bool
+    requires { is_some (option_and_then flag_in (one_of name.now (rows_of (found_of matches.now)))) ≡ true }
+    ensures { option_and_then flag_in (one_of name.now (rows_of (found_of matches.now))) ≡ Some result }
+{
+    matches.get_flag(name)
+}
+
+/// Whether the report ends behind the first deadlock or trap.
+fn until_bad_of<'a>(check: &ArgMatches<'a>) -> bool
+    requires { is_some (until_bad_in (first_of UNTIL.now (rows_of (found_of check.now)))) ≡ true }
+    ensures { until_bad_in (first_of UNTIL.now (rows_of (found_of check.now))) ≡ Some result }
+{
+    check.get_str(UNTIL).is_some()
+}
+
+/// The number of a piece, where one was given.
+fn piece_of<'a>(check: &ArgMatches<'a>) -> Option<usize>
+    requires { is_some (number_if_given 0 most_piece (one_of PIECE.now (rows_of (found_of check.now)))) ≡ true }
+    ensures { number_if_given 0 most_piece (one_of PIECE.now (rows_of (found_of check.now))) ≡ Some result }
+{
+    check.get_one::<usize>(PIECE)
+}
+
+/// How the words behind `check` ask for deadlocks to be looked for.
+fn check_options_in<'a>(check: &ArgMatches<'a>) -> CheckOptions
+    requires { is_some (found_options (text_in (rows_of (found_of check.now)))) ≡ true }
+    ensures { Some result ≡ found_options (text_in (rows_of (found_of check.now))) }
+{
+    let runs = number_of(check, RUNS);
+    let fuel = number_of(check, FUEL);
+    let split = number_of(check, SPLIT);
+    let workers = number_of(check, WORKERS);
+    let ends_at_first = until_bad_of(check);
+    let wants_witness = flag_of(check, WITNESS);
+    let is_complete = flag_of(check, COMPLETE);
+    let piece = piece_of(check);
+    let counts_pieces = flag_of(check, PIECES);
+    CheckOptions {
+        runs,
+        fuel,
+        split,
+        workers,
+        until_bad: ends_at_first,
+        witness: wants_witness,
+        complete: is_complete,
+        piece,
+        count_pieces: counts_pieces,
+    }
+}
+
 /// What the words behind `check` ask for.
 fn check_in<'a>(check: &ArgMatches<'a>) -> Options<'a>
     requires { is_some (found_in checker (rows_of (found_of check.now))) ≡ true }
@@ -206,21 +286,11 @@ fn check_in<'a>(check: &ArgMatches<'a>) -> Options<'a>
 {
     let file = word_in(check, FILE);
     let mode = word_in(check, MODE);
-    let Some(runs) = check.get_one::<usize>(RUNS) else {
-        unreachable!()
-    };
-    let Some(fuel) = check.get_one::<usize>(FUEL) else {
-        unreachable!()
-    };
-    let wants_witness = check.get_flag(WITNESS);
-    let is_complete = check.get_flag(COMPLETE);
+    let options = check_options_in(check);
     Options::Check {
         file,
         mode,
-        runs,
-        fuel,
-        witness: wants_witness,
-        complete: is_complete,
+        options,
     }
 }
 
@@ -268,7 +338,7 @@ fn found_by_words<'a, S: AsStr>(alloc: Global, words: &'a [S]) -> Result<ArgMatc
     ensures ok { IfOk result (λ matches. IsFound (map S.text words.entry.now) (subcommand_rows_of matches)) }
     ensures err { IfErr result (λ fault. IsRefused fault (map S.text words.entry.now)) }
 {
-    let command = program(alloc)?;
+    let command = program(alloc, only_deadlock())?;
     match command.try_get_matches_from(words) {
         Ok(matches) => Ok(matches),
         Err(error) => Err(usage_fault(error)),

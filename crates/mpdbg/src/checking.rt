@@ -1,6 +1,6 @@
 //! `mpdbg check`: a script explored by workers, a piece of it alone, or how many pieces there are.
 
-ghost use Rattle.std.specs.Prelude.{◌≤◌};
+ghost use Rattle.std.specs.Prelude.{◌≡◌, ◌≤◌};
 
 use crate::progress::{OfPiece, Progress};
 use crate::summary::say_tally;
@@ -11,8 +11,10 @@ use mpd_check::plan::{CheckFault, Plan};
 use mpd_check::{check, is_crew};
 use mpd_code::code::Code;
 use mpd_device::device::Sink;
+use mpd_explore::report::Limits;
 use mpd_model::call::Mode;
 use mpd_model::limits::STEPS_MAX;
+use mpd_options::options::CheckOptions;
 use std::marker::Sync;
 use std::rt::Clock;
 use std::sync::Wait;
@@ -20,7 +22,7 @@ use std::thread::Threads;
 
 /// What is looked at.
 #[derive(Clone, Copy)]
-pub(crate) enum Part {
+enum Part {
     /// All pieces.
     Whole,
     /// The piece of this number.
@@ -29,34 +31,39 @@ pub(crate) enum Part {
     Count,
 }
 
-/// What is looked at, by the words: a number of pieces is asked for before one of them.
-pub(crate) fn part_of(piece: Option<usize>, count_pieces: bool) -> Part {
-    match (count_pieces, piece) {
+/// What is looked at, by the words: how many pieces there are is asked for before one of them.
+fn part_of(options: CheckOptions) -> Part {
+    match (options.count_pieces, options.piece) {
         (true, _) => Part::Count,
         (false, Some(number)) => Part::Piece(number),
         (false, None) => Part::Whole,
     }
 }
 
-/// What is asked of `check`.
-#[derive(Clone, Copy)]
-pub(crate) struct Asked {
-    pub(crate) plan: Plan,
-    pub(crate) workers: usize,
-    pub(crate) part: Part,
-    /// Whether the status is to tell that not all runs were tried.
-    pub(crate) complete: bool,
+/// What is asked of the report.
+fn plan_of(options: CheckOptions) -> Plan
+    ensures { result.limits.fuel ≡ options.fuel }
+{
+    Plan {
+        split: options.split,
+        limits: Limits {
+            runs: options.runs,
+            fuel: options.fuel,
+            witnesses: options.witness,
+            until_bad: options.until_bad,
+        },
+    }
 }
 
 /// Explores all pieces, and tells at a terminal how far that is and what came of it.
 fn check_all<R: Clock + Eprint + Threads + Wait + Sync + AllocGlobal, W: Sink>(
     rt: &R,
     script: &(Mode, Code),
-    asked: Asked,
+    options: CheckOptions,
     sink: &mut W,
     is_terminal: bool,
 ) -> Result<Tally, CheckFault>
-    requires { asked.plan.limits.fuel ≤ STEPS_MAX }
+    requires { options.fuel ≤ STEPS_MAX }
 {
     let progress = Progress::new(rt, is_terminal);
     let (mode, code) = script;
@@ -65,13 +72,13 @@ fn check_all<R: Clock + Eprint + Threads + Wait + Sync + AllocGlobal, W: Sink>(
         rt.alloc(),
         code,
         *mode,
-        asked.plan,
-        asked.workers,
+        plan_of(options),
+        options.workers,
         sink,
         &progress,
     )?;
     if is_terminal {
-        let _unwritten = say_tally(rt, tally);
+        let _unwritten = say_tally(rt, tally, options.until_bad);
     }
     Ok(tally)
 }
@@ -80,18 +87,19 @@ fn check_all<R: Clock + Eprint + Threads + Wait + Sync + AllocGlobal, W: Sink>(
 fn check_one<R: Clock + Eprint + AllocGlobal, W: Sink>(
     rt: &R,
     script: &(Mode, Code),
-    plan: Plan,
+    options: CheckOptions,
     number: usize,
     sink: &mut W,
     is_terminal: bool,
 ) -> Result<Tally, CheckFault>
-    requires { plan.limits.fuel ≤ STEPS_MAX }
+    requires { options.fuel ≤ STEPS_MAX }
 {
     let progress = Progress::new(rt, is_terminal);
     let mut watch = OfPiece {
         progress: &progress,
     };
     let (mode, code) = script;
+    let plan = plan_of(options);
     check_piece(rt.alloc(), code, *mode, plan, number, sink, &mut watch)
 }
 
@@ -109,38 +117,38 @@ fn fault_of<'a>(fault: CheckFault) -> Fault<'a> {
 fn status_of<R: Clock + Eprint + Threads + Wait + Sync + AllocGlobal, W: Sink>(
     rt: &R,
     script: &(Mode, Code),
-    asked: Asked,
+    options: CheckOptions,
     sink: &mut W,
     is_terminal: bool,
 ) -> Result<u8, CheckFault>
-    requires { asked.plan.limits.fuel ≤ STEPS_MAX }
+    requires { options.fuel ≤ STEPS_MAX }
 {
-    if !is_crew(asked.workers) {
+    if !is_crew(options.workers) {
         return Err(CheckFault::BadWorkers);
     }
-    let tally = match asked.part {
-        Part::Whole => check_all(rt, script, asked, sink, is_terminal)?,
-        Part::Piece(number) => check_one(rt, script, asked.plan, number, sink, is_terminal)?,
+    let tally = match part_of(options) {
+        Part::Whole => check_all(rt, script, options, sink, is_terminal)?,
+        Part::Piece(number) => check_one(rt, script, options, number, sink, is_terminal)?,
         Part::Count => {
             let (mode, code) = script;
-            count_pieces(rt.alloc(), code, *mode, asked.plan, sink)?;
+            count_pieces(rt.alloc(), code, *mode, plan_of(options), sink)?;
             return Ok(0);
         }
     };
-    Ok(tally.status(asked.complete))
+    Ok(tally.status(options.complete))
 }
 
 /// Looks for deadlocks in a script, and answers the status of the program. The number of workers is tested first.
 pub(crate) fn check_script<'a, R: Clock + Eprint + Threads + Wait + Sync + AllocGlobal, W: Sink>(
     rt: &R,
     script: &(Mode, Code),
-    asked: Asked,
+    options: CheckOptions,
     sink: &mut W,
     is_terminal: bool,
 ) -> Result<u8, Fault<'a>>
-    requires { asked.plan.limits.fuel ≤ STEPS_MAX }
+    requires { options.fuel ≤ STEPS_MAX }
 {
-    match status_of(rt, script, asked, sink, is_terminal) {
+    match status_of(rt, script, options, sink, is_terminal) {
         Ok(status) => Ok(status),
         Err(fault) => Err(fault_of(fault)),
     }

@@ -28,13 +28,23 @@ fn say_whole<R: Eprint>(rt: &R, tally: Tally) -> io::Result<()> {
     eprintln!(rt; "")
 }
 
+/// Says that there are more runs than are listed, and how these are listed too.
+fn say_more<R: Eprint>(rt: &R, tally: Tally, until_bad: bool) -> io::Result<()> {
+    let runs = tally.runs;
+    let are = if runs == 1 { "run was" } else { "runs were" };
+    let option = if until_bad && tally.is_bad() {
+        "--until"
+    } else {
+        "--runs"
+    };
+    eprint!(rt; "{runs} {are} listed, and there are more ({option})")
+}
+
 /// Says what wasn't tried.
-fn say_part<R: Eprint>(rt: &R, tally: Tally) -> io::Result<()> {
+fn say_part<R: Eprint>(rt: &R, tally: Tally, until_bad: bool) -> io::Result<()> {
     eprint!(rt; "not everything was tried: ")?;
     if tally.more {
-        let runs = tally.runs;
-        let are = if runs == 1 { "run was" } else { "runs were" };
-        eprint!(rt; "{runs} {are} listed, and there are more (--runs)")?;
+        say_more(rt, tally, until_bad)?;
     }
     if tally.cut == 0 {
         return eprintln!(rt; "");
@@ -48,10 +58,11 @@ fn say_part<R: Eprint>(rt: &R, tally: Tally) -> io::Result<()> {
 }
 
 /// Says in one line what a report tells of all runs: that every way is listed in which the script can end, or what wasn't tried.
-pub(crate) fn say_tally<R: Eprint>(rt: &R, tally: Tally) -> io::Result<()> {
+/// Where a listing ends with the first deadlock or trap, that is why there are more.
+pub(crate) fn say_tally<R: Eprint>(rt: &R, tally: Tally, until_bad: bool) -> io::Result<()> {
     if tally.is_whole() {
         say_whole(rt, tally)
     } else {
-        say_part(rt, tally)
+        say_part(rt, tally, until_bad)
     }
 }

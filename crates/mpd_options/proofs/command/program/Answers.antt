@@ -11,6 +11,6 @@ returns-clause-app c =
     c.in_ok-subcommand-2.ensures.shape c.in_ok-run_command.ensures.own ∙ ap₂ with_subcommand traces (ap (λ (a : App). a.top) c.in_ok-run_command.ensures.app) in
     let serves : app_of c.in_ok-subcommand-3.field-0 ≡ with_subcommand (with_subcommand (with_subcommand named_app trace_app.top) run_app.top) serve_app.top =
     c.in_ok-subcommand-3.ensures.shape c.in_ok-serve_command.ensures.own ∙ ap₂ with_subcommand runs (ap (λ (a : App). a.top) c.in_ok-serve_command.ensures.app) in
-    let checks : app_of c.in_ok-subcommand-4.field-0 ≡ with_subcommand (with_subcommand (with_subcommand (with_subcommand named_app trace_app.top) run_app.top) serve_app.top) check_app.top =
+    let checks : app_of c.in_ok-subcommand-4.field-0 ≡ with_subcommand (with_subcommand (with_subcommand (with_subcommand named_app trace_app.top) run_app.top) serve_app.top) (check_app c.args.until).top =
     c.in_ok-subcommand-4.ensures.shape c.in_ok-check_command.ensures.own ∙ ap₂ with_subcommand serves (ap (λ (a : App). a.top) c.in_ok-check_command.ensures.app) in
     c.with_help.ensures.app ∙ c.in_ok-command.ensures.shape c.in_ok-verify_command.ensures.own ∙ ap₂ with_subcommand checks (ap (λ (a : App). a.top) c.in_ok-verify_command.ensures.app)

@@ -1,8 +1,13 @@
-use Rattle.std.proofs.Common.{refl, sym, ◌∙◌}
+use Rattle.std.proofs.Common.{ap, is_some, refl, sym, ◌∙◌}
 use Rattle.clap.specs.Words.{found_of, rows_of}
 use Rattle.mpd_options.specs.Asked.{checker}
 use Rattle.mpd_options.proofs.Reading.{command_is}
 use Rattle.mpd_options.proofs.options.options_in.Goals as goal
+
+pub check_in-requires : goal.check_in-requires
+check_in-requires c =
+    let found = c.in-Some-subcommand_matches-3.ensures in
+    sym (ap is_some (command_is checker c.args.matches.now (rows_of (found_of c.in-Some-subcommand_matches-3.check.now)) (found.found.0 refl) found.rows)) ∙ c.requires
 
 pub returns-in-Some-subcommand_matches-3 : goal.returns-in-Some-subcommand_matches-3
 returns-in-Some-subcommand_matches-3 c =
