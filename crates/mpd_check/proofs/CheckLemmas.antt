@@ -17,12 +17,12 @@ use Rattle.mpd_pieces.specs.Pieces.{numbered, Reaches}
 use Rattle.mpd_pieces.specs.Along.{choices_of}
 use Rattle.mpd_pieces.proofs.PieceLemmas.{numbered_choices}
 use Rattle.mpd_pieces.proofs.SplitLemmas.{reached_at, level_reached}
+use Rattle.mpd_pool.specs.declared.check.CheckPlan.{CheckPlan}
 use Rattle.mpd_pool.specs.declared.check.PoolFault.{PoolFault}
 use Rattle.mpd_pool.specs.declared.check.PoolFault.TheVariants as pool
 use Rattle.mpd_check.specs.declared.Told.{Told}
-use Rattle.mpd_check.specs.declared.plan.Plan.{Plan}
-use Rattle.mpd_check.specs.declared.plan.CheckFault.{CheckFault}
-use Rattle.mpd_check.specs.declared.plan.CheckFault.TheVariants.{BadWorkers, TooManyPieces, NoSuchPiece, Engine}
+use Rattle.mpd_check.specs.declared.fault.CheckFault.{CheckFault}
+use Rattle.mpd_check.specs.declared.fault.CheckFault.TheVariants.{BadWorkers, TooManyPieces, NoSuchPiece, Engine}
 use Rattle.mpd_check.specs.declared.counts.Tally.{Tally}
 use Rattle.mpd_check.specs.Tally.{tally_of}
 use Rattle.mpd_check.specs.Refused.{refused_by, split_refused}
@@ -30,7 +30,7 @@ use Rattle.mpd_check.specs.Checked.{pieces_of, leaves_of, more_of, text_of, leav
 
 -- ---- a report of all pieces
 
-pub put_answered : (s : Program) (mode : Mode) (plan : Plan) (workers : ℕ) (old new : SinkSeen) (text : List ℕ) (told : Tally) (r : Result Tally CheckFault) → text ≡ text_of s mode plan (leaves_of s mode plan) (more_of s mode plan)
+pub put_answered : (s : Program) (mode : Mode) (plan : CheckPlan) (workers : ℕ) (old new : SinkSeen) (text : List ℕ) (told : Tally) (r : Result Tally CheckFault) → text ≡ text_of s mode plan (leaves_of s mode plan) (more_of s mode plan)
     → told ≡ tally_of (leaves_of s mode plan) (more_of s mode plan) → IsCrew workers → AreFew s mode plan → Put text told old new r → Answered s mode plan workers old new r
 put_answered s mode plan workers old new text told (Ok t) is tells crew few h = (rw is at h.0, h.1 ∙ tells, crew, few)
 put_answered s mode plan workers old new text told (Err (Engine WriteFailed)) is tells crew few h = (rw is at h, crew, few)
@@ -41,7 +41,7 @@ put_answered s mode plan workers old new text told (Err BadWorkers) is tells cre
 put_answered s mode plan workers old new text told (Err TooManyPieces) is tells crew few h = absurd h
 put_answered s mode plan workers old new text told (Err (NoSuchPiece n m)) is tells crew few h = h
 
-pub refused_answered : (s : Program) (mode : Mode) (plan : Plan) (workers : ℕ) (old new : SinkSeen) (f : PoolFault) → new ≡ old → IsCrew workers → (f ≡ pool.BadWorkers → ⊥) → (f ≡ pool.TooManyPieces → PIECES_MAX < length (pieces_of s mode plan))
+pub refused_answered : (s : Program) (mode : Mode) (plan : CheckPlan) (workers : ℕ) (old new : SinkSeen) (f : PoolFault) → new ≡ old → IsCrew workers → (f ≡ pool.BadWorkers → ⊥) → (f ≡ pool.TooManyPieces → PIECES_MAX < length (pieces_of s mode plan))
     → Answered s mode plan workers old new (Err (refused_by f))
 refused_answered s mode plan workers old new pool.BadWorkers same crew some many = absurd (some refl)
 refused_answered s mode plan workers old new pool.TooManyPieces same crew some many = (same, crew, many refl)
@@ -49,7 +49,7 @@ refused_answered s mode plan workers old new pool.Memory same crew some many = (
 
 -- ---- one piece
 
-pub put_part : (s : Program) (mode : Mode) (plan : Plan) (number : ℕ) (old new : SinkSeen) (told : Told) (r : Result Tally CheckFault) → PartTold s mode plan number (Ok told) → Put (string_bytes told.text) told.tally old new r → PartAnswered s mode plan number old new r
+pub put_part : (s : Program) (mode : Mode) (plan : CheckPlan) (number : ℕ) (old new : SinkSeen) (told : Told) (r : Result Tally CheckFault) → PartTold s mode plan number (Ok told) → Put (string_bytes told.text) told.tally old new r → PartAnswered s mode plan number old new r
 put_part s mode plan number old new told (Ok t) p h = (p.0, p.1, p.2, rw p.3 at h.0, h.1 ∙ p.4)
 put_part s mode plan number old new told (Err (Engine WriteFailed)) p h = (p.0, p.1, p.2, rw p.3 at h)
 put_part s mode plan number old new told (Err (Engine ReadFailed)) p h = h
@@ -59,7 +59,7 @@ put_part s mode plan number old new told (Err BadWorkers) p h = h
 put_part s mode plan number old new told (Err TooManyPieces) p h = absurd h
 put_part s mode plan number old new told (Err (NoSuchPiece n m)) p h = absurd h
 
-pub refused_part : (s : Program) (mode : Mode) (plan : Plan) (number : ℕ) (old new : SinkSeen) (f : CheckFault) → new ≡ old → PartTold s mode plan number (Err f) → PartAnswered s mode plan number old new (Err f)
+pub refused_part : (s : Program) (mode : Mode) (plan : CheckPlan) (number : ℕ) (old new : SinkSeen) (f : CheckFault) → new ≡ old → PartTold s mode plan number (Err f) → PartAnswered s mode plan number old new (Err f)
 refused_part s mode plan number old new (Engine WriteFailed) same p = absurd p
 refused_part s mode plan number old new (Engine ReadFailed) same p = p
 refused_part s mode plan number old new (Engine TooManyTurns) same p = p
@@ -76,23 +76,23 @@ piece_at : (xs : List (List ℕ)) (ps : List Piece) (i : ℕ) (p : Piece) → ps
 piece_at xs ps i p is within read =
     ap (λ (ys : List (List ℕ)). slice_get ys i) (sym (ap choices_of is ∙ numbered_choices 0 xs)) ∙ slice_get-map (λ (q : Piece). q.choices) ps i ∙ ap (option_map (λ (q : Piece). q.choices)) (slice_get_read ps (length ps) i p refl within read)
 
-pub piece_told : (s : Program) (mode : Mode) (plan : Plan) (ps : List Piece) (number : ℕ) (p : Piece) (told : Told) → ps ≡ numbered 0 (pieces_of s mode plan) → number < length ps → p ≡ get_or ps number p → AreFew s mode plan
+pub piece_told : (s : Program) (mode : Mode) (plan : CheckPlan) (ps : List Piece) (number : ℕ) (p : Piece) (told : Told) → ps ≡ numbered 0 (pieces_of s mode plan) → number < length ps → p ≡ get_or ps number p → AreFew s mode plan
     → string_bytes told.text ≡ text_of s mode plan (leaves_at s mode plan p.choices) (more_at s mode plan p.choices) → told.tally ≡ tally_of (leaves_at s mode plan p.choices) (more_at s mode plan p.choices) → PartTold s mode plan number (Ok told)
 piece_told s mode plan ps number p told is within read few text tally = (p.choices, piece_at (pieces_of s mode plan) ps number p is within read, few, text, tally)
 
-pub none_told : (s : Program) (mode : Mode) (plan : Plan) (ps : List Piece) (number : ℕ) → ps ≡ numbered 0 (pieces_of s mode plan) → length ps ≤ number → AreFew s mode plan → PartTold s mode plan number (Err (NoSuchPiece number (length ps)))
+pub none_told : (s : Program) (mode : Mode) (plan : CheckPlan) (ps : List Piece) (number : ℕ) → ps ≡ numbered 0 (pieces_of s mode plan) → length ps ≤ number → AreFew s mode plan → PartTold s mode plan number (Err (NoSuchPiece number (length ps)))
 none_told s mode plan ps number is past few = (refl, count_is (pieces_of s mode plan) ps is, past, few)
 
-pub reached_number : (s : Program) (mode : Mode) (plan : Plan) (ps : List Piece) (number : ℕ) (p : Piece) (d : Standing) → d ≡ first_standing s mode → ps ≡ numbered 0 (pieces_of s mode plan) → number < length ps → p ≡ get_or ps number p → Reaches plan.limits.fuel p.choices d.world
+pub reached_number : (s : Program) (mode : Mode) (plan : CheckPlan) (ps : List Piece) (number : ℕ) (p : Piece) (d : Standing) → d ≡ first_standing s mode → ps ≡ numbered 0 (pieces_of s mode plan) → number < length ps → p ≡ get_or ps number p → Reaches plan.limits.fuel p.choices d.world
 reached_number s mode plan ps number p d is pieces within read =
     reached_at plan.limits.fuel (start s mode) d.world ps number p p.choices within read refl (ap (λ (x : Standing). x.world) is) (level_reached plan.limits.fuel plan.split (start s mode) ps pieces)
 
-pub same_start : (s : Program) (mode : Mode) (plan : Plan) (number : ℕ) (d : Standing) (r : Result Told CheckFault) → d ≡ first_standing s mode → PartTold d.trail.program d.trail.mode plan number r → PartTold s mode plan number r
+pub same_start : (s : Program) (mode : Mode) (plan : CheckPlan) (number : ℕ) (d : Standing) (r : Result Told CheckFault) → d ≡ first_standing s mode → PartTold d.trail.program d.trail.mode plan number r → PartTold s mode plan number r
 same_start s mode plan number d r is h = subst (λ (x : Standing). PartTold x.trail.program x.trail.mode plan number r) is h
 
 -- ---- how many pieces there are
 
-pub put_counted : (s : Program) (mode : Mode) (plan : Plan) (old new : SinkSeen) (text : List ℕ) (count : ℕ) (ps : List Piece) (r : Result Unit CheckFault) → text ≡ count_text count → count ≡ length ps → ps ≡ numbered 0 (pieces_of s mode plan) → AreFew s mode plan → PutCount text old new r
+pub put_counted : (s : Program) (mode : Mode) (plan : CheckPlan) (old new : SinkSeen) (text : List ℕ) (count : ℕ) (ps : List Piece) (r : Result Unit CheckFault) → text ≡ count_text count → count ≡ length ps → ps ≡ numbered 0 (pieces_of s mode plan) → AreFew s mode plan → PutCount text old new r
     → Counted s mode plan old new r
 put_counted s mode plan old new text count ps (Ok u) is many pieces few h = (rw (is ∙ ap count_text (many ∙ count_is (pieces_of s mode plan) ps pieces)) at h, few)
 put_counted s mode plan old new text count ps (Err (Engine WriteFailed)) is many pieces few h = (rw (is ∙ ap count_text (many ∙ count_is (pieces_of s mode plan) ps pieces)) at h, few)
@@ -103,6 +103,6 @@ put_counted s mode plan old new text count ps (Err BadWorkers) is many pieces fe
 put_counted s mode plan old new text count ps (Err TooManyPieces) is many pieces few h = absurd h
 put_counted s mode plan old new text count ps (Err (NoSuchPiece n m)) is many pieces few h = h
 
-pub none_begun : (s : Program) (mode : Mode) (plan : Plan) (number : ℕ) (f : SplitFault) → (f ≡ split.TooManyPieces → PIECES_MAX < length (pieces_of s mode plan)) → PartTold s mode plan number (Err (split_refused f))
+pub none_begun : (s : Program) (mode : Mode) (plan : CheckPlan) (number : ℕ) (f : SplitFault) → (f ≡ split.TooManyPieces → PIECES_MAX < length (pieces_of s mode plan)) → PartTold s mode plan number (Err (split_refused f))
 none_begun s mode plan number split.TooManyPieces many = many refl
 none_begun s mode plan number split.Memory many = tt

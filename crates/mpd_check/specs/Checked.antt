@@ -1,5 +1,5 @@
 -- What a check answers.
-use Rattle.std.specs.Prelude.{◌≡◌, ◌⊎◌, ◌<◌, ◌≤◌, ℕ, ◌+◌, ◌++◌, nat_lt, Bool, List, [], length, map, slice_get, Option, Some, Result, Ok, Err, codes, string_bytes}
+use Rattle.std.specs.Prelude.{◌≡◌, ◌⊎◌, ◌<◌, ◌≤◌, ℕ, ◌+◌, ◌++◌, Bool, List, [], length, map, slice_get, Option, Some, Result, Ok, Err, codes, string_bytes}
 use Rattle.std.specs.Fmt.{decimal}
 use Rattle.std.specs.Io.KnownBytes.{Appends}
 use Rattle.mpd_model.specs.declared.call.Mode.{Mode}
@@ -10,14 +10,14 @@ use Rattle.mpd_device.specs.Seen.{SinkSeen}
 use Rattle.mpd_explore.specs.declared.report.Leaf.{Leaf}
 use Rattle.mpd_explore.specs.ReportText.{report_text}
 use Rattle.mpd_pieces.specs.declared.split.TheConstants.{PIECES_MAX}
-use Rattle.mpd_pieces.specs.Pieces.{pieces, part, walk_at, split_report, split_more}
+use Rattle.mpd_pieces.specs.Pieces.{pieces, part, part_left, split_report, split_more}
 use Rattle.mpd_pool.specs.declared.check.TheConstants.{WORKERS_MAX}
+use Rattle.mpd_pool.specs.declared.check.CheckPlan.{CheckPlan}
 use Rattle.mpd_lines.specs.declared.engine.EngineFault.{EngineFault}
 use Rattle.mpd_lines.specs.declared.engine.EngineFault.TheVariants.{ReadFailed, WriteFailed, TooManyTurns, Memory}
 use Rattle.mpd_lines.specs.Telling.{AppendsPart}
-use Rattle.mpd_check.specs.declared.plan.Plan.{Plan}
-use Rattle.mpd_check.specs.declared.plan.CheckFault.{CheckFault}
-use Rattle.mpd_check.specs.declared.plan.CheckFault.TheVariants.{BadWorkers, TooManyPieces, NoSuchPiece, Engine}
+use Rattle.mpd_check.specs.declared.fault.CheckFault.{CheckFault}
+use Rattle.mpd_check.specs.declared.fault.CheckFault.TheVariants.{BadWorkers, TooManyPieces, NoSuchPiece, Engine}
 use Rattle.mpd_check.specs.declared.counts.Tally.{Tally}
 use Rattle.mpd_check.specs.declared.Told.{Told}
 use Rattle.mpd_check.specs.Tally.{tally_of}
@@ -25,26 +25,26 @@ use Rattle.mpd_check.specs.Tally.{tally_of}
 -- ---- what is told of a script's runs from its start
 
 -- the choices of each piece
-abbrev pub pieces_of : Program → Mode → Plan → List (List ℕ)
+abbrev pub pieces_of : Program → Mode → CheckPlan → List (List ℕ)
 pieces_of s mode plan = pieces plan.split plan.limits.fuel (start s mode)
 
 -- the leaves that are listed, and whether there are more
-abbrev pub leaves_of : Program → Mode → Plan → List Leaf
-leaves_of s mode plan = split_report plan.split plan.limits.runs plan.limits.fuel (start s mode)
+abbrev pub leaves_of : Program → Mode → CheckPlan → List Leaf
+leaves_of s mode plan = split_report plan.split plan.limits (start s mode)
 
-abbrev pub more_of : Program → Mode → Plan → Bool
-more_of s mode plan = split_more plan.split plan.limits.runs plan.limits.fuel (start s mode)
+abbrev pub more_of : Program → Mode → CheckPlan → Bool
+more_of s mode plan = split_more plan.split plan.limits (start s mode)
 
 -- the same of the runs that begin with the choices of one piece
-abbrev pub leaves_at : Program → Mode → Plan → List ℕ → List Leaf
-leaves_at s mode plan choices = part plan.limits.runs plan.limits.fuel choices (start s mode)
+abbrev pub leaves_at : Program → Mode → CheckPlan → List ℕ → List Leaf
+leaves_at s mode plan choices = part plan.limits choices (start s mode)
 
-abbrev pub more_at : Program → Mode → Plan → List ℕ → Bool
-more_at s mode plan choices = nat_lt plan.limits.runs (length (walk_at plan.limits.fuel choices (start s mode)))
+abbrev pub more_at : Program → Mode → CheckPlan → List ℕ → Bool
+more_at s mode plan choices = part_left plan.limits choices (start s mode)
 
 -- a report of these leaves
-abbrev pub text_of : Program → Mode → Plan → List Leaf → Bool → List ℕ
-text_of s mode plan leaves more = report_text plan.witnesses [] plan.limits.fuel (start s mode) leaves more
+abbrev pub text_of : Program → Mode → CheckPlan → List Leaf → Bool → List ℕ
+text_of s mode plan leaves more = report_text plan.limits.witnesses [] plan.limits.fuel (start s mode) leaves more
 
 -- how many pieces there are: `pieces 225`
 abbrev pub count_text : ℕ → List ℕ
@@ -56,7 +56,7 @@ count_text count = line (codes "pieces " ++ decimal count)
 abbrev pub IsCrew : ℕ → Type 0
 IsCrew workers = (0 < workers) × (workers ≤ WORKERS_MAX)
 
-abbrev pub AreFew : Program → Mode → Plan → Type 0
+abbrev pub AreFew : Program → Mode → CheckPlan → Type 0
 AreFew s mode plan = length (pieces_of s mode plan) ≤ PIECES_MAX
 
 -- the whole text was written
@@ -80,7 +80,7 @@ Put text told old new (Err (NoSuchPiece number count)) = ⊥
 
 -- The whole report was written, or a part of it until a write failed; or nothing: the number of workers is refused, else there are too
 -- many pieces, or memory was refused.
-abbrev pub Answered : Program → Mode → Plan → ℕ → SinkSeen → SinkSeen → Result Tally CheckFault → Type 0
+abbrev pub Answered : Program → Mode → CheckPlan → ℕ → SinkSeen → SinkSeen → Result Tally CheckFault → Type 0
 Answered s mode plan workers old new (Ok tally) =
     Wrote (text_of s mode plan (leaves_of s mode plan) (more_of s mode plan)) old new × (tally ≡ tally_of (leaves_of s mode plan) (more_of s mode plan)) × IsCrew workers × AreFew s mode plan
 Answered s mode plan workers old new (Err (Engine WriteFailed)) = WrotePart (text_of s mode plan (leaves_of s mode plan) (more_of s mode plan)) old new × IsCrew workers × AreFew s mode plan
@@ -92,7 +92,7 @@ Answered s mode plan workers old new (Err TooManyPieces) = (new ≡ old) × IsCr
 Answered s mode plan workers old new (Err (NoSuchPiece number count)) = ⊥
 
 -- The part of the report that the piece of a number has is told; or there are too many pieces, or so few.
-abbrev pub PartTold : Program → Mode → Plan → ℕ → Result Told CheckFault → Type 0
+abbrev pub PartTold : Program → Mode → CheckPlan → ℕ → Result Told CheckFault → Type 0
 PartTold s mode plan number (Ok told) =
     (choices : List ℕ) × (slice_get (pieces_of s mode plan) number ≡ Some choices) × AreFew s mode plan
     × (string_bytes told.text ≡ text_of s mode plan (leaves_at s mode plan choices) (more_at s mode plan choices)) × (told.tally ≡ tally_of (leaves_at s mode plan choices) (more_at s mode plan choices))
@@ -105,7 +105,7 @@ PartTold s mode plan number (Err TooManyPieces) = PIECES_MAX < length (pieces_of
 PartTold s mode plan number (Err (NoSuchPiece asked count)) = (asked ≡ number) × (count ≡ length (pieces_of s mode plan)) × (count ≤ number) × AreFew s mode plan
 
 -- The part of the report that the piece of a number has was written; or nothing: there are too many pieces, or so few.
-abbrev pub PartAnswered : Program → Mode → Plan → ℕ → SinkSeen → SinkSeen → Result Tally CheckFault → Type 0
+abbrev pub PartAnswered : Program → Mode → CheckPlan → ℕ → SinkSeen → SinkSeen → Result Tally CheckFault → Type 0
 PartAnswered s mode plan number old new (Ok tally) =
     (choices : List ℕ) × (slice_get (pieces_of s mode plan) number ≡ Some choices) × AreFew s mode plan
     × Wrote (text_of s mode plan (leaves_at s mode plan choices) (more_at s mode plan choices)) old new × (tally ≡ tally_of (leaves_at s mode plan choices) (more_at s mode plan choices))
@@ -130,7 +130,7 @@ PutCount text old new (Err TooManyPieces) = ⊥
 PutCount text old new (Err (NoSuchPiece number count)) = ⊥
 
 -- How many pieces there are was written; or nothing, where they are too many.
-abbrev pub Counted : Program → Mode → Plan → SinkSeen → SinkSeen → Result Unit CheckFault → Type 0
+abbrev pub Counted : Program → Mode → CheckPlan → SinkSeen → SinkSeen → Result Unit CheckFault → Type 0
 Counted s mode plan old new (Ok done) = Wrote (count_text (length (pieces_of s mode plan))) old new × AreFew s mode plan
 Counted s mode plan old new (Err (Engine WriteFailed)) = WrotePart (count_text (length (pieces_of s mode plan))) old new × AreFew s mode plan
 Counted s mode plan old new (Err (Engine Memory)) = new ≡ old

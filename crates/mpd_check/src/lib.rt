@@ -3,11 +3,11 @@
 #![tactic(auto)]
 
 pub mod counts;
+pub mod fault;
 pub mod judge;
 pub mod laws;
 pub mod part;
 mod pieces;
-pub mod plan;
 pub mod witness_file;
 pub mod witness_text;
 
@@ -17,7 +17,7 @@ ghost use Rattle.mpd_check.specs.Refused.{refused_by};
 ghost use Rattle.mpd_check.specs.Tally.{tally_of};
 
 use crate::counts::{Tally, tally_of};
-use crate::plan::{CheckFault, Plan};
+use crate::fault::CheckFault;
 use mpd_code::code::Code;
 use mpd_device::device::Sink;
 use mpd_explore::print::print_report;
@@ -75,7 +75,7 @@ fn tell<G: Gate, R: Threads + Wait + Sync>(
     alloc: Global,
     code: &Code,
     mode: Mode,
-    plan: Plan,
+    plan: CheckPlan,
     workers: usize,
     gate: &G,
 ) -> Result<Told, PoolFault>
@@ -89,25 +89,15 @@ fn tell<G: Gate, R: Threads + Wait + Sync>(
     let Ok(mut debugger) = Debugger::start(alloc, code, mode) else {
         return Err(PoolFault::Memory);
     };
-    let cut = CheckPlan {
-        split: plan.split,
-        limits: plan.limits,
-    };
-    let report = match mpd_pool::check::check(rt, alloc, &mut debugger, cut, workers, gate) {
+    let report = match mpd_pool::check::check(rt, alloc, &mut debugger, plan, workers, gate) {
         Ok(report) => report,
         Err(fault) => {
             drop(debugger);
             return Err(fault);
         }
     };
-    let printed = print_report(
-        alloc,
-        &mut debugger,
-        plan.limits.fuel,
-        &report,
-        plan.witnesses,
-    );
     drop(debugger);
+    let printed = print_report(alloc, &report);
     let tally = tally_of(&report);
     drop(report);
     match printed {
@@ -127,7 +117,7 @@ pub fn check<W: Sink, G: Gate, R: Threads + Wait + Sync>(
     alloc: Global,
     code: &Code,
     mode: Mode,
-    plan: Plan,
+    plan: CheckPlan,
     workers: usize,
     sink: &mut W,
     gate: &G,

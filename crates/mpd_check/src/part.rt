@@ -9,7 +9,7 @@ ghost use Rattle.mpd_check.specs.Refused.{split_refused};
 ghost use Rattle.mpd_check.specs.Tally.{tally_of};
 
 use crate::counts::{Tally, tally_of};
-use crate::plan::{CheckFault, Plan};
+use crate::fault::CheckFault;
 use crate::{Told, put};
 use mpd_code::code::Code;
 use mpd_device::device::Sink;
@@ -21,6 +21,7 @@ use mpd_model::call::Mode;
 use mpd_model::limits::STEPS_MAX;
 use mpd_pieces::explore_at::explore_at;
 use mpd_pieces::split::{PIECES_MAX, Piece, SplitFault, split};
+use mpd_pool::check::CheckPlan;
 use mpd_trail::debugger::Debugger;
 use std::alloc::{AllocError, Global};
 
@@ -36,7 +37,7 @@ fn begin<'c>(
     alloc: Global,
     code: &'c Code,
     mode: Mode,
-    plan: Plan,
+    plan: CheckPlan,
 ) -> Result<Begun<'c>, SplitFault>
     requires { plan.limits.fuel ≤ STEPS_MAX }
     ensures standing { IfOk result (λ b. standing_of b.debugger ≡ first_standing code.now.program mode) }
@@ -92,7 +93,7 @@ pub fn count_pieces<W: Sink>(
     alloc: Global,
     code: &Code,
     mode: Mode,
-    plan: Plan,
+    plan: CheckPlan,
     sink: &mut W,
 ) -> Result<(), CheckFault>
     requires { plan.limits.fuel ≤ STEPS_MAX }
@@ -114,7 +115,7 @@ pub fn count_pieces<W: Sink>(
 fn tell_at<P: Watch>(
     alloc: Global,
     debugger: &mut Debugger<'_>,
-    plan: Plan,
+    plan: CheckPlan,
     piece: &Piece,
     watch: &mut P,
 ) -> Result<Told, AllocError>
@@ -125,7 +126,7 @@ fn tell_at<P: Watch>(
     ensures tally { IfOk result (λ told. told.tally ≡ tally_of (leaves_at debugger.old.trail.program debugger.old.trail.mode plan piece.now.choices) (more_at debugger.old.trail.program debugger.old.trail.mode plan piece.now.choices)) }
 {
     let report = explore_at(alloc, debugger, &piece.choices.items, plan.limits, watch)?;
-    let printed = print_report(alloc, debugger, plan.limits.fuel, &report, plan.witnesses);
+    let printed = print_report(alloc, &report);
     let tally = tally_of(&report);
     drop(report);
     match printed {
@@ -138,7 +139,7 @@ fn tell_at<P: Watch>(
 fn tell_number<P: Watch>(
     alloc: Global,
     debugger: &mut Debugger<'_>,
-    plan: Plan,
+    plan: CheckPlan,
     pieces: &[Piece],
     number: usize,
     watch: &mut P,
@@ -164,7 +165,7 @@ fn tell_piece<P: Watch>(
     alloc: Global,
     code: &Code,
     mode: Mode,
-    plan: Plan,
+    plan: CheckPlan,
     number: usize,
     watch: &mut P,
 ) -> Result<Told, CheckFault>
@@ -191,7 +192,7 @@ pub fn check_piece<W: Sink, P: Watch>(
     alloc: Global,
     code: &Code,
     mode: Mode,
-    plan: Plan,
+    plan: CheckPlan,
     number: usize,
     sink: &mut W,
     watch: &mut P,

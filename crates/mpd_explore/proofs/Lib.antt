@@ -4,3 +4,6 @@ pub mod CollectLemmas
 pub mod VerifyLemmas
 pub mod WitnessLemmas
 pub mod FollowLemmas
+pub mod ListedLemmas
+pub mod GatherLemmas
+pub mod PrintLemmas

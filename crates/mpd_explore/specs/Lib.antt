@@ -5,3 +5,6 @@ pub mod Witness
 pub mod Stops
 pub mod Faults
 pub mod ReportText
+pub mod WitnessTexts
+pub mod Gathered
+pub mod Printed

@@ -1,16 +1,42 @@
 -- What a report shows of runs.
-use Rattle.std.specs.Prelude.{List, [], map}
-use Rattle.mpd_model.specs.Trail.{Standing, kept}
-use Rattle.mpd_trail.specs.Run.{first_of}
+use Rattle.std.specs.Prelude.{Bool, true, false, if◌then◌else◌, nat_lt, List, [], ◌∷◌, length, take}
+use Rattle.std.specs.List.{list_any}
+use Rattle.mpd_model.specs.declared.outcome.Outcome.TheVariants.{Done, Leftovers, Deadlock, Trap}
+use Rattle.mpd_explore.specs.declared.report.Ending.{Ending}
+use Rattle.mpd_explore.specs.declared.report.Ending.TheVariants.{Ended, Cut}
 use Rattle.mpd_explore.specs.declared.report.Leaf.{Leaf}
-use Rattle.mpd_explore.specs.declared.search.Bounds.{Bounds}
+use Rattle.mpd_explore.specs.declared.report.Limits.{Limits}
 use Rattle.mpd_explore.specs.Walk.{Run}
-use Rattle.mpd_explore.specs.Search.{to_come}
 
 -- a run as a leaf of a report, which has no steps: they follow from the choices
 abbrev pub shown : Run → Leaf
 shown r = record { choices = r.choices; ending = r.ending }
 
--- what is to come from where a debugger stands, with no open choice
-abbrev pub to_show : Bounds → Standing → List Leaf
-to_show b d = map shown (to_come (first_of d.trail) b [] (kept d.trail) d.world)
+-- a deadlock or a trap
+abbrev pub is_bad : Ending → Bool
+is_bad Cut = false
+is_bad (Ended Done) = false
+is_bad (Ended (Leftovers calls)) = false
+is_bad (Ended (Deadlock blocked)) = true
+is_bad (Ended (Trap ranks)) = true
+
+abbrev pub any_bad : List Leaf → Bool
+any_bad leaves = list_any (λ l. is_bad l.ending) leaves
+
+-- leaves up to the first bad one, and with it
+abbrev pub up_to_bad : List Leaf → List Leaf
+up_to_bad [] = []
+up_to_bad (l ∷ ls) = l ∷ (if is_bad l.ending then [] else up_to_bad ls)
+
+-- the same where a list ends with the first bad leaf
+abbrev pub ended_by : Bool → List Leaf → List Leaf
+ended_by false leaves = leaves
+ended_by true leaves = up_to_bad leaves
+
+-- what is listed of the leaves of all runs
+abbrev pub listed : Limits → List Leaf → List Leaf
+listed l leaves = ended_by l.until_bad (take l.runs leaves)
+
+-- whether there are others
+abbrev pub left_out : Limits → List Leaf → Bool
+left_out l leaves = if l.until_bad then nat_lt (length (listed l leaves)) (length leaves) else nat_lt l.runs (length leaves)

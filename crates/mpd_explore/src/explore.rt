@@ -1,16 +1,19 @@
 //! Exploring from where a debugger stands.
 
-ghost use Rattle.std.specs.Prelude.{◌≡◌, ◌+◌, ◌<◌, ◌≤◌, [], nat_lt, map, IfOk, OnOk, OnErr, Some, length, take, reverse};
+ghost use Rattle.std.specs.Prelude.{◌≡◌, ◌+◌, ◌<◌, ◌≤◌, ◌&&◌, [], ◌∷◌, ◌++◌, if◌then◌else◌, map, IfOk, OnOk, OnErr, Some, length, reverse, string_bytes};
 ghost use Rattle.mpd_model.specs.Trail.{kept, gone_back, forgotten, IsReached};
 ghost use Rattle.mpd_trail.specs.Run.{first_of};
 ghost use Rattle.mpd_trail.specs.Views.{standing_of};
 ghost use Rattle.mpd_explore.specs.Walk.{walk};
 ghost use Rattle.mpd_explore.specs.Search.{At, Moved, Safe, picked};
-ghost use Rattle.mpd_explore.specs.Report.{shown, to_show};
-ghost use Rattle.mpd_explore.specs.Witness.{HasWitness};
+ghost use Rattle.mpd_explore.specs.Report.{shown, is_bad, listed, left_out};
+ghost use Rattle.mpd_explore.specs.Gathered.{to_find, Lists};
+ghost use Rattle.mpd_explore.specs.Witness.{HasWitness, witness_by};
+ghost use Rattle.mpd_explore.specs.WitnessTexts.{behind_number, witness_texts};
 ghost use Rattle.std.specs.List.{AllByRecursion};
 
-use crate::report::{ChoiceList, Leaf, Limits, Report};
+use crate::print::witness_text;
+use crate::report::{ChoiceList, Ending, Leaf, Limits, Report};
 use crate::search::{Bounds, Open, advance, descend, go_back};
 use crate::watch::Watch;
 use mpd_model::limits::STEPS_MAX;
@@ -52,70 +55,139 @@ fn first_leaf(
     }
 }
 
-/// Gathers the first leaves from here, each told as it is found, where none is gathered and no choice is open. It answers whether
-/// there are more. The debugger is left anywhere above the base.
+/// Whether a list ends with a leaf, whatever is behind it.
+fn ends_with(limits: Limits, leaf: &Leaf) -> bool
+    ensures { result ≡ (limits.until_bad && is_bad leaf.now.ending) }
+{
+    limits.until_bad && leaf.is_bad()
+}
+
+/// The text of the witness of a run that ends here so: empty where that is no deadlock.
+fn witness_here(
+    alloc: Global,
+    debugger: &Debugger<'_>,
+    ending: &Ending,
+) -> Result<String, AllocError>
+    ensures { IfOk result (λ t. string_bytes t ≡ behind_number (witness_by (kept debugger.now.trail) ending.now)) }
+{
+    let _ = debugger.core();
+    let depth = debugger.depth();
+    let (steps, _) = debugger.steps().split_at(depth);
+    witness_text(alloc, steps, ending)
+}
+
+/// Adds the text of the witness of a run that ends here so, where texts are asked for.
+fn add_text(
+    alloc: Global,
+    debugger: &Debugger<'_>,
+    asked: bool,
+    ending: &Ending,
+    texts: &mut Vec<String>,
+) -> Result<(), AllocError>
+    ensures { OnOk result (map string_bytes texts.new.items ≡ map string_bytes texts.old.items ++ (if asked then behind_number (witness_by (kept debugger.now.trail) ending.now) ∷ [] else [])) }
+{
+    if !asked {
+        return Ok(());
+    }
+    let text = witness_here(alloc, debugger, ending)?;
+    texts.push(text)?;
+    Ok(())
+}
+
+/// Adds a leaf, at which the debugger stands, to a report, and the text of its witness, where texts are asked for.
+fn list_leaf(
+    alloc: Global,
+    debugger: &Debugger<'_>,
+    asked: bool,
+    leaf: Leaf,
+    report: &mut Report,
+) -> Result<(), AllocError>
+    ensures leaves { OnOk result (report.new.leaves.items ≡ report.old.leaves.items ++ leaf ∷ []) }
+    ensures texts { OnOk result (map string_bytes report.new.witnesses.items ≡ map string_bytes report.old.witnesses.items ++ (if asked then behind_number (witness_by (kept debugger.now.trail) leaf.ending) ∷ [] else [])) }
+{
+    if let Err(fault) = add_text(alloc, debugger, asked, &leaf.ending, &mut report.witnesses) {
+        drop(leaf);
+        return Err(fault);
+    }
+    report.leaves.push(leaf)?;
+    Ok(())
+}
+
+/// Gathers the leaves from here that are to be listed, each told as it is found, where none is gathered and no choice is open. It
+/// answers whether there are others. The debugger is left anywhere above the base.
 fn gather<W: Watch>(
     alloc: Global,
     debugger: &mut Debugger<'_>,
     bounds: Bounds,
-    runs: usize,
+    limits: Limits,
     stack: &mut Vec<Open>,
-    leaves: &mut Vec<Leaf>,
+    report: &mut Report,
     watch: &mut W,
 ) -> Result<bool, AllocError>
     requires at { At (first_of debugger.old.trail) bounds [] (standing_of debugger.old) }
     requires few { bounds.limit ≤ STEPS_MAX }
     requires none_open { stack.old.items ≡ [] }
-    requires none_told { leaves.old.items ≡ [] }
-    ensures leaves { OnOk result (leaves.new.items ≡ take runs (to_show bounds (standing_of debugger.old))) }
-    ensures more { IfOk result (λ more. more ≡ nat_lt runs (length (to_show bounds (standing_of debugger.old)))) }
+    requires none_told { report.old.leaves.items ≡ [] }
+    requires none_written { report.old.witnesses.items ≡ [] }
+    ensures lists { IfOk result (λ more. Lists limits (to_find bounds (standing_of debugger.old)) report.new.leaves.items (map string_bytes report.new.witnesses.items) more) }
     ensures safe { Safe bounds.base (standing_of debugger.old) (standing_of debugger.new) }
-    ensures memory { OnErr result (0 < runs) }
+    ensures memory { OnErr result (0 < limits.runs) }
 {
     decisions_can_be_followed();
-    for turn in 0..runs {
+    for turn in 0..limits.runs {
         let leaf = first_leaf(alloc, debugger, bounds, stack)?;
-        leaves.push(leaf)?;
+        let is_last = ends_with(limits, &leaf);
+        list_leaf(alloc, debugger, limits.witnesses, leaf, report)?;
         watch.leaf(turn + 1);
         let has_next = advance(debugger, bounds, stack)?;
         if !has_next {
             return Ok(false);
         }
+        if is_last {
+            return Ok(true);
+        }
     }
     Ok(true)
 }
 
-/// The first leaves from here, each told as it is found, and whether there are more. The debugger is left anywhere above the base.
+/// The leaves from here that are to be listed, each told as it is found, and whether there are others. The debugger is left anywhere
+/// above the base.
 fn collect<W: Watch>(
     alloc: Global,
     debugger: &mut Debugger<'_>,
     bounds: Bounds,
-    runs: usize,
+    limits: Limits,
     watch: &mut W,
 ) -> Result<Report, AllocError>
     requires at { At (first_of debugger.old.trail) bounds [] (standing_of debugger.old) }
     requires few { bounds.limit ≤ STEPS_MAX }
-    ensures leaves { IfOk result (λ r. r.leaves.items ≡ take runs (to_show bounds (standing_of debugger.old))) }
-    ensures more { IfOk result (λ r. r.more ≡ nat_lt runs (length (to_show bounds (standing_of debugger.old)))) }
+    ensures lists { IfOk result (λ r. Lists limits (to_find bounds (standing_of debugger.old)) r.leaves.items (map string_bytes r.witnesses.items) r.more) }
     ensures safe { Safe bounds.base (standing_of debugger.old) (standing_of debugger.new) }
-    ensures memory { OnErr result (0 < runs) }
+    ensures memory { OnErr result (0 < limits.runs) }
 {
     let mut stack = Vec::new(alloc);
-    let mut leaves = Vec::new(alloc);
+    let mut report = Report {
+        leaves: Vec::new(alloc),
+        more: false,
+        witnesses: Vec::new(alloc),
+    };
     let gathered = gather(
         alloc,
         debugger,
         bounds,
-        runs,
+        limits,
         &mut stack,
-        &mut leaves,
+        &mut report,
         watch,
     );
     drop(stack);
     match gathered {
-        Ok(more) => Ok(Report { leaves, more }),
+        Ok(more) => {
+            report.more = more;
+            Ok(report)
+        }
         Err(fault) => {
-            drop(leaves);
+            drop(report);
             Err(fault)
         }
     }
@@ -131,11 +203,13 @@ pub(crate) fn put_back(debugger: &mut Debugger<'_>, base: usize)
     debugger.forget_undone();
 }
 
-/// The first leaves of the runs from here, in the order of their choices, and whether there are more (docs/DEFINITIONS.md, "Runs of
-/// a script"). Fuel counts from here. The debugger is left as found, also where memory is refused, which is what an `Err` says; that
-/// comes only where a leaf is asked for. No undone step is kept, and the depth and the fuel are at most 1,000,000 steps together. Each leaf has a run, and each deadlock a
-/// witness, which `witness_of` makes and `verify` accepts. `watch` is told of each leaf as it is found: once, in order, with how many
-/// there are so far; nothing else depends on it.
+/// The first leaves of the runs from here, in the order of their choices, and whether there are others (docs/DEFINITIONS.md, "Runs of
+/// a script"): so many at most, and where that is asked for up to the first deadlock or trap, behind which nothing is looked for but
+/// whether there is another. Fuel counts from here. The debugger is left as found, also where memory is refused, which is what an
+/// `Err` says; that comes only where a leaf is asked for. No undone step is kept, and the depth and the fuel are at most 1,000,000
+/// steps together. Each leaf has a run, and each deadlock a witness, which `witness_of` makes and `verify` accepts; where witnesses
+/// are wanted, their texts are made as the leaves are found. `watch` is told of each leaf as it is found: once, in order, with how
+/// many there are so far; nothing else depends on it.
 pub fn explore<W: Watch>(
     alloc: Global,
     debugger: &mut Debugger<'_>,
@@ -144,9 +218,10 @@ pub fn explore<W: Watch>(
 ) -> Result<Report, AllocError>
     requires clean { length debugger.old.trail.steps ≡ debugger.old.trail.depth }
     requires fits { debugger.old.trail.depth + limits.fuel ≤ STEPS_MAX }
-    ensures leaves { IfOk result (λ r. r.leaves.items ≡ take limits.runs (map shown (walk limits.fuel debugger.old.world))) }
-    ensures more { IfOk result (λ r. r.more ≡ nat_lt limits.runs (length (walk limits.fuel debugger.old.world))) }
+    ensures leaves { IfOk result (λ r. r.leaves.items ≡ listed limits (map shown (walk limits.fuel debugger.old.world))) }
+    ensures more { IfOk result (λ r. r.more ≡ left_out limits (map shown (walk limits.fuel debugger.old.world))) }
     ensures witnesses { IfOk result (λ r. AllByRecursion (HasWitness debugger.old.trail.program debugger.old.trail.mode (kept debugger.old.trail) limits.fuel debugger.old.world) r.leaves.items) }
+    ensures texts { IfOk result (λ r. map string_bytes r.witnesses.items ≡ witness_texts limits.witnesses (kept debugger.old.trail) limits.fuel debugger.old.world r.leaves.items) }
     ensures trail { debugger.new.trail ≡ debugger.old.trail }
     ensures world { debugger.new.world ≡ debugger.old.world }
     ensures reached { IsReached (standing_of debugger.new) }
@@ -159,7 +234,7 @@ pub fn explore<W: Watch>(
         base,
         limit: base + limits.fuel,
     };
-    let found = collect(alloc, debugger, bounds, limits.runs, watch);
+    let found = collect(alloc, debugger, bounds, limits, watch);
     put_back(debugger, base);
     found
 }

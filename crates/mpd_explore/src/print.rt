@@ -1,20 +1,19 @@
 //! The text of a report (docs/FORMATS.md, "Reports").
 
-ghost use Rattle.std.specs.Prelude.{◌≡◌, ◌+◌, ◌≤◌, ◌++◌, IfOk, OnOk, IsSome, length, string_bytes, if◌then◌else◌, []};
-ghost use Rattle.std.specs.List.{AllByRecursion};
-ghost use Rattle.mpd_model.specs.Trail.{kept, IsReached};
-ghost use Rattle.mpd_model.specs.Texts.{steps_text};
-ghost use Rattle.mpd_trail.specs.Views.{standing_of};
-ghost use Rattle.mpd_explore.specs.Walk.{run_at};
-ghost use Rattle.mpd_explore.specs.Witness.{HasWitness};
-ghost use Rattle.mpd_explore.specs.ReportText.{choices_text, ending_text, leaf_line, leaf_text, witness_line, witness_part, leaves_text, report_text};
+ghost use Rattle.std.specs.Prelude.{◌≡◌, ◌∷◌, ◌++◌, ℕ, Bool, List, IfOk, OnOk, map, slice_get, string_bytes};
+ghost use Rattle.std.specs.Fmt.{decimal};
+ghost use Rattle.mpd_model.specs.declared.step.Step.{Step};
+ghost use Rattle.mpd_model.specs.World.{World};
+ghost use Rattle.mpd_model.specs.Texts.{step_text, steps_text};
+ghost use Rattle.mpd_explore.specs.Witness.{witness_by};
+ghost use Rattle.mpd_explore.specs.ReportText.{choices_text, ending_text, leaf_line, leaf_text, report_text};
+ghost use Rattle.mpd_explore.specs.WitnessTexts.{behind_number, witness_texts};
+ghost use Rattle.mpd_explore.specs.Printed.{numbered, numbered_at, lines_told, told_text};
 
-use crate::report::{Ending, Leaf, Report, Witness};
-use crate::witness::witness_of;
-use mpd_model::limits::STEPS_MAX;
+use crate::report::{Ending, Leaf, Report};
+use mpd_model::outcome::Outcome;
 use mpd_model::step::Step;
 use mpd_model::text::print_outcome;
-use mpd_trail::debugger::Debugger;
 use std::alloc::{AllocError, Global};
 
 /// Adds choices, with one space between two.
@@ -65,6 +64,40 @@ fn push_leaf(alloc: Global, out: &mut String, number: usize, leaf: &Leaf) -> Res
     Ok(())
 }
 
+/// Adds a word and a number.
+fn push_number(out: &mut String, word: &str, number: usize) -> Result<(), AllocError>
+    ensures { OnOk result (string_bytes out.new ≡ string_bytes out.old ++ word.now ++ decimal number) }
+{
+    out.push_str(word)?;
+    write!(out, "{number}")?;
+    Ok(())
+}
+
+/// Adds a step. Its parts are added one by one, which takes less time than `Display` of the step.
+fn push_step(out: &mut String, step: Step) -> Result<(), AllocError>
+    ensures { OnOk result (string_bytes out.new ≡ string_bytes out.old ++ step_text step) }
+{
+    match step {
+        Step::Local(rank) => push_number(out, "local ", rank),
+        Step::Match(send, receive) => {
+            push_number(out, "match ", send.rank)?;
+            push_number(out, ".", send.index)?;
+            push_number(out, " ", receive.rank)?;
+            push_number(out, ".", receive.index)
+        }
+        Step::Wake(rank) => push_number(out, "wake ", rank),
+        Step::Release => out.push_str("release"),
+    }
+}
+
+/// Adds a comma and a space, and a step.
+fn push_next(out: &mut String, step: Step) -> Result<(), AllocError>
+    ensures { OnOk result (string_bytes out.new ≡ string_bytes out.old ++ 44 ∷ 32 ∷ step_text step) }
+{
+    out.push_str(", ")?;
+    push_step(out, step)
+}
+
 /// Adds steps: a space before the first, a comma and a space between two.
 fn push_steps(out: &mut String, steps: &[Step]) -> Result<(), AllocError>
     ensures { OnOk result (string_bytes out.new ≡ string_bytes out.old ++ steps_text steps.now) }
@@ -72,94 +105,88 @@ fn push_steps(out: &mut String, steps: &[Step]) -> Result<(), AllocError>
     let Some((first, rest)) = steps.split_first() else {
         return Ok(());
     };
-    write!(out, " {first}")?;
+    out.push(' ')?;
+    push_step(out, *first)?;
     for step in rest {
-        write!(out, ", {step}")?;
+        push_next(out, *step)?;
     }
     Ok(())
 }
 
-/// Adds the line of a witness.
-fn push_witness(out: &mut String, number: usize, witness: &Witness) -> Result<(), AllocError>
-    ensures { OnOk result (string_bytes out.new ≡ string_bytes out.old ++ witness_line number witness.now) }
-{
-    write!(out, "witness {number}:")?;
-    push_steps(out, &witness.steps.items)?;
-    out.push('\n')?;
-    Ok(())
-}
-
-/// Adds the witness of a leaf, where it has one. The debugger is left as found.
-fn push_witness_of(
+/// The text of the witness that these steps are of a run that ends so: what its line has behind the number, with the line feed, and
+/// nothing where the run ends in no deadlock.
+pub(crate) fn witness_text(
     alloc: Global,
-    out: &mut String,
-    debugger: &mut Debugger<'_>,
-    fuel: usize,
-    number: usize,
-    leaf: &Leaf,
-) -> Result<(), AllocError>
-    requires clean { length debugger.old.trail.steps ≡ debugger.old.trail.depth }
-    requires fits { debugger.old.trail.depth + fuel ≤ STEPS_MAX }
-    requires listed { IsSome (run_at fuel leaf.now.choices debugger.old.world) }
-    ensures text { OnOk result (string_bytes out.new ≡ string_bytes out.old ++ witness_part (kept debugger.old.trail) fuel debugger.old.world number leaf.now) }
-    ensures trail { debugger.new.trail ≡ debugger.old.trail }
-    ensures world { debugger.new.world ≡ debugger.old.world }
+    steps: &[Step],
+    ending: &Ending,
+) -> Result<String, AllocError>
+    ensures { IfOk result (λ t. string_bytes t ≡ behind_number (witness_by steps.now ending.now)) }
 {
-    let found = witness_of(alloc, debugger, fuel, leaf)?;
-    if let Some(witness) = found {
-        push_witness(out, number, &witness)?;
-    }
-    Ok(())
+    let Ending::Ended(Outcome::Deadlock(_)) = ending else {
+        return Ok(String::new(alloc));
+    };
+    let mut out = String::new(alloc);
+    out.push(':')?;
+    push_steps(&mut out, steps)?;
+    out.push('\n')?;
+    Ok(out)
 }
 
-/// Adds the lines of all leaves, with their witnesses where those are asked for. The debugger is left as found.
+/// Adds the line of a witness by its text, unless that is empty.
+fn push_numbered(out: &mut String, number: usize, text: &str) -> Result<(), AllocError>
+    ensures { OnOk result (string_bytes out.new ≡ string_bytes out.old ++ numbered number text.now) }
+{
+    if text.is_empty() {
+        return Ok(());
+    }
+    push_number(out, "witness ", number)?;
+    out.push_str(text)
+}
+
+/// Adds the line of the witness of this number, where there is a text of it that isn't empty.
+fn push_witness(out: &mut String, number: usize, texts: &[String]) -> Result<(), AllocError>
+    ensures { OnOk result (string_bytes out.new ≡ string_bytes out.old ++ numbered_at number (slice_get (map string_bytes texts.now) number)) }
+{
+    if number >= texts.len() {
+        return Ok(());
+    }
+    push_numbered(out, number, texts[number].as_str())
+}
+
+/// Adds the lines of all leaves, and of the witnesses that there are texts of.
 fn push_leaves(
     alloc: Global,
     out: &mut String,
-    debugger: &mut Debugger<'_>,
-    fuel: usize,
     leaves: &[Leaf],
-    witnesses: bool,
+    texts: &[String],
 ) -> Result<(), AllocError>
-    requires clean { length debugger.old.trail.steps ≡ debugger.old.trail.depth }
-    requires fits { debugger.old.trail.depth + fuel ≤ STEPS_MAX }
-    requires listed { AllByRecursion (HasWitness debugger.old.trail.program debugger.old.trail.mode (kept debugger.old.trail) fuel debugger.old.world) leaves.now }
-    ensures text { OnOk result (string_bytes out.new ≡ string_bytes out.old ++ leaves_text witnesses (kept debugger.old.trail) fuel debugger.old.world 0 leaves.now) }
-    ensures trail { debugger.new.trail ≡ debugger.old.trail }
-    ensures world { debugger.new.world ≡ debugger.old.world }
+    ensures { OnOk result (string_bytes out.new ≡ string_bytes out.old ++ lines_told (map string_bytes texts.now) 0 leaves.now) }
 {
     let mut number = 0;
     for leaf in leaves {
         push_leaf(alloc, out, number, leaf)?;
-        if witnesses {
-            push_witness_of(alloc, out, debugger, fuel, number, leaf)?;
-        }
+        push_witness(out, number, texts)?;
         number += 1;
     }
     Ok(())
 }
 
-/// A report as text: a line for each leaf, where it is asked for a line with the witness behind each deadlock, and at last how many
-/// leaves there are, and whether there are more. The debugger stands where `explore` was called, with the same fuel; it is left as
-/// found, also where memory is refused, which is what an `Err` says.
-pub fn print_report(
-    alloc: Global,
-    debugger: &mut Debugger<'_>,
-    fuel: usize,
-    report: &Report,
-    witnesses: bool,
-) -> Result<String, AllocError>
-    requires clean { length debugger.old.trail.steps ≡ debugger.old.trail.depth }
-    requires fits { debugger.old.trail.depth + fuel ≤ STEPS_MAX }
-    requires listed { AllByRecursion (HasWitness debugger.old.trail.program debugger.old.trail.mode (kept debugger.old.trail) fuel debugger.old.world) report.now.leaves.items }
-    ensures text { IfOk result (λ t. string_bytes t ≡ report_text witnesses (kept debugger.old.trail) fuel debugger.old.world report.now.leaves.items report.now.more) }
-    ensures trail { debugger.new.trail ≡ debugger.old.trail }
-    ensures world { debugger.new.world ≡ debugger.old.world }
+/// A report as text, by the texts that it has.
+fn told(alloc: Global, report: &Report) -> Result<String, AllocError>
+    ensures { IfOk result (λ t. string_bytes t ≡ told_text (map string_bytes report.now.witnesses.items) report.now.leaves.items report.now.more) }
 {
     let mut out = String::new(alloc);
-    push_leaves(alloc, &mut out, debugger, fuel, &report.leaves, witnesses)?;
+    push_leaves(alloc, &mut out, &report.leaves, &report.witnesses)?;
     let count = report.leaves.len();
     let more = if report.more { "yes" } else { "no" };
     write!(out, "leaves {count} more {more}\n")?;
     Ok(out)
+}
+
+/// A report as text: a line for each leaf, behind each deadlock a line with its witness, where the report has their texts, and at last
+/// how many leaves there are, and whether there are others. An `Err` is want of memory.
+pub fn print_report(alloc: Global, report: &Report) -> Result<String, AllocError>
+    ensures { (asked : Bool) (before : List Step) (fuel : ℕ) (w : World) → map string_bytes report.now.witnesses.items ≡ witness_texts asked before fuel w report.now.leaves.items → IfOk result (λ t. string_bytes t ≡ report_text asked before fuel w report.now.leaves.items report.now.more) }
+{
+    told(alloc, report)
 }

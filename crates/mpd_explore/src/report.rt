@@ -1,14 +1,23 @@
 //! What an exploration answers.
 
+ghost use Rattle.std.specs.Prelude.{◌≡◌};
+ghost use Rattle.mpd_explore.specs.Report.{is_bad, any_bad};
+
 use mpd_model::decision::StepList;
 use mpd_model::outcome::{CallList, Outcome};
 use std::marker::Model;
 
-/// How many leaves are listed at most, and how many steps a run has at most.
+/// How far an exploration goes, and what is listed.
 #[derive(Clone, Copy)]
 pub struct Limits {
+    /// How many leaves are listed at most.
     pub runs: usize,
+    /// How many steps a run has at most.
     pub fuel: usize,
+    /// Whether the witnesses of deadlocks are wanted.
+    pub witnesses: bool,
+    /// Whether the list ends with the first leaf that is a deadlock or a trap.
+    pub until_bad: bool,
 }
 
 /// Numbers of candidates, from 0, one for each choice, in order; contracts see them as a list.
@@ -41,11 +50,49 @@ pub struct Leaf {
     pub ending: Ending,
 }
 
-/// The first leaves, in the order of their choices, and whether there are more.
+impl Leaf {
+    /// Whether it is a deadlock or a trap.
+    pub fn is_bad(&self) -> bool
+        ensures { result ≡ is_bad self.now.ending }
+    {
+        match &self.ending {
+            Ending::Ended(Outcome::Deadlock(_)) => true,
+            Ending::Ended(Outcome::Trap(_)) => true,
+            Ending::Ended(Outcome::Done | Outcome::Leftovers(_)) => false,
+            Ending::Cut => false,
+        }
+    }
+}
+
+/// The first leaves, in the order of their choices, and whether there are others that aren't listed.
 #[derive(Drop)]
 pub struct Report {
     pub leaves: Vec<Leaf>,
     pub more: bool,
+    /// Where witnesses are wanted a text for each leaf, in order: for a deadlock what the line of its witness has behind the number,
+    /// with the line feed; for any other leaf the empty text. Else there are none.
+    pub witnesses: Vec<String>,
+}
+
+/// Whether one of some leaves is a deadlock or a trap.
+fn any_bad(leaves: &[Leaf]) -> bool
+    ensures { result ≡ any_bad leaves.now }
+{
+    for leaf in leaves {
+        if leaf.is_bad() {
+            return true;
+        }
+    }
+    false
+}
+
+impl Report {
+    /// Whether a leaf of it is a deadlock or a trap.
+    pub fn has_bad(&self) -> bool
+        ensures { result ≡ any_bad self.now.leaves.items }
+    {
+        any_bad(&self.leaves)
+    }
 }
 
 /// Steps from the start that lead to a deadlock, and the calls that are blocked there, by rank.

@@ -1,5 +1,5 @@
 -- What is behind some choices, told from where these begin.
-use Rattle.std.proofs.Common.{◌≡◌, ℕ, zero, suc, ◌<◌, ◌≤◌, ◌+◌, List, [], ◌∷◌, ◌++◌, length, take, drop, map, get_or, refl, sym, ap, subst, ◌∙◌, arith, append_assoc, append-nil}
+use Rattle.std.proofs.Common.{◌≡◌, ℕ, zero, suc, ◌<◌, ◌≤◌, ◌+◌, nat_lt, Bool, true, false, if◌then◌else◌, List, [], ◌∷◌, ◌++◌, length, take, drop, map, get_or, refl, sym, ap, subst, ◌∙◌, arith, append_assoc, append-nil}
 use Rattle.std.specs.Option.{option_map}
 use Rattle.std.specs.List.{AllByRecursion}
 use Rattle.std.proofs.lemmas.List.{length-map, take-map, take_all, drop_all}
@@ -9,11 +9,13 @@ use Rattle.mpd_model.specs.declared.step.Step.{Step}
 use Rattle.mpd_model.specs.Program.{Program}
 use Rattle.mpd_model.specs.Trail.{Trail, Standing, IsReached, kept, gone_back, forgotten}
 use Rattle.mpd_explore.specs.declared.report.Leaf as leaf
-use Rattle.mpd_explore.specs.Walk.{Run, prefixed, walk, run_at}
-use Rattle.mpd_explore.specs.Report.{shown}
-use Rattle.mpd_explore.specs.Witness.{WitnessBy, HasWitness}
+use Rattle.mpd_explore.specs.declared.report.Limits.{Limits}
+use Rattle.mpd_explore.specs.Walk.{Run, prefixed, walk, run_at, steps_by}
+use Rattle.mpd_explore.specs.Report.{shown, is_bad, up_to_bad, ended_by, listed, left_out}
+use Rattle.mpd_explore.specs.Witness.{WitnessBy, HasWitness, witness_by}
+use Rattle.mpd_explore.specs.WitnessTexts.{behind_number, witness_text, witness_texts}
 use Rattle.mpd_explore.proofs.CollectLemmas.{as_found}
-use Rattle.mpd_pieces.specs.Pieces.{walk_at, part, behind}
+use Rattle.mpd_pieces.specs.Pieces.{walk_at, part, part_left, behind}
 use Rattle.mpd_pieces.specs.Along.{Beyond, Going}
 use Rattle.mpd_pieces.proofs.AlongLemmas.{walk_whole, beyond_below, beyond_depth}
 
@@ -48,13 +50,39 @@ walk_behind fuel n choices d e h left =
     ∙ ap (λ cs. map (prefixed cs h.beyond.path) (walk_at h.rest [] e.world)) (all_made fuel choices d e h)
     ∙ ap (map (prefixed choices h.beyond.path)) (walk_whole h.rest e.world ∙ ap (λ m. walk m e.world) left)
 
-pub part_is : (fuel n runs : ℕ) (choices : List ℕ) (d e : Standing) (h : Going fuel choices d [] e) → h.rest ≡ n → map (behind choices) (take runs (map shown (walk n e.world))) ≡ part runs fuel choices d.world
-part_is fuel n runs choices d e h left =
-    sym (take-map (behind choices) runs (map shown (walk n e.world)))
-    ∙ ap (take runs) (shown_behind choices h.beyond.path (walk n e.world) ∙ ap (map shown) (sym (walk_behind fuel n choices d e h left)))
+-- so much fuel is left
+abbrev pub with_fuel : Limits → ℕ → Limits
+with_fuel l n = record { runs = l.runs; fuel = n; witnesses = l.witnesses; until_bad = l.until_bad }
 
-pub many_is : (fuel n : ℕ) (choices : List ℕ) (d e : Standing) (h : Going fuel choices d [] e) → h.rest ≡ n → length (walk n e.world) ≡ length (walk_at fuel choices d.world)
-many_is fuel n choices d e h left = sym (ap length (walk_behind fuel n choices d e h left) ∙ length-map (walk n e.world) (prefixed choices h.beyond.path))
+front_case : (cs : List ℕ) (b : Bool) (xs ys : List leaf.Leaf) → ys ≡ map (behind cs) xs → ◌≡◌ {A = List leaf.Leaf} (if b then [] else ys) (map (behind cs) (if b then [] else xs))
+front_case cs true xs ys h = refl
+front_case cs false xs ys h = h
+
+up_behind : (cs : List ℕ) (xs : List leaf.Leaf) → up_to_bad (map (behind cs) xs) ≡ map (behind cs) (up_to_bad xs)
+up_behind cs [] = refl
+up_behind cs (x ∷ xs) = ap (λ zs. behind cs x ∷ zs) (front_case cs (is_bad x.ending) (up_to_bad xs) (up_to_bad (map (behind cs) xs)) (up_behind cs xs))
+
+ended_behind : (cs : List ℕ) (b : Bool) (xs : List leaf.Leaf) → ended_by b (map (behind cs) xs) ≡ map (behind cs) (ended_by b xs)
+ended_behind cs false xs = refl
+ended_behind cs true xs = up_behind cs xs
+
+walk_shown : (n : ℕ) (l : Limits) (choices : List ℕ) (d e : Standing) (h : Going l.fuel choices d [] e) → h.rest ≡ n → map (behind choices) (map shown (walk n e.world)) ≡ map shown (walk_at l.fuel choices d.world)
+walk_shown n l choices d e h left = shown_behind choices h.beyond.path (walk n e.world) ∙ ap (map shown) (sym (walk_behind l.fuel n choices d e h left))
+
+pub part_is : (n : ℕ) (l : Limits) (choices : List ℕ) (d e : Standing) (h : Going l.fuel choices d [] e) → h.rest ≡ n → map (behind choices) (listed (with_fuel l n) (map shown (walk n e.world))) ≡ part l choices d.world
+part_is n l choices d e h left =
+    sym (ended_behind choices l.until_bad (take l.runs (map shown (walk n e.world))))
+    ∙ ap (ended_by l.until_bad) (sym (take-map (behind choices) l.runs (map shown (walk n e.world))) ∙ ap (take l.runs) (walk_shown n l choices d e h left))
+
+left_same : (b : Bool) (runs x y m n : ℕ) → x ≡ y → m ≡ n → (if b then nat_lt x m else nat_lt runs m) ≡ (if b then nat_lt y n else nat_lt runs n)
+left_same b runs x y m n e f = ap (λ z. if b then nat_lt z m else nat_lt runs m) e ∙ ap (λ z. if b then nat_lt y z else nat_lt runs z) f
+
+pub left_is : (n : ℕ) (l : Limits) (choices : List ℕ) (d e : Standing) (h : Going l.fuel choices d [] e) → h.rest ≡ n → left_out (with_fuel l n) (map shown (walk n e.world)) ≡ part_left l choices d.world
+left_is n l choices d e h left =
+    let here : List leaf.Leaf = listed (with_fuel l n) (map shown (walk n e.world)) in
+    left_same l.until_bad l.runs (length here) (length (part l choices d.world)) (length (map shown (walk n e.world))) (length (map shown (walk_at l.fuel choices d.world)))
+    (sym (length-map here (behind choices)) ∙ ap length (part_is n l choices d e h left))
+    (sym (length-map (map shown (walk n e.world)) (behind choices)) ∙ ap length (walk_shown n l choices d e h left))
 
 -- ---- and their witnesses
 
@@ -82,6 +110,30 @@ pub witnesses_behind : (fuel n : ℕ) (choices : List ℕ) (d e : Standing) (ls 
 witnesses_behind fuel n choices d e ls now h left is x =
     let own : AllByRecursion (HasWitness d.trail.program d.trail.mode (kept e.trail) n e.world) ls = rw (h.beyond.program, h.beyond.mode) at x in
     rw is (all_behind fuel n choices d e d.trail.program d.trail.mode ls h left own)
+
+-- ---- and the texts of these
+
+text_behind : (fuel n : ℕ) (choices : List ℕ) (d e : Standing) (s : Program) (mode : Mode) (l : leaf.Leaf) (h : Going fuel choices d [] e) → h.rest ≡ n → HasWitness s mode (kept e.trail) n e.world l → witness_text (kept e.trail) n e.world l ≡ witness_text (kept d.trail) fuel d.world (behind choices l)
+text_behind fuel n choices d e s mode l h left x =
+    let here : kept e.trail ++ steps_by (run_at n l.choices e.world) ≡ kept d.trail ++ (h.beyond.path ++ x.run.steps) =
+    ap (λ o. kept e.trail ++ steps_by o) x.by ∙ ap (λ p. p ++ x.run.steps) h.beyond.kept_is ∙ append_assoc (kept d.trail) h.beyond.path x.run.steps in
+    let there : steps_by (run_at fuel (choices ++ l.choices) d.world) ≡ h.beyond.path ++ x.run.steps = ap steps_by (run_behind fuel n choices l.choices d e h left ∙ ap (option_map (prefixed choices h.beyond.path)) x.by) in
+    ap (λ p. behind_number (witness_by p l.ending)) (here ∙ ap (λ p. kept d.trail ++ p) (sym there))
+
+each_behind : (fuel n : ℕ) (choices : List ℕ) (d e : Standing) (s : Program) (mode : Mode) (ls : List leaf.Leaf) (h : Going fuel choices d [] e) → h.rest ≡ n → AllByRecursion (HasWitness s mode (kept e.trail) n e.world) ls
+    → map (witness_text (kept e.trail) n e.world) ls ≡ map (witness_text (kept d.trail) fuel d.world) (map (behind choices) ls)
+each_behind fuel n choices d e s mode [] h left x = refl
+each_behind fuel n choices d e s mode (l ∷ ls) h left x = λ i. text_behind fuel n choices d e s mode l h left x.0 i ∷ each_behind fuel n choices d e s mode ls h left x.1 i
+
+texts_by : (asked : Bool) (fuel n : ℕ) (choices : List ℕ) (d e : Standing) (s : Program) (mode : Mode) (ls : List leaf.Leaf) (h : Going fuel choices d [] e) → h.rest ≡ n → AllByRecursion (HasWitness s mode (kept e.trail) n e.world) ls
+    → witness_texts asked (kept e.trail) n e.world ls ≡ witness_texts asked (kept d.trail) fuel d.world (map (behind choices) ls)
+texts_by false fuel n choices d e s mode ls h left x = refl
+texts_by true fuel n choices d e s mode ls h left x = each_behind fuel n choices d e s mode ls h left x
+
+pub texts_behind : (asked : Bool) (fuel n : ℕ) (choices : List ℕ) (d e : Standing) (s : Program) (mode : Mode) (ls now : List leaf.Leaf) (texts : List (List ℕ)) (h : Going fuel choices d [] e) → h.rest ≡ n → now ≡ map (behind choices) ls
+    → AllByRecursion (HasWitness s mode (kept e.trail) n e.world) ls → texts ≡ witness_texts asked (kept e.trail) n e.world ls → texts ≡ witness_texts asked (kept d.trail) fuel d.world now
+texts_behind asked fuel n choices d e s mode ls now texts h left is x told =
+    told ∙ texts_by asked fuel n choices d e s mode ls h left x ∙ ap (witness_texts asked (kept d.trail) fuel d.world) (sym is)
 
 forgotten_on : (fuel : ℕ) (choices : List ℕ) (d e f : Standing) → Going fuel choices d [] e → f.trail ≡ forgotten e.trail → f.world ≡ e.world → kept f.trail ≡ kept e.trail → IsReached f → Going fuel choices d [] f
 forgotten_on fuel choices d e f h trail world same reached =

@@ -1,7 +1,6 @@
 -- The pieces of a walk: one choice more, all of them joined, and how many there are.
-use Rattle.std.proofs.Common.{◌≡◌, ℕ, zero, suc, ◌<◌, ◌≤◌, ◌+◌, ◌-◌, nat_lt, Bool, true, false, ◌||◌, List, [], ◌∷◌, ◌++◌, length, take, drop, map, slice_get, Option, Some, None, IsSome, refl, sym, ap, ◌∙◌, arith, add-one, append_assoc, append-nil}
+use Rattle.std.proofs.Common.{◌≡◌, ℕ, zero, suc, ◌<◌, ◌≤◌, ◌+◌, ◌-◌, nat_lt, Bool, true, false, ◌||◌, if◌then◌else◌, List, [], ◌∷◌, ◌++◌, length, take, drop, map, slice_get, Option, Some, None, IsSome, refl, sym, ap, ◌∙◌, arith, add-one, append_assoc, append-nil}
 use Rattle.std.specs.List.{AllByRecursion, flat_map, list_any, range_with_len}
-use Rattle.std.proofs.lemmas.Bool.Decides.{nat_tests}
 use Rattle.std.proofs.lemmas.List.{length-append, length-map, take_all}
 use Rattle.std.proofs.lemmas.Grind.{flat_map-append}
 use Rattle.std.proofs.lemmas.List.Folds.{flat_map-map}
@@ -13,11 +12,13 @@ use Rattle.mpd_model.specs.World.{World}
 use Rattle.mpd_model.specs.Next.{next}
 use Rattle.mpd_model.specs.Decisions.{decision, CanFollow}
 use Rattle.mpd_explore.specs.declared.report.Leaf as leaf
+use Rattle.mpd_explore.specs.declared.report.Limits.{Limits}
 use Rattle.mpd_explore.specs.Walk.{Run, stepped, chosen, runs_of, branches, followed, walk}
 use Rattle.mpd_explore.specs.Search.{AllEnabled}
-use Rattle.mpd_explore.specs.Report.{shown}
+use Rattle.mpd_explore.specs.Report.{shown, up_to_bad, ended_by, listed, left_out}
 use Rattle.mpd_explore.proofs.RunLemmas.{walk_is}
 use Rattle.mpd_explore.proofs.WitnessLemmas.{AllFollow}
+use Rattle.mpd_explore.proofs.ListedLemmas.{neither, not_less, up_few, up_whole, listed_few, listed_whole, ended_twice}
 use Rattle.mpd_pieces.specs.Pieces.{led_by, branched, cut_by, pieces, numbered, walk_at, InState, ByCandidate, BeginsSo, Reaches, part, split_report, split_more}
 use Rattle.mpd_pieces.specs.Along.{counted, longer, Adds, choices_of}
 use Rattle.mpd_pieces.specs.declared.split.Piece.{Piece}
@@ -302,39 +303,86 @@ or_nothing : (b : Bool) → (b || false) ≡ b
 or_nothing true = refl
 or_nothing false = refl
 
-whole_report : (runs fuel : ℕ) (w : World) → split_report 0 runs fuel w ≡ take runs (map shown (walk fuel w))
-whole_report runs fuel w = ap (flat_map (λ cs. part runs fuel cs w)) (pieces_none fuel w) ∙ one_list (λ cs. part runs fuel cs w) ∙ ap (λ rs. take runs (map shown rs)) (walk_whole fuel w)
+pub if_same : (b x y u v : Bool) → x ≡ u → (b ≡ false → y ≡ v) → (if b then x else y) ≡ (if b then u else v)
+if_same true x y u v e f = e
+if_same false x y u v e f = f refl
 
-whole_more : (runs fuel : ℕ) (w : World) → split_more 0 runs fuel w ≡ nat_lt runs (length (walk fuel w))
-whole_more runs fuel w = ap (list_any (λ cs. nat_lt runs (length (walk_at fuel cs w)))) (pieces_none fuel w) ∙ or_nothing (nat_lt runs (length (walk_at fuel [] w))) ∙ ap (λ rs. nat_lt runs (length rs)) (walk_whole fuel w)
+whole_report : (l : Limits) (w : World) → split_report 0 l w ≡ listed l (map shown (walk l.fuel w))
+whole_report l w =
+    ap (λ cs. ended_by l.until_bad (flat_map (λ x. part l x w) cs)) (pieces_none l.fuel w)
+    ∙ ap (ended_by l.until_bad) (one_list (λ x. part l x w))
+    ∙ ended_twice l.until_bad (take l.runs (map shown (walk_at l.fuel [] w)))
+    ∙ ap (λ rs. listed l (map shown rs)) (walk_whole l.fuel w)
 
-pub no_choice : (runs fuel : ℕ) (w : World) → (split_report 0 runs fuel w ≡ take runs (map shown (walk fuel w))) × (split_more 0 runs fuel w ≡ nat_lt runs (length (walk fuel w)))
-no_choice runs fuel w = (whole_report runs fuel w, whole_more runs fuel w)
+whole_more : (l : Limits) (w : World) → split_more 0 l w ≡ left_out l (map shown (walk l.fuel w))
+whole_more l w =
+    let long : length (walk l.fuel w) ≡ length (map shown (walk l.fuel w)) = sym (length-map (walk l.fuel w) shown) in
+    let any : list_any (λ cs. nat_lt l.runs (length (walk_at l.fuel cs w))) (pieces 0 l.fuel w) ≡ nat_lt l.runs (length (map shown (walk l.fuel w))) =
+    ap (list_any (λ cs. nat_lt l.runs (length (walk_at l.fuel cs w)))) (pieces_none l.fuel w) ∙ or_nothing (nat_lt l.runs (length (walk_at l.fuel [] w))) ∙ ap (λ rs. nat_lt l.runs (length rs)) (walk_whole l.fuel w) ∙ ap (nat_lt l.runs) long in
+    if_same l.until_bad _ _ _ _ (ap (λ ls. nat_lt (length ls) (length (walk l.fuel w))) (whole_report l w) ∙ ap (nat_lt (length (listed l (map shown (walk l.fuel w))))) long) (λ h. any)
+
+pub no_choice : (l : Limits) (w : World) → (split_report 0 l w ≡ listed l (map shown (walk l.fuel w))) × (split_more 0 l w ≡ left_out l (map shown (walk l.fuel w)))
+no_choice l w = (whole_report l w, whole_more l w)
 
 -- ---- no piece has more
-
-pub neither : (a b : Bool) → (a || b) ≡ false → (a ≡ false) × (b ≡ false)
-neither true b h = cc
-neither false b h = (refl, h)
-
-not_less : (m n : ℕ) → nat_lt m n ≡ false → n ≤ m
-not_less m n h = grind (arith, nat_tests)
 
 map_joins : (f : Run → leaf.Leaf) (xs ys : List Run) → map f (xs ++ ys) ≡ map f xs ++ map f ys
 map_joins f [] ys = refl
 map_joins f (x ∷ xs) ys = ap (λ zs. f x ∷ zs) (map_joins f xs ys)
 
-no_more_of : (runs : ℕ) (of : List ℕ → List Run) (xs : List (List ℕ)) → list_any (λ cs. nat_lt runs (length (of cs))) xs ≡ false → flat_map (λ cs. take runs (map shown (of cs))) xs ≡ map shown (flat_map of xs)
-no_more_of runs of [] h = refl
-no_more_of runs of (x ∷ xs) h =
+joined_few : (l : Limits) (of : List ℕ → List Run) (xs : List (List ℕ)) → length (flat_map (λ cs. listed l (map shown (of cs))) xs) ≤ length (flat_map of xs)
+joined_few l of [] = omega arith
+joined_few l of (x ∷ xs) =
+    omega (arith, length-append (listed l (map shown (of x))) (flat_map (λ cs. listed l (map shown (of cs))) xs), length-append (of x) (flat_map of xs), listed_few l (map shown (of x)), length-map (of x) shown, joined_few l of xs)
+
+-- where as many are listed of all pieces, all are
+joined_whole : (l : Limits) (of : List ℕ → List Run) (xs : List (List ℕ)) → length (flat_map of xs) ≤ length (flat_map (λ cs. listed l (map shown (of cs))) xs) → flat_map (λ cs. listed l (map shown (of cs))) xs ≡ map shown (flat_map of xs)
+joined_whole l of [] h = refl
+joined_whole l of (x ∷ xs) h =
+    let own : List leaf.Leaf = listed l (map shown (of x)) in
+    let rest : List leaf.Leaf = flat_map (λ cs. listed l (map shown (of cs))) xs in
+    let all : length (of x) + length (flat_map of xs) ≤ length own + length rest = omega (arith, h, length-append own rest, length-append (of x) (flat_map of xs)) in
+    let long : length (map shown (of x)) ≡ length (of x) = length-map (of x) shown in
+    let few : length own ≤ length (map shown (of x)) = listed_few l (map shown (of x)) in
+    let others : length rest ≤ length (flat_map of xs) = joined_few l of xs in
+    ap (λ ls. ls ++ rest) (listed_whole l (map shown (of x)) (omega (arith, all, long, few, others)))
+    ∙ ap (λ ls. map shown (of x) ++ ls) (joined_whole l of xs (omega (arith, all, long, few, others)))
+    ∙ sym (map_joins shown (of x) (flat_map of xs))
+
+any_same : (f g : List ℕ → Bool) (xs : List (List ℕ)) → ((x : List ℕ) → f x ≡ g x) → list_any f xs ≡ list_any g xs
+any_same f g [] h = refl
+any_same f g (x ∷ xs) h = ap (λ b. b || list_any f xs) (h x) ∙ ap (λ b. g x || b) (any_same f g xs h)
+
+each_taken : (runs : ℕ) (of : List ℕ → List Run) (xs : List (List ℕ)) → list_any (λ cs. nat_lt runs (length (of cs))) xs ≡ false → flat_map (λ cs. take runs (map shown (of cs))) xs ≡ map shown (flat_map of xs)
+each_taken runs of [] h = refl
+each_taken runs of (x ∷ xs) h =
     let both = neither (nat_lt runs (length (of x))) (list_any (λ cs. nat_lt runs (length (of cs))) xs) h in
     let few : length (map shown (of x)) ≤ runs = omega (arith, length-map (of x) shown, not_less runs (length (of x)) both.0) in
     ap (λ ls. ls ++ flat_map (λ cs. take runs (map shown (of cs))) xs) (take_all runs (map shown (of x)) few)
-    ∙ ap (λ ls. map shown (of x) ++ ls) (no_more_of runs of xs both.1)
+    ∙ ap (λ ls. map shown (of x) ++ ls) (each_taken runs of xs both.1)
     ∙ sym (map_joins shown (of x) (flat_map of xs))
 
-pub no_more : (k runs fuel : ℕ) (w : World) → split_more k runs fuel w ≡ false → split_report k runs fuel w ≡ map shown (walk fuel w)
-no_more k runs fuel w h = no_more_of runs (λ cs. walk_at fuel cs w) (pieces k fuel w) h ∙ ap (map shown) (pieces_join k fuel w)
+up_joined : (l : Limits) (of : List ℕ → List Run) (xs : List (List ℕ)) → nat_lt (length (up_to_bad (flat_map (λ cs. listed l (map shown (of cs))) xs))) (length (flat_map of xs)) ≡ false
+    → up_to_bad (flat_map (λ cs. listed l (map shown (of cs))) xs) ≡ map shown (flat_map of xs)
+up_joined l of xs h =
+    let all : List leaf.Leaf = flat_map (λ cs. listed l (map shown (of cs))) xs in
+    let many : length (flat_map of xs) ≤ length (up_to_bad all) = not_less (length (up_to_bad all)) (length (flat_map of xs)) h in
+    let few : length (up_to_bad all) ≤ length all = up_few all in
+    let same : all ≡ map shown (flat_map of xs) = joined_whole l of xs (omega (arith, many, few)) in
+    up_whole all (omega (arith, many, joined_few l of xs)) ∙ same
+
+no_more_by : (b : Bool) (runs fuel : ℕ) (witnesses : Bool) (of : List ℕ → List Run) (xs : List (List ℕ))
+    → (if b then nat_lt (length (ended_by b (flat_map (λ cs. ended_by b (take runs (map shown (of cs)))) xs))) (length (flat_map of xs)) else list_any (λ cs. nat_lt runs (length (of cs))) xs) ≡ false
+    → ended_by b (flat_map (λ cs. ended_by b (take runs (map shown (of cs)))) xs) ≡ map shown (flat_map of xs)
+no_more_by true runs fuel witnesses of xs h = up_joined (record { runs = runs; fuel = fuel; witnesses = witnesses; until_bad = true }) of xs h
+no_more_by false runs fuel witnesses of xs h = each_taken runs of xs h
+
+pub no_more : (k : ℕ) (l : Limits) (w : World) → split_more k l w ≡ false → split_report k l w ≡ map shown (walk l.fuel w)
+no_more k l w h =
+    let joined : length (walk l.fuel w) ≡ length (flat_map (λ cs. walk_at l.fuel cs w) (pieces k l.fuel w)) = sym (ap length (pieces_join k l.fuel w)) in
+    let more : (if l.until_bad then nat_lt (length (split_report k l w)) (length (flat_map (λ cs. walk_at l.fuel cs w) (pieces k l.fuel w))) else list_any (λ cs. nat_lt l.runs (length (walk_at l.fuel cs w))) (pieces k l.fuel w)) ≡ false =
+    sym (ap (λ n. if l.until_bad then nat_lt (length (split_report k l w)) n else list_any (λ cs. nat_lt l.runs (length (walk_at l.fuel cs w))) (pieces k l.fuel w)) joined) ∙ h in
+    no_more_by l.until_bad l.runs l.fuel l.witnesses (λ cs. walk_at l.fuel cs w) (pieces k l.fuel w) more ∙ ap (map shown) (pieces_join k l.fuel w)
 
 -- ---- the pieces of one choice
 

@@ -1,45 +1,222 @@
--- The parts of some pieces, joined.
-use Rattle.std.proofs.Common.{◌≡◌, ℕ, ◌<◌, ◌≤◌, ◌+◌, nat_lt, Bool, true, false, ◌||◌, List, [], ◌∷◌, ◌++◌, length, take, get_or, refl, sym, ap, ◌∙◌, append-nil}
-use Rattle.std.specs.List.{flat_map, list_any}
-use Rattle.std.proofs.lemmas.List.{take_all}
+-- The parts of some pieces, joined, and what a report is that ends with the first bad leaf.
+use Rattle.std.proofs.Common.{◌≡◌, ℕ, zero, suc, ◌<◌, ◌≤◌, ◌+◌, nat_lt, Bool, true, false, ◌||◌, ◌&&◌, if◌then◌else◌, List, [], ◌∷◌, ◌++◌, length, take, drop, map, get_or, slice_get, Option, Some, None, refl, sym, ap, ◌∙◌, arith, append-nil}
+use Rattle.std.specs.List.{AllByRecursion, flat_map, list_any}
+use Rattle.std.proofs.lemmas.Bool.Decides.{nat_tests}
+use Rattle.std.proofs.lemmas.List.{length-append, length-map, length-drop, take_all}
 use Rattle.std.proofs.lemmas.List.Folds.{flat_map-map, list_any-append}
 use Rattle.std.proofs.lemmas.Grind.{flat_map-append}
+use Rattle.mpd_model.specs.declared.step.Step.{Step}
+use Rattle.mpd_model.specs.declared.decision.Decision.{Decision}
+use Rattle.mpd_model.specs.declared.decision.Decision.TheVariants.{Forced, Choice, Leaf}
 use Rattle.mpd_model.specs.World.{World}
+use Rattle.mpd_model.specs.Next.{next}
+use Rattle.mpd_model.specs.Decisions.{decision}
 use Rattle.mpd_explore.specs.declared.report.Leaf as leaf
+use Rattle.mpd_explore.specs.declared.report.Limits.{Limits}
+use Rattle.mpd_explore.specs.Walk.{Run, stepped, chosen, runs_of, walk}
+use Rattle.mpd_explore.specs.Report.{shown, any_bad, up_to_bad, ended_by}
+use Rattle.mpd_explore.specs.WitnessTexts.{witness_texts}
+use Rattle.mpd_explore.proofs.RunLemmas.{walk_some}
+use Rattle.mpd_explore.proofs.WitnessLemmas.{AllFollow}
+use Rattle.mpd_explore.proofs.ListedLemmas.{is_less, is_not_less, not_less, not_both, both_true, bad_behind, up_behind, up_none, up_has, listed_up, listed_few, ended_same}
+use Rattle.mpd_explore.proofs.GatherLemmas.{texts_join}
 use Rattle.mpd_pieces.specs.declared.split.Piece.{Piece}
-use Rattle.mpd_pieces.specs.Pieces.{pieces, numbered, walk_at, part, split_report, split_more}
-use Rattle.mpd_pieces.specs.Along.{choices_of, parts, has_more}
+use Rattle.mpd_pieces.specs.Pieces.{pieces, numbered, runs_by, beginning, walk_at, InState, ByCandidate, BeginsSo, Reaches, part, part_left, split_report, split_more}
+use Rattle.mpd_pieces.specs.Along.{choices_of, parts, has_more, walks, report_of, more_of}
+use Rattle.mpd_pieces.proofs.PieceLemmas.{if_same, pieces_join}
 use Rattle.mpd_pieces.proofs.SplitLemmas.{take_next, choices_are}
 
-pub parts_next : (runs fuel : ℕ) (w : World) (ps : List Piece) (i : ℕ) (p : Piece) (cs : List ℕ) (old new : List leaf.Leaf) → i < length ps → p ≡ get_or ps i p → cs ≡ p.choices → old ≡ parts runs fuel w (take i ps) → new ≡ old ++ part runs fuel cs w → new ≡ parts runs fuel w (take (i + 1) ps)
-parts_next runs fuel w ps i p cs old new within read is before added =
-    added ∙ ap (λ ls. ls ++ part runs fuel cs w) before ∙ ap (λ x. parts runs fuel w (take i ps) ++ part runs fuel x w) is
-    ∙ ap (λ ls. parts runs fuel w (take i ps) ++ ls) (sym (append-nil (part runs fuel p.choices w)))
-    ∙ sym (ap (parts runs fuel w) (take_next ps i p within read) ∙ flat_map-append (λ (q : Piece). part runs fuel q.choices w) (take i ps) (p ∷ []))
+-- ---- one piece more
+
+pub parts_next : (l : Limits) (w : World) (ps : List Piece) (i : ℕ) (p : Piece) (old new : List leaf.Leaf) → i < length ps → p ≡ get_or ps i p → old ≡ parts l w (take i ps) → new ≡ old ++ part l p.choices w → new ≡ parts l w (take (i + 1) ps)
+parts_next l w ps i p old new within read before added =
+    added ∙ ap (λ ls. ls ++ part l p.choices w) before
+    ∙ ap (λ ls. parts l w (take i ps) ++ ls) (sym (append-nil (part l p.choices w)))
+    ∙ sym (ap (parts l w) (take_next ps i p within read) ∙ flat_map-append (λ (q : Piece). part l q.choices w) (take i ps) (p ∷ []))
 
 or_nothing : (a b : Bool) → (a || (b || false)) ≡ (a || b)
 or_nothing true b = refl
 or_nothing false true = refl
 or_nothing false false = refl
 
-pub more_next : (runs fuel : ℕ) (w : World) (ps : List Piece) (i : ℕ) (p : Piece) (cs : List ℕ) (old new : Bool) → i < length ps → p ≡ get_or ps i p → cs ≡ p.choices → old ≡ has_more runs fuel w (take i ps) → new ≡ (old || nat_lt runs (length (walk_at fuel cs w))) → new ≡ has_more runs fuel w (take (i + 1) ps)
-more_next runs fuel w ps i p cs old new within read is before added =
-    let test : Piece → Bool = λ q. nat_lt runs (length (walk_at fuel q.choices w)) in
-    added ∙ ap (λ b. b || nat_lt runs (length (walk_at fuel cs w))) before ∙ ap (λ x. has_more runs fuel w (take i ps) || nat_lt runs (length (walk_at fuel x w))) is
-    ∙ sym (ap (has_more runs fuel w) (take_next ps i p within read) ∙ list_any-append test (take i ps) (p ∷ []) ∙ or_nothing (has_more runs fuel w (take i ps)) (test p))
+pub more_next : (l : Limits) (w : World) (ps : List Piece) (i : ℕ) (p : Piece) (old new : Bool) → i < length ps → p ≡ get_or ps i p → old ≡ has_more l w (take i ps) → new ≡ (old || part_left l p.choices w) → new ≡ has_more l w (take (i + 1) ps)
+more_next l w ps i p old new within read before added =
+    let test : Piece → Bool = λ q. part_left l q.choices w in
+    added ∙ ap (λ b. b || part_left l p.choices w) before
+    ∙ sym (ap (has_more l w) (take_next ps i p within read) ∙ list_any-append test (take i ps) (p ∷ []) ∙ or_nothing (has_more l w (take i ps)) (test p))
 
-any_choices : (test : List ℕ → Bool) (ps : List Piece) → list_any (λ (p : Piece). test p.choices) ps ≡ list_any test (choices_of ps)
-any_choices test [] = refl
-any_choices test (p ∷ ps) = ap (λ b. test p.choices || b) (any_choices test ps)
+pub texts_next : (asked : Bool) (path : List Step) (n : ℕ) (w : World) (old own new : List leaf.Leaf) (texts now : List (List ℕ)) → new ≡ old ++ own → texts ≡ witness_texts asked path n w old → now ≡ texts ++ witness_texts asked path n w own → now ≡ witness_texts asked path n w new
+texts_next asked path n w old own new texts now added before told =
+    told ∙ ap (λ ts. ts ++ witness_texts asked path n w own) before ∙ sym (ap (witness_texts asked path n w) added ∙ texts_join asked path n w old own)
 
-pub all_parts : (runs fuel : ℕ) (w : World) (ps : List Piece) (i : ℕ) (ls : List leaf.Leaf) → length ps ≤ i → ls ≡ parts runs fuel w (take i ps) → ls ≡ parts runs fuel w ps
-all_parts runs fuel w ps i ls h is = is ∙ ap (parts runs fuel w) (take_all i ps h)
+no_texts : (asked : Bool) (path : List Step) (n : ℕ) (w : World) → [] ≡ witness_texts asked path n w []
+no_texts false path n w = refl
+no_texts true path n w = refl
 
-pub all_more : (runs fuel : ℕ) (w : World) (ps : List Piece) (i : ℕ) (b : Bool) → length ps ≤ i → b ≡ has_more runs fuel w (take i ps) → b ≡ has_more runs fuel w ps
-all_more runs fuel w ps i b h is = is ∙ ap (has_more runs fuel w) (take_all i ps h)
+pub texts_begun : (asked : Bool) (path : List Step) (n : ℕ) (w : World) (old : List leaf.Leaf) (texts : List (List ℕ)) → old ≡ [] → texts ≡ [] → texts ≡ witness_texts asked path n w old
+texts_begun asked path n w old texts none empty = empty ∙ no_texts asked path n w ∙ ap (witness_texts asked path n w) (sym none)
 
-pub parts_are : (k runs fuel : ℕ) (w : World) (ps : List Piece) → ps ≡ numbered 0 (pieces k fuel w) → parts runs fuel w ps ≡ split_report k runs fuel w
-parts_are k runs fuel w ps made = sym (flat_map-map (λ cs. part runs fuel cs w) (λ (p : Piece). p.choices) ps) ∙ ap (flat_map (λ cs. part runs fuel cs w)) (choices_are fuel k w ps made)
+pub good_next : (u last : Bool) (old own new : List leaf.Leaf) → new ≡ old ++ own → last ≡ (u && any_bad own) → last ≡ false → (u ≡ true → any_bad old ≡ false) → u ≡ true → any_bad new ≡ false
+good_next u last old own new added is off good until = ap any_bad added ∙ bad_behind old own (good until) ∙ not_both u (any_bad own) (sym is ∙ off) until
 
-pub more_is : (k runs fuel : ℕ) (w : World) (ps : List Piece) → ps ≡ numbered 0 (pieces k fuel w) → has_more runs fuel w ps ≡ split_more k runs fuel w
-more_is k runs fuel w ps made = any_choices (λ cs. nat_lt runs (length (walk_at fuel cs w))) ps ∙ ap (list_any (λ cs. nat_lt runs (length (walk_at fuel cs w)))) (choices_are fuel k w ps made)
+-- ---- each piece has a run
+
+some_runs : (runs : World → List Run) (P : World → Type 0) (o : Option World) → ((v : World) → P v → 0 < length (runs v)) → InState P o → 0 < length (runs_of runs o)
+some_runs runs P None all h = absurd h
+some_runs runs P (Some v) all h = all v h
+
+some_candidate : (runs : World → List Run) (P : World → Type 0) (w : World) (c : ℕ) (o : Option Step) → ((v : World) → P v → 0 < length (runs v)) → ByCandidate P w o → 0 < length (runs_by runs w c o)
+some_candidate runs P w c None all h = absurd h
+some_candidate runs P w c (Some a) all h = omega (arith, length-map (runs_of runs (next w a)) (chosen c a), some_runs runs P (next w a) all h)
+
+some_beginning : (runs : List ℕ → World → List Run) (reaches : List ℕ → World → Type 0) (w : World) (c : ℕ) (cs : List ℕ) (d : Decision) → ((xs : List ℕ) (v : World) → reaches xs v → 0 < length (runs xs v)) → BeginsSo reaches w c cs d → 0 < length (beginning runs w c cs d)
+some_beginning runs reaches w c cs (Forced a) all h = omega (arith, length-map (runs_of (runs (c ∷ cs)) (next w a)) (stepped a), some_runs (runs (c ∷ cs)) (reaches (c ∷ cs)) (next w a) (all (c ∷ cs)) h)
+some_beginning runs reaches w c cs (Choice candidates) all h = some_candidate (runs cs) (reaches cs) w c (slice_get candidates c) (all cs) h
+some_beginning runs reaches w c cs (Leaf o) all h = absurd h
+
+reached_some : (n : ℕ) (cs : List ℕ) (w : World) → AllFollow → Reaches n cs w → 0 < length (walk_at n cs w)
+unfolding walk_at Reaches
+reached_some zero [] w law h = walk_some zero w law
+reached_some (suc n) [] w law h = walk_some (suc n) w law
+reached_some zero (c ∷ cs) w law h = absurd h
+reached_some (suc n) (c ∷ cs) w law h = some_beginning (walk_at n) (Reaches n) w c cs (decision w) (λ xs v k. reached_some n xs v law k) h
+
+abbrev AllSome : Limits → World → List Piece → Type 0
+AllSome l w ps = AllByRecursion (λ (p : Piece). 0 < length (walk_at l.fuel p.choices w)) ps
+
+all_some : (l : Limits) (w : World) (ps : List Piece) → AllFollow → AllByRecursion (λ cs. Reaches l.fuel cs w) (choices_of ps) → AllSome l w ps
+all_some l w [] law h = tt
+all_some l w (p ∷ ps) law h = (reached_some l.fuel p.choices w law h.0, all_some l w ps law h.1)
+
+some_behind : (l : Limits) (w : World) (n : ℕ) (ps : List Piece) → AllSome l w ps → AllSome l w (drop n ps)
+some_behind l w zero ps h = h
+some_behind l w (suc n) [] h = tt
+some_behind l w (suc n) (p ∷ ps) h = some_behind l w n ps h.1
+
+-- ---- whether there is more, by numbers
+
+less_of : (m n : ℕ) → nat_lt m n ≡ true → m < n
+less_of m n h = grind (arith, nat_tests)
+
+less_case : (r : Bool) (a b c d : ℕ) → nat_lt a b ≡ r → (a < b → c < d) → (b ≤ a → d ≤ c) → r ≡ nat_lt c d
+less_case true a b c d e f g = sym (is_less c d _ refl (f (less_of a b e)))
+less_case false a b c d e f g = sym (is_not_less c d (g (not_less a b e)))
+
+less_same : (a b c d : ℕ) → (a < b → c < d) → (b ≤ a → d ≤ c) → nat_lt a b ≡ nat_lt c d
+less_same a b c d f g = less_case (nat_lt a b) a b c d refl f g
+
+sum_case : (r : Bool) (a b c d : ℕ) → nat_lt a b ≡ r → a ≤ b → c ≤ d → (r || nat_lt c d) ≡ nat_lt (a + c) (b + d)
+sum_case true a b c d e h k = sym (is_less (a + c) (b + d) _ refl (omega (arith, less_of a b e, h, k)))
+sum_case false a b c d e h k = let same : b ≤ a = not_less a b e in less_same c d (a + c) (b + d) (λ x. omega arith) (λ x. omega arith)
+
+or_assoc : (a b c : Bool) → ((a || b) || c) ≡ (a || (b || c))
+or_assoc true b c = refl
+or_assoc false b c = refl
+
+few_joined : (l : Limits) (w : World) (front back : List Piece) → length (parts l w front) ≤ length (walks l w (front ++ back))
+few_joined l w [] back = omega arith
+few_joined l w (p ∷ front) back =
+    omega (arith, length-append (part l p.choices w) (parts l w front), length-append (walk_at l.fuel p.choices w) (walks l w (front ++ back)), listed_few l (map shown (walk_at l.fuel p.choices w)), length-map (walk_at l.fuel p.choices w) shown, few_joined l w front back)
+
+left_is : (l : Limits) (w : World) (cs : List ℕ) → l.until_bad ≡ true → part_left l cs w ≡ nat_lt (length (part l cs w)) (length (walk_at l.fuel cs w))
+left_is l w cs until =
+    ap (λ b. if b then nat_lt (length (part l cs w)) (length (map shown (walk_at l.fuel cs w))) else nat_lt l.runs (length (map shown (walk_at l.fuel cs w)))) until
+    ∙ ap (nat_lt (length (part l cs w))) (length-map (walk_at l.fuel cs w) shown)
+
+none_joined : (l : Limits) (w : World) (back : List Piece) → AllSome l w back → nat_lt 0 (length back) ≡ nat_lt 0 (length (walks l w back))
+none_joined l w [] some = refl
+none_joined l w (p ∷ back) some =
+    less_same 0 (length (p ∷ back)) 0 (length (walks l w (p ∷ back))) (λ h. omega (arith, length-append (walk_at l.fuel p.choices w) (walks l w back), some.0)) (λ h. absurd (omega (arith, h)))
+
+-- one of the pieces in front has more, or some are behind
+more_joined : (l : Limits) (w : World) (front back : List Piece) → l.until_bad ≡ true → AllSome l w back → (has_more l w front || nat_lt 0 (length back)) ≡ nat_lt (length (parts l w front)) (length (walks l w (front ++ back)))
+more_joined l w [] back until some = none_joined l w back some
+more_joined l w (p ∷ front) back until some =
+    let a : ℕ = length (part l p.choices w) in
+    let b : ℕ = length (walk_at l.fuel p.choices w) in
+    let c : ℕ = length (parts l w front) in
+    let d : ℕ = length (walks l w (front ++ back)) in
+    let few : a ≤ b = omega (arith, listed_few l (map shown (walk_at l.fuel p.choices w)), length-map (walk_at l.fuel p.choices w) shown) in
+    or_assoc (part_left l p.choices w) (has_more l w front) (nat_lt 0 (length back))
+    ∙ ap (λ x. x || (has_more l w front || nat_lt 0 (length back))) (left_is l w p.choices until)
+    ∙ ap (λ x. nat_lt a b || x) (more_joined l w front back until some)
+    ∙ sum_case (nat_lt a b) a b c d refl few (few_joined l w front back)
+    ∙ (λ i. nat_lt (sym (length-append (part l p.choices w) (parts l w front)) i) (sym (length-append (walk_at l.fuel p.choices w) (walks l w (front ++ back))) i))
+
+-- ---- all pieces are joined
+
+if_is : (b x y r : Bool) → (b ≡ true → r ≡ x) → (b ≡ false → r ≡ y) → r ≡ (if b then x else y)
+if_is true x y r f g = f refl
+if_is false x y r f g = g refl
+
+or_none : (b : Bool) → b ≡ (b || false)
+or_none true = refl
+or_none false = refl
+
+pub all_parts : (l : Limits) (w : World) (ps : List Piece) (i : ℕ) (ls : List leaf.Leaf) → length ps ≤ i → ls ≡ parts l w (take i ps) → (l.until_bad ≡ true → any_bad ls ≡ false) → ls ≡ report_of l w ps
+all_parts l w ps i ls long is good =
+    let whole : ls ≡ parts l w ps = is ∙ ap (parts l w) (take_all i ps long) in
+    whole ∙ sym (ended_same l.until_bad (parts l w ps) (λ h. up_none (parts l w ps) (ap any_bad (sym whole) ∙ good h)))
+
+pub all_more : (l : Limits) (w : World) (ps : List Piece) (i : ℕ) (ls : List leaf.Leaf) (b : Bool) → length ps ≤ i → ls ≡ parts l w (take i ps) → (l.until_bad ≡ true → any_bad ls ≡ false) → b ≡ has_more l w (take i ps) → b ≡ more_of l w ps
+all_more l w ps i ls b long is good more =
+    let whole : ls ≡ parts l w ps = is ∙ ap (parts l w) (take_all i ps long) in
+    let report : parts l w ps ≡ report_of l w ps = sym whole ∙ all_parts l w ps i ls long is good in
+    let all : b ≡ has_more l w ps = more ∙ ap (has_more l w) (take_all i ps long) in
+    if_is l.until_bad (nat_lt (length (report_of l w ps)) (length (walks l w ps))) (has_more l w ps) b
+    (λ until. all ∙ or_none (has_more l w ps) ∙ more_joined l w ps [] until tt
+    ∙ (λ i. nat_lt (length (report i)) (length (walks l w (append-nil ps i)))))
+    (λ until. all)
+
+-- ---- a report ends behind a piece with a bad leaf
+
+take_drop : (n : ℕ) (ps : List Piece) → take n ps ++ drop n ps ≡ ps
+take_drop zero ps = refl
+take_drop (suc n) [] = refl
+take_drop (suc n) (p ∷ ps) = ap (λ qs. p ∷ qs) (take_drop n ps)
+
+ended_parts : (l : Limits) (w : World) (ps : List Piece) (n : ℕ) (ls : List leaf.Leaf) → l.until_bad ≡ true → ls ≡ parts l w (take n ps) → any_bad ls ≡ true → up_to_bad ls ≡ ls → ls ≡ report_of l w ps
+ended_parts l w ps n ls until is bad up =
+    let split : parts l w ps ≡ ls ++ parts l w (drop n ps) =
+    ap (parts l w) (sym (take_drop n ps)) ∙ flat_map-append (λ (q : Piece). part l q.choices w) (take n ps) (drop n ps) ∙ ap (λ xs. xs ++ parts l w (drop n ps)) (sym is) in
+    sym (ap (λ b. ended_by b (parts l w ps)) until ∙ ap up_to_bad split ∙ up_has ls (parts l w (drop n ps)) bad ∙ up)
+
+pub ends_parts : (l : Limits) (w : World) (ps : List Piece) (n : ℕ) (cs : List ℕ) (old ls : List leaf.Leaf) (last : Bool) → ls ≡ parts l w (take n ps) → ls ≡ old ++ part l cs w → (l.until_bad ≡ true → any_bad old ≡ false)
+    → last ≡ (l.until_bad && any_bad (part l cs w)) → last ≡ true → ls ≡ report_of l w ps
+ends_parts l w ps n cs old ls last is added good is_last on =
+    let both = both_true l.until_bad (any_bad (part l cs w)) (sym is_last ∙ on) in
+    ended_parts l w ps n ls both.0 is
+    (ap any_bad added ∙ bad_behind old (part l cs w) (good both.0) ∙ both.1)
+    (ap up_to_bad added ∙ up_behind old (part l cs w) (good both.0) ∙ ap (λ xs. old ++ xs) (listed_up l (map shown (walk_at l.fuel cs w)) both.0) ∙ sym added)
+
+pub ends_more : (l : Limits) (w : World) (ps : List Piece) (n : ℕ) (cs : List ℕ) (old ls : List leaf.Leaf) (last m b : Bool) → AllFollow → AllByRecursion (λ cs. Reaches l.fuel cs w) (choices_of ps) → ls ≡ parts l w (take n ps) → ls ≡ old ++ part l cs w → (l.until_bad ≡ true → any_bad old ≡ false)
+    → last ≡ (l.until_bad && any_bad (part l cs w)) → last ≡ true → m ≡ has_more l w (take n ps) → b ≡ (m || nat_lt n (length ps)) → b ≡ more_of l w ps
+ends_more l w ps n cs old ls last m b law reached is added good is_last on more behind =
+    let both = both_true l.until_bad (any_bad (part l cs w)) (sym is_last ∙ on) in
+    let report : parts l w (take n ps) ≡ report_of l w ps = sym is ∙ ends_parts l w ps n cs old ls last is added good is_last on in
+    let left : nat_lt n (length ps) ≡ nat_lt 0 (length (drop n ps)) = less_same n (length ps) 0 (length (drop n ps)) (λ h. omega (arith, length-drop n ps, h)) (λ h. omega (arith, length-drop n ps, h)) in
+    let some : AllSome l w (drop n ps) = some_behind l w n ps (all_some l w ps law reached) in
+    behind ∙ ap (λ x. x || nat_lt n (length ps)) more ∙ ap (λ x. has_more l w (take n ps) || x) left
+    ∙ more_joined l w (take n ps) (drop n ps) both.0 some
+    ∙ (λ i. nat_lt (length (report i)) (length (walks l w (take_drop n ps i))))
+    ∙ sym (ap (λ x. if x then nat_lt (length (report_of l w ps)) (length (walks l w ps)) else has_more l w ps) both.0)
+
+-- ---- the pieces of a split
+
+any_choices : (l : Limits) (w : World) (ps : List Piece) → l.until_bad ≡ false → has_more l w ps ≡ list_any (λ cs. nat_lt l.runs (length (walk_at l.fuel cs w))) (choices_of ps)
+any_choices l w [] off = refl
+any_choices l w (p ∷ ps) off =
+    let own : part_left l p.choices w ≡ nat_lt l.runs (length (walk_at l.fuel p.choices w)) =
+    ap (λ b. if b then nat_lt (length (part l p.choices w)) (length (map shown (walk_at l.fuel p.choices w))) else nat_lt l.runs (length (map shown (walk_at l.fuel p.choices w)))) off
+    ∙ ap (nat_lt l.runs) (length-map (walk_at l.fuel p.choices w) shown) in
+    ap (λ b. b || has_more l w ps) own ∙ ap (λ b. nat_lt l.runs (length (walk_at l.fuel p.choices w)) || b) (any_choices l w ps off)
+
+pub parts_are : (k : ℕ) (l : Limits) (w : World) (ps : List Piece) → ps ≡ numbered 0 (pieces k l.fuel w) → report_of l w ps ≡ split_report k l w
+parts_are k l w ps made =
+    ap (ended_by l.until_bad) (sym (flat_map-map (λ cs. part l cs w) (λ (p : Piece). p.choices) ps) ∙ ap (flat_map (λ cs. part l cs w)) (choices_are l.fuel k w ps made))
+
+pub more_is : (k : ℕ) (l : Limits) (w : World) (ps : List Piece) → ps ≡ numbered 0 (pieces k l.fuel w) → more_of l w ps ≡ split_more k l w
+more_is k l w ps made =
+    let all : walks l w ps ≡ walk l.fuel w = sym (flat_map-map (λ cs. walk_at l.fuel cs w) (λ (p : Piece). p.choices) ps) ∙ ap (flat_map (λ cs. walk_at l.fuel cs w)) (choices_are l.fuel k w ps made) ∙ pieces_join k l.fuel w in
+    if_same l.until_bad _ _ _ _ (λ i. nat_lt (length (parts_are k l w ps made i)) (length (all i)))
+    (λ off. any_choices l w ps off ∙ ap (list_any (λ cs. nat_lt l.runs (length (walk_at l.fuel cs w)))) (choices_are l.fuel k w ps made))

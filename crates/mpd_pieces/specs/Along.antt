@@ -1,5 +1,5 @@
 -- Where a debugger stands that has gone along some choices, and what a piece becomes by one choice more.
-use Rattle.std.specs.Prelude.{◌≡◌, ℕ, zero, suc, ◌+◌, nat_lt, Bool, List, [], ◌∷◌, ◌++◌, length, map, flat_map, slice_get, Option, Some, None}
+use Rattle.std.specs.Prelude.{◌≡◌, ℕ, zero, suc, ◌+◌, nat_lt, Bool, if◌then◌else◌, List, [], ◌∷◌, ◌++◌, length, map, flat_map, slice_get, Option, Some, None}
 use Rattle.std.specs.List.{list_any, range_with_len}
 use Rattle.std.specs.Option.{option_map}
 use Rattle.mpd_model.specs.declared.step.Step.{Step}
@@ -10,9 +10,11 @@ use Rattle.mpd_model.specs.Next.{next}
 use Rattle.mpd_model.specs.Decisions.{decision}
 use Rattle.mpd_model.specs.Trail.{Standing, kept, IsReached}
 use Rattle.mpd_explore.specs.declared.report.Leaf as leaf
-use Rattle.mpd_explore.specs.Walk.{prefixed, runs_of, run_at}
+use Rattle.mpd_explore.specs.declared.report.Limits.{Limits}
+use Rattle.mpd_explore.specs.Walk.{Run, prefixed, runs_of, run_at}
+use Rattle.mpd_explore.specs.Report.{ended_by}
 use Rattle.mpd_pieces.specs.declared.split.Piece.{Piece}
-use Rattle.mpd_pieces.specs.Pieces.{led_by, pieces, numbered, walk_at, Reaches, part}
+use Rattle.mpd_pieces.specs.Pieces.{led_by, pieces, numbered, walk_at, Reaches, part, part_left}
 
 -- ---- one choice more
 
@@ -86,8 +88,20 @@ choices_of ps = map (λ (p : Piece). p.choices) ps
 
 -- ---- the parts of some pieces
 
-abbrev pub parts : ℕ → ℕ → World → List Piece → List leaf.Leaf
-parts runs fuel w ps = flat_map (λ (p : Piece). part runs fuel p.choices w) ps
+abbrev pub parts : Limits → World → List Piece → List leaf.Leaf
+parts l w ps = flat_map (λ (p : Piece). part l p.choices w) ps
 
-abbrev pub has_more : ℕ → ℕ → World → List Piece → Bool
-has_more runs fuel w ps = list_any (λ (p : Piece). nat_lt runs (length (walk_at fuel p.choices w))) ps
+-- whether one of them has more
+abbrev pub has_more : Limits → World → List Piece → Bool
+has_more l w ps = list_any (λ (p : Piece). part_left l p.choices w) ps
+
+-- all their runs
+abbrev pub walks : Limits → World → List Piece → List Run
+walks l w ps = flat_map (λ (p : Piece). walk_at l.fuel p.choices w) ps
+
+-- the report of these pieces, and whether there are others
+abbrev pub report_of : Limits → World → List Piece → List leaf.Leaf
+report_of l w ps = ended_by l.until_bad (parts l w ps)
+
+abbrev pub more_of : Limits → World → List Piece → Bool
+more_of l w ps = if l.until_bad then nat_lt (length (report_of l w ps)) (length (walks l w ps)) else has_more l w ps

@@ -1,5 +1,5 @@
 -- The walk cut into pieces by the first choices of its runs.
-use Rattle.std.specs.Prelude.{ℕ, zero, suc, nat_lt, Bool, List, [], ◌∷◌, ◌++◌, length, take, map, flat_map, slice_get, Option, Some, None}
+use Rattle.std.specs.Prelude.{ℕ, zero, suc, nat_lt, Bool, if◌then◌else◌, List, [], ◌∷◌, ◌++◌, length, map, flat_map, slice_get, Option, Some, None}
 use Rattle.std.specs.List.{list_any}
 use Rattle.mpd_model.specs.declared.step.Step.{Step}
 use Rattle.mpd_model.specs.declared.decision.Decision.{Decision}
@@ -8,8 +8,9 @@ use Rattle.mpd_model.specs.World.{World}
 use Rattle.mpd_model.specs.Next.{next}
 use Rattle.mpd_model.specs.Decisions.{decision}
 use Rattle.mpd_explore.specs.declared.report.Leaf as leaf
+use Rattle.mpd_explore.specs.declared.report.Limits.{Limits}
 use Rattle.mpd_explore.specs.Walk.{Run, stepped, chosen, runs_of, walk}
-use Rattle.mpd_explore.specs.Report.{shown}
+use Rattle.mpd_explore.specs.Report.{shown, ended_by, listed, left_out}
 use Rattle.mpd_pieces.specs.declared.split.Piece.{Piece}
 
 -- ---- pieces
@@ -84,17 +85,22 @@ Reaches (suc n) (c ∷ cs) w = BeginsSo (Reaches n) w c cs (decision w)
 -- ---- a report by its parts
 
 -- what a report has of the runs that begin with these choices
-abbrev pub part : ℕ → ℕ → List ℕ → World → List leaf.Leaf
-part runs fuel cs w = take runs (map shown (walk_at fuel cs w))
+abbrev pub part : Limits → List ℕ → World → List leaf.Leaf
+part l cs w = listed l (map shown (walk_at l.fuel cs w))
+
+-- whether there are others of these
+abbrev pub part_left : Limits → List ℕ → World → Bool
+part_left l cs w = left_out l (map shown (walk_at l.fuel cs w))
 
 -- a leaf of what is behind some choices, told from where these begin
 abbrev pub behind : List ℕ → leaf.Leaf → leaf.Leaf
 behind choices l = record { choices = choices ++ l.choices; ending = l.ending }
 
--- the parts of all pieces, joined in order
-abbrev pub split_report : ℕ → ℕ → ℕ → World → List leaf.Leaf
-split_report k runs fuel w = flat_map (λ cs. part runs fuel cs w) (pieces k fuel w)
+-- the parts of all pieces, joined in order, and where a list ends with the first bad leaf that up to it
+abbrev pub split_report : ℕ → Limits → World → List leaf.Leaf
+split_report k l w = ended_by l.until_bad (flat_map (λ cs. part l cs w) (pieces k l.fuel w))
 
--- whether some piece has more
-abbrev pub split_more : ℕ → ℕ → ℕ → World → Bool
-split_more k runs fuel w = list_any (λ cs. nat_lt runs (length (walk_at fuel cs w))) (pieces k fuel w)
+-- whether some piece has more; where a list ends with the first bad leaf, whether the walk has
+abbrev pub split_more : ℕ → Limits → World → Bool
+split_more k l w =
+    if l.until_bad then nat_lt (length (split_report k l w)) (length (walk l.fuel w)) else list_any (λ cs. nat_lt l.runs (length (walk_at l.fuel cs w))) (pieces k l.fuel w)

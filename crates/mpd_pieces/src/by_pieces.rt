@@ -1,45 +1,81 @@
 //! A report made piece by piece: what workers that explore pieces come to when their parts are joined in order.
 
-ghost use Rattle.std.specs.Prelude.{◌≡◌, ◌+◌, ◌<◌, ◌≤◌, ◌++◌, ◌||◌, nat_lt, IfOk, OnOk, IsErrOf, length};
+ghost use Rattle.std.specs.Prelude.{◌≡◌, ◌+◌, ◌<◌, ◌≤◌, ◌++◌, ◌||◌, ◌&&◌, nat_lt, map, IfOk, OnOk, IsErrOf, length, string_bytes};
 ghost use Rattle.std.specs.List.{AllByRecursion};
-ghost use Rattle.mpd_model.specs.Trail.{IsReached};
+ghost use Rattle.mpd_model.specs.Trail.{kept, IsReached};
 ghost use Rattle.mpd_trail.specs.Views.{standing_of};
-ghost use Rattle.mpd_pieces.specs.Pieces.{Reaches, pieces, walk_at, part, split_report, split_more};
-ghost use Rattle.mpd_pieces.specs.Along.{choices_of, parts, has_more};
+ghost use Rattle.mpd_explore.specs.Report.{any_bad};
+ghost use Rattle.mpd_explore.specs.WitnessTexts.{witness_texts};
+ghost use Rattle.mpd_pieces.specs.Pieces.{Reaches, pieces, part, part_left, split_report, split_more};
+ghost use Rattle.mpd_pieces.specs.Along.{choices_of, report_of, more_of};
 
 use crate::explore_at::explore_at;
 use crate::split::{PIECES_MAX, Piece, SplitFault, split};
 use mpd_explore::report::{Limits, Report};
 use mpd_explore::watch::Watch;
 use mpd_model::limits::STEPS_MAX;
+use mpd_policy::decide::decisions_can_be_followed;
 use mpd_trail::debugger::Debugger;
 use std::alloc::{AllocError, Global};
 
-/// Explores the runs that begin with some choices, and adds what is found to a report.
+/// Whether a report is to end behind what was found.
+fn ends_with(limits: Limits, found: &Report) -> bool
+    ensures { result ≡ (limits.until_bad && any_bad found.now.leaves.items) }
+{
+    limits.until_bad && found.has_bad()
+}
+
+/// Adds what was found to a report.
+fn join(report: &mut Report, found: Report) -> Result<(), AllocError>
+    ensures leaves { OnOk result (report.new.leaves.items ≡ report.old.leaves.items ++ found.leaves.items) }
+    ensures more { OnOk result (report.new.more ≡ (report.old.more || found.more)) }
+    ensures texts { OnOk result (map string_bytes report.new.witnesses.items ≡ map string_bytes report.old.witnesses.items ++ map string_bytes found.witnesses.items) }
+{
+    let Report {
+        mut leaves,
+        more,
+        mut witnesses,
+    } = found;
+    report.leaves.append(&mut leaves)?;
+    report.witnesses.append(&mut witnesses)?;
+    report.more = report.more || more;
+    Ok(())
+}
+
+/// Explores the runs of a piece, and adds what is found to a report. It answers whether the report ends there.
 fn add_part<W: Watch>(
     alloc: Global,
     debugger: &mut Debugger<'_>,
-    choices: &[usize],
+    piece: &Piece,
     limits: Limits,
     watch: &mut W,
     report: &mut Report,
-) -> Result<(), AllocError>
+) -> Result<bool, AllocError>
     requires clean { length debugger.old.trail.steps ≡ debugger.old.trail.depth }
     requires fits { debugger.old.trail.depth + limits.fuel ≤ STEPS_MAX }
-    requires reaches { Reaches limits.fuel choices.now debugger.old.world }
-    ensures leaves { OnOk result (report.new.leaves.items ≡ report.old.leaves.items ++ part limits.runs limits.fuel choices.now debugger.old.world) }
-    ensures more { OnOk result (report.new.more ≡ (report.old.more || nat_lt limits.runs (length (walk_at limits.fuel choices.now debugger.old.world)))) }
+    requires reaches { Reaches limits.fuel piece.now.choices debugger.old.world }
+    ensures leaves { OnOk result (report.new.leaves.items ≡ report.old.leaves.items ++ part limits piece.now.choices debugger.old.world) }
+    ensures more { OnOk result (report.new.more ≡ (report.old.more || part_left limits piece.now.choices debugger.old.world)) }
+    ensures texts { OnOk result (map string_bytes report.new.witnesses.items ≡ map string_bytes report.old.witnesses.items ++ witness_texts limits.witnesses (kept debugger.old.trail) limits.fuel debugger.old.world (part limits piece.now.choices debugger.old.world)) }
+    ensures last { IfOk result (λ last. last ≡ (limits.until_bad && any_bad (part limits piece.now.choices debugger.old.world))) }
     ensures trail { debugger.new.trail ≡ debugger.old.trail }
     ensures world { debugger.new.world ≡ debugger.old.world }
     ensures reached { IsReached (standing_of debugger.new) }
 {
-    let mut found = explore_at(alloc, debugger, choices, limits, watch)?;
-    report.leaves.append(&mut found.leaves)?;
-    report.more = report.more || found.more;
-    Ok(())
+    let found = explore_at(alloc, debugger, &piece.choices.items, limits, watch)?;
+    let is_last = ends_with(limits, &found);
+    join(report, found)?;
+    Ok(is_last)
 }
 
-/// The parts of some pieces, joined in order, and whether one of them has more. The debugger is left as found.
+/// Whether there is more where a report ends behind so many of some pieces, of which one has more or none.
+pub fn is_more(more: bool, place: usize, count: usize) -> bool
+    ensures { result ≡ (more || nat_lt place count) }
+{
+    more || place < count
+}
+
+/// The report of some pieces: their parts joined in order, and whether there are others. The debugger is left as found.
 fn explore_pieces<W: Watch>(
     alloc: Global,
     debugger: &mut Debugger<'_>,
@@ -50,33 +86,35 @@ fn explore_pieces<W: Watch>(
     requires clean { length debugger.old.trail.steps ≡ debugger.old.trail.depth }
     requires fits { debugger.old.trail.depth + limits.fuel ≤ STEPS_MAX }
     requires reaches { AllByRecursion (λ cs. Reaches limits.fuel cs debugger.old.world) (choices_of pieces.now) }
-    ensures leaves { IfOk result (λ r. r.leaves.items ≡ parts limits.runs limits.fuel debugger.old.world pieces.now) }
-    ensures more { IfOk result (λ r. r.more ≡ has_more limits.runs limits.fuel debugger.old.world pieces.now) }
+    ensures leaves { IfOk result (λ r. r.leaves.items ≡ report_of limits debugger.old.world pieces.now) }
+    ensures more { IfOk result (λ r. r.more ≡ more_of limits debugger.old.world pieces.now) }
+    ensures texts { IfOk result (λ r. map string_bytes r.witnesses.items ≡ witness_texts limits.witnesses (kept debugger.old.trail) limits.fuel debugger.old.world r.leaves.items) }
     ensures trail { debugger.new.trail ≡ debugger.old.trail }
     ensures world { debugger.new.world ≡ debugger.old.world }
     ensures reached { IsReached (standing_of debugger.new) }
 {
+    decisions_can_be_followed();
     let _ = debugger.core();
     let mut report = Report {
         leaves: Vec::new(alloc),
         more: false,
+        witnesses: Vec::new(alloc),
     };
-    for piece in pieces {
-        add_part(
-            alloc,
-            debugger,
-            &piece.choices.items,
-            limits,
-            watch,
-            &mut report,
-        )?;
+    for place in 0..pieces.len() {
+        let is_last = add_part(alloc, debugger, &pieces[place], limits, watch, &mut report)?;
+        if is_last {
+            report.more = is_more(report.more, place + 1, pieces.len());
+            return Ok(report);
+        }
     }
     Ok(report)
 }
 
 /// The parts of all pieces of the runs from here, joined in order, and whether one of them has more (docs/DEFINITIONS.md, "Pieces"):
-/// a part has `runs` leaves at most. It is refused where there are more than 1,024 pieces (31), or for want of memory. No undone step is
-/// kept, and the depth and the fuel are at most 1,000,000 steps together. The debugger is left as found, also where it is refused.
+/// a part has `runs` leaves at most. Where a list ends with the first deadlock or trap, the report does, no piece behind it is explored,
+/// and there is more where some run isn't listed. It is refused where there are more than 1,024 pieces (31), or for want of memory. No
+/// undone step is kept, and the depth and the fuel are at most 1,000,000 steps together. The debugger is left as found, also where it is
+/// refused.
 pub fn explore_by_pieces<W: Watch>(
     alloc: Global,
     debugger: &mut Debugger<'_>,
@@ -86,8 +124,9 @@ pub fn explore_by_pieces<W: Watch>(
 ) -> Result<Report, SplitFault>
     requires clean { length debugger.old.trail.steps ≡ debugger.old.trail.depth }
     requires fits { debugger.old.trail.depth + limits.fuel ≤ STEPS_MAX }
-    ensures leaves { IfOk result (λ r. r.leaves.items ≡ split_report choices limits.runs limits.fuel debugger.old.world) }
-    ensures more { IfOk result (λ r. r.more ≡ split_more choices limits.runs limits.fuel debugger.old.world) }
+    ensures leaves { IfOk result (λ r. r.leaves.items ≡ split_report choices limits debugger.old.world) }
+    ensures more { IfOk result (λ r. r.more ≡ split_more choices limits debugger.old.world) }
+    ensures texts { IfOk result (λ r. map string_bytes r.witnesses.items ≡ witness_texts limits.witnesses (kept debugger.old.trail) limits.fuel debugger.old.world r.leaves.items) }
     ensures few { OnOk result (length (pieces choices limits.fuel debugger.old.world) ≤ PIECES_MAX) }
     ensures many { IsErrOf result SplitFault.TooManyPieces → PIECES_MAX < length (pieces choices limits.fuel debugger.old.world) }
     ensures trail { debugger.new.trail ≡ debugger.old.trail }

@@ -1,11 +1,12 @@
 //! Exploring the runs that begin with some choices.
 
-ghost use Rattle.std.specs.Prelude.{◌≡◌, ◌+◌, ◌<◌, ◌≤◌, ◌⊎◌, nat_lt, map, take, IfOk, OnOk, OnErr, length};
+ghost use Rattle.std.specs.Prelude.{◌≡◌, ◌+◌, ◌<◌, ◌≤◌, ◌⊎◌, map, IfOk, OnOk, OnErr, length, string_bytes};
 ghost use Rattle.std.specs.List.{AllByRecursion};
 ghost use Rattle.mpd_model.specs.Trail.{kept, IsReached};
 ghost use Rattle.mpd_trail.specs.Views.{standing_of};
 ghost use Rattle.mpd_explore.specs.Witness.{HasWitness};
-ghost use Rattle.mpd_pieces.specs.Pieces.{Reaches, walk_at, part, behind};
+ghost use Rattle.mpd_explore.specs.WitnessTexts.{witness_texts};
+ghost use Rattle.mpd_pieces.specs.Pieces.{Reaches, part, part_left, behind};
 ghost use Rattle.mpd_pieces.specs.Along.{Beyond};
 
 use crate::follow::{follow, put_back};
@@ -47,9 +48,10 @@ fn explore_behind<W: Watch>(
 ) -> Result<Report, AllocError>
     requires fits { debugger.old.trail.depth + limits.fuel ≤ STEPS_MAX }
     requires reaches { Reaches limits.fuel choices.now debugger.old.world }
-    ensures leaves { IfOk result (λ r. r.leaves.items ≡ part limits.runs limits.fuel choices.now debugger.old.world) }
-    ensures more { IfOk result (λ r. r.more ≡ nat_lt limits.runs (length (walk_at limits.fuel choices.now debugger.old.world))) }
+    ensures leaves { IfOk result (λ r. r.leaves.items ≡ part limits choices.now debugger.old.world) }
+    ensures more { IfOk result (λ r. r.more ≡ part_left limits choices.now debugger.old.world) }
     ensures witnesses { IfOk result (λ r. AllByRecursion (HasWitness debugger.old.trail.program debugger.old.trail.mode (kept debugger.old.trail) limits.fuel debugger.old.world) r.leaves.items) }
+    ensures texts { IfOk result (λ r. map string_bytes r.witnesses.items ≡ witness_texts limits.witnesses (kept debugger.old.trail) limits.fuel debugger.old.world r.leaves.items) }
     ensures beyond { Beyond (standing_of debugger.old) (standing_of debugger.new) }
     ensures memory { OnErr result ((0 < limits.runs) ⊎ (0 < length choices.now)) }
 {
@@ -60,6 +62,8 @@ fn explore_behind<W: Watch>(
     let rest = Limits {
         runs: limits.runs,
         fuel: limit - debugger.depth(),
+        witnesses: limits.witnesses,
+        until_bad: limits.until_bad,
     };
     let mut report = explore(alloc, debugger, rest, watch)?;
     match put_in_front(alloc, &mut report.leaves, choices) {
@@ -71,9 +75,9 @@ fn explore_behind<W: Watch>(
     }
 }
 
-/// The first leaves of the runs from here that begin with some choices, and whether there are more of these (docs/DEFINITIONS.md,
-/// "Pieces"). Fuel counts from here, and so do the choices of each leaf, which has a run, and a deadlock a witness, as those of `explore`
-/// do. Some run has these choices, as those of each piece of `split` by that fuel; no undone step is kept, and the depth and the fuel
+/// The first leaves of the runs from here that begin with some choices, and whether there are others of these (docs/DEFINITIONS.md,
+/// "Pieces"). Fuel counts from here, and so do the choices and the text of each leaf, which has a run, and a deadlock a witness, as those
+/// of `explore` do. Some run has these choices, as those of each piece of `split` by that fuel; no undone step is kept, and the depth and the fuel
 /// are at most 1,000,000 steps together. The debugger is left as found, also where memory is refused, which is what an `Err` says; that
 /// comes only where a leaf is asked for, or there is a choice. `watch` is told of each leaf as `explore` tells it, counted from 1.
 pub fn explore_at<W: Watch>(
@@ -86,9 +90,10 @@ pub fn explore_at<W: Watch>(
     requires clean { length debugger.old.trail.steps ≡ debugger.old.trail.depth }
     requires fits { debugger.old.trail.depth + limits.fuel ≤ STEPS_MAX }
     requires reaches { Reaches limits.fuel choices.now debugger.old.world }
-    ensures leaves { IfOk result (λ r. r.leaves.items ≡ part limits.runs limits.fuel choices.now debugger.old.world) }
-    ensures more { IfOk result (λ r. r.more ≡ nat_lt limits.runs (length (walk_at limits.fuel choices.now debugger.old.world))) }
+    ensures leaves { IfOk result (λ r. r.leaves.items ≡ part limits choices.now debugger.old.world) }
+    ensures more { IfOk result (λ r. r.more ≡ part_left limits choices.now debugger.old.world) }
     ensures witnesses { IfOk result (λ r. AllByRecursion (HasWitness debugger.old.trail.program debugger.old.trail.mode (kept debugger.old.trail) limits.fuel debugger.old.world) r.leaves.items) }
+    ensures texts { IfOk result (λ r. map string_bytes r.witnesses.items ≡ witness_texts limits.witnesses (kept debugger.old.trail) limits.fuel debugger.old.world r.leaves.items) }
     ensures trail { debugger.new.trail ≡ debugger.old.trail }
     ensures world { debugger.new.world ≡ debugger.old.world }
     ensures reached { IsReached (standing_of debugger.new) }

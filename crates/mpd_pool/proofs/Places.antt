@@ -1,5 +1,5 @@
 -- Reports in the places of their pieces.
-use Rattle.std.proofs.Common.{◌≡◌, ℕ, zero, suc, ◌+◌, ◌<◌, List, [], ◌∷◌, ◌++◌, length, set, get_or, Option, Some, None, Result, Ok, Err, IfSome, IfOk, sym, subst, ap, arith, length-append, ◌∙◌}
+use Rattle.std.proofs.Common.{◌≡◌, ℕ, zero, suc, ◌<◌, List, [], ◌∷◌, ◌++◌, length, set, get_or, Option, Some, None, Result, Ok, Err, IfSome, IfOk, sym, subst, arith}
 use Rattle.mpd_model.specs.Trail.{Standing}
 use Rattle.mpd_explore.specs.declared.report.Limits.{Limits}
 use Rattle.mpd_explore.specs.declared.report.Report.{Report}

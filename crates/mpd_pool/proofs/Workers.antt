@@ -1,23 +1,19 @@
 -- What workers are given, and what they bring.
-use Rattle.std.proofs.Common.{◌≡◌, ℕ, zero, suc, ◌+◌, ◌<◌, List, [], ◌∷◌, ◌++◌, length, take, get_or, All, true, false, Global, refl, sym, subst, ap, arith, length-append, ◌∙◌}
+use Rattle.std.proofs.Common.{◌≡◌, ℕ, List, [], ◌∷◌, ◌++◌, length, get_or, All, Global, sym, subst, ap, arith, length-append, ◌∙◌}
 use Rattle.std.proofs.Math.ListN.{get_or-append}
 use Rattle.std.proofs.Math.Seq.{get_or-append_seam}
 use Rattle.std.proofs.lemmas.List.{take_all}
 use Rattle.std.proofs.lemmas.List.Elements.{All-push}
 use Rattle.atomic_blocks.specs.Lent.{RowsId}
-use Rattle.crossbeam_deque.specs.Handles.{view, IsPassOf}
 use Rattle.mpd_model.specs.World.{World}
-use Rattle.mpd_model.specs.Trail.{Trail, Standing, kept, forgotten}
-use Rattle.mpd_trail.specs.Views.{standing_of}
+use Rattle.mpd_model.specs.Trail.{Trail, Standing, forgotten}
 use Rattle.mpd_explore.specs.declared.report.Limits.{Limits}
 use Rattle.mpd_explore.specs.declared.report.Report.{Report}
 use Rattle.mpd_pieces.specs.declared.split.Piece.{Piece}
 use Rattle.mpd_pool.specs.declared.work.Brought.{Brought}
 use Rattle.mpd_pool.specs.declared.work.Job.{Job}
-use Rattle.mpd_pool.specs.declared.work.Batch.{Batch}
-use Rattle.mpd_pool.specs.Numbers.{hand}
-use Rattle.mpd_pool.specs.Parts.{AtNumber, CanExplore, Filled}
-use Rattle.mpd_pool.specs.Brought.{AllRight, CanStart, IsJob, IsBatch}
+use Rattle.mpd_pool.specs.Parts.{AtNumber, CanExplore}
+use Rattle.mpd_pool.specs.Brought.{AllRight, IsJob}
 
 -- ---- where a debugger stands
 

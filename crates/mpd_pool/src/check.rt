@@ -1,13 +1,14 @@
 //! The runs of a script explored by several workers.
-ghost use Rattle.std.specs.Prelude.{◌≡◌, ◌↔◌, ◌<◌, ◌≤◌, ◌+◌, ◌⊎◌, true, false, [], All, length, IfOk, OnOk, IsErrOf};
+ghost use Rattle.std.specs.Prelude.{◌≡◌, ◌↔◌, ◌<◌, ◌≤◌, ◌+◌, ◌⊎◌, true, false, [], All, length, map, IfOk, OnOk, IsErrOf, string_bytes};
 ghost use Rattle.std.specs.List.{AllByRecursion};
 ghost use Rattle.crossbeam_deque.specs.Handles.{view, IsPassOf, worker_deque, worker_view, stealer_deque};
 ghost use Rattle.mpd_model.specs.Trail.{kept, IsReached};
 ghost use Rattle.mpd_trail.specs.Views.{standing_of};
 ghost use Rattle.mpd_explore.specs.Witness.{HasWitness};
+ghost use Rattle.mpd_explore.specs.WitnessTexts.{witness_texts};
 ghost use Rattle.mpd_pieces.specs.Pieces.{pieces, numbered, split_report, split_more};
 ghost use Rattle.mpd_pool.specs.Numbers.{hand};
-ghost use Rattle.mpd_pool.specs.Parts.{CanBegin, CanExplore, Filled, IsJoined};
+ghost use Rattle.mpd_pool.specs.Parts.{CanBegin, CanExplore, Filled, IsReport};
 ghost use Rattle.mpd_pool.specs.Brought.{AllRight, CanStart, IsJob, IsBatch};
 ghost use Rattle.mpd_pool.specs.Faults.{pool_fault_number, pool_fault_name};
 
@@ -171,7 +172,7 @@ fn share_out<G: Gate, R: Threads + Wait + Sync>(
     explore_by_workers(rt, alloc, debugger, pieces, limits, workers, gate, slots)
 }
 
-/// The reports of all pieces, joined in order, whatever the number of workers. The debugger is left as found.
+/// The report of all pieces, whatever the number of workers. The debugger is left as found.
 fn explore_pieces<G: Gate, R: Threads + Wait + Sync>(
     rt: &R,
     alloc: Global,
@@ -182,7 +183,7 @@ fn explore_pieces<G: Gate, R: Threads + Wait + Sync>(
     gate: &G,
 ) -> Result<Report, AllocError>
     requires can { CanExplore (standing_of debugger.old) limits pieces.now }
-    ensures joined { IfOk result (λ r. IsJoined (standing_of debugger.old) limits pieces.now r) }
+    ensures report { IfOk result (λ r. IsReport (standing_of debugger.old) limits pieces.now r) }
     ensures same { standing_of debugger.new ≡ standing_of debugger.old }
 {
     let mut slots = no_reports(alloc, pieces.len())?;
@@ -210,10 +211,12 @@ fn cut(alloc: Global, debugger: &mut Debugger<'_>, plan: CheckPlan) -> Result<Ve
 
 /// The first leaves of the runs from here, by so many workers: the runs are cut into pieces by their first choices, and the reports of
 /// these are joined in order (docs/DEFINITIONS.md, "Pieces"), whatever the number of workers and whoever comes first. Fuel counts from
-/// here, and `runs` is for each piece; there is more where some piece has more. No undone step is kept, and the depth and the fuel are at
-/// most 1,000,000 steps together. Each leaf has a run, and each deadlock a witness, as those of `explore` do. It is refused where there
-/// are to be no workers or more than 16 (35), where there are more than 1,024 pieces (31), or for want of memory. A worker that wants
-/// memory stops, and what it doesn't bring is computed here. The debugger is left as found, also where it is refused. `gate` is told how
+/// here, and `runs` is for each piece; there is more where some piece has more. Where a list ends with the first deadlock or trap, the
+/// report does, and there is more where some run isn't listed; who has found one explores no piece behind it. No undone step is kept, and
+/// the depth and the fuel are at most 1,000,000 steps together. Each leaf has a run, and each deadlock a witness, as those of `explore`
+/// do, with their texts where these are wanted. It is refused where there are to be no workers or more than 16 (35), where there are
+/// more than 1,024 pieces (31), or for want of memory. A worker that wants memory stops, and what it doesn't bring is computed here, as
+/// far as it is listed. The debugger is left as found, also where it is refused. `gate` is told how
 /// many pieces there are, and by whoever computes one of it before and behind that, and of each leaf.
 pub fn check<G: Gate, R: Threads + Wait + Sync>(
     rt: &R,
@@ -225,9 +228,10 @@ pub fn check<G: Gate, R: Threads + Wait + Sync>(
 ) -> Result<Report, PoolFault>
     requires clean { length debugger.old.trail.steps ≡ debugger.old.trail.depth }
     requires fits { debugger.old.trail.depth + plan.limits.fuel ≤ STEPS_MAX }
-    ensures leaves { IfOk result (λ r. r.leaves.items ≡ split_report plan.split plan.limits.runs plan.limits.fuel debugger.old.world) }
-    ensures more { IfOk result (λ r. r.more ≡ split_more plan.split plan.limits.runs plan.limits.fuel debugger.old.world) }
+    ensures leaves { IfOk result (λ r. r.leaves.items ≡ split_report plan.split plan.limits debugger.old.world) }
+    ensures more { IfOk result (λ r. r.more ≡ split_more plan.split plan.limits debugger.old.world) }
     ensures witnesses { IfOk result (λ r. AllByRecursion (HasWitness debugger.old.trail.program debugger.old.trail.mode (kept debugger.old.trail) plan.limits.fuel debugger.old.world) r.leaves.items) }
+    ensures texts { IfOk result (λ r. map string_bytes r.witnesses.items ≡ witness_texts plan.limits.witnesses (kept debugger.old.trail) plan.limits.fuel debugger.old.world r.leaves.items) }
     ensures workers { IsErrOf result PoolFault.BadWorkers ↔ ((workers ≡ 0) ⊎ (WORKERS_MAX < workers)) }
     ensures few { OnOk result (length (pieces plan.split plan.limits.fuel debugger.old.world) ≤ PIECES_MAX) }
     ensures many { IsErrOf result PoolFault.TooManyPieces → PIECES_MAX < length (pieces plan.split plan.limits.fuel debugger.old.world) }

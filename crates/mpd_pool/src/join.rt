@@ -1,15 +1,17 @@
 //! The reports of all pieces joined in their order.
-ghost use Rattle.std.specs.Prelude.{◌≡◌, ◌<◌, ◌+◌, ◌++◌, ◌||◌, List, [], length, IfOk, OnOk, IfSome, take};
+ghost use Rattle.std.specs.Prelude.{◌≡◌, ◌<◌, ◌+◌, ◌++◌, ◌||◌, List, [], length, map, IfOk, OnOk, IfSome, take, string_bytes};
 ghost use Rattle.mpd_model.specs.Trail.{Standing};
 ghost use Rattle.mpd_trail.specs.Views.{standing_of};
 ghost use Rattle.mpd_explore.specs.declared.report.Limits.{Limits};
 ghost use Rattle.mpd_pieces.specs.declared.split.Piece.{Piece};
-ghost use Rattle.mpd_pool.specs.Parts.{AtNumber, CanExplore, Filled, IsJoined};
+ghost use Rattle.mpd_pool.specs.Parts.{AtNumber, CanExplore, Filled, IsJoined, IsReport, Added};
 
 use crate::gate::Gate;
-use crate::work::compute;
+use crate::work::{compute, ends_with};
 use mpd_explore::report::{Limits, Report};
+use mpd_pieces::by_pieces::is_more;
 use mpd_pieces::split::Piece;
+use mpd_policy::decide::decisions_can_be_followed;
 use mpd_trail::debugger::Debugger;
 use std::alloc::{AllocError, Global};
 
@@ -45,18 +47,24 @@ fn report_of<G: Gate>(
     }
 }
 
-/// Adds the leaves of a report behind those of another. One of the two has more, or neither.
+/// Adds the leaves of a report, and their texts, behind those of another. One of the two has more, or neither.
 fn add(all: &mut Report, report: Report) -> Result<(), AllocError>
     ensures leaves { OnOk result (all.new.leaves.items ≡ all.old.leaves.items ++ report.leaves.items) }
     ensures more { OnOk result (all.new.more ≡ (all.old.more || report.more)) }
+    ensures texts { OnOk result (map string_bytes all.new.witnesses.items ≡ map string_bytes all.old.witnesses.items ++ map string_bytes report.witnesses.items) }
 {
-    let Report { mut leaves, more } = report;
+    let Report {
+        mut leaves,
+        more,
+        mut witnesses,
+    } = report;
     all.leaves.append(&mut leaves)?;
+    all.witnesses.append(&mut witnesses)?;
     all.more = all.more || more;
     Ok(())
 }
 
-/// Adds the report of a piece.
+/// Adds the report of a piece, and answers whether the report of all ends with it.
 fn add_piece<G: Gate>(
     alloc: Global,
     debugger: &mut Debugger<'_>,
@@ -66,20 +74,27 @@ fn add_piece<G: Gate>(
     number: usize,
     slots: &mut Vec<Option<Report>>,
     all: &mut Report,
-) -> Result<(), AllocError>
+) -> Result<bool, AllocError>
     requires within { number < length pieces.now }
     requires can { CanExplore (standing_of debugger.old) limits pieces.now }
     requires filled { Filled (standing_of debugger.old) limits pieces.now slots.old.items }
     requires joined { IsJoined (standing_of debugger.old) limits (take number pieces.now) all.old }
-    ensures joined { OnOk result (IsJoined (standing_of debugger.old) limits (take (number + 1) pieces.now) all.new) }
+    ensures added { IfOk result (λ last. Added (standing_of debugger.old) limits pieces.now (number + 1) last all.new) }
     ensures filled { Filled (standing_of debugger.old) limits pieces.now slots.new.items }
     ensures same { standing_of debugger.new ≡ standing_of debugger.old }
 {
+    decisions_can_be_followed();
     let report = report_of(alloc, debugger, pieces, limits, gate, number, slots)?;
-    add(all, report)
+    let is_last = ends_with(limits, &report);
+    add(all, report)?;
+    if !is_last {
+        return Ok(false);
+    }
+    all.more = is_more(all.more, number + 1, pieces.len());
+    Ok(true)
 }
 
-/// Adds the reports of all pieces. What nobody brought is computed here.
+/// Adds the reports of the pieces, up to the one that the report ends with. What nobody brought is computed here.
 fn add_all<G: Gate>(
     alloc: Global,
     debugger: &mut Debugger<'_>,
@@ -92,16 +107,20 @@ fn add_all<G: Gate>(
     requires can { CanExplore (standing_of debugger.old) limits pieces.now }
     requires filled { Filled (standing_of debugger.old) limits pieces.now slots.old.items }
     requires joined { IsJoined (standing_of debugger.old) limits [] all.old }
-    ensures joined { OnOk result (IsJoined (standing_of debugger.old) limits pieces.now all.new) }
+    ensures report { OnOk result (IsReport (standing_of debugger.old) limits pieces.now all.new) }
     ensures same { standing_of debugger.new ≡ standing_of debugger.old }
 {
     for number in 0..pieces.len() {
-        add_piece(alloc, debugger, pieces, limits, gate, number, slots, all)?;
+        let is_last = add_piece(alloc, debugger, pieces, limits, gate, number, slots, all)?;
+        if is_last {
+            return Ok(());
+        }
     }
     Ok(())
 }
 
-/// The reports of all pieces, joined in order. What nobody brought is computed here. The debugger is left as found.
+/// The report of all pieces, in order, up to the first bad leaf where a list ends with that. What nobody brought is computed here. The
+/// debugger is left as found.
 pub(crate) fn join_all<G: Gate>(
     alloc: Global,
     debugger: &mut Debugger<'_>,
@@ -112,12 +131,13 @@ pub(crate) fn join_all<G: Gate>(
 ) -> Result<Report, AllocError>
     requires can { CanExplore (standing_of debugger.old) limits pieces.now }
     requires filled { Filled (standing_of debugger.old) limits pieces.now slots.old.items }
-    ensures joined { IfOk result (λ r. IsJoined (standing_of debugger.old) limits pieces.now r) }
+    ensures report { IfOk result (λ r. IsReport (standing_of debugger.old) limits pieces.now r) }
     ensures same { standing_of debugger.new ≡ standing_of debugger.old }
 {
     let mut all = Report {
         leaves: Vec::new(alloc),
         more: false,
+        witnesses: Vec::new(alloc),
     };
     match add_all(alloc, debugger, pieces, limits, gate, slots, &mut all) {
         Ok(()) => Ok(all),

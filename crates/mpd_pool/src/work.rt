@@ -1,7 +1,8 @@
 //! What a worker does: it draws numbers of pieces, and explores these.
-ghost use Rattle.std.specs.Prelude.{◌≡◌, ◌<◌, true, false, length, IfOk, OnErr, OnOk};
+ghost use Rattle.std.specs.Prelude.{◌≡◌, ◌<◌, ◌&&◌, true, false, length, IfOk, OnErr, OnOk};
 ghost use Rattle.crossbeam_deque.specs.Handles.{view, IsPassOf, stealer_deque};
 ghost use Rattle.mpd_trail.specs.Views.{standing_of};
+ghost use Rattle.mpd_explore.specs.Report.{any_bad};
 ghost use Rattle.mpd_pieces.specs.Pieces.{Reaches};
 ghost use Rattle.mpd_pool.specs.Numbers.{hand};
 ghost use Rattle.mpd_pool.specs.Parts.{IsPart, AtNumber, CanExplore, CanBegin};
@@ -54,6 +55,13 @@ impl<'g, G: Gate> Watch for Leaves<'g, G> {
     fn end(&mut self) {}
 }
 
+/// Whether the report of all pieces ends with the report of one.
+pub(crate) fn ends_with(limits: Limits, report: &Report) -> bool
+    ensures { result ≡ (limits.until_bad && any_bad report.now.leaves.items) }
+{
+    limits.until_bad && report.has_bad()
+}
+
 /// Explores a piece. The debugger is left as found.
 fn explore_piece<G: Gate>(
     alloc: Global,
@@ -96,7 +104,7 @@ pub(crate) fn compute<G: Gate>(
     found
 }
 
-/// Adds the report of a piece to those that are brought.
+/// Adds the report of a piece to those that are brought, and answers whether nothing behind that piece is listed.
 fn bring<G: Gate>(
     alloc: Global,
     debugger: &mut Debugger<'_>,
@@ -105,7 +113,7 @@ fn bring<G: Gate>(
     gate: &G,
     number: usize,
     brought: &mut Vec<Brought>,
-) -> Result<(), AllocError>
+) -> Result<bool, AllocError>
     requires within { number < length pieces.now }
     requires can { CanExplore (standing_of debugger.old) limits pieces.now }
     requires right { AllRight (standing_of debugger.old) limits pieces.now brought.old.items }
@@ -114,14 +122,40 @@ fn bring<G: Gate>(
 {
     brought.reserve(1)?;
     let report = compute(alloc, debugger, pieces, limits, gate, number)?;
+    let is_last = ends_with(limits, &report);
     brought.push_reserved(Brought {
         piece: number,
         report,
     });
-    Ok(())
+    Ok(is_last)
 }
 
-/// Draws numbers until none is left or memory is refused, and explores the piece of each.
+/// Does with a number that was drawn what a worker does: it explores the piece, or drops the number. It answers whether it drops the
+/// numbers behind it.
+fn take_number<G: Gate>(
+    alloc: Global,
+    debugger: &mut Debugger<'_>,
+    pieces: &[Piece],
+    limits: Limits,
+    gate: &G,
+    number: usize,
+    brought: &mut Vec<Brought>,
+    drops: bool,
+) -> Result<bool, AllocError>
+    requires within { number < length pieces.now }
+    requires can { CanExplore (standing_of debugger.old) limits pieces.now }
+    requires right { AllRight (standing_of debugger.old) limits pieces.now brought.old.items }
+    ensures right { AllRight (standing_of debugger.old) limits pieces.now brought.new.items }
+    ensures same { standing_of debugger.new ≡ standing_of debugger.old }
+{
+    if drops {
+        return Ok(true);
+    }
+    bring(alloc, debugger, pieces, limits, gate, number, brought)
+}
+
+/// Draws numbers until none is left or memory is refused, and explores the piece of each. Behind a piece with which a report ends
+/// numbers are drawn and dropped: they are drawn in rising order, so those that are still needed are with others already.
 pub(crate) fn work<G: Gate, R: Wait>(
     rt: &R,
     alloc: Global,
@@ -140,10 +174,11 @@ pub(crate) fn work<G: Gate, R: Wait>(
         mut pass,
     } = job;
     let mut brought = Vec::new(alloc);
+    let mut drops = false;
     for _ in rt.forever() {
         match thief.steal_as::<Taken>(&mut pass) {
             Steal::Success(number) => {
-                let added = bring(
+                let taken = take_number(
                     alloc,
                     &mut debugger,
                     pieces,
@@ -151,9 +186,11 @@ pub(crate) fn work<G: Gate, R: Wait>(
                     gate,
                     number,
                     &mut brought,
+                    drops,
                 );
-                if added.is_err() {
-                    break;
+                match taken {
+                    Ok(drops_more) => drops = drops_more,
+                    Err(_) => break,
                 }
             }
             Steal::Empty => break,

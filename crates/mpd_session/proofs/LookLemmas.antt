@@ -50,10 +50,6 @@ joined_more f i n so_far now total h e more =
 
 -- ---- runs from here
 
-mapped_length : {A B : Type 0} (f : A → B) (xs : List A) → length (map f xs) ≡ length xs
-mapped_length f [] = refl
-mapped_length f (x ∷ xs) = ap suc (mapped_length f xs)
-
 pub few_runs : (t : Trail) (w : World) (runs fuel : ℕ) → is_within 1 65536 runs ≡ false → Refused BadNumber ≡ explore_effect t w runs fuel
 few_runs t w runs fuel e = rw e refl
 
@@ -61,12 +57,12 @@ pub bad_fuel : (t : Trail) (w : World) (runs fuel left : ℕ) → is_within 1 65
 bad_fuel t w runs fuel left e is f = let g : is_within 1 (1000000 - t.depth) fuel ≡ false = ap (λ n. is_within 1 n fuel) (sym is) ∙ f in rw (e, g) refl
 
 pub explored : (t : Trail) (w : World) (runs fuel left : ℕ) (texts : List (List ℕ)) (leaves : List Leaf) (more : Bool) → is_within 1 65536 runs ≡ true → left ≡ 1000000 - t.depth → is_within 1 left fuel ≡ true
-    → texts ≡ map leaf_text leaves → leaves ≡ take runs (map shown (walk fuel w)) → more ≡ nat_lt runs (length (walk fuel w)) → Told (answer.Explored texts more) ≡ explore_effect t w runs fuel
+    → texts ≡ map leaf_text leaves → leaves ≡ take runs (map shown (walk fuel w)) → more ≡ nat_lt runs (length (map shown (walk fuel w))) → Told (answer.Explored texts more) ≡ explore_effect t w runs fuel
 explored t w runs fuel left texts leaves more e is f told listed some =
     let g : is_within 1 (1000000 - t.depth) fuel ≡ true = ap (λ n. is_within 1 n fuel) (sym is) ∙ f in
     let whole : explore_effect t w runs fuel ≡ Told (answer.Explored (map leaf_text (take runs (map shown (walk fuel w)))) (nat_lt runs (length (map shown (walk fuel w))))) = rw (e, g) refl in
     ap (λ x. Told (answer.Explored x more)) (told ∙ ap (map leaf_text) listed)
-    ∙ ap (λ x. Told (answer.Explored (map leaf_text (take runs (map shown (walk fuel w)))) x)) (some ∙ ap (nat_lt runs) (sym (mapped_length shown (walk fuel w))))
+    ∙ ap (λ x. Told (answer.Explored (map leaf_text (take runs (map shown (walk fuel w)))) x)) some
     ∙ sym whole
 
 pub ruleset exploring = (few_runs, bad_fuel, explored)

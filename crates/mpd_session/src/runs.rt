@@ -64,11 +64,16 @@ pub fn report(
 ) -> Result<Report, AllocError>
     requires { debugger.old.trail.depth + fuel ≤ STEPS_MAX }
     ensures leaves { IfOk result (λ r. r.leaves.items ≡ take runs (map shown (walk fuel debugger.old.world))) }
-    ensures more { IfOk result (λ r. r.more ≡ nat_lt runs (length (walk fuel debugger.old.world))) }
+    ensures more { IfOk result (λ r. r.more ≡ nat_lt runs (length (map shown (walk fuel debugger.old.world)))) }
     ensures trail { debugger.new.trail ≡ debugger.old.trail }
 {
     let _ = debugger.core();
-    let limits = Limits { runs, fuel };
+    let limits = Limits {
+        runs,
+        fuel,
+        witnesses: false,
+        until_bad: false,
+    };
     if debugger.steps().len() == debugger.depth() {
         return explore(alloc, debugger, limits, &mut Unwatched);
     }

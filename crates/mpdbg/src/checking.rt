@@ -7,7 +7,7 @@ use crate::summary::say_tally;
 use crate::tell::Fault;
 use mpd_check::counts::Tally;
 use mpd_check::part::{check_piece, count_pieces};
-use mpd_check::plan::{CheckFault, Plan};
+use mpd_check::fault::CheckFault;
 use mpd_check::{check, is_crew};
 use mpd_code::code::Code;
 use mpd_device::device::Sink;
@@ -15,6 +15,7 @@ use mpd_explore::report::Limits;
 use mpd_model::call::Mode;
 use mpd_model::limits::STEPS_MAX;
 use mpd_options::options::CheckOptions;
+use mpd_pool::check::CheckPlan;
 use std::marker::Sync;
 use std::rt::Clock;
 use std::sync::Wait;
@@ -41,10 +42,10 @@ fn part_of(options: CheckOptions) -> Part {
 }
 
 /// What is asked of the report.
-fn plan_of(options: CheckOptions) -> Plan
+fn plan_of(options: CheckOptions) -> CheckPlan
     ensures { result.limits.fuel ≡ options.fuel }
 {
-    Plan {
+    CheckPlan {
         split: options.split,
         limits: Limits {
             runs: options.runs,

@@ -1,12 +1,106 @@
-use Rattle.std.proofs.Common.{◌≡◌, length, reverse, arith}
+use Rattle.std.proofs.Common.{◌≡◌, ◌+◌, ◌≤◌, ◌<◌, [], length, map, reverse, string_bytes, List, refl, sym, ap, subst, ◌∙◌, arith}
+use Rattle.mpd_model.specs.World.{World}
+use Rattle.mpd_model.specs.Trail.{kept}
 use Rattle.mpd_trail.specs.Run.{first_of}
 use Rattle.mpd_trail.specs.Views.{standing_of}
-use Rattle.mpd_explore.specs.Report.{to_show}
-use Rattle.mpd_explore.proofs.CollectLemmas.{some_more}
+use Rattle.mpd_explore.specs.declared.report.Leaf.{Leaf}
+use Rattle.mpd_explore.specs.declared.search.Open.{Open}
+use Rattle.mpd_explore.specs.Walk.{Run}
+use Rattle.mpd_explore.specs.Search.{At, later, to_come}
+use Rattle.mpd_explore.specs.Report.{any_bad}
+use Rattle.mpd_explore.specs.Gathered.{to_find}
+use Rattle.mpd_explore.proofs.SearchLemmas.{safe_same, safe_then}
+use Rattle.mpd_explore.proofs.GatherLemmas.{gathered_none, gathered_leaf, goes_on, goes_at, goes_nowhere, some_to_come, still_good, one_longer, lists_all, lists_bad, lists_full}
 use Rattle.mpd_explore.proofs.explore.gather.Goals as goal
 
-pub returns-clause-more : goal.returns-clause-more
-returns-clause-more g c =
+pub loop-turn-init : goal.loop-turn-init
+loop-turn-init g c =
+    let d = standing_of c.args.debugger.now in
+    let first : World = first_of c.args.debugger.now.trail in
+    let none : c.args.stack.now.items ≡ [] = c.requires.none_open in
+    record {
+      at = subst (λ (xs : List Open). At first c.args.bounds (reverse xs) d) (sym none) c.requires.at;
+      gathered = gathered_none c.args.limits.witnesses (to_find c.args.bounds d) _ _ _ (ap (λ (xs : List Open). to_come first c.args.bounds (reverse xs) (kept d.trail) d.world) none) c.requires.none_told (ap (map string_bytes) c.requires.none_written);
+      counted = ap length c.requires.none_told;
+      good = λ h. ap any_bad c.requires.none_told;
+      safe = safe_same c.args.bounds.base d d refl c.requires.at.reached;
+    }
+
+pub returns-then-not-has_next-clause-lists : goal.returns-then-not-has_next-clause-lists
+returns-then-not-has_next-clause-lists g c =
     let i = c.loop-turn.invariant in
-    let long : length c.loop-turn.leaves.items ≡ c.args.runs = omega (arith, i.counted) in
-    some_more (first_of c.args.debugger.now.trail) c.args.bounds (reverse c.loop-turn.stack.items) (standing_of c.loop-turn.debugger) c.loop-turn.leaves.items (to_show c.args.bounds (standing_of c.args.debugger.now)) c.args.runs c.decisions_can_be_followed.ensures.follow i.told long
+    let first : World = first_of c.args.debugger.now.trail in
+    let b = c.args.bounds in
+    let d = standing_of c.loop-turn.debugger in
+    let m = standing_of c.first_leaf.new.debugger in
+    let e = standing_of c.advance.new.debugger in
+    let fs : List Open = reverse c.loop-turn.stack.items in
+    let gs : List Open = reverse c.first_leaf.new.stack.items in
+    let hs : List Open = reverse c.advance.new.stack.items in
+    let x : Leaf = c.in_ok-leaf.leaf in
+    let all : List Run = to_find b (standing_of c.args.debugger.now) in
+    let own : first_of m.trail ≡ first = c.in_ok-leaf.ensures.moved.0.first_is ∙ i.at.first_is in
+    let none : later first b gs (kept m.trail) ≡ [] = goes_nowhere first (first_of m.trail) b gs hs (kept m.trail) e c.in_ok-has_next.has_next own c.if-not-has_next.true c.in_ok-has_next.ensures.advanced in
+    let found = gathered_leaf c.args.limits.witnesses first (first_of d.trail) b fs gs d m x all [] c.loop-turn.report.leaves.items _ _ _ i.at.first_is i.gathered c.in_ok-leaf.ensures.moved c.in_ok-leaf.ensures.choices c.in_ok-list_leaf.ensures.leaves c.in_ok-list_leaf.ensures.texts none in
+    let long : length c.list_leaf.new.report.leaves.items ≡ c.loop-turn.turn + 1 = one_longer c.loop-turn.report.leaves.items _ x c.loop-turn.turn c.in_ok-list_leaf.ensures.leaves i.counted in
+    let few : length c.list_leaf.new.report.leaves.items ≤ c.args.limits.runs = omega (arith, long, c.loop-turn-test.true) in
+    lists_all c.args.limits all [] c.loop-turn.report.leaves.items _ x _ found refl c.in_ok-list_leaf.ensures.leaves i.good few
+
+pub returns-then-is_last-clause-lists : goal.returns-then-is_last-clause-lists
+returns-then-is_last-clause-lists g c =
+    let i = c.loop-turn.invariant in
+    let first : World = first_of c.args.debugger.now.trail in
+    let b = c.args.bounds in
+    let d = standing_of c.loop-turn.debugger in
+    let m = standing_of c.first_leaf.new.debugger in
+    let e = standing_of c.advance.new.debugger in
+    let fs : List Open = reverse c.loop-turn.stack.items in
+    let gs : List Open = reverse c.first_leaf.new.stack.items in
+    let hs : List Open = reverse c.advance.new.stack.items in
+    let x : Leaf = c.in_ok-leaf.leaf in
+    let all : List Run = to_find b (standing_of c.args.debugger.now) in
+    let rest : List Run = to_come first b hs (kept e.trail) e.world in
+    let own : first_of m.trail ≡ first = c.in_ok-leaf.ensures.moved.0.first_is ∙ i.at.first_is in
+    let behind : later first b gs (kept m.trail) ≡ rest = goes_on first (first_of m.trail) b gs hs (kept m.trail) e c.in_ok-has_next.has_next own c.if-not-has_next.false c.in_ok-has_next.ensures.advanced in
+    let found = gathered_leaf c.args.limits.witnesses first (first_of d.trail) b fs gs d m x all rest c.loop-turn.report.leaves.items _ _ _ i.at.first_is i.gathered c.in_ok-leaf.ensures.moved c.in_ok-leaf.ensures.choices c.in_ok-list_leaf.ensures.leaves c.in_ok-list_leaf.ensures.texts behind in
+    let long : length c.list_leaf.new.report.leaves.items ≡ c.loop-turn.turn + 1 = one_longer c.loop-turn.report.leaves.items _ x c.loop-turn.turn c.in_ok-list_leaf.ensures.leaves i.counted in
+    let few : length c.list_leaf.new.report.leaves.items ≤ c.args.limits.runs = omega (arith, long, c.loop-turn-test.true) in
+    let some : 0 < length rest = some_to_come first b hs (kept e.trail) e.world c.decisions_can_be_followed.ensures.follow in
+    lists_bad c.args.limits all rest c.loop-turn.report.leaves.items _ x _ c.ends_with-is_last.result found some c.in_ok-list_leaf.ensures.leaves i.good few c.ends_with-is_last.ensures c.if-is_last.true
+
+pub loop-turn-preserved : goal.loop-turn-preserved
+loop-turn-preserved g c =
+    let i = c.loop-turn.invariant in
+    let first : World = first_of c.args.debugger.now.trail in
+    let b = c.args.bounds in
+    let d = standing_of c.loop-turn.debugger in
+    let m = standing_of c.first_leaf.new.debugger in
+    let e = standing_of c.advance.new.debugger in
+    let fs : List Open = reverse c.loop-turn.stack.items in
+    let gs : List Open = reverse c.first_leaf.new.stack.items in
+    let hs : List Open = reverse c.advance.new.stack.items in
+    let x : Leaf = c.in_ok-leaf.leaf in
+    let all : List Run = to_find b (standing_of c.args.debugger.now) in
+    let rest : List Run = to_come first b hs (kept e.trail) e.world in
+    let own : first_of m.trail ≡ first = c.in_ok-leaf.ensures.moved.0.first_is ∙ i.at.first_is in
+    let behind : later first b gs (kept m.trail) ≡ rest = goes_on first (first_of m.trail) b gs hs (kept m.trail) e c.in_ok-has_next.has_next own c.if-not-has_next.false c.in_ok-has_next.ensures.advanced in
+    let begun = standing_of c.args.debugger.now in
+    record {
+      at = goes_at first (first_of m.trail) b gs hs (kept m.trail) e c.in_ok-has_next.has_next own c.if-not-has_next.false c.in_ok-has_next.ensures.advanced;
+      gathered = gathered_leaf c.args.limits.witnesses first (first_of d.trail) b fs gs d m x all rest c.loop-turn.report.leaves.items _ _ _ i.at.first_is i.gathered c.in_ok-leaf.ensures.moved c.in_ok-leaf.ensures.choices c.in_ok-list_leaf.ensures.leaves c.in_ok-list_leaf.ensures.texts behind;
+      counted = one_longer c.loop-turn.report.leaves.items _ x c.loop-turn.turn c.in_ok-list_leaf.ensures.leaves i.counted;
+      good = still_good c.args.limits.until_bad c.ends_with-is_last.result c.loop-turn.report.leaves.items _ x c.in_ok-list_leaf.ensures.leaves c.ends_with-is_last.ensures c.if-is_last.false i.good;
+      safe = safe_then b.base begun m e (safe_then b.base begun d m i.safe c.in_ok-leaf.ensures.safe) c.in_ok-has_next.ensures.safe;
+    }
+
+pub returns-clause-lists : goal.returns-clause-lists
+returns-clause-lists g c =
+    let i = c.loop-turn.invariant in
+    let first : World = first_of c.args.debugger.now.trail in
+    let b = c.args.bounds in
+    let e = standing_of c.loop-turn.debugger in
+    let hs : List Open = reverse c.loop-turn.stack.items in
+    let all : List Run = to_find b (standing_of c.args.debugger.now) in
+    let rest : List Run = to_come first b hs (kept e.trail) e.world in
+    let long : length c.loop-turn.report.leaves.items ≡ c.args.limits.runs = omega (arith, i.counted) in
+    lists_full c.args.limits all rest c.loop-turn.report.leaves.items _ i.gathered (some_to_come first b hs (kept e.trail) e.world c.decisions_can_be_followed.ensures.follow) long i.good

@@ -1,5 +1,5 @@
 use Rattle.std.proofs.Common.{◌≡◌, ◌∙◌}
-use Rattle.mpd_pieces.specs.Along.{parts, has_more}
+use Rattle.mpd_pieces.specs.Along.{report_of, more_of}
 use Rattle.mpd_pieces.proofs.SplitLemmas.{level_reached}
 use Rattle.mpd_pieces.proofs.ReportLemmas.{parts_are, more_is}
 use Rattle.mpd_pieces.proofs.by_pieces.explore_by_pieces.Goals as goal
@@ -11,11 +11,11 @@ explore_pieces-requires-clause-reaches g c =
 pub returns-in_ok-report-in-Ok-clause-leaves : goal.returns-in_ok-report-in-Ok-clause-leaves
 returns-in_ok-report-in-Ok-clause-leaves g c =
     let w = c.args.debugger.now.world in
-    let found : c.in_ok-report-in-Ok.report.leaves.items ≡ parts c.args.limits.runs c.args.limits.fuel w c.deref.result.now = rw c.in-Ok.ensures.world at c.in_ok-report-in-Ok.ensures.leaves in
-    found ∙ parts_are c.args.choices c.args.limits.runs c.args.limits.fuel w c.deref.result.now (c.deref.ensures.value ∙ c.in-Ok.ensures.ok)
+    let found : c.in_ok-report-in-Ok.report.leaves.items ≡ report_of c.args.limits w c.deref.result.now = rw c.in-Ok.ensures.world at c.in_ok-report-in-Ok.ensures.leaves in
+    found ∙ parts_are c.args.choices c.args.limits w c.deref.result.now (c.deref.ensures.value ∙ c.in-Ok.ensures.ok)
 
 pub returns-in_ok-report-in-Ok-clause-more : goal.returns-in_ok-report-in-Ok-clause-more
 returns-in_ok-report-in-Ok-clause-more g c =
     let w = c.args.debugger.now.world in
-    let found : c.in_ok-report-in-Ok.report.more ≡ has_more c.args.limits.runs c.args.limits.fuel w c.deref.result.now = rw c.in-Ok.ensures.world at c.in_ok-report-in-Ok.ensures.more in
-    found ∙ more_is c.args.choices c.args.limits.runs c.args.limits.fuel w c.deref.result.now (c.deref.ensures.value ∙ c.in-Ok.ensures.ok)
+    let found : c.in_ok-report-in-Ok.report.more ≡ more_of c.args.limits w c.deref.result.now = rw c.in-Ok.ensures.world at c.in_ok-report-in-Ok.ensures.more in
+    found ∙ more_is c.args.choices c.args.limits w c.deref.result.now (c.deref.ensures.value ∙ c.in-Ok.ensures.ok)

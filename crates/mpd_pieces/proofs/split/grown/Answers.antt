@@ -3,7 +3,7 @@ use Rattle.mpd_pieces.specs.declared.split.Piece.{Piece}
 use Rattle.mpd_pieces.specs.declared.split.SplitFault.TheVariants.{TooManyPieces}
 use Rattle.mpd_pieces.specs.declared.split.TheConstants.{PIECES_MAX}
 use Rattle.mpd_pieces.specs.Along.{Adds, longer}
-use Rattle.mpd_pieces.proofs.PieceLemmas.{neither}
+use Rattle.mpd_explore.proofs.ListedLemmas.{neither}
 use Rattle.mpd_pieces.proofs.SplitLemmas.{reached_at, grown_more, grown_many, still_more, grown_all, still_all, same_fault}
 use Rattle.mpd_pieces.proofs.split.grown.Goals as goal
 

@@ -1,4 +1,4 @@
-use Rattle.std.proofs.Common.{arith, ◌<◌, length}
+use Rattle.std.proofs.Common.{arith}
 use Rattle.mpd_trail.specs.Views.{standing_of}
 use Rattle.mpd_pool.proofs.Places.{filled_long}
 use Rattle.mpd_pool.proofs.join.report_of.Goals as goal

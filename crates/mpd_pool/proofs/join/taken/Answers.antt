@@ -1,4 +1,4 @@
-use Rattle.std.proofs.Common.{rules, arith, ◌<◌, length, ◌∙◌}
+use Rattle.std.proofs.Common.{◌∙◌}
 use Rattle.mpd_pool.proofs.Places.{filled_taken, filled_at}
 use Rattle.mpd_pool.proofs.join.taken.Goals as goal
 use Rattle.std.proofs.Common.{refl}

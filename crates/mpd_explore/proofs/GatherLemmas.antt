@@ -1,0 +1,162 @@
+-- One leaf more is gathered, and what is gathered in the end is what is to be listed.
+use Rattle.std.proofs.Common.{◌≡◌, ℕ, zero, suc, ◌<◌, ◌≤◌, ◌+◌, ◌-◌, ◌&&◌, if◌then◌else◌, Bool, true, false, true≢false, List, [], ◌∷◌, ◌++◌, length, take, map, Some, refl, sym, ap, ◌∙◌, arith, append_assoc, append-nil}
+use Rattle.std.proofs.lemmas.List.{length-append, length-map, take_all}
+use Rattle.std.proofs.Math.Seq.{take-append_seam}
+use Rattle.std.specs.List.{AllByRecursion}
+use Rattle.mpd_model.specs.declared.step.Step.{Step}
+use Rattle.mpd_model.specs.World.{World}
+use Rattle.mpd_model.specs.Trail.{Standing, kept}
+use Rattle.mpd_model.specs.Decisions.{decision, CanFollow}
+use Rattle.mpd_explore.specs.declared.report.Leaf.{Leaf}
+use Rattle.mpd_explore.specs.declared.report.Limits.{Limits}
+use Rattle.mpd_explore.specs.declared.search.Open.{Open}
+use Rattle.mpd_explore.specs.declared.search.Bounds.{Bounds}
+use Rattle.mpd_explore.specs.Walk.{Run, prefixed, here, walk, steps_by}
+use Rattle.mpd_explore.specs.Search.{picked, later, to_come, At, Moved, Advanced}
+use Rattle.mpd_explore.specs.Report.{shown, is_bad, any_bad, up_to_bad, ended_by, listed}
+use Rattle.mpd_explore.specs.Witness.{witness_by}
+use Rattle.mpd_explore.specs.WitnessTexts.{behind_number, witness_text, witness_texts}
+use Rattle.mpd_explore.specs.Gathered.{run_text, run_texts, Gathered, Lists}
+use Rattle.mpd_explore.proofs.RunLemmas.{walk_some, prefixed_here}
+use Rattle.mpd_explore.proofs.WitnessLemmas.{Holds, walk_holds}
+use Rattle.mpd_explore.proofs.ListedLemmas.{both_true, not_both, bad_last, good_last, up_last, up_none, up_taken, ended_same, none_out, some_out, listed_front}
+
+map_joins : {A B : Type 0} (f : A → B) (xs ys : List A) → map f (xs ++ ys) ≡ map f xs ++ map f ys
+map_joins f [] ys = refl
+map_joins f (x ∷ xs) ys = ap (λ zs. f x ∷ zs) (map_joins f xs ys)
+
+-- ---- one more
+
+texts_last : (asked : Bool) (found : List Run) (r : Run) → run_texts asked (found ++ r ∷ []) ≡ run_texts asked found ++ (if asked then run_text r ∷ [] else [])
+texts_last false found r = refl
+texts_last true found r = map_joins run_text found (r ∷ [])
+
+-- none is gathered
+pub gathered_none : (asked : Bool) (all rest : List Run) (leaves : List Leaf) (texts : List (List ℕ)) → rest ≡ all → leaves ≡ [] → texts ≡ [] → Gathered asked all rest leaves texts
+gathered_none true all rest leaves texts same none empty = record { found = []; joined = same; leaves_are = none; texts_are = empty }
+gathered_none false all rest leaves texts same none empty = record { found = []; joined = same; leaves_are = none; texts_are = empty }
+
+gathered_run : (asked : Bool) (all before rest : List Run) (old leaves : List Leaf) (texts now : List (List ℕ)) (r : Run) → Gathered asked all before old texts → before ≡ r ∷ rest → leaves ≡ old ++ shown r ∷ []
+    → now ≡ texts ++ (if asked then run_text r ∷ [] else []) → Gathered asked all rest leaves now
+gathered_run asked all before rest old leaves texts now r g split pushed added =
+    record {
+      found = g.found ++ r ∷ [];
+      joined = append_assoc g.found (r ∷ []) rest ∙ ap (λ rs. g.found ++ rs) (sym split) ∙ g.joined;
+      leaves_are = pushed ∙ ap (λ ls. ls ++ shown r ∷ []) g.leaves_are ∙ sym (map_joins shown g.found (r ∷ []));
+      texts_are = added ∙ ap (λ ts. ts ++ (if asked then run_text r ∷ [] else [])) g.texts_are ∙ sym (texts_last asked g.found r);
+    }
+
+-- the leaf at which the debugger stands
+pub gathered_leaf : (asked : Bool) (first own : World) (b : Bounds) (fs gs : List Open) (d m : Standing) (x : Leaf) (all rest : List Run) (old leaves : List Leaf) (texts now : List (List ℕ)) → own ≡ first
+    → Gathered asked all (to_come first b fs (kept d.trail) d.world) old texts → Moved own b fs d (Some x.ending) gs m → x.choices ≡ picked gs → leaves ≡ old ++ x ∷ []
+    → now ≡ texts ++ (if asked then behind_number (witness_by (kept m.trail) x.ending) ∷ [] else []) → later first b gs (kept m.trail) ≡ rest → Gathered asked all rest leaves now
+gathered_leaf asked first own b fs gs d m x all rest old leaves texts now own_is g moved chosen pushed added behind =
+    let here_is : Moved first b fs d (Some x.ending) gs m = rw own_is at moved in
+    let r : Run = record { choices = x.choices; steps = kept m.trail; ending = x.ending } in
+    let same : prefixed (picked gs) (kept m.trail) (here x.ending) ≡ r = prefixed_here (picked gs) (kept m.trail) x.ending ∙ ap (λ cs. record { choices = cs; steps = kept m.trail; ending = x.ending }) (sym chosen) in
+    let split : to_come first b fs (kept d.trail) d.world ≡ r ∷ rest = here_is.1 ∙ ap (λ (q : Run). q ∷ later first b gs (kept m.trail)) same ∙ ap (λ rs. r ∷ rs) behind in
+    gathered_run asked all (to_come first b fs (kept d.trail) d.world) rest old leaves texts now r g split pushed added
+
+-- the next candidate was taken
+pub goes_on : (first own : World) (b : Bounds) (gs hs : List Open) (path : List Step) (e : Standing) (more : Bool) → own ≡ first → more ≡ true → Advanced own b gs path more hs e → later first b gs path ≡ to_come first b hs (kept e.trail) e.world
+goes_on first own b gs hs path e more own_is is advanced = let h : Advanced first b gs path true hs e = rw (own_is, is) at advanced in h.1
+
+pub goes_at : (first own : World) (b : Bounds) (gs hs : List Open) (path : List Step) (e : Standing) (more : Bool) → own ≡ first → more ≡ true → Advanced own b gs path more hs e → At first b hs e
+goes_at first own b gs hs path e more own_is is advanced = let h : Advanced first b gs path true hs e = rw (own_is, is) at advanced in h.0
+
+-- none is left
+pub goes_nowhere : (first own : World) (b : Bounds) (gs hs : List Open) (path : List Step) (e : Standing) (more : Bool) → own ≡ first → more ≡ false → Advanced own b gs path more hs e → later first b gs path ≡ []
+goes_nowhere first own b gs hs path e more own_is is advanced = let h : Advanced first b gs path false hs e = rw (own_is, is) at advanced in h
+
+pub some_to_come : (first : World) (b : Bounds) (fs : List Open) (path : List Step) (w : World) → ((v : World) → CanFollow v (decision v)) → 0 < length (to_come first b fs path w)
+some_to_come first b fs path w law =
+    let t : List Run = walk (b.limit - length path) w in
+    omega (arith, length-append (map (prefixed (picked fs) path) t) (later first b fs path), length-map t (prefixed (picked fs) path), walk_some (b.limit - length path) w law)
+
+-- none of those that are gathered is bad, if that ends a list
+pub still_good : (u last : Bool) (old leaves : List Leaf) (x : Leaf) → leaves ≡ old ++ x ∷ [] → last ≡ (u && is_bad x.ending) → last ≡ false → (u ≡ true → any_bad old ≡ false) → u ≡ true → any_bad leaves ≡ false
+still_good u last old leaves x pushed is off good until = ap any_bad pushed ∙ good_last old x (good until) (not_both u (is_bad x.ending) (sym is ∙ off) until)
+
+pub one_longer : (old leaves : List Leaf) (x : Leaf) (n : ℕ) → leaves ≡ old ++ x ∷ [] → length old ≡ n → length leaves ≡ n + 1
+one_longer old leaves x n pushed long = omega (arith, ap length pushed, length-append old (x ∷ []), long)
+
+-- ---- what is listed in the end
+
+told_is : (asked : Bool) (all rest : List Run) (leaves : List Leaf) (texts : List (List ℕ)) → Gathered asked all rest leaves texts → map shown all ≡ leaves ++ map shown rest
+told_is asked all rest leaves texts g = ap (map shown) (sym g.joined) ∙ map_joins shown g.found rest ∙ ap (λ ls. ls ++ map shown rest) (sym g.leaves_are)
+
+texts_is : (asked : Bool) (all rest : List Run) (leaves : List Leaf) (texts : List (List ℕ)) → Gathered asked all rest leaves texts → texts ≡ run_texts asked (take (length leaves) all)
+texts_is asked all rest leaves texts g =
+    let long : length leaves ≡ length g.found = ap length g.leaves_are ∙ length-map g.found shown in
+    let front : take (length leaves) all ≡ g.found = ap (λ n. take n all) long ∙ ap (take (length g.found)) (sym g.joined) ∙ take-append_seam g.found rest in
+    g.texts_are ∙ ap (run_texts asked) (sym front)
+
+-- all are gathered
+pub lists_all : (l : Limits) (all rest : List Run) (old leaves : List Leaf) (x : Leaf) (texts : List (List ℕ)) → Gathered l.witnesses all rest leaves texts → rest ≡ [] → leaves ≡ old ++ x ∷ [] → (l.until_bad ≡ true → any_bad old ≡ false) → length leaves ≤ l.runs → Lists l all leaves texts false
+lists_all l all rest old leaves x texts g none pushed good few =
+    let whole : map shown all ≡ leaves = told_is l.witnesses all rest leaves texts g ∙ ap (λ (rs : List Run). leaves ++ map shown rs) none ∙ append-nil leaves in
+    let last : map shown all ≡ old ++ x ∷ [] = whole ∙ pushed in
+    let taken : take l.runs (map shown all) ≡ map shown all = take_all l.runs (map shown all) (omega (arith, ap length whole)) in
+    let is : listed l (map shown all) ≡ map shown all = ap (ended_by l.until_bad) taken ∙ ended_same l.until_bad (map shown all) (λ h. ap up_to_bad last ∙ up_last old x (good h) ∙ sym last) in
+    record {
+      leaves_are = sym whole ∙ sym is;
+      more_is = sym (none_out l (map shown all) (omega (arith, ap length is)) (omega (arith, ap length whole)));
+      texts_are = texts_is l.witnesses all rest leaves texts g;
+    }
+
+-- the last that is gathered ends the list
+pub lists_bad : (l : Limits) (all rest : List Run) (old leaves : List Leaf) (x : Leaf) (texts : List (List ℕ)) (last : Bool) → Gathered l.witnesses all rest leaves texts → 0 < length rest → leaves ≡ old ++ x ∷ [] → (l.until_bad ≡ true → any_bad old ≡ false) → length leaves ≤ l.runs
+    → last ≡ (l.until_bad && is_bad x.ending) → last ≡ true → Lists l all leaves texts true
+lists_bad l all rest old leaves x texts last g some pushed good few is_last on =
+    let both = both_true l.until_bad (is_bad x.ending) (sym is_last ∙ on) in
+    let told : map shown all ≡ leaves ++ map shown rest = told_is l.witnesses all rest leaves texts g in
+    let bad : any_bad leaves ≡ true = ap any_bad pushed ∙ bad_last old x both.1 in
+    let up : up_to_bad leaves ≡ leaves = ap up_to_bad pushed ∙ up_last old x (good both.0) ∙ sym pushed in
+    let is : listed l (map shown all) ≡ leaves = ap (λ b. ended_by b (take l.runs (map shown all))) both.0 ∙ ap (λ ls. up_to_bad (take l.runs ls)) told ∙ up_taken leaves (map shown rest) l.runs bad few ∙ up in
+    let more : length leaves < length (map shown all) = omega (arith, ap length told, length-append leaves (map shown rest), length-map rest shown) in
+    record {
+      leaves_are = sym is;
+      more_is = sym (some_out l (map shown all) (omega (arith, ap length is)) (λ h. absurd (true≢false (sym both.0 ∙ h))));
+      texts_are = texts_is l.witnesses all rest leaves texts g;
+    }
+
+-- as many are gathered as are asked for
+pub lists_full : (l : Limits) (all rest : List Run) (leaves : List Leaf) (texts : List (List ℕ)) → Gathered l.witnesses all rest leaves texts → 0 < length rest → length leaves ≡ l.runs → (l.until_bad ≡ true → any_bad leaves ≡ false) → Lists l all leaves texts true
+lists_full l all rest leaves texts g some long good =
+    let told : map shown all ≡ leaves ++ map shown rest = told_is l.witnesses all rest leaves texts g in
+    let taken : take l.runs (map shown all) ≡ leaves = ap (λ n. take n (map shown all)) (sym long) ∙ ap (take (length leaves)) told ∙ take-append_seam leaves (map shown rest) in
+    let is : listed l (map shown all) ≡ leaves = ap (ended_by l.until_bad) taken ∙ ended_same l.until_bad leaves (λ h. up_none leaves (good h)) in
+    let more : length leaves < length (map shown all) = omega (arith, ap length told, length-append leaves (map shown rest), length-map rest shown) in
+    record {
+      leaves_are = sym is;
+      more_is = sym (some_out l (map shown all) (omega (arith, ap length is)) (λ h. omega (arith, long)));
+      texts_are = texts_is l.witnesses all rest leaves texts g;
+    }
+
+-- ---- the texts of leaves
+
+one_text : (path : List Step) (n : ℕ) (w : World) (r : Run) → Holds n w r → run_text (prefixed [] path r) ≡ witness_text path n w (shown r)
+one_text path n w r h = ap (λ o. behind_number (witness_by (path ++ steps_by o) r.ending)) (sym h.by)
+
+each_text : (path : List Step) (n k : ℕ) (w : World) (rs : List Run) → AllByRecursion (Holds n w) rs → map run_text (take k (map (prefixed [] path) rs)) ≡ map (witness_text path n w) (take k (map shown rs))
+each_text path n zero w rs h = refl
+each_text path n (suc k) w [] h = refl
+each_text path n (suc k) w (r ∷ rs) h = λ i. one_text path n w r h.0 i ∷ each_text path n k w rs h.1 i
+
+texts_by : (asked : Bool) (path : List Step) (n k : ℕ) (w : World) → run_texts asked (take k (map (prefixed [] path) (walk n w))) ≡ witness_texts asked path n w (take k (map shown (walk n w)))
+texts_by false path n k w = refl
+texts_by true path n k w = each_text path n k w (walk n w) (walk_holds n w)
+
+pub texts_join : (asked : Bool) (path : List Step) (n : ℕ) (w : World) (xs ys : List Leaf) → witness_texts asked path n w (xs ++ ys) ≡ witness_texts asked path n w xs ++ witness_texts asked path n w ys
+texts_join false path n w xs ys = refl
+texts_join true path n w xs ys = map_joins (witness_text path n w) xs ys
+
+-- the leaves that are listed are the first ones
+pub first_listed : (l : Limits) (all leaves : List Leaf) → leaves ≡ listed l all → leaves ≡ take (length leaves) all
+first_listed l all leaves is = is ∙ listed_front l all ∙ ap (λ ls. take (length ls) all) (sym is)
+
+pub texts_hold : (l : Limits) (path : List Step) (n : ℕ) (w : World) (all : List Run) (leaves : List Leaf) (texts : List (List ℕ)) → all ≡ map (prefixed [] path) (walk n w) → leaves ≡ listed l (map shown (walk n w)) → texts ≡ run_texts l.witnesses (take (length leaves) all)
+    → texts ≡ witness_texts l.witnesses path n w leaves
+texts_hold l path n w all leaves texts all_are is told =
+    told ∙ ap (λ rs. run_texts l.witnesses (take (length leaves) rs)) all_are ∙ texts_by l.witnesses path n (length leaves) w
+    ∙ ap (witness_texts l.witnesses path n w) (sym (first_listed l (map shown (walk n w)) leaves is))

@@ -1,0 +1,38 @@
+-- What a search has gathered, and what it lists in the end.
+use Rattle.std.specs.Prelude.{◌≡◌, ℕ, Bool, true, false, List, [], ◌++◌, map, length, take}
+use Rattle.mpd_model.specs.Trail.{Standing, kept}
+use Rattle.mpd_trail.specs.Run.{first_of}
+use Rattle.mpd_explore.specs.declared.report.Leaf.{Leaf}
+use Rattle.mpd_explore.specs.declared.report.Limits.{Limits}
+use Rattle.mpd_explore.specs.declared.search.Bounds.{Bounds}
+use Rattle.mpd_explore.specs.Walk.{Run}
+use Rattle.mpd_explore.specs.Search.{to_come}
+use Rattle.mpd_explore.specs.Report.{shown, listed, left_out}
+use Rattle.mpd_explore.specs.Witness.{witness_by}
+use Rattle.mpd_explore.specs.WitnessTexts.{behind_number}
+
+-- what is to come from where a debugger stands, with no open choice
+abbrev pub to_find : Bounds → Standing → List Run
+to_find b d = to_come (first_of d.trail) b [] (kept d.trail) d.world
+
+-- the text of the witness of a run that has all steps from the start of the script: empty where it is no deadlock
+abbrev pub run_text : Run → List ℕ
+run_text r = behind_number (witness_by r.steps r.ending)
+
+-- the texts of some runs, where they are asked for
+abbrev pub run_texts : Bool → List Run → List (List ℕ)
+run_texts false rs = []
+run_texts true rs = map run_text rs
+
+-- Of all runs some were gathered, in order: these are their leaves and their texts, and the rest is still to come.
+pub record Gathered (asked : Bool) (all rest : List Run) (leaves : List Leaf) (texts : List (List ℕ)) : Type 0 where
+  pub found : List Run
+  pub joined : found ++ rest ≡ all
+  pub leaves_are : leaves ≡ map shown found
+  pub texts_are : texts ≡ run_texts asked found
+
+-- These are the leaves that are to be listed of all runs, with their texts, and whether there are others.
+pub record Lists (l : Limits) (all : List Run) (leaves : List Leaf) (texts : List (List ℕ)) (more : Bool) : Type 0 where
+  pub leaves_are : leaves ≡ listed l (map shown all)
+  pub more_is : more ≡ left_out l (map shown all)
+  pub texts_are : texts ≡ run_texts l.witnesses (take (length leaves) all)
