@@ -64,16 +64,29 @@ fn push_leaf(alloc: Global, out: &mut String, number: usize, leaf: &Leaf) -> Res
     Ok(())
 }
 
-/// Adds a word and a number.
-fn push_number(out: &mut String, word: &str, number: usize) -> Result<(), AllocError>
-    ensures { OnOk result (string_bytes out.new ≡ string_bytes out.old ++ word.now ++ decimal number) }
+/// Adds a number. Most ranks have one digit, which is added as it is.
+#[inline(always)]
+#[tactic(auto, using(std::proofs::lemmas::Fmt::decimal_digit))]
+fn push_decimal(out: &mut String, number: usize) -> Result<(), AllocError>
+    ensures { OnOk result (string_bytes out.new ≡ string_bytes out.old ++ decimal number) }
 {
-    out.push_str(word)?;
+    if number < 10 {
+        return out.push(char::from(b'0' + number as u8));
+    }
     write!(out, "{number}")?;
     Ok(())
 }
 
-/// Adds a step. Its parts are added one by one, which takes less time than `Display` of the step.
+/// Adds a word and a number. It is inlined, so that the length of the word is known where it is added.
+#[inline(always)]
+fn push_number(out: &mut String, word: &str, number: usize) -> Result<(), AllocError>
+    ensures { OnOk result (string_bytes out.new ≡ string_bytes out.old ++ word.now ++ decimal number) }
+{
+    out.push_str(word)?;
+    push_decimal(out, number)
+}
+
+/// Adds a step, part by part: these are many, and `write!` of a step takes longer.
 fn push_step(out: &mut String, step: Step) -> Result<(), AllocError>
     ensures { OnOk result (string_bytes out.new ≡ string_bytes out.old ++ step_text step) }
 {

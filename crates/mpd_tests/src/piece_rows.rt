@@ -94,47 +94,117 @@ fn cuts_runs_into_pieces(rt: HostRuntime) {
     each(&rt, rt.alloc(), SPLITS);
 }
 
-/// Both runs of the race.
-const BOTH: &[&str] = &["[0] done", "[1] deadlock 0.1 1.0"];
+/// The same, but the second receive wants that of the second rank.
+const TURNED: &[u8] =
+    b"mpd 1; ranks 3; var x; var y;\nif rank == 0 { recv x from any tag any; recv y from 1 tag any; } else { send rank to 0 tag 0; }";
 
-/// A report of the race, made piece by piece or, where no number of choices is there, in one: with so many leaves of each piece at
-/// most, its leaves, and whether there are more.
+/// Both runs of the race, and the texts of their witnesses.
+const BOTH: &[&str] = &["[0] done", "[1] deadlock 0.1 1.0"];
+const BOTH_TEXTS: &[&str] = &[
+    "",
+    ": local 0, local 0, local 1, local 1, local 2, local 2, match 2.0 0.0, wake 0, local 0, wake 2\n",
+];
+
+/// Those of the other, of which the first is a deadlock.
+const TURNED_BOTH: &[&str] = &["[0] deadlock 0.1 2.0", "[1] done"];
+const TURNED_FIRST: &[&str] = &["[0] deadlock 0.1 2.0"];
+const TURNED_TEXTS: &[&str] = &[
+    ": local 0, local 0, local 1, local 1, local 2, local 2, match 1.0 0.0, wake 0, local 0, wake 1\n",
+];
+
+/// A report of a script, made piece by piece or, where no number of choices is there, in one: with so many leaves of each piece at
+/// most, up to the first bad one or not, its leaves, the texts of their witnesses, which are asked for where there are some, and
+/// whether there are others.
 struct Reports {
+    script: &'static [u8],
     choices: Option<usize>,
     runs: usize,
+    until_bad: bool,
     leaves: &'static [&'static str],
+    texts: &'static [&'static str],
     more: bool,
 }
 
 const REPORTS: &[Reports] = &[
     Reports {
+        script: RACE,
         choices: None,
         runs: 9,
+        until_bad: false,
         leaves: BOTH,
+        texts: BOTH_TEXTS,
         more: false,
     },
     Reports {
+        script: RACE,
         choices: Some(1),
         runs: 9,
+        until_bad: false,
         leaves: BOTH,
+        texts: BOTH_TEXTS,
         more: false,
     },
     Reports {
+        script: RACE,
         choices: Some(1),
         runs: 1,
+        until_bad: false,
         leaves: BOTH,
+        texts: &[],
         more: false,
     },
     Reports {
+        script: RACE,
         choices: Some(0),
         runs: 1,
+        until_bad: false,
         leaves: &["[0] done"],
+        texts: &[],
         more: true,
     },
     Reports {
+        script: RACE,
         choices: Some(1),
         runs: 0,
+        until_bad: false,
         leaves: &[],
+        texts: &[],
+        more: true,
+    },
+    Reports {
+        script: RACE,
+        choices: None,
+        runs: 9,
+        until_bad: true,
+        leaves: BOTH,
+        texts: &[],
+        more: false,
+    },
+    Reports {
+        script: TURNED,
+        choices: Some(1),
+        runs: 9,
+        until_bad: false,
+        leaves: TURNED_BOTH,
+        texts: &[],
+        more: false,
+    },
+    Reports {
+        script: TURNED,
+        choices: None,
+        runs: 9,
+        until_bad: true,
+        leaves: TURNED_FIRST,
+        texts: TURNED_TEXTS,
+        more: true,
+    },
+    Reports {
+        script: TURNED,
+        choices: Some(1),
+        runs: 1,
+        until_bad: true,
+        leaves: TURNED_FIRST,
+        texts: TURNED_TEXTS,
         more: true,
     },
 ];
@@ -146,6 +216,14 @@ fn reads(rt: &impl Abort, alloc: Global, leaf: &Leaf, wanted: &str) {
     same(rt, text.as_str(), wanted);
 }
 
+/// Asserts the texts of witnesses.
+fn tells(rt: &impl Abort, texts: &[String], wanted: &'static [&'static str]) {
+    same(rt, texts.len(), wanted.len());
+    for (text, own) in texts.iter().zip(wanted) {
+        same(rt, text.as_str(), own);
+    }
+}
+
 /// Asserts what a report says.
 fn says(rt: &impl Abort, alloc: Global, report: &Report, row: &Reports) {
     same(rt, report.more, row.more);
@@ -153,6 +231,7 @@ fn says(rt: &impl Abort, alloc: Global, report: &Report, row: &Reports) {
     for (leaf, wanted) in report.leaves.iter().zip(row.leaves) {
         reads(rt, alloc, leaf, wanted);
     }
+    tells(rt, &report.witnesses, row.texts);
 }
 
 /// Asserts what comes of an exploration.
@@ -161,6 +240,8 @@ fn reports_so(rt: &impl Abort, alloc: Global, code: &Code, row: &Reports) {
     let limits = Limits {
         runs: row.runs,
         fuel: FUEL,
+        witnesses: !row.texts.is_empty(),
+        until_bad: row.until_bad,
     };
     let report = match row.choices {
         None => explore(alloc, &mut debugger, limits, &mut Unwatched).expect(rt, "a report"),
@@ -177,7 +258,7 @@ fn reports_so(rt: &impl Abort, alloc: Global, code: &Code, row: &Reports) {
 
 impl Row for Reports {
     fn holds(&self, rt: &impl Abort, alloc: Global) {
-        let code = lowered(rt, alloc, RACE);
+        let code = lowered(rt, alloc, self.script);
         reports_so(rt, alloc, &code, self);
     }
 }

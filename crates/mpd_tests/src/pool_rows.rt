@@ -25,6 +25,28 @@ const RACE: &[u8] =
 
 const REPORT: &str = "leaf 0 [0] done\nleaf 1 [1] deadlock 0.1 1.0\nleaves 2 more no\n";
 
+/// The same, but the second receive wants that of the second rank, so that the first run ends in a deadlock.
+const TURNED: &[u8] =
+    b"mpd 1; ranks 3; var x; var y; if rank == 0 { recv x from any tag any; recv y from 1 tag any; } else { send rank to 0 tag 0; }";
+
+const TURNED_REPORT: &str = "leaf 0 [0] deadlock 0.1 2.0\nwitness 0: local 0, local 0, local 1, local 1, local 2, local 2, match 1.0 0.0, wake 0, local 0, wake 1\nleaves 1 more yes\n";
+
+/// As many leaves and steps as any run here has, without witnesses, and not only up to the first bad one.
+const ALL: Limits = Limits {
+    runs: 10,
+    fuel: 100,
+    witnesses: false,
+    until_bad: false,
+};
+
+/// The same with witnesses, up to the first bad one.
+const UNTIL_BAD: Limits = Limits {
+    runs: 10,
+    fuel: 100,
+    witnesses: true,
+    until_bad: true,
+};
+
 /// So many workers, and what they find: nothing where their number is refused.
 #[derive(Clone, Copy)]
 struct Crew {
@@ -76,6 +98,29 @@ const CREWS: &[Crew] = &[
     },
 ];
 
+const TURNED_CREWS: &[Crew] = &[
+    Crew {
+        split: 0,
+        workers: 2,
+        found: Some(TURNED_REPORT),
+    },
+    Crew {
+        split: 1,
+        workers: 1,
+        found: Some(TURNED_REPORT),
+    },
+    Crew {
+        split: 1,
+        workers: 2,
+        found: Some(TURNED_REPORT),
+    },
+    Crew {
+        split: 1,
+        workers: 16,
+        found: Some(TURNED_REPORT),
+    },
+];
+
 /// The printed report of so many workers, if there is one.
 fn report_of<G: Gate, R: Threads + Wait + Sync>(
     rt: &R,
@@ -89,7 +134,7 @@ fn report_of<G: Gate, R: Threads + Wait + Sync>(
 {
     let mut debugger = Debugger::start(alloc, code, Mode::Rendezvous).ok()?;
     let report = check(rt, alloc, &mut debugger, plan, workers, gate).ok()?;
-    print_report(alloc, &mut debugger, plan.limits.fuel, &report, false).ok()
+    print_report(alloc, &report).ok()
 }
 
 /// Whether workers find a text, or nothing.
@@ -98,14 +143,14 @@ fn finds<G: Gate, R: Threads + Wait + Sync>(
     alloc: Global,
     code: &Code,
     crew: &Crew,
+    limits: Limits,
     gate: &G,
-) -> bool {
+) -> bool
+    requires { limits.fuel ≤ STEPS_MAX }
+{
     let plan = CheckPlan {
         split: crew.split,
-        limits: Limits {
-            runs: 10,
-            fuel: 100,
-        },
+        limits,
     };
     match (
         report_of(rt, alloc, code, plan, crew.workers, gate),
@@ -122,7 +167,16 @@ fn the_report_is_the_same_for_every_number_of_workers(rt: HostRuntime) {
     let alloc = rt.alloc();
     let code = lowered(&rt, alloc, RACE);
     for crew in CREWS {
-        same(&rt, finds(&rt, alloc, &code, crew, &Ungated), true);
+        same(&rt, finds(&rt, alloc, &code, crew, ALL, &Ungated), true);
+    }
+}
+
+#[test]
+fn the_report_ends_with_the_first_deadlock(rt: HostRuntime) {
+    let alloc = rt.alloc();
+    let code = lowered(&rt, alloc, TURNED);
+    for crew in TURNED_CREWS {
+        same(&rt, finds(&rt, alloc, &code, crew, UNTIL_BAD, &Ungated), true);
     }
 }
 
@@ -192,6 +246,6 @@ fn two_workers_explore_at_once(rt: HostRuntime) {
         workers: 2,
         found: Some(REPORT),
     };
-    same(&rt, finds(&rt, alloc, &code, &crew, &gate), true);
+    same(&rt, finds(&rt, alloc, &code, &crew, ALL, &gate), true);
     same(&rt, begun.met.load(Ordering::SeqCst), 2);
 }
