@@ -29,18 +29,20 @@ void *__libc_realloc(void *old, size_t size);
 void *__libc_memalign(size_t alignment, size_t size);
 
 static int is_inside, refuses_inside;
-static unsigned long inside, outside, refused, refused_from, refused_one;
+static unsigned long inside, outside, refused, refused_from, refused_one, requests;
+
+/* One more of what threads may count at the same time. */
+static unsigned long counted(unsigned long *number) {
+    return __atomic_add_fetch(number, 1, __ATOMIC_RELAXED);
+}
 
 /* Counts one request; whether it is to be refused. */
 static int refuses(void) {
-    if (is_inside)
-        inside++;
-    else
-        outside++;
-    unsigned long number = inside + outside;
+    counted(is_inside ? &inside : &outside);
+    unsigned long number = counted(&requests);
     int is_refused = (is_inside && refuses_inside) || (refused_from && number >= refused_from) || number == refused_one;
     if (is_refused) {
-        refused++;
+        counted(&refused);
         *__errno_location() = NO_MEMORY;
     }
     return is_refused;

@@ -5,7 +5,7 @@
 The examples, and the worked rows of compare/worked_program.py; devices that are full, closed, broken off, too short or interrupted;
 each fault of a script; the words of the command line, and the order in which they are tested; a script from a file; a refused
 script and a long check at a terminal; as many steps and reads as there may be; the deepest scripts on a small stack; more answers than memory;
-answers that come before the next read; and all that of `run` (session_statuses.py). The status is 0 where every run ended as it must.
+answers that come before the next read; parts of a check that are joined (part_statuses.py); and all that of `run` (session_statuses.py). The status is 0 where every run ended as it must.
 """
 
 import itertools
@@ -22,6 +22,7 @@ from debugger import MOST_READS, MOST_STEPS, RENDEZVOUS, Debugger, Result, Step,
 from devices import SECONDS, Files, at_terminal, broken_off, device, file_of_any_size, full, refused, soft_limit, unread_pipe
 from examples import EXAMPLES, checks, example_names, lessons, open_example, strays
 from language import MOST_OPEN_BLOCKS, MOST_OPERATORS, read_script
+from part_statuses import ROWS as PART_ROWS
 from runs import file_of, run_in_packets
 from session_statuses import ROWS as SESSION_ROWS
 from shims import built
@@ -433,15 +434,17 @@ SUMMED = (
     ('head_to_head', '', 1, 'every way it can end is listed: it always ends, in 1 way, 1 of them a deadlock'),
     ('trap', '', 1, 'every way it can end is listed: it always ends, in 1 way, 1 of them a trap'),
     ('one_in_seven', '--complete', 1, 'every way it can end is listed: it always ends, in 7 ways, 1 of them a deadlock'),
-    ('one_in_seven', '--runs 6', 0, 'not everything was tried: 6 runs were listed, and there are more (--runs)'),
-    ('one_in_seven', '--runs 6 --complete', 4, 'not everything was tried: 6 runs were listed, and there are more (--runs)'),
-    ('one_in_seven', '--runs 1 --complete', 4, 'not everything was tried: 1 run was listed, and there are more (--runs)'),
+    ('one_in_seven', '--runs 1 --complete', 1, 'every way it can end is listed: it always ends, in 7 ways, 1 of them a deadlock'),
+    ('one_in_seven', '--split 0 --runs 6', 0, 'not everything was tried: 6 runs were listed, and there are more (--runs)'),
+    ('one_in_seven', '--split 0 --runs 6 --complete', 4, 'not everything was tried: 6 runs were listed, and there are more (--runs)'),
+    ('one_in_seven', '--split 0 --runs 1 --complete', 4, 'not everything was tried: 1 run was listed, and there are more (--runs)'),
     ('one_in_seven', '--fuel 63', 0, 'not everything was tried: 1 run was cut (--fuel)'),
     ('one_in_seven', '--fuel 63 --complete', 4, 'not everything was tried: 1 run was cut (--fuel)'),
-    ('one_in_seven', '--runs 6 --fuel 40 --complete', 4,
+    ('one_in_seven', '--fuel 40 --complete', 4, 'not everything was tried: 7 runs were cut (--fuel)'),
+    ('one_in_seven', '--split 0 --runs 6 --fuel 40 --complete', 4,
      'not everything was tried: 6 runs were listed, and there are more (--runs), 6 runs were cut (--fuel)'),
     # a deadlock was found, so the status is not that of a report that isn't whole
-    ('race', '--runs 1 --complete', 1, 'not everything was tried: 1 run was listed, and there are more (--runs)'),
+    ('race', '--split 0 --runs 1 --complete', 1, 'not everything was tried: 1 run was listed, and there are more (--runs)'),
 )
 
 
@@ -494,7 +497,7 @@ def much_rows(program):
 
 
 ROWS = (ended_rows, example_rows, refused_rows, device_rows, usage_rows, trace_rows, terminal_rows, found_rows, why_rows, progress_rows, summed_rows,
-        interrupted_rows, talk_rows, stack_rows, much_rows, full_rows, turns_rows, lesson_rows, *WORKED_ROWS, *SESSION_ROWS)
+        interrupted_rows, talk_rows, stack_rows, much_rows, full_rows, turns_rows, lesson_rows, *WORKED_ROWS, *PART_ROWS, *SESSION_ROWS)
 
 
 def main():
