@@ -29,20 +29,20 @@ void *__libc_realloc(void *old, size_t size);
 void *__libc_memalign(size_t alignment, size_t size);
 
 static int is_inside, refuses_inside;
-static unsigned long inside, outside, refused, refused_from, refused_one, requests;
+static unsigned long asked_for, inside, outside, refused, refused_from, refused_one;
 
-/* One more of what threads may count at the same time. */
-static unsigned long counted(unsigned long *number) {
-    return __atomic_add_fetch(number, 1, __ATOMIC_RELAXED);
+/* One more of what several threads may count. */
+static unsigned long count(unsigned long *counter) {
+    return __atomic_add_fetch(counter, 1, __ATOMIC_SEQ_CST);
 }
 
 /* Counts one request; whether it is to be refused. */
 static int refuses(void) {
-    counted(is_inside ? &inside : &outside);
-    unsigned long number = counted(&requests);
+    count(is_inside ? &inside : &outside);
+    unsigned long number = count(&asked_for);
     int is_refused = (is_inside && refuses_inside) || (refused_from && number >= refused_from) || number == refused_one;
     if (is_refused) {
-        counted(&refused);
+        count(&refused);
         *__errno_location() = NO_MEMORY;
     }
     return is_refused;

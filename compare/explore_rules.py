@@ -1,7 +1,7 @@
 """The explorer: what must hold of its reports and of witnesses, told in other words than compare/explorer.py does.
 
     python3 compare/explore_rules.py             300 random scripts (explore_cases.py), in both modes
-    python3 compare/explore_rules.py --broken    faults of the model (explore_faults.py), each of which these scripts must notice
+    python3 compare/explore_rules.py --broken    faults of the model (explore_faults.py, piece_faults.py), each of which these must notice
 
 Of each script it is checked that the choices of its leaves rise and none begins another's, that each list is the very next behind
 that before it, by how many candidates there are where the steps are followed anew, and that the last one is the last where it is said
@@ -31,6 +31,7 @@ from explore_faults import breakages
 from explorer import CUT, MOST_SPLIT, NO_SUCH_STEP, NOT_STUCK, WRONG_BLOCKED, Asked, Refusal, Report, Run, Witness
 from follow import due
 from language import Fault, read_script
+from piece_faults import report_breakages
 from policy import Choice
 
 RUNS = (5, 20, 40, 40)
@@ -468,7 +469,7 @@ def missed(met):
 def check_broken(seed, count):
     """How many broken models are not noticed."""
     unnoticed = 0
-    for breakage in breakages():
+    for breakage in [*breakages(), *report_breakages()]:
         with mock.patch.object(breakage.owner, breakage.attribute, breakage.replacement):
             _, wrong = check(seed, count, to_end=False)
         unnoticed += not wrong

@@ -1,15 +1,20 @@
-"""Parts of a check, each in a file, and what examples/join_parts.sh makes of them; compare/statuses.py runs these.
+"""Parts of a check, each in a file, and what examples/join_parts.sh makes of them; what a terminal is told of pieces; and workers on a
+small stack.
 
-What is joined from parts that were written by hand was worked out by hand too. The parts that the program writes, joined, must be what it
-writes of the whole.
+compare/statuses.py runs these. What is joined from parts that were written by hand was worked out by hand too. The parts that the program
+writes, joined, must be what it writes of the whole.
 """
 
 import os
+import resource
 import tempfile
 
 from debugger import Result
-from devices import Files
+from devices import Files, at_terminal, soft_limit
 from examples import EXAMPLES
+from language import MOST_OPEN_BLOCKS, MOST_OPERATORS
+from runs import held
+from worked_pieces import ONE_MORE
 
 JOIN = os.path.join(EXAMPLES, 'join_parts.sh')
 PARTS = ('leaf 0 [0] done\nleaves 1 more no\n',
@@ -68,4 +73,42 @@ def part_rows(program):
         yield f'{name} {options}, one piece more', behind, Result(b'', f'mpdbg: no piece {count} of {count}\n'.encode(), 2)
 
 
-ROWS = (join_rows, part_rows)
+def told_rows(program):
+    """At a terminal, and there alone, a check that is refused is told what there may be; of one piece no line says that it is all."""
+    with tempfile.TemporaryDirectory() as folder:
+        race, many = os.path.join(EXAMPLES, 'race.mpd'), held(folder, 'many.mpd', ONE_MORE.encode())
+        for words, line, more in (
+                ((race, '--workers', '17'), b'refused 35 bad-workers', b'  1 to 16 workers can be had (--workers)\n'),
+                ((many, '--split', '5'), b'refused 31 too-many-pieces', b'  there can be 1,024; fewer choices make fewer (--split)\n'),
+                ((race, '--piece', '2'), b'no piece 2 of 2', b'')):
+            yield f'a terminal, {line}', at_terminal(program, 'check', *words), Result(b'', b'mpdbg: %b\n%b' % (line, more), 2)
+            yield f'no terminal, {line}', Files(None).run(program, 'check', *words), Result(b'', b'mpdbg: %b\n' % line, 2)
+        for words, output, status in ((('--piece', '1'), b'leaf 0 [1] done\nleaves 1 more no\n', 0), (('--pieces',), b'pieces 2\n', 0)):
+            yield f'a terminal, {words}', at_terminal(program, 'check', race, *words), Result(output, b'', status)
+
+
+# What workers run with, which have the deepest expressions in the deepest blocks (docs/LANGUAGE.md, "Limits"), by their forms.
+STACK_KIB = 512
+FORMS = (('(', ')', 1), ('-', '', 1), ('a[', ']', 1), ('(1 + ', ')', 2), ('(-a[', '])', 3))
+
+
+def deepest(opening, closing, cost):
+    """A race whose winner runs the deepest blocks with the deepest expression."""
+    value = opening * (MOST_OPERATORS // cost) + '0' + closing * (MOST_OPERATORS // cost)
+    inside = f'{"if 1 { " * (MOST_OPEN_BLOCKS - 1)}print {value};{" }" * (MOST_OPEN_BLOCKS - 1)}'
+    receives = 'recv x from any tag any; ' * 2
+    return f'mpd 1; ranks 3; var x; var a[1];\nif rank == 0 {{ {receives}{inside} }} else {{ send 1 to 0 tag 0; }}'.encode()
+
+
+def stack_rows(program):
+    """Two workers with the deepest scripts, on a stack of so many KiB."""
+    with tempfile.TemporaryDirectory() as folder:
+        for opening, closing, cost in FORMS:
+            script = held(folder, 'deep.mpd', deepest(opening, closing, cost))
+            with soft_limit(resource.RLIMIT_STACK, STACK_KIB << 10):
+                result = Files(None).run(program, 'check', script, '--workers', '2')
+            wanted = Result(b'leaf 0 [0 0] done\nleaf 1 [1 0] done\nleaves 2 more no\n', b'', 0)
+            yield f'workers, {opening} on {STACK_KIB} KiB', result, wanted
+
+
+ROWS = (join_rows, part_rows, told_rows, stack_rows)

@@ -112,7 +112,7 @@ def beside(seed, number, case, script):
     if draw < 0.15:
         other, name = asked._replace(pieces=True), 'pieces'
     elif draw < 0.5:
-        other, name = asked._replace(piece=one_piece(random, script, asked)), 'piece'
+        other, name = asked._replace(piece=one_piece(random, script, asked), until=random.random() < 0.3), 'piece'
     elif draw < 0.85:
         other, name = asked._replace(until=True), 'until'
     else:
@@ -139,7 +139,8 @@ def by_split(seed, number, split, case, script):
         asked = with_less_fuel(asked, len(cut(script, asked)))
         asked = with_few_runs(random, script, asked, MOST_LEAVES_BY_EVERY)
     other = asked._replace(workers=workers_of(number, split + 5))
-    others = other._replace(pieces=True), other._replace(until=True), other._replace(piece=one_piece(random, script, asked))
+    one = other._replace(piece=one_piece(random, script, asked), until=random.random() < 0.3)
+    others = other._replace(pieces=True), other._replace(until=True), one
     return [case._replace(name=f'{case.name}-{split}', asked=asked),
             case._replace(name=f'{case.name}-{split}-other', asked=others[(number + split) % 3])]
 

@@ -1,4 +1,5 @@
-"""Faults that are put into the checks by pieces of the model on purpose: explore.py must notice each, in a worked row or a random script."""
+"""Faults that are put into the checks by pieces of the model on purpose: explore.py must notice each, in a worked row or a random script,
+and explore_rules.py those of what is reported."""
 
 import re
 from itertools import islice
@@ -80,7 +81,7 @@ def piece_faults():
     splits = (
         ('cut by one choice less', lambda split: max(0, split - 1)), ('cut by one choice more', lambda split: split + 1),
         ('never cut', lambda split: 0), ('cut by one choice at most', lambda split: min(split, 1)),
-        ('cut by seven choices at most', lambda split: min(split, 7)), ('cut by one choice at least', lambda split: max(split, 1)))
+        ('cut by one choice at least', lambda split: max(split, 1)))
     return ([Breakage(name, explorer, 'pieces', other_pieces(change)) for name, change in changes]
             + [Breakage(name, explorer, 'pieces', of_whole(lambda begun, split, change=change: SOUND.pieces(begun, change(split))))
                for name, change in splits]
@@ -177,6 +178,7 @@ def report_faults():
         ('parts in the order of the workers', in_order_of_workers), ('so many runs of all pieces together', runs_of_all_together),
         ('the runs that the piece before has left', runs_that_are_left), ('up to the first deadlock of each piece', up_to_bad_of_each),
         ('the whole piece that has the first deadlock', up_to_piece_of_bad), ('more of the whole for a piece', more_of_whole),
+        ('not up to the first deadlock where it is a piece', other_asked(lambda cut, asked: asked._replace(until=asked.until and asked.piece is None))),
         ('the whole for a piece', other_asked(lambda cut, asked: asked._replace(piece=None))),
         ('the first piece for each', other_asked(lambda cut, asked: asked._replace(piece=asked.piece and 0))),
         ('the piece before', other_asked(lambda cut, asked: asked._replace(piece=asked.piece and asked.piece - 1))),
@@ -304,9 +306,16 @@ def refusal_faults():
         ('the status of a report where pieces are counted', said_otherwise(lambda said, script, asked: said if not asked.pieces or said.status else (
             said._replace(status=SOUND.checked(script, asked._replace(pieces=False, piece=None)).status)))))
     return ([Breakage(name, explorer, attribute, value) for name, attribute, value in limits]
-            + [Breakage(name, explorer, 'checked', replacement) for name, replacement in said])
+            + [Breakage(name, explorer, 'checked', replacement) for name, replacement in said]
+            # (no script of explore_rules.py has so many choices)
+            + [Breakage('cut by seven choices at most', explorer, 'pieces', of_whole(lambda begun, split: SOUND.pieces(begun, min(split, 7))))])
+
+
+def report_breakages():
+    """Those of which pieces there are and of what is reported of them."""
+    return [*piece_faults(), *join_faults(), *report_faults(), *until_faults()]
 
 
 def breakages():
     """All of them."""
-    return [*piece_faults(), *join_faults(), *report_faults(), *until_faults(), *refusal_faults()]
+    return [*report_breakages(), *refusal_faults()]

@@ -106,17 +106,12 @@ Arguments:
   <FILE>  The script
 
 Options:
-      --mode <M>     How standard sends behave: rendezvous or buffered [default: rendezvous]
-      --runs <N>     How many runs are tried at most, 1 to 65536 [default: 1000]
-      --fuel <N>     How many steps each run takes at most, 1 to 1000000 [default: 100000]
-      --split <K>    By how many choices the runs are cut into pieces, 0 to 8 [default: 1]
-      --workers <N>  How many workers make the report, 1 to 16 [default: 4]
-      --until <END>  List the runs up to the first that ends in a deadlock or a trap [possible values: deadlock]
-      --witness      Print the trace words of a run that comes to a deadlock
-      --complete     End with status 4 where nothing was found and not all was tried
-      --piece <N>    Print the part of the report that piece N has, 0 to 1023
-      --pieces       Print how many pieces there are, and nothing else
-  -h, --help         Print help
+      --mode <M>  How standard sends behave: rendezvous or buffered [default: rendezvous]
+      --runs <N>  How many runs are tried at most, 1 to 65536 [default: 1000]
+      --fuel <N>  How many steps each run takes at most, 1 to 1000000 [default: 100000]
+      --witness   Print the trace words of a run that comes to a deadlock
+      --complete  End with status 4 where nothing was found and not all was tried
+  -h, --help      Print help
 
 Example:
   ./mpdbg check examples/exchange.mpd --witness
@@ -148,7 +143,6 @@ ANSWERS = (
     ('run|--help', RUN), ('run|-h', RUN), ('help|run', RUN), ('run|no-such-file|--mode|no-mode|--help', RUN),
     ('serve|--help', SERVE), ('serve|-h', SERVE), ('help|serve', SERVE), ('serve|no-such-file|--port|1|--mode|no-mode|--help', SERVE),
     ('check|--help', CHECK), ('check|-h', CHECK), ('help|check', CHECK), ('check|a|--runs|5|-h', CHECK),
-    ('check|a|--workers|0|--until|deadlock|--piece|9|--help', CHECK),
     ('verify|--help', VERIFY), ('verify|-h', VERIFY), ('help|verify', VERIFY), ('verify|a|b|--help', VERIFY))
 
 NO_COMMAND = 'mpdbg <COMMAND>'
@@ -189,11 +183,6 @@ def bad_number(words, value, option, why, name='N'):
     return Mistake(words, f"invalid value '{value}' for '--{option} <{name}>': {why}")
 
 
-def bad_end(words, what, tip=''):
-    """A wrong word behind `--until`, of which there is one alone."""
-    return Mistake(words, f'{what}\n  [possible values: deadlock]', tip=tip)
-
-
 NO_DIGIT, TOO_LARGE = 'invalid digit found in string', 'number too large to fit in target type'
 
 MISTAKES = (
@@ -227,7 +216,6 @@ MISTAKES = (
     missing('serve|--port|4000|--|--clients', ['--clients <N>'], WANTED_OF_SERVE),
     missing('serve|a|--mode|buffered|--clients|2', ['--port <P>'], 'mpdbg serve --port <P> --clients <N> --mode <M> <FILE>'),
     missing('check', ['<FILE>'], 'mpdbg check <FILE>'),
-    missing('check|--split|2', ['<FILE>'], 'mpdbg check --split <K> <FILE>'),
     missing('verify', ['<FILE>', '<WITNESS>'], 'mpdbg verify <FILE> <WITNESS>'),
     missing('verify|a', ['<WITNESS>'], 'mpdbg verify <FILE> <WITNESS>'),
     unknown('trace|a|b', 'b', OF_TRACE),
@@ -247,15 +235,11 @@ MISTAKES = (
     hyphened('serve|a|--runs|5', '--runs', WANTED_OF_SERVE),
     hyphened('serve|a|-p|4000', '-p', OF_SERVE),
     hyphened('serve|a|--port|-1', '-1', OF_SERVE),
-    unknown('check|a|--worker|2', '--worker', 'mpdbg check --workers <N> <FILE>', "a similar argument exists: '--workers'"),
-    unknown('check|a|--peice|2', '--peice', 'mpdbg check --piece <N> <FILE>', "a similar argument exists: '--piece'"),
     hyphened('check|a|--clients|2', '--clients', 'mpdbg check <FILE>'),
     hyphened('trace|a|-m', '-m', OF_TRACE),
     hyphened('trace|-x', '-x', OF_TRACE),
     hyphened('trace|--version', '--version', OF_TRACE),
     hyphened('trace|a|--witness', '--witness', 'mpdbg trace <FILE>'),
-    hyphened('trace|a|--split|1', '--split', 'mpdbg trace <FILE>'),
-    hyphened('run|a|--pieces', '--pieces', 'mpdbg run <FILE>'),
     hyphened('verify|a|b|--runs|1', '--runs', 'mpdbg verify <FILE> <WITNESS>'),
     hyphened('check|a|--runs|-1', '-1', OF_CHECK),
     Mistake('trace|a|--mode', "a value is required for '--mode <M>' but none was supplied"),
@@ -270,17 +254,6 @@ MISTAKES = (
     Mistake('verify|a|b|--mode=c|--mode=c', "the argument '--mode <M>' cannot be used multiple times", OF_VERIFY),
     Mistake('check|a|--runs|5|--runs=5', "the argument '--runs <N>' cannot be used multiple times", OF_CHECK),
     Mistake('check|a|--witness|--witness', "the argument '--witness' cannot be used multiple times", OF_CHECK),
-    Mistake('check|a|--split', "a value is required for '--split <K>' but none was supplied"),
-    Mistake('check|a|--workers|--pieces', "a value is required for '--workers <N>' but none was supplied"),
-    Mistake('check|a|--split|1|--split=1', "the argument '--split <K>' cannot be used multiple times", OF_CHECK),
-    Mistake('check|a|--piece=1|--piece=2', "the argument '--piece <N>' cannot be used multiple times", OF_CHECK),
-    Mistake('check|a|--pieces|--pieces', "the argument '--pieces' cannot be used multiple times", OF_CHECK),
-    Mistake('check|a|--pieces=2', "unexpected value '2' for '--pieces' found; no more were expected", 'mpdbg check --pieces <FILE>'),
-    Mistake('check|a|--until|deadlock|--until|deadlock', "the argument '--until <END>' cannot be used multiple times", OF_CHECK),
-    bad_end('check|a|--until', "a value is required for '--until <END>' but none was supplied"),
-    bad_end('check|a|--until=', "a value is required for '--until <END>' but none was supplied"),
-    bad_end('check|a|--until|trap', "invalid value 'trap' for '--until <END>'"),
-    bad_end('check|a|--until|deadlocks', "invalid value 'deadlocks' for '--until <END>'", "a similar value exists: 'deadlock'"),
     Mistake('check|a|--witness=true', "unexpected value 'true' for '--witness' found; no more were expected", 'mpdbg check --witness <FILE>'),
     # numbers
     bad_number('serve|a|--port|0|--clients|2', '0', 'port', '0 is not in 1..=65535', 'P'),
@@ -297,11 +270,6 @@ MISTAKES = (
     bad_number('check|a|--fuel|ten', 'ten', 'fuel', NO_DIGIT),
     bad_number('check|a|--fuel|1.5', '1.5', 'fuel', NO_DIGIT),
     bad_number('check|a|--runs=', '', 'runs', 'cannot parse integer from empty string'),
-    bad_number('check|a|--split|9', '9', 'split', '9 is not in 0..=8', 'K'),
-    bad_number('check|a|--split=two', 'two', 'split', NO_DIGIT, 'K'),
-    bad_number('check|a|--workers|1001', '1001', 'workers', '1001 is not in 0..=1000'),
-    bad_number('check|a|--piece=1024', '1024', 'piece', '1024 is not in 0..=1023'),
-    bad_number('check|a|--piece=', '', 'piece', 'cannot parse integer from empty string'),
     bad_number('check|a|--runs|99999999999999999999', '99999999999999999999', 'runs', TOO_LARGE))
 
 # Words that are wrong, behind a mode that is none: `{FILE}` is there.

@@ -21,6 +21,9 @@ ONE_OR_THREE = ('mpd 1; ranks 4; var x; req r;\n'
                 'if x == 1 { recv x from any tag any; recv x from any tag any; } } else { isend r rank to 0 tag 0; }')
 BY_FIRST, BY_SECOND, BY_THIRD = (ONE_OR_THREE.replace('STATEMENT', '').replace('x == 1', f'x == {rank}') for rank in (1, 2, 3))
 STUCK_BY_2, STUCK_BY_3 = (ONE_OR_THREE.replace('STATEMENT', f'if x == {rank} {{ recv x from 3 tag 9; }}') for rank in (2, 3))
+# The second message that rank 0 receives must not be that of rank 2.
+NOT_TWO = ('mpd 1; ranks 4; var x; req r;\nif rank == 0 { recv x from any tag any; recv x from any tag any; assert x != 2; }\n'
+           'else { isend r rank to 0 tag 0; }')
 ALL_BY_FIRST = 'leaf 0 [0 0 0] done; leaf 1 [0 1 0] done; leaf 2 [1] leftovers 1.0 3.0; leaf 3 [2] leftovers 1.0 2.0; leaves 4 more no'
 # The first choice is among all senders; behind the message of one of four there are four choices more, each among these four.
 FOURS = ('mpd 1; ranks RANKS; var x; var i; req r;\n'
@@ -74,6 +77,7 @@ NUMBERS = (
     CheckRow(BY_FIRST, Asked(pieces=True), 'pieces 3', 0),
     CheckRow(BY_FIRST, Asked(BUFFERED, 1, 100, True, True, 2, 16, True, pieces=True), 'pieces 4', 0),
     CheckRow(THREE, Asked(BUFFERED, complete=True, runs=1, split=0, pieces=True), 'pieces 1', 0),
+    CheckRow(THREE, Asked(pieces=True, piece=1), 'pieces 2', 0), CheckRow(THREE, Asked(pieces=True, piece=9), 'pieces 2', 0),
     # fifteen senders, two choices and three; 4 * 4 * 4 * 4 * 4 pieces, and one more
     CheckRow(SIXTEEN, Asked(pieces=True), 'pieces 15', 0), CheckRow(SIXTEEN, Asked(split=2, pieces=True), 'pieces 225', 0),
     refused(SIXTEEN, Asked(split=3, pieces=True), TOO_MANY), refused(SIXTEEN, Asked(split=3), TOO_MANY),
@@ -144,6 +148,13 @@ UNTIL = (
     CheckRow(STUCK_BY_3, Asked(runs=1, until=True), 'leaf 0 [0 0 0] done; leaf 1 [1] leftovers 1.0 3.0; leaf 2 [2] deadlock 0.1; leaves 3 more yes', 1),
     CheckRow(STUCK_BY_3, Asked(runs=2, until=True), ALL_BY_FIRST.replace('leftovers 1.0 2.0', 'deadlock 0.1'), 1),
     CheckRow(STUCK_BY_2, Asked(runs=1, until=True), 'leaf 0 [0 0 0] done; leaf 1 [1] deadlock 0.1; leaves 2 more yes', 1),
+    # of a piece alone it is the first one of that piece, and what the piece leaves out
+    CheckRow(NOT_TWO, Asked(until=True), 'leaf 0 [0 0] trap 0 assert; leaves 1 more yes', 1),
+    CheckRow(NOT_TWO, Asked(until=True, piece=0), 'leaf 0 [0 0] trap 0 assert; leaves 1 more yes', 1),
+    CheckRow(NOT_TWO, Asked(until=True, piece=1), 'leaf 0 [1 0] leftovers 3.0; leaf 1 [1 1] leftovers 1.0; leaves 2 more no', 0),
+    CheckRow(NOT_TWO, Asked(until=True, piece=2), 'leaf 0 [2 0] leftovers 2.0; leaf 1 [2 1] trap 0 assert; leaves 2 more no', 1),
+    CheckRow(NOT_TWO, Asked(until=True, piece=2, runs=1), 'leaf 0 [2 0] leftovers 2.0; leaves 1 more yes', 0),
+    CheckRow(NOT_TWO, Asked(until=True, piece=5, split=2), 'leaf 0 [2 1] trap 0 assert; leaves 1 more no', 1),
     # what is none doesn't end it: leftovers, a run that is cut
     CheckRow(BY_FIRST, Asked(runs=2, until=True, complete=True), ALL_BY_FIRST, 0),
     CheckRow(BY_FIRST, Asked(runs=1, until=True, complete=True),
