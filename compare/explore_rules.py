@@ -341,6 +341,12 @@ def pieces_wrong(random, seen, text, met):
     if said.output.decode() != explorer.report_text(due_report, asked.witnesses) or said.status != is_bad(due_report.leaves):
         wrong.append(f'a check by {split}, {asked}')
     alone = [explorer.answer(text, asked._replace(until=False, piece=number)).output.decode() for number in range(len(cut))]
+    if alone != [explorer.report_text(found, asked.witnesses) for found in parts]:
+        wrong.append(f'the text of a part by {split}')
+    one = random.randrange(len(parts))
+    ended = explorer.answer(text, asked._replace(until=True, piece=one)).output.decode()
+    if ended != explorer.report_text(up_to_bad_due(parts[one].leaves, not parts[one].more), asked.witnesses):
+        wrong.append(f'piece {one} by {split} up to its first deadlock')
     if joined_texts(alone) != explorer.answer(text, asked._replace(until=False)).output.decode():
         wrong.append(f'the parts by {split}, joined')
     if explorer.answer(text, asked._replace(pieces=True)).output.decode() != f'pieces {len(parts)}\n':
@@ -441,7 +447,9 @@ def wrong_of(random, text, script, mode, met):
     wrong = fewer_wrong(random, seen, met) + text_wrong(random, seen, text, met) + witnesses_wrong(random, seen, met)
     wrong += [] if is_lazy(random, seen) else ['more is explored than is asked for']
     if not seen.found.more:
-        wrong += less_fuel_wrong(random, seen, met) + place_wrong(random, seen, met) + pieces_wrong(random, seen, text, met)
+        wrong += less_fuel_wrong(random, seen, met) + place_wrong(random, seen, met)
+        for _ in range(4 if len(seen.found.leaves) > 2 else 1):
+            wrong += pieces_wrong(random, seen, text, met)
     return wrong
 
 

@@ -218,7 +218,6 @@ def until_faults():
         ('one leaf behind the first deadlock', lambda found, said, count: Report(found.leaves[:count + 1], found.more or count + 1 < len(found.leaves))),
         ('more is always yes where it stops', lambda found, said, count: said._replace(more=True)),
         ('more is always no where it stops', lambda found, said, count: said._replace(more=False)),
-        ('more by the leaves that are left alone', lambda found, said, count: said._replace(more=count < len(found.leaves))),
         ('more by the runs of pieces alone', lambda found, said, count: said._replace(more=found.more)),
         ('it does not stop', lambda found, said, count: found))
     return ([Breakage(f'stops at {name}', explorer, 'up_to_bad', stopping_at(lambda leaf, words=words: leaf.outcome.split()[0] in words))
@@ -307,8 +306,11 @@ def refusal_faults():
             said._replace(status=SOUND.checked(script, asked._replace(pieces=False, piece=None)).status)))))
     return ([Breakage(name, explorer, attribute, value) for name, attribute, value in limits]
             + [Breakage(name, explorer, 'checked', replacement) for name, replacement in said]
-            # (no script of explore_rules.py has so many choices)
-            + [Breakage('cut by seven choices at most', explorer, 'pieces', of_whole(lambda begun, split: SOUND.pieces(begun, min(split, 7))))])
+            + [Breakage(name, explorer, attribute, replacement) for name, attribute, replacement in (
+                # (which no script of explore_rules.py meets)
+                ('cut by seven choices at most', 'pieces', of_whole(lambda begun, split: SOUND.pieces(begun, min(split, 7)))),
+                ('until: more by the leaves that are left alone', 'up_to_bad', stopped_otherwise(
+                    lambda found, said, count: said._replace(more=count < len(found.leaves)))))])
 
 
 def report_breakages():
