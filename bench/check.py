@@ -6,12 +6,16 @@
 It is no part of the gate. For each script both must write the same report, byte for byte, with the same status, and both must
 have taken the same number of steps, else the status is 1. How many the program took is read off its own reports: with a fuel of
 d steps it lists one leaf for each state of depth d on the way to the leaves, so these reports, one for each d, count the steps
-(`steps_of`). Where a script has many leaves that is done for the first of them.
+(`steps_of`). Where a script has many leaves that is done for the first of them. There the program has one piece (`--split 0`).
 
 The table has, of both, the best of N whole runs by the clock (9, where it isn't said), and what a step takes with its decision
 and its undo: the least processor time of a run, less that of a script that has no step, by the number of steps. Every step is
 taken back, so there are as many undos. With --instructions it has the instructions of a step too, as valgrind counts them, which
-are the same however busy the machine is. The last lines say which of the bounds of docs/SPEED.md are kept.
+are the same however busy the machine is. The lines below say which of the bounds of docs/SPEED.md are kept.
+
+The second table has the scripts of many leaves once more, cut by two choices, with 1, 2 and 4 workers side by side: whole runs by the
+clock, the best of N, and how many times as fast as one worker the others are. The report must be the same for all of them, and that
+of the plain explorer where this lists all leaves. Where it doesn't, each piece lists so many that all together are about as many.
 """
 import argparse
 import bisect
@@ -34,6 +38,8 @@ COUNTED_LEAVES = 500
 MANY = 10_000
 # A step with its decision and its undo takes so many times as long as in the plain explorer, at most; the race so many seconds.
 MOST_RATIO, RACE_SECONDS = 3, 0.005
+# By how many choices scripts are cut for workers, how many of these there are, and of how many leaves a script must be for them.
+SPLIT, WORKERS, LEAVES_FOR_WORKERS = 2, (1, 2, 4), 2000
 
 EMPTY = 'mpd 1; ranks 1;'
 LOOP = 'mpd 1; ranks 1; var i; while 1 { i = i + 1; }'
@@ -123,7 +129,20 @@ class Explorers:
     def words(self, case):
         """How the program explores a script, and how the plain explorer does."""
         file, runs, fuel = self.file(case), str(case.runs), str(case.fuel)
-        return [self.program, 'check', file, '--runs', runs, '--fuel', fuel], [self.plain, file, runs, fuel]
+        return [self.program, 'check', file, '--split', '0', '--runs', runs, '--fuel', fuel], [self.plain, file, runs, fuel]
+
+    def cut(self, case, *words):
+        """How the program explores a script in pieces."""
+        return [self.program, 'check', self.file(case), '--split', str(SPLIT), '--fuel', str(case.fuel), *words]
+
+    def pieces(self, case):
+        """How many pieces there are."""
+        return int(run(self.cut(case, '--pieces')).output.split()[1])
+
+    def by_workers(self, case, is_whole, pieces):
+        """How each number of workers explores it: all leaves, or about as many as one piece would list."""
+        runs = case.runs if is_whole else max(1, case.runs // pieces)
+        return [self.cut(case, '--runs', str(runs), '--workers', str(workers)) for workers in WORKERS]
 
     def best(self, case, times):
         """The least that so many runs of each took, in turn."""
@@ -207,6 +226,28 @@ def differences(explorers, case):
     own, other = steps_of(explorers, counted), plain_steps(run(explorers.words(counted)[1]).errors)
     if own != other:
         yield f'{case.name}: the program took {own} steps to {counted.runs} leaves at most, the plain explorer {other}'
+    yield from differences_of_workers(explorers, case, plain)
+
+
+def is_for_workers(report):
+    """Whether a report of the plain explorer has leaves enough for workers."""
+    return len(leaves_of(report)) >= LEAVES_FOR_WORKERS
+
+
+def is_whole(report):
+    return report.endswith(b' more no\n')
+
+
+def differences_of_workers(explorers, case, plain):
+    """In what reports by workers differ from one another, and from that of the plain explorer where this has all leaves."""
+    if not is_for_workers(plain.output):
+        return
+    words = explorers.by_workers(case, is_whole(plain.output), explorers.pieces(case))
+    reports = [(ended.output, ended.status) for ended in map(run, words)]
+    if len(set(reports)) > 1:
+        yield f'{case.name}: the reports by {WORKERS} workers differ'
+    if is_whole(plain.output) and reports[0] != (plain.output, plain.status):
+        yield f'{case.name}: the report by pieces differs from that of the plain explorer'
 
 
 def compiler():
@@ -250,6 +291,22 @@ class Row(NamedTuple):
                 f'{self.each.columns()}{self.counted.columns() if self.counted else ""}')
 
 
+class WorkersRow(NamedTuple):
+    """What was measured of a case by workers: the pieces, the leaves that they list, and the seconds of each number of workers."""
+    row: Row
+    pieces: int
+    leaves: int
+    seconds: list
+
+    def line(self):
+        times = [self.seconds[0] / it for it in self.seconds[1:]]
+        return (f'{self.row.case.name:<34} {self.pieces:>7} {self.leaves:>9} {self.row.plain.clock * 1e3:>8.2f} {self.row.own.clock * 1e3:>8.2f}'
+                f'{"".join(f" {it * 1e3:>9.2f}" for it in self.seconds)}{"".join(f" {it:>7.2f}" for it in times)}')
+
+
+OF_WORKERS = [f'{it} worker{"s" * (it > 1)}' for it in WORKERS]
+BY_WORKERS = (f'{f"cut by {SPLIT} choices, ms":<34} {"pieces":>7} {"leaves":>9} {"plain":>8} {"uncut":>8}'
+              f'{"".join(f" {name:>9}" for name in OF_WORKERS)}{"".join(f" {it:>2} to 1" for it in WORKERS[1:])}')
 HEAD = f'{"":<34} {"leaves":>7} {"steps":>9} {"ms":>8} {"plain":>8} {"ns each":>8} {"plain":>8} {"ratio":>6}'
 COUNTS = f' {"instr.":>8} {"plain":>8} {"ratio":>6}'
 
@@ -270,6 +327,15 @@ class Bench:
         each = cost([it.processor * 1e9 for it in (own, plain)], [it.processor * 1e9 for it in self.idle], steps)
         counted = cost(self.explorers.counted(case), self.idle_counted, steps) if self.has_counts else None
         return Row(case, len(leaves_of(ended.output)), steps, own, plain, each, counted)
+
+    def workers_row(self, row):
+        """The row of a case that was measured before, by workers."""
+        plain = run(self.explorers.words(row.case)[1]).output
+        pieces = self.explorers.pieces(row.case)
+        all_words = self.explorers.by_workers(row.case, is_whole(plain), pieces)
+        leaves = len(leaves_of(run(all_words[0]).output))
+        took = zip(*[[run(words).took.clock for words in all_words] for _ in range(self.times)])
+        return WorkersRow(row, pieces, leaves, [min(each) for each in took])
 
     def head(self):
         own, plain = self.idle
@@ -316,6 +382,10 @@ def main():
             rows.append(bench.row(case))
             print(rows[-1].line(), flush=True)
         print('\n'.join(summary(rows)))
+        print(f'\n{BY_WORKERS}')
+        for row in rows:
+            if row.leaves >= LEAVES_FOR_WORKERS:
+                print(bench.workers_row(row).line(), flush=True)
     return 0
 
 

@@ -92,7 +92,7 @@ def walk_faults():
         Breakage('runs that are cut are left out', explorer, 'walk', without_cut),
         Breakage('no outcome where no fuel is left', explorer, 'ending', forgotten),
         Breakage('outcomes without calls', explorer, 'ending', outcome_word),
-        Breakage('never more', explorer, 'explored', of_report(lambda found, runs: found._replace(more=False))),
+        Breakage('never more', explorer, 'part', of_report(lambda found, runs: found._replace(more=False))),
         Breakage('the first leaf alone', explorer, 'walk', lambda world, fuel: [next(SOUND.walk(world, fuel))])]
 
 

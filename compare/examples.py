@@ -6,7 +6,7 @@ NAME.buffered.stdout, where that is there. Each line of NAME.checks is the statu
 what these write, one behind the other. The lines of NAME.requests are the requests of a session on NAME.mpd, and NAME.replies has its
 replies. client.py drives a session by itself; docs/SESSIONS.md shows what it writes. NAME.dialogue is a session on NAME.mpd that clients
 share: `0 > LINE` is what client 0 sends, `0 < LINE` what it is replied, one behind the other, and the last line is what `serve` says when
-all have left. socket_client.py is such a client.
+all have left. socket_client.py is such a client. join_parts.sh and piece.slurm are those of docs/CLUSTER.md.
 """
 
 import os

@@ -1,13 +1,15 @@
 """Compares what `check` and `verify` of a program answer with the model, byte for byte: the same scripts for the same seed and count.
 
-    python3 compare/explore.py PROGRAM             the worked rows, words that are wrong, and 1,000 random scripts
-    python3 compare/explore.py PROGRAM --broken    and faults of the model, each of which these scripts must notice
+    python3 compare/explore.py PROGRAM                  the worked rows, words that are wrong, and 1,000 random scripts
+    python3 compare/explore.py PROGRAM --every-split    each script by 0 to 8 choices and by 1 to 16 workers, too
+    python3 compare/explore.py PROGRAM --broken         and faults of the model, each of which these scripts must notice
 
-Each script is a file, checked in one mode or the other with limits drawn at random (explore_cases.py); `verify` is asked of its
-witnesses, and of changed ones (witness_cases.py). Standard output, standard error and status must be the model's. A program that
-crashes, takes too long, too much memory or writes too much differs. With `--broken` PROGRAM may be left out: the sound model stands
-for it then. The status is 0 where scripts were compared, none differed, and all was met that can be said, which
-fewer than 500 scripts needn't do.
+Each script is a file, checked in one mode or the other with limits drawn at random (explore_cases.py), by some number of choices and of
+workers, and once more so: one piece, how many there are, up to the first deadlock, or by other workers (piece_cases.py). `verify` is
+asked of its witnesses, and of changed ones (witness_cases.py); with `--every-split` it must accept the witness of each deadlock. Standard
+output, standard error and status must be the model's. A program that crashes, takes too long, too much memory or writes too much differs.
+With `--broken` PROGRAM may be left out: the sound model stands for it then. The status is 0 where scripts were compared, none differed,
+and all was met that can be said, which fewer than 500 scripts needn't do.
 """
 
 import argparse
@@ -18,13 +20,20 @@ import tempfile
 import time
 from collections import Counter
 from concurrent.futures import ProcessPoolExecutor
+from contextlib import ExitStack, contextmanager
 from os.path import commonprefix
 from unittest import mock
 
-from debugger import BUFFERED
-from explore_cases import Case, random_case
+import explorer
+import piece_cases
+import piece_faults
+import worked_pieces
+from debugger import BUFFERED, Step
+from explore_cases import Case
 from explore_faults import check_faults, told_faults, verify_faults
+from explorer import MOST_SPLIT, MOST_WORKERS
 from runs import held, limit, run_at_once
+from witness import ACCEPTED
 from witness_cases import random_verifications
 from worked_explorer import CHECKS, LONG_CHECKS, LONG_TOLD, MISTAKES, MISTAKES_OF_VERIFY, TOLD, wanted_result
 
@@ -35,6 +44,14 @@ MUST_MEET = (
     'done', 'leftovers', 'deadlock', 'trap', 'cut', 'witness', 'more yes', 'more no', 'number of two digits', 'five choices',
     'leaves of two outcomes', 'status 0', 'status 1', 'status 1 for a later leaf', 'script refused', 'bad mode', 'device',
     'options left out')
+MUST_MEET_OF_PIECES = (
+    *(f'split {split}' for split in range(MOST_SPLIT + 1)), 'split left out', 'workers left out', 'one worker', 'sixteen workers', 'pieces', 'one piece',
+    'one piece of several', 'no piece', 'too many pieces', 'bad workers', 'until: found', 'until: found, and more', 'until: nothing found',
+    'until: nothing found, and more')
+# What must be met where each script is checked by every number of choices.
+PAIRS = tuple(f'split {split} by {workers}' for split in range(MOST_SPLIT + 1) for workers in range(1, MOST_WORKERS + 1))
+# So many steps of a script are remembered at most.
+MOST_REMEMBERED = 4000
 MUST_MEET_OF_VERIFY = (
     'accepted', 'accepted, buffered', 'accepted, nothing in front', 'accepted, CR LF', 'accepted, no last line feed',
     'accepted, more line feeds', 'refused 32', 'refused 32 at 0', 'refused 32 at its last step', 'refused 33', 'refused 34',
@@ -55,14 +72,30 @@ def met_by_check(asked, wanted):
     outcomes = [outcome.split()[0] for _, outcome in leaves]
     choices = [front.partition('[')[2].split() for front, _ in leaves]
     yield from outcomes
-    yield from [' '.join(line.split()[2:]) for line in lines[-1:]]
+    yield from [' '.join(line.split()[2:]) for line in lines[-1:] if line.startswith('leaves ')]
     yield from ['witness' for line in lines if line.startswith('witness ')]
     yield from ['number of two digits' for numbers in choices if any(len(number) > 1 for number in numbers)]
     yield from ['five choices' for numbers in choices if len(numbers) > 4]
     yield from ['leaves of two outcomes'] * (len(set(outcomes)) > 1) + [f'status {wanted.status}']
     yield from ['status 1 for a later leaf'] * (wanted.status == 1 and outcomes[0] not in ('deadlock', 'trap'))
     yield from [kind for kind in ('script refused', 'bad mode', 'device') if kind.encode() in wanted.errors]
-    yield from ['options left out'] * (not wanted.status and None in asked)
+    yield from ['options left out'] * (not wanted.status and None in asked[:3])
+    yield from met_by_pieces(asked, wanted, outcomes)
+
+
+def met_by_pieces(asked, wanted, outcomes):
+    """What a program may answer wrongly where it cuts a script into pieces."""
+    if wanted.status == 2:
+        yield from [kind for kind in ('no piece', 'too many pieces', 'bad workers') if kind.replace(' ', '-') in wanted.errors.decode().replace(' ', '-')]
+        return
+    yield from [f'split {"left out" if asked.split is None else asked.split}']
+    yield from {None: ['workers left out'], 1: ['one worker'], MOST_WORKERS: ['sixteen workers']}.get(asked.workers, [])
+    yield from [f'split {asked.split} by {asked.workers}'] * (None not in (asked.split, asked.workers))
+    yield from ['pieces'] * asked.pieces
+    yield from ['one piece'] * (asked.piece is not None) + ['one piece of several'] * bool(asked.piece)
+    if asked.until and outcomes:
+        found = 'found' if outcomes[-1] in ('deadlock', 'trap') else 'nothing found'
+        yield from [f'until: {found}'] + [f'until: {found}, and more'] * wanted.output.endswith(b' more yes\n')
 
 
 def met_by_verify(case, wanted):
@@ -89,8 +122,20 @@ def met_in(case, wanted):
 
 
 def checks_of(chosen, number):
-    """The check of a script."""
-    return [random_case(chosen.seed, number)]
+    """The checks of a script, and where that is wanted those by every number of choices."""
+    found = piece_cases.cases(chosen.seed, number)
+    return found + piece_cases.by_every_split(chosen.seed, number) if chosen.every_split else found
+
+
+def row_checks_of(chosen, number):
+    """The checks of a script, and in front of those of the first one the worked rows of checks by pieces."""
+    rows = worked_pieces.CHECKS if number == 0 else ()
+    return [case_of(row) for row in rows] + checks_of(chosen, number)
+
+
+def case_of(row):
+    """The case of a worked row of a check."""
+    return Case('', None if row.script is None else row.script.encode(), row.asked)
 
 
 def verifications_of(chosen, number):
@@ -124,16 +169,74 @@ def kept(folder, case):
     return shlex.join(case.words(path))
 
 
+def remembering(function):
+    """A function that remembers what it has given for the very same objects."""
+    known = {}
+
+    def remembered(*given):
+        key = tuple(one if isinstance(one, (bytes, str, Step)) else id(one) for one in given)
+        if key in known:
+            return known[key][1]
+        found = function(*given)
+        if len(known) < MOST_REMEMBERED:
+            # (the objects are kept with it, so that no others get their identities)
+            known[key] = given, found
+        return found
+    return remembered
+
+
+@contextmanager
+def steps_remembered():
+    """Has the model take a step of a script once alone, whatever number of checks have it in common."""
+    with ExitStack() as stack:
+        for name in ('read_script', 'first_world', 'decision', 'next_world'):
+            stack.enter_context(mock.patch.object(explorer, name, remembering(getattr(explorer, name))))
+        yield
+
+
+def told_in(witness):
+    """What a witness says, without its numbers: the outcome, the steps, and the mode."""
+    leaf, steps = witness.text.splitlines()
+    return leaf.partition(b'] ')[2], steps.partition(b': ')[2], witness.mode
+
+
+def refused_witnesses(chosen, written):
+    """The witnesses that `verify` doesn't accept, each with what it answers, and how many were asked; `written` has cases and outputs.
+
+    One that stands in several reports is asked once.
+    """
+    asked = {told_in(witness): witness for case, output in written for witness in piece_cases.witnesses_of(case, output)}
+    said = [(witness, run(chosen, witness)) for witness in asked.values()]
+    return [(witness, f'the witness is answered {result}') for witness, result in said if result != ACCEPTED], len(said)
+
+
+def compare_script(chosen, number):
+    """Compares the cases of a script: how many there were, those that differ, each with how, and what was met."""
+    found, met, written, count = [], Counter(), [], 0
+    with steps_remembered():
+        for case in checks_of(chosen, number) + verifications_of(chosen, number):
+            result, wanted = run(chosen, case), case.wanted()
+            met.update(met_in(case, wanted))
+            count += 1
+            if result != wanted:
+                found.append((case, first_different(result, wanted)))
+            if isinstance(case, Case):
+                written.append((case, result.output))
+    if chosen.every_split:
+        wrong, met['witnesses verified'] = refused_witnesses(chosen, written)
+        found += wrong
+    return count, found, met
+
+
 def compare_chunk(chosen, numbers):
-    """Compares the cases of some scripts: how many there were, those that differ, each with how, and what was met."""
-    found, met = [], Counter()
-    cases = [case for number in numbers for case in checks_of(chosen, number) + verifications_of(chosen, number)]
-    for case in cases:
-        result, wanted = run(chosen, case), case.wanted()
-        met.update(met_in(case, wanted))
-        if result != wanted:
-            found.append((case, first_different(result, wanted)))
-    return len(cases), found, met
+    """Compares the cases of some scripts, all together."""
+    compared, found, met = 0, [], Counter()
+    for number in numbers:
+        count, found_there, met_there = compare_script(chosen, number)
+        compared += count
+        found += found_there
+        met += met_there
+    return compared, found, met
 
 
 def compare_random(chosen, pool):
@@ -147,8 +250,11 @@ def compare_random(chosen, pool):
         differing += len(found)
         for case, what in found:
             print(f'{kept(folder, case)}: {what}', flush=True)
-    must_meet = MUST_MEET + MUST_MEET_OF_VERIFY
+    must_meet = MUST_MEET + MUST_MEET_OF_PIECES + MUST_MEET_OF_VERIFY + ('witnesses verified',) * chosen.every_split
     print('; '.join(f'{name} {met[name]}' for name in must_meet))
+    if chosen.every_split:
+        print(f'{sum(met[name] for name in PAIRS)} checks by {sum(met[name] > 0 for name in PAIRS)} pairs of choices and workers')
+        must_meet += PAIRS
     missed = [name for name in must_meet if not met[name]] if chosen.count >= MANY else []
     for name in missed:
         print(f'{name} was not met')
@@ -170,8 +276,8 @@ def mistake_problem(chosen, words):
 
 def rows(chosen):
     """The worked rows, each with what is wanted."""
-    for row in CHECKS + (() if chosen.short else LONG_CHECKS):
-        yield Case('', None if row.script is None else row.script.encode(), row.asked), wanted_result(row)
+    for row in CHECKS + worked_pieces.CHECKS + (() if chosen.short else LONG_CHECKS):
+        yield case_of(row), wanted_result(row)
     for row in TOLD + (() if chosen.short else LONG_TOLD):
         yield row.case(), row.wanted()
 
@@ -197,15 +303,26 @@ def compare_rows(chosen, pool):
 
 def faults(chosen):
     """The faults that a program's answers show, each with what gives the cases of a script that may notice it."""
-    found = [(fault, checks_of) for fault in check_faults()]
+    found = [(fault, checks_of) for fault in check_faults()] + [(fault, row_checks_of) for fault in piece_faults.breakages()]
     return found + [(fault, verifications_of) for fault in verify_faults() + told_faults()]
+
+
+# What is said to cases by the program, or else by the sound model, as far as this process has asked.
+SAID = {}
+
+
+def said_to(chosen, case):
+    """What the program, or else the sound model, says to a case."""
+    if case not in SAID:
+        SAID[case] = run(chosen, case) if chosen.program else case.wanted()
+    return SAID[case]
 
 
 def is_noticed(chosen, place):
     """Whether some case notices a fault of the model: the program, or else the sound model, doesn't say what the broken one does."""
     fault, cases_of = faults(chosen)[place]
     for case in (case for number in range(chosen.count) for case in cases_of(chosen, number)):
-        said = run(chosen, case) if chosen.program else case.wanted()
+        said = said_to(chosen, case)
         with mock.patch.object(fault.owner, fault.attribute, fault.replacement):
             if said != case.wanted():
                 return True
@@ -234,6 +351,7 @@ def arguments():
     parser.add_argument('program', nargs='?', metavar='PROGRAM')
     parser.add_argument('--count', type=int, default=1000, help='how many scripts (1000)')
     parser.add_argument('--seed', type=int, default=1, help='another seed gives other scripts (1)')
+    parser.add_argument('--every-split', action='store_true', help='check each script by 0 to 8 choices and 1 to 16 workers, too')
     parser.add_argument('--broken', action='store_true', help='break the model on purpose; each fault must be noticed')
     parser.add_argument('--short', action='store_true', help='leave out the rows of 100,000 steps and more')
     parser.add_argument('--jobs', type=int, default=2, help='how many processes (2)')

@@ -9,7 +9,7 @@ import explorer
 import policy
 import witness
 from debugger import BAD_FILE, BAD_MODE, BUFFERED, MODES, RENDEZVOUS, blocked_calls, enabled_steps, first_world, next_world, outcome, step_text
-from explorer import CUT, NO_SUCH_STEP, NOT_STUCK, USUAL_FUEL, USUAL_RUNS, WRONG_BLOCKED, Leaf, Refusal, Report
+from explorer import CUT, NO_SUCH_STEP, NOT_STUCK, WRONG_BLOCKED, Leaf, Refusal, Report
 from policy import Choice, Forced
 from policy_faults import Breakage, without_forced_match
 from witness import BadWitness
@@ -20,6 +20,7 @@ class Sound(NamedTuple):
     taken: object
     ending: object
     walk: object
+    part: object
     explored: object
     witness: object
     verify: object
@@ -54,8 +55,8 @@ def ended_by_trap(world):
 
 
 def of_report(change):
-    """What lists other leaves, or says otherwise whether there are more."""
-    return lambda walked, runs, fuel: change(SOUND.explored(walked, runs, fuel), runs)
+    """What lists other leaves of a piece, or says otherwise whether there are more."""
+    return lambda piece, runs: change(SOUND.part(piece, runs), runs)
 
 
 def looking_ahead(walked, runs, fuel):
@@ -64,9 +65,9 @@ def looking_ahead(walked, runs, fuel):
     return SOUND.explored(walked, runs, fuel)
 
 
-def last_leaves(walked, runs, fuel):
+def last_leaves(piece, runs):
     """What lists the last of twenty leaves more."""
-    leaves = SOUND.explored(walked, runs + 20, fuel).leaves
+    leaves = SOUND.part(piece, runs + 20).leaves
     return Report(leaves[-runs:], len(leaves) > runs)
 
 
@@ -179,10 +180,10 @@ def bad_by(*kinds):
     return lambda leaf: leaf.outcome.split()[0] in kinds
 
 
-def status_of_more(text, mode=RENDEZVOUS, runs=USUAL_RUNS, fuel=USUAL_FUEL, witnesses=False):
-    """What has a status by twenty leaves that it doesn't list, too."""
-    said = SOUND.check(text, mode, runs, fuel, witnesses)
-    return said._replace(status=SOUND.check(text, mode, runs + 20, fuel).status)
+def status_of_more(text, asked):
+    """What has a status by twenty leaves of each piece that it doesn't list, too."""
+    said = SOUND.check(text, asked)
+    return said._replace(status=SOUND.check(text, asked._replace(runs=asked.runs + 20)).status)
 
 
 def end_of(script, mode, steps):
@@ -301,7 +302,7 @@ def walk_faults():
 
 def report_faults():
     """Those of what is listed and said of it, as a check shows them."""
-    explored = (
+    parts = (
         ('more is always no', of_report(lambda found, runs: found._replace(more=False))),
         ('more is always yes', of_report(lambda found, runs: found._replace(more=True))),
         ('more where there are just so many', of_report(lambda found, runs: found._replace(more=len(found.leaves) == runs))),
@@ -309,7 +310,7 @@ def report_faults():
             more=found.more or any(leaf.outcome == CUT for leaf in found.leaves)))),
         ('leaves in reverse order', of_report(lambda found, runs: found._replace(leaves=found.leaves[::-1]))),
         ('the last leaves in place of the first', last_leaves),
-        ('one leaf more', lambda walked, runs, fuel: SOUND.explored(walked, runs + 1, fuel)),
+        ('one leaf more', lambda piece, runs: SOUND.part(piece, runs + 1)),
         ('one leaf less', of_report(lambda found, runs: found._replace(leaves=found.leaves[:max(1, runs - 1)]))),
     )
     witnesses = (
@@ -330,15 +331,15 @@ def report_faults():
     bad = (
         ('status 0 for a trap', ('deadlock',)), ('status 0 for a deadlock', ('trap',)),
         ('status 1 for leftovers', ('deadlock', 'trap', 'leftovers')), ('status 1 for a run that is cut', ('deadlock', 'trap', CUT)))
-    return ([Breakage(name, explorer, 'explored', replacement) for name, replacement in explored]
+    return ([Breakage(name, explorer, 'part', replacement) for name, replacement in parts]
             + [Breakage(name, explorer, 'witness', of_witness(change)) for name, change in witnesses]
             + [Breakage(name, explorer, 'leaf_lines', replacement) for name, replacement in lines]
             + [Breakage(name, explorer, 'is_bad', bad_by(*kinds)) for name, kinds in bad]
             + [Breakage('a witness of a trap', explorer, 'witness', lambda leaf: SOUND.witness(
                 leaf._replace(outcome=leaf.outcome.replace('trap', 'deadlock')))),
                Breakage('a count of leaves that are not listed', explorer, 'report_text', counted_on),
-               Breakage('the status of the first leaf', explorer, 'status', lambda found: int(explorer.is_bad(found.leaves[0]))),
-               Breakage('the status of the last leaf', explorer, 'status', lambda found: int(explorer.is_bad(found.leaves[-1]))),
+               Breakage('the status of the first leaf', explorer, 'status', lambda found, complete: int(explorer.is_bad(found.leaves[0]))),
+               Breakage('the status of the last leaf', explorer, 'status', lambda found, complete: int(explorer.is_bad(found.leaves[-1]))),
                Breakage('the status of leaves that are not listed', explorer, 'check', status_of_more)])
 
 

@@ -1,21 +1,23 @@
 """The explorer: what must hold of its reports and of witnesses, told in other words than compare/explorer.py does.
 
     python3 compare/explore_rules.py             300 random scripts (explore_cases.py), in both modes
-    python3 compare/explore_rules.py --broken    faults of the model (explore_faults.py), each of which these scripts must notice
+    python3 compare/explore_rules.py --broken    faults of the model (explore_faults.py, piece_faults.py), each of which these must notice
 
 Of each script it is checked that the choices of its leaves rise and none begins another's, that each list is the very next behind
 that before it, by how many candidates there are where the steps are followed anew, and that the last one is the last where it is said
 so; that the steps of a leaf and its outcome are what its choices lead to; that a report of fewer runs is the beginning of one of more,
 that one of less fuel has the same runs, cut, and one from a place along the steps the leaves behind that place; that no more is
-explored than is asked for; that text and status say what the report does; and that witnesses are accepted, and changed ones refused
-for what was changed. What is enabled and decided, and how a run ended, is told by the ranks' places, the calls and the texts of `show`
-(follow.py). The status is 0 where all of that holds, and was seen.
+explored than is asked for; that text and status say what the report does; that pieces are the beginnings of the leaves' choices, a part
+has the leaves that begin so, and the texts of all parts joined are that of the whole; and that witnesses are accepted, and changed ones
+refused for what was changed. What is enabled and decided, and how a run ended, is told by the ranks' places, the calls and the texts of
+`show` (follow.py). The status is 0 where all of that holds, and was seen.
 """
 
 import argparse
 import re
 import sys
 from collections import Counter
+from itertools import groupby
 from os.path import commonprefix
 from random import Random
 from typing import NamedTuple
@@ -26,9 +28,10 @@ import policy
 from debugger import MODES, CallId, Debugger, Step, first_world, free_calls, next_world, rank_state, step_of, step_text
 from explore_cases import KINDS, kind_of, script_of
 from explore_faults import breakages
-from explorer import CUT, NO_SUCH_STEP, NOT_STUCK, WRONG_BLOCKED, Asked, Refusal, Report, Witness
+from explorer import CUT, MOST_SPLIT, NO_SUCH_STEP, NOT_STUCK, WRONG_BLOCKED, Asked, Refusal, Report, Run, Witness
 from follow import due
 from language import Fault, read_script
+from piece_faults import report_breakages
 from policy import Choice
 
 RUNS = (5, 20, 40, 40)
@@ -44,7 +47,8 @@ MUST_MEET = (
     'no more', 'just so many', 'one candidate', 'more than ten candidates', 'two receives', 'choices of another length',
     'cut by less fuel', 'not cut by less fuel', 'a place behind a choice', 'a place with undone steps', 'accepted',
     'another order accepted', 'refused 32', 'refused 33', 'refused 34', 'refused behind the end', 'status 0', 'status 1',
-    'status 0 though more', 'witness lines')
+    'status 0 though more', 'witness lines', 'several pieces', 'a piece of several leaves', 'a run that ends before its last choice',
+    'more of a piece', 'more of one piece alone', 'up to a leaf that is not the last', 'up to the last leaf')
 
 
 class Path(NamedTuple):
@@ -282,7 +286,7 @@ def text_wrong(random, seen, text, met):
     wrong, (leaves, more) = [], seen.found
     for runs in (random.randint(1, len(leaves)), len(leaves)):
         found, witnesses = Report(leaves[:runs], more or runs < len(leaves)), random.random() < 0.5
-        said, wanted = explorer.answer(text, Asked(seen.mode, runs, seen.fuel, witnesses)), int(is_bad(found.leaves))
+        said, wanted = explorer.answer(text, Asked(seen.mode, runs, seen.fuel, witnesses, split=0)), int(is_bad(found.leaves))
         *lines, behind = said.output.decode().split('\n')
         if behind or [told_by(line) for line in lines] != list(lines_due(found, witnesses)):
             wrong.append('the text of a report')
@@ -291,6 +295,74 @@ def text_wrong(random, seen, text, met):
         met.update([f'status {wanted}'] + ['witness lines'] * (b'witness' in said.output))
         met['status 0 though more'] += not wanted and is_bad(leaves)
     return wrong
+
+
+def parts_due(leaves, split, runs):
+    """The parts of a report that has all leaves: for each beginning of so many choices at most, the first leaves that begin so."""
+    for _, behind in groupby(leaves, lambda leaf: leaf.choices[:split]):
+        found = tuple(behind)
+        yield Report(found[:runs], len(found) > runs)
+
+
+def joined_texts(texts):
+    """The text of a report whose parts have these: leaves are numbered on, and the last line is that of all."""
+    count, lines, more = 0, [], 'no'
+    for text in texts:
+        *leaves, last = text.splitlines()
+        for line in leaves:
+            word, number, rest = re.fullmatch(r'(leaf|witness) (\d+)(.*)', line).groups()
+            lines.append(f'{word} {int(number) + count}{rest}')
+        count += int(last.split()[1])
+        more = 'yes' if last.endswith('yes') else more
+    return ''.join(f'{line}\n' for line in [*lines, f'leaves {count} more {more}'])
+
+
+def up_to_bad_due(leaves, is_whole):
+    """What a report has up to its first deadlock or trap, where it would have these leaves, and these are all or not."""
+    good = [number for number, leaf in enumerate(leaves) if not is_bad(leaves[:number])]
+    kept = leaves[:good[-1] + 1] if good else ()
+    return Report(kept, not is_whole or len(kept) < len(leaves))
+
+
+def pieces_wrong(random, seen, text, met):
+    """What is wrong with the pieces by some number of choices, with their parts, and with what a check says of these."""
+    split, runs, leaves = random.choice([1, 1, 2, random.randint(0, MOST_SPLIT)]), random.choice([1, 1, 2, 3, seen.runs]), seen.found.leaves
+    parts = list(parts_due(leaves, split, runs))
+    begun = Run(first_world(seen.script, seen.mode), seen.fuel)
+    cut = list(explorer.pieces(begun, split))
+    wrong = [] if [piece.choices for piece in cut] == list(dict.fromkeys(leaf.choices[:split] for leaf in leaves)) else [f'the pieces by {split}']
+    if [explorer.part(piece, runs) for piece in cut] != parts:
+        wrong.append(f'a part of the pieces by {split}')
+    listed = tuple(leaf for found in parts for leaf in found.leaves)
+    asked = Asked(seen.mode, runs, seen.fuel, random.random() < 0.5, split=split, until=random.random() < 0.5)
+    is_whole = not any(found.more for found in parts)
+    due_report = up_to_bad_due(listed, is_whole) if asked.until else Report(listed, not is_whole)
+    said = explorer.answer(text, asked._replace(workers=random.randint(1, 16)))
+    if said.output.decode() != explorer.report_text(due_report, asked.witnesses) or said.status != is_bad(due_report.leaves):
+        wrong.append(f'a check by {split}, {asked}')
+    alone = [explorer.answer(text, asked._replace(until=False, piece=number)).output.decode() for number in range(len(cut))]
+    if alone != [explorer.report_text(found, asked.witnesses) for found in parts]:
+        wrong.append(f'the text of a part by {split}')
+    one = random.randrange(len(parts))
+    ended = explorer.answer(text, asked._replace(until=True, piece=one)).output.decode()
+    if ended != explorer.report_text(up_to_bad_due(parts[one].leaves, not parts[one].more), asked.witnesses):
+        wrong.append(f'piece {one} by {split} up to its first deadlock')
+    if joined_texts(alone) != explorer.answer(text, asked._replace(until=False)).output.decode():
+        wrong.append(f'the parts by {split}, joined')
+    if explorer.answer(text, asked._replace(pieces=True)).output.decode() != f'pieces {len(parts)}\n':
+        wrong.append(f'the number of pieces by {split}')
+    met.update(met_in_pieces(leaves, split, parts, asked, due_report))
+    return wrong
+
+
+def met_in_pieces(leaves, split, parts, asked, told):
+    """What pieces may tell wrongly."""
+    yield from ['several pieces'] * (len(parts) > 1) + ['a piece of several leaves'] * any(len(found.leaves) > 1 for found in parts[1:])
+    yield from ['a run that ends before its last choice'] * any(len(leaf.choices) < split for leaf in leaves)
+    yield from ['more of a piece'] * any(found.more for found in parts)
+    yield from ['more of one piece alone'] * (len(parts) > 1 and [found.more for found in parts].count(True) == 1)
+    if asked.until and is_bad(told.leaves):
+        yield 'up to a leaf that is not the last' if told.more else 'up to the last leaf'
 
 
 def said_by_show(seen, steps, blocked):
@@ -376,6 +448,8 @@ def wrong_of(random, text, script, mode, met):
     wrong += [] if is_lazy(random, seen) else ['more is explored than is asked for']
     if not seen.found.more:
         wrong += less_fuel_wrong(random, seen, met) + place_wrong(random, seen, met)
+        for _ in range(4 if len(seen.found.leaves) > 2 else 1):
+            wrong += pieces_wrong(random, seen, text, met)
     return wrong
 
 
@@ -403,7 +477,7 @@ def missed(met):
 def check_broken(seed, count):
     """How many broken models are not noticed."""
     unnoticed = 0
-    for breakage in breakages():
+    for breakage in [*breakages(), *report_breakages()]:
         with mock.patch.object(breakage.owner, breakage.attribute, breakage.replacement):
             _, wrong = check(seed, count, to_end=False)
         unnoticed += not wrong

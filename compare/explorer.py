@@ -1,9 +1,9 @@
-"""The explorer, in the model: the leaves that runs along decisions come to, the report of them, and witnesses of deadlocks.
+"""The explorer, in the model: the leaves that runs along decisions come to, the report of them, by pieces, and witnesses of deadlocks.
 
-    python3 compare/explorer.py FILE --mode M --runs N --fuel N --witness --complete    answers as `check` of the program does
+    python3 compare/explorer.py FILE [--runs N] [--split K] ..    answers as `check` of the program does, with all its options
 
-compare/worked_explorer.py has rows of it, compare/explore_rules.py checks on random scripts what must hold of it, and
-compare/explore.py compares a program with it.
+compare/worked_explorer.py and compare/worked_pieces.py have rows of it, compare/explore_rules.py checks on random scripts what must
+hold of it, and compare/explore.py compares a program with it.
 """
 
 import argparse
@@ -18,7 +18,8 @@ from language import Fault, read_script
 from policy import Forced, decision
 
 MOST_RUNS, MOST_FUEL = 65536, 1000000
-USUAL_RUNS, USUAL_FUEL = 1000, 100000
+# Of pieces, choices that cut them, and workers; and how many workers can be asked for, though no more than 16 are there.
+MOST_PIECES, MOST_SPLIT, MOST_WORKERS, MOST_WORKERS_ASKED = 1024, 8, 16, 1000
 CUT = 'cut'
 NOT_WHOLE = 4
 NO_SUCH_STEP, NOT_STUCK, WRONG_BLOCKED = 32, 33, 34
@@ -95,15 +96,48 @@ class Report(NamedTuple):
     more: bool
 
 
+def pieces(begun, split):
+    """The runs behind one, each stopped right behind so many choices more, or at its leaf where that comes sooner, in order."""
+    if not split:
+        yield begun
+        return
+    run, decided = followed(begun)
+    if ending(decided, run.fuel) is not None:
+        yield run
+        return
+    for chosen in candidates(run, decided.steps):
+        yield from pieces(chosen, split - 1)
+
+
+def part(piece, runs):
+    """What a report has of a piece: the first leaves behind it, each with its choices and steps in front, and whether there are more."""
+    found = list(islice(walk(piece.world, piece.fuel), runs + 1))
+    steps = listed(piece.steps)
+    return Report(tuple(Leaf(piece.choices + leaf.choices, steps + leaf.steps, leaf.outcome) for leaf in found[:runs]), len(found) > runs)
+
+
+def joined(parts):
+    """The report that has these parts; there are more where one has more."""
+    return Report(tuple(leaf for found in parts for leaf in found.leaves), any(found.more for found in parts))
+
+
+def up_to_bad(found):
+    """A report up to its first deadlock or trap, with that; there are more where anything is left out."""
+    for count, leaf in enumerate(found.leaves, 1):
+        if is_bad(leaf):
+            return Report(found.leaves[:count], found.more or count < len(found.leaves))
+    return found
+
+
 def explored(walked, runs, fuel):
-    """The report of where a debugger is: fuel is for the steps from there, and each leaf has all steps from the start."""
-    found = list(islice(walk(walked.world, fuel), runs + 1))
+    """The report of where a debugger is, in one piece: fuel is for the steps from there, and each leaf has all steps from the start."""
+    found = part(Run(walked.world, fuel), runs)
     before = tuple(walked.steps[:walked.depth])
-    return Report(tuple(leaf._replace(steps=before + leaf.steps) for leaf in found[:runs]), len(found) > runs)
+    return found._replace(leaves=tuple(leaf._replace(steps=before + leaf.steps) for leaf in found.leaves))
 
 
 def report(script, mode, runs, fuel):
-    """The report of a script that was read."""
+    """The report of a script that was read, in one piece."""
     return explored(Debugger(script, mode), runs, fuel)
 
 
@@ -171,45 +205,82 @@ def status(found, complete=False):
     return 0 if is_whole(found) or not complete else NOT_WHOLE
 
 
-def check(text, mode=RENDEZVOUS, runs=USUAL_RUNS, fuel=USUAL_FUEL, witnesses=False, complete=False):
-    """The result of a check of the text of a file, which is None where that can't be read: the mode is tested first."""
-    if mode not in MODES:
-        return BAD_MODE
-    if text is None:
-        return BAD_FILE
-    try:
-        script = read_script(text)
-    except Fault as fault:
-        return refusal(text, fault)
-    found = report(script, mode, runs, fuel)
-    return Result(report_text(found, witnesses).encode(), b'', status(found, complete))
-
-
 class Asked(NamedTuple):
-    """The options of a check; one that is None is left out."""
+    """The options of a check; one that is None is left out. `until` is whether the first deadlock or trap is the last leaf."""
     mode: Optional[str] = None
     runs: Optional[int] = None
     fuel: Optional[int] = None
     witnesses: bool = False
     complete: bool = False
+    split: Optional[int] = None
+    workers: Optional[int] = None
+    until: bool = False
+    piece: Optional[int] = None
+    pieces: bool = False
+
+
+# What is meant where an option is left out.
+USUAL = Asked(mode=RENDEZVOUS, runs=1000, fuel=100000, split=1, workers=4)
+
+
+def refused(line):
+    """The result of a check that is refused by this line."""
+    return Result(b'', f'mpdbg: {line}\n'.encode(), 2)
+
+
+def reported(cut, asked):
+    """The report by the pieces that a script was cut into: of all of them, or of the one that is asked for."""
+    chosen = cut if asked.piece is None else [cut[asked.piece]]
+    found = joined([part(piece, asked.runs) for piece in chosen])
+    return up_to_bad(found) if asked.until else found
+
+
+def checked(script, asked):
+    """The result of a check of a script that was read: workers are tested first, then the number of pieces, and then that of the piece."""
+    if not 1 <= asked.workers <= MOST_WORKERS:
+        return refused('refused 35 bad-workers')
+    cut = list(islice(pieces(Run(first_world(script, asked.mode), asked.fuel), asked.split), MOST_PIECES + 1))
+    if len(cut) > MOST_PIECES:
+        return refused('refused 31 too-many-pieces')
+    if asked.pieces:
+        return Result(f'pieces {len(cut)}\n'.encode(), b'', 0)
+    if asked.piece is not None and asked.piece >= len(cut):
+        return refused(f'no piece {asked.piece} of {len(cut)}')
+    found = reported(cut, asked)
+    return Result(report_text(found, asked.witnesses).encode(), b'', status(found, asked.complete))
+
+
+def check(text, asked):
+    """The result of a check of the text of a file, which is None where that can't be read: the mode is tested first, and no option is
+    left out."""
+    if asked.mode not in MODES:
+        return BAD_MODE
+    if text is None:
+        return BAD_FILE
+    try:
+        return checked(read_script(text), asked)
+    except Fault as fault:
+        return refusal(text, fault)
 
 
 def answer(text, asked):
     """The result of a check that has these options."""
-    return check(text, **{name: value for name, value in asked._asdict().items() if value is not None})
+    return check(text, Asked(*(usual if given is None else given for given, usual in zip(asked, USUAL))))
 
 
 def option_words(asked):
     """The options as words of the command line."""
-    there = [(f'--{name}', str(value)) for name, value in zip(('mode', 'runs', 'fuel'), asked) if value is not None]
-    return [word for pair in there for word in pair] + ['--witness'] * asked.witnesses + ['--complete'] * asked.complete
+    numbers = [(name, getattr(asked, name)) for name in ('mode', 'runs', 'fuel', 'split', 'workers', 'piece')]
+    there = [(f'--{name}', str(value)) for name, value in numbers if value is not None]
+    flags = ['--witness'] * asked.witnesses + ['--complete'] * asked.complete + ['--pieces'] * asked.pieces
+    return [word for pair in there for word in pair] + flags + ['--until', 'deadlock'] * asked.until
 
 
-def number_up_to(most):
-    """What reads a number from 1 to `most`."""
+def number_between(least, most):
+    """What reads a number of these."""
     def number(word):
-        if not word.isdecimal() or not 1 <= int(word) <= most:
-            raise argparse.ArgumentTypeError(f'{word} is no number from 1 to {most}')
+        if not word.isdecimal() or not least <= int(word) <= most:
+            raise argparse.ArgumentTypeError(f'{word} is no number from {least} to {most}')
         return int(word)
     return number
 
@@ -219,12 +290,16 @@ def asked_by(words):
     parser = argparse.ArgumentParser(description=__doc__, formatter_class=argparse.RawDescriptionHelpFormatter)
     parser.add_argument('file', metavar='FILE')
     parser.add_argument('--mode', metavar='M')
-    parser.add_argument('--runs', type=number_up_to(MOST_RUNS), metavar='N')
-    parser.add_argument('--fuel', type=number_up_to(MOST_FUEL), metavar='N')
-    parser.add_argument('--witness', action='store_true')
+    for name, least, most in (('runs', 1, MOST_RUNS), ('fuel', 1, MOST_FUEL), ('split', 0, MOST_SPLIT), ('workers', 0, MOST_WORKERS_ASKED),
+                              ('piece', 0, MOST_PIECES - 1)):
+        parser.add_argument(f'--{name}', type=number_between(least, most), metavar='N')
+    parser.add_argument('--until', choices=['deadlock'])
+    parser.add_argument('--witness', dest='witnesses', action='store_true')
     parser.add_argument('--complete', action='store_true')
-    chosen = parser.parse_args(words)
-    return chosen.file, Asked(chosen.mode, chosen.runs, chosen.fuel, chosen.witness, chosen.complete)
+    parser.add_argument('--pieces', action='store_true')
+    chosen = vars(parser.parse_args(words))
+    file = chosen.pop('file')
+    return file, Asked(**{**chosen, 'until': chosen['until'] is not None})
 
 
 def main():

@@ -16,6 +16,7 @@ from language import read_script
 from policy import Forced, Leaf, decision
 from runs import run_at_once
 from worked_explorer import counting, gathered, gathering
+from worked_pieces import TOO_MANY, gathered_in_pieces
 
 SECONDS = 60
 
@@ -53,7 +54,10 @@ def candidate_rows(folder):
     one, two = (folder.file(f'gather{receives}', gathering(16, receives)) for receives in (1, 2))
     for path, receives, runs, more in ((one, 1, 15, 'no'), (one, 1, 14, 'yes'), (two, 2, 210, 'no'), (two, 2, 209, 'yes')):
         wanted = said(*gathered(16, receives, runs, more).split('; '))
-        yield f'{receives} of 15 candidates, {runs} runs', folder.run('check', path, '--runs', str(runs)), wanted
+        yield f'{receives} of 15 candidates, {runs} runs', folder.run('check', path, '--runs', str(runs), '--split', '0'), wanted
+    for split, runs, more in ((1, 14, 'no'), (1, 13, 'yes'), (2, 1, 'no')):
+        wanted = said(*gathered_in_pieces(16, 2, split, runs, more).split('; '))
+        yield f'2 of 15 candidates, {runs} runs of each piece by {split}', folder.run('check', two, '--runs', str(runs), '--split', str(split)), wanted
     # of a rank that isn't received the send is left
     leaves = [f'leaf {taken} [{taken}] leftovers {" ".join(f"{rank}.0" for rank in range(16) if rank != taken)}' for taken in range(16)]
     path = folder.file('itself', TO_ITSELF_TOO)
@@ -64,6 +68,37 @@ def candidate_rows(folder):
     wanted = [*(f'ok {depth}' for depth in range(1, 34)), f'enabled {matches}', 'ok 34', 'ok 33', 'ok 34', 'enabled wake 0']
     data = '\n'.join([*words, 'enabled', 'match 15.0 0.1', 'back', 'match 14.0 0.1', 'enabled', ''])
     yield '16 candidates, traced', folder.run('trace', path, data=data), said(*wanted)
+
+
+# ---- pieces
+
+def of_each_tag(senders, tags):
+    """A script in which so many ranks send a message of each tag to one that receives each tag of any source: all of them can be matched
+    at its first choice."""
+    return (f'mpd 1; ranks {senders + 1}; var i; var x; req r;\n'
+            f'while i < {tags} {{ if rank == 0 {{ irecv r x from any tag i; }} else {{ isend r i to 0 tag i; }} i = i + 1; }}')
+
+
+def sent(rank, first, behind):
+    """Calls of a rank, as an outcome has them."""
+    return ''.join(f' {rank}.{number}' for number in range(first, behind))
+
+
+def piece_rows(folder):
+    """1,024 pieces of one choice, and one more, which are too many; without another limit 1,000 runs of each piece."""
+    just, more = folder.file('just', of_each_tag(4, 256)), folder.file('more', of_each_tag(5, 205))
+    yield '1,024 candidates', folder.run('check', just, '--pieces'), said('pieces 1024')
+    # the last candidate is the last receive with the last sender; then each receive takes what rank 1 has sent
+    wanted = said(f'leaf 0 [1023{" 0" * 255}] leftovers{sent(1, 255, 256)}{sent(2, 0, 256)}{sent(3, 0, 256)}{sent(4, 0, 255)}', 'leaves 1 more yes')
+    yield 'the last of 1,024 candidates', folder.run('check', just, '--piece', '1023', '--runs', '1'), wanted
+    too_many = Result(b'', f'{TOO_MANY}\n'.encode(), 2)
+    for words in ((), ('--pieces',), ('--piece', '0'), ('--workers', '1')):
+        yield f'1,025 candidates {" ".join(words)}', folder.run('check', more, *words), too_many
+    rest = ''.join(sent(rank, 0, 205) for rank in range(2, 6))
+    wanted = said(f'leaf 0 [{" ".join(["0"] * 205)}] leftovers{rest}', 'leaves 1 more yes')
+    yield '1,025 candidates, not cut', folder.run('check', more, '--split', '0', '--runs', '1'), wanted
+    wanted = said(*gathered_in_pieces(14, 4, 1, 1000, 'yes').split('; '))
+    yield '1,000 of the 1,320 runs of each of 13 pieces', folder.run('check', folder.file('gather4', gathering(14, 4))), wanted
 
 
 # ---- calls of one rank
@@ -290,7 +325,7 @@ def dialogue(folder, name, script, turns):
     return folder.run('run', folder.file(name, script), data=data), said(*(reply for _, reply in turns))
 
 
-ROWS = (candidate_rows, call_rows, path_rows, long_witness_rows, step_rows, enabled_rows, blocked_rows, session_rows)
+ROWS = (candidate_rows, piece_rows, call_rows, path_rows, long_witness_rows, step_rows, enabled_rows, blocked_rows, session_rows)
 
 
 def first_difference(result, wanted):

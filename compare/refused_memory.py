@@ -4,7 +4,7 @@
 
 A run may end with the right answers up to one of them, `mpdbg: memory` and status 3; or it goes on, with `refused memory` in
 place of an answer that can be refused: then the state stands, and all answers behind it are right. Where all allocations from
-one on are refused it is the same. The sessions have their scripts on standard input, one also in a file, and one in a file alone,
+one on are refused it is the same. Of several workers, who ask for memory at the same time, it is another request each time. The sessions have their scripts on standard input, one also in a file, and one in a file alone,
 in the mode `buffered`. What `check` and `verify` answer, words of the command line that ask for help, and those that are wrong, are
 answered as ever, or by `mpdbg: memory`, status 3, with nothing written. A session of `run` has two lines of its own for this
 (session_memory.py). The status is 0 where every run did one of these. The allocations are refused by a shared object, which is built
@@ -95,7 +95,7 @@ def lively():
 
 # Words that are answered by a text alone.
 ANSWERED = ('--help', 'trace --help', 'run --help', 'run a --mode b', '--version', 'trac', 'trace', 'trace a --mod b', 'trace a --mode b', 'trace a b', 'serve --help', 'serve a',
-            'serve a --port 0', 'check --help', 'check a --runs 0', 'check a --mode b', 'verify --help', 'verify a', 'verify a b --mode c')
+            'serve a --port 0', 'check --help', 'check a --runs 0', 'check a --workers 0 --mode b', 'check a --split 9', 'check a --mode b', 'verify --help', 'verify a', 'verify a b --mode c')
 
 
 def inputs():
@@ -118,14 +118,26 @@ def witness_of(report):
 
 def reports():
     """What `check` is asked of, and `verify` of one of its witnesses and of others."""
-    yield 'a report with witnesses', Case('', DECIDED, Asked(witnesses=True))
-    yield 'a report that is cut, buffered', Case('', DECIDED, Asked(BUFFERED, 3, 19))
+    yield 'a report with witnesses', Case('', DECIDED, Asked(witnesses=True, split=0))
+    yield 'a report that is cut, buffered', Case('', DECIDED, Asked(BUFFERED, 3, 19, split=0))
+    yield 'a report by pieces', Case('', DECIDED, Asked(witnesses=True, split=2, workers=1))
+    yield 'a report up to its first deadlock', Case('', DECIDED, Asked(split=2, workers=1, until=True))
+    yield 'a report of one piece', Case('', DECIDED, Asked(witnesses=True, workers=1, piece=1))
+    yield 'a number of pieces', Case('', DECIDED, Asked(split=3, workers=1, pieces=True))
+    yield 'no such piece', Case('', DECIDED, Asked(workers=1, piece=3))
     text = witness_of(Case('', DECIDED, Asked(witnesses=True)).wanted().output)
     yield 'a witness', Verification(DECIDED, text)
     yield 'a witness of other calls', Verification(DECIDED, text.replace(b' 0.1', b' 0.1 0.1', 1))
     yield 'a witness of other steps', Verification(DECIDED, text.replace(b', wake 0', b', wake 0, wake 0', 1))
     yield 'a witness in the other mode', Verification(DECIDED, text, BUFFERED)
     yield 'a text that is no witness', Verification(DECIDED, text + b'x')
+
+
+def reports_by_workers():
+    """What `check` is asked of where several workers explore pieces."""
+    yield 'a report by four workers', Case('', DECIDED, Asked(witnesses=True, split=2, workers=4))
+    yield 'a report by sixteen workers', Case('', DECIDED, Asked(BUFFERED, 3, 19, split=1, workers=16))
+    yield 'a report up to its first deadlock by two workers', Case('', DECIDED, Asked(split=2, workers=2, until=True))
 
 
 def can_be_refused(debugger, line):
@@ -192,16 +204,19 @@ class Shim(NamedTuple):
         return result, inside + outside, count
 
 
-def refuse_each(name, run, problem_of, kind_of=kind_of, must_meet=()):
-    """Refuses each allocation of a run alone, and then each one with all behind it; gives how many runs were wrong, or kinds not met."""
+def refuse_each(name, run, problem_of, kind_of=kind_of, must_meet=(), is_same=True):
+    """Refuses each allocation of a run alone, and then each one with all behind it; gives how many runs were wrong, or kinds not met.
+
+    Where a run isn't the same each time, it may ask for less, so that nothing is refused; of all runs something must be.
+    """
     _, count, _ = run()
     kinds = Counter()
     wrong = 0
     for variable in ('SHIM_REFUSE_ONE', 'SHIM_REFUSE'):
         for number in range(1, count + 1):
             result, _, refused = run(**{variable: str(number)})
-            kinds[kind_of(result)] += 1
-            if what := problem_of(result, refused) if refused else 'nothing was refused':
+            kinds[kind_of(result) if refused or is_same else 'not refused'] += 1
+            if what := problem_of(result, refused) if refused or not is_same else 'nothing was refused':
                 wrong += 1
                 print(f'{name}, {variable}={number}: {what}', flush=True)
     told = ', '.join(f'{number} {kind}' for kind, number in sorted(kinds.items()))
@@ -209,7 +224,7 @@ def refuse_each(name, run, problem_of, kind_of=kind_of, must_meet=()):
     unmet = [kind for kind in must_meet if not kinds[kind]]
     if unmet:
         print(f'{name}: not met: {", ".join(unmet)}')
-    return wrong + (count == 0) + len(unmet)
+    return wrong + (count == 0 or kinds['not refused'] == kinds.total()) + len(unmet)
 
 
 def try_input(program, name, data, shim):
@@ -244,22 +259,22 @@ def try_session(program, asked, shim):
         return refuse_each(asked.name, run, lambda *seen: session_memory.problem(asked, *seen), session_memory.kind_of, MET_IN_SESSIONS)
 
 
-def try_whole(program, name, words, shim):
+def try_whole(program, name, words, shim, is_same=True):
     """Words that are answered by the same text and status or, with nothing written, not at all."""
     right = shim.run(program, b'', words)[0]
     allowed = (right, Result(b'', b'mpdbg: memory\n', 3))
     return refuse_each(name, lambda **refused: shim.run(program, b'', words, **refused),
-                       lambda result, _: None if result in allowed else f'status {result.status}, {result.output + result.errors}')
+                       lambda result, _: None if result in allowed else f'status {result.status}, {result.output + result.errors}', is_same=is_same)
 
 
-def try_report(program, name, case, shim):
+def try_report(program, name, case, shim, is_same=True):
     """A case of `check` or `verify`, which is answered rightly where nothing is refused."""
     with tempfile.TemporaryDirectory() as folder:
         words = case.words(folder)
         if shim.run(program, b'', words)[0] != case.wanted():
             print(f'{name}: not what the model answers')
             return 1
-        return try_whole(program, name, words, shim)
+        return try_whole(program, name, words, shim, is_same)
 
 
 def main():
@@ -277,6 +292,7 @@ def main():
         wrong += [try_file(program, 'head to head, buffered', walked(HEAD_TO_HEAD, BUFFERED), shim, BUFFERED)]
         wrong += [try_session(program, asked, shim) for asked in session_memory.sessions()]
         wrong += [try_report(program, name, case, shim) for name, case in reports()]
+        wrong += [try_report(program, name, case, shim, is_same=False) for name, case in reports_by_workers()]
         wrong += [try_whole(program, f'words {words}', words.split(), shim) for words in ANSWERED]
     return 1 if any(wrong) else 0
 

@@ -7,9 +7,10 @@ indented by four spaces, and in code within a line; what stands behind two space
 below a command, with nothing said between, it is what the command answers, whole. Blocks of words with their answers, tables of
 these, requests with their replies, dialogues, states, and scripts, are compared with the examples that they are taken from, and the
 requests of each example are answered by the program. Where `serve` is shown, as many clients come as it waits for, and leave; where a
-client is, it has a server. What is no command of the program is named in
-NOT_RUN, and a block that is none of all that in EXCERPTS: a block or a command that is new to this list is wrong here. The status is 0
-where each command ended as it must.
+client is, it has a server. Where `sbatch` is, a script of a few lines stands for Slurm, and runs the tasks of an array one behind the
+other; where GNU parallel is, and none is on the path, the rest of the block is skipped, which is said. What is no command of the program
+is named in NOT_RUN, and a block that is none of all that in EXCERPTS: a block or a command that is new to this list is wrong here. The
+status is 0 where each command ended as it must.
 """
 
 import glob
@@ -31,7 +32,7 @@ SECONDS = 60
 # What begins a command that is not run here, since it is none of the program.
 NOT_RUN = ('.ci/', 'GATE_', 'rt ', 'python3 compare/', 'python3 bench/', 'git ', './mpdbg --prove')
 # What begins a command that is run.
-RUN = ('./mpdbg', 'cat ', 'sed ', 'echo ', 'python3 examples/')
+RUN = ('./mpdbg', 'cat ', 'sed ', 'echo ', 'mkdir ', 'seq ', 'sbatch ', 'sh examples/', 'python3 examples/')
 # How a block begins that shows neither commands nor what one of the commands answers: a line of another command, or a form.
 EXCERPTS = {
     'README.md': ('proving ', 'checked as it runs'),
@@ -43,6 +44,17 @@ FILES = {'FILE': 'examples/race.mpd', 'WORDS': 'examples/race.words', 'WITNESS':
 MAKING = './mpdbg check examples/race.mpd --witness | grep -A 1 deadlock | head -2 > made.witness'
 # What is typed behind a script that is read from standard input with it.
 TYPED = {'cat examples/first_message.mpd - | ./mpdbg': '---\n'}
+# A command that wants GNU parallel, at its beginning or behind a pipe; without that the rest of its block is skipped.
+PARALLEL = re.compile(r'(?:^|\| )parallel ')
+# What stands for Slurm: each task of the array is run, with its number, in the folder where the array was submitted.
+SBATCH = '''#!/bin/sh
+for word; do
+  case $word in --array=*) range=${word#--array=} ;; -*) ;; *) script=$word ;; esac
+done
+for number in $(seq "${range%-*}" "${range#*-}"); do
+  SLURM_ARRAY_TASK_ID=$number sh "$script" || exit 1
+done
+'''
 # What the examples of help answer.
 HELP = {'--help': 'first.stdout', 'trace --help': 'ok 1\n', 'verify --help': 'accepted\n',
         'serve --help': 'listening 4000\nserved 0\n', 'run --help': '{"depth":6,"ok":true,"steps":6,"stop":"choice","version":1}\n',
@@ -50,10 +62,11 @@ HELP = {'--help': 'first.stdout', 'trace --help': 'ok 1\n', 'verify --help': 'ac
 
 
 class Shown(NamedTuple):
-    """A command of a page, and what stands below it as its answer, if that does."""
+    """A command of a page, what stands below it as its answer, if that does, and whether it wants GNU parallel."""
     where: str
     command: str
     answer: Optional[str] = None
+    wants_parallel: bool = False
 
 
 class Block(NamedTuple):
@@ -134,11 +147,13 @@ class Page:
         if block.is_fenced:
             self.fenced(block)
         elif is_command(first):
+            wants_parallel = False
             for number, line in enumerate(block.lines, block.number):
+                wants_parallel = wants_parallel or bool(PARALLEL.search(line))
                 if not is_command(line):
                     self.wrong(number, f'no command: {line}')
                 elif not line.startswith(NOT_RUN):
-                    self.commands.append(Shown(f'{self.page}, line {number}', command_of(line)))
+                    self.commands.append(Shown(f'{self.page}, line {number}', command_of(line), None, wants_parallel))
         elif re.match(r'\d [<>] ', first):
             self.dialogue(block)
         elif block.follows and self.commands:
@@ -152,7 +167,7 @@ class Page:
         """A script is that of an example, where it says what it shows, and else it is one; a state is one that its example answers."""
         if block.lines[0].startswith('#'):
             self.compared += 1
-            if block.text not in [read(path) for path in glob.glob(f'{TOP}/examples/*.mpd')]:
+            if block.text not in [read(path) for ending in ('mpd', 'sh', 'slurm') for path in glob.glob(f'{TOP}/examples/*.{ending}')]:
                 self.wrong(block.number, f'no example is this script: {block.lines[0]}')
         elif block.lines[0] == 'mpd 1;':
             self.commands.append(Shown(f'{self.page}, line {block.number}', f"./mpdbg <<'---'\n{block.text}---", ''))
@@ -218,8 +233,13 @@ def run(copy, command):
     if asked := re.fullmatch(r'python3 examples/socket_client\.py (\d+)', command):
         return with_server(copy, command, int(asked[1]))
     ran = subprocess.run(['bash', '-c', command], cwd=copy, input=TYPED.get(command, '').encode(), capture_output=True,
-                         timeout=SECONDS, check=False)
+                         timeout=SECONDS, check=False, env={**os.environ, 'PATH': f'{copy}/bin:{os.environ["PATH"]}'})
     return Result(ran.stdout, ran.stderr, ran.returncode)
+
+
+def has_parallel():
+    """Whether GNU parallel is on the path; another program may have its name."""
+    return bool(shutil.which('parallel')) and b'GNU parallel' in subprocess.run(['parallel', '--version'], capture_output=True, check=False).stdout
 
 
 def started(copy, command):
@@ -276,6 +296,10 @@ def make_copy(copy, program):
     """What a reader has before them, with the program built."""
     shutil.copytree(f'{TOP}/examples', f'{copy}/examples')
     shutil.copy(program, f'{copy}/mpdbg')
+    os.mkdir(f'{copy}/bin')
+    with open(f'{copy}/bin/sbatch', 'w', encoding='ascii') as file:
+        file.write(SBATCH)
+    os.chmod(f'{copy}/bin/sbatch', 0o755)
     subprocess.run(['bash', '-c', MAKING], cwd=copy, check=True)
 
 
@@ -289,13 +313,17 @@ def main():
         make_copy(copy, os.path.abspath(sys.argv[1]))
         commands = [shown for page in pages for shown in page.commands] + [*help_commands(copy)]
         commands += [Shown(f'examples/{name}.requests', f'./mpdbg run examples/{name}.mpd < examples/{name}.requests') for name in dialogues()]
+        skipped = [] if has_parallel() else [shown for shown in commands if shown.wants_parallel]
+        commands = [shown for shown in commands if shown not in skipped]
         for shown in commands:
             if problem := problem_of(shown, run(copy, shown.command)):
                 problems.append(f'{shown.where}: {shown.command}: {problem}')
     for problem in problems:
         print(problem)
+    for shown in skipped:
+        print(f'{shown.where}: {shown.command}: skipped, there is no GNU parallel')
     compared = sum(page.compared for page in pages)
-    print(f'{len(commands)} commands run, {compared} other blocks compared, {len(problems)} wrong')
+    print(f'{len(commands)} commands run, {compared} other blocks compared, {len(skipped)} commands skipped, {len(problems)} wrong')
     return 1 if problems or not commands or not compared else 0
 
 

@@ -5,7 +5,7 @@
 The examples, and the worked rows of compare/worked_program.py; devices that are full, closed, broken off, too short or interrupted;
 each fault of a script; the words of the command line, and the order in which they are tested; a script from a file; a refused
 script and a long check at a terminal; as many steps and reads as there may be; the deepest scripts on a small stack; more answers than memory;
-answers that come before the next read; and all that of `run` (session_statuses.py). The status is 0 where every run ended as it must.
+answers that come before the next read; parts of a check that are joined (part_statuses.py); and all that of `run` (session_statuses.py). The status is 0 where every run ended as it must.
 """
 
 import itertools
@@ -22,6 +22,7 @@ from debugger import MOST_READS, MOST_STEPS, RENDEZVOUS, Debugger, Result, Step,
 from devices import SECONDS, Files, at_terminal, broken_off, device, file_of_any_size, full, refused, soft_limit, unread_pipe
 from examples import EXAMPLES, checks, example_names, lessons, open_example, strays
 from language import MOST_OPEN_BLOCKS, MOST_OPERATORS, read_script
+from part_statuses import ROWS as PART_ROWS
 from runs import file_of, run_in_packets
 from session_statuses import ROWS as SESSION_ROWS
 from shims import built
@@ -388,19 +389,30 @@ def why_rows(program):
 # Eight messages, one of each sender, to one receiver of any source, which then counts for a while: 40,320 leaves that take seconds.
 SLOW = (b'mpd 1;\nranks 9;\nvar x;\nvar i;\nif rank == 0 { while i < 8 { recv x from any tag any; i = i + 1; } while i < 600 { i = i + 1; } }\n'
         b'else { send 1 to 0 tag 0; }\n')
-# Four messages, in all orders: 24 leaves.
+# Four messages, in all orders: 24 leaves, six of each candidate of the first choice.
 FEW = b'mpd 1; ranks 5; var x; var i;\nif rank == 0 { while i < 4 { recv x from any tag 0; i = i + 1; } } else { send 1 to 0 tag 0; }\n'
 NEVER_BAD = b'every way it can end is listed: it always ends, and never in a deadlock or trap\n'
-RISING = re.compile(rb'(?:\rleaves so far: [0-9]+)+\r\x1b\[K' + NEVER_BAD)
+TOLD = rb'\rpieces ([0-9]+) of ([0-9]+), leaves ([0-9]{1,3}(?:,[0-9]{3})*)'
+RISING = re.compile(rb'(?:%b)+\r\x1b\[K' % TOLD + NEVER_BAD)
 
 
-def told_counts(counts):
-    """What a terminal gets of these counts, each in place of the one before, and wiped at the end."""
-    return b''.join(b'\rleaves so far: %d' % count for count in counts) + b'\r\x1b[K' * bool(counts)
+def told_counts(counts, of_piece, pieces):
+    """What a terminal gets of these counts of leaves, each in place of the one before, and wiped at the end; each piece has so many."""
+    told = b''.join(b'\rpieces %d of %d, leaves %d' % ((count - 1) // of_piece, pieces, count) for count in counts)
+    return told + b'\r\x1b[K' * bool(counts)
+
+
+def is_rising(errors, pieces, seconds):
+    """Whether progress was told, once in each of so many seconds at most, with more leaves each time, and no fewer pieces, of all."""
+    told = [tuple(int(number.replace(b',', b'')) for number in numbers) for numbers in re.findall(TOLD, errors)]
+    ended, of_all, leaves = zip(*told) if told else ((), (), ())
+    is_fit = set(of_all) == {pieces} and max(ended) < pieces and list(ended) == sorted(ended) and list(leaves) == sorted(set(leaves))
+    return bool(RISING.fullmatch(errors)) and is_fit and len(told) <= seconds
 
 
 def progress_rows(program):
-    """At a terminal, and there alone, `check` says how many leaves there are so far, once a second at most, and wipes it at the end."""
+    """At a terminal, and there alone, `check` says how many pieces are done and how many leaves there are so far, once a second at most,
+    and wipes it at the end."""
     candidates = itertools.product(*(range(count) for count in range(8, 0, -1)))
     leaves = [f"leaf {number} [{' '.join(map(str, taken))}] done\n" for number, taken in enumerate(candidates)]
     report = ''.join(leaves + [f'leaves {len(leaves)} more no\n']).encode()
@@ -410,17 +422,23 @@ def progress_rows(program):
             with open(name, 'wb') as file:
                 file.write(data)
         before = time.time()
-        result = at_terminal(program, 'check', slow, '--runs', '65536')
-        counts = [int(it) for it in re.findall(rb'[0-9]+', result.errors.partition(b'\r\x1b')[0])]
-        told = bool(RISING.fullmatch(result.errors)) and counts == sorted(set(counts)) and 0 < len(counts) <= time.time() - before
+        result = at_terminal(program, 'check', slow, '--runs', '65536', '--workers', '1')
+        told = is_rising(result.errors, 8, time.time() - before)
         yield 'a terminal, a long check', (result._replace(errors=b''), told), (Result(report, b'', 0), True)
         # 24 leaves, by a clock that goes on by so much at each: at the end of each second, all leaves so far are counted
         shim, few = built(os.path.join(HERE, 'terminal_shim.c'), folder), os.path.join(folder, 'few')
         with open(few, 'wb') as file:
             file.write(FEW)
         for pause, between in ((1000, 1), (999, 2), (500, 2), (400, 3), (250, 4), (42, 24), (41, 25)):
-            result = at_terminal(program, 'check', few, LD_PRELOAD=shim, CLOCK_MS=str(pause))
-            yield f'a terminal, {pause} ms for each leaf', result.errors, told_counts(range(between, 25, between)) + NEVER_BAD
+            for split, of_piece, pieces in ((1, 6, 4), (0, 24, 1), (2, 2, 12)):
+                words = ('check', few, '--workers', '1', '--split', str(split))
+                result = at_terminal(program, *words, LD_PRELOAD=shim, CLOCK_MS=str(pause))
+                wanted = told_counts(range(between, 25, between), of_piece, pieces) + NEVER_BAD
+                yield f'a terminal, {pause} ms for each leaf, {pieces} pieces', result.errors, wanted
+        several = at_terminal(program, 'check', few, '--workers', '4', LD_PRELOAD=shim, CLOCK_MS='1000')
+        yield 'a terminal, four workers', bool(RISING.fullmatch(several.errors)), True
+        piece = at_terminal(program, 'check', few, '--piece', '3', LD_PRELOAD=shim, CLOCK_MS='1000')
+        yield 'a terminal, one piece', piece.errors, told_counts(range(1, 7), 6, 1)
         short = at_terminal(program, 'check', race)
         yield 'a terminal, a short check', short._replace(output=b''), Result(b'', b'every way it can end is listed: it always ends, in 2 ways, 1 of them a deadlock\n', 1)
         yield 'no terminal, a check', Files(None).run(program, 'check', race)._replace(output=b''), Result(b'', b'', 1)
@@ -433,15 +451,17 @@ SUMMED = (
     ('head_to_head', '', 1, 'every way it can end is listed: it always ends, in 1 way, 1 of them a deadlock'),
     ('trap', '', 1, 'every way it can end is listed: it always ends, in 1 way, 1 of them a trap'),
     ('one_in_seven', '--complete', 1, 'every way it can end is listed: it always ends, in 7 ways, 1 of them a deadlock'),
-    ('one_in_seven', '--runs 6', 0, 'not everything was tried: 6 runs were listed, and there are more (--runs)'),
-    ('one_in_seven', '--runs 6 --complete', 4, 'not everything was tried: 6 runs were listed, and there are more (--runs)'),
-    ('one_in_seven', '--runs 1 --complete', 4, 'not everything was tried: 1 run was listed, and there are more (--runs)'),
+    ('one_in_seven', '--runs 1 --complete', 1, 'every way it can end is listed: it always ends, in 7 ways, 1 of them a deadlock'),
+    ('one_in_seven', '--split 0 --runs 6', 0, 'not everything was tried: 6 runs were listed, and there are more (--runs)'),
+    ('one_in_seven', '--split 0 --runs 6 --complete', 4, 'not everything was tried: 6 runs were listed, and there are more (--runs)'),
+    ('one_in_seven', '--split 0 --runs 1 --complete', 4, 'not everything was tried: 1 run was listed, and there are more (--runs)'),
     ('one_in_seven', '--fuel 63', 0, 'not everything was tried: 1 run was cut (--fuel)'),
     ('one_in_seven', '--fuel 63 --complete', 4, 'not everything was tried: 1 run was cut (--fuel)'),
-    ('one_in_seven', '--runs 6 --fuel 40 --complete', 4,
+    ('one_in_seven', '--fuel 40 --complete', 4, 'not everything was tried: 7 runs were cut (--fuel)'),
+    ('one_in_seven', '--split 0 --runs 6 --fuel 40 --complete', 4,
      'not everything was tried: 6 runs were listed, and there are more (--runs), 6 runs were cut (--fuel)'),
     # a deadlock was found, so the status is not that of a report that isn't whole
-    ('race', '--runs 1 --complete', 1, 'not everything was tried: 1 run was listed, and there are more (--runs)'),
+    ('race', '--split 0 --runs 1 --complete', 1, 'not everything was tried: 1 run was listed, and there are more (--runs)'),
 )
 
 
@@ -494,7 +514,7 @@ def much_rows(program):
 
 
 ROWS = (ended_rows, example_rows, refused_rows, device_rows, usage_rows, trace_rows, terminal_rows, found_rows, why_rows, progress_rows, summed_rows,
-        interrupted_rows, talk_rows, stack_rows, much_rows, full_rows, turns_rows, lesson_rows, *WORKED_ROWS, *SESSION_ROWS)
+        interrupted_rows, talk_rows, stack_rows, much_rows, full_rows, turns_rows, lesson_rows, *WORKED_ROWS, *PART_ROWS, *SESSION_ROWS)
 
 
 def main():

@@ -6,8 +6,9 @@ They are of barriers, of synchronous sends, of both modes, of the words that go 
 some steps. Each row here is a script, a mode, and words with what each is answered; behind the words stands what `show` prints, in
 part. Traces whose every byte was worked out stand in compare/worked_traces.py, texts that print, trap or are refused in
 compare/worked_texts.py; compare/statuses.py has the built program answer all these too. Decisions, breakpoints and runs stand in
-compare/worked_runs.py, reports and witnesses in compare/worked_explorer.py, dialogues of a session in compare/worked_sessions.py. The
-lessons of docs/COURSE.md are rows too, with their answers in files. The status is 0 where the model answers all of them so.
+compare/worked_runs.py, reports and witnesses in compare/worked_explorer.py, reports by pieces in compare/worked_pieces.py, dialogues of a
+session in compare/worked_sessions.py. The lessons of docs/COURSE.md are rows too, with their answers in files. The status is 0 where the
+model answers all of them so.
 """
 
 import sys
@@ -17,6 +18,7 @@ from unittest import mock
 import debugger
 import explorer
 import worked_explorer
+import worked_pieces
 import worked_sessions
 from debugger import BUFFERED, RENDEZVOUS, Result, answer, answer_file
 from examples import checks, lessons, open_example
@@ -375,6 +377,7 @@ def main():
     problems += [(row.what, input_problem(row)) for row in all_inputs()]
     problems += [(f'{row.script} ({row.mode}): {row.words}', run_problem(row)) for row in RUNS]
     problems += worked_explorer.problems()
+    problems += worked_pieces.problems()
     problems += worked_sessions.problems()
     problems += [(statement, refusal_problem(statement, fault, place)) for statement, fault, place in REFUSED]
     problems += [(f'{lesson.name} ({lesson.mode})', lesson_problem(lesson)) for lesson in lessons()]

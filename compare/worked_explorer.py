@@ -50,9 +50,14 @@ def gathering(ranks, receives):
 
 
 def gathered(ranks, receives, runs, more):
-    """The lines for so many runs of that: a choice has the number of a sender among those that are left."""
+    """The lines for so many runs of that."""
+    return gathered_by(ranks, islice(permutations(range(1, ranks), receives), runs), more)
+
+
+def gathered_by(ranks, runs, more):
+    """The lines for these runs of that, each told by its senders: a choice has the number of a sender among those that are left."""
     lines = []
-    for number, senders in enumerate(islice(permutations(range(1, ranks), receives), runs)):
+    for number, senders in enumerate(runs):
         choices = [sender - 1 - sum(other < sender for other in senders[:place]) for place, sender in enumerate(senders)]
         left = [f'{rank}.0' for rank in range(1, ranks) if rank not in senders]
         lines.append(f'leaf {number} [{" ".join(map(str, choices))}] leftovers {" ".join(left)}')
@@ -77,12 +82,12 @@ CHECKS = (
     # no statement
     CheckRow(EMPTY, Asked(), 'leaf 0 [] done; leaves 1 more no', 0),
     # the status is of the leaves that are listed, and so are witnesses
-    CheckRow(THREE, Asked(runs=1), 'leaf 0 [0] done; leaves 1 more yes', 0),
-    CheckRow(THREE, Asked(runs=1, witnesses=True), 'leaf 0 [0] done; leaves 1 more yes', 0),
+    CheckRow(THREE, Asked(runs=1, split=0), 'leaf 0 [0] done; leaves 1 more yes', 0),
+    CheckRow(THREE, Asked(runs=1, split=0, witnesses=True), 'leaf 0 [0] done; leaves 1 more yes', 0),
     # a run without an end
     CheckRow(ON_AND_ON, Asked(fuel=5), 'leaf 0 [] cut; leaves 1 more no', 0),
     CheckRow(ON_AND_ON, Asked(fuel=5, complete=True), 'leaf 0 [] cut; leaves 1 more no', 4),
-    CheckRow(THREE, Asked(runs=1, complete=True), 'leaf 0 [0] done; leaves 1 more yes', 4),
+    CheckRow(THREE, Asked(runs=1, split=0, complete=True), 'leaf 0 [0] done; leaves 1 more yes', 4),
     CheckRow(THREE, Asked(complete=True), OF_THREE, 1),
     CheckRow(EMPTY, Asked(complete=True), 'leaf 0 [] done; leaves 1 more no', 0),
     CheckRow(ON_AND_ON, Asked(fuel=5, witnesses=True), 'leaf 0 [] cut; leaves 1 more no', 0),
@@ -102,7 +107,7 @@ CHECKS = (
     *(CheckRow(THREE, Asked(fuel=fuel), 'leaf 0 [0] cut; leaf 1 [1] deadlock 0.1 1.0; leaves 2 more no', 1) for fuel in (12, 10)),
     *(CheckRow(THREE, Asked(fuel=fuel, witnesses=True), 'leaf 0 [0] cut; leaf 1 [1] cut; leaves 2 more no', 0) for fuel in (9, 7)),
     *(CheckRow(THREE, Asked(fuel=fuel), 'leaf 0 [] cut; leaves 1 more no', 0) for fuel in (6, 5, 1)),
-    CheckRow(THREE, Asked(runs=1, fuel=6), 'leaf 0 [] cut; leaves 1 more no', 0),
+    CheckRow(THREE, Asked(runs=1, split=0, fuel=6), 'leaf 0 [] cut; leaves 1 more no', 0),
     # a run that is at its end has its outcome, also where no fuel is left
     CheckRow(EMPTY, Asked(fuel=1), 'leaf 0 [] done; leaves 1 more no', 0),
     CheckRow(UNRECEIVED, Asked(fuel=1), 'leaf 0 [] deadlock 0.0; leaves 1 more no', 1),
@@ -113,7 +118,7 @@ CHECKS = (
     CheckRow(TO_ITSELF, Asked(fuel=14), 'leaf 0 [0 0 0] cut; leaves 1 more no', 0),
     CheckRow(TO_ITSELF, Asked(fuel=13), 'leaf 0 [0 0] cut; leaves 1 more no', 0),
     # there are no more where there are just so many
-    CheckRow(THREE, Asked(runs=2), OF_THREE, 1),
+    CheckRow(THREE, Asked(runs=2, split=0), OF_THREE, 1),
     # one candidate is a choice too
     CheckRow(BOTH_ANY, Asked(), 'leaf 0 [0 0] done; leaf 1 [1 0] done; leaves 2 more no', 0),
     CheckRow(LOST, Asked(witnesses=True), 'leaf 0 [0] leftovers 0.1; leaves 1 more no', 0),
@@ -129,7 +134,7 @@ CHECKS = (
     CheckRow(LOW_WANTED, Asked(witnesses=True), f'leaf 0 [0] deadlock 2.0; witness 0: {SIX}, match 1.0 0.0, wake 0, local 0, wake 1; '
              'leaf 1 [1] trap 0 assert; leaves 2 more no', 1),
     CheckRow(LOW_WANTED, Asked(BUFFERED, witnesses=True), 'leaf 0 [0] leftovers 2.0; leaf 1 [1] trap 0 assert; leaves 2 more no', 1),
-    CheckRow(LOW_WANTED, Asked(BUFFERED, runs=1, witnesses=True), 'leaf 0 [0] leftovers 2.0; leaves 1 more yes', 0),
+    CheckRow(LOW_WANTED, Asked(BUFFERED, runs=1, split=0, witnesses=True), 'leaf 0 [0] leftovers 2.0; leaves 1 more yes', 0),
     CheckRow(ONE_TRAPPED, Asked(witnesses=True), 'leaf 0 [] trap 0 assert; leaves 1 more no', 1),
     # witnesses of barriers
     CheckRow(ONE_ENDED, Asked(witnesses=True), 'leaf 0 [] deadlock 1.0; witness 0: local 0, local 1, local 1; leaves 1 more no', 1),
@@ -137,12 +142,12 @@ CHECKS = (
              'local 1; leaves 1 more no', 1),
     # eleven candidates, and then ten: by number, not by digits
     CheckRow(gathering(12, 1), Asked(), gathered(12, 1, 11, 'no'), 0),
-    CheckRow(gathering(12, 1), Asked(runs=10), gathered(12, 1, 10, 'yes'), 0),
+    CheckRow(gathering(12, 1), Asked(runs=10, split=0), gathered(12, 1, 10, 'yes'), 0),
     CheckRow(gathering(12, 2), Asked(), gathered(12, 2, 110, 'no'), 0),
-    CheckRow(gathering(12, 2), Asked(runs=109), gathered(12, 2, 109, 'yes'), 0),
+    CheckRow(gathering(12, 2), Asked(runs=109, split=0), gathered(12, 2, 109, 'yes'), 0),
     # 1,000 runs, where no other number is asked for
-    CheckRow(gathering(13, 3), Asked(), gathered(13, 3, 1000, 'yes'), 0),
-    CheckRow(gathering(13, 3), Asked(runs=1320), gathered(13, 3, 1320, 'no'), 0))
+    CheckRow(gathering(13, 3), Asked(split=0), gathered(13, 3, 1000, 'yes'), 0),
+    CheckRow(gathering(13, 3), Asked(runs=1320, split=0), gathered(13, 3, 1320, 'no'), 0))
 
 
 def counting(times, statements):
@@ -164,7 +169,10 @@ LONG_CHECKS = (
 
 # Words of the command line that are wrong; they are tested before the mode, which is wrong too.
 MISTAKES = ('--runs 0', '--runs 65537', '--runs', '--runs -1', '--fuel 0', '--fuel 1000001', '--fuel', '--fuel 1.5', '--fuel x',
-            '--port 5', '--no-such-option', '--witness 1')
+            '--port 5', '--no-such-option', '--witness 1', '--split 9', '--split', '--split -1', '--split one', '--split 1 --split 1',
+            '--workers 1001', '--workers', '--workers -1', '--workers 2.0', '--piece 1024', '--piece', '--piece -1', '--piece 0 --piece 0',
+            '--pieces 1', '--pieces=yes', '--pieces --pieces', '--until', '--until trap', '--until cut', '--until=', '--until Deadlock',
+            '--until deadlock --until deadlock')
 
 
 class PlaceRow(NamedTuple):

@@ -89,13 +89,26 @@ def left_over(leaf):
     return ' '.join([f'[{leaf}] leftovers', *(f'{rank}.0' for rank in range(1, 9) if rank != leaf + 1)])
 
 
+def refused(line):
+    return Result(b'', f'mpdbg: {line}\n'.encode(), 2)
+
+
 ALL_LEAVES = leaves(*map(left_over, range(8)))
+ALL_BUT_ONE = leaves(*map(left_over, range(7)), more='yes')
 STUCK = leaves('[] deadlock 0.0', status=1)
+BAD_WORKERS = refused('refused 35 bad-workers')
 CHECKED = (
     ('check|a', ALL_LEAVES), ('check|--witness|a', ALL_LEAVES), ('check|a|--runs|65536|--fuel=1000000', ALL_LEAVES),
     ('check|--mode=b|--runs=+007|--fuel|1|--|a', BAD_MODE),
-    ('check|--mode=buffered|--runs=+007|--|a', leaves(*map(left_over, range(7)), more='yes')),
-    ('check|--runs=8|a', ALL_LEAVES), ('check|b|--fuel|1', leaves('[] cut')), ('check|--mode=buffered|--fuel|1|--|b', leaves('[] cut')),
+    ('check|--mode=buffered|--runs=+007|--split=+00|--|a', ALL_BUT_ONE), ('check|--split|0|--runs=7|a', ALL_BUT_ONE),
+    ('check|--runs=8|a', ALL_LEAVES), ('check|--runs=+001|a', ALL_LEAVES), ('check|a|--split=8|--workers=+016|--runs=1', ALL_LEAVES),
+    ('check|a|--split|1|--workers|1|--runs|1', ALL_LEAVES), ('check|--piece=+007|a', leaves(left_over(7))), ('check|a|--piece|0', leaves(left_over(0))),
+    ('check|a|--split|0|--piece|0|--runs|7', ALL_BUT_ONE), ('check|a|--piece|8', refused('no piece 8 of 8')),
+    ('check|a|--split|0|--piece|1', refused('no piece 1 of 1')), ('check|a|--piece|1023', refused('no piece 1023 of 8')),
+    ('check|a|--pieces', Result(b'pieces 8\n', b'', 0)), ('check|--pieces|--split=0|--|a', Result(b'pieces 1\n', b'', 0)),
+    ('check|c|--pieces', Result(b'pieces 1\n', b'', 0)), ('check|a|--until|deadlock', ALL_LEAVES), ('check|--until=deadlock|c', STUCK),
+    ('check|a|--workers|0', BAD_WORKERS), ('check|--workers=+017|a', BAD_WORKERS), ('check|a|--workers|1000', BAD_WORKERS),
+    ('check|a|--workers|0|--mode|b', BAD_MODE), ('check|none|--workers|0', NO_FILE), ('check|a|--workers|17|--piece|8', BAD_WORKERS), ('check|b|--fuel|1', leaves('[] cut')), ('check|--mode=buffered|--fuel|1|--|b', leaves('[] cut')),
     ('check|--|c', STUCK), ('check|c|--mode|buffered', leaves('[] leftovers 0.0')),
     ('check|c|--witness', Result(b'leaf 0 [] deadlock 0.0\nwitness 0: local 0\nleaves 1 more no\n', b'', 1)))
 
@@ -107,7 +120,9 @@ MISTAKEN = (
     'serve|a|--port|0|--clients|2', 'serve|a|--port|65536|--clients|2', 'serve|a|--port|4000|--clients|0', 'serve|a|--port|4000|--clients|17',
     'serve|a|--port|4000|--clients|2|--port|4000', 'check', 'check|a|b', 'check|a|--runs|0', 'check|a|--runs|65537', 'check|a|--fuel|0',
     'check|a|--fuel|1000001', 'check|a|--fuel|ten', 'check|a|--runs=', 'check|a|--runs|5|--runs=5', 'check|a|--witness=true',
-    'check|a|--witness|--witness')
+    'check|a|--witness|--witness', 'check|a|--split|9', 'check|a|--split|-1', 'check|a|--split=', 'check|a|--split|1|--split=1',
+    'check|a|--workers|1001', 'check|a|--workers|two', 'check|a|--piece|1024', 'check|a|--piece=', 'check|a|--until', 'check|a|--until|trap',
+    'check|a|--until=', 'check|a|--pieces=yes', 'check|a|--pieces|--pieces', 'trace|a|--split|1', 'run|a|--workers|2', 'verify|a|b|--piece|0')
 
 
 def write_files(**files):
