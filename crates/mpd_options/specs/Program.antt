@@ -3,6 +3,7 @@ use Rattle.std.specs.Prelude.{ℕ, List, [], ◌∷◌, Some, true, codes}
 use Rattle.std.specs.Borrow.{Bor}
 use Rattle.clap.specs.Words.{App, Rule, new_app, new_rule, with_rule, with_subcommand}
 use Rattle.clap.specs.declared.builder.action.ArgAction.TheVariants.{Set, SetTrue}
+use Rattle.clap.specs.declared.builder.value_parser.ValueParser.{ValueParser}
 use Rattle.clap.specs.declared.builder.value_parser.ValueParser.TheVariants.{Names, Unsigned}
 use Rattle.mpd_options.specs.Asked.{most_clients, most_fuel, most_piece, most_port, most_runs, most_split, most_workers}
 
@@ -18,25 +19,17 @@ mode_rule = record (new_rule (codes "mode")) {
   defaults = codes "rendezvous" ∷ [];
 }
 
+-- an option with a value, which may be left out
+abbrev pub valued_rule : List ℕ → ValueParser → Rule
+valued_rule name parser = record (new_rule name) { long = Some name; value_names = 1; action = Some Set; parser = Some parser }
+
 -- an option whose value is a number
 abbrev pub number_rule : List ℕ → ℕ → ℕ → List ℕ → Rule
-number_rule name least most default = record (new_rule name) {
-  long = Some name;
-  value_names = 1;
-  action = Some Set;
-  parser = Some (Unsigned least most);
-  defaults = default ∷ [];
-}
+number_rule name least most default = record (valued_rule name (Unsigned least most)) { defaults = default ∷ [] }
 
 -- an option that must be there, whose value is a number, from 1 on
 abbrev pub required_number_rule : List ℕ → ℕ → Rule
-required_number_rule name most = record (new_rule name) {
-  long = Some name;
-  value_names = 1;
-  required = true;
-  action = Some Set;
-  parser = Some (Unsigned 1 most);
-}
+required_number_rule name most = record (valued_rule name (Unsigned 1 most)) { required = true }
 
 abbrev pub flag_rule : List ℕ → Rule
 flag_rule name = record (new_rule name) { long = Some name; action = Some SetTrue }
@@ -64,23 +57,11 @@ Lies = (ℕ × ℕ) × (ℕ × ℕ)
 abbrev pub only_deadlock : Lies → Choices
 only_deadlock lie = record { ref_ptr = lie.0; now = (record { ref_ptr = lie.1; now = codes "deadlock" }) ∷ [] }
 
--- it may be left out, and has no default
 abbrev pub until_rule : Choices → Rule
-until_rule words = record (new_rule (codes "until")) {
-  long = Some (codes "until");
-  value_names = 1;
-  action = Some Set;
-  parser = Some (Names words);
-}
+until_rule words = valued_rule (codes "until") (Names words)
 
--- nor has this
 abbrev pub piece_rule : Rule
-piece_rule = record (new_rule (codes "piece")) {
-  long = Some (codes "piece");
-  value_names = 1;
-  action = Some Set;
-  parser = Some (Unsigned 0 most_piece);
-}
+piece_rule = valued_rule (codes "piece") (Unsigned 0 most_piece)
 
 abbrev pub witness_rule : Rule
 witness_rule = flag_rule (codes "witness")

@@ -6,7 +6,7 @@ ghost use Rattle.clap.specs.Words.{app_of, rule_of};
 ghost use Rattle.clap.specs.declared.builder.command.Command.TheViews.{out-Command as fields_of};
 ghost use Rattle.mpd_options.specs.Help.{example_of};
 ghost use Rattle.mpd_options.specs.declared.command.Topic.TheVariants.{Check, Program, Run, Serve, Trace, Verify};
-ghost use Rattle.mpd_options.specs.Program.{check_app, clients_rule, complete_rule, file_rule, flag_rule, fuel_rule, mode_rule, mpdbg_app, named_app, number_rule, numbers_app, piece_rule, pieces_rule, port_rule, required_number_rule, run_app, runs_rule, script_app, serve_app, split_rule, trace_app, until_rule, verify_app, witness_rule, work_app, workers_rule};
+ghost use Rattle.mpd_options.specs.Program.{check_app, clients_rule, complete_rule, file_rule, flag_rule, fuel_rule, mode_rule, mpdbg_app, named_app, number_rule, numbers_app, piece_rule, pieces_rule, port_rule, required_number_rule, run_app, runs_rule, script_app, serve_app, split_rule, trace_app, until_rule, valued_rule, verify_app, witness_rule, work_app, workers_rule};
 
 use clap::builder::ValueParser;
 use clap::{Arg, ArgAction, Command};
@@ -200,6 +200,25 @@ fn mode_option<'a>(alloc: Global) -> Arg<'a>
         .help("How standard sends behave: rendezvous or buffered")
 }
 
+/// An option with a value, which may be left out.
+fn valued_option<'a>(
+    alloc: Global,
+    name: &'a str,
+    value_name: &'a str,
+    parser: ValueParser<'a>,
+    help: &'a str,
+) -> Arg<'a>
+    ensures rule { rule_of result ≡ valued_rule name.entry.now parser.entry }
+    ensures own { result.global ≡ false }
+{
+    Arg::new(alloc, name)
+        .long(name)
+        .value_name(value_name)
+        .action(ArgAction::Set)
+        .value_parser(parser)
+        .help(help)
+}
+
 /// An option whose value is a number from `least` to `most`.
 fn number_option<'a>(
     alloc: Global,
@@ -213,13 +232,8 @@ fn number_option<'a>(
     ensures rule { rule_of result ≡ number_rule name.entry.now least most default.entry.now }
     ensures own { result.global ≡ false }
 {
-    Arg::new(alloc, name)
-        .long(name)
-        .value_name(value_name)
-        .action(ArgAction::Set)
-        .value_parser(ValueParser::unsigned(least, most))
-        .default_value(default)
-        .help(help)
+    let numbers = ValueParser::unsigned(least, most);
+    valued_option(alloc, name, value_name, numbers, help).default_value(default)
 }
 
 /// An option that must be there, whose value is a number from 1 to `most`.
@@ -233,13 +247,8 @@ fn required_number<'a>(
     ensures rule { rule_of result ≡ required_number_rule name.entry.now most }
     ensures own { result.global ≡ false }
 {
-    Arg::new(alloc, name)
-        .long(name)
-        .value_name(value_name)
-        .required(true)
-        .action(ArgAction::Set)
-        .value_parser(ValueParser::unsigned(1, most))
-        .help(help)
+    let numbers = ValueParser::unsigned(1, most);
+    valued_option(alloc, name, value_name, numbers, help).required(true)
 }
 
 /// `--port P`.
@@ -308,12 +317,8 @@ fn until_option<'a>(alloc: Global, words: &'a [&'a str]) -> Arg<'a>
     ensures rule { rule_of result ≡ until_rule words.entry }
     ensures own { result.global ≡ false }
 {
-    Arg::new(alloc, UNTIL)
-        .long(UNTIL)
-        .value_name("END")
-        .action(ArgAction::Set)
-        .value_parser(ValueParser::Names(words))
-        .help("List the runs up to the first that ends in a deadlock or a trap")
+    let help = "List the runs up to the first that ends in a deadlock or a trap";
+    valued_option(alloc, UNTIL, "END", ValueParser::Names(words), help)
 }
 
 /// A flag.
@@ -350,12 +355,9 @@ fn piece_option<'a>(alloc: Global) -> Arg<'a>
     ensures rule { rule_of result ≡ piece_rule }
     ensures own { result.global ≡ false }
 {
-    Arg::new(alloc, PIECE)
-        .long(PIECE)
-        .value_name("N")
-        .action(ArgAction::Set)
-        .value_parser(ValueParser::unsigned(0, MOST_PIECE))
-        .help("Print the part of the report that piece N has, 0 to 1023")
+    let numbers = ValueParser::unsigned(0, MOST_PIECE);
+    let help = "Print the part of the report that piece N has, 0 to 1023";
+    valued_option(alloc, PIECE, "N", numbers, help)
 }
 
 /// `--pieces`.
