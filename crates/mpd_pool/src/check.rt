@@ -138,7 +138,9 @@ fn explore_by_workers<G: Gate, R: Threads + Wait + Sync>(
     let mut owner = filled(alloc, pieces.len())?;
     let stealer = owner.stealer()?;
     let thief = &stealer;
-    let jobs = jobs(alloc, debugger, &mut owner, limits, pieces, workers);
+    // a worker more than there are pieces would have nothing to do
+    let hands = workers.min(pieces.len());
+    let jobs = jobs(alloc, debugger, &mut owner, limits, pieces, hands);
     let batches = thread::map_vec(
         rt,
         jobs,
