@@ -1,5 +1,5 @@
 -- What a report says of all runs: where it says that there are no more leaves, and none of its leaves is cut.
-use Rattle.std.specs.Prelude.{◌≡◌, ◌≤◌, ℕ, false, List, [], length, map, take, nat_lt, Some}
+use Rattle.std.specs.Prelude.{◌≡◌, ◌≤◌, false, List, [], length, map, Some}
 use Rattle.std.specs.List.{list_any, Contains}
 use Rattle.mpd_model.specs.declared.step.Step.{Step}
 use Rattle.mpd_model.specs.declared.call.Mode.{Mode}
@@ -9,26 +9,31 @@ use Rattle.mpd_model.specs.Next.{fold, enabled}
 use Rattle.mpd_model.specs.Outcomes.{ending}
 use Rattle.mpd_explore.specs.declared.report.Ending.TheVariants.{Ended}
 use Rattle.mpd_explore.specs.declared.report.Leaf.{Leaf}
+use Rattle.mpd_explore.specs.declared.report.Limits.{Limits}
 use Rattle.mpd_explore.specs.Walk.{walk}
-use Rattle.mpd_explore.specs.Report.{shown}
+use Rattle.mpd_explore.specs.Report.{shown, listed, left_out}
 use Rattle.mpd_complete.specs.CompleteLaws.{was_cut, GoesOnToAnEnd}
 
--- the leaves that `explore` lists of so many at most, with so much fuel
-abbrev pub reported : ℕ → ℕ → World → List Leaf
-reported limit fuel u = take limit (map shown (walk fuel u))
+-- the leaves of all runs with so much fuel
+abbrev pub all_leaves : Limits → World → List Leaf
+all_leaves l u = map shown (walk l.fuel u)
+
+-- those that `explore` lists
+abbrev pub reported : Limits → World → List Leaf
+reported l u = listed l (all_leaves l u)
 
 -- Every run that can't go on has an outcome that is a leaf's.
 abbrev pub ReportsHaveAllOutcomes : Type 0
 ReportsHaveAllOutcomes =
     (s : Program) (mode : Mode) (before : List Step) (u : World) → fold (start s mode) before ≡ Some u
-    → (limit fuel : ℕ) → nat_lt limit (length (walk fuel u)) ≡ false → list_any (λ l. was_cut l.ending) (reported limit fuel u) ≡ false
+    → (l : Limits) → left_out l (all_leaves l u) ≡ false → list_any (λ x. was_cut x.ending) (reported l u) ≡ false
     → (steps : List Step) (w : World) → fold u steps ≡ Some w → enabled w ≡ []
-    → (l : Leaf) × Contains (reported limit fuel u) l × (l.ending ≡ Ended (ending w))
+    → (x : Leaf) × Contains (reported l u) x × (x.ending ≡ Ended (ending w))
 
 -- None has more steps than the fuel, and each can be continued until no step is enabled.
 abbrev pub ReportsBoundAllRuns : Type 0
 ReportsBoundAllRuns =
     (s : Program) (mode : Mode) (before : List Step) (u : World) → fold (start s mode) before ≡ Some u
-    → (limit fuel : ℕ) → nat_lt limit (length (walk fuel u)) ≡ false
-    → list_any (λ l. was_cut l.ending) (reported limit fuel u) ≡ false
-    → (steps : List Step) (w : World) → fold u steps ≡ Some w → (length steps ≤ fuel) × GoesOnToAnEnd w
+    → (l : Limits) → left_out l (all_leaves l u) ≡ false
+    → list_any (λ x. was_cut x.ending) (reported l u) ≡ false
+    → (steps : List Step) (w : World) → fold u steps ≡ Some w → (length steps ≤ l.fuel) × GoesOnToAnEnd w

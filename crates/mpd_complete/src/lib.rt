@@ -49,8 +49,8 @@ pub fn runs_of_sleeping_walks_are_runs()
 
 ghost use Rattle.mpd_complete.specs.Reported as report;
 
-/// A report of `explore` that says that there are no more leaves, and none of whose leaves is cut, has the outcome of every run that
-/// can't go on.
+/// A report of `explore`, by whatever limits, that says that there are no other leaves, and none of whose leaves is cut, has the outcome
+/// of every run that can't go on.
 pub fn reports_have_all_outcomes()
     ensures { report.ReportsHaveAllOutcomes }
 {}

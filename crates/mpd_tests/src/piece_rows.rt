@@ -100,6 +100,7 @@ const TURNED: &[u8] =
 
 /// Both runs of the race, and the texts of their witnesses.
 const BOTH: &[&str] = &["[0] done", "[1] deadlock 0.1 1.0"];
+
 const BOTH_TEXTS: &[&str] = &[
     "",
     ": local 0, local 0, local 1, local 1, local 2, local 2, match 2.0 0.0, wake 0, local 0, wake 2\n",
@@ -107,7 +108,9 @@ const BOTH_TEXTS: &[&str] = &[
 
 /// Those of the other, of which the first is a deadlock.
 const TURNED_BOTH: &[&str] = &["[0] deadlock 0.1 2.0", "[1] done"];
+
 const TURNED_FIRST: &[&str] = &["[0] deadlock 0.1 2.0"];
+
 const TURNED_TEXTS: &[&str] = &[
     ": local 0, local 0, local 1, local 1, local 2, local 2, match 1.0 0.0, wake 0, local 0, wake 1\n",
 ];

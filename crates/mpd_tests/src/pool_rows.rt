@@ -29,7 +29,8 @@ const REPORT: &str = "leaf 0 [0] done\nleaf 1 [1] deadlock 0.1 1.0\nleaves 2 mor
 const TURNED: &[u8] =
     b"mpd 1; ranks 3; var x; var y; if rank == 0 { recv x from any tag any; recv y from 1 tag any; } else { send rank to 0 tag 0; }";
 
-const TURNED_REPORT: &str = "leaf 0 [0] deadlock 0.1 2.0\nwitness 0: local 0, local 0, local 1, local 1, local 2, local 2, match 1.0 0.0, wake 0, local 0, wake 1\nleaves 1 more yes\n";
+const TURNED_REPORT: &str =
+    "leaf 0 [0] deadlock 0.1 2.0\nwitness 0: local 0, local 0, local 1, local 1, local 2, local 2, match 1.0 0.0, wake 0, local 0, wake 1\nleaves 1 more yes\n";
 
 /// As many leaves and steps as any run here has, without witnesses, and not only up to the first bad one.
 const ALL: Limits = Limits {
@@ -176,7 +177,11 @@ fn the_report_ends_with_the_first_deadlock(rt: HostRuntime) {
     let alloc = rt.alloc();
     let code = lowered(&rt, alloc, TURNED);
     for crew in TURNED_CREWS {
-        same(&rt, finds(&rt, alloc, &code, crew, UNTIL_BAD, &Ungated), true);
+        same(
+            &rt,
+            finds(&rt, alloc, &code, crew, UNTIL_BAD, &Ungated),
+            true,
+        );
     }
 }
 
