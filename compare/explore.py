@@ -51,7 +51,7 @@ MUST_MEET_OF_PIECES = (
 # What must be met where each script is checked by every number of choices.
 PAIRS = tuple(f'split {split} by {workers}' for split in range(MOST_SPLIT + 1) for workers in range(1, MOST_WORKERS + 1))
 # So many steps of a script are remembered at most.
-MOST_REMEMBERED = 4000
+MOST_REMEMBERED = 12000
 MUST_MEET_OF_VERIFY = (
     'accepted', 'accepted, buffered', 'accepted, nothing in front', 'accepted, CR LF', 'accepted, no last line feed',
     'accepted, more line feeds', 'refused 32', 'refused 32 at 0', 'refused 32 at its last step', 'refused 33', 'refused 34',

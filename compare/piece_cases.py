@@ -15,9 +15,12 @@ from witness import Verification
 
 SPLITS = (None, None, None, 0, 0, 1, 2, 2, 3, 4, 5, 6, 7, 8)
 BAD_WORKERS = (0, 17, 18, 100, 1000)
-# So many leaves a report has at most, where a piece has more than one, and by every number of choices; and so many steps a run has
-# where there are more pieces than so many.
-MOST_LEAVES, MOST_LEAVES_BY_EVERY, LONG_FUEL, MANY = 60, 240, 200, 4
+# So many leaves a report has at most, where a piece has more than one, and by every number of choices.
+MOST_LEAVES, MOST_LEAVES_BY_EVERY = 60, 120
+# Where there are more pieces than so many, a run has so many steps at most, and so many where that makes not too many of all pieces.
+MANY, SHORT_FUEL, LONG_FUEL, MOST_STEPS = 4, 60, 200, 8000
+# Of a script of more ranks than so many, whose steps take the model long, many pieces are counted, and not explored.
+MANY_RANKS = 8
 # A script of more leaves is not cut where as many runs are listed of a piece as there are without an option.
 FEW_LEAVES = 300
 HIGH_PIECES = (300, 1023)
@@ -46,7 +49,9 @@ def cut(script, asked):
 
 def with_less_fuel(asked, count):
     """The options with fuel for few steps, where there are many pieces of long runs."""
-    return asked if asked.fuel is None or count <= MANY else asked._replace(fuel=min(asked.fuel, LONG_FUEL))
+    if asked.fuel is None or count <= MANY:
+        return asked
+    return asked._replace(fuel=min(asked.fuel, LONG_FUEL, max(SHORT_FUEL, MOST_STEPS // count)))
 
 
 def with_few_choices(script, asked, most):
@@ -136,8 +141,10 @@ def by_split(seed, number, split, case, script):
     random = Random(f'split/{seed}/{number}/{split}')
     asked = case.asked._replace(split=split, workers=workers_of(number, split), witnesses=(number + split) % 2 == 0)
     if script is not None:
-        asked = with_less_fuel(asked, len(cut(script, asked)))
-        asked = with_few_runs(random, script, asked, MOST_LEAVES_BY_EVERY)
+        count = len(cut(script, asked))
+        if script.ranks > MANY_RANKS and count > MOST_LEAVES_BY_EVERY:
+            return [case._replace(name=f'{case.name}-{split}', asked=asked._replace(pieces=True))]
+        asked = with_few_runs(random, script, with_less_fuel(asked, count), MOST_LEAVES_BY_EVERY)
     other = asked._replace(workers=workers_of(number, split + 5))
     one = other._replace(piece=one_piece(random, script, asked), until=random.random() < 0.3)
     others = other._replace(pieces=True), other._replace(until=True), one

@@ -460,6 +460,10 @@ SUMMED = (
     ('one_in_seven', '--fuel 40 --complete', 4, 'not everything was tried: 7 runs were cut (--fuel)'),
     ('one_in_seven', '--split 0 --runs 6 --fuel 40 --complete', 4,
      'not everything was tried: 6 runs were listed, and there are more (--runs), 6 runs were cut (--fuel)'),
+    # up to the first deadlock, behind which there are others or none; where none is listed, it is the runs that leave something out
+    ('one_in_seven', '--until deadlock', 1, 'every way it can end is listed: it always ends, in 7 ways, 1 of them a deadlock'),
+    ('two_each', '--until deadlock', 1, 'not everything was tried: 1 run was listed, and there are more (--until)'),
+    ('one_in_seven', '--split 0 --runs 6 --until deadlock --complete', 4, 'not everything was tried: 6 runs were listed, and there are more (--runs)'),
     # a deadlock was found, so the status is not that of a report that isn't whole
     ('race', '--split 0 --runs 1 --complete', 1, 'not everything was tried: 1 run was listed, and there are more (--runs)'),
 )
