@@ -6,7 +6,7 @@
 
 Each script is a file, checked in one mode or the other with limits drawn at random (explore_cases.py), by some number of choices and of
 workers, and once more so: one piece, how many there are, up to the first deadlock, or by other workers (piece_cases.py). `verify` is
-asked of its witnesses, and of changed ones (witness_cases.py); with `--every-split` it must accept the witness of each deadlock. Standard
+asked of its witnesses, and of changed ones (witness_cases.py); with `--every-split` it must accept each witness that is written. Standard
 output, standard error and status must be the model's. A program that crashes, takes too long, too much memory or writes too much differs.
 With `--broken` PROGRAM may be left out: the sound model stands for it then. The status is 0 where scripts were compared, none differed,
 and all was met that can be said, which fewer than 500 scripts needn't do.
