@@ -1,12 +1,19 @@
 //! Rows of pieces, worked out by hand from docs/DEFINITIONS.md, "Pieces", by direct calls: no word of the program makes one.
 
+ghost use Rattle.std.specs.Prelude.{◌≡◌, ◌+◌, ◌<◌, ◌≤◌, length};
+ghost use Rattle.std.specs.List.{AllByRecursion};
+ghost use Rattle.mpd_model.specs.Trail.{kept};
+ghost use Rattle.mpd_explore.specs.Witness.{HasWitness};
+
 use crate::helpers::{Row, each, lowered, same};
 use mpd_code::code::Code;
 use mpd_explore::explore::explore;
 use mpd_explore::print::push_leaf_text;
-use mpd_explore::report::{Leaf, Limits, Report};
+use mpd_explore::report::{Leaf, Limits, Report, Witness};
 use mpd_explore::watch::Unwatched;
+use mpd_explore::witness::witness_of;
 use mpd_model::call::Mode;
+use mpd_model::limits::STEPS_MAX;
 use mpd_pieces::by_pieces::explore_by_pieces;
 use mpd_pieces::split::{Piece, SplitFault, split};
 use mpd_trail::debugger::Debugger;
@@ -269,4 +276,45 @@ impl Row for Reports {
 #[test]
 fn joins_the_parts_of_a_report(rt: HostRuntime) {
     each(&rt, rt.alloc(), REPORTS);
+}
+
+/// The witness of a leaf of a report, made again.
+fn made_again(
+    alloc: Global,
+    debugger: &mut Debugger<'_>,
+    report: &Report,
+    number: usize,
+) -> Option<Witness>
+    requires clean { length debugger.old.trail.steps ≡ debugger.old.trail.depth }
+    requires fits { debugger.old.trail.depth + FUEL ≤ STEPS_MAX }
+    requires number { number < length report.now.leaves.items }
+    requires listed { AllByRecursion (HasWitness debugger.old.trail.program debugger.old.trail.mode (kept debugger.old.trail) FUEL debugger.old.world) report.now.leaves.items }
+{
+    witness_of(alloc, debugger, FUEL, &report.leaves[number]).ok()?
+}
+
+/// How many steps the witness of the second leaf has, and how many calls are blocked there, if there is one.
+fn second_again(alloc: Global, code: &Code) -> Option<(usize, usize)> {
+    let mut debugger = Debugger::start(alloc, code, Mode::Rendezvous).ok()?;
+    let limits = Limits {
+        runs: 2,
+        fuel: FUEL,
+        witnesses: false,
+        until_bad: false,
+    };
+    let report = explore(alloc, &mut debugger, limits, &mut Unwatched).ok()?;
+    if report.leaves.len() < 2 {
+        return None;
+    }
+    let witness = made_again(alloc, &mut debugger, &report, 1)?;
+    Some((witness.steps.items.len(), witness.blocked.items.len()))
+}
+
+#[test]
+fn makes_witnesses_again(rt: HostRuntime) {
+    let alloc = rt.alloc();
+    let race = lowered(&rt, alloc, RACE);
+    same(&rt, second_again(alloc, &race), Some((10, 2)));
+    let turned = lowered(&rt, alloc, TURNED);
+    same(&rt, second_again(alloc, &turned), None);
 }
