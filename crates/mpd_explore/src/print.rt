@@ -86,29 +86,21 @@ fn push_number(out: &mut String, word: &str, number: usize) -> Result<(), AllocE
     push_decimal(out, number)
 }
 
-/// Adds a step, part by part: these are many, and `write!` of a step takes longer.
-fn push_step(out: &mut String, step: Step) -> Result<(), AllocError>
-    ensures { OnOk result (string_bytes out.new ≡ string_bytes out.old ++ step_text step) }
+/// Adds a comma, a space and a step, part by part: these are many, and `write!` of a step takes longer.
+fn push_next(out: &mut String, step: Step) -> Result<(), AllocError>
+    ensures { OnOk result (string_bytes out.new ≡ string_bytes out.old ++ 44 ∷ 32 ∷ step_text step) }
 {
     match step {
-        Step::Local(rank) => push_number(out, "local ", rank),
+        Step::Local(rank) => push_number(out, ", local ", rank),
         Step::Match(send, receive) => {
-            push_number(out, "match ", send.rank)?;
+            push_number(out, ", match ", send.rank)?;
             push_number(out, ".", send.index)?;
             push_number(out, " ", receive.rank)?;
             push_number(out, ".", receive.index)
         }
-        Step::Wake(rank) => push_number(out, "wake ", rank),
-        Step::Release => out.push_str("release"),
+        Step::Wake(rank) => push_number(out, ", wake ", rank),
+        Step::Release => out.push_str(", release"),
     }
-}
-
-/// Adds a comma and a space, and a step.
-fn push_next(out: &mut String, step: Step) -> Result<(), AllocError>
-    ensures { OnOk result (string_bytes out.new ≡ string_bytes out.old ++ 44 ∷ 32 ∷ step_text step) }
-{
-    out.push_str(", ")?;
-    push_step(out, step)
 }
 
 /// Adds steps: a space before the first, a comma and a space between two.
@@ -118,8 +110,7 @@ fn push_steps(out: &mut String, steps: &[Step]) -> Result<(), AllocError>
     let Some((first, rest)) = steps.split_first() else {
         return Ok(());
     };
-    out.push(' ')?;
-    push_step(out, *first)?;
+    write!(out, " {first}")?;
     for step in rest {
         push_next(out, *step)?;
     }
