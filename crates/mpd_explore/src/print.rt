@@ -16,6 +16,19 @@ use mpd_model::step::Step;
 use mpd_model::text::print_outcome;
 use std::alloc::{AllocError, Global};
 
+/// Adds a number. Most ranks and choices have one digit, which is added as it is.
+#[inline(always)]
+#[tactic(auto, using(std::proofs::lemmas::Fmt::decimal_digit))]
+fn push_decimal(out: &mut String, number: usize) -> Result<(), AllocError>
+    ensures { OnOk result (string_bytes out.new ≡ string_bytes out.old ++ decimal number) }
+{
+    if number < 10 {
+        return out.push(char::from(b'0' + number as u8));
+    }
+    write!(out, "{number}")?;
+    Ok(())
+}
+
 /// Adds choices, with one space between two.
 fn push_choices(out: &mut String, choices: &[usize]) -> Result<(), AllocError>
     ensures { OnOk result (string_bytes out.new ≡ string_bytes out.old ++ choices_text choices.now) }
@@ -23,9 +36,10 @@ fn push_choices(out: &mut String, choices: &[usize]) -> Result<(), AllocError>
     let Some((first, rest)) = choices.split_first() else {
         return Ok(());
     };
-    write!(out, "{first}")?;
+    push_decimal(out, *first)?;
     for choice in rest {
-        write!(out, " {choice}")?;
+        out.push(' ')?;
+        push_decimal(out, *choice)?;
     }
     Ok(())
 }
@@ -61,19 +75,6 @@ fn push_leaf(alloc: Global, out: &mut String, number: usize, leaf: &Leaf) -> Res
     write!(out, "leaf {number} ")?;
     push_leaf_text(alloc, out, leaf)?;
     out.push('\n')?;
-    Ok(())
-}
-
-/// Adds a number. Most ranks have one digit, which is added as it is.
-#[inline(always)]
-#[tactic(auto, using(std::proofs::lemmas::Fmt::decimal_digit))]
-fn push_decimal(out: &mut String, number: usize) -> Result<(), AllocError>
-    ensures { OnOk result (string_bytes out.new ≡ string_bytes out.old ++ decimal number) }
-{
-    if number < 10 {
-        return out.push(char::from(b'0' + number as u8));
-    }
-    write!(out, "{number}")?;
     Ok(())
 }
 
