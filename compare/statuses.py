@@ -5,7 +5,8 @@
 The examples, and the worked rows of compare/worked_program.py; devices that are full, closed, broken off, too short or interrupted;
 each fault of a script; the words of the command line, and the order in which they are tested; a script from a file; a refused
 script and a long check at a terminal; as many steps and reads as there may be; the deepest scripts on a small stack; more answers than memory;
-answers that come before the next read; parts of a check that are joined (part_statuses.py); and all that of `run` (session_statuses.py). The status is 0 where every run ended as it must.
+answers that come before the next read; parts of a check that are joined (part_statuses.py); and all that of `run`
+(session_statuses.py). The status is 0 where every run ended as it must.
 """
 
 import itertools
