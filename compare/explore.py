@@ -20,18 +20,17 @@ import tempfile
 import time
 from collections import Counter
 from concurrent.futures import ProcessPoolExecutor
-from contextlib import ExitStack, contextmanager
 from os.path import commonprefix
 from unittest import mock
 
-import explorer
 import piece_cases
 import piece_faults
 import worked_pieces
-from debugger import BUFFERED, Step
+from debugger import BUFFERED
 from explore_cases import Case
 from explore_faults import check_faults, told_faults, verify_faults
 from explorer import MOST_SPLIT, MOST_WORKERS
+from remembered import steps_remembered
 from runs import held, limit, run_at_once
 from witness import ACCEPTED
 from witness_cases import random_verifications
@@ -50,8 +49,6 @@ MUST_MEET_OF_PIECES = (
     'until: nothing found, and more')
 # What must be met where each script is checked by every number of choices.
 PAIRS = tuple(f'split {split} by {workers}' for split in range(MOST_SPLIT + 1) for workers in range(1, MOST_WORKERS + 1))
-# So many steps of a script are remembered at most.
-MOST_REMEMBERED = 12000
 MUST_MEET_OF_VERIFY = (
     'accepted', 'accepted, buffered', 'accepted, nothing in front', 'accepted, CR LF', 'accepted, no last line feed',
     'accepted, more line feeds', 'refused 32', 'refused 32 at 0', 'refused 32 at its last step', 'refused 33', 'refused 34',
@@ -167,31 +164,6 @@ def kept(folder, case):
     path = os.path.join(folder[0], case.name)
     os.makedirs(path)
     return shlex.join(case.words(path))
-
-
-def remembering(function):
-    """A function that remembers what it has given for the very same objects."""
-    known = {}
-
-    def remembered(*given):
-        key = tuple(one if isinstance(one, (bytes, str, Step)) else id(one) for one in given)
-        if key in known:
-            return known[key][1]
-        found = function(*given)
-        if len(known) < MOST_REMEMBERED:
-            # (the objects are kept with it, so that no others get their identities)
-            known[key] = given, found
-        return found
-    return remembered
-
-
-@contextmanager
-def steps_remembered():
-    """Has the model take a step of a script once alone, whatever number of checks have it in common."""
-    with ExitStack() as stack:
-        for name in ('read_script', 'first_world', 'decision', 'next_world'):
-            stack.enter_context(mock.patch.object(explorer, name, remembering(getattr(explorer, name))))
-        yield
 
 
 def told_in(witness):

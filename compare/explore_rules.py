@@ -33,6 +33,7 @@ from follow import due
 from language import Fault, read_script
 from piece_faults import report_breakages
 from policy import Choice
+from remembered import steps_remembered
 
 RUNS = (5, 20, 40, 40)
 FUELS = (0, 4, 12, 25, 40, 60, 80, 100, 100, 120)
@@ -328,7 +329,7 @@ def pieces_wrong(random, seen, text, met):
     """What is wrong with the pieces by some number of choices, with their parts, and with what a check says of these."""
     split, runs, leaves = random.choice([1, 1, 2, random.randint(0, MOST_SPLIT)]), random.choice([1, 1, 2, 3, seen.runs]), seen.found.leaves
     parts = list(parts_due(leaves, split, runs))
-    begun = Run(first_world(seen.script, seen.mode), seen.fuel)
+    begun = Run(explorer.first_world(seen.script, seen.mode), seen.fuel)
     cut = list(explorer.pieces(begun, split))
     wrong = [] if [piece.choices for piece in cut] == list(dict.fromkeys(leaf.choices[:split] for leaf in leaves)) else [f'the pieces by {split}']
     if [explorer.part(piece, runs) for piece in cut] != parts:
@@ -448,8 +449,9 @@ def wrong_of(random, text, script, mode, met):
     wrong += [] if is_lazy(random, seen) else ['more is explored than is asked for']
     if not seen.found.more:
         wrong += less_fuel_wrong(random, seen, met) + place_wrong(random, seen, met)
-        for _ in range(4 if len(seen.found.leaves) > 2 else 1):
-            wrong += pieces_wrong(random, seen, text, met)
+        with steps_remembered():
+            for _ in range(4 if len(seen.found.leaves) > 2 else 1):
+                wrong += pieces_wrong(random, seen, text, met)
     return wrong
 
 

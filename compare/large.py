@@ -97,8 +97,9 @@ def piece_rows(folder):
     rest = ''.join(sent(rank, 0, 205) for rank in range(2, 6))
     wanted = said(f'leaf 0 [{" ".join(["0"] * 205)}] leftovers{rest}', 'leaves 1 more yes')
     yield '1,025 candidates, not cut', folder.run('check', more, '--split', '0', '--runs', '1'), wanted
-    wanted = said(*gathered_in_pieces(14, 4, 1, 1000, 'yes').split('; '))
-    yield '1,000 of the 1,320 runs of each of 13 pieces', folder.run('check', folder.file('gather4', gathering(14, 4))), wanted
+    wanted, path = said(*gathered_in_pieces(14, 4, 1, 1000, 'yes').split('; ')), folder.file('gather4', gathering(14, 4))
+    for workers in (1, 4, 16):
+        yield f'1,000 of the 1,320 runs of each of 13 pieces, {workers} workers', folder.run('check', path, '--workers', str(workers)), wanted
 
 
 # ---- calls of one rank

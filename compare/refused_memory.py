@@ -4,11 +4,12 @@
 
 A run may end with the right answers up to one of them, `mpdbg: memory` and status 3; or it goes on, with `refused memory` in
 place of an answer that can be refused: then the state stands, and all answers behind it are right. Where all allocations from
-one on are refused it is the same. Of several workers, who ask for memory at the same time, it is another request each time. The sessions have their scripts on standard input, one also in a file, and one in a file alone,
+one on are refused it is the same. The sessions have their scripts on standard input, one also in a file, and one in a file alone,
 in the mode `buffered`. What `check` and `verify` answer, words of the command line that ask for help, and those that are wrong, are
-answered as ever, or by `mpdbg: memory`, status 3, with nothing written. A session of `run` has two lines of its own for this
-(session_memory.py). The status is 0 where every run did one of these. The allocations are refused by a shared object, which is built
-from bench/malloc_shim.c where none is named.
+answered as ever, or by `mpdbg: memory`, status 3, with nothing written. Of several workers of a check, who ask for memory at the same
+time, it is another request each time that is refused. A session of `run` has two lines of its own for this (session_memory.py). The
+status is 0 where every run did one of these. The allocations are refused by a shared object, which is built from bench/malloc_shim.c
+where none is named.
 """
 
 import argparse
@@ -95,7 +96,8 @@ def lively():
 
 # Words that are answered by a text alone.
 ANSWERED = ('--help', 'trace --help', 'run --help', 'run a --mode b', '--version', 'trac', 'trace', 'trace a --mod b', 'trace a --mode b', 'trace a b', 'serve --help', 'serve a',
-            'serve a --port 0', 'check --help', 'check a --runs 0', 'check a --workers 0 --mode b', 'check a --split 9', 'check a --mode b', 'verify --help', 'verify a', 'verify a b --mode c')
+            'serve a --port 0', 'check --help', 'check a --runs 0', 'check a --workers 0 --mode b', 'check a --split 9', 'check a --mode b',
+            'verify --help', 'verify a', 'verify a b --mode c')
 
 
 def inputs():

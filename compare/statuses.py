@@ -5,7 +5,8 @@
 The examples, and the worked rows of compare/worked_program.py; devices that are full, closed, broken off, too short or interrupted;
 each fault of a script; the words of the command line, and the order in which they are tested; a script from a file; a refused
 script and a long check at a terminal; as many steps and reads as there may be; the deepest scripts on a small stack; more answers than memory;
-answers that come before the next read; parts of a check that are joined (part_statuses.py); and all that of `run` (session_statuses.py). The status is 0 where every run ended as it must.
+answers that come before the next read; parts of a check that are joined (part_statuses.py); and all that of `run`
+(session_statuses.py). The status is 0 where every run ended as it must.
 """
 
 import itertools
@@ -425,6 +426,11 @@ def progress_rows(program):
         result = at_terminal(program, 'check', slow, '--runs', '65536', '--workers', '1')
         told = is_rising(result.errors, 8, time.time() - before)
         yield 'a terminal, a long check', (result._replace(errors=b''), told), (Result(report, b'', 0), True)
+        before = time.time()
+        result = at_terminal(program, 'check', slow, '--runs', '65536', '--workers', '4')
+        # (four processors may have done within a second)
+        told = result.errors == NEVER_BAD or is_rising(result.errors, 8, time.time() - before)
+        yield 'a terminal, a long check by four workers', (result._replace(errors=b''), told), (Result(report, b'', 0), True)
         # 24 leaves, by a clock that goes on by so much at each: at the end of each second, all leaves so far are counted
         shim, few = built(os.path.join(HERE, 'terminal_shim.c'), folder), os.path.join(folder, 'few')
         with open(few, 'wb') as file:
@@ -435,8 +441,6 @@ def progress_rows(program):
                 result = at_terminal(program, *words, LD_PRELOAD=shim, CLOCK_MS=str(pause))
                 wanted = told_counts(range(between, 25, between), of_piece, pieces) + NEVER_BAD
                 yield f'a terminal, {pause} ms for each leaf, {pieces} pieces', result.errors, wanted
-        several = at_terminal(program, 'check', few, '--workers', '4', LD_PRELOAD=shim, CLOCK_MS='1000')
-        yield 'a terminal, four workers', bool(RISING.fullmatch(several.errors)), True
         piece = at_terminal(program, 'check', few, '--piece', '3', LD_PRELOAD=shim, CLOCK_MS='1000')
         yield 'a terminal, one piece', piece.errors, told_counts(range(1, 7), 6, 1)
         short = at_terminal(program, 'check', race)

@@ -108,7 +108,8 @@ CHECKED = (
     ('check|a|--pieces', Result(b'pieces 8\n', b'', 0)), ('check|--pieces|--split=0|--|a', Result(b'pieces 1\n', b'', 0)),
     ('check|c|--pieces', Result(b'pieces 1\n', b'', 0)), ('check|a|--until|deadlock', ALL_LEAVES), ('check|--until=deadlock|c', STUCK),
     ('check|a|--workers|0', BAD_WORKERS), ('check|--workers=+017|a', BAD_WORKERS), ('check|a|--workers|1000', BAD_WORKERS),
-    ('check|a|--workers|0|--mode|b', BAD_MODE), ('check|none|--workers|0', NO_FILE), ('check|a|--workers|17|--piece|8', BAD_WORKERS), ('check|b|--fuel|1', leaves('[] cut')), ('check|--mode=buffered|--fuel|1|--|b', leaves('[] cut')),
+    ('check|a|--workers|0|--mode|b', BAD_MODE), ('check|none|--workers|0', NO_FILE), ('check|a|--workers|17|--piece|8', BAD_WORKERS),
+    ('check|b|--fuel|1', leaves('[] cut')), ('check|--mode=buffered|--fuel|1|--|b', leaves('[] cut')),
     ('check|--|c', STUCK), ('check|c|--mode|buffered', leaves('[] leftovers 0.0')),
     ('check|c|--witness', Result(b'leaf 0 [] deadlock 0.0\nwitness 0: local 0\nleaves 1 more no\n', b'', 1)))
 
