@@ -107,7 +107,7 @@ Arguments:
 
 Options:
       --mode <M>     How standard sends behave: rendezvous or buffered [default: rendezvous]
-      --runs <N>     How many runs are tried at most, 1 to 65536 [default: 1000]
+      --runs <N>     How many runs of each piece are tried at most, 1 to 65536 [default: 1000]
       --fuel <N>     How many steps each run takes at most, 1 to 1000000 [default: 100000]
       --split <K>    By how many choices the runs are cut into pieces, 0 to 8 [default: 1]
       --workers <N>  How many workers make the report, 1 to 16 [default: 4]

@@ -274,7 +274,7 @@ fn runs_option<'a>(alloc: Global) -> Arg<'a>
     ensures rule { rule_of result ≡ runs_rule }
     ensures own { result.global ≡ false }
 {
-    let help = "How many runs are tried at most, 1 to 65536";
+    let help = "How many runs of each piece are tried at most, 1 to 65536";
     number_option(alloc, RUNS, "N", 1, MOST_RUNS, "1000", help)
 }
 

@@ -22,7 +22,7 @@ const NOT_TEXT: &str =
 /// How deadlocks are looked for.
 #[derive(Clone, Copy)]
 pub struct CheckOptions {
-    /// How many runs are tried at most.
+    /// How many runs of each piece are tried at most.
     pub runs: usize,
     /// How many steps each run takes at most.
     pub fuel: usize,

@@ -8,8 +8,8 @@ use std::rt::Clock;
 use std::sync::atomic::{AtomicU64, AtomicUsize, Ordering};
 use std::time::Instant;
 
-/// How many seconds it takes at least from one line of progress to the next.
-const PAUSE: u64 = 1;
+/// How many milliseconds it takes at least from one line of progress to the next.
+const PAUSE: u64 = 1000;
 
 /// Says how many pieces and leaves there are so far, on standard error and once a second at most, each time in place of what it said
 /// before. Whoever finds a leaf says it, where it is time.
@@ -18,7 +18,7 @@ pub(crate) struct Progress<'a, R> {
     rt: &'a R,
     /// When it began; `None` where nothing is to be said, since nobody would see it.
     begun: Option<Instant>,
-    /// How many seconds had passed when something was last said; 0 where nothing was.
+    /// How many milliseconds had passed when something was last said; 0 where nothing was.
     said: AtomicU64,
     pieces: AtomicUsize,
     ended: AtomicUsize,
@@ -59,14 +59,15 @@ impl<'a, R: Clock + Eprint> Progress<'a, R> {
 
     /// Says it now, if a second has passed, and nobody else says it at this moment.
     fn say(&self, begun: Instant, leaves: usize) -> io::Result<()> {
-        let seconds = Instant::now(self.rt)?.duration_since(begun).as_secs();
+        let millis = Instant::now(self.rt)?.duration_since(begun).as_millis();
+        let passed = u64::try_from(millis).unwrap_or(u64::MAX);
         let said = self.said.load(Ordering::SeqCst);
-        if seconds.saturating_sub(said) < PAUSE {
+        if passed.saturating_sub(said) < PAUSE {
             return Ok(());
         }
         let mine = self
             .said
-            .compare_exchange(said, seconds, Ordering::SeqCst, Ordering::SeqCst);
+            .compare_exchange(said, passed, Ordering::SeqCst, Ordering::SeqCst);
         if mine.is_err() {
             return Ok(());
         }
