@@ -25,7 +25,7 @@ use std::alloc::{AllocError, Global};
 fn choices_here(alloc: Global, stack: &[Open]) -> Result<ChoiceList, AllocError>
     ensures { IfOk result (λ c. c ≡ picked (reverse stack.now)) }
 {
-    let mut items = Vec::new(alloc);
+    let mut items = Vec::with_capacity(alloc, stack.len())?;
     for open in stack {
         items.push(open.index)?;
     }

@@ -21,7 +21,9 @@ use std::alloc::{AllocError, Global};
 fn put_choices(alloc: Global, leaf: &mut Leaf, choices: &[usize]) -> Result<(), AllocError>
     ensures { OnOk result (leaf.new ≡ behind choices.now leaf.old) }
 {
-    let mut items = Vec::from_slice(alloc, choices)?;
+    let behind = leaf.choices.items.len();
+    let mut items = Vec::with_capacity(alloc, choices.len().saturating_add(behind))?;
+    items.extend_from_slice(choices)?;
     items.extend_from_slice(&leaf.choices.items)?;
     leaf.choices = ChoiceList { items };
     Ok(())
