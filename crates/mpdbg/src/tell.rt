@@ -221,8 +221,18 @@ pub(crate) fn tell<R: Print + Eprint + AllocGlobal>(
             WRONG
         }
         Fault::File(file, error) => tell_file(rt, file, error, notes.is_terminal),
-        Fault::Workers => tell_refused(rt, PoolFault::BadWorkers, "1 to 16 workers can be had (--workers)", notes.is_terminal),
-        Fault::Pieces => tell_refused(rt, PoolFault::TooManyPieces, "there can be 1,024; fewer choices make fewer (--split)", notes.is_terminal),
+        Fault::Workers => tell_refused(
+            rt,
+            PoolFault::BadWorkers,
+            "1 to 16 workers can be had (--workers)",
+            notes.is_terminal,
+        ),
+        Fault::Pieces => tell_refused(
+            rt,
+            PoolFault::TooManyPieces,
+            "there can be 1,024; fewer choices make fewer (--split)",
+            notes.is_terminal,
+        ),
         Fault::Piece { number, count } => {
             let _unwritten = eprintln!(rt; "mpdbg: no piece {number} of {count}");
             WRONG
