@@ -1,15 +1,15 @@
 -- Texts without a byte of one kind, and how they are cut.
-use Rattle.std.proofs.Common.{◌≡◌, ◌≢◌, ℕ, suc, ◌+◌, ◌-◌, ◌*◌, ◌/◌, ◌%◌, ◌^◌, ◌<◌, ◌≤◌, ◌==◌, ◌||◌, ◌&&◌, Bool, true, false, not, if◌then◌else◌, List, [], ◌∷◌, ◌++◌, length, length-append, map, Option, Some, None, refl, ap, sym, ◌∙◌, arith, append-nil, append_assoc, nat_le}
+use Rattle.std.proofs.Common.{◌≡◌, ℕ, ◌+◌, ◌-◌, ◌*◌, ◌/◌, ◌%◌, ◌^◌, ◌<◌, ◌≤◌, ◌==◌, ◌&&◌, Bool, true, false, not, if◌then◌else◌, List, [], ◌∷◌, ◌++◌, length, length-append, map, Option, Some, None, refl, ap, sym, ◌∙◌, arith, append-nil, nat_le}
 use Rattle.std.specs.Prelude.{option_map, filter}
 use Rattle.std.specs.Char.{is_ascii_digit}
 use Rattle.std.specs.Fmt.{decimal}
-use Rattle.std.specs.List.{list_all, slice_split, onto_first, flat_map, AllByRecursion}
+use Rattle.std.specs.List.{list_all, onto_first, flat_map, AllByRecursion}
 use Rattle.std.proofs.lemmas.Bool.Decides.{nat_tests, Decides-eqb}
 use Rattle.std.proofs.lemmas.Fmt.{decimal_by_steps, length-decimal-le}
 use Rattle.std.proofs.lemmas.List.Folds.{list_all-append}
 use Rattle.std.proofs.lemmas.List.Splits.{slice_split-cons_yes, slice_split-cons_no}
 use Rattle.mpd_model.specs.Words.{is_blank, with_byte, put_before, pieces, has_some, words, digits_value, is_number, number_of}
-use Rattle.mpd_model.specs.Lines.{bare, is_ending, is_none, is_feed}
+use Rattle.mpd_model.specs.Lines.{bare, is_ending}
 use Rattle.mpd_check.specs.WitnessText.{parts_at, cut_at, line_of}
 
 abbrev pub is_other : ℕ → ℕ → Bool

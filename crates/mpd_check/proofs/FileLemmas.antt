@@ -1,5 +1,5 @@
 -- A witness that is read from a file: what each read adds, and what is answered of the text.
-use Rattle.std.proofs.Common.{◌≡◌, ℕ, zero, suc, ◌+◌, ◌<◌, ◌≤◌, inl, inr, List, [], ◌++◌, length, Result, Ok, Err, refl, ap, sym, subst, ◌∙◌, append-nil, arith, length-append}
+use Rattle.std.proofs.Common.{◌≡◌, ℕ, zero, suc, ◌+◌, ◌<◌, ◌≤◌, inl, inr, List, [], ◌++◌, length, Ok, Err, refl, ap, sym, subst, ◌∙◌, append-nil, arith, length-append}
 use Rattle.std.proofs.KnownBytes.{Consumes-nil, Consumes-trans, Consumes-kept}
 use Rattle.std.specs.Io.KnownBytes.{Consumes, IsAtEnd, Keeps}
 use Rattle.mpd_device.specs.Seen.{SourceSeen}
@@ -9,8 +9,7 @@ use Rattle.mpd_explore.specs.declared.report.Witness.{Witness}
 use Rattle.mpd_lines.specs.declared.engine.EngineFault.{EngineFault}
 use Rattle.mpd_lines.specs.declared.engine.EngineFault.TheVariants as engine
 use Rattle.mpd_check.specs.WitnessText.{witness_of}
-use Rattle.mpd_check.specs.WitnessFile.{IsWhole, IsRead, Gathered, IsCutOff, IsUnread, IsFromFile}
-use Rattle.mpd_check.specs.declared.witness_file.WitnessFileFault.{WitnessFileFault}
+use Rattle.mpd_check.specs.WitnessFile.{IsRead, Gathered, IsCutOff, IsUnread, IsFromFile}
 use Rattle.mpd_check.specs.declared.witness_file.WitnessFileFault.TheVariants.{BadLine, Engine}
 
 ends_some : (n before after : ℕ) → after ≡ before + ends_of {E = DeviceFault} (Ok n) → (n ≡ 0 → ⊥) → after ≡ before

@@ -1,10 +1,9 @@
 -- A text that is cut at each byte of one kind.
-use Rattle.std.proofs.Common.{◌≡◌, ℕ, zero, suc, Bool, true, false, ◌==◌, if◌then◌else◌, List, [], ◌∷◌, length, take, drop, Option, Some, None, refl, ap, sym, ◌∙◌, arith}
+use Rattle.std.proofs.Common.{◌≡◌, ℕ, suc, Bool, true, false, ◌==◌, if◌then◌else◌, List, [], ◌∷◌, length, take, drop, Option, Some, None, refl, ap, sym, ◌∙◌, arith}
 use Rattle.std.specs.Prelude.{option_map}
-use Rattle.std.specs.List.{slice_split, onto_first}
+use Rattle.std.specs.List.{onto_first}
 use Rattle.mpd_model.specs.Words.{stop_len}
 use Rattle.mpd_check.specs.WitnessText.{cut_at, parts_at}
-use Rattle.mpd_check.specs.Pieces.{parts_left}
 
 abbrev marks : ℕ → ℕ → Bool
 marks c b = b == c

@@ -1,5 +1,5 @@
 -- What a report writes of a deadlock and of its witness is read as that witness.
-use Rattle.std.proofs.Common.{◌≡◌, ℕ, ◌^◌, ◌<◌, Bool, true, false, if◌then◌else◌, List, [], ◌∷◌, ◌++◌, length, length-append, map, Option, Some, None, Result, Ok, Err, refl, ap, sym, ◌∙◌, arith, append-nil, append_assoc}
+use Rattle.std.proofs.Common.{◌≡◌, ℕ, ◌^◌, ◌<◌, Bool, true, false, if◌then◌else◌, List, [], ◌∷◌, ◌++◌, length, length-append, map, Option, Some, Ok, refl, ap, sym, ◌∙◌, arith, append_assoc}
 use Rattle.std.specs.Prelude.{option_map, bytes_eq, codes}
 use Rattle.std.specs.Char.{is_ascii_digit}
 use Rattle.std.specs.Fmt.{decimal}
@@ -12,9 +12,9 @@ use Rattle.mpd_model.specs.Words.{number_of, call_with, call_of, step_in, step_o
 use Rattle.mpd_model.specs.Texts.{id_text, step_text, steps_text, spaced, line}
 use Rattle.mpd_explore.specs.declared.report.Witness.{Witness}
 use Rattle.mpd_explore.specs.ReportText.{choices_text}
-use Rattle.mpd_check.specs.WitnessText.{parts_at, cut_at, put_first, each_read, behind_word, some_read, blocked_of, behind_cut, steps_of, line_of, with_steps, with_blocked, witness_in, witness_of}
+use Rattle.mpd_check.specs.WitnessText.{parts_at, put_first, each_read, behind_word, some_read, blocked_of, behind_cut, steps_of, line_of, with_steps, with_blocked, witness_in, witness_of}
 use Rattle.mpd_check.specs.WitnessLaws.{IsShortCall, IsShortStep, IsShort}
-use Rattle.mpd_check.proofs.ClearTexts.{is_clear, clear_join, parts_next, parts_last, parts_listed, cut_next, line_clear, words_next, words_last, decimal_clear, decimal_some, number_read}
+use Rattle.mpd_check.proofs.ClearTexts.{is_clear, clear_join, parts_next, parts_listed, cut_next, line_clear, words_next, words_last, decimal_clear, decimal_some, number_read}
 use Rattle.mpd_check.proofs.TextLemmas.{call_is}
 
 -- ---- bytes that aren't in calls, steps and lines

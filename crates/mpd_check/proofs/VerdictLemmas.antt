@@ -1,5 +1,5 @@
 -- What is answered to a witness.
-use Rattle.std.proofs.Common.{◌≡◌, ◌≢◌, ℕ, ◌+◌, ◌≤◌, Bool, true, false, List, [], ◌++◌, length, ◌∷◌, Some, Result, Ok, Err, codes, refl, sym, ap, subst, ◌∙◌, append_assoc, arith}
+use Rattle.std.proofs.Common.{◌≡◌, ◌≢◌, ℕ, ◌+◌, ◌≤◌, Bool, true, false, List, [], ◌++◌, length, ◌∷◌, Some, Ok, Err, codes, sym, ap, subst, ◌∙◌, append_assoc, arith}
 use Rattle.std.specs.Io.KnownBytes.{Appends}
 use Rattle.mpd_model.specs.declared.call.Mode.{Mode}
 use Rattle.mpd_model.specs.declared.outcome.Outcome.TheVariants.{Deadlock}
@@ -14,7 +14,6 @@ use Rattle.mpd_explore.specs.declared.verify.WitnessFault.{WitnessFault}
 use Rattle.mpd_explore.specs.declared.verify.WitnessFault.TheVariants.{NoSuchStep, NotStuck, WrongBlocked, Memory}
 use Rattle.mpd_explore.specs.Witness.{IsWitnessFrom, HasFault}
 use Rattle.mpd_explore.specs.Faults.{witness_fault_name}
-use Rattle.mpd_lines.specs.declared.engine.EngineFault.{EngineFault}
 use Rattle.mpd_lines.specs.declared.engine.EngineFault.TheVariants.{WriteFailed}
 use Rattle.mpd_lines.specs.Telling.{AppendsPart}
 use Rattle.mpd_check.specs.Verdict.{accepted_line, refused_line, IsVerdict, IsVerdictFrom, Judged}

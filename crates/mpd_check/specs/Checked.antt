@@ -1,5 +1,5 @@
 -- What a check answers.
-use Rattle.std.specs.Prelude.{◌≡◌, ◌⊎◌, ◌<◌, ◌≤◌, ℕ, ◌+◌, ◌++◌, Bool, List, [], length, map, slice_get, Option, Some, Result, Ok, Err, codes, string_bytes}
+use Rattle.std.specs.Prelude.{◌≡◌, ◌<◌, ◌≤◌, ℕ, ◌+◌, ◌++◌, Bool, List, [], length, slice_get, Some, Result, Ok, Err, codes, string_bytes}
 use Rattle.std.specs.Fmt.{decimal}
 use Rattle.std.specs.Io.KnownBytes.{Appends}
 use Rattle.mpd_model.specs.declared.call.Mode.{Mode}
@@ -13,7 +13,6 @@ use Rattle.mpd_pieces.specs.declared.split.TheConstants.{PIECES_MAX}
 use Rattle.mpd_pieces.specs.Pieces.{pieces, part, part_left, split_report, split_more}
 use Rattle.mpd_pool.specs.declared.check.TheConstants.{WORKERS_MAX}
 use Rattle.mpd_pool.specs.declared.check.CheckPlan.{CheckPlan}
-use Rattle.mpd_lines.specs.declared.engine.EngineFault.{EngineFault}
 use Rattle.mpd_lines.specs.declared.engine.EngineFault.TheVariants.{ReadFailed, WriteFailed, TooManyTurns, Memory}
 use Rattle.mpd_lines.specs.Telling.{AppendsPart}
 use Rattle.mpd_check.specs.declared.fault.CheckFault.{CheckFault}

@@ -5,7 +5,7 @@ use Rattle.mpd_pieces.specs.declared.split.SplitFault.TheVariants as split
 use Rattle.mpd_pool.specs.declared.check.PoolFault.{PoolFault}
 use Rattle.mpd_pool.specs.declared.check.PoolFault.TheVariants as pool
 use Rattle.mpd_check.specs.declared.fault.CheckFault.{CheckFault}
-use Rattle.mpd_check.specs.declared.fault.CheckFault.TheVariants.{BadWorkers, TooManyPieces, NoSuchPiece, Engine}
+use Rattle.mpd_check.specs.declared.fault.CheckFault.TheVariants.{BadWorkers, TooManyPieces, Engine}
 
 abbrev pub refused_by : PoolFault → CheckFault
 refused_by pool.BadWorkers = BadWorkers

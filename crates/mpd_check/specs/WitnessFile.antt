@@ -1,5 +1,5 @@
 -- The text of a witness's file, as it was read, and what was read of it.
-use Rattle.std.specs.Prelude.{◌≡◌, ℕ, ◌+◌, ◌<◌, ◌≤◌, ◌⊎◌, List, [], ◌++◌, length, Result, Ok, Err}
+use Rattle.std.specs.Prelude.{◌≡◌, ℕ, ◌+◌, ◌<◌, ◌≤◌, ◌⊎◌, List, length, Result, Ok, Err}
 use Rattle.std.specs.Io.KnownBytes.{Consumes, IsAtEnd}
 use Rattle.mpd_device.specs.Seen.{SourceSeen}
 use Rattle.mpd_model.specs.declared.limits.TheConstants.{READS_MAX}

@@ -1,5 +1,5 @@
 -- What is said of a witness that is written and read.
-use Rattle.std.specs.Prelude.{ℕ, ◌<◌, List, length}
+use Rattle.std.specs.Prelude.{◌<◌, length}
 use Rattle.std.specs.List.{AllByRecursion}
 use Rattle.mpd_model.specs.declared.step.CallId.{CallId}
 use Rattle.mpd_model.specs.declared.step.Step.{Step}
