@@ -74,7 +74,8 @@ def part_rows(program):
 
 
 def told_rows(program):
-    """At a terminal, and there alone, a check that is refused is told what there may be; of one piece no line says that it is all."""
+    """At a terminal, and there alone, a check that is refused is told what there may be; of one piece a line says what wasn't tried,
+    and none that it is all."""
     with tempfile.TemporaryDirectory() as folder:
         race, many = os.path.join(EXAMPLES, 'race.mpd'), held(folder, 'many.mpd', ONE_MORE.encode())
         for words, line, more in (
@@ -83,8 +84,11 @@ def told_rows(program):
                 ((race, '--piece', '2'), b'no piece 2 of 2', b'')):
             yield f'a terminal, {line}', at_terminal(program, 'check', *words), Result(b'', b'mpdbg: %b\n%b' % (line, more), 2)
             yield f'no terminal, {line}', Files(None).run(program, 'check', *words), Result(b'', b'mpdbg: %b\n' % line, 2)
-        for words, output, status in ((('--piece', '1'), b'leaf 0 [1] done\nleaves 1 more no\n', 0), (('--pieces',), b'pieces 2\n', 0)):
-            yield f'a terminal, {words}', at_terminal(program, 'check', race, *words), Result(output, b'', status)
+        for words, output, told, status in (
+                (('--piece', '1'), b'leaf 0 [1] done\nleaves 1 more no\n', b'', 0), (('--pieces',), b'pieces 2\n', b'', 0),
+                (('--split', '0', '--piece', '0', '--runs', '1'), b'leaf 0 [0] deadlock 0.1 2.0\nleaves 1 more yes\n',
+                 b'not everything was tried: 1 run was listed, and there are more (--runs)\n', 1)):
+            yield f'a terminal, {words}', at_terminal(program, 'check', race, *words), Result(output, told, status)
 
 
 # What workers run with, which have the deepest expressions in the deepest blocks (docs/LANGUAGE.md, "Limits"), by their forms.

@@ -1,4 +1,4 @@
-//! One piece of a script's runs, and how many pieces there are (docs/FORMATS.md, "Pieces of a report").
+//! One piece of a script's runs, and how many pieces there are (docs/FORMATS.md, "Reports").
 
 ghost use Rattle.std.specs.Prelude.{◌≡◌, ◌≤◌, ◌<◌, IfOk, OnOk, IsErrOf, length, string_bytes};
 ghost use Rattle.mpd_model.specs.Trail.{first_standing};

@@ -3,7 +3,7 @@
 ghost use Rattle.std.specs.Prelude.{◌≡◌, ◌≤◌};
 
 use crate::progress::{OfPiece, Progress};
-use crate::summary::say_tally;
+use crate::summary::{say_part, say_tally};
 use crate::tell::Fault;
 use mpd_check::counts::Tally;
 use mpd_check::fault::CheckFault;
@@ -84,7 +84,7 @@ fn check_all<R: Clock + Eprint + Threads + Wait + Sync + AllocGlobal, W: Sink>(
     Ok(tally)
 }
 
-/// Explores one piece, and tells at a terminal how far that is.
+/// Explores one piece, and tells at a terminal how far that is, and what of it wasn't tried. That all of it was says nothing of others.
 fn check_one<R: Clock + Eprint + AllocGlobal, W: Sink>(
     rt: &R,
     script: &(Mode, Code),
@@ -101,7 +101,11 @@ fn check_one<R: Clock + Eprint + AllocGlobal, W: Sink>(
     };
     let (mode, code) = script;
     let plan = plan_of(options);
-    check_piece(rt.alloc(), code, *mode, plan, number, sink, &mut watch)
+    let tally = check_piece(rt.alloc(), code, *mode, plan, number, sink, &mut watch)?;
+    if is_terminal && !tally.is_whole() {
+        let _unwritten = say_part(rt, tally, options.until_bad);
+    }
+    Ok(tally)
 }
 
 /// Why a check is refused.

@@ -41,7 +41,7 @@ fn say_more<R: Eprint>(rt: &R, tally: Tally, until_bad: bool) -> io::Result<()> 
 }
 
 /// Says what wasn't tried.
-fn say_part<R: Eprint>(rt: &R, tally: Tally, until_bad: bool) -> io::Result<()> {
+pub(crate) fn say_part<R: Eprint>(rt: &R, tally: Tally, until_bad: bool) -> io::Result<()> {
     eprint!(rt; "not everything was tried: ")?;
     if tally.more {
         say_more(rt, tally, until_bad)?;
