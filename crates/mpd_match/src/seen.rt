@@ -29,7 +29,7 @@ const FEW_WORDS: usize = 32;
 /// How many words there are where it may have many: enough for all places.
 const MANY_WORDS: usize = 512;
 
-/// From how many calls behind its first free receive on a rank may have many free receives.
+/// A rank may have many free receives where it has so many calls from its first free receive on.
 const MANY: usize = 128;
 
 /// The place of a tag of a sender. No two tags of one sender share a place.
@@ -173,7 +173,7 @@ impl Board {
         None
     }
 
-    /// The same with few words, which are cleared in next to no time.
+    /// The first match of the receiver's receives that name their source, by few words, which are cleared in next to no time.
     fn named_match_of_few(&self, receiver: usize) -> Option<Step>
         requires { receiver < length self.now.board.calls }
         ensures { result ≡ first_in (picked_at is_named_match self.now.board receiver) }
@@ -183,7 +183,8 @@ impl Board {
         self.named_match_past(receiver, &marks)
     }
 
-    /// The same with words for all places, so that no two tags of one sender are taken for one.
+    /// The first match of the receiver's receives that name their source, by words for all places, so that no two tags of one
+    /// sender are taken for one.
     fn named_match_of_many(&self, receiver: usize) -> Option<Step>
         requires { receiver < length self.now.board.calls }
         ensures { result ≡ first_in (picked_at is_named_match self.now.board receiver) }
@@ -193,8 +194,8 @@ impl Board {
         self.named_match_past(receiver, &marks)
     }
 
-    /// Whether a rank may have so many free receives that all places are worth their words, by its calls behind the first of
-    /// them. Which way is gone changes nothing that is found.
+    /// Whether a rank may have so many free receives that words for all places are worth clearing, by its calls from the first
+    /// of them on. Which way is gone changes nothing that is found.
     fn may_have_many_posted(&self, receiver: usize) -> bool
         requires { receiver < length self.now.board.calls }
     {
