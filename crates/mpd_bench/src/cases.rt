@@ -77,6 +77,14 @@ const WAIT: &[u8] =
 const STUCK: &[u8] = b"mpd 1; ranks 2; var i; var x; req r; \
     while i < 500 { if rank == 0 { isend r i to 1 tag 1; } else { irecv r x from 0 tag 2; } i = i + 1; }";
 
+/// 500 sends and 500 receives, no two of one tag, and each send's tag 1,000 above that of a receive.
+const THOUSAND_APART: &[u8] = b"mpd 1; ranks 2; var i; var x; req r; \
+    while i < 500 { if rank == 0 { isend r i to 1 tag i + 1000; } else { irecv r x from 0 tag i; } i = i + 1; }";
+
+/// The same, 1,024 above.
+const FURTHER_APART: &[u8] = b"mpd 1; ranks 2; var i; var x; req r; \
+    while i < 500 { if rank == 0 { isend r i to 1 tag i + 1024; } else { irecv r x from 0 tag i; } i = i + 1; }";
+
 /// A thousand messages, behind which both ranks end.
 const THOUSAND: &[u8] = b"mpd 1; ranks 2; var i; var x; \
     while i < 1000 { if rank == 0 { send i to 1 tag 0; } else { recv x from 0 tag 0; } i = i + 1; }";
@@ -381,6 +389,30 @@ pub(crate) const KINDS: &[Kind] = &[
         what: "the decision there:",
         numbers: &[500],
         script: STUCK,
+        locals: NONE,
+        decided: ALL,
+        then: &[],
+        ask: Ask::Decision,
+        measured: NO_STEPS,
+        parts: ONE,
+        whole: 100,
+    },
+    Kind {
+        what: "the decision where each tag of a send is 1,000 above that of a receive:",
+        numbers: &[500],
+        script: THOUSAND_APART,
+        locals: NONE,
+        decided: ALL,
+        then: &[],
+        ask: Ask::Decision,
+        measured: NO_STEPS,
+        parts: ONE,
+        whole: 100,
+    },
+    Kind {
+        what: "the decision where it is 1,024 above:",
+        numbers: &[500],
+        script: FURTHER_APART,
         locals: NONE,
         decided: ALL,
         then: &[],

@@ -31,9 +31,10 @@ walk-preserved c =
     let place : ℕ → ℕ = λ i. tag_place c.args.sender (sent_tag (kind_at b (call_id c.args.sender i))) in
     let xs : List ℕ = pending b c.args.sender c.args.receiver in
     let w = subst (λ (o : Option ℕ). Marking place xs c.args.marks.now c.walk.marks o) c.in-Some.is c.walk.invariant in
-    mark_goes_on place xs c.args.marks.now c.walk.marks c.in-Some.index c.place_of.result c.next_free-here.result (pending_once b c.args.sender c.args.receiver) w
-    (c.place_of.ensures.place ∙ ap (tag_place c.args.sender) (c.sent_tag.ensures ∙ ap sent_tag c.kind.ensures)) c.place_of.ensures.within
-    (c.next_free-here.ensures.pending c.args.receiver (pending_tells b c.args.sender c.args.receiver c.in-Some.index w.stands))
+    subst (λ (marks : List ℕ). Marking place xs c.args.marks.now marks c.next_free-here.result) (sym c.mark.ensures)
+    (mark_goes_on place xs c.args.marks.now c.walk.marks c.in-Some.index c.place_of.result c.next_free-here.result (pending_once b c.args.sender c.args.receiver) c.requires.words w
+    (c.place_of.ensures ∙ ap (tag_place c.args.sender) (c.sent_tag.ensures ∙ ap sent_tag c.kind.ensures))
+    (c.next_free-here.ensures.pending c.args.receiver (pending_tells b c.args.sender c.args.receiver c.in-Some.index w.stands)))
 
 pub returns-clause-marked : goal.returns-clause-marked
 returns-clause-marked c i e =

@@ -4,7 +4,7 @@ use Rattle.mpd_model.specs.Decisions.{is_named_match}
 use Rattle.mpd_match.specs.Picked.{picked_with}
 use Rattle.mpd_match.proofs.Walks.{rest}
 use Rattle.mpd_match.proofs.Picked.{Finding}
-use Rattle.mpd_match.proofs.board.Board.named_match_among.Given as goal
+use Rattle.mpd_match.proofs.board.Board.named_match_past.Given as goal
 
 abbrev pub invariant-walk : goal.invariant-walk
 invariant-walk l = Finding (λ j. picked_with is_named_match l.self.board (call_id l.receiver j)) (posted l.self.board l.receiver) l.here

@@ -7,7 +7,7 @@ use Rattle.mpd_match.specs.Picked.{picked_with}
 use Rattle.mpd_match.proofs.Walks.{rest, walk_falls}
 use Rattle.mpd_match.proofs.Matches.{posted_once, posted_tells, posted_free}
 use Rattle.mpd_match.proofs.Picked.{Finding, find_begins, find_goes_on, find_finds, find_ends, none_is, posted_picks}
-use Rattle.mpd_match.proofs.board.Board.named_match_among.Goals as goal
+use Rattle.mpd_match.proofs.board.Board.named_match_past.Goals as goal
 
 pub walk-init : goal.walk-init
 walk-init c =

@@ -1,8 +1,8 @@
 use Rattle.std.proofs.Common.{◌≡◌, ℕ, ◌<◌, true, length}
 use Rattle.mpd_model.specs.World.{call_id, kind_at, is_pending}
 use Rattle.mpd_match.specs.Tags.{tag_place, sent_tag, is_marked}
-use Rattle.mpd_match.proofs.board.Board.marks_of.Given as goal
+use Rattle.mpd_match.proofs.board.Board.mark_all.Given as goal
 
 abbrev pub invariant-loop-sender : goal.invariant-loop-sender
 invariant-loop-sender l =
-    (length l.marks ≡ 1024) × ((p i : ℕ) → p < l.sender → is_pending l.self.board p l.receiver i ≡ true → is_marked l.marks (tag_place p (sent_tag (kind_at l.self.board (call_id p i)))) ≡ true)
+    (length l.marks ≡ length l.fn.marks) × ((p i : ℕ) → p < l.sender → is_pending l.self.board p l.receiver i ≡ true → is_marked l.marks (tag_place p (sent_tag (kind_at l.self.board (call_id p i)))) ≡ true)
