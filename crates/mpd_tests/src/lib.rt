@@ -19,6 +19,8 @@ mod policy_rows;
 #[cfg(test)]
 mod pool_rows;
 #[cfg(test)]
+mod served_rows;
+#[cfg(test)]
 mod shared_rows;
 #[cfg(test)]
 mod text_rows;
