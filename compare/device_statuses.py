@@ -84,10 +84,12 @@ def answering(folder):
 def telling(folder):
     """Checks and verdicts, each of which is one text."""
     good, cut = held(folder, 'good', WITNESS), held(folder, 'cut', WITNESS.replace(b', wake 1', b''))
-    for name, options, text, status in (('a check', ('--witness',), REPORT, 1), ('a piece', ('--piece', '1'), b'leaf 0 [1] done\nleaves 1 more no\n', 0),
-                                        ('pieces', ('--pieces',), b'pieces 2\n', 0)):
+    checks = (('a check', ('--witness',), REPORT, 1), ('a piece', ('--piece', '1'), b'leaf 0 [1] done\nleaves 1 more no\n', 0),
+              ('pieces', ('--pieces',), b'pieces 2\n', 0))
+    for name, options, text, status in checks:
         yield Case(name, ('check', RACE, *options), b'', [text], size_of(RACE), status)
-    for name, path, text, status in (('a witness', good, b'accepted\n', 0), ('no witness', cut, b'refused 33 not-stuck\n', 1)):
+    verdicts = (('a witness', good, b'accepted\n', 0), ('no witness', cut, b'refused 33 not-stuck\n', 1))
+    for name, path, text, status in verdicts:
         yield Case(name, ('verify', RACE, path), b'', [text], size_of(RACE, path), status)
 
 
