@@ -5,8 +5,9 @@
 The examples, and the worked rows of compare/worked_program.py; devices that are full, closed, broken off, too short or interrupted;
 each fault of a script; the words of the command line, and the order in which they are tested; a script from a file; a refused
 script and a long check at a terminal; as many steps and reads as there may be; the deepest scripts on a small stack; more answers than memory;
-answers that come before the next read; parts of a check that are joined (part_statuses.py); and all that of `run`
-(session_statuses.py). The status is 0 where every run ended as it must.
+answers that come before the next read; parts of a check that are joined (part_statuses.py); all that of `run` (session_statuses.py);
+each device that fails at each place (device_statuses.py), and each connection (connection_statuses.py). The status is 0 where every
+run ended as it must.
 """
 
 import itertools
@@ -19,7 +20,9 @@ import sys
 import tempfile
 import time
 
+from connection_statuses import ROWS as CONNECTION_ROWS
 from debugger import MOST_READS, MOST_STEPS, RENDEZVOUS, Debugger, Result, Step, answer, answer_packets
+from device_statuses import ROWS as DEVICE_ROWS
 from devices import SECONDS, Files, at_terminal, broken_off, device, file_of_any_size, full, refused, soft_limit, unread_pipe
 from examples import EXAMPLES, checks, example_names, lessons, open_example, strays
 from language import MOST_OPEN_BLOCKS, MOST_OPERATORS, read_script
@@ -522,7 +525,8 @@ def much_rows(program):
 
 
 ROWS = (ended_rows, example_rows, refused_rows, device_rows, usage_rows, trace_rows, terminal_rows, found_rows, why_rows, progress_rows, summed_rows,
-        interrupted_rows, talk_rows, stack_rows, much_rows, full_rows, turns_rows, lesson_rows, *WORKED_ROWS, *PART_ROWS, *SESSION_ROWS)
+        interrupted_rows, talk_rows, stack_rows, much_rows, full_rows, turns_rows, lesson_rows, *WORKED_ROWS, *PART_ROWS, *SESSION_ROWS,
+        *DEVICE_ROWS, *CONNECTION_ROWS)
 
 
 def main():

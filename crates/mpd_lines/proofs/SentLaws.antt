@@ -1,5 +1,5 @@
 -- Bytes that are written piece by piece.
-use Rattle.std.proofs.Common.{◌≡◌, ℕ, List, [], ◌++◌, take, drop, Option, Some, None, refl, sym, ap, subst, ◌∙◌, append_assoc, append-nil}
+use Rattle.std.proofs.Common.{◌≡◌, ℕ, ◌<◌, length, List, [], ◌++◌, take, drop, Option, Some, None, refl, sym, ap, subst, ◌∙◌, append_assoc, append-nil}
 use Rattle.std.proofs.lemmas.List.{take-append-drop}
 use Rattle.std.specs.Io.KnownBytes.{Appends, Keeps}
 use Rattle.mpd_lines.specs.Telling.{AppendsPart, Sent}
@@ -34,7 +34,7 @@ pub sent_all : (old new : Option (List ℕ)) (bytes rest : List ℕ) → rest �
 sent_all old new bytes rest e s =
     let P : List ℕ → Type 0 = λ t. Appends old new t in subst P (sym (append-nil s.0) ∙ ap (λ t. s.0 ++ t) (sym e) ∙ s.1) s.2
 
-pub sent_part : (old mid new : Option (List ℕ)) (bytes rest : List ℕ) → Sent old mid bytes rest → Keeps mid new → AppendsPart old new bytes
-sent_part old mid new bytes rest s k = (s.0, rest, s.1, appends_keeps old mid new s.0 s.2 k)
+pub sent_part : (old mid new : Option (List ℕ)) (bytes rest : List ℕ) → 0 < length rest → Sent old mid bytes rest → Keeps mid new → AppendsPart old new bytes
+sent_part old mid new bytes rest some s k = (s.0, rest, s.1, some, appends_keeps old mid new s.0 s.2 k)
 
 pub ruleset sending = (sent_none, sent_more, sent_all, sent_part)

@@ -1,6 +1,6 @@
 -- What a desk says, line after line.
-use Rattle.std.proofs.Common.{◌≡◌, ℕ, ◌+◌, ◌<◌, List, [], ◌∷◌, ◌++◌, length, length-append, arith, Option, refl, ap, sym, subst, ◌∙◌, append_assoc, append-nil}
-use Rattle.mpd_lines.specs.Telling.{SaysInTurn, Tells, TellsPart, BreaksOff, AppendsPart}
+use Rattle.std.proofs.Common.{◌≡◌, ℕ, ◌<◌, List, [], ◌∷◌, ◌++◌, length, length-append, arith, Option, refl, ap, sym, subst, ◌∙◌, append_assoc, append-nil}
+use Rattle.mpd_lines.specs.Telling.{SaysInTurn, Tells, BreaksOff, AppendsPart}
 use Rattle.mpd_lines.specs.Gathering.{Gathers}
 use Rattle.mpd_lines.proofs.SentLaws.{appends_none, appends_append}
 
@@ -49,7 +49,8 @@ breaks_none A below d w0 w1 out few h = record {
   written = h.0;
   unwritten = h.1;
   whole = h.2 ∙ sym (append-nil out);
-  appends = h.3;
+  some = h.3;
+  appends = h.4;
   late = (let same = ap length (append-nil out) in omega (arith, few, same));
 }
 
@@ -70,7 +71,8 @@ breaks_one A below d e l before text out w0 w1 few is said h = record {
   written = h.0;
   unwritten = h.1;
   whole = h.2 ∙ is;
-  appends = h.3;
+  some = h.3;
+  appends = h.4;
   late = (let same = ap length (append-nil before) in omega (arith, few, same));
 }
 
@@ -92,6 +94,7 @@ breaks_behind A below d m e ls ks w0 w1 w2 o0 o1 a b = record {
   unwritten = b.unwritten;
   whole = append_assoc a.1 b.written b.unwritten ∙ ap (λ x. a.1 ++ x) b.whole ∙ sym (append_assoc a.1 o1 (b.said ++ b.answer)) ∙ ap (λ x. x ++ (b.said ++ b.answer)) a.2
       ∙ append_assoc o0 a.0 (b.said ++ b.answer) ∙ ap (λ x. o0 ++ x) (sym (append_assoc a.0 b.said b.answer));
+  some = b.some;
   appends = appends_append w0 w1 w2 a.1 b.written a.3 b.appends;
   late = (let late = b.late in let same = ap length a.2 in
       omega (arith, late, same, length-append a.1 o1, length-append o0 a.0, length-append o1 b.said, length-append o0 (a.0 ++ b.said), length-append a.0 b.said, length-append a.1 b.written));
@@ -114,6 +117,7 @@ breaks_before A below d e ls ks w0 w1 out b = record {
   written = b.written;
   unwritten = b.unwritten;
   whole = b.whole;
+  some = b.some;
   appends = b.appends;
   late = b.late;
 }
@@ -127,17 +131,3 @@ breaks_along A below d e ls ks w0 w1 o0 o1 is out b =
 pub breaks_told : {D : Type 0} (A : D → List ℕ → List ℕ → D → Type 0) (below : ℕ) (d m e : D) (ls ks : List (List ℕ)) (w0 w1 w2 : Option (List ℕ))
     → Tells A d ls w0 w1 m → BreaksOff A below m ks w1 [] w2 e → BreaksOff A below d (ls ++ ks) w0 [] w2 e
 breaks_told A below d m e ls ks w0 w1 w2 t b = breaks_behind A below d m e ls ks w0 w1 w2 [] [] (t.0, t.0, append-nil t.0, t.1, t.2) b
-
--- a part of the answers was written
-pub breaks_part : {D : Type 0} (A : D → List ℕ → List ℕ → D → Type 0) (below : ℕ) (d e : D) (ls : List (List ℕ)) (w0 w1 : Option (List ℕ))
-    → BreaksOff A below d ls w0 [] w1 e → TellsPart A d ls w0 w1
-breaks_part A below d e ls w0 w1 b = (
-  b.earlier ++ b.last,
-  b.others,
-  e,
-  b.written,
-  b.unwritten,
-  append_assoc b.earlier b.last b.others ∙ b.asked,
-  b.appends,
-  says_along A d e (b.earlier ++ b.last) (b.said ++ b.answer) (b.written ++ b.unwritten) (sym b.whole) (says_append A d b.between e b.earlier b.last b.said b.answer b.told b.answered),
-)

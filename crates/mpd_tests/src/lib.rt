@@ -7,6 +7,8 @@ mod board_rows;
 #[cfg(test)]
 mod book_rows;
 #[cfg(test)]
+mod broken_rows;
+#[cfg(test)]
 mod code_rows;
 #[cfg(test)]
 mod device_rows;
@@ -18,6 +20,10 @@ mod piece_rows;
 mod policy_rows;
 #[cfg(test)]
 mod pool_rows;
+#[cfg(test)]
+mod seat_rows;
+#[cfg(test)]
+mod served_rows;
 #[cfg(test)]
 mod shared_rows;
 #[cfg(test)]

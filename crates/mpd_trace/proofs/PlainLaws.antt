@@ -13,7 +13,7 @@ use Rattle.mpd_model.specs.Trail.{Standing, first_standing}
 use Rattle.mpd_model.specs.declared.call.Mode.TheVariants.{Rendezvous}
 use Rattle.mpd_model.specs.declared.read_fault.ReadFault.{ReadFault}
 use Rattle.mpd_model.specs.declared.read_fault.FaultCode.TheVariants as code
-use Rattle.mpd_lines.specs.Telling.{Tells, TellsPart, waiting_below}
+use Rattle.mpd_lines.specs.Telling.{Tells, waiting_below}
 use Rattle.mpd_lines.specs.Served.{Served, Counted}
 use Rattle.mpd_lines.specs.declared.engine.EngineFault.{EngineFault}
 use Rattle.mpd_lines.specs.declared.engine.EngineFault.TheVariants as engine
@@ -24,7 +24,7 @@ use Rattle.mpd_trace.specs.declared.plain.HeadEnd.{HeadEnd}
 use Rattle.mpd_trace.specs.declared.plain.HeadEnd.TheVariants.{InputEnds, LineDivides, TooLong}
 use Rattle.mpd_trace.specs.declared.plain.PlainFault.{PlainFault}
 use Rattle.mpd_trace.specs.declared.plain.PlainFault.TheVariants.{Script, Engine}
-use Rattle.mpd_lines.proofs.TellingLaws.{breaks_part}
+use Rattle.mpd_lines.proofs.TellingLaws.{breaks_along}
 use Rattle.mpd_trace.proofs.CollectLaws.{consumes_append}
 use Rattle.mpd_trace.proofs.OpenLaws.{divider_came}
 
@@ -131,9 +131,6 @@ reads_so read script behind text z p same d ok = ap (λ (x : Halves). reading x.
 tells_by : (d e : Standing) (ls ks : List (List ℕ)) (v w : SinkSeen) → ls ≡ ks → Tells AnswerOrMemory d ls v.contents w.contents e → Tells AnswerOrMemory d ks v.contents w.contents e
 tells_by d e ls ks v w is t = let P : List (List ℕ) → Type 0 = λ x. Tells AnswerOrMemory d x v.contents w.contents e in subst P is t
 
-part_by : (d : Standing) (ls ks : List (List ℕ)) (v w : SinkSeen) → ls ≡ ks → TellsPart AnswerOrMemory d ls v.contents w.contents → TellsPart AnswerOrMemory d ks v.contents w.contents
-part_by d ls ks v w is t = let P : List (List ℕ) → Type 0 = λ x. TellsPart AnswerOrMemory d x v.contents w.contents in subst P is t
-
 pub plain_all : (read script behind text : List ℕ) (n turns : ℕ) (s t u : SourceSeen) (v w : SinkSeen) (p : Program) (e : Standing) → text ≡ script → Consumes s.remaining t.remaining read
     → Behind read n s t script behind → reading text ≡ Ok p → Served AnswerOrMemory (waiting_below true) (first_standing p Rendezvous) behind turns t u v w e (Ok _) → PlainServed s u v w (Ok _)
 plain_all read script behind text n turns s t u v w p e same c b ok h = (
@@ -177,9 +174,10 @@ plain_fault engine.WriteFailed read script behind text n turns s t u v w p e sam
   divider_came read script behind more b.1,
   inl (
     p,
+    e,
     reads_so read script behind text more p same (b.1 more) ok,
-    part_by (first_standing p Rendezvous) (ended_lines (behind ++ more)) (ended_lines (divided (read ++ more)).1) v w (ap (λ (x : Halves). ended_lines x.1) (sym (b.1 more)))
-        (breaks_part AnswerOrMemory (waiting_below true) (first_standing p Rendezvous) e (ended_lines (behind ++ more)) v.contents w.contents h),
+    breaks_along AnswerOrMemory (waiting_below true) (first_standing p Rendezvous) e (ended_lines (behind ++ more)) (ended_lines (divided (read ++ more)).1) v.contents w.contents [] []
+        (ap (λ (x : Halves). ended_lines x.1) (sym (b.1 more))) refl h,
   ),
 )
 plain_fault engine.WriteFailed read script behind text n turns s t u v w p e same c b ok all calls (more, consumed, inr h, few) = (
@@ -190,9 +188,10 @@ plain_fault engine.WriteFailed read script behind text n turns s t u v w p e sam
     h.0,
     (
       p,
+      e,
       reads_so read script behind text more p same (b.1 more) ok,
-      part_by (first_standing p Rendezvous) (lines_of (behind ++ more)) (lines_of (divided (read ++ more)).1) v w (ap (λ (x : Halves). lines_of x.1) (sym (b.1 more)))
-          (breaks_part AnswerOrMemory (waiting_below true) (first_standing p Rendezvous) e (lines_of (behind ++ more)) v.contents w.contents h.1),
+      breaks_along AnswerOrMemory (waiting_below true) (first_standing p Rendezvous) e (lines_of (behind ++ more)) (lines_of (divided (read ++ more)).1) v.contents w.contents [] []
+          (ap (λ (x : Halves). lines_of x.1) (sym (b.1 more))) refl h.1,
     ),
   ),
 )

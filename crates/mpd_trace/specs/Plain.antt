@@ -11,7 +11,7 @@ use Rattle.mpd_model.specs.Trail.{Standing, first_standing}
 use Rattle.mpd_model.specs.declared.call.Mode.TheVariants.{Rendezvous}
 use Rattle.mpd_model.specs.declared.read_fault.ReadFault.{ReadFault}
 use Rattle.mpd_model.specs.declared.read_fault.FaultCode.TheVariants as code
-use Rattle.mpd_lines.specs.Telling.{Tells, TellsPart}
+use Rattle.mpd_lines.specs.Telling.{Tells, BreaksOff, waiting_below}
 use Rattle.mpd_lines.specs.declared.engine.EngineFault.TheVariants.{ReadFailed, WriteFailed, TooManyTurns, Memory}
 use Rattle.mpd_trace.specs.Divided.{has_divider, IsOpen}
 use Rattle.mpd_trace.specs.Collected.{IsJustRead}
@@ -32,18 +32,20 @@ abbrev pub Traces : List ℕ → List (List ℕ) → SinkSeen → SinkSeen → T
 Traces read lines v w =
     (p : Program) × (e : Standing) × (reading (divided read).0 ≡ Ok p) × Tells AnswerOrMemory (first_standing p Rendezvous) lines v.contents w.contents e
 
--- or a part of these answers was written
+-- or a write failed behind a part of these answers
 abbrev pub TracesPart : List ℕ → List (List ℕ) → SinkSeen → SinkSeen → Type 0
 TracesPart read lines v w =
-    (p : Program) × (reading (divided read).0 ≡ Ok p) × TellsPart AnswerOrMemory (first_standing p Rendezvous) lines v.contents w.contents
+    (p : Program) × (e : Standing) × (reading (divided read).0 ≡ Ok p)
+    × BreaksOff AnswerOrMemory (waiting_below true) (first_standing p Rendezvous) lines v.contents [] w.contents e
 
 -- before the line that divides nothing is written; behind it, the answers to the lines that have ended
 abbrev pub TracesSoFar : List ℕ → SinkSeen → SinkSeen → Type 0
 TracesSoFar read v w = (IsOpen read × (w ≡ v)) ⊎ ((has_divider read ≡ true) × Traces read (ended_lines (divided read).1) v w)
 
 -- What was read and written, by what is answered: at the end of the input the answers to all lines behind the script; where
--- a read failed, or no more may be made, those to the lines that have ended; where a write failed, a part of these. A script
--- that is refused writes nothing, and is refused at once. Where memory is refused, nothing is written.
+-- a read failed, or no more may be made, those to the lines that have ended; where a write failed, a part of these, but not all of
+-- them, and all but fewer bytes than are gathered and the last answer. A script that is refused writes nothing, and is refused at
+-- once. Where memory is refused, nothing is written.
 abbrev pub PlainServed : SourceSeen → SourceSeen → SinkSeen → SinkSeen → Result (Unit {0}) PlainFault → Type 0
 PlainServed s t v w (Ok u) =
     (read : List ℕ) × Consumes s.remaining t.remaining read × IsAtEnd t.remaining × (t.ends ≡ s.ends + 1) × Traces read (lines_of (divided read).1) v w

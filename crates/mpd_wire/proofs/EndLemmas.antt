@@ -97,6 +97,7 @@ module _ {D X N : Type 0} (asks : D → Request → Reply → D → Type 0) (ful
     written = b.written;
     unwritten = b.unwritten;
     whole = b.whole;
+    some = b.some;
     appends = b.appends;
     late = b.late;
   }

@@ -1,6 +1,6 @@
 //! `mpdbg serve`: one session for the clients that connect (docs/SESSIONS.md, "Several clients").
 
-ghost use Rattle.std.specs.Prelude.{◌≡◌};
+ghost use Rattle.std.specs.Prelude.{◌≡◌, ◌+◌, IfOk, vec_len};
 ghost use Rattle.std.specs.Thread.{IsSend, IsSync};
 
 use crate::tell::Fault;
@@ -24,7 +24,7 @@ use std::marker::Brand;
 use std::net::{TcpListener, TcpStream};
 use std::sync::Wait;
 use std::sync::ledger::Blank;
-use std::thread::Threads;
+use std::thread::{JoinHandle, Scope, Threads};
 use std::{io, thread};
 
 /// Where clients come, and how many.
@@ -106,51 +106,107 @@ fn accept<R: Wait>(rt: &R, listener: &TcpListener) -> io::Result<TcpStream> {
     Err(io::Error::from(ErrorKind::Interrupted))
 }
 
-/// Accepts a client for each seat, and serves it on a thread of its own from then on. Answers the seats, once all clients have left.
-/// Where no thread can be started the client is let go, with its seat, which has no receipt.
+/// Accepts the client of a seat, and says at a terminal that it is here.
+fn welcome<T: Table<S, R>, S, R: Wait + Eprint>(
+    rt: &R,
+    table: &T,
+    seat: &S,
+    arrivals: Arrivals<'_>,
+) -> io::Result<TcpStream> {
+    let stream = accept(rt, arrivals.listener)?;
+    if arrivals.is_terminal {
+        let client = table.log(seat).client;
+        let _unwritten = eprintln!(rt; "client {client} of {} is here", arrivals.clients);
+    }
+    Ok(stream)
+}
+
+/// The threads that serve clients, and how many clients have none.
+#[derive(Drop)]
+struct Begun<S: Drop> {
+    running: Vec<JoinHandle<S>>,
+    unserved: usize,
+}
+
+/// The seats of clients that have left, and of how many there is none: they have no receipt, since no thread could be started for them.
+#[derive(Drop)]
+struct Left<S: Drop> {
+    seats: Vec<S>,
+    unserved: usize,
+}
+
+/// Accepts a client for each seat, and serves it on a thread of its own from then on. Where no thread can be started the client is let
+/// go, with its seat.
+fn start_all<
+    's,
+    E,
+    T: Table<S, R> + Sync + 's,
+    S: Send + Drop + 's,
+    R: Threads + Wait + Sync + Eprint + 's,
+>(
+    scope: &Scope<'s, E>,
+    rt: &'s R,
+    alloc: Global,
+    table: &'s T,
+    seats: Vec<S>,
+    arrivals: Arrivals<'_>,
+) -> io::Result<Begun<S>>
+    requires table { IsSync T.row }
+    requires seats { IsSend S.row }
+    requires runtime { IsSync R.row }
+    ensures { IfOk result (λ begun. vec_len begun.running + begun.unserved ≡ vec_len seats) }
+{
+    let is_terminal = arrivals.is_terminal;
+    let mut running = Vec::with_capacity(alloc, seats.len())?;
+    let mut unserved = 0;
+    for seat in seats {
+        let stream = welcome(rt, table, &seat, arrivals)?;
+        match scope.spawn(move || serve_client(rt, alloc, table, seat, stream, is_terminal)) {
+            Ok(client) => running.push(client)?,
+            Err(_) => unserved += 1,
+        }
+    }
+    Ok(Begun { running, unserved })
+}
+
+/// Waits until all clients have left, and takes the seat of each, however its session has ended.
+fn join_all<S: Send + Drop, R: Threads + Wait>(
+    rt: &R,
+    alloc: Global,
+    begun: Begun<S>,
+) -> io::Result<Left<S>>
+    ensures { IfOk result (λ left. (vec_len left.seats ≡ vec_len begun.running) × (left.unserved ≡ begun.unserved)) }
+{
+    let Begun { running, unserved } = begun;
+    let mut seats = Vec::with_capacity(alloc, running.len())?;
+    for client in running {
+        seats.push(client.join(rt))?;
+    }
+    Ok(Left { seats, unserved })
+}
+
+/// Accepts a client for each seat, and serves it on a thread of its own from then on. Answers the seats once all clients have left:
+/// each is there again, but for those of clients for which no thread could be started.
 fn serve_all<T: Table<S, R> + Sync, S: Send + Drop, R: Threads + Wait + Sync + Eprint>(
     rt: &R,
     alloc: Global,
     table: &T,
     seats: Vec<S>,
     arrivals: Arrivals<'_>,
-) -> io::Result<Vec<S>> {
+) -> io::Result<Left<S>>
+    ensures { IfOk result (λ left. vec_len left.seats + left.unserved ≡ vec_len seats) }
+{
     thread::scope(
         thread::scope_env(),
         rt,
-        |scope| -> io::Result<Vec<S>>
+        |scope| -> io::Result<Left<S>>
             requires table { IsSync T.row }
             requires seats { IsSend S.row }
             requires runtime { IsSync R.row }
+            ensures { IfOk result (λ left. vec_len left.seats + left.unserved ≡ vec_len seats) }
         {
-            let mut running = Vec::with_capacity(alloc, seats.len())?;
-            let mut back = Vec::with_capacity(alloc, seats.len())?;
-            for seat in seats {
-                let stream = accept(rt, arrivals.listener)?;
-                if arrivals.is_terminal {
-                    let _unwritten = eprintln!(rt;
-                        "client {} of {} is here",
-                        table.log(&seat).client,
-                        arrivals.clients
-                    );
-                }
-                let is_terminal = arrivals.is_terminal;
-                let client = scope.spawn(move || serve_client(
-                    rt,
-                    alloc,
-                    table,
-                    seat,
-                    stream,
-                    is_terminal,
-                ));
-                if let Ok(client) = client {
-                    running.push(client)?;
-                }
-            }
-            for client in running {
-                back.push(client.join(rt))?;
-            }
-            Ok(back)
+            let begun = start_all(scope, rt, alloc, table, seats, arrivals)?;
+            join_all(rt, alloc, begun)
         },
     )
 }
@@ -179,7 +235,9 @@ fn serve_seats<'a, L: Opening + Send + Sync, R: Threads + Wait + Sync + Eprint, 
     seats: Vec<Seat<L>>,
     arrivals: Arrivals<'_>,
     sink: &mut W,
-) -> Result<Vec<Seat<L>>, Fault<'a>> {
+) -> Result<Left<Seat<L>>, Fault<'a>>
+    ensures { IfOk result (λ left. vec_len left.seats + left.unserved ≡ vec_len seats) }
+{
     let port = match arrivals.listener.local_addr() {
         Ok(address) => address.port(),
         Err(error) => {
@@ -192,7 +250,7 @@ fn serve_seats<'a, L: Opening + Send + Sync, R: Threads + Wait + Sync + Eprint, 
         return Err(Fault::from(EngineFault::WriteFailed));
     };
     match serve_all(rt, alloc, shared, seats, arrivals) {
-        Ok(back) => Ok(back),
+        Ok(left) => Ok(left),
         Err(error) => Err(fault_of(error)),
     }
 }
@@ -219,14 +277,14 @@ fn host<'a, L: Opening + Send + Sync, R: Threads + Wait + Sync + Eprint, W: Sink
     let Ok((shared, seats)) = Shared::<L>::new(alloc, blank, session, arrivals.clients) else {
         return Err(Fault::from(EngineFault::Memory));
     };
-    let back = match serve_seats(rt, alloc, &shared, seats, arrivals, sink) {
-        Ok(back) => back,
+    let Left { seats, .. } = match serve_seats(rt, alloc, &shared, seats, arrivals, sink) {
+        Ok(left) => left,
         Err(fault) => {
             drop(shared);
             return Err(fault);
         }
     };
-    match shared.settle(back) {
+    match shared.settle(seats) {
         Ok(book) => Ok(book.len()),
         Err(SettleFault::CountsDiffer(_)) => Err(Fault::Settle(57)),
         Err(SettleFault::ReceiptDiffers(_)) => Err(Fault::Settle(58)),
