@@ -10,7 +10,7 @@ import os
 import re
 import shutil
 
-from copies import HEAD, Original
+from copies import HEAD, Original, end_of
 
 # A module that only the tests have.
 OF_TESTS = re.compile(r'(?m)^#\[cfg\(test\)\]\n(?:pub(?:\([^)]*\))? )?mod (\w+);')
@@ -20,6 +20,9 @@ DROPS = '+Destruct'
 
 # The types of these take no bytes, and the prover writes itself what drops them: with a proof there a check has to be made again.
 COUNTERS = 'mpd_device++steps++'
+
+# A line that is a comment.
+COMMENT = re.compile(r'(?m)^ *//.*\n')
 
 # Where a type is declared.
 TYPE = re.compile(r'(?m)^(?:pub(?:\([^)]*\))? )?(?:struct|enum) (\w+)')
@@ -64,6 +67,17 @@ def body_of(text, indent):
     if found:
         return None if found[1] else found.end() - 1
     return re.search(rf'(?m)^{indent}\S.* {{$', text).end() - 1
+
+
+def without_bodies(text):
+    """What a crate above sees of a source: the text without the bodies of its functions, but of those that are evaluated as it is
+    compiled, and without comments. A function is checked against the contracts of what it calls, and not against their bodies."""
+    for head in reversed([*HEAD.finditer(text)]):
+        end = end_of(text, head)
+        begin = body_of(text[head.start() : end], head[1]) if end > 0 and 'const fn' not in head[0] else None
+        if begin is not None:
+            text = text[: head.start() + begin] + text[end:]
+    return COMMENT.sub('', text)
 
 
 def sources(folder):

@@ -11,12 +11,14 @@ import re
 import subprocess
 from typing import NamedTuple
 
+from assumed import without_bodies
+
 FILE = '.ci/refused.txt'
 
 # The files of .ci/ by which edits are judged.
 JUDGES = ('assumed.py', 'copies.py', 'edit_files.py', 'edits.py', 'record.py', 'rounds.py', 'told.py')
 
-# The folders of a crate that its own checks read, its edits among them, and those that checks of crates above it read.
+# The folders of a crate that its own checks read, its edits among them, and those of which checks of crates above it read something.
 OWN, SEEN_ABOVE = ('must-fail', 'proofs', 'specs', 'src'), ('specs', 'src')
 
 # Of the edits that are remembered, one of so many is tried.
@@ -62,6 +64,11 @@ def files_of(root, crate, folders):
     return [(os.path.relpath(it, root), bytes_of(it)) for it in found]
 
 
+def seen_above(root, crate, folders):
+    """What crates above read of a crate's files: of its sources all but the bodies of functions, and comments."""
+    return [(file, without_bodies(said.decode()).encode() if file.endswith('.rt') else said) for file, said in files_of(root, crate, folders)]
+
+
 def names_proofs_of(root, crate):
     """The other crates whose proof files this one's files name."""
     named = {name.decode() for _, said in files_of(root, crate, ('proofs', 'specs', 'src')) for name in OF_PROOFS.findall(said)}
@@ -81,7 +88,7 @@ def pieces(repository, crate):
     found += [(f'uses of {it}', ' '.join(repository.uses[it]).encode()) for it in [crate, *sorted(below)]]
     named = {name for it in [crate, *below] for name in names_proofs_of(root, it)}
     for used in sorted(below):
-        found += files_of(root, used, ('proofs', *SEEN_ABOVE) if used in named else SEEN_ABOVE)
+        found += seen_above(root, used, ('proofs', *SEEN_ABOVE) if used in named else SEEN_ABOVE)
     return found + files_of(root, crate, OWN)
 
 

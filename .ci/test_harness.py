@@ -194,6 +194,19 @@ class Bodies(WithFolder):
         self.assertTrue(self.body('left').startswith('{\n    if count > 0 {'))
         self.assertIsNone(self.body('law'))
 
+    def test_what_a_crate_above_sees(self):
+        seen = assumed.without_bodies(SOURCE)
+        for text in ('self.items', 'loop', '///', '//!'):
+            self.assertNotIn(text, seen)
+        for name in ('len', 'first', 'left', 'right', 'law'):
+            self.assertIn(f'fn {name}', seen)
+        self.assertIn('ensures few { result ≤ 9 }', seen)
+        self.assertIn('1 + 1', assumed.without_bodies('const fn two() -> u64 {\n    1 + 1\n}\n'))
+        for old, new in (('self.items[0]', 'self.items[1]'), ('/// One side.', '/// A side.')):
+            self.assertEqual(assumed.without_bodies(SOURCE.replace(old, new)), seen)
+        for old, new in (('result ≤ 9', 'result ≤ 8'), ('count: u64', 'count: u32'), ('pub(crate) fn right', 'pub fn right')):
+            self.assertNotEqual(assumed.without_bodies(SOURCE.replace(old, new)), seen)
+
     def granted(self):
         self.write('src/list.rt', SOURCE)
         self.write('src/lib.rt', '#[cfg(test)]\nmod rows;\nmod list;\n')
@@ -515,6 +528,14 @@ class Remembered(WithFolder):
             ('KIT-ID', {'low', 'side', 'high'}),
         ):
             self.assertEqual(self.changed_by(file, f'changed {file}'), crates, file)
+
+    def test_bodies_are_of_their_own_crate(self):
+        self.write('crates/low/src/lib.rt', 'pub fn one() -> u64\n    ensures { result ≡ 1 }\n{\n    1\n}\n')
+        for text, crates in (('{\n    2 - 1\n}\n', {'low'}), ('{\n    // one\n    1\n}\n', {'low'}), ('{\n    1\n}\nfn two() {\n}\n', {'low', 'high'})):
+            changed = 'pub fn one() -> u64\n    ensures { result ≡ 1 }\n' + text
+            self.assertEqual(self.changed_by('crates/low/src/lib.rt', changed), crates, text)
+            self.write('crates/low/src/lib.rt', 'pub fn one() -> u64\n    ensures { result ≡ 1 }\n{\n    1\n}\n')
+        self.assertEqual(self.changed_by('crates/low/src/lib.rt', 'pub fn one() -> u64\n    ensures { result ≡ 2 }\n{\n    1\n}\n'), {'low', 'high'})
 
     def test_a_file_that_is_gone_changes_it(self):
         before = self.digests()
