@@ -82,14 +82,7 @@ fn told<R: Threads + Sync>(
 ) -> Result<String, AllocError>
     ensures { IfOk result (λ t. string_bytes t ≡ told_text (map string_bytes report.now.witnesses.items) report.now.leaves.items report.now.more) }
 {
-    let mut out = lines(
-        rt,
-        alloc,
-        0,
-        &report.leaves,
-        &report.witnesses,
-        workers,
-    )?;
+    let mut out = lines(rt, alloc, 0, &report.leaves, &report.witnesses, workers)?;
     push_total(&mut out, report)?;
     Ok(out)
 }
