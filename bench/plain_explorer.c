@@ -2,6 +2,10 @@
  * A plain explorer of scripts, for scale: it goes forward along decisions and back by undo records, as `mpdbg check` does, and
  * writes the same report. Nothing is proved. bench/check.py compiles it, runs it beside the program and compares the two.
  *
+ * What a decision asks is kept as sets of ranks, a bit for each: which ranks can step, which can be woken, which receivers have a
+ * receive of any source and which one of a named source, who has a message pending for whom. Each step and each undo keeps them,
+ * so that a decision tests two or three numbers, and no rank is asked that has no part in it.
+ *
  *     cc -O2 -o plain_explorer bench/plain_explorer.c && ./plain_explorer FILE [RUNS [FUEL]]
  *
  * On standard error it tells how many steps led to the leaves that it lists, and how many it took back. It runs in the mode
@@ -38,18 +42,26 @@ struct node {
 
 /* A call: its partner is in a pair with it, before and after are its neighbours in the list that it waits in. */
 struct call {
-    node_kind kind;
-    int other, tag, cell, source_cell, tag_cell, handle, target;
+    uint8_t kind;
+    int8_t other, cell, source_cell, tag_cell, handle, partner_rank;
+    int tag, target, partner, before, after;
     int64_t value;
-    int partner_rank, partner, before, after;
 };
 
 struct list {
     int first, last;
 };
 
+/* A set of ranks: the bit of each of its own is 1. */
+typedef uint16_t rank_set;
+
+/* Ranks that have a local step, that are blocked on a complete call, and that are blocked at all. */
+struct able {
+    rank_set step, wake, blocked;
+};
+
 struct rank {
-    int node, is_blocked;
+    int node;
     int64_t vars[NAMES_MAX];
     int handles[NAMES_MAX];
     struct call *calls;
@@ -59,14 +71,16 @@ struct rank {
 typedef enum { LOCAL, MATCH, WAKE } step_kind;
 
 struct step {
-    step_kind kind;
-    int rank, index, other_rank, other_index;
+    uint8_t kind, rank, other_rank;
+    int index, other_index;
 };
 
-/* What takes a step back: where the rank was, and what was overwritten. */
+/* What takes a step back: who could go on, where the rank was, and what was overwritten. */
 struct record {
     struct step step;
-    int from, cell, handle, held, issued;
+    struct able able;
+    int8_t cell, handle, issued;
+    int from, held;
     int64_t was, was_source, was_tag;
 };
 
@@ -82,6 +96,13 @@ static char vars[NAMES_MAX][NAME_SIZE], reqs[NAMES_MAX][NAME_SIZE];
 
 static struct rank ranks[RANKS_MAX];
 static struct list pending[RANKS_MAX][RANKS_MAX], posted[RANKS_MAX];
+
+/* Who can go on; of each receiver who has a message pending for it, and how many free receives it has, of a named source and of any;
+ * the receivers for whom a message is pending, and those that have such a receive. */
+static struct able able;
+static rank_set senders[RANKS_MAX], awaited, receivers[2];
+static int posted_count[2][RANKS_MAX];
+
 static struct record *records;
 static struct open *opens;
 static struct step *pool;
@@ -342,6 +363,7 @@ static void read_script(const char *text) {
     for (int p = 0; p < rank_count; p++) {
         ranks[p].node = first;
         for (int i = 0; i < NAMES_MAX; i++) ranks[p].handles[i] = NONE;
+        if (first != NONE) able.step |= 1u << p;
         posted[p] = (struct list){NONE, NONE};
         for (int q = 0; q < rank_count; q++) pending[p][q] = (struct list){NONE, NONE};
     }
@@ -406,10 +428,46 @@ static int tag_from(const struct expr *expr, int p) {
     return (int)value;
 }
 
+/* Sets of ranks. */
+
+static rank_set with(rank_set set, int p, int is_in) {
+    return (rank_set)((set & ~(1u << p)) | ((unsigned)is_in << p));
+}
+
+static rank_set without(rank_set set, int p) {
+    return with(set, p, 0);
+}
+
+static int has(rank_set set, int p) {
+    return set >> p & 1;
+}
+
+/* The lowest rank of a set that has one. */
+static int lowest(rank_set set) {
+    return __builtin_ctz(set);
+}
+
+static rank_set without_lowest(rank_set set) {
+    return set & (set - 1);
+}
+
 /* The lists that free calls wait in. */
 
 static struct list *list_of(int p, const struct call *call) {
     return call->kind == SEND ? &pending[p][call->other] : &posted[p];
+}
+
+/* Has the sets agree with a list that a call joined or left: there are so many receives more. */
+static void note_list(int p, const struct call *call, const struct list *list, int more) {
+    if (call->kind == SEND) {
+        int r = call->other;
+        senders[r] = with(senders[r], p, list->first != NONE);
+        awaited = with(awaited, r, senders[r] != 0);
+    } else {
+        int is_any = call->other == ANY;
+        posted_count[is_any][p] += more;
+        receivers[is_any] = with(receivers[is_any], p, posted_count[is_any][p] != 0);
+    }
 }
 
 static void append(int p, int index) {
@@ -419,6 +477,7 @@ static void append(int p, int index) {
     calls[index].after = NONE;
     *(list->last == NONE ? &list->first : &calls[list->last].after) = index;
     list->last = index;
+    note_list(p, &calls[index], list, 1);
 }
 
 /* Takes a call out of its list; it keeps its neighbours, so that it can be put between them again. */
@@ -427,6 +486,7 @@ static void unlink_call(int p, int index) {
     struct list *list = list_of(p, call);
     *(call->before == NONE ? &list->first : &calls[call->before].after) = call->after;
     *(call->after == NONE ? &list->last : &calls[call->after].before) = call->before;
+    note_list(p, call, list, -1);
 }
 
 static void put_again(int p, int index) {
@@ -434,6 +494,7 @@ static void put_again(int p, int index) {
     struct list *list = list_of(p, call);
     *(call->before == NONE ? &list->first : &calls[call->before].after) = index;
     *(call->after == NONE ? &list->last : &calls[call->after].before) = index;
+    note_list(p, call, list, 1);
 }
 
 static int fits(const struct call *recv, int sender, const struct call *send) {
@@ -460,44 +521,76 @@ static int is_complete(const struct rank *rank) {
     return call->target == NONE || rank->calls[call->target].partner != NONE;
 }
 
-static int first_named_match(struct step *step) {
-    for (int r = 0; r < rank_count; r++)
-        for (int i = posted[r].first; i != NONE; i = ranks[r].calls[i].after) {
-            int sender = ranks[r].calls[i].other;
-            int send = sender == ANY ? NONE : candidate(r, i, sender);
-            if (send == NONE) continue;
-            *step = (struct step){MATCH, sender, send, r, i};
-            return 1;
-        }
+/* A rank runs: it has a local step where a statement is left. */
+static void note_running(int p) {
+    able.step = with(able.step, p, ranks[p].node != NONE);
+}
+
+/* A rank is blocked on its last call, and can be woken where that is complete. */
+static void note_blocked(int p) {
+    able.step = without(able.step, p);
+    able.blocked = with(able.blocked, p, 1);
+    able.wake = with(able.wake, p, is_complete(&ranks[p]));
+}
+
+/* A call of a rank is paired, which may be blocked on it. */
+static void note_paired(int p) {
+    if (has(able.blocked, p) && is_complete(&ranks[p])) able.wake = with(able.wake, p, 1);
+}
+
+/* A rank goes on from what it was blocked on. */
+static void note_woken(int p) {
+    able.wake = without(able.wake, p);
+    able.blocked = without(able.blocked, p);
+    note_running(p);
+}
+
+/* The first match of a receiver's receives that name their source. */
+static int named_match_at(int r, struct step *step) {
+    const struct call *calls = ranks[r].calls;
+    for (int i = posted[r].first; i != NONE; i = calls[i].after) {
+        int sender = calls[i].other;
+        int send = sender == ANY || !has(senders[r], sender) ? NONE : candidate(r, i, sender);
+        if (send == NONE) continue;
+        *step = (struct step){.kind = MATCH, .rank = (uint8_t)sender, .other_rank = (uint8_t)r, .index = send, .other_index = i};
+        return 1;
+    }
     return 0;
 }
 
 /* The step that nobody has to choose, where there is one. */
 static int forced(struct step *step) {
-    for (int p = 0; p < rank_count; p++)
-        if (!ranks[p].is_blocked && ranks[p].node != NONE) {
-            *step = (struct step){.kind = LOCAL, .rank = p};
-            return 1;
-        }
-    for (int p = 0; p < rank_count; p++)
-        if (ranks[p].is_blocked && is_complete(&ranks[p])) {
-            *step = (struct step){.kind = WAKE, .rank = p};
-            return 1;
-        }
-    return first_named_match(step);
+    if (able.step) {
+        *step = (struct step){.kind = LOCAL, .rank = (uint8_t)lowest(able.step)};
+        return 1;
+    }
+    if (able.wake) {
+        *step = (struct step){.kind = WAKE, .rank = (uint8_t)lowest(able.wake)};
+        return 1;
+    }
+    for (rank_set left = receivers[0] & awaited; left; left = without_lowest(left))
+        if (named_match_at(lowest(left), step)) return 1;
+    return 0;
+}
+
+/* Puts the matches of a receive of any source into the pool. */
+static void push_choices_with(int r, int i) {
+    for (rank_set left = senders[r]; left; left = without_lowest(left)) {
+        int s = lowest(left), send = candidate(r, i, s);
+        if (send == NONE) continue;
+        if (pool_count == pool_room) pool = grown(pool, &pool_room, sizeof *pool);
+        pool[pool_count++] = (struct step){.kind = MATCH, .rank = (uint8_t)s, .other_rank = (uint8_t)r, .index = send, .other_index = i};
+    }
 }
 
 /* Puts the matches of receives of any source into the pool, and answers how many they are. */
 static int push_choices(void) {
     int begun = pool_count;
-    for (int r = 0; r < rank_count; r++)
+    for (rank_set left = receivers[1] & awaited; left; left = without_lowest(left)) {
+        int r = lowest(left);
         for (int i = posted[r].first; i != NONE; i = ranks[r].calls[i].after)
-            for (int s = 0; ranks[r].calls[i].other == ANY && s < rank_count; s++) {
-                int send = candidate(r, i, s);
-                if (send == NONE) continue;
-                if (pool_count == pool_room) pool = grown(pool, &pool_room, sizeof *pool);
-                pool[pool_count++] = (struct step){MATCH, s, send, r, i};
-            }
+            if (ranks[r].calls[i].other == ANY) push_choices_with(r, i);
+    }
     return pool_count - begun;
 }
 
@@ -505,13 +598,13 @@ static int push_choices(void) {
 
 static void issue(int p, const struct node *node, struct record *record) {
     struct rank *rank = &ranks[p];
-    struct call call = {.kind = node->kind, .cell = node->cell, .handle = node->handle, .partner = NONE, .target = NONE,
-                        .source_cell = node->source_cell, .tag_cell = node->tag_cell};
+    struct call call = {.kind = (uint8_t)node->kind, .cell = (int8_t)node->cell, .handle = (int8_t)node->handle, .partner = NONE,
+                        .target = NONE, .source_cell = (int8_t)node->source_cell, .tag_cell = (int8_t)node->tag_cell};
     if (node->kind == WAIT) {
         call.target = rank->handles[node->handle];
     } else {
         if (node->kind == SEND) call.value = eval(node->value, p);
-        call.other = rank_from(node->other, p);
+        call.other = (int8_t)rank_from(node->other, p);
         call.tag = tag_from(node->tag, p);
     }
     if (rank->count == rank->room) rank->calls = grown(rank->calls, &rank->room, sizeof *rank->calls);
@@ -519,9 +612,8 @@ static void issue(int p, const struct node *node, struct record *record) {
     rank->calls[index] = call;
     if (node->kind != WAIT) append(p, index);
     record->issued = 1;
-    rank->is_blocked = node->blocks;
     if (!node->blocks) {
-        record->handle = node->handle;
+        record->handle = (int8_t)node->handle;
         record->held = rank->handles[node->handle];
         rank->handles[node->handle] = index;
     }
@@ -534,22 +626,27 @@ static void local(int p, struct record *record) {
     switch (node->kind) {
     case ASSIGN: {
         int64_t value = eval(node->value, p);
-        record->cell = node->cell;
+        record->cell = (int8_t)node->cell;
         record->was = rank->vars[node->cell];
         rank->vars[node->cell] = value;
         rank->node = node->next;
-        return;
+        break;
     }
-    case IF: rank->node = eval(node->value, p) ? node->body : node->otherwise; return;
-    case WHILE: rank->node = eval(node->value, p) ? node->body : node->next; return;
+    case IF: rank->node = eval(node->value, p) ? node->body : node->otherwise; break;
+    case WHILE: rank->node = eval(node->value, p) ? node->body : node->next; break;
     default:
         issue(p, node, record);
         rank->node = node->next;
+        if (node->blocks) {
+            note_blocked(p);
+            return;
+        }
     }
+    note_running(p);
 }
 
 static void set_partner(int p, int index, int other, int other_index) {
-    ranks[p].calls[index].partner_rank = other;
+    ranks[p].calls[index].partner_rank = (int8_t)other;
     ranks[p].calls[index].partner = other_index;
 }
 
@@ -558,6 +655,8 @@ static void pair(const struct step *step) {
     set_partner(step->other_rank, step->other_index, step->rank, step->index);
     unlink_call(step->rank, step->index);
     unlink_call(step->other_rank, step->other_index);
+    note_paired(step->rank);
+    note_paired(step->other_rank);
 }
 
 static void unpair(const struct step *step) {
@@ -577,7 +676,7 @@ static const struct call *received(const struct rank *rank) {
 static void wake(int p, struct record *record) {
     struct rank *rank = &ranks[p];
     const struct call *call = &rank->calls[rank->count - 1], *recv = received(rank);
-    rank->is_blocked = 0;
+    note_woken(p);
     if (recv) {
         const struct call *send = &ranks[recv->partner_rank].calls[recv->partner];
         record->was = rank->vars[recv->cell];
@@ -600,7 +699,6 @@ static void undo_wake(int p) {
     struct rank *rank = &ranks[p];
     const struct call *recv = received(rank);
     const struct record *record = &records[depth];
-    rank->is_blocked = 1;
     if (record->handle != NONE) rank->handles[record->handle] = record->held;
     if (!recv) return;
     if (recv->source_cell != NONE) {
@@ -616,6 +714,7 @@ static void apply(const struct step *step) {
     record->step = *step;
     record->cell = record->handle = NONE;
     record->issued = 0;
+    record->able = able;
     switch (step->kind) {
     case LOCAL: local(step->rank, record); return;
     case MATCH: pair(step); return;
@@ -632,11 +731,11 @@ static void undo_local(const struct record *record) {
     int index = rank->count - 1;
     if (rank->calls[index].kind != WAIT) unlink_call(record->step.rank, index);
     rank->count = index;
-    rank->is_blocked = 0;
 }
 
 static void undo(void) {
     const struct record *record = &records[--depth];
+    able = record->able;
     switch (record->step.kind) {
     case LOCAL: undo_local(record); return;
     case MATCH: unpair(&record->step); return;
@@ -677,29 +776,20 @@ static void put_call(int p, int index) {
     put_number(index);
 }
 
-/* The calls that are free, each where `writes` says so; answers whether there is one. */
-static int put_free(int writes) {
-    int has_free = 0;
+static void put_free(void) {
     for (int p = 0; p < rank_count; p++)
         for (int i = 0; i < ranks[p].count; i++)
-            if (ranks[p].calls[i].kind != WAIT && ranks[p].calls[i].partner == NONE) {
-                has_free = 1;
-                if (writes) put_call(p, i);
-            }
-    return has_free;
+            if (ranks[p].calls[i].kind != WAIT && ranks[p].calls[i].partner == NONE) put_call(p, i);
 }
 
 static void put_outcome(void) {
-    int is_deadlock = 0;
-    for (int p = 0; p < rank_count; p++) is_deadlock |= ranks[p].is_blocked;
-    if (is_deadlock) {
+    if (able.blocked) {
         put("deadlock");
         has_found = 1;
-        for (int p = 0; p < rank_count; p++)
-            if (ranks[p].is_blocked) put_call(p, ranks[p].count - 1);
-    } else if (put_free(0)) {
+        for (rank_set left = able.blocked; left; left = without_lowest(left)) put_call(lowest(left), ranks[lowest(left)].count - 1);
+    } else if (awaited | receivers[0] | receivers[1]) {
         put("leftovers");
-        put_free(1);
+        put_free();
     } else {
         put("done");
     }

@@ -20,7 +20,6 @@ use crate::counts::{Tally, tally_of};
 use crate::fault::CheckFault;
 use mpd_code::code::Code;
 use mpd_device::device::Sink;
-use mpd_explore::print::print_report;
 use mpd_lines::engine::EngineFault;
 use mpd_lines::outbox::write_all;
 use mpd_model::call::Mode;
@@ -28,6 +27,7 @@ use mpd_model::limits::STEPS_MAX;
 use mpd_pieces::split::PIECES_MAX;
 use mpd_pool::check::{CheckPlan, PoolFault, WORKERS_MAX};
 use mpd_pool::gate::Gate;
+use mpd_pool::print::print_report;
 use mpd_trail::debugger::Debugger;
 use std::alloc::Global;
 use std::marker::Sync;
@@ -69,7 +69,7 @@ pub(crate) fn put<W: Sink>(told: Told, sink: &mut W) -> Result<Tally, CheckFault
     Ok(told.tally)
 }
 
-/// Explores a script from its start by so many workers, and makes the report's text.
+/// Explores a script from its start by so many workers, and has them make the report's text.
 fn tell<G: Gate, R: Threads + Wait + Sync>(
     rt: &R,
     alloc: Global,
@@ -97,7 +97,7 @@ fn tell<G: Gate, R: Threads + Wait + Sync>(
         }
     };
     drop(debugger);
-    let printed = print_report(alloc, &report);
+    let printed = print_report(rt, alloc, &report, workers);
     let tally = tally_of(&report);
     drop(report);
     match printed {

@@ -19,5 +19,9 @@ abbrev pub lines_told : List (List ℕ) → ℕ → List Leaf → List ℕ
 lines_told texts n [] = []
 lines_told texts n (l ∷ ls) = leaf_line n l ++ numbered_at n (slice_get texts n) ++ lines_told texts (suc n) ls
 
+-- how many leaves there are, and whether there are others
+abbrev pub total_line : List Leaf → Bool → List ℕ
+total_line leaves more = line (codes "leaves " ++ decimal (length leaves) ++ codes " more " ++ more_text more)
+
 abbrev pub told_text : List (List ℕ) → List Leaf → Bool → List ℕ
-told_text texts leaves more = lines_told texts 0 leaves ++ line (codes "leaves " ++ decimal (length leaves) ++ codes " more " ++ more_text more)
+told_text texts leaves more = lines_told texts 0 leaves ++ total_line leaves more

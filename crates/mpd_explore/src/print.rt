@@ -1,6 +1,6 @@
 //! The text of a report (docs/FORMATS.md, "Reports").
 
-ghost use Rattle.std.specs.Prelude.{◌≡◌, ◌∷◌, ◌++◌, ℕ, Bool, List, IfOk, OnOk, map, slice_get, string_bytes};
+ghost use Rattle.std.specs.Prelude.{◌≡◌, ◌<◌, ◌+◌, ◌^◌, ◌∷◌, ◌++◌, ℕ, Bool, List, IfOk, OnOk, length, map, slice_get, string_bytes};
 ghost use Rattle.std.specs.Fmt.{decimal};
 ghost use Rattle.mpd_model.specs.declared.step.Step.{Step};
 ghost use Rattle.mpd_model.specs.World.{World};
@@ -8,7 +8,7 @@ ghost use Rattle.mpd_model.specs.Texts.{step_text, steps_text};
 ghost use Rattle.mpd_explore.specs.Witness.{witness_by};
 ghost use Rattle.mpd_explore.specs.ReportText.{choices_text, ending_text, leaf_line, leaf_text, report_text};
 ghost use Rattle.mpd_explore.specs.WitnessTexts.{behind_number, witness_texts};
-ghost use Rattle.mpd_explore.specs.Printed.{numbered, numbered_at, lines_told, told_text};
+ghost use Rattle.mpd_explore.specs.Printed.{numbered, numbered_at, lines_told, told_text, total_line};
 
 use crate::report::{Ending, Leaf, Report};
 use mpd_model::outcome::Outcome;
@@ -158,16 +158,19 @@ fn push_witness(out: &mut String, number: usize, texts: &[String]) -> Result<(),
     push_numbered(out, number, texts[number].as_str())
 }
 
-/// Adds the lines of all leaves, and of the witnesses that there are texts of.
-fn push_leaves(
+/// Adds the lines of leaves, of which the first has this number, each with the line of its witness, where there is a text of its
+/// number that isn't empty. An `Err` is want of memory.
+pub fn push_leaves(
     alloc: Global,
     out: &mut String,
+    first: usize,
     leaves: &[Leaf],
     texts: &[String],
 ) -> Result<(), AllocError>
-    ensures { OnOk result (string_bytes out.new ≡ string_bytes out.old ++ lines_told (map string_bytes texts.now) 0 leaves.now) }
+    requires { first + length leaves.now < 2 ^ 64 }
+    ensures { OnOk result (string_bytes out.new ≡ string_bytes out.old ++ lines_told (map string_bytes texts.now) first leaves.now) }
 {
-    let mut number = 0;
+    let mut number = first;
     for leaf in leaves {
         push_leaf(alloc, out, number, leaf)?;
         push_witness(out, number, texts)?;
@@ -176,15 +179,22 @@ fn push_leaves(
     Ok(())
 }
 
+/// Adds the last line of a report: how many leaves there are, and whether there are others. An `Err` is want of memory.
+pub fn push_total(out: &mut String, report: &Report) -> Result<(), AllocError>
+    ensures { OnOk result (string_bytes out.new ≡ string_bytes out.old ++ total_line report.now.leaves.items report.now.more) }
+{
+    let count = report.leaves.len();
+    let more = if report.more { "yes" } else { "no" };
+    write!(out, "leaves {count} more {more}\n")
+}
+
 /// A report as text, by the texts that it has.
 fn told(alloc: Global, report: &Report) -> Result<String, AllocError>
     ensures { IfOk result (λ t. string_bytes t ≡ told_text (map string_bytes report.now.witnesses.items) report.now.leaves.items report.now.more) }
 {
     let mut out = String::new(alloc);
-    push_leaves(alloc, &mut out, &report.leaves, &report.witnesses)?;
-    let count = report.leaves.len();
-    let more = if report.more { "yes" } else { "no" };
-    write!(out, "leaves {count} more {more}\n")?;
+    push_leaves(alloc, &mut out, 0, &report.leaves, &report.witnesses)?;
+    push_total(&mut out, report)?;
     Ok(out)
 }
 

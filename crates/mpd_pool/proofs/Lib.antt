@@ -3,3 +3,4 @@ mod Places
 mod Workers
 mod Joined
 mod Crossing
+mod Lines

@@ -5,5 +5,6 @@ pub mod check;
 pub mod deque;
 pub mod gate;
 mod join;
+pub mod print;
 mod slots;
 mod work;
