@@ -42,7 +42,9 @@ class Row(NamedTuple):
     def name(self):
         if self.what:
             return f'{self.call} {self.what}'
-        return ' '.join(f'{self.call} {" ".join(self.lines)[:60]} {self.argument[:60]}'.split())
+        behind = f'behind {len(self.lines)} lines, {self.lines[-1]},' if self.lines else ''
+        script = f"on '{' '.join(self.script.split())[7:60]}'" if self.script else ''
+        return ' '.join(f'{self.call} {self.argument[:60]} {behind} {script}'.split())
 
     @property
     def words(self):
@@ -139,30 +141,22 @@ def printed(row):
     return unchanged(script_text(script), canonical(script).decode() + '\n')
 
 
-def nodes_behind(body, number, behind):
-    """For each statement, in text order from a number on, that of the statement which follows it; and the number behind them all."""
-    found = []
-    ends = []
-    for statement in body:
-        ends.append((number, len(found)))
-        found.append(None)
-        number += 1
-        parts = [statement.then, statement.otherwise] if isinstance(statement, Branch) else []
-        for part in [statement.body] if isinstance(statement, While) else parts:
-            inner, number = nodes_behind(part, number, ends[-1][0] if isinstance(statement, While) else 'next')
-            found += inner
-    for place, (_, index) in enumerate(ends):
-        following = ends[place + 1][0] if place + 1 < len(ends) else behind
-        last = ends[place + 1][1] if place + 1 < len(ends) else len(found)
-        found[index:last] = [following if it is None or it == 'next' else it for it in found[index:last]]
-    return found, number
+def following(body, behind, number_of):
+    """For each statement in text order the number of the one that follows it."""
+    for statement, after in zip(body, [*map(number_of, body[1:]), behind]):
+        yield after
+        if isinstance(statement, Branch):
+            yield from following(statement.then, after, number_of)
+            yield from following(statement.otherwise, after, number_of)
+        elif isinstance(statement, While):
+            yield from following(statement.body, number_of(statement), number_of)
 
 
 def code_text(script):
-    count = len(list(statements_of(script.body)))
-    following, _ = nodes_behind(script.body, 0, count)
+    numbers = {id(statement): number for number, statement in enumerate(statements_of(script.body))}
+    count = len(numbers)
     head = f'nodes {count} start 0 ranks {script.ranks} cells {script.cells} handles {script.handles} decls {len(script.names)}'
-    return line(head) + lines_text(script) + numbered('next', following)
+    return line(head) + lines_text(script) + numbered('next', following(script.body, count, lambda statement: numbers[id(statement)]))
 
 
 def lowered(row):

@@ -64,7 +64,7 @@ def expressions():
             'if x { send 1 to 0 tag 0; } isend r[0] 1 to 2 tag 1; issend r[1] 1 to 2 tag 1; recv x from any tag 1; irecv r[0] x from 1 tag any;\n'
             'wait r[1]; barrier; ssend 2 to 1 tag 2;')
     yield Row('eval', head + body, by_hand=no_state('51 4 8\n'), spares=True)
-    for how, value in (('unary', '-4'), ('binary', '12'), ('element', 'bad-index')):
+    for how, value in (('unary', '-4'), ('binary', '16'), ('element', 'bad-index')):
         yield Row('Expr::unary, element, binary', head + 'print a[0];', argument=how, by_hand=no_state(f'{value}\n'))
     # memory 6, full 4, at-start 8, no-redo 7, not-before 10, not-stuck 9, too-many-pieces 15, bad-workers 11, read-failed 11, expected 8;
     # 23, 22, 24, 25, 26, 33, 31, 35, 45 and 4
@@ -212,7 +212,7 @@ def runs():
         yield Row('decide', script, lines, spares=not can_be_refused)
         yield Row('forced_step', script, lines, spares=True)
     # a choice, with undone steps that the run drops; a breakpoint; as many steps as asked for; an end; none to make
-    yield Row('mpd_policy::run', CHANGES, ('local 1', 'local 1', 'goto 0'), '100')
+    yield Row('mpd_policy::run', CHANGES, ('local 1', 'local 1', 'back', 'back'), '100')
     yield Row('mpd_policy::run', CHANGES, (), '100 change 1 0')
     yield Row('mpd_policy::run', CHANGES, ('local 1',), '3')
     yield Row('mpd_policy::run', MESSAGE, (), '100')

@@ -11,8 +11,9 @@ alone, and with all behind it there. The call must answer as ever, or want of me
 call, made again with memory there, answers as if nothing had been. `trace`, `plain`, `serve` and `run_script` may go on with a line that
 says so in place of an answer. A row of a call that takes no memory has made no request, and says the same where each is refused.
 
-A call of which no row was answered want of memory fails, but for checks by workers, for whom their caller does what they couldn't. The
-status is 0 where every row did one of these, and every call was met.
+A call of which no row was answered want of memory fails, and so does a check by workers in which nothing that a worker was refused was
+made good by its caller. Each public function of the crates is named by some call of the program, or left out for a reason
+(call_coverage.py). The status is 0 where every row did one of these, and every call was met.
 """
 
 import argparse
@@ -27,6 +28,7 @@ from typing import NamedTuple
 
 import refused_memory
 import session_memory
+from call_coverage import not_called
 from call_models import trail_text, wanted
 from call_rows import rows
 from calls_program import Body, TOP, build
@@ -227,7 +229,7 @@ def summary(outcomes):
 
 def report(program, outcomes):
     """Says what is wrong; answers whether nothing is."""
-    wrong = [f'{it.row.name}: {what}' for it in outcomes for what in it.wrong[:3]] + list(unmet(program, outcomes))
+    wrong = [f'{it.row.name}: {what}' for it in outcomes for what in it.wrong[:3]] + [*unmet(program, outcomes), *not_called()]
     for text in wrong:
         print(text)
     print(f'{summary(outcomes)}; {len(wrong)} wrong', flush=True)
