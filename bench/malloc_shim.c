@@ -3,7 +3,8 @@
  * The program writes a line that begins with "mark begin" and one that begins with "mark end"; what it asks for between
  * these two writes is inside, all else is outside. Only growths count: malloc, calloc, realloc and their kin.
  *
- *   SHIM_REPORT=FILE           at the end writes there: inside N outside N refused N
+ *   SHIM_REPORT=FILE           at the end writes there: inside N outside N refused N elsewhere N, the last of them in threads that
+ *                              the program has started
  *   SHIM_REFUSE=inside         refuses all that is asked for inside
  *   SHIM_REFUSE=N              refuses the Nth that is asked for, and all after it
  *   SHIM_REFUSE_ONE=N          refuses the Nth alone
@@ -12,7 +13,7 @@
  */
 /* (no header of the system is read: the kit's compiler comes with none) */
 typedef __SIZE_TYPE__ size_t;
-enum { NO_MEMORY = 12, SYS_WRITE = 1, SYS_EXIT_GROUP = 231, WRITE_ANEW = 01 | 0100 | 01000 };
+enum { NO_MEMORY = 12, SYS_WRITE = 1, SYS_GETPID = 39, SYS_GETTID = 186, SYS_EXIT_GROUP = 231, WRITE_ANEW = 01 | 0100 | 01000 };
 #define NULL ((void *)0)
 
 int *__errno_location(void);
@@ -31,7 +32,7 @@ void *__libc_realloc(void *old, size_t size);
 void *__libc_memalign(size_t alignment, size_t size);
 
 static int is_inside, refuses_inside;
-static unsigned long asked_for, inside, outside, refused, refused_from, refused_one, inside_from, inside_one;
+static unsigned long asked_for, inside, outside, refused, elsewhere, refused_from, refused_one, inside_from, inside_one;
 
 /* One more of what several threads may count. */
 static unsigned long count(unsigned long *counter) {
@@ -53,6 +54,8 @@ static int refuses(void) {
     is_refused |= is_told(count(&asked_for), refused_from, refused_one);
     if (is_refused) {
         count(&refused);
+        if (syscall(SYS_GETTID) != syscall(SYS_GETPID))
+            count(&elsewhere);
         *__errno_location() = NO_MEMORY;
     }
     return is_refused;
@@ -129,7 +132,7 @@ __attribute__((destructor)) static void end(void) {
     int file = report ? open(report, WRITE_ANEW, 0644) : -1;
     if (file < 0)
         return;
-    int size = snprintf(line, sizeof line, "inside %lu outside %lu refused %lu\n", inside, outside, refused);
+    int size = snprintf(line, sizeof line, "inside %lu outside %lu refused %lu elsewhere %lu\n", inside, outside, refused, elsewhere);
     if (syscall(SYS_WRITE, file, line, (size_t)size) != size)
         syscall(SYS_EXIT_GROUP, 70);
     close(file);

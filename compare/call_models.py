@@ -546,7 +546,8 @@ def by_workers(row):
 def asked_of(row, **more):
     """The options of a check by the numbers of the argument behind the first."""
     _, split_by, runs, fuel = row.numbers()[:4]
-    return explorer.USUAL._replace(mode=row.mode, split=split_by, runs=runs, fuel=fuel, witnesses=has(row, 'witnesses'), until=has(row, 'until'), **more)
+    limits = {'runs': runs, 'fuel': fuel, 'witnesses': has(row, 'witnesses'), 'until': has(row, 'until')}
+    return explorer.USUAL._replace(mode=row.mode, split=split_by, **limits, **more)
 
 
 def tally_text(found):
@@ -689,8 +690,9 @@ def requests_served(row):
 
 
 MODELS = {
-    'mpd_script::read': read, 'mpd_script::read of all beginnings': prefixes, 'mpd_script::print': printed, 'mpd_code::lower': lowered, 'mpd_code looks': code_looks,
-    'eval': by_hand, 'Expr::unary, element, binary': by_hand, 'numbers and names': by_hand, 'mpd_trace::read_text': text_read, 'mpd_trace::read_code': code_read, 'mpd_trace::excerpt': by_hand, 'mpd_trace::allowed': by_hand,
+    'mpd_script::read': read, 'mpd_script::read of all beginnings': prefixes, 'mpd_script::print': printed, 'mpd_code::lower': lowered,
+    'mpd_code looks': code_looks, 'eval': by_hand, 'Expr::unary, element, binary': by_hand, 'numbers and names': by_hand,
+    'mpd_trace::read_text': text_read, 'mpd_trace::read_code': code_read, 'mpd_trace::excerpt': by_hand, 'mpd_trace::allowed': by_hand,
     'Tape::filled': by_hand, 'Tape::keep_room': by_hand, 'Tape::copy': by_hand, 'Tape changes': by_hand,
     'Lists::new': by_hand, 'Lists::keep_room': by_hand, 'Lists::copy': by_hand, 'Lists changes': by_hand,
     'Board::new': board_made, 'Board::copy': board_copied, 'Board::keep_room': board_room, 'Board::why': why_told,

@@ -49,6 +49,8 @@ def scripts():
         yield Row('mpd_code::lower', script)
     for script in (MESSAGE, WHOLE):
         yield Row('mpd_code looks', script, spares=True)
+    for script, what in ((MESSAGE, 'a message'), (WHOLE, 'all statements')):
+        yield Row('mpd_script::read of all beginnings', script, most=0, what=what)
     yield Row('mpd_trace::read_text', MESSAGE)
     yield Row('mpd_trace::excerpt', MISSING, argument='24', by_hand=no_state('  print 2;\n  ^\n\n'))
     yield Row('mpd_trace::allowed', MISSING, argument='24',
@@ -292,7 +294,8 @@ SPARED = (
 # Replies that have lists, and some that have none.
 WITH_LISTS = ('{"cmd":"enabled"}', '{"cmd":"state"}', '{"cmd":"calls","rank":0}', '{"cmd":"vars","rank":0}', '{"cmd":"why","rank":0,"call":0}',
               '{"cmd":"explore","runs":10,"fuel":100}')
-WITHOUT = ('{"cmd":"step","step":"match 2.0 0.0"}', '{"cmd":"back","count":1}', '{"cmd":"state","at":9}', '{"cmd":"next","choice":0}', '{"cmd":"next"}')
+WITHOUT = ('{"cmd":"step","step":"match 2.0 0.0"}', '{"cmd":"back","count":1}', '{"cmd":"state","at":9}', '{"cmd":"next","choice":0}',
+           '{"cmd":"next"}')
 LINES = ('{"cmd":"state"}', '{"cmd":"step","step":"local 0"}', '{"cmd":"explore","runs":3,"fuel":9,"at":0}', 'x', '{"cmd":"fly"}', '{"cmd":"back"}',
          '{"cmd":["a",{"b":"c"}]}')
 

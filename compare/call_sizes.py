@@ -7,7 +7,7 @@ over all.
 import glob
 import os
 
-from call_models import Row
+from call_models import Row, no_state
 from debugger import BUFFERED
 
 EXAMPLES = os.path.join(os.path.dirname(os.path.abspath(__file__)), '..', 'examples')
@@ -20,7 +20,8 @@ LARGEST = 'mpd 1; ranks 16; var a[1024]; req r[256];\nprint a[0];'
 LONG = 'mpd 1; ranks 1; var x;\nwhile x < 2000 { x = x + 1; }\nrecv x from 0 tag 0;'
 SIX = ('mpd 1; ranks 6; var x; var i;\n'
        'if rank == 0 { while i < 5 { recv x from any tag any; i = i + 1; } recv x from 1 tag 9; } else { send rank to 0 tag 0; }')
-FIFTEEN = 'mpd 1; ranks 16; var x; req r[20];\nif rank == 0 { irecv r[0] x from any tag any; recv x from any tag 7; } else { isend r[rank] rank to 0 tag 0; }'
+FIFTEEN = ('mpd 1; ranks 16; var x; req r[20];\n'
+           'if rank == 0 { irecv r[0] x from any tag any; recv x from any tag 7; } else { isend r[rank] rank to 0 tag 0; }')
 ENDLESS = 'mpd 1; ranks 1;\nwhile 1 { }'
 
 HEAD = 'mpd 1; ranks 2; var x; req r;\n'
@@ -29,7 +30,8 @@ STATEMENTS = {
     'assignments': ('x = x + 1;', 1), 'prints': ('print -x;', 1), 'assertions': ('assert x;', 1), 'sends': ('send 1 to 0 tag x;', 1),
     'synchronous sends': ('ssend 1 to 0 tag x;', 1), 'sends with handles': ('isend r x to 0 tag 1;', 1),
     'synchronous sends with handles': ('issend r x to 0 tag 1;', 1), 'receives': ('recv x from any tag any status x x;', 1),
-    'receives with handles': ('irecv r x from 1 tag any;', 1), 'waits': ('wait r;', 1), 'barriers': ('barrier;', 1), 'branches': ('if x { x = 1; }', 2),
+    'receives with handles': ('irecv r x from 1 tag any;', 1), 'waits': ('wait r;', 1), 'barriers': ('barrier;', 1),
+    'branches': ('if x { x = 1; }', 2),
     'branches with an else': ('if x { } else { x = 1; }', 2), 'loops': ('while x { x = 0; }', 2)}
 
 
@@ -52,7 +54,7 @@ def scripts():
     for what, (statement, count) in STATEMENTS.items():
         text = filled(statement, count)
         assert len(text) == BYTES
-        for call in ('mpd_script::read', 'mpd_script::print', 'mpd_code::lower'):
+        for call in ('mpd_script::read', 'mpd_script::print', 'mpd_code::lower', 'mpd_trace::read_code'):
             yield Row(call, text, most=FEW, what=f'65,536 bytes of {what}')
     deepest = nested(64, 64)
     for call in ('mpd_script::read', 'mpd_script::print', 'mpd_code::lower'):
@@ -67,13 +69,18 @@ def scripts():
 def starts():
     for call in ('Core::start', 'Debugger::start', 'Session::start'):
         yield Row(call, LARGEST, what='16 ranks with all cells and handles')
+    yield Row('TraceDesk::start', LARGEST, by_hand=no_state('started\n'), what='16 ranks with all cells and handles')
+    blocked = tuple(f'local {rank}' for rank in range(16))
+    for call in ('Core::outcome', 'Core::ending', 'print_outcome', 'decide'):
+        yield Row(call, 'mpd 1; ranks 16; var x;\nrecv x from 0 tag 0;', blocked, what='16 blocked ranks')
     steps = ('local 0',) * 9000
     for call in ('Debugger::copy', 'Core::copy', 'Core::keep_room', 'Debugger::keep_room'):
         yield Row(call, ENDLESS, steps, most=FEW, what='9,000 steps')
     yield Row('Core::copy', LARGEST, tuple(f'local {rank}' for rank in range(16)), what='16 ranks with all cells and handles')
     yield Row('mpd_trace::show', LARGEST, tuple(f'local {rank}' for rank in range(16)), most=FEW, what='16 ranks with all cells and handles')
     yield Row('mpd_policy::run', ENDLESS, ('local 0', 'back'), '20000', most=FEW)
-    yield Row('mpd_trail::replay', ENDLESS, ('local 0', 'back', 'redo') * 2000, most=FEW, what='6,000 commands')
+    for call in ('mpd_trail::follow', 'mpd_trail::replay'):
+        yield Row(call, ENDLESS, ('local 0', 'back', 'redo') * 2000, most=FEW, what='6,000 commands')
 
 
 def to_the_end():
@@ -108,7 +115,8 @@ def sessions():
         for call in ('Session::answer', 'mpd_wire::print', 'Reply::copy', 'Book::take', 'Shared::call'):
             yield Row(call, FIFTEEN, lines, request, BUFFERED, most=FEW, what=f'of 16 ranks {request}')
     steps = tuple(f'local {rank}' for rank in range(16) for _ in range(2))
-    for call, argument in (('Core::enabled', ''), ('mpd_trace::listed', ''), ('decide', ''), ('Board::push_matches', 'all'), ('Board::why', '0.0'), ('Board::copy', '')):
+    for call, argument in (('Core::enabled', ''), ('mpd_trace::listed', ''), ('decide', ''), ('Board::push_matches', 'all'), ('Board::why', '0.0'),
+                           ('Board::copy', '')):
         yield Row(call, FIFTEEN, (*steps, 'local 0'), argument, most=FEW, what=f'of 16 ranks {argument}')
     yield Row('mpd_wire::parse', ENDLESS, (), '{"cmd":' + '[' * 100 + ']' * 100 + ' ' * 3889 + '}', most=FEW, what='4,096 bytes')
 

@@ -17,6 +17,7 @@ made good by its caller. Each public function of the crates is named by some cal
 """
 
 import argparse
+import itertools
 import os
 import re
 import subprocess
@@ -42,16 +43,20 @@ SECONDS = 60
 BY_LINES = ('mpd_trail::follow', 'trace', 'plain', 'plain_keeping', 'serve', 'run_script')
 # What threads ask for isn't the same each time, and what a worker is refused its caller does.
 BY_WORKERS = ('mpd_pool::check', 'mpd_check::check')
+# Of the reports that the shim writes, each run has its own.
+NUMBERS = itertools.count()
 SECTION = re.compile(r'^= (state|answer|memory|end)\n', re.M)
 MARKS = re.compile(r'^mark (?:begin|end)\n', re.M)
 
 
 class Seen(NamedTuple):
-    """A run of a row: its status, its sections by name and text, and how often it asked between the marks and was refused."""
+    """A run of a row: its status, its sections by name and text, how often it asked between the marks, and was refused; and of these
+    how often in another thread."""
     status: int
     sections: tuple
     inside: int
     refused: int
+    elsewhere: int
 
     @property
     def names(self):
@@ -69,16 +74,16 @@ def sections_of(output):
 
 def run(program, shim, row, folder, **refuse):
     """A run of a row in which the shim refuses what the words say."""
-    report = tempfile.mktemp(dir=folder)
+    report = f'{folder}/report-{next(NUMBERS)}'
     environment = {**os.environ, 'LD_PRELOAD': shim, 'SHIM_REPORT': report, **refuse}
     ended = subprocess.run([program, *row.words], stdin=subprocess.DEVNULL, capture_output=True, env=environment, timeout=SECONDS)
-    counts = (0, 0, 0)
+    counts = (0, 0, 0, 0)
     if os.path.exists(report):
         with open(report, encoding='ascii') as file:
             counts = tuple(map(int, re.findall(r'\d+', file.read())))
         os.remove(report)
-    inside, _, refused = counts
-    return Seen(ended.returncode, sections_of(ended.stdout.decode('ascii', 'replace')), inside, refused)
+    inside, _, *refused = counts
+    return Seen(ended.returncode, sections_of(ended.stdout.decode('ascii', 'replace')), inside, *refused)
 
 
 def told(sound):
@@ -134,7 +139,7 @@ def problem_by_lines(row, seen, sound):
 def problem(row, seen, sound):
     """What is wrong with a run in which a request was refused; None where nothing is."""
     if seen.status:
-        return f'status {seen.status}'
+        return sound_problem(seen, sound)
     if 'memory' in seen.names:
         return 'want of memory in place of a refusal' if row.steady else difference(seen.sections, told_again(sound))
     return problem_by_lines(row, seen, sound) if row.call in BY_LINES else difference(seen.sections, told(sound))
@@ -156,7 +161,8 @@ class Outcome(NamedTuple):
 
 def sound_problem(seen, sound):
     """What is wrong with a run that must be answered as ever."""
-    return f'status {seen.status}' if seen.status else difference(seen.sections, told(sound))
+    what = difference(seen.sections, told(sound))
+    return f'status {seen.status}, {what}' if seen.status else what
 
 
 def try_spared(row, first, sound, again):
@@ -174,20 +180,27 @@ def chosen(count, most):
     return sorted({1 + (count - 1) * place // (most - 1) for place in range(most)})
 
 
+def has_workers(row):
+    """Whether it is by several workers, of several pieces."""
+    return row.call in BY_WORKERS and row.numbers()[0] > 1 and row.numbers()[1] > 0
+
+
 def refuse_each(row, first, sound, again):
     """Each request of a call refused, alone and with all behind it."""
-    wrong, kinds = [], Counter()
+    wrong, kinds, by_worker = [], Counter(), Counter()
     for variable in ('SHIM_REFUSE_INSIDE_ONE', 'SHIM_REFUSE_INSIDE'):
         for number in chosen(first.inside, row.most):
             seen = again(**{variable: str(number)})
             kinds[kind_of(seen, sound) if seen.refused else 'not refused'] += 1
+            if seen.refused == seen.elsewhere > 0:
+                by_worker['memory' in seen.names] += 1
             what = problem(row, seen, sound)
             if what is None and not seen.refused and row.call not in BY_WORKERS:
                 what = 'nothing was refused'
             if what:
                 wrong.append(f'{variable}={number}: {what}')
-    if row.call in BY_WORKERS and kinds.total() and int(row.argument.split()[0]) > 1 and row.numbers()[1] and not kinds['answered']:
-        wrong.append('no piece of a worker that was refused memory was made good')
+    if has_workers(row) and by_worker[False] <= by_worker[True]:
+        wrong.append(f'of what workers alone were refused {by_worker[False]} times the caller did it, and {by_worker[True]} times it was want of memory')
     return Outcome(row, tuple(wrong), kinds, first.inside)
 
 
@@ -236,6 +249,13 @@ def report(program, outcomes):
     return not wrong
 
 
+def report_rows(outcomes):
+    """Says what came of each row; answers whether nothing is wrong."""
+    for it in outcomes:
+        print(f'{it.row.name}: {it.inside} requests, {dict(it.kinds)}', *it.wrong, sep='\n  ')
+    return not any(it.wrong for it in outcomes)
+
+
 def planted(folder, jobs):
     """Whether each wrong body is noticed, by the row that it names, with the words that it names."""
     bodies = [Body(f'{BODIES}/{name}') for name in sorted(os.listdir(BODIES))]
@@ -266,7 +286,7 @@ def main():
         if not chosen.program:
             build(program)
         outcomes = tried(program, [row for row in rows() if chosen.call in (None, row.call)], chosen.jobs)
-        is_well = report(program, outcomes) if chosen.call is None else not any(print(it.row.name, it.inside, it.kinds, *it.wrong, sep='\n  ') or it.wrong for it in outcomes)
+        is_well = report(program, outcomes) if chosen.call is None else report_rows(outcomes)
         if chosen.planted:
             is_well = planted(folder, chosen.jobs) and is_well
     return 0 if is_well else 1
