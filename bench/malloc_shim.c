@@ -3,14 +3,17 @@
  * The program writes a line that begins with "mark begin" and one that begins with "mark end"; what it asks for between
  * these two writes is inside, all else is outside. Only growths count: malloc, calloc, realloc and their kin.
  *
- *   SHIM_REPORT=FILE    at the end writes there: inside N outside N refused N
- *   SHIM_REFUSE=inside  refuses all that is asked for inside
- *   SHIM_REFUSE=N       refuses the Nth that is asked for, and all after it
- *   SHIM_REFUSE_ONE=N   refuses the Nth alone
+ *   SHIM_REPORT=FILE           at the end writes there: inside N outside N refused N elsewhere N, the last of them in threads that
+ *                              the program has started
+ *   SHIM_REFUSE=inside         refuses all that is asked for inside
+ *   SHIM_REFUSE=N              refuses the Nth that is asked for, and all after it
+ *   SHIM_REFUSE_ONE=N          refuses the Nth alone
+ *   SHIM_REFUSE_INSIDE=N       refuses the Nth that is asked for inside, and all after it inside
+ *   SHIM_REFUSE_INSIDE_ONE=N   refuses the Nth inside alone
  */
 /* (no header of the system is read: the kit's compiler comes with none) */
 typedef __SIZE_TYPE__ size_t;
-enum { NO_MEMORY = 12, SYS_WRITE = 1, SYS_EXIT_GROUP = 231, WRITE_ANEW = 01 | 0100 | 01000 };
+enum { NO_MEMORY = 12, SYS_WRITE = 1, SYS_GETPID = 39, SYS_GETTID = 186, SYS_EXIT_GROUP = 231, WRITE_ANEW = 01 | 0100 | 01000 };
 #define NULL ((void *)0)
 
 int *__errno_location(void);
@@ -29,20 +32,30 @@ void *__libc_realloc(void *old, size_t size);
 void *__libc_memalign(size_t alignment, size_t size);
 
 static int is_inside, refuses_inside;
-static unsigned long asked_for, inside, outside, refused, refused_from, refused_one;
+static unsigned long asked_for, inside, outside, refused, elsewhere, refused_from, refused_one, inside_from, inside_one;
 
 /* One more of what several threads may count. */
 static unsigned long count(unsigned long *counter) {
     return __atomic_add_fetch(counter, 1, __ATOMIC_SEQ_CST);
 }
 
+/* Whether a number is that of the one that is refused, or not below the first of those that are. */
+static int is_told(unsigned long number, unsigned long from, unsigned long one) {
+    return (from && number >= from) || number == one;
+}
+
 /* Counts one request; whether it is to be refused. */
 static int refuses(void) {
-    count(is_inside ? &inside : &outside);
-    unsigned long number = count(&asked_for);
-    int is_refused = (is_inside && refuses_inside) || (refused_from && number >= refused_from) || number == refused_one;
+    int is_refused = 0;
+    if (is_inside)
+        is_refused = is_told(count(&inside), inside_from, inside_one) || refuses_inside;
+    else
+        count(&outside);
+    is_refused |= is_told(count(&asked_for), refused_from, refused_one);
     if (is_refused) {
         count(&refused);
+        if (syscall(SYS_GETTID) != syscall(SYS_GETPID))
+            count(&elsewhere);
         *__errno_location() = NO_MEMORY;
     }
     return is_refused;
@@ -96,15 +109,21 @@ long __write(int file, const void *data, size_t size) {
     return write(file, data, size);
 }
 
+/* The number that a variable of the environment has; 0 where there is none. */
+static unsigned long number_in(const char *name) {
+    const char *text = getenv(name);
+    return text ? strtoul(text, NULL, 10) : 0;
+}
+
 __attribute__((constructor)) static void begin(void) {
     const char *asked = getenv("SHIM_REFUSE");
     if (asked && strcmp(asked, "inside") == 0)
         refuses_inside = 1;
     else if (asked)
         refused_from = strtoul(asked, NULL, 10);
-    const char *one = getenv("SHIM_REFUSE_ONE");
-    if (one)
-        refused_one = strtoul(one, NULL, 10);
+    refused_one = number_in("SHIM_REFUSE_ONE");
+    inside_from = number_in("SHIM_REFUSE_INSIDE");
+    inside_one = number_in("SHIM_REFUSE_INSIDE_ONE");
 }
 
 __attribute__((destructor)) static void end(void) {
@@ -113,7 +132,7 @@ __attribute__((destructor)) static void end(void) {
     int file = report ? open(report, WRITE_ANEW, 0644) : -1;
     if (file < 0)
         return;
-    int size = snprintf(line, sizeof line, "inside %lu outside %lu refused %lu\n", inside, outside, refused);
+    int size = snprintf(line, sizeof line, "inside %lu outside %lu refused %lu elsewhere %lu\n", inside, outside, refused, elsewhere);
     if (syscall(SYS_WRITE, file, line, (size_t)size) != size)
         syscall(SYS_EXIT_GROUP, 70);
     close(file);

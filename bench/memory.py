@@ -47,7 +47,7 @@ def run(program, shim, folder, refuse=None):
         os.remove(report)
     ended = subprocess.run([program], stdin=subprocess.DEVNULL, capture_output=True, env=environment, timeout=120)
     with open(report, encoding='utf-8') as it:
-        counts = re.fullmatch(r'inside (\d+) outside (\d+) refused (\d+)\n', it.read())
+        counts = re.fullmatch(r'inside (\d+) outside (\d+) refused (\d+) elsewhere \d+\n', it.read())
     return ended.returncode, ended.stdout, *map(int, counts.groups())
 
 

@@ -202,7 +202,7 @@ class Shim(NamedTuple):
         environment = {'LD_PRELOAD': self.path, 'SHIM_REPORT': self.report, **refused}
         result = run_at_once(program, data, SECONDS, environment, words)
         with open(self.report, encoding='ascii') as file:
-            inside, outside, count = map(int, re.findall(r'\d+', file.read()))
+            inside, outside, count, _ = map(int, re.findall(r'\d+', file.read()))
         return result, inside + outside, count
 
 

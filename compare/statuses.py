@@ -20,6 +20,7 @@ import sys
 import tempfile
 import time
 
+from call_sizes import nested
 from connection_statuses import ROWS as CONNECTION_ROWS
 from debugger import MOST_READS, MOST_STEPS, RENDEZVOUS, Debugger, Result, Step, answer, answer_packets
 from device_statuses import ROWS as DEVICE_ROWS
@@ -506,6 +507,10 @@ def stack_rows(program):
             with soft_limit(resource.RLIMIT_STACK, STACK_KIB << 10):
                 result = Files(file_of(data)).run(program)
             yield f'{block} {opening} on {STACK_KIB} KiB', result, answer(data)
+    data = nested(MOST_OPEN_BLOCKS, MOST_OPERATORS).encode() + b'\n---\n' + b'local 0\n' * 100 + b'show\n'
+    with soft_limit(resource.RLIMIT_STACK, STACK_KIB << 10):
+        result = Files(file_of(data)).run(program)
+    yield f'100 steps of the innermost of as many loops on {STACK_KIB} KiB', result, answer(data)
 
 
 def much_rows(program):

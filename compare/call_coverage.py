@@ -1,0 +1,42 @@
+"""Which public functions of the crates the program of calls (compare/probe/memory/) names, by their names, and which are left out and why."""
+
+import glob
+import os
+import re
+
+from calls_program import SOURCES, TOP
+
+# Crates without code of their own, and programs and tests.
+NO_CALLS = ('mpd_laws', 'mpd_meaning', 'mpd_complete', 'mpd_rows', 'mpd_tests', 'mpd_bench', 'mpdbg')
+LEFT_OUT = {
+    'mpd_lines': {'run_behind': 'called by trace, plain and serve', 'push_all': 'of room that is kept, called by them'},
+    'mpd_trace': {'finish': 'called by plain'},
+    'mpd_rank': {'anew': 'of a record, called by a step that is taken again'},
+    'mpd_device': {'into_inner': 'of a device that fails', 'tick': 'a counter without bytes'},
+    'mpd_queue': {'disjoint': 'a law'},
+    'mpd_policy': {'decisions_can_be_followed': 'a law'}, 'mpd_model': {'lines_lose_nothing': 'a law'},
+    'mpd_check': {'written_witness_is_read': 'a law'},
+    'mpd_pieces': dict.fromkeys(('pieces_join_to_the_walk', 'each_piece_is_reached', 'no_choice_is_the_whole', 'no_more_is_the_whole'), 'a law')}
+
+
+def text_of(path):
+    with open(path, encoding='utf-8') as file:
+        return file.read()
+
+
+def public_names():
+    """The crate and the name of each public function: those of types, and those of modules that others see."""
+    for lib in sorted(glob.glob(f'{TOP}/crates/*/src/lib.rt')):
+        crate, modules = lib.split('/')[-3], {'lib', *re.findall(r'^pub mod (\w+);', text_of(lib), re.M)}
+        for path in glob.glob(f'{os.path.dirname(lib)}/*.rt') if crate not in NO_CALLS else ():
+            is_seen = os.path.basename(path).removesuffix('.rt') in modules
+            yield from ((crate, name) for indent, name in re.findall(r'^( *)pub fn (\w+)', text_of(path), re.M) if is_seen or indent)
+
+
+def not_called():
+    """The public functions that no row can call, and that aren't left out for a reason; and those left out that aren't there."""
+    words = {word for path in glob.glob(f'{SOURCES}/*.rattle') for word in re.findall(r'\w+', text_of(path))}
+    names = set(public_names())
+    yield from (f'{crate}: {name}: no row calls it' for crate, name in sorted(names) if name not in words and name not in LEFT_OUT.get(crate, {}))
+    left_out = {(crate, name) for crate, of_crate in LEFT_OUT.items() for name in of_crate}
+    yield from (f'{crate}: {name}: left out, and not there' for crate, name in sorted(left_out - names))
