@@ -233,18 +233,13 @@ apart_matches false true s r t q e f recvs sends = let a = sends f in let b = sa
 apart_matches false false s r t q e f recvs sends = inr (λ i. not (e i) && not (f i))
 
 same_or_apart : (w : World) (a b : Step) (u v : World) → is_open_match w.board a ≡ false → next w a ≡ Some u → next w b ≡ Some v → (a ≡ b) ⊎ (apart a b ≡ true)
-same_or_apart w (Local p) b u v named e f = inr refl
-same_or_apart w (Wake p) b u v named e f = inr refl
-same_or_apart w Release b u v named e f = inr refl
-same_or_apart w (Match s r) (Local q) u v named e f = inr refl
-same_or_apart w (Match s r) (Wake q) u v named e f = inr refl
-same_or_apart w (Match s r) Release u v named e f = inr refl
 same_or_apart w (Match s r) (Match t q) u v named e f =
     let m = match_step w s r u e in
     let n = match_step w t q v f in
     apart_matches (id_eq s t) (id_eq r q) s r t q refl refl
     (λ is. same_recv w.board s r q m.0 (ap (λ (c : CallId). eligible w.board c q) (same_id s t is) ∙ n.0))
     (λ is. same_send w.board s t r named m.0 (ap (λ (c : CallId). eligible w.board t c) (same_id r q is) ∙ n.0))
+same_or_apart w a b u v named e f = inr refl
 
 -- Any other enabled step can be taken before it or behind it.
 pub steady : (w : World) → Known w.board → (a b : Step) (u v : World) → is_open_match w.board a ≡ false → next w a ≡ Some u → next w b ≡ Some v → SameOrJoins u v a b

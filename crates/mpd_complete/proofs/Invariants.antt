@@ -102,7 +102,5 @@ start_sound s mode = record {
 
 -- a step that nobody has to choose stays so
 pub stays_named : (w : World) (a b : Step) (u v : World) → next w a ≡ Some u → next w b ≡ Some v → is_open_match w.board a ≡ false → is_open_match v.board a ≡ false
-stays_named w (Local p) b u v e f h = refl
-stays_named w (Wake p) b u v e f h = refl
-stays_named w Release b u v e f h = refl
 stays_named w (Match s r) b u v e f h = ap takes_any ((keeps w b v f).later.kinds r (recv_known w.board s r (match_step w s r u e).0)) ∙ h
+stays_named w a b u v e f h = refl

@@ -7,7 +7,7 @@ use Rattle.mpd_model.specs.declared.step.CallId.{CallId}
 use Rattle.mpd_model.specs.declared.step.Step.TheVariants.{Local, Wake}
 use Rattle.mpd_model.specs.declared.call.Call.{Call}
 use Rattle.mpd_model.specs.declared.call.CallKind.{CallKind}
-use Rattle.mpd_model.specs.declared.call.CallKind.TheVariants.{Send, Recv, Wait, Barrier}
+use Rattle.mpd_model.specs.declared.call.CallKind.TheVariants.{Wait}
 use Rattle.mpd_model.specs.declared.call.MatchSet.{MatchSet}
 use Rattle.mpd_model.specs.declared.call.MatchSet.TheVariants.{Pair, Woke}
 use Rattle.mpd_model.specs.World.{World, Board, RankWorld, call_id, listed_calls, calls_of, kind_of, kind_at, partner, is_barrier, is_buffered, is_done, message_of, awaited_by, awaited, complete_by, complete, last_call}
@@ -128,10 +128,7 @@ complete_beside b e q h i (Some (Wait t)) = target t.target
     target : (o : Option ℕ) → complete_by e (option_map (call_id q) o) ≡ complete_by b (option_map (call_id q) o)
     target None = refl
     target (Some j) = done_beside b e q h j
-complete_beside b e q h i (Some (Send s)) = done_beside b e q h i
-complete_beside b e q h i (Some (Recv r)) = done_beside b e q h i
-complete_beside b e q h i (Some Barrier) = done_beside b e q h i
-complete_beside b e q h i None = done_beside b e q h i
+complete_beside b e q h i k = done_beside b e q h i
 
 complete_at : (b e : Board) (q : ℕ) → Beside b e q → (i : ℕ) → complete e (call_id q i) ≡ complete b (call_id q i)
 complete_at b e q h i =
@@ -153,10 +150,7 @@ writes_beside b e q h all i (Some (Wait t)) = target t.target
     target : (o : Option ℕ) → writes_by e (option_map (call_id q) o) ≡ writes_by b (option_map (call_id q) o)
     target None = refl
     target (Some j) = writes_at b e q h all j
-writes_beside b e q h all i (Some (Send s)) = writes_at b e q h all i
-writes_beside b e q h all i (Some (Recv r)) = writes_at b e q h all i
-writes_beside b e q h all i (Some Barrier) = writes_at b e q h all i
-writes_beside b e q h all i None = writes_at b e q h all i
+writes_beside b e q h all i k = writes_at b e q h all i
 
 -- what a wake is of
 record WakesAlike (w v : World) (q : ℕ) : Type 0 where

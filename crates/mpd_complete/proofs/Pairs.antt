@@ -6,7 +6,7 @@ use Rattle.mpd_model.specs.declared.step.CallId.{CallId}
 use Rattle.mpd_model.specs.declared.step.Step.TheVariants.{Match, Wake}
 use Rattle.mpd_model.specs.declared.call.Call.{Call}
 use Rattle.mpd_model.specs.declared.call.CallKind.{CallKind}
-use Rattle.mpd_model.specs.declared.call.CallKind.TheVariants.{Send, Recv, Wait, Barrier}
+use Rattle.mpd_model.specs.declared.call.CallKind.TheVariants.{Send, Recv}
 use Rattle.mpd_model.specs.declared.call.Mode.{Mode}
 use Rattle.mpd_model.specs.declared.call.Mode.TheVariants.{Buffered}
 use Rattle.mpd_model.specs.declared.call.Message.{Message}
@@ -114,10 +114,7 @@ same_id c d e =
 
 pub no_both : (k : Option CallKind) (q : ℕ) → sends_to k q ≡ true → receives k ≡ true → ⊥
 no_both (Some (Send s)) q e f = cc
-no_both (Some (Recv r)) q e f = cc
-no_both (Some (Wait t)) q e f = cc
-no_both (Some Barrier) q e f = cc
-no_both None q e f = cc
+no_both k q e f = cc
 
 pub is_send : (b : Board) (s r : CallId) → eligible b s r ≡ true → sends_to (kind_at b s) r.rank ≡ true
 is_send b s r e = (fitting_send (kind_at b s) (kind_at b r) s.rank r.rank (agrees b s r e).fit).0
@@ -225,10 +222,7 @@ one_recv b s p i j e f =
 
 sends_once : (k : Option CallKind) (p q : ℕ) → sends_to k p ≡ true → sends_to k q ≡ true → p ≡ q
 sends_once (Some (Send s)) p q e f = sym (eqb-true s.to p e) ∙ eqb-true s.to q f
-sends_once (Some (Recv r)) p q e f = absurd (cc)
-sends_once (Some (Wait t)) p q e f = absurd (cc)
-sends_once (Some Barrier) p q e f = absurd (cc)
-sends_once None p q e f = absurd (cc)
+sends_once k p q e f = absurd (cc)
 
 pub same_recv : (b : Board) (s r q : CallId) → eligible b s r ≡ true → eligible b s q ≡ true → r ≡ q
 same_recv b s r q e f =

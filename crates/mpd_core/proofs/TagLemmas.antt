@@ -4,7 +4,7 @@ use Rattle.std.specs.List.{range_with_len}
 use Rattle.mpd_model.specs.declared.limits.TheConstants.{RANKS_MAX}
 use Rattle.mpd_model.specs.declared.call.Call.{Call}
 use Rattle.mpd_model.specs.declared.call.CallKind.{CallKind}
-use Rattle.mpd_model.specs.declared.call.CallKind.TheVariants.{Send, Recv, Wait, Barrier}
+use Rattle.mpd_model.specs.declared.call.CallKind.TheVariants.{Send}
 use Rattle.mpd_model.specs.declared.call.Message.{Message}
 use Rattle.mpd_model.specs.declared.call.Mode.{Mode}
 use Rattle.mpd_model.specs.declared.step.CallId.{CallId}
@@ -81,11 +81,8 @@ rank_there (calls ∷ all) zero i k e = omega arith
 rank_there (calls ∷ all) (suc p) i k e = omega (arith, rank_there all p i k e)
 
 message_by : (d : CallId) (o : Option CallKind) → HasTag o → ((k : CallKind) → o ≡ Some k → d.rank < RANKS_MAX) → IfSome (message_of d o) IsMessage
-message_by d None h there = tt
 message_by d (Some (Send s)) h there = (there (Send s) refl, h)
-message_by d (Some (Recv r)) h there = tt
-message_by d (Some (Wait t)) h there = tt
-message_by d (Some Barrier) h there = tt
+message_by d o h there = tt
 
 got_by : (b : Board) (o : Option CallId) → HasTags b → length b.calls < suc RANKS_MAX → IfSome (option_and_then (λ d. message_of d (kind_at b d)) o) IsMessage
 got_by b None tags few = tt

@@ -5,7 +5,7 @@ use Rattle.std.proofs.lemmas.Bool.Decides.{eqb_tells}
 use Rattle.mpd_model.specs.declared.step.CallId.{CallId}
 use Rattle.mpd_model.specs.declared.call.Call.{Call}
 use Rattle.mpd_model.specs.declared.call.CallKind.{CallKind}
-use Rattle.mpd_model.specs.declared.call.CallKind.TheVariants.{Send, Recv, Wait, Barrier}
+use Rattle.mpd_model.specs.declared.call.CallKind.TheVariants.{Barrier}
 use Rattle.mpd_model.specs.declared.call.MatchSet.{MatchSet}
 use Rattle.mpd_model.specs.declared.call.MatchSet.TheVariants.{Pair, Woke}
 use Rattle.mpd_model.specs.declared.call.MatchSet.TheVariants as set
@@ -220,10 +220,8 @@ no_calls_free : (o : Option RankWorld) → held_by o [] ≡ 0
 no_calls_free o = ap one_if (and_false (waits o))
 
 barrier_blocks : (k : CallKind) → (blocks k && is_barrier (Some k)) ≡ is_barrier (Some k)
-barrier_blocks (Send s) = and_false s.blocks
-barrier_blocks (Recv r) = and_false r.blocks
-barrier_blocks (Wait t) = refl
 barrier_blocks Barrier = refl
+barrier_blocks k = and_false (blocks k)
 
 -- a rank that has just issued a call is blocked on it where that is a barrier
 held_last : (after : RankWorld) (calls : List Call) (c : Call) → is_blocked after.activity ≡ blocks c.kind → held_by (Some after) (calls ++ c ∷ []) ≡ one_if (is_barrier (Some c.kind))

@@ -7,7 +7,7 @@ use Rattle.std.specs.Cmp.Derive.{both_true}
 use Rattle.std.specs.Option.{option_map}
 use Rattle.mpd_model.specs.declared.step.CallId.{CallId}
 use Rattle.mpd_model.specs.declared.call.CallKind.{CallKind}
-use Rattle.mpd_model.specs.declared.call.CallKind.TheVariants.{Send, Recv, Wait, Barrier}
+use Rattle.mpd_model.specs.declared.call.CallKind.TheVariants.{Wait}
 use Rattle.mpd_model.specs.declared.call.Mode.{Mode}
 use Rattle.mpd_model.specs.declared.call.Mode.TheVariants.{Rendezvous, Buffered}
 use Rattle.mpd_model.specs.declared.call.MatchSet.{MatchSet}
@@ -101,10 +101,7 @@ awaits_done b c i (Some (Wait t)) e f = target t.target e f
     target : (o : Option ℕ) → complete_by b (option_map (call_id c.rank) o) ≡ true → is_number o i ≡ true → is_done b (call_id c.rank i) ≡ true
     target None e f = absurd (cc)
     target (Some j) e f = ap (λ (n : ℕ). is_done b (call_id c.rank n)) (sym (eqb-true j i f)) ∙ e
-awaits_done b c i (Some (Send s)) e f = absurd (cc)
-awaits_done b c i (Some (Recv r)) e f = absurd (cc)
-awaits_done b c i (Some Barrier) e f = absurd (cc)
-awaits_done b c i None e f = absurd (cc)
+awaits_done b c i k e f = absurd (cc)
 
 awaited_done : (b : Board) (c : CallId) → complete b c ≡ true → complete_by b (awaited_by c (kind_at b c)) ≡ true
 awaited_done b c e = (both_of (not (is_barrier (kind_at b c))) _ e).1

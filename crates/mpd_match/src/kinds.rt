@@ -1,6 +1,6 @@
 //! What is read off the kinds of calls.
 ghost use Rattle.std.specs.Prelude.{◌≡◌, ◌≤◌, ◌||◌, ℕ, Some};
-ghost use Rattle.mpd_model.specs.World.{is_any_or as any_or, fitting, is_message_kind as message_kind, message_of as message_in, is_buffered as buffered_in, awaited_by as awaited_in, is_barrier as barrier_in};
+ghost use Rattle.mpd_model.specs.World.{is_any_or as any_or, fitting, is_message_kind as message_kind, message_of as message_in, is_buffered as buffered_in, awaited_by as awaited_in};
 ghost use Rattle.mpd_match.specs.Lines.{line_of as line_in, takes_from as taken_from, fitting_either};
 ghost use Rattle.mpd_model.specs.Decisions.{takes_any as taken_from_any};
 ghost use Rattle.mpd_match.specs.Picked.{named_source as source_in};
@@ -17,7 +17,7 @@ pub(crate) fn line_of(kind: CallKind) -> Option<usize>
     match kind {
         CallKind::Send(send) => Some(send.to + 1),
         CallKind::Recv(_) => Some(0),
-        CallKind::Wait(_) | CallKind::Barrier => None,
+        _ => None,
     }
 }
 
@@ -96,7 +96,7 @@ pub(crate) fn is_message_kind(kind: Option<CallKind>) -> bool
 {
     match kind {
         Some(CallKind::Send(_)) | Some(CallKind::Recv(_)) => true,
-        Some(CallKind::Wait(_)) | Some(CallKind::Barrier) | None => false,
+        _ => false,
     }
 }
 
@@ -137,15 +137,5 @@ pub(crate) fn awaited_by(id: CallId, kind: Option<CallKind>) -> Option<CallId>
             })
         }
         _ => Some(id),
-    }
-}
-
-/// Whether it is a barrier (MPI 4.0, section 6.3).
-pub(crate) fn is_barrier(kind: Option<CallKind>) -> bool
-    ensures { result ≡ barrier_in kind }
-{
-    match kind {
-        Some(CallKind::Barrier) => true,
-        _ => false,
     }
 }

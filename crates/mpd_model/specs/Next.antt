@@ -211,9 +211,7 @@ local_at w p = option_and_then (local p (length w.ranks) (length (calls_of w.boa
 -- a send goes to one of so many ranks
 abbrev pub HasReceiver : ℕ → CallKind → Type 0
 HasReceiver ranks (Send s) = s.to < ranks
-HasReceiver ranks (Recv r) = Unit {0}
-HasReceiver ranks (Wait t) = Unit {0}
-HasReceiver ranks Barrier = Unit {0}
+HasReceiver ranks kind = Unit {0}
 
 -- a call more of a rank
 abbrev pub with_call : Board → ℕ → Call → Board
@@ -250,11 +248,7 @@ status_writes (Some c) m = (c.source, pos m.source) ∷ (c.tag, pos m.tag) ∷ [
 -- the cells that a receive writes as its rank goes on, in order, each with its new value: the value, then the source, then the tag
 abbrev pub writes_of : Option CallKind → Option Message → List (ℕ × ℤ)
 writes_of (Some (Recv r)) (Some m) = (r.cell, m.value) ∷ status_writes r.status m
-writes_of (Some (Recv r)) None = []
-writes_of (Some (Send s)) m = []
-writes_of (Some (Wait t)) m = []
-writes_of (Some Barrier) m = []
-writes_of None m = []
+writes_of kind m = []
 
 abbrev pub writes_by : Board → Option CallId → List (ℕ × ℤ)
 writes_by b None = []
@@ -267,10 +261,7 @@ write_cells (w ∷ ws) vars = write_cells ws (slice_set vars w.0 w.1)
 -- the handle that a wait clears
 abbrev pub cleared_by : Option CallKind → Option ℕ
 cleared_by (Some (Wait t)) = Some t.handle
-cleared_by (Some (Send s)) = None
-cleared_by (Some (Recv r)) = None
-cleared_by (Some Barrier) = None
-cleared_by None = None
+cleared_by kind = None
 
 abbrev pub woken_rank : List (ℕ × ℤ) → Option ℕ → RankWorld → RankWorld
 woken_rank writes handle r = record r { vars = write_cells writes r.vars; handles = requested handle None r.handles; activity = Running }

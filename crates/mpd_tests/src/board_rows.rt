@@ -35,7 +35,7 @@ fn has_receiver(ranks: usize, call: Call) -> bool
 {
     match call.kind {
         CallKind::Send(send) => send.to < ranks,
-        CallKind::Recv(_) | CallKind::Wait(_) | CallKind::Barrier => true,
+        _ => true,
     }
 }
 
