@@ -8,8 +8,6 @@ use Rattle.std.specs.Option.{option_map}
 use Rattle.mpd_model.specs.declared.step.CallId.{CallId}
 use Rattle.mpd_model.specs.declared.call.CallKind.{CallKind}
 use Rattle.mpd_model.specs.declared.call.CallKind.TheVariants.{Wait}
-use Rattle.mpd_model.specs.declared.call.Mode.{Mode}
-use Rattle.mpd_model.specs.declared.call.Mode.TheVariants.{Rendezvous, Buffered}
 use Rattle.mpd_model.specs.declared.call.MatchSet.{MatchSet}
 use Rattle.mpd_model.specs.declared.call.MatchSet.TheVariants.{Pair, Woke}
 use Rattle.mpd_model.specs.declared.call.MatchSet.TheVariants as set
@@ -57,6 +55,7 @@ match_keeps w s r e h = record {
   ];
   released = λ p q at. h.released p q at ∙ ap (λ (n : ℕ). n + held w p) (sym (releases_same w.board.sets (Pair s r) refl));
   ordered = ordered_more w (Pair s r) (pair_may_join w.board s r e) h;
+  marked = h.marked;
 }
 
 -- ---- a wake
@@ -85,14 +84,10 @@ paired_named (set.Barrier ∷ sets) c e = paired_named sets c e
 complete_known : (w : World) → Orderly w → (c : CallId) (k : Option CallKind) → kind_at w.board c ≡ k → complete_by w.board (awaited_by c k) ≡ true → is_some k ≡ true
 complete_known w h c (Some k) is e = refl
 complete_known w h c None is e =
-    elim (either_of (is_some (partner w.board.sets c)) (is_buffered w.board.mode (kind_at w.board c)) e) [
+    elim (either_of (is_some (partner w.board.sets c)) (is_buffered (kind_at w.board c)) e) [
       | inl paired ↦ ap (λ (o : Option CallKind). is_some o) (sym is) ∙ h.named c (paired_named w.board.sets c paired)
-      | inr buffered ↦ absurd (never w.board.mode (sym (ap (is_buffered w.board.mode) is) ∙ buffered))
+      | inr buffered ↦ absurd (let never : false ≡ true = sym (ap is_buffered is) ∙ buffered in cc)
     ]
-  where
-    never : (mode : Mode) → is_buffered mode None ≡ true → ⊥
-    never Buffered e = cc
-    never Rendezvous e = cc
 
 -- what is awaited by a wait for that call
 awaits_done : (b : Board) (c : CallId) (i : ℕ) (k : Option CallKind) → complete_by b (awaited_by c k) ≡ true → waits_for k i ≡ true → is_done b (call_id c.rank i) ≡ true
@@ -183,4 +178,5 @@ wake_keeps w p e h =
       ];
       released = wake_counts w p e h;
       ordered = ordered_more w (Woke (last_call w.board p)) may h;
+      marked = h.marked;
     }

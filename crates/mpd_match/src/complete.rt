@@ -13,7 +13,7 @@ impl Board {
     pub fn is_done(&self, id: CallId) -> bool
         ensures { result ≡ is_done self.now.board id }
     {
-        self.partner(id).is_some() || kinds::is_buffered(self.mode, self.kind(id))
+        self.partner(id).is_some() || kinds::is_buffered(self.kind(id))
     }
 
     /// The call that a rank waits for which is blocked on this one, where it waits for one.

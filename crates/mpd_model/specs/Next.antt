@@ -1,5 +1,5 @@
 -- What a step makes of a world, and where no step is.
-use Rattle.std.specs.Prelude.{ℕ, ◌+◌, ◌<◌, ℤ, pos, Bool, true, false, ◌&&◌, if◌then◌else◌, List, [], ◌∷◌, ◌++◌, length, map, nat_lt, slice_get, slice_set, slice_index_or, Option, Some, None, option_and_then, is_some, Result, Ok, Err}
+use Rattle.std.specs.Prelude.{ℕ, ◌+◌, ◌<◌, ℤ, pos, Bool, true, false, ◌&&◌, not, if◌then◌else◌, List, [], ◌∷◌, ◌++◌, length, map, nat_lt, slice_get, slice_set, slice_index_or, Option, Some, None, option_and_then, is_some, Result, Ok, Err}
 use Rattle.std.specs.Option.{option_map}
 use Rattle.std.specs.List.{filter, flat_map, list_all, range_with_len}
 use Rattle.mpd_model.specs.declared.limits.TheConstants.{TAGS}
@@ -9,6 +9,8 @@ use Rattle.mpd_model.specs.declared.step.Step.TheVariants.{Local, Match, Wake, R
 use Rattle.mpd_model.specs.declared.call.CallKind.{CallKind}
 use Rattle.mpd_model.specs.declared.call.CallKind.TheVariants.{Send, Recv, Wait, Barrier}
 use Rattle.mpd_model.specs.declared.call.Call.{Call}
+use Rattle.mpd_model.specs.declared.call.Mode.{Mode}
+use Rattle.mpd_model.specs.declared.call.Mode.TheVariants.{Rendezvous, Buffered}
 use Rattle.mpd_model.specs.declared.call.Issue.{Issue}
 use Rattle.mpd_model.specs.declared.call.StatusCells.{StatusCells}
 use Rattle.mpd_model.specs.declared.call.MatchSet.{MatchSet}
@@ -50,7 +52,7 @@ abbrev pub send_kind : Bool → Bool → SendStmt → Env → Result CallKind Tr
 send_kind synchronous blocks s env =
     and_then (value_of s.value env) (λ v.
     and_then (rank_value s.to env) (λ q.
-    and_then (tag_value s.tag env) (λ t. Ok (Send (record { to = q; tag = t; value = v; synchronous = synchronous; blocks = blocks })))))
+    and_then (tag_value s.tag env) (λ t. Ok (Send (record { to = q; tag = t; value = v; synchronous = synchronous; blocks = blocks; buffered = false })))))
 
 -- the source and the tag of a receive, where they aren't any
 abbrev pub source_value : Option Term → Env → Result (Option ℕ) Trap
@@ -213,13 +215,31 @@ abbrev pub HasReceiver : ℕ → CallKind → Type 0
 HasReceiver ranks (Send s) = s.to < ranks
 HasReceiver ranks kind = Unit {0}
 
+-- the mode that buffers every standard send
+abbrev pub buffers_all : Mode → Bool
+buffers_all Buffered = true
+buffers_all Rendezvous = false
+
 -- a call more of a rank
 abbrev pub with_call : Board → ℕ → Call → Board
 with_call b p c = record b { calls = slice_set b.calls p (calls_of b p ++ c ∷ []) }
 
+-- whether a standard send of rank p is buffered, were it issued now (MPI 4.0, section 3.4)
+abbrev pub has_buffer : Board → ℕ → Bool
+has_buffer b p = buffers_all b.mode
+
+-- A standard send gets the buffer that there is, and keeps it; a synchronous one gets none.
+abbrev pub buffered_by : Bool → CallKind → CallKind
+buffered_by room (Send s) = Send (record s { buffered = room && not s.synchronous })
+buffered_by room kind = kind
+
+-- a call as it joins the board
+abbrev pub entered : Board → ℕ → Call → Call
+entered b p c = record c { kind = buffered_by (has_buffer b p) c.kind }
+
 abbrev pub with_issued : Board → ℕ → Option Call → Board
 with_issued b p None = b
-with_issued b p (Some c) = with_call b p c
+with_issued b p (Some c) = with_call b p (entered b p c)
 
 -- a world after the local step of a rank
 abbrev pub stepped : World → ℕ → Ran → World

@@ -9,7 +9,6 @@ use Rattle.mpd_model.specs.declared.call.CallKind.{CallKind}
 use Rattle.mpd_model.specs.declared.call.CallKind.TheVariants.{Send, Recv, Wait, Barrier}
 use Rattle.mpd_model.specs.declared.call.Message.{Message}
 use Rattle.mpd_model.specs.declared.call.Mode.{Mode}
-use Rattle.mpd_model.specs.declared.call.Mode.TheVariants.{Buffered}
 use Rattle.mpd_model.specs.declared.call.Activity.{Activity}
 use Rattle.mpd_model.specs.declared.call.Activity.TheVariants.{Running}
 use Rattle.mpd_model.specs.declared.call.MatchSet.{MatchSet}
@@ -166,14 +165,14 @@ message_of c kind = None
 abbrev pub buffer : Board → CallId → Option Message
 buffer b r = option_and_then (λ s. message_of s (kind_at b s)) (partner b.sets r)
 
--- A standard send is, where the mode says so; a synchronous one never is.
-abbrev pub is_buffered : Mode → Option CallKind → Bool
-is_buffered Buffered (Some (Send s)) = not s.synchronous
-is_buffered mode kind = false
+-- a send that was buffered as it was issued
+abbrev pub is_buffered : Option CallKind → Bool
+is_buffered (Some (Send s)) = s.buffered
+is_buffered kind = false
 
 -- a send or a receive that is done: it is paired, or was buffered as it was issued
 abbrev pub is_done : Board → CallId → Bool
-is_done b c = is_some (partner b.sets c) || is_buffered b.mode (kind_at b c)
+is_done b c = is_some (partner b.sets c) || is_buffered (kind_at b c)
 
 -- the call that a rank waits for which is blocked on a call of this kind: what a wait was issued for, or the call itself
 abbrev pub awaited_by : CallId → Option CallKind → Option CallId

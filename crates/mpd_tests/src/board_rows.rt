@@ -107,6 +107,7 @@ const MESSAGE: SendCall = SendCall {
     value: 40,
     synchronous: false,
     blocks: false,
+    buffered: false,
 };
 
 const SEND: Call = Call {
