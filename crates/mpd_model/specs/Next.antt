@@ -305,11 +305,12 @@ update_at ranks p f = put_at ranks p (slice_get ranks p) f
 abbrev pub with_set : Board → MatchSet → Board
 with_set b m = record b { sets = b.sets ++ m ∷ [] }
 
+-- a rank goes on from its last call: it writes these cells, and loses what that handle holds
+abbrev pub woken_by : World → ℕ → List (ℕ × ℤ) → Option ℕ → World
+woken_by w p writes handle = record { ranks = update_at w.ranks p (woken_rank writes handle); board = with_set w.board (Woke (last_call w.board p)) }
+
 abbrev pub woken : World → ℕ → World
-woken w p = record {
-  ranks = update_at w.ranks p (woken_rank (wake_writes w.board p) (wake_clears w.board p));
-  board = with_set w.board (Woke (last_call w.board p));
-}
+woken w p = woken_by w p (wake_writes w.board p) (wake_clears w.board p)
 
 -- ---- releases (MPI 4.0, section 6.3)
 
