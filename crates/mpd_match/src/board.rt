@@ -4,10 +4,9 @@ ghost use Rattle.mpd_model.specs.World.{start_board, kind_at, calls_of, partner,
 ghost use Rattle.mpd_model.specs.Next.{HasReceiver, with_call, with_issued, buffers_all, with_set};
 ghost use Rattle.mpd_match.specs.Changes.{without_last_call, issue_writes, unissue_writes, without_last_set, last_set, record_of_pair, Recorded, is_woke, is_lone};
 
-use crate::kinds;
 use crate::record::PairRecord;
 use crate::side::Side;
-use crate::sides;
+use crate::{kinds, sides};
 use mpd_model::call::{Call, MatchSet, Mode};
 use mpd_model::limits::RANKS_MAX;
 use mpd_model::step::CallId;
