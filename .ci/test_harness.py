@@ -18,6 +18,7 @@ sys.path.insert(0, os.path.dirname(os.path.abspath(__file__)))
 import assumed
 import copies
 import edit_files
+import growing
 import landing
 import processes
 import record
@@ -689,6 +690,36 @@ class Landing(WithFolder):
     def test_what_cannot_be_told(self):
         for commit in ('nowhere', '', '--help'):
             self.assertFalse(landing.is_of_docs(self.folder, commit), commit)
+
+
+class Growing(WithFolder):
+    """What the page on growing names."""
+
+    def setUp(self):
+        super().setUp()
+        for file in ('crates/low/src/lib.rt', 'crates/low/specs/Lines.antt', 'crates/low/out/kept.rt', 'crates/high/src/main.rt', 'compare/run.py'):
+            self.write(file, '')
+
+    def gone(self, text):
+        return growing.missing(text, growing.listed(self.folder))
+
+    def test_what_is_there(self):
+        for text in ('`low/src/lib.rt`', '`low/specs/Lines`', '`low/specs/`', '`compare/run.py`', '`crates/high/src`'):
+            self.assertEqual(self.gone(text), [], text)
+
+    def test_what_is_not(self):
+        for name in ('low/src/gone.rt', 'low/specs/Gone', 'gone/src/lib.rt', 'low/out/kept.rt', 'gone.py', 'low/src/main.rt'):
+            self.assertEqual(self.gone(f'a line\n| `{name}` | in a table |'), [(2, name)])
+
+    def test_by_its_end_where_the_line_names_its_crate(self):
+        self.assertEqual(self.gone('`low/src/lib.rt`, `Lines.antt` and `specs/Lines`'), [])
+        self.assertEqual(self.gone('`lib.rt` of `low`'), [])
+        self.assertEqual(self.gone('`high/src/main.rt`, `Lines.antt`'), [(1, 'Lines.antt')])
+        self.assertEqual(self.gone('`low/src/lib.rt`\n`Lines.antt`'), [(2, 'Lines.antt')])
+        self.assertEqual(self.gone('`low`, `ines.antt`'), [(1, 'ines.antt')])
+
+    def test_what_is_no_file(self):
+        self.assertEqual(self.gone('`lib`, `Lines`, `a / b`, and gone.rt'), [])
 
 
 class Processes(unittest.TestCase):

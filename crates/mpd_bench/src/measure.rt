@@ -28,7 +28,7 @@ fn later_call(id: CallId, number: usize) -> CallId {
 fn later(step: Step, number: usize) -> Step {
     match step {
         Step::Match(send, recv) => Step::Match(later_call(send, number), later_call(recv, number)),
-        Step::Local(_) | Step::Wake(_) | Step::Release => step,
+        _ => step,
     }
 }
 

@@ -134,6 +134,7 @@ fn send_call(
         value,
         synchronous,
         blocks,
+        buffered: false,
     }))
 }
 

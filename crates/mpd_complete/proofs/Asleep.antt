@@ -5,7 +5,7 @@ use Rattle.mpd_model.specs.declared.step.CallId.{CallId}
 use Rattle.mpd_model.specs.declared.step.Step.{Step}
 use Rattle.mpd_model.specs.declared.step.Step.TheVariants.{Local, Match, Wake, Release}
 use Rattle.mpd_model.specs.declared.call.CallKind.{CallKind}
-use Rattle.mpd_model.specs.declared.call.CallKind.TheVariants.{Send, Recv, Wait, Barrier}
+use Rattle.mpd_model.specs.declared.call.CallKind.TheVariants.{Recv}
 use Rattle.mpd_model.specs.declared.call.MatchSet.{MatchSet}
 use Rattle.mpd_model.specs.declared.call.MatchSet.TheVariants.{Pair, Woke}
 use Rattle.mpd_model.specs.declared.call.MatchSet.TheVariants as set
@@ -94,10 +94,8 @@ two_by w all s r t q u x e f false false is also =
     from_diamond u x s r (Match t q) (diamond w all (Match s r) (Match t q) u x e f (λ i. not (turned t s is i) && not (turned q r also i)))
 
 pub beside : (w : World) → Known w.board → (s r : CallId) (b : Step) (u x : World) → next w (Match s r) ≡ Some u → next w b ≡ Some x → IsBeside u x s r b
-beside w all s r (Local p) u x e f = from_diamond u x s r (Local p) (diamond w all (Match s r) (Local p) u x e f refl)
-beside w all s r (Wake p) u x e f = from_diamond u x s r (Wake p) (diamond w all (Match s r) (Wake p) u x e f refl)
-beside w all s r Release u x e f = from_diamond u x s r Release (diamond w all (Match s r) Release u x e f refl)
 beside w all s r (Match t q) u x e f = two_by w all s r t q u x e f (id_eq t s) (id_eq q r) refl refl
+beside w all s r b u x e f = from_diamond u x s r b (diamond w all (Match s r) b u x e f refl)
 
 -- ---- a match that a run has taken comes to the front
 
@@ -146,15 +144,11 @@ front_pair (b ∷ steps) s r w u v h e f p =
 
 abbrev pub HasPair : World → Step → Type 0
 HasPair w (Match s r) = partner w.board.sets r ≡ Some s
-HasPair w (Local p) = ⊥
-HasPair w (Wake p) = ⊥
-HasPair w Release = ⊥
+HasPair w a = ⊥
 
 pub same_pair : (w v : World) → Same w v → (a : Step) → HasPair w a → HasPair v a
 same_pair w v h (Match s r) e = sym (h.sets.partners r) ∙ e
-same_pair w v h (Local p) e = e
-same_pair w v h (Wake p) e = e
-same_pair w v h Release e = e
+same_pair w v h a e = e
 
 abbrev pub is_call : Option CallId → CallId → Bool
 is_call None s = false
@@ -162,9 +156,7 @@ is_call (Some c) s = id_eq c s
 
 abbrev pub has_pair : World → Step → Bool
 has_pair w (Match s r) = is_call (partner w.board.sets r) s
-has_pair w (Local p) = false
-has_pair w (Wake p) = false
-has_pair w Release = false
+has_pair w a = false
 
 call_is : (o : Option CallId) (s : CallId) → is_call o s ≡ true → o ≡ Some s
 call_is None s e = absurd (cc)
@@ -172,15 +164,11 @@ call_is (Some c) s e = ap (λ (x : CallId). Some x) (same_id c s e)
 
 pub is_pair : (w : World) (a : Step) → has_pair w a ≡ true → HasPair w a
 is_pair w (Match s r) e = call_is (partner w.board.sets r) s e
-is_pair w (Local p) e = absurd (cc)
-is_pair w (Wake p) e = absurd (cc)
-is_pair w Release e = absurd (cc)
+is_pair w a e = absurd (cc)
 
 pub pair_tested : (w : World) (a : Step) → HasPair w a → has_pair w a ≡ true
 pair_tested w (Match s r) e = ap (λ (o : Option CallId). is_call o s) e ∙ id_same s s refl
-pair_tested w (Local p) e = absurd e
-pair_tested w (Wake p) e = absurd e
-pair_tested w Release e = absurd e
+pair_tested w a e = absurd e
 
 abbrev pub Clear : List Step → World → Type 0
 Clear asleep w = (a : Step) → In asleep a → HasPair w a → ⊥
@@ -191,12 +179,7 @@ same_step (Match s r) (Match t q) e =
     let send : s ≡ t = same_id s t parts.0 in
     let recv : r ≡ q = same_id r q parts.1 in
     λ i. Match (sym send i) (sym recv i)
-same_step (Match s r) (Local p) e = absurd (cc)
-same_step (Match s r) (Wake p) e = absurd (cc)
-same_step (Match s r) Release e = absurd (cc)
-same_step (Local p) b e = absurd (cc)
-same_step (Wake p) b e = absurd (cc)
-same_step Release b e = absurd (cc)
+same_step a b e = absurd (cc)
 
 pub found_in : {A : Type 0} (t : A → Bool) (xs : List A) → list_any t xs ≡ true → (x : A) × In xs x × (t x ≡ true)
 found_in t [] e = absurd (cc)
@@ -215,16 +198,12 @@ awake_by asleep w a clear p true e = let k = found_in (same_match a) asleep e in
 
 pub front_any : (steps : List Step) (a : Step) (w u v : World) → Sound w → next w a ≡ Some u → fold w steps ≡ Some v → HasPair v a → FrontedPair steps u v
 front_any steps (Match s r) w u v h e f p = front_pair steps s r w u v h e f p
-front_any steps (Local q) w u v h e f p = absurd p
-front_any steps (Wake q) w u v h e f p = absurd p
-front_any steps Release w u v h e f p = absurd p
+front_any steps a w u v h e f p = absurd p
 
 -- an open match that a run begins with has its pair in the end
 pub first_pair : (b : Step) (steps : List Step) (u x w : World) → is_open_match u.board b ≡ true → next u b ≡ Some x → fold x steps ≡ Some w → HasPair w b
 first_pair (Match s r) steps u x w o e f = fold_kept steps x w f r s (pair_made u s r x e)
-first_pair (Local p) steps u x w o e f = absurd (cc)
-first_pair (Wake p) steps u x w o e f = absurd (cc)
-first_pair Release steps u x w o e f = absurd (cc)
+first_pair b steps u x w o e f = absurd (cc)
 
 pub still_clear : (asleep : List Step) (w v : World) → Same w v → Clear asleep w → Clear asleep v
 still_clear asleep w v h clear z k p = clear z k (same_pair v w (same_sym w v h) z p)
@@ -245,15 +224,11 @@ any_known None e = absurd (cc)
 -- an open match stays one, and so does a step that is none
 pub opens_on : (steps : List Step) (u w : World) → fold u steps ≡ Some w → (a : Step) → is_open_match u.board a ≡ true → is_open_match w.board a ≡ true
 opens_on steps u w e (Match s r) o = ap takes_any (fold_kinds steps u w e r (any_known (kind_at u.board r) o)) ∙ o
-opens_on steps u w e (Local p) o = absurd (cc)
-opens_on steps u w e (Wake p) o = absurd (cc)
-opens_on steps u w e Release o = absurd (cc)
+opens_on steps u w e a o = absurd (cc)
 
 pub named_on : (steps : List Step) (u x w : World) → fold u steps ≡ Some w → (a : Step) → next u a ≡ Some x → is_open_match u.board a ≡ false → is_open_match w.board a ≡ false
 named_on steps u x w e (Match s r) f o = ap takes_any (fold_kinds steps u w e r (recv_known u.board s r (match_step u s r x f).0)) ∙ o
-named_on steps u x w e (Local p) f o = refl
-named_on steps u x w e (Wake p) f o = refl
-named_on steps u x w e Release f o = refl
+named_on steps u x w e a f o = refl
 
 -- the pair of a match that is open was not made by a step that is none
 pair_by : (w : World) (s q t r : CallId) → eligible w.board s q ≡ true → takes_any (kind_at w.board q) ≡ false → takes_any (kind_at w.board r) ≡ true → (y z : Bool) → id_eq s r ≡ y → id_eq q r ≡ z
@@ -263,10 +238,7 @@ pair_by w s q t r on named opens true z is also e =
   where
     receives_any : (k : Option CallKind) → takes_any k ≡ true → receives k ≡ true
     receives_any (Some (Recv r)) f = refl
-    receives_any (Some (Send s)) f = absurd (cc)
-    receives_any (Some (Wait t)) f = absurd (cc)
-    receives_any (Some Barrier) f = absurd (cc)
-    receives_any None f = absurd (cc)
+    receives_any k f = absurd (cc)
 pair_by w s q t r on named opens false true is also e = clash (ap (λ (c : CallId). takes_any (kind_at w.board c)) (same_id q r also) ∙ opens) named
 pair_by w s q t r on named opens false false is also e = absurd (cc)
 
@@ -291,9 +263,7 @@ pair_before w (Match s q) v t r f named opens e =
 
 pub has_before : (w : World) (a : Step) (v : World) (z : Step) → next w a ≡ Some v → is_open_match w.board a ≡ false → is_open_match w.board z ≡ true → HasPair v z → HasPair w z
 has_before w a v (Match t r) f named opens e = pair_before w a v t r f named opens e
-has_before w a v (Local p) f named opens e = absurd e
-has_before w a v (Wake p) f named opens e = absurd e
-has_before w a v Release f named opens e = absurd e
+has_before w a v z f named opens e = absurd e
 
 -- ---- asleep
 

@@ -7,6 +7,7 @@ use Rattle.std.specs.List.{list_all, range_with_len}
 use Rattle.mpd_model.specs.declared.step.CallId.{CallId}
 use Rattle.mpd_model.specs.declared.step.Step.{Step}
 use Rattle.mpd_model.specs.declared.step.Step.TheVariants.{Local, Match, Wake, Release}
+use Rattle.mpd_model.specs.declared.call.Call.{Call}
 use Rattle.mpd_model.specs.declared.call.Activity.{Activity}
 use Rattle.mpd_model.specs.declared.call.Activity.TheVariants.{Running, Blocked, Trapped}
 use Rattle.mpd_model.specs.Tree.{Tree}
@@ -16,7 +17,7 @@ use Rattle.mpd_model.specs.Decisions.{is_open_match}
 use Rattle.mpd_complete.specs.CompleteLaws.{apart, Joins}
 use Rattle.mpd_laws.proofs.Eligible.{both_of, denied}
 use Rattle.mpd_complete.proofs.Worlds.{same_sym, chosen, mapped_from, joined_from, taken}
-use Rattle.mpd_complete.proofs.Moves.{Known, moved, paired, awake, stepped_is, woken_is, local_again, wake_again, moved_swapped, moved_paired}
+use Rattle.mpd_complete.proofs.Moves.{Known, joining, moved, paired, awake, stepped_is, woken_is, local_again, wake_again, moved_swapped, moved_paired}
 use Rattle.mpd_complete.proofs.Pairs.{clash, same_id, turned, match_again, match_freed, freed_paired, match_paired, paired_swapped, wake_paired, same_recv, same_send}
 
 -- ---- what is known where a step is enabled
@@ -26,7 +27,7 @@ pub record IsLocalStep (w : World) (p : ℕ) (u : World) : Type 0 where
   pub at : local_at w p ≡ Some ran
   pub runs : waits (slice_get w.ranks p) ≡ false
   pub within : p < length w.ranks
-  pub is : moved w p ran.rank ran.call None ≡ u
+  pub is : moved w p ran.rank (joining w.board p ran.call) None ≡ u
 
 pub record IsWakeStep (w : World) (p : ℕ) (u : World) : Type 0 where
   pub rank : RankWorld
@@ -112,12 +113,14 @@ two_locals w p q u v a b =
       | inl same ↦ inl (ap Local same.1)
       | inr off ↦
           let ne = off.1 in
-          inr (at_worlds (moved w p a.ran.rank a.ran.call None) u (moved w q b.ran.rank b.ran.call None) v (Local p) (Local q) a.is b.is (record {
-            behind_a = moved (moved w p a.ran.rank a.ran.call None) q b.ran.rank b.ran.call None;
-            behind_b = moved (moved w q b.ran.rank b.ran.call None) p a.ran.rank a.ran.call None;
-            by_b = local_again w p a.ran.rank a.ran.call None q b.ran (λ e. ne (sym e)) b.at;
-            by_a = local_again w q b.ran.rank b.ran.call None p a.ran ne a.at;
-            same = moved_swapped w p a.ran.rank a.ran.call None q b.ran.rank b.ran.call None ne;
+          let here : Option Call = joining w.board p a.ran.call in
+          let there : Option Call = joining w.board q b.ran.call in
+          inr (at_worlds (moved w p a.ran.rank here None) u (moved w q b.ran.rank there None) v (Local p) (Local q) a.is b.is (record {
+            behind_a = moved (moved w p a.ran.rank here None) q b.ran.rank there None;
+            behind_b = moved (moved w q b.ran.rank there None) p a.ran.rank here None;
+            by_b = local_again w p a.ran.rank here None q b.ran (λ e. ne (sym e)) b.at;
+            by_a = local_again w q b.ran.rank there None p a.ran ne a.at;
+            same = moved_swapped w p a.ran.rank here None q b.ran.rank there None ne;
           }))
     ]
 
@@ -127,13 +130,14 @@ local_and_wake w all p q u v a b =
       | inl same ↦ absurd (no_local_wake w q u v (subst (λ (k : ℕ). IsLocalStep w k u) same.1 a) b)
       | inr off ↦
           let ne = off.1 in
+          let call : Option Call = joining w.board p a.ran.call in
           let wake : Option CallId = Some (last_call w.board q) in
-          at_worlds (moved w p a.ran.rank a.ran.call None) u (moved w q (awake w q b.rank) None wake) v (Local p) (Wake q) a.is b.is (record {
-            behind_a = moved (moved w p a.ran.rank a.ran.call None) q (awake w q b.rank) None wake;
-            behind_b = moved (moved w q (awake w q b.rank) None wake) p a.ran.rank a.ran.call None;
-            by_b = wake_again w p a.ran.rank a.ran.call None q b.rank (λ e. ne (sym e)) all b.at b.can;
+          at_worlds (moved w p a.ran.rank call None) u (moved w q (awake w q b.rank) None wake) v (Local p) (Wake q) a.is b.is (record {
+            behind_a = moved (moved w p a.ran.rank call None) q (awake w q b.rank) None wake;
+            behind_b = moved (moved w q (awake w q b.rank) None wake) p a.ran.rank call None;
+            by_b = wake_again w p a.ran.rank call None q b.rank (λ e. ne (sym e)) all b.at b.can;
             by_a = local_again w q (awake w q b.rank) None wake p a.ran ne a.at;
-            same = moved_swapped w p a.ran.rank a.ran.call None q (awake w q b.rank) None wake ne;
+            same = moved_swapped w p a.ran.rank call None q (awake w q b.rank) None wake ne;
           })
     ]
 
@@ -156,12 +160,13 @@ two_wakes w all p q u v a b =
 
 local_and_match : (w : World) (p : ℕ) (s r : CallId) (u v : World) → IsLocalStep w p u → eligible w.board s r ≡ true → paired w s r ≡ v → Joins u v (Local p) (Match s r)
 local_and_match w p s r u v a e is =
-    at_worlds (moved w p a.ran.rank a.ran.call None) u (paired w s r) v (Local p) (Match s r) a.is is (record {
-      behind_a = paired (moved w p a.ran.rank a.ran.call None) s r;
-      behind_b = moved (paired w s r) p a.ran.rank a.ran.call None;
-      by_b = match_again w p a.ran.rank a.ran.call None s r e;
+    let call : Option Call = joining w.board p a.ran.call in
+    at_worlds (moved w p a.ran.rank call None) u (paired w s r) v (Local p) (Match s r) a.is is (record {
+      behind_a = paired (moved w p a.ran.rank call None) s r;
+      behind_b = moved (paired w s r) p a.ran.rank call None;
+      by_b = match_again w p a.ran.rank call None s r e;
       by_a = ap (option_map (stepped (paired w s r) p)) a.at ∙ ap (λ (z : World). Some z) (stepped_is (paired w s r) p a.ran);
-      same = moved_paired w p a.ran.rank a.ran.call None s r;
+      same = moved_paired w p a.ran.rank call None s r;
     })
 
 wake_and_match : (w : World) (p : ℕ) (s r : CallId) (u v : World) → IsWakeStep w p u → eligible w.board s r ≡ true → paired w s r ≡ v → Joins u v (Wake p) (Match s r)
@@ -233,18 +238,13 @@ apart_matches false true s r t q e f recvs sends = let a = sends f in let b = sa
 apart_matches false false s r t q e f recvs sends = inr (λ i. not (e i) && not (f i))
 
 same_or_apart : (w : World) (a b : Step) (u v : World) → is_open_match w.board a ≡ false → next w a ≡ Some u → next w b ≡ Some v → (a ≡ b) ⊎ (apart a b ≡ true)
-same_or_apart w (Local p) b u v named e f = inr refl
-same_or_apart w (Wake p) b u v named e f = inr refl
-same_or_apart w Release b u v named e f = inr refl
-same_or_apart w (Match s r) (Local q) u v named e f = inr refl
-same_or_apart w (Match s r) (Wake q) u v named e f = inr refl
-same_or_apart w (Match s r) Release u v named e f = inr refl
 same_or_apart w (Match s r) (Match t q) u v named e f =
     let m = match_step w s r u e in
     let n = match_step w t q v f in
     apart_matches (id_eq s t) (id_eq r q) s r t q refl refl
     (λ is. same_recv w.board s r q m.0 (ap (λ (c : CallId). eligible w.board c q) (same_id s t is) ∙ n.0))
     (λ is. same_send w.board s t r named m.0 (ap (λ (c : CallId). eligible w.board t c) (same_id r q is) ∙ n.0))
+same_or_apart w a b u v named e f = inr refl
 
 -- Any other enabled step can be taken before it or behind it.
 pub steady : (w : World) → Known w.board → (a b : Step) (u v : World) → is_open_match w.board a ≡ false → next w a ≡ Some u → next w b ≡ Some v → SameOrJoins u v a b

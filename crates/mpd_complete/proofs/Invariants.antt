@@ -17,7 +17,7 @@ use Rattle.mpd_model.specs.Decisions.{is_open_match, takes_any}
 use Rattle.mpd_meaning.specs.StepLaws.{HasCalls}
 use Rattle.mpd_complete.proofs.Sets.{partner_more, else_none, partner_by}
 use Rattle.mpd_complete.proofs.Worlds.{joined_from}
-use Rattle.mpd_complete.proofs.Moves.{Known, issued_calls, moved, paired, awake, kind_kept, partner_formed}
+use Rattle.mpd_complete.proofs.Moves.{Known, issued_calls, joining, moved, paired, awake, kind_kept, partner_formed}
 use Rattle.mpd_complete.proofs.Pairs.{Later, moved_later, paired_later, send_known, recv_known}
 use Rattle.mpd_complete.proofs.Diamond.{local_step, wake_step, match_step, release_step}
 
@@ -83,7 +83,7 @@ released_keeps w = record {
 -- ---- any step
 
 pub keeps : (w : World) (a : Step) (v : World) → next w a ≡ Some v → Keeps w v
-keeps w (Local p) v e = let a = local_step w p v e in subst (Keeps w) a.is (moved_keeps w p a.ran.rank a.ran.call None)
+keeps w (Local p) v e = let a = local_step w p v e in subst (Keeps w) a.is (moved_keeps w p a.ran.rank (joining w.board p a.ran.call) None)
 keeps w (Match s r) v e = let m = match_step w s r v e in subst (Keeps w) m.1 (paired_keeps w s r m.0)
 keeps w (Wake p) v e = let a = wake_step w p v e in subst (Keeps w) a.is (moved_keeps w p (awake w p a.rank) None (Some (last_call w.board p)))
 keeps w Release v e = subst (Keeps w) (release_step w v e).1 (released_keeps w)
@@ -102,7 +102,5 @@ start_sound s mode = record {
 
 -- a step that nobody has to choose stays so
 pub stays_named : (w : World) (a b : Step) (u v : World) → next w a ≡ Some u → next w b ≡ Some v → is_open_match w.board a ≡ false → is_open_match v.board a ≡ false
-stays_named w (Local p) b u v e f h = refl
-stays_named w (Wake p) b u v e f h = refl
-stays_named w Release b u v e f h = refl
 stays_named w (Match s r) b u v e f h = ap takes_any ((keeps w b v f).later.kinds r (recv_known w.board s r (match_step w s r u e).0)) ∙ h
+stays_named w a b u v e f h = refl

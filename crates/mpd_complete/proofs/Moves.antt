@@ -7,11 +7,11 @@ use Rattle.mpd_model.specs.declared.step.CallId.{CallId}
 use Rattle.mpd_model.specs.declared.step.Step.TheVariants.{Local, Wake}
 use Rattle.mpd_model.specs.declared.call.Call.{Call}
 use Rattle.mpd_model.specs.declared.call.CallKind.{CallKind}
-use Rattle.mpd_model.specs.declared.call.CallKind.TheVariants.{Send, Recv, Wait, Barrier}
+use Rattle.mpd_model.specs.declared.call.CallKind.TheVariants.{Wait}
 use Rattle.mpd_model.specs.declared.call.MatchSet.{MatchSet}
 use Rattle.mpd_model.specs.declared.call.MatchSet.TheVariants.{Pair, Woke}
 use Rattle.mpd_model.specs.World.{World, Board, RankWorld, call_id, listed_calls, calls_of, kind_of, kind_at, partner, is_barrier, is_buffered, is_done, message_of, awaited_by, awaited, complete_by, complete, last_call}
-use Rattle.mpd_model.specs.Next.{Ran, local, local_at, stepped, with_issued, with_set, waits, can_wake, writes_of, writes_by, cleared_by, put_at, woken_rank, wake_writes, wake_clears, woken, next}
+use Rattle.mpd_model.specs.Next.{Ran, local, local_at, stepped, entered, with_issued, with_set, waits, can_wake, writes_of, writes_by, cleared_by, put_at, woken_rank, wake_writes, wake_clears, woken, next}
 use Rattle.mpd_complete.specs.Same.{SameSets, Same}
 use Rattle.mpd_complete.proofs.Sets.{partner_more, else_none, sets_refl, sets_swapped, woke_disjoint}
 use Rattle.mpd_laws.proofs.Splits.{others_kept, read_written, same_or_end}
@@ -28,11 +28,15 @@ formed sets (Some d) = sets ++ Woke d ∷ []
 abbrev pub moved : World → ℕ → RankWorld → Option Call → Option CallId → World
 moved w p r o m = record { ranks = slice_set w.ranks p r; board = record { mode = w.board.mode; calls = issued_calls w.board.calls p o; sets = formed w.board.sets m } }
 
-issued_is : (b : Board) (p : ℕ) (o : Option Call) → with_issued b p o ≡ record { mode = b.mode; calls = issued_calls b.calls p o; sets = b.sets }
+-- what a rank issues, as it joins the board
+abbrev pub joining : Board → ℕ → Option Call → Option Call
+joining b p o = option_map (λ c. entered b p c) o
+
+issued_is : (b : Board) (p : ℕ) (o : Option Call) → with_issued b p o ≡ record { mode = b.mode; calls = issued_calls b.calls p (joining b p o); sets = b.sets }
 issued_is b p None = refl
 issued_is b p (Some c) = refl
 
-pub stepped_is : (w : World) (p : ℕ) (x : Ran) → stepped w p x ≡ moved w p x.rank x.call None
+pub stepped_is : (w : World) (p : ℕ) (x : Ran) → stepped w p x ≡ moved w p x.rank (joining w.board p x.call) None
 stepped_is w p x = λ i. record { ranks = slice_set w.ranks p x.rank; board = issued_is w.board p x.call i }
 
 -- the rank that a wake leaves
@@ -92,7 +96,7 @@ local_elsewhere w p r o m q ne =
     λ i. option_and_then (local q (length-set w.ranks p r i) (length (listed_calls (calls_elsewhere w.board.calls p q o ne i)))) (others_kept w.ranks p q r ne i)
 
 pub local_again : (w : World) (p : ℕ) (r : RankWorld) (o : Option Call) (m : Option CallId) (q : ℕ) (y : Ran) → q ≢ p → local_at w q ≡ Some y
-    → next (moved w p r o m) (Local q) ≡ Some (moved (moved w p r o m) q y.rank y.call None)
+    → next (moved w p r o m) (Local q) ≡ Some (moved (moved w p r o m) q y.rank (joining w.board q y.call) None)
 local_again w p r o m q y ne e =
     ap (option_map (stepped (moved w p r o m) q)) (local_elsewhere w p r o m q ne ∙ e) ∙ ap (λ (v : World). Some v) (stepped_is (moved w p r o m) q y)
 
@@ -104,7 +108,6 @@ Known b = (c d : CallId) → partner b.sets c ≡ Some d → is_some (kind_at b 
 
 -- two boards with the same calls of a rank, and the same partners
 record Beside (b e : Board) (q : ℕ) : Type 0 where
-  mode : e.mode ≡ b.mode
   partners : (c : CallId) → partner e.sets c ≡ partner b.sets c
   kinds : (i : ℕ) → kind_at e (call_id q i) ≡ kind_at b (call_id q i)
   known : (c : CallId) → is_some (kind_at b c) ≡ true → kind_at e c ≡ kind_at b c
@@ -112,7 +115,6 @@ record Beside (b e : Board) (q : ℕ) : Type 0 where
 
 moved_beside : (w : World) (p : ℕ) (r : RankWorld) (o : Option Call) (m : Option CallId) (q : ℕ) → q ≢ p → Beside w.board (moved w p r o m).board q
 moved_beside w p r o m q ne = record {
-  mode = refl;
   partners = partner_formed w.board.sets m;
   kinds = λ i. kind_elsewhere w p r o m (call_id q i) ne;
   known = kind_kept w p r o m;
@@ -120,7 +122,7 @@ moved_beside w p r o m q ne = record {
 }
 
 done_beside : (b e : Board) (q : ℕ) → Beside b e q → (i : ℕ) → is_done e (call_id q i) ≡ is_done b (call_id q i)
-done_beside b e q h i = λ j. is_some (h.partners (call_id q i) j) || is_buffered (h.mode j) (h.kinds i j)
+done_beside b e q h i = λ j. is_some (h.partners (call_id q i) j) || is_buffered (h.kinds i j)
 
 complete_beside : (b e : Board) (q : ℕ) → Beside b e q → (i : ℕ) (k : Option CallKind) → complete_by e (awaited_by (call_id q i) k) ≡ complete_by b (awaited_by (call_id q i) k)
 complete_beside b e q h i (Some (Wait t)) = target t.target
@@ -128,10 +130,7 @@ complete_beside b e q h i (Some (Wait t)) = target t.target
     target : (o : Option ℕ) → complete_by e (option_map (call_id q) o) ≡ complete_by b (option_map (call_id q) o)
     target None = refl
     target (Some j) = done_beside b e q h j
-complete_beside b e q h i (Some (Send s)) = done_beside b e q h i
-complete_beside b e q h i (Some (Recv r)) = done_beside b e q h i
-complete_beside b e q h i (Some Barrier) = done_beside b e q h i
-complete_beside b e q h i None = done_beside b e q h i
+complete_beside b e q h i k = done_beside b e q h i
 
 complete_at : (b e : Board) (q : ℕ) → Beside b e q → (i : ℕ) → complete e (call_id q i) ≡ complete b (call_id q i)
 complete_at b e q h i =
@@ -153,10 +152,7 @@ writes_beside b e q h all i (Some (Wait t)) = target t.target
     target : (o : Option ℕ) → writes_by e (option_map (call_id q) o) ≡ writes_by b (option_map (call_id q) o)
     target None = refl
     target (Some j) = writes_at b e q h all j
-writes_beside b e q h all i (Some (Send s)) = writes_at b e q h all i
-writes_beside b e q h all i (Some (Recv r)) = writes_at b e q h all i
-writes_beside b e q h all i (Some Barrier) = writes_at b e q h all i
-writes_beside b e q h all i None = writes_at b e q h all i
+writes_beside b e q h all i k = writes_at b e q h all i
 
 -- what a wake is of
 record WakesAlike (w v : World) (q : ℕ) : Type 0 where

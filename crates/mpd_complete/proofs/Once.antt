@@ -5,7 +5,7 @@ use Rattle.std.specs.Cmp.Derive.{both_true}
 use Rattle.std.specs.List.{list_any, AllPairs}
 use Rattle.mpd_model.specs.declared.step.CallId.{CallId}
 use Rattle.mpd_model.specs.declared.step.Step.{Step}
-use Rattle.mpd_model.specs.declared.step.Step.TheVariants.{Local, Match, Wake, Release}
+use Rattle.mpd_model.specs.declared.step.Step.TheVariants.{Match}
 use Rattle.mpd_model.specs.declared.call.Mode.{Mode}
 use Rattle.mpd_model.specs.declared.decision.Decision.{Decision}
 use Rattle.mpd_model.specs.declared.decision.Decision.TheVariants.{Forced, Choice, Leaf}
@@ -160,14 +160,12 @@ once_first n ih asleep u h a i false = once_behind n ih asleep u h a (chosen i a
 cross : (n : ℕ) (asleep : List Step) (u : World) → Sound u → (i : ℕ) (a : Step) → is_some (next u a) ≡ true → is_open_match u.board a ≡ true → (more : List Step)
     → (r t : Run) → In (map (chosen i a) (awake_runs (is_asleep asleep a) (awake_walk true n asleep) (next u a))) r → In (awake_branches true (awake_walk true n) u (a ∷ asleep) (suc i) more) t
     → EndApart u r t
-cross n asleep u h i (Local p) on o more r t j k v w f g same = absurd (cc)
-cross n asleep u h i (Wake p) on o more r t j k v w f g same = absurd (cc)
-cross n asleep u h i Release on o more r t j k v w f g same = absurd (cc)
 cross n asleep u h i (Match s q) on o more r t j k v w f g same =
     let m = map_from (chosen i (Match s q)) (awake_runs (is_asleep asleep (Match s q)) (awake_walk true n asleep) (next u (Match s q))) r j in
     let after = begun u (Match s q) m.0.steps v (ap (λ (y : Run). fold u y.steps) m.2 ∙ f) in
     let has : partner v.board.sets q ≡ Some s = fold_kept m.0.steps after.0 v after.2 q s (pair_made u s q after.0 after.1) in
     never_branch n (never n) (Match s q ∷ asleep) u h s q after.0 after.1 o (inl refl) (suc i) more t k w g (sym (same.sets.partners q) ∙ has)
+cross n asleep u h i a on o more r t j k v w f g same = absurd (cc)
 
 once_branches : (n : ℕ) → Once n → (u : World) → Sound u → (i : ℕ) (candidates : List Step) (asleep : List Step) → ((a : Step) → In candidates a → is_some (next u a) ≡ true)
     → ((a : Step) → In candidates a → is_open_match u.board a ≡ true) → EachTwo (EndApart u) (awake_branches true (awake_walk true n) u asleep i candidates)

@@ -6,9 +6,7 @@ use Rattle.mpd_model.specs.declared.step.CallId.{CallId}
 use Rattle.mpd_model.specs.declared.step.Step.TheVariants.{Match, Wake}
 use Rattle.mpd_model.specs.declared.call.Call.{Call}
 use Rattle.mpd_model.specs.declared.call.CallKind.{CallKind}
-use Rattle.mpd_model.specs.declared.call.CallKind.TheVariants.{Send, Recv, Wait, Barrier}
-use Rattle.mpd_model.specs.declared.call.Mode.{Mode}
-use Rattle.mpd_model.specs.declared.call.Mode.TheVariants.{Buffered}
+use Rattle.mpd_model.specs.declared.call.CallKind.TheVariants.{Send, Recv}
 use Rattle.mpd_model.specs.declared.call.Message.{Message}
 use Rattle.mpd_model.specs.declared.call.MatchSet.TheVariants.{Pair, Woke}
 use Rattle.mpd_model.specs.declared.call.MatchSet.TheVariants as set
@@ -114,10 +112,7 @@ same_id c d e =
 
 pub no_both : (k : Option CallKind) (q : ℕ) → sends_to k q ≡ true → receives k ≡ true → ⊥
 no_both (Some (Send s)) q e f = cc
-no_both (Some (Recv r)) q e f = cc
-no_both (Some (Wait t)) q e f = cc
-no_both (Some Barrier) q e f = cc
-no_both None q e f = cc
+no_both k q e f = cc
 
 pub is_send : (b : Board) (s r : CallId) → eligible b s r ≡ true → sends_to (kind_at b s) r.rank ≡ true
 is_send b s r e = (fitting_send (kind_at b s) (kind_at b r) s.rank r.rank (agrees b s r e).fit).0
@@ -225,10 +220,7 @@ one_recv b s p i j e f =
 
 sends_once : (k : Option CallKind) (p q : ℕ) → sends_to k p ≡ true → sends_to k q ≡ true → p ≡ q
 sends_once (Some (Send s)) p q e f = sym (eqb-true s.to p e) ∙ eqb-true s.to q f
-sends_once (Some (Recv r)) p q e f = absurd (cc)
-sends_once (Some (Wait t)) p q e f = absurd (cc)
-sends_once (Some Barrier) p q e f = absurd (cc)
-sends_once None p q e f = absurd (cc)
+sends_once k p q e f = absurd (cc)
 
 pub same_recv : (b : Board) (s r q : CallId) → eligible b s r ≡ true → eligible b s q ≡ true → r ≡ q
 same_recv b s r q e f =
@@ -261,20 +253,20 @@ same_send b s t r named e f =
 -- ---- a wake after a match
 
 -- what is done gets no message more
-written_once : (mode : Mode) (k : Option CallKind) (o m : Option CallId) (f : CallId → Option Message) → (is_some o || is_buffered mode k) ≡ true
+written_once : (k : Option CallKind) (o m : Option CallId) (f : CallId → Option Message) → (is_some o || is_buffered k) ≡ true
     → writes_of k (option_and_then f (or_else o m)) ≡ writes_of k (option_and_then f o)
-written_once mode k (Some c) m f e = refl
-written_once Buffered (Some (Send s)) None m f e = refl
-written_once mode k None m f e = absurd (cc)
+written_once k (Some c) m f e = refl
+written_once (Some (Send s)) None m f e = refl
+written_once k None m f e = absurd (cc)
 
 done_more : (b : Board) (s r c : CallId) → is_done b c ≡ true → is_done (record b { sets = b.sets ++ Pair s r ∷ [] }) c ≡ true
-done_more b s r c e = ap (λ (o : Option CallId). is_some o || is_buffered b.mode (kind_at b c)) (partner_more b.sets (Pair s r ∷ []) c) ∙ by_cases (partner b.sets c) e
+done_more b s r c e = ap (λ (o : Option CallId). is_some o || is_buffered (kind_at b c)) (partner_more b.sets (Pair s r ∷ []) c) ∙ by_cases (partner b.sets c) e
   where
     or_true : (x : Bool) → (x || true) ≡ true
     or_true true = refl
     or_true false = refl
 
-    by_cases : (o : Option CallId) → (is_some o || is_buffered b.mode (kind_at b c)) ≡ true → (is_some (or_else o (partner (Pair s r ∷ []) c)) || is_buffered b.mode (kind_at b c)) ≡ true
+    by_cases : (o : Option CallId) → (is_some o || is_buffered (kind_at b c)) ≡ true → (is_some (or_else o (partner (Pair s r ∷ []) c)) || is_buffered (kind_at b c)) ≡ true
     by_cases (Some d) h = refl
     by_cases None h = ap (λ (x : Bool). is_some (partner (Pair s r ∷ []) c) || x) h ∙ or_true (is_some (partner (Pair s r ∷ []) c))
 
@@ -286,7 +278,7 @@ writes_more : (b : Board) (s r : CallId) (o : Option CallId) → complete_by b o
 writes_more b s r None e = refl
 writes_more b s r (Some c) e =
     ap (λ (o : Option CallId). writes_of (kind_at b c) (option_and_then (λ d. message_of d (kind_at b d)) o)) (partner_more b.sets (Pair s r ∷ []) c)
-    ∙ written_once b.mode (kind_at b c) (partner b.sets c) (partner (Pair s r ∷ []) c) (λ d. message_of d (kind_at b d)) e
+    ∙ written_once (kind_at b c) (partner b.sets c) (partner (Pair s r ∷ []) c) (λ d. message_of d (kind_at b d)) e
 
 pub wake_paired : (w : World) (s r : CallId) (p : ℕ) (z : RankWorld) → slice_get w.ranks p ≡ Some z → can_wake w p ≡ true
     → next (paired w s r) (Wake p) ≡ Some (moved (paired w s r) p (awake w p z) None (Some (last_call w.board p)))

@@ -4,7 +4,7 @@ use Rattle.std.specs.List.{filter}
 use Rattle.mpd_model.specs.declared.step.Step.{Step}
 use Rattle.mpd_model.specs.declared.step.Step.TheVariants.{Local, Match, Wake, Release}
 use Rattle.mpd_model.specs.declared.call.CallKind.{CallKind}
-use Rattle.mpd_model.specs.declared.call.CallKind.TheVariants.{Send, Recv, Wait, Barrier}
+use Rattle.mpd_model.specs.declared.call.CallKind.TheVariants.{Recv}
 use Rattle.mpd_model.specs.declared.outcome.Outcome.{Outcome}
 use Rattle.mpd_model.specs.declared.decision.Decision.{Decision}
 use Rattle.mpd_model.specs.declared.decision.Decision.TheVariants.{Forced, Choice, Leaf}
@@ -79,22 +79,16 @@ none_passes : (w : World) → Sound w → (test : Step → Bool) → first_enabl
 none_passes w h test e a on t = none_first (filter test (enabled w)) a e (in_filter test (enabled w) a t (in_enabled w h a on))
 
 local_named : (b : Board) (a : Step) → is_local a ≡ true → is_open_match b a ≡ false
-local_named b (Local p) e = refl
 local_named b (Match s r) e = absurd (cc)
-local_named b (Wake p) e = refl
-local_named b Release e = refl
+local_named b a e = refl
 
 release_named : (b : Board) (a : Step) → is_release a ≡ true → is_open_match b a ≡ false
-release_named b (Local p) e = refl
 release_named b (Match s r) e = absurd (cc)
-release_named b (Wake p) e = refl
-release_named b Release e = refl
+release_named b a e = refl
 
 wake_named : (b : Board) (a : Step) → is_wake a ≡ true → is_open_match b a ≡ false
-wake_named b (Local p) e = refl
 wake_named b (Match s r) e = absurd (cc)
-wake_named b (Wake p) e = refl
-wake_named b Release e = refl
+wake_named b a e = refl
 
 some_is_not_none : {A : Type 0} (o : Option A) → is_some o ≡ true → is_none o ≡ false
 some_is_not_none None e = absurd (cc)
@@ -102,16 +96,11 @@ some_is_not_none (Some x) e = refl
 
 source_named : (k : Option CallKind) → names_source k ≡ true → takes_any k ≡ false
 source_named (Some (Recv r)) e = some_is_not_none r.from e
-source_named (Some (Send s)) e = refl
-source_named (Some (Wait t)) e = refl
-source_named (Some Barrier) e = refl
-source_named None e = refl
+source_named k e = refl
 
 match_named : (b : Board) (a : Step) → is_named_match b a ≡ true → is_open_match b a ≡ false
-match_named b (Local p) e = refl
 match_named b (Match s r) e = source_named (kind_at b r) e
-match_named b (Wake p) e = refl
-match_named b Release e = refl
+match_named b a e = refl
 
 none_or_some : {A : Type 0} (o : Option A) → (is_some o ≡ true → ⊥) → is_none o ≡ true
 none_or_some None h = refl
@@ -119,10 +108,7 @@ none_or_some (Some x) h = absurd (h refl)
 
 takes_any_by : (k : Option CallKind) → receives k ≡ true → (names_source k ≡ true → ⊥) → takes_any k ≡ true
 takes_any_by (Some (Recv r)) e h = none_or_some r.from h
-takes_any_by (Some (Send s)) e h = absurd (cc)
-takes_any_by (Some (Wait t)) e h = absurd (cc)
-takes_any_by (Some Barrier) e h = absurd (cc)
-takes_any_by None e h = absurd (cc)
+takes_any_by k e h = absurd (cc)
 
 -- a step that is no other is a match of a receive of any source
 open_by : (w : World) (a : Step) → is_some (next w a) ≡ true → (is_local a ≡ true → ⊥) → (is_release a ≡ true → ⊥) → (is_wake a ≡ true → ⊥) → (is_named_match w.board a ≡ true → ⊥)

@@ -4,8 +4,7 @@
 use Rattle.std.specs.Prelude.{◌≡◌, ℕ, zero, suc, Bool, true, false, ◌&&◌, List, [], ◌∷◌, ◌++◌, map, Option, Some}
 use Rattle.std.specs.List.{list_any, AllPairs, Contains}
 use Rattle.mpd_model.specs.declared.step.Step.{Step}
-use Rattle.mpd_model.specs.declared.step.Step.TheVariants.{Local, Match, Wake, Release}
-use Rattle.mpd_model.specs.declared.step.CallId.{CallId}
+use Rattle.mpd_model.specs.declared.step.Step.TheVariants.{Match}
 use Rattle.mpd_model.specs.declared.call.Mode.{Mode}
 use Rattle.mpd_model.specs.declared.decision.Decision.{Decision}
 use Rattle.mpd_model.specs.declared.decision.Decision.TheVariants.{Forced, Choice, Leaf}
@@ -20,17 +19,9 @@ use Rattle.mpd_complete.specs.CompleteLaws.{IsWhole, IsComplete, IsRun}
 
 -- ---- steps that are asleep: matches of receives of any source
 
-abbrev pub is_match : Step → CallId → CallId → Bool
-is_match (Match t q) s r = id_eq s t && id_eq r q
-is_match (Local p) s r = false
-is_match (Wake p) s r = false
-is_match Release s r = false
-
 abbrev pub same_match : Step → Step → Bool
-same_match (Match s r) b = is_match b s r
-same_match (Local p) b = false
-same_match (Wake p) b = false
-same_match Release b = false
+same_match (Match s r) (Match t q) = id_eq s t && id_eq r q
+same_match a b = false
 
 abbrev pub is_asleep : List Step → Step → Bool
 is_asleep asleep a = list_any (same_match a) asleep

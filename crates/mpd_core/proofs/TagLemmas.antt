@@ -1,16 +1,16 @@
 -- The tags of all sends, and the numbers of the message that a receive gets.
-use Rattle.std.proofs.Common.{◌≡◌, ◌<◌, ◌≤◌, ◌-◌, ℕ, zero, suc, List, [], ◌∷◌, ◌++◌, length, take, replicate, Option, Some, None, IfSome, refl, sym, ap, ◌∙◌, subst, arith, slice_get, slice_set, option_and_then}
+use Rattle.std.proofs.Common.{◌≡◌, ◌<◌, ◌≤◌, ◌-◌, ℕ, zero, suc, Bool, List, [], ◌∷◌, ◌++◌, length, take, replicate, Option, Some, None, IfSome, refl, sym, ap, ◌∙◌, subst, arith, slice_get, slice_set, option_and_then}
 use Rattle.std.specs.List.{range_with_len}
 use Rattle.mpd_model.specs.declared.limits.TheConstants.{RANKS_MAX}
 use Rattle.mpd_model.specs.declared.call.Call.{Call}
 use Rattle.mpd_model.specs.declared.call.CallKind.{CallKind}
-use Rattle.mpd_model.specs.declared.call.CallKind.TheVariants.{Send, Recv, Wait, Barrier}
+use Rattle.mpd_model.specs.declared.call.CallKind.TheVariants.{Send}
 use Rattle.mpd_model.specs.declared.call.Message.{Message}
 use Rattle.mpd_model.specs.declared.call.Mode.{Mode}
 use Rattle.mpd_model.specs.declared.step.CallId.{CallId}
 use Rattle.mpd_model.specs.Program.{Program}
 use Rattle.mpd_model.specs.World.{Board, calls_of, listed_calls, kind_of, kind_at, message_of, buffer, partner, start_board}
-use Rattle.mpd_model.specs.Next.{HasReceiver, with_issued}
+use Rattle.mpd_model.specs.Next.{HasReceiver, has_buffer, buffered_by, entered, with_issued}
 use Rattle.mpd_match.specs.Changes.{without_last_call}
 use Rattle.mpd_rank.specs.Plans.{HasTag}
 use Rattle.mpd_rank.specs.Views.{RankView}
@@ -40,10 +40,16 @@ tag_set (calls ∷ all) zero new (suc p) i h old = old
 tag_set (calls ∷ all) (suc q) new zero i h old = old
 tag_set (calls ∷ all) (suc q) new (suc p) i h old = tag_set all q new p i h old
 
+-- a buffer doesn't change a tag
+tag_entered : (room : Bool) (k : CallKind) → HasTag (Some k) → HasTag (Some (buffered_by room k))
+tag_entered room (Send s) h = h
+tag_entered room k h = tt
+
 pub tags_issued : (b c : Board) (p : ℕ) (o : Option Call) → c ≡ with_issued b p o → IfSome o (λ k. HasReceiver (length b.calls) k.kind × HasTag (Some k.kind)) → HasTags b → HasTags c
 tags_issued b c p None e h tags = subst HasTags (sym e) tags
 tags_issued b c p (Some k) e h tags =
-    subst HasTags (sym e) (λ d. tag_set b.calls p (calls_of b p ++ k ∷ []) d.rank d.index (tag_more (calls_of b p) k d.index h.1 (tags (record { rank = p; index = d.index }))) (tags d))
+    let c : Call = entered b p k in
+    subst HasTags (sym e) (λ d. tag_set b.calls p (calls_of b p ++ c ∷ []) d.rank d.index (tag_more (calls_of b p) c d.index (tag_entered (has_buffer b p) k.kind h.1) (tags (record { rank = p; index = d.index }))) (tags d))
 
 -- ---- a call less
 
@@ -81,11 +87,8 @@ rank_there (calls ∷ all) zero i k e = omega arith
 rank_there (calls ∷ all) (suc p) i k e = omega (arith, rank_there all p i k e)
 
 message_by : (d : CallId) (o : Option CallKind) → HasTag o → ((k : CallKind) → o ≡ Some k → d.rank < RANKS_MAX) → IfSome (message_of d o) IsMessage
-message_by d None h there = tt
 message_by d (Some (Send s)) h there = (there (Send s) refl, h)
-message_by d (Some (Recv r)) h there = tt
-message_by d (Some (Wait t)) h there = tt
-message_by d (Some Barrier) h there = tt
+message_by d o h there = tt
 
 got_by : (b : Board) (o : Option CallId) → HasTags b → length b.calls < suc RANKS_MAX → IfSome (option_and_then (λ d. message_of d (kind_at b d)) o) IsMessage
 got_by b None tags few = tt

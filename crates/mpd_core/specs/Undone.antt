@@ -8,21 +8,15 @@ use Rattle.mpd_model.specs.World.{World, Board, calls_of, partner, last_call}
 use Rattle.mpd_model.specs.Next.{update_at}
 use Rattle.mpd_match.specs.Changes.{without_last_call, without_last_set, last_set, Recorded, is_woke}
 use Rattle.mpd_rank.specs.declared.change.Change.{Change}
-use Rattle.mpd_rank.specs.declared.change.Change.TheVariants.{Moved, Assigned, Printed, Issued, Trapped, Matched, Woke, Released}
+use Rattle.mpd_rank.specs.declared.change.Change.TheVariants.{Issued, Matched}
 use Rattle.mpd_rank.specs.declared.change.RankRecord.{RankRecord}
 use Rattle.mpd_rank.specs.Undone.{undone_rank, blocked_again, IsOfRank}
 use Rattle.mpd_core.specs.declared.record.Record.{Record}
 
 -- a board before a step of a rank, which issued a call or did something else
 abbrev pub unissued : Board → ℕ → Change → Board
-unissued b p Moved = b
-unissued b p (Assigned cell was) = b
-unissued b p Printed = b
 unissued b p (Issued handle) = without_last_call b p
-unissued b p Trapped = b
-unissued b p (Matched send recv) = b
-unissued b p (Woke cell handle) = b
-unissued b p Released = b
+unissued b p change = b
 
 -- what a record says of a rank
 abbrev pub rank_part : Record → RankRecord
@@ -41,25 +35,13 @@ undone s w done = undone_by s w done done.step
 
 -- a call that was issued last is there, and no pair names it
 abbrev pub CanUnissue : Board → ℕ → Change → Type 0
-CanUnissue b p Moved = Unit {0}
-CanUnissue b p (Assigned cell was) = Unit {0}
-CanUnissue b p Printed = Unit {0}
 CanUnissue b p (Issued handle) = (0 < length (calls_of b p)) × (partner b.sets (last_call b p) ≡ None)
-CanUnissue b p Trapped = Unit {0}
-CanUnissue b p (Matched send recv) = Unit {0}
-CanUnissue b p (Woke cell handle) = Unit {0}
-CanUnissue b p Released = Unit {0}
+CanUnissue b p change = Unit {0}
 
 -- the last match set is a pair, and these the places of its calls before it
 abbrev pub CanUnpair : Board → Change → Type 0
-CanUnpair b Moved = ⊥
-CanUnpair b (Assigned cell was) = ⊥
-CanUnpair b Printed = ⊥
-CanUnpair b (Issued handle) = ⊥
-CanUnpair b Trapped = ⊥
 CanUnpair b (Matched send recv) = Recorded (without_last_set b) (record { send_spot = send; recv_spot = recv }) (last_set b)
-CanUnpair b (Woke cell handle) = ⊥
-CanUnpair b Released = ⊥
+CanUnpair b change = ⊥
 
 -- A record can be taken back on the world that its step led to: what `undo` requires, `apply` ensures, and the trail carries.
 abbrev pub CanUndoBy : World → Change → Step → Type 0

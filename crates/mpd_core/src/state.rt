@@ -6,7 +6,6 @@ ghost use Rattle.std.specs.List.{list_all};
 ghost use Rattle.mpd_model.specs.Outcomes.{has_ended, first_number};
 ghost use Rattle.mpd_model.specs.declared.call.MatchSet.TheVariants as sets;
 ghost use Rattle.mpd_model.specs.Program.{Program};
-ghost use Rattle.mpd_model.specs.World as world_specs;
 ghost use Rattle.mpd_model.specs.World.{eligible, start};
 ghost use Rattle.mpd_model.specs.Next as next_specs;
 ghost use Rattle.mpd_model.specs.Next.{next, is_enabled, local_at, update_at, wake_writes, wake_clears, status_writes, can_wake, can_release, is_at_barrier, waits};
@@ -26,6 +25,7 @@ use mpd_device::steps::Steps;
 use mpd_match::board::Board;
 use mpd_match::record::PairRecord;
 use mpd_model::call::{Activity, CallKind, Message, Mode, RecvCall};
+use mpd_model::kind::is_barrier;
 use mpd_model::limits::RANKS_MAX;
 use mpd_model::step::{CallId, Step};
 use mpd_rank::change::{Cells, Change, LocalRecord, RankRecord};
@@ -70,16 +70,6 @@ fn cleared_by(kind: Option<CallKind>) -> Option<usize>
     match kind {
         Some(CallKind::Wait(wait)) => Some(wait.handle),
         _ => None,
-    }
-}
-
-/// Whether a call of this kind is a barrier.
-fn is_barrier(kind: Option<CallKind>) -> bool
-    ensures { result ≡ world_specs.is_barrier kind }
-{
-    match kind {
-        Some(CallKind::Barrier) => true,
-        _ => false,
     }
 }
 

@@ -13,7 +13,7 @@ use Rattle.mpd_model.specs.World.{World, Board, start, start_rank, start_board, 
 use Rattle.mpd_model.specs.Next.{local, local_at, stepped, waits, can_wake, woken, can_release, released, with_set, next, fold}
 use Rattle.mpd_model.specs.Order.{blocks_rank, barriers, before, Ordered}
 use Rattle.mpd_laws.proofs.Eligible.{both_of}
-use Rattle.mpd_laws.proofs.Orderly.{Orderly, held}
+use Rattle.mpd_laws.proofs.Orderly.{Orderly, IsMarked, held}
 use Rattle.mpd_laws.proofs.OrderIssues.{local_keeps}
 use Rattle.mpd_laws.proofs.OrderReleases.{release_keeps}
 use Rattle.mpd_laws.proofs.OrderSteps.{match_keeps, wake_keeps}
@@ -36,6 +36,7 @@ start_orderly s mode = record {
   went_on = λ x blocking. absurd (none_blocks _ (no_kind s.ranks mode x) blocking);
   released = λ p r at. ap barriers (no_calls s.ranks p) ∙ sym (ap (λ (n : ℕ). 0 + n) (none_held p));
   ordered = λ p i j lt known. absurd (none_known _ (no_kind s.ranks mode (call_id p j)) known);
+  marked = λ c. subst (IsMarked mode) (sym (no_kind s.ranks mode c)) tt;
 }
   where
     none_blocks : (k : Option CallKind) → k ≡ None → blocks_rank k ≡ true → ⊥
@@ -86,7 +87,7 @@ fold_orderly (a ∷ steps) u w e h =
     let after = joined_from (λ v. fold v steps) (next u a) w e in
     fold_orderly steps after.0 w after.2 (next_orderly u a after.0 after.1 h)
 
--- ---- the law
+-- ---- the laws
 
 order_by : (b : Board) → ((p i j : ℕ) → i < j → is_some (kind_at b (call_id p j)) ≡ true → Ordered b (call_id p i) (call_id p j)) → (x y : CallId) → before b x y ≡ true → Ordered b x y
 order_by b all x y e =
@@ -96,5 +97,8 @@ order_by b all x y e =
     let rank : x.rank ≡ y.rank = eqb-true x.rank y.rank one.0 in
     subst (λ (q : ℕ). Ordered b (call_id q x.index) y) (sym rank) (all y.rank x.index y.index (ltb-true x.index y.index two.0) three.0)
 
+pub orderly : (s : Program) (mode : Mode) (steps : List Step) (w : World) → fold (start s mode) steps ≡ Some w → Orderly w
+orderly s mode steps w e = fold_orderly steps (start s mode) w e (start_orderly s mode)
+
 pub calls_in_order : (s : Program) (mode : Mode) (steps : List Step) (w : World) → fold (start s mode) steps ≡ Some w → (x y : CallId) → before w.board x y ≡ true → Ordered w.board x y
-calls_in_order s mode steps w e x y is = order_by w.board (fold_orderly steps (start s mode) w e (start_orderly s mode)).ordered x y is
+calls_in_order s mode steps w e x y is = order_by w.board (orderly s mode steps w e).ordered x y is

@@ -21,6 +21,7 @@ mod ReadCosts
 mod ReadTrees
 mod Releases
 mod Runs
+mod SendsDone
 mod Signs
 mod Sound
 mod SoundParts

@@ -5,16 +5,16 @@ use Rattle.std.proofs.lemmas.Bool.Decides.{eqb_tells}
 use Rattle.mpd_model.specs.declared.step.CallId.{CallId}
 use Rattle.mpd_model.specs.declared.call.Call.{Call}
 use Rattle.mpd_model.specs.declared.call.CallKind.{CallKind}
-use Rattle.mpd_model.specs.declared.call.CallKind.TheVariants.{Send, Recv, Wait, Barrier}
+use Rattle.mpd_model.specs.declared.call.CallKind.TheVariants.{Send, Barrier}
 use Rattle.mpd_model.specs.declared.call.MatchSet.{MatchSet}
 use Rattle.mpd_model.specs.declared.call.MatchSet.TheVariants.{Pair, Woke}
 use Rattle.mpd_model.specs.declared.call.MatchSet.TheVariants as set
 use Rattle.mpd_model.specs.World.{World, Board, RankWorld, call_id, listed_calls, calls_of, kind_of, kind_at, partner, is_buffered, is_barrier}
-use Rattle.mpd_model.specs.Next.{Ran, local, blocks, stepped, with_call, with_issued, waits, is_blocked}
+use Rattle.mpd_model.specs.Next.{Ran, local, blocks, stepped, with_call, with_issued, buffers_all, has_buffer, buffered_by, entered, waits, is_blocked}
 use Rattle.mpd_model.specs.Order.{matches_first, waits_for, blocks_rank, barriers, releases, barriers_before, is_released_by, names, is_exit, WentOn, Ordered}
 use Rattle.mpd_laws.proofs.Eligible.{both_of, known_within}
 use Rattle.mpd_laws.proofs.LocalActivity.{BlocksOn, local_blocks}
-use Rattle.mpd_laws.proofs.Orderly.{Orderly, IsAwaited, mentions, id_same}
+use Rattle.mpd_laws.proofs.Orderly.{Orderly, IsAwaited, IsMarked, mentions, id_same}
 use Rattle.mpd_laws.proofs.Releases.{one_if, releases_cut, barriers_more}
 use Rattle.mpd_laws.proofs.Splits.{IsSame, any_at_cut, read_written, none_written, others_kept, same_or_end, end_read}
 
@@ -131,7 +131,7 @@ same_ordered : (b : Board) (p : ℕ) (c : Call) (x y : CallId) → Stays b p c x
 same_ordered b p c x y same_x same_y old = record {
   matched = λ first. old.matched (sym (λ i. matches_first (same_x.kind i) (same_y.kind i)) ∙ first);
   waited = λ awaits front behind e.
-      ap (λ (k : Option CallKind). is_some (partner front x) || is_buffered b.mode k) same_x.kind ∙ old.waited (sym (ap (λ (k : Option CallKind). waits_for k x.index) same_y.kind) ∙ awaits) front behind e;
+      ap (λ (k : Option CallKind). is_some (partner front x) || is_buffered k) same_x.kind ∙ old.waited (sym (ap (λ (k : Option CallKind). waits_for k x.index) same_y.kind) ∙ awaits) front behind e;
   went_on = λ blocking front behind m e named.
       went_stays b p c front x same_x (old.went_on (sym (ap blocks_rank same_x.kind) ∙ blocking) front behind m e (sym (names_stay b p c y same_y front m) ∙ named));
 }
@@ -172,16 +172,16 @@ ordered_issued w p r c at h q i j lt known =
 
 calls_elsewhere : (b : Board) (p q : ℕ) (o : Option Call) → q ≢ p → calls_of (with_issued b p o) q ≡ calls_of b q
 calls_elsewhere b p q None ne = refl
-calls_elsewhere b p q (Some c) ne = kind_elsewhere b p c (call_id q 0) ne
+calls_elsewhere b p q (Some c) ne = kind_elsewhere b p (entered b p c) (call_id q 0) ne
 
 -- a rank that stays blocked isn't the one that steps
-still_awaited : (w : World) (p : ℕ) (r after : RankWorld) (call : Option Call) (x : CallId) → slice_get w.ranks p ≡ Some r → is_blocked r.activity ≡ false → IsAwaited w x
-    → IsAwaited (stepped w p (record { rank = after; call = call })) x
-still_awaited w p r after call x at runs here =
+still_awaited : (w : World) (p : ℕ) (r after : RankWorld) (b : Board) (x : CallId) → ((q : ℕ) → q ≢ p → calls_of b q ≡ calls_of w.board q) → slice_get w.ranks p ≡ Some r → is_blocked r.activity ≡ false → IsAwaited w x
+    → IsAwaited (record { ranks = slice_set w.ranks p after; board = b }) x
+still_awaited w p r after b x others at runs here =
     elim (eqb_tells x.rank p) [
       | inl same ↦ absurd (clash (waits (slice_get w.ranks x.rank)) here.blocked (ap (λ (q : ℕ). waits (slice_get w.ranks q)) same.1 ∙ ap waits at ∙ runs))
       | inr off ↦ record {
-        last = ap (λ (calls : List Call). length calls) (calls_elsewhere w.board p x.rank call off.1) ∙ here.last;
+        last = ap (λ (calls : List Call). length calls) (others x.rank off.1) ∙ here.last;
         blocked = ap waits (others_kept w.ranks p x.rank after off.1) ∙ here.blocked;
       }
     ]
@@ -189,13 +189,17 @@ still_awaited w p r after call x at runs here =
     clash : (b : Bool) → b ≡ true → b ≡ false → ⊥
     clash b e f = cc
 
-went_issued : (w : World) (p : ℕ) (r after : RankWorld) (c : Call) (x : CallId) → slice_get w.ranks p ≡ Some r → is_blocked r.activity ≡ false → BlocksOn (record { rank = after; call = Some c }) → Orderly w
-    → blocks_rank (kind_at (with_call w.board p c) x) ≡ true → WentOn (with_call w.board p c) w.board.sets x ⊎ IsAwaited (stepped w p (record { rank = after; call = Some c })) x
+-- the world behind a step, with the call as it joined
+abbrev joined : World → ℕ → RankWorld → Call → World
+joined w p after c = record { ranks = slice_set w.ranks p after; board = with_call w.board p c }
+
+went_issued : (w : World) (p : ℕ) (r after : RankWorld) (c : Call) (x : CallId) → slice_get w.ranks p ≡ Some r → is_blocked r.activity ≡ false → is_blocked after.activity ≡ blocks c.kind → Orderly w
+    → blocks_rank (kind_at (with_call w.board p c) x) ≡ true → WentOn (with_call w.board p c) w.board.sets x ⊎ IsAwaited (joined w p after c) x
 went_issued w p r after c x at runs blocked h blocking =
     elim (old_or_new w.board p c x) [
       | inl same ↦ elim (h.went_on x (ap blocks_rank (sym same.kind) ∙ blocking)) [
         | inl done ↦ inl (went_stays w.board p c w.board.sets x same done)
-        | inr here ↦ inr (still_awaited w p r after (Some c) x at runs here)
+        | inr here ↦ inr (still_awaited w p r after (with_call w.board p c) x (λ q ne. kind_elsewhere w.board p c (call_id q 0) ne) at runs here)
       ]
       | inr new ↦ inr (record {
         last = new.last;
@@ -219,11 +223,14 @@ runs_free o calls e = ap (λ (b : Bool). one_if (b && is_barrier (kind_of (slice
 no_calls_free : (o : Option RankWorld) → held_by o [] ≡ 0
 no_calls_free o = ap one_if (and_false (waits o))
 
+-- a buffer doesn't change whether a rank waits for a call
+blocks_entered : (room : Bool) (k : CallKind) → blocks (buffered_by room k) ≡ blocks k
+blocks_entered room (Send s) = refl
+blocks_entered room k = refl
+
 barrier_blocks : (k : CallKind) → (blocks k && is_barrier (Some k)) ≡ is_barrier (Some k)
-barrier_blocks (Send s) = and_false s.blocks
-barrier_blocks (Recv r) = and_false r.blocks
-barrier_blocks (Wait t) = refl
 barrier_blocks Barrier = refl
+barrier_blocks k = and_false (blocks k)
 
 -- a rank that has just issued a call is blocked on it where that is a barrier
 held_last : (after : RankWorld) (calls : List Call) (c : Call) → is_blocked after.activity ≡ blocks c.kind → held_by (Some after) (calls ++ c ∷ []) ≡ one_if (is_barrier (Some c.kind))
@@ -238,7 +245,7 @@ stepped_counts : (w : World) (p : ℕ) (r after : RankWorld) (call : Option Call
     → barriers (calls_of (with_issued w.board p call) p) ≡ releases w.board.sets + held_by (Some after) (calls_of (with_issued w.board p call) p)
 stepped_counts w p r after None at runs blocked h =
     h.released p r at ∙ ap (λ (n : ℕ). releases w.board.sets + n) (runs_free (slice_get w.ranks p) (calls_of w.board p) (ap waits at ∙ runs) ∙ sym (runs_free (Some after) (calls_of w.board p) blocked))
-stepped_counts w p r after (Some c) at runs blocked h =
+stepped_counts w p r after (Some issued) at runs as_issued h =
     elim (calls_joined w.board p c (slice_get w.board.calls p) refl) [
       | inl none ↦
           ap barriers none.1 ∙ sym (ap barriers none.0) ∙ all
@@ -253,6 +260,12 @@ stepped_counts w p r after (Some c) at runs blocked h =
   where
     all : barriers (calls_of w.board p) ≡ releases w.board.sets + held_by (slice_get w.ranks p) (calls_of w.board p)
     all = h.released p r at
+
+    c : Call
+    c = entered w.board p issued
+
+    blocked : is_blocked after.activity ≡ blocks c.kind
+    blocked = as_issued ∙ sym (blocks_entered (has_buffer w.board p) issued.kind)
 
     held_none : held_by (slice_get w.ranks p) (calls_of w.board p) ≡ 0
     held_none = runs_free (slice_get w.ranks p) (calls_of w.board p) (ap waits at ∙ runs)
@@ -272,6 +285,19 @@ local_counts w p r after call at runs blocked h q s is =
           ap barriers calls ∙ h.released q s (sym rank ∙ is) ∙ (λ i. releases w.board.sets + held_by (sym rank i) (sym calls i))
     ]
 
+-- ---- the mark of a send
+
+entered_marked : (b : Board) (k : CallKind) → IsMarked b.mode (Some (buffered_by (buffers_all b.mode) k))
+entered_marked b (Send s) = refl
+entered_marked b k = tt
+
+marked_issued : (w : World) (p : ℕ) (issued : Call) (x : CallId) → Orderly w → IsMarked w.board.mode (kind_at (with_call w.board p (entered w.board p issued)) x)
+marked_issued w p issued x h =
+    elim (old_or_new w.board p (entered w.board p issued) x) [
+      | inl same ↦ subst (IsMarked w.board.mode) (sym same.kind) (h.marked x)
+      | inr new ↦ subst (IsMarked w.board.mode) (sym new.kind) (entered_marked w.board issued.kind)
+    ]
+
 -- ---- the whole step
 
 local_keeps_by : (w : World) (p : ℕ) (r after : RankWorld) (call : Option Call) → slice_get w.ranks p ≡ Some r → is_blocked r.activity ≡ false → BlocksOn (record { rank = after; call = call }) → Orderly w
@@ -280,17 +306,22 @@ local_keeps_by w p r after None at runs blocked h = record {
   named = h.named;
   went_on = λ x blocking. elim (h.went_on x blocking) [
     | inl done ↦ inl done
-    | inr here ↦ inr (still_awaited w p r after None x at runs here)
+    | inr here ↦ inr (still_awaited w p r after w.board x (λ q ne. refl) at runs here)
   ];
   released = local_counts w p r after None at runs blocked h;
   ordered = h.ordered;
+  marked = h.marked;
 }
-local_keeps_by w p r after (Some c) at runs blocked h = record {
-  named = λ d is. let known = h.named d is in ap (λ (k : Option CallKind). is_some k) (old_stays w.board p c d known) ∙ known;
-  went_on = λ x blocking. went_issued w p r after c x at runs blocked h blocking;
-  released = local_counts w p r after (Some c) at runs blocked h;
-  ordered = ordered_issued w p r c at h;
-}
+local_keeps_by w p r after (Some issued) at runs blocked h =
+    let c : Call = entered w.board p issued in
+    let joined_blocked : is_blocked after.activity ≡ blocks c.kind = blocked ∙ sym (blocks_entered (has_buffer w.board p) issued.kind) in
+    record {
+      named = λ d is. let known = h.named d is in ap (λ (k : Option CallKind). is_some k) (old_stays w.board p c d known) ∙ known;
+      went_on = λ x blocking. went_issued w p r after c x at runs joined_blocked h blocking;
+      released = local_counts w p r after (Some issued) at runs blocked h;
+      ordered = ordered_issued w p r c at h;
+      marked = λ x. marked_issued w p issued x h;
+    }
 
 pub local_keeps : (w : World) (p : ℕ) (r : RankWorld) (done : Ran) → slice_get w.ranks p ≡ Some r → local p (length w.ranks) (length (calls_of w.board p)) r ≡ Some done → Orderly w → Orderly (stepped w p done)
 local_keeps w p r done at e h =

@@ -1,5 +1,5 @@
 -- Each step keeps calls in order, and so each run.
-use Rattle.std.proofs.Common.{◌≡◌, ◌≢◌, ◌⊎◌, ℕ, suc, ◌+◌, ◌-◌, ◌<◌, Bool, true, false, cond, not, ◌&&◌, ◌||◌, Option, Some, None, is_some, List, [], ◌∷◌, ◌++◌, length, slice_get, inl, inr, refl, sym, ap, subst, ◌∙◌, arith, eq-eqb}
+use Rattle.std.proofs.Common.{◌≡◌, ◌≢◌, ◌⊎◌, ℕ, ℤ, suc, ◌+◌, ◌-◌, ◌<◌, Bool, true, false, cond, not, ◌&&◌, ◌||◌, Option, Some, None, is_some, List, [], ◌∷◌, ◌++◌, length, slice_get, inl, inr, refl, sym, ap, subst, ◌∙◌, arith, eq-eqb}
 use Rattle.std.proofs.lemmas.Bool.{cases_Bool, eqb-true}
 use Rattle.std.proofs.lemmas.List.{append_assoc}
 use Rattle.std.proofs.lemmas.Bool.Decides.{eqb_tells}
@@ -7,14 +7,12 @@ use Rattle.std.specs.Cmp.Derive.{both_true}
 use Rattle.std.specs.Option.{option_map}
 use Rattle.mpd_model.specs.declared.step.CallId.{CallId}
 use Rattle.mpd_model.specs.declared.call.CallKind.{CallKind}
-use Rattle.mpd_model.specs.declared.call.CallKind.TheVariants.{Send, Recv, Wait, Barrier}
-use Rattle.mpd_model.specs.declared.call.Mode.{Mode}
-use Rattle.mpd_model.specs.declared.call.Mode.TheVariants.{Rendezvous, Buffered}
+use Rattle.mpd_model.specs.declared.call.CallKind.TheVariants.{Wait}
 use Rattle.mpd_model.specs.declared.call.MatchSet.{MatchSet}
 use Rattle.mpd_model.specs.declared.call.MatchSet.TheVariants.{Pair, Woke}
 use Rattle.mpd_model.specs.declared.call.MatchSet.TheVariants as set
 use Rattle.mpd_model.specs.World.{World, Board, RankWorld, call_id, id_eq, calls_of, kind_at, partner, is_barrier, is_buffered, is_done, eligible, complete, complete_by, awaited_by, last_call}
-use Rattle.mpd_model.specs.Next.{waits, can_wake, put_at, woken_rank, wake_writes, wake_clears, woken, with_set}
+use Rattle.mpd_model.specs.Next.{waits, can_wake, put_at, woken_rank, wake_writes, wake_clears, woken_by, woken, with_set}
 use Rattle.mpd_model.specs.Order.{waits_for, is_number, barriers, releases, WentOn, Ordered}
 use Rattle.mpd_laws.proofs.Eligible.{both_of, denied, known_within}
 use Rattle.mpd_laws.proofs.Orderly.{Orderly, IsAwaited, MayJoin, mentions, is_named, held, waiting, passed, same_id, either_of, order_more, pair_may_join}
@@ -57,6 +55,7 @@ match_keeps w s r e h = record {
   ];
   released = λ p q at. h.released p q at ∙ ap (λ (n : ℕ). n + held w p) (sym (releases_same w.board.sets (Pair s r) refl));
   ordered = ordered_more w (Pair s r) (pair_may_join w.board s r e) h;
+  marked = h.marked;
 }
 
 -- ---- a wake
@@ -85,14 +84,10 @@ paired_named (set.Barrier ∷ sets) c e = paired_named sets c e
 complete_known : (w : World) → Orderly w → (c : CallId) (k : Option CallKind) → kind_at w.board c ≡ k → complete_by w.board (awaited_by c k) ≡ true → is_some k ≡ true
 complete_known w h c (Some k) is e = refl
 complete_known w h c None is e =
-    elim (either_of (is_some (partner w.board.sets c)) (is_buffered w.board.mode (kind_at w.board c)) e) [
+    elim (either_of (is_some (partner w.board.sets c)) (is_buffered (kind_at w.board c)) e) [
       | inl paired ↦ ap (λ (o : Option CallKind). is_some o) (sym is) ∙ h.named c (paired_named w.board.sets c paired)
-      | inr buffered ↦ absurd (never w.board.mode (sym (ap (is_buffered w.board.mode) is) ∙ buffered))
+      | inr buffered ↦ absurd (let never : false ≡ true = sym (ap is_buffered is) ∙ buffered in cc)
     ]
-  where
-    never : (mode : Mode) → is_buffered mode None ≡ true → ⊥
-    never Buffered e = cc
-    never Rendezvous e = cc
 
 -- what is awaited by a wait for that call
 awaits_done : (b : Board) (c : CallId) (i : ℕ) (k : Option CallKind) → complete_by b (awaited_by c k) ≡ true → waits_for k i ≡ true → is_done b (call_id c.rank i) ≡ true
@@ -101,10 +96,7 @@ awaits_done b c i (Some (Wait t)) e f = target t.target e f
     target : (o : Option ℕ) → complete_by b (option_map (call_id c.rank) o) ≡ true → is_number o i ≡ true → is_done b (call_id c.rank i) ≡ true
     target None e f = absurd (cc)
     target (Some j) e f = ap (λ (n : ℕ). is_done b (call_id c.rank n)) (sym (eqb-true j i f)) ∙ e
-awaits_done b c i (Some (Send s)) e f = absurd (cc)
-awaits_done b c i (Some (Recv r)) e f = absurd (cc)
-awaits_done b c i (Some Barrier) e f = absurd (cc)
-awaits_done b c i None e f = absurd (cc)
+awaits_done b c i k e f = absurd (cc)
 
 awaited_done : (b : Board) (c : CallId) → complete b c ≡ true → complete_by b (awaited_by c (kind_at b c)) ≡ true
 awaited_done b c e = (both_of (not (is_barrier (kind_at b c))) _ e).1
@@ -122,8 +114,8 @@ put_elsewhere : (ranks : List RankWorld) (p q : ℕ) (o : Option RankWorld) (f :
 put_elsewhere ranks p q None f ne = refl
 put_elsewhere ranks p q (Some r) f ne = others_kept ranks p q (f r) ne
 
-wake_goes_on : (w : World) (p : ℕ) (x : CallId) → IsAwaited w x → WentOn (woken w p).board (woken w p).board.sets x ⊎ IsAwaited (woken w p) x
-wake_goes_on w p x here =
+wake_goes_on : (w : World) (p : ℕ) (writes : List (ℕ × ℤ)) (handle : Option ℕ) (x : CallId) → IsAwaited w x → WentOn (woken_by w p writes handle).board (woken_by w p writes handle).board.sets x ⊎ IsAwaited (woken_by w p writes handle) x
+wake_goes_on w p writes handle x here =
     elim (eqb_tells x.rank p) [
       | inl at ↦
           let count : length (calls_of w.board p) ≡ suc x.index = ap (λ (q : ℕ). length (calls_of w.board q)) (sym at.1) ∙ here.last in
@@ -137,7 +129,7 @@ wake_goes_on w p x here =
           })
       | inr off ↦ inr (record {
         last = here.last;
-        blocked = ap waits (put_elsewhere w.ranks p x.rank (slice_get w.ranks p) (woken_rank (wake_writes w.board p) (wake_clears w.board p)) off.1) ∙ here.blocked;
+        blocked = ap waits (put_elsewhere w.ranks p x.rank (slice_get w.ranks p) (woken_rank writes handle) off.1) ∙ here.blocked;
       })
     ]
 
@@ -150,40 +142,45 @@ holds_none w p e = ap (λ (b : Bool). one_if (waits (slice_get w.ranks p) && b))
     none false = refl
 
 -- a rank that wakes was blocked on no barrier, and is on none
-wake_counts : (w : World) (p : ℕ) → can_wake w p ≡ true → Orderly w → (q : ℕ) (r : RankWorld) → slice_get (woken w p).ranks q ≡ Some r
-    → barriers (calls_of w.board q) ≡ releases (woken w p).board.sets + held (woken w p) q
-wake_counts w p e h q r at =
+wake_counts : (w : World) (p : ℕ) (writes : List (ℕ × ℤ)) (handle : Option ℕ) → waits (slice_get w.ranks p) ≡ true → is_barrier (kind_at w.board (last_call w.board p)) ≡ false → Orderly w
+    → (q : ℕ) (r : RankWorld) → slice_get (woken_by w p writes handle).ranks q ≡ Some r
+    → barriers (calls_of w.board q) ≡ releases (woken_by w p writes handle).board.sets + held (woken_by w p writes handle) q
+wake_counts w p writes handle blocked other h q r at =
     elim (eqb_tells q p) [
-      | inl same ↦ subst (λ (k : ℕ). barriers (calls_of w.board k) ≡ releases (woken w p).board.sets + held (woken w p) k) (sym same.1) here
+      | inl same ↦ subst (λ (k : ℕ). barriers (calls_of w.board k) ≡ releases new.board.sets + held new k) (sym same.1) here
       | inr off ↦ h.released q r (sym (elsewhere off.1) ∙ at) ∙ (λ i. sym more i + cond (waits (sym (elsewhere off.1) i) && is_barrier (kind_at w.board (last_call w.board q))) 1 0)
     ]
   where
-    more : releases (woken w p).board.sets ≡ releases w.board.sets
+    new : World
+    new = woken_by w p writes handle
+
+    more : releases new.board.sets ≡ releases w.board.sets
     more = releases_same w.board.sets (Woke (last_call w.board p)) refl
 
-    elsewhere : q ≢ p → slice_get (woken w p).ranks q ≡ slice_get w.ranks q
-    elsewhere ne = put_elsewhere w.ranks p q (slice_get w.ranks p) (woken_rank (wake_writes w.board p) (wake_clears w.board p)) ne
+    elsewhere : q ≢ p → slice_get new.ranks q ≡ slice_get w.ranks q
+    elsewhere ne = put_elsewhere w.ranks p q (slice_get w.ranks p) (woken_rank writes handle) ne
 
-    parts : (waits (slice_get w.ranks p) ≡ true) × (complete w.board (last_call w.board p) ≡ true)
-    parts = both_of (waits (slice_get w.ranks p)) _ e
-
-    other : is_barrier (kind_at w.board (last_call w.board p)) ≡ false
-    other = denied _ (both_of (not (is_barrier (kind_at w.board (last_call w.board p)))) _ parts.1).0
-
-    here : barriers (calls_of w.board p) ≡ releases (woken w p).board.sets + held (woken w p) p
+    here : barriers (calls_of w.board p) ≡ releases new.board.sets + held new p
     here =
-        let rank = waiting (slice_get w.ranks p) parts.0 in
-        h.released p rank.0 rank.1 ∙ (λ i. sym more i + (holds_none w p other ∙ sym (holds_none (woken w p) p other)) i)
+        let rank = waiting (slice_get w.ranks p) blocked in
+        h.released p rank.0 rank.1 ∙ (λ i. sym more i + (holds_none w p other ∙ sym (holds_none new p other)) i)
+
+-- a rank that goes on from a call that may join as its wake, whatever it writes
+on_keeps : (w : World) (p : ℕ) (writes : List (ℕ × ℤ)) (handle : Option ℕ) → waits (slice_get w.ranks p) ≡ true → is_barrier (kind_at w.board (last_call w.board p)) ≡ false
+    → MayJoin w.board (Woke (last_call w.board p)) → Orderly w → Orderly (woken_by w p writes handle)
+on_keeps w p writes handle blocked other may h = record {
+  named = named_more w.board (Woke (last_call w.board p)) may h.named;
+  went_on = λ x blocking. elim (h.went_on x blocking) [
+    | inl done ↦ inl (went_kept w.board (Woke (last_call w.board p)) x done)
+    | inr here ↦ wake_goes_on w p writes handle x here
+  ];
+  released = wake_counts w p writes handle blocked other h;
+  ordered = ordered_more w (Woke (last_call w.board p)) may h;
+  marked = h.marked;
+}
 
 pub wake_keeps : (w : World) (p : ℕ) → can_wake w p ≡ true → Orderly w → Orderly (woken w p)
 wake_keeps w p e h =
-    let may = wake_may_join w h (last_call w.board p) (both_of (waits (slice_get w.ranks p)) _ e).1 in
-    record {
-      named = named_more w.board (Woke (last_call w.board p)) may h.named;
-      went_on = λ x blocking. elim (h.went_on x blocking) [
-        | inl done ↦ inl (went_kept w.board (Woke (last_call w.board p)) x done)
-        | inr here ↦ wake_goes_on w p x here
-      ];
-      released = wake_counts w p e h;
-      ordered = ordered_more w (Woke (last_call w.board p)) may h;
-    }
+    let parts = both_of (waits (slice_get w.ranks p)) _ e in
+    let other = denied _ (both_of (not (is_barrier (kind_at w.board (last_call w.board p)))) _ parts.1).0 in
+    on_keeps w p (wake_writes w.board p) (wake_clears w.board p) parts.0 other (wake_may_join w h (last_call w.board p) parts.1) h

@@ -2,6 +2,7 @@
 //! calls (docs/DEFINITIONS.md).
 #![tactic(auto)]
 
+pub mod buffers;
 pub mod canonical;
 pub mod ordering;
 pub mod reading;

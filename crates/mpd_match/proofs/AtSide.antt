@@ -5,7 +5,7 @@ use Rattle.std.proofs.lemmas.List.Sums.{sum_by-set, sum_by-append, sum_by-cons}
 use Rattle.mpd_model.specs.declared.step.CallId.{CallId}
 use Rattle.mpd_model.specs.declared.call.Call.{Call}
 use Rattle.mpd_model.specs.declared.call.CallKind.{CallKind}
-use Rattle.mpd_model.specs.declared.call.CallKind.TheVariants.{Send, Recv, Wait, Barrier}
+use Rattle.mpd_model.specs.declared.call.CallKind.TheVariants.{Send, Recv}
 use Rattle.mpd_model.specs.World.{listed_calls}
 use Rattle.mpd_model.specs.Next.{HasReceiver}
 use Rattle.mpd_match.specs.Views.{SideView, no_side, side_at, calls_in, lines_in, writes_in, room_in}
@@ -60,8 +60,7 @@ lines_at sides p lt e =
 pub has_line : (ranks : ℕ) (kind : CallKind) (line : ℕ) → HasReceiver ranks kind → line_of (Some kind) ≡ Some line → line < suc ranks
 has_line ranks (Send s) line has e = let f : s.to + 1 ≡ line = cc in omega (arith, f)
 has_line ranks (Recv r) line has e = let f : 0 ≡ line = cc in omega (arith, f)
-has_line ranks (Wait t) line has e = absurd (cc)
-has_line ranks Barrier line has e = absurd (cc)
+has_line ranks kind line has e = absurd (cc)
 
 -- ---- all sides, one after the other
 

@@ -8,7 +8,7 @@ use Rattle.mpd_model.specs.declared.step.CallId.{CallId}
 use Rattle.mpd_model.specs.declared.call.Call.{Call}
 use Rattle.mpd_model.specs.declared.call.Mode.{Mode}
 use Rattle.mpd_model.specs.declared.call.CallKind.{CallKind}
-use Rattle.mpd_model.specs.declared.call.CallKind.TheVariants.{Send, Recv, Wait, Barrier}
+use Rattle.mpd_model.specs.declared.call.CallKind.TheVariants.{Send, Recv}
 use Rattle.mpd_model.specs.declared.call.MatchSet.{MatchSet}
 use Rattle.mpd_model.specs.declared.call.MatchSet.TheVariants.{Pair, Woke}
 use Rattle.mpd_model.specs.declared.call.MatchSet.TheVariants as set
@@ -44,16 +44,12 @@ same_number a b =
 pends : (kind : Option CallKind) (q : ℕ) (free : Bool) → (free && is_line (line_of kind) (q + 1)) ≡ (sends_to kind q && (is_message_kind kind && free))
 pends (Some (Send s)) q free = ap (λ (b : Bool). free && b) (same_number s.to q) ∙ and_turned free (eqb s.to q)
 pends (Some (Recv r)) q free = ap (λ (b : Bool). free && b) (ne_eqb 0 (q + 1) (λ e. absurd (omega arith))) ∙ and_false free
-pends (Some (Wait t)) q free = and_false free
-pends (Some Barrier) q free = and_false free
-pends None q free = and_false free
+pends kind q free = and_false free
 
 posts : (kind : Option CallKind) (free : Bool) → (free && is_line (line_of kind) 0) ≡ (receives kind && (is_message_kind kind && free))
 posts (Some (Send s)) free = ap (λ (b : Bool). free && b) (ne_eqb (s.to + 1) 0 (λ e. absurd (omega arith))) ∙ and_false free
 posts (Some (Recv r)) free = and_turned free true
-posts (Some (Wait t)) free = and_false free
-posts (Some Barrier) free = and_false free
-posts None free = and_false free
+posts kind free = and_false free
 
 pending_is : (b : Board) (p q : ℕ) (mark : ℕ → Option CallId) → ((i : ℕ) → mark i ≡ partner b.sets (call_id p i)) → waiting (calls_of b p) mark (q + 1) ≡ pending b p q
 pending_is b p q mark e =
@@ -411,17 +407,11 @@ meets_unissue mode sides new sets p lt free ec el em h =
 
 pending_line : (kind : Option CallKind) (q : ℕ) → sends_to kind q ≡ true → line_of kind ≡ Some (q + 1)
 pending_line (Some (Send s)) q e = ap (λ (n : ℕ). Some (n + 1)) (eqb-true s.to q e)
-pending_line (Some (Recv r)) q e = cc
-pending_line (Some (Wait t)) q e = cc
-pending_line (Some Barrier) q e = cc
-pending_line None q e = cc
+pending_line kind q e = cc
 
 posted_line : (kind : Option CallKind) → receives kind ≡ true → line_of kind ≡ Some 0
-posted_line (Some (Send s)) e = cc
 posted_line (Some (Recv r)) e = refl
-posted_line (Some (Wait t)) e = cc
-posted_line (Some Barrier) e = cc
-posted_line None e = cc
+posted_line kind e = cc
 
 pub next_pending : (mode : Mode) (sides : List SideView) (sets : List MatchSet) (id : CallId) (v : SideView) (q : ℕ) (next : Option ℕ) → Meets (board_in mode sides sets) sides → v ≡ get_or sides id.rank v
     → is_pending (board_in mode sides sets) id.rank q id.index ≡ true → ((line : ℕ) → line_of (kind_in v.calls id.index) ≡ Some line → next ≡ next_of (waiting v.calls (mark_in v.marks) line) id.index)

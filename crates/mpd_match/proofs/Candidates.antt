@@ -9,7 +9,7 @@ use Rattle.std.specs.Option.{option_to_list}
 use Rattle.mpd_model.specs.declared.step.CallId.{CallId}
 use Rattle.mpd_model.specs.declared.call.Call.{Call}
 use Rattle.mpd_model.specs.declared.call.CallKind.{CallKind}
-use Rattle.mpd_model.specs.declared.call.CallKind.TheVariants.{Send, Recv, Wait, Barrier}
+use Rattle.mpd_model.specs.declared.call.CallKind.TheVariants.{Send, Recv}
 use Rattle.mpd_model.specs.World.{Board, call_id, calls_of, kind_of, kind_at, call_numbers, is_free, fits, fitting, sends_to, receives, is_pending, is_posted, pending, posted, eligible}
 use Rattle.mpd_model.specs.Why.{first_in}
 use Rattle.mpd_queue.specs.InOrder.{places_in}
@@ -170,21 +170,11 @@ candidates_one b p i r e =
 
 fitting_takes : (one other : Option CallKind) (p q : ℕ) → fitting one other p q ≡ true → takes_from other p ≡ true
 fitting_takes (Some (Send s)) (Some (Recv r)) p q e = (both_true _ _ (both_true _ _ e).1).0
-fitting_takes (Some (Send s)) (Some (Send t)) p q e = absurd (cc)
-fitting_takes (Some (Send s)) (Some (Wait t)) p q e = absurd (cc)
-fitting_takes (Some (Send s)) (Some Barrier) p q e = absurd (cc)
-fitting_takes (Some (Send s)) None p q e = absurd (cc)
-fitting_takes (Some (Recv r)) other p q e = absurd (cc)
-fitting_takes (Some (Wait t)) other p q e = absurd (cc)
-fitting_takes (Some Barrier) other p q e = absurd (cc)
-fitting_takes None other p q e = absurd (cc)
+fitting_takes one other p q e = absurd (cc)
 
 takes_receives : (k : Option CallKind) (p : ℕ) → takes_from k p ≡ true → receives k ≡ true
-takes_receives (Some (Send s)) p e = absurd (cc)
 takes_receives (Some (Recv r)) p e = refl
-takes_receives (Some (Wait t)) p e = absurd (cc)
-takes_receives (Some Barrier) p e = absurd (cc)
-takes_receives None p e = absurd (cc)
+takes_receives k p e = absurd (cc)
 
 pub eligible_takes : (b : Board) (s r : CallId) → eligible b s r ≡ true → takes_from (kind_at b r) s.rank ≡ true
 eligible_takes b s r e = let parts : Parts b s r = parts_of b s r e in fitting_takes (kind_at b s) (kind_at b r) s.rank r.rank parts.fit

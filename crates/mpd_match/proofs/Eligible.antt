@@ -1,10 +1,10 @@
 -- Earlier calls of a line, and the calls that are in the way of a pair.
-use Rattle.std.proofs.Common.{◌≡◌, ℕ, ◌+◌, ◌≤◌, Bool, true, false, cond, ◌&&◌, ◌||◌, not, nat_lt, Option, Some, None, List, [], ◌∷◌, refl, sym, ap, ◌∙◌, length, arith}
+use Rattle.std.proofs.Common.{◌≡◌, ℕ, ◌+◌, ◌≤◌, Bool, true, false, cond, ◌&&◌, ◌||◌, not, nat_lt, Option, Some, List, [], ◌∷◌, refl, sym, ap, ◌∙◌, length, arith}
 use Rattle.std.specs.List.{list_any}
 use Rattle.mpd_model.specs.declared.step.CallId.{CallId}
 use Rattle.mpd_model.specs.declared.call.Mode.{Mode}
 use Rattle.mpd_model.specs.declared.call.CallKind.{CallKind}
-use Rattle.mpd_model.specs.declared.call.CallKind.TheVariants.{Send, Recv, Wait, Barrier}
+use Rattle.mpd_model.specs.declared.call.CallKind.TheVariants.{Send, Recv}
 use Rattle.mpd_model.specs.declared.call.SendCall.{SendCall}
 use Rattle.mpd_model.specs.declared.call.MatchSet.{MatchSet}
 use Rattle.mpd_model.specs.World.{Board, call_id, kind_at, is_free, fits, fitting, pending, posted, eligible}
@@ -32,42 +32,17 @@ or_false false = refl
 
 -- two calls that fit are a send and a receive
 
-either_send : (one other : Option CallKind) (p q : ℕ) → fitting other one p q ≡ true → (any : Option CallKind) → fitting_either any one p q ≡ fitting any one p q
-either_send (Some (Recv r)) other p q e any = or_false (fitting any (Some (Recv r)) p q)
-either_send (Some (Send s)) (Some (Send t)) p q e any = absurd (cc)
-either_send (Some (Send s)) (Some (Recv t)) p q e any = absurd (cc)
-either_send (Some (Send s)) (Some (Wait t)) p q e any = absurd (cc)
-either_send (Some (Send s)) (Some Barrier) p q e any = absurd (cc)
-either_send (Some (Send s)) None p q e any = absurd (cc)
-either_send (Some (Wait s)) (Some (Send t)) p q e any = absurd (cc)
-either_send (Some (Wait s)) (Some (Recv t)) p q e any = absurd (cc)
-either_send (Some (Wait s)) (Some (Wait t)) p q e any = absurd (cc)
-either_send (Some (Wait s)) (Some Barrier) p q e any = absurd (cc)
-either_send (Some (Wait s)) None p q e any = absurd (cc)
-either_send (Some Barrier) (Some (Send t)) p q e any = absurd (cc)
-either_send (Some Barrier) (Some (Recv t)) p q e any = absurd (cc)
-either_send (Some Barrier) (Some (Wait t)) p q e any = absurd (cc)
-either_send (Some Barrier) (Some Barrier) p q e any = absurd (cc)
-either_send (Some Barrier) None p q e any = absurd (cc)
-either_send None (Some (Send t)) p q e any = absurd (cc)
-either_send None (Some (Recv t)) p q e any = absurd (cc)
-either_send None (Some (Wait t)) p q e any = absurd (cc)
-either_send None (Some Barrier) p q e any = absurd (cc)
-either_send None None p q e any = absurd (cc)
+either_send : (other one : Option CallKind) (p q : ℕ) → fitting other one p q ≡ true → (any : Option CallKind) → fitting_either any one p q ≡ fitting any one p q
+either_send (Some (Send s)) (Some (Recv r)) p q e any = or_false (fitting any (Some (Recv r)) p q)
+either_send other one p q e any = absurd (cc)
 
 no_send_fits : (any : Option CallKind) (s : SendCall) (p q : ℕ) → fitting any (Some (Send s)) p q ≡ false
 no_send_fits (Some (Send t)) s p q = refl
-no_send_fits (Some (Recv t)) s p q = refl
-no_send_fits (Some (Wait t)) s p q = refl
-no_send_fits (Some Barrier) s p q = refl
-no_send_fits None s p q = refl
+no_send_fits any s p q = refl
 
 either_recv : (one other : Option CallKind) (p q : ℕ) → fitting one other p q ≡ true → (any : Option CallKind) → fitting_either any one p q ≡ fitting one any p q
 either_recv (Some (Send s)) other p q e any = ap (λ (b : Bool). b || fitting (Some (Send s)) any p q) (no_send_fits any s p q)
-either_recv (Some (Recv r)) other p q e any = absurd (cc)
-either_recv (Some (Wait t)) other p q e any = absurd (cc)
-either_recv (Some Barrier) other p q e any = absurd (cc)
-either_recv None other p q e any = absurd (cc)
+either_recv one other p q e any = absurd (cc)
 
 pub lines_of_fitting : (mode : Mode) (sides : List SideView) (sets : List MatchSet) (s r : CallId) → fits (board_in mode sides sets) s r ≡ true
     → (line_of (kind_on sides s) ≡ Some (r.rank + 1)) × (line_of (kind_on sides r) ≡ Some 0)
@@ -79,7 +54,7 @@ lines_of_fitting mode sides sets s r fit =
 module _ (mode : Mode) (sides : List SideView) (sets : List MatchSet) (s r : CallId) (h : Meets (board_in mode sides sets) sides) (fit : fits (board_in mode sides sets) s r ≡ true) where
   send_test : (v : SideView) → side_at sides s.rank ≡ v → (i : ℕ) → fitting_either (kind_in v.calls i) (kind_at (board_in mode sides sets) r) s.rank r.rank ≡ fits (board_in mode sides sets) (call_id s.rank i) r
   send_test v side i =
-      either_send (kind_at (board_in mode sides sets) r) (kind_at (board_in mode sides sets) s) s.rank r.rank fit (kind_in v.calls i)
+      either_send (kind_at (board_in mode sides sets) s) (kind_at (board_in mode sides sets) r) s.rank r.rank fit (kind_in v.calls i)
       ∙ ap (λ (u : SideView). fitting (kind_in u.calls i) (kind_at (board_in mode sides sets) r) s.rank r.rank) (sym side)
       ∙ ap (λ (k : Option CallKind). fitting k (kind_at (board_in mode sides sets) r) s.rank r.rank) (kind_is mode sides sets (call_id s.rank i))
 

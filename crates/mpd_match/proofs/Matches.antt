@@ -1,5 +1,5 @@
 -- Where a send and a receive are eligible: what the calls of a rank have in common with its lists of free calls.
-use Rattle.std.proofs.Common.{◌≡◌, ℕ, suc, ◌+◌, ◌-◌, ◌<◌, ◌≤◌, Bool, true, false, ◌&&◌, ◌||◌, Option, Some, None, List, [], ◌∷◌, inl, inr, refl, sym, ap, ◌∙◌, length, slice_get, is_none, arith}
+use Rattle.std.proofs.Common.{◌≡◌, ℕ, suc, ◌+◌, ◌-◌, ◌<◌, ◌≤◌, Bool, true, false, ◌&&◌, ◌||◌, Option, Some, List, [], ◌∷◌, inl, inr, refl, sym, ap, ◌∙◌, length, slice_get, is_none, arith}
 use Rattle.std.specs.List.{list_any, filter, range_with_len}
 use Rattle.std.proofs.lemmas.Bool.{cases_lt}
 use Rattle.std.proofs.lemmas.Option.{slice_get_past}
@@ -7,7 +7,7 @@ use Rattle.std.proofs.lemmas.Map.Views.{any-filter_same}
 use Rattle.mpd_model.specs.declared.step.CallId.{CallId}
 use Rattle.mpd_model.specs.declared.call.Call.{Call}
 use Rattle.mpd_model.specs.declared.call.CallKind.{CallKind}
-use Rattle.mpd_model.specs.declared.call.CallKind.TheVariants.{Send, Recv, Wait, Barrier}
+use Rattle.mpd_model.specs.declared.call.CallKind.TheVariants.{Send, Recv}
 use Rattle.mpd_model.specs.World.{Board, call_id, listed_calls, calls_of, kind_of, kind_at, partner, is_message_kind, call_numbers, rank_numbers, is_free, sends_to, receives, fits, fitting, is_pending, is_posted, pending, posted, eligible}
 use Rattle.mpd_queue.specs.InOrder.{places_in}
 use Rattle.mpd_match.proofs.Bools.{bool_tells, both_true}
@@ -47,14 +47,7 @@ pending_free b p q z has = (both_true (sends_to (kind_at b (call_id p z)) q) (is
 
 fitting_sends : (one other : Option CallKind) (p q : ℕ) → fitting one other p q ≡ true → sends_to one q ≡ true
 fitting_sends (Some (Send s)) (Some (Recv r)) p q e = (both_true _ _ e).0
-fitting_sends (Some (Send s)) (Some (Send t)) p q e = absurd (cc)
-fitting_sends (Some (Send s)) (Some (Wait t)) p q e = absurd (cc)
-fitting_sends (Some (Send s)) (Some Barrier) p q e = absurd (cc)
-fitting_sends (Some (Send s)) None p q e = absurd (cc)
-fitting_sends (Some (Recv r)) other p q e = absurd (cc)
-fitting_sends (Some (Wait t)) other p q e = absurd (cc)
-fitting_sends (Some Barrier) other p q e = absurd (cc)
-fitting_sends None other p q e = absurd (cc)
+fitting_sends one other p q e = absurd (cc)
 
 pub eligible_pending : (b : Board) (p i : ℕ) (r : CallId) → eligible b (call_id p i) r ≡ true → is_pending b p r.rank i ≡ true
 eligible_pending b p i r e =
@@ -111,14 +104,7 @@ posted_free b q z has = (both_true (receives (kind_at b (call_id q z))) (is_free
 
 fitting_receives : (one other : Option CallKind) (p q : ℕ) → fitting one other p q ≡ true → receives other ≡ true
 fitting_receives (Some (Send s)) (Some (Recv r)) p q e = refl
-fitting_receives (Some (Send s)) (Some (Send t)) p q e = absurd (cc)
-fitting_receives (Some (Send s)) (Some (Wait t)) p q e = absurd (cc)
-fitting_receives (Some (Send s)) (Some Barrier) p q e = absurd (cc)
-fitting_receives (Some (Send s)) None p q e = absurd (cc)
-fitting_receives (Some (Recv r)) other p q e = absurd (cc)
-fitting_receives (Some (Wait t)) other p q e = absurd (cc)
-fitting_receives (Some Barrier) other p q e = absurd (cc)
-fitting_receives None other p q e = absurd (cc)
+fitting_receives one other p q e = absurd (cc)
 
 pub eligible_posted : (b : Board) (s : CallId) (q j : ℕ) → eligible b s (call_id q j) ≡ true → is_posted b q j ≡ true
 eligible_posted b s q j e =

@@ -5,7 +5,7 @@ use Rattle.std.proofs.lemmas.Bool.{eqb-true}
 use Rattle.std.proofs.lemmas.Bool.Decides.{eqb_tells}
 use Rattle.mpd_model.specs.declared.step.CallId.{CallId}
 use Rattle.mpd_model.specs.declared.call.CallKind.{CallKind}
-use Rattle.mpd_model.specs.declared.call.CallKind.TheVariants.{Send, Recv, Wait, Barrier}
+use Rattle.mpd_model.specs.declared.call.CallKind.TheVariants.{Send, Recv}
 use Rattle.mpd_model.specs.declared.call.MatchSet.{MatchSet}
 use Rattle.mpd_model.specs.declared.call.MatchSet.TheVariants.{Pair, Woke}
 use Rattle.mpd_model.specs.declared.call.MatchSet.TheVariants as set
@@ -153,14 +153,7 @@ unpaired_marks mark mid new sets s r ns nr is first second c =
 
 pub fitting_lines : (one other : Option CallKind) (p q : ℕ) → fitting one other p q ≡ true → (line_of one ≡ Some (q + 1)) × (line_of other ≡ Some 0)
 fitting_lines (Some (Send s)) (Some (Recv r)) p q e = (ap (λ (n : ℕ). Some (n + 1)) (eqb-true s.to q (both_true (eqb s.to q) (is_any_or r.from p && is_any_or r.tag s.tag) e).0), refl)
-fitting_lines (Some (Send s)) (Some (Send t)) p q e = absurd (cc)
-fitting_lines (Some (Send s)) (Some (Wait t)) p q e = absurd (cc)
-fitting_lines (Some (Send s)) (Some Barrier) p q e = absurd (cc)
-fitting_lines (Some (Send s)) None p q e = absurd (cc)
-fitting_lines (Some (Recv r)) other p q e = absurd (cc)
-fitting_lines (Some (Wait t)) other p q e = absurd (cc)
-fitting_lines (Some Barrier) other p q e = absurd (cc)
-fitting_lines None other p q e = absurd (cc)
+fitting_lines one other p q e = absurd (cc)
 
 pub fitting_differ : (kind : CallId → Option CallKind) (s r : CallId) → fitting (kind s) (kind r) s.rank r.rank ≡ true → s ≢ r
 fitting_differ kind s r e same =

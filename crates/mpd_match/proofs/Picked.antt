@@ -9,7 +9,7 @@ use Rattle.mpd_model.specs.declared.step.CallId.{CallId}
 use Rattle.mpd_model.specs.declared.step.Step.{Step}
 use Rattle.mpd_model.specs.declared.step.Step.TheVariants.{Match}
 use Rattle.mpd_model.specs.declared.call.CallKind.{CallKind}
-use Rattle.mpd_model.specs.declared.call.CallKind.TheVariants.{Send, Recv, Wait, Barrier}
+use Rattle.mpd_model.specs.declared.call.CallKind.TheVariants.{Recv}
 use Rattle.mpd_model.specs.World.{Board, call_id, kind_at, call_numbers, rank_numbers, is_any_or, is_posted, posted}
 use Rattle.mpd_model.specs.Why.{first_in, or_else}
 use Rattle.mpd_model.specs.Decisions.{names_source, takes_any, is_named_match, is_open_match}
@@ -67,26 +67,17 @@ open_with b r =
 
 named_is : (k : Option CallKind) (p : ℕ) → named_source k ≡ Some p → names_source k ≡ true
 named_is (Some (Recv r)) p e = ap is_some e
-named_is (Some (Send s)) p e = absurd (cc)
-named_is (Some (Wait t)) p e = absurd (cc)
-named_is (Some Barrier) p e = absurd (cc)
-named_is None p e = absurd (cc)
+named_is k p e = absurd (cc)
 
 named_not : (k : Option CallKind) → named_source k ≡ None → names_source k ≡ false
 named_not (Some (Recv r)) e = ap is_some e
-named_not (Some (Send s)) e = refl
-named_not (Some (Wait t)) e = refl
-named_not (Some Barrier) e = refl
-named_not None e = refl
+named_not k e = refl
 
 -- it takes no message of another rank
 other_source : (k : Option CallKind) (p q : ℕ) → named_source k ≡ Some p → (p ≡ q → ⊥) → takes_from k q ≡ false
 other_source (Some (Recv r)) p q e other =
     ap (λ (o : Option ℕ). is_any_or o q) e ∙ elim (eqb_tells p q) [ inl t ↦ absurd (other t.1) | inr t ↦ t.0 ]
-other_source (Some (Send s)) p q e other = refl
-other_source (Some (Wait t)) p q e other = refl
-other_source (Some Barrier) p q e other = refl
-other_source None p q e other = refl
+other_source k p q e other = refl
 
 from_other : (b : Board) (r : CallId) (p q : ℕ) → named_source (kind_at b r) ≡ Some p → (p ≡ q → ⊥) → matches_from b r q ≡ []
 from_other b r p q e other = ap (map (λ i. Match (call_id q i) r)) (not_taken b q r (other_source (kind_at b r) p q e other))

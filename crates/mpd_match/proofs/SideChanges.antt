@@ -6,7 +6,7 @@ use Rattle.std.proofs.lemmas.List.Sums.{sum_by-cons}
 use Rattle.mpd_model.specs.declared.step.CallId.{CallId}
 use Rattle.mpd_model.specs.declared.call.Call.{Call}
 use Rattle.mpd_model.specs.declared.call.CallKind.{CallKind}
-use Rattle.mpd_model.specs.declared.call.CallKind.TheVariants.{Send, Recv, Wait, Barrier}
+use Rattle.mpd_model.specs.declared.call.CallKind.TheVariants.{Send, Recv}
 use Rattle.mpd_queue.specs.InOrder.{list_at, places_in, places, next_of, removed, inserted, pushed, newest_dropped, with_inserted, with_removed, with_pushed, with_newest_dropped, HasSpot}
 use Rattle.mpd_queue.proofs.Places.{list_here, list_elsewhere, places_of_one}
 use Rattle.mpd_queue.proofs.Spots.{put_back, spot_stays}
@@ -244,14 +244,12 @@ written_once A marks (Some m) writes more room more_room last empty some = last.
 pub writes_no_line : (kind : CallKind) → line_of (Some kind) ≡ None → unissue_writes (Some kind) ≡ 2
 writes_no_line (Send s) e = absurd (cc)
 writes_no_line (Recv r) e = absurd (cc)
-writes_no_line (Wait t) e = refl
-writes_no_line Barrier e = refl
+writes_no_line kind e = refl
 
 pub writes_in_line : (kind : CallKind) (line : ℕ) → line_of (Some kind) ≡ Some line → unissue_writes (Some kind) ≡ 4
 writes_in_line (Send s) line e = refl
 writes_in_line (Recv r) line e = refl
-writes_in_line (Wait t) line e = absurd (cc)
-writes_in_line Barrier line e = absurd (cc)
+writes_in_line kind line e = absurd (cc)
 
 -- ---- for calls of the lists
 

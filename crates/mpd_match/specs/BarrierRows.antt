@@ -9,8 +9,8 @@ use Rattle.mpd_model.specs.declared.call.Mode.TheVariants.{Rendezvous, Buffered}
 use Rattle.mpd_model.specs.declared.call.MatchSet.{MatchSet}
 use Rattle.mpd_model.specs.declared.call.MatchSet.TheVariants.{Pair, Woke}
 use Rattle.mpd_model.specs.declared.call.MatchSet.TheVariants as set
-use Rattle.mpd_model.specs.World.{Board, call_id, pending, posted, eligible, partner, complete}
-use Rattle.mpd_model.specs.Next.{with_call, with_set}
+use Rattle.mpd_model.specs.World.{Board, start_board, call_id, pending, posted, eligible, partner, complete}
+use Rattle.mpd_model.specs.Next.{entered, with_call, with_set}
 use Rattle.mpd_model.specs.Order.{before, is_exit, WentOn, Ordered}
 use Rattle.mpd_model.specs.Why.{why}
 use Rattle.mpd_match.specs.Changes.{without_last_call, without_last_set, last_set, issue_writes, unissue_writes}
@@ -18,7 +18,7 @@ use Rattle.mpd_match.specs.OrderRows.{empty_cut, went_nowhere}
 
 -- sends that their rank doesn't wait for
 abbrev pub sends : Bool → ℕ → Call
-sends synchronous tag = record { statement = 0; kind = Send (record { to = 1; tag = tag; value = pos 40; synchronous = synchronous; blocks = false }) }
+sends synchronous tag = record { statement = 0; kind = Send (record { to = 1; tag = tag; value = pos 40; synchronous = synchronous; blocks = false; buffered = false }) }
 
 abbrev pub meets : Call
 meets = record { statement = 1; kind = Barrier }
@@ -140,7 +140,7 @@ row_why = refl
 
 -- rank 0: a standard send, a wait for it, a synchronous send, a wait for that, a barrier
 abbrev pub sends_in : Mode → List MatchSet → Board
-sends_in mode sets = record { mode = mode; calls = (sends false 7 ∷ awaits 0 ∷ sends true 7 ∷ awaits 2 ∷ meets ∷ []) ∷ (takes ∷ takes ∷ meets ∷ []) ∷ []; sets = sets }
+sends_in mode sets = record { mode = mode; calls = map (entered (start_board 2 mode) 0) (sends false 7 ∷ awaits 0 ∷ sends true 7 ∷ awaits 2 ∷ meets ∷ []) ∷ (takes ∷ takes ∷ meets ∷ []) ∷ []; sets = sets }
 
 abbrev pub completes : Mode → List MatchSet → List Bool
 completes mode sets = map (λ i. complete (sends_in mode sets) (call_id 0 i)) (0 ∷ 1 ∷ 2 ∷ 3 ∷ 4 ∷ [])

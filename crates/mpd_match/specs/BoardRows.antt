@@ -10,7 +10,7 @@ use Rattle.mpd_match.specs.Changes.{without_last_call, without_last_set, last_se
 use Rattle.mpd_match.specs.Looks.{eligible_looks}
 
 abbrev pub sent : ℤ → Call
-sent value = record { statement = 0; kind = Send (record { to = 1; tag = 7; value = value; synchronous = false; blocks = false }) }
+sent value = record { statement = 0; kind = Send (record { to = 1; tag = 7; value = value; synchronous = false; blocks = false; buffered = false }) }
 
 abbrev pub received : Call
 received = record { statement = 1; kind = Recv (record { from = Some 0; tag = Some 7; cell = 0; status = None; blocks = true }) }

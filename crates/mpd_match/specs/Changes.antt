@@ -2,7 +2,7 @@
 use Rattle.std.specs.Prelude.{◌≡◌, ℕ, ◌-◌, Bool, true, false, Option, Some, None, length, slice_get, slice_set, take}
 use Rattle.mpd_model.specs.declared.step.CallId.{CallId}
 use Rattle.mpd_model.specs.declared.call.CallKind.{CallKind}
-use Rattle.mpd_model.specs.declared.call.CallKind.TheVariants.{Send, Recv, Wait, Barrier}
+use Rattle.mpd_model.specs.declared.call.CallKind.TheVariants.{Send, Recv}
 use Rattle.mpd_model.specs.declared.call.MatchSet.{MatchSet}
 use Rattle.mpd_model.specs.declared.call.MatchSet.TheVariants.{Pair, Woke}
 use Rattle.mpd_model.specs.declared.call.MatchSet.TheVariants as set
@@ -19,17 +19,15 @@ without_last_call b p = record b { calls = slice_set b.calls p (take (length (ca
 abbrev pub issue_writes : Option CallKind → ℕ
 issue_writes (Some (Send s)) = 6
 issue_writes (Some (Recv r)) = 6
-issue_writes (Some (Wait t)) = 2
-issue_writes (Some Barrier) = 2
 issue_writes None = 0
+issue_writes kind = 2
 
 -- the same, and two links
 abbrev pub unissue_writes : Option CallKind → ℕ
 unissue_writes (Some (Send s)) = 4
 unissue_writes (Some (Recv r)) = 4
-unissue_writes (Some (Wait t)) = 2
-unissue_writes (Some Barrier) = 2
 unissue_writes None = 0
+unissue_writes kind = 2
 
 -- ---- match sets
 

@@ -12,4 +12,5 @@ pub mod Entries
 pub mod BoardRows
 pub mod OrderRows
 pub mod BarrierRows
+pub mod KindRows
 pub mod WhyRows

@@ -4,7 +4,7 @@ use Rattle.std.specs.List.{filter, list_any, range_with_len}
 use Rattle.mpd_model.specs.declared.step.CallId.{CallId}
 use Rattle.mpd_model.specs.declared.call.Call.{Call}
 use Rattle.mpd_model.specs.declared.call.CallKind.{CallKind}
-use Rattle.mpd_model.specs.declared.call.CallKind.TheVariants.{Send, Recv, Wait, Barrier}
+use Rattle.mpd_model.specs.declared.call.CallKind.TheVariants.{Send, Recv}
 use Rattle.mpd_model.specs.World.{kind_of, id_eq, is_any_or, fitting}
 use Rattle.mpd_match.specs.Views.{SideView, side_at}
 
@@ -12,9 +12,7 @@ use Rattle.mpd_match.specs.Views.{SideView, side_at}
 abbrev pub line_of : Option CallKind → Option ℕ
 line_of (Some (Send s)) = Some (s.to + 1)
 line_of (Some (Recv r)) = Some 0
-line_of (Some (Wait t)) = None
-line_of (Some Barrier) = None
-line_of None = None
+line_of kind = None
 
 abbrev pub is_line : Option ℕ → ℕ → Bool
 is_line None line = false
@@ -51,11 +49,8 @@ ahead test (x ∷ xs) = cond (test x) 0 (1 + ahead test xs)
 
 -- a receive whose source is any, or this rank
 abbrev pub takes_from : Option CallKind → ℕ → Bool
-takes_from (Some (Send s)) p = false
 takes_from (Some (Recv r)) p = is_any_or r.from p
-takes_from (Some (Wait t)) p = false
-takes_from (Some Barrier) p = false
-takes_from None p = false
+takes_from kind p = false
 
 -- one of the two is a send of rank p to rank q, and the other a receive that fits it
 abbrev pub fitting_either : Option CallKind → Option CallKind → ℕ → ℕ → Bool

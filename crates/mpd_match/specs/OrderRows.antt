@@ -11,7 +11,7 @@ use Rattle.mpd_model.specs.World.{Board, call_id}
 use Rattle.mpd_model.specs.Order.{before, WentOn, Ordered}
 
 abbrev pub sends : ℕ → ℕ → Bool → Call
-sends to tag blocks = record { statement = 0; kind = Send (record { to = to; tag = tag; value = pos 40; synchronous = false; blocks = blocks }) }
+sends to tag blocks = record { statement = 0; kind = Send (record { to = to; tag = tag; value = pos 40; synchronous = false; blocks = blocks; buffered = false }) }
 
 abbrev pub takes : Option ℕ → Option ℕ → Call
 takes from tag = record { statement = 1; kind = Recv (record { from = from; tag = tag; cell = 0; status = None; blocks = false }) }

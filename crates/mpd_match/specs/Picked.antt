@@ -4,17 +4,14 @@ use Rattle.std.specs.List.{filter, flat_map}
 use Rattle.mpd_model.specs.declared.step.CallId.{CallId}
 use Rattle.mpd_model.specs.declared.step.Step.{Step}
 use Rattle.mpd_model.specs.declared.call.CallKind.{CallKind}
-use Rattle.mpd_model.specs.declared.call.CallKind.TheVariants.{Send, Recv, Wait, Barrier}
+use Rattle.mpd_model.specs.declared.call.CallKind.TheVariants.{Recv}
 use Rattle.mpd_model.specs.World.{Board, call_id, rank_numbers, call_numbers}
 use Rattle.mpd_match.specs.Matches.{matches_with}
 
 -- the source that a receive names, if any
 abbrev pub named_source : Option CallKind → Option ℕ
-named_source (Some (Send s)) = None
 named_source (Some (Recv r)) = r.from
-named_source (Some (Wait t)) = None
-named_source (Some Barrier) = None
-named_source None = None
+named_source kind = None
 
 -- the matches that pass a test: of a receive, of a receiver, and all
 abbrev pub picked_with : (Board → Step → Bool) → Board → CallId → List Step

@@ -7,7 +7,7 @@ use Rattle.mpd_model.specs.World.{Board, call_id}
 use Rattle.mpd_model.specs.Why.{why}
 
 abbrev pub sent_to_2 : Call
-sent_to_2 = record { statement = 0; kind = Send (record { to = 2; tag = 7; value = pos 40; synchronous = false; blocks = false }) }
+sent_to_2 = record { statement = 0; kind = Send (record { to = 2; tag = 7; value = pos 40; synchronous = false; blocks = false; buffered = false }) }
 
 abbrev pub received_of_0 : Call
 received_of_0 = record { statement = 1; kind = Recv (record { from = Some 0; tag = Some 7; cell = 0; status = None; blocks = false }) }

@@ -1,12 +1,12 @@
 //! The board: calls, pairs and the lines of free calls.
 ghost use Rattle.std.specs.Prelude.{◌≡◌, ◌+◌, ◌-◌, ◌<◌, ◌≤◌, Some, None, true, length, IfOk, OnOk, OnErr};
 ghost use Rattle.mpd_model.specs.World.{start_board, kind_at, calls_of, partner, eligible, last_call};
-ghost use Rattle.mpd_model.specs.Next.{HasReceiver, with_call, with_set};
+ghost use Rattle.mpd_model.specs.Next.{HasReceiver, with_call, with_issued, buffers_all, with_set};
 ghost use Rattle.mpd_match.specs.Changes.{without_last_call, issue_writes, unissue_writes, without_last_set, last_set, record_of_pair, Recorded, is_woke, is_lone};
 
 use crate::record::PairRecord;
 use crate::side::Side;
-use crate::sides;
+use crate::{kinds, sides};
 use mpd_model::call::{Call, MatchSet, Mode};
 use mpd_model::limits::RANKS_MAX;
 use mpd_model::step::CallId;
@@ -68,9 +68,37 @@ impl Board {
         sides::keep_rooms(&mut self.sides)
     }
 
-    /// A rank issues a call. A send or a receive joins its line, at the end. It answers the call's number, which is below
-    /// 4,294,967,295. `unissue` gives the board before.
+    /// A rank issues a call. A send or a receive joins its line, at the end; a standard send is marked as buffered where the
+    /// mode is. It answers the call's number, which is below 4,294,967,295. `unissue` gives the board before.
     pub fn issue(&mut self, rank: usize, call: Call) -> u32
+        requires rank { rank < length self.old.board.calls }
+        requires receiver { HasReceiver (length self.old.board.calls) call.kind }
+        requires room { 1 ≤ self.old.room }
+        ensures number { result ≡ length (calls_of self.old.board rank) }
+        ensures small { result < 4294967295 }
+        ensures board { self.new.board ≡ with_issued self.old.board rank (Some call) }
+        ensures back { without_last_call self.new.board rank ≡ self.old.board }
+        ensures some { 0 < length (calls_of self.new.board rank) }
+        ensures free { partner self.new.board.sets (last_call self.new.board rank) ≡ None }
+        ensures room { self.old.room ≤ self.new.room + 1 }
+        ensures writes { self.new.writes ≡ self.old.writes + issue_writes (Some call.kind) }
+    {
+        let kind = kinds::buffered_by(self.has_buffer(), call.kind);
+        self.add_call(rank, Call { kind, ..call })
+    }
+
+    /// Whether a standard send is buffered, were it issued now (MPI 4.0, section 3.4).
+    fn has_buffer(&self) -> bool
+        ensures { result ≡ buffers_all self.now.board.mode }
+    {
+        match self.mode {
+            Mode::Buffered => true,
+            Mode::Rendezvous => false,
+        }
+    }
+
+    /// A call joins those of a rank, and its line, at the end.
+    fn add_call(&mut self, rank: usize, call: Call) -> u32
         requires rank { rank < length self.old.board.calls }
         requires receiver { HasReceiver (length self.old.board.calls) call.kind }
         requires room { 1 ≤ self.old.room }

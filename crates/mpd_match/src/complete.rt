@@ -4,6 +4,7 @@ ghost use Rattle.mpd_model.specs.World.{is_done, awaited, complete};
 
 use crate::board::Board;
 use crate::kinds;
+use mpd_model::kind::is_barrier;
 use mpd_model::step::CallId;
 
 impl Board {
@@ -12,7 +13,7 @@ impl Board {
     pub fn is_done(&self, id: CallId) -> bool
         ensures { result ≡ is_done self.now.board id }
     {
-        self.partner(id).is_some() || kinds::is_buffered(self.mode, self.kind(id))
+        self.partner(id).is_some() || kinds::is_buffered(self.kind(id))
     }
 
     /// The call that a rank waits for which is blocked on this one, where it waits for one.
@@ -28,7 +29,7 @@ impl Board {
         ensures { result ≡ complete self.now.board id }
     {
         let kind = self.kind(id);
-        if kinds::is_barrier(kind) {
+        if is_barrier(kind) {
             return false;
         }
         match kinds::awaited_by(id, kind) {

@@ -1,11 +1,13 @@
 //! What is read off the kinds of calls.
 ghost use Rattle.std.specs.Prelude.{◌≡◌, ◌≤◌, ◌||◌, ℕ, Some};
-ghost use Rattle.mpd_model.specs.World.{is_any_or as any_or, fitting, is_message_kind as message_kind, message_of as message_in, is_buffered as buffered_in, awaited_by as awaited_in, is_barrier as barrier_in};
+ghost use Rattle.mpd_model.specs.World.{is_any_or as any_or, fitting, is_message_kind as message_kind, message_of as message_in, is_buffered as buffered_in, awaited_by as awaited_in};
+ghost use Rattle.mpd_model.specs.Next.{HasReceiver, buffered_by as given_buffer};
+ghost use Rattle.mpd_match.specs.Changes.{issue_writes};
 ghost use Rattle.mpd_match.specs.Lines.{line_of as line_in, takes_from as taken_from, fitting_either};
 ghost use Rattle.mpd_model.specs.Decisions.{takes_any as taken_from_any};
 ghost use Rattle.mpd_match.specs.Picked.{named_source as source_in};
 
-use mpd_model::call::{CallKind, Message, Mode};
+use mpd_model::call::{CallKind, Message, SendCall};
 use mpd_model::limits::RANKS_MAX;
 use mpd_model::step::CallId;
 
@@ -17,7 +19,7 @@ pub(crate) fn line_of(kind: CallKind) -> Option<usize>
     match kind {
         CallKind::Send(send) => Some(send.to + 1),
         CallKind::Recv(_) => Some(0),
-        CallKind::Wait(_) | CallKind::Barrier => None,
+        _ => None,
     }
 }
 
@@ -96,7 +98,7 @@ pub(crate) fn is_message_kind(kind: Option<CallKind>) -> bool
 {
     match kind {
         Some(CallKind::Send(_)) | Some(CallKind::Recv(_)) => true,
-        Some(CallKind::Wait(_)) | Some(CallKind::Barrier) | None => false,
+        _ => false,
     }
 }
 
@@ -114,13 +116,28 @@ pub(crate) fn message_of(id: CallId, kind: Option<CallKind>) -> Option<Message>
     }
 }
 
-/// Whether a call is done as it is issued, which no synchronous send is (MPI 4.0, section 3.4).
-pub(crate) fn is_buffered(mode: Mode, kind: Option<CallKind>) -> bool
-    ensures { result ≡ buffered_in mode kind }
+/// Whether a call is a send that was buffered as it was issued (MPI 4.0, section 3.4).
+pub(crate) fn is_buffered(kind: Option<CallKind>) -> bool
+    ensures { result ≡ buffered_in kind }
 {
-    match (mode, kind) {
-        (Mode::Buffered, Some(CallKind::Send(send))) => !send.synchronous,
+    match kind {
+        Some(CallKind::Send(send)) => send.buffered,
         _ => false,
+    }
+}
+
+/// The call with the buffer that there is, where it is a standard send (MPI 4.0, section 3.4).
+pub(crate) fn buffered_by(room: bool, kind: CallKind) -> CallKind
+    ensures value { result ≡ given_buffer room kind }
+    ensures receiver { (ranks : ℕ) → HasReceiver ranks kind → HasReceiver ranks result }
+    ensures writes { issue_writes (Some result) ≡ issue_writes (Some kind) }
+{
+    match kind {
+        CallKind::Send(send) => CallKind::Send(SendCall {
+            buffered: room && !send.synchronous,
+            ..send
+        }),
+        _ => kind,
     }
 }
 
@@ -137,15 +154,5 @@ pub(crate) fn awaited_by(id: CallId, kind: Option<CallKind>) -> Option<CallId>
             })
         }
         _ => Some(id),
-    }
-}
-
-/// Whether it is a barrier (MPI 4.0, section 6.3).
-pub(crate) fn is_barrier(kind: Option<CallKind>) -> bool
-    ensures { result ≡ barrier_in kind }
-{
-    match kind {
-        Some(CallKind::Barrier) => true,
-        _ => false,
     }
 }

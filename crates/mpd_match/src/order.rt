@@ -10,6 +10,7 @@ ghost use Rattle.mpd_model.specs.Order.{same_envelope_as, covers_number as cover
 use crate::board::Board;
 use mpd_laws::ordering;
 use mpd_model::call::{CallKind, RecvCall, SendCall};
+use mpd_model::kind::blocks;
 use mpd_model::step::CallId;
 
 /// Whether the other call is a send of the same destination and tag.
@@ -52,7 +53,7 @@ fn matches_first(first: Option<CallKind>, second: Option<CallKind>) -> bool
     match first {
         Some(CallKind::Send(send)) => is_same_envelope(send, second),
         Some(CallKind::Recv(recv)) => covers(recv, second),
-        Some(CallKind::Wait(_)) | Some(CallKind::Barrier) | None => false,
+        _ => false,
     }
 }
 
@@ -71,9 +72,7 @@ fn is_blocking(kind: Option<CallKind>) -> bool
     ensures { result ≡ blocks_rank kind }
 {
     match kind {
-        Some(CallKind::Send(send)) => send.blocks,
-        Some(CallKind::Recv(recv)) => recv.blocks,
-        Some(CallKind::Wait(_)) | Some(CallKind::Barrier) => true,
+        Some(kind) => blocks(kind),
         None => false,
     }
 }

@@ -57,7 +57,7 @@ impl Board {
         match self.kind(call) {
             Some(CallKind::Send(send)) => self.push_recvs(call, send.to, out),
             Some(CallKind::Recv(_)) => self.push_sends(call, out),
-            Some(CallKind::Wait(_)) | Some(CallKind::Barrier) | None => Ok(()),
+            _ => Ok(()),
         }
     }
 

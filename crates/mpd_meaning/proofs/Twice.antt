@@ -17,27 +17,21 @@ kind (Match s r) = 3
 
 abbrev rank_of : Step → ℕ
 rank_of (Local p) = p
-rank_of Release = 0
 rank_of (Wake p) = p
 rank_of (Match s r) = s.rank
+rank_of a = 0
 
 abbrev send_of : Step → ℕ
 send_of (Match s r) = s.index
-send_of (Local p) = 0
-send_of Release = 0
-send_of (Wake p) = 0
+send_of a = 0
 
 abbrev receiver_of : Step → ℕ
 receiver_of (Match s r) = r.rank
-receiver_of (Local p) = 0
-receiver_of Release = 0
-receiver_of (Wake p) = 0
+receiver_of a = 0
 
 abbrev receive_of : Step → ℕ
 receive_of (Match s r) = r.index
-receive_of (Local p) = 0
-receive_of Release = 0
-receive_of (Wake p) = 0
+receive_of a = 0
 
 -- a match that is listed for a receive
 record IsWith (r : CallId) (a : Step) : Type 0 where

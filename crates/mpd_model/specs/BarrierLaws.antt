@@ -11,8 +11,8 @@ use Rattle.mpd_model.specs.declared.call.Mode.{Mode}
 use Rattle.mpd_model.specs.declared.call.Mode.TheVariants.{Rendezvous, Buffered}
 use Rattle.mpd_model.specs.declared.call.SendCall.{SendCall}
 use Rattle.mpd_model.specs.declared.step.Step.TheVariants.{Wake, Release}
-use Rattle.mpd_model.specs.World.{World, RankWorld, kind_at, is_barrier, is_buffered, awaited, complete_by, complete, last_call}
-use Rattle.mpd_model.specs.Next.{is_blocked, waits, is_at_barrier, can_release, woken, going_on, released, with_set, next}
+use Rattle.mpd_model.specs.World.{World, Board, RankWorld, kind_at, is_barrier, is_buffered, awaited, complete_by, complete, last_call}
+use Rattle.mpd_model.specs.Next.{is_blocked, waits, is_at_barrier, can_release, woken, going_on, released, with_set, next, buffers_all, has_buffer, entered}
 
 -- ---- who isn't at a barrier keeps all ranks at theirs
 
@@ -71,11 +71,13 @@ not_woken w p e = ap (λ (b : Bool). cond b (Some (woken w p)) None) (and_false 
     never : complete w.board (last_call w.board p) ≡ false
     never = ap (λ (b : Bool). not b && complete_by w.board (awaited w.board (last_call w.board p))) e
 
--- ---- standard sends are buffered in the mode that says so, synchronous ones never
+-- ---- as it is issued, a standard send is buffered in the mode that says so, and a synchronous one never is
 
-pub standard_is_buffered : (s : SendCall) → s.synchronous ≡ false → is_buffered Buffered (Some (Send s)) ≡ true
-standard_is_buffered s e = ap not e
+pub standard_is_buffered : (b : Board) (p number : ℕ) (s : SendCall) → b.mode ≡ Buffered → s.synchronous ≡ false → is_buffered (Some (entered b p (record { statement = number; kind = Send s })).kind) ≡ true
+standard_is_buffered b p number s e f = (λ i. buffers_all (e i) && not (f i))
 
-pub synchronous_never_is : (mode : Mode) (s : SendCall) → s.synchronous ≡ true → is_buffered mode (Some (Send s)) ≡ false
-synchronous_never_is Rendezvous s e = refl
-synchronous_never_is Buffered s e = ap not e
+pub synchronous_never_is : (b : Board) (p number : ℕ) (s : SendCall) → s.synchronous ≡ true → is_buffered (Some (entered b p (record { statement = number; kind = Send s })).kind) ≡ false
+synchronous_never_is b p number s e = and_false (has_buffer b p) (not s.synchronous) (ap not e)
+
+pub in_rendezvous_none_is : (b : Board) (p number : ℕ) (s : SendCall) → b.mode ≡ Rendezvous → is_buffered (Some (entered b p (record { statement = number; kind = Send s })).kind) ≡ false
+in_rendezvous_none_is b p number s e = ap (λ (m : Mode). buffers_all m && not s.synchronous) e

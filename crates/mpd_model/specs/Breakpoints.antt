@@ -63,16 +63,14 @@ issued_on s line b c = on_line s line (option_map (λ call. call.statement) (cal
 -- a line marks a local step or a wake behind which its rank comes to the line, and a release behind which some rank does
 abbrev pub line_marks : Program → ℕ → Step → World → Bool
 line_marks s line (Local p) new = comes_at s line (slice_get new.ranks p)
-line_marks s line (Match u v) new = false
 line_marks s line (Wake p) new = comes_at s line (slice_get new.ranks p)
 line_marks s line Release new = some_comes s line new
+line_marks s line a new = false
 
 -- a match of a call that was issued on a line
 abbrev pub match_marks : Program → ℕ → Step → World → Bool
-match_marks s line (Local p) new = false
 match_marks s line (Match u v) new = issued_on s line new.board u || issued_on s line new.board v
-match_marks s line (Wake p) new = false
-match_marks s line Release new = false
+match_marks s line a new = false
 
 -- whether a breakpoint marks the step that led from one world to the next
 abbrev pub marked : Program → Break → World → Step → World → Bool

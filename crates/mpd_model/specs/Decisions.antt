@@ -2,7 +2,7 @@
 use Rattle.std.specs.Prelude.{◌≡◌, ◌<◌, Bool, true, false, is_some, is_none, List, [], ◌∷◌, length, Option, Some, None, IsSome}
 use Rattle.std.specs.List.{filter, All}
 use Rattle.mpd_model.specs.declared.call.CallKind.{CallKind}
-use Rattle.mpd_model.specs.declared.call.CallKind.TheVariants.{Send, Recv, Wait, Barrier}
+use Rattle.mpd_model.specs.declared.call.CallKind.TheVariants.{Recv}
 use Rattle.mpd_model.specs.declared.step.Step.{Step}
 use Rattle.mpd_model.specs.declared.step.Step.TheVariants.{Local, Match, Wake, Release}
 use Rattle.mpd_model.specs.declared.outcome.Outcome.{Outcome}
@@ -17,49 +17,33 @@ use Rattle.mpd_model.specs.Outcomes.{ending, outcome}
 
 abbrev pub is_local : Step → Bool
 is_local (Local p) = true
-is_local (Match s r) = false
-is_local (Wake p) = false
-is_local Release = false
+is_local a = false
 
 abbrev pub is_release : Step → Bool
-is_release (Local p) = false
-is_release (Match s r) = false
-is_release (Wake p) = false
 is_release Release = true
+is_release a = false
 
 abbrev pub is_wake : Step → Bool
-is_wake (Local p) = false
-is_wake (Match s r) = false
 is_wake (Wake p) = true
-is_wake Release = false
+is_wake a = false
 
 -- a receive that names its source, and one of any source
 abbrev pub names_source : Option CallKind → Bool
 names_source (Some (Recv r)) = is_some r.from
-names_source (Some (Send s)) = false
-names_source (Some (Wait t)) = false
-names_source (Some Barrier) = false
-names_source None = false
+names_source kind = false
 
 abbrev pub takes_any : Option CallKind → Bool
 takes_any (Some (Recv r)) = is_none r.from
-takes_any (Some (Send s)) = false
-takes_any (Some (Wait t)) = false
-takes_any (Some Barrier) = false
-takes_any None = false
+takes_any kind = false
 
 -- a match whose receive names its source, and one whose receive is of any source
 abbrev pub is_named_match : Board → Step → Bool
-is_named_match b (Local p) = false
 is_named_match b (Match s r) = names_source (kind_at b r)
-is_named_match b (Wake p) = false
-is_named_match b Release = false
+is_named_match b a = false
 
 abbrev pub is_open_match : Board → Step → Bool
-is_open_match b (Local p) = false
 is_open_match b (Match s r) = takes_any (kind_at b r)
-is_open_match b (Wake p) = false
-is_open_match b Release = false
+is_open_match b a = false
 
 -- ---- the decision
 

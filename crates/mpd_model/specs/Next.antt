@@ -1,5 +1,5 @@
 -- What a step makes of a world, and where no step is.
-use Rattle.std.specs.Prelude.{ℕ, ◌+◌, ◌<◌, ℤ, pos, Bool, true, false, ◌&&◌, if◌then◌else◌, List, [], ◌∷◌, ◌++◌, length, map, nat_lt, slice_get, slice_set, slice_index_or, Option, Some, None, option_and_then, is_some, Result, Ok, Err}
+use Rattle.std.specs.Prelude.{ℕ, ◌+◌, ◌<◌, ℤ, pos, Bool, true, false, ◌&&◌, not, if◌then◌else◌, List, [], ◌∷◌, ◌++◌, length, map, nat_lt, slice_get, slice_set, slice_index_or, Option, Some, None, option_and_then, is_some, Result, Ok, Err}
 use Rattle.std.specs.Option.{option_map}
 use Rattle.std.specs.List.{filter, flat_map, list_all, range_with_len}
 use Rattle.mpd_model.specs.declared.limits.TheConstants.{TAGS}
@@ -9,6 +9,8 @@ use Rattle.mpd_model.specs.declared.step.Step.TheVariants.{Local, Match, Wake, R
 use Rattle.mpd_model.specs.declared.call.CallKind.{CallKind}
 use Rattle.mpd_model.specs.declared.call.CallKind.TheVariants.{Send, Recv, Wait, Barrier}
 use Rattle.mpd_model.specs.declared.call.Call.{Call}
+use Rattle.mpd_model.specs.declared.call.Mode.{Mode}
+use Rattle.mpd_model.specs.declared.call.Mode.TheVariants.{Rendezvous, Buffered}
 use Rattle.mpd_model.specs.declared.call.Issue.{Issue}
 use Rattle.mpd_model.specs.declared.call.StatusCells.{StatusCells}
 use Rattle.mpd_model.specs.declared.call.MatchSet.{MatchSet}
@@ -50,7 +52,7 @@ abbrev pub send_kind : Bool → Bool → SendStmt → Env → Result CallKind Tr
 send_kind synchronous blocks s env =
     and_then (value_of s.value env) (λ v.
     and_then (rank_value s.to env) (λ q.
-    and_then (tag_value s.tag env) (λ t. Ok (Send (record { to = q; tag = t; value = v; synchronous = synchronous; blocks = blocks })))))
+    and_then (tag_value s.tag env) (λ t. Ok (Send (record { to = q; tag = t; value = v; synchronous = synchronous; blocks = blocks; buffered = false })))))
 
 -- the source and the tag of a receive, where they aren't any
 abbrev pub source_value : Option Term → Env → Result (Option ℕ) Trap
@@ -211,17 +213,33 @@ local_at w p = option_and_then (local p (length w.ranks) (length (calls_of w.boa
 -- a send goes to one of so many ranks
 abbrev pub HasReceiver : ℕ → CallKind → Type 0
 HasReceiver ranks (Send s) = s.to < ranks
-HasReceiver ranks (Recv r) = Unit {0}
-HasReceiver ranks (Wait t) = Unit {0}
-HasReceiver ranks Barrier = Unit {0}
+HasReceiver ranks kind = Unit {0}
+
+-- the mode that buffers every standard send
+abbrev pub buffers_all : Mode → Bool
+buffers_all Buffered = true
+buffers_all Rendezvous = false
 
 -- a call more of a rank
 abbrev pub with_call : Board → ℕ → Call → Board
 with_call b p c = record b { calls = slice_set b.calls p (calls_of b p ++ c ∷ []) }
 
+-- whether a standard send of rank p is buffered, were it issued now (MPI 4.0, section 3.4)
+abbrev pub has_buffer : Board → ℕ → Bool
+has_buffer b p = buffers_all b.mode
+
+-- A standard send gets the buffer that there is, and keeps it; a synchronous one gets none.
+abbrev pub buffered_by : Bool → CallKind → CallKind
+buffered_by room (Send s) = Send (record s { buffered = room && not s.synchronous })
+buffered_by room kind = kind
+
+-- a call as it joins the board
+abbrev pub entered : Board → ℕ → Call → Call
+entered b p c = record c { kind = buffered_by (has_buffer b p) c.kind }
+
 abbrev pub with_issued : Board → ℕ → Option Call → Board
 with_issued b p None = b
-with_issued b p (Some c) = with_call b p c
+with_issued b p (Some c) = with_call b p (entered b p c)
 
 -- a world after the local step of a rank
 abbrev pub stepped : World → ℕ → Ran → World
@@ -250,11 +268,7 @@ status_writes (Some c) m = (c.source, pos m.source) ∷ (c.tag, pos m.tag) ∷ [
 -- the cells that a receive writes as its rank goes on, in order, each with its new value: the value, then the source, then the tag
 abbrev pub writes_of : Option CallKind → Option Message → List (ℕ × ℤ)
 writes_of (Some (Recv r)) (Some m) = (r.cell, m.value) ∷ status_writes r.status m
-writes_of (Some (Recv r)) None = []
-writes_of (Some (Send s)) m = []
-writes_of (Some (Wait t)) m = []
-writes_of (Some Barrier) m = []
-writes_of None m = []
+writes_of kind m = []
 
 abbrev pub writes_by : Board → Option CallId → List (ℕ × ℤ)
 writes_by b None = []
@@ -267,10 +281,7 @@ write_cells (w ∷ ws) vars = write_cells ws (slice_set vars w.0 w.1)
 -- the handle that a wait clears
 abbrev pub cleared_by : Option CallKind → Option ℕ
 cleared_by (Some (Wait t)) = Some t.handle
-cleared_by (Some (Send s)) = None
-cleared_by (Some (Recv r)) = None
-cleared_by (Some Barrier) = None
-cleared_by None = None
+cleared_by kind = None
 
 abbrev pub woken_rank : List (ℕ × ℤ) → Option ℕ → RankWorld → RankWorld
 woken_rank writes handle r = record r { vars = write_cells writes r.vars; handles = requested handle None r.handles; activity = Running }
@@ -294,11 +305,12 @@ update_at ranks p f = put_at ranks p (slice_get ranks p) f
 abbrev pub with_set : Board → MatchSet → Board
 with_set b m = record b { sets = b.sets ++ m ∷ [] }
 
+-- a rank goes on from its last call: it writes these cells, and loses what that handle holds
+abbrev pub woken_by : World → ℕ → List (ℕ × ℤ) → Option ℕ → World
+woken_by w p writes handle = record { ranks = update_at w.ranks p (woken_rank writes handle); board = with_set w.board (Woke (last_call w.board p)) }
+
 abbrev pub woken : World → ℕ → World
-woken w p = record {
-  ranks = update_at w.ranks p (woken_rank (wake_writes w.board p) (wake_clears w.board p));
-  board = with_set w.board (Woke (last_call w.board p));
-}
+woken w p = woken_by w p (wake_writes w.board p) (wake_clears w.board p)
 
 -- ---- releases (MPI 4.0, section 6.3)
 

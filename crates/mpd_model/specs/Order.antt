@@ -3,7 +3,7 @@ use Rattle.std.specs.Prelude.{◌≡◌, ℕ, Bool, true, false, ◌&&◌, ◌||
 use Rattle.mpd_model.specs.declared.step.CallId.{CallId}
 use Rattle.mpd_model.specs.declared.call.Call.{Call}
 use Rattle.mpd_model.specs.declared.call.CallKind.{CallKind}
-use Rattle.mpd_model.specs.declared.call.CallKind.TheVariants.{Send, Recv, Wait, Barrier}
+use Rattle.mpd_model.specs.declared.call.CallKind.TheVariants.{Send, Recv, Wait}
 use Rattle.mpd_model.specs.declared.call.SendCall.{SendCall}
 use Rattle.mpd_model.specs.declared.call.RecvCall.{RecvCall}
 use Rattle.mpd_model.specs.declared.call.MatchSet.{MatchSet}
@@ -17,10 +17,7 @@ use Rattle.mpd_model.specs.Next.{blocks}
 -- a send to the same rank, with the same tag
 abbrev pub same_envelope_as : SendCall → Option CallKind → Bool
 same_envelope_as a (Some (Send b)) = (a.to == b.to) && (a.tag == b.tag)
-same_envelope_as a (Some (Recv r)) = false
-same_envelope_as a (Some (Wait t)) = false
-same_envelope_as a (Some Barrier) = false
-same_envelope_as a None = false
+same_envelope_as a other = false
 
 -- what a source or a tag takes, the other takes too
 abbrev pub covers_number : Option ℕ → Option ℕ → Bool
@@ -30,19 +27,14 @@ covers_number (Some m) (Some n) = m == n
 
 -- a receive whose messages the other one takes too
 abbrev pub is_covered_by : RecvCall → Option CallKind → Bool
-is_covered_by a (Some (Send s)) = false
 is_covered_by a (Some (Recv b)) = covers_number a.from b.from && covers_number a.tag b.tag
-is_covered_by a (Some (Wait t)) = false
-is_covered_by a (Some Barrier) = false
-is_covered_by a None = false
+is_covered_by a other = false
 
 -- two sends of the same envelope, or two receives of which the first takes whatever the second does
 abbrev pub matches_first : Option CallKind → Option CallKind → Bool
 matches_first (Some (Send a)) other = same_envelope_as a other
 matches_first (Some (Recv a)) other = is_covered_by a other
-matches_first (Some (Wait t)) other = false
-matches_first (Some Barrier) other = false
-matches_first None other = false
+matches_first one other = false
 
 abbrev pub is_number : Option ℕ → ℕ → Bool
 is_number None i = false
@@ -50,11 +42,8 @@ is_number (Some j) i = j == i
 
 -- a wait for the call of that number
 abbrev pub waits_for : Option CallKind → ℕ → Bool
-waits_for (Some (Send s)) i = false
-waits_for (Some (Recv r)) i = false
 waits_for (Some (Wait t)) i = is_number t.target i
-waits_for (Some Barrier) i = false
-waits_for None i = false
+waits_for kind i = false
 
 -- a call that its rank waits for
 abbrev pub blocks_rank : Option CallKind → Bool

@@ -92,11 +92,8 @@ mark_text b c = if is_free b c then codes " free" else partner_text (partner b.s
 
 -- the value that a receive got
 abbrev pub got_text : CallKind → Option Message → List ℕ
-got_text (Send s) m = []
-got_text (Wait t) m = []
-got_text Barrier m = []
-got_text (Recv r) None = []
 got_text (Recv r) (Some m) = codes " value " ++ signed_decimal m.value
+got_text kind m = []
 
 abbrev pub call_text_of : Board → CallId → Option CallKind → List ℕ
 call_text_of b c None = []

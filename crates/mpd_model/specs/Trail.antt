@@ -33,10 +33,7 @@ step_eq (Local p) (Local q) = p == q
 step_eq (Match s r) (Match u v) = id_eq s u && id_eq r v
 step_eq (Wake p) (Wake q) = p == q
 step_eq Release Release = true
-step_eq (Local p) b = false
-step_eq (Match s r) b = false
-step_eq (Wake p) b = false
-step_eq Release b = false
+step_eq a b = false
 
 abbrev pub is_step : Option Step → Step → Bool
 is_step None a = false

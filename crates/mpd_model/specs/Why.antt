@@ -4,7 +4,7 @@ use Rattle.std.specs.Option.{option_map}
 use Rattle.std.specs.List.{filter, flat_map}
 use Rattle.mpd_model.specs.declared.step.CallId.{CallId}
 use Rattle.mpd_model.specs.declared.call.CallKind.{CallKind}
-use Rattle.mpd_model.specs.declared.call.CallKind.TheVariants.{Send, Recv, Wait, Barrier}
+use Rattle.mpd_model.specs.declared.call.CallKind.TheVariants.{Send, Recv}
 use Rattle.mpd_model.specs.World.{Board, call_id, rank_numbers, kind_at, is_free, fits, pending, posted}
 
 abbrev pub first_in : {A : Type 0} → List A → Option A
@@ -42,9 +42,7 @@ why_recv b r = flat_map (why_from b r) (rank_numbers b)
 abbrev pub why_by : Board → CallId → Option CallKind → List (CallId × Option CallId)
 why_by b c (Some (Send s)) = why_send b c s.to
 why_by b c (Some (Recv r)) = why_recv b c
-why_by b c (Some (Wait t)) = []
-why_by b c (Some Barrier) = []
-why_by b c None = []
+why_by b c kind = []
 
 -- the free partners that fit a free call, by rank and number, each with the call that holds it back, if one does; of any other call
 -- there are none

@@ -7,10 +7,8 @@ use Rattle.mpd_model.specs.declared.step.CallId.{CallId}
 use Rattle.mpd_model.specs.declared.call.Call.{Call}
 use Rattle.mpd_model.specs.declared.call.CallKind.{CallKind}
 use Rattle.mpd_model.specs.declared.call.CallKind.TheVariants.{Send, Recv, Wait, Barrier}
-use Rattle.mpd_model.specs.declared.call.SendCall.{SendCall}
 use Rattle.mpd_model.specs.declared.call.Message.{Message}
 use Rattle.mpd_model.specs.declared.call.Mode.{Mode}
-use Rattle.mpd_model.specs.declared.call.Mode.TheVariants.{Rendezvous, Buffered}
 use Rattle.mpd_model.specs.declared.call.Activity.{Activity}
 use Rattle.mpd_model.specs.declared.call.Activity.TheVariants.{Running}
 use Rattle.mpd_model.specs.declared.call.MatchSet.{MatchSet}
@@ -106,9 +104,7 @@ partner (set.Barrier ∷ sets) c = partner sets c
 abbrev pub is_message_kind : Option CallKind → Bool
 is_message_kind (Some (Send s)) = true
 is_message_kind (Some (Recv r)) = true
-is_message_kind (Some (Wait t)) = false
-is_message_kind (Some Barrier) = false
-is_message_kind None = false
+is_message_kind kind = false
 
 -- a send or a receive that no pair names
 abbrev pub is_free : Board → CallId → Bool
@@ -122,36 +118,20 @@ is_any_or None n = true
 is_any_or (Some m) n = m == n
 
 -- A send of rank p and a receive of rank q fit: the send goes to q, the receive's source is any or p, and its tag is any or the send's.
-abbrev pub fitting_recv : SendCall → Option CallKind → ℕ → ℕ → Bool
-fitting_recv s (Some (Send t)) p q = false
-fitting_recv s (Some (Recv r)) p q = (s.to == q) && (is_any_or r.from p && is_any_or r.tag s.tag)
-fitting_recv s (Some (Wait t)) p q = false
-fitting_recv s (Some Barrier) p q = false
-fitting_recv s None p q = false
-
 abbrev pub fitting : Option CallKind → Option CallKind → ℕ → ℕ → Bool
-fitting (Some (Send s)) other p q = fitting_recv s other p q
-fitting (Some (Recv r)) other p q = false
-fitting (Some (Wait t)) other p q = false
-fitting (Some Barrier) other p q = false
-fitting None other p q = false
+fitting (Some (Send s)) (Some (Recv r)) p q = (s.to == q) && (is_any_or r.from p && is_any_or r.tag s.tag)
+fitting one other p q = false
 
 abbrev pub fits : Board → CallId → CallId → Bool
 fits b s r = fitting (kind_at b s) (kind_at b r) s.rank r.rank
 
 abbrev pub sends_to : Option CallKind → ℕ → Bool
 sends_to (Some (Send s)) q = s.to == q
-sends_to (Some (Recv r)) q = false
-sends_to (Some (Wait t)) q = false
-sends_to (Some Barrier) q = false
-sends_to None q = false
+sends_to kind q = false
 
 abbrev pub receives : Option CallKind → Bool
-receives (Some (Send s)) = false
 receives (Some (Recv r)) = true
-receives (Some (Wait t)) = false
-receives (Some Barrier) = false
-receives None = false
+receives kind = false
 
 abbrev pub is_pending : Board → ℕ → ℕ → ℕ → Bool
 is_pending b p q i = sends_to (kind_at b (call_id p i)) q && is_free b (call_id p i)
@@ -179,45 +159,32 @@ eligible b s r =
 
 abbrev pub message_of : CallId → Option CallKind → Option Message
 message_of c (Some (Send s)) = Some (record { value = s.value; source = c.rank; tag = s.tag })
-message_of c (Some (Recv r)) = None
-message_of c (Some (Wait t)) = None
-message_of c (Some Barrier) = None
-message_of c None = None
+message_of c kind = None
 
 -- the message that a receive was paired with
 abbrev pub buffer : Board → CallId → Option Message
 buffer b r = option_and_then (λ s. message_of s (kind_at b s)) (partner b.sets r)
 
--- A standard send is, where the mode says so; a synchronous one never is.
-abbrev pub is_buffered : Mode → Option CallKind → Bool
-is_buffered Buffered (Some (Send s)) = not s.synchronous
-is_buffered Buffered (Some (Recv r)) = false
-is_buffered Buffered (Some (Wait t)) = false
-is_buffered Buffered (Some Barrier) = false
-is_buffered Buffered None = false
-is_buffered Rendezvous kind = false
+-- a send that was buffered as it was issued
+abbrev pub is_buffered : Option CallKind → Bool
+is_buffered (Some (Send s)) = s.buffered
+is_buffered kind = false
 
 -- a send or a receive that is done: it is paired, or was buffered as it was issued
 abbrev pub is_done : Board → CallId → Bool
-is_done b c = is_some (partner b.sets c) || is_buffered b.mode (kind_at b c)
+is_done b c = is_some (partner b.sets c) || is_buffered (kind_at b c)
 
 -- the call that a rank waits for which is blocked on a call of this kind: what a wait was issued for, or the call itself
 abbrev pub awaited_by : CallId → Option CallKind → Option CallId
 awaited_by c (Some (Wait t)) = option_map (call_id c.rank) t.target
-awaited_by c (Some (Send s)) = Some c
-awaited_by c (Some (Recv r)) = Some c
-awaited_by c (Some Barrier) = Some c
-awaited_by c None = Some c
+awaited_by c kind = Some c
 
 abbrev pub awaited : Board → CallId → Option CallId
 awaited b c = awaited_by c (kind_at b c)
 
 abbrev pub is_barrier : Option CallKind → Bool
-is_barrier (Some (Send s)) = false
-is_barrier (Some (Recv r)) = false
-is_barrier (Some (Wait t)) = false
 is_barrier (Some Barrier) = true
-is_barrier None = false
+is_barrier kind = false
 
 -- Where nothing is waited for, as by a wait for a handle without a request, a call is complete at once.
 abbrev pub complete_by : Board → Option CallId → Bool

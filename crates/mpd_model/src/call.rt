@@ -32,6 +32,8 @@ pub struct SendCall {
     pub synchronous: bool,
     /// Whether its rank waits for it: `send` and `ssend` do, `isend` and `issend` don't.
     pub blocks: bool,
+    /// Whether it is done as it is issued. The board says so then, by the mode, and for good; a statement's own call isn't yet.
+    pub buffered: bool,
 }
 
 /// The cells that the source and the tag of a message go to (MPI 4.0, section 3.2.5).

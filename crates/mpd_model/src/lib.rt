@@ -5,6 +5,7 @@ pub mod breakpoint;
 pub mod call;
 pub mod decision;
 pub mod expr;
+pub mod kind;
 pub mod limits;
 pub mod lines;
 pub mod mode;

@@ -5,7 +5,7 @@ use Rattle.mpd_model.specs.declared.step.CallId.{CallId}
 use Rattle.mpd_model.specs.declared.step.Step.{Step}
 use Rattle.mpd_model.specs.declared.step.Step.TheVariants.{Local, Match, Wake, Release}
 use Rattle.mpd_model.specs.declared.call.CallKind.{CallKind}
-use Rattle.mpd_model.specs.declared.call.CallKind.TheVariants.{Send, Recv, Wait, Barrier}
+use Rattle.mpd_model.specs.declared.call.CallKind.TheVariants.{Recv}
 use Rattle.mpd_model.specs.declared.decision.Decision.{Decision}
 use Rattle.mpd_model.specs.declared.decision.Decision.TheVariants.{Forced, Choice, Leaf}
 use Rattle.mpd_model.specs.declared.outcome.Outcome.{Outcome}
@@ -105,10 +105,7 @@ source_tells (Some (Recv r)) e f = absurd (neither r.from e f)
     neither : (o : Option ℕ) → is_some o ≡ false → is_none o ≡ false → ⊥
     neither None e f = cc
     neither (Some p) e f = cc
-source_tells (Some (Send s)) e f = refl
-source_tells (Some (Wait t)) e f = refl
-source_tells (Some Barrier) e f = refl
-source_tells None e f = refl
+source_tells k e f = refl
 
 none_with : (b : Board) (q j : ℕ) → picked_with is_named_match b (call_id q j) ≡ [] → picked_with is_open_match b (call_id q j) ≡ [] → matches_with b (call_id q j) ≡ []
 none_with b q j named any =

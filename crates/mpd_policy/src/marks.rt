@@ -76,8 +76,8 @@ fn line_marks_step(core: &Core<'_>, line: usize, step: Step) -> bool
 {
     match step {
         Step::Local(rank) | Step::Wake(rank) => comes_to(core, line, rank),
-        Step::Match(_, _) => false,
         Step::Release => some_comes_to(core, line),
+        _ => false,
     }
 }
 
@@ -100,7 +100,7 @@ fn match_marks_step(core: &Core<'_>, line: usize, step: Step) -> bool
         Step::Match(send, recv) => {
             is_issued_on(core, line, send) || is_issued_on(core, line, recv)
         }
-        Step::Local(_) | Step::Wake(_) | Step::Release => false,
+        _ => false,
     }
 }
 

@@ -3,7 +3,7 @@ use Rattle.std.specs.Prelude.{ℕ, ◌<◌, ℤ, [], ◌∷◌, ◌++◌, slice_
 use Rattle.mpd_model.specs.declared.limits.TheConstants.{TAGS}
 use Rattle.mpd_model.specs.declared.call.Call.{Call}
 use Rattle.mpd_model.specs.declared.call.CallKind.{CallKind}
-use Rattle.mpd_model.specs.declared.call.CallKind.TheVariants.{Send, Recv, Wait, Barrier}
+use Rattle.mpd_model.specs.declared.call.CallKind.TheVariants.{Send}
 use Rattle.mpd_model.specs.declared.call.Issue.{Issue as Issued}
 use Rattle.mpd_model.specs.declared.call.Trap.{Trap as Reason}
 use Rattle.mpd_model.specs.declared.call.Trap.TheVariants.{Assertion}
@@ -81,10 +81,7 @@ plan_call number (plan.Issue a next) = Some (record { statement = number; kind =
 -- a send has a tag
 abbrev pub HasTag : Option CallKind → Type 0
 HasTag (Some (Send s)) = s.tag < TAGS
-HasTag (Some (Recv r)) = Unit {0}
-HasTag (Some (Wait t)) = Unit {0}
-HasTag (Some Barrier) = Unit {0}
-HasTag None = Unit {0}
+HasTag kind = Unit {0}
 
 -- a plan that issues a send issues one to a rank, with a tag
 abbrev pub HasPlannedReceiver : ℕ → LocalPlan → Type 0

@@ -6,7 +6,6 @@ ghost use Rattle.mpd_model.specs.Program.{Program};
 ghost use Rattle.mpd_rank.specs.Entries.{IsSmall};
 ghost use Rattle.mpd_code.specs.Left.{left_at};
 ghost use Rattle.mpd_code.specs.Stands.{Stands};
-ghost use Rattle.mpd_model.specs.Next as next_specs;
 
 use crate::change::{
     Cells, Change, LocalKind, LocalRecord, OldCell, OldCells, OldHandle, RankRecord,
@@ -16,7 +15,8 @@ use crate::standing::Standing;
 use mpd_code::code::Code;
 use mpd_code::env::Env;
 use mpd_code::node::Node;
-use mpd_model::call::{Activity, CallKind, Issue};
+use mpd_model::call::{Activity, Issue};
+use mpd_model::kind::blocks;
 use mpd_queue::tape::Tape;
 use std::alloc::{AllocError, Global};
 use std::marker::Model;
@@ -55,17 +55,6 @@ impl Model for RankState {
     ghost use Rattle.mpd_rank.specs.Entries.{KeepsSmall};
 
     ghost invariant = { λ r. KeepsSmall r.standing.items r.vars.items r.handles.items };
-}
-
-/// Whether a rank waits for a call of this kind.
-fn blocks(kind: CallKind) -> bool
-    ensures { result ≡ next_specs.blocks kind }
-{
-    match kind {
-        CallKind::Send(send) => send.blocks,
-        CallKind::Recv(recv) => recv.blocks,
-        CallKind::Wait(_) | CallKind::Barrier => true,
-    }
 }
 
 impl RankState {

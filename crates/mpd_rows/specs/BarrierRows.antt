@@ -141,7 +141,7 @@ row_never_complete = refl
 
 -- it fits nothing and nothing fits it, it has no message, and no wake writes or clears anything for it
 abbrev a_send : Option CallKind
-a_send = Some (Send (record { to = 0; tag = 0; value = pos 4; synchronous = false; blocks = true }))
+a_send = Some (Send (record { to = 0; tag = 0; value = pos 4; synchronous = false; blocks = true; buffered = false }))
 
 abbrev a_receive : Option CallKind
 a_receive = Some (Recv (record { from = None; tag = None; cell = 0; status = None; blocks = true }))
@@ -178,7 +178,7 @@ row_no_partners = refl
 
 -- rank 0: a barrier, an `isend`, a barrier, a `send`, a barrier; rank 1: two barriers
 abbrev sends : Bool → Call
-sends waited = record { statement = 1; kind = Send (record { to = 1; tag = 0; value = pos 4; synchronous = false; blocks = waited }) }
+sends waited = record { statement = 1; kind = Send (record { to = 1; tag = 0; value = pos 4; synchronous = false; blocks = waited; buffered = false }) }
 
 abbrev between : Board
 between = record { mode = Rendezvous; calls = (issued_barrier ∷ sends false ∷ issued_barrier ∷ sends true ∷ issued_barrier ∷ []) ∷ (issued_barrier ∷ issued_barrier ∷ []) ∷ []; sets = [] }

@@ -16,6 +16,7 @@ pub mod RequestReaderRows
 pub mod WildcardRows
 pub mod WildcardReaderRows
 pub mod BarrierRows
+pub mod KindRows
 pub mod SendRows
 pub mod BarrierReaderRows
 pub mod DecisionRows

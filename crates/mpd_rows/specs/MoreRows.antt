@@ -573,7 +573,7 @@ pub rv_v2 : left_of (go (prog 1 (branch (lit (negsuc 4)) (then_more (print (n 1)
 rv_v2 = refl
 
 abbrev sent : ℕ → ℕ → Call
-sent to tag = record { statement = 0; kind = Send (record { to = to; tag = tag; value = negsuc 4; synchronous = false; blocks = true }) }
+sent to tag = record { statement = 0; kind = Send (record { to = to; tag = tag; value = negsuc 4; synchronous = false; blocks = true; buffered = false }) }
 
 abbrev awaited : ℕ → ℕ → Call
 awaited from tag = record { statement = 0; kind = Recv (record { from = Some from; tag = Some tag; cell = 0; status = None; blocks = true }) }
@@ -716,7 +716,7 @@ unfolding reading script header version ranks decls decls_from decl declarator s
 rv_x_long0 = refl
 
 abbrev send_ : ℕ → Call
-send_ to = record { statement = 0; kind = Send (record { to = to; tag = 1; value = pos 3; synchronous = false; blocks = true }) }
+send_ to = record { statement = 0; kind = Send (record { to = to; tag = 1; value = pos 3; synchronous = false; blocks = true; buffered = false }) }
 
 abbrev rank_of : List Tree → Activity → RankWorld
 rank_of rest activity = record { rest = map {B = ℕ × Tree} (λ t. (9, t)) rest; vars = pos 0 ∷ []; handles = []; out = []; activity = activity }

@@ -65,7 +65,7 @@ abbrev pub none : Place
 none = record { declaration = 4; first = 3; cells = 0 }
 
 abbrev earlier : Call
-earlier = record { statement = 3; kind = Send (record { to = 1; tag = 0; value = pos 8; synchronous = false; blocks = false }) }
+earlier = record { statement = 3; kind = Send (record { to = 1; tag = 0; value = pos 8; synchronous = false; blocks = false; buffered = false }) }
 
 -- x is 1, a is 10 20 30; h has no request, g[0] has that of call 0, and g[1] has none
 abbrev pub rank_at : List (ℕ × Tree) → RankWorld
@@ -140,14 +140,14 @@ abbrev pub blocks : CallKind → Option World
 blocks kind = issued (record (rank_at behind) { activity = Blocked }) kind
 
 -- what is sent is the value at the issue
-pub row_isend : does (isend (whole h) (op2 Add (cell x) (element a (n 2))) (n 1) (n 32767)) ≡ issues (Some 1 ∷ Some 0 ∷ None ∷ []) (Send (record { to = 1; tag = 32767; value = pos 31; synchronous = false; blocks = false }))
+pub row_isend : does (isend (whole h) (op2 Add (cell x) (element a (n 2))) (n 1) (n 32767)) ≡ issues (Some 1 ∷ Some 0 ∷ None ∷ []) (Send (record { to = 1; tag = 32767; value = pos 31; synchronous = false; blocks = false; buffered = false }))
 row_isend = refl
 
 -- a handle that has a request loses it: the call stays
-pub row_isend_over : does (isend (part g (n 0)) (n 2) (n 0) (n 0)) ≡ issues (None ∷ Some 1 ∷ None ∷ []) (Send (record { to = 0; tag = 0; value = pos 2; synchronous = false; blocks = false }))
+pub row_isend_over : does (isend (part g (n 0)) (n 2) (n 0) (n 0)) ≡ issues (None ∷ Some 1 ∷ None ∷ []) (Send (record { to = 0; tag = 0; value = pos 2; synchronous = false; blocks = false; buffered = false }))
 row_isend_over = refl
 
-pub row_isend_at : does (isend (part g (cell x)) (n 2) (n 0) (n 0)) ≡ issues (None ∷ Some 0 ∷ Some 1 ∷ []) (Send (record { to = 0; tag = 0; value = pos 2; synchronous = false; blocks = false }))
+pub row_isend_at : does (isend (part g (cell x)) (n 2) (n 0) (n 0)) ≡ issues (None ∷ Some 0 ∷ Some 1 ∷ []) (Send (record { to = 0; tag = 0; value = pos 2; synchronous = false; blocks = false; buffered = false }))
 row_isend_at = refl
 
 -- the cell of a receive is fixed as it is issued: the third of `a` is cell 3
@@ -168,7 +168,7 @@ pub row_wait_at : does (wait (part g (cell x))) ≡ blocks (Wait (record { handl
 row_wait_at = refl
 
 -- blocking calls put nothing in a handle
-pub row_send : does (send (n 2) (n 1) (n 0)) ≡ blocks (Send (record { to = 1; tag = 0; value = pos 2; synchronous = false; blocks = true }))
+pub row_send : does (send (n 2) (n 1) (n 0)) ≡ blocks (Send (record { to = 1; tag = 0; value = pos 2; synchronous = false; blocks = true; buffered = false }))
 row_send = refl
 
 pub row_recv : does (recv (whole x) (n 1) (n 0)) ≡ blocks (Recv (record { from = Some 1; tag = Some 0; cell = 0; status = None; blocks = true }))

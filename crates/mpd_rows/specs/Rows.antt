@@ -151,7 +151,7 @@ row_empty = refl
 -- ---- worlds that no script of this grammar reaches
 
 abbrev sent : ℕ → ℕ → ℕ → Call
-sent to tag value = record { statement = 0; kind = Send (record { to = to; tag = tag; value = pos value; synchronous = false; blocks = true }) }
+sent to tag value = record { statement = 0; kind = Send (record { to = to; tag = tag; value = pos value; synchronous = false; blocks = true; buffered = false }) }
 
 abbrev awaited : ℕ → ℕ → Call
 awaited from tag = record { statement = 0; kind = Recv (record { from = Some from; tag = Some tag; cell = 0; status = None; blocks = true }) }

@@ -19,21 +19,21 @@ use Rattle.mpd_model.specs.Program.{Program}
 use Rattle.mpd_model.specs.Term.{Term, own_rank, cell, element, op2}
 use Rattle.mpd_model.specs.Trail.{opening}
 use Rattle.mpd_model.specs.Lines.{lines_of}
-use Rattle.mpd_model.specs.World.{Board, call_id, complete, start}
-use Rattle.mpd_model.specs.Next.{enabled, fold}
+use Rattle.mpd_model.specs.World.{Board, start_board, call_id, complete, start}
+use Rattle.mpd_model.specs.Next.{entered, enabled, fold}
 use Rattle.mpd_rows.specs.Statements.{send, ssend, recv, isend, issend, wait}
 use Rattle.mpd_rows.specs.RequestRows.{n, m, over_zero, whole, part, x, a, h, g, none, Traps, found, wanted, does, issues, blocks, variable, request, script, two_parts, told, trace}
 
 -- ---- one rank: what is issued, and what traps
 
-pub row_ssend : does (ssend (op2 Add (cell x) (element a (n 2))) (n 1) (n 32767)) ≡ blocks (Send (record { to = 1; tag = 32767; value = pos 31; synchronous = true; blocks = true }))
+pub row_ssend : does (ssend (op2 Add (cell x) (element a (n 2))) (n 1) (n 32767)) ≡ blocks (Send (record { to = 1; tag = 32767; value = pos 31; synchronous = true; blocks = true; buffered = false }))
 row_ssend = refl
 
-pub row_issend : does (issend (part g (cell x)) (n 2) (n 0) (n 3)) ≡ issues (None ∷ Some 0 ∷ Some 1 ∷ []) (Send (record { to = 0; tag = 3; value = pos 2; synchronous = true; blocks = false }))
+pub row_issend : does (issend (part g (cell x)) (n 2) (n 0) (n 3)) ≡ issues (None ∷ Some 0 ∷ Some 1 ∷ []) (Send (record { to = 0; tag = 3; value = pos 2; synchronous = true; blocks = false; buffered = false }))
 row_issend = refl
 
 -- a handle that has a request loses it
-pub row_issend_over : does (issend (part g (n 0)) (n 2) (n 1) (n 0)) ≡ issues (None ∷ Some 1 ∷ None ∷ []) (Send (record { to = 1; tag = 0; value = pos 2; synchronous = true; blocks = false }))
+pub row_issend_over : does (issend (part g (n 0)) (n 2) (n 1) (n 0)) ≡ issues (None ∷ Some 1 ∷ None ∷ []) (Send (record { to = 1; tag = 0; value = pos 2; synchronous = true; blocks = false; buffered = false }))
 row_issend_over = refl
 
 -- the index of the handle, the value, the destination, the tag, each checked as it is evaluated
@@ -49,11 +49,11 @@ row_traps = refl
 -- ---- what is complete as it is issued, and what once it is paired
 
 abbrev sends : Bool → Bool → Call
-sends synchronous waited = record { statement = 0; kind = Send (record { to = 0; tag = 0; value = pos 1; synchronous = synchronous; blocks = waited }) }
+sends synchronous waited = record { statement = 0; kind = Send (record { to = 0; tag = 0; value = pos 1; synchronous = synchronous; blocks = waited; buffered = false }) }
 
 -- a `send`, an `isend`, an `ssend` and an `issend`
 abbrev four_sends : Mode → List MatchSet → Board
-four_sends mode sets = record { mode = mode; calls = (sends false true ∷ sends false false ∷ sends true true ∷ sends true false ∷ []) ∷ []; sets = sets }
+four_sends mode sets = record { mode = mode; calls = map (entered (start_board 1 mode) 0) (sends false true ∷ sends false false ∷ sends true true ∷ sends true false ∷ []) ∷ []; sets = sets }
 
 abbrev are_complete : Board → List Bool
 are_complete b = map {B = Bool} (λ i. complete b (call_id 0 i)) (0 ∷ 1 ∷ 2 ∷ 3 ∷ [])

@@ -60,7 +60,7 @@ too_large = op2 Add (n 9223372036854775807) (n 1)
 -- ---- one rank of two, before statement 5 and with statement 20 behind it: x is 1, a is 10 20 30
 
 abbrev earlier : Call
-earlier = record { statement = 3; kind = Send (record { to = 1; tag = 0; value = pos 8; synchronous = false; blocks = true }) }
+earlier = record { statement = 3; kind = Send (record { to = 1; tag = 0; value = pos 8; synchronous = false; blocks = true; buffered = false }) }
 
 abbrev rank_at : List (ℕ × Tree) → RankWorld
 rank_at ts = record { rest = ts; vars = pos 1 ∷ pos 10 ∷ pos 20 ∷ pos 30 ∷ []; handles = None ∷ []; out = pos 9 ∷ []; activity = Running }
@@ -149,11 +149,11 @@ row_assertions = refl
 
 -- what is sent is the value at the issue
 pub row_sent : does (send (op2 Add (cell x) (element a (n 2))) (n 1) (n 32767))
-    ≡ issues (record (rank_at behind) { activity = Blocked }) (Send (record { to = 1; tag = 32767; value = pos 31; synchronous = false; blocks = true }))
+    ≡ issues (record (rank_at behind) { activity = Blocked }) (Send (record { to = 1; tag = 32767; value = pos 31; synchronous = false; blocks = true; buffered = false }))
 row_sent = refl
 
 pub row_sent_smallest : does (send (op2 Subtract (m 9223372036854775807) (n 1)) own_rank (m 0))
-    ≡ issues (record (rank_at behind) { activity = Blocked }) (Send (record { to = 0; tag = 0; value = negsuc 9223372036854775807; synchronous = false; blocks = true }))
+    ≡ issues (record (rank_at behind) { activity = Blocked }) (Send (record { to = 0; tag = 0; value = negsuc 9223372036854775807; synchronous = false; blocks = true; buffered = false }))
 row_sent_smallest = refl
 
 -- the cell of a receive is fixed as it is issued: the third of `a` is cell 3

@@ -35,7 +35,7 @@ fn has_receiver(ranks: usize, call: Call) -> bool
 {
     match call.kind {
         CallKind::Send(send) => send.to < ranks,
-        CallKind::Recv(_) | CallKind::Wait(_) | CallKind::Barrier => true,
+        _ => true,
     }
 }
 
@@ -107,6 +107,7 @@ const MESSAGE: SendCall = SendCall {
     value: 40,
     synchronous: false,
     blocks: false,
+    buffered: false,
 };
 
 const SEND: Call = Call {

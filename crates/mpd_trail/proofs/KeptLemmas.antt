@@ -14,7 +14,7 @@ use Rattle.mpd_rank.specs.declared.change.RankRecord.{RankRecord}
 use Rattle.mpd_core.specs.declared.record.Record.{Record}
 use Rattle.mpd_core.specs.Records.{record_of, step_record, local_record_at, wake_record_at}
 use Rattle.mpd_core.specs.Undone.{undone, rank_part, CanUndo}
-use Rattle.mpd_trail.specs.Kept.{local_rank, LeadsTo, Keeps}
+use Rattle.mpd_trail.specs.Kept.{local_rank, Drawn, drawn, LeadsBy, IsStart, LeadsTo, Keeps}
 use Rattle.mpd_trail.proofs.StepLemmas.{is_step-true, noted_there}
 
 pub fold-append : (w : World) (xs ys : List Step) → fold w (xs ++ ys) ≡ option_and_then (λ v. fold v ys) (fold w xs)
@@ -29,30 +29,27 @@ fold_behind first old last a steps before e =
     let split : fold first (reverse steps ++ a ∷ []) ≡ option_and_then (λ v. fold v (a ∷ [])) (fold first (reverse steps)) = fold-append first (reverse steps) (a ∷ []) in
     ap (fold first) (reverse-append (a ∷ []) steps) ∙ split ∙ ap (option_and_then (λ v. fold v (a ∷ []))) before ∙ ap (option_and_then (λ v. fold v [])) e
 
+-- where what is left leads, the step leads on from there
+led_by : (s : Program) (first : World) (steps : List Step) (a : Step) (last : World) → ((l o : List RankRecord) (w : World) → LeadsTo s first l o steps w → fold first (reverse steps) ≡ Some w)
+    → (d : Option Drawn) → LeadsBy (λ l o w. LeadsTo s first l o steps w) s a last d → fold first (reverse (a ∷ steps)) ≡ Some last
+led_by s first steps a last before (Some d) h =
+    fold_behind first (undone s last (step_record a d.newest)) last a steps (before d.locals d.others (undone s last (step_record a d.newest)) h.2) h.0
+led_by s first steps a last before None h = absurd h
+
+at_start : (locals others : List RankRecord) (first last : World) → IsStart locals others first last → last ≡ first
+at_start [] [] first last h = h
+at_start [] (u ∷ others) first last h = absurd h
+at_start (u ∷ locals) others first last h = absurd h
+
 -- the last world is the fold of the steps
 pub leads_fold : (s : Program) (first : World) (locals others : List RankRecord) (steps : List Step) (last : World) → LeadsTo s first locals others steps last → fold first (reverse steps) ≡ Some last
-leads_fold s first [] [] [] last h = ap Some (sym h)
-leads_fold s first (u ∷ locals) others (Local p ∷ steps) last h =
-    fold_behind first (undone s last (step_record (Local p) u)) last (Local p) steps (leads_fold s first locals others steps (undone s last (step_record (Local p) u)) h.2) h.0
-leads_fold s first locals (u ∷ others) (Match x y ∷ steps) last h =
-    fold_behind first (undone s last (step_record (Match x y) u)) last (Match x y) steps (leads_fold s first locals others steps (undone s last (step_record (Match x y) u)) h.2) h.0
-leads_fold s first locals (u ∷ others) (Wake p ∷ steps) last h =
-    fold_behind first (undone s last (step_record (Wake p) u)) last (Wake p) steps (leads_fold s first locals others steps (undone s last (step_record (Wake p) u)) h.2) h.0
-leads_fold s first locals (u ∷ others) (Release ∷ steps) last h =
-    fold_behind first (undone s last (step_record Release u)) last Release steps (leads_fold s first locals others steps (undone s last (step_record Release u)) h.2) h.0
-leads_fold s first [] (u ∷ others) [] last h = absurd h
-leads_fold s first (u ∷ locals) others [] last h = absurd h
-leads_fold s first [] others (Local p ∷ steps) last h = absurd h
-leads_fold s first locals [] (Match x y ∷ steps) last h = absurd h
-leads_fold s first locals [] (Wake p ∷ steps) last h = absurd h
-leads_fold s first locals [] (Release ∷ steps) last h = absurd h
+leads_fold s first locals others [] last h = ap Some (sym (at_start locals others first last h))
+leads_fold s first locals others (a ∷ steps) last h = led_by s first steps a last (λ l o w k. leads_fold s first l o steps w k) (drawn (local_rank a) locals others) h
 
 -- a step is a local one of the rank that it has
 pub is_local : (a : Step) (p : ℕ) → local_rank a ≡ Some p → a ≡ Local p
 is_local (Local q) p e = ap (λ (o : Option ℕ). Local (option_map_or (λ (x : ℕ). x) o q)) e
-is_local (Match x y) p e = cc
-is_local (Wake q) p e = cc
-is_local Release p e = cc
+is_local a p e = cc
 
 -- what a record of a step that isn't local takes back, and what is left
 abbrev OtherLeads : Program → World → List RankRecord → RankRecord → List RankRecord → Step → List Step → World → Type 0
@@ -60,17 +57,11 @@ OtherLeads s first locals u others a steps last = (next (undone s last (step_rec
 
 other_leads : (s : Program) (first : World) (locals others : List RankRecord) (steps : List Step) (last : World) (u : RankRecord) (a : Step) → local_rank a ≡ None → OtherLeads s first locals u others a steps last
     → LeadsTo s first locals (u ∷ others) (a ∷ steps) last
-other_leads s first locals others steps last u (Local p) e h = cc
-other_leads s first locals others steps last u (Match x y) e h = h
-other_leads s first locals others steps last u (Wake p) e h = h
-other_leads s first locals others steps last u Release e h = h
+other_leads s first locals others steps last u a e h = subst (λ (o : Option ℕ). LeadsBy (λ l o w. LeadsTo s first l o steps w) s a last (drawn o locals (u ∷ others))) (sym e) h
 
 other_led : (s : Program) (first : World) (locals others : List RankRecord) (steps : List Step) (last : World) (u : RankRecord) (a : Step) → local_rank a ≡ None → LeadsTo s first locals (u ∷ others) (a ∷ steps) last
     → OtherLeads s first locals u others a steps last
-other_led s first locals others steps last u (Local p) e h = cc
-other_led s first locals others steps last u (Match x y) e h = h
-other_led s first locals others steps last u (Wake p) e h = h
-other_led s first locals others steps last u Release e h = h
+other_led s first locals others steps last u a e h = subst (λ (o : Option ℕ). LeadsBy (λ l o w. LeadsTo s first l o steps w) s a last (drawn o locals (u ∷ others))) e h
 
 -- a record of a step is that step with what the rank did at it
 is_joined : (a : Step) (o : Option RankRecord) → IfSome (option_map (step_record a) o) (λ done. done ≡ step_record a (rank_part done))
@@ -231,10 +222,7 @@ some_local s first (u ∷ locals) others p steps last h = omega arith
 
 some_other : (s : Program) (first : World) (locals others : List RankRecord) (a : Step) (steps : List Step) (last : World) → local_rank a ≡ None → LeadsTo s first locals others (a ∷ steps) last → 0 < length others
 some_other s first locals (u ∷ others) a steps last e h = omega arith
-some_other s first locals [] (Local p) steps last e h = cc
-some_other s first locals [] (Match x y) steps last e h = absurd h
-some_other s first locals [] (Wake p) steps last e h = absurd h
-some_other s first locals [] Release steps last e h = absurd h
+some_other s first locals [] a steps last e h = absurd (subst (λ (o : Option ℕ). LeadsBy (λ l o w. LeadsTo s first l o steps w) s a last (drawn o locals [])) e h)
 
 pub local_there : (s : Program) (first : World) (locals others : List RankRecord) (steps : List Step) (last : World) (n p : ℕ) (a : Step) → length locals + length others ≡ n + 1 → a ≡ get_or steps n a → local_rank a ≡ Some p
     → Keeps s first locals others steps last → 0 < length locals

@@ -3,7 +3,7 @@
 use Rattle.std.specs.Prelude.{◌≡◌, ℕ, ◌+◌, ◌≤◌, List, [], ◌∷◌, length, min, take, reverse, Option, Some, None, IsSome}
 use Rattle.mpd_model.specs.declared.limits.TheConstants.{STEPS_MAX}
 use Rattle.mpd_model.specs.declared.step.Step.{Step}
-use Rattle.mpd_model.specs.declared.step.Step.TheVariants.{Local, Match, Wake, Release}
+use Rattle.mpd_model.specs.declared.step.Step.TheVariants.{Local}
 use Rattle.mpd_model.specs.World.{World}
 use Rattle.mpd_model.specs.Next.{next, fold}
 use Rattle.mpd_model.specs.Program.{Program}
@@ -14,27 +14,37 @@ use Rattle.mpd_core.specs.Undone.{undone, CanUndo}
 -- the rank of a local step
 abbrev pub local_rank : Step → Option ℕ
 local_rank (Local p) = Some p
-local_rank (Match s r) = None
-local_rank (Wake p) = None
-local_rank Release = None
+local_rank a = None
+
+-- the record of the newest step, and the records that are left
+pub record Drawn : Type 0 where
+  pub newest : RankRecord
+  pub locals : List RankRecord
+  pub others : List RankRecord
+
+-- A local step, which has a rank here, has its record in the first list, any other step in the second.
+abbrev pub drawn : Option ℕ → List RankRecord → List RankRecord → Option Drawn
+drawn (Some p) (u ∷ locals) others = Some (record { newest = u; locals = locals; others = others })
+drawn (Some p) [] others = None
+drawn None locals (u ∷ others) = Some (record { newest = u; locals = locals; others = others })
+drawn None locals [] = None
+
+-- The record takes the step back, and what is left leads to the world before it.
+abbrev pub LeadsBy : (List RankRecord → List RankRecord → World → Type 0) → Program → Step → World → Option Drawn → Type 0
+LeadsBy before s a last (Some d) =
+    (next (undone s last (step_record a d.newest)) a ≡ Some last) × CanUndo last (step_record a d.newest) × before d.locals d.others (undone s last (step_record a d.newest))
+LeadsBy before s a last None = ⊥
+
+-- where no step is left, no record is either
+abbrev pub IsStart : List RankRecord → List RankRecord → World → World → Type 0
+IsStart [] [] first last = last ≡ first
+IsStart [] (u ∷ others) first last = ⊥
+IsStart (u ∷ locals) others first last = ⊥
 
 -- The newest records and steps come first. A record doesn't hold its step.
 abbrev pub LeadsTo : Program → World → List RankRecord → List RankRecord → List Step → World → Type 0
-LeadsTo s first [] [] [] last = last ≡ first
-LeadsTo s first (u ∷ locals) others (Local p ∷ steps) last =
-    (next (undone s last (step_record (Local p) u)) (Local p) ≡ Some last) × CanUndo last (step_record (Local p) u) × LeadsTo s first locals others steps (undone s last (step_record (Local p) u))
-LeadsTo s first locals (u ∷ others) (Match x y ∷ steps) last =
-    (next (undone s last (step_record (Match x y) u)) (Match x y) ≡ Some last) × CanUndo last (step_record (Match x y) u) × LeadsTo s first locals others steps (undone s last (step_record (Match x y) u))
-LeadsTo s first locals (u ∷ others) (Wake p ∷ steps) last =
-    (next (undone s last (step_record (Wake p) u)) (Wake p) ≡ Some last) × CanUndo last (step_record (Wake p) u) × LeadsTo s first locals others steps (undone s last (step_record (Wake p) u))
-LeadsTo s first locals (u ∷ others) (Release ∷ steps) last =
-    (next (undone s last (step_record Release u)) Release ≡ Some last) × CanUndo last (step_record Release u) × LeadsTo s first locals others steps (undone s last (step_record Release u))
-LeadsTo s first [] (u ∷ others) [] last = ⊥
-LeadsTo s first (u ∷ locals) others [] last = ⊥
-LeadsTo s first [] others (Local p ∷ steps) last = ⊥
-LeadsTo s first locals [] (Match x y ∷ steps) last = ⊥
-LeadsTo s first locals [] (Wake p ∷ steps) last = ⊥
-LeadsTo s first locals [] (Release ∷ steps) last = ⊥
+LeadsTo s first locals others [] last = IsStart locals others first last
+LeadsTo s first locals others (a ∷ steps) last = LeadsBy (λ l o w. LeadsTo s first l o steps w) s a last (drawn (local_rank a) locals others)
 
 pub record Keeps (s : Program) (first : World) (locals others : List RankRecord) (steps : List Step) (last : World) : Type 0 where
   pub within : length locals + length others ≤ length steps

@@ -192,7 +192,7 @@ fn local_rank(step: Step) -> Option<usize>
 {
     match step {
         Step::Local(rank) => Some(rank),
-        Step::Match(_, _) | Step::Wake(_) | Step::Release => None,
+        _ => None,
     }
 }
 

@@ -4,7 +4,7 @@ use Rattle.mpd_match.specs.Views.{SideView, BoardView, board_in, calls_in}
 use Rattle.mpd_match.specs.Held.{Meets}
 use Rattle.mpd_match.proofs.AtSide.{some_room_at}
 use Rattle.mpd_match.proofs.Boards.{meets_issue, issue_back, issued_free}
-use Rattle.mpd_match.proofs.board.Board.issue.Goals as goal
+use Rattle.mpd_match.proofs.board.Board.add_call.Goals as goal
 
 pub issue_at-requires-clause-room : goal.issue_at-requires-clause-room
 issue_at-requires-clause-room c =
