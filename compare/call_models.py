@@ -337,6 +337,13 @@ def matches_told(row):
     return unchanged(board_text(world), steps_line('matches', steps))
 
 
+def board_looked_at(row):
+    world, call_id = world_of(row), row.call_id()
+    told = [len(world.ranks), row.mode == RENDEZVOUS, len(world.records), len(world.ranks[call_id.rank].calls), is_complete(world, call_id)]
+    told.append(bool(list(pending(world, 0, 1))))
+    return unchanged(board_text(world), line(' '.join(str(it).lower() for it in told)))
+
+
 def board_looks(row):
     """What is answered by hand, over an unchanged board."""
     return unchanged(board_text(world_of(row)), row.by_hand)
@@ -696,6 +703,7 @@ MODELS = {
     'Tape::filled': by_hand, 'Tape::keep_room': by_hand, 'Tape::copy': by_hand, 'Tape changes': by_hand,
     'Lists::new': by_hand, 'Lists::keep_room': by_hand, 'Lists::copy': by_hand, 'Lists changes': by_hand,
     'Board::new': board_made, 'Board::copy': board_copied, 'Board::keep_room': board_room, 'Board::why': why_told,
+    'Board looks': board_looked_at,
     'Board::push_matches': matches_told, 'Board::pair': board_looks, 'Board::issue': board_looks, 'Board::woke': board_looks,
     'Board::released': board_looks, 'RankState::start': rank_changed, 'RankState::copy': rank_changed, 'RankState::keep_room': rank_changed,
     'RankState::commit': rank_changed, 'RankState::complete': rank_changed, 'RankState::go_on': rank_changed,
@@ -726,7 +734,7 @@ MODELS = {
     'mpd_wire::print': reply_printed, 'Reply::copy': reply_copied, 'same_request, same_reply': compared, 'Book::take': taken,
     'Book::new, len, audit': book_looks, 'Shared::new': shared_opened, 'Shared::call': shared_called, 'Shared::settle, code, SeatDesk': by_hand,
     'trace': trace_written, 'plain': plain_written, 'plain_keeping': plain_written, 'run_script': requests_served, 'serve': requests_served,
-    'TraceDesk::start': by_hand, 'Divider::new': by_hand, 'Divider looks': by_hand, 'read_options': by_hand,
+    'TraceDesk::start': by_hand, 'Divider::new': by_hand, 'Divider looks': by_hand, 'read_options': by_hand, 'UsageFault looks': by_hand,
     'mode_of, step_of, command_of, has_word': by_hand}
 
 

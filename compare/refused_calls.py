@@ -109,10 +109,11 @@ def difference(found, right):
 
 def problem_of_replies(row, seen):
     """What is wrong with the replies to commands, of which those that can be may be refused memory, and with the debugger behind them."""
-    text, model = ''.join(seen.texts('answer')), Debugger(row.read(), row.mode)
+    text, model, left = ''.join(seen.texts('answer')), Debugger(row.read(), row.mode), seen.refused
     for words in row.lines:
         said, _, text = text.partition('\n')
-        if said == 'memory' and refused_memory.can_be_refused(model, words.encode()):
+        if said == 'memory' and left and refused_memory.can_be_refused(model, words.encode()):
+            left -= 1
             continue
         right = model.answer(words.encode())
         if said != ('ok' if right.startswith('ok') else right.removeprefix('refused ')):
@@ -200,7 +201,8 @@ def refuse_each(row, first, sound, again):
             if what:
                 wrong.append(f'{variable}={number}: {what}')
     if has_workers(row) and by_worker[False] <= by_worker[True]:
-        wrong.append(f'of what workers alone were refused {by_worker[False]} times the caller did it, and {by_worker[True]} times it was want of memory')
+        made_good, not_made = by_worker[False], by_worker[True]
+        wrong.append(f'of what workers alone were refused {made_good} times their caller did it, {not_made} times it was want of memory')
     return Outcome(row, tuple(wrong), kinds, first.inside)
 
 
@@ -253,7 +255,7 @@ def report_rows(outcomes):
     """Says what came of each row; answers whether nothing is wrong."""
     for it in outcomes:
         print(f'{it.row.name}: {it.inside} requests, {dict(it.kinds)}', *it.wrong, sep='\n  ')
-    return not any(it.wrong for it in outcomes)
+    return bool(outcomes) and not any(it.wrong for it in outcomes)
 
 
 def planted(folder, jobs):
