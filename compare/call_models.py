@@ -25,7 +25,7 @@ class Row(NamedTuple):
 
     `by_hand` is what it answers where the model doesn't say it. Where `spares` is so the call takes no memory here; where `steady` is so
     it may take some, and answers the same without. At most `most` of its requests are refused, spread over all; none where that is 0.
-    `what` is said of it in place of what it is given, where that is long.
+    `what` is said of it in place of what it is given, where that is long. Where `is_deep` is so it has a small stack.
     """
     call: str
     script: str = ''
@@ -37,6 +37,7 @@ class Row(NamedTuple):
     steady: bool = False
     most: int = sys.maxsize
     what: str = ''
+    is_deep: bool = False
 
     @property
     def name(self):

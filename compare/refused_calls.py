@@ -39,6 +39,8 @@ from shims import built
 SHIM = f'{TOP}/bench/malloc_shim.c'
 BODIES = f'{TOP}/compare/probe/broken-memory'
 SECONDS = 60
+# Before a program that is to have a stack of 512 KiB (docs/LANGUAGE.md, "Limits").
+SMALL_STACK = ('sh', '-c', 'ulimit -S -s 512 && exec "$0" "$@"')
 # Of these, which go on behind a refusal, each line is judged by itself.
 BY_LINES = ('mpd_trail::follow', 'trace', 'plain', 'plain_keeping', 'serve', 'run_script')
 # What threads ask for isn't the same each time, and what a worker is refused its caller does.
@@ -76,7 +78,8 @@ def run(program, shim, row, folder, **refuse):
     """A run of a row in which the shim refuses what the words say."""
     report = f'{folder}/report-{next(NUMBERS)}'
     environment = {**os.environ, 'LD_PRELOAD': shim, 'SHIM_REPORT': report, **refuse}
-    ended = subprocess.run([program, *row.words], stdin=subprocess.DEVNULL, capture_output=True, env=environment, timeout=SECONDS)
+    words = [*SMALL_STACK, program, *row.words] if row.is_deep else [program, *row.words]
+    ended = subprocess.run(words, stdin=subprocess.DEVNULL, capture_output=True, env=environment, timeout=SECONDS)
     counts = (0, 0, 0, 0)
     if os.path.exists(report):
         with open(report, encoding='ascii') as file:
