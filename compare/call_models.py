@@ -25,7 +25,7 @@ class Row(NamedTuple):
 
     `by_hand` is what it answers where the model doesn't say it. Where `spares` is so the call takes no memory here; where `steady` is so
     it may take some, and answers the same without. At most `most` of its requests are refused, spread over all; none where that is 0.
-    `what` is said of it in place of what it is given, where that is long.
+    `what` is said of it in place of what it is given, where that is long. Where `is_deep` is so it has a small stack.
     """
     call: str
     script: str = ''
@@ -37,6 +37,7 @@ class Row(NamedTuple):
     steady: bool = False
     most: int = sys.maxsize
     what: str = ''
+    is_deep: bool = False
 
     @property
     def name(self):
@@ -335,6 +336,13 @@ def matches_told(row):
     elif row.argument != 'all':
         steps = [step for step in steps if step.second.rank == int(row.argument)]
     return unchanged(board_text(world), steps_line('matches', steps))
+
+
+def board_looked_at(row):
+    world, call_id = world_of(row), row.call_id()
+    told = [len(world.ranks), row.mode == RENDEZVOUS, len(world.records), len(world.ranks[call_id.rank].calls), is_complete(world, call_id)]
+    told.append(bool(list(pending(world, 0, 1))))
+    return unchanged(board_text(world), line(' '.join(str(it).lower() for it in told)))
 
 
 def board_looks(row):
@@ -696,6 +704,7 @@ MODELS = {
     'Tape::filled': by_hand, 'Tape::keep_room': by_hand, 'Tape::copy': by_hand, 'Tape changes': by_hand,
     'Lists::new': by_hand, 'Lists::keep_room': by_hand, 'Lists::copy': by_hand, 'Lists changes': by_hand,
     'Board::new': board_made, 'Board::copy': board_copied, 'Board::keep_room': board_room, 'Board::why': why_told,
+    'Board looks': board_looked_at,
     'Board::push_matches': matches_told, 'Board::pair': board_looks, 'Board::issue': board_looks, 'Board::woke': board_looks,
     'Board::released': board_looks, 'RankState::start': rank_changed, 'RankState::copy': rank_changed, 'RankState::keep_room': rank_changed,
     'RankState::commit': rank_changed, 'RankState::complete': rank_changed, 'RankState::go_on': rank_changed,
@@ -726,7 +735,7 @@ MODELS = {
     'mpd_wire::print': reply_printed, 'Reply::copy': reply_copied, 'same_request, same_reply': compared, 'Book::take': taken,
     'Book::new, len, audit': book_looks, 'Shared::new': shared_opened, 'Shared::call': shared_called, 'Shared::settle, code, SeatDesk': by_hand,
     'trace': trace_written, 'plain': plain_written, 'plain_keeping': plain_written, 'run_script': requests_served, 'serve': requests_served,
-    'TraceDesk::start': by_hand, 'Divider::new': by_hand, 'Divider looks': by_hand, 'read_options': by_hand,
+    'TraceDesk::start': by_hand, 'Divider::new': by_hand, 'Divider looks': by_hand, 'read_options': by_hand, 'UsageFault looks': by_hand,
     'mode_of, step_of, command_of, has_word': by_hand}
 
 

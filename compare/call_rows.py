@@ -101,6 +101,8 @@ def boards():
     yield Row('Board::why', HELD, ISSUED, '0.1')
     yield Row('Board::why', HELD, ISSUED, '0.0')
     yield Row('Board::why', MESSAGE, MATCHED, '0.0', spares=True)
+    for script, steps, call in ((HELD, ISSUED, '0.0'), (MESSAGE, SENT, '0.0'), (MESSAGE, MATCHED, '0.0'), (MEETING, ('local 0',), '0.0')):
+        yield Row('Board looks', script, steps, call, spares=True)
     # eligible, no named receive, the first candidate, both ways; then paired, no longer free, and with a buffer
     yield Row('Board::pair', RACE, CHOICE, '1.0 0.0', by_hand='true false 0 true true true false true\n', spares=True)
     yield Row('Board::pair', MESSAGE, SENT, '0.0 1.0', by_hand='true true 0 true true true false true\n', spares=True)
@@ -119,8 +121,8 @@ def ranks():
     yield Row('RankState::start', one, by_hand=no_state(text))
     yield Row('RankState::copy', one, ('local',), by_hand=Wanted(printed, printed, printed))
     yield Row('RankState::keep_room', one, by_hand=Wanted(text, 'done\n', text))
-    # it can step, hasn't ended, stands at the first statement, issues no call, and has printed once
-    yield Row('RankState::commit', one, by_hand=Wanted(text, 'true false 0 false 1\n', text), spares=True)
+    # it can step, hasn't ended, stands at the first statement, runs, has no handle, issues no call, and has printed once
+    yield Row('RankState::commit', one, by_hand=Wanted(text, 'true false 0 true 0 false 1\n', text), spares=True)
     receives = 'mpd 1; ranks 1; var x;\nrecv x from 0 tag 0; x = 1;'
     blocked, woken = ('rank 0 blocked\nvars 0\nout\nhandles\n', 'rank 0 running\nvars 1\nout\nhandles\n')
     yield Row('RankState::complete', receives, ('local',), by_hand=Wanted(blocked, '70 true\n', woken), spares=True)
@@ -344,6 +346,8 @@ def programs():
                         ('run a', 'run a rendezvous'), ('check a --witness', 'check a rendezvous 1000 100000 1 4 true'),
                         ('check a --runs 0', 'usage false 2'), ('fly', 'usage false 2'), ('--help', 'usage true 0')):
         yield Row('read_options', argument=words, by_hand=no_state(told + '\n'))
+    for words, told in (('fly', 'false 2 3'), ('--help', 'true 0 3')):
+        yield Row('UsageFault looks', argument=words, by_hand=no_state(told + '\n'), spares=True)
     for text, told in (('buffered', 'true false false true'), ('match 0.0 1.0', 'false true true true'), ('goto 3', 'false false true true'),
                        (' ', 'false false false false')):
         yield Row('mode_of, step_of, command_of, has_word', argument=text, by_hand=no_state(told + '\n'), spares=True)

@@ -55,11 +55,11 @@ def scripts():
         text = filled(statement, count)
         assert len(text) == BYTES
         for call in ('mpd_script::read', 'mpd_script::print', 'mpd_code::lower', 'mpd_trace::read_code'):
-            yield Row(call, text, most=FEW, what=f'65,536 bytes of {what}')
+            yield Row(call, text, most=2, what=f'65,536 bytes of {what}')
     deepest = nested(64, 64)
     for call in ('mpd_script::read', 'mpd_script::print', 'mpd_code::lower'):
-        yield Row(call, deepest, what='64 loops and 64 brackets')
-    yield Row('mpd_policy::run', deepest, (), '100')
+        yield Row(call, deepest, what='64 loops and 64 brackets', is_deep=True)
+    yield Row('mpd_policy::run', deepest, (), '100', is_deep=True)
     yield Row('mpd_trace::read_text', ' ' * BYTES, most=FEW, what='65,536 bytes')
     for path in sorted(glob.glob(f'{EXAMPLES}/*.mpd')):
         with open(path, encoding='ascii') as file:

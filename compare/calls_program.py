@@ -60,7 +60,7 @@ def add_crate(room):
 
 
 def build(out, bodies=()):
-    """Builds it there, with these wrong bodies planted."""
+    """Builds it there, with these wrong bodies planted. With them it is built for a few short runs."""
     with tempfile.TemporaryDirectory(prefix='calls-') as room:
         here = os.getcwd()
         os.chdir(TOP)
@@ -73,4 +73,5 @@ def build(out, bodies=()):
         add_crate(room)
         for folder in ('bench', 'tools'):
             shutil.copytree(f'{TOP}/{folder}', f'{room}/{folder}', ignore=shutil.ignore_patterns('__pycache__'))
-        subprocess.run([sys.executable, f'{room}/bench/unproved.py', CRATE, os.path.abspath(out), '--checked'], check=True)
+        words = ['--checked', '-O0'] if bodies else ['--checked']
+        subprocess.run([sys.executable, f'{room}/bench/unproved.py', CRATE, os.path.abspath(out), *words], check=True)

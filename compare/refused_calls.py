@@ -39,6 +39,8 @@ from shims import built
 SHIM = f'{TOP}/bench/malloc_shim.c'
 BODIES = f'{TOP}/compare/probe/broken-memory'
 SECONDS = 60
+# Before a program that is to have a stack of 512 KiB (docs/LANGUAGE.md, "Limits").
+SMALL_STACK = ('sh', '-c', 'ulimit -S -s 512 && exec "$0" "$@"')
 # Of these, which go on behind a refusal, each line is judged by itself.
 BY_LINES = ('mpd_trail::follow', 'trace', 'plain', 'plain_keeping', 'serve', 'run_script')
 # What threads ask for isn't the same each time, and what a worker is refused its caller does.
@@ -76,7 +78,8 @@ def run(program, shim, row, folder, **refuse):
     """A run of a row in which the shim refuses what the words say."""
     report = f'{folder}/report-{next(NUMBERS)}'
     environment = {**os.environ, 'LD_PRELOAD': shim, 'SHIM_REPORT': report, **refuse}
-    ended = subprocess.run([program, *row.words], stdin=subprocess.DEVNULL, capture_output=True, env=environment, timeout=SECONDS)
+    words = [*SMALL_STACK, program, *row.words] if row.is_deep else [program, *row.words]
+    ended = subprocess.run(words, stdin=subprocess.DEVNULL, capture_output=True, env=environment, timeout=SECONDS)
     counts = (0, 0, 0, 0)
     if os.path.exists(report):
         with open(report, encoding='ascii') as file:
@@ -109,10 +112,11 @@ def difference(found, right):
 
 def problem_of_replies(row, seen):
     """What is wrong with the replies to commands, of which those that can be may be refused memory, and with the debugger behind them."""
-    text, model = ''.join(seen.texts('answer')), Debugger(row.read(), row.mode)
+    text, model, left = ''.join(seen.texts('answer')), Debugger(row.read(), row.mode), seen.refused
     for words in row.lines:
         said, _, text = text.partition('\n')
-        if said == 'memory' and refused_memory.can_be_refused(model, words.encode()):
+        if said == 'memory' and left and refused_memory.can_be_refused(model, words.encode()):
+            left -= 1
             continue
         right = model.answer(words.encode())
         if said != ('ok' if right.startswith('ok') else right.removeprefix('refused ')):
@@ -200,7 +204,8 @@ def refuse_each(row, first, sound, again):
             if what:
                 wrong.append(f'{variable}={number}: {what}')
     if has_workers(row) and by_worker[False] <= by_worker[True]:
-        wrong.append(f'of what workers alone were refused {by_worker[False]} times the caller did it, and {by_worker[True]} times it was want of memory')
+        made_good, not_made = by_worker[False], by_worker[True]
+        wrong.append(f'of what workers alone were refused {made_good} times their caller did it, {not_made} times it was want of memory')
     return Outcome(row, tuple(wrong), kinds, first.inside)
 
 
@@ -253,7 +258,7 @@ def report_rows(outcomes):
     """Says what came of each row; answers whether nothing is wrong."""
     for it in outcomes:
         print(f'{it.row.name}: {it.inside} requests, {dict(it.kinds)}', *it.wrong, sep='\n  ')
-    return not any(it.wrong for it in outcomes)
+    return bool(outcomes) and not any(it.wrong for it in outcomes)
 
 
 def planted(folder, jobs):
