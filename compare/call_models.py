@@ -341,7 +341,8 @@ def matches_told(row):
 def board_looked_at(row):
     world, call_id = world_of(row), row.call_id()
     told = [len(world.ranks), row.mode == RENDEZVOUS, len(world.records), len(world.ranks[call_id.rank].calls), is_complete(world, call_id)]
-    told.append(bool(list(pending(world, 0, 1))))
+    call = find_call(world, call_id)
+    told += [bool(list(pending(world, 0, 1))), call.blocks, call.kind == 'barrier']
     return unchanged(board_text(world), line(' '.join(str(it).lower() for it in told)))
 
 
@@ -453,6 +454,11 @@ def explored(row):
 
 def report_printed(row):
     return no_state(explored(row).answer + '\n')
+
+
+def report_by_workers(row):
+    """The argument has the number of workers in front."""
+    return row.by_hand or report_printed(row._replace(argument=row.argument.partition(' ')[2]))
 
 
 def leaves_pushed(row):
@@ -728,6 +734,7 @@ MODELS = {
     'mpd_policy::run': run_by(lambda found, row: policy.run(found, breaks_of(row), row.numbers()[0])),
     'run_back': run_by(lambda found, row: policy.run_back(found, breaks_of(row))), 'Breaks': by_hand,
     'explore': explored, 'witness_of': witness_made, 'print_report': report_printed, 'push_leaf_text': leaves_pushed,
+    'push_leaves, push_total': report_printed, 'mpd_pool::print_report': report_by_workers,
     'Report looks': report_looks, 'verify': verified, 'verify_from': verified, 'split': split, 'explore_at': part_explored,
     'explore_by_pieces': by_pieces, 'mpd_pool::check': by_workers, 'mpd_check::check': check_written, 'check_piece': piece_written,
     'count_pieces': pieces_counted, 'judge': judged, 'read_witness': witness_read, 'read_witness_file': witness_read,

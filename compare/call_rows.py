@@ -234,6 +234,8 @@ def reports():
         for limits in ('10 100', '1 5', '10 100 witnesses', '10 100 until'):
             yield Row('explore', script, (), limits, mode)
         yield Row('print_report', script, (), '10 100 witnesses', mode)
+        yield Row('push_leaves, push_total', script, (), '10 100 witnesses', mode)
+        yield Row('mpd_pool::print_report', script, (), '2 10 100 witnesses', mode)
         yield Row('push_leaf_text', script, (), '10 100', mode)
         yield Row('Report looks', script, (), '10 100', mode, spares=True)
     yield Row('explore', RACE, (*CHOICE, 'match 1.0 0.0'), '10 100 witnesses')

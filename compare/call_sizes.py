@@ -5,6 +5,7 @@ over all.
 """
 
 import glob
+import itertools
 import os
 
 from call_models import Row, no_state
@@ -83,6 +84,18 @@ def starts():
         yield Row(call, ENDLESS, ('local 0', 'back', 'redo') * 2000, most=FEW, what='6,000 commands')
 
 
+# One receiver of any source, and seven senders of one message.
+SEVEN = ('mpd 1; ranks 8; var x; var i;\n'
+         'if rank == 0 { while i < 7 { recv x from any tag any; i = i + 1; } } else { send rank to 0 tag 0; }')
+
+
+def all_orders():
+    """Its report: whoever is left may come next, and each order of the seven is a leaf."""
+    orders = itertools.product(*(range(left) for left in range(7, 0, -1)))
+    leaves = ''.join(f'leaf {number} [{" ".join(map(str, order))}] done\n' for number, order in enumerate(orders))
+    return no_state(leaves + 'leaves 5040 more no\n\n')
+
+
 def to_the_end():
     """The steps of the long script, to its deadlock."""
     return ('local 0',) * 4002
@@ -101,6 +114,7 @@ def reports():
                            ('check_piece', '19 2 200 1000'), ('count_pieces', '0 3 200 1000')):
         yield Row(call, SIX, (), argument, most=FEW, what=f'120 leaves {argument}')
     for workers in (1, 2, 16):
+        yield Row('mpd_pool::print_report', SEVEN, (), f'{workers} 6000 1000', by_hand=all_orders(), most=20, what=f'5,040 leaves by {workers} workers')
         yield Row('mpd_pool::check', SIX, (), f'{workers} 2 200 1000', most=20, what=f'120 leaves by {workers} workers')
         yield Row('mpd_check::check', SIX, (), f'{workers} 2 200 1000 witnesses', most=20, what=f'120 leaves by {workers} workers')
 
