@@ -101,7 +101,8 @@ fn a_full_history_is_told(rt: HostRuntime) {
     let mut sink = ToWriter::new(Vec::new(alloc));
     let entries = entries_at_last(&rt, alloc, &code, &mut sink);
     same(&rt, entries, Some(HISTORY_MAX));
-    let wanted: &[u8] = b"{\"depth\":0,\"ok\":true,\"ranks\":[\"at 4\",\"at 4\"],\"sets\":[],\"undone\":0,\"version\":65535}\n\
+    let wanted: &[u8] =
+        b"{\"depth\":0,\"ok\":true,\"ranks\":[\"at 4\",\"at 4\"],\"sets\":[],\"undone\":0,\"version\":65535}\n\
 {\"error\":\"history-full\",\"ok\":false}\n{\"error\":\"not-json\",\"ok\":false}\n";
     same(&rt, sink.into_writer().as_slice(), wanted);
 }
@@ -157,7 +158,8 @@ fn a_seat_settles_whose_client_is_broken_off(rt: HostRuntime) {
     same(&rt, entries, Some(4));
     let heard: &[u8] = b"{\"depth\":1,\"ok\":true,\"version\":1}\n{\"dept";
     same(&rt, first.into_inner().into_writer().as_slice(), heard);
-    let told: &[u8] = b"{\"depth\":2,\"ok\":true,\"ranks\":[\"blocked 0\",\"at 4\"],\"sets\":[],\"undone\":0,\"version\":2}\n\
+    let told: &[u8] =
+        b"{\"depth\":2,\"ok\":true,\"ranks\":[\"blocked 0\",\"at 4\"],\"sets\":[],\"undone\":0,\"version\":2}\n\
 {\"depth\":2,\"ok\":true,\"ranks\":[\"blocked 0\",\"at 4\"],\"sets\":[],\"undone\":0,\"version\":2}\n{\"error\":\"not-json\",\"ok\":false}\n";
     same(&rt, second.into_writer().as_slice(), told);
 }

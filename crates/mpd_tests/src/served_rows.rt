@@ -42,11 +42,14 @@ const ONE_REPLY: &str = "{\"depth\":1,\"ok\":true,\"version\":1}\n";
 const TWO_REPLIES: &str =
     "{\"depth\":1,\"ok\":true,\"version\":1}\n{\"depth\":2,\"ok\":true,\"version\":2}\n";
 
-const AT_START: &str = "{\"depth\":0,\"ok\":true,\"ranks\":[\"at 4\",\"at 4\"],\"sets\":[],\"undone\":0,\"version\":0}";
+const AT_START: &str =
+    "{\"depth\":0,\"ok\":true,\"ranks\":[\"at 4\",\"at 4\"],\"sets\":[],\"undone\":0,\"version\":0}";
 
-const BEHIND_ONE: &str = "{\"depth\":1,\"ok\":true,\"ranks\":[\"at 4\",\"at 4\"],\"sets\":[],\"undone\":0,\"version\":1}";
+const BEHIND_ONE: &str =
+    "{\"depth\":1,\"ok\":true,\"ranks\":[\"at 4\",\"at 4\"],\"sets\":[],\"undone\":0,\"version\":1}";
 
-const BEHIND_TWO: &str = "{\"depth\":2,\"ok\":true,\"ranks\":[\"blocked 0\",\"at 4\"],\"sets\":[],\"undone\":0,\"version\":2}";
+const BEHIND_TWO: &str =
+    "{\"depth\":2,\"ok\":true,\"ranks\":[\"blocked 0\",\"at 4\"],\"sets\":[],\"undone\":0,\"version\":2}";
 
 /// The request whose reply was being written stands as taken, whether a byte of it was written or none; none behind it was asked. A
 /// line that has ended is answered where a read fails behind it, and the beginning of one isn't.
