@@ -185,8 +185,8 @@ def chosen(count, most):
 
 
 def has_workers(row):
-    """Whether it is by several workers, of several pieces."""
-    return row.call in BY_WORKERS and row.numbers()[0] > 1 and row.numbers()[1] > 0
+    """Whether it is by several workers, of several pieces, so that each of two has one; and all of its requests are refused."""
+    return row.call in BY_WORKERS and row.numbers()[0] > 1 and row.numbers()[1] > 0 and row.most == sys.maxsize
 
 
 def refuse_each(row, first, sound, again):
