@@ -230,8 +230,14 @@ def stepped(row, step, answer):
     return Wanted(core_text(world), line(answer), core_text(new))
 
 
+def record_told(step):
+    """What a record says of a step that was taken."""
+    kind, *rest = step.split()
+    return {'match': 'matched', 'release': 'released', 'wake': ' '.join(['woke', *rest])}.get(kind, step)
+
+
 def core_applied(row):
-    return stepped(row, row.step(), row.argument)
+    return stepped(row, row.step(), record_told(row.argument))
 
 
 def core_local(row):
@@ -716,6 +722,7 @@ MODELS = {
     'RankState::commit': rank_changed, 'RankState::complete': rank_changed, 'RankState::go_on': rank_changed,
     'Core::start': core_started, 'Core::copy': core_copied, 'Core::keep_room': core_room, 'Core::apply': core_applied,
     'Core::step_local': core_local, 'Core::undo': core_undone, 'Core::undo_local': core_local_undone, 'Core looks': by_hand,
+    'Core::step_other': core_applied, 'Core::undo_other': core_undone,
     'Core::call_text': core_told(lambda world, numbers: session.text_of_call(world, CallId(*numbers))),
     'Core::push_call': core_told(lambda world, numbers: session.text_of_call(world, CallId(*numbers))),
     'Core::rank_text': core_told(lambda world, numbers: rank_state(world.ranks[numbers[0]])),

@@ -13,6 +13,7 @@ RACE = ('mpd 1; ranks 3; var x; var y;\nif rank == 0 { recv x from any tag any; 
 CHANGES = 'mpd 1; ranks 2; var x;\nx = 9;\nif rank == 0 { send 7 to 1 tag 3; } else { recv x from any tag any status x x; }'
 HELD = ('mpd 1; ranks 2; var x; var y; req r[2];\nif rank == 0 { irecv r[0] x from any tag any; irecv r[1] y from 1 tag any; } '
         'else { send 5 to 0 tag 0; }')
+PAIRS = 'mpd 1; ranks 4; var x;\nif rank % 2 == 0 { send 7 to rank + 1 tag 0; } else { recv x from rank - 1 tag 0; }'
 MEETING = 'mpd 1; ranks 2;\nbarrier;'
 ENDLESS = 'mpd 1; ranks 1;\nwhile 1 { }'
 TRAPS = 'mpd 1; ranks 2; var x;\nx = 1 / x;'
@@ -31,6 +32,8 @@ ENDED = (*MATCHED, 'wake 0', 'wake 1', 'local 1')
 CHOICE = ('local 0', 'local 0', 'local 1', 'local 1', 'local 2', 'local 2')
 STUCK = (*CHOICE, 'match 2.0 0.0', 'wake 0', 'local 0', 'wake 2')
 ISSUED = ('local 0', 'local 0', 'local 0', 'local 1', 'local 1')
+# behind these there are four match sets, as many as the first room for them takes
+FOUR_SETS = (*(f'local {rank}' for rank in range(4) for _ in range(2)), 'match 0.0 1.0', 'match 2.0 3.0', 'wake 0', 'wake 1')
 
 # Nothing is known of a place whose line begins with `=`, since sections do.
 MISSING = 'mpd 1;\nranks 1;\nprint 1\nprint 2;\n'
@@ -146,8 +149,13 @@ def cores():
             if is_local:
                 yield Row('Core::step_local', script, steps[:count], step.split()[1])
                 yield Row('Core::undo_local', script, steps[:count], step.split()[1], spares=True)
+            else:
+                yield Row('Core::step_other', script, steps[:count], step)
+                yield Row('Core::undo_other', script, steps[:count], step, spares=True)
     yield Row('Core::apply', MESSAGE, SENT, 'wake 0', spares=True)
     yield Row('Core::step_local', MESSAGE, SENT, '0', spares=True)
+    yield Row('Core::step_other', MESSAGE, SENT, 'wake 0', spares=True)
+    yield Row('Core::step_other', PAIRS, FOUR_SETS, 'wake 2')
     # enabled, not stuck, ranks, calls of rank 0, its next statement, its activity, its number, the nodes
     yield Row('Core looks', MESSAGE, SENT, 'match 0.0 1.0', by_hand=core_looks(MESSAGE, SENT, 'true false 2 1 99 true 0 4\n'), spares=True)
     yield Row('Core looks', MESSAGE, ('local 0',), 'wake 0', by_hand=core_looks(MESSAGE, ('local 0',), 'false false 2 0 1 true 0 4\n'), spares=True)

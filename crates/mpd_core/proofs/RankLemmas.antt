@@ -13,7 +13,8 @@ use Rattle.mpd_model.specs.declared.call.Activity.{Activity}
 use Rattle.mpd_model.specs.declared.call.Activity.TheVariants.{Running, Blocked, Trapped}
 use Rattle.mpd_model.specs.Program.{Program}
 use Rattle.mpd_rank.specs.Views.{RankView, rank_of}
-use Rattle.mpd_rank.specs.declared.change.RankRecord.{RankRecord}
+use Rattle.mpd_rank.specs.declared.change.WakeRecord.{WakeRecord}
+use Rattle.mpd_rank.specs.Undone.{LocalDone}
 use Rattle.mpd_rank.specs.Records.{local_record, wake_record}
 use Rattle.mpd_core.specs.Views.{ranks_in, world_in, numbers_in, writes_in, Holds, HasTags}
 use Rattle.mpd_core.specs.OneRank.{ran_on, local_on}
@@ -138,12 +139,12 @@ record_read s vs n p v e h read numbers =
     let same : (v.rank ≡ p) × (s.ranks ≡ n) = as_numbered s vs n p v e h read numbers in
     rw (rank_read s vs n p v e h read) (λ i. local_record (sym same.0 i) ((length-ranks_in s vs ∙ sym e ∙ sym same.1) i) (rank_of s v))
 
-pub recorded_ok : {E : Type 0} (s : Program) (vs : List RankView) (n p : ℕ) (v : RankView) (result : Result RankRecord E) → n ≡ length vs → p < n → v ≡ get_or vs p v → numbers_in vs ≡ range_with_len 0 s.ranks
+pub recorded_ok : {E : Type 0} (s : Program) (vs : List RankView) (n p : ℕ) (v : RankView) (result : Result LocalDone E) → n ≡ length vs → p < n → v ≡ get_or vs p v → numbers_in vs ≡ range_with_len 0 s.ranks
     → IfOk result (λ done. local_record v.rank s.ranks (rank_of s v) ≡ Some done) → IfOk result (λ done. local_record_at (ranks_in s vs) p ≡ Some done)
 recorded_ok s vs n p v (Ok done) e h read numbers is = record_read s vs n p v e h read numbers ∙ is
 recorded_ok s vs n p v (Err failed) e h read numbers is = tt
 
-pub woke_read : (s : Program) (vs : List RankView) (n p : ℕ) (v : RankView) (writes : List (ℕ × ℤ)) (handle : Option ℕ) (made : RankRecord) → n ≡ length vs → p < n → v ≡ get_or vs p v → made ≡ wake_record (rank_of s v) writes handle → wake_record_at (ranks_in s vs) p writes handle ≡ Some made
+pub woke_read : (s : Program) (vs : List RankView) (n p : ℕ) (v : RankView) (writes : List (ℕ × ℤ)) (handle : Option ℕ) (made : WakeRecord) → n ≡ length vs → p < n → v ≡ get_or vs p v → made ≡ wake_record (rank_of s v) writes handle → wake_record_at (ranks_in s vs) p writes handle ≡ Some made
 woke_read s vs n p v writes handle made e h read is = rw (rank_read s vs n p v e h read) (ap Some (sym is))
 
 -- ---- the writes of all ranks

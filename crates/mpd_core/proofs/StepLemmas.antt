@@ -11,16 +11,15 @@ use Rattle.mpd_model.specs.Tree.{Tree}
 use Rattle.mpd_model.specs.World.{RankWorld, Board, calls_of}
 use Rattle.mpd_model.specs.Next.{HasReceiver, local, with_call, with_issued}
 use Rattle.mpd_match.specs.Changes.{without_last_call}
-use Rattle.mpd_rank.specs.declared.change.RankRecord.{RankRecord}
 use Rattle.mpd_rank.specs.declared.plan.LocalPlan.{LocalPlan}
 use Rattle.mpd_rank.specs.declared.plan.Alone.{Alone as Own}
 use Rattle.mpd_rank.specs.declared.plan.Alone.TheVariants as own
 use Rattle.mpd_rank.specs.declared.plan.LocalPlan.TheVariants.{Alone, Issue}
 use Rattle.mpd_rank.specs.Plans.{plan_call, plan_ran, planned, HasTag, HasPlannedReceiver}
 use Rattle.mpd_rank.specs.Records.{record_by, local_record, alone_change, plan_change, plan_record}
-use Rattle.mpd_rank.specs.declared.change.Change.{Change}
-use Rattle.mpd_rank.specs.declared.change.Change.TheVariants as change
-use Rattle.mpd_rank.specs.Undone.{entry_at, assigned_change, IsOwn, IsOfRank}
+use Rattle.mpd_rank.specs.declared.change.LocalChange.{LocalChange}
+use Rattle.mpd_rank.specs.declared.change.LocalChange.TheVariants as change
+use Rattle.mpd_rank.specs.Undone.{LocalDone, entry_at, assigned_change, IsOwn}
 use Rattle.mpd_rank.specs.Views.{RankView, rank_of}
 use Rattle.mpd_core.specs.OneRank.{ran_on, local_on, CanUnissueIf}
 use Rattle.mpd_core.specs.Undone.{unissued, CanUnissue}
@@ -60,7 +59,7 @@ can_by : (b : Board) (p number : ℕ) (vars : List ℤ) (handles : List (Option 
 can_by b p number vars handles (Alone plan) h = can_alone b p vars plan
 can_by b p number vars handles (Issue a next) h = h
 
-pub can_take_back : (b : Board) (p number : ℕ) (v : RankView) (plan : LocalPlan) (o : Option Call) (done : RankRecord) → o ≡ plan_call number plan → done ≡ plan_record v plan → CanUnissueIf b p o → CanUnissue b p done.change
+pub can_take_back : (b : Board) (p number : ℕ) (v : RankView) (plan : LocalPlan) (o : Option Call) (done : LocalDone) → o ≡ plan_call number plan → done ≡ plan_record v plan → CanUnissueIf b p o → CanUnissue b p done.change
 can_take_back b p number v plan o done e made h = rw made (can_by b p number v.vars v.handles plan (rw (sym e) h))
 
 -- and the board is the one before
@@ -68,16 +67,16 @@ back_by : (b c : Board) (p number : ℕ) (vars : List ℤ) (handles : List (Opti
 back_by b c p number vars handles (Alone plan) e h = back_alone c p vars plan ∙ e
 back_by b c p number vars handles (Issue a next) e h = h
 
-pub taken_back : (b c : Board) (p number : ℕ) (v : RankView) (plan : LocalPlan) (o : Option Call) (done : RankRecord) → o ≡ plan_call number plan → done ≡ plan_record v plan → c ≡ with_issued b p o → IfSome o (λ _. without_last_call c p ≡ b) → unissued c p done.change ≡ b
+pub taken_back : (b c : Board) (p number : ℕ) (v : RankView) (plan : LocalPlan) (o : Option Call) (done : LocalDone) → o ≡ plan_call number plan → done ≡ plan_record v plan → c ≡ with_issued b p o → IfSome o (λ _. without_last_call c p ≡ b) → unissued c p done.change ≡ b
 taken_back b c p number v plan o done e made with h = rw made (back_by b c p number v.vars v.handles plan (with ∙ ap (with_issued b p) e) (rw (sym e) h))
 
 -- a rank that has a step runs
-running_by : (env : Env) (a : Activity) (rest : List (ℕ × Tree)) (done : RankRecord) → record_by env a rest ≡ Some done → a ≡ Running
+running_by : (env : Env) (a : Activity) (rest : List (ℕ × Tree)) (done : LocalDone) → record_by env a rest ≡ Some done → a ≡ Running
 running_by env Running rest done e = refl
 running_by env Blocked rest done e = cc
 running_by env (Trapped t) rest done e = cc
 
-pub runs : (p n : ℕ) (r : RankWorld) (done : RankRecord) → local_record p n r ≡ Some done → r.activity ≡ Running
+pub runs : (p n : ℕ) (r : RankWorld) (done : LocalDone) → local_record p n r ≡ Some done → r.activity ≡ Running
 runs p n r done e = running_by _ r.activity r.rest done e
 
 -- where nothing is issued, no number matters
@@ -129,35 +128,19 @@ pub ruleset stepping = (has_receiver, can_take_back, taken_back, runs, local_ran
 
 -- ---- a step that issues no call
 
-pub own_can : (b : Board) (p : ℕ) (c : Change) → IsOwn c → CanUnissue b p c
+pub own_can : (b : Board) (p : ℕ) (c : LocalChange) → IsOwn c → CanUnissue b p c
 own_can b p change.Moved h = tt
 own_can b p (change.Assigned cell was) h = tt
 own_can b p change.Printed h = tt
 own_can b p (change.Issued handle) h = absurd h
 own_can b p change.Trapped h = tt
-own_can b p (change.Matched send recv) h = absurd h
-own_can b p (change.Woke cells handle) h = absurd h
-own_can b p change.Released h = absurd h
 
-pub own_back : (b : Board) (p : ℕ) (c : Change) → IsOwn c → unissued b p c ≡ b
+pub own_back : (b : Board) (p : ℕ) (c : LocalChange) → IsOwn c → unissued b p c ≡ b
 own_back b p change.Moved h = refl
 own_back b p (change.Assigned cell was) h = refl
 own_back b p change.Printed h = refl
 own_back b p (change.Issued handle) h = absurd h
 own_back b p change.Trapped h = refl
-own_back b p (change.Matched send recv) h = absurd h
-own_back b p (change.Woke cells handle) h = absurd h
-own_back b p change.Released h = absurd h
-
-pub own_of_rank : (c : Change) → IsOwn c → IsOfRank c
-own_of_rank change.Moved h = tt
-own_of_rank (change.Assigned cell was) h = tt
-own_of_rank change.Printed h = tt
-own_of_rank (change.Issued handle) h = absurd h
-own_of_rank change.Trapped h = tt
-own_of_rank (change.Matched send recv) h = absurd h
-own_of_rank (change.Woke cells handle) h = absurd h
-own_of_rank change.Released h = absurd h
 
 -- the room that is kept changes no step
 pub local_on-kept : (s : Program) (b : Board) (v u : RankView) → u ≡ record v { room = u.room } → local_on s b v ≡ local_on s b u
@@ -186,4 +169,4 @@ can_some s b v can is holds none =
     let f : true ≡ false = e ∙ ap is_some left in
     cc
 
-pub ruleset alone = (own_can, own_back, own_of_rank, own_ran, cannot, can_some, local_on-kept)
+pub ruleset alone = (own_can, own_back, own_ran, cannot, can_some, local_on-kept)

@@ -1,6 +1,7 @@
 pub mod Faults
 pub mod Views
 pub mod OneRank
+pub mod Steps
 pub mod Undone
 pub mod Records
 pub mod Listed

@@ -7,4 +7,5 @@ pub mod fault;
 mod ranks;
 pub mod record;
 pub mod state;
+pub mod step;
 pub mod text;

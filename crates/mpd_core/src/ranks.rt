@@ -9,7 +9,7 @@ ghost use Rattle.mpd_model.specs.Next.{HasReceiver, next, with_issued, update_at
 ghost use Rattle.mpd_model.specs.Outcomes.{has_ended};
 ghost use Rattle.mpd_match.specs.Changes.{without_last_call};
 ghost use Rattle.mpd_rank.specs.Views.{rank_of};
-ghost use Rattle.mpd_rank.specs.Undone.{undone_rank, IsOfRank};
+ghost use Rattle.mpd_rank.specs.Undone.{undone_rank, unwoken};
 ghost use Rattle.mpd_rank.specs.Records.{local_record};
 ghost use Rattle.mpd_core.specs.Views.{ranks_in, world_in, numbers_in, room_in, writes_in, acting, Holds, HasTags};
 ghost use Rattle.mpd_rank.specs.Plans.{HasTag};
@@ -23,7 +23,7 @@ use mpd_match::board::Board;
 use mpd_model::call::{Activity, Call};
 use mpd_model::limits::RANKS_MAX;
 use mpd_model::step::Step;
-use mpd_rank::change::{Cells, LocalRecord, RankRecord};
+use mpd_rank::change::{Cells, LocalRecord, WakeRecord};
 use mpd_rank::rank::RankState;
 use std::alloc::{AllocError, Global};
 
@@ -106,7 +106,6 @@ fn step_call(
     ensures recorded { IfOk result (λ done. local_record state.old.rank code.now.program.ranks (rank_of code.now.program state.old) ≡ Some done) }
     ensures back { IfOk result (λ done. undone_rank code.now.program (rank_of code.now.program state.new) done ≡ rank_of code.now.program state.old) }
     ensures board_back { IfOk result (λ done. unissued board.new.board state.old.rank done.change ≡ board.old.board) }
-    ensures of_rank { IfOk result (λ done. IsOfRank done.change) }
     ensures can { IfOk result (λ done. CanUnissue board.new.board state.old.rank done.change) }
     ensures not_enabled { IsErrOf result StepFault.NotEnabled ↔ (local_on code.now.program board.old.board state.old ≡ None) }
     ensures memory { IsErrOf result StepFault.Memory → board.old.room ≡ 0 }
@@ -147,7 +146,6 @@ fn step_rank(
     ensures recorded { IfOk result (λ done. local_record state.old.rank code.now.program.ranks (rank_of code.now.program state.old) ≡ Some done) }
     ensures back { IfOk result (λ done. undone_rank code.now.program (rank_of code.now.program state.new) done ≡ rank_of code.now.program state.old) }
     ensures board_back { IfOk result (λ done. unissued board.new.board state.old.rank done.change ≡ board.old.board) }
-    ensures of_rank { IfOk result (λ done. IsOfRank done.change) }
     ensures can { IfOk result (λ done. CanUnissue board.new.board state.old.rank done.change) }
     ensures not_enabled { IsErrOf result StepFault.NotEnabled ↔ (local_on code.now.program board.old.board state.old ≡ None) }
     ensures memory { IsErrOf result StepFault.Memory → min state.old.room board.old.room ≡ 0 }
@@ -191,7 +189,6 @@ pub(crate) fn step_one(
     ensures recorded { IfOk result (λ done. local_record_at (ranks_in code.now.program ranks.old.items) rank ≡ Some done) }
     ensures back { IfOk result (λ done. update_at (ranks_in code.now.program ranks.new.items) rank (λ r. undone_rank code.now.program r done) ≡ ranks_in code.now.program ranks.old.items) }
     ensures board_back { IfOk result (λ done. unissued board.new.board rank done.change ≡ board.old.board) }
-    ensures of_rank { IfOk result (λ done. IsOfRank done.change) }
     ensures can { IfOk result (λ done. CanUnissue board.new.board rank done.change) }
     ensures not_enabled { IsErrOf result StepFault.NotEnabled ↔ (next (world_in code.now.program ranks.old.items board.old.board) (Step.Local rank) ≡ None) }
     ensures memory { IsErrOf result StepFault.Memory → room_in board.old.room ranks.old.items ≡ 0 }
@@ -216,12 +213,11 @@ pub(crate) fn wake_one(
     rank: usize,
     writes: Cells,
     handle: Option<usize>,
-) -> RankRecord
+) -> WakeRecord
     requires { rank < vec_len ranks.old }
     ensures after { (s : Program) → ranks_in s ranks.new.items ≡ update_at (ranks_in s ranks.old.items) rank (woken_rank writes handle) }
     ensures recorded { (s : Program) → wake_record_at (ranks_in s ranks.old.items) rank writes handle ≡ Some result }
-    ensures back { (s : Program) → IfSome (slice_get (ranks_in s ranks.old.items) rank) (λ r. r.activity ≡ Activity.Blocked) → update_at (ranks_in s ranks.new.items) rank (λ r. undone_rank s r result) ≡ ranks_in s ranks.old.items }
-    ensures of_rank { IsOfRank result.change }
+    ensures back { (s : Program) → IfSome (slice_get (ranks_in s ranks.old.items) rank) (λ r. r.activity ≡ Activity.Blocked) → update_at (ranks_in s ranks.new.items) rank (λ r. unwoken r result) ≡ ranks_in s ranks.old.items }
     ensures numbers { numbers_in ranks.new.items ≡ numbers_in ranks.old.items }
     ensures size { vec_len ranks.new ≡ vec_len ranks.old }
     ensures room_left { (board_room : ℕ) → room_in board_room ranks.old.items ≤ room_in board_room ranks.new.items }
@@ -232,13 +228,11 @@ pub(crate) fn wake_one(
     state.complete(writes, handle)
 }
 
-/// Takes the step of one rank back.
-#[inline(always)]
+/// Takes the wake of one rank back.
 #[tactic(auto, using(crate::proofs::RankLemmas::at_rank))]
-pub(crate) fn restore_one(ranks: &mut Vec<RankState>, rank: usize, done: &RankRecord)
-    requires within { rank < vec_len ranks.old }
-    requires of_rank { IsOfRank done.now.change }
-    ensures after { (s : Program) → ranks_in s ranks.new.items ≡ update_at (ranks_in s ranks.old.items) rank (λ r. undone_rank s r done.now) }
+pub(crate) fn unwake_one(ranks: &mut Vec<RankState>, rank: usize, done: &WakeRecord)
+    requires { rank < vec_len ranks.old }
+    ensures after { (s : Program) → ranks_in s ranks.new.items ≡ update_at (ranks_in s ranks.old.items) rank (λ r. unwoken r done.now) }
     ensures numbers { numbers_in ranks.new.items ≡ numbers_in ranks.old.items }
     ensures size { vec_len ranks.new ≡ vec_len ranks.old }
     ensures room_left { (board_room : ℕ) → room_in board_room ranks.old.items ≤ room_in board_room ranks.new.items }
@@ -246,7 +240,7 @@ pub(crate) fn restore_one(ranks: &mut Vec<RankState>, rank: usize, done: &RankRe
     ensures few { writes_in ranks.new.items ≤ writes_in ranks.old.items + 5 }
 {
     let state = &mut ranks[rank];
-    state.restore(done);
+    state.unwake(done);
 }
 
 /// Takes a local step of one rank back.

@@ -1,13 +1,25 @@
-//! What takes a step back.
+//! What takes a step back. No record holds a collection, nor its step.
 
-use mpd_model::step::Step;
-use mpd_rank::change::Change;
+use mpd_match::record::PairRecord;
+use mpd_rank::change::{LocalRecord, WakeRecord};
 
-/// What takes a step back: the step, the node before it of the rank that it moves (0 for a match, a wake and a release, which
-/// move none), and what else it changed. It holds no collection.
+/// What takes a step back that isn't local. It takes 56 bytes.
 #[derive(Clone, Copy)]
-pub struct Record {
-    pub step: Step,
-    pub from: u32,
-    pub change: Change,
+pub enum OtherRecord {
+    /// Where the calls of the pair stood.
+    Matched(PairRecord),
+    /// The rank that went on, and what was overwritten.
+    Woke { rank: usize, was: WakeRecord },
+    /// All ranks went on from a barrier: each is blocked again.
+    Released,
+}
+
+const _: () = prove!(size_of::<OtherRecord>() == 56);
+
+/// What takes any step back.
+#[derive(Clone, Copy)]
+pub enum Record {
+    /// A local step, of a rank.
+    Local { rank: usize, done: LocalRecord },
+    Other(OtherRecord),
 }

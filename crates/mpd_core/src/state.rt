@@ -13,22 +13,23 @@ ghost use Rattle.mpd_core.specs.Views.{IsMessage};
 ghost use Rattle.mpd_rank.specs.Views.{rank_of};
 ghost use Rattle.mpd_rank.specs.Undone.{blocked_again};
 ghost use Rattle.mpd_match.specs.Changes.{last_set, without_last_set};
-ghost use Rattle.mpd_core.specs.Records.{record_of, step_record};
+ghost use Rattle.mpd_core.specs.Records.{record_of};
+ghost use Rattle.mpd_core.specs.Steps.{other_step};
 ghost use Rattle.mpd_core.specs.Looks.{step_looks, most_looks};
-ghost use Rattle.mpd_core.specs.Writes.{most_writes};
+ghost use Rattle.mpd_core.specs.Writes.{most_writes, most_writes_back};
 
 use crate::fault::StepFault;
 use crate::ranks;
-use crate::record::Record;
+use crate::record::{OtherRecord, Record};
+use crate::step::{AnyStep, OtherStep};
 use mpd_code::code::Code;
 use mpd_device::steps::Steps;
 use mpd_match::board::Board;
-use mpd_match::record::PairRecord;
 use mpd_model::call::{Activity, CallKind, Message, Mode, RecvCall};
 use mpd_model::kind::is_barrier;
 use mpd_model::limits::RANKS_MAX;
 use mpd_model::step::{CallId, Step};
-use mpd_rank::change::{Cells, Change, LocalRecord, RankRecord};
+use mpd_rank::change::{Cells, LocalChange, LocalRecord};
 use mpd_rank::rank::RankState;
 use std::alloc::{AllocError, Global};
 use std::marker::Model;
@@ -101,7 +102,7 @@ fn writes_of(kind: Option<CallKind>, message: Option<Message>) -> Cells
 }
 
 impl<'c> Core<'c> {
-    ghost use Rattle.mpd_core.specs.Undone.{undone, rank_part, CanUndo};
+    ghost use Rattle.mpd_core.specs.Undone.{undone, CanUndo};
 
     /// Every rank before its first step. An `Err` is want of memory.
     #[tactic(auto, using(crate::proofs::RankLemmas::board))]
@@ -268,13 +269,13 @@ impl<'c> Core<'c> {
         }
     }
 
-    /// A local step, as `apply` takes it. It answers what takes the step back of its rank alone.
+    /// A local step, as `apply` takes it. It answers what takes the step back, but for the rank.
     #[inline(always)]
     pub fn step_local(&mut self, rank: usize) -> Result<LocalRecord, StepFault>
         ensures ok { OnOk result (next self.old.world (Step.Local rank) ≡ Some self.new.world) }
-        ensures back { IfOk result (λ done. undone self.old.program self.new.world (step_record (Step.Local rank) done) ≡ self.old.world) }
-        ensures recorded { IfOk result (λ done. record_of self.old.world (Step.Local rank) ≡ Some (step_record (Step.Local rank) done)) }
-        ensures can { IfOk result (λ done. CanUndo self.new.world (step_record (Step.Local rank) done)) }
+        ensures back { IfOk result (λ done. undone self.old.program self.new.world (Record.Local rank done) ≡ self.old.world) }
+        ensures recorded { IfOk result (λ done. record_of self.old.world (Step.Local rank) ≡ Some (Record.Local rank done)) }
+        ensures can { IfOk result (λ done. CanUndo self.new.world (Record.Local rank done)) }
         ensures not_enabled { IsErrOf result StepFault.NotEnabled ↔ (next self.old.world (Step.Local rank) ≡ None) }
         ensures memory { IsErrOf result StepFault.Memory → self.old.room ≡ 0 }
         ensures err { OnErr result (self.new.world ≡ self.old.world) }
@@ -292,38 +293,13 @@ impl<'c> Core<'c> {
         ranks::step_one(self.code, &mut self.ranks, &mut self.board, rank)
     }
 
-    /// A local step.
-    fn apply_local(&mut self, rank: usize) -> Result<Record, StepFault>
-        ensures ok { OnOk result (next self.old.world (Step.Local rank) ≡ Some self.new.world) }
-        ensures back { IfOk result (λ done. undone self.old.program self.new.world done ≡ self.old.world) }
-        ensures recorded { IfOk result (λ done. record_of self.old.world (Step.Local rank) ≡ Some done) }
-        ensures can { IfOk result (λ done. CanUndo self.new.world done) }
-        ensures not_enabled { IsErrOf result StepFault.NotEnabled ↔ (next self.old.world (Step.Local rank) ≡ None) }
-        ensures memory { IsErrOf result StepFault.Memory → self.old.room ≡ 0 }
-        ensures err { OnErr result (self.new.world ≡ self.old.world) }
-        ensures program { self.new.program ≡ self.old.program }
-        ensures room_left { self.old.room ≤ self.new.room + 1 }
-        ensures err_room { OnErr result (self.old.room ≤ self.new.room) }
-        ensures rises { OnOk result (self.old.writes + 1 ≤ self.new.writes) }
-        ensures few { self.new.writes ≤ self.old.writes + 16 }
-        ensures unwritten { OnErr result (self.new.writes ≡ self.old.writes) }
-        ensures looks { self.new.looks ≡ self.old.looks }
-    {
-        let RankRecord { from, change } = self.step_local(rank)?.whole();
-        Ok(Record {
-            step: Step::Local(rank),
-            from,
-            change,
-        })
-    }
-
     /// A match.
     #[tactic(auto, using(crate::proofs::RoomLemmas::refused, crate::proofs::RoomLemmas::spending, crate::proofs::TagLemmas::tagging))]
-    fn apply_match(&mut self, send: CallId, recv: CallId) -> Result<Record, StepFault>
+    fn apply_match(&mut self, send: CallId, recv: CallId) -> Result<OtherRecord, StepFault>
         ensures ok { OnOk result (next self.old.world (Step.Match send recv) ≡ Some self.new.world) }
-        ensures back { IfOk result (λ done. undone self.old.program self.new.world done ≡ self.old.world) }
-        ensures recorded { IfOk result (λ done. record_of self.old.world (Step.Match send recv) ≡ Some done) }
-        ensures can { IfOk result (λ done. CanUndo self.new.world done) }
+        ensures back { IfOk result (λ done. undone self.old.program self.new.world (Record.Other done) ≡ self.old.world) }
+        ensures recorded { IfOk result (λ done. record_of self.old.world (Step.Match send recv) ≡ Some (Record.Other done)) }
+        ensures can { IfOk result (λ done. CanUndo self.new.world (Record.Other done)) }
         ensures not_enabled { IsErrOf result StepFault.NotEnabled ↔ (next self.old.world (Step.Match send recv) ≡ None) }
         ensures memory { IsErrOf result StepFault.Memory → self.old.room ≡ 0 }
         ensures err { OnErr result (self.new.world ≡ self.old.world) }
@@ -339,18 +315,7 @@ impl<'c> Core<'c> {
             return Err(StepFault::NotEnabled);
         }
         self.board.keep_room()?;
-        let PairRecord {
-            send_spot,
-            recv_spot,
-        } = self.board.pair(send, recv);
-        Ok(Record {
-            step: Step::Match(send, recv),
-            from: 0,
-            change: Change::Matched {
-                send_place: send_spot,
-                recv_place: recv_spot,
-            },
-        })
+        Ok(OtherRecord::Matched(self.board.pair(send, recv)))
     }
 
     /// The cells that the wake of a rank writes, each with its new value.
@@ -373,11 +338,11 @@ impl<'c> Core<'c> {
 
     /// A wake.
     #[tactic(auto, using(crate::proofs::RankLemmas::waking_blocked, crate::proofs::RoomLemmas::refused, crate::proofs::RoomLemmas::spending, crate::proofs::TagLemmas::tagging))]
-    fn apply_wake(&mut self, rank: usize) -> Result<Record, StepFault>
+    fn apply_wake(&mut self, rank: usize) -> Result<OtherRecord, StepFault>
         ensures ok { OnOk result (next self.old.world (Step.Wake rank) ≡ Some self.new.world) }
-        ensures back { IfOk result (λ done. undone self.old.program self.new.world done ≡ self.old.world) }
-        ensures recorded { IfOk result (λ done. record_of self.old.world (Step.Wake rank) ≡ Some done) }
-        ensures can { IfOk result (λ done. CanUndo self.new.world done) }
+        ensures back { IfOk result (λ done. undone self.old.program self.new.world (Record.Other done) ≡ self.old.world) }
+        ensures recorded { IfOk result (λ done. record_of self.old.world (Step.Wake rank) ≡ Some (Record.Other done)) }
+        ensures can { IfOk result (λ done. CanUndo self.new.world (Record.Other done)) }
         ensures not_enabled { IsErrOf result StepFault.NotEnabled ↔ (next self.old.world (Step.Wake rank) ≡ None) }
         ensures memory { IsErrOf result StepFault.Memory → self.old.room ≡ 0 }
         ensures err { OnErr result (self.new.world ≡ self.old.world) }
@@ -397,21 +362,17 @@ impl<'c> Core<'c> {
         let call = self.board.last_call(rank);
         self.board.keep_room()?;
         self.board.woke(call);
-        let RankRecord { from, change } = ranks::wake_one(&mut self.ranks, rank, writes, handle);
-        Ok(Record {
-            step: Step::Wake(rank),
-            from,
-            change,
-        })
+        let was = ranks::wake_one(&mut self.ranks, rank, writes, handle);
+        Ok(OtherRecord::Woke { rank, was })
     }
 
     /// A release.
     #[tactic(auto, using(crate::proofs::ReleaseLemmas::releasing, crate::proofs::RoomLemmas::refused, crate::proofs::RoomLemmas::spending, crate::proofs::TagLemmas::tagging))]
-    fn apply_release(&mut self) -> Result<Record, StepFault>
+    fn apply_release(&mut self) -> Result<OtherRecord, StepFault>
         ensures ok { OnOk result (next self.old.world Step.Release ≡ Some self.new.world) }
-        ensures back { IfOk result (λ done. undone self.old.program self.new.world done ≡ self.old.world) }
-        ensures recorded { IfOk result (λ done. record_of self.old.world Step.Release ≡ Some done) }
-        ensures can { IfOk result (λ done. CanUndo self.new.world done) }
+        ensures back { IfOk result (λ done. undone self.old.program self.new.world (Record.Other done) ≡ self.old.world) }
+        ensures recorded { IfOk result (λ done. record_of self.old.world Step.Release ≡ Some (Record.Other done)) }
+        ensures can { IfOk result (λ done. CanUndo self.new.world (Record.Other done)) }
         ensures not_enabled { IsErrOf result StepFault.NotEnabled ↔ (next self.old.world Step.Release ≡ None) }
         ensures memory { IsErrOf result StepFault.Memory → self.old.room ≡ 0 }
         ensures err { OnErr result (self.new.world ≡ self.old.world) }
@@ -428,11 +389,7 @@ impl<'c> Core<'c> {
         self.board.keep_room()?;
         self.board.released();
         ranks::let_go(&mut self.ranks);
-        Ok(Record {
-            step: Step::Release,
-            from: 0,
-            change: Change::Released,
-        })
+        Ok(OtherRecord::Released)
     }
 
     /// Keeps room for one step, whatever it is. An `Err` is want of memory, and comes only where no such room was kept; the state
@@ -451,11 +408,36 @@ impl<'c> Core<'c> {
         ranks::keep_rooms(&mut self.ranks)
     }
 
+    /// A step that isn't local, as `apply` takes it.
+    #[tactic(auto, using(crate::proofs::StepLemmas::writing))]
+    pub fn step_other(&mut self, step: OtherStep) -> Result<OtherRecord, StepFault>
+        ensures ok { OnOk result (next self.old.world (other_step step) ≡ Some self.new.world) }
+        ensures back { IfOk result (λ done. undone self.old.program self.new.world (Record.Other done) ≡ self.old.world) }
+        ensures recorded { IfOk result (λ done. record_of self.old.world (other_step step) ≡ Some (Record.Other done)) }
+        ensures can { IfOk result (λ done. CanUndo self.new.world (Record.Other done)) }
+        ensures not_enabled { IsErrOf result StepFault.NotEnabled ↔ (next self.old.world (other_step step) ≡ None) }
+        ensures memory { IsErrOf result StepFault.Memory → self.old.room ≡ 0 }
+        ensures err { OnErr result (self.new.world ≡ self.old.world) }
+        ensures program { self.new.program ≡ self.old.program }
+        ensures room_left { self.old.room ≤ self.new.room + 1 }
+        ensures err_room { OnErr result (self.old.room ≤ self.new.room) }
+        ensures rises { OnOk result (self.old.writes + 1 ≤ self.new.writes) }
+        ensures few { self.new.writes ≤ self.old.writes + most_writes self.old.program.ranks (other_step step) }
+        ensures unwritten { OnErr result (self.new.writes ≡ self.old.writes) }
+        ensures looks { self.new.looks ≡ self.old.looks + step_looks self.old.world.board (other_step step) }
+        ensures few_looks { self.new.looks ≤ self.old.looks + most_looks self.old.world.board (other_step step) }
+    {
+        match step {
+            OtherStep::Match(send, recv) => self.apply_match(send, recv),
+            OtherStep::Wake(rank) => self.apply_wake(rank),
+            OtherStep::Release => self.apply_release(),
+        }
+    }
+
     /// Takes a step, or refuses it: `NotEnabled` (21) exactly where the relation of steps has none, `Memory` (23) where a
     /// growth was refused, which is nowhere where room was kept. On a refusal the state is as before
     /// (docs/DEFINITIONS.md, "Steps"). A step takes 1 to 16 writes, a release two more for each rank at most, and looks at lists
     /// of free calls only for a match that fits: at most at their cells, and twice more.
-    #[tactic(auto, using(crate::proofs::StepLemmas::writing))]
     pub fn apply(&mut self, step: Step) -> Result<Record, StepFault>
         ensures ok { OnOk result (next self.old.world step ≡ Some self.new.world) }
         ensures back { IfOk result (λ done. undone self.old.program self.new.world done ≡ self.old.world) }
@@ -473,47 +455,31 @@ impl<'c> Core<'c> {
         ensures looks { self.new.looks ≡ self.old.looks + step_looks self.old.world.board step }
         ensures few_looks { self.new.looks ≤ self.old.looks + most_looks self.old.world.board step }
     {
-        match step {
-            Step::Local(rank) => self.apply_local(rank),
-            Step::Match(send, recv) => self.apply_match(send, recv),
-            Step::Wake(rank) => self.apply_wake(rank),
-            Step::Release => self.apply_release(),
+        match AnyStep::of(step) {
+            AnyStep::Local(rank) => {
+                let done = self.step_local(rank)?;
+                Ok(Record::Local { rank, done })
+            }
+            AnyStep::Other(step) => Ok(Record::Other(self.step_other(step)?)),
         }
     }
 
-    /// Takes a local step back, as `undo` does, by what takes it back of its rank alone.
+    /// Takes a local step of a rank back, as `undo` does.
     #[inline(always)]
     #[tactic(auto, using(crate::proofs::RoomLemmas::sparing, crate::proofs::TagLemmas::tagging))]
     pub fn undo_local(&mut self, rank: usize, done: &LocalRecord)
-        requires { CanUndo self.old.world (step_record (Step.Local rank) done.now) }
-        ensures world { self.new.world ≡ undone self.old.program self.old.world (step_record (Step.Local rank) done.now) }
+        requires { CanUndo self.old.world (Record.Local rank done.now) }
+        ensures world { self.new.world ≡ undone self.old.program self.old.world (Record.Local rank done.now) }
         ensures program { self.new.program ≡ self.old.program }
         ensures room_left { self.old.room ≤ self.new.room }
         ensures rises { self.old.writes + 1 ≤ self.new.writes }
         ensures few { self.new.writes ≤ self.old.writes + 16 }
         ensures looks { self.new.looks ≡ self.old.looks }
     {
-        if let Change::Issued { .. } = done.whole().change {
+        if let LocalChange::Issued { .. } = done.change() {
             self.board.unissue(rank);
         }
         ranks::restore_local(&mut self.ranks, rank, done);
-    }
-
-    /// The same, by its record as that of any step.
-    #[tactic(auto, using(crate::proofs::RoomLemmas::sparing, crate::proofs::TagLemmas::tagging))]
-    fn undo_whole(&mut self, rank: usize, done: &RankRecord)
-        requires { CanUndo self.old.world (step_record (Step.Local rank) done.now) }
-        ensures world { self.new.world ≡ undone self.old.program self.old.world (step_record (Step.Local rank) done.now) }
-        ensures program { self.new.program ≡ self.old.program }
-        ensures room_left { self.old.room ≤ self.new.room }
-        ensures rises { self.old.writes + 1 ≤ self.new.writes }
-        ensures few { self.new.writes ≤ self.old.writes + 16 }
-        ensures looks { self.new.looks ≡ self.old.looks }
-    {
-        if let Change::Issued { .. } = done.change {
-            self.board.unissue(rank);
-        }
-        ranks::restore_one(&mut self.ranks, rank, done);
     }
 
     /// Takes a release back.
@@ -530,39 +496,41 @@ impl<'c> Core<'c> {
         ranks::block_all(&mut self.ranks);
     }
 
+    /// Takes a step back that isn't local, as `undo` does.
+    #[tactic(auto, using(crate::proofs::RoomLemmas::sparing, crate::proofs::TagLemmas::tagging))]
+    pub fn undo_other(&mut self, done: &OtherRecord)
+        requires { CanUndo self.old.world (Record.Other done.now) }
+        ensures world { self.new.world ≡ undone self.old.program self.old.world (Record.Other done.now) }
+        ensures program { self.new.program ≡ self.old.program }
+        ensures room_left { self.old.room ≤ self.new.room }
+        ensures rises { self.old.writes + 1 ≤ self.new.writes }
+        ensures few { self.new.writes ≤ self.old.writes + most_writes_back self.old.program.ranks (Record.Other done.now) }
+        ensures looks { self.new.looks ≡ self.old.looks }
+    {
+        match done {
+            OtherRecord::Matched(places) => self.board.unpair(*places),
+            OtherRecord::Woke { rank, was } => {
+                self.board.unwoke();
+                ranks::unwake_one(&mut self.ranks, *rank, was);
+            }
+            OtherRecord::Released => self.undo_release(),
+        }
+    }
+
     /// Takes back the step that a record is of, the record of the last step not undone. It can't be refused memory. The state is
     /// the one before that step. It takes 1 to 16 writes, for a release two more for each rank at most.
-    #[tactic(auto, using(crate::proofs::RoomLemmas::sparing, crate::proofs::TagLemmas::tagging))]
     pub fn undo(&mut self, done: Record)
         requires { CanUndo self.old.world done }
         ensures world { self.new.world ≡ undone self.old.program self.old.world done }
         ensures program { self.new.program ≡ self.old.program }
         ensures room_left { self.old.room ≤ self.new.room }
         ensures rises { self.old.writes + 1 ≤ self.new.writes }
-        ensures few { self.new.writes ≤ self.old.writes + most_writes self.old.program.ranks done.step }
+        ensures few { self.new.writes ≤ self.old.writes + most_writes_back self.old.program.ranks done }
         ensures looks { self.new.looks ≡ self.old.looks }
     {
-        let Record { step, from, change } = done;
-        match step {
-            Step::Local(rank) => self.undo_whole(rank, &RankRecord { from, change }),
-            Step::Match(_, _) => {
-                let Change::Matched {
-                    send_place,
-                    recv_place,
-                } = change
-                else {
-                    unreachable!();
-                };
-                self.board.unpair(PairRecord {
-                    send_spot: send_place,
-                    recv_spot: recv_place,
-                });
-            }
-            Step::Wake(rank) => {
-                self.board.unwoke();
-                ranks::restore_one(&mut self.ranks, rank, &RankRecord { from, change });
-            }
-            Step::Release => self.undo_release(),
+        match done {
+            Record::Local { rank, done } => self.undo_local(rank, &done),
+            Record::Other(done) => self.undo_other(&done),
         }
     }
 }

@@ -26,11 +26,10 @@ use Rattle.mpd_rank.specs.declared.plan.Alone.{Alone as Own}
 use Rattle.mpd_rank.specs.declared.plan.Alone.TheVariants as own
 use Rattle.mpd_rank.specs.declared.plan.LocalPlan.{LocalPlan}
 use Rattle.mpd_rank.specs.declared.plan.LocalPlan.TheVariants.{Alone}
-use Rattle.mpd_rank.specs.declared.change.Change.{Change}
-use Rattle.mpd_rank.specs.declared.change.RankRecord.{RankRecord}
+use Rattle.mpd_rank.specs.declared.change.LocalChange.{LocalChange}
 use Rattle.mpd_rank.specs.Views.{RankView, rank_of}
 use Rattle.mpd_rank.specs.Records.{print_change, issue_change, write_change, assert_change, choice_change, simple_change, change_of, local_record, alone_change, alone_record, plan_change, plan_record, IsPlanned}
-use Rattle.mpd_rank.specs.Undone.{entry_at, assigned_change, IsOwn}
+use Rattle.mpd_rank.specs.Undone.{LocalDone, entry_at, assigned_change, IsOwn}
 use Rattle.mpd_rank.specs.Plans.{plan_of, simple_plan, planned_alone, plan_ran, HasTag, HasPlannedReceiver, print_plan, assign_plan, issue_plan, assert_plan, choice_plan}
 
 print_ran : (s : Program) (r : RankWorld) (n i next : ℕ) (v : Value) → plan_ran s r n i (Alone (print_plan v next)) ≡ alone (printed r (left_at s next) v)
@@ -150,7 +149,7 @@ pub stands_ran : (s : Program) (p n count : ℕ) (r : RankWorld) (i : ℕ) (node
 stands_ran s p n count r i node e h d =
     running_first p n count r i d.statement (left_at s node.next) e (h ∙ d.left) ∙ ap Some (sym (does_ran s (env_of p n r) r count i node.next node.action d.statement d.does))
 
-abbrev recorded_at : ℕ → Change → Option RankRecord
+abbrev recorded_at : ℕ → LocalChange → Option LocalDone
 recorded_at i c = Some (record { from = i; change = c })
 
 first_recorded : (p n : ℕ) (r : RankWorld) (i : ℕ) (t : Tree) (ts : List (ℕ × Tree)) → r.activity ≡ Running → r.rest ≡ (i, t) ∷ ts → local_record p n r ≡ Some (record { from = i; change = change_of (env_of p n r) t })
@@ -284,7 +283,7 @@ own_change vars (own.Assign cell v next) = own_assigned (entry_at vars cell)
 own_change vars (own.Trap t) = tt
 
 -- what it changes is its own
-pub own_recorded : (v : RankView) (plan : Own) (done : RankRecord) → done ≡ alone_record v plan → IsOwn done.change
+pub own_recorded : (v : RankView) (plan : Own) (done : LocalDone) → done ≡ alone_record v plan → IsOwn done.change
 own_recorded v plan done e = rw e (own_change v.vars plan)
 
 pub ruleset owning = (own_recorded)

@@ -7,11 +7,10 @@ use Rattle.mpd_model.specs.declared.call.Activity.TheVariants.{Running, Blocked}
 use Rattle.mpd_model.specs.Program.{Program}
 use Rattle.mpd_model.specs.World.{RankWorld}
 use Rattle.mpd_code.specs.Left.{left_at}
-use Rattle.mpd_rank.specs.declared.change.Change.TheVariants.{Woke}
-use Rattle.mpd_rank.specs.declared.change.RankRecord.{RankRecord}
+use Rattle.mpd_rank.specs.declared.change.WakeRecord.{WakeRecord}
 use Rattle.mpd_rank.specs.Views.{RankView, rank_of, listed}
 use Rattle.mpd_rank.specs.Packed.{before, all_listed, IsPacked}
-use Rattle.mpd_rank.specs.Undone.{entry_at, entries_before, handle_entry, put_entry, assigned_change, put_back, undone_rank}
+use Rattle.mpd_rank.specs.Undone.{LocalDone, entry_at, entries_before, handle_entry, put_entry, assigned_change, put_back, undone_rank, unwoken}
 use Rattle.mpd_rank.specs.Records.{alone_record}
 use Rattle.mpd_rank.specs.declared.plan.Alone.TheVariants.{Assign}
 
@@ -56,7 +55,7 @@ request_again None call handles = refl
 request_again (Some h) call handles = put_again handles h call
 
 -- an assignment that is taken back is the rank before
-pub assign_back : (s : Program) (v w : RankView) (d : RankRecord) (c next : ℕ) (x : ℤ) → w ≡ record v { node = next; vars = slice_set v.vars c x; writes = w.writes }
+pub assign_back : (s : Program) (v w : RankView) (d : LocalDone) (c next : ℕ) (x : ℤ) → w ≡ record v { node = next; vars = slice_set v.vars c x; writes = w.writes }
     → d ≡ alone_record v (Assign c x next) → v.activity ≡ Running → undone_rank s (rank_of s w) d ≡ rank_of s v
 assign_back s v w d c next x done recorded running =
     let before : RankWorld = record (rank_of s v) { rest = left_at s next; vars = slice_set v.vars c x } in
@@ -66,11 +65,11 @@ assign_back s v w d c next x done recorded running =
     ∙ (λ i. record (rank_of s v) { vars = write_held v.vars c x i; activity = sym running i })
 
 -- a wake that is taken back is the rank before
-pub wake_back : (s : Program) (v w : RankView) (ws : List (ℕ × ℤ)) (clears : Option ℕ) (cells : List (ℕ × ℤ)) (handle : Option (ℕ × Option ℕ))
-    → rank_of s w ≡ woken_rank ws clears (rank_of s v) → cells ≡ entries_before v.vars ws → handle ≡ handle_entry clears v.handles → v.activity ≡ Blocked
-    → put_back s (rank_of s w) 0 (Woke cells handle) ≡ rank_of s v
-wake_back s v w ws clears cells handle done e h blocked =
-    ap (λ (r : RankWorld). put_back s r 0 (Woke cells handle)) done
+pub wake_back : (s : Program) (v w : RankView) (ws : List (ℕ × ℤ)) (clears : Option ℕ) (was : WakeRecord)
+    → rank_of s w ≡ woken_rank ws clears (rank_of s v) → was.cells ≡ entries_before v.vars ws → was.handle ≡ handle_entry clears v.handles → v.activity ≡ Blocked
+    → unwoken (rank_of s w) was ≡ rank_of s v
+wake_back s v w ws clears was done e h blocked =
+    ap (λ (r : RankWorld). unwoken r was) done
     ∙ (λ i. record (rank_of s v) {
       vars = (ap (λ l. write_cells l (write_cells ws v.vars)) e ∙ written_back v.vars ws) i;
       handles = (ap (λ o. put_entry o (requested clears None v.handles)) h ∙ request_again clears None v.handles) i;

@@ -2,15 +2,15 @@
 -- a kind has no use for are 0, or 4294967295 for no handle and no call.
 use Rattle.std.specs.Prelude.{◌≡◌, ℕ, ℤ, pos, Option, None}
 use Rattle.std.proofs.Common.{refl, sym}
-use Rattle.mpd_rank.specs.declared.change.Change.{Change}
-use Rattle.mpd_rank.specs.declared.change.Change.TheVariants.{Moved, Assigned, Printed, Issued, Trapped, Matched, Woke, Released}
+use Rattle.mpd_rank.specs.declared.change.LocalChange.{LocalChange}
+use Rattle.mpd_rank.specs.declared.change.LocalChange.TheVariants.{Moved, Assigned, Printed, Issued, Trapped}
 use Rattle.mpd_rank.specs.declared.change.LocalKind.{LocalKind}
 use Rattle.mpd_rank.specs.declared.change.LocalKind.TheVariants as kind
 use Rattle.mpd_rank.specs.declared.change.LocalRecord.TheInside as local
-use Rattle.mpd_rank.specs.declared.change.RankRecord.{RankRecord}
 use Rattle.mpd_rank.specs.Entries.{old_handle, handle_of, call_of, handle_numbers_back}
+use Rattle.mpd_rank.specs.Undone.{LocalDone}
 
-abbrev pub local_change : LocalKind → ℕ → ℕ → ℕ → ℤ → Change
+abbrev pub local_change : LocalKind → ℕ → ℕ → ℕ → ℤ → LocalChange
 local_change kind.Moved cell handle call was = Moved
 local_change kind.Assigned cell handle call was = Assigned cell was
 local_change kind.Printed cell handle call was = Printed
@@ -33,49 +33,37 @@ IsLocal kind.Issued cell handle call was = NoCell cell was × (handle ≡ 429496
 IsLocal kind.Trapped cell handle call was = NoCell cell was × NoHandle handle call
 
 -- the handle that a call wrote, and what that held
-abbrev pub issued_handle : Change → Option (ℕ × Option ℕ)
+abbrev pub issued_handle : LocalChange → Option (ℕ × Option ℕ)
 issued_handle Moved = None
 issued_handle (Assigned cell was) = None
 issued_handle Printed = None
 issued_handle (Issued handle) = handle
 issued_handle Trapped = None
-issued_handle (Matched send recv) = None
-issued_handle (Woke cells handle) = None
-issued_handle Released = None
 
-abbrev kind_of : Change → LocalKind
+abbrev kind_of : LocalChange → LocalKind
 kind_of Moved = kind.Moved
 kind_of (Assigned cell was) = kind.Assigned
 kind_of Printed = kind.Printed
 kind_of (Issued handle) = kind.Issued
 kind_of Trapped = kind.Trapped
-kind_of (Matched send recv) = kind.Moved
-kind_of (Woke cells handle) = kind.Moved
-kind_of Released = kind.Moved
 
-abbrev cell_of : Change → ℕ
+abbrev cell_of : LocalChange → ℕ
 cell_of Moved = 0
 cell_of (Assigned cell was) = cell
 cell_of Printed = 0
 cell_of (Issued handle) = 0
 cell_of Trapped = 0
-cell_of (Matched send recv) = 0
-cell_of (Woke cells handle) = 0
-cell_of Released = 0
 
-abbrev was_of : Change → ℤ
+abbrev was_of : LocalChange → ℤ
 was_of Moved = pos 0
 was_of (Assigned cell was) = was
 was_of Printed = pos 0
 was_of (Issued handle) = pos 0
 was_of Trapped = pos 0
-was_of (Matched send recv) = pos 0
-was_of (Woke cells handle) = pos 0
-was_of Released = pos 0
 
 -- ---- a change gives its numbers back
 
-abbrev GivesBack : LocalKind → ℕ → ℕ → ℕ → ℤ → Change → Type 0
+abbrev GivesBack : LocalKind → ℕ → ℕ → ℕ → ℤ → LocalChange → Type 0
 GivesBack k cell handle call was c = (kind_of c ≡ k) × ((cell_of c ≡ cell) × ((handle_of (issued_handle c) ≡ handle) × ((call_of (issued_handle c) ≡ call) × (was_of c ≡ was))))
 
 changed_back : (k : LocalKind) (cell handle call : ℕ) (was : ℤ) → IsLocal k cell handle call was → GivesBack k cell handle call was (local_change k cell handle call was)
@@ -87,7 +75,7 @@ changed_back kind.Issued cell handle call was h =
     (refl, (sym h.0.0, (back.0, (back.1, sym h.0.1))))
 changed_back kind.Trapped cell handle call was h = (refl, (sym h.0.0, (sym h.1.0, (sym h.1.1, sym h.0.1))))
 
-abbrev pub numbers_of : RankRecord → local.Inside
+abbrev pub numbers_of : LocalDone → local.Inside
 numbers_of r = record { from = r.from; kind = kind_of r.change; cell_index = cell_of r.change; was = was_of r.change; handle_index = handle_of (issued_handle r.change); call_before = call_of (issued_handle r.change) }
 
 pub numbers_back : (a : local.Inside) → IsLocal a.kind a.cell_index a.handle_index a.call_before a.was → numbers_of (record { from = a.from; change = local_change a.kind a.cell_index a.handle_index a.call_before a.was }) ≡ a

@@ -4,9 +4,8 @@ ghost use Rattle.std.specs.Prelude.{◌≡◌, ◌<◌, ◌≤◌, ◌+◌, [], 
 ghost use Rattle.mpd_rank.specs.Packed.{before};
 ghost use Rattle.mpd_rank.specs.Entries.{IsSmall, some_number};
 ghost use Rattle.mpd_rank.specs.Locals.{IsLocal, local_change, issued_handle};
-ghost use Rattle.mpd_rank.specs.declared.change.Change.TheVariants as Change;
+ghost use Rattle.mpd_rank.specs.declared.change.LocalChange.TheVariants as LocalChange;
 
-use mpd_queue::lists::Spot;
 use std::marker::Model;
 
 /// In place of a number: none.
@@ -306,33 +305,28 @@ impl OldHandle {
     }
 }
 
-/// What a step did beside moving its rank's node.
+/// What a wake overwrote.
 #[derive(Clone, Copy)]
-pub enum Change {
+pub struct WakeRecord {
+    /// What the cells held that were written, the last first.
+    pub cells: OldCells,
+    /// What the handle held that was cleared, if one was.
+    pub handle: OldHandle,
+}
+
+const _: () = prove!(size_of::<WakeRecord>() == 40);
+
+/// What a local step did beside moving its rank.
+#[derive(Clone, Copy)]
+pub enum LocalChange {
     Moved,
     /// The cell that was written, and what it held.
     Assigned { cell: u32, was: i64 },
     Printed,
-    /// The handle that got the call's number, if any, and what it held.
+    /// What the handle held that got the call's number, if one did.
     Issued { handle: OldHandle },
     Trapped,
-    /// Where the send and the receive stood in the lists of free calls. It is of no rank.
-    Matched { send_place: Spot, recv_place: Spot },
-    /// The cells that were written, and what they held, and the same of the handle that was cleared, if any.
-    Woke { cells: OldCells, handle: OldHandle },
-    /// All ranks went on from a barrier. It is of no rank: each is blocked again as this is taken back.
-    Released,
 }
-
-/// What takes the step of a rank back: the node before it, which is 0 at a wake, since that moves no rank, and what else it did.
-/// It holds no collection, and takes 56 bytes.
-#[derive(Clone, Copy)]
-pub struct RankRecord {
-    pub from: u32,
-    pub change: Change,
-}
-
-const _: () = prove!(size_of::<RankRecord>() == 56);
 
 /// Which kind of change a local step made.
 #[derive(Clone, Copy)]
@@ -344,7 +338,7 @@ pub enum LocalKind {
     Trapped,
 }
 
-/// What takes a local step back, in 24 bytes. Contracts see a `RankRecord`.
+/// What takes a local step back, in 24 bytes. Contracts see a `LocalDone`: where its rank stood, and what it did beside moving it.
 ///
 /// It has its numbers side by side, and no enum that holds them: what is pushed on a trail is then stored field by field, and not
 /// copied as a whole from where its parts were stored just before, for which a processor waits (docs/SPEED.md).
@@ -361,10 +355,12 @@ pub struct LocalRecord {
 }
 
 impl Model for LocalRecord {
-    ghost use Rattle.mpd_rank.specs.declared.change.RankRecord.{RankRecord};
     ghost use Rattle.mpd_rank.specs.Locals.{local_change, IsLocal, numbers_of, numbers_back};
+    ghost use Rattle.mpd_rank.specs.Undone.{LocalDone, local_done_code};
 
-    ghost Value = { RankRecord };
+    ghost Value = { LocalDone };
+
+    ghost coded = { local_done_code };
 
     ghost view = { λ r. record { from = r.from; change = local_change r.kind r.cell_index r.handle_index r.call_before r.was } };
 
@@ -396,7 +392,7 @@ impl LocalRecord {
     /// Of an assignment, by the cell and what it held.
     pub(crate) fn assigned(from: u32, cell: usize, was: i64) -> LocalRecord
         requires { cell < 65536 }
-        ensures { result ≡ record { from = from; change = Change.Assigned cell was } }
+        ensures { result ≡ record { from = from; change = LocalChange.Assigned cell was } }
     {
         LocalRecord {
             from,
@@ -410,7 +406,7 @@ impl LocalRecord {
 
     /// Of a call, by what the handle held that got its number, if one did.
     pub(crate) fn issued(from: u32, handle: OldHandle) -> LocalRecord
-        ensures { result ≡ record { from = from; change = Change.Issued handle } }
+        ensures { result ≡ record { from = from; change = LocalChange.Issued handle } }
     {
         LocalRecord {
             from,
@@ -447,26 +443,22 @@ impl LocalRecord {
         }
     }
 
-    /// The same as the record of any step.
+    /// What the step did beside moving its rank.
     #[inline(always)]
-    pub fn whole(self) -> RankRecord
-        ensures { result ≡ self }
+    pub fn change(&self) -> LocalChange
+        ensures { result ≡ self.now.change }
     {
-        let change = match self.kind {
-            LocalKind::Moved => Change::Moved,
-            LocalKind::Assigned => Change::Assigned {
+        match self.kind {
+            LocalKind::Moved => LocalChange::Moved,
+            LocalKind::Assigned => LocalChange::Assigned {
                 cell: self.cell_index as u32,
                 was: self.was,
             },
-            LocalKind::Printed => Change::Printed,
-            LocalKind::Issued => Change::Issued {
+            LocalKind::Printed => LocalChange::Printed,
+            LocalKind::Issued => LocalChange::Issued {
                 handle: self.old_handle(),
             },
-            LocalKind::Trapped => Change::Trapped,
-        };
-        RankRecord {
-            from: self.from,
-            change,
+            LocalKind::Trapped => LocalChange::Trapped,
         }
     }
 }

@@ -7,9 +7,7 @@ ghost use Rattle.mpd_rank.specs.Entries.{IsSmall};
 ghost use Rattle.mpd_code.specs.Left.{left_at};
 ghost use Rattle.mpd_code.specs.Stands.{Stands};
 
-use crate::change::{
-    Cells, Change, LocalKind, LocalRecord, OldCell, OldCells, OldHandle, RankRecord,
-};
+use crate::change::{Cells, LocalKind, LocalRecord, OldCell, OldCells, OldHandle, WakeRecord};
 use crate::plan::{Alone, LocalPlan, plan_alone, plan_node};
 use crate::standing::Standing;
 use mpd_code::code::Code;
@@ -63,7 +61,7 @@ impl RankState {
     ghost use Rattle.mpd_model.specs.Next.{env_of, local, woken_rank, going_on, write_cells, requested, activity_after};
     ghost use Rattle.mpd_rank.specs.Views.{rank_of, listed};
     ghost use Rattle.mpd_rank.specs.Plans.{planned, planned_alone, plan_ran, HasPlannedReceiver};
-    ghost use Rattle.mpd_rank.specs.Undone.{IsOfRank, IsOwn, undone_rank, blocked_again, entry_at, entries_before, handle_entry, put_entry};
+    ghost use Rattle.mpd_rank.specs.Undone.{IsOwn, undone_rank, unwoken, blocked_again, entry_at, entries_before, handle_entry, put_entry};
     ghost use Rattle.mpd_rank.specs.Records.{local_record, plan_record, alone_record, wake_record, IsPlanned};
 
     /// A rank before its first step, with the whole body to run. An `Err` is want of memory.
@@ -280,7 +278,6 @@ impl RankState {
         ensures after { (p : Program) → rank_of p self.new ≡ planned_alone p (rank_of p self.old) plan }
         ensures recorded { result ≡ alone_record self.old plan }
         ensures own { IsOwn result.change }
-        ensures of_rank { IsOfRank result.change }
         ensures rank { self.new.rank ≡ self.old.rank }
         ensures back { (p : Program) → self.old.activity ≡ Activity.Running → undone_rank p (rank_of p self.new) result ≡ rank_of p self.old }
         ensures room_left { self.old.room ≤ self.new.room + 1 }
@@ -314,7 +311,6 @@ impl RankState {
         requires number { call < 4294967295 }
         ensures after { (p : Program) → rank_of p self.new ≡ planned p (rank_of p self.old) call plan }
         ensures recorded { result ≡ plan_record self.old plan }
-        ensures of_rank { IsOfRank result.change }
         ensures rank { self.new.rank ≡ self.old.rank }
         ensures back { (p : Program) → self.old.activity ≡ Activity.Running → undone_rank p (rank_of p self.new) result ≡ rank_of p self.old }
         ensures room_left { self.old.room ≤ self.new.room + 1 }
@@ -349,24 +345,20 @@ impl RankState {
     /// Goes on after a wake, with cells written and a handle cleared. It can't be refused memory. It answers what takes the wake
     /// back. One to five writes.
     #[tactic(auto, using(crate::proofs::RankLemmas::committing))]
-    pub fn complete(&mut self, writes: Cells, handle: Option<usize>) -> RankRecord
+    pub fn complete(&mut self, writes: Cells, handle: Option<usize>) -> WakeRecord
         ensures after { (p : Program) → rank_of p self.new ≡ woken_rank writes handle (rank_of p self.old) }
         ensures recorded { (p : Program) → result ≡ wake_record (rank_of p self.old) writes handle }
-        ensures of_rank { IsOfRank result.change }
         ensures rank { self.new.rank ≡ self.old.rank }
-        ensures back { (p : Program) → self.old.activity ≡ Activity.Blocked → undone_rank p (rank_of p self.new) result ≡ rank_of p self.old }
+        ensures back { (p : Program) → self.old.activity ≡ Activity.Blocked → unwoken (rank_of p self.new) result ≡ rank_of p self.old }
         ensures room_left { self.old.room ≤ self.new.room }
         ensures rises { self.old.writes + 1 ≤ self.new.writes }
         ensures few { self.new.writes ≤ self.old.writes + 5 }
     {
         let node = self.standing().node;
-        let was = self.write_all(writes);
+        let cells = self.write_all(writes);
         let handle = self.request(handle, None);
         self.stand(node, Activity::Running);
-        RankRecord {
-            from: 0,
-            change: Change::Woke { cells: was, handle },
-        }
+        WakeRecord { cells, handle }
     }
 
     /// Puts a handle back.
@@ -380,42 +372,19 @@ impl RankState {
         }
     }
 
-    /// Takes a wake back.
+    /// Takes a wake back. It can't be refused memory. One to five writes.
     #[inline(never)]
-    fn unwake(&mut self, cells: OldCells, handle: OldHandle)
-        ensures after { self.new ≡ record self.old { vars = write_cells cells self.old.vars; handles = put_entry handle self.old.handles; activity = Activity.Blocked; writes = self.new.writes } }
-        ensures rises { self.old.writes + 1 ≤ self.new.writes }
-        ensures few { self.new.writes ≤ self.old.writes + 5 }
-    {
-        let node = self.standing().node;
-        let _ = self.write_all(cells.cells());
-        self.put_handle(handle);
-        self.stand(node, Activity::Blocked);
-    }
-
-    /// Takes a step of the rank back. It can't be refused memory. One to five writes.
-    #[inline(always)]
-    pub fn restore(&mut self, done: &RankRecord)
-        requires { IsOfRank done.now.change }
-        ensures after { (p : Program) → rank_of p self.new ≡ undone_rank p (rank_of p self.old) done.now }
+    pub fn unwake(&mut self, done: &WakeRecord)
+        ensures after { (p : Program) → rank_of p self.new ≡ unwoken (rank_of p self.old) done.now }
         ensures rank { self.new.rank ≡ self.old.rank }
         ensures room_left { self.old.room ≤ self.new.room }
         ensures rises { self.old.writes + 1 ≤ self.new.writes }
         ensures few { self.new.writes ≤ self.old.writes + 5 }
     {
-        match done.change {
-            Change::Woke { cells, handle } => return self.unwake(cells, handle),
-            Change::Assigned { cell, was } => {
-                let _ = self.write(cell as usize, was);
-            }
-            Change::Printed => {
-                let _ = self.out.pop();
-            }
-            Change::Issued { handle } => self.put_handle(handle),
-            Change::Moved | Change::Trapped => {}
-            Change::Matched { .. } | Change::Released => unreachable!(),
-        }
-        self.stand(done.from, Activity::Running);
+        let node = self.standing().node;
+        let _ = self.write_all(done.cells.cells());
+        self.put_handle(done.handle);
+        self.stand(node, Activity::Blocked);
     }
 
     /// Takes a local step of the rank back. It can't be refused memory. One or two writes.

@@ -10,11 +10,19 @@ use Rattle.mpd_model.specs.Program.{Program}
 use Rattle.mpd_model.specs.World.{World, start}
 use Rattle.mpd_model.specs.Next.{next, fold, wake_writes, wake_clears}
 use Rattle.mpd_model.specs.Trail.{Trail, Standing, IsReached, kept, is_step, noted, applied, redone, forgotten}
-use Rattle.mpd_rank.specs.declared.change.RankRecord.{RankRecord}
+use Rattle.mpd_rank.specs.Undone.{LocalDone}
+use Rattle.mpd_core.specs.declared.record.OtherRecord.{OtherRecord}
 use Rattle.mpd_core.specs.declared.record.Record.{Record}
-use Rattle.mpd_core.specs.Records.{record_of, step_record, local_record_at, wake_record_at}
-use Rattle.mpd_core.specs.Undone.{undone, rank_part, CanUndo}
-use Rattle.mpd_trail.specs.Kept.{local_rank, Drawn, drawn, LeadsBy, IsStart, LeadsTo, Keeps}
+use Rattle.mpd_core.specs.declared.record.Record.TheVariants as kind
+use Rattle.mpd_core.specs.declared.step.AnyStep.{AnyStep}
+use Rattle.mpd_core.specs.declared.step.AnyStep.TheVariants as any
+use Rattle.mpd_core.specs.declared.step.OtherStep.{OtherStep}
+use Rattle.mpd_core.specs.declared.step.OtherStep.TheVariants as other
+use Rattle.mpd_core.specs.Steps.{other_step, any_step}
+use Rattle.mpd_core.specs.Records.{record_of, woken_at, local_record_at, wake_record_at}
+use Rattle.mpd_core.specs.Undone.{undone, CanUndo}
+use Rattle.mpd_core.specs.Writes.{most_writes, most_writes_back}
+use Rattle.mpd_trail.specs.Kept.{local_rank, Drawn, drawn, TakesBack, LeadsBy, IsStart, LeadsTo, Keeps}
 use Rattle.mpd_trail.proofs.StepLemmas.{is_step-true, noted_there}
 
 pub fold-append : (w : World) (xs ys : List Step) → fold w (xs ++ ys) ≡ option_and_then (λ v. fold v ys) (fold w xs)
@@ -30,52 +38,65 @@ fold_behind first old last a steps before e =
     ap (fold first) (reverse-append (a ∷ []) steps) ∙ split ∙ ap (option_and_then (λ v. fold v (a ∷ []))) before ∙ ap (option_and_then (λ v. fold v [])) e
 
 -- where what is left leads, the step leads on from there
-led_by : (s : Program) (first : World) (steps : List Step) (a : Step) (last : World) → ((l o : List RankRecord) (w : World) → LeadsTo s first l o steps w → fold first (reverse steps) ≡ Some w)
+led_by : (s : Program) (first : World) (steps : List Step) (a : Step) (last : World) → ((l : List LocalDone) (o : List OtherRecord) (w : World) → LeadsTo s first l o steps w → fold first (reverse steps) ≡ Some w)
     → (d : Option Drawn) → LeadsBy (λ l o w. LeadsTo s first l o steps w) s a last d → fold first (reverse (a ∷ steps)) ≡ Some last
 led_by s first steps a last before (Some d) h =
-    fold_behind first (undone s last (step_record a d.newest)) last a steps (before d.locals d.others (undone s last (step_record a d.newest)) h.2) h.0
+    fold_behind first (undone s last d.newest) last a steps (before d.locals d.others (undone s last d.newest) h.1) h.0.led
 led_by s first steps a last before None h = absurd h
 
-at_start : (locals others : List RankRecord) (first last : World) → IsStart locals others first last → last ≡ first
+at_start : (locals : List LocalDone) (others : List OtherRecord) (first last : World) → IsStart locals others first last → last ≡ first
 at_start [] [] first last h = h
 at_start [] (u ∷ others) first last h = absurd h
 at_start (u ∷ locals) others first last h = absurd h
 
 -- the last world is the fold of the steps
-pub leads_fold : (s : Program) (first : World) (locals others : List RankRecord) (steps : List Step) (last : World) → LeadsTo s first locals others steps last → fold first (reverse steps) ≡ Some last
+pub leads_fold : (s : Program) (first : World) (locals : List LocalDone) (others : List OtherRecord) (steps : List Step) (last : World) → LeadsTo s first locals others steps last → fold first (reverse steps) ≡ Some last
 leads_fold s first locals others [] last h = ap Some (sym (at_start locals others first last h))
 leads_fold s first locals others (a ∷ steps) last h = led_by s first steps a last (λ l o w k. leads_fold s first l o steps w k) (drawn (local_rank a) locals others) h
 
--- a step is a local one of the rank that it has
-pub is_local : (a : Step) (p : ℕ) → local_rank a ≡ Some p → a ≡ Local p
-is_local (Local q) p e = ap (λ (o : Option ℕ). Local (option_map_or (λ (x : ℕ). x) o q)) e
-is_local a p e = cc
+-- ---- steps told apart
+
+pub is_local : (t : AnyStep) (a : Step) (p : ℕ) → any_step t ≡ a → t ≡ any.Local p → a ≡ Local p
+is_local t a p e is = sym e ∙ ap any_step is
+
+pub is_other : (t : AnyStep) (a : Step) (o : OtherStep) → any_step t ≡ a → t ≡ any.Other o → a ≡ other_step o
+is_other t a o e is = sym e ∙ ap any_step is
+
+no_rank : (o : OtherStep) → local_rank (other_step o) ≡ None
+no_rank (other.Match s r) = refl
+no_rank (other.Wake p) = refl
+no_rank other.Release = refl
+
+pub is_apart : (t : AnyStep) (a : Step) (o : OtherStep) → any_step t ≡ a → t ≡ any.Other o → local_rank a ≡ None
+is_apart t a o e is = ap local_rank (is_other t a o e is) ∙ no_rank o
 
 -- what a record of a step that isn't local takes back, and what is left
-abbrev OtherLeads : Program → World → List RankRecord → RankRecord → List RankRecord → Step → List Step → World → Type 0
-OtherLeads s first locals u others a steps last = (next (undone s last (step_record a u)) a ≡ Some last) × CanUndo last (step_record a u) × LeadsTo s first locals others steps (undone s last (step_record a u))
+abbrev OtherLeads : Program → World → List LocalDone → OtherRecord → List OtherRecord → Step → List Step → World → Type 0
+OtherLeads s first locals u others a steps last = TakesBack s a last (kind.Other u) × LeadsTo s first locals others steps (undone s last (kind.Other u))
 
-other_leads : (s : Program) (first : World) (locals others : List RankRecord) (steps : List Step) (last : World) (u : RankRecord) (a : Step) → local_rank a ≡ None → OtherLeads s first locals u others a steps last
+other_leads : (s : Program) (first : World) (locals : List LocalDone) (others : List OtherRecord) (steps : List Step) (last : World) (u : OtherRecord) (a : Step) → local_rank a ≡ None → OtherLeads s first locals u others a steps last
     → LeadsTo s first locals (u ∷ others) (a ∷ steps) last
 other_leads s first locals others steps last u a e h = subst (λ (o : Option ℕ). LeadsBy (λ l o w. LeadsTo s first l o steps w) s a last (drawn o locals (u ∷ others))) (sym e) h
 
-other_led : (s : Program) (first : World) (locals others : List RankRecord) (steps : List Step) (last : World) (u : RankRecord) (a : Step) → local_rank a ≡ None → LeadsTo s first locals (u ∷ others) (a ∷ steps) last
+other_led : (s : Program) (first : World) (locals : List LocalDone) (others : List OtherRecord) (steps : List Step) (last : World) (u : OtherRecord) (a : Step) → local_rank a ≡ None → LeadsTo s first locals (u ∷ others) (a ∷ steps) last
     → OtherLeads s first locals u others a steps last
 other_led s first locals others steps last u a e h = subst (λ (o : Option ℕ). LeadsBy (λ l o w. LeadsTo s first l o steps w) s a last (drawn o locals (u ∷ others))) e h
 
--- a record of a step is that step with what the rank did at it
-is_joined : (a : Step) (o : Option RankRecord) → IfSome (option_map (step_record a) o) (λ done. done ≡ step_record a (rank_part done))
-is_joined a None = tt
-is_joined a (Some u) = refl
+-- the record of a step that was taken takes it back
+takes_back : (s : Program) (last now : World) (a : Step) (done : Record) → next last a ≡ Some now → undone s now done ≡ last → CanUndo now done → record_of last a ≡ Some done → TakesBack s a now done
+takes_back s last now a done e back can recorded = record { led = ap (λ w. next w a) back ∙ e; can = can; recorded = ap (λ w. record_of w a) back ∙ recorded }
 
-is_of_step : (w : World) (a : Step) → IfSome (record_of w a) (λ done. done ≡ step_record a (rank_part done))
-is_of_step w (Local p) = is_joined (Local p) (local_record_at w.ranks p)
-is_of_step w (Match s r) = refl
-is_of_step w (Wake p) = is_joined (Wake p) (wake_record_at w.ranks p (wake_writes w.board p) (wake_clears w.board p))
-is_of_step w Release = refl
+-- ---- the writes of an undo are those of its step
 
-pub recorded_step : (w : World) (a : Step) (done : Record) → record_of w a ≡ Some done → done ≡ step_record a (rank_part done)
-recorded_step w a done e = subst (λ (o : Option Record). IfSome o (λ d. d ≡ step_record a (rank_part d))) e (is_of_step w a)
+writes_joined : {A : Type 0} (n : ℕ) (make : A → Record) (done : Record) (o : Option A) → ((x : A) → most_writes_back n (make x) ≡ 16) → option_map make o ≡ Some done → most_writes_back n done ≡ 16
+writes_joined n make done None few e = absurd (cc)
+writes_joined n make done (Some x) few e = subst (λ (o : Option Record). IfSome o (λ d. most_writes_back n d ≡ 16)) e (few x)
+
+pub writes_back : (n : ℕ) (w : World) (a : Step) (done : Record) → record_of w a ≡ Some done → most_writes_back n done ≡ most_writes n a
+writes_back n w (Local p) done e = writes_joined n (kind.Local p) done (local_record_at w.ranks p) (λ x. refl) e
+writes_back n w (Match s r) done e = subst (λ (o : Option Record). IfSome o (λ d. most_writes_back n d ≡ 16)) e refl
+writes_back n w (Wake p) done e = writes_joined n (woken_at p) done (wake_record_at w.ranks p (wake_writes w.board p) (wake_clears w.board p)) (λ x. refl) e
+writes_back n w Release done e = subst (λ (o : Option Record). IfSome o (λ d. most_writes_back n d ≡ most_writes n Release)) e refl
 
 take_by : (b : Bool) (steps : List Step) (n : ℕ) (a : Step) → n ≤ length steps → is_step (slice_get steps n) a ≡ b → take (n + 1) (cond b steps (take n steps ++ a ∷ [])) ≡ take n steps ++ a ∷ []
 take_by true steps n a h e =
@@ -92,12 +113,12 @@ few_by true steps n most a h few = few
 few_by false steps n most a h few = omega (arith, length-append (take n steps) (a ∷ []), length-take n steps)
 
 -- where the steps not undone lead
-pub keeps_world : (s : Program) (first : World) (locals others : List RankRecord) (steps : List Step) (last : World) → Keeps s first locals others steps last → fold first (take (length locals + length others) steps) ≡ Some last
+pub keeps_world : (s : Program) (first : World) (locals : List LocalDone) (others : List OtherRecord) (steps : List Step) (last : World) → Keeps s first locals others steps last → fold first (take (length locals + length others) steps) ≡ Some last
 keeps_world s first locals others steps last k =
     let here : List Step = take (length locals + length others) steps in
     ap (fold first) (sym (reverse-reverse here)) ∙ leads_fold s first (reverse locals) (reverse others) (reverse here) last k.leads
 
-pub keeps_reached : (s : Standing) (locals others : List RankRecord) → length locals + length others ≡ s.trail.depth → Keeps s.trail.program (start s.trail.program s.trail.mode) locals others s.trail.steps s.world → IsReached s
+pub keeps_reached : (s : Standing) (locals : List LocalDone) (others : List OtherRecord) → length locals + length others ≡ s.trail.depth → Keeps s.trail.program (start s.trail.program s.trail.mode) locals others s.trail.steps s.world → IsReached s
 keeps_reached s locals others e k =
     record {
       world = ap (λ n. fold (start s.trail.program s.trail.mode) (take n s.trail.steps)) (sym e) ∙ keeps_world s.trail.program (start s.trail.program s.trail.mode) locals others s.trail.steps s.world k;
@@ -123,7 +144,7 @@ whole_by true first last steps n a whole there some = whole
 whole_by false first last steps n a whole there some = rw (fold_on first last (take n steps) a there) some
 
 -- The first step that is undone is enabled.
-pub keeps_next : (s : Program) (first : World) (locals others : List RankRecord) (steps : List Step) (last : World) (a : Step) → Keeps s first locals others steps last → length locals + length others < length steps
+pub keeps_next : (s : Program) (first : World) (locals : List LocalDone) (others : List OtherRecord) (steps : List Step) (last : World) (a : Step) → Keeps s first locals others steps last → length locals + length others < length steps
     → a ≡ get_or steps (length locals + length others) a → IsSome (next last a)
 keeps_next s first locals others steps last a k more read =
     let n : ℕ = length locals + length others in
@@ -148,13 +169,13 @@ of_next P o a e holds b f = subst P (same_some o a b e f) holds
 
 -- ---- other steps behind the depth
 
-pub keeps_other : (s : Program) (first : World) (locals others : List RankRecord) (steps changed : List Step) (last : World) → Keeps s first locals others steps last
+pub keeps_other : (s : Program) (first : World) (locals : List LocalDone) (others : List OtherRecord) (steps changed : List Step) (last : World) → Keeps s first locals others steps last
     → take (length locals + length others) changed ≡ take (length locals + length others) steps → IsSome (fold first changed) → length changed ≤ STEPS_MAX → Keeps s first locals others changed last
 keeps_other s first locals others steps changed last k begins whole few =
     let n : ℕ = length locals + length others in
     record { within = omega (arith, ap length begins, length-take n changed, length-take n steps, k.within); few = few; leads = rw begins k.leads; whole = whole }
 
-pub keeps_forgotten : (s : Program) (first : World) (locals others : List RankRecord) (steps : List Step) (last : World) → Keeps s first locals others steps last
+pub keeps_forgotten : (s : Program) (first : World) (locals : List LocalDone) (others : List OtherRecord) (steps : List Step) (last : World) → Keeps s first locals others steps last
     → Keeps s first locals others (take (length locals + length others) steps) last
 keeps_forgotten s first locals others steps last k =
     let n : ℕ = length locals + length others in
@@ -165,7 +186,7 @@ kept_forgotten t = take-take t.depth t.depth t.steps (omega arith)
 
 -- ---- one step more
 
-keeps_more : (s : Program) (first : World) (locals others locals2 others2 : List RankRecord) (steps : List Step) (last now : World) (a : Step) → Keeps s first locals others steps last
+keeps_more : (s : Program) (first : World) (locals : List LocalDone) (others : List OtherRecord) (locals2 : List LocalDone) (others2 : List OtherRecord) (steps : List Step) (last now : World) (a : Step) → Keeps s first locals others steps last
     → length locals + length others < STEPS_MAX → next last a ≡ Some now → length locals2 + length others2 ≡ length locals + length others + 1
     → LeadsTo s first (reverse locals2) (reverse others2) (a ∷ reverse (take (length locals + length others) steps)) now → Keeps s first locals2 others2 (noted steps (length locals + length others) a) now
 keeps_more s first locals others locals2 others2 steps last now a k room e long there =
@@ -178,97 +199,100 @@ keeps_more s first locals others locals2 others2 steps last now a k room e long 
       whole = whole_by (is_step (slice_get steps n) a) first last steps n a k.whole (keeps_world s first locals others steps last k) (rw e refl);
     }
 
-pub keeps_local : (s : Program) (first : World) (locals others : List RankRecord) (steps : List Step) (last now : World) (u : RankRecord) (p : ℕ) → Keeps s first locals others steps last
-    → length locals + length others < STEPS_MAX → next last (Local p) ≡ Some now → undone s now (step_record (Local p) u) ≡ last → CanUndo now (step_record (Local p) u)
+pub keeps_local : (s : Program) (first : World) (locals : List LocalDone) (others : List OtherRecord) (steps : List Step) (last now : World) (u : LocalDone) (p : ℕ) → Keeps s first locals others steps last
+    → length locals + length others < STEPS_MAX → next last (Local p) ≡ Some now → undone s now (kind.Local p u) ≡ last → CanUndo now (kind.Local p u) → record_of last (Local p) ≡ Some (kind.Local p u)
     → Keeps s first (locals ++ u ∷ []) others (noted steps (length locals + length others) (Local p)) now
-keeps_local s first locals others steps last now u p k room e back can =
+keeps_local s first locals others steps last now u p k room e back can recorded =
     let front : List Step = reverse (take (length locals + length others) steps) in
     let there : LeadsTo s first (u ∷ reverse locals) (reverse others) (Local p ∷ front) now =
-    (ap (λ w. next w (Local p)) back ∙ e, can, subst (LeadsTo s first (reverse locals) (reverse others) front) (sym back) k.leads) in
+    (takes_back s last now (Local p) (kind.Local p u) e back can recorded, subst (LeadsTo s first (reverse locals) (reverse others) front) (sym back) k.leads) in
     keeps_more s first locals others (locals ++ u ∷ []) others steps last now (Local p) k room e (omega (arith, length-append locals (u ∷ []))) (rw (reverse-append locals (u ∷ [])) there)
 
-pub keeps_apart : (s : Program) (first : World) (locals others : List RankRecord) (steps : List Step) (last now : World) (done : Record) (a : Step) → Keeps s first locals others steps last → local_rank a ≡ None
-    → length locals + length others < STEPS_MAX → next last a ≡ Some now → undone s now done ≡ last → CanUndo now done → record_of last a ≡ Some done
-    → Keeps s first locals (others ++ rank_part done ∷ []) (noted steps (length locals + length others) a) now
-keeps_apart s first locals others steps last now done a k apart room e back can recorded =
-    let u : RankRecord = rank_part done in
+pub keeps_apart : (s : Program) (first : World) (locals : List LocalDone) (others : List OtherRecord) (steps : List Step) (last now : World) (u : OtherRecord) (o : OtherStep) → Keeps s first locals others steps last
+    → length locals + length others < STEPS_MAX → next last (other_step o) ≡ Some now → undone s now (kind.Other u) ≡ last → CanUndo now (kind.Other u) → record_of last (other_step o) ≡ Some (kind.Other u)
+    → Keeps s first locals (others ++ u ∷ []) (noted steps (length locals + length others) (other_step o)) now
+keeps_apart s first locals others steps last now u o k room e back can recorded =
+    let a : Step = other_step o in
     let front : List Step = reverse (take (length locals + length others) steps) in
-    let is : done ≡ step_record a u = recorded_step last a done recorded in
-    let was : undone s now (step_record a u) ≡ last = ap (undone s now) (sym is) ∙ back in
-    let able : CanUndo now (step_record a u) = subst (CanUndo now) is can in
     let there : LeadsTo s first (reverse locals) (u ∷ reverse others) (a ∷ front) now =
-    other_leads s first (reverse locals) (reverse others) front now u a apart (ap (λ w. next w a) was ∙ e, able, subst (LeadsTo s first (reverse locals) (reverse others) front) (sym was) k.leads) in
+    other_leads s first (reverse locals) (reverse others) front now u a (no_rank o) (takes_back s last now a (kind.Other u) e back can recorded, subst (LeadsTo s first (reverse locals) (reverse others) front) (sym back) k.leads) in
     keeps_more s first locals others locals (others ++ u ∷ []) steps last now a k room e (omega (arith, length-append others (u ∷ []))) (rw (reverse-append others (u ∷ [])) there)
 
 -- ---- The newest step: it can be taken back, and without it the others are kept.
 
 -- All records are those before the last, and that one.
-to_last : (records : List RankRecord) (n : ℕ) (u : RankRecord) → length records ≡ n + 1 → u ≡ get_or records n u → records ≡ take n records ++ u ∷ []
+to_last : {A : Type 0} (records : List A) (n : ℕ) (u : A) → length records ≡ n + 1 → u ≡ get_or records n u → records ≡ take n records ++ u ∷ []
 to_last records n u long is = sym (take_all (n + 1) records (omega (arith, long))) ∙ take_more records n u (omega (arith, long)) ∙ ap (λ x. take n records ++ x ∷ []) (sym is)
 
-newest_first : (records : List RankRecord) (n : ℕ) (u : RankRecord) → length records ≡ n + 1 → u ≡ get_or records n u → reverse records ≡ u ∷ reverse (take n records)
+newest_first : {A : Type 0} (records : List A) (n : ℕ) (u : A) → length records ≡ n + 1 → u ≡ get_or records n u → reverse records ≡ u ∷ reverse (take n records)
 newest_first records n u long is = ap reverse (to_last records n u long is) ∙ reverse-append (take n records) (u ∷ [])
 
-leads_last : (s : Program) (first : World) (locals others : List RankRecord) (steps : List Step) (last : World) (n : ℕ) (a : Step) → length locals + length others ≡ n + 1 → a ≡ get_or steps n a
+leads_last : (s : Program) (first : World) (locals : List LocalDone) (others : List OtherRecord) (steps : List Step) (last : World) (n : ℕ) (a : Step) → length locals + length others ≡ n + 1 → a ≡ get_or steps n a
     → Keeps s first locals others steps last → LeadsTo s first (reverse locals) (reverse others) (a ∷ reverse (take n steps)) last
 leads_last s first locals others steps last n a long read k =
     let front : take (n + 1) steps ≡ take n steps ++ a ∷ [] = take_more steps n a (omega (arith, long, k.within)) ∙ ap (λ b. take n steps ++ b ∷ []) (sym read) in
     rw (long, front, reverse-append (take n steps) (a ∷ [])) at k.leads
 
 -- a step of a kind has a record of that kind
-some_local : (s : Program) (first : World) (locals others : List RankRecord) (p : ℕ) (steps : List Step) (last : World) → LeadsTo s first locals others (Local p ∷ steps) last → 0 < length locals
+some_local : (s : Program) (first : World) (locals : List LocalDone) (others : List OtherRecord) (p : ℕ) (steps : List Step) (last : World) → LeadsTo s first locals others (Local p ∷ steps) last → 0 < length locals
 some_local s first [] others p steps last h = absurd h
 some_local s first (u ∷ locals) others p steps last h = omega arith
 
-some_other : (s : Program) (first : World) (locals others : List RankRecord) (a : Step) (steps : List Step) (last : World) → local_rank a ≡ None → LeadsTo s first locals others (a ∷ steps) last → 0 < length others
+some_other : (s : Program) (first : World) (locals : List LocalDone) (others : List OtherRecord) (a : Step) (steps : List Step) (last : World) → local_rank a ≡ None → LeadsTo s first locals others (a ∷ steps) last → 0 < length others
 some_other s first locals (u ∷ others) a steps last e h = omega arith
 some_other s first locals [] a steps last e h = absurd (subst (λ (o : Option ℕ). LeadsBy (λ l o w. LeadsTo s first l o steps w) s a last (drawn o locals [])) e h)
 
-pub local_there : (s : Program) (first : World) (locals others : List RankRecord) (steps : List Step) (last : World) (n p : ℕ) (a : Step) → length locals + length others ≡ n + 1 → a ≡ get_or steps n a → local_rank a ≡ Some p
+pub local_there : (s : Program) (first : World) (locals : List LocalDone) (others : List OtherRecord) (steps : List Step) (last : World) (n p : ℕ) (a : Step) → length locals + length others ≡ n + 1 → a ≡ get_or steps n a → a ≡ Local p
     → Keeps s first locals others steps last → 0 < length locals
 local_there s first locals others steps last n p a long read e k =
     let front : List Step = reverse (take n steps) in
     let there : LeadsTo s first (reverse locals) (reverse others) (Local p ∷ front) last =
-    subst (λ (b : Step). LeadsTo s first (reverse locals) (reverse others) (b ∷ front) last) (is_local a p e) (leads_last s first locals others steps last n a long read k) in
+    subst (λ (b : Step). LeadsTo s first (reverse locals) (reverse others) (b ∷ front) last) e (leads_last s first locals others steps last n a long read k) in
     let some : 0 < length (reverse locals) = some_local s first (reverse locals) (reverse others) p front last there in
     rw (length-reverse locals) at some
 
-pub other_there : (s : Program) (first : World) (locals others : List RankRecord) (steps : List Step) (last : World) (n : ℕ) (a : Step) → length locals + length others ≡ n + 1 → a ≡ get_or steps n a → local_rank a ≡ None
+pub other_there : (s : Program) (first : World) (locals : List LocalDone) (others : List OtherRecord) (steps : List Step) (last : World) (n : ℕ) (a : Step) → length locals + length others ≡ n + 1 → a ≡ get_or steps n a → local_rank a ≡ None
     → Keeps s first locals others steps last → 0 < length others
 other_there s first locals others steps last n a long read e k =
     let some : 0 < length (reverse others) = some_other s first (reverse locals) (reverse others) a (reverse (take n steps)) last e (leads_last s first locals others steps last n a long read k) in
     rw (length-reverse others) at some
 
-local_last : (s : Program) (first : World) (locals others : List RankRecord) (steps : List Step) (last : World) (n m p : ℕ) (u : RankRecord) (a : Step) → length locals + length others ≡ n + 1 → length locals ≡ m + 1
-    → u ≡ get_or locals m u → a ≡ get_or steps n a → local_rank a ≡ Some p → Keeps s first locals others steps last → LeadsTo s first (u ∷ reverse (take m locals)) (reverse others) (Local p ∷ reverse (take n steps)) last
+local_last : (s : Program) (first : World) (locals : List LocalDone) (others : List OtherRecord) (steps : List Step) (last : World) (n m p : ℕ) (u : LocalDone) (a : Step) → length locals + length others ≡ n + 1 → length locals ≡ m + 1
+    → u ≡ get_or locals m u → a ≡ get_or steps n a → a ≡ Local p → Keeps s first locals others steps last → LeadsTo s first (u ∷ reverse (take m locals)) (reverse others) (Local p ∷ reverse (take n steps)) last
 local_last s first locals others steps last n m p u a long own is read e k =
-    subst (λ (b : Step). LeadsTo s first (u ∷ reverse (take m locals)) (reverse others) (b ∷ reverse (take n steps)) last) (is_local a p e)
-    (subst (λ (us : List RankRecord). LeadsTo s first us (reverse others) (a ∷ reverse (take n steps)) last) (newest_first locals m u own is) (leads_last s first locals others steps last n a long read k))
+    subst (λ (b : Step). LeadsTo s first (u ∷ reverse (take m locals)) (reverse others) (b ∷ reverse (take n steps)) last) e
+    (subst (λ (us : List LocalDone). LeadsTo s first us (reverse others) (a ∷ reverse (take n steps)) last) (newest_first locals m u own is) (leads_last s first locals others steps last n a long read k))
 
-pub local_can : (s : Program) (first : World) (locals others : List RankRecord) (steps : List Step) (last : World) (n m p : ℕ) (u : RankRecord) (a : Step) → length locals + length others ≡ n + 1 → length locals ≡ m + 1
-    → u ≡ get_or locals m u → a ≡ get_or steps n a → local_rank a ≡ Some p → Keeps s first locals others steps last → CanUndo last (step_record (Local p) u)
-local_can s first locals others steps last n m p u a long own is read e k = (local_last s first locals others steps last n m p u a long own is read e k).1
+pub local_can : (s : Program) (first : World) (locals : List LocalDone) (others : List OtherRecord) (steps : List Step) (last : World) (n m p : ℕ) (u : LocalDone) (a : Step) → length locals + length others ≡ n + 1 → length locals ≡ m + 1
+    → u ≡ get_or locals m u → a ≡ get_or steps n a → a ≡ Local p → Keeps s first locals others steps last → CanUndo last (kind.Local p u)
+local_can s first locals others steps last n m p u a long own is read e k = (local_last s first locals others steps last n m p u a long own is read e k).0.can
 
-pub local_pop : (s : Program) (first : World) (locals others : List RankRecord) (steps : List Step) (last : World) (n m p : ℕ) (u : RankRecord) (a : Step) → length locals + length others ≡ n + 1 → length locals ≡ m + 1
-    → u ≡ get_or locals m u → a ≡ get_or steps n a → local_rank a ≡ Some p → Keeps s first locals others steps last → Keeps s first (take m locals) others steps (undone s last (step_record (Local p) u))
+pub local_pop : (s : Program) (first : World) (locals : List LocalDone) (others : List OtherRecord) (steps : List Step) (last : World) (n m p : ℕ) (u : LocalDone) (a : Step) → length locals + length others ≡ n + 1 → length locals ≡ m + 1
+    → u ≡ get_or locals m u → a ≡ get_or steps n a → a ≡ Local p → Keeps s first locals others steps last → Keeps s first (take m locals) others steps (undone s last (kind.Local p u))
 local_pop s first locals others steps last n m p u a long own is read e k =
     let short : length (take m locals) + length others ≡ n = omega (arith, length-take m locals, long, own) in
-    record { within = omega (arith, short, long, k.within); few = k.few; leads = rw short (local_last s first locals others steps last n m p u a long own is read e k).2; whole = k.whole }
+    record { within = omega (arith, short, long, k.within); few = k.few; leads = rw short (local_last s first locals others steps last n m p u a long own is read e k).1; whole = k.whole }
 
-other_last : (s : Program) (first : World) (locals others : List RankRecord) (steps : List Step) (last : World) (n m : ℕ) (u : RankRecord) (a : Step) → length locals + length others ≡ n + 1 → length others ≡ m + 1
+other_last : (s : Program) (first : World) (locals : List LocalDone) (others : List OtherRecord) (steps : List Step) (last : World) (n m : ℕ) (u : OtherRecord) (a : Step) → length locals + length others ≡ n + 1 → length others ≡ m + 1
     → u ≡ get_or others m u → a ≡ get_or steps n a → local_rank a ≡ None → Keeps s first locals others steps last → OtherLeads s first (reverse locals) u (reverse (take m others)) a (reverse (take n steps)) last
 other_last s first locals others steps last n m u a long own is read e k =
     other_led s first (reverse locals) (reverse (take m others)) (reverse (take n steps)) last u a e
-    (subst (λ (us : List RankRecord). LeadsTo s first (reverse locals) us (a ∷ reverse (take n steps)) last) (newest_first others m u own is) (leads_last s first locals others steps last n a long read k))
+    (subst (λ (us : List OtherRecord). LeadsTo s first (reverse locals) us (a ∷ reverse (take n steps)) last) (newest_first others m u own is) (leads_last s first locals others steps last n a long read k))
 
-pub other_can : (s : Program) (first : World) (locals others : List RankRecord) (steps : List Step) (last : World) (n m : ℕ) (u : RankRecord) (a : Step) → length locals + length others ≡ n + 1 → length others ≡ m + 1
-    → u ≡ get_or others m u → a ≡ get_or steps n a → local_rank a ≡ None → Keeps s first locals others steps last → CanUndo last (step_record a u)
-other_can s first locals others steps last n m u a long own is read e k = (other_last s first locals others steps last n m u a long own is read e k).1
+pub other_can : (s : Program) (first : World) (locals : List LocalDone) (others : List OtherRecord) (steps : List Step) (last : World) (n m : ℕ) (u : OtherRecord) (a : Step) → length locals + length others ≡ n + 1 → length others ≡ m + 1
+    → u ≡ get_or others m u → a ≡ get_or steps n a → local_rank a ≡ None → Keeps s first locals others steps last → CanUndo last (kind.Other u)
+other_can s first locals others steps last n m u a long own is read e k = (other_last s first locals others steps last n m u a long own is read e k).0.can
 
-pub other_pop : (s : Program) (first : World) (locals others : List RankRecord) (steps : List Step) (last : World) (n m : ℕ) (u : RankRecord) (a : Step) → length locals + length others ≡ n + 1 → length others ≡ m + 1
-    → u ≡ get_or others m u → a ≡ get_or steps n a → local_rank a ≡ None → Keeps s first locals others steps last → Keeps s first locals (take m others) steps (undone s last (step_record a u))
+pub other_pop : (s : Program) (first : World) (locals : List LocalDone) (others : List OtherRecord) (steps : List Step) (last : World) (n m : ℕ) (u : OtherRecord) (a : Step) → length locals + length others ≡ n + 1 → length others ≡ m + 1
+    → u ≡ get_or others m u → a ≡ get_or steps n a → local_rank a ≡ None → Keeps s first locals others steps last → Keeps s first locals (take m others) steps (undone s last (kind.Other u))
 other_pop s first locals others steps last n m u a long own is read e k =
     let short : length locals + length (take m others) ≡ n = omega (arith, length-take m others, long, own) in
-    record { within = omega (arith, short, long, k.within); few = k.few; leads = rw short (other_last s first locals others steps last n m u a long own is read e k).2; whole = k.whole }
+    record { within = omega (arith, short, long, k.within); few = k.few; leads = rw short (other_last s first locals others steps last n m u a long own is read e k).1; whole = k.whole }
 
-pub ruleset keeping = (keeps_world, keeps_reached, local_there, other_there, local_can, other_can, local_pop, other_pop, keeps_next, keeps_other, keeps_forgotten, kept_forgotten, take_noted)
+-- and takes as many writes as that step
+pub other_few : (s : Program) (first : World) (locals : List LocalDone) (others : List OtherRecord) (steps : List Step) (last : World) (n m ranks : ℕ) (u : OtherRecord) (a : Step) → length locals + length others ≡ n + 1 → length others ≡ m + 1
+    → u ≡ get_or others m u → a ≡ get_or steps n a → local_rank a ≡ None → Keeps s first locals others steps last → most_writes_back ranks (kind.Other u) ≡ most_writes ranks a
+other_few s first locals others steps last n m ranks u a long own is read e k =
+    writes_back ranks (undone s last (kind.Other u)) a (kind.Other u) (other_last s first locals others steps last n m u a long own is read e k).0.recorded
+
+pub ruleset keeping = (is_local, is_other, is_apart, keeps_world, keeps_reached, local_there, other_there, local_can, other_can, local_pop, other_pop, other_few, keeps_next, keeps_other, keeps_forgotten, kept_forgotten, take_noted)

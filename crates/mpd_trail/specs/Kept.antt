@@ -1,5 +1,5 @@
--- What the debugger keeps: each record takes back its step, and on the world that the step led to it can be taken back. Records of
--- local steps stand apart from those of others. All steps kept, undone ones included, lead somewhere.
+-- What the debugger keeps: each record is that of its step and takes it back, and on the world that the step led to it can be taken
+-- back. Records of local steps stand apart from those of others. All steps kept, undone ones included, lead somewhere.
 use Rattle.std.specs.Prelude.{◌≡◌, ℕ, ◌+◌, ◌≤◌, List, [], ◌∷◌, length, min, take, reverse, Option, Some, None, IsSome}
 use Rattle.mpd_model.specs.declared.limits.TheConstants.{STEPS_MAX}
 use Rattle.mpd_model.specs.declared.step.Step.{Step}
@@ -7,8 +7,11 @@ use Rattle.mpd_model.specs.declared.step.Step.TheVariants.{Local}
 use Rattle.mpd_model.specs.World.{World}
 use Rattle.mpd_model.specs.Next.{next, fold}
 use Rattle.mpd_model.specs.Program.{Program}
-use Rattle.mpd_rank.specs.declared.change.RankRecord.{RankRecord}
-use Rattle.mpd_core.specs.Records.{step_record}
+use Rattle.mpd_rank.specs.Undone.{LocalDone}
+use Rattle.mpd_core.specs.declared.record.OtherRecord.{OtherRecord}
+use Rattle.mpd_core.specs.declared.record.Record.{Record}
+use Rattle.mpd_core.specs.declared.record.Record.TheVariants as kind
+use Rattle.mpd_core.specs.Records.{record_of}
 use Rattle.mpd_core.specs.Undone.{undone, CanUndo}
 
 -- the rank of a local step
@@ -18,35 +21,40 @@ local_rank a = None
 
 -- the record of the newest step, and the records that are left
 pub record Drawn : Type 0 where
-  pub newest : RankRecord
-  pub locals : List RankRecord
-  pub others : List RankRecord
+  pub newest : Record
+  pub locals : List LocalDone
+  pub others : List OtherRecord
 
 -- A local step, which has a rank here, has its record in the first list, any other step in the second.
-abbrev pub drawn : Option ℕ → List RankRecord → List RankRecord → Option Drawn
-drawn (Some p) (u ∷ locals) others = Some (record { newest = u; locals = locals; others = others })
+abbrev pub drawn : Option ℕ → List LocalDone → List OtherRecord → Option Drawn
+drawn (Some p) (u ∷ locals) others = Some (record { newest = kind.Local p u; locals = locals; others = others })
 drawn (Some p) [] others = None
-drawn None locals (u ∷ others) = Some (record { newest = u; locals = locals; others = others })
+drawn None locals (u ∷ others) = Some (record { newest = kind.Other u; locals = locals; others = others })
 drawn None locals [] = None
 
+-- the record of a step that led to a world, which takes it back from there
+pub record TakesBack (s : Program) (a : Step) (last : World) (done : Record) : Type 0 where
+  pub led : next (undone s last done) a ≡ Some last
+  pub can : CanUndo last done
+  pub recorded : record_of (undone s last done) a ≡ Some done
+
 -- The record takes the step back, and what is left leads to the world before it.
-abbrev pub LeadsBy : (List RankRecord → List RankRecord → World → Type 0) → Program → Step → World → Option Drawn → Type 0
-LeadsBy before s a last (Some d) =
-    (next (undone s last (step_record a d.newest)) a ≡ Some last) × CanUndo last (step_record a d.newest) × before d.locals d.others (undone s last (step_record a d.newest))
+abbrev pub LeadsBy : (List LocalDone → List OtherRecord → World → Type 0) → Program → Step → World → Option Drawn → Type 0
+LeadsBy before s a last (Some d) = TakesBack s a last d.newest × before d.locals d.others (undone s last d.newest)
 LeadsBy before s a last None = ⊥
 
 -- where no step is left, no record is either
-abbrev pub IsStart : List RankRecord → List RankRecord → World → World → Type 0
+abbrev pub IsStart : List LocalDone → List OtherRecord → World → World → Type 0
 IsStart [] [] first last = last ≡ first
 IsStart [] (u ∷ others) first last = ⊥
 IsStart (u ∷ locals) others first last = ⊥
 
 -- The newest records and steps come first. A record doesn't hold its step.
-abbrev pub LeadsTo : Program → World → List RankRecord → List RankRecord → List Step → World → Type 0
+abbrev pub LeadsTo : Program → World → List LocalDone → List OtherRecord → List Step → World → Type 0
 LeadsTo s first locals others [] last = IsStart locals others first last
 LeadsTo s first locals others (a ∷ steps) last = LeadsBy (λ l o w. LeadsTo s first l o steps w) s a last (drawn (local_rank a) locals others)
 
-pub record Keeps (s : Program) (first : World) (locals others : List RankRecord) (steps : List Step) (last : World) : Type 0 where
+pub record Keeps (s : Program) (first : World) (locals : List LocalDone) (others : List OtherRecord) (steps : List Step) (last : World) : Type 0 where
   pub within : length locals + length others ≤ length steps
   pub few : length steps ≤ STEPS_MAX
   pub leads : LeadsTo s first (reverse locals) (reverse others) (reverse (take (length locals + length others) steps)) last

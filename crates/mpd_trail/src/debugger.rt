@@ -6,18 +6,19 @@ ghost use Rattle.mpd_model.specs.Trail.{first_standing, IsReached, IsRun, kept, 
 ghost use Rattle.mpd_model.specs.declared.step.Step.{Step};
 ghost use Rattle.mpd_core.specs.Writes.{most_writes};
 ghost use Rattle.mpd_trail.specs.Faults.{apply_fault, apply_fault_number, apply_fault_name, redo_fault_number, redo_fault_name};
-ghost use Rattle.mpd_trail.specs.Kept.{local_rank, room_in};
+ghost use Rattle.mpd_trail.specs.Kept.{room_in};
 ghost use Rattle.mpd_trail.specs.Views.{standing_of};
 ghost use Rattle.mpd_trail.specs.Writes.{most_writes_of};
 
 use mpd_code::code::Code;
 use mpd_core::fault::StepFault;
-use mpd_core::record::Record;
+use mpd_core::record::OtherRecord;
 use mpd_core::state::Core;
+use mpd_core::step::AnyStep;
 use mpd_model::call::Mode;
 use mpd_model::limits::STEPS_MAX;
 use mpd_model::step::Step;
-use mpd_rank::change::{LocalRecord, RankRecord};
+use mpd_rank::change::LocalRecord;
 use std::alloc::{AllocError, Global};
 use std::marker::Model;
 use thiserror::Error;
@@ -154,7 +155,7 @@ pub struct Debugger<'c> {
     core: Core<'c>,
     /// What takes each step back that is not undone, beside the step itself, the newest last: local steps, and others.
     locals: Vec<LocalRecord>,
-    others: Vec<RankRecord>,
+    others: Vec<OtherRecord>,
     steps: Vec<Step>,
 }
 
@@ -185,17 +186,6 @@ fn is_same(a: Step, b: Step) -> bool
     a == b
 }
 
-/// The rank of a local step.
-#[inline(always)]
-fn local_rank(step: Step) -> Option<usize>
-    ensures { result ≡ local_rank step }
-{
-    match step {
-        Step::Local(rank) => Some(rank),
-        _ => None,
-    }
-}
-
 /// Has a step as the one at a depth: what stands there already stays, with all after it. Where the depth is the end, the room
 /// that was kept is taken.
 #[tactic(auto, using(crate::proofs::StepLemmas::noting))]
@@ -218,7 +208,7 @@ fn note(steps: &mut Vec<Step>, depth: usize, step: Step)
 /// Keeps room for one record more of each kind, and for its step where none stands there. An `Err` is want of memory.
 fn keep_next(
     locals: &mut Vec<LocalRecord>,
-    others: &mut Vec<RankRecord>,
+    others: &mut Vec<OtherRecord>,
     steps: &mut Vec<Step>,
 ) -> Result<(), AllocError>
     requires { vec_len locals.old + vec_len others.old ≤ vec_len steps.old }
@@ -354,17 +344,20 @@ impl<'c> Debugger<'c> {
             }
             return Err(ApplyFault::NotEnabled);
         }
-        if let Some(rank) = local_rank(step) {
-            let done = self.core.step_local(rank)?;
-            note(&mut self.steps, depth, step);
-            self.locals.push_reserved(done.anew());
-            return Ok(());
+        match AnyStep::of(step) {
+            AnyStep::Local(rank) => {
+                let done = self.core.step_local(rank)?;
+                note(&mut self.steps, depth, step);
+                self.locals.push_reserved(done.anew());
+                Ok(())
+            }
+            AnyStep::Other(other) => {
+                let done = self.core.step_other(other)?;
+                note(&mut self.steps, depth, step);
+                self.others.push_reserved(done);
+                Ok(())
+            }
         }
-        let done = self.core.apply(step)?;
-        let Record { from, change, .. } = done;
-        note(&mut self.steps, depth, step);
-        self.others.push_reserved(RankRecord { from, change });
-        Ok(())
     }
 
     /// Takes the last step back, in 1 to 16 writes, a release in two more for each rank at most. It is refused only where no
@@ -387,18 +380,20 @@ impl<'c> Debugger<'c> {
         let Some(last) = (self.locals.len() + self.others.len()).checked_sub(1) else {
             return Err(AtStart);
         };
-        let step = self.steps[last];
-        if let Some(rank) = local_rank(step) {
-            let newest = self.locals.len() - 1;
-            self.core.undo_local(rank, &self.locals[newest]);
-            self.locals.truncate(newest);
-            return Ok(());
+        match AnyStep::of(self.steps[last]) {
+            AnyStep::Local(rank) => {
+                let newest = self.locals.len() - 1;
+                self.core.undo_local(rank, &self.locals[newest]);
+                self.locals.truncate(newest);
+                Ok(())
+            }
+            AnyStep::Other(_) => {
+                let newest = self.others.len() - 1;
+                self.core.undo_other(&self.others[newest]);
+                self.others.truncate(newest);
+                Ok(())
+            }
         }
-        let newest = self.others.len() - 1;
-        let RankRecord { from, change } = self.others[newest];
-        self.core.undo(Record { step, from, change });
-        self.others.truncate(newest);
-        Ok(())
     }
 
     /// Takes a step that is enabled, as `apply` does, where fewer than 1,000,000 steps are not undone. An `Err` is want of memory,

@@ -1,5 +1,5 @@
 use Rattle.std.proofs.Common.{◌≡◌, ◌<◌, length, refl, subst, rules}
-use Rattle.mpd_rank.specs.declared.change.RankRecord.{RankRecord}
+use Rattle.mpd_rank.specs.Undone.{LocalDone}
 use Rattle.mpd_core.specs.Undone.{unissued, CanUnissue}
 use Rattle.mpd_core.proofs.RangeLemmas.{on_ok, if_ok}
 use Rattle.mpd_core.proofs.RankLemmas.{rank_is, on_board, held_set, next_some, recorded_ok}
@@ -24,13 +24,13 @@ pub returns-clause-board_back : goal.returns-clause-board_back
 returns-clause-board_back c =
     let within : c.args.rank < length c.args.ranks.now.items = search rules in
     let same = rank_is c.args.code.now.program c.args.ranks.now.items c.args.board.now.board (length c.args.ranks.now.items) c.args.rank c.index_mut-state.result.now refl within c.index_mut-state.ensures.value c.requires.held in
-    if_ok c.step_rank.result (λ (done : RankRecord) h. subst (λ p. unissued c.step_rank.new.board.board p done.change ≡ c.args.board.now.board) same h) c.step_rank.ensures.board_back
+    if_ok c.step_rank.result (λ (done : LocalDone) h. subst (λ p. unissued c.step_rank.new.board.board p done.change ≡ c.args.board.now.board) same h) c.step_rank.ensures.board_back
 
 pub returns-clause-can : goal.returns-clause-can
 returns-clause-can c =
     let within : c.args.rank < length c.args.ranks.now.items = search rules in
     let same = rank_is c.args.code.now.program c.args.ranks.now.items c.args.board.now.board (length c.args.ranks.now.items) c.args.rank c.index_mut-state.result.now refl within c.index_mut-state.ensures.value c.requires.held in
-    if_ok c.step_rank.result (λ (done : RankRecord) h. subst (λ p. CanUnissue c.step_rank.new.board.board p done.change) same h) c.step_rank.ensures.can
+    if_ok c.step_rank.result (λ (done : LocalDone) h. subst (λ p. CanUnissue c.step_rank.new.board.board p done.change) same h) c.step_rank.ensures.can
 
 pub returns-clause-held : goal.returns-clause-held
 returns-clause-held c =
