@@ -1,17 +1,18 @@
 -- What the definitions of barriers, releases and synchronous sends come to, whatever the world.
-use Rattle.std.proofs.Common.{◌≡◌, ℕ, zero, suc, ◌+◌, ◌<◌, ◌≤◌, Bool, true, false, cond, ◌&&◌, not, nat_lt, Some, None, length, slice_get, inl, inr, refl, sym, ap, subst, ◌∙◌, arith}
+use Rattle.std.proofs.Common.{◌≡◌, ℕ, zero, suc, ◌+◌, ◌<◌, ◌≤◌, Bool, true, false, cond, ◌&&◌, not, nat_lt, Option, Some, None, length, slice_get, inl, inr, refl, sym, ap, subst, ◌∙◌, arith}
 use Rattle.std.proofs.lemmas.Bool.Decides.{eqb_tells}
 use Rattle.std.proofs.lemmas.Option.{slice_get_within, slice_get-map}
 use Rattle.std.specs.List.{list_all, range_with_len}
 use Rattle.std.specs.Option.{option_map}
 use Rattle.mpd_model.specs.declared.call.Activity.TheVariants.{Running}
-use Rattle.mpd_model.specs.declared.call.CallKind.TheVariants.{Send}
+use Rattle.mpd_model.specs.declared.call.CallKind.TheVariants.{Send, Waitany}
+use Rattle.mpd_model.specs.declared.call.CallKind.{CallKind}
 use Rattle.mpd_model.specs.declared.call.MatchSet.TheVariants as set
 use Rattle.mpd_model.specs.declared.call.Mode.{Mode}
 use Rattle.mpd_model.specs.declared.call.Mode.TheVariants.{Rendezvous, Buffered}
 use Rattle.mpd_model.specs.declared.call.SendCall.{SendCall}
 use Rattle.mpd_model.specs.declared.step.Step.TheVariants.{Wake, Release}
-use Rattle.mpd_model.specs.World.{World, Board, RankWorld, kind_at, is_barrier, is_buffered, awaited, complete_by, complete, last_call}
+use Rattle.mpd_model.specs.World.{World, Board, RankWorld, kind_at, is_barrier, is_buffered, awaited, complete_by, has_own_step, complete, last_call}
 use Rattle.mpd_model.specs.Next.{is_blocked, waits, is_at_barrier, can_release, woken, going_on, released, with_set, next, buffers_all, has_buffer, entered}
 
 -- ---- who isn't at a barrier keeps all ranks at theirs
@@ -68,8 +69,12 @@ one_set_more w v e = ap (λ (u : World). u.board) (sym (chosen (can_release w) (
 pub not_woken : (w : World) (p : ℕ) → is_barrier (kind_at w.board (last_call w.board p)) ≡ true → next w (Wake p) ≡ None
 not_woken w p e = ap (λ (b : Bool). cond b (Some (woken w p)) None) (and_false (waits (slice_get w.ranks p)) (complete w.board (last_call w.board p)) never)
   where
+    own_step : (k : Option CallKind) → is_barrier k ≡ true → has_own_step k ≡ true
+    own_step (Some (Waitany a)) f = cc
+    own_step k f = f
+
     never : complete w.board (last_call w.board p) ≡ false
-    never = ap (λ (b : Bool). not b && complete_by w.board (awaited w.board (last_call w.board p))) e
+    never = ap (λ (b : Bool). not b && complete_by w.board (awaited w.board (last_call w.board p))) (own_step (kind_at w.board (last_call w.board p)) e)
 
 -- ---- as it is issued, a standard send is buffered in the mode that says so, and a synchronous one never is
 

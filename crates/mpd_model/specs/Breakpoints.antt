@@ -8,7 +8,7 @@ use Rattle.mpd_model.specs.declared.call.Activity.{Activity}
 use Rattle.mpd_model.specs.declared.call.Activity.TheVariants.{Running, Blocked, Trapped}
 use Rattle.mpd_model.specs.declared.step.CallId.{CallId}
 use Rattle.mpd_model.specs.declared.step.Step.{Step}
-use Rattle.mpd_model.specs.declared.step.Step.TheVariants.{Local, Match, Wake, Release}
+use Rattle.mpd_model.specs.declared.step.Step.TheVariants.{Local, Match, Wake, WakeAny, Release}
 use Rattle.mpd_model.specs.declared.breakpoint.Break.{Break}
 use Rattle.mpd_model.specs.declared.breakpoint.Break.TheVariants as on
 use Rattle.mpd_model.specs.Program.{Program}
@@ -60,10 +60,11 @@ same_value (Some x) (Some y) = int_eq x y
 abbrev pub issued_on : Program → ℕ → Board → CallId → Bool
 issued_on s line b c = on_line s line (option_map (λ call. call.statement) (call_at b c))
 
--- a line marks a local step or a wake behind which its rank comes to the line, and a release behind which some rank does
+-- a line marks a local step or a wake, by a waitany or not, behind which its rank comes to the line, and a release behind which some rank does
 abbrev pub line_marks : Program → ℕ → Step → World → Bool
 line_marks s line (Local p) new = comes_at s line (slice_get new.ranks p)
 line_marks s line (Wake p) new = comes_at s line (slice_get new.ranks p)
+line_marks s line (WakeAny p i) new = comes_at s line (slice_get new.ranks p)
 line_marks s line Release new = some_comes s line new
 line_marks s line a new = false
 

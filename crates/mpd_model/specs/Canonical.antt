@@ -12,7 +12,7 @@ use Rattle.mpd_model.specs.declared.place.Place.{Place}
 use Rattle.mpd_model.specs.declared.token.Mark.{Mark}
 use Rattle.mpd_model.specs.declared.token.Mark.TheVariants as m
 use Rattle.mpd_model.specs.Declaration.{Declared}
-use Rattle.mpd_model.specs.Parts.{Part, of_mark, of_term, of_target, parts_of}
+use Rattle.mpd_model.specs.Parts.{Part, of_mark, of_term, of_target, of_name, parts_of}
 use Rattle.mpd_model.specs.Program.{Program}
 use Rattle.mpd_model.specs.Term.{Term, lit, own_rank, size, cell, element, op1, op2, Target}
 use Rattle.mpd_model.specs.Tree.{Tree, Block, simple, branch, repeat, no_more, then_more, block_of}
@@ -147,6 +147,7 @@ abbrev pub part_text : List Declared → Part → List ℕ
 part_text ds (of_mark k) = mark_text k
 part_text ds (of_term e) = whole_text ds e
 part_text ds (of_target kind t) = target_text ds t
+part_text ds (of_name kind p) = name_text ds p
 
 -- the parts of a statement, with one space between them
 abbrev pub parts_text : List Declared → List Part → List ℕ
@@ -190,4 +191,4 @@ abbrev pub decl_text : Declared → List ℕ
 decl_text d = kind_word d.kind ++ d.name ++ size_text d.size ++ codes ";\n"
 
 abbrev pub canonical : Program → List ℕ
-canonical p = codes "mpd 1;\nranks " ++ decimal p.ranks ++ codes ";\n" ++ flat_map decl_text p.decls ++ block_text p.decls 0 (block_of p.body)
+canonical p = codes "mpd " ++ decimal p.version ++ codes ";\nranks " ++ decimal p.ranks ++ codes ";\n" ++ flat_map decl_text p.decls ++ block_text p.decls 0 (block_of p.body)

@@ -13,7 +13,7 @@ use Rattle.mpd_model.specs.Program.{Program}
 use Rattle.mpd_model.specs.Tokens.{Spot}
 use Rattle.mpd_model.specs.Parts.{Part, parts_of}
 use Rattle.mpd_model.specs.Tree.{Tree, Block, simple, branch, repeat, no_more, then_more}
-use Rattle.mpd_model.specs.Written.{WrittenTarget, whole, part, WrittenPart, by_mark, by_term, by_target, WrittenParts, no_part, then_part, WrittenTree, simply, repeats, chooses, chooses_else, WrittenBlock, braces, WrittenBody, ended, follows, WrittenScript, script}
+use Rattle.mpd_model.specs.Written.{WrittenTarget, whole, part, WrittenPart, by_mark, by_term, by_target, by_name, WrittenParts, no_part, then_part, WrittenTree, simply, repeats, chooses, chooses_else, WrittenBlock, braces, WrittenBody, ended, follows, WrittenScript, script}
 
 -- ---- expressions
 
@@ -71,6 +71,7 @@ abbrev pub part_cost : (ds : List Declared) (ss : List Spot) (p : Part) → Writ
 part_cost ds _ _ (by_mark s k h) = 0
 part_cost ds _ _ (by_term ss t w) = cost ss
 part_cost ds _ _ (by_target ss kind t w) = index_cost ds kind ss t w
+part_cost ds _ _ (by_name s kind is_array p h) = 0
 
 abbrev pub dearest_part : (ds : List Declared) (ss : List Spot) (ps : List Part) → WrittenParts ds ss ps → ℕ
 dearest_part ds _ _ no_part = 0

@@ -1,10 +1,10 @@
 -- What comes next in a world: a selection from its enabled steps.
-use Rattle.std.specs.Prelude.{◌≡◌, ◌<◌, Bool, true, false, is_some, is_none, List, [], ◌∷◌, length, Option, Some, None, IsSome}
+use Rattle.std.specs.Prelude.{◌≡◌, ◌<◌, ◌==◌, ℕ, option_and_then, Bool, true, false, is_some, is_none, List, [], ◌∷◌, length, Option, Some, None, IsSome}
 use Rattle.std.specs.List.{filter, All}
 use Rattle.mpd_model.specs.declared.call.CallKind.{CallKind}
 use Rattle.mpd_model.specs.declared.call.CallKind.TheVariants.{Recv}
 use Rattle.mpd_model.specs.declared.step.Step.{Step}
-use Rattle.mpd_model.specs.declared.step.Step.TheVariants.{Local, Match, Wake, Release}
+use Rattle.mpd_model.specs.declared.step.Step.TheVariants.{Local, Match, Wake, WakeAny, Release}
 use Rattle.mpd_model.specs.declared.outcome.Outcome.{Outcome}
 use Rattle.mpd_model.specs.declared.decision.Decision.{Decision}
 use Rattle.mpd_model.specs.declared.decision.Decision.TheVariants.{Forced, Choice, Leaf}
@@ -26,6 +26,15 @@ is_release a = false
 abbrev pub is_wake : Step → Bool
 is_wake (Wake p) = true
 is_wake a = false
+
+abbrev pub same_rank : ℕ → Option ℕ → Bool
+same_rank p None = false
+same_rank p (Some q) = p == q
+
+-- the rank of a waitany's step
+abbrev pub any_rank : Step → Option ℕ
+any_rank (WakeAny p i) = Some p
+any_rank a = None
 
 -- a receive that names its source, and one of any source
 abbrev pub names_source : Option CallKind → Bool
@@ -61,8 +70,25 @@ forced_step w =
     (first_enabled w (is_named_match w.board))))
 
 -- the matches of receives of any source, by receiver, receive and sender
+abbrev pub open_matches : World → List Step
+open_matches w = filter (is_open_match w.board) (enabled w)
+
+-- the steps of one rank's waitany
+abbrev pub is_of : Option ℕ → Step → Bool
+is_of None a = false
+is_of (Some p) a = same_rank p (any_rank a)
+
+-- those of the lowest rank that has one, by index
+abbrev pub any_choices : World → List Step
+any_choices w = filter (is_of (option_and_then any_rank (first_enabled w (λ a. is_some (any_rank a))))) (enabled w)
+
+abbrev pub or_those : List Step → List Step → List Step
+or_those [] others = others
+or_those (a ∷ steps) others = a ∷ steps
+
+-- A choice among the requests of a waitany stands before one among matches.
 abbrev pub choices : World → List Step
-choices w = filter (is_open_match w.board) (enabled w)
+choices w = or_those (any_choices w) (open_matches w)
 
 abbrev pub chosen_from : World → List Step → Decision
 chosen_from w [] = Leaf (ending w)

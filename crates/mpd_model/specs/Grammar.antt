@@ -1,8 +1,7 @@
 -- The grammar, one parser for each of its words.
 use Rattle.std.specs.Prelude.{◌≡◌, refl, ℕ, zero, suc, ◌+◌, ℤ, pos, negsuc, Bool, true, false, ◌&&◌, ◌||◌, if◌then◌else◌, ◌==◌, nat_lt, nat_le, List, [], ◌∷◌, ◌++◌, length, Option, Some, None, Result, Ok, Err}
-use Rattle.std.specs.Ordering.{int_eq}
 use Rattle.std.specs.List.{prefix_len}
-use Rattle.mpd_model.specs.declared.limits.TheConstants.{BLOCKS_MAX, NESTING_MAX, RANKS_MAX, SCRIPT_MAX}
+use Rattle.mpd_model.specs.declared.limits.TheConstants.{BLOCKS_MAX, NESTING_MAX, RANKS_MAX, SCRIPT_MAX, LANGUAGE_MAX}
 use Rattle.mpd_model.specs.declared.expr.BinaryOp.{BinaryOp}
 use Rattle.mpd_model.specs.declared.expr.BinaryOp.TheVariants as o
 use Rattle.mpd_model.specs.declared.expr.UnaryOp.{UnaryOp}
@@ -27,7 +26,7 @@ use Rattle.mpd_model.specs.Faults.{fault}
 use Rattle.mpd_model.specs.Input.{Parser, Outcome, Input, start_of, same_mark, ◌>>=◌, ◌>>◌, pure, fail, refuse, peek, advance, eat, expect, begin, spend, count, sees, seek, fresh, add, spelling, place}
 use Rattle.mpd_model.specs.Program.{Program}
 use Rattle.mpd_model.specs.Term.{Term, lit, own_rank, size, cell, element, op1, op2, Target}
-use Rattle.mpd_model.specs.Parts.{parts_of, of_mark, Hole, mark_hole, term_hole, target_hole, source_hole, status_hole, Contents, filled}
+use Rattle.mpd_model.specs.Parts.{parts_of, of_mark, Hole, mark_hole, term_hole, target_hole, name_hole, source_hole, status_hole, Contents, filled}
 use Rattle.mpd_model.specs.Tree.{Tree, simple, branch, repeat, block_of}
 
 -- ---- expressions
@@ -179,6 +178,14 @@ statement_place_by kind _ = refuse
 unfoldable pub statement_place : DeclKind → Parser Target
 statement_place kind = peek >>= statement_place_by kind
 
+abbrev pub statement_name_by : DeclKind → Token → Parser Place
+statement_name_by kind Name = seek kind >>= λ s. advance >> pure (place_of_slot s)
+statement_name_by kind _ = refuse
+
+-- the name of a declaration, which stands for all of it
+unfoldable pub statement_name : DeclKind → Parser Place
+statement_name kind = peek >>= statement_name_by kind
+
 abbrev pub source_by : Bool → Parser (Option Term)
 source_by true = pure None
 source_by false = expression >>= λ e. pure (Some e)
@@ -199,6 +206,7 @@ fill [] made = expect m.Semicolon >> pure (made tt)
 fill (mark_hole k ∷ hs) made = expect k >> fill hs made
 fill (term_hole ∷ hs) made = expression >>= λ e. fill hs (λ c. made (e, c))
 fill (target_hole kind ∷ hs) made = statement_place kind >>= λ t. fill hs (λ c. made (t, c))
+fill (name_hole kind ∷ hs) made = statement_name kind >>= λ p. fill hs (λ c. made (p, c))
 fill (source_hole ∷ hs) made = source >>= λ o. fill hs (λ c. made (o, c))
 fill (status_hole ∷ hs) made = status >>= λ o. fill hs (λ c. made (o, c))
 
@@ -223,6 +231,7 @@ AreClear [] = Unit {0}
 AreClear (mark_hole k ∷ hs) = AreClear hs
 AreClear (term_hole ∷ hs) = EndsTerm hs × AreClear hs
 AreClear (target_hole kind ∷ hs) = AreClear hs
+AreClear (name_hole kind ∷ hs) = AreClear hs
 AreClear (source_hole ∷ hs) = EndsTerm hs × AreClear hs
 AreClear (status_hole ∷ hs) = EndsStatus hs × AreClear hs
 
@@ -291,6 +300,15 @@ irecv_form = record {
 abbrev pub wait_form : Form
 wait_form = record { word = m.Wait; holes = target_hole Handle ∷ []; made = λ c. st.Wait c.0; parts = λ c. refl; clear = tt }
 
+abbrev pub waitany_form : Form
+waitany_form = record {
+  word = m.Waitany;
+  holes = name_hole Handle ∷ mark_hole m.To ∷ target_hole Variable ∷ [];
+  made = λ c. st.Waitany (record { requests = c.0; into = c.1.0 });
+  parts = λ c. refl;
+  clear = tt;
+}
+
 abbrev pub barrier_form : Form
 barrier_form = record { word = m.Barrier; holes = []; made = λ c. st.Barrier; parts = λ c. refl; clear = tt }
 
@@ -305,6 +323,7 @@ form_of m.Isend = Some isend_form
 form_of m.Issend = Some issend_form
 form_of m.Irecv = Some irecv_form
 form_of m.Wait = Some wait_form
+form_of m.Waitany = Some waitany_form
 form_of m.Barrier = Some barrier_form
 form_of _ = None
 
@@ -342,9 +361,14 @@ all_formed (st.Isend s) = record { form = isend_form; found = refl; contents = (
 all_formed (st.Issend s) = record { form = issend_form; found = refl; contents = (s.request, (s.send.value, (s.send.to, (s.send.tag, tt)))); is = refl }
 all_formed (st.Irecv s) = record { form = irecv_form; found = refl; contents = (s.request, (s.recv.into, (s.recv.from, (s.recv.tag, (s.recv.status, tt))))); is = refl }
 all_formed (st.Wait t) = record { form = wait_form; found = refl; contents = (t, tt); is = refl }
+all_formed (st.Waitany s) = record { form = waitany_form; found = refl; contents = (s.requests, (s.into, tt)); is = refl }
 all_formed st.Barrier = record { form = barrier_form; found = refl; contents = tt; is = refl }
 
 -- ---- any statement
+
+-- a statement that came with a version: in a text of an older one it isn't read, though it is counted
+abbrev pub since : ℕ → Parser Tree → Parser Tree
+since version statement = λ i. if nat_le version i.version then statement i else (count >> fail NotInVersion) i
 
 -- the parser of a block
 module _ (block : Parser (List Tree)) where
@@ -370,7 +394,7 @@ module _ (block : Parser (List Tree)) where
   stmt_by Name = seek Variable >>= λ s. begin_statement >> assignment s
   stmt_by (Is m.If) = begin_statement >> if_statement
   stmt_by (Is m.While) = begin_statement >> while_statement
-  stmt_by (Is m.Waitany) = count >> fail NotInVersion
+  stmt_by (Is m.Waitany) = since 2 (by_form (form_of m.Waitany))
   stmt_by (Is k) = by_form (form_of k)
   stmt_by _ = refuse
 
@@ -399,8 +423,20 @@ max_blocks = BLOCKS_MAX
 
 -- ---- the whole text
 
+abbrev pub version_in : ℤ → Option ℕ
+version_in (pos n) = if nat_le 1 n && nat_le n LANGUAGE_MAX then Some n else None
+version_in (negsuc n) = None
+
+-- what follows is in this version
+abbrev pub written_in : ℕ → Parser (Unit {0})
+written_in n = λ i. Ok (tt, record i { version = n })
+
+abbrev pub version_of : Option ℕ → Parser (Unit {0})
+version_of (Some n) = written_in n >> advance
+version_of None = fail NotInVersion
+
 abbrev pub version_by : Token → Parser (Unit {0})
-version_by (Number n) = if int_eq n (pos 1) then advance else fail NotInVersion
+version_by (Number n) = version_of (version_in n)
 version_by _ = refuse
 
 unfoldable pub version : Parser (Unit {0})
@@ -491,7 +527,7 @@ header = do
   pure n
 
 abbrev pub with_body : ℕ → List Tree → Parser Program
-with_body n body = λ i. Ok (record { version = 1; ranks = n; decls = i.decls; body = body; lines = i.lines }, i)
+with_body n body = λ i. Ok (record { version = i.version; ranks = n; decls = i.decls; body = body; lines = i.lines }, i)
 
 unfoldable pub script : Parser Program
 script = do

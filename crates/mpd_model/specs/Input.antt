@@ -24,6 +24,8 @@ pub record Input : Type 0 where
   -- the tokens from the next one on, and the length of the whole text
   pub tokens : List Spot
   pub end : ℕ
+  -- the version that the text is in: 1, until the number behind `mpd` is read
+  pub version : ℕ
   -- the declarations so far
   pub decls : List Declared
   -- the line of each statement that began so far
@@ -36,13 +38,13 @@ spot_code = code_by (Token × (List ℕ × (ℕ × ℕ))) (coded× token_row.the
     (λ s. (s.token, (s.text, (s.place, s.line)))) (λ p. record { token = p.0; text = p.1.0; place = p.1.1.0; line = p.1.1.1 }) (λ _. refl)
 
 abbrev pub input_code : Coded Input
-input_code = code_by (List Spot × (ℕ × (List Declared × (List ℕ × ℕ))))
-    (coded× (coded_list spot_code) (coded× coded_ℕ (coded× (coded_list declared_code) (coded× (coded_list coded_ℕ) coded_ℕ))))
-    (λ i. (i.tokens, (i.end, (i.decls, (i.lines, i.budget)))))
-    (λ p. record { tokens = p.0; end = p.1.0; decls = p.1.1.0; lines = p.1.1.1.0; budget = p.1.1.1.1 }) (λ _. refl)
+input_code = code_by (List Spot × (ℕ × (ℕ × (List Declared × (List ℕ × ℕ)))))
+    (coded× (coded_list spot_code) (coded× coded_ℕ (coded× coded_ℕ (coded× (coded_list declared_code) (coded× (coded_list coded_ℕ) coded_ℕ)))))
+    (λ i. (i.tokens, (i.end, (i.version, (i.decls, (i.lines, i.budget))))))
+    (λ p. record { tokens = p.0; end = p.1.0; version = p.1.1.0; decls = p.1.1.1.0; lines = p.1.1.1.1.0; budget = p.1.1.1.1.1 }) (λ _. refl)
 
 abbrev pub start_of : List ℕ → Input
-start_of text = record { tokens = tokens text; end = length text; decls = []; lines = []; budget = 0 }
+start_of text = record { tokens = tokens text; end = length text; version = 1; decls = []; lines = []; budget = 0 }
 
 -- ---- the next token: its kind, its bytes, its place, its line
 

@@ -1,13 +1,13 @@
 -- What a step makes of a world, and where no step is.
-use Rattle.std.specs.Prelude.{ℕ, ◌+◌, ◌<◌, ℤ, pos, Bool, true, false, ◌&&◌, not, if◌then◌else◌, List, [], ◌∷◌, ◌++◌, length, map, nat_lt, slice_get, slice_set, slice_index_or, Option, Some, None, option_and_then, is_some, Result, Ok, Err}
+use Rattle.std.specs.Prelude.{ℕ, ◌+◌, ◌<◌, ℤ, pos, negsuc, Bool, true, false, ◌&&◌, not, if◌then◌else◌, List, [], ◌∷◌, ◌++◌, length, map, nat_lt, slice_get, slice_set, slice_index_or, take, drop, Option, Some, None, option_and_then, is_some, Result, Ok, Err}
 use Rattle.std.specs.Option.{option_map}
-use Rattle.std.specs.List.{filter, flat_map, list_all, range_with_len}
+use Rattle.std.specs.List.{filter, flat_map, list_all, list_any, range_with_len}
 use Rattle.mpd_model.specs.declared.limits.TheConstants.{TAGS}
 use Rattle.mpd_model.specs.declared.step.CallId.{CallId}
 use Rattle.mpd_model.specs.declared.step.Step.{Step}
-use Rattle.mpd_model.specs.declared.step.Step.TheVariants.{Local, Match, Wake, Release}
+use Rattle.mpd_model.specs.declared.step.Step.TheVariants.{Local, Match, Wake, WakeAny, Release}
 use Rattle.mpd_model.specs.declared.call.CallKind.{CallKind}
-use Rattle.mpd_model.specs.declared.call.CallKind.TheVariants.{Send, Recv, Wait, Barrier}
+use Rattle.mpd_model.specs.declared.call.CallKind.TheVariants.{Send, Recv, Wait, Waitany, Barrier}
 use Rattle.mpd_model.specs.declared.call.Call.{Call}
 use Rattle.mpd_model.specs.declared.call.Mode.{Mode}
 use Rattle.mpd_model.specs.declared.call.Mode.TheVariants.{Rendezvous, Buffered}
@@ -20,6 +20,7 @@ use Rattle.mpd_model.specs.declared.call.Activity.{Activity}
 use Rattle.mpd_model.specs.declared.call.Activity.TheVariants.{Running, Blocked, Trapped}
 use Rattle.mpd_model.specs.declared.call.MatchSet.TheVariants.{Pair, Woke}
 use Rattle.mpd_model.specs.declared.call.MatchSet.TheVariants as set
+use Rattle.mpd_model.specs.declared.place.Place.{Place}
 use Rattle.mpd_model.specs.Term.{Term, Value, Env, and_then, is_zero, checked, value_of, target_cell, Target}
 use Rattle.mpd_model.specs.declared.stmt.AssignStmt.{AssignStmt}
 use Rattle.mpd_model.specs.declared.stmt.IsendStmt.{IsendStmt}
@@ -28,6 +29,7 @@ use Rattle.mpd_model.specs.declared.stmt.RecvStmt.{RecvStmt}
 use Rattle.mpd_model.specs.declared.stmt.SendStmt.{SendStmt}
 use Rattle.mpd_model.specs.declared.stmt.Simple.{Simple}
 use Rattle.mpd_model.specs.declared.stmt.StatusStmt.{StatusStmt}
+use Rattle.mpd_model.specs.declared.stmt.WaitanyStmt.{WaitanyStmt}
 use Rattle.mpd_model.specs.declared.stmt.Simple.TheVariants as st
 use Rattle.mpd_model.specs.Tree.{Tree, simple, branch, repeat, Block, trees, statements_in, numbered}
 use Rattle.mpd_model.specs.declared.call.Message.{Message}
@@ -88,6 +90,15 @@ held_by request env k = and_then (target_cell request env) (λ h. and_then k (λ
 abbrev pub wait_kind : Target → Env → Result CallKind Trap
 wait_kind request env = and_then (target_cell request env) (λ h. Ok (Wait (record { handle = h; target = slice_index_or env.handles h None })))
 
+-- the handles of a declaration
+abbrev pub handles_at : Place → Env → List (Option ℕ)
+handles_at requests env = take requests.cells (drop requests.first env.handles)
+
+-- a waitany for all handles of a declaration, of which some may hold a call now: the index of the place that it writes is evaluated
+abbrev pub waitany_kind : WaitanyStmt → Env → Result CallKind Trap
+waitany_kind s env =
+    and_then (target_cell s.into env) (λ c. Ok (Waitany (record { first = s.requests.first; count = s.requests.cells; cell = c; active = list_any is_some (handles_at s.requests env) })))
+
 -- what each statement issues
 abbrev pub send_issue : SendStmt → Env → Result Issue Trap
 send_issue s env = awaiting (send_kind false true s env)
@@ -109,6 +120,9 @@ irecv_issue s env = held_by s.request env (recv_kind false s.recv env)
 
 abbrev pub wait_issue : Target → Env → Result Issue Trap
 wait_issue t env = awaiting (wait_kind t env)
+
+abbrev pub waitany_issue : WaitanyStmt → Env → Result Issue Trap
+waitany_issue s env = awaiting (waitany_kind s env)
 
 abbrev pub barrier_issue : Result Issue Trap
 barrier_issue = awaiting (Ok Barrier)
@@ -134,6 +148,7 @@ abbrev pub blocks : CallKind → Bool
 blocks (Send s) = s.blocks
 blocks (Recv r) = r.blocks
 blocks (Wait t) = true
+blocks (Waitany a) = true
 blocks Barrier = true
 
 abbrev pub activity_after : CallKind → Activity
@@ -189,6 +204,7 @@ ran_simple env r count number (st.Isend s) ts = issued r ts number count (isend_
 ran_simple env r count number (st.Issend s) ts = issued r ts number count (issend_issue s env)
 ran_simple env r count number (st.Irecv s) ts = issued r ts number count (irecv_issue s env)
 ran_simple env r count number (st.Wait t) ts = issued r ts number count (wait_issue t env)
+ran_simple env r count number (st.Waitany s) ts = issued r ts number count (waitany_issue s env)
 ran_simple env r count number st.Barrier ts = issued r ts number count barrier_issue
 
 -- what any statement makes of it
@@ -283,12 +299,17 @@ abbrev pub cleared_by : Option CallKind → Option ℕ
 cleared_by (Some (Wait t)) = Some t.handle
 cleared_by kind = None
 
+-- what the wake of a waitany writes, of which no handle held a request as it was issued: -1 in the place of an index
+abbrev pub own_writes : Option CallKind → List (ℕ × ℤ)
+own_writes (Some (Waitany a)) = (a.cell, negsuc 0) ∷ []
+own_writes kind = []
+
 abbrev pub woken_rank : List (ℕ × ℤ) → Option ℕ → RankWorld → RankWorld
 woken_rank writes handle r = record r { vars = write_cells writes r.vars; handles = requested handle None r.handles; activity = Running }
 
 -- what the wake of a rank writes, and the handle that it clears
 abbrev pub wake_writes : Board → ℕ → List (ℕ × ℤ)
-wake_writes b p = writes_by b (awaited b (last_call b p))
+wake_writes b p = writes_by b (awaited b (last_call b p)) ++ own_writes (kind_at b (last_call b p))
 
 abbrev pub wake_clears : Board → ℕ → Option ℕ
 wake_clears b p = cleared_by (kind_at b (last_call b p))
@@ -312,6 +333,49 @@ woken_by w p writes handle = record { ranks = update_at w.ranks p (woken_rank wr
 abbrev pub woken : World → ℕ → World
 woken w p = woken_by w p (wake_writes w.board p) (wake_clears w.board p)
 
+-- ---- one of several requests (MPI 4.0, section 3.7.5)
+
+-- how many handles a waitany has, the one of an index, and where that index goes
+abbrev pub requests_of : Option CallKind → ℕ
+requests_of (Some (Waitany a)) = a.count
+requests_of kind = 0
+
+abbrev pub request_handle : Option CallKind → ℕ → Option ℕ
+request_handle (Some (Waitany a)) i = if nat_lt i a.count then Some (a.first + i) else None
+request_handle kind i = None
+
+abbrev pub index_writes : Option CallKind → ℕ → List (ℕ × ℤ)
+index_writes (Some (Waitany a)) i = (a.cell, pos i) ∷ []
+index_writes kind i = []
+
+-- the call that a handle of a rank holds
+abbrev pub held_in : ℕ → Option RankWorld → Option ℕ → Option CallId
+held_in p (Some r) (Some h) = option_map (call_id p) (slice_index_or r.handles h None)
+held_in p r h = None
+
+-- the request of that index, of the waitany that a rank is blocked on
+abbrev pub any_handle : World → ℕ → ℕ → Option ℕ
+any_handle w p i = request_handle (kind_at w.board (last_call w.board p)) i
+
+abbrev pub any_call : World → ℕ → ℕ → Option CallId
+any_call w p i = held_in p (slice_get w.ranks p) (any_handle w p i)
+
+abbrev pub is_complete_some : Board → Option CallId → Bool
+is_complete_some b None = false
+is_complete_some b (Some c) = complete b c
+
+-- a rank that is blocked on a waitany, of which the request of that index is complete
+abbrev pub can_wake_any : World → ℕ → ℕ → Bool
+can_wake_any w p i = waits (slice_get w.ranks p) && is_complete_some w.board (any_call w p i)
+
+-- what the rank writes as it goes on by that request: what a wait for it writes, and the index behind that
+abbrev pub any_writes : World → ℕ → ℕ → List (ℕ × ℤ)
+any_writes w p i = writes_by w.board (any_call w p i) ++ index_writes (kind_at w.board (last_call w.board p)) i
+
+-- It goes on as from a wait for that request, and is told the index.
+abbrev pub woken_any : World → ℕ → ℕ → World
+woken_any w p i = woken_by w p (any_writes w p i) (any_handle w p i)
+
 -- ---- releases (MPI 4.0, section 6.3)
 
 -- a rank that is blocked on a barrier
@@ -334,6 +398,7 @@ abbrev pub next : World → Step → Option World
 next w (Local p) = option_map (stepped w p) (local_at w p)
 next w (Match s r) = if eligible w.board s r then Some (record w { board = with_set w.board (Pair s r) }) else None
 next w (Wake p) = if can_wake w p then Some (woken w p) else None
+next w (WakeAny p i) = if can_wake_any w p i then Some (woken_any w p i) else None
 next w Release = if can_release w then Some (released w) else None
 
 abbrev pub is_enabled : World → Step → Bool
@@ -343,7 +408,7 @@ abbrev pub fold : World → List Step → Option World
 fold w [] = Some w
 fold w (a ∷ steps) = option_and_then (λ v. fold v steps) (next w a)
 
--- ---- all steps that may be enabled: local, release, wake, match; by rank, and matches by receiver, receive, sender, send
+-- ---- all steps that may be enabled: local, release, wake, wakeany, match; by rank, wakeany by index, and matches by receiver, receive, sender, send
 
 abbrev pub matches_with : Board → CallId → List Step
 matches_with b r = flat_map (λ p. map (λ i. Match (call_id p i) r) (call_numbers b p)) (rank_numbers b)
@@ -354,8 +419,14 @@ matches_of b q = flat_map (λ j. matches_with b (call_id q j)) (call_numbers b q
 abbrev pub matches_in : Board → List Step
 matches_in b = flat_map (matches_of b) (rank_numbers b)
 
+abbrev pub any_wakes_of : Board → ℕ → List Step
+any_wakes_of b p = map (WakeAny p) (range_with_len 0 (requests_of (kind_at b (last_call b p))))
+
+abbrev pub any_wakes_in : Board → List Step
+any_wakes_in b = flat_map (any_wakes_of b) (rank_numbers b)
+
 abbrev pub steps_of : World → List Step
-steps_of w = map Local (rank_numbers w.board) ++ (Release ∷ (map Wake (rank_numbers w.board) ++ matches_in w.board))
+steps_of w = map Local (rank_numbers w.board) ++ (Release ∷ (map Wake (rank_numbers w.board) ++ (any_wakes_in w.board ++ matches_in w.board)))
 
 abbrev pub enabled : World → List Step
 enabled w = filter (is_enabled w) (steps_of w)

@@ -2,6 +2,7 @@
 use Rattle.std.specs.Prelude.{List, [], ◌∷◌, Option, Some, None}
 use Rattle.mpd_model.specs.declared.place.DeclKind.{DeclKind}
 use Rattle.mpd_model.specs.declared.place.DeclKind.TheVariants.{Variable, Handle}
+use Rattle.mpd_model.specs.declared.place.Place.{Place}
 use Rattle.mpd_model.specs.declared.stmt.RecvStmt.{RecvStmt}
 use Rattle.mpd_model.specs.declared.stmt.StatusStmt.{StatusStmt}
 use Rattle.mpd_model.specs.declared.stmt.SendStmt.{SendStmt}
@@ -18,6 +19,8 @@ pub data Part : Type 0 where
   of_term : Term → Part
   -- a variable or a handle that stands in no expression
   of_target : DeclKind → Target → Part
+  -- a declaration by its name alone, whether it has a size or not
+  of_name : DeclKind → Place → Part
 
 -- what a send sends, to whom and with which tag
 abbrev pub send_parts : SendStmt → List Part
@@ -48,6 +51,7 @@ parts_of (st.Isend s) = of_mark m.Isend ∷ of_target Handle s.request ∷ send_
 parts_of (st.Issend s) = of_mark m.Issend ∷ of_target Handle s.request ∷ send_parts s.send
 parts_of (st.Irecv s) = of_mark m.Irecv ∷ of_target Handle s.request ∷ recv_parts s.recv
 parts_of (st.Wait t) = of_mark m.Wait ∷ of_target Handle t ∷ []
+parts_of (st.Waitany s) = of_mark m.Waitany ∷ of_name Handle s.requests ∷ of_mark m.To ∷ of_target Variable s.into ∷ []
 parts_of st.Barrier = of_mark m.Barrier ∷ []
 
 -- ---- before it is read: the mark that must come next, or a hole for what comes
@@ -56,6 +60,7 @@ pub data Hole : Type 0 where
   mark_hole : Mark → Hole
   term_hole : Hole
   target_hole : DeclKind → Hole
+  name_hole : DeclKind → Hole
   -- `any`, or an expression
   source_hole : Hole
   -- `status` and two places, or nothing
@@ -67,6 +72,7 @@ Contents [] = Unit {0}
 Contents (mark_hole k ∷ hs) = Contents hs
 Contents (term_hole ∷ hs) = Term × Contents hs
 Contents (target_hole kind ∷ hs) = Target × Contents hs
+Contents (name_hole kind ∷ hs) = Place × Contents hs
 Contents (source_hole ∷ hs) = Option Term × Contents hs
 Contents (status_hole ∷ hs) = Option StatusStmt × Contents hs
 
@@ -75,5 +81,6 @@ filled [] c = []
 filled (mark_hole k ∷ hs) c = of_mark k ∷ filled hs c
 filled (term_hole ∷ hs) c = of_term c.0 ∷ filled hs c.1
 filled (target_hole kind ∷ hs) c = of_target kind c.0 ∷ filled hs c.1
+filled (name_hole kind ∷ hs) c = of_name kind c.0 ∷ filled hs c.1
 filled (source_hole ∷ hs) c = source_part c.0 ∷ filled hs c.1
 filled (status_hole ∷ hs) c = status_parts c.0 (filled hs c.1)

@@ -14,7 +14,7 @@ use Rattle.mpd_model.specs.Input.{slot_in, max_budget}
 use Rattle.mpd_model.specs.Program.{Program, IsLegal}
 use Rattle.mpd_model.specs.Term.{Term, lit, own_rank, size, cell, element, op1, op2, Target}
 use Rattle.mpd_model.specs.Tokens.{begins_name, is_in_name, word, Spot}
-use Rattle.mpd_model.specs.Parts.{Part, of_mark, of_term, of_target, parts_of}
+use Rattle.mpd_model.specs.Parts.{Part, of_mark, of_term, of_target, of_name, parts_of}
 use Rattle.mpd_model.specs.Tree.{Tree, Block, simple, branch, repeat, no_more, then_more, block_of}
 use Rattle.mpd_model.specs.Written.{left_level, WrittenTerm}
 
@@ -94,6 +94,7 @@ abbrev pub IsPrintablePart : List Declared → Part → Type 0
 IsPrintablePart ds (of_mark k) = Unit {0}
 IsPrintablePart ds (of_term e) = IsPrintableWhole ds e
 IsPrintablePart ds (of_target kind t) = IsPrintableTarget ds kind t
+IsPrintablePart ds (of_name kind p) = (is_array : Bool) × HasName ds kind is_array p
 
 abbrev pub ArePrintable : List Declared → List Part → Type 0
 ArePrintable ds [] = Unit {0}
@@ -122,7 +123,7 @@ pub record IsPrintable (p : Program) : Type 0 where
 abbrev pub CanonicalIsReadAgain : Type 0
 CanonicalIsReadAgain = (p : Program) → IsPrintable p → length (canonical p) ≤ max_text → (ls : List ℕ) × (reading (canonical p) ≡ Ok (record p { lines = ls }))
 
--- What is read is printable, but for the limits that every script keeps: the reader shows these by counting.
+-- What is read is printable, but for the limits that every script keeps: the reader shows these by counting, and of the version by a law.
 abbrev pub ReadScriptsArePrintable : Type 0
 ReadScriptsArePrintable = (text : List ℕ) (p : Program) → reading text ≡ Ok p → IsLegal p → IsPrintable p
 

@@ -3,11 +3,12 @@ use Rattle.std.specs.Prelude.{◌≡◌, ◌≢◌, ℕ, suc, ◌+◌, ◌-◌, 
 use Rattle.std.specs.List.{prefix_len}
 use Rattle.mpd_model.specs.Costs.{cost, Stops, at, Gives, blocks, blocks_in, dearest, dearest_block, dearest_body, dearest_script}
 use Rattle.mpd_model.specs.Grammar.{expr, closes, stmt, stmts, body, block, decls_from, max_blocks, max_text, is_text, reading}
+use Rattle.mpd_model.specs.declared.limits.TheConstants.{LANGUAGE_MAX}
 use Rattle.mpd_model.specs.declared.read_fault.FaultCode.TheVariants.{TooDeep, Memory}
 use Rattle.mpd_model.specs.declared.read_fault.ReadFault.{ReadFault}
 use Rattle.mpd_model.specs.declared.token.Mark.TheVariants.{Else}
 use Rattle.mpd_model.specs.Input.{Input, Outcome, token_of, is_mark, max_budget, max_statements}
-use Rattle.mpd_model.specs.Program.{Program, IsLegal}
+use Rattle.mpd_model.specs.Program.{Program, IsTreeOf, IsBlockOf, IsLegal}
 use Rattle.mpd_model.specs.Term.{Term}
 use Rattle.mpd_model.specs.Tokens.{Spot, tokens}
 use Rattle.mpd_model.specs.Tree.{Tree, block_of}
@@ -20,6 +21,10 @@ ExpressionsAreWritten = (depth level : ℕ) (i j : Input) (t : Term) → expr de
 -- What is read as statements is written so, with the line of each.
 abbrev pub StatementsAreWritten : Type 0
 StatementsAreWritten = (depth : ℕ) (inside : Bool) (i j : Input) (ts : List Tree) → body (block depth) inside i ≡ Ok (ts, j) → BodyBetween ts i j
+
+-- What is read as statements is of the version that the text is in. The first version is 1.
+abbrev pub StatementsAreOfVersion : Type 0
+StatementsAreOfVersion = (depth : ℕ) (inside : Bool) (i j : Input) (ts : List Tree) → 1 ≤ i.version → body (block depth) inside i ≡ Ok (ts, j) → IsBlockOf i.version (block_of ts)
 
 -- An expression never runs out of depth: each one inside another takes one of the budget, so more depth than that changes nothing.
 abbrev pub DepthIsEnough : Type 0
@@ -49,6 +54,10 @@ BlocksDecideDepthAlone = (depth more : ℕ) (inside : Bool) (i : Input) → IsNo
 abbrev pub ScriptsAreWritten : Type 0
 ScriptsAreWritten = (text : List ℕ) (p : Program) → reading text ≡ Ok p → WrittenScript (tokens text) p
 
+-- A script that is read is in a version that there is, and has no statement that came later.
+abbrev pub ScriptsAreOfVersion : Type 0
+ScriptsAreOfVersion = (text : List ℕ) (p : Program) → reading text ≡ Ok p → (1 ≤ p.version) × (p.version ≤ LANGUAGE_MAX) × IsBlockOf p.version (block_of p.body)
+
 -- Want of memory is no fault of a text.
 abbrev pub NoTextIsMemory : Type 0
 NoTextIsMemory = (text : List ℕ) (f : ReadFault) → reading text ≡ Err f → f.code ≢ Memory
@@ -65,25 +74,25 @@ WrittenExpressionsAreRead =
     (depth level : ℕ) (ss rest : List Spot) (t : Term) (i : Input) → WrittenTerm i.decls level ss t → i.tokens ≡ ss ++ rest → Stops level rest → cost ss ≤ i.budget → i.budget < depth
     → expr depth level i ≡ Ok (t, at rest (i.budget - cost ss) i)
 
--- What is written as a statement is read as that, where each expression is within the budget, no more blocks are open at once and no more statements begin than may. No `else` follows: it would go on with an `if`.
+-- What is written as a statement is read as that, where the text's version has it, each expression is within the budget, no more blocks are open at once and no more statements begin than may. No `else` follows: it would go on with an `if`.
 abbrev pub WrittenTreesAreRead : Type 0
 WrittenTreesAreRead =
     (depth : ℕ) (ss rest : List Spot) (t : Tree) (ls : List ℕ) (i : Input) (w : WrittenTree i.decls ss t ls) → i.tokens ≡ ss ++ rest → is_mark Else (token_of rest) ≡ false
-    → blocks t ≤ depth → dearest i.decls ss t ls w ≤ max_budget → length i.lines + length ls ≤ max_statements
+    → IsTreeOf i.version t → blocks t ≤ depth → dearest i.decls ss t ls w ≤ max_budget → length i.lines + length ls ≤ max_statements
     → Gives (stmt (block depth) i) t rest (i.lines ++ ls) i
 
 -- The same of a block, whatever follows. It is open itself.
 abbrev pub WrittenBlocksAreRead : Type 0
 WrittenBlocksAreRead =
     (depth : ℕ) (ss rest : List Spot) (ts : List Tree) (ls : List ℕ) (i : Input) (w : WrittenBlock i.decls ss ts ls) → i.tokens ≡ ss ++ rest
-    → blocks_in (block_of ts) < depth → dearest_block i.decls ss ts ls w ≤ max_budget → length i.lines + length ls ≤ max_statements
+    → IsBlockOf i.version (block_of ts) → blocks_in (block_of ts) < depth → dearest_block i.decls ss ts ls w ≤ max_budget → length i.lines + length ls ≤ max_statements
     → Gives (block depth i) ts rest (i.lines ++ ls) i
 
 -- The same of statements, where what closes them follows.
 abbrev pub WrittenBodiesAreRead : Type 0
 WrittenBodiesAreRead =
     (depth : ℕ) (inside : Bool) (ss rest : List Spot) (ts : List Tree) (ls : List ℕ) (i : Input) (w : WrittenBody i.decls ss ts ls) → i.tokens ≡ ss ++ rest → closes inside (token_of rest) ≡ true
-    → blocks_in (block_of ts) ≤ depth → dearest_body i.decls ss ts ls w ≤ max_budget → length i.lines + length ls ≤ max_statements
+    → IsBlockOf i.version (block_of ts) → blocks_in (block_of ts) ≤ depth → dearest_body i.decls ss ts ls w ≤ max_budget → length i.lines + length ls ≤ max_statements
     → Gives (body (block depth) inside i) ts rest (i.lines ++ ls) i
 
 abbrev pub WrittenStatementsAreRead : Type 0

@@ -4,9 +4,9 @@ use Rattle.std.specs.List.{flat_map}
 use Rattle.std.specs.Fmt.{decimal, signed_decimal}
 use Rattle.mpd_model.specs.declared.step.CallId.{CallId}
 use Rattle.mpd_model.specs.declared.step.Step.{Step}
-use Rattle.mpd_model.specs.declared.step.Step.TheVariants.{Local, Match, Wake, Release}
+use Rattle.mpd_model.specs.declared.step.Step.TheVariants.{Local, Match, Wake, WakeAny, Release}
 use Rattle.mpd_model.specs.declared.call.CallKind.{CallKind}
-use Rattle.mpd_model.specs.declared.call.CallKind.TheVariants.{Send, Recv, Wait, Barrier}
+use Rattle.mpd_model.specs.declared.call.CallKind.TheVariants.{Send, Recv, Wait, Waitany, Barrier}
 use Rattle.mpd_model.specs.declared.call.Trap.{Trap}
 use Rattle.mpd_model.specs.declared.call.Trap.TheVariants.{Overflow, ZeroDivisor, BadRank, BadTag, BadIndex, Assertion}
 use Rattle.mpd_model.specs.declared.call.Activity.{Activity}
@@ -42,6 +42,7 @@ abbrev pub step_text : Step → List ℕ
 step_text (Local p) = codes "local " ++ decimal p
 step_text (Match s r) = codes "match " ++ id_text s ++ 32 ∷ id_text r
 step_text (Wake p) = codes "wake " ++ decimal p
+step_text (WakeAny p i) = codes "wakeany " ++ decimal p ++ 32 ∷ decimal i
 step_text Release = codes "release"
 
 -- steps, with a comma and a space between two, and a space before the first
@@ -80,6 +81,7 @@ abbrev pub kind_text : CallKind → List ℕ
 kind_text (Send s) = send_word s.synchronous s.blocks ++ codes " to " ++ decimal s.to ++ codes " tag " ++ decimal s.tag ++ codes " value " ++ signed_decimal s.value
 kind_text (Recv r) = recv_word r.blocks ++ codes " from " ++ any_text r.from ++ codes " tag " ++ any_text r.tag
 kind_text (Wait t) = codes "wait " ++ target_text t.target
+kind_text (Waitany a) = codes "waitany " ++ decimal a.first ++ 32 ∷ decimal a.count ++ (if a.active then [] else codes " none")
 kind_text Barrier = codes "barrier"
 
 -- the call that a call was paired with, and the mark of one that is free

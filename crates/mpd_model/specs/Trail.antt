@@ -3,7 +3,7 @@ use Rattle.std.specs.Prelude.{◌≡◌, ℕ, ◌+◌, ◌-◌, ◌≤◌, lengt
 use Rattle.std.specs.Coded.{Coded, code_by, coded×, coded_ℕ, coded_list}
 use Rattle.mpd_model.specs.declared.limits.TheConstants.{STEPS_MAX}
 use Rattle.mpd_model.specs.declared.step.Step.{Step}
-use Rattle.mpd_model.specs.declared.step.Step.TheVariants.{Local, Match, Wake, Release}
+use Rattle.mpd_model.specs.declared.step.Step.TheVariants.{Local, Match, Wake, WakeAny, Release}
 use Rattle.mpd_model.specs.declared.call.Mode.{Mode}
 use Rattle.mpd_model.specs.contracts.step.Step as step_row
 use Rattle.mpd_model.specs.contracts.call.Mode as mode_row
@@ -32,6 +32,7 @@ abbrev pub step_eq : Step → Step → Bool
 step_eq (Local p) (Local q) = p == q
 step_eq (Match s r) (Match u v) = id_eq s u && id_eq r v
 step_eq (Wake p) (Wake q) = p == q
+step_eq (WakeAny p i) (WakeAny q j) = (p == q) && (i == j)
 step_eq Release Release = true
 step_eq a b = false
 

@@ -4,7 +4,7 @@ use Rattle.std.specs.List.{list_all}
 use Rattle.std.specs.Char.{is_ascii_digit}
 use Rattle.mpd_model.specs.declared.step.CallId.{CallId}
 use Rattle.mpd_model.specs.declared.step.Step.{Step}
-use Rattle.mpd_model.specs.declared.step.Step.TheVariants.{Local, Match, Wake, Release}
+use Rattle.mpd_model.specs.declared.step.Step.TheVariants.{Local, Match, Wake, WakeAny, Release}
 use Rattle.mpd_model.specs.declared.words.Command.{Command}
 use Rattle.mpd_model.specs.declared.words.Command.TheVariants as command
 use Rattle.mpd_model.specs.World.{call_id}
@@ -83,6 +83,14 @@ only_number [] = None
 only_number (a ∷ []) = number_of a
 only_number (a ∷ b ∷ rest) = None
 
+abbrev pub both_of : Option ℕ → Option ℕ → Option (ℕ × ℕ)
+both_of (Some a) (Some b) = Some (a, b)
+both_of a b = None
+
+abbrev pub two_numbers : List (List ℕ) → Option (ℕ × ℕ)
+two_numbers (a ∷ b ∷ []) = both_of (number_of a) (number_of b)
+two_numbers words = None
+
 abbrev pub pair_of : Option CallId → Option CallId → Option (CallId × CallId)
 pair_of None r = None
 pair_of (Some s) None = None
@@ -103,13 +111,14 @@ step_named name rest =
     if bytes_eq name (codes "local") then option_map Local (only_number rest)
     else (if bytes_eq name (codes "match") then option_map (λ q. Match q.0 q.1) (two_calls rest)
     else (if bytes_eq name (codes "wake") then option_map Wake (only_number rest)
-    else (if bytes_eq name (codes "release") then alone Release rest else None)))
+    else (if bytes_eq name (codes "wakeany") then option_map (λ q. WakeAny q.0 q.1) (two_numbers rest)
+    else (if bytes_eq name (codes "release") then alone Release rest else None))))
 
 abbrev pub step_in : List (List ℕ) → Option Step
 step_in [] = None
 step_in (name ∷ rest) = step_named name rest
 
--- `local P`, `match S R`, `wake P` or `release`
+-- `local P`, `match S R`, `wake P`, `wakeany P I` or `release`
 abbrev pub step_of : List ℕ → Option Step
 step_of z = step_in (words z)
 

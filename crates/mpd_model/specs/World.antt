@@ -1,4 +1,5 @@
--- The state of a run, and what is looked up in it. It has no queue, mark or buffer: these are read off the calls and the match sets.
+-- The state of a run, and what is looked up in it. It has no queue and no buffer, nor a mark of what is paired: these are read off the
+-- calls and the match sets. A send alone has a mark: whether it was buffered as it was issued.
 use Rattle.std.specs.Prelude.{ℕ, ◌-◌, ℤ, pos, Bool, true, false, ◌&&◌, ◌||◌, not, ◌==◌, nat_lt, if◌then◌else◌, List, [], ◌∷◌, length, replicate, slice_get, Option, Some, None, option_and_then, is_some, is_none, refl}
 use Rattle.std.specs.Option.{option_map}
 use Rattle.std.specs.List.{filter, list_any, range_with_len}
@@ -6,7 +7,7 @@ use Rattle.std.specs.Coded.{Coded, code_by, coded×, coded_ℕ, coded_ℤ, coded
 use Rattle.mpd_model.specs.declared.step.CallId.{CallId}
 use Rattle.mpd_model.specs.declared.call.Call.{Call}
 use Rattle.mpd_model.specs.declared.call.CallKind.{CallKind}
-use Rattle.mpd_model.specs.declared.call.CallKind.TheVariants.{Send, Recv, Wait, Barrier}
+use Rattle.mpd_model.specs.declared.call.CallKind.TheVariants.{Send, Recv, Wait, Waitany, Barrier}
 use Rattle.mpd_model.specs.declared.call.Message.{Message}
 use Rattle.mpd_model.specs.declared.call.Mode.{Mode}
 use Rattle.mpd_model.specs.declared.call.Activity.{Activity}
@@ -174,9 +175,11 @@ is_buffered kind = false
 abbrev pub is_done : Board → CallId → Bool
 is_done b c = is_some (partner b.sets c) || is_buffered (kind_at b c)
 
--- the call that a rank waits for which is blocked on a call of this kind: what a wait was issued for, or the call itself
+-- the call that a rank waits for which is blocked on a call of this kind: what a wait was issued for, or the call itself; a waitany is for
+-- none of its requests rather than another
 abbrev pub awaited_by : CallId → Option CallKind → Option CallId
 awaited_by c (Some (Wait t)) = option_map (call_id c.rank) t.target
+awaited_by c (Some (Waitany a)) = None
 awaited_by c kind = Some c
 
 abbrev pub awaited : Board → CallId → Option CallId
@@ -191,9 +194,14 @@ abbrev pub complete_by : Board → Option CallId → Bool
 complete_by b None = true
 complete_by b (Some c) = is_done b c
 
--- A barrier never is: its rank goes on as all ranks do.
+-- a call from which no wake lets its rank go on: a barrier, which a release ends, and a waitany for a request, which a wakeany ends
+abbrev pub has_own_step : Option CallKind → Bool
+has_own_step (Some (Waitany a)) = a.active
+has_own_step kind = is_barrier kind
+
+-- Such a call never is complete.
 abbrev pub complete : Board → CallId → Bool
-complete b c = not (is_barrier (kind_at b c)) && complete_by b (awaited b c)
+complete b c = not (has_own_step (kind_at b c)) && complete_by b (awaited b c)
 
 -- the last call that a rank has issued
 abbrev pub last_call : Board → ℕ → CallId

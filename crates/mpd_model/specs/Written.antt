@@ -16,7 +16,7 @@ use Rattle.mpd_model.specs.Input.{Input, Parser, slot_in, first_line}
 use Rattle.mpd_model.specs.Program.{Program}
 use Rattle.mpd_model.specs.Term.{Term, lit, own_rank, size, cell, element, op1, op2, Target}
 use Rattle.mpd_model.specs.Tokens.{Spot}
-use Rattle.mpd_model.specs.Parts.{Part, of_mark, of_term, of_target, parts_of}
+use Rattle.mpd_model.specs.Parts.{Part, of_mark, of_term, of_target, of_name, parts_of}
 use Rattle.mpd_model.specs.Tree.{Tree, simple, branch, repeat, no_more, block_of}
 
 -- ---- expressions, by how loosely they bind
@@ -53,6 +53,7 @@ pub record TermBetween (k : ℕ) (t : Term) (i j : Input) : Type 0 where
   pub used : List Spot
   pub is : i.tokens ≡ used ++ j.tokens
   pub written : WrittenTerm i.decls k used t
+  pub version : j.version ≡ i.version
   pub decls : j.decls ≡ i.decls
   pub lines : j.lines ≡ i.lines
 
@@ -73,6 +74,7 @@ pub data WrittenPart (ds : List Declared) : List Spot → Part → Type 0 where
   by_mark : (s : Spot) (k : Mark) → s.token ≡ Is k → WrittenPart ds (s ∷ []) (of_mark k)
   by_term : (ss : List Spot) (t : Term) → WrittenTerm ds 5 ss t → WrittenPart ds ss (of_term t)
   by_target : (ss : List Spot) (kind : DeclKind) (t : Target) → WrittenTarget ds kind ss t → WrittenPart ds ss (of_target kind t)
+  by_name : (s : Spot) (kind : DeclKind) (is_array : Bool) (p : Place) → Names ds kind s is_array p → WrittenPart ds (s ∷ []) (of_name kind p)
 
 pub data WrittenParts (ds : List Declared) : List Spot → List Part → Type 0 where
   no_part : WrittenParts ds [] []
@@ -110,6 +112,7 @@ pub record LinesBetween (Writes : List Declared → List Spot → List ℕ → T
   pub begun : List ℕ
   pub is : i.tokens ≡ used ++ j.tokens
   pub written : Writes i.decls used begun
+  pub version : j.version ≡ i.version
   pub decls : j.decls ≡ i.decls
   pub lines : j.lines ≡ i.lines ++ begun
 

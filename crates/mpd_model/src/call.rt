@@ -67,6 +67,18 @@ pub struct WaitCall {
     pub target: Option<usize>,
 }
 
+/// A wait for one of the requests of a declaration, whichever is complete as its rank goes on.
+#[derive(Clone, Copy)]
+pub struct WaitanyCall {
+    /// The number of its first handle, and how many handles it has.
+    pub first: usize,
+    pub count: usize,
+    /// The cell that the index of the chosen one goes to.
+    pub cell: usize,
+    /// Whether any of the handles held a call as it was issued.
+    pub active: bool,
+}
+
 /// What a call is.
 #[derive(Clone, Copy)]
 pub enum CallKind {
@@ -76,6 +88,8 @@ pub enum CallKind {
     Recv(RecvCall),
     /// A wait (MPI 4.0, section 3.7.3).
     Wait(WaitCall),
+    /// A wait for one of several (MPI 4.0, section 3.7.5).
+    Waitany(WaitanyCall),
     /// A barrier. Its rank waits until all ranks do so at one (MPI 4.0, section 6.3).
     Barrier,
 }
@@ -117,7 +131,7 @@ pub enum Trap {
 #[derive(Clone, Copy, PartialEq, Eq)]
 pub enum Activity {
     Running,
-    /// Waits for its last call to be complete.
+    /// Waits in its last call.
     Blocked,
     Trapped(Trap),
 }

@@ -24,7 +24,8 @@ impl Model for StepList {
 pub enum Decision {
     /// This step, which nobody has to choose.
     Forced(Step),
-    /// One of these matches, each of a receive of any source: one of them at least.
+    /// One of these steps, one of them at least: by one of its requests a rank goes on from a waitany, or a receive of any source is
+    /// matched.
     Choice(StepList),
     /// No step is enabled, and the run has ended so.
     Leaf(Outcome),

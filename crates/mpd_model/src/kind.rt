@@ -13,7 +13,7 @@ pub fn blocks(kind: CallKind) -> bool
     match kind {
         CallKind::Send(send) => send.blocks,
         CallKind::Recv(recv) => recv.blocks,
-        CallKind::Wait(_) | CallKind::Barrier => true,
+        CallKind::Wait(_) | CallKind::Waitany(_) | CallKind::Barrier => true,
     }
 }
 

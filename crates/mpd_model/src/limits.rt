@@ -1,6 +1,9 @@
 //! The limits of a script, of a run and of its devices (docs/LANGUAGE.md, "Limits"; docs/FORMATS.md). Each stands here once: code
 //! and definitions cite it.
 
+/// The newest version of the language; the first is 1.
+pub const LANGUAGE_MAX: usize = 2;
+
 /// Bytes of a script.
 pub const SCRIPT_MAX: usize = 65_536;
 

@@ -8,7 +8,7 @@ use std::marker::Model;
 /// numbers as the grammar allows them, so that it can be printed and read again.
 #[derive(Drop)]
 pub struct Script {
-    /// The version of the language, 1.
+    /// The version of the language, 1 or 2.
     pub version: usize,
     /// How many ranks run it, 1 to 16.
     pub ranks: usize,

@@ -1,4 +1,4 @@
-//! Calls by their numbers, and the four atomic steps.
+//! Calls by their numbers, and the atomic steps.
 
 /// A call of a rank, by its number there: both count from 0 (docs/DEFINITIONS.md, "Calls").
 #[derive(Clone, Copy, Debug, PartialEq, Eq)]
@@ -16,8 +16,14 @@ pub enum Step {
     Local(usize),
     /// A send, the first, is paired with a receive (MPI 4.0, section 3.5).
     Match(CallId, CallId),
-    /// A rank that is blocked on a complete call goes on. A barrier never is complete.
+    /// A rank that is blocked on a complete call goes on. A barrier never is complete, nor is a waitany for a request.
     Wake(usize),
+    /// A rank that is blocked on a waitany goes on by one of its requests that are complete (MPI 4.0, section 3.7.5).
+    WakeAny {
+        rank: usize,
+        /// Which one, from 0, among the handles of the declaration.
+        index: usize,
+    },
     /// All ranks, each of them blocked on a barrier, go on (MPI 4.0, section 6.3).
     Release,
 }

@@ -74,6 +74,15 @@ pub struct IrecvStmt {
     pub recv: RecvStmt,
 }
 
+/// A wait for one of several requests (MPI 4.0, section 3.7.5).
+#[derive(Drop)]
+pub struct WaitanyStmt {
+    /// All handles of a declaration, whether it has a size or not.
+    pub requests: Place,
+    /// The place that the index of the one that is chosen is written to.
+    pub into: Target,
+}
+
 /// An assignment.
 #[derive(Drop)]
 pub struct AssignStmt {
@@ -98,6 +107,8 @@ pub enum Simple {
     Irecv(IrecvStmt),
     /// A wait for the request of a handle (MPI 4.0, section 3.7.3).
     Wait(Target),
+    /// A wait for one of several requests (MPI 4.0, section 3.7.5). Version 1 has none.
+    Waitany(WaitanyStmt),
     /// A barrier of all ranks (MPI 4.0, section 6.3).
     Barrier,
 }

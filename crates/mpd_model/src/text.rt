@@ -29,6 +29,7 @@ impl fmt::Display for Step {
             Step::Local(rank) => write!(f, "local {rank}"),
             Step::Match(send, receive) => write!(f, "match {send} {receive}"),
             Step::Wake(rank) => write!(f, "wake {rank}"),
+            Step::WakeAny { rank, index } => write!(f, "wakeany {rank} {index}"),
             Step::Release => write!(f, "release"),
         }
     }
@@ -106,6 +107,10 @@ impl fmt::Display for CallKind {
                 None => write!(f, "wait none"),
                 Some(call) => write!(f, "wait {call}"),
             },
+            CallKind::Waitany(w) => {
+                let note = if w.active { "" } else { " none" };
+                write!(f, "waitany {} {}{note}", w.first, w.count)
+            }
             CallKind::Barrier => write!(f, "barrier"),
         }
     }

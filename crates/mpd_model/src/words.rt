@@ -1,7 +1,7 @@
 //! Trace words: steps and commands as text (docs/FORMATS.md, "Trace words").
 
 ghost use Rattle.std.specs.Prelude.{◌≡◌, ◌≤◌, ◌∷◌, [], length, MatchOption};
-ghost use Rattle.mpd_model.specs.Words.{words, has_word, is_dot, is_blank, is_no_blank, stop_len, number_of, call_of, only_number, two_calls, alone, step_named, step_of, command_named, command_of};
+ghost use Rattle.mpd_model.specs.Words.{words, has_word, is_dot, is_blank, is_no_blank, stop_len, number_of, call_of, only_number, two_calls, two_numbers, alone, step_named, step_of, command_named, command_of};
 
 use crate::step::{CallId, Step};
 
@@ -22,7 +22,7 @@ pub enum Command {
     Show,
 }
 
-/// Reads a step: `local P`, `match S R`, `wake P` or `release`. `None` where the text is none of these.
+/// Reads a step: `local P`, `match S R`, `wake P`, `wakeany P I` or `release`. `None` where the text is none of these.
 pub fn step_of(text: &str) -> Option<Step>
     ensures { result ≡ step_of text.now }
 {
@@ -153,6 +153,18 @@ fn two_calls(rest: &[u8]) -> Option<(CallId, CallId)>
     Some((call_of(first)?, call_of(second)?))
 }
 
+/// The two numbers that are the only words left.
+fn two_numbers(rest: &[u8]) -> Option<(usize, usize)>
+    ensures { result ≡ two_numbers (words rest.now) }
+{
+    let (first, behind) = next_word(rest)?;
+    let (second, end) = next_word(behind)?;
+    if has_word(end) {
+        return None;
+    }
+    Some((number_of(first)?, number_of(second)?))
+}
+
 /// The step of a name and the words behind it.
 fn step_named(name: &[u8], rest: &[u8]) -> Option<Step>
     ensures { result ≡ step_named name.now (words rest.now) }
@@ -166,6 +178,10 @@ fn step_named(name: &[u8], rest: &[u8]) -> Option<Step>
     }
     if name == b"wake".as_slice() {
         return Some(Step::Wake(only_number(rest)?));
+    }
+    if name == b"wakeany".as_slice() {
+        let (rank, index) = two_numbers(rest)?;
+        return Some(Step::WakeAny { rank, index });
     }
     if name == b"release".as_slice() && !has_word(rest) {
         return Some(Step::Release);
