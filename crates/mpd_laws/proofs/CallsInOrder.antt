@@ -3,20 +3,20 @@ use Rattle.std.proofs.Common.{◌≡◌, ℕ, zero, suc, ◌+◌, ◌<◌, Bool,
 use Rattle.std.proofs.lemmas.Bool.{eqb-true, ltb-true}
 use Rattle.mpd_model.specs.declared.step.CallId.{CallId}
 use Rattle.mpd_model.specs.declared.step.Step.{Step}
-use Rattle.mpd_model.specs.declared.step.Step.TheVariants.{Local, Match, Wake, Release}
+use Rattle.mpd_model.specs.declared.step.Step.TheVariants.{Local, Match, Wake, WakeAny, Release}
 use Rattle.mpd_model.specs.declared.call.Call.{Call}
 use Rattle.mpd_model.specs.declared.call.CallKind.{CallKind}
 use Rattle.mpd_model.specs.declared.call.MatchSet.TheVariants.{Pair}
 use Rattle.mpd_model.specs.declared.call.Mode.{Mode}
 use Rattle.mpd_model.specs.Program.{Program}
 use Rattle.mpd_model.specs.World.{World, Board, start, start_rank, start_board, call_id, listed_calls, calls_of, kind_of, kind_at, is_barrier, last_call, eligible}
-use Rattle.mpd_model.specs.Next.{local, local_at, stepped, waits, can_wake, woken, can_release, released, with_set, next, fold}
+use Rattle.mpd_model.specs.Next.{local, local_at, stepped, waits, can_wake, woken, can_wake_any, woken_any, can_release, released, with_set, next, fold}
 use Rattle.mpd_model.specs.Order.{blocks_rank, barriers, before, Ordered}
 use Rattle.mpd_laws.proofs.Eligible.{both_of}
 use Rattle.mpd_laws.proofs.Orderly.{Orderly, IsMarked, held}
 use Rattle.mpd_laws.proofs.OrderIssues.{local_keeps}
 use Rattle.mpd_laws.proofs.OrderReleases.{release_keeps}
-use Rattle.mpd_laws.proofs.OrderSteps.{match_keeps, wake_keeps}
+use Rattle.mpd_laws.proofs.OrderSteps.{match_keeps, wake_keeps, wake_any_keeps}
 use Rattle.mpd_laws.proofs.Releases.{one_if}
 use Rattle.mpd_laws.proofs.Splits.{mapped_from}
 
@@ -77,6 +77,9 @@ next_orderly w (Match s r) v e h =
 next_orderly w (Wake p) v e h =
     let made = chosen (can_wake w p) (woken w p) v e in
     subst Orderly made.1 (wake_keeps w p made.0 h)
+next_orderly w (WakeAny p i) v e h =
+    let made = chosen (can_wake_any w p i) (woken_any w p i) v e in
+    subst Orderly made.1 (wake_any_keeps w p i made.0 h)
 next_orderly w Release v e h =
     let made = chosen (can_release w) (released w) v e in
     subst Orderly made.1 (release_keeps w made.0 h)

@@ -1,5 +1,5 @@
 -- The parts of a statement that are written, within the limits, are read.
-use Rattle.std.proofs.Common.{◌≡◌, ℕ, suc, ◌-◌, ◌<◌, ◌≤◌, true, false, Option, None, Some, is_some, List, [], ◌∷◌, ◌++◌, length, nat_lt, Ok, refl, ap, ◌∙◌, append_assoc, arith}
+use Rattle.std.proofs.Common.{◌≡◌, ℕ, suc, ◌-◌, ◌<◌, ◌≤◌, Bool, true, false, Option, None, Some, is_some, List, [], ◌∷◌, ◌++◌, length, nat_lt, Ok, refl, ap, ◌∙◌, append_assoc, arith}
 use Rattle.std.proofs.lemmas.Bool.Decides.{nat_tests}
 use denote.Enum.Bare.{true_same}
 use Rattle.mpd_model.specs.declared.limits.TheConstants.{NESTING_MAX, STATEMENTS_MAX}
@@ -16,12 +16,12 @@ use Rattle.mpd_model.specs.declared.token.Token.{Token}
 use Rattle.mpd_model.specs.declared.token.Token.TheVariants.{Name, Is}
 use Rattle.mpd_model.specs.Declaration.{Declared}
 use Rattle.mpd_model.specs.Costs.{cost, Stops, on, Gives, index_cost, part_cost, dearest_part}
-use Rattle.mpd_model.specs.Grammar.{expression, begin_statement, sign, place_of_slot, index_outside, target, statement_place_by, statement_place, source, status, fill, EndsTerm, EndsStatus, AreClear}
+use Rattle.mpd_model.specs.Grammar.{expression, begin_statement, sign, place_of_slot, index_outside, target, statement_place_by, statement_place, statement_name_by, statement_name, source, status, fill, EndsTerm, EndsStatus, AreClear}
 use Rattle.mpd_model.specs.Input.{Input, Parser, token, token_of, spelling, advanced, expect, seek, same_kind, slot_in, sees, is_mark, same_mark, count, after}
-use Rattle.mpd_model.specs.Parts.{Part, Hole, mark_hole, term_hole, target_hole, source_hole, status_hole, source_part, status_parts, Contents, filled}
+use Rattle.mpd_model.specs.Parts.{Part, Hole, mark_hole, term_hole, target_hole, name_hole, source_hole, status_hole, source_part, status_parts, Contents, filled}
 use Rattle.mpd_model.specs.Term.{Term, Target}
 use Rattle.mpd_model.specs.Tokens.{Spot}
-use Rattle.mpd_model.specs.Written.{left_level, WrittenTerm, number, rank, ranks, name, entry, round, signs, higher, joins, WrittenTarget, whole, part, WrittenPart, by_mark, by_term, by_target, WrittenParts, no_part, then_part}
+use Rattle.mpd_model.specs.Written.{Names, left_level, WrittenTerm, number, rank, ranks, name, entry, round, signs, higher, joins, WrittenTarget, whole, part, WrittenPart, by_mark, by_term, by_target, by_name, WrittenParts, no_part, then_part}
 use Rattle.mpd_laws.proofs.Complete.{bind_to, expect_at, mark_stops, expr_complete}
 use Rattle.mpd_laws.proofs.SoundParts.{status_of}
 
@@ -127,6 +127,15 @@ statement_place_on kind ss rest t ls b i x =
     statement_place_same kind (ss ++ rest) (x.first ∷ (x.behind ++ rest)) rest t ls b i (ap (λ r. r ++ rest) x.is)
     (statement_place_from kind x.first (x.behind ++ rest) rest t ls b i x.token (target_on kind x.first x.slot (x.behind ++ rest) rest t ls b i x.declared x.kind (x.reads ls b rest)))
 
+-- ---- a declaration by its name alone
+
+pub statement_name_on : (kind : DeclKind) (s : Spot) (is_array : Bool) (p : Place) (rest : List Spot) (ls : List ℕ) (b : ℕ) (i : Input) → Names i.decls kind s is_array p
+    → statement_name kind (on (s ∷ rest) ls b i) ≡ Ok (p, on rest ls b i)
+unfolding statement_name token advanced
+statement_name_on kind s is_array p rest ls b i n =
+    ap (λ u. statement_name_by kind u (on (s ∷ rest) ls b i)) n.token
+    ∙ bind_to _ _ _ _ (seek_on kind s n.slot rest ls b i n.declared n.kind) (ap (λ q. Ok (q, on rest ls b i)) n.place)
+
 -- ---- where a hole ends
 
 pub mark_seen : (k : Mark) (s : Spot) → s.token ≡ Is k → is_mark k s.token ≡ true
@@ -145,6 +154,7 @@ holes_stop ds [] c _ end rest h no_part e = mark_stops 5 end rest (Is m.Semicolo
 holes_stop ds (mark_hole k ∷ hs) c _ end rest h (then_part _ rs _ _ (by_mark s _ x) w) e = mark_stops 5 s (rs ++ (end ∷ rest)) (Is k) x h
 holes_stop ds (term_hole ∷ hs) c _ end rest h w e = absurd h
 holes_stop ds (target_hole kind ∷ hs) c _ end rest h w e = absurd h
+holes_stop ds (name_hole kind ∷ hs) c _ end rest h w e = absurd h
 holes_stop ds (source_hole ∷ hs) c _ end rest h w e = absurd h
 holes_stop ds (status_hole ∷ hs) c rs end rest h w e = status_stops ds (filled hs c.1) c.0 rs (end ∷ rest) (λ ss x. holes_stop ds hs c.1 ss end rest h x e) w
 
@@ -155,6 +165,7 @@ no_status ds [] c _ end rest h no_part e = ap (is_mark m.Status) e
 no_status ds (mark_hole k ∷ hs) c _ end rest h (then_part _ rs _ _ (by_mark s _ x) w) e = ap (is_mark m.Status) x ∙ h
 no_status ds (term_hole ∷ hs) c _ end rest h w e = absurd h
 no_status ds (target_hole kind ∷ hs) c _ end rest h w e = absurd h
+no_status ds (name_hole kind ∷ hs) c _ end rest h w e = absurd h
 no_status ds (source_hole ∷ hs) c _ end rest h w e = absurd h
 no_status ds (status_hole ∷ hs) c _ end rest h w e = absurd h
 
@@ -254,6 +265,9 @@ fill_on (target_hole kind ∷ hs) made c _ end rest ls b i p (then_part ss rs _ 
     let g = fill_on hs (λ d. made (c.0, d)) c.1 rs end rest ls n.left i p w (omega arith) e in
     same_on (fill (target_hole kind ∷ hs) made) (made c) (ss ++ rs ++ (end ∷ rest)) (ss ++ (rs ++ (end ∷ rest))) rest ls ls b i (append_assoc ss rs (end ∷ rest))
     (record { left = g.left; is = bind_to _ _ _ _ n.is g.is })
+fill_on (name_hole kind ∷ hs) made c _ end rest ls b i p (then_part _ rs _ _ (by_name s _ is_array _ n) w) le e =
+    let g = fill_on hs (λ d. made (c.0, d)) c.1 rs end rest ls b i p w (omega arith) e in
+    record { left = g.left; is = bind_to _ _ _ _ (statement_name_on kind s is_array c.0 (rs ++ (end ∷ rest)) ls b i n) g.is }
 fill_on (source_hole ∷ hs) made c _ end rest ls b i p (then_part ss rs _ _ x w) le e =
     let n = source_on c.0 ss (rs ++ (end ∷ rest)) ls b i x (omega arith) (holes_stop i.decls hs c.1 rs end rest p.0 w e) in
     let g = fill_on hs (λ d. made (c.0, d)) c.1 rs end rest ls n.left i p.1 w (omega arith) e in

@@ -3,7 +3,7 @@ use Rattle.std.proofs.Common.{◌≡◌, ℕ, zero, suc, ◌+◌, ◌<◌, ◌�
 use Rattle.std.proofs.lemmas.Bool.Decides.{nat_tests}
 use Rattle.std.specs.List.{prefix_len}
 use denote.Enum.Bare.{true_same}
-use Rattle.mpd_model.specs.declared.limits.TheConstants.{BLOCKS_MAX, CELLS_MAX, HANDLES_MAX, NESTING_MAX, RANKS_MAX, SCRIPT_MAX, STATEMENTS_MAX}
+use Rattle.mpd_model.specs.declared.limits.TheConstants.{BLOCKS_MAX, CELLS_MAX, HANDLES_MAX, NESTING_MAX, RANKS_MAX, SCRIPT_MAX, STATEMENTS_MAX, LANGUAGE_MAX}
 use Rattle.mpd_model.specs.contracts.token.Mark.{the_type}
 use Rattle.mpd_model.specs.declared.place.DeclKind.{DeclKind}
 use Rattle.mpd_model.specs.declared.token.Mark.{Mark}
@@ -12,16 +12,17 @@ use Rattle.mpd_model.specs.declared.token.Token.{Token}
 use Rattle.mpd_model.specs.declared.token.Token.TheVariants.{Number, Name, Is}
 use Rattle.mpd_model.specs.Declaration.{Declared, variable_cells, handle_cells, variables_in, handles_in}
 use Rattle.mpd_model.specs.Costs.{Gives, blocks_in, dearest_body, dearest_script}
-use Rattle.mpd_model.specs.Grammar.{version_by, version, rank_count, ranks_by, ranks, array_size_at, array_size_by, array_size, single, declarator, decl_by, decl, declares, decls_by, decls_from, decls, header, body, block, max_text, is_text, read_of, reading}
+use Rattle.mpd_model.specs.Grammar.{version_in, version_of, version_by, version, rank_count, ranks_by, ranks, array_size_at, array_size_by, array_size, single, declarator, decl_by, decl, declares, decls_by, decls_from, decls, header, body, block, max_text, is_text, read_of, reading}
 use Rattle.mpd_model.specs.Grammar as grammar
 use Rattle.mpd_model.specs.Input.{Input, Outcome, Parser, and_then, start_of, token, token_of, spelling, place, advanced, expect, sees, is_mark, same_mark, after, fresh, add, cells_fit, slot_in}
-use Rattle.mpd_model.specs.Program.{Program, IsLegal}
+use Rattle.mpd_model.specs.Program.{Program, IsBlockOf, IsLegal}
 use Rattle.mpd_model.specs.Tokens.{Spot, tokens}
 use Rattle.mpd_model.specs.Tree.{Tree, block_of}
 use Rattle.mpd_model.specs.Written.{WrittenTree, WrittenBody, ended, follows, WrittenDecls, none, declares_one, declares_array, declared_as, WrittenScript, script}
 use Rattle.mpd_laws.proofs.Cells.{variables_in-more, handles_in-more}
 use Rattle.mpd_laws.proofs.Complete.{bind_to, expect_at}
 use Rattle.mpd_laws.proofs.CompleteStatements.{tree_opens, body_complete}
+use Rattle.mpd_laws.proofs.SoundScript.{in_version}
 
 -- the input with other tokens next and other declarations
 abbrev pub has : List Spot → List Declared → Input → Input
@@ -152,9 +153,16 @@ all_decls ss rest es i w h a b =
 
 -- ---- the header
 
-pub version_has : (s : Spot) (n : ℕ) (rest : List Spot) (ds : List Declared) (i : Input) → s.token ≡ Number (pos n) → n ≡ 1 → version (has (s ∷ rest) ds i) ≡ Ok (tt, has rest ds i)
+version_fits : (n : ℕ) → 1 ≤ n → n ≤ LANGUAGE_MAX → version_in (pos n) ≡ Some n
+version_fits n a b =
+    let p : nat_le 1 n ≡ true = grind (arith, nat_tests) in
+    let q : nat_le n LANGUAGE_MAX ≡ true = grind (arith, nat_tests) in
+    rw (p, q) refl
+
+pub version_has : (s : Spot) (n : ℕ) (rest : List Spot) (ds : List Declared) (i : Input) → s.token ≡ Number (pos n) → 1 ≤ n → n ≤ LANGUAGE_MAX
+    → version (has (s ∷ rest) ds i) ≡ Ok (tt, has rest ds (in_version n i))
 unfolding version token advanced
-version_has s n rest ds i e one = ap (λ u. version_by u (has (s ∷ rest) ds i)) (e ∙ ap (λ k. Number (pos k)) one)
+version_has s n rest ds i e a b = ap (λ u. version_by u (has (s ∷ rest) ds i)) e ∙ ap (λ o. version_of o (has (s ∷ rest) ds i)) (version_fits n a b)
 
 count_fits : (n : ℕ) → 1 ≤ n → n ≤ RANKS_MAX → rank_count (pos n) ≡ Some n
 count_fits n a b =
@@ -171,18 +179,19 @@ unfolding ranks token
 ranks_has s n rest ds i e a b = ap (λ u. ranks_by u (has (s ∷ rest) ds i)) e ∙ ranks_by_has s n rest ds i (count_fits n a b)
 
 header_has : (mpd v a r c b : Spot) (ss rest : List Spot) (version count : ℕ) (es : List Declared) (i : Input)
-    → mpd.token ≡ Is m.Mpd → v.token ≡ Number (pos version) → version ≡ 1 → a.token ≡ Is m.Semicolon → r.token ≡ Is m.Ranks → c.token ≡ Number (pos count) → 1 ≤ count → count ≤ RANKS_MAX
+    → mpd.token ≡ Is m.Mpd → v.token ≡ Number (pos version) → 1 ≤ version → version ≤ LANGUAGE_MAX → a.token ≡ Is m.Semicolon → r.token ≡ Is m.Ranks → c.token ≡ Number (pos count) → 1 ≤ count → count ≤ RANKS_MAX
     → b.token ≡ Is m.Semicolon → WrittenDecls [] ss es → declares (token_of rest) ≡ None → variables_in es ≤ CELLS_MAX → handles_in es ≤ HANDLES_MAX
-    → header (has (mpd ∷ v ∷ a ∷ r ∷ c ∷ b ∷ (ss ++ rest)) [] i) ≡ Ok (count, has rest es i)
+    → header (has (mpd ∷ v ∷ a ∷ r ∷ c ∷ b ∷ (ss ++ rest)) [] i) ≡ Ok (count, has rest es (in_version version i))
 unfolding header
-header_has mpd v a r c b ss rest version count es i hm hv one ha hr hc low high hb w h x y =
+header_has mpd v a r c b ss rest version count es i hm hv first last ha hr hc low high hb w h x y =
+    let k : Input = in_version version i in
     bind_to _ _ _ _ (expect_has m.Mpd mpd (v ∷ a ∷ r ∷ c ∷ b ∷ (ss ++ rest)) [] i hm)
-    (bind_to _ _ _ _ (version_has v version (a ∷ r ∷ c ∷ b ∷ (ss ++ rest)) [] i hv one)
-    (bind_to _ _ _ _ (expect_has m.Semicolon a (r ∷ c ∷ b ∷ (ss ++ rest)) [] i ha)
-    (bind_to _ _ _ _ (expect_has m.Ranks r (c ∷ b ∷ (ss ++ rest)) [] i hr)
-    (bind_to _ _ _ _ (ranks_has c count (b ∷ (ss ++ rest)) [] i hc low high)
-    (bind_to _ _ _ _ (expect_has m.Semicolon b (ss ++ rest) [] i hb)
-    (bind_to _ _ _ _ (all_decls ss rest es i w h x y) refl))))))
+    (bind_to _ _ _ _ (version_has v version (a ∷ r ∷ c ∷ b ∷ (ss ++ rest)) [] i hv first last)
+    (bind_to _ _ _ _ (expect_has m.Semicolon a (r ∷ c ∷ b ∷ (ss ++ rest)) [] k ha)
+    (bind_to _ _ _ _ (expect_has m.Ranks r (c ∷ b ∷ (ss ++ rest)) [] k hr)
+    (bind_to _ _ _ _ (ranks_has c count (b ∷ (ss ++ rest)) [] k hc low high)
+    (bind_to _ _ _ _ (expect_has m.Semicolon b (ss ++ rest) [] k hb)
+    (bind_to _ _ _ _ (all_decls ss rest es k w h x y) refl))))))
 
 -- ---- the body
 
@@ -193,29 +202,26 @@ pub body_is_no_decl : (ds : List Declared) (ss : List Spot) (ts : List Tree) (ls
 body_is_no_decl ds _ _ _ ended = refl
 body_is_no_decl ds _ _ _ (follows ss rs t ts ls ms v w) = tree_is_no_decl ds ss t ls v rs
 
-whole_body : (ss : List Spot) (ds : List Declared) (ts : List Tree) (ls : List ℕ) (i : Input) → i.lines ≡ [] → (w : WrittenBody ds ss ts ls) → blocks_in (block_of ts) ≤ BLOCKS_MAX
+whole_body : (ss : List Spot) (ds : List Declared) (ts : List Tree) (ls : List ℕ) (i : Input) → i.lines ≡ [] → (w : WrittenBody ds ss ts ls) → IsBlockOf i.version (block_of ts) → blocks_in (block_of ts) ≤ BLOCKS_MAX
     → dearest_body ds ss ts ls w ≤ NESTING_MAX → length ls ≤ STATEMENTS_MAX → Gives (body (block BLOCKS_MAX) false (has ss ds i)) ts [] ls (has ss ds i)
-whole_body ss ds ts ls i none_yet w deep dear few =
+whole_body ss ds ts ls i none_yet w known deep dear few =
     let same : i.lines ++ ls ≡ ls = ap (λ r. r ++ ls) none_yet in
     let few' : length i.lines + length ls ≤ STATEMENTS_MAX = omega (arith, ap length none_yet) in
-    rw same at (body_complete BLOCKS_MAX false ss [] ts ls (has ss ds i) w (sym (append-nil ss)) refl deep dear few')
+    rw same at (body_complete BLOCKS_MAX false ss [] ts ls (has ss ds i) w (sym (append-nil ss)) refl known deep dear few')
 
 -- ---- scripts
 
-pub with_version : (p : Program) (n : ℕ) → p.version ≡ n → record { version = n; ranks = p.ranks; decls = p.decls; body = p.body; lines = p.lines } ≡ p
-with_version p n e = ap (λ k. record { version = k; ranks = p.ranks; decls = p.decls; body = p.body; lines = p.lines }) (sym e)
-
-script_has : (ss rs : List Spot) (p : Program) (i : Input) → p.version ≡ 1 → header (has ss [] i) ≡ Ok (p.ranks, has rs p.decls i)
-    → Gives (body (block BLOCKS_MAX) false (has rs p.decls i)) p.body [] p.lines (has rs p.decls i) → read_of (grammar.script (has ss [] i)) ≡ Ok p
+script_has : (ss rs : List Spot) (p : Program) (i : Input) → header (has ss [] i) ≡ Ok (p.ranks, has rs p.decls (in_version p.version i))
+    → Gives (body (block BLOCKS_MAX) false (has rs p.decls (in_version p.version i))) p.body [] p.lines (has rs p.decls (in_version p.version i)) → read_of (grammar.script (has ss [] i)) ≡ Ok p
 unfolding grammar.script
-script_has ss rs p i one h g = ap read_of (bind_to _ _ _ _ h (bind_to _ _ _ _ g.is refl)) ∙ ap Ok (with_version p 1 one)
+script_has ss rs p i h g = ap read_of (bind_to _ _ _ _ h (bind_to _ _ _ _ g.is refl))
 
 script_read : (ss : List Spot) (p : Program) (i : Input) → i.lines ≡ [] → IsLegal p → blocks_in (block_of p.body) ≤ BLOCKS_MAX → (w : WrittenScript ss p) → dearest_script ss p w ≤ NESTING_MAX
     → read_of (grammar.script (has ss [] i)) ≡ Ok p
 script_read _ _ i none_yet l deep (script mpd v a r c b ss rs p hm hv ha hr hc hb ds w) dear =
-    script_has (mpd ∷ v ∷ a ∷ r ∷ c ∷ b ∷ (ss ++ rs)) rs p i l.version
-    (header_has mpd v a r c b ss rs p.version p.ranks p.decls i hm hv l.version ha hr hc l.some_rank l.ranks hb ds (body_is_no_decl p.decls rs p.body p.lines w) l.variables l.handles)
-    (whole_body rs p.decls p.body p.lines i none_yet w deep dear (omega arith))
+    script_has (mpd ∷ v ∷ a ∷ r ∷ c ∷ b ∷ (ss ++ rs)) rs p i
+    (header_has mpd v a r c b ss rs p.version p.ranks p.decls i hm hv l.some_version l.version ha hr hc l.some_rank l.ranks hb ds (body_is_no_decl p.decls rs p.body p.lines w) l.variables l.handles)
+    (whole_body rs p.decls p.body p.lines (in_version p.version i) none_yet w l.body deep dear (omega arith))
 
 pub reading_complete : (text : List ℕ) (p : Program) (w : WrittenScript (tokens text) p) → length text ≤ SCRIPT_MAX → prefix_len is_text text ≡ length text → IsLegal p
     → blocks_in (block_of p.body) ≤ BLOCKS_MAX → dearest_script (tokens text) p w ≤ NESTING_MAX → reading text ≡ Ok p

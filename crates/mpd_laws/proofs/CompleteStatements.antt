@@ -1,5 +1,6 @@
 -- What is written as statements, within the limits, is read.
-use Rattle.std.proofs.Common.{◌≡◌, ℕ, zero, suc, ◌+◌, ◌-◌, ◌<◌, ◌≤◌, Bool, true, false, None, Some, List, [], ◌∷◌, ◌++◌, length, length-append, append-nil, Ok, refl, ap, sym, subst, ◌∙◌, append_assoc, arith}
+use Rattle.std.proofs.Common.{◌≡◌, ℕ, zero, suc, ◌+◌, ◌-◌, ◌<◌, ◌≤◌, Bool, true, false, nat_le, None, Some, List, [], ◌∷◌, ◌++◌, length, length-append, append-nil, Ok, refl, ap, sym, subst, ◌∙◌, append_assoc, arith}
+use Rattle.std.proofs.lemmas.Bool.Decides.{nat_tests}
 use Rattle.mpd_model.specs.declared.limits.TheConstants.{NESTING_MAX, STATEMENTS_MAX}
 use Rattle.mpd_model.specs.declared.place.DeclKind.{DeclKind}
 use Rattle.mpd_model.specs.declared.place.DeclKind.TheVariants.{Variable}
@@ -12,9 +13,10 @@ use Rattle.mpd_model.specs.declared.token.Token.{Token}
 use Rattle.mpd_model.specs.declared.token.Token.TheVariants.{Name, Is, End}
 use Rattle.mpd_model.specs.Declaration.{Declared}
 use Rattle.mpd_model.specs.Costs.{cost, Stops, on, Gives, blocks, blocks_in, dearest_part, dearest, dearest_block, dearest_body}
-use Rattle.mpd_model.specs.Grammar.{begin_statement, closes, declares, place_of_slot, index_outside, fill, Form, form_of, behind_word, by_form, HasForm, all_formed, assignment, otherwise, if_statement, while_statement, stmt_by, stmt, stmts, body, block}
+use Rattle.mpd_model.specs.Grammar.{begin_statement, closes, declares, place_of_slot, index_outside, fill, Form, form_of, behind_word, by_form, HasForm, all_formed, waitany_form, since, assignment, otherwise, if_statement, while_statement, stmt_by, stmt, stmts, body, block}
 use Rattle.mpd_model.specs.Input.{Input, Outcome, Parser, and_then, token, token_of, advanced, slot_in, sees, is_mark, same_mark, first_line, after}
 use Rattle.mpd_model.specs.Parts.{Part, of_mark, of_target, parts_of, mark_hole, term_hole, Contents, filled}
+use Rattle.mpd_model.specs.Program.{first_version, IsTreeOf, IsBlockOf}
 use Rattle.mpd_model.specs.Term.{Term, Target}
 use Rattle.mpd_model.specs.Tokens.{Spot}
 use Rattle.mpd_model.specs.Tree.{Tree, simple, branch, repeat, no_more, block_of}
@@ -27,12 +29,12 @@ use Rattle.mpd_laws.proofs.Turns.{some_token}
 
 -- a statement by its first token, and what follows that
 begins_read : (B : Parser (List Tree)) (q : Parser Tree) (k : Spot) (ss rest : List Spot) (t : Tree) (ls ms : List ℕ) (b : ℕ) (tk : Token) (i : Input)
-    → k.token ≡ tk → stmt_by B tk ≡ (λ x. and_then (begin_statement x) (λ u. q)) → length ls < STATEMENTS_MAX
+    → k.token ≡ tk → stmt_by B tk (on (k ∷ ss) ls b i) ≡ and_then (begin_statement (on (k ∷ ss) ls b i)) (λ u. q) → length ls < STATEMENTS_MAX
     → Gives (q (on ss (ls ++ k.line ∷ []) b i)) t rest ms i → Gives (stmt B (on (k ∷ ss) ls b i)) t rest ms i
 unfolding stmt token
 begins_read B q k ss rest t ls ms b tk i e s few g = record {
   left = g.left;
-  is = ap (λ u. stmt_by B u (on (k ∷ ss) ls b i)) e ∙ ap (λ f. f (on (k ∷ ss) ls b i)) s ∙ bind_to _ _ _ _ (begin_statement_on k ss ls b i few) g.is;
+  is = ap (λ u. stmt_by B u (on (k ∷ ss) ls b i)) e ∙ s ∙ bind_to _ _ _ _ (begin_statement_on k ss ls b i few) g.is;
 }
 
 -- an assignment by its name, which is sought before the statement is counted
@@ -94,20 +96,32 @@ same_gives : {A : Type 0} (p : Parser A) (a : A) (ss us rest : List Spot) (ls ms
 same_gives p a ss us rest ls ms ns b i d e g = rw (d, ← e) g
 
 -- a statement by its word
-form_reads : (i : Input) (n : ℕ) (f : Form) (c : Contents f.holes) (ss : List Spot) (end : Spot) → ((B : Parser (List Tree)) → stmt_by B (Is f.word) ≡ by_form (Some f))
+form_reads : (i : Input) (n : ℕ) (f : Form) (c : Contents f.holes) (ss : List Spot) (end : Spot)
+    → ((us : List Spot) (ls : List ℕ) (b : ℕ) → stmt_by (block n) (Is f.word) (on us ls b i) ≡ by_form (Some f) (on us ls b i))
     → (w : WrittenParts i.decls ss (of_mark f.word ∷ filled f.holes c)) → dearest_part i.decls ss (of_mark f.word ∷ filled f.holes c) w ≤ NESTING_MAX → end.token ≡ Is m.Semicolon
     → TreeReads i n (ss ++ end ∷ []) (simple (f.made c)) (first_line ss ∷ [])
 form_reads i n f c _ end by (then_part _ rs _ _ (by_mark s _ h) w) le he b ls rest few last =
     same_gives (stmt (block n)) (simple (f.made c)) _ (s ∷ (rs ++ (end ∷ rest))) rest ls _ _ b i (simp append_assoc) refl
-    (begins_read (block n) (behind_word f) s (rs ++ (end ∷ rest)) rest (simple (f.made c)) ls _ b (Is f.word) i h (by (block n)) (omega arith)
+    (begins_read (block n) (behind_word f) s (rs ++ (end ∷ rest)) rest (simple (f.made c)) ls _ b (Is f.word) i h (by (s ∷ (rs ++ (end ∷ rest))) ls b) (omega arith)
     (fill_on f.holes (λ d. simple (f.made d)) c rs end rest (ls ++ s.line ∷ []) b i f.clear w (omega arith) he))
 
--- where a word has a form, that reads the statement
-pub stmt_by_form : (B : Parser (List Tree)) (k : Mark) (f : Form) → form_of k ≡ Some f → stmt_by B (Is k) ≡ by_form (Some f)
-stmt_by_form B m.If f h = absurd (cc)
-stmt_by_form B m.While f h = absurd (cc)
-stmt_by_form B m.Waitany f h = absurd (cc)
-stmt_by_form B k f h = ap by_form h
+-- in a text of its version, or of a newer one, a statement is read as it is
+since_is : (version : ℕ) (p : Parser Tree) (i : Input) → version ≤ i.version → since version p i ≡ p i
+since_is version p i h = let known : nat_le version i.version ≡ true = grind (arith, nat_tests) in rw known refl
+
+-- a waitany is read where the text's version has what its form makes
+abbrev ReadsWaitany : Form → Type 0
+ReadsWaitany f = (c : Contents f.holes) (i : Input) → first_version (f.made c) ≤ i.version → since 2 (by_form (Some waitany_form)) i ≡ by_form (Some f) i
+
+waitany_read : (f : Form) → waitany_form ≡ f → ReadsWaitany f
+waitany_read f e = subst ReadsWaitany e (λ c i v. since_is 2 (by_form (Some waitany_form)) i v)
+
+-- where a word has a form, that reads the statement, where the text's version has it
+pub stmt_by_form : (B : Parser (List Tree)) (k : Mark) (f : Form) (c : Contents f.holes) (i : Input) → form_of k ≡ Some f → first_version (f.made c) ≤ i.version → stmt_by B (Is k) i ≡ by_form (Some f) i
+stmt_by_form B m.If f c i h v = absurd (cc)
+stmt_by_form B m.While f c i h v = absurd (cc)
+stmt_by_form B m.Waitany f c i h v = waitany_read f (cc) c i v
+stmt_by_form B k f c i h v = ap (λ o. by_form o i) h
 
 behind_place_read : (slot : Slot) (xs us rest : List Spot) (t : Target) (e : Term) (ls : List ℕ) (b : ℕ) (i : Input) → Gives (index_outside (place_of_slot slot) slot.size (on xs ls b i)) t us ls i
     → ((c : ℕ) → Gives (fill (mark_hole m.Assign ∷ term_hole ∷ []) (λ c. simple (st.Assign (record { into = t; value = c.0 }))) (on us ls c i)) (simple (st.Assign (record { into = t; value = e }))) rest ls i)
@@ -145,15 +159,16 @@ SimpleReads i n s = (ss : List Spot) (end : Spot) → (w : WrittenParts i.decls 
 abbrev PartsRead : Input → ℕ → Tree → List Part → Type 0
 PartsRead i n t ps = (ss : List Spot) (end : Spot) → (w : WrittenParts i.decls ss ps) → dearest_part i.decls ss ps w ≤ NESTING_MAX → end.token ≡ Is m.Semicolon → TreeReads i n (ss ++ end ∷ []) t (first_line ss ∷ [])
 
-formed_reads : (i : Input) (n : ℕ) (s : Simple) → HasForm s → SimpleReads i n s
-formed_reads i n s x =
+formed_reads : (i : Input) (n : ℕ) (s : Simple) → first_version s ≤ i.version → HasForm s → SimpleReads i n s
+formed_reads i n s v x =
+    let known : first_version (x.form.made x.contents) ≤ i.version = subst (λ s. first_version s ≤ i.version) (sym x.is) v in
     let formed : PartsRead i n (simple (x.form.made x.contents)) (of_mark x.form.word ∷ filled x.form.holes x.contents) =
-    λ ss end w le he. form_reads i n x.form x.contents ss end (λ B. stmt_by_form B x.form.word x.form x.found) w le he in
+    λ ss end w le he. form_reads i n x.form x.contents ss end (λ us ls b. stmt_by_form (block n) x.form.word x.form x.contents (on us ls b i) x.found known) w le he in
     subst (SimpleReads i n) x.is (subst (PartsRead i n (simple (x.form.made x.contents))) (sym (x.form.parts x.contents)) formed)
 
-simple_reads : (i : Input) (n : ℕ) (s : Simple) → SimpleReads i n s
-simple_reads i n (st.Assign s) = assigns_reads i n s.into s.value
-simple_reads i n s = formed_reads i n s (all_formed s)
+simple_reads : (i : Input) (n : ℕ) (s : Simple) → first_version s ≤ i.version → SimpleReads i n s
+simple_reads i n (st.Assign s) v = assigns_reads i n s.into s.value
+simple_reads i n s v = formed_reads i n s v (all_formed s)
 
 repeats_reads : (i : Input) (n : ℕ) (k : Spot) (e a : List Spot) (t : Term) (x : List Tree) (ms : List ℕ)
     → k.token ≡ Is m.While → WrittenTerm i.decls 5 e t → cost e ≤ NESTING_MAX → ((r : List Spot) → Stops 5 (a ++ r)) → BlockReads i n a x ms
@@ -351,49 +366,49 @@ abbrev under : List Declared → Input → Input
 under ds i = record i { decls = ds }
 
 mutual
-  tree_read : (ds : List Declared) (i : Input) (ss : List Spot) (t : Tree) (ls : List ℕ) (w : WrittenTree ds ss t ls) (n : ℕ) → blocks t ≤ n → dearest ds ss t ls w ≤ NESTING_MAX → TreeReads (under ds i) n ss t ls
-  tree_read ds i _ _ _ (simply ss end s w h) n deep dear = simple_reads (under ds i) n s ss end w dear h
-  tree_read ds i _ _ _ (repeats k e a t x ms hk w f) n deep dear =
-      repeats_reads (under ds i) n k e a t x ms hk w (omega arith) (block_stops ds a x ms f) (block_read ds i a x ms f n (omega arith) (omega arith))
-  tree_read ds i _ _ _ (chooses k e a t x ms hk w f) n deep dear =
-      chooses_reads (under ds i) n k e a t x ms hk w (omega arith) (block_stops ds a x ms f) (block_read ds i a x ms f n (omega arith) (omega arith))
-  tree_read ds i _ _ _ (chooses_else k o e a z t x y ms ns hk w f ho g) n deep dear =
-      chooses_else_reads (under ds i) n k o e a z t x y ms ns hk w (omega arith) (block_stops ds a x ms f) (block_read ds i a x ms f n (omega arith) (omega arith)) ho
-      (block_read ds i z y ns g n (omega arith) (omega arith))
+  tree_read : (ds : List Declared) (i : Input) (ss : List Spot) (t : Tree) (ls : List ℕ) (w : WrittenTree ds ss t ls) (n : ℕ) → IsTreeOf i.version t → blocks t ≤ n → dearest ds ss t ls w ≤ NESTING_MAX → TreeReads (under ds i) n ss t ls
+  tree_read ds i _ _ _ (simply ss end s w h) n known deep dear = simple_reads (under ds i) n s known ss end w dear h
+  tree_read ds i _ _ _ (repeats k e a t x ms hk w f) n known deep dear =
+      repeats_reads (under ds i) n k e a t x ms hk w (omega arith) (block_stops ds a x ms f) (block_read ds i a x ms f n known (omega arith) (omega arith))
+  tree_read ds i _ _ _ (chooses k e a t x ms hk w f) n known deep dear =
+      chooses_reads (under ds i) n k e a t x ms hk w (omega arith) (block_stops ds a x ms f) (block_read ds i a x ms f n known.0 (omega arith) (omega arith))
+  tree_read ds i _ _ _ (chooses_else k o e a z t x y ms ns hk w f ho g) n known deep dear =
+      chooses_else_reads (under ds i) n k o e a z t x y ms ns hk w (omega arith) (block_stops ds a x ms f) (block_read ds i a x ms f n known.0 (omega arith) (omega arith)) ho
+      (block_read ds i z y ns g n known.1 (omega arith) (omega arith))
 
-  block_read : (ds : List Declared) (i : Input) (ss : List Spot) (ts : List Tree) (ls : List ℕ) (w : WrittenBlock ds ss ts ls) (n : ℕ) → blocks_in (block_of ts) < n
+  block_read : (ds : List Declared) (i : Input) (ss : List Spot) (ts : List Tree) (ls : List ℕ) (w : WrittenBlock ds ss ts ls) (n : ℕ) → IsBlockOf i.version (block_of ts) → blocks_in (block_of ts) < n
       → dearest_block ds ss ts ls w ≤ NESTING_MAX → BlockReads (under ds i) n ss ts ls
-  block_read ds i _ _ _ (braces a z ss ts ms ha w hz) n deep dear =
-      braces_reads (under ds i) n (n - 1) a z ss ts ms (omega arith) ha hz (body_read ds i ss ts ms w (n - 1) (omega arith) dear)
+  block_read ds i _ _ _ (braces a z ss ts ms ha w hz) n known deep dear =
+      braces_reads (under ds i) n (n - 1) a z ss ts ms (omega arith) ha hz (body_read ds i ss ts ms w (n - 1) known (omega arith) dear)
 
-  body_read : (ds : List Declared) (i : Input) (ss : List Spot) (ts : List Tree) (ls : List ℕ) (w : WrittenBody ds ss ts ls) (n : ℕ) → blocks_in (block_of ts) ≤ n
+  body_read : (ds : List Declared) (i : Input) (ss : List Spot) (ts : List Tree) (ls : List ℕ) (w : WrittenBody ds ss ts ls) (n : ℕ) → IsBlockOf i.version (block_of ts) → blocks_in (block_of ts) ≤ n
       → dearest_body ds ss ts ls w ≤ NESTING_MAX → BodyReads (under ds i) n ss ts ls
-  body_read ds i _ _ _ ended n deep dear = ended_reads (under ds i) n
-  body_read ds i _ _ _ (follows ss rs t ts ls ms v w) n deep dear =
+  body_read ds i _ _ _ ended n known deep dear = ended_reads (under ds i) n
+  body_read ds i _ _ _ (follows ss rs t ts ls ms v w) n known deep dear =
       follows_reads (under ds i) n ss rs t ts ls ms (tree_opens ds ss t ls v) (some_token ds ss t ls v) (body_other ds rs ts ms w)
-      (tree_read ds i ss t ls v n (omega arith) (omega arith)) (body_read ds i rs ts ms w n (omega arith) (omega arith))
+      (tree_read ds i ss t ls v n known.0 (omega arith) (omega arith)) (body_read ds i rs ts ms w n known.1 (omega arith) (omega arith))
 
 -- ---- at an input as it is
 
 pub tree_complete : (depth : ℕ) (ss rest : List Spot) (t : Tree) (ls : List ℕ) (i : Input) (w : WrittenTree i.decls ss t ls)
-    → i.tokens ≡ ss ++ rest → is_mark m.Else (token_of rest) ≡ false → blocks t ≤ depth → dearest i.decls ss t ls w ≤ NESTING_MAX → length i.lines + length ls ≤ STATEMENTS_MAX
+    → i.tokens ≡ ss ++ rest → is_mark m.Else (token_of rest) ≡ false → IsTreeOf i.version t → blocks t ≤ depth → dearest i.decls ss t ls w ≤ NESTING_MAX → length i.lines + length ls ≤ STATEMENTS_MAX
     → Gives (stmt (block depth) i) t rest (i.lines ++ ls) i
-tree_complete depth ss rest t ls i w e last deep dear few =
-    let g = tree_read i.decls i ss t ls w depth deep dear i.budget i.lines rest few last in
+tree_complete depth ss rest t ls i w e last known deep dear few =
+    let g = tree_read i.decls i ss t ls w depth known deep dear i.budget i.lines rest few last in
     record { left = g.left; is = ap (λ us. stmt (block depth) (on us i.lines i.budget i)) e ∙ g.is }
 
 pub block_complete : (depth : ℕ) (ss rest : List Spot) (ts : List Tree) (ls : List ℕ) (i : Input) (w : WrittenBlock i.decls ss ts ls)
-    → i.tokens ≡ ss ++ rest → blocks_in (block_of ts) < depth → dearest_block i.decls ss ts ls w ≤ NESTING_MAX → length i.lines + length ls ≤ STATEMENTS_MAX
+    → i.tokens ≡ ss ++ rest → IsBlockOf i.version (block_of ts) → blocks_in (block_of ts) < depth → dearest_block i.decls ss ts ls w ≤ NESTING_MAX → length i.lines + length ls ≤ STATEMENTS_MAX
     → Gives (block depth i) ts rest (i.lines ++ ls) i
-block_complete depth ss rest ts ls i w e deep dear few =
-    let g = block_read i.decls i ss ts ls w depth deep dear i.budget i.lines rest few in
+block_complete depth ss rest ts ls i w e known deep dear few =
+    let g = block_read i.decls i ss ts ls w depth known deep dear i.budget i.lines rest few in
     record { left = g.left; is = ap (λ us. block depth (on us i.lines i.budget i)) e ∙ g.is }
 
 pub body_complete : (depth : ℕ) (inside : Bool) (ss rest : List Spot) (ts : List Tree) (ls : List ℕ) (i : Input) (w : WrittenBody i.decls ss ts ls)
-    → i.tokens ≡ ss ++ rest → closes inside (token_of rest) ≡ true → blocks_in (block_of ts) ≤ depth → dearest_body i.decls ss ts ls w ≤ NESTING_MAX → length i.lines + length ls ≤ STATEMENTS_MAX
+    → i.tokens ≡ ss ++ rest → closes inside (token_of rest) ≡ true → IsBlockOf i.version (block_of ts) → blocks_in (block_of ts) ≤ depth → dearest_body i.decls ss ts ls w ≤ NESTING_MAX → length i.lines + length ls ≤ STATEMENTS_MAX
     → Gives (body (block depth) inside i) ts rest (i.lines ++ ls) i
-body_complete depth inside ss rest ts ls i w e h deep dear few =
+body_complete depth inside ss rest ts ls i w e h known deep dear few =
     let turns : length ss < length (ss ++ rest) + 1 = omega (arith, length-append ss rest) in
     let g = body_gives (block depth) inside (ss ++ rest) rest ts i.lines (i.lines ++ ls) i.budget i
-    (body_read i.decls i ss ts ls w depth deep dear inside (length (ss ++ rest) + 1) [] i.budget i.lines rest few h turns) in
+    (body_read i.decls i ss ts ls w depth known deep dear inside (length (ss ++ rest) + 1) [] i.budget i.lines rest few h turns) in
     record { left = g.left; is = ap (λ us. body (block depth) inside (on us i.lines i.budget i)) e ∙ g.is }

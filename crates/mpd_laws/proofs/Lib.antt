@@ -5,7 +5,7 @@ pub mod Eligible
 mod Ends
 mod EnoughBlocks
 mod GoodSpots
-mod LocalActivity
+pub mod LocalActivity
 mod Marks
 mod NoMemory
 mod OrderIssues
@@ -19,6 +19,7 @@ mod PrintableStatements
 mod PrintableTerms
 mod ReadCosts
 mod ReadTrees
+mod ReadVersions
 mod Releases
 mod Runs
 mod SendsDone

@@ -1,7 +1,6 @@
 -- No fault of a text is want of memory.
-use Rattle.std.proofs.Common.{◌≡◌, ◌≢◌, ℕ, zero, suc, ◌+◌, pos, ◌==◌, nat_lt, Bool, true, false, cond, List, [], ◌∷◌, ◌++◌, length, Option, Some, None, Result, Ok, Err}
+use Rattle.std.proofs.Common.{◌≡◌, ◌≢◌, ℕ, zero, suc, ◌+◌, ◌==◌, nat_lt, nat_le, Bool, true, false, cond, List, [], ◌∷◌, ◌++◌, length, Option, Some, None, Result, Ok, Err}
 use Rattle.std.specs.List.{prefix_len}
-use Rattle.std.specs.Ordering.{int_eq}
 use Rattle.mpd_model.specs.declared.limits.TheConstants.{NESTING_MAX, STATEMENTS_MAX}
 use Rattle.mpd_model.specs.declared.expr.BinaryOp.{BinaryOp}
 use Rattle.mpd_model.specs.declared.expr.UnaryOp.{UnaryOp}
@@ -16,13 +15,13 @@ use Rattle.mpd_model.specs.declared.token.Mark.{Mark}
 use Rattle.mpd_model.specs.declared.token.Mark.TheVariants as m
 use Rattle.mpd_model.specs.declared.token.Token.{Token}
 use Rattle.mpd_model.specs.declared.token.Token.TheVariants.{Number, Name, Is, Bad}
-use Rattle.mpd_model.specs.Grammar.{atom_by, atom, bracket, index_inside, place_inside, place_of_slot, rounds, unary, chain, chain_by, level, expr, turns, operator_at, expression, begin_statement, closes, index_outside, target, statement_place_by, statement_place, source_by, source, status_by, status, fill, Form, form_of, by_form, assignment, otherwise, if_statement, while_statement, stmt_by, stmt, stmts, body, block, max_blocks, version_by, version, rank_count, ranks_of, ranks_by, ranks, natural, array_size_at, array_size_by, array_size, single, declarator, decl_by, decl, declares, decls_by, decls_from, decls, header, max_text, is_text, read_of, reading}
+use Rattle.mpd_model.specs.Grammar.{atom_by, atom, bracket, index_inside, place_inside, place_of_slot, rounds, unary, chain, chain_by, level, expr, turns, operator_at, expression, begin_statement, closes, index_outside, target, statement_place_by, statement_place, statement_name_by, statement_name, source_by, source, status_by, status, fill, Form, form_of, by_form, since, assignment, otherwise, if_statement, while_statement, stmt_by, stmt, stmts, body, block, max_blocks, version_in, version_of, version_by, version, rank_count, ranks_of, ranks_by, ranks, natural, array_size_at, array_size_by, array_size, single, declarator, decl_by, decl, declares, decls_by, decls_from, decls, header, max_text, is_text, read_of, reading}
 use Rattle.mpd_model.specs.Grammar as grammar
-use Rattle.mpd_model.specs.Input.{Input, Outcome, Parser, and_then, start_of, token, place, spelling, advanced, code_at, refusal, refuse, fail, advance, pure, expect, spend, count, seek, sought, same_kind, slot_in, fresh, is_known, add, cells_fit, sees, after, max_budget, ◌>>=◌}
+use Rattle.mpd_model.specs.Input.{Input, Outcome, Parser, and_then, start_of, token, place, spelling, advanced, code_at, refusal, refuse, fail, pure, expect, spend, count, seek, sought, same_kind, slot_in, fresh, is_known, add, cells_fit, sees, after, max_budget, ◌>>=◌}
 use Rattle.mpd_model.specs.Program.{Program}
 use Rattle.mpd_model.specs.Term.{Term, op2}
 use Rattle.mpd_model.specs.declared.stmt.Simple.TheVariants as st
-use Rattle.mpd_model.specs.Parts.{Hole, mark_hole, term_hole, target_hole, source_hole, status_hole, Contents}
+use Rattle.mpd_model.specs.Parts.{Hole, mark_hole, term_hole, target_hole, name_hole, source_hole, status_hole, Contents}
 use Rattle.mpd_model.specs.Tree.{Tree, simple}
 
 abbrev IsSure : {A : Type 0} → Result A ReadFault → Type 0
@@ -156,6 +155,14 @@ statement_place_sure : (k : DeclKind) → AllSure (statement_place k)
 unfolding statement_place
 statement_place_sure k i = statement_place_case k (token i) i
 
+statement_name_case : (k : DeclKind) (t : Token) → AllSure (statement_name_by k t)
+statement_name_case k Name i = bind_sure (seek k i) _ (seek_sure k i) (λ v x. tt)
+statement_name_case k _ i = refusal_sure i
+
+statement_name_sure : (k : DeclKind) → AllSure (statement_name k)
+unfolding statement_name
+statement_name_sure k i = statement_name_case k (token i) i
+
 source_case : (found : Bool) → AllSure (source_by found)
 source_case true i = tt
 source_case false i = bind_sure (expression i) _ (expression_sure i) (λ e x. tt)
@@ -177,6 +184,7 @@ fill_sure [] made i = bind_sure (expect m.Semicolon i) _ (expect_sure m.Semicolo
 fill_sure (mark_hole k ∷ hs) made i = bind_sure (expect k i) _ (expect_sure k i) (λ u x. fill_sure hs made x)
 fill_sure (term_hole ∷ hs) made i = bind_sure (expression i) _ (expression_sure i) (λ e x. fill_sure hs (λ c. made (e, c)) x)
 fill_sure (target_hole k ∷ hs) made i = bind_sure (statement_place k i) _ (statement_place_sure k i) (λ t x. fill_sure hs (λ c. made (t, c)) x)
+fill_sure (name_hole k ∷ hs) made i = bind_sure (statement_name k i) _ (statement_name_sure k i) (λ p x. fill_sure hs (λ c. made (p, c)) x)
 fill_sure (source_hole ∷ hs) made i = bind_sure (source i) _ (source_sure i) (λ o x. fill_sure hs (λ c. made (o, c)) x)
 fill_sure (status_hole ∷ hs) made i = bind_sure (status i) _ (status_sure i) (λ o x. fill_sure hs (λ c. made (o, c)) x)
 
@@ -186,6 +194,9 @@ begin_statement_sure i = bind_sure (count i) _ (count_sure i) (λ u x. tt)
 form_sure : (o : Option Form) → AllSure (by_form o)
 form_sure None i = refusal_sure i
 form_sure (Some f) i = bind_sure (begin_statement i) _ (begin_statement_sure i) (λ u x. fill_sure f.holes (λ c. simple (f.made c)) x)
+
+since_sure : (version : ℕ) (p : Parser Tree) → AllSure p → AllSure (since version p)
+since_sure version p s i = cond_sure (nat_le version i.version) _ _ (s i) (bind_sure (count i) (λ u. fail NotInVersion) (count_sure i) (λ u x e. absurd (cc)))
 
 assignment_sure : (slot : Slot) → AllSure (assignment slot)
 unfolding assignment
@@ -210,7 +221,7 @@ stmt_case : (p : Parser (List Tree)) → AllSure p → (t : Token) → AllSure (
 stmt_case p s Name i = bind_sure (seek Variable i) _ (seek_sure Variable i) (λ v x. bind_sure (begin_statement x) _ (begin_statement_sure x) (λ u y. assignment_sure v y))
 stmt_case p s (Is m.While) i = bind_sure (begin_statement i) _ (begin_statement_sure i) (λ u x. while_statement_sure p s x)
 stmt_case p s (Is m.If) i = bind_sure (begin_statement i) _ (begin_statement_sure i) (λ u x. if_statement_sure p s x)
-stmt_case p s (Is m.Waitany) i = bind_sure (count i) (λ u. fail NotInVersion) (count_sure i) (λ u x e. absurd (cc))
+stmt_case p s (Is m.Waitany) i = since_sure 2 (by_form (form_of m.Waitany)) (form_sure (form_of m.Waitany)) i
 stmt_case p s (Is k) i = form_sure (form_of k) i
 stmt_case p s _ i = refusal_sure i
 
@@ -238,8 +249,12 @@ block_sure (suc n) i =
 
 -- ---- the whole text
 
+version_of_sure : (o : Option ℕ) → AllSure (version_of o)
+version_of_sure (Some n) i = tt
+version_of_sure None i = λ e. absurd (cc)
+
 version_case : (t : Token) → AllSure (version_by t)
-version_case (Number n) i = either_sure (int_eq n (pos 1)) advance (fail NotInVersion) i tt (λ e. absurd (cc))
+version_case (Number n) i = version_of_sure (version_in n) i
 version_case _ i = refusal_sure i
 
 version_sure : AllSure version

@@ -7,12 +7,12 @@ use Rattle.std.specs.Cmp.Derive.{both_true}
 use Rattle.std.specs.Option.{option_map}
 use Rattle.mpd_model.specs.declared.step.CallId.{CallId}
 use Rattle.mpd_model.specs.declared.call.CallKind.{CallKind}
-use Rattle.mpd_model.specs.declared.call.CallKind.TheVariants.{Wait}
+use Rattle.mpd_model.specs.declared.call.CallKind.TheVariants.{Wait, Waitany, Barrier}
 use Rattle.mpd_model.specs.declared.call.MatchSet.{MatchSet}
 use Rattle.mpd_model.specs.declared.call.MatchSet.TheVariants.{Pair, Woke}
 use Rattle.mpd_model.specs.declared.call.MatchSet.TheVariants as set
-use Rattle.mpd_model.specs.World.{World, Board, RankWorld, call_id, id_eq, calls_of, kind_at, partner, is_barrier, is_buffered, is_done, eligible, complete, complete_by, awaited_by, last_call}
-use Rattle.mpd_model.specs.Next.{waits, can_wake, put_at, woken_rank, wake_writes, wake_clears, woken_by, woken, with_set}
+use Rattle.mpd_model.specs.World.{World, Board, RankWorld, call_id, id_eq, calls_of, kind_at, partner, is_barrier, is_buffered, is_done, eligible, complete, complete_by, awaited_by, has_own_step, last_call}
+use Rattle.mpd_model.specs.Next.{waits, can_wake, put_at, woken_rank, wake_writes, wake_clears, woken_by, woken, request_handle, held_in, any_handle, any_writes, is_complete_some, can_wake_any, woken_any, with_set}
 use Rattle.mpd_model.specs.Order.{waits_for, is_number, barriers, releases, WentOn, Ordered}
 use Rattle.mpd_laws.proofs.Eligible.{both_of, denied, known_within}
 use Rattle.mpd_laws.proofs.Orderly.{Orderly, IsAwaited, MayJoin, mentions, is_named, held, waiting, passed, same_id, either_of, order_more, pair_may_join}
@@ -99,7 +99,12 @@ awaits_done b c i (Some (Wait t)) e f = target t.target e f
 awaits_done b c i k e f = absurd (cc)
 
 awaited_done : (b : Board) (c : CallId) → complete b c ≡ true → complete_by b (awaited_by c (kind_at b c)) ≡ true
-awaited_done b c e = (both_of (not (is_barrier (kind_at b c))) _ e).1
+awaited_done b c e = (both_of (not (has_own_step (kind_at b c))) _ e).1
+
+-- a barrier has a step of its own
+no_barrier : (k : Option CallKind) → has_own_step k ≡ false → is_barrier k ≡ false
+no_barrier (Some Barrier) e = absurd (cc)
+no_barrier k e = refl
 
 wake_may_join : (w : World) → Orderly w → (c : CallId) → complete w.board c ≡ true → MayJoin w.board (Woke c)
 wake_may_join w h c e = record {
@@ -182,5 +187,42 @@ on_keeps w p writes handle blocked other may h = record {
 pub wake_keeps : (w : World) (p : ℕ) → can_wake w p ≡ true → Orderly w → Orderly (woken w p)
 wake_keeps w p e h =
     let parts = both_of (waits (slice_get w.ranks p)) _ e in
-    let other = denied _ (both_of (not (is_barrier (kind_at w.board (last_call w.board p)))) _ parts.1).0 in
+    let other = no_barrier (kind_at w.board (last_call w.board p)) (denied _ (both_of (not (has_own_step (kind_at w.board (last_call w.board p)))) _ parts.1).0) in
     on_keeps w p (wake_writes w.board p) (wake_clears w.board p) parts.0 other (wake_may_join w h (last_call w.board p) parts.1) h
+
+-- ---- a wake by one of several requests
+
+-- what has such requests is a waitany: no barrier, and a wait for no call
+record HasRequests (k : Option CallKind) : Type 0 where
+  known : is_some k ≡ true
+  other : is_barrier k ≡ false
+  waits_for_none : (i : ℕ) → waits_for k i ≡ false
+
+has_requests : (k : Option CallKind) (i h : ℕ) → request_handle k i ≡ Some h → HasRequests k
+has_requests (Some (Waitany a)) i h e = record { known = refl; other = refl; waits_for_none = λ j. refl }
+has_requests k i h e = absurd (cc)
+
+-- a call that is there and complete has a handle
+some_handle : (b : Board) (p : ℕ) (r : Option RankWorld) (o : Option ℕ) → is_complete_some b (held_in p r o) ≡ true → (h : ℕ) × (o ≡ Some h)
+some_handle b p r (Some h) e = (h, refl)
+some_handle b p (Some r) None e = absurd (cc)
+some_handle b p None None e = absurd (cc)
+
+any_may_join : (w : World) (c : CallId) → HasRequests (kind_at w.board c) → MayJoin w.board (Woke c)
+any_may_join w c has = record {
+  named = λ d is. ap (λ (x : CallId). is_some (kind_at w.board x)) (sym (same_id c d is)) ∙ has.known;
+  paired = λ p i j s r lt is named first. absurd (cc);
+  done = λ p i j is awaits.
+      let here : c ≡ call_id p j = cc in
+      absurd (neither (waits_for (kind_at w.board c) i) (ap (λ (x : CallId). waits_for (kind_at w.board x) i) here ∙ awaits) (has.waits_for_none i));
+}
+  where
+    neither : (b : Bool) → b ≡ true → b ≡ false → ⊥
+    neither b e f = cc
+
+pub wake_any_keeps : (w : World) (p i : ℕ) → can_wake_any w p i ≡ true → Orderly w → Orderly (woken_any w p i)
+wake_any_keeps w p i e h =
+    let parts = both_of (waits (slice_get w.ranks p)) _ e in
+    let found = some_handle w.board p (slice_get w.ranks p) (any_handle w p i) parts.1 in
+    let has : HasRequests (kind_at w.board (last_call w.board p)) = has_requests (kind_at w.board (last_call w.board p)) i found.0 found.1 in
+    on_keeps w p (any_writes w p i) (any_handle w p i) parts.0 has.other (any_may_join w (last_call w.board p) has) h

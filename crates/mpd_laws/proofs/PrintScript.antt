@@ -104,12 +104,28 @@ decls_spelled before (d ∷ ds) named new few small =
 
 -- ---- the whole text
 
-data Head : List Spot → Type 0 where
-  head : (a b c d : Spot) → a.token ≡ Is m.Mpd → b.token ≡ Number (pos 1) → c.token ≡ Is m.Semicolon → d.token ≡ Is m.Ranks → Head (a ∷ b ∷ c ∷ d ∷ [])
-
-head_spelled : Spelled Any Head (codes "mpd 1;\nranks ")
+mpd_spelled : Spelled Any (IsOne (Is m.Mpd)) (codes "mpd ")
 unfolding tokens_after front sign word number
-head_spelled = fixed (codes "mpd 1;\nranks ") (λ p l z. refl) (λ p l. head _ _ _ _ refl refl refl refl) refl
+mpd_spelled = fixed (codes "mpd ") (λ p l z. refl) (λ p l. one _ refl) refl
+
+-- the end of the version, and the word before the number of ranks
+data BeforeRanks : List Spot → Type 0 where
+  before_ranks : (a b : Spot) → a.token ≡ Is m.Semicolon → b.token ≡ Is m.Ranks → BeforeRanks (a ∷ b ∷ [])
+
+ranks_spelled : Spelled Any BeforeRanks (codes ";\nranks ")
+unfolding tokens_after front sign word number
+ranks_spelled = fixed (codes ";\nranks ") (λ p l z. refl) (λ p l. before_ranks _ _ refl refl) refl
+
+-- the version and the number of ranks
+abbrev Head : Program → List Spot → Type 0
+Head p = Both (Both (Both (IsOne (Is m.Mpd)) (IsWord (Number (pos p.version)) (decimal p.version))) BeforeRanks) (IsWord (Number (pos p.ranks)) (decimal p.ranks))
+
+head_spelled : (p : Program) → IsLegal p → Spelled Ends (Head p) (codes "mpd " ++ decimal p.version ++ codes ";\nranks " ++ decimal p.ranks)
+head_spelled p l =
+    let a : List ℕ = codes "mpd " ++ decimal p.version in
+    join (a ++ codes ";\nranks ") (decimal p.ranks)
+    (join a (codes ";\nranks ") (join (codes "mpd ") (decimal p.version) mpd_spelled (decimal_spelled p.version (omega (arith, l.version))) (λ z _. tt)) ranks_spelled (λ z _. refl))
+    (decimal_spelled p.ranks (omega (arith, l.ranks))) (λ z _. tt)
 
 record ScriptSpots (p : Program) (ss : List Spot) : Type 0 where
   lines : List ℕ
@@ -117,24 +133,24 @@ record ScriptSpots (p : Program) (ss : List Spot) : Type 0 where
   cheap : dearest_script ss (record p { lines = lines }) written ≤ max_budget
   count : length lines ≡ statements_in (block_of p.body)
 
-script_spots : (p : Program) → p.version ≡ 1 → (ss : List Spot)
-    → Both (Both (Both (Both Head (IsWord (Number (pos p.ranks)) (decimal p.ranks))) (IsOne (Is m.Semicolon))) (Declares [] p.decls)) (BodySpots p.decls p.body) ss → ScriptSpots p ss
-script_spots p v _ (both _ rs (both _ ss (both _ _ (both _ _ (head a b c d h1 h2 h3 h4) (one_word n h5 e)) (one f h6)) x) y) = record {
+script_spots : (p : Program) (ss : List Spot)
+    → Both (Both (Both (Head p) (IsOne (Is m.Semicolon))) (Declares [] p.decls)) (BodySpots p.decls p.body) ss → ScriptSpots p ss
+script_spots p _ (both _ rs (both _ ss (both _ _ (both _ _ (both _ _ (both _ _ (one a h1) (one_word b h2 e)) (before_ranks c d h3 h4)) (one_word n h5 g)) (one f h6)) x) y) = record {
   lines = y.lines;
-  written = script a b c d n f ss rs (record p { lines = y.lines }) h1 (h2 ∙ ap (λ k. Number (pos k)) (sym v)) h3 h4 h5 h6 x y.written;
+  written = script a b c d n f ss rs (record p { lines = y.lines }) h1 h2 h3 h4 h5 h6 x y.written;
   cheap = y.cheap;
   count = y.count;
 }
 
 script_spelled : (p : Program) → IsPrintable p → Spelled Any (ScriptSpots p) (canonical p)
 script_spelled p h =
-    let a : List ℕ = codes "mpd 1;\nranks " ++ decimal p.ranks in
+    let a : List ℕ = codes "mpd " ++ decimal p.version ++ codes ";\nranks " ++ decimal p.ranks in
     let ds : List ℕ = flat_map decl_text p.decls in
     let body : List ℕ = block_text p.decls 0 (block_of p.body) in
-    turned (a ++ codes ";\n" ++ ds ++ body) (script_spots p h.legal.version)
+    turned (a ++ codes ";\n" ++ ds ++ body) (script_spots p)
     (join (a ++ codes ";\n" ++ ds) body
     (join (a ++ codes ";\n") ds
-    (join a (codes ";\n") (join (codes "mpd 1;\nranks ") (decimal p.ranks) head_spelled (decimal_spelled p.ranks (omega (arith, h.legal.ranks))) (λ z _. tt)) end_sign (λ z _. refl))
+    (join a (codes ";\n") (head_spelled p h.legal) end_sign (λ z _. refl))
     (decls_spelled [] p.decls h.named h.distinct h.legal.variables h.legal.handles) (λ z _. tt))
     (subst (λ ts. Spelled Any (BodySpots p.decls ts) body) (trees_of_block p.body) (block_spelled p.decls 0 (block_of p.body) h.body)) (λ z _. tt))
 
@@ -155,7 +171,9 @@ canonical_is_read read p h short =
     let same : tokens (canonical p) ≡ c.spots = ap (tokens_at 0 1) (sym (append-nil (canonical p))) ∙ c.is ∙ ap (λ ss. c.spots ++ ss) (no_tokens c.to_place c.to_line) ∙ append-nil c.spots in
     let s : ScriptSpots p (tokens (canonical p)) = subst (ScriptSpots p) (sym same) c.holds in
     let legal : IsLegal (record p { lines = s.lines }) = record {
+      some_version = h.legal.some_version;
       version = h.legal.version;
+      body = h.legal.body;
       some_rank = h.legal.some_rank;
       ranks = h.legal.ranks;
       variables = h.legal.variables;

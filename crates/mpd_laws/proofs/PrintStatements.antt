@@ -15,9 +15,9 @@ use Rattle.mpd_model.specs.Term.{Term, Target}
 use Rattle.mpd_model.specs.Tokens.{Spot, tokens_after}
 use Rattle.mpd_model.specs.declared.stmt.Simple.{Simple}
 use Rattle.mpd_model.specs.declared.token.Mark.{Mark}
-use Rattle.mpd_model.specs.Parts.{Part, of_mark, of_term, of_target, parts_of}
+use Rattle.mpd_model.specs.Parts.{Part, of_mark, of_term, of_target, of_name, parts_of}
 use Rattle.mpd_model.specs.Tree.{Tree, Block, simple, branch, repeat, no_more, then_more, block_of, trees, statements, statements_in}
-use Rattle.mpd_model.specs.Written.{WrittenTerm, WrittenTarget, whole, part, WrittenPart, by_mark, by_term, by_target, WrittenParts, no_part, then_part, WrittenTree, simply, repeats, chooses, chooses_else, braces, WrittenBody, ended, follows}
+use Rattle.mpd_model.specs.Written.{WrittenTerm, WrittenTarget, whole, part, WrittenPart, by_mark, by_term, by_target, by_name, WrittenParts, no_part, then_part, WrittenTree, simply, repeats, chooses, chooses_else, braces, WrittenBody, ended, follows}
 use Rattle.mpd_laws.proofs.Cuts.{Ends, Any, Spelled, join, turned, narrowed, fixed, blank_before, blank_behind, Both, both, IsOne, one, IsWord, one_word, IsNone, nothing}
 use Rattle.mpd_laws.proofs.Marks.{Parted, spaced, closed, parted_ends, mark_spelled}
 use Rattle.mpd_laws.proofs.PrintTerms.{TermSpots, term_spelled, name_spelled, names_of}
@@ -122,12 +122,16 @@ record PartsSpots (ds : List Declared) (ps : List Part) (ss : List Spot) : Type 
 mark_spots : (ds : List Declared) (k : Mark) (ss : List Spot) → IsOne (Is k) ss → PartSpots ds (of_mark k) ss
 mark_spots ds k _ (one s h) = record { written = by_mark s k h; cheap = omega arith }
 
+name_spots : (ds : List Declared) (kind : DeclKind) (p : Place) → IsPrintablePart ds (of_name kind p) → (ss : List Spot) → IsWord Name (name_text ds p) ss → PartSpots ds (of_name kind p) ss
+name_spots ds kind p x _ (one_word s h e) = record { written = by_name s kind x.0 p (names_of ds kind x.0 p s x.1 h e); cheap = omega arith }
+
 part_spelled : (ds : List Declared) (p : Part) → IsPrintablePart ds p → Spelled Parted (PartSpots ds p) (part_text ds p)
 part_spelled ds (of_mark k) h = turned (mark_text k) (mark_spots ds k) (mark_spelled k)
 part_spelled ds (of_term e) h =
     turned (whole_text ds e) (λ ss x. record { written = by_term ss e x.written; cheap = x.cheap }) (narrowed (whole_text ds e) parted_ends (whole_spelled ds e h))
 part_spelled ds (of_target kind t) h =
     turned (target_text ds t) (λ ss x. record { written = by_target ss kind t x.written; cheap = x.cheap }) (narrowed (target_text ds t) parted_ends (target_spelled ds kind t h))
+part_spelled ds (of_name kind p) h = turned (name_text ds p) (name_spots ds kind p h) (narrowed (name_text ds p) parted_ends (name_spelled (name_text ds p) h.1.named))
 
 none_spots : (ds : List Declared) (ss : List Spot) → IsNone ss → PartsSpots ds [] ss
 none_spots ds _ nothing = record { written = no_part; cheap = omega arith }

@@ -10,7 +10,7 @@ use Rattle.mpd_model.specs.Term.{Term, Target}
 use Rattle.mpd_model.specs.Tokens.{Spot, tokens}
 use Rattle.mpd_model.specs.Parts.{Part, parts_of}
 use Rattle.mpd_model.specs.Tree.{Tree, block_of}
-use Rattle.mpd_model.specs.Written.{WrittenTerm, WrittenTarget, whole, part, WrittenPart, by_mark, by_term, by_target, WrittenParts, no_part, then_part, WrittenTree, simply, repeats, chooses, chooses_else, WrittenBlock, braces, WrittenBody, ended, follows, declared_as, WrittenDecls, none, declares_one, declares_array, WrittenScript, script}
+use Rattle.mpd_model.specs.Written.{WrittenTerm, WrittenTarget, whole, part, WrittenPart, by_mark, by_term, by_target, by_name, WrittenParts, no_part, then_part, WrittenTree, simply, repeats, chooses, chooses_else, WrittenBlock, braces, WrittenBody, ended, follows, declared_as, WrittenDecls, none, declares_one, declares_array, WrittenScript, script}
 use Rattle.mpd_laws.proofs.GoodSpots.{AllGood, good_left, good_right, tokens_good}
 use Rattle.mpd_laws.proofs.PrintableTerms.{term_printable, has_name}
 use Rattle.mpd_laws.proofs.ReadTrees.{IsCheap, IsCheapIndex, IsCheapPart, AreCheap, IsCheapTree, IsCheapBlock, reading_fine}
@@ -28,6 +28,7 @@ part_printable : (ds : List Declared) (ss : List Spot) (p : Part) → WrittenPar
 part_printable ds _ _ (by_mark s k h) g c = tt
 part_printable ds _ _ (by_term ss t w) g c = whole_printable ds ss t w g c
 part_printable ds _ _ (by_target ss kind t w) g c = target_printable ds kind ss t w g c
+part_printable ds _ _ (by_name s kind is_array p n) g c = (is_array, has_name ds kind is_array s p g.0 n)
 
 parts_printable : (ds : List Declared) (ss : List Spot) (ps : List Part) → WrittenParts ds ss ps → AllGood ss → AreCheap ps → ArePrintable ds ps
 parts_printable ds _ _ no_part g c = tt

@@ -1,28 +1,29 @@
 -- What is read as statements has cheap expressions, and no more open blocks than may be.
-use Rattle.std.proofs.Common.{◌≡◌, ℕ, zero, suc, ◌+◌, ◌≤◌, max, Bool, true, false, cond, nat_lt, List, [], ◌∷◌, ◌++◌, length, Option, None, Some, Result, Ok, Err, refl, sym, subst, arith}
+use Rattle.std.proofs.Common.{◌≡◌, ℕ, zero, suc, ◌+◌, ◌≤◌, max, Bool, true, false, cond, nat_lt, List, [], ◌∷◌, ◌++◌, length, Option, None, Some, Ok, sym, subst, arith}
 use Rattle.std.specs.List.{prefix_len}
 use Rattle.mpd_model.specs.declared.place.DeclKind.{DeclKind}
 use Rattle.mpd_model.specs.declared.place.DeclKind.TheVariants.{Variable}
 use Rattle.mpd_model.specs.declared.place.Place.{Place}
 use Rattle.mpd_model.specs.declared.read_fault.FaultCode.TheVariants.{TooDeep}
-use Rattle.mpd_model.specs.declared.read_fault.ReadFault.{ReadFault}
 use Rattle.mpd_model.specs.declared.slot.Slot.{Slot}
 use Rattle.mpd_model.specs.declared.stmt.StatusStmt.{StatusStmt}
 use Rattle.mpd_model.specs.declared.token.Mark.TheVariants as m
 use Rattle.mpd_model.specs.declared.token.Token.{Token}
 use Rattle.mpd_model.specs.declared.token.Token.TheVariants.{Name, Is}
 use Rattle.mpd_model.specs.Costs.{blocks, blocks_in}
-use Rattle.mpd_model.specs.Grammar.{expression, begin_statement, closes, place_of_slot, index_outside, target, statement_place_by, statement_place, source_by, source, status_by, status, fill, Form, form_of, by_form, assignment, otherwise, if_statement, while_statement, stmt_by, stmt, stmts, body, block, header, is_text, max_blocks, max_text, read_of, reading, script as whole_script}
-use Rattle.mpd_model.specs.Input.{Input, Outcome, Parser, token, expect, seek, sees, after, count, max_budget, pure, fail, refuse, start_of, ◌>>=◌}
+use Rattle.mpd_model.specs.Grammar.{expression, begin_statement, closes, place_of_slot, index_outside, target, statement_place_by, statement_place, statement_name, source_by, source, status_by, status, fill, Form, form_of, by_form, assignment, otherwise, if_statement, while_statement, stmt_by, stmt, stmts, body, block, header, is_text, max_blocks, max_text, reading, script as whole_script}
+use Rattle.mpd_model.specs.Input.{Input, Parser, token, expect, seek, sees, after, max_budget, pure, fail, refuse, start_of, ◌>>=◌}
 use Rattle.mpd_model.specs.Printable.{term_cost}
 use Rattle.mpd_model.specs.Program.{Program}
 use Rattle.mpd_model.specs.Term.{Term, Target}
 use Rattle.mpd_model.specs.declared.stmt.Simple.TheVariants as st
-use Rattle.mpd_model.specs.Parts.{Part, of_mark, of_term, of_target, parts_of, Hole, mark_hole, term_hole, target_hole, source_hole, status_hole, source_part, status_parts, Contents, filled}
+use Rattle.mpd_model.specs.Parts.{Part, of_mark, of_term, of_target, of_name, parts_of, Hole, mark_hole, term_hole, target_hole, name_hole, source_hole, status_hole, source_part, status_parts, Contents, filled}
 use Rattle.mpd_model.specs.Tree.{Tree, Block, simple, branch, repeat, no_more, then_more, block_of}
 use Rattle.mpd_laws.proofs.ReadCosts.{expression_cheap}
 use Rattle.mpd_laws.proofs.Sound.{bind_ok, ok_parts}
 use Rattle.mpd_laws.proofs.SoundParts.{status_of}
+use Rattle.mpd_laws.proofs.SoundScript.{read_ok, refused}
+use Rattle.mpd_laws.proofs.SoundStatements.{since_ok}
 
 max_small : (a b n : ℕ) → a ≤ n → b ≤ n → max a b ≤ n
 max_small a b n h k = grind arith
@@ -40,6 +41,7 @@ abbrev pub IsCheapPart : Part → Type 0
 IsCheapPart (of_mark k) = Unit {0}
 IsCheapPart (of_term e) = IsCheap e
 IsCheapPart (of_target kind t) = IsCheapIndex t.index
+IsCheapPart (of_name kind p) = Unit {0}
 
 abbrev pub AreCheap : List Part → Type 0
 AreCheap [] = Unit {0}
@@ -132,6 +134,10 @@ fill_cheap (target_hole kind ∷ hs) made i y h =
     let b = bind_ok (statement_place kind i) _ y h in
     let r = fill_cheap hs (λ c. made (b.0.0, c)) b.0.1 y b.2 in
     record { contents = (b.0.0, r.contents); is = r.is; cheap = (statement_place_cheap kind i b.0 b.1, r.cheap) }
+fill_cheap (name_hole kind ∷ hs) made i y h =
+    let b = bind_ok (statement_name kind i) _ y h in
+    let r = fill_cheap hs (λ c. made (b.0.0, c)) b.0.1 y b.2 in
+    record { contents = (b.0.0, r.contents); is = r.is; cheap = (tt, r.cheap) }
 fill_cheap (source_hole ∷ hs) made i y h =
     let b = bind_ok (source i) _ y h in
     let r = fill_cheap hs (λ c. made (b.0.0, c)) b.0.1 y b.2 in
@@ -210,7 +216,7 @@ stmt_case d p s Name i y h =
     assignment_fine d a.0.0 b.0.1 y b.2
 stmt_case d p s (Is m.If) i y h = let b = bind_ok (begin_statement i) _ y h in if_statement_fine d p s b.0.1 y b.2
 stmt_case d p s (Is m.While) i y h = let b = bind_ok (begin_statement i) _ y h in while_statement_fine d p s b.0.1 y b.2
-stmt_case d p s (Is m.Waitany) i y h = let b = bind_ok (count i) _ y h in absurd (let e = b.2 in cc)
+stmt_case d p s (Is m.Waitany) i y h = form_fine d (form_of m.Waitany) i y (since_ok 2 (by_form (form_of m.Waitany)) i y h).1
 stmt_case d p s (Is k) i y h = form_fine d (form_of k) i y h
 stmt_case d p s _ i y h = absurd (cc)
 
@@ -274,16 +280,8 @@ unfolding whole_script
 script_fine i y h =
     let a = bind_ok (header i) _ y h in
     let b = bind_ok (body (block max_blocks) false a.0.1) _ y a.2 in
-    let o = ok_parts (record { version = 1; ranks = a.0.0; decls = b.0.1.decls; body = b.0.0; lines = b.0.1.lines }, b.0.1) y b.2 in
+    let o = ok_parts (record { version = b.0.1.version; ranks = a.0.0; decls = b.0.1.decls; body = b.0.0; lines = b.0.1.lines }, b.0.1) y b.2 in
     subst (λ (p : Program). FineBlock max_blocks (block_of p.body)) o.0 (body_fine max_blocks (block max_blocks) false a.0.1 b.0 (block_fine max_blocks) b.1)
-
-read_ok : (o : Outcome Program) (p : Program) → read_of o ≡ Ok p → (j : Input) × (o ≡ Ok (p, j))
-read_ok (Ok y) p h = let e : y.0 ≡ p = cc in (y.1, rw (← e) refl)
-read_ok (Err f) p h = absurd (cc)
-
-refused : {A : Type 0} (b : Bool) (e : ReadFault) (x : Result A ReadFault) (a : A) → cond b (Err e) x ≡ Ok a → x ≡ Ok a
-refused true e x a h = absurd (cc)
-refused false e x a h = h
 
 pub reading_fine : (text : List ℕ) (p : Program) → reading text ≡ Ok p → FineBlock max_blocks (block_of p.body)
 unfolding reading

@@ -56,15 +56,17 @@ carried P a b k j e f x = rw (← e, ← f) x
 
 pub record Moves (used : List Spot) (i j : Input) : Type 0 where
   pub is : i.tokens ≡ used ++ j.tokens
+  pub version : j.version ≡ i.version
   pub decls : j.decls ≡ i.decls
   pub lines : j.lines ≡ i.lines
 
 pub no_move : (i j : Input) → i ≡ j → Moves [] i j
-no_move i j e = record { is = ap (λ k. k.tokens) e; decls = sym (ap (λ k. k.decls) e); lines = sym (ap (λ k. k.lines) e) }
+no_move i j e = record { is = ap (λ k. k.tokens) e; version = sym (ap (λ k. k.version) e); decls = sym (ap (λ k. k.decls) e); lines = sym (ap (λ k. k.lines) e) }
 
 pub then_moves : (a b : List Spot) (i j k : Input) → Moves a i j → Moves b j k → Moves (a ++ b) i k
 then_moves a b i j k x y = record {
   is = x.is ∙ ap (λ r. a ++ r) y.is ∙ sym (append_assoc a b k.tokens);
+  version = y.version ∙ x.version;
   decls = y.decls ∙ x.decls;
   lines = y.lines ∙ x.lines;
 }
@@ -76,24 +78,24 @@ pub record Step (i j : Input) : Type 0 where
   pub token : spot.token ≡ token i
   pub text : spot.text ≡ spelling i
 
-pub step : (i j : Input) → token i ≢ End → j.tokens ≡ behind i.tokens → j.decls ≡ i.decls → j.lines ≡ i.lines → Step i j
+pub step : (i j : Input) → token i ≢ End → j.tokens ≡ behind i.tokens → j.version ≡ i.version → j.decls ≡ i.decls → j.lines ≡ i.lines → Step i j
 unfolding token spelling
-step i j some a b c =
+step i j some a v b c =
     let f = first_spot i.tokens some in
-    record { spot = f.0; moves = record { is = f.1 ∙ ap (λ r. f.0 ∷ r) (sym a); decls = b; lines = c }; token = f.2; text = f.3 }
+    record { spot = f.0; moves = record { is = f.1 ∙ ap (λ r. f.0 ∷ r) (sym a); version = v; decls = b; lines = c }; token = f.2; text = f.3 }
 
 pub next_step : (i j : Input) → token i ≢ End → j ≡ advanced i → Step i j
 unfolding advanced
-next_step i j some e = step i j some (ap (λ k. k.tokens) e) (ap (λ k. k.decls) e) (ap (λ k. k.lines) e)
+next_step i j some e = step i j some (ap (λ k. k.tokens) e) (ap (λ k. k.version) e) (ap (λ k. k.decls) e) (ap (λ k. k.lines) e)
 
-pub spend_ok : (i : Input) (y : Unit {0} × Input) → spend i ≡ Ok y → (y.1.tokens ≡ behind i.tokens) × (y.1.decls ≡ i.decls) × (y.1.lines ≡ i.lines)
+pub spend_ok : (i : Input) (y : Unit {0} × Input) → spend i ≡ Ok y → (y.1.tokens ≡ behind i.tokens) × (y.1.version ≡ i.version) × (y.1.decls ≡ i.decls) × (y.1.lines ≡ i.lines)
 unfolding spend advanced
 spend_ok i y h =
     let e = guard_ok (i.budget == 0) _ _ y h in
-    (sym (ap (λ p. p.1.tokens) e), sym (ap (λ p. p.1.decls) e), sym (ap (λ p. p.1.lines) e))
+    (sym (ap (λ p. p.1.tokens) e), sym (ap (λ p. p.1.version) e), sym (ap (λ p. p.1.decls) e), sym (ap (λ p. p.1.lines) e))
 
 pub spend_step : (i : Input) (y : Unit {0} × Input) → token i ≢ End → spend i ≡ Ok y → Step i y.1
-spend_step i y some h = let s = spend_ok i y h in step i y.1 some s.0 s.1 s.2
+spend_step i y some h = let s = spend_ok i y h in step i y.1 some s.0 s.1 s.2 s.3
 
 mark_is : (wanted : Mark) (t : Token) → is_mark wanted t ≡ true → t ≡ Is wanted
 unfolding same_mark
@@ -152,10 +154,10 @@ name_step kind i y e h =
 
 -- what is written between two states
 pub takes : (k : ℕ) (t : Term) (used : List Spot) (i j : Input) → Moves used i j → WrittenTerm i.decls k used t → TermBetween k t i j
-takes k t used i j x w = record { used = used; is = x.is; written = w; decls = x.decls; lines = x.lines }
+takes k t used i j x w = record { used = used; is = x.is; written = w; version = x.version; decls = x.decls; lines = x.lines }
 
 pub moves_of : (k : ℕ) (t : Term) (i j : Input) (x : TermBetween k t i j) → Moves x.used i j
-moves_of k t i j x = record { is = x.is; decls = x.decls; lines = x.lines }
+moves_of k t i j x = record { is = x.is; version = x.version; decls = x.decls; lines = x.lines }
 
 -- one token writes the term
 one : (t : Term) (i j : Input) (s : Step i j) → WrittenTerm i.decls 0 (s.spot ∷ []) t → TermBetween 0 t i j
@@ -272,7 +274,7 @@ chain_by_takes k op i x y j a b l o s r =
     (joins k l.used r.used s.spot op a b (ap (operator_at (suc k)) s.token ∙ o) l.written (rw (← l.decls, ← s.moves.decls) r.written))
 
 raised : (k : ℕ) (t : Term) (i j : Input) → TermBetween k t i j → TermBetween (suc k) t i j
-raised k t i j x = record { used = x.used; is = x.is; written = higher k x.used t x.written; decls = x.decls; lines = x.lines }
+raised k t i j x = record { used = x.used; is = x.is; written = higher k x.used t x.written; version = x.version; decls = x.decls; lines = x.lines }
 
 -- a left side that may stand before an operator of the level
 abbrev MayGoOn : ℕ → ℕ → Term → Input → Input → Type 0

@@ -3,18 +3,19 @@ use Rattle.std.proofs.Common.{◌≡◌, ℕ, suc, Bool, true, false, cond, List
 use Rattle.mpd_model.specs.declared.limits.TheConstants.{NESTING_MAX}
 use Rattle.mpd_model.specs.declared.place.DeclKind.{DeclKind}
 use Rattle.mpd_model.specs.declared.place.DeclKind.TheVariants.{Variable}
+use Rattle.mpd_model.specs.declared.place.Place.{Place}
 use Rattle.mpd_model.specs.declared.slot.Slot.{Slot}
 use Rattle.mpd_model.specs.declared.stmt.StatusStmt.{StatusStmt}
 use Rattle.mpd_model.specs.declared.token.Mark.TheVariants as m
 use Rattle.mpd_model.specs.declared.token.Token.{Token}
 use Rattle.mpd_model.specs.declared.token.Token.TheVariants.{Name, Is}
 use Rattle.mpd_model.specs.Declaration.{Declared}
-use Rattle.mpd_model.specs.Grammar.{expression, place_of_slot, index_outside, target, statement_place_by, statement_place, source_by, source, status_by, status, fill}
+use Rattle.mpd_model.specs.Grammar.{expression, place_of_slot, index_outside, target, statement_place_by, statement_place, statement_name_by, statement_name, source_by, source, status_by, status, fill}
 use Rattle.mpd_model.specs.Input.{Input, token, advanced, expect, seek, sees, max_budget, after}
-use Rattle.mpd_model.specs.Parts.{Part, of_mark, of_term, of_target, Hole, mark_hole, term_hole, target_hole, source_hole, status_hole, source_part, status_parts, Contents, filled}
+use Rattle.mpd_model.specs.Parts.{Part, of_mark, of_term, of_target, of_name, Hole, mark_hole, term_hole, target_hole, name_hole, source_hole, status_hole, source_part, status_parts, Contents, filled}
 use Rattle.mpd_model.specs.Term.{Term, Target}
 use Rattle.mpd_model.specs.Tokens.{Spot}
-use Rattle.mpd_model.specs.Written.{Names, WrittenTerm, TermBetween, WrittenTarget, whole, part, WrittenPart, by_mark, by_term, by_target, WrittenParts, no_part, then_part}
+use Rattle.mpd_model.specs.Written.{Names, WrittenTerm, TermBetween, WrittenTarget, whole, part, WrittenPart, by_mark, by_term, by_target, by_name, WrittenParts, no_part, then_part}
 use Rattle.mpd_laws.proofs.Sound.{bind_ok, ok_parts, carried, Moves, no_move, then_moves, Step, next_step, sees_is, expect_step, NamedBy, name_step, expr_sound}
 
 -- ---- expressions that stand in no other
@@ -24,15 +25,15 @@ pub record Read (t : Term) (i j : Input) : Type 0 where
   pub moves : Moves used i j
   pub written : WrittenTerm i.decls 5 used t
 
-read_of_takes : (t : Term) (i x j : Input) → x.tokens ≡ i.tokens → x.decls ≡ i.decls → x.lines ≡ i.lines → TermBetween 5 t x j → Read t i j
-read_of_takes t i x j a b c tk = record {
+read_of_takes : (t : Term) (i x j : Input) → x.tokens ≡ i.tokens → x.version ≡ i.version → x.decls ≡ i.decls → x.lines ≡ i.lines → TermBetween 5 t x j → Read t i j
+read_of_takes t i x j a v b c tk = record {
   used = tk.used;
-  moves = record { is = sym a ∙ tk.is; decls = tk.decls ∙ b; lines = tk.lines ∙ c };
+  moves = record { is = sym a ∙ tk.is; version = tk.version ∙ v; decls = tk.decls ∙ b; lines = tk.lines ∙ c };
   written = rw (← b) tk.written;
 }
 
 pub expression_ok : (i : Input) (y : Term × Input) → expression i ≡ Ok y → Read y.0 i y.1
-expression_ok i y h = read_of_takes y.0 i (record i { budget = max_budget }) y.1 refl refl refl (expr_sound (suc NESTING_MAX) 5 (record i { budget = max_budget }) y.1 y.0 h)
+expression_ok i y h = read_of_takes y.0 i (record i { budget = max_budget }) y.1 refl refl refl refl (expr_sound (suc NESTING_MAX) 5 (record i { budget = max_budget }) y.1 y.0 h)
 
 -- an expression seen from where the statement began
 here : (t : Term) (i x j : Input) → x.decls ≡ i.decls → (r : Read t x j) → WrittenTerm i.decls 5 r.used t
@@ -106,6 +107,32 @@ statement_place_case kind _ i y e h = absurd (cc)
 statement_place_ok : (kind : DeclKind) (i : Input) (y : Target × Input) → statement_place kind i ≡ Ok y → TargetBetween kind y.0 i y.1
 unfolding statement_place
 statement_place_ok kind i y h = statement_place_case kind (token i) i y refl h
+
+-- ---- a declaration by its name alone
+
+record NameBetween (kind : DeclKind) (p : Place) (i j : Input) : Type 0 where
+  used : List Spot
+  moves : Moves used i j
+  written : WrittenPart i.decls used (of_name kind p)
+
+named_by : (kind : DeclKind) (slot : Slot) (i j : Input) → (s : Step i j) → NamedBy i.decls kind slot s.spot → NameBetween kind (place_of_slot slot) i j
+named_by kind slot i j s n = record {
+  used = s.spot ∷ [];
+  moves = s.moves;
+  written = by_name s.spot kind (is_some slot.size) (place_of_slot slot) (n (is_some slot.size) refl);
+}
+
+statement_name_case : (kind : DeclKind) (tk : Token) (i : Input) (y : Place × Input) → token i ≡ tk → statement_name_by kind tk i ≡ Ok y → NameBetween kind y.0 i y.1
+statement_name_case kind Name i y e h =
+    let b = bind_ok (seek kind i) _ y h in
+    let o = ok_parts (place_of_slot b.0.0, advanced b.0.1) y b.2 in
+    let v = name_step kind i b.0 e b.1 in
+    carried (λ p j. NameBetween kind p i j) _ _ _ _ o.0 o.1 (named_by kind b.0.0 i (advanced b.0.1) v.0 v.1)
+statement_name_case kind _ i y e h = absurd (cc)
+
+statement_name_ok : (kind : DeclKind) (i : Input) (y : Place × Input) → statement_name kind i ≡ Ok y → NameBetween kind y.0 i y.1
+unfolding statement_name
+statement_name_ok kind i y h = statement_name_case kind (token i) i y refl h
 
 -- ---- a source, and a status before other parts
 
@@ -236,6 +263,19 @@ fill_ok (target_hole kind ∷ hs) made i j a h =
       end = r.end;
       moves = part_moves e.used r.used r.end i b.0.1 j e.moves r.moves;
       written = part_first (of_target kind b.0.0) (filled hs r.contents) e.used r.used i b.0.1 e.moves.decls (by_target e.used kind b.0.0 e.written) r.written;
+      closed = r.closed;
+    }
+fill_ok (name_hole kind ∷ hs) made i j a h =
+    let b = bind_ok (statement_name kind i) _ (a, j) h in
+    let e = statement_name_ok kind i b.0 b.1 in
+    let r = fill_ok hs (λ c. made (b.0.0, c)) b.0.1 j a b.2 in
+    record {
+      contents = (b.0.0, r.contents);
+      is = r.is;
+      used = e.used ++ r.used;
+      end = r.end;
+      moves = part_moves e.used r.used r.end i b.0.1 j e.moves r.moves;
+      written = part_first (of_name kind b.0.0) (filled hs r.contents) e.used r.used i b.0.1 e.moves.decls e.written r.written;
       closed = r.closed;
     }
 fill_ok (source_hole ∷ hs) made i j a h =

@@ -1,11 +1,10 @@
 -- What the grammar's functions read as a script is written so, and keeps the limits.
-use Rattle.std.proofs.Common.{◌≡◌, ℕ, zero, suc, ◌+◌, ℤ, pos, negsuc, Bool, true, false, cond, ◌&&◌, nat_le, nat_lt, List, [], ◌∷◌, ◌++◌, length, Option, Some, None, Result, Ok, Err, refl, ap, sym, ◌∙◌, append_assoc, arith, ◌≢◌}
+use Rattle.std.proofs.Common.{◌≡◌, ℕ, zero, suc, ◌+◌, ℤ, pos, negsuc, Bool, true, false, cond, ◌&&◌, nat_le, nat_lt, List, [], ◌∷◌, ◌++◌, length, Option, Some, None, Result, Ok, Err, refl, ap, sym, subst, ◌∙◌, append_assoc, arith, ◌≢◌, ◌≤◌}
 use Rattle.std.proofs.lemmas.Bool.Decides.{nat_tests}
 use Rattle.std.specs.List.{prefix_len}
-use Rattle.std.specs.Ordering.{int_eq}
-use Rattle.mpd_model.specs.declared.limits.TheConstants.{BLOCKS_MAX, RANKS_MAX}
+use Rattle.mpd_model.specs.declared.limits.TheConstants.{BLOCKS_MAX, RANKS_MAX, LANGUAGE_MAX}
 use Rattle.mpd_model.specs.declared.place.DeclKind.{DeclKind}
-use Rattle.mpd_model.specs.declared.read_fault.FaultCode.TheVariants.{NotInVersion, Twice, TooMany}
+use Rattle.mpd_model.specs.declared.read_fault.FaultCode.TheVariants.{Twice, TooMany}
 use Rattle.mpd_model.specs.declared.read_fault.ReadFault.{ReadFault}
 use Rattle.mpd_model.specs.declared.slot.Slot.{Slot}
 use Rattle.mpd_model.specs.declared.token.Mark.TheVariants as m
@@ -13,9 +12,9 @@ use Rattle.mpd_model.specs.declared.token.Token.{Token}
 use Rattle.mpd_model.specs.declared.token.Token.TheVariants.{Number, Name, Is, End}
 use Rattle.mpd_model.specs.Declaration.{Declared}
 use Rattle.mpd_model.specs.Faults.{fault}
-use Rattle.mpd_model.specs.Grammar.{version_by, version, rank_count, ranks_of, ranks_by, ranks, natural, array_size_at, array_size_by, array_size, single, declarator, decl_by, decl, declares, decls_by, decls_from, decls, header, stmt, stmts, body, block, closes, max_blocks, max_text, is_text, read_of, reading}
+use Rattle.mpd_model.specs.Grammar.{version_in, version_of, version_by, version, rank_count, ranks_of, ranks_by, ranks, natural, array_size_at, array_size_by, array_size, single, declarator, decl_by, decl, declares, decls_by, decls_from, decls, header, stmt, stmts, body, block, closes, max_blocks, max_text, is_text, read_of, reading}
 use Rattle.mpd_model.specs.Grammar as grammar
-use Rattle.mpd_model.specs.Input.{Input, Outcome, Parser, start_of, token, token_of, spelling, place, advanced, expect, sees, after, fresh, add, cells_fit, is_known, slot_in, advance, fail, pure, ◌>>=◌}
+use Rattle.mpd_model.specs.Input.{Input, Outcome, Parser, start_of, token, token_of, spelling, place, advanced, expect, sees, after, fresh, add, cells_fit, is_known, slot_in, pure, ◌>>=◌}
 use Rattle.mpd_model.specs.Program.{Program}
 use Rattle.mpd_model.specs.Tokens.{Spot, tokens}
 use Rattle.mpd_model.specs.Tree.{Tree, block_of, statements_in}
@@ -33,21 +32,50 @@ IsNumber n i j = (s : Step i j) × (s.spot.token ≡ Number (pos n))
 number_step : (n : ℕ) (i j : Input) → token i ≡ Number (pos n) → j ≡ advanced i → IsNumber n i j
 number_step n i j e h = let s = next_step i j (λ x. absurd (cc)) h in (s, s.token ∙ e)
 
-is_one : (z : ℤ) → int_eq z (pos 1) ≡ true → z ≡ pos 1
-is_one (pos n) h = let e : n ≡ 1 = grind (arith, nat_tests) in ap pos e
-is_one (negsuc n) h = absurd (cc)
+-- the input, in this version
+abbrev pub in_version : ℕ → Input → Input
+in_version n i = record i { version = n }
 
-version_test : (b : Bool) (i : Input) (y : Unit {0} × Input) → cond b advance (fail NotInVersion) i ≡ Ok y → (b ≡ true) × (y.1 ≡ advanced i)
-version_test true i y h = (refl, sym (ok_parts (tt, advanced i) y h).1)
-version_test false i y h = absurd (cc)
+-- the next token is a version that there is, and what follows is in that
+record Versioned (i j : Input) : Type 0 where
+  pub number : ℕ
+  pub step : Step (in_version number i) j
+  pub token : step.spot.token ≡ Number (pos number)
+  pub some_version : 1 ≤ number
+  pub known : number ≤ LANGUAGE_MAX
 
-version_case : (tk : Token) (i : Input) (y : Unit {0} × Input) → token i ≡ tk → version_by tk i ≡ Ok y → IsNumber 1 i y.1
+within : (a b : Bool) (m n : ℕ) → cond (a && b) (Some m) None ≡ Some n → (a ≡ true) × (b ≡ true) × (m ≡ n)
+within true true m n h = (refl, refl, cc)
+within true false m n h = absurd (cc)
+within false b m n h = absurd (cc)
+
+version_is : (z : ℤ) (n : ℕ) → version_in z ≡ Some n → (z ≡ pos n) × (1 ≤ n) × (n ≤ LANGUAGE_MAX)
+version_is (pos m) n h =
+    let w = within (nat_le 1 m) (nat_le m LANGUAGE_MAX) m n h in
+    let same : m ≡ n = w.2 in
+    let low : nat_le 1 m ≡ true = w.0 in
+    let high : nat_le m LANGUAGE_MAX ≡ true = w.1 in
+    (ap pos same, grind (arith, nat_tests), grind (arith, nat_tests))
+version_is (negsuc m) n h = absurd (cc)
+
+version_test : (o : Option ℕ) (i : Input) (y : Unit {0} × Input) → version_of o i ≡ Ok y → (n : ℕ) × (o ≡ Some n) × (y.1 ≡ advanced (in_version n i))
+version_test (Some n) i y h = (n, refl, sym (ok_parts (tt, advanced (in_version n i)) y h).1)
+version_test None i y h = absurd (cc)
+
+in_version_token : (n : ℕ) (i : Input) → token (in_version n i) ≡ token i
+unfolding token
+in_version_token n i = refl
+
+version_case : (tk : Token) (i : Input) (y : Unit {0} × Input) → token i ≡ tk → version_by tk i ≡ Ok y → Versioned i y.1
 version_case (Number z) i y e h =
-    let t = version_test (int_eq z (pos 1)) i y h in
-    number_step 1 i y.1 (e ∙ ap Number (is_one z t.0)) t.1
+    let t = version_test (version_in z) i y h in
+    let v = version_is z t.0 t.1 in
+    let is : token (in_version t.0 i) ≡ Number (pos t.0) = in_version_token t.0 i ∙ e ∙ ap Number v.0 in
+    let s = number_step t.0 (in_version t.0 i) y.1 is t.2 in
+    record { number = t.0; step = s.0; token = s.1; some_version = v.1; known = v.2 }
 version_case _ i y e h = absurd (cc)
 
-version_step : (i : Input) (y : Unit {0} × Input) → version i ≡ Ok y → IsNumber 1 i y.1
+version_step : (i : Input) (y : Unit {0} × Input) → version i ≡ Ok y → Versioned i y.1
 unfolding version
 version_step i y h = version_case (token i) i y refl h
 
@@ -91,6 +119,7 @@ carried_decls ds es ss fs e x = rw (← e) x
 -- a name was declared, and nothing else has changed
 record Adds (kind : DeclKind) (name : List ℕ) (size : Option ℕ) (i j : Input) : Type 0 where
   pub tokens : j.tokens ≡ i.tokens
+  pub version : j.version ≡ i.version
   pub decls : j.decls ≡ i.decls ++ declared_as kind name size ∷ []
   pub lines : j.lines ≡ i.lines
 
@@ -98,7 +127,7 @@ add_ok : (kind : DeclKind) (name : List ℕ) (size : Option ℕ) (at : ℕ) (i :
 unfolding add
 add_ok kind name size at i y h =
     let t = test_ok (cells_fit kind size i.decls) (fault TooMany at) (tt, record i { decls = i.decls ++ declared_as kind name size ∷ [] }) y h in
-    record { tokens = sym (ap (λ p. p.1.tokens) t.1); decls = sym (ap (λ p. p.1.decls) t.1); lines = sym (ap (λ p. p.1.lines) t.1) }
+    record { tokens = sym (ap (λ p. p.1.tokens) t.1); version = sym (ap (λ p. p.1.version) t.1); decls = sym (ap (λ p. p.1.decls) t.1); lines = sym (ap (λ p. p.1.lines) t.1) }
 
 same_token : (i j : Input) → j.tokens ≡ i.tokens → token j ≡ token i
 unfolding token
@@ -109,6 +138,7 @@ record Ends (kind : DeclKind) (name : List ℕ) (i j : Input) : Type 0 where
   pub end : Spot
   pub is : i.tokens ≡ end ∷ j.tokens
   pub is_end : end.token ≡ Is m.Semicolon
+  pub version : j.version ≡ i.version
   pub decls : j.decls ≡ i.decls ++ declared_as kind name None ∷ []
   pub lines : j.lines ≡ i.lines
 
@@ -118,7 +148,7 @@ single_ok kind name at i y h =
     let a = bind_ok (add kind name None at i) _ y h in
     let d = add_ok kind name None at i a.0 a.1 in
     let z = expect_step m.Semicolon a.0.1 y a.2 in
-    record { end = z.0.spot; is = sym d.tokens ∙ z.0.moves.is; is_end = z.1; decls = z.0.moves.decls ∙ d.decls; lines = z.0.moves.lines ∙ d.lines }
+    record { end = z.0.spot; is = sym d.tokens ∙ z.0.moves.is; is_end = z.1; version = z.0.moves.version ∙ d.version; decls = z.0.moves.decls ∙ d.decls; lines = z.0.moves.lines ∙ d.lines }
 
 -- a size, and what is behind it
 record Sizes (kind : DeclKind) (name : List ℕ) (i j : Input) : Type 0 where
@@ -130,6 +160,7 @@ record Sizes (kind : DeclKind) (name : List ℕ) (i j : Input) : Type 0 where
   pub is_count : count.token ≡ Number (pos cells)
   pub is_close : close.token ≡ Is m.SquareClose
   pub is_end : end.token ≡ Is m.Semicolon
+  pub version : j.version ≡ i.version
   pub decls : j.decls ≡ i.decls ++ declared_as kind name (Some cells) ∷ []
   pub lines : j.lines ≡ i.lines
 
@@ -148,6 +179,7 @@ sizes kind name n i x1 x2 x3 j e d s c q z p = record {
   is_count = s.token ∙ same_token i x1 d.tokens ∙ e;
   is_close = q;
   is_end = p;
+  version = z.moves.version ∙ c.moves.version ∙ s.moves.version ∙ d.version;
   decls = z.moves.decls ∙ c.moves.decls ∙ s.moves.decls ∙ d.decls;
   lines = z.moves.lines ∙ c.moves.lines ∙ s.moves.lines ∙ d.lines;
 }
@@ -182,6 +214,7 @@ pub record Declares (kind : DeclKind) (i j : Input) : Type 0 where
   pub name : List ℕ
   pub size : Option ℕ
   pub is : i.tokens ≡ used ++ j.tokens
+  pub version : j.version ≡ i.version
   pub decls : j.decls ≡ i.decls ++ declared_as kind name size ∷ []
   pub lines : j.lines ≡ i.lines
   pub written : (v : Spot) (ss : List Spot) (es : List Declared) → declares v.token ≡ Some kind → WrittenDecls (i.decls ++ declared_as kind name size ∷ []) ss es
@@ -198,6 +231,7 @@ one_declared kind i x j e free s d = record {
   name = s.spot.text;
   size = None;
   is = s.moves.is ∙ ap (λ r. s.spot ∷ r) d.is;
+  version = d.version ∙ s.moves.version;
   decls = named_so kind i x j (spelling i) None s (sym s.text) d.decls;
   lines = d.lines ∙ s.moves.lines;
   written = λ v ss es ev w. declares_one i.decls es kind v s.spot d.end ss ev (s.token ∙ e) (ap (slot_in i.decls) s.text ∙ free) d.is_end w;
@@ -210,6 +244,7 @@ many_declared kind i x y j e free s a q d = record {
   name = s.spot.text;
   size = Some d.cells;
   is = s.moves.is ∙ ap (λ r. s.spot ∷ r) (a.moves.is ∙ ap (λ r. a.spot ∷ r) d.is);
+  version = d.version ∙ a.moves.version ∙ s.moves.version;
   decls = named_so kind i x j (spelling i) (Some d.cells) s (sym s.text) (d.decls ∙ ap (λ ds. ds ++ declared_as kind (spelling i) (Some d.cells) ∷ []) a.moves.decls);
   lines = d.lines ∙ a.moves.lines ∙ s.moves.lines;
   written = λ v ss es ev w. declares_array i.decls es kind v s.spot a.spot d.count d.close d.end d.cells ss ev (s.token ∙ e) (ap (slot_in i.decls) s.text ∙ free) q d.is_count d.is_close d.is_end w;
@@ -243,10 +278,11 @@ pub record TakesDecls (i j : Input) : Type 0 where
   pub used : List Spot
   pub is : i.tokens ≡ used ++ j.tokens
   pub written : WrittenDecls i.decls used j.decls
+  pub version : j.version ≡ i.version
   pub lines : j.lines ≡ i.lines
 
 no_decls : (i j : Input) → i ≡ j → TakesDecls i j
-no_decls i j e = record { used = []; is = ap (λ k. k.tokens) e; written = rw (← e) (none i.decls); lines = sym (ap (λ k. k.lines) e) }
+no_decls i j e = record { used = []; is = ap (λ k. k.tokens) e; written = rw (← e) (none i.decls); version = sym (ap (λ k. k.version) e); lines = sym (ap (λ k. k.lines) e) }
 
 more_decls : (kind : DeclKind) (i x y j : Input) → (s : Step i x) → declares s.spot.token ≡ Some kind → Declares kind x y → TakesDecls y j → TakesDecls i j
 more_decls kind i x y j s e d r = record {
@@ -254,6 +290,7 @@ more_decls kind i x y j s e d r = record {
   is = s.moves.is ∙ ap (λ q. s.spot ∷ q) (d.is ∙ ap (λ q. d.used ++ q) r.is ∙ sym (append_assoc d.used r.used j.tokens));
   written = carried_decls x.decls i.decls (s.spot ∷ d.used ++ r.used) j.decls s.moves.decls
       (d.written s.spot r.used j.decls e (carried_decls y.decls (x.decls ++ declared_as kind d.name d.size ∷ []) r.used j.decls d.decls r.written));
+  version = r.version ∙ d.version ∙ s.moves.version;
   lines = r.lines ∙ d.lines ∙ s.moves.lines;
 }
 
@@ -294,38 +331,43 @@ pub record Header (n : ℕ) (i j : Input) : Type 0 where
   pub used : List Spot
   pub is : i.tokens ≡ mpd ∷ version ∷ first ∷ ranks ∷ count ∷ second ∷ used ++ j.tokens
   pub is_mpd : mpd.token ≡ Is m.Mpd
-  pub is_version : version.token ≡ Number (pos 1)
+  pub is_version : version.token ≡ Number (pos j.version)
   pub is_first : first.token ≡ Is m.Semicolon
   pub is_ranks : ranks.token ≡ Is m.Ranks
   pub is_count : count.token ≡ Number (pos n)
   pub is_second : second.token ≡ Is m.Semicolon
   pub decls : WrittenDecls i.decls used j.decls
   pub lines : j.lines ≡ i.lines
+  pub some_version : 1 ≤ j.version
+  pub known : j.version ≤ LANGUAGE_MAX
 
-header_is : (n : ℕ) (i x1 x2 x3 x4 x5 x6 j : Input) → (s1 : Step i x1) → s1.spot.token ≡ Is m.Mpd → (s2 : Step x1 x2) → s2.spot.token ≡ Number (pos 1)
+header_is : (n : ℕ) (i x1 x2 x3 x4 x5 x6 j : Input) → (s1 : Step i x1) → s1.spot.token ≡ Is m.Mpd → (v : Versioned x1 x2)
     → (s3 : Step x2 x3) → s3.spot.token ≡ Is m.Semicolon → (s4 : Step x3 x4) → s4.spot.token ≡ Is m.Ranks → (s5 : Step x4 x5) → s5.spot.token ≡ Number (pos n)
     → (s6 : Step x5 x6) → s6.spot.token ≡ Is m.Semicolon → TakesDecls x6 j → Header n i j
-header_is n i x1 x2 x3 x4 x5 x6 j s1 e1 s2 e2 s3 e3 s4 e4 s5 e5 s6 e6 ds =
-    let old : x6.decls ≡ i.decls = s6.moves.decls ∙ s5.moves.decls ∙ s4.moves.decls ∙ s3.moves.decls ∙ s2.moves.decls ∙ s1.moves.decls in
-    let same : x6.lines ≡ i.lines = s6.moves.lines ∙ s5.moves.lines ∙ s4.moves.lines ∙ s3.moves.lines ∙ s2.moves.lines ∙ s1.moves.lines in
+header_is n i x1 x2 x3 x4 x5 x6 j s1 e1 v s3 e3 s4 e4 s5 e5 s6 e6 ds =
+    let old : x6.decls ≡ i.decls = s6.moves.decls ∙ s5.moves.decls ∙ s4.moves.decls ∙ s3.moves.decls ∙ v.step.moves.decls ∙ s1.moves.decls in
+    let same : x6.lines ≡ i.lines = s6.moves.lines ∙ s5.moves.lines ∙ s4.moves.lines ∙ s3.moves.lines ∙ v.step.moves.lines ∙ s1.moves.lines in
+    let said : v.number ≡ j.version = sym (ds.version ∙ s6.moves.version ∙ s5.moves.version ∙ s4.moves.version ∙ s3.moves.version ∙ v.step.moves.version) in
     record {
       mpd = s1.spot;
-      version = s2.spot;
+      version = v.step.spot;
       first = s3.spot;
       ranks = s4.spot;
       count = s5.spot;
       second = s6.spot;
       used = ds.used;
-      is = s1.moves.is ∙ ap (λ r. s1.spot ∷ r) (s2.moves.is ∙ ap (λ r. s2.spot ∷ r) (s3.moves.is ∙ ap (λ r. s3.spot ∷ r)
+      is = s1.moves.is ∙ ap (λ r. s1.spot ∷ r) (v.step.moves.is ∙ ap (λ r. v.step.spot ∷ r) (s3.moves.is ∙ ap (λ r. s3.spot ∷ r)
           (s4.moves.is ∙ ap (λ r. s4.spot ∷ r) (s5.moves.is ∙ ap (λ r. s5.spot ∷ r) (s6.moves.is ∙ ap (λ r. s6.spot ∷ r) ds.is)))));
       is_mpd = e1;
-      is_version = e2;
+      is_version = v.token ∙ ap (λ k. Number (pos k)) said;
       is_first = e3;
       is_ranks = e4;
       is_count = e5;
       is_second = e6;
       decls = carried_decls x6.decls i.decls ds.used j.decls old ds.written;
       lines = ds.lines ∙ same;
+      some_version = subst (λ k. 1 ≤ k) said v.some_version;
+      known = subst (λ k. k ≤ LANGUAGE_MAX) said v.known;
     }
 
 pub header_ok : (i : Input) (y : ℕ × Input) → header i ≡ Ok y → Header y.0 i y.1
@@ -346,7 +388,7 @@ header_ok i y h =
     let s5 = ranks_step d.0.1 e.0 e.1 in
     let s6 = expect_step m.Semicolon e.0.1 f.0 f.1 in
     carried (λ n j. Header n i j) _ _ _ _ o.0 o.1
-    (header_is e.0.0 i a.0.1 b.0.1 c.0.1 d.0.1 e.0.1 f.0.1 g.0.1 s1.0 s1.1 s2.0 s2.1 s3.0 s3.1 s4.0 s4.1 s5.0 s5.1 s6.0 s6.1 (decls_ok f.0.1 g.0 g.1))
+    (header_is e.0.0 i a.0.1 b.0.1 c.0.1 d.0.1 e.0.1 f.0.1 g.0.1 s1.0 s1.1 s2 s3.0 s3.1 s4.0 s4.1 s5.0 s5.1 s6.0 s6.1 (decls_ok f.0.1 g.0 g.1))
 
 -- ---- one line for each statement
 
@@ -359,10 +401,10 @@ lines_counted i x y n ts depth inside e h b =
     ap length l ∙ body_lines x.decls t.used ts t.begun t.written
 
 -- a header and a body are a script
-pub script_reads : (i x y : Input) (n : ℕ) (ts : List Tree) (ds : List Declared) (ls : List ℕ) → header i ≡ Ok (n, x) → body (block BLOCKS_MAX) false x ≡ Ok (ts, y) → ds ≡ y.decls → ls ≡ y.lines
-    → read_of (grammar.script i) ≡ Ok (record { version = 1; ranks = n; decls = ds; body = ts; lines = ls })
+pub script_reads : (i x y : Input) (n : ℕ) (ts : List Tree) (v : ℕ) (ds : List Declared) (ls : List ℕ) → header i ≡ Ok (n, x) → body (block BLOCKS_MAX) false x ≡ Ok (ts, y)
+    → v ≡ y.version → ds ≡ y.decls → ls ≡ y.lines → read_of (grammar.script i) ≡ Ok (record { version = v; ranks = n; decls = ds; body = ts; lines = ls })
 unfolding grammar.script
-script_reads i x y n ts ds ls h b same_decls same_lines = rw (h, b, same_decls, same_lines) refl
+script_reads i x y n ts v ds ls h b same_version same_decls same_lines = rw (h, b, same_version, same_decls, same_lines) refl
 
 -- ---- the whole text
 
@@ -397,13 +439,13 @@ nothing_left i x j n ts real h b e =
     none_left j.tokens behind_body (at_end (token_of j.tokens) e)
 
 script_is : (i x j : Input) (n : ℕ) (ts : List Tree) → i.decls ≡ [] → i.lines ≡ [] → Header n i x → BodyBetween ts x j → j.tokens ≡ []
-    → WrittenScript i.tokens (record { version = 1; ranks = n; decls = j.decls; body = ts; lines = j.lines })
+    → WrittenScript i.tokens (record { version = j.version; ranks = n; decls = j.decls; body = ts; lines = j.lines })
 script_is i x j n ts none_yet no_lines h b last =
     let used : x.tokens ≡ b.used = b.is ∙ ap (λ r. b.used ++ r) last ∙ sym (append_none Spot b.used) in
     let lines : j.lines ≡ b.begun = b.lines ∙ ap (λ r. r ++ b.begun) (h.lines ∙ no_lines) in
     let ds = carried_decls i.decls [] h.used x.decls none_yet h.decls in
-    rw (h.is, used, b.decls, lines) (script h.mpd h.version h.first h.ranks h.count h.second h.used b.used
-    (record { version = 1; ranks = n; decls = x.decls; body = ts; lines = b.begun })
+    rw (h.is, used, b.version, b.decls, lines) (script h.mpd h.version h.first h.ranks h.count h.second h.used b.used
+    (record { version = x.version; ranks = n; decls = x.decls; body = ts; lines = b.begun })
     h.is_mpd h.is_version h.is_first h.is_ranks h.is_count h.is_second ds b.written)
 
 script_written : (i : Input) (y : Program × Input) → NoEnd i.tokens → i.decls ≡ [] → i.lines ≡ [] → grammar.script i ≡ Ok y → WrittenScript i.tokens y.0
@@ -411,17 +453,17 @@ unfolding grammar.script
 script_written i y real d l h =
     let a = bind_ok (header i) _ y h in
     let b = bind_ok (body (block max_blocks) false a.0.1) _ y a.2 in
-    let o = ok_parts (record { version = 1; ranks = a.0.0; decls = b.0.1.decls; body = b.0.0; lines = b.0.1.lines }, b.0.1) y b.2 in
+    let o = ok_parts (record { version = b.0.1.version; ranks = a.0.0; decls = b.0.1.decls; body = b.0.0; lines = b.0.1.lines }, b.0.1) y b.2 in
     let head = header_ok i a.0 a.1 in
     let tail = statements_sound max_blocks false a.0.1 b.0.1 b.0.0 b.1 in
     let closed = body_closed (block max_blocks) false a.0.1 b.0.1 b.0.0 b.1 in
     rw (← o.0) (script_is i a.0.1 b.0.1 a.0.0 b.0.0 d l head tail (nothing_left i a.0.1 b.0.1 a.0.0 b.0.0 real head tail closed))
 
-read_ok : (o : Outcome Program) (p : Program) → read_of o ≡ Ok p → (j : Input) × (o ≡ Ok (p, j))
+pub read_ok : (o : Outcome Program) (p : Program) → read_of o ≡ Ok p → (j : Input) × (o ≡ Ok (p, j))
 read_ok (Ok y) p h = let e : y.0 ≡ p = cc in (y.1, rw (← e) refl)
 read_ok (Err f) p h = absurd (cc)
 
-refused : {A : Type 0} (b : Bool) (e : ReadFault) (x : Result A ReadFault) (a : A) → cond b (Err e) x ≡ Ok a → x ≡ Ok a
+pub refused : {A : Type 0} (b : Bool) (e : ReadFault) (x : Result A ReadFault) (a : A) → cond b (Err e) x ≡ Ok a → x ≡ Ok a
 refused true e x a h = absurd (cc)
 refused false e x a h = h
 

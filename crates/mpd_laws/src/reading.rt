@@ -17,6 +17,16 @@ pub fn scripts_are_written()
     ensures { law.ScriptsAreWritten }
 {}
 
+/// What is read as statements is of the version that the text is in.
+pub fn statements_are_of_version()
+    ensures { law.StatementsAreOfVersion }
+{}
+
+/// What is read as a script is in a version that there is, and has no statement that came later.
+pub fn scripts_are_of_version()
+    ensures { law.ScriptsAreOfVersion }
+{}
+
 /// Want of memory is no fault of a text: where `read` gives another fault, the definition gives that one and no other.
 pub fn no_text_is_memory()
     ensures { law.NoTextIsMemory }
