@@ -1,5 +1,5 @@
 -- What is written within the budget of each expression: the relations of the grammar, each with its bound.
-use Rattle.std.proofs.Common.{◌≡◌, ℕ, ◌≤◌, max, true, false, List, [], ◌∷◌, ◌++◌, None, Some, arith}
+use Rattle.std.proofs.Common.{◌≡◌, ℕ, ◌≤◌, max, Bool, true, false, List, [], ◌∷◌, ◌++◌, None, Some, arith}
 use Rattle.mpd_model.specs.declared.place.DeclKind.{DeclKind}
 use Rattle.mpd_model.specs.declared.place.Place.{Place}
 use Rattle.mpd_model.specs.declared.stmt.Simple.{Simple}
@@ -9,7 +9,7 @@ use Rattle.mpd_model.specs.declared.token.Token.TheVariants.{Is}
 use Rattle.mpd_model.specs.Costs.{cost, index_cost, part_cost, dearest_part, dearest, dearest_block, dearest_body}
 use Rattle.mpd_model.specs.Declaration.{Declared}
 use Rattle.mpd_model.specs.Input.{first_line, max_budget}
-use Rattle.mpd_model.specs.Parts.{Part, of_mark, of_term, of_target, parts_of}
+use Rattle.mpd_model.specs.Parts.{Part, of_mark, of_term, of_target, of_name, parts_of}
 use Rattle.mpd_model.specs.Term.{Term, Target}
 use Rattle.mpd_model.specs.Tokens.{Spot}
 use Rattle.mpd_model.specs.Tree.{Tree, simple, branch, repeat, no_more, block_of}
@@ -60,6 +60,9 @@ module _ {ds : List Declared} where
 
   pub by_target : (ss : List Spot) (kind : DeclKind) (t : Target) → CheapTarget ds kind ss t → CheapPart ds ss (of_target kind t)
   by_target ss kind t w = (written.by_target ss kind t w.0, w.1)
+
+  pub by_name : (s : Spot) (kind : DeclKind) (is_array : Bool) (p : Place) → Names ds kind s is_array p → CheapPart ds (s ∷ []) (of_name kind p)
+  by_name s kind is_array p n = (written.by_name s kind is_array p n, omega arith)
 
   pub no_part : CheapParts ds [] []
   no_part = (written.no_part, omega arith)

@@ -3,21 +3,22 @@ use Rattle.std.proofs.Common.{◌≡◌, ℕ, suc, Bool, true, false, cond, List
 use Rattle.mpd_model.specs.declared.limits.TheConstants.{NESTING_MAX}
 use Rattle.mpd_model.specs.declared.place.DeclKind.{DeclKind}
 use Rattle.mpd_model.specs.declared.place.DeclKind.TheVariants.{Variable}
+use Rattle.mpd_model.specs.declared.place.Place.{Place}
 use Rattle.mpd_model.specs.declared.slot.Slot.{Slot}
 use Rattle.mpd_model.specs.declared.stmt.StatusStmt.{StatusStmt}
 use Rattle.mpd_model.specs.declared.token.Mark.TheVariants as m
 use Rattle.mpd_model.specs.declared.token.Token.{Token}
 use Rattle.mpd_model.specs.declared.token.Token.TheVariants.{Name, Is}
 use Rattle.mpd_model.specs.Declaration.{Declared}
-use Rattle.mpd_model.specs.Grammar.{expression, place_of_slot, index_outside, target, statement_place_by, statement_place, source_by, source, status_by, status, fill}
+use Rattle.mpd_model.specs.Grammar.{expression, place_of_slot, index_outside, target, statement_place_by, statement_place, statement_name_by, statement_name, source_by, source, status_by, status, fill}
 use Rattle.mpd_model.specs.Input.{Input, token, advanced, expect, seek, sees, max_budget, after}
-use Rattle.mpd_model.specs.Parts.{Part, of_mark, of_term, of_target, Hole, mark_hole, term_hole, target_hole, source_hole, status_hole, source_part, status_parts, Contents, filled}
+use Rattle.mpd_model.specs.Parts.{Part, of_mark, of_term, of_target, of_name, Hole, mark_hole, term_hole, target_hole, name_hole, source_hole, status_hole, source_part, status_parts, Contents, filled}
 use Rattle.mpd_model.specs.Term.{Term, Target}
 use Rattle.mpd_model.specs.Tokens.{Spot}
 use Rattle.mpd_model.specs.ReaderLaws.{ExpressionsAreWritten}
 use Rattle.mpd_model.specs.Written.{Names, TermBetween}
 use Rattle.mpd_meaning.proofs.Budget.{expression_within}
-use Rattle.mpd_meaning.proofs.Cheap.{CheapTerm, CheapTarget, CheapPart, CheapParts, whole, part, by_mark, by_term, by_target, no_part, then_part}
+use Rattle.mpd_meaning.proofs.Cheap.{CheapTerm, CheapTarget, CheapPart, CheapParts, whole, part, by_mark, by_term, by_target, by_name, no_part, then_part}
 use Rattle.mpd_meaning.proofs.Successes.{bind_ok, ok_parts, carried, Moves, no_move, then_moves, Step, next_step, sees_is, expect_step, NamedBy, name_step}
 
 -- ---- expressions that stand in no other
@@ -30,7 +31,7 @@ pub record Read (t : Term) (i j : Input) : Type 0 where
 pub expression_ok : (sound : ExpressionsAreWritten) → (i : Input) (y : Term × Input) → expression i ≡ Ok y → Read y.0 i y.1
 expression_ok sound i y h =
     let tk : TermBetween 5 y.0 (record i { budget = max_budget }) y.1 = sound (suc NESTING_MAX) 5 (record i { budget = max_budget }) y.1 y.0 h in
-    record { used = tk.used; moves = record { is = tk.is; decls = tk.decls; lines = tk.lines }; written = (tk.written, expression_within i y tk.used h tk.is) }
+    record { used = tk.used; moves = record { is = tk.is; version = tk.version; decls = tk.decls; lines = tk.lines }; written = (tk.written, expression_within i y tk.used h tk.is) }
 
 -- an expression seen from where the statement began
 here : (t : Term) (i x j : Input) → x.decls ≡ i.decls → (r : Read t x j) → CheapTerm i.decls r.used t
@@ -104,6 +105,32 @@ statement_place_case sound kind _ i y e h = absurd (cc)
 statement_place_ok : (sound : ExpressionsAreWritten) → (kind : DeclKind) (i : Input) (y : Target × Input) → statement_place kind i ≡ Ok y → TargetBetween kind y.0 i y.1
 unfolding statement_place
 statement_place_ok sound kind i y h = statement_place_case sound kind (token i) i y refl h
+
+-- ---- a declaration by its name alone
+
+record NameBetween (kind : DeclKind) (p : Place) (i j : Input) : Type 0 where
+  used : List Spot
+  moves : Moves used i j
+  written : CheapPart i.decls used (of_name kind p)
+
+named_by : (kind : DeclKind) (slot : Slot) (i j : Input) → (s : Step i j) → NamedBy i.decls kind slot s.spot → NameBetween kind (place_of_slot slot) i j
+named_by kind slot i j s n = record {
+  used = s.spot ∷ [];
+  moves = s.moves;
+  written = by_name s.spot kind (is_some slot.size) (place_of_slot slot) (n (is_some slot.size) refl);
+}
+
+statement_name_case : (kind : DeclKind) (tk : Token) (i : Input) (y : Place × Input) → token i ≡ tk → statement_name_by kind tk i ≡ Ok y → NameBetween kind y.0 i y.1
+statement_name_case kind Name i y e h =
+    let b = bind_ok (seek kind i) _ y h in
+    let o = ok_parts (place_of_slot b.0.0, advanced b.0.1) y b.2 in
+    let v = name_step kind i b.0 e b.1 in
+    carried (λ p j. NameBetween kind p i j) _ _ _ _ o.0 o.1 (named_by kind b.0.0 i (advanced b.0.1) v.0 v.1)
+statement_name_case kind _ i y e h = absurd (cc)
+
+statement_name_ok : (kind : DeclKind) (i : Input) (y : Place × Input) → statement_name kind i ≡ Ok y → NameBetween kind y.0 i y.1
+unfolding statement_name
+statement_name_ok kind i y h = statement_name_case kind (token i) i y refl h
 
 -- ---- a source, and a status before other parts
 
@@ -234,6 +261,19 @@ fill_ok sound (target_hole kind ∷ hs) made i j a h =
       end = r.end;
       moves = part_moves e.used r.used r.end i b.0.1 j e.moves r.moves;
       written = part_first (of_target kind b.0.0) (filled hs r.contents) e.used r.used i b.0.1 e.moves.decls (by_target e.used kind b.0.0 e.written) r.written;
+      closed = r.closed;
+    }
+fill_ok sound (name_hole kind ∷ hs) made i j a h =
+    let b = bind_ok (statement_name kind i) _ (a, j) h in
+    let e = statement_name_ok kind i b.0 b.1 in
+    let r = fill_ok sound hs (λ c. made (b.0.0, c)) b.0.1 j a b.2 in
+    record {
+      contents = (b.0.0, r.contents);
+      is = r.is;
+      used = e.used ++ r.used;
+      end = r.end;
+      moves = part_moves e.used r.used r.end i b.0.1 j e.moves r.moves;
+      written = part_first (of_name kind b.0.0) (filled hs r.contents) e.used r.used i b.0.1 e.moves.decls e.written r.written;
       closed = r.closed;
     }
 fill_ok sound (source_hole ∷ hs) made i j a h =

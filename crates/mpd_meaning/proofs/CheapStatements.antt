@@ -1,5 +1,5 @@
 -- What is read as statements is written so, each expression within the budget, and no more statements begin than may.
-use Rattle.std.proofs.Common.{◌≡◌, ◌≢◌, ℕ, zero, suc, ◌+◌, Bool, true, false, cond, List, [], ◌∷◌, ◌++◌, Option, None, Some, Ok, refl, ap, sym, subst, ◌∙◌, append_assoc, length, length-append, nat_lt, ◌<◌, ◌≤◌, arith}
+use Rattle.std.proofs.Common.{◌≡◌, ◌≢◌, ℕ, zero, suc, ◌+◌, Bool, true, false, cond, List, [], ◌∷◌, ◌++◌, Option, None, Some, Ok, refl, ap, sym, subst, ◌∙◌, append_assoc, length, length-append, nat_lt, nat_le, ◌<◌, ◌≤◌, arith}
 use Rattle.std.proofs.lemmas.Bool.Decides.{nat_tests}
 use Rattle.mpd_model.specs.declared.limits.TheConstants.{STATEMENTS_MAX}
 use Rattle.mpd_model.specs.declared.place.DeclKind.TheVariants.{Variable}
@@ -10,8 +10,8 @@ use Rattle.mpd_model.specs.declared.token.Mark.TheVariants as m
 use Rattle.mpd_model.specs.declared.token.Token.{Token}
 use Rattle.mpd_model.specs.declared.token.Token.TheVariants.{Name, Is, End}
 use Rattle.mpd_model.specs.Declaration.{Declared}
-use Rattle.mpd_model.specs.Grammar.{expression, begin_statement, closes, place_of_slot, index_outside, Form, form_of, behind_word, by_form, assignment, otherwise, if_statement, while_statement, stmt_by, stmt, stmts, body, block}
-use Rattle.mpd_model.specs.Input.{Input, Outcome, Parser, and_then, token, token_of, spelling, advanced, behind, expect, seek, sees, count, slot_in, first_line, after, pure, fail, refuse, ◌>>=◌, ◌>>◌}
+use Rattle.mpd_model.specs.Grammar.{expression, begin_statement, closes, place_of_slot, index_outside, Form, form_of, behind_word, by_form, since, assignment, otherwise, if_statement, while_statement, stmt_by, stmt, stmts, body, block}
+use Rattle.mpd_model.specs.Input.{Input, Outcome, Parser, token, token_of, spelling, advanced, behind, expect, seek, sees, count, slot_in, first_line, after, pure, fail, refuse, ◌>>=◌, ◌>>◌}
 use Rattle.mpd_model.specs.Parts.{of_mark, of_target, mark_hole, term_hole, filled}
 use Rattle.mpd_model.specs.declared.stmt.Simple.TheVariants as st
 use Rattle.mpd_model.specs.ReaderLaws.{ExpressionsAreWritten}
@@ -36,6 +36,7 @@ pub record LinesBetween (Writes : List Declared → List Spot → List ℕ → T
   pub begun : List ℕ
   pub is : i.tokens ≡ used ++ j.tokens
   pub written : Writes i.decls used begun
+  pub version : j.version ≡ i.version
   pub decls : j.decls ≡ i.decls
   pub lines : j.lines ≡ i.lines ++ begun
   pub few : IsFew i → IsFew j
@@ -56,19 +57,21 @@ pub record Begun (i j : Input) : Type 0 where
   pub is : i.tokens ≡ spot ∷ j.tokens
   pub token : spot.token ≡ token i
   pub text : spot.text ≡ spelling i
+  pub version : j.version ≡ i.version
   pub decls : j.decls ≡ i.decls
   pub lines : j.lines ≡ i.lines ++ spot.line ∷ []
   pub few : IsFew j
 
-begin_statement_spot : (i j : Input) → token_of i.tokens ≢ End → j.tokens ≡ behind i.tokens → j.decls ≡ i.decls → j.lines ≡ i.lines ++ first_line i.tokens ∷ [] → IsFew j → Begun i j
+begin_statement_spot : (i j : Input) → token_of i.tokens ≢ End → j.tokens ≡ behind i.tokens → j.version ≡ i.version → j.decls ≡ i.decls → j.lines ≡ i.lines ++ first_line i.tokens ∷ [] → IsFew j → Begun i j
 unfolding token spelling
-begin_statement_spot i j some a b c few =
+begin_statement_spot i j some a v b c few =
     let f = first_spot i.tokens some in
     record {
       spot = f.0;
       is = f.1 ∙ ap (λ r. f.0 ∷ r) (sym a);
       token = f.2;
       text = f.3;
+      version = v;
       decls = b;
       lines = c ∙ ap (λ r. i.lines ++ first_line r ∷ []) f.1;
       few = few;
@@ -86,10 +89,11 @@ begin_statement_ok i y some h =
     let c = test_ok (nat_lt (length i.lines) STATEMENTS_MAX) _ _ b.0 b.1 in
     let o = ok_parts (tt, advanced b.0.1) y b.2 in
     let t : y.1.tokens ≡ behind b.0.1.tokens = sym (ap (λ k. k.tokens) o.1) in
+    let v : y.1.version ≡ b.0.1.version = sym (ap (λ k. k.version) o.1) in
     let d : y.1.decls ≡ b.0.1.decls = sym (ap (λ k. k.decls) o.1) in
     let l : y.1.lines ≡ b.0.1.lines = sym (ap (λ k. k.lines) o.1) in
     begin_statement_spot i y.1 some
-    (t ∙ sym (ap (λ p. behind p.1.tokens) c.1)) (d ∙ sym (ap (λ p. p.1.decls) c.1)) (l ∙ sym (ap (λ p. p.1.lines) c.1))
+    (t ∙ sym (ap (λ p. behind p.1.tokens) c.1)) (v ∙ sym (ap (λ p. p.1.version) c.1)) (d ∙ sym (ap (λ p. p.1.decls) c.1)) (l ∙ sym (ap (λ p. p.1.lines) c.1))
     (one_fits i y.1 c.0 (l ∙ sym (ap (λ p. p.1.lines) c.1)))
 
 -- ---- what follows the first token
@@ -99,6 +103,7 @@ pub record Rest (k : Mark) (t : Tree) (i j : Input) : Type 0 where
   pub used : List Spot
   pub begun : List ℕ
   pub is : i.tokens ≡ used ++ j.tokens
+  pub version : j.version ≡ i.version
   pub decls : j.decls ≡ i.decls
   pub lines : j.lines ≡ i.lines ++ begun
   pub few : IsFew i → IsFew j
@@ -110,7 +115,7 @@ append_none A (x ∷ xs) = ap (λ r. x ∷ r) (append_none A xs)
 
 -- a statement that holds no other
 flat : (k : Mark) (t : Tree) (used : List Spot) (i j : Input) → Moves used i j → ((s : Spot) → s.token ≡ Is k → CheapTree i.decls (s ∷ used) t (s.line ∷ [])) → Rest k t i j
-flat k t used i j x w = record { used = used; begun = []; is = x.is; decls = x.decls; lines = x.lines ∙ append_none ℕ i.lines; few = same_lines i j x.lines; written = w }
+flat k t used i j x w = record { used = used; begun = []; is = x.is; version = x.version; decls = x.decls; lines = x.lines ∙ append_none ℕ i.lines; few = same_lines i j x.lines; written = w }
 
 form_rest : (sound : ExpressionsAreWritten) → (f : Form) (i j : Input) (t : Tree) → behind_word f i ≡ Ok (t, j) → Rest f.word t i j
 form_rest sound f i j t h =
@@ -147,6 +152,7 @@ IsSoundBlock b = (i j : Input) (ts : List Tree) → b i ≡ Ok (ts, j) → Block
 -- two runs of tokens, each with its lines
 record Lines (used : List Spot) (begun : List ℕ) (i j : Input) : Type 0 where
   pub is : i.tokens ≡ used ++ j.tokens
+  pub version : j.version ≡ i.version
   pub decls : j.decls ≡ i.decls
   pub lines : j.lines ≡ i.lines ++ begun
   pub few : IsFew i → IsFew j
@@ -154,16 +160,17 @@ record Lines (used : List Spot) (begun : List ℕ) (i j : Input) : Type 0 where
 then_lines : (a b : List Spot) (ls ms : List ℕ) (i j k : Input) → Lines a ls i j → Lines b ms j k → Lines (a ++ b) (ls ++ ms) i k
 then_lines a b ls ms i j k x y = record {
   is = x.is ∙ ap (λ r. a ++ r) y.is ∙ sym (append_assoc a b k.tokens);
+  version = y.version ∙ x.version;
   decls = y.decls ∙ x.decls;
   lines = y.lines ∙ ap (λ r. r ++ ms) x.lines ∙ append_assoc i.lines ls ms;
   few = λ h. y.few (x.few h);
 }
 
 moves_lines : (used : List Spot) (i j : Input) → Moves used i j → Lines used [] i j
-moves_lines used i j x = record { is = x.is; decls = x.decls; lines = x.lines ∙ append_none ℕ i.lines; few = same_lines i j x.lines }
+moves_lines used i j x = record { is = x.is; version = x.version; decls = x.decls; lines = x.lines ∙ append_none ℕ i.lines; few = same_lines i j x.lines }
 
 lines_of : (W : List Declared → List Spot → List ℕ → Type 0) (i j : Input) (x : LinesBetween W i j) → Lines x.used x.begun i j
-lines_of W i j x = record { is = x.is; decls = x.decls; lines = x.lines; few = x.few }
+lines_of W i j x = record { is = x.is; version = x.version; decls = x.decls; lines = x.lines; few = x.few }
 
 abbrev OneBlock : List Tree → List Declared → List Spot → List ℕ → Type 0
 OneBlock ts ds ss ls = CheapBlock ds ss ts ls
@@ -179,6 +186,7 @@ chosen_alone i a j t x r b =
       used = r.used ++ b.used;
       begun = b.begun;
       is = all.is;
+      version = all.version;
       decls = all.decls;
       lines = all.lines;
       few = all.few;
@@ -195,6 +203,7 @@ chosen_else i a b c j t x y r f w e g =
       used = r.used ++ f.used ++ w.spot ∷ g.used;
       begun = f.begun ++ g.begun;
       is = all.is;
+      version = all.version;
       decls = all.decls;
       lines = all.lines;
       few = all.few;
@@ -208,6 +217,7 @@ repeated i a j t x r b =
       used = r.used ++ b.used;
       begun = b.begun;
       is = all.is;
+      version = all.version;
       decls = all.decls;
       lines = all.lines;
       few = all.few;
@@ -256,6 +266,7 @@ all_of k t i x j e b r = record {
   begun = b.spot.line ∷ r.begun;
   is = b.is ∙ ap (λ q. b.spot ∷ q) r.is;
   written = rw (← b.decls) (r.written b.spot (b.token ∙ e));
+  version = r.version ∙ b.version;
   decls = r.decls ∙ b.decls;
   lines = r.lines ∙ ap (λ q. q ++ r.begun) b.lines ∙ append_assoc i.lines (b.spot.line ∷ []) r.begun;
   few = λ h. r.few b.few;
@@ -274,6 +285,7 @@ assigned slot t i x j b n r = record {
   begun = b.spot.line ∷ [];
   is = b.is ∙ ap (λ q. b.spot ∷ q) r.moves.is;
   written = rw (← b.decls) (r.written b.spot (rw b.decls n));
+  version = r.moves.version ∙ b.version;
   decls = r.moves.decls ∙ b.decls;
   lines = r.moves.lines ∙ b.lines;
   few = λ h. same_lines x j r.moves.lines b.few;
@@ -292,9 +304,13 @@ assignment_takes sound i j t e h =
     λ is_array is. record { token = b.token ∙ e; slot = a.0.0; declared = ap (slot_in i.decls) b.text ∙ k.0; kind = k.1; size = is; place = refl } in
     assigned a.0.0 t i c.0.1 j b named (assignment_ok sound a.0.0 c.0.1 j t c.2)
 
--- a statement of a later version is never read
-not_in_version : (i : Input) (y : Tree × Input) → and_then (count i) (λ x. fail {A = Tree} NotInVersion) ≡ Ok y → ⊥
-not_in_version i y h = let b = bind_ok (count i) (λ x. fail {A = Tree} NotInVersion) y h in absurd (cc)
+-- where a later version's statement is read, it is read as it is
+since_case : (known : Bool) (p : Parser Tree) (i : Input) (y : Tree × Input) → cond known (p i) ((count >> fail NotInVersion) i) ≡ Ok y → p i ≡ Ok y
+since_case true p i y h = h
+since_case false p i y h = let b = bind_ok (count i) (λ x. fail {A = Tree} NotInVersion) y h in absurd (cc)
+
+since_ok : (version : ℕ) (p : Parser Tree) (i : Input) (y : Tree × Input) → since version p i ≡ Ok y → p i ≡ Ok y
+since_ok version p i y h = since_case (nat_le version i.version) p i y h
 
 -- a form stands under its own word
 form_word : (k : Mark) (f : Form) → form_of k ≡ Some f → f.word ≡ k
@@ -309,7 +325,7 @@ stmt_case : (sound : ExpressionsAreWritten) → (p : Parser (List Tree)) → IsS
 stmt_case sound p s Name i j t e h = assignment_takes sound i j t e h
 stmt_case sound p s (Is m.If) i j t e h = begin_statement_then m.If (if_statement p) (if_statement_rest sound p s) i j t e h
 stmt_case sound p s (Is m.While) i j t e h = begin_statement_then m.While (while_statement p) (while_statement_rest sound p s) i j t e h
-stmt_case sound p s (Is m.Waitany) i j t e h = absurd (not_in_version i (t, j) h)
+stmt_case sound p s (Is m.Waitany) i j t e h = form_case sound m.Waitany (form_of m.Waitany) i j t e refl (since_ok 2 (by_form (form_of m.Waitany)) i (t, j) h)
 stmt_case sound p s (Is k) i j t e h = form_case sound k (form_of k) i j t e refl h
 stmt_case sound p s _ i j t e h = absurd (cc)
 
@@ -334,6 +350,7 @@ none_more found ts i j a b = record {
     begun = [];
     is = ap (λ k. k.tokens) b;
     written = ended;
+    version = sym (ap (λ k. k.version) b);
     decls = sym (ap (λ k. k.decls) b);
     lines = sym (ap (λ k. k.lines) b) ∙ append_none ℕ i.lines;
     few = same_lines i j (sym (ap (λ k. k.lines) b));
@@ -357,6 +374,7 @@ one_more found ts t i x j a b =
         begun = a.begun ++ b.takes.begun;
         is = both.is;
         written = follows a.used b.takes.used t b.more a.begun b.takes.begun a.written (rw (← a.decls) b.takes.written);
+        version = both.version;
         decls = both.decls;
         lines = both.lines;
         few = both.few;
@@ -392,6 +410,7 @@ in_braces ts i a b j o p x c q =
       begun = x.begun;
       is = all.is;
       written = braces o.spot c.spot x.used ts x.begun p (rw (← o.moves.decls) x.written) q;
+      version = all.version;
       decls = all.decls;
       lines = all.lines ∙ ap (λ r. i.lines ++ r) (sym (append_none ℕ x.begun));
       few = all.few;

@@ -10,12 +10,12 @@ use Rattle.mpd_model.specs.declared.token.Token.TheVariants.{Name, Is}
 use Rattle.mpd_model.specs.Costs.{Stops, on}
 use Rattle.mpd_model.specs.Grammar.{expression, place_of_slot, index_outside, target, statement_place, source, status, fill, AreClear}
 use Rattle.mpd_model.specs.Input.{Input, Parser, token, token_of, advanced, slot_in, sees, is_mark, after}
-use Rattle.mpd_model.specs.Parts.{Part, Hole, mark_hole, term_hole, target_hole, source_hole, status_hole, source_part, status_parts, Contents, filled}
+use Rattle.mpd_model.specs.Parts.{Part, Hole, mark_hole, term_hole, target_hole, name_hole, source_hole, status_hole, source_part, status_parts, Contents, filled}
 use Rattle.mpd_model.specs.Term.{Term, Target}
 use Rattle.mpd_model.specs.Tokens.{Spot}
-use Rattle.mpd_model.specs.Written.{WrittenTerm, WrittenTarget, whole, part, WrittenPart, by_mark, by_term, by_target, WrittenParts, no_part, then_part}
+use Rattle.mpd_model.specs.Written.{WrittenTerm, WrittenTarget, whole, part, WrittenPart, by_mark, by_term, by_target, by_name, WrittenParts, no_part, then_part}
 use Rattle.mpd_laws.proofs.Complete.{mark_stops}
-use Rattle.mpd_laws.proofs.CompleteParts.{expect_on, whole_on, seek_on, statement_place_as, mark_seen, holes_stop, no_status, term_is_other, any_on, absent_on}
+use Rattle.mpd_laws.proofs.CompleteParts.{expect_on, whole_on, seek_on, statement_place_as, statement_name_on, mark_seen, holes_stop, no_status, term_is_other, any_on, absent_on}
 use Rattle.mpd_meaning.proofs.CheapParts.{status_of}
 use Rattle.mpd_meaning.proofs.Limited.{GivesOrLimited, then_limited, step_limited, same_limited, given, expression_limited}
 
@@ -142,6 +142,8 @@ fill_limited (target_hole kind ∷ hs) made c _ end rest ls b i p (then_part ss 
     same_tokens (fill (target_hole kind ∷ hs) made) (made c) (ss ++ rs ++ (end ∷ rest)) (ss ++ (rs ++ (end ∷ rest))) rest ls ls b i (append_assoc ss rs (end ∷ rest))
     (then_limited _ _ _ _ _ _ _ _ _ (statement_place_limited kind ss (rs ++ (end ∷ rest)) c.0 ls b i x)
     (λ n. fill_limited hs (λ d. made (c.0, d)) c.1 rs end rest ls n i p w e))
+fill_limited (name_hole kind ∷ hs) made c _ end rest ls b i p (then_part _ rs _ _ (by_name s _ is_array _ n) w) e =
+    step_limited _ _ _ _ _ _ _ (statement_name_on kind s is_array c.0 (rs ++ (end ∷ rest)) ls b i n) (fill_limited hs (λ d. made (c.0, d)) c.1 rs end rest ls b i p w e)
 fill_limited (source_hole ∷ hs) made c _ end rest ls b i p (then_part ss rs _ _ x w) e =
     same_tokens (fill (source_hole ∷ hs) made) (made c) (ss ++ rs ++ (end ∷ rest)) (ss ++ (rs ++ (end ∷ rest))) rest ls ls b i (append_assoc ss rs (end ∷ rest))
     (then_limited _ _ _ _ _ _ _ _ _ (source_limited c.0 ss (rs ++ (end ∷ rest)) ls b i x (holes_stop i.decls hs c.1 rs end rest p.0 w e))

@@ -1,21 +1,19 @@
 -- What is written as a script is read, or refused by a limit.
-use Rattle.std.proofs.Common.{◌≡◌, ◌⊎◌, ℕ, zero, suc, ◌+◌, ◌<◌, pos, Bool, true, false, nat_le, ◌&&◌, List, [], ◌∷◌, ◌++◌, length, length-append, Option, Some, None, Ok, inl, inr, refl, ap, ◌∙◌, arith}
-use Rattle.std.proofs.lemmas.Bool.{cases_Bool}
-use Rattle.std.specs.Ordering.{int_eq}
-use Rattle.std.proofs.lemmas.Bool.Decides.{nat_tests}
-use Rattle.mpd_model.specs.declared.limits.TheConstants.{BLOCKS_MAX, RANKS_MAX}
+use Rattle.std.proofs.Common.{◌≡◌, ◌⊎◌, ℕ, zero, suc, ◌+◌, ◌<◌, pos, Bool, true, false, nat_le, ◌&&◌, List, [], ◌∷◌, ◌++◌, length, length-append, Option, Some, None, Ok, inl, inr, refl, ap, arith}
+use Rattle.mpd_model.specs.declared.limits.TheConstants.{BLOCKS_MAX, RANKS_MAX, LANGUAGE_MAX}
 use Rattle.mpd_model.specs.declared.place.DeclKind.{DeclKind}
 use Rattle.mpd_model.specs.declared.token.Mark.TheVariants as m
 use Rattle.mpd_model.specs.declared.token.Token.TheVariants.{Number, Is}
 use Rattle.mpd_model.specs.Declaration.{Declared}
 use Rattle.mpd_model.specs.Costs.{on}
-use Rattle.mpd_model.specs.Grammar.{version_by, version, rank_count, ranks_of, ranks_by, ranks, array_size_at, array_size_by, array_size, single, declarator, declares, decls_from, decls, header, body, block}
+use Rattle.mpd_model.specs.Grammar.{version_in, version_of, version_by, version, rank_count, ranks_of, ranks_by, ranks, array_size_at, array_size_by, array_size, single, declarator, declares, decls_from, decls, header, body, block}
 use Rattle.mpd_model.specs.Grammar as grammar
 use Rattle.mpd_model.specs.Input.{Input, Outcome, Parser, and_then, token, token_of, spelling, place, advanced, sees, is_mark, after, add, cells_fit, slot_in}
 use Rattle.mpd_model.specs.Program.{Program}
 use Rattle.mpd_model.specs.Tokens.{Spot}
 use Rattle.mpd_model.specs.Written.{WrittenDecls, none, declares_one, declares_array, declared_as, WrittenScript, script}
-use Rattle.mpd_laws.proofs.CompleteScript.{has, expect_has, mark_seen, fresh_has, no_size, chosen, decl_as, decls_more, decls_end, version_has, body_is_no_decl, with_version}
+use Rattle.mpd_laws.proofs.CompleteScript.{has, expect_has, mark_seen, fresh_has, no_size, chosen, decl_as, decls_more, decls_end, body_is_no_decl}
+use Rattle.mpd_laws.proofs.SoundScript.{in_version}
 use Rattle.mpd_meaning.specs.FaultLaws.{IsRefusedByALimit}
 use Rattle.mpd_meaning.proofs.Limited.{GivesOrLimited, limited_bind}
 use Rattle.mpd_meaning.proofs.LimitedStatements.{whole_limited}
@@ -105,13 +103,15 @@ all_decls_or ss rest es i w h =
 
 -- ---- the header
 
--- another version is refused
-other_version : (s : Spot) (n : ℕ) (rest : List Spot) (ds : List Declared) (i : Input) → s.token ≡ Number (pos n) → int_eq (pos n) (pos 1) ≡ false → IsRefusedByALimit (version (has (s ∷ rest) ds i))
-unfolding version token
-other_version s n rest ds i e other = rw (e, other) tt
+version_in_or : (known : Bool) (s : Spot) (n : ℕ) (rest : List Spot) (ds : List Declared) (i : Input) → nat_le 1 n && nat_le n LANGUAGE_MAX ≡ known
+    → IsOrLimited (version_of (version_in (pos n)) (has (s ∷ rest) ds i)) (tt, has rest ds (in_version n i))
+unfolding advanced
+version_in_or true s n rest ds i h = rw h (inl refl)
+version_in_or false s n rest ds i h = rw h (inr tt)
 
-version_one : (n : ℕ) → int_eq (pos n) (pos 1) ≡ true → n ≡ 1
-version_one n h = grind (arith, nat_tests)
+version_or : (s : Spot) (n : ℕ) (rest : List Spot) (ds : List Declared) (i : Input) → s.token ≡ Number (pos n) → IsOrLimited (version (has (s ∷ rest) ds i)) (tt, has rest ds (in_version n i))
+unfolding version token
+version_or s n rest ds i e = same_or _ _ _ (ap (λ u. version_by u (has (s ∷ rest) ds i)) e) (version_in_or (nat_le 1 n && nat_le n LANGUAGE_MAX) s n rest ds i refl)
 
 rank_count_or : (within : Bool) (s : Spot) (n : ℕ) (rest : List Spot) (ds : List Declared) (i : Input) → nat_le 1 n && nat_le n RANKS_MAX ≡ within
     → IsOrLimited (ranks_of (rank_count (pos n)) (has (s ∷ rest) ds i)) (n, has rest ds i)
@@ -124,23 +124,18 @@ unfolding ranks token
 ranks_or s n rest ds i e = same_or _ _ _ (ap (λ u. ranks_by u (has (s ∷ rest) ds i)) e) (rank_count_or (nat_le 1 n && nat_le n RANKS_MAX) s n rest ds i refl)
 
 header_or : (mpd v a r c b : Spot) (ss rest : List Spot) (n count : ℕ) (es : List Declared) (i : Input)
-    → mpd.token ≡ Is m.Mpd → v.token ≡ Number (pos n) → n ≡ 1 → a.token ≡ Is m.Semicolon → r.token ≡ Is m.Ranks → c.token ≡ Number (pos count)
-    → b.token ≡ Is m.Semicolon → WrittenDecls [] ss es → declares (token_of rest) ≡ None → IsOrLimited (header (has (mpd ∷ v ∷ a ∷ r ∷ c ∷ b ∷ (ss ++ rest)) [] i)) (count, has rest es i)
+    → mpd.token ≡ Is m.Mpd → v.token ≡ Number (pos n) → a.token ≡ Is m.Semicolon → r.token ≡ Is m.Ranks → c.token ≡ Number (pos count)
+    → b.token ≡ Is m.Semicolon → WrittenDecls [] ss es → declares (token_of rest) ≡ None → IsOrLimited (header (has (mpd ∷ v ∷ a ∷ r ∷ c ∷ b ∷ (ss ++ rest)) [] i)) (count, has rest es (in_version n i))
 unfolding header
-header_or mpd v a r c b ss rest n count es i hm hv one ha hr hc hb w h =
+header_or mpd v a r c b ss rest n count es i hm hv ha hr hc hb w h =
+    let k : Input = in_version n i in
     then_or _ _ _ _ (inl (expect_has m.Mpd mpd (v ∷ a ∷ r ∷ c ∷ b ∷ (ss ++ rest)) [] i hm))
-    (then_or _ _ _ _ (inl (version_has v n (a ∷ r ∷ c ∷ b ∷ (ss ++ rest)) [] i hv one))
-    (then_or _ _ _ _ (inl (expect_has m.Semicolon a (r ∷ c ∷ b ∷ (ss ++ rest)) [] i ha))
-    (then_or _ _ _ _ (inl (expect_has m.Ranks r (c ∷ b ∷ (ss ++ rest)) [] i hr))
-    (then_or _ _ _ _ (ranks_or c count (b ∷ (ss ++ rest)) [] i hc)
-    (then_or _ _ _ _ (inl (expect_has m.Semicolon b (ss ++ rest) [] i hb))
-    (then_or _ _ _ _ (all_decls_or ss rest es i w h) (inl refl)))))))
-
-header_refused : (mpd v : Spot) (rest : List Spot) (n : ℕ) (i : Input) → mpd.token ≡ Is m.Mpd → v.token ≡ Number (pos n) → int_eq (pos n) (pos 1) ≡ false → IsRefusedByALimit (header (has (mpd ∷ v ∷ rest) [] i))
-unfolding header
-header_refused mpd v rest n i hm hv other =
-    let e = expect_has m.Mpd mpd (v ∷ rest) [] i hm in
-    rw e (limited_bind (version (has (v ∷ rest) [] i)) _ (other_version v n rest [] i hv other))
+    (then_or _ _ _ _ (version_or v n (a ∷ r ∷ c ∷ b ∷ (ss ++ rest)) [] i hv)
+    (then_or _ _ _ _ (inl (expect_has m.Semicolon a (r ∷ c ∷ b ∷ (ss ++ rest)) [] k ha))
+    (then_or _ _ _ _ (inl (expect_has m.Ranks r (c ∷ b ∷ (ss ++ rest)) [] k hr))
+    (then_or _ _ _ _ (ranks_or c count (b ∷ (ss ++ rest)) [] k hc)
+    (then_or _ _ _ _ (inl (expect_has m.Semicolon b (ss ++ rest) [] k hb))
+    (then_or _ _ _ _ (all_decls_or ss rest es k w h) (inl refl)))))))
 
 -- ---- scripts
 
@@ -152,21 +147,17 @@ whole_or : (o : Outcome Program) (f : ℕ → Parser Program) (h : Outcome ℕ) 
 whole_or o f h x p e (inl is) g = rw (e, is) g
 whole_or o f h x p e (inr l) g = rw e (inr (limited_bind h f l))
 
-body_or : (n : ℕ) (rs : List Spot) (p : Program) (i : Input) → p.version ≡ 1 → i.decls ≡ p.decls → GivesOrLimited (body (block BLOCKS_MAX) false i) p.body [] p.lines i
-    → ScriptLimited (and_then (body (block BLOCKS_MAX) false i) (grammar.with_body p.ranks)) p
-body_or n rs p i one same (inl g) =
-    let made : record { version = 1; ranks = p.ranks; decls = i.decls; body = p.body; lines = p.lines } ≡ p =
-    ap (λ ds. record { version = 1; ranks = p.ranks; decls = ds; body = p.body; lines = p.lines }) same ∙ with_version p 1 one in
-    inl (on [] p.lines g.left i, ap (λ o. and_then o (grammar.with_body p.ranks)) g.is ∙ ap (λ q. Ok (q, on [] p.lines g.left i)) made)
-body_or n rs p i one same (inr l) = inr (limited_bind (body (block BLOCKS_MAX) false i) (grammar.with_body p.ranks) l)
+-- behind the header, the input is in the program's version and has its declarations
+abbrev behind_header : List Spot → Program → Input → Input
+behind_header rs p i = has rs p.decls (in_version p.version i)
+
+body_or : (rs : List Spot) (p : Program) (i : Input) → GivesOrLimited (body (block BLOCKS_MAX) false (behind_header rs p i)) p.body [] p.lines (behind_header rs p i)
+    → ScriptLimited (and_then (body (block BLOCKS_MAX) false (behind_header rs p i)) (grammar.with_body p.ranks)) p
+body_or rs p i (inl g) = inl (on [] p.lines g.left (behind_header rs p i), ap (λ o. and_then o (grammar.with_body p.ranks)) g.is)
+body_or rs p i (inr l) = inr (limited_bind (body (block BLOCKS_MAX) false (behind_header rs p i)) (grammar.with_body p.ranks) l)
 
 pub script_limited : (ss : List Spot) (p : Program) (i : Input) → i.lines ≡ [] → WrittenScript ss p → ScriptLimited (grammar.script (has ss [] i)) p
 unfolding grammar.script
 script_limited _ _ i none_yet (script mpd v a r c b ss rs p hm hv ha hr hc hb ds w) =
-    elim (cases_Bool (int_eq (pos p.version) (pos 1))) [
-      | inl is ↦
-          let one : p.version ≡ 1 = version_one p.version is in
-          whole_or _ _ _ _ p refl (header_or mpd v a r c b ss rs p.version p.ranks p.decls i hm hv one ha hr hc hb ds (body_is_no_decl p.decls rs p.body p.lines w))
-          (body_or p.ranks rs p (has rs p.decls i) one refl (whole_limited BLOCKS_MAX rs p.body p.lines (has rs p.decls i) refl none_yet w))
-      | inr other ↦ inr (limited_bind (header (has (mpd ∷ v ∷ a ∷ r ∷ c ∷ b ∷ (ss ++ rs)) [] i)) _ (header_refused mpd v (a ∷ r ∷ c ∷ b ∷ (ss ++ rs)) p.version i hm hv other))
-    ]
+    whole_or _ _ _ _ p refl (header_or mpd v a r c b ss rs p.version p.ranks p.decls i hm hv ha hr hc hb ds (body_is_no_decl p.decls rs p.body p.lines w))
+    (body_or rs p i (whole_limited BLOCKS_MAX rs p.body p.lines (behind_header rs p i) refl none_yet w))

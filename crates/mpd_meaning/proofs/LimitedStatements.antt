@@ -1,36 +1,44 @@
 -- What is written as statements is read, or refused by a limit.
-use Rattle.std.proofs.Common.{◌≡◌, ℕ, zero, suc, ◌+◌, ◌<◌, Bool, true, false, List, [], ◌∷◌, ◌++◌, length, length-append, append-nil, Some, inl, inr, refl, ap, sym, subst, ◌∙◌, append_assoc, arith}
+use Rattle.std.proofs.Common.{◌≡◌, ℕ, zero, suc, ◌+◌, ◌<◌, ◌⊎◌, Bool, true, false, cond, nat_lt, nat_le, List, [], ◌∷◌, ◌++◌, length, length-append, append-nil, Some, Ok, inl, inr, refl, ap, sym, subst, ◌∙◌, append_assoc, arith}
 use Rattle.mpd_model.specs.declared.place.DeclKind.TheVariants.{Variable}
 use Rattle.mpd_model.specs.declared.slot.Slot.{Slot}
 use Rattle.mpd_model.specs.declared.stmt.Simple.{Simple}
 use Rattle.mpd_model.specs.declared.stmt.Simple.TheVariants as st
+use Rattle.mpd_model.specs.declared.read_fault.FaultCode.TheVariants.{NotInVersion, TooMany}
+use Rattle.mpd_model.specs.declared.token.Mark.{Mark}
 use Rattle.mpd_model.specs.declared.token.Mark.TheVariants as m
 use Rattle.mpd_model.specs.declared.token.Token.{Token}
 use Rattle.mpd_model.specs.declared.token.Token.TheVariants.{Name, Is}
 use Rattle.mpd_model.specs.Declaration.{Declared}
 use Rattle.mpd_model.specs.Costs.{Stops, on}
-use Rattle.mpd_model.specs.Grammar.{begin_statement, closes, place_of_slot, index_outside, fill, Form, behind_word, by_form, HasForm, all_formed, assignment, otherwise, if_statement, while_statement, stmt_by, stmt, stmts, body, block}
-use Rattle.mpd_model.specs.Input.{Input, Outcome, Parser, and_then, token, token_of, slot_in, is_mark, first_line, sees}
+use Rattle.mpd_model.specs.Grammar.{begin_statement, closes, place_of_slot, index_outside, fill, Form, form_of, behind_word, by_form, HasForm, all_formed, assignment, otherwise, if_statement, while_statement, stmt_by, stmt, stmts, body, block}
+use Rattle.mpd_model.specs.Input.{Input, Outcome, Parser, and_then, token, token_of, slot_in, is_mark, first_line, sees, count, max_statements, fail, ◌>>◌}
 use Rattle.mpd_model.specs.Parts.{Part, of_mark, parts_of, mark_hole, term_hole, Contents, filled}
 use Rattle.mpd_model.specs.Term.{Term, Target}
 use Rattle.mpd_model.specs.Tokens.{Spot}
 use Rattle.mpd_model.specs.Tree.{Tree, simple, branch, repeat, no_more, block_of}
 use Rattle.mpd_model.specs.Written.{WrittenTerm, by_mark, by_target, WrittenParts, then_part, WrittenTree, simply, repeats, chooses, chooses_else, WrittenBlock, braces, WrittenBody, ended, follows}
 use Rattle.mpd_laws.proofs.CompleteParts.{expect_on, seek_on, mark_seen}
-use Rattle.mpd_laws.proofs.CompleteStatements.{otherwise_none, otherwise_some, stmt_by_form, assigned_tokens, assigned_line, brace_closes, block_stops, body_other, stmts_end, Opens, tree_opens}
+use Rattle.mpd_laws.proofs.CompleteStatements.{otherwise_none, otherwise_some, assigned_tokens, assigned_line, brace_closes, block_stops, body_other, stmts_end, Opens, tree_opens}
 use Rattle.mpd_laws.proofs.Turns.{some_token}
+use Rattle.mpd_meaning.specs.FaultLaws.{IsRefusedByALimit}
 use Rattle.mpd_meaning.proofs.Limited.{GivesOrLimited, then_limited, step_limited, same_limited, given, begin_statement_limited, expression_limited}
 use Rattle.mpd_meaning.proofs.LimitedParts.{begins_place, fill_limited}
 
 -- ---- the first token of a statement
 
+-- what stands behind a word is read, or a limit refuses it there
+abbrev Begins : Outcome Tree → Outcome Tree → Type 0
+Begins o p = (o ≡ p) ⊎ IsRefusedByALimit o
+
 -- a statement by its first token, and what follows that
 begins_limited : (B : Parser (List Tree)) (q : Parser Tree) (k : Spot) (ss rest : List Spot) (t : Tree) (ls ms : List ℕ) (b : ℕ) (tk : Token) (i : Input)
-    → k.token ≡ tk → stmt_by B tk ≡ (λ x. and_then (begin_statement x) (λ u. q))
+    → k.token ≡ tk → Begins (stmt_by B tk (on (k ∷ ss) ls b i)) (and_then (begin_statement (on (k ∷ ss) ls b i)) (λ u. q))
     → ((c : ℕ) → GivesOrLimited (q (on ss (ls ++ k.line ∷ []) c i)) t rest ms i) → GivesOrLimited (stmt B (on (k ∷ ss) ls b i)) t rest ms i
 unfolding stmt token
-begins_limited B q k ss rest t ls ms b tk i e s g =
-    same_limited _ _ t rest ms i (ap (λ u. stmt_by B u (on (k ∷ ss) ls b i)) e ∙ ap (λ f. f (on (k ∷ ss) ls b i)) s)
+begins_limited B q k ss rest t ls ms b tk i e (inr l) g = same_limited _ _ t rest ms i (ap (λ u. stmt_by B u (on (k ∷ ss) ls b i)) e) (inr l)
+begins_limited B q k ss rest t ls ms b tk i e (inl s) g =
+    same_limited _ _ t rest ms i (ap (λ u. stmt_by B u (on (k ∷ ss) ls b i)) e ∙ s)
     (then_limited (begin_statement (on (k ∷ ss) ls b i)) (λ u. q) tt t ss rest (ls ++ k.line ∷ []) ms i (begin_statement_limited k ss ls b i) g)
 
 -- an assignment by its name, which is sought before the statement is counted
@@ -75,12 +83,32 @@ same_of : {A : Type 0} (p : Parser A) (a : A) (ss us rest : List Spot) (ls ms ns
     → GivesOrLimited (p (on us ls b i)) a rest ms i → GivesOrLimited (p (on ss ls b i)) a rest ns i
 same_of p a ss us rest ls ms ns b i d e g = rw (d, ← e) g
 
+-- where a text's version has no such statement, a limit refuses it
+older_case : (few : Bool) (i j : Input) → IsRefusedByALimit (and_then (cond few (Ok (tt, j)) (fail TooMany i)) (λ (u : Unit {0}). fail {A = Tree} NotInVersion))
+older_case true i j = tt
+older_case false i j = tt
+
+older_limited : (i : Input) → IsRefusedByALimit ((count >> fail {A = Tree} NotInVersion) i)
+unfolding count
+older_limited i = older_case (nat_lt (length i.lines) max_statements) i (record i { lines = i.lines ++ first_line i.tokens ∷ [] })
+
+since_limited : (known : Bool) (p : Parser Tree) (i : Input) → Begins (cond known (p i) ((count >> fail NotInVersion) i)) (p i)
+since_limited true p i = inl refl
+since_limited false p i = inr (older_limited i)
+
+-- where a word has a form, that reads the statement, or a limit refuses it
+by_form_limited : (B : Parser (List Tree)) (k : Mark) (f : Form) (i : Input) → form_of k ≡ Some f → Begins (stmt_by B (Is k) i) (by_form (Some f) i)
+by_form_limited B m.If f i h = absurd (cc)
+by_form_limited B m.While f i h = absurd (cc)
+by_form_limited B m.Waitany f i h = subst (λ o. Begins (stmt_by B (Is m.Waitany) i) (by_form o i)) h (since_limited (nat_le 2 i.version) (by_form (form_of m.Waitany)) i)
+by_form_limited B k f i h = inl (ap (λ o. by_form o i) h)
+
 -- a statement by its word
-form_limited : (i : Input) (n : ℕ) (f : Form) (c : Contents f.holes) (ss : List Spot) (end : Spot) → ((B : Parser (List Tree)) → stmt_by B (Is f.word) ≡ by_form (Some f))
+form_limited : (i : Input) (n : ℕ) (f : Form) (c : Contents f.holes) (ss : List Spot) (end : Spot) → form_of f.word ≡ Some f
     → WrittenParts i.decls ss (of_mark f.word ∷ filled f.holes c) → end.token ≡ Is m.Semicolon → TreeLimited i n (ss ++ end ∷ []) (simple (f.made c)) (first_line ss ∷ [])
-form_limited i n f c _ end by (then_part _ rs _ _ (by_mark s _ h) w) he b ls rest last =
+form_limited i n f c _ end found (then_part _ rs _ _ (by_mark s _ h) w) he b ls rest last =
     same_of (stmt (block n)) (simple (f.made c)) _ (s ∷ (rs ++ (end ∷ rest))) rest ls _ _ b i (simp append_assoc) refl
-    (begins_limited (block n) (behind_word f) s (rs ++ (end ∷ rest)) rest (simple (f.made c)) ls _ b (Is f.word) i h (by (block n))
+    (begins_limited (block n) (behind_word f) s (rs ++ (end ∷ rest)) rest (simple (f.made c)) ls _ b (Is f.word) i h (by_form_limited (block n) f.word f (on (s ∷ (rs ++ (end ∷ rest))) ls b i) found)
     (λ d. fill_limited f.holes (λ d. simple (f.made d)) c rs end rest (ls ++ s.line ∷ []) d i f.clear w he))
 
 behind_place_limited : (slot : Slot) (xs us rest : List Spot) (t : Target) (e : Term) (ls : List ℕ) (b : ℕ) (i : Input) → GivesOrLimited (index_outside (place_of_slot slot) slot.size (on xs ls b i)) t us ls i
@@ -111,7 +139,7 @@ SimpleLimited i n s = PartsLimited i n (simple s) (parts_of s)
 formed_limited : (i : Input) (n : ℕ) (s : Simple) → HasForm s → SimpleLimited i n s
 formed_limited i n s x =
     let formed : PartsLimited i n (simple (x.form.made x.contents)) (of_mark x.form.word ∷ filled x.form.holes x.contents) =
-    λ ss end w he. form_limited i n x.form x.contents ss end (λ B. stmt_by_form B x.form.word x.form x.found) w he in
+    λ ss end w he. form_limited i n x.form x.contents ss end x.found w he in
     subst (SimpleLimited i n) x.is (subst (PartsLimited i n (simple (x.form.made x.contents))) (sym (x.form.parts x.contents)) formed)
 
 simple_limited : (i : Input) (n : ℕ) (s : Simple) → SimpleLimited i n s
@@ -123,7 +151,7 @@ repeats_limited : (i : Input) (n : ℕ) (k : Spot) (e a : List Spot) (t : Term) 
 repeats_limited i n k e a t x ms hk w s f b ls rest last =
     let ks : List ℕ = ls ++ k.line ∷ [] in
     same_of (stmt (block n)) (repeat t (block_of x)) _ (k ∷ (e ++ (a ++ rest))) rest ls (ks ++ ms) _ b i (simp append_assoc) (append_assoc ls (k.line ∷ []) ms)
-    (begins_limited (block n) (while_statement (block n)) k (e ++ (a ++ rest)) rest (repeat t (block_of x)) ls _ b (Is m.While) i hk refl
+    (begins_limited (block n) (while_statement (block n)) k (e ++ (a ++ rest)) rest (repeat t (block_of x)) ls _ b (Is m.While) i hk (inl refl)
     (λ d. while_limited (block n) e (a ++ rest) rest t x ks (ks ++ ms) d i w (s rest) (λ c. f c ks rest)))
 
 nothing_else : (B : Parser (List Tree)) (rest : List Spot) (ls : List ℕ) (b : ℕ) (i : Input) → is_mark m.Else (token_of rest) ≡ false → GivesOrLimited (otherwise B (on rest ls b i)) [] rest ls i
@@ -138,7 +166,7 @@ chooses_limited : (i : Input) (n : ℕ) (k : Spot) (e a : List Spot) (t : Term) 
 chooses_limited i n k e a t x ms hk w s f b ls rest last =
     let ks : List ℕ = ls ++ k.line ∷ [] in
     same_of (stmt (block n)) (branch t (block_of x) no_more) _ (k ∷ (e ++ (a ++ rest))) rest ls (ks ++ ms) _ b i (simp append_assoc) (append_assoc ls (k.line ∷ []) ms)
-    (begins_limited (block n) (if_statement (block n)) k (e ++ (a ++ rest)) rest (branch t (block_of x) no_more) ls _ b (Is m.If) i hk refl
+    (begins_limited (block n) (if_statement (block n)) k (e ++ (a ++ rest)) rest (branch t (block_of x) no_more) ls _ b (Is m.If) i hk (inl refl)
     (λ d. if_limited (block n) e (a ++ rest) rest rest t x [] ks (ks ++ ms) (ks ++ ms) d i w (s rest)
     (λ c. f c ks rest) (λ c. nothing_else (block n) rest (ks ++ ms) c i last)))
 
@@ -148,7 +176,7 @@ chooses_else_limited : (i : Input) (n : ℕ) (k o : Spot) (e a z : List Spot) (t
 chooses_else_limited i n k o e a z t x y ms ns hk w s f ho g b ls rest last =
     let ks : List ℕ = ls ++ k.line ∷ [] in
     same_of (stmt (block n)) (branch t (block_of x) (block_of y)) _ (k ∷ (e ++ (a ++ (o ∷ (z ++ rest))))) rest ls (ks ++ ms ++ ns) _ b i (simp append_assoc) (simp append_assoc)
-    (begins_limited (block n) (if_statement (block n)) k (e ++ (a ++ (o ∷ (z ++ rest)))) rest (branch t (block_of x) (block_of y)) ls _ b (Is m.If) i hk refl
+    (begins_limited (block n) (if_statement (block n)) k (e ++ (a ++ (o ∷ (z ++ rest)))) rest (branch t (block_of x) (block_of y)) ls _ b (Is m.If) i hk (inl refl)
     (λ d. if_limited (block n) e (a ++ (o ∷ (z ++ rest))) (o ∷ (z ++ rest)) rest t x y ks (ks ++ ms) (ks ++ ms ++ ns) d i w (s (o ∷ (z ++ rest)))
     (λ c. f c ks (o ∷ (z ++ rest))) (λ c. else_limited (block n) o (z ++ rest) rest y (ks ++ ms) (ks ++ ms ++ ns) c i ho (g c (ks ++ ms) rest))))
 

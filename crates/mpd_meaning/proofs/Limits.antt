@@ -1,19 +1,19 @@
 -- What is read as a header keeps the limits of ranks and cells.
 use Rattle.std.proofs.Common.{◌≡◌, ℕ, zero, suc, ◌+◌, ◌≤◌, ℤ, pos, negsuc, Bool, true, false, cond, ◌&&◌, nat_le, List, [], ◌∷◌, ◌++◌, length, Option, Some, None, Ok, refl, ap, sym, subst, arith}
-use Rattle.std.specs.Ordering.{int_eq}
 use Rattle.std.proofs.lemmas.Bool.Decides.{nat_tests}
 use Rattle.mpd_model.specs.declared.limits.TheConstants.{RANKS_MAX, CELLS_MAX, HANDLES_MAX}
 use Rattle.mpd_model.specs.declared.place.DeclKind.{DeclKind}
-use Rattle.mpd_model.specs.declared.read_fault.FaultCode.TheVariants.{NotInVersion, TooMany}
+use Rattle.mpd_model.specs.declared.read_fault.FaultCode.TheVariants.{TooMany}
 use Rattle.mpd_model.specs.declared.token.Mark.{Mark}
 use Rattle.mpd_model.specs.declared.token.Mark.TheVariants as m
 use Rattle.mpd_model.specs.declared.token.Token.{Token}
 use Rattle.mpd_model.specs.declared.token.Token.TheVariants.{Number, Name}
 use Rattle.mpd_model.specs.Declaration.{Declared, variables_in, handles_in, variable_cells, handle_cells}
 use Rattle.mpd_model.specs.Faults.{fault}
-use Rattle.mpd_model.specs.Grammar.{version_by, version, rank_count, ranks_of, ranks_by, ranks, natural, array_size_at, array_size_by, array_size, single, declarator, decl_by, decl, declares, decls_by, decls_from, decls, header}
-use Rattle.mpd_model.specs.Input.{Input, Parser, token, spelling, place, advanced, expect, sees, fresh, add, cells_fit, after, advance, fail}
+use Rattle.mpd_model.specs.Grammar.{version_in, version_of, version_by, version, rank_count, ranks_of, ranks_by, ranks, natural, array_size_at, array_size_by, array_size, single, declarator, decl_by, decl, declares, decls_by, decls_from, decls, header}
+use Rattle.mpd_model.specs.Input.{Input, Parser, token, spelling, place, advanced, expect, sees, fresh, add, cells_fit, after}
 use Rattle.mpd_laws.proofs.Cells.{variables_in-more, handles_in-more}
+use Rattle.mpd_laws.proofs.SoundScript.{in_version}
 use Rattle.mpd_meaning.proofs.Listed.{both_of}
 use Rattle.mpd_meaning.proofs.Successes.{bind_ok, ok_parts, carried, test_ok, expect_ok}
 
@@ -145,17 +145,17 @@ ranks_next : (i : Input) (y : ℕ × Input) → ranks i ≡ Ok y → y.1 ≡ adv
 unfolding ranks
 ranks_next i y h = ranks_next_case (token i) i y h
 
-version_test : (b : Bool) (i : Input) (y : Unit {0} × Input) → cond b advance (fail NotInVersion) i ≡ Ok y → y.1 ≡ advanced i
-version_test true i y h = sym (ok_parts (tt, advanced i) y h).1
-version_test false i y h = absurd (cc)
+version_told : (o : Option ℕ) (i : Input) (y : Unit {0} × Input) → version_of o i ≡ Ok y → Fits i.decls → Fits y.1.decls
+version_told (Some n) i y h f = kept (in_version n i) y.1 (sym (ok_parts (tt, advanced (in_version n i)) y h).1) f
+version_told None i y h f = absurd (cc)
 
-version_next_case : (tk : Token) (i : Input) (y : Unit {0} × Input) → version_by tk i ≡ Ok y → y.1 ≡ advanced i
-version_next_case (Number z) i y h = version_test (int_eq z (pos 1)) i y h
-version_next_case _ i y h = absurd (cc)
+version_case : (tk : Token) (i : Input) (y : Unit {0} × Input) → version_by tk i ≡ Ok y → Fits i.decls → Fits y.1.decls
+version_case (Number z) i y h f = version_told (version_in z) i y h f
+version_case _ i y h f = absurd (cc)
 
-version_next : (i : Input) (y : Unit {0} × Input) → version i ≡ Ok y → y.1 ≡ advanced i
+version_keeps : (i : Input) (y : Unit {0} × Input) → version i ≡ Ok y → Fits i.decls → Fits y.1.decls
 unfolding version
-version_next i y h = version_next_case (token i) i y h
+version_keeps i y h f = version_case (token i) i y h f
 
 pub header_within : (i : Input) (y : ℕ × Input) → Fits i.decls → header i ≡ Ok y → HeaderWithin y.0 y.1
 unfolding header
@@ -169,7 +169,7 @@ header_within i y fits h =
     let g = bind_ok (decls f.0.1) _ y f.2 in
     let o = ok_parts (e.0.0, g.0.1) y g.2 in
     let one = expect_keeps m.Mpd i a.0 a.1 fits in
-    let two = kept a.0.1 b.0.1 (version_next a.0.1 b.0 b.1) one in
+    let two = version_keeps a.0.1 b.0 b.1 one in
     let three = expect_keeps m.Semicolon b.0.1 c.0 c.1 two in
     let four = expect_keeps m.Ranks c.0.1 d.0 d.1 three in
     let five = kept d.0.1 e.0.1 (ranks_next d.0.1 e.0 e.1) four in

@@ -1,17 +1,20 @@
 -- The list of steps has every step that leads to a world, and `outcome` asks every step.
-use Rattle.std.proofs.Common.{◌≡◌, ◌↔◌, ℕ, ◌<◌, Bool, true, false, cond, ◌&&◌, ◌||◌, List, [], ◌∷◌, ◌++◌, length, map, slice_get, Option, Some, None, is_some, is_none, option_and_then, inl, inr, refl, sym, ap, ◌∙◌, arith}
+use Rattle.std.proofs.Common.{◌≡◌, ◌↔◌, ℕ, ◌+◌, ◌<◌, nat_lt, Bool, true, false, cond, ◌&&◌, ◌||◌, List, [], ◌∷◌, ◌++◌, length, map, slice_get, Option, Some, None, is_some, is_none, option_and_then, inl, inr, refl, sym, ap, ◌∙◌, arith}
 use Rattle.std.specs.Prelude.{IsSome}
 use Rattle.std.specs.Option.{option_map}
-use Rattle.std.specs.List.{list_any, Contains}
+use Rattle.std.specs.List.{list_any, range_with_len, Contains}
+use Rattle.std.proofs.lemmas.Bool.{ltb-true}
 use Rattle.std.proofs.lemmas.Option.{slice_get_within}
 use Rattle.mpd_model.specs.declared.step.CallId.{CallId}
 use Rattle.mpd_model.specs.declared.step.Step.{Step}
-use Rattle.mpd_model.specs.declared.step.Step.TheVariants.{Local, Match, Wake, Release}
+use Rattle.mpd_model.specs.declared.step.Step.TheVariants.{Local, Match, Wake, WakeAny, Release}
 use Rattle.mpd_model.specs.declared.call.Call.{Call}
+use Rattle.mpd_model.specs.declared.call.CallKind.{CallKind}
+use Rattle.mpd_model.specs.declared.call.CallKind.TheVariants.{Waitany}
 use Rattle.mpd_model.specs.declared.call.MatchSet.TheVariants.{Pair}
 use Rattle.mpd_model.specs.declared.outcome.Outcome.{Outcome}
 use Rattle.mpd_model.specs.World.{World, Board, RankWorld, call_id, calls_of, listed_calls, kind_of, kind_at, rank_numbers, call_numbers, is_message_kind, partner, is_free, eligible, complete, last_call}
-use Rattle.mpd_model.specs.Next.{local, local_at, stepped, waits, can_wake, woken, with_set, next, is_enabled, matches_with, matches_of, matches_in, steps_of, enabled}
+use Rattle.mpd_model.specs.Next.{local, local_at, stepped, waits, can_wake, woken, with_set, next, is_enabled, requests_of, request_handle, held_in, any_call, is_complete_some, can_wake_any, woken_any, any_wakes_of, any_wakes_in, matches_with, matches_of, matches_in, steps_of, enabled}
 use Rattle.mpd_model.specs.Outcomes.{ending, outcome}
 use Rattle.mpd_meaning.specs.StepLaws.{HasCalls, IsEndedSo}
 use Rattle.mpd_meaning.proofs.Members.{In, in_contains, contains_in, in_left, in_right, in_map, in_flat, in_range, in_filter, filter_from}
@@ -79,25 +82,47 @@ match_listed b s r hs hr =
     (in_flat (λ p. map (λ i. Match (call_id p i) r) (call_numbers b p)) (rank_numbers b) s.rank (Match s r) hs.rank
     (in_map (λ i. Match (call_id s.rank i) r) (call_numbers b s.rank) s.index hs.index)))
 
+-- a request that is there has an index below their number
+has_index : (b : Board) (p i : ℕ) (k : Option CallKind) (r : Option RankWorld) → is_complete_some b (held_in p r (request_handle k i)) ≡ true → i < requests_of k
+has_index b p i (Some (Waitany a)) r e = ltb-true i a.count (below r (nat_lt i a.count) e)
+  where
+    below : (r : Option RankWorld) (c : Bool) → is_complete_some b (held_in p r (cond c (Some (a.first + i)) None)) ≡ true → c ≡ true
+    below r true e = refl
+    below (Some r) false e = absurd (cc)
+    below None false e = absurd (cc)
+has_index b p i k (Some r) e = absurd (cc)
+has_index b p i k None e = absurd (cc)
+
 pub listed : (w : World) → HasCalls w → (a : Step) → is_some (next w a) ≡ true → In (steps_of w) a
 listed w h (Local p) e =
     let ranks = rank_numbers w.board in
-    in_left (map Local ranks) (Release ∷ (map Wake ranks ++ matches_in w.board)) (Local p)
+    in_left (map Local ranks) (Release ∷ (map Wake ranks ++ (any_wakes_in w.board ++ matches_in w.board))) (Local p)
     (in_map Local ranks p (rank_listed w h p (joined_some (local p (length w.ranks) (length (calls_of w.board p))) (slice_get w.ranks p) (mapped_some (stepped w p) (local_at w p) e))))
 listed w h Release e =
     let ranks = rank_numbers w.board in
-    in_right (map Local ranks) (Release ∷ (map Wake ranks ++ matches_in w.board)) Release (inl refl)
+    in_right (map Local ranks) (Release ∷ (map Wake ranks ++ (any_wakes_in w.board ++ matches_in w.board))) Release (inl refl)
 listed w h (Wake p) e =
     let ranks = rank_numbers w.board in
     let ready = both_of (waits (slice_get w.ranks p)) (complete w.board (last_call w.board p)) (if_some (can_wake w p) (woken w p) e) in
-    in_right (map Local ranks) (Release ∷ (map Wake ranks ++ matches_in w.board)) (Wake p)
-    (inr (in_left (map Wake ranks) (matches_in w.board) (Wake p) (in_map Wake ranks p (rank_listed w h p (waits_some (slice_get w.ranks p) ready.0)))))
+    in_right (map Local ranks) (Release ∷ (map Wake ranks ++ (any_wakes_in w.board ++ matches_in w.board))) (Wake p)
+    (inr (in_left (map Wake ranks) (any_wakes_in w.board ++ matches_in w.board) (Wake p) (in_map Wake ranks p (rank_listed w h p (waits_some (slice_get w.ranks p) ready.0)))))
+listed w h (WakeAny p i) e =
+    let ranks = rank_numbers w.board in
+    let last = kind_at w.board (last_call w.board p) in
+    let ready = both_of (waits (slice_get w.ranks p)) (is_complete_some w.board (any_call w p i)) (if_some (can_wake_any w p i) (woken_any w p i) e) in
+    let within = has_index w.board p i last (slice_get w.ranks p) ready.1 in
+    in_right (map Local ranks) (Release ∷ (map Wake ranks ++ (any_wakes_in w.board ++ matches_in w.board))) (WakeAny p i)
+    (inr (in_right (map Wake ranks) (any_wakes_in w.board ++ matches_in w.board) (WakeAny p i)
+    (in_left (any_wakes_in w.board) (matches_in w.board) (WakeAny p i)
+    (in_flat (any_wakes_of w.board) ranks p (WakeAny p i) (rank_listed w h p (waits_some (slice_get w.ranks p) ready.0))
+    (in_map (WakeAny p) (range_with_len 0 (requests_of last)) i (in_range 0 (requests_of last) i (omega arith) (omega (arith, within))))))))
 listed w h (Match s r) e =
     let ranks = rank_numbers w.board in
     let one = both_of (is_free w.board s) _ (if_some (eligible w.board s r) (record w { board = with_set w.board (Pair s r) }) e) in
     let two = both_of (is_free w.board r) _ one.1 in
-    in_right (map Local ranks) (Release ∷ (map Wake ranks ++ matches_in w.board)) (Match s r)
-    (inr (in_right (map Wake ranks) (matches_in w.board) (Match s r) (match_listed w.board s r (issued w.board s one.0) (issued w.board r two.0))))
+    in_right (map Local ranks) (Release ∷ (map Wake ranks ++ (any_wakes_in w.board ++ matches_in w.board))) (Match s r)
+    (inr (in_right (map Wake ranks) (any_wakes_in w.board ++ matches_in w.board) (Match s r)
+    (in_right (any_wakes_in w.board) (matches_in w.board) (Match s r) (match_listed w.board s r (issued w.board s one.0) (issued w.board r two.0)))))
 
 pub listed_exactly : (w : World) → HasCalls w → (a : Step) → Contains (enabled w) a ↔ IsSome (next w a)
 listed_exactly w h a = (

@@ -7,6 +7,7 @@ use Rattle.mpd_model.specs.declared.read_fault.ReadFault.{ReadFault}
 use Rattle.mpd_model.specs.declared.slot.Slot.{Slot}
 use Rattle.mpd_model.specs.declared.token.Mark.{Mark}
 use Rattle.mpd_model.specs.Faults.{fault}
+use Rattle.mpd_model.specs.Grammar.{written_in}
 use Rattle.mpd_model.specs.Input.{Input, Outcome, Parser, and_then, token, place_of, spelling, place, advanced, behind, pure, fail, refusal, refuse, peek, advance, sees, after, eat, expect, max_budget, begin, spend, max_statements, count, first_line, same_kind, sought, seek, slot_in, cells_fit, add, ◌>>=◌}
 use Rattle.mpd_model.specs.Tokens.{Spot}
 
@@ -211,6 +212,10 @@ module _ (late : ℕ) where
   lines_local ls =
       local_of (λ i. Ok (tt, record i { lines = ls })) (λ i x. record { all = x.all; end = x.end })
       (λ s f xs ys e e' b ends all end. inl (stays tt (s ∷ f) xs ys e e' (record b { lines = ls }) ends all end))
+
+  pub written_in_local : (n : ℕ) → IsLocal late (written_in n)
+  written_in_local n =
+      local_of (written_in n) (λ i x. record { all = x.all; end = x.end }) (λ s f xs ys e e' b ends all end. inl (stays tt (s ∷ f) xs ys e e' (record b { version = n }) ends all end))
 
   -- the lines so far, and that of the next token
   abbrev Counted : Type 0

@@ -1,6 +1,5 @@
 -- Each word of the grammar reads its input so.
-use Rattle.std.proofs.Common.{◌≡◌, ℕ, zero, suc, ◌+◌, ◌<◌, ◌≤◌, Bool, true, false, cond, List, [], ◌∷◌, ◌++◌, length, Option, Some, None, Ok, inl, inr, refl, ap, sym, subst, ◌∙◌, arith, pos}
-use Rattle.std.specs.Ordering.{int_eq}
+use Rattle.std.proofs.Common.{◌≡◌, ℕ, zero, suc, ◌+◌, ◌<◌, ◌≤◌, Bool, true, false, cond, nat_le, List, [], ◌∷◌, ◌++◌, length, Option, Some, None, Ok, inl, inr, refl, ap, sym, subst, ◌∙◌, arith}
 use Rattle.mpd_model.specs.declared.limits.TheConstants.{NESTING_MAX}
 use Rattle.mpd_model.specs.declared.expr.BinaryOp.{BinaryOp}
 use Rattle.mpd_model.specs.declared.expr.UnaryOp.{UnaryOp}
@@ -15,15 +14,15 @@ use Rattle.mpd_model.specs.declared.token.Mark.TheVariants as m
 use Rattle.mpd_model.specs.declared.token.Token.{Token}
 use Rattle.mpd_model.specs.declared.token.Token.TheVariants.{Number, Name, Is}
 use Rattle.mpd_model.specs.Declaration.{Declared}
-use Rattle.mpd_model.specs.Grammar.{operator_at, turns, chain_by, chain, place_of_slot, bracket, index_inside, place_inside, rounds, unary, atom_by, atom, level, expr, expression, begin_statement, closes, index_outside, target, statement_place_by, statement_place, source_by, source, status_by, status, fill, Form, form_of, behind_word, by_form, assignment, otherwise, if_statement, while_statement, stmt_by, stmt, stmts, body, block, max_blocks, version_by, version, rank_count, ranks_of, ranks_by, ranks, natural, array_size_at, array_size_by, array_size, single, declarator, decl_by, decl, declares, decls_by, decls_from, decls, header, with_body}
+use Rattle.mpd_model.specs.Grammar.{operator_at, turns, chain_by, chain, place_of_slot, bracket, index_inside, place_inside, rounds, unary, atom_by, atom, level, expr, expression, begin_statement, closes, index_outside, target, statement_place_by, statement_place, statement_name_by, statement_name, source_by, source, status_by, status, fill, Form, form_of, behind_word, by_form, since, assignment, otherwise, if_statement, while_statement, stmt_by, stmt, stmts, body, block, max_blocks, version_in, version_of, version_by, written_in, version, rank_count, ranks_of, ranks_by, ranks, natural, array_size_at, array_size_by, array_size, single, declarator, decl_by, decl, declares, decls_by, decls_from, decls, header, with_body}
 use Rattle.mpd_model.specs.Grammar as grammar
 use Rattle.mpd_model.specs.Input.{Input, Outcome, Parser, and_then, token, spelling, place, advanced, pure, fail, refuse, peek, advance, is_mark, sees, after, eat, expect, begin, spend, count, seek, slot_in, is_known, fresh, add, ◌>>=◌, ◌>>◌}
-use Rattle.mpd_model.specs.Parts.{Hole, mark_hole, term_hole, target_hole, source_hole, status_hole, Contents}
+use Rattle.mpd_model.specs.Parts.{Hole, mark_hole, term_hole, target_hole, name_hole, source_hole, status_hole, Contents}
 use Rattle.mpd_model.specs.ReaderLaws.{TurnsAreEnough}
 use Rattle.mpd_model.specs.Term.{Term, lit, own_rank, size, cell, element, op1, op2}
 use Rattle.mpd_model.specs.Tokens.{Spot}
 use Rattle.mpd_model.specs.Tree.{Tree, simple, branch, repeat, block_of}
-use Rattle.mpd_meaning.proofs.Local.{has, AllBehind, EndsLate, ends_behind, Beyond, Later, Tied, OnAlike, IsLocal, later_bind, same_bind, then_local, local_of, seen_local, if_local, place_late, pure_local, fail_local, refuse_local, peek_local, advance_local, eat_local, sees_local, expect_local, begin_local, spend_local, count_local, seek_local, add_later, add_same}
+use Rattle.mpd_meaning.proofs.Local.{has, AllBehind, EndsLate, ends_behind, Beyond, Later, Tied, OnAlike, IsLocal, later_bind, same_bind, then_local, local_of, seen_local, if_local, if_at, place_late, pure_local, fail_local, refuse_local, peek_local, advance_local, written_in_local, eat_local, sees_local, expect_local, begin_local, spend_local, count_local, seek_local, add_later, add_same}
 
 module _ (late : ℕ) where
   abbrev Loc : {A : Type 0} → Parser A → Type 0
@@ -120,6 +119,14 @@ module _ (late : ℕ) where
   unfolding statement_place
   statement_place_local kind = then_ peek _ (peek_local late) (statement_place_case kind)
 
+  statement_name_case : (kind : DeclKind) (t : Token) → Loc (statement_name_by kind t)
+  statement_name_case kind Name = then_ (seek kind) _ (seek_local late kind) (λ s. then_ advance _ (advance_local late) (λ x. pure_local late (place_of_slot s)))
+  statement_name_case kind _ = refuse_local late
+
+  statement_name_local : (kind : DeclKind) → Loc (statement_name kind)
+  unfolding statement_name
+  statement_name_local kind = then_ peek _ (peek_local late) (statement_name_case kind)
+
   source_case : (c : Bool) → Loc (source_by c)
   source_case true = pure_local late None
   source_case false = then_ expression _ expression_local (λ e. pure_local late (Some e))
@@ -141,12 +148,18 @@ module _ (late : ℕ) where
   fill_local (mark_hole k ∷ hs) made = then_ (expect k) _ (expect_local late k) (λ x. fill_local hs made)
   fill_local (term_hole ∷ hs) made = then_ expression _ expression_local (λ e. fill_local hs (λ c. made (e, c)))
   fill_local (target_hole kind ∷ hs) made = then_ (statement_place kind) _ (statement_place_local kind) (λ t. fill_local hs (λ c. made (t, c)))
+  fill_local (name_hole kind ∷ hs) made = then_ (statement_name kind) _ (statement_name_local kind) (λ p. fill_local hs (λ c. made (p, c)))
   fill_local (source_hole ∷ hs) made = then_ source _ source_local (λ o. fill_local hs (λ c. made (o, c)))
   fill_local (status_hole ∷ hs) made = then_ status _ status_local (λ o. fill_local hs (λ c. made (o, c)))
 
   form_case : (o : Option Form) → Loc (by_form o)
   form_case None = refuse_local late
   form_case (Some f) = then_ begin_statement _ begin_statement_local (λ x. fill_local f.holes (λ c. simple (f.made c)))
+
+  since_local : (version : ℕ) (p : Parser Tree) → Loc p → Loc (since version p)
+  since_local version p h =
+      seen_local late (λ i. i.version) (λ n i. cond (nat_le version n) (p i) ((count >> fail NotInVersion) i)) (λ s f xs ys e e' b. refl)
+      (λ n. if_at late (nat_le version n) p (count >> fail NotInVersion) h (then_ count _ (count_local late) (λ x. fail_local late NotInVersion)))
 
   assignment_local : (s : Slot) → Loc (assignment s)
   unfolding assignment
@@ -173,7 +186,7 @@ module _ (late : ℕ) where
   stmt_case p h Name = then_ (seek Variable) _ (seek_local late Variable) (λ s. then_ begin_statement _ begin_statement_local (λ x. assignment_local s))
   stmt_case p h (Is m.If) = then_ begin_statement _ begin_statement_local (λ x. if_statement_local p h)
   stmt_case p h (Is m.While) = then_ begin_statement _ begin_statement_local (λ x. while_statement_local p h)
-  stmt_case p h (Is m.Waitany) = then_ count _ (count_local late) (λ x. fail_local late NotInVersion)
+  stmt_case p h (Is m.Waitany) = since_local 2 (by_form (form_of m.Waitany)) (form_case (form_of m.Waitany))
   stmt_case p h (Is k) = form_case (form_of k)
   stmt_case p h _ = refuse_local late
 
@@ -224,8 +237,12 @@ module _ (late : ℕ) where
 
   -- ---- the header
 
+  number_case : (o : Option ℕ) → Loc (version_of o)
+  number_case (Some n) = then_ (written_in n) _ (written_in_local late n) (λ x. advance_local late)
+  number_case None = fail_local late NotInVersion
+
   version_case : (t : Token) → Loc (version_by t)
-  version_case (Number n) = if_local late (int_eq n (pos 1)) advance (fail NotInVersion) (advance_local late) (fail_local late NotInVersion)
+  version_case (Number n) = number_case (version_in n)
   version_case _ = refuse_local late
 
   version_local : Loc version
@@ -371,15 +388,15 @@ module _ (late : ℕ) where
       (λ x. then_ decls _ (decls_local enough) (λ x. pure_local late n)))))))
 
   abbrev Noted : Type 0
-  Noted = List Declared × List ℕ
+  Noted = ℕ × (List Declared × List ℕ)
 
   abbrev noted : Input → Noted
-  noted i = (i.decls, i.lines)
+  noted i = (i.version, (i.decls, i.lines))
 
   whole_local : (n : ℕ) (found : List Tree) → Loc (with_body n found)
   whole_local n found =
-      seen_local late noted (λ x. pure (record { version = 1; ranks = n; decls = x.0; body = found; lines = x.1 })) (λ s f xs ys e e' b. refl)
-      (λ x. pure_local late (record { version = 1; ranks = n; decls = x.0; body = found; lines = x.1 }))
+      seen_local late noted (λ x. pure (record { version = x.0; ranks = n; decls = x.1.0; body = found; lines = x.1.1 })) (λ s f xs ys e e' b. refl)
+      (λ x. pure_local late (record { version = x.0; ranks = n; decls = x.1.0; body = found; lines = x.1.1 }))
 
   pub script_local : TurnsAreEnough → IsLocal late grammar.script
   unfolding grammar.script

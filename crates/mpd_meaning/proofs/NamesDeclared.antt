@@ -16,12 +16,12 @@ use Rattle.mpd_model.specs.declared.token.Token.TheVariants.{Number, Name, Is}
 use Rattle.mpd_model.specs.Declaration.{Declared, variable_cells, handle_cells}
 use Rattle.mpd_model.specs.Grammar.{declares, operator_at, sign}
 use Rattle.mpd_model.specs.Input.{slot_from, slot_in, same_kind}
-use Rattle.mpd_model.specs.Parts.{Part, of_mark, of_term, of_target, source_part, status_parts, recv_parts, parts_of}
+use Rattle.mpd_model.specs.Parts.{Part, of_mark, of_term, of_target, of_name, source_part, status_parts, recv_parts, parts_of}
 use Rattle.mpd_model.specs.Program.{Program}
 use Rattle.mpd_model.specs.Term.{Term, Target}
 use Rattle.mpd_model.specs.Tokens.{Spot}
 use Rattle.mpd_model.specs.Tree.{Tree}
-use Rattle.mpd_model.specs.Written.{WrittenTerm, number, rank, ranks, name, entry, round, signs, higher, joins, WrittenTarget, whole, part, by_mark, by_term, by_target, WrittenParts, no_part, then_part, WrittenTree, simply, repeats, chooses, chooses_else, WrittenBlock, braces, WrittenBody, ended, follows, WrittenDecls, none, declares_one, declares_array, declared_as, WrittenScript, script}
+use Rattle.mpd_model.specs.Written.{WrittenTerm, number, rank, ranks, name, entry, round, signs, higher, joins, WrittenTarget, whole, part, by_mark, by_term, by_target, by_name, WrittenParts, no_part, then_part, WrittenTree, simply, repeats, chooses, chooses_else, WrittenBlock, braces, WrittenBody, ended, follows, WrittenDecls, none, declares_one, declares_array, declared_as, WrittenScript, script}
 use Rattle.mpd_meaning.specs.PrefixLaws.{CanBeCompleted, names, announces, some_names, some_declares, HasWhatItNames}
 use Rattle.mpd_meaning.proofs.ViableScript.{or_first, or_left, or_right, or_second, Known}
 
@@ -56,6 +56,7 @@ operator_silent k (Is m.Irecv) op h kind = absurd (cc)
 operator_silent k (Is m.Isend) op h kind = absurd (cc)
 operator_silent k (Is m.Issend) op h kind = absurd (cc)
 operator_silent k (Is m.Wait) op h kind = absurd (cc)
+operator_silent k (Is m.Waitany) op h kind = absurd (cc)
 operator_silent k t op h Variable = refl
 operator_silent k t op h Handle = refl
 
@@ -98,12 +99,14 @@ word_in kind [] = false
 word_in kind (of_mark k ∷ ps) = names kind (Is k) || word_in kind ps
 word_in kind (of_term t ∷ ps) = word_in kind ps
 word_in kind (of_target k t ∷ ps) = word_in kind ps
+word_in kind (of_name k p ∷ ps) = word_in kind ps
 
 abbrev target_in : DeclKind → List Part → Bool
 target_in kind [] = false
 target_in kind (of_mark k ∷ ps) = target_in kind ps
 target_in kind (of_term t ∷ ps) = target_in kind ps
 target_in kind (of_target k t ∷ ps) = same_kind k kind || target_in kind ps
+target_in kind (of_name k p ∷ ps) = same_kind k kind || target_in kind ps
 
 parts_names : (ds : List Declared) (ss : List Spot) (ps : List Part) → WrittenParts ds ss ps → (kind : DeclKind) → some_names kind ss ≡ true → word_in kind ps ≡ true
 parts_names ds _ _ no_part kind h = h
@@ -116,6 +119,8 @@ parts_names ds _ _ (then_part _ rs _ ps (by_term us t v) w) kind h =
     parts_names ds rs ps w kind (or_second (some_names kind us) (some_names kind rs) (silent_term ds 5 us t v kind) (sym (names_both kind us rs) ∙ h))
 parts_names ds _ _ (then_part _ rs _ ps (by_target us k t v) w) kind h =
     parts_names ds rs ps w kind (or_second (some_names kind us) (some_names kind rs) (silent_target ds k us t v kind) (sym (names_both kind us rs) ∙ h))
+parts_names ds _ _ (then_part _ rs _ ps (by_name s k is_array p n) w) kind h =
+    parts_names ds rs ps w kind (or_second (names kind s.token) (some_names kind rs) (is_silent s Name n.token refl refl kind) h)
 
 source_silent : (o : Option Term) (ps : List Part) → word_in Handle (source_part o ∷ ps) ≡ word_in Handle ps
 source_silent None ps = refl
@@ -136,6 +141,8 @@ words_have_targets (st.Irecv s) Handle h = refl
 words_have_targets (st.Isend s) Handle h = refl
 words_have_targets (st.Issend s) Handle h = refl
 words_have_targets (st.Wait t) Handle h = refl
+words_have_targets (st.Waitany s) Variable h = refl
+words_have_targets (st.Waitany s) Handle h = refl
 words_have_targets (st.Print t) Variable h = absurd (cc)
 words_have_targets (st.Print t) Handle h = absurd (cc)
 words_have_targets (st.Assert t) Variable h = absurd (cc)
@@ -169,6 +176,11 @@ targets_known ds _ _ (then_part _ rs _ ps (by_term us t v) w) kind h = targets_k
 targets_known ds _ _ (then_part _ rs _ ps (by_target us k t v) w) kind h =
     elim (or_first (same_kind k kind) (target_in kind ps) h) [
       | inl a ↦ subst (Known ds) (kinds_same k kind a) (target_known ds k us t v)
+      | inr b ↦ targets_known ds rs ps w kind b
+    ]
+targets_known ds _ _ (then_part _ rs _ ps (by_name s k is_array p n) w) kind h =
+    elim (or_first (same_kind k kind) (target_in kind ps) h) [
+      | inl a ↦ subst (Known ds) (kinds_same k kind a) (record { name = s.text; slot = n.slot; found = n.declared; kind = n.kind })
       | inr b ↦ targets_known ds rs ps w kind b
     ]
 

@@ -1,15 +1,15 @@
 -- No step takes a rank its list of calls.
-use Rattle.std.proofs.Common.{◌≡◌, ℕ, Bool, true, false, cond, List, [], ◌∷◌, length, slice_get, Option, Some, None, option_and_then, refl, subst, arith}
+use Rattle.std.proofs.Common.{◌≡◌, ℕ, ℤ, Bool, true, false, cond, List, [], ◌∷◌, length, slice_get, Option, Some, None, option_and_then, refl, subst, arith}
 use Rattle.std.proofs.lemmas.List.{length-set, length-map, length-replicate}
 use Rattle.std.specs.Option.{option_map}
 use Rattle.mpd_model.specs.declared.call.Call.{Call}
 use Rattle.mpd_model.specs.declared.call.MatchSet.TheVariants.{Pair}
 use Rattle.mpd_model.specs.declared.call.Mode.{Mode}
 use Rattle.mpd_model.specs.declared.step.Step.{Step}
-use Rattle.mpd_model.specs.declared.step.Step.TheVariants.{Local, Match, Wake, Release}
+use Rattle.mpd_model.specs.declared.step.Step.TheVariants.{Local, Match, Wake, WakeAny, Release}
 use Rattle.mpd_model.specs.Program.{Program}
 use Rattle.mpd_model.specs.World.{World, Board, RankWorld, start, start_rank, eligible}
-use Rattle.mpd_model.specs.Next.{local_at, stepped, with_issued, put_at, woken_rank, wake_writes, wake_clears, can_wake, woken, going_on, can_release, released, with_set, next, fold}
+use Rattle.mpd_model.specs.Next.{local_at, stepped, with_issued, put_at, woken_rank, wake_writes, wake_clears, can_wake, woken_by, woken, any_writes, any_handle, can_wake_any, woken_any, going_on, can_release, released, with_set, next, fold}
 use Rattle.mpd_meaning.specs.StepLaws.{HasCalls}
 
 chosen : {A : Type 0} (b : Bool) (x y : A) → cond b (Some x) None ≡ Some y → x ≡ y
@@ -40,14 +40,17 @@ put_ranks : (ranks : List RankWorld) (p : ℕ) (o : Option RankWorld) (f : RankW
 put_ranks ranks p None f = refl
 put_ranks ranks p (Some r) f = length-set ranks p (f r)
 
+woken_keeps : (w : World) (p : ℕ) (writes : List (ℕ × ℤ)) (handle : Option ℕ) → IsAsLarge w (woken_by w p writes handle)
+woken_keeps w p writes handle = record { ranks = put_ranks w.ranks p (slice_get w.ranks p) (woken_rank writes handle); calls = refl }
+
 next_keeps : (w : World) (a : Step) (v : World) → next w a ≡ Some v → IsAsLarge w v
 next_keeps w (Local p) v e =
     let ran = mapped_from (stepped w p) (local_at w p) v e in
     subst (IsAsLarge w) ran.1 (record { ranks = length-set w.ranks p ran.0.rank; calls = issued_calls w.board p ran.0.call })
 next_keeps w (Match s r) v e = subst (IsAsLarge w) (chosen (eligible w.board s r) (record w { board = with_set w.board (Pair s r) }) v e) (record { ranks = refl; calls = refl })
-next_keeps w (Wake p) v e =
-    subst (IsAsLarge w) (chosen (can_wake w p) (woken w p) v e)
-    (record { ranks = put_ranks w.ranks p (slice_get w.ranks p) (woken_rank (wake_writes w.board p) (wake_clears w.board p)); calls = refl })
+next_keeps w (Wake p) v e = subst (IsAsLarge w) (chosen (can_wake w p) (woken w p) v e) (woken_keeps w p (wake_writes w.board p) (wake_clears w.board p))
+next_keeps w (WakeAny p i) v e =
+    subst (IsAsLarge w) (chosen (can_wake_any w p i) (woken_any w p i) v e) (woken_keeps w p (any_writes w p i) (any_handle w p i))
 next_keeps w Release v e = subst (IsAsLarge w) (chosen (can_release w) (released w) v e) (record { ranks = length-map w.ranks going_on; calls = refl })
 
 fold_keeps : (steps : List Step) (u w : World) → fold u steps ≡ Some w → HasCalls u → HasCalls w

@@ -12,8 +12,8 @@ use Rattle.mpd_model.specs.Grammar.{header, stmt, stmts, body, block, closes, ma
 use Rattle.mpd_model.specs.Grammar as grammar
 use Rattle.mpd_model.specs.Input.{Input, Outcome, Parser, start_of, token, token_of, pure, max_budget, ◌>>=◌}
 use Rattle.mpd_model.specs.Printable.{ReadScriptsArePrintable}
-use Rattle.mpd_model.specs.Program.{Program, IsLegal}
-use Rattle.mpd_model.specs.ReaderLaws.{ExpressionsAreWritten, WrittenScriptsAreRead}
+use Rattle.mpd_model.specs.Program.{Program, IsBlockOf, IsLegal}
+use Rattle.mpd_model.specs.ReaderLaws.{ExpressionsAreWritten, StatementsAreOfVersion, WrittenScriptsAreRead}
 use Rattle.mpd_model.specs.Tokens.{Spot, tokens}
 use Rattle.mpd_model.specs.Tree.{Tree, block_of, statements_in}
 use Rattle.mpd_model.specs.Written.{WrittenDecls, WrittenScript, script}
@@ -64,14 +64,14 @@ decls_from : (ds es : List Declared) (ss : List Spot) (fs : List Declared) → d
 decls_from ds es ss fs e x = rw (← e) x
 
 script_is : (i x j : Input) (n : ℕ) (ts : List Tree) → i.decls ≡ [] → i.lines ≡ [] → Header n i x → BodyBetween ts x j → j.tokens ≡ []
-    → CheapScript i.tokens (record { version = 1; ranks = n; decls = j.decls; body = ts; lines = j.lines })
+    → CheapScript i.tokens (record { version = j.version; ranks = n; decls = j.decls; body = ts; lines = j.lines })
 script_is i x j n ts none_yet no_lines h b last =
     let used : x.tokens ≡ b.used = b.is ∙ ap (λ r. b.used ++ r) last ∙ sym (append_none Spot b.used) in
     let lines : j.lines ≡ b.begun = b.lines ∙ ap (λ r. r ++ b.begun) (h.lines ∙ no_lines) in
     let ds = decls_from i.decls [] h.used x.decls none_yet h.decls in
-    rw (h.is, used, b.decls, lines) (
+    rw (h.is, used, b.version, b.decls, lines) (
       script h.mpd h.version h.first h.ranks h.count h.second h.used b.used
-          (record { version = 1; ranks = n; decls = x.decls; body = ts; lines = b.begun })
+          (record { version = x.version; ranks = n; decls = x.decls; body = ts; lines = b.begun })
           h.is_mpd h.is_version h.is_first h.is_ranks h.is_count h.is_second ds b.written.0,
       b.written.1,
     )
@@ -81,11 +81,13 @@ record IsRead (ss : List Spot) (p : Program) : Type 0 where
   written : CheapScript ss p
   legal : IsLegal p
 
-legal_is : (n : ℕ) (x y : Input) (ts : List Tree) → HeaderWithin n x → y.decls ≡ x.decls → IsFew y → length y.lines ≡ statements_in (block_of ts)
-    → IsLegal (record { version = 1; ranks = n; decls = y.decls; body = ts; lines = y.lines })
-legal_is n x y ts h same few lines =
-    rw same (record {
-      version = refl;
+legal_is : (n : ℕ) (i x y : Input) (ts : List Tree) → Header n i x → HeaderWithin n x → IsBlockOf x.version (block_of ts) → y.version ≡ x.version → y.decls ≡ x.decls → IsFew y
+    → length y.lines ≡ statements_in (block_of ts) → IsLegal (record { version = y.version; ranks = n; decls = y.decls; body = ts; lines = y.lines })
+legal_is n i x y ts head h inside kept same few lines =
+    rw (kept, same) (record {
+      some_version = head.some_version;
+      version = head.known;
+      body = inside;
       some_rank = h.low;
       ranks = h.high;
       variables = h.cells.variables;
@@ -94,22 +96,23 @@ legal_is n x y ts h same few lines =
       lines = lines;
     })
 
-script_read : ExpressionsAreWritten → (i : Input) (y : Program × Input) → NoEnd i.tokens → i.decls ≡ [] → i.lines ≡ [] → grammar.script i ≡ Ok y → IsRead i.tokens y.0
+script_read : ExpressionsAreWritten → StatementsAreOfVersion → (i : Input) (y : Program × Input) → NoEnd i.tokens → i.decls ≡ [] → i.lines ≡ [] → grammar.script i ≡ Ok y → IsRead i.tokens y.0
 unfolding grammar.script
-script_read sound i y real d l h =
+script_read sound versions i y real d l h =
     let a = bind_ok (header i) _ y h in
     let b = bind_ok (body (block max_blocks) false a.0.1) _ y a.2 in
-    let o = ok_parts (record { version = 1; ranks = a.0.0; decls = b.0.1.decls; body = b.0.0; lines = b.0.1.lines }, b.0.1) y b.2 in
+    let o = ok_parts (record { version = b.0.1.version; ranks = a.0.0; decls = b.0.1.decls; body = b.0.0; lines = b.0.1.lines }, b.0.1) y b.2 in
     let head = header_ok i a.0 a.1 in
     let within = header_within i a.0 (rw d (record { variables = omega arith; handles = omega arith })) a.1 in
     let tail = statements_sound sound max_blocks false a.0.1 b.0.1 b.0.0 b.1 in
     let closed = body_closed (block max_blocks) false a.0.1 b.0.1 b.0.0 b.1 in
     let none_yet : IsFew a.0.1 = omega (arith, ap length (head.lines ∙ l)) in
+    let inside = versions max_blocks false a.0.1 b.0.1 b.0.0 head.some_version b.1 in
     let counted = lines_counted i a.0.1 b.0.1 a.0.0 b.0.0 max_blocks false l a.1 b.1 in
     subst (IsRead i.tokens) o.0
     (record {
       written = script_is i a.0.1 b.0.1 a.0.0 b.0.0 d l head tail (nothing_left i a.0.1 b.0.1 a.0.0 b.0.0 real head tail closed);
-      legal = legal_is a.0.0 a.0.1 b.0.1 b.0.0 within tail.decls (tail.few none_yet) counted;
+      legal = legal_is a.0.0 i a.0.1 b.0.1 b.0.0 head within inside tail.version tail.decls (tail.few none_yet) counted;
     })
 
 -- ---- the whole text
@@ -141,21 +144,21 @@ record IsReadText (text : List ℕ) (p : Program) : Type 0 where
   short : length text ≤ max_text
   bytes : length text ≤ prefix_len is_text text
 
-text_read : ExpressionsAreWritten → (text : List ℕ) (p : Program) → reading text ≡ Ok p → IsReadText text p
+text_read : ExpressionsAreWritten → StatementsAreOfVersion → (text : List ℕ) (p : Program) → reading text ≡ Ok p → IsReadText text p
 unfolding reading
-text_read sound text p h =
+text_read sound versions text p h =
     let a = refused (nat_lt max_text (length text)) _ _ p h in
     let b = refused (nat_lt (prefix_len is_text text) (length text)) _ _ p a.1 in
     let c = read_ok (grammar.script (start_of text)) p b.1 in
     record {
-      read = script_read sound (start_of text) (p, c.0) (tokens_real 0 0 1 text) refl refl c.1;
+      read = script_read sound versions (start_of text) (p, c.0) (tokens_real 0 0 1 text) refl refl c.1;
       short = let x = a.0 in grind (arith, nat_tests);
       bytes = let x = b.0 in grind (arith, nat_tests);
     }
 
-within : ExpressionsAreWritten → ReadScriptsArePrintable → (text : List ℕ) (p : Program) → reading text ≡ Ok p → IsWrittenWithin text p
-within sound printable text p h =
-    let r = text_read sound text p h in
+within : ExpressionsAreWritten → StatementsAreOfVersion → ReadScriptsArePrintable → (text : List ℕ) (p : Program) → reading text ≡ Ok p → IsWrittenWithin text p
+within sound versions printable text p h =
+    let r = text_read sound versions text p h in
     record {
       written = r.read.written.0;
       short = r.short;
@@ -165,8 +168,8 @@ within sound printable text p h =
       brackets = r.read.written.1;
     }
 
-pub read_exactly : ExpressionsAreWritten → ReadScriptsArePrintable → WrittenScriptsAreRead → (text : List ℕ) (p : Program) → (reading text ≡ Ok p) ↔ IsWrittenWithin text p
-read_exactly sound printable complete text p = (
-  within sound printable text p,
+pub read_exactly : ExpressionsAreWritten → StatementsAreOfVersion → ReadScriptsArePrintable → WrittenScriptsAreRead → (text : List ℕ) (p : Program) → (reading text ≡ Ok p) ↔ IsWrittenWithin text p
+read_exactly sound versions printable complete text p = (
+  within sound versions printable text p,
   λ w. complete text p w.written w.short (text_all is_text text (recursion_from_All (λ b. is_text b ≡ true) text w.bytes)) w.legal w.blocks w.brackets,
 )

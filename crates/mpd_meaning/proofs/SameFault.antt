@@ -91,7 +91,7 @@ text_reads text t =
 
 -- a text's first input, by its tokens
 abbrev pub empty : Input
-empty = record { tokens = []; end = 0; decls = []; lines = []; budget = 0 }
+empty = record { tokens = []; end = 0; version = 1; decls = []; lines = []; budget = 0 }
 
 started : (text : List ℕ) (ss : List Spot) → tokens text ≡ ss → start_of text ≡ has ss (length text) empty
 started text ss e = ap (λ r. has r (length text) empty) e

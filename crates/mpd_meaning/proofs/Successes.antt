@@ -48,15 +48,17 @@ carried P a b k j e f x = rw (← e, ← f) x
 
 pub record Moves (used : List Spot) (i j : Input) : Type 0 where
   pub is : i.tokens ≡ used ++ j.tokens
+  pub version : j.version ≡ i.version
   pub decls : j.decls ≡ i.decls
   pub lines : j.lines ≡ i.lines
 
 pub no_move : (i j : Input) → i ≡ j → Moves [] i j
-no_move i j e = record { is = ap (λ k. k.tokens) e; decls = sym (ap (λ k. k.decls) e); lines = sym (ap (λ k. k.lines) e) }
+no_move i j e = record { is = ap (λ k. k.tokens) e; version = sym (ap (λ k. k.version) e); decls = sym (ap (λ k. k.decls) e); lines = sym (ap (λ k. k.lines) e) }
 
 pub then_moves : (a b : List Spot) (i j k : Input) → Moves a i j → Moves b j k → Moves (a ++ b) i k
 then_moves a b i j k x y = record {
   is = x.is ∙ ap (λ r. a ++ r) y.is ∙ sym (append_assoc a b k.tokens);
+  version = y.version ∙ x.version;
   decls = y.decls ∙ x.decls;
   lines = y.lines ∙ x.lines;
 }
@@ -68,24 +70,24 @@ pub record Step (i j : Input) : Type 0 where
   pub token : spot.token ≡ token i
   pub text : spot.text ≡ spelling i
 
-pub step : (i j : Input) → token i ≢ End → j.tokens ≡ behind i.tokens → j.decls ≡ i.decls → j.lines ≡ i.lines → Step i j
+pub step : (i j : Input) → token i ≢ End → j.tokens ≡ behind i.tokens → j.version ≡ i.version → j.decls ≡ i.decls → j.lines ≡ i.lines → Step i j
 unfolding token spelling
-step i j some a b c =
+step i j some a v b c =
     let f = first_spot i.tokens some in
-    record { spot = f.0; moves = record { is = f.1 ∙ ap (λ r. f.0 ∷ r) (sym a); decls = b; lines = c }; token = f.2; text = f.3 }
+    record { spot = f.0; moves = record { is = f.1 ∙ ap (λ r. f.0 ∷ r) (sym a); version = v; decls = b; lines = c }; token = f.2; text = f.3 }
 
 pub next_step : (i j : Input) → token i ≢ End → j ≡ advanced i → Step i j
 unfolding advanced
-next_step i j some e = step i j some (ap (λ k. k.tokens) e) (ap (λ k. k.decls) e) (ap (λ k. k.lines) e)
+next_step i j some e = step i j some (ap (λ k. k.tokens) e) (ap (λ k. k.version) e) (ap (λ k. k.decls) e) (ap (λ k. k.lines) e)
 
-pub spend_ok : (i : Input) (y : Unit {0} × Input) → spend i ≡ Ok y → (y.1.tokens ≡ behind i.tokens) × (y.1.decls ≡ i.decls) × (y.1.lines ≡ i.lines)
+pub spend_ok : (i : Input) (y : Unit {0} × Input) → spend i ≡ Ok y → (y.1.tokens ≡ behind i.tokens) × (y.1.version ≡ i.version) × (y.1.decls ≡ i.decls) × (y.1.lines ≡ i.lines)
 unfolding spend advanced
 spend_ok i y h =
     let e = guard_ok (i.budget == 0) _ _ y h in
-    (sym (ap (λ p. p.1.tokens) e), sym (ap (λ p. p.1.decls) e), sym (ap (λ p. p.1.lines) e))
+    (sym (ap (λ p. p.1.tokens) e), sym (ap (λ p. p.1.version) e), sym (ap (λ p. p.1.decls) e), sym (ap (λ p. p.1.lines) e))
 
 pub spend_step : (i : Input) (y : Unit {0} × Input) → token i ≢ End → spend i ≡ Ok y → Step i y.1
-spend_step i y some h = let s = spend_ok i y h in step i y.1 some s.0 s.1 s.2
+spend_step i y some h = let s = spend_ok i y h in step i y.1 some s.0 s.1 s.2 s.3
 
 mark_is : (wanted : Mark) (t : Token) → is_mark wanted t ≡ true → t ≡ Is wanted
 unfolding same_mark

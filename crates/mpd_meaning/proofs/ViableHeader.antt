@@ -3,7 +3,6 @@ use Rattle.std.proofs.Common.{◌≡◌, ◌≢◌, ℕ, zero, suc, ◌+◌, ◌
 use Rattle.std.proofs.lemmas.Bool.{cases_Bool}
 use Rattle.std.proofs.lemmas.List.{length-replicate}
 use Rattle.std.proofs.lemmas.Slice.Eq.{bytes_eq-Decides}
-use Rattle.std.specs.Ordering.{int_eq}
 use Rattle.std.specs.Str.{bytes_eq}
 use Rattle.mpd_model.specs.declared.place.DeclKind.{DeclKind}
 use Rattle.mpd_model.specs.declared.read_fault.FaultCode.{FaultCode}
@@ -15,14 +14,14 @@ use Rattle.mpd_model.specs.declared.token.Token.{Token}
 use Rattle.mpd_model.specs.declared.token.Token.TheVariants.{Number, Name, Is, End}
 use Rattle.mpd_model.specs.Declaration.{Declared, variable_cells, handle_cells}
 use Rattle.mpd_model.specs.Faults.{fault}
-use Rattle.mpd_model.specs.Grammar.{version_by, version, rank_count, ranks_of, ranks_by, ranks, array_size_by, array_size, single, declarator, decl_by, decl, declares, decls_by, decls_from, decls, header}
+use Rattle.mpd_model.specs.Grammar.{version_in, version_of, version_by, version, rank_count, ranks_of, ranks_by, ranks, array_size_by, array_size, single, declarator, decl_by, decl, declares, decls_by, decls_from, decls, header}
 use Rattle.mpd_model.specs.Input.{Input, Outcome, Parser, and_then, token, spelling, place, place_of, advanced, behind, fail, refusal, advance, sees, after, expect, slot_from, slot_in, is_known, fresh, cells_fit, add, ◌>>=◌}
 use Rattle.mpd_model.specs.Program.{Program}
 use Rattle.mpd_model.specs.Tokens.{Spot}
 use Rattle.mpd_model.specs.Written.{WrittenDecls, none, declares_one, declares_array, declared_as, ended, WrittenScript, script}
-use Rattle.mpd_laws.proofs.SoundScript.{decl_ok}
+use Rattle.mpd_laws.proofs.SoundScript.{in_version, decl_ok}
 use Rattle.mpd_meaning.proofs.Successes.{first_spot, sees_is}
-use Rattle.mpd_meaning.proofs.Viable.{One, one, HasToken, Default, Goes, Stops, spot_of, stuck_here, refused_here, next_read, expect_viable}
+use Rattle.mpd_meaning.proofs.Viable.{One, one, HasToken, Default, Goes, Stops, spot_of, stuck_here, refused_here, next_read, one_read, expect_viable}
 
 -- ---- where declarations change: what stands before a fault can be completed, without a condition
 
@@ -282,12 +281,13 @@ one_is_number = (1, refl)
 number_default : Default (One IsNumber)
 number_default = record { tokens = one_spot ∷ []; written = one one_spot one_is_number }
 
-version_test : (c : Bool) (n : ℕ) (i : Input) → token i ≡ Number (pos n) → Stops Free (One IsNumber) i (cond c advance (fail NotInVersion) i)
-version_test true n i is = next_read (One IsNumber) i (Number (pos n)) is (λ x. absurd (cc)) refl (λ s h g. one s (n, h))
-version_test false n i is = stuck_here Free (One IsNumber) NotInVersion i (λ c. number_default)
+version_test : (o : Option ℕ) (n : ℕ) (i : Input) → token i ≡ Number (pos n) → Stops Free (One IsNumber) i (version_of o i)
+unfolding advanced
+version_test (Some k) n i is = one_read (One IsNumber) i (advanced (in_version k i)) (Number (pos n)) is (λ x. absurd (cc)) refl refl refl refl (λ s h g. one s (n, h))
+version_test None n i is = stuck_here Free (One IsNumber) NotInVersion i (λ c. number_default)
 
 version_case : (t : Token) (i : Input) → token i ≡ t → Stops Free (One IsNumber) i (version_by t i)
-version_case (Number (pos n)) i is = version_test (int_eq (pos n) (pos 1)) n i is
+version_case (Number (pos n)) i is = version_test (version_in (pos n)) n i is
 version_case (Number (negsuc n)) i is = stuck_here Free (One IsNumber) NotInVersion i (λ c. number_default)
 version_case _ i is = refused_here Free (One IsNumber) i (λ c. number_default)
 

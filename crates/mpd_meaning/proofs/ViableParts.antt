@@ -10,12 +10,12 @@ use Rattle.mpd_model.specs.declared.token.Mark.TheVariants as m
 use Rattle.mpd_model.specs.declared.token.Token.{Token}
 use Rattle.mpd_model.specs.declared.token.Token.TheVariants.{Name, Is}
 use Rattle.mpd_model.specs.Declaration.{Declared}
-use Rattle.mpd_model.specs.Grammar.{declares, place_of_slot, expression, index_outside, target, statement_place_by, statement_place, source_by, source, status_by, status, fill}
+use Rattle.mpd_model.specs.Grammar.{declares, place_of_slot, expression, index_outside, target, statement_place_by, statement_place, statement_name_by, statement_name, source_by, source, status_by, status, fill}
 use Rattle.mpd_model.specs.Input.{Input, token, spelling, advanced, slot_in, sees, after, expect, pure, ◌>>=◌}
-use Rattle.mpd_model.specs.Parts.{Part, of_mark, of_term, of_target, Hole, mark_hole, term_hole, target_hole, source_hole, status_hole, source_part, status_parts, Contents, filled}
+use Rattle.mpd_model.specs.Parts.{Part, of_mark, of_term, of_target, of_name, Hole, mark_hole, term_hole, target_hole, name_hole, source_hole, status_hole, source_part, status_parts, Contents, filled}
 use Rattle.mpd_model.specs.Term.{Term, Target}
 use Rattle.mpd_model.specs.Tokens.{Spot}
-use Rattle.mpd_model.specs.Written.{Names, WrittenTarget, whole, part, WrittenPart, by_mark, by_term, by_target, WrittenParts, no_part, then_part}
+use Rattle.mpd_model.specs.Written.{Names, WrittenTarget, whole, part, WrittenPart, by_mark, by_term, by_target, by_name, WrittenParts, no_part, then_part}
 use Rattle.mpd_meaning.specs.PrefixLaws.{names}
 use Rattle.mpd_meaning.proofs.Successes.{sees_is}
 use Rattle.mpd_meaning.proofs.Viable.{One, one, Seq, seq, HasToken, Default, both_default, Stops, IsViable, HoldsBehind, behind_spot, then_viable, stops_as, in_larger, refused_here, nothing_read, next_read, mark_default, expect_viable, Found, seek_stops}
@@ -24,6 +24,9 @@ use Rattle.mpd_meaning.proofs.ViableTerms.{AtLevel, some_term, expression_viable
 -- some place of the kind, some source, some status before other parts
 abbrev pub SomeTarget : List Declared → DeclKind → List Spot → Type 0
 SomeTarget ds kind ss = (t : Target) × WrittenTarget ds kind ss t
+
+abbrev SomeName : List Declared → DeclKind → List Spot → Type 0
+SomeName ds kind ss = (p : Place) × WrittenPart ds ss (of_name kind p)
 
 abbrev SomeSource : List Declared → List Spot → Type 0
 SomeSource ds ss = (o : Option Term) × WrittenPart ds ss (source_part o)
@@ -70,6 +73,9 @@ target_in : (ds : List Declared) (kind : DeclKind) (hs : List Hole) (ss : List S
 target_in ds kind hs _ (seq us _ t (fills ss end c w z)) =
     part_in ds hs (target_hole kind ∷ hs) us ss end (of_target kind t.0) (filled hs c) (t.0, c) refl (by_target us kind t.0 t.1) w z
 
+name_in : (ds : List Declared) (kind : DeclKind) (hs : List Hole) (ss : List Spot) → Seq (SomeName ds kind) (Fills ds hs) ss → Fills ds (name_hole kind ∷ hs) ss
+name_in ds kind hs _ (seq us _ t (fills ss end c w z)) = part_in ds hs (name_hole kind ∷ hs) us ss end (of_name kind t.0) (filled hs c) (t.0, c) refl t.1 w z
+
 source_in : (ds : List Declared) (hs : List Hole) (ss : List Spot) → Seq (SomeSource ds) (Fills ds hs) ss → Fills ds (source_hole ∷ hs) ss
 source_in ds hs _ (seq us _ t (fills ss end c w z)) = part_in ds hs (source_hole ∷ hs) us ss end (source_part t.0) (filled hs c) (t.0, c) refl t.1 w z
 
@@ -85,12 +91,21 @@ Suits t [] = Unit {0}
 Suits t (mark_hole k ∷ hs) = (declares (Is k) ≡ None) × Suits t hs
 Suits t (term_hole ∷ hs) = Suits t hs
 Suits t (target_hole kind ∷ hs) = (names kind t ≡ true) × Suits t hs
+Suits t (name_hole kind ∷ hs) = (names kind t ≡ true) × Suits t hs
 Suits t (source_hole ∷ hs) = Suits t hs
 Suits t (status_hole ∷ hs) = (names Variable t ≡ true) × Suits t hs
 
 -- what a statement of the word names is declared
 abbrev pub IsServed : List Declared → Token → Type 0
 IsServed ds t = (kind : DeclKind) → names kind t ≡ true → Default (SomeTarget ds kind)
+
+-- what can be named with an index can be named without
+named_alone : (ds : List Declared) (kind : DeclKind) (ss : List Spot) (t : Target) → WrittenTarget ds kind ss t → Default (SomeName ds kind)
+named_alone ds kind _ _ (whole s p n) = record { tokens = s ∷ []; written = (p, by_name s kind false p n) }
+named_alone ds kind _ _ (part s a b ss p t n ha w hb) = record { tokens = s ∷ []; written = (p, by_name s kind true p n) }
+
+name_default : (ds : List Declared) (kind : DeclKind) → Default (SomeTarget ds kind) → Default (SomeName ds kind)
+name_default ds kind d = named_alone ds kind d.tokens d.written.0 d.written.1
 
 no_status_default : (ds : List Declared) → Default (SomeStatus ds)
 no_status_default ds = record { tokens = []; written = (None, λ ps rs w. w) }
@@ -106,6 +121,7 @@ fills_default ds t [] h s = let d = mark_default m.Semicolon in record { tokens 
 fills_default ds t (mark_hole k ∷ hs) h s = joined _ _ _ (mark_in ds k hs) (mark_default k) (fills_default ds t hs h.1 s)
 fills_default ds t (term_hole ∷ hs) h s = joined _ _ _ (term_in ds hs) (some_term ds 5) (fills_default ds t hs h s)
 fills_default ds t (target_hole kind ∷ hs) h s = joined _ _ _ (target_in ds kind hs) (s kind h.0) (fills_default ds t hs h.1 s)
+fills_default ds t (name_hole kind ∷ hs) h s = joined _ _ _ (name_in ds kind hs) (name_default ds kind (s kind h.0)) (fills_default ds t hs h.1 s)
 fills_default ds t (source_hole ∷ hs) h s = joined _ _ _ (source_in ds hs) (source_default ds) (fills_default ds t hs h s)
 fills_default ds t (status_hole ∷ hs) h s = joined _ _ _ (statuses_in ds hs) (no_status_default ds) (fills_default ds t hs h.1 s)
 
@@ -151,6 +167,21 @@ module _ (ds : List Declared) (C : List Spot → Type 0) (less : HoldsBehind C) 
   unfolding statement_place
   statement_place_viable kind d i e = statement_place_case kind d (token i) i e refl
 
+  name_stops : (kind : DeclKind) → ((us : List Spot) → C us → Default (SomeName ds kind)) → (t : Token) (i : Input) → i.decls ≡ ds → token i ≡ t → Stops C (SomeName ds kind) i (statement_name_by kind t i)
+  name_stops kind d Name i e is =
+      seek_stops ds C (SomeName ds kind) kind _ i e
+      (λ t found. next_read (SomeName ds kind) i Name is (λ x. absurd (cc)) refl
+      (λ s a b. (
+        place_of_slot t,
+        by_name s kind (is_some t.size) (place_of_slot t) (record { token = a; slot = t; declared = ap (slot_in ds) b ∙ found.0; kind = found.1; size = refl; place = refl }),
+      )))
+      (d [])
+  name_stops kind d _ i e is = refused_here C (SomeName ds kind) i (d [])
+
+  statement_name_viable : (kind : DeclKind) → ((us : List Spot) → C us → Default (SomeName ds kind)) → IsViable ds C (SomeName ds kind) (statement_name kind)
+  unfolding statement_name
+  statement_name_viable kind d i e = name_stops kind d (token i) i e refl
+
   source_case : (c : Bool) (i : Input) → i.decls ≡ ds → sees m.Any i ≡ c → Stops C (SomeSource ds) i (source_by c (cond c (advanced i) i))
   source_case true i e is = next_read (SomeSource ds) i (Is m.Any) (sees_is m.Any i is) (λ x. absurd (cc)) refl (λ s h g. (None, by_mark s m.Any h))
   source_case false i e is = stops_as C (AtLevel ds 5) (SomeSource ds) i (expression i) (λ t. Some t) (λ ss w. (Some w.0, by_term ss w.0 w.1)) (expression_viable ds C less i e)
@@ -184,6 +215,10 @@ module _ (ds : List Declared) (C : List Spot → Type 0) (less : HoldsBehind C) 
   fill_viable t (target_hole kind ∷ hs) made h s i e =
       in_larger C (Seq (SomeTarget ds kind) (Fills ds hs)) (Fills ds (target_hole kind ∷ hs)) i _ (target_in ds kind hs)
       (then_viable ds C (SomeTarget ds kind) (Fills ds hs) (statement_place kind) _ less (statement_place_viable kind (λ us c. s us c kind h.0)) (λ x. fill_viable t hs (λ c. made (x, c)) h.1 s)
+      (λ us c. fills_default ds t hs h.1 (s us c)) i e)
+  fill_viable t (name_hole kind ∷ hs) made h s i e =
+      in_larger C (Seq (SomeName ds kind) (Fills ds hs)) (Fills ds (name_hole kind ∷ hs)) i _ (name_in ds kind hs)
+      (then_viable ds C (SomeName ds kind) (Fills ds hs) (statement_name kind) _ less (statement_name_viable kind (λ us c. name_default ds kind (s us c kind h.0))) (λ x. fill_viable t hs (λ c. made (x, c)) h.1 s)
       (λ us c. fills_default ds t hs h.1 (s us c)) i e)
   fill_viable t (source_hole ∷ hs) made h s i e =
       in_larger C (Seq (SomeSource ds) (Fills ds hs)) (Fills ds (source_hole ∷ hs)) i _ (source_in ds hs)

@@ -219,7 +219,7 @@ module _ (n : ℕ) (i x : Input) (h : Header n i x) (bare : i.decls ≡ []) wher
 
   with_statements : (ss : List Spot) → Goes (SomeBody x.decls) ss → Goes SomeScript (head ++ ss)
   with_statements ss g =
-      let p : Program = record { version = 1; ranks = n; decls = x.decls; body = g.written.0; lines = g.written.1 } in
+      let p : Program = record { version = x.version; ranks = n; decls = x.decls; body = g.written.0; lines = g.written.1 } in
       record {
         more = g.more;
         written = subst SomeScript (sym (append_assoc head ss g.more))

@@ -1,5 +1,5 @@
 -- What stands before a fault in a statement can be completed, where what its statements name is declared.
-use Rattle.std.proofs.Common.{◌≡◌, ◌≢◌, ℕ, zero, suc, ◌+◌, Bool, true, false, cond, nat_lt, List, [], ◌∷◌, ◌++◌, length, Option, Some, None, Ok, Err, refl, ap, subst, ◌∙◌, append_assoc, append-nil, sym}
+use Rattle.std.proofs.Common.{◌≡◌, ◌≢◌, ℕ, zero, suc, ◌+◌, Bool, true, false, cond, nat_lt, nat_le, List, [], ◌∷◌, ◌++◌, length, Option, Some, None, Ok, Err, refl, ap, subst, ◌∙◌, append_assoc, append-nil, sym}
 use Rattle.mpd_model.specs.declared.place.DeclKind.{DeclKind}
 use Rattle.mpd_model.specs.declared.place.DeclKind.TheVariants.{Variable, Handle}
 use Rattle.mpd_model.specs.declared.read_fault.FaultCode.TheVariants.{TooMany, TooDeep, NotInVersion}
@@ -108,6 +108,7 @@ forms_suit m.Isend = ((refl, (refl, (refl, tt))), refl, refl)
 forms_suit m.Issend = ((refl, (refl, (refl, tt))), refl, refl)
 forms_suit m.Irecv = ((refl, (refl, (refl, (refl, (refl, tt))))), refl, refl)
 forms_suit m.Wait = ((refl, tt), refl, refl)
+forms_suit m.Waitany = ((refl, (refl, (refl, tt))), refl, refl)
 forms_suit m.Barrier = (tt, refl, refl)
 forms_suit k = tt
 
@@ -208,22 +209,26 @@ module _ (ds : List Declared) where
         (λ s a b. assignment_stops t s a (ap (slot_in ds) b ∙ found.0) found.1))
         (λ c. some_tree ds)
 
-    -- a word of another version is a fault, and its place may have too many statements before it
-    waitany_case : (c : Bool) (ls : List ℕ) (i : Input)
+    -- a word of a later version is a fault, and its place may have too many statements before it
+    older_case : (c : Bool) (ls : List ℕ) (i : Input)
         → Stops {A = Tree} (AreServed ds) (SomeTree ds) i (and_then (cond c (Ok (tt, record i { lines = ls })) (Err (fault TooMany (place i)))) (λ (x : Unit {0}). fail NotInVersion))
     unfolding place
-    waitany_case true ls i = stuck_here (AreServed ds) (SomeTree ds) NotInVersion i (λ c. some_tree ds)
-    waitany_case false ls i = stuck_here (AreServed ds) (SomeTree ds) TooMany i (λ c. some_tree ds)
+    older_case true ls i = stuck_here (AreServed ds) (SomeTree ds) NotInVersion i (λ c. some_tree ds)
+    older_case false ls i = stuck_here (AreServed ds) (SomeTree ds) TooMany i (λ c. some_tree ds)
 
-    waitany_stops : (i : Input) → Stops {A = Tree} (AreServed ds) (SomeTree ds) i ((count >> fail NotInVersion) i)
+    older_stops : (i : Input) → Stops {A = Tree} (AreServed ds) (SomeTree ds) i ((count >> fail NotInVersion) i)
     unfolding count
-    waitany_stops i = waitany_case (nat_lt (length i.lines) max_statements) _ i
+    older_stops i = older_case (nat_lt (length i.lines) max_statements) _ i
+
+    since_stops : (known : Bool) (p : Parser Tree) (i : Input) → Stops (AreServed ds) (SomeTree ds) i (p i) → Stops (AreServed ds) (SomeTree ds) i (cond known (p i) ((count >> fail NotInVersion) i))
+    since_stops true p i h = h
+    since_stops false p i h = older_stops i
 
     stmt_case : (t : Token) (i : Input) → i.decls ≡ ds → token i ≡ t → Stops (AreServed ds) (SomeTree ds) i (stmt_by p t i)
     stmt_case Name i e is = name_stops i e is
     stmt_case (Is m.If) i e is = if_stops i e is
     stmt_case (Is m.While) i e is = while_stops i e is
-    stmt_case (Is m.Waitany) i e is = waitany_stops i
+    stmt_case (Is m.Waitany) i e is = since_stops (nat_le 2 i.version) (by_form (form_of m.Waitany)) i (form_case m.Waitany (form_of m.Waitany) i e is (forms_suit m.Waitany))
     stmt_case (Is k) i e is = form_case k (form_of k) i e is (forms_suit k)
     stmt_case _ i e is = refused_here (AreServed ds) (SomeTree ds) i (λ c. some_tree ds)
 

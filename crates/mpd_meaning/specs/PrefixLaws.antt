@@ -26,10 +26,12 @@ pub record CanBeCompleted (before : List Spot) : Type 0 where
 abbrev pub names : DeclKind → Token → Bool
 names Variable (Is m.Recv) = true
 names Variable (Is m.Irecv) = true
+names Variable (Is m.Waitany) = true
 names Handle (Is m.Isend) = true
 names Handle (Is m.Issend) = true
 names Handle (Is m.Irecv) = true
 names Handle (Is m.Wait) = true
+names Handle (Is m.Waitany) = true
 names _ _ = false
 
 -- the word that declares them
