@@ -70,7 +70,7 @@ fn sign_name(op: UnaryOp) -> &'static str
 }
 
 /// Adds the name that a place was declared with, and nothing where there is no such declaration.
-fn push_name(out: &mut String, decls: &[Decl], place: Place) -> Result<(), AllocError>
+pub(crate) fn push_name(out: &mut String, decls: &[Decl], place: Place) -> Result<(), AllocError>
     ensures { OnOk result (string_bytes out.new ≡ string_bytes out.old ++ name_text decls.now place) }
 {
     if let Some(decl) = decls.get(place.declaration) {

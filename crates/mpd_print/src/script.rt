@@ -14,8 +14,9 @@ pub fn print(alloc: Global, script: &Script) -> Result<String, AllocError>
     ensures { IfOk result (λ t. string_bytes t ≡ canonical script.now) }
 {
     let mut out = String::new(alloc);
+    let version = script.version;
     let ranks = script.ranks;
-    write!(out, "mpd 1;\nranks {ranks};\n")?;
+    write!(out, "mpd {version};\nranks {ranks};\n")?;
     push_decls(&mut out, &script.decls)?;
     push_stmts(&mut out, &script.decls, 0, &script.body)?;
     Ok(out)

@@ -5,10 +5,12 @@ ghost use Rattle.mpd_model.specs.declared.stmt.Simple.TheVariants as st;
 ghost use Rattle.mpd_model.specs.Canonical.{whole_text, part_text, parts_text};
 ghost use Rattle.mpd_model.specs.Parts.{parts_of, send_parts, source_part, status_parts, recv_parts};
 
-use crate::expr::{push_expr, push_target};
+use crate::expr::{push_expr, push_name, push_target};
 use mpd_model::expr::Expr;
 use mpd_model::place::Decl;
-use mpd_model::stmt::{AssignStmt, IrecvStmt, IsendStmt, RecvStmt, SendStmt, Simple, StatusStmt};
+use mpd_model::stmt::{
+    AssignStmt, IrecvStmt, IsendStmt, RecvStmt, SendStmt, Simple, StatusStmt, WaitanyStmt,
+};
 use std::alloc::AllocError;
 
 /// Adds a statement that holds no other, without the `;` behind it.
@@ -33,6 +35,7 @@ pub(crate) fn push_simple(
             out.push_str("wait ")?;
             push_target(out, decls, request)
         }
+        Simple::Waitany(waitany) => push_waitany(out, decls, waitany),
         Simple::Barrier => out.push_str("barrier"),
     }
 }
@@ -105,6 +108,16 @@ fn push_irecv(out: &mut String, decls: &[Decl], irecv: &IrecvStmt) -> Result<(),
     push_target(out, decls, &irecv.request)?;
     out.push_str(" ")?;
     push_recv_parts(out, decls, &irecv.recv)
+}
+
+/// Adds a wait for one of several requests: their declaration by its name alone, and where the index of the one that came goes.
+fn push_waitany(out: &mut String, decls: &[Decl], waitany: &WaitanyStmt) -> Result<(), AllocError>
+    ensures { OnOk result (string_bytes out.new ≡ string_bytes out.old ++ parts_text decls.now (parts_of (st.Waitany waitany.now))) }
+{
+    out.push_str("waitany ")?;
+    push_name(out, decls, waitany.requests)?;
+    out.push_str(" to ")?;
+    push_target(out, decls, &waitany.into)
 }
 
 /// Adds what a send sends, to whom and with which tag.

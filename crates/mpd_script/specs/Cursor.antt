@@ -20,6 +20,7 @@ abbrev pub input_of : Inside → Input
 input_of t = record {
   tokens = tokens_at t.place t.line t.ahead.now;
   end = t.place + length t.ahead.now;
+  version = t.version;
   decls = t.decls.items;
   lines = t.lines.items;
   budget = t.budget;

@@ -5,6 +5,7 @@ ghost use Rattle.mpd_model.specs.declared.limits.TheConstants.{CELLS_MAX, HANDLE
 ghost use Rattle.mpd_model.specs.declared.read_fault.FaultCode.TheVariants.{Memory};
 ghost use Rattle.mpd_model.specs.Declaration.{handle_cells, handles_in, variable_cells, variables_in};
 ghost use Rattle.mpd_model.specs.Faults.{fault};
+ghost use Rattle.mpd_model.specs.Grammar.{written_in};
 ghost use Rattle.mpd_model.specs.Input as spec;
 ghost use Rattle.mpd_model.specs.Input.{Reads, first_line};
 ghost use Rattle.mpd_script.specs.Cursor.{first};
@@ -31,6 +32,8 @@ pub struct Tokens<'a> {
     /// That token, and its length.
     token: Token,
     len: usize,
+    /// The version that the text is in: 1, until it says so.
+    version: usize,
     decls: Vec<Decl>,
     /// What the name of each stands for.
     slots: BTreeMap<&'a [u8], Slot>,
@@ -88,6 +91,7 @@ impl<'a> Tokens<'a> {
             line: 1 + fed,
             token,
             len,
+            version: 1,
             decls: Vec::new(alloc),
             slots: BTreeMap::new(alloc),
             variables: 0,
@@ -190,6 +194,20 @@ impl<'a> Tokens<'a> {
         } else {
             Err(self.refuse())
         }
+    }
+
+    /// The version that the text is in: 1, until it says so.
+    pub(crate) fn version(&self) -> usize
+        ensures { result ≡ self.now.version }
+    {
+        self.version
+    }
+
+    /// What follows is in this version.
+    pub(crate) fn set_version(&mut self, version: usize)
+        ensures { written_in version self.old ≡ Ok (tt, self.new) }
+    {
+        self.version = version;
     }
 
     /// Begins an expression that stands in no other.

@@ -81,3 +81,18 @@ pub(crate) fn statement_place(
         _ => Err(tokens.refuse()),
     }
 }
+
+/// The declaration of the kind whose name comes next: the name stands for all of it.
+#[tactic(auto, unfolding(mpd_model::specs::Grammar::statement_name))]
+pub(crate) fn statement_name(tokens: &mut Tokens<'_>, kind: DeclKind) -> Result<Place, ReadFault>
+    ensures { Reads (spec.statement_name kind tokens.old) result tokens.new }
+{
+    match tokens.peek() {
+        Token::Name => {
+            let slot = tokens.seek(kind)?;
+            tokens.advance();
+            Ok(place_of(slot))
+        }
+        _ => Err(tokens.refuse()),
+    }
+}

@@ -2,38 +2,50 @@
 
 ghost use Rattle.std.specs.Prelude.{◌≡◌, ◌≢◌, ◌≤◌, IfErr, IfOk, IfSome, Err, IsAscii, None, Ok, [], length};
 ghost use Rattle.std.specs.List.{prefix_len};
-ghost use Rattle.mpd_model.specs.declared.limits.TheConstants.{RANKS_MAX};
+ghost use Rattle.mpd_model.specs.declared.limits.TheConstants.{RANKS_MAX, LANGUAGE_MAX};
 ghost use Rattle.mpd_model.specs.declared.read_fault.FaultCode.TheVariants.{Memory};
 ghost use Rattle.mpd_model.specs.Grammar as spec;
 ghost use Rattle.mpd_model.specs.Input.{Fails, Reads, slot_in};
 ghost use Rattle.mpd_model.specs.Printable.{IsPrintable};
-ghost use Rattle.mpd_model.specs.Program.{Program, IsLegal};
+ghost use Rattle.mpd_model.specs.Program.{Program, IsBlockOf, IsLegal};
+ghost use Rattle.mpd_model.specs.Tree.{block_of};
 
 use crate::cursor::Tokens;
 use crate::stmt::body;
+use mpd_laws::reading::scripts_are_of_version;
 use mpd_laws::round_trip::read_scripts_are_printable;
-use mpd_model::limits::{BLOCKS_MAX, RANKS_MAX, SCRIPT_MAX};
+use mpd_model::limits::{BLOCKS_MAX, LANGUAGE_MAX, RANKS_MAX, SCRIPT_MAX};
 use mpd_model::place::DeclKind;
 use mpd_model::read_fault::{FaultCode, ReadFault};
 use mpd_model::script::Script;
 use mpd_model::token::{Mark, Token};
 use std::alloc::Global;
 
-const VERSION: i64 = 1;
+/// A version of the language, if it is one.
+fn version_in(value: i64) -> Option<usize>
+    ensures { result ≡ spec.version_in value }
+{
+    if 1 <= value && value <= LANGUAGE_MAX as i64 {
+        Some(value as usize)
+    } else {
+        None
+    }
+}
 
-/// The number after `mpd`.
+/// The number after `mpd`. What follows is in that version.
 #[tactic(auto, unfolding(mpd_model::specs::Grammar::version))]
 fn version(tokens: &mut Tokens<'_>) -> Result<(), ReadFault>
     ensures { Reads (spec.version tokens.old) result tokens.new }
 {
     match tokens.peek() {
-        Token::Number(value) => {
-            if value != VERSION {
-                return Err(tokens.fail(FaultCode::NotInVersion));
+        Token::Number(value) => match version_in(value) {
+            Some(version) => {
+                tokens.set_version(version);
+                tokens.advance();
+                Ok(())
             }
-            tokens.advance();
-            Ok(())
-        }
+            None => Err(tokens.fail(FaultCode::NotInVersion)),
+        },
         _ => Err(tokens.refuse()),
     }
 }
@@ -191,15 +203,17 @@ fn header(tokens: &mut Tokens<'_>) -> Result<usize, ReadFault>
 fn script(alloc: Global, mut tokens: Tokens<'_>) -> Result<Script, ReadFault>
     requires decls { tokens.decls ≡ [] }
     requires lines { tokens.lines ≡ [] }
+    requires of_version { (p : Program) → spec.read_of (spec.script tokens) ≡ Ok p → (1 ≤ p.version) × (p.version ≤ LANGUAGE_MAX) × IsBlockOf p.version (block_of p.body) }
     requires printable { (p : Program) → spec.read_of (spec.script tokens) ≡ Ok p → IsLegal p → IsPrintable p }
     ensures ok { IfOk result (λ s. spec.read_of (spec.script tokens.entry) ≡ Ok s) }
     ensures err { IfErr result (Fails (spec.read_of (spec.script tokens.entry))) }
 {
     let ranks = header(&mut tokens)?;
     let body = body(alloc, &mut tokens, BLOCKS_MAX, false)?;
+    let version = tokens.version();
     let (decls, lines) = tokens.finish();
     Ok(Script {
-        version: 1,
+        version,
         ranks,
         decls,
         body,
@@ -248,6 +262,7 @@ pub fn read(alloc: Global, text: &[u8]) -> Result<Script, ReadFault>
             place,
         });
     }
+    scripts_are_of_version();
     read_scripts_are_printable();
     script(alloc, Tokens::new(alloc, text))
 }

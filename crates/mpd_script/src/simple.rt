@@ -9,7 +9,7 @@ ghost use Rattle.mpd_script.specs.Requests.{from_holes, tag_holes, to_holes};
 
 use crate::cursor::Tokens;
 use crate::expr::expression;
-use crate::place::{index_outside, statement_place};
+use crate::place::{index_outside, statement_name, statement_place};
 use crate::stmt::begin_statement;
 use mpd_model::expr::Expr;
 use mpd_model::place::DeclKind;
@@ -17,7 +17,7 @@ use mpd_model::read_fault::ReadFault;
 use mpd_model::slot::Slot;
 use mpd_model::stmt::{
     AssignStmt, IrecvStmt, IsendStmt, RecvStmt, SendStmt, Simple, StatusStmt, Stmt, StmtNode,
-    Target,
+    Target, WaitanyStmt,
 };
 use mpd_model::token::Mark;
 use std::alloc::Global;
@@ -62,6 +62,10 @@ pub(crate) fn by_form(alloc: Global, tokens: &mut Tokens<'_>, word: Mark) -> Res
         Mark::Wait => {
             begin_statement(tokens)?;
             wait_statement(alloc, tokens)
+        }
+        Mark::Waitany => {
+            begin_statement(tokens)?;
+            waitany_statement(alloc, tokens)
         }
         Mark::Barrier => {
             begin_statement(tokens)?;
@@ -296,4 +300,14 @@ fn wait_statement(alloc: Global, tokens: &mut Tokens<'_>) -> Result<Stmt, ReadFa
 {
     let request = statement_place(alloc, tokens, DeclKind::Handle)?;
     end_statement(tokens, Simple::Wait(request))
+}
+
+/// What follows `waitany`.
+fn waitany_statement(alloc: Global, tokens: &mut Tokens<'_>) -> Result<Stmt, ReadFault>
+    ensures { Reads (spec.behind_word spec.waitany_form tokens.old) result tokens.new }
+{
+    let requests = statement_name(tokens, DeclKind::Handle)?;
+    tokens.expect(Mark::To)?;
+    let into = statement_place(alloc, tokens, DeclKind::Variable)?;
+    end_statement(tokens, Simple::Waitany(WaitanyStmt { requests, into }))
 }

@@ -1,6 +1,7 @@
 //! Statements and blocks (docs/LANGUAGE.md, "Statements").
 
 ghost use Rattle.std.specs.Prelude.{◌≡◌};
+ghost use Rattle.mpd_model.specs.declared.token.Mark.TheVariants.{Waitany};
 ghost use Rattle.mpd_model.specs.Grammar as spec;
 ghost use Rattle.mpd_model.specs.Input.{Reads, ReadsAll};
 
@@ -12,6 +13,9 @@ use mpd_model::read_fault::{FaultCode, ReadFault};
 use mpd_model::stmt::{Stmt, StmtNode};
 use mpd_model::token::{Mark, Token};
 use std::alloc::Global;
+
+/// The version that brought `waitany`.
+const WAITANY_VERSION: usize = 2;
 
 /// Whether statements end before the token, inside a block or outside of all.
 fn closes(inside: bool, token: Token) -> bool
@@ -114,6 +118,17 @@ fn while_statement(alloc: Global, tokens: &mut Tokens<'_>, depth: usize) -> Resu
     })
 }
 
+/// A `waitany`. In a text of an older version it isn't read, though it is counted.
+fn waitany(alloc: Global, tokens: &mut Tokens<'_>) -> Result<Stmt, ReadFault>
+    ensures { Reads (spec.since WAITANY_VERSION (spec.by_form (spec.form_of Waitany)) tokens.old) result tokens.new }
+{
+    if tokens.version() < WAITANY_VERSION {
+        tokens.count()?;
+        return Err(tokens.fail(FaultCode::NotInVersion));
+    }
+    by_form(alloc, tokens, Mark::Waitany)
+}
+
 #[cycle(block)]
 #[tactic(auto, unfolding(mpd_model::specs::Grammar::stmt))]
 fn stmt(alloc: Global, tokens: &mut Tokens<'_>, depth: usize) -> Result<Stmt, ReadFault>
@@ -133,10 +148,7 @@ fn stmt(alloc: Global, tokens: &mut Tokens<'_>, depth: usize) -> Result<Stmt, Re
             begin_statement(tokens)?;
             while_statement(alloc, tokens, depth)
         }
-        Token::Is(Mark::Waitany) => {
-            tokens.count()?;
-            Err(tokens.fail(FaultCode::NotInVersion))
-        }
+        Token::Is(Mark::Waitany) => waitany(alloc, tokens),
         Token::Is(mark) => by_form(alloc, tokens, mark),
         _ => Err(tokens.refuse()),
     }
