@@ -1,15 +1,20 @@
 //! Lowered code.
 
+ghost use Rattle.std.specs.Bool.{Decides};
+ghost use Rattle.std.specs.List.{list_all};
 ghost use Rattle.std.specs.Prelude.{◌≡◌, ◌<◌, ◌≤◌, ◌↔◌, [], IsSome, IfSome, IfNone, Some, slice_get};
 ghost use Rattle.mpd_model.specs.Declaration.{variables_in, handles_in};
+ghost use Rattle.mpd_model.specs.Program.{IsBlockOf};
 ghost use Rattle.mpd_model.specs.Tree.{block_of, statements_in, numbered};
 ghost use Rattle.mpd_code.specs.Left.{left_at};
 ghost use Rattle.mpd_code.specs.Stands.{Stands};
+ghost use Rattle.mpd_code.specs.Versions.{is_of_first};
 
-use crate::node::Node;
+use crate::node::{Action, Node};
 use mpd_model::limits::{CELLS_MAX, HANDLES_MAX, RANKS_MAX, STATEMENTS_MAX};
 use mpd_model::place::Decl;
 use mpd_model::script::Script;
+use mpd_model::stmt::Simple;
 use std::marker::Model;
 use std::snapshot::Snapshot;
 
@@ -49,6 +54,28 @@ impl Model for Code {
         × (c.cells ≡ variables_in c.script.value.decls)
         × (c.handles ≡ handles_in c.script.value.decls)
         × IsLegal c.script.value };
+}
+
+/// Whether a node is of a statement that version 1 has.
+fn is_of_first(node: &Node) -> bool
+    ensures { result ≡ is_of_first node.now }
+{
+    match &node.action {
+        Action::Simple(Simple::Waitany(_)) => false,
+        _ => true,
+    }
+}
+
+/// Whether all of some nodes are of statements that version 1 has.
+fn are_of_first(nodes: &[Node]) -> bool
+    ensures { result ≡ list_all is_of_first nodes.now }
+{
+    for node in nodes {
+        if !is_of_first(node) {
+            return false;
+        }
+    }
+    true
 }
 
 impl Code {
@@ -119,6 +146,14 @@ impl Code {
         ensures bound { result ≤ HANDLES_MAX }
     {
         self.handles
+    }
+
+    /// Whether no waitany stands in it, so that each of its statements is one that version 1 has.
+    #[tactic(auto, using(crate::proofs::Versions::versions))]
+    pub fn has_no_waitany(&self) -> bool
+        ensures { Decides result (IsBlockOf 1 (block_of self.now.program.body)) }
+    {
+        are_of_first(&self.nodes)
     }
 
     /// What it declares, in text order.

@@ -1,16 +1,22 @@
 //! The values of expressions, and what statements make of them: the calls that they issue, and what assignments write.
 
+ghost use Rattle.std.specs.List.{list_any};
+ghost use Rattle.std.specs.Option.{is_some};
 ghost use Rattle.std.specs.Prelude.{◌≡◌, pos, None, Ok, slice_index_or};
 ghost use Rattle.mpd_model.specs.Term.{element, op1, op2, value_of, within, checked, target_cell};
-ghost use Rattle.mpd_model.specs.Next.{rank_value, tag_value, send_kind, source_value, any_tag_value, status_cells, recv_kind, wait_kind, send_issue, ssend_issue, recv_issue, isend_issue, issend_issue, irecv_issue, wait_issue, barrier_issue, assignment};
+ghost use Rattle.mpd_model.specs.Next.{rank_value, tag_value, send_kind, source_value, any_tag_value, status_cells, recv_kind, wait_kind, handles_at, waitany_kind, send_issue, ssend_issue, recv_issue, isend_issue, issend_issue, irecv_issue, wait_issue, waitany_issue, barrier_issue, assignment};
 
 use crate::env::Env;
 use crate::operate::{alter, combine, decide};
-use mpd_model::call::{CallKind, Issue, RecvCall, SendCall, StatusCells, Trap, WaitCall};
+use mpd_model::call::{
+    CallKind, Issue, RecvCall, SendCall, StatusCells, Trap, WaitCall, WaitanyCall,
+};
 use mpd_model::expr::{BinaryOp, Expr, ExprNode, UnaryOp};
 use mpd_model::limits::TAGS;
 use mpd_model::place::Place;
-use mpd_model::stmt::{AssignStmt, IrecvStmt, IsendStmt, RecvStmt, SendStmt, StatusStmt, Target};
+use mpd_model::stmt::{
+    AssignStmt, IrecvStmt, IsendStmt, RecvStmt, SendStmt, StatusStmt, Target, WaitanyStmt,
+};
 
 /// The value of an expression, or the trap that it ends in. What has no part is answered here, with no call.
 #[inline(always)]
@@ -216,6 +222,43 @@ fn wait_call(handle: &Target, env: &Env<'_>) -> Result<CallKind, Trap>
     Ok(CallKind::Wait(WaitCall { handle, target }))
 }
 
+/// The handles of a declaration.
+fn handles_of<'a>(requests: Place, env: &Env<'a>) -> &'a [Option<usize>]
+    ensures { result.now ≡ handles_at requests env.now }
+{
+    let first = env.handles.len().min(requests.first as usize);
+    let (_, from) = env.handles.split_at(first);
+    let count = from.len().min(requests.cells as usize);
+    let (held, _) = from.split_at(count);
+    held
+}
+
+/// Whether any of the handles has a call.
+fn is_active(handles: &[Option<usize>]) -> bool
+    ensures { result ≡ list_any is_some handles.now }
+{
+    for handle in handles {
+        if handle.is_some() {
+            return true;
+        }
+    }
+    false
+}
+
+/// The call of a wait for one of several: the index of the place that tells which is evaluated first.
+fn waitany_call(waitany: &WaitanyStmt, env: &Env<'_>) -> Result<CallKind, Trap>
+    ensures { result ≡ waitany_kind waitany.now env.now }
+{
+    let cell = eval_target(&waitany.into, env)?;
+    let active = is_active(handles_of(waitany.requests, env));
+    Ok(CallKind::Waitany(WaitanyCall {
+        first: waitany.requests.first as usize,
+        count: waitany.requests.cells as usize,
+        cell,
+        active,
+    }))
+}
+
 /// What a `send` issues.
 pub fn eval_send(send: &SendStmt, env: &Env<'_>) -> Result<Issue, Trap>
     ensures { result ≡ send_issue send.now env.now }
@@ -281,6 +324,14 @@ pub fn eval_wait(handle: &Target, env: &Env<'_>) -> Result<Issue, Trap>
     ensures { result ≡ wait_issue handle.now env.now }
 {
     let kind = wait_call(handle, env)?;
+    Ok(Issue { kind, handle: None })
+}
+
+/// What a `waitany` for the requests of a declaration issues.
+pub fn eval_waitany(waitany: &WaitanyStmt, env: &Env<'_>) -> Result<Issue, Trap>
+    ensures { result ≡ waitany_issue waitany.now env.now }
+{
+    let kind = waitany_call(waitany, env)?;
     Ok(Issue { kind, handle: None })
 }
 
