@@ -10,7 +10,7 @@ use Rattle.mpd_model.specs.declared.step.CallId.{CallId}
 use Rattle.mpd_model.specs.declared.step.Step.{Step}
 use Rattle.mpd_model.specs.declared.step.Step.TheVariants.{Match}
 use Rattle.mpd_model.specs.declared.call.CallKind.{CallKind}
-use Rattle.mpd_model.specs.declared.call.CallKind.TheVariants.{Send, Recv, Wait, Barrier}
+use Rattle.mpd_model.specs.declared.call.CallKind.TheVariants.{Send, Recv, Wait, Waitany, Barrier}
 use Rattle.mpd_model.specs.World.{Board, call_id, kind_at, rank_numbers, is_any_or, fitting, eligible}
 use Rattle.mpd_model.specs.Why.{first_in}
 use Rattle.mpd_model.specs.Decisions.{is_named_match}
@@ -135,10 +135,12 @@ same_tag (Some (Send s)) (Some (Recv r)) p q marks fit unseen =
     named_both r.from r.tag p s.tag marks both.0 both.1 unseen
 same_tag (Some (Send s)) (Some (Send t)) p q marks fit unseen = absurd (cc)
 same_tag (Some (Send s)) (Some (Wait t)) p q marks fit unseen = absurd (cc)
+same_tag (Some (Send s)) (Some (Waitany a)) p q marks fit unseen = absurd (cc)
 same_tag (Some (Send s)) (Some Barrier) p q marks fit unseen = absurd (cc)
 same_tag (Some (Send s)) None p q marks fit unseen = absurd (cc)
 same_tag (Some (Recv r)) other p q marks fit unseen = absurd (cc)
 same_tag (Some (Wait t)) other p q marks fit unseen = absurd (cc)
+same_tag (Some (Waitany a)) other p q marks fit unseen = absurd (cc)
 same_tag (Some Barrier) other p q marks fit unseen = absurd (cc)
 same_tag None other p q marks fit unseen = absurd (cc)
 

@@ -2,7 +2,7 @@
 use Rattle.std.specs.Prelude.{◌≡◌, ℕ, ◌+◌, ◌*◌, ◌/◌, ◌%◌, ◌^◌, ◌==◌, Bool, true, false, not, List, length, slice_index, slice_set, bit_or, Option, Some, None}
 use Rattle.std.specs.Int.{bit_at}
 use Rattle.mpd_model.specs.declared.call.CallKind.{CallKind}
-use Rattle.mpd_model.specs.declared.call.CallKind.TheVariants.{Send, Recv, Wait, Barrier}
+use Rattle.mpd_model.specs.declared.call.CallKind.TheVariants.{Send, Recv, Wait, Waitany, Barrier}
 use Rattle.mpd_model.specs.World.{Board, call_id, kind_at, is_pending}
 
 -- the place of a tag of a sender
@@ -22,6 +22,7 @@ abbrev pub sent_tag : Option CallKind → ℕ
 sent_tag (Some (Send s)) = s.tag
 sent_tag (Some (Recv r)) = 0
 sent_tag (Some (Wait t)) = 0
+sent_tag (Some (Waitany a)) = 0
 sent_tag (Some Barrier) = 0
 sent_tag None = 0
 
@@ -38,6 +39,7 @@ abbrev pub is_unseen : Option CallKind → List ℕ → Bool
 is_unseen (Some (Recv r)) marks = is_unseen_by r.from r.tag marks
 is_unseen (Some (Send s)) marks = false
 is_unseen (Some (Wait t)) marks = false
+is_unseen (Some (Waitany a)) marks = false
 is_unseen (Some Barrier) marks = false
 is_unseen None marks = false
 

@@ -1,10 +1,9 @@
-//! When calls are complete (MPI 4.0, sections 3.4, 3.7.3 and 6.3).
+//! When calls are complete (MPI 4.0, sections 3.4, 3.7.3, 3.7.5 and 6.3).
 ghost use Rattle.std.specs.Prelude.{◌≡◌};
 ghost use Rattle.mpd_model.specs.World.{is_done, awaited, complete};
 
 use crate::board::Board;
 use crate::kinds;
-use mpd_model::kind::is_barrier;
 use mpd_model::step::CallId;
 
 impl Board {
@@ -23,13 +22,13 @@ impl Board {
         kinds::awaited_by(id, self.kind(id))
     }
 
-    /// Whether a call is complete (MPI 4.0, sections 3.4 and 3.7.3). A barrier never is: its rank goes on as all ranks do
-    /// (MPI 4.0, section 6.3).
+    /// Whether a call is complete (MPI 4.0, sections 3.4, 3.7.3 and 3.7.5). A barrier never is: its rank goes on as all ranks do
+    /// (MPI 4.0, section 6.3). Nor is a waitany for a request: its rank goes on by the request that is chosen.
     pub fn is_complete(&self, id: CallId) -> bool
         ensures { result ≡ complete self.now.board id }
     {
         let kind = self.kind(id);
-        if is_barrier(kind) {
+        if kinds::has_own_step(kind) {
             return false;
         }
         match kinds::awaited_by(id, kind) {

@@ -1,6 +1,6 @@
 //! What is read off the kinds of calls.
 ghost use Rattle.std.specs.Prelude.{◌≡◌, ◌≤◌, ◌||◌, ℕ, Some};
-ghost use Rattle.mpd_model.specs.World.{is_any_or as any_or, fitting, is_message_kind as message_kind, message_of as message_in, is_buffered as buffered_in, awaited_by as awaited_in};
+ghost use Rattle.mpd_model.specs.World.{is_any_or as any_or, fitting, is_message_kind as message_kind, message_of as message_in, is_buffered as buffered_in, awaited_by as awaited_in, has_own_step as own_step_of};
 ghost use Rattle.mpd_model.specs.Next.{HasReceiver, buffered_by as given_buffer};
 ghost use Rattle.mpd_match.specs.Changes.{issue_writes};
 ghost use Rattle.mpd_match.specs.Lines.{line_of as line_in, takes_from as taken_from, fitting_either};
@@ -8,6 +8,7 @@ ghost use Rattle.mpd_model.specs.Decisions.{takes_any as taken_from_any};
 ghost use Rattle.mpd_match.specs.Picked.{named_source as source_in};
 
 use mpd_model::call::{CallKind, Message, SendCall};
+use mpd_model::kind::is_barrier;
 use mpd_model::limits::RANKS_MAX;
 use mpd_model::step::CallId;
 
@@ -153,6 +154,18 @@ pub(crate) fn awaited_by(id: CallId, kind: Option<CallKind>) -> Option<CallId>
                 index,
             })
         }
+        Some(CallKind::Waitany(_)) => None,
         _ => Some(id),
+    }
+}
+
+/// Whether its rank goes on from it by a step of its own: from a barrier as all ranks do, from a waitany by the request that is
+/// chosen.
+pub(crate) fn has_own_step(kind: Option<CallKind>) -> bool
+    ensures { result ≡ own_step_of kind }
+{
+    match kind {
+        Some(CallKind::Waitany(wait)) => wait.active,
+        _ => is_barrier(kind),
     }
 }
