@@ -9,6 +9,7 @@ use Rattle.mpd_model.specs.declared.stmt.Simple.{Simple}
 use Rattle.mpd_model.specs.declared.stmt.Simple.TheVariants as st
 use Rattle.mpd_model.specs.declared.stmt.SendStmt.{SendStmt}
 use Rattle.mpd_model.specs.declared.stmt.RecvStmt.{RecvStmt}
+use Rattle.mpd_model.specs.declared.stmt.WaitanyStmt.{WaitanyStmt}
 use Rattle.mpd_model.specs.declared.call.CallKind.{CallKind}
 use Rattle.mpd_model.specs.declared.limits.TheConstants.{TAGS}
 use Rattle.mpd_model.specs.declared.call.Trap.TheVariants.{BadRank, BadTag}
@@ -16,7 +17,7 @@ use Rattle.mpd_model.specs.Term.{Term, Target, Value, Env, and_then, value_of, c
 use Rattle.mpd_model.specs.Tree.{Tree, Block, repeat, trees, statements_in, numbered}
 use Rattle.mpd_model.specs.Program.{Program}
 use Rattle.mpd_model.specs.World.{RankWorld}
-use Rattle.mpd_model.specs.Next.{HasReceiver, alone, local, env_of, ran, ran_simple, printed, issued, assigned, asserted, chosen, repeated, send_issue, ssend_issue, recv_issue, isend_issue, issend_issue, irecv_issue, wait_issue, barrier_issue, assignment, rank_value, tag_value, source_value, any_tag_value, status_cells, send_kind, recv_kind, wait_kind, awaiting}
+use Rattle.mpd_model.specs.Next.{HasReceiver, alone, local, env_of, ran, ran_simple, printed, issued, assigned, asserted, chosen, repeated, send_issue, ssend_issue, recv_issue, isend_issue, issend_issue, irecv_issue, wait_issue, waitany_issue, barrier_issue, assignment, rank_value, tag_value, source_value, any_tag_value, status_cells, send_kind, recv_kind, wait_kind, waitany_kind, awaiting}
 use Rattle.mpd_code.specs.declared.node.Node.{Node}
 use Rattle.mpd_code.specs.declared.node.Action.{Action}
 use Rattle.mpd_code.specs.declared.node.Action.TheVariants as a
@@ -87,6 +88,7 @@ simple_ran s env r n i next (st.Isend t) = issue_ran s r n i next (isend_issue t
 simple_ran s env r n i next (st.Issend t) = issue_ran s r n i next (issend_issue t env)
 simple_ran s env r n i next (st.Irecv t) = issue_ran s r n i next (irecv_issue t env)
 simple_ran s env r n i next (st.Wait t) = issue_ran s r n i next (wait_issue t env)
+simple_ran s env r n i next (st.Waitany t) = issue_ran s r n i next (waitany_issue t env)
 simple_ran s env r n i next st.Barrier = issue_ran s r n i next barrier_issue
 
 does_ran : (s : Program) (env : Env) (r : RankWorld) (n i next : ℕ) (act : Action) (t : Tree) → Does (left_at s) i (left_at s next) act t
@@ -132,6 +134,7 @@ simple_recorded env next (st.Isend t) = issue_recorded env.vars env.handles next
 simple_recorded env next (st.Issend t) = issue_recorded env.vars env.handles next (issend_issue t env)
 simple_recorded env next (st.Irecv t) = issue_recorded env.vars env.handles next (irecv_issue t env)
 simple_recorded env next (st.Wait t) = issue_recorded env.vars env.handles next (wait_issue t env)
+simple_recorded env next (st.Waitany t) = issue_recorded env.vars env.handles next (waitany_issue t env)
 simple_recorded env next st.Barrier = issue_recorded env.vars env.handles next barrier_issue
 
 does_recorded : (at : ℕ → List (ℕ × Tree)) (env : Env) (i next : ℕ) (tail : List (ℕ × Tree)) (act : Action) (t : Tree) → Does at i tail act t
@@ -205,6 +208,9 @@ recv_below blocks s env =
 wait_below : (t : Target) (env : Env) → Below env.size (wait_kind t env)
 wait_below t env = then_below env.size (target_cell t env) _ (λ c h. (tt, tt))
 
+waitany_below : (s : WaitanyStmt) (env : Env) → Below env.size (waitany_kind s env)
+waitany_below s env = then_below env.size (target_cell s.into env) _ (λ c h. (tt, tt))
+
 awaiting_below : (n : ℕ) (k : Result CallKind Trap) → Below n k → AreBelow n (awaiting k)
 awaiting_below n (Ok k) h = h
 awaiting_below n (Err t) h = tt
@@ -232,6 +238,7 @@ simple_below env next (st.Isend t) = issue_below env.size (isend_issue t env) ne
 simple_below env next (st.Issend t) = issue_below env.size (issend_issue t env) next (held_by_below env.size (target_cell t.request env) (send_kind true false t.send env) (send_below true false t.send env))
 simple_below env next (st.Irecv t) = issue_below env.size (irecv_issue t env) next (held_by_below env.size (target_cell t.request env) (recv_kind false t.recv env) (recv_below false t.recv env))
 simple_below env next (st.Wait t) = issue_below env.size (wait_issue t env) next (awaiting_below env.size (wait_kind t env) (wait_below t env))
+simple_below env next (st.Waitany t) = issue_below env.size (waitany_issue t env) next (awaiting_below env.size (waitany_kind t env) (waitany_below t env))
 simple_below env next st.Barrier = (tt, tt)
 
 action_below : (env : Env) (next : ℕ) (act : Action) → HasPlannedReceiver env.size (plan_of act next env)

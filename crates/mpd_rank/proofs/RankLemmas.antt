@@ -1,5 +1,5 @@
 -- Steps of one rank, and those steps back.
-use Rattle.std.proofs.Common.{◌≡◌, ◌≤◌, ◌+◌, ℕ, zero, suc, List, [], ◌∷◌, ◌++◌, length, Option, Some, None, ℤ, refl, sym, ap, ◌∙◌, slice_get, slice_set, arith}
+use Rattle.std.proofs.Common.{◌≡◌, ◌≤◌, ◌+◌, ℕ, zero, suc, List, [], ◌∷◌, ◌++◌, length, Option, Some, None, ℤ, refl, sym, ap, subst, ◌∙◌, slice_get, slice_set, arith}
 use Rattle.std.proofs.lemmas.List.{append-nil, append_assoc}
 use Rattle.std.specs.Option.{option_map}
 use Rattle.mpd_model.specs.Next.{write_cells, requested, woken_rank}
@@ -76,7 +76,7 @@ wake_back s v w ws clears was done e h blocked =
       activity = sym blocked i;
     })
 
--- ---- three cells at most
+-- ---- four cells at most
 
 write_cells-before : (a : Option (ℕ × ℤ)) (ws : List (ℕ × ℤ)) (vars : List ℤ) → write_cells (before a ws) vars ≡ write_cells ws (write_cells (listed a) vars)
 write_cells-before None ws vars = refl
@@ -95,35 +95,53 @@ listed_alone None = refl
 listed_alone (Some w) = refl
 
 -- one after the other writes them all
-pub written_three : (vars : List ℤ) (a b c : Option (ℕ × ℤ)) → write_cells (listed c) (write_cells (listed b) (write_cells (listed a) vars)) ≡ write_cells (all_listed a b c) vars
-written_three vars a b c =
+pub written_four : (vars : List ℤ) (a b c d : Option (ℕ × ℤ))
+    → write_cells (listed d) (write_cells (listed c) (write_cells (listed b) (write_cells (listed a) vars))) ≡ write_cells (all_listed a b c d) vars
+written_four vars a b c d =
     let first : List ℤ = write_cells (listed a) vars in
     let second : List ℤ = write_cells (listed b) first in
-    sym (write_cells-before a (before b (before c [])) vars ∙ write_cells-before b (before c []) first ∙ ap (λ ws. write_cells ws second) (listed_alone c))
+    let third : List ℤ = write_cells (listed c) second in
+    sym (write_cells-before a (before b (before c (before d []))) vars
+    ∙ write_cells-before b (before c (before d [])) first
+    ∙ write_cells-before c (before d []) second
+    ∙ ap (λ ws. write_cells ws third) (listed_alone d))
+
+-- what a cell held, behind what those held that are written after it
+held_before : (vars : List ℤ) (a h : Option (ℕ × ℤ)) (ws back : List (ℕ × ℤ)) → listed h ≡ entries_before vars (listed a) → back ≡ entries_before (write_cells (listed a) vars) ws
+    → back ++ listed h ≡ entries_before vars (before a ws)
+held_before vars a h ws back eh eb = sym (entries_before-before a ws vars ∙ ap (λ l. l ++ entries_before vars (listed a)) (sym eb) ∙ ap (λ l. back ++ l) (sym eh))
+
+four_listed : (h i j k : Option (ℕ × ℤ)) → before k (before j (before i (before h []))) ≡ ((listed k ++ listed j) ++ listed i) ++ listed h
+four_listed h i j k =
+    before_listed k (before j (before i (before h [])))
+    ∙ ap (λ l. listed k ++ l) (before_listed j (before i (before h [])) ∙ ap (λ l. listed j ++ l) (before_listed i (before h []) ∙ ap (λ l. listed i ++ l) (listed_alone h)))
+    ∙ sym (append_assoc (listed k) (listed j) (listed i ++ listed h))
+    ∙ sym (append_assoc (listed k ++ listed j) (listed i) (listed h))
 
 -- and what they held is what each of them held, the last first
-pub held_three : (vars : List ℤ) (a b c h i j : Option (ℕ × ℤ)) → listed h ≡ entries_before vars (listed a) → listed i ≡ entries_before (write_cells (listed a) vars) (listed b)
-    → listed j ≡ entries_before (write_cells (listed b) (write_cells (listed a) vars)) (listed c) → before j (before i (before h [])) ≡ entries_before vars (all_listed a b c)
-held_three vars a b c h i j eh ei ej =
+pub held_four : (vars : List ℤ) (a b c d h i j k : Option (ℕ × ℤ)) → listed h ≡ entries_before vars (listed a) → listed i ≡ entries_before (write_cells (listed a) vars) (listed b)
+    → listed j ≡ entries_before (write_cells (listed b) (write_cells (listed a) vars)) (listed c)
+    → listed k ≡ entries_before (write_cells (listed c) (write_cells (listed b) (write_cells (listed a) vars))) (listed d)
+    → before k (before j (before i (before h []))) ≡ entries_before vars (all_listed a b c d)
+held_four vars a b c d h i j k eh ei ej ek =
     let first : List ℤ = write_cells (listed a) vars in
     let second : List ℤ = write_cells (listed b) first in
-    let last : entries_before second (before c []) ≡ listed j = ap (entries_before second) (listed_alone c) ∙ sym ej in
-    let behind : entries_before first (before b (before c [])) ≡ listed j ++ listed i = entries_before-before b (before c []) first ∙ ap (λ l. l ++ entries_before first (listed b)) last ∙ ap (λ l. listed j ++ l) (sym ei) in
-    let all : entries_before vars (all_listed a b c) ≡ (listed j ++ listed i) ++ listed h = entries_before-before a (before b (before c [])) vars ∙ ap (λ l. l ++ entries_before vars (listed a)) behind ∙ ap (λ l. (listed j ++ listed i) ++ l) (sym eh) in
-    before_listed j (before i (before h []))
-    ∙ ap (λ l. listed j ++ l) (before_listed i (before h []) ∙ ap (λ l. listed i ++ l) (listed_alone h))
-    ∙ sym (append_assoc (listed j) (listed i) (listed h))
-    ∙ sym all
+    let third : List ℤ = write_cells (listed c) second in
+    let last : listed k ≡ entries_before third (before d []) = ek ∙ ap (entries_before third) (sym (listed_alone d)) in
+    let two : listed k ++ listed j ≡ entries_before second (before c (before d [])) = held_before second c j (before d []) (listed k) ej last in
+    let three : (listed k ++ listed j) ++ listed i ≡ entries_before first (before b (before c (before d []))) = held_before first b i (before c (before d [])) (listed k ++ listed j) ei two in
+    four_listed h i j k ∙ held_before vars a h (before b (before c (before d []))) ((listed k ++ listed j) ++ listed i) eh three
 
--- where there are two at most, there is no third
-pub no_third : (a b c : Option (ℕ × ℤ)) → IsPacked a b c → length (all_listed a b c) ≤ 2 → before a (before b []) ≡ all_listed a b c
-no_third a b None h few = refl
-no_third (Some x) (Some y) (Some z) h few = absurd (omega (arith, few))
-no_third a None (Some z) h few = absurd (let e = h.1 refl in cc)
-no_third None (Some y) (Some z) h few = absurd (let e = h.0 refl in cc)
+-- where there are three at most, there is no fourth
+pub no_fourth : (a b c d : Option (ℕ × ℤ)) → IsPacked a b c d → length (all_listed a b c d) ≤ 3 → before a (before b (before c [])) ≡ all_listed a b c d
+no_fourth a b c None h few = refl
+no_fourth (Some x) (Some y) (Some z) (Some w) h few = absurd (omega (arith, few))
+no_fourth a b None (Some w) h few = absurd (let e = h.2 refl in cc)
+no_fourth a None (Some z) (Some w) h few = absurd (let e = h.1 refl in cc)
+no_fourth None (Some y) (Some z) (Some w) h few = absurd (let e = h.0 refl in cc)
 
-pub packed_before : (o a b c : Option (ℕ × ℤ)) → IsPacked a b c → (o ≡ None → a ≡ None) → IsPacked o a b
-packed_before o a b c h e = (e, h.0)
+pub packed_before : (o a b c d : Option (ℕ × ℤ)) → IsPacked a b c d → (o ≡ None → a ≡ None) → IsPacked o a b c
+packed_before o a b c d h e = (e, h.0, h.1)
 
 pub one_more : (o : Option (ℕ × ℤ)) (ws : List (ℕ × ℤ)) → length (before o ws) ≤ length ws + 1
 one_more None ws = omega arith
@@ -131,6 +149,36 @@ one_more (Some w) ws = omega arith
 
 pub ruleset committing = (assign_back, request_again)
 
-pub ruleset writing = (written_three, held_three)
+pub ruleset writing = (written_four, held_four)
 
-pub ruleset packing = (no_third, packed_before, one_more)
+-- one that joins behind none, one, two and three
+pub joins_first : (a b c d : Option (ℕ × ℤ)) (w : ℕ × ℤ) → IsPacked a b c d → a ≡ None → w ∷ [] ≡ all_listed a b c d ++ w ∷ []
+joins_first a b c d w h ea =
+    let eb = h.0 ea in
+    let ec = h.1 eb in
+    let ed = h.2 ec in
+    sym (λ i. all_listed (ea i) (eb i) (ec i) (ed i) ++ w ∷ [])
+
+pub joins_second : (a b c d : Option (ℕ × ℤ)) (x w : ℕ × ℤ) → IsPacked a b c d → a ≡ Some x → b ≡ None → x ∷ w ∷ [] ≡ all_listed a b c d ++ w ∷ []
+joins_second a b c d x w h ea eb =
+    let ec = h.1 eb in
+    let ed = h.2 ec in
+    sym (λ i. all_listed (ea i) (eb i) (ec i) (ed i) ++ w ∷ [])
+
+pub joins_third : (a b c d : Option (ℕ × ℤ)) (x y w : ℕ × ℤ) → IsPacked a b c d → a ≡ Some x → b ≡ Some y → c ≡ None → x ∷ y ∷ w ∷ [] ≡ all_listed a b c d ++ w ∷ []
+joins_third a b c d x y w h ea eb ec =
+    let ed = h.2 ec in
+    sym (λ i. all_listed (ea i) (eb i) (ec i) (ed i) ++ w ∷ [])
+
+none_behind : (x y z : ℕ × ℤ) (d : Option (ℕ × ℤ)) → length (all_listed (Some x) (Some y) (Some z) d) ≤ 3 → d ≡ None
+none_behind x y z None few = refl
+none_behind x y z (Some w) few = absurd (omega (arith, few))
+
+pub joins_fourth : (a b c d : Option (ℕ × ℤ)) (x y z w : ℕ × ℤ) → length (all_listed a b c d) ≤ 3 → a ≡ Some x → b ≡ Some y → c ≡ Some z → x ∷ y ∷ z ∷ w ∷ [] ≡ all_listed a b c d ++ w ∷ []
+joins_fourth a b c d x y z w few ea eb ec =
+    let ed = none_behind x y z d (subst (λ (l : List (ℕ × ℤ)). length l ≤ 3) (λ i. all_listed (ea i) (eb i) (ec i) d) few) in
+    sym (λ i. all_listed (ea i) (eb i) (ec i) (ed i) ++ w ∷ [])
+
+pub ruleset joining = (joins_first, joins_second, joins_third, joins_fourth)
+
+pub ruleset packing = (no_fourth, packed_before, one_more)

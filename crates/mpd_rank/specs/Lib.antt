@@ -5,3 +5,4 @@ pub mod Entries
 pub mod Locals
 pub mod Undone
 pub mod Records
+pub mod KindRows

@@ -12,7 +12,7 @@ use Rattle.mpd_model.specs.declared.stmt.Simple.TheVariants as st
 use Rattle.mpd_model.specs.Term.{Value, Env, value_of, is_zero}
 use Rattle.mpd_model.specs.Program.{Program}
 use Rattle.mpd_model.specs.World.{RankWorld}
-use Rattle.mpd_model.specs.Next.{Ran, HasReceiver, trapped, requested, activity_after, send_issue, ssend_issue, recv_issue, isend_issue, issend_issue, irecv_issue, wait_issue, barrier_issue, assignment}
+use Rattle.mpd_model.specs.Next.{Ran, HasReceiver, trapped, requested, activity_after, send_issue, ssend_issue, recv_issue, isend_issue, issend_issue, irecv_issue, wait_issue, waitany_issue, barrier_issue, assignment}
 use Rattle.mpd_code.specs.declared.node.Action.{Action}
 use Rattle.mpd_code.specs.declared.node.Action.TheVariants as a
 use Rattle.mpd_code.specs.Left.{left_at}
@@ -53,6 +53,7 @@ simple_plan (st.Isend s) next env = issue_plan (isend_issue s env) next
 simple_plan (st.Issend s) next env = issue_plan (issend_issue s env) next
 simple_plan (st.Irecv s) next env = issue_plan (irecv_issue s env) next
 simple_plan (st.Wait t) next env = issue_plan (wait_issue t env) next
+simple_plan (st.Waitany s) next env = issue_plan (waitany_issue s env) next
 simple_plan st.Barrier next env = issue_plan barrier_issue next
 
 -- what any action does

@@ -10,7 +10,7 @@ use Rattle.mpd_model.specs.Term.{Value, Env, value_of, is_zero}
 use Rattle.mpd_model.specs.Tree.{Tree, simple, branch, repeat}
 use Rattle.mpd_model.specs.Program.{Program}
 use Rattle.mpd_model.specs.World.{RankWorld}
-use Rattle.mpd_model.specs.Next.{local, env_of, send_issue, ssend_issue, recv_issue, isend_issue, issend_issue, irecv_issue, wait_issue, barrier_issue, assignment}
+use Rattle.mpd_model.specs.Next.{local, env_of, send_issue, ssend_issue, recv_issue, isend_issue, issend_issue, irecv_issue, wait_issue, waitany_issue, barrier_issue, assignment}
 use Rattle.mpd_rank.specs.declared.change.LocalChange.{LocalChange}
 use Rattle.mpd_rank.specs.declared.change.LocalChange.TheVariants.{Moved, Printed, Issued, Trapped}
 use Rattle.mpd_rank.specs.declared.change.WakeRecord.{WakeRecord}
@@ -56,6 +56,7 @@ simple_change env (st.Isend s) = issue_change env.handles (isend_issue s env)
 simple_change env (st.Issend s) = issue_change env.handles (issend_issue s env)
 simple_change env (st.Irecv s) = issue_change env.handles (irecv_issue s env)
 simple_change env (st.Wait t) = issue_change env.handles (wait_issue t env)
+simple_change env (st.Waitany s) = issue_change env.handles (waitany_issue s env)
 simple_change env st.Barrier = issue_change env.handles barrier_issue
 
 abbrev pub change_of : Env → Tree → LocalChange

@@ -1,6 +1,6 @@
 //! What a step did, so that it can be taken back.
 
-ghost use Rattle.std.specs.Prelude.{◌≡◌, ◌<◌, ◌≤◌, ◌+◌, [], ◌∷◌, length, Some, None, IfSome, pos};
+ghost use Rattle.std.specs.Prelude.{◌≡◌, ◌<◌, ◌≤◌, ◌+◌, [], ◌∷◌, ◌++◌, length, Some, None, IfSome, pos};
 ghost use Rattle.mpd_rank.specs.Packed.{before};
 ghost use Rattle.mpd_rank.specs.Entries.{IsSmall, some_number};
 ghost use Rattle.mpd_rank.specs.Locals.{IsLocal, local_change, issued_handle};
@@ -14,30 +14,31 @@ const NO_NUMBER: u32 = u32::MAX;
 /// In place of a cell: none. A script has fewer cells.
 const NO_CELL: u16 = u16::MAX;
 
-/// Cells that a wake writes, in order, each with its new value. Contracts see a list. There are three at most.
+/// Cells that a wake writes, in order, each with its new value. Contracts see a list. There are four at most.
 #[derive(Clone, Copy)]
 pub struct Cells {
     pub(crate) first: Option<(usize, i64)>,
     pub(crate) second: Option<(usize, i64)>,
     pub(crate) third: Option<(usize, i64)>,
+    pub(crate) fourth: Option<(usize, i64)>,
 }
 
 impl Model for Cells {
     ghost use Rattle.std.specs.Prelude.{ℕ, ℤ, List};
     ghost use Rattle.mpd_rank.specs.Views.{cells_code};
-    ghost use Rattle.mpd_rank.specs.Packed.{all_listed, IsPacked, first_of, second_of, third_of, listed_back};
+    ghost use Rattle.mpd_rank.specs.Packed.{all_listed, IsPacked, first_of, second_of, third_of, fourth_of, listed_back};
 
     ghost Value = { List (ℕ × ℤ) };
 
     ghost coded = { cells_code };
 
-    ghost view = { λ c. all_listed c.first c.second c.third };
+    ghost view = { λ c. all_listed c.first c.second c.third c.fourth };
 
-    ghost invariant = { λ c. IsPacked c.first c.second c.third };
+    ghost invariant = { λ c. IsPacked c.first c.second c.third c.fourth };
 
-    ghost inverse = { λ l. record { first = first_of l; second = second_of l; third = third_of l } };
+    ghost inverse = { λ l. record { first = first_of l; second = second_of l; third = third_of l; fourth = fourth_of l } };
 
-    ghost inverse_ok = { λ c h. let back = listed_back c.first c.second c.third h in (λ i. record { first = back.0 i; second = back.1 i; third = back.2 i }) };
+    ghost inverse_ok = { λ c h. let back = listed_back c.first c.second c.third c.fourth h in (λ i. record { first = back.0 i; second = back.1 i; third = back.2 i; fourth = back.3 i }) };
 }
 
 impl Cells {
@@ -49,6 +50,7 @@ impl Cells {
             first: None,
             second: None,
             third: None,
+            fourth: None,
         }
     }
 
@@ -60,6 +62,7 @@ impl Cells {
             first: Some((cell, value)),
             second: None,
             third: None,
+            fourth: None,
         }
     }
 
@@ -71,6 +74,41 @@ impl Cells {
             first: Some(first),
             second: Some(second),
             third: Some(third),
+            fourth: None,
+        }
+    }
+
+    /// The same and one more, written last.
+    #[tactic(auto, using(crate::proofs::RankLemmas::joining))]
+    pub fn and(self, cell: usize, value: i64) -> Cells
+        requires { length self ≤ 3 }
+        ensures { result ≡ self ++ (cell, value) ∷ [] }
+    {
+        let last = Some((cell, value));
+        let Some(one) = self.first else {
+            return Cells::one(cell, value);
+        };
+        let Some(two) = self.second else {
+            return Cells {
+                first: Some(one),
+                second: last,
+                third: None,
+                fourth: None,
+            };
+        };
+        let Some(three) = self.third else {
+            return Cells {
+                first: Some(one),
+                second: Some(two),
+                third: last,
+                fourth: None,
+            };
+        };
+        Cells {
+            first: Some(one),
+            second: Some(two),
+            third: Some(three),
+            fourth: last,
         }
     }
 }
@@ -130,41 +168,45 @@ impl OldCell {
     }
 }
 
-/// What cells held that were written, the last first. It takes 32 bytes. Contracts see a list. There are three at most.
+/// What cells held that were written, the last first. It takes 40 bytes. Contracts see a list. There are four at most.
 #[derive(Clone, Copy)]
 pub struct OldCells {
     first: u16,
     second: u16,
     third: u16,
+    fourth: u16,
     first_was: i64,
     second_was: i64,
     third_was: i64,
+    fourth_was: i64,
 }
 
 impl Model for OldCells {
     ghost use Rattle.std.specs.Prelude.{ℕ, ℤ, List};
     ghost use Rattle.mpd_rank.specs.Views.{cells_code};
     ghost use Rattle.mpd_rank.specs.Entries.{old_cell, cell_of, was_of};
-    ghost use Rattle.mpd_rank.specs.Packed.{all_listed, first_of, second_of, third_of, HoldsThree, three_back};
+    ghost use Rattle.mpd_rank.specs.Packed.{all_listed, first_of, second_of, third_of, fourth_of, HoldsFour, four_back};
 
     ghost Value = { List (ℕ × ℤ) };
 
     ghost coded = { cells_code };
 
-    ghost view = { λ c. all_listed (old_cell c.first c.first_was) (old_cell c.second c.second_was) (old_cell c.third c.third_was) };
+    ghost view = { λ c. all_listed (old_cell c.first c.first_was) (old_cell c.second c.second_was) (old_cell c.third c.third_was) (old_cell c.fourth c.fourth_was) };
 
-    ghost invariant = { λ c. HoldsThree c.first c.second c.third c.first_was c.second_was c.third_was };
+    ghost invariant = { λ c. HoldsFour c.first c.second c.third c.fourth c.first_was c.second_was c.third_was c.fourth_was };
 
     ghost inverse = { λ l. record {
       first = cell_of (first_of l);
       second = cell_of (second_of l);
       third = cell_of (third_of l);
+      fourth = cell_of (fourth_of l);
       first_was = was_of (first_of l);
       second_was = was_of (second_of l);
       third_was = was_of (third_of l);
+      fourth_was = was_of (fourth_of l);
     } };
 
-    ghost inverse_ok = { λ c h. three_back c h };
+    ghost inverse_ok = { λ c h. four_back c h };
 }
 
 impl OldCells {
@@ -176,16 +218,18 @@ impl OldCells {
             first: NO_CELL,
             second: NO_CELL,
             third: NO_CELL,
+            fourth: NO_CELL,
             first_was: 0,
             second_was: 0,
             third_was: 0,
+            fourth_was: 0,
         }
     }
 
     /// The same with a cell that was written behind the others, where there was one.
     #[tactic(auto, using(crate::proofs::RankLemmas::packing))]
     pub(crate) fn with(self, old: OldCell) -> OldCells
-        requires { length self ≤ 2 }
+        requires { length self ≤ 3 }
         ensures value { result ≡ before old self }
         ensures few { length result ≤ length self + 1 }
     {
@@ -196,9 +240,11 @@ impl OldCells {
             first: old.cell,
             second: self.first,
             third: self.second,
+            fourth: self.third,
             first_was: old.was,
             second_was: self.first_was,
             third_was: self.second_was,
+            fourth_was: self.third_was,
         }
     }
 
@@ -218,10 +264,15 @@ impl OldCells {
             cell: self.third,
             was: self.third_was,
         };
+        let fourth = OldCell {
+            cell: self.fourth,
+            was: self.fourth_was,
+        };
         Cells {
             first: first.get(),
             second: second.get(),
             third: third.get(),
+            fourth: fourth.get(),
         }
     }
 }
@@ -314,7 +365,7 @@ pub struct WakeRecord {
     pub handle: OldHandle,
 }
 
-const _: () = prove!(size_of::<WakeRecord>() == 40);
+const _: () = prove!(size_of::<WakeRecord>() == 48);
 
 /// What a local step did beside moving its rank.
 #[derive(Clone, Copy)]

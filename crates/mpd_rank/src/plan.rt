@@ -6,7 +6,7 @@ ghost use Rattle.mpd_rank.specs.Plans.{plan_call, plan_of, simple_plan, print_pl
 use mpd_code::env::Env;
 use mpd_code::eval::{
     barrier, eval, eval_assign, eval_irecv, eval_isend, eval_issend, eval_recv, eval_send,
-    eval_ssend, eval_wait,
+    eval_ssend, eval_wait, eval_waitany,
 };
 use mpd_code::node::{Action, Node};
 use mpd_model::call::{Call, Issue, Trap};
@@ -113,6 +113,7 @@ fn plan_simple(simple: &Simple, env: &Env<'_>, next: u32) -> LocalPlan
         Simple::Issend(issend) => plan_issue(eval_issend(issend, env), next),
         Simple::Irecv(irecv) => plan_issue(eval_irecv(irecv, env), next),
         Simple::Wait(handle) => plan_issue(eval_wait(handle, env), next),
+        Simple::Waitany(waitany) => plan_issue(eval_waitany(waitany, env), next),
         Simple::Barrier => plan_issue(Ok(barrier()), next),
     }
 }

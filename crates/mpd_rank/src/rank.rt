@@ -1,6 +1,6 @@
 //! The state of one rank.
 
-ghost use Rattle.std.specs.Prelude.{◌≡◌, ◌<◌, ◌≤◌, ◌+◌, IfOk, IfSome, IfNone, [], OnOk, OnErr, is_some, IsSome, ℕ, Some, slice_set};
+ghost use Rattle.std.specs.Prelude.{◌≡◌, ◌<◌, ◌≤◌, ◌+◌, IfOk, IfSome, IfNone, [], OnOk, OnErr, is_some, IsSome, ℕ, Some, None, length, slice_index_or, slice_set};
 ghost use Rattle.std.specs.Option.{option_map};
 ghost use Rattle.mpd_model.specs.Program.{Program};
 ghost use Rattle.mpd_rank.specs.Entries.{IsSmall};
@@ -15,6 +15,7 @@ use mpd_code::env::Env;
 use mpd_code::node::Node;
 use mpd_model::call::{Activity, Issue};
 use mpd_model::kind::blocks;
+use mpd_model::limits::HANDLES_MAX;
 use mpd_queue::tape::Tape;
 use std::alloc::{AllocError, Global};
 use std::marker::Model;
@@ -214,12 +215,14 @@ impl RankState {
         ensures after { self.new ≡ record self.old { vars = write_cells cells self.old.vars; writes = self.new.writes } }
         ensures was { result ≡ entries_before self.old.vars cells }
         ensures rises { self.old.writes ≤ self.new.writes }
-        ensures few { self.new.writes ≤ self.old.writes + 3 }
+        ensures few { self.new.writes ≤ self.old.writes + 4 }
     {
         let first = self.write_if(cells.first);
         let second = self.write_if(cells.second);
         let third = self.write_if(cells.third);
-        OldCells::none().with(first).with(second).with(third)
+        let fourth = self.write_if(cells.fourth);
+        let earlier = OldCells::none().with(first).with(second);
+        earlier.with(third).with(fourth)
     }
 
     /// Writes a handle, where there is such a one, and answers what it held.
@@ -343,7 +346,7 @@ impl RankState {
     }
 
     /// Goes on after a wake, with cells written and a handle cleared. It can't be refused memory. It answers what takes the wake
-    /// back. One to five writes.
+    /// back. One to six writes.
     #[tactic(auto, using(crate::proofs::RankLemmas::committing))]
     pub fn complete(&mut self, writes: Cells, handle: Option<usize>) -> WakeRecord
         ensures after { (p : Program) → rank_of p self.new ≡ woken_rank writes handle (rank_of p self.old) }
@@ -352,7 +355,7 @@ impl RankState {
         ensures back { (p : Program) → self.old.activity ≡ Activity.Blocked → unwoken (rank_of p self.new) result ≡ rank_of p self.old }
         ensures room_left { self.old.room ≤ self.new.room }
         ensures rises { self.old.writes + 1 ≤ self.new.writes }
-        ensures few { self.new.writes ≤ self.old.writes + 5 }
+        ensures few { self.new.writes ≤ self.old.writes + 6 }
     {
         let node = self.standing().node;
         let cells = self.write_all(writes);
@@ -372,14 +375,14 @@ impl RankState {
         }
     }
 
-    /// Takes a wake back. It can't be refused memory. One to five writes.
+    /// Takes a wake back. It can't be refused memory. One to six writes.
     #[inline(never)]
     pub fn unwake(&mut self, done: &WakeRecord)
         ensures after { (p : Program) → rank_of p self.new ≡ unwoken (rank_of p self.old) done.now }
         ensures rank { self.new.rank ≡ self.old.rank }
         ensures room_left { self.old.room ≤ self.new.room }
         ensures rises { self.old.writes + 1 ≤ self.new.writes }
-        ensures few { self.new.writes ≤ self.old.writes + 5 }
+        ensures few { self.new.writes ≤ self.old.writes + 6 }
     {
         let node = self.standing().node;
         let _ = self.write_all(done.cells.cells());
@@ -489,6 +492,26 @@ impl RankState {
         ensures { result.now ≡ self.now.handles }
     {
         self.handles.items()
+    }
+
+    /// How many handles it has.
+    pub fn handle_count(&self) -> usize
+        ensures value { result ≡ length self.now.handles }
+        ensures few { result ≤ HANDLES_MAX }
+    {
+        self.handles.len()
+    }
+
+    /// The number of the call that a handle has, where it has one.
+    pub fn held_call(&self, handle: usize) -> Option<usize>
+        ensures { result ≡ slice_index_or self.now.handles handle None }
+    {
+        let handles = self.handles();
+        if handle < handles.len() {
+            handles[handle]
+        } else {
+            None
+        }
     }
 
     /// What it has printed.
