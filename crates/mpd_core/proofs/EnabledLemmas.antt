@@ -1,13 +1,13 @@
 -- The enabled steps, by their kinds.
-use Rattle.std.proofs.Common.{◌≡◌, ◌<◌, ◌+◌, Bool, true, false, cond, List, [], ◌∷◌, ◌++◌, refl, sym, ap, subst, ◌∙◌, arith, map, length, append_assoc, Some, None, is_some}
+use Rattle.std.proofs.Common.{◌≡◌, ℕ, ◌<◌, ◌+◌, ◌-◌, Bool, true, false, cond, List, [], ◌∷◌, ◌++◌, refl, sym, ap, subst, ◌∙◌, arith, map, length, append_assoc, Some, None, is_some}
 use Rattle.std.proofs.lemmas.List.{length-append}
 use Rattle.std.proofs.lemmas.List.Elements.{filter-append}
-use Rattle.std.specs.List.{filter, flat_map}
+use Rattle.std.specs.List.{filter, flat_map, range_with_len}
 use Rattle.mpd_model.specs.declared.step.Step.{Step}
-use Rattle.mpd_model.specs.declared.step.Step.TheVariants.{Local, Match, Wake, Release}
+use Rattle.mpd_model.specs.declared.step.Step.TheVariants.{Local, Match, Wake, WakeAny, Release}
 use Rattle.mpd_model.specs.declared.call.MatchSet.TheVariants.{Pair}
-use Rattle.mpd_model.specs.World.{World, Board, call_id, rank_numbers, call_numbers, eligible}
-use Rattle.mpd_model.specs.Next.{is_enabled, enabled, with_set, matches_with, matches_of, matches_in}
+use Rattle.mpd_model.specs.World.{World, Board, call_id, kind_at, last_call, rank_numbers, call_numbers, eligible}
+use Rattle.mpd_model.specs.Next.{is_enabled, enabled, with_set, requests_of, any_wakes_of, any_wakes_in, matches_with, matches_of, matches_in}
 use Rattle.mpd_match.specs.Matches as listed
 
 out_of : {A : Type 0} (f : A → Step) (b : Bool) (x : A) (ys : List A) → cond b (f x ∷ map f ys) (map f ys) ≡ map f (cond b (x ∷ ys) ys)
@@ -52,32 +52,65 @@ split : (b : Bool) (x : Step) (ys : List Step) → cond b (x ∷ ys) ys ≡ cond
 split true x ys = refl
 split false x ys = refl
 
-pub enabled_parts : (w : World) → enabled w ≡ locals w ++ (releases w ++ (wakes w ++ listed.matches_on w.board))
+-- those of waitanys, of one rank and of all
+abbrev pub any_wakes_at : World → ℕ → List Step
+any_wakes_at w p = filter (is_enabled w) (any_wakes_of w.board p)
+
+abbrev pub any_wakes : World → List Step
+any_wakes w = filter (is_enabled w) (any_wakes_in w.board)
+
+pub any_wakes_by : (w : World) (p : ℕ) → map (WakeAny p) (filter (λ i. is_enabled w (WakeAny p i)) (range_with_len 0 (requests_of (kind_at w.board (last_call w.board p))))) ≡ any_wakes_at w p
+any_wakes_by w p = sym (filter_mapped (is_enabled w) (WakeAny p) (λ i. is_enabled w (WakeAny p i)) (λ i. refl) (range_with_len 0 (requests_of (kind_at w.board (last_call w.board p)))))
+
+pub any_wakes_joined : (w : World) → flat_map (any_wakes_at w) (rank_numbers w.board) ≡ any_wakes w
+any_wakes_joined w = sym (filter_joined (is_enabled w) (any_wakes_of w.board) (any_wakes_at w) (λ p. refl) (rank_numbers w.board))
+
+-- gathered from the first number on
+pub any_wakes_ahead : (w : World) (p n : ℕ) (old : List Step) → n ≡ requests_of (kind_at w.board (last_call w.board p))
+    → old ++ map (WakeAny p) (filter (λ i. is_enabled w (WakeAny p i)) (range_with_len 0 (n - 0))) ≡ old ++ any_wakes_at w p
+any_wakes_ahead w p n old e =
+    let all : n - 0 ≡ requests_of (kind_at w.board (last_call w.board p)) = omega (arith, e) in
+    ap (λ m. old ++ map (WakeAny p) (filter (λ i. is_enabled w (WakeAny p i)) (range_with_len 0 m))) all ∙ ap (λ ys. old ++ ys) (any_wakes_by w p)
+
+pub all_wakes_ahead : (w : World) (n : ℕ) (old : List Step) → n ≡ length w.board.calls → old ++ flat_map (any_wakes_at w) (range_with_len 0 (n - 0)) ≡ old ++ any_wakes w
+all_wakes_ahead w n old e =
+    let all : n - 0 ≡ length w.board.calls = omega (arith, e) in
+    ap (λ m. old ++ flat_map (any_wakes_at w) (range_with_len 0 m)) all ∙ ap (λ ys. old ++ ys) (any_wakes_joined w)
+
+pub enabled_parts : (w : World) → enabled w ≡ locals w ++ (releases w ++ (wakes w ++ (any_wakes w ++ listed.matches_on w.board)))
 enabled_parts w =
     let t = is_enabled w in
     let ranks = rank_numbers w.board in
-    filter-append t (map Local ranks) (Release ∷ (map Wake ranks ++ matches_in w.board))
-    ∙ ap (λ ys. ys ++ filter t (Release ∷ (map Wake ranks ++ matches_in w.board))) (filter_mapped t Local (λ p. t (Local p)) (λ p. refl) ranks)
-    ∙ ap (λ ys. locals w ++ ys) (split (t Release) Release (filter t (map Wake ranks ++ matches_in w.board))
-    ∙ ap (λ ys. releases w ++ ys) (filter-append t (map Wake ranks) (matches_in w.board)
-    ∙ ap (λ ys. ys ++ filter t (matches_in w.board)) (filter_mapped t Wake (λ p. t (Wake p)) (λ p. refl) ranks)
-    ∙ ap (λ ys. wakes w ++ ys) (matches_are w)))
+    let rest = any_wakes_in w.board ++ matches_in w.board in
+    filter-append t (map Local ranks) (Release ∷ (map Wake ranks ++ rest))
+    ∙ ap (λ ys. ys ++ filter t (Release ∷ (map Wake ranks ++ rest))) (filter_mapped t Local (λ p. t (Local p)) (λ p. refl) ranks)
+    ∙ ap (λ ys. locals w ++ ys) (split (t Release) Release (filter t (map Wake ranks ++ rest))
+    ∙ ap (λ ys. releases w ++ ys) (filter-append t (map Wake ranks) rest
+    ∙ ap (λ ys. ys ++ filter t rest) (filter_mapped t Wake (λ p. t (Wake p)) (λ p. refl) ranks)
+    ∙ ap (λ ys. wakes w ++ ys) (filter-append t (any_wakes_in w.board) (matches_in w.board)
+    ∙ ap (λ ys. any_wakes w ++ ys) (matches_are w))))
 
 -- ---- gathered one kind after the other
 
-pub enabled_all : (w : World) (b : Board) (one two three four : List Step) → b ≡ w.board → one ≡ locals w → two ≡ one ++ releases w → three ≡ two ++ wakes w → four ≡ three ++ listed.matches_on b → four ≡ enabled w
-enabled_all w b one two three four same l r k m =
-    m ∙ ap (λ (c : Board). three ++ listed.matches_on c) same
-    ∙ ap (λ ys. ys ++ listed.matches_on w.board) (k ∙ ap (λ ys. ys ++ wakes w) (r ∙ ap (λ ys. ys ++ releases w) l))
-    ∙ append_assoc (locals w ++ releases w) (wakes w) (listed.matches_on w.board)
-    ∙ append_assoc (locals w) (releases w) (wakes w ++ listed.matches_on w.board)
+pub enabled_all : (w : World) (b : Board) (one two three four five : List Step) → b ≡ w.board → one ≡ locals w → two ≡ one ++ releases w → three ≡ two ++ wakes w → four ≡ three ++ any_wakes w → five ≡ four ++ listed.matches_on b
+    → five ≡ enabled w
+enabled_all w b one two three four five same l r k a m =
+    let last : List Step = listed.matches_on w.board in
+    m ∙ ap (λ (c : Board). four ++ listed.matches_on c) same
+    ∙ ap (λ ys. ys ++ last) (a ∙ ap (λ ys. ys ++ any_wakes w) (k ∙ ap (λ ys. ys ++ wakes w) (r ∙ ap (λ ys. ys ++ releases w) l)))
+    ∙ append_assoc ((locals w ++ releases w) ++ wakes w) (any_wakes w) last
+    ∙ append_assoc (locals w ++ releases w) (wakes w) (any_wakes w ++ last)
+    ∙ append_assoc (locals w) (releases w) (wakes w ++ (any_wakes w ++ last))
     ∙ sym (enabled_parts w)
 
-enabled_length : (w : World) → length (enabled w) ≡ length (locals w) + (length (releases w) + (length (wakes w) + length (listed.matches_on w.board)))
+enabled_length : (w : World) → length (enabled w) ≡ length (locals w) + (length (releases w) + (length (wakes w) + (length (any_wakes w) + length (listed.matches_on w.board))))
 enabled_length w =
+    let last : List Step = listed.matches_on w.board in
     ap length (enabled_parts w)
-    ∙ length-append (locals w) (releases w ++ (wakes w ++ listed.matches_on w.board))
-    ∙ ap (λ n. length (locals w) + n) (length-append (releases w) (wakes w ++ listed.matches_on w.board) ∙ ap (λ n. length (releases w) + n) (length-append (wakes w) (listed.matches_on w.board)))
+    ∙ length-append (locals w) (releases w ++ (wakes w ++ (any_wakes w ++ last)))
+    ∙ ap (λ n. length (locals w) + n) (length-append (releases w) (wakes w ++ (any_wakes w ++ last))
+    ∙ ap (λ n. length (releases w) + n) (length-append (wakes w) (any_wakes w ++ last)
+    ∙ ap (λ n. length (wakes w) + n) (length-append (any_wakes w) last)))
 
 pub some_local : (w : World) → 0 < length (locals w) → 0 < length (enabled w)
 some_local w some = omega (arith, some, enabled_length w)
@@ -88,8 +121,11 @@ some_release w some = omega (arith, some, enabled_length w)
 pub some_wake : (w : World) → 0 < length (wakes w) → 0 < length (enabled w)
 some_wake w some = omega (arith, some, enabled_length w)
 
+pub some_any_wake : (w : World) → 0 < length (any_wakes w) → 0 < length (enabled w)
+some_any_wake w some = omega (arith, some, enabled_length w)
+
 pub some_match : (w : World) (b : Board) → b ≡ w.board → 0 < length (listed.matches_on b) → 0 < length (enabled w)
 some_match w b same some =
     let here : 0 < length (listed.matches_on w.board) = subst (λ (c : Board). 0 < length (listed.matches_on c)) same some in omega (arith, here, enabled_length w)
 
-pub ruleset enabling = (enabled_all, some_local, some_release, some_wake, some_match)
+pub ruleset enabling = (enabled_all, some_local, some_release, some_wake, some_any_wake, some_match)

@@ -5,3 +5,4 @@ pub mod RoomLemmas
 pub mod TagLemmas
 pub mod EnabledLemmas
 pub mod ReleaseLemmas
+pub mod AnyLemmas

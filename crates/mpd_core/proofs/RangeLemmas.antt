@@ -6,7 +6,7 @@ use Rattle.mpd_model.specs.declared.step.Step.{Step}
 use Rattle.mpd_model.specs.declared.step.Step.TheVariants.{Local, Match, Wake, Release}
 use Rattle.mpd_model.specs.declared.call.MatchSet.TheVariants.{Pair}
 use Rattle.mpd_model.specs.World.{World, Board, call_id, rank_numbers, call_numbers, eligible}
-use Rattle.mpd_model.specs.Next.{is_enabled, with_set, matches_with, matches_of, matches_in, steps_of}
+use Rattle.mpd_model.specs.Next.{is_enabled, with_set, any_wakes_in, matches_with, matches_of, matches_in, steps_of}
 use Rattle.mpd_model.specs.declared.step.CallId.{CallId}
 use Rattle.mpd_model.specs.declared.outcome.TrappedRank.{TrappedRank}
 use Rattle.mpd_model.specs.Outcomes.{ending_by, ended_with}
@@ -92,11 +92,14 @@ chosen_grows old so_far now more grows e = omega (arith, ap length e, grows, len
 
 -- no step is enabled where none of each form is
 pub enabled_parts : (w : World) → list_any (is_enabled w) (steps_of w)
-    ≡ list_any (is_enabled w) (map Local (rank_numbers w.board)) || (is_enabled w Release || (list_any (is_enabled w) (map Wake (rank_numbers w.board)) || list_any (is_enabled w) (matches_in w.board)))
+    ≡ list_any (is_enabled w) (map Local (rank_numbers w.board))
+    || (is_enabled w Release || (list_any (is_enabled w) (map Wake (rank_numbers w.board)) || (list_any (is_enabled w) (any_wakes_in w.board) || list_any (is_enabled w) (matches_in w.board))))
 enabled_parts w =
     let ranks = rank_numbers w.board in
-    list_any-append (is_enabled w) (map Local ranks) (Release ∷ (map Wake ranks ++ matches_in w.board))
-    ∙ ap (λ b. list_any (is_enabled w) (map Local ranks) || (is_enabled w Release || b)) (list_any-append (is_enabled w) (map Wake ranks) (matches_in w.board))
+    let rest = any_wakes_in w.board ++ matches_in w.board in
+    list_any-append (is_enabled w) (map Local ranks) (Release ∷ (map Wake ranks ++ rest))
+    ∙ ap (λ b. list_any (is_enabled w) (map Local ranks) || (is_enabled w Release || b)) (list_any-append (is_enabled w) (map Wake ranks) rest
+    ∙ ap (λ b. list_any (is_enabled w) (map Wake ranks) || b) (list_any-append (is_enabled w) (any_wakes_in w.board) (matches_in w.board)))
 
 -- ---- whether some match is enabled, told by calls
 
@@ -140,6 +143,14 @@ given_some f i n so_far total h e some =
     let u : flat_map f (range_with_len i (n - i)) ≡ f i ++ flat_map f (range_with_len (i + 1) (n - (i + 1))) = rw k refl in
     let long : length (so_far ++ (f i ++ flat_map f (range_with_len (i + 1) (n - (i + 1))))) ≡ length total = ap length (ap (λ xs. so_far ++ xs) (sym u) ∙ e) in
     omega (arith, long, some, length-append so_far (f i ++ flat_map f (range_with_len (i + 1) (n - (i + 1)))), length-append (f i) (flat_map f (range_with_len (i + 1) (n - (i + 1)))))
+
+-- and where there was something before them, it is behind that
+pub given_some_behind : {A : Type 0} (f : ℕ → List A) (i n : ℕ) (so_far old total : List A) → i < n → length old ≤ length so_far → so_far ++ flat_map f (range_with_len i (n - i)) ≡ old ++ total → 0 < length (f i) → 0 < length total
+given_some_behind f i n so_far old total h grows e some =
+    let k : n - i ≡ suc (n - (i + 1)) = omega arith in
+    let u : flat_map f (range_with_len i (n - i)) ≡ f i ++ flat_map f (range_with_len (i + 1) (n - (i + 1))) = rw k refl in
+    let long : length (so_far ++ (f i ++ flat_map f (range_with_len (i + 1) (n - (i + 1))))) ≡ length (old ++ total) = ap length (ap (λ xs. so_far ++ xs) (sym u) ∙ e) in
+    omega (arith, long, some, grows, length-append so_far (f i ++ flat_map f (range_with_len (i + 1) (n - (i + 1)))), length-append (f i) (flat_map f (range_with_len (i + 1) (n - (i + 1)))), length-append old total)
 
 -- what holds in any case holds where memory was refused
 pub refused_with : {T E : Type 0} {P : Type 0} (r : Result T E) → P → OnErr r P

@@ -7,3 +7,4 @@ pub mod Records
 pub mod Listed
 pub mod Looks
 pub mod Writes
+pub mod KindRows

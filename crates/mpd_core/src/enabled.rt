@@ -4,7 +4,7 @@ ghost use Rattle.std.specs.Prelude.{◌≡◌, ◌<◌, [], ◌∷◌, ◌++◌,
 ghost use Rattle.std.specs.List.{filter};
 ghost use Rattle.mpd_model.specs.declared.step.Step.TheVariants as steps;
 ghost use Rattle.mpd_model.specs.World.{rank_numbers};
-ghost use Rattle.mpd_model.specs.Next.{is_enabled, enabled};
+ghost use Rattle.mpd_model.specs.Next.{is_enabled, any_wakes_of, any_wakes_in, enabled};
 
 use crate::state::Core;
 use mpd_model::step::Step;
@@ -46,8 +46,33 @@ impl<'c> Core<'c> {
         Ok(())
     }
 
-    /// The enabled steps (docs/DEFINITIONS.md, "Steps"): all local steps, by rank, the release, all wakes, by rank, then the matches
-    /// by receiver, receive and sender. Lists of free calls are walked, and no others. An `Err` is want of memory for the list, and
+    /// Adds the steps of the waitany that a rank has issued last that are enabled, by index. An `Err` is want of memory for the list,
+    /// and comes only where there is such a step.
+    pub fn push_any_wakes_of(&self, rank: usize, out: &mut Vec<Step>) -> Result<(), AllocError>
+        ensures ok { OnOk result (out.new.items ≡ out.old.items ++ filter (is_enabled self.now.world) (any_wakes_of self.now.world.board rank)) }
+        ensures memory { OnErr result (0 < length (filter (is_enabled self.now.world) (any_wakes_of self.now.world.board rank))) }
+    {
+        let count = self.request_count(rank);
+        for index in 0..count {
+            self.push_if_enabled(Step::WakeAny { rank, index }, out)?;
+        }
+        Ok(())
+    }
+
+    /// Adds the steps of waitanys that are enabled, by rank and index.
+    fn push_any_wakes(&self, out: &mut Vec<Step>) -> Result<(), AllocError>
+        ensures ok { OnOk result (out.new.items ≡ out.old.items ++ filter (is_enabled self.now.world) (any_wakes_in self.now.world.board)) }
+        ensures memory { OnErr result (0 < length (filter (is_enabled self.now.world) (any_wakes_in self.now.world.board))) }
+    {
+        let count = self.rank_count();
+        for rank in 0..count {
+            self.push_any_wakes_of(rank, out)?;
+        }
+        Ok(())
+    }
+
+    /// The enabled steps (docs/DEFINITIONS.md, "Steps"): all local steps, by rank, the release, all wakes, by rank, those of waitanys,
+    /// by rank and index, then the matches by receiver, receive and sender. Lists of free calls are walked, and no others. An `Err` is want of memory for the list, and
     /// comes only where it has an entry.
     #[tactic(auto, using(crate::proofs::EnabledLemmas::enabling))]
     pub fn enabled(&self, alloc: Global) -> Result<Vec<Step>, AllocError>
@@ -58,6 +83,7 @@ impl<'c> Core<'c> {
         self.push_locals(&mut listed)?;
         self.push_if_enabled(Step::Release, &mut listed)?;
         self.push_wakes(&mut listed)?;
+        self.push_any_wakes(&mut listed)?;
         self.board().push_matches(&mut listed)?;
         Ok(listed)
     }

@@ -4,7 +4,7 @@ ghost use Rattle.std.specs.Prelude.{◌≡◌, ◌<◌, [], ◌∷◌, ◌++◌,
 ghost use Rattle.std.specs.List.{filter, flat_map, list_any};
 ghost use Rattle.mpd_model.specs.declared.step.Step.TheVariants as steps;
 ghost use Rattle.mpd_model.specs.World.{rank_numbers, is_free};
-ghost use Rattle.mpd_model.specs.Next.{is_enabled, matches_of, matches_in, steps_of};
+ghost use Rattle.mpd_model.specs.Next.{is_enabled, any_wakes_of, any_wakes_in, matches_of, matches_in, steps_of};
 ghost use Rattle.mpd_model.specs.Outcomes.{traps_at, traps_in, blocked_at, blocked_calls, free_of, free_calls, untrapped, ending, is_stuck, outcome};
 ghost use Rattle.mpd_core.specs.Listed.{listed};
 
@@ -43,6 +43,34 @@ impl<'c> Core<'c> {
         false
     }
 
+    /// Whether a rank is blocked on a waitany of which some request is complete.
+    #[tactic(auto, using(crate::proofs::RangeLemmas::any_mapped))]
+    fn can_choose(&self, rank: usize) -> bool
+        ensures { result ≡ list_any (is_enabled self.now.world) (any_wakes_of self.now.world.board rank) }
+    {
+        let count = self.request_count(rank);
+        for index in 0..count {
+            if self.is_enabled(Step::WakeAny { rank, index }) {
+                return true;
+            }
+        }
+        false
+    }
+
+    /// Whether some rank is.
+    #[tactic(auto, using(crate::proofs::RangeLemmas::any_joined))]
+    fn can_choose_any(&self) -> bool
+        ensures { result ≡ list_any (is_enabled self.now.world) (any_wakes_in self.now.world.board) }
+    {
+        let count = self.rank_count();
+        for rank in 0..count {
+            if self.can_choose(rank) {
+                return true;
+            }
+        }
+        false
+    }
+
     /// Whether some receive of a rank is eligible. Its free receives are walked, and the free sends to it.
     #[tactic(auto, using(crate::proofs::RangeLemmas::matching))]
     fn can_match_at(&self, receiver: usize) -> bool
@@ -74,6 +102,7 @@ impl<'c> Core<'c> {
         !(self.can_step_any()
             || self.is_enabled(Step::Release)
             || self.can_wake_any()
+            || self.can_choose_any()
             || self.can_match_any())
     }
 

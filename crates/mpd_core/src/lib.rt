@@ -9,3 +9,4 @@ pub mod record;
 pub mod state;
 pub mod step;
 pub mod text;
+mod waitany;

@@ -222,7 +222,7 @@ pub(crate) fn wake_one(
     ensures size { vec_len ranks.new ≡ vec_len ranks.old }
     ensures room_left { (board_room : ℕ) → room_in board_room ranks.old.items ≤ room_in board_room ranks.new.items }
     ensures rises { writes_in ranks.old.items + 1 ≤ writes_in ranks.new.items }
-    ensures few { writes_in ranks.new.items ≤ writes_in ranks.old.items + 5 }
+    ensures few { writes_in ranks.new.items ≤ writes_in ranks.old.items + 6 }
 {
     let state = &mut ranks[rank];
     state.complete(writes, handle)
@@ -237,7 +237,7 @@ pub(crate) fn unwake_one(ranks: &mut Vec<RankState>, rank: usize, done: &WakeRec
     ensures size { vec_len ranks.new ≡ vec_len ranks.old }
     ensures room_left { (board_room : ℕ) → room_in board_room ranks.old.items ≤ room_in board_room ranks.new.items }
     ensures rises { writes_in ranks.old.items + 1 ≤ writes_in ranks.new.items }
-    ensures few { writes_in ranks.new.items ≤ writes_in ranks.old.items + 5 }
+    ensures few { writes_in ranks.new.items ≤ writes_in ranks.old.items + 6 }
 {
     let state = &mut ranks[rank];
     state.unwake(done);

@@ -3,7 +3,7 @@
 use mpd_match::record::PairRecord;
 use mpd_rank::change::{LocalRecord, WakeRecord};
 
-/// What takes a step back that isn't local. It takes 56 bytes.
+/// What takes a step back that isn't local. It takes 64 bytes.
 #[derive(Clone, Copy)]
 pub enum OtherRecord {
     /// Where the calls of the pair stood.
@@ -14,7 +14,7 @@ pub enum OtherRecord {
     Released,
 }
 
-const _: () = prove!(size_of::<OtherRecord>() == 56);
+const _: () = prove!(size_of::<OtherRecord>() == 64);
 
 /// What takes any step back.
 #[derive(Clone, Copy)]

@@ -1,14 +1,14 @@
 //! The state of a run.
 
-ghost use Rattle.std.specs.Prelude.{◌≡◌, ◌↔◌, ◌<◌, ◌≤◌, ◌+◌, ◌∷◌, ℕ, length, map, slice_get, IfOk, IfSome, is_some, OnOk, OnErr, IsErrOf, Some, None};
+ghost use Rattle.std.specs.Prelude.{◌≡◌, ◌↔◌, ◌<◌, ◌≤◌, ◌+◌, ◌∷◌, ℕ, true, length, map, slice_get, IfOk, IfSome, is_some, OnOk, OnErr, IsErrOf, Some, None};
 ghost use Rattle.std.specs.Option.{option_map};
 ghost use Rattle.std.specs.List.{list_all};
 ghost use Rattle.mpd_model.specs.Outcomes.{has_ended, first_number};
 ghost use Rattle.mpd_model.specs.declared.call.MatchSet.TheVariants as sets;
 ghost use Rattle.mpd_model.specs.Program.{Program};
-ghost use Rattle.mpd_model.specs.World.{eligible, start};
+ghost use Rattle.mpd_model.specs.World.{eligible, start, kind_at, last_call};
 ghost use Rattle.mpd_model.specs.Next as next_specs;
-ghost use Rattle.mpd_model.specs.Next.{next, is_enabled, local_at, update_at, wake_writes, wake_clears, status_writes, can_wake, can_release, is_at_barrier, waits};
+ghost use Rattle.mpd_model.specs.Next.{next, is_enabled, local_at, update_at, wake_writes, wake_clears, status_writes, can_wake, any_handle, any_call, any_writes, can_wake_any, can_release, is_at_barrier, waits};
 ghost use Rattle.mpd_core.specs.Views.{IsMessage};
 ghost use Rattle.mpd_rank.specs.Views.{rank_of};
 ghost use Rattle.mpd_rank.specs.Undone.{blocked_again};
@@ -22,12 +22,13 @@ use crate::fault::StepFault;
 use crate::ranks;
 use crate::record::{OtherRecord, Record};
 use crate::step::{AnyStep, OtherStep};
+use crate::waitany::{Request, own_writes, request_handle, requests_of, with_index};
 use mpd_code::code::Code;
 use mpd_device::steps::Steps;
 use mpd_match::board::Board;
 use mpd_model::call::{Activity, CallKind, Message, Mode, RecvCall};
 use mpd_model::kind::is_barrier;
-use mpd_model::limits::RANKS_MAX;
+use mpd_model::limits::{HANDLES_MAX, RANKS_MAX};
 use mpd_model::step::{CallId, Step};
 use mpd_rank::change::{Cells, LocalChange, LocalRecord};
 use mpd_rank::rank::RankState;
@@ -77,7 +78,8 @@ fn cleared_by(kind: Option<CallKind>) -> Option<usize>
 /// The cells that a receive writes as its rank goes on, each with its new value: the value, then the source, then the tag.
 fn recv_writes(recv: RecvCall, message: Message) -> Cells
     requires { IsMessage message }
-    ensures { result ≡ (recv.cell, message.value) ∷ status_writes recv.status message }
+    ensures value { result ≡ (recv.cell, message.value) ∷ status_writes recv.status message }
+    ensures few { length result ≤ 3 }
 {
     match recv.status {
         None => Cells::one(recv.cell, message.value),
@@ -93,7 +95,8 @@ fn recv_writes(recv: RecvCall, message: Message) -> Cells
 /// The cells that the wake from a call of this kind writes, each with its new value.
 fn writes_of(kind: Option<CallKind>, message: Option<Message>) -> Cells
     requires { IfSome message IsMessage }
-    ensures { result ≡ next_specs.writes_of kind message }
+    ensures value { result ≡ next_specs.writes_of kind message }
+    ensures few { length result ≤ 3 }
 {
     match (kind, message) {
         (Some(CallKind::Recv(recv)), Some(message)) => recv_writes(recv, message),
@@ -221,6 +224,50 @@ impl<'c> Core<'c> {
         self.is_waiting(rank) && self.board.is_complete(self.board.last_call(rank))
     }
 
+    /// How many requests the waitany has that a rank has issued last; 0 where its last call is another.
+    pub(crate) fn request_count(&self, rank: usize) -> usize
+        ensures { result ≡ next_specs.requests_of (kind_at self.now.world.board (last_call self.now.world.board rank)) }
+    {
+        requests_of(self.board.kind(self.board.last_call(rank)))
+    }
+
+    /// The request of an index, of the waitany that a rank has issued last, where its handle has a call.
+    #[tactic(auto, using(crate::proofs::RankLemmas::reading, crate::proofs::AnyLemmas::requesting))]
+    fn request(&self, rank: usize, index: usize) -> Option<Request>
+        ensures handle { IfSome result (λ request. any_handle self.now.world rank index ≡ Some request.handle) }
+        ensures call { any_call self.now.world rank index ≡ option_map (λ request. request.call) result }
+        ensures low { IfSome result (λ _. index < HANDLES_MAX) }
+    {
+        let state = ranks::rank_at(&self.ranks, rank)?;
+        let kind = self.board.kind(self.board.last_call(rank));
+        let handle = request_handle(kind, index, state.handle_count())?;
+        let call = state.held_call(handle)?;
+        Some(Request {
+            handle,
+            call: CallId { rank, index: call },
+        })
+    }
+
+    /// The request of an index, where a rank is blocked on a waitany and that request is complete.
+    #[tactic(auto, using(crate::proofs::AnyLemmas::requesting))]
+    fn ready_request(&self, rank: usize, index: usize) -> Option<Request>
+        ensures can { is_some result ≡ can_wake_any self.now.world rank index }
+        ensures handle { IfSome result (λ request. any_handle self.now.world rank index ≡ Some request.handle) }
+        ensures call { IfSome result (λ request. any_call self.now.world rank index ≡ Some request.call) }
+        ensures low { IfSome result (λ _. index < HANDLES_MAX) }
+        ensures within { IfSome result (λ _. rank < length self.now.world.ranks) }
+    {
+        let request = self.request(rank, index)?;
+        if rank < self.rank_count()
+            && self.is_waiting(rank)
+            && self.board.is_complete(request.call)
+        {
+            Some(request)
+        } else {
+            None
+        }
+    }
+
     /// Whether a rank is blocked on a barrier.
     fn is_at_barrier(&self, rank: usize) -> bool
         ensures { result ≡ is_at_barrier self.now.world rank }
@@ -265,6 +312,7 @@ impl<'c> Core<'c> {
                 self.board.eligible(send, recv, &mut looks)
             }
             Step::Wake(rank) => self.can_wake(rank),
+            Step::WakeAny { rank, index } => self.ready_request(rank, index).is_some(),
             Step::Release => self.can_release(),
         }
     }
@@ -319,14 +367,28 @@ impl<'c> Core<'c> {
     }
 
     /// The cells that the wake of a rank writes, each with its new value.
-    #[tactic(auto, using(crate::proofs::TagLemmas::tagging))]
+    #[tactic(auto, using(crate::proofs::TagLemmas::tagging, crate::proofs::AnyLemmas::owning))]
     fn wake_writes(&self, rank: usize) -> Cells
         ensures { result ≡ wake_writes self.now.world.board rank }
     {
-        match self.board.awaited(self.board.last_call(rank)) {
-            None => Cells::none(),
+        let last = self.board.last_call(rank);
+        match self.board.awaited(last) {
+            None => own_writes(self.board.kind(last)),
             Some(call) => writes_of(self.board.kind(call), self.board.buffer(call)),
         }
+    }
+
+    /// The cells that a rank writes which goes on by the request of an index, each with its new value: what a wait for that
+    /// call writes, and the index behind that.
+    #[tactic(auto, using(crate::proofs::TagLemmas::tagging))]
+    fn any_writes(&self, rank: usize, index: usize, call: CallId) -> Cells
+        requires low { index < HANDLES_MAX }
+        requires call { any_call self.now.world rank index ≡ Some call }
+        ensures { result ≡ any_writes self.now.world rank index }
+    {
+        let writes = writes_of(self.board.kind(call), self.board.buffer(call));
+        let kind = self.board.kind(self.board.last_call(rank));
+        with_index(writes, kind, index)
     }
 
     /// The handle that the wake of a rank clears, if any.
@@ -350,7 +412,7 @@ impl<'c> Core<'c> {
         ensures room_left { self.old.room ≤ self.new.room + 1 }
         ensures err_room { OnErr result (self.old.room ≤ self.new.room) }
         ensures rises { OnOk result (self.old.writes + 2 ≤ self.new.writes) }
-        ensures few { self.new.writes ≤ self.old.writes + 6 }
+        ensures few { self.new.writes ≤ self.old.writes + 7 }
         ensures unwritten { OnErr result (self.new.writes ≡ self.old.writes) }
         ensures looks { self.new.looks ≡ self.old.looks }
     {
@@ -363,6 +425,35 @@ impl<'c> Core<'c> {
         self.board.keep_room()?;
         self.board.woke(call);
         let was = ranks::wake_one(&mut self.ranks, rank, writes, handle);
+        Ok(OtherRecord::Woke { rank, was })
+    }
+
+    /// A wake by the request of an index, of a waitany.
+    #[tactic(auto, using(crate::proofs::RankLemmas::board, crate::proofs::RankLemmas::waking_blocked, crate::proofs::RoomLemmas::refused, crate::proofs::RoomLemmas::spending, crate::proofs::TagLemmas::tagging))]
+    fn apply_wake_any(&mut self, rank: usize, index: usize) -> Result<OtherRecord, StepFault>
+        ensures ok { OnOk result (next self.old.world (Step.WakeAny rank index) ≡ Some self.new.world) }
+        ensures back { IfOk result (λ done. undone self.old.program self.new.world (Record.Other done) ≡ self.old.world) }
+        ensures recorded { IfOk result (λ done. record_of self.old.world (Step.WakeAny rank index) ≡ Some (Record.Other done)) }
+        ensures can { IfOk result (λ done. CanUndo self.new.world (Record.Other done)) }
+        ensures not_enabled { IsErrOf result StepFault.NotEnabled ↔ (next self.old.world (Step.WakeAny rank index) ≡ None) }
+        ensures memory { IsErrOf result StepFault.Memory → self.old.room ≡ 0 }
+        ensures err { OnErr result (self.new.world ≡ self.old.world) }
+        ensures program { self.new.program ≡ self.old.program }
+        ensures room_left { self.old.room ≤ self.new.room + 1 }
+        ensures err_room { OnErr result (self.old.room ≤ self.new.room) }
+        ensures rises { OnOk result (self.old.writes + 2 ≤ self.new.writes) }
+        ensures few { self.new.writes ≤ self.old.writes + 7 }
+        ensures unwritten { OnErr result (self.new.writes ≡ self.old.writes) }
+        ensures looks { self.new.looks ≡ self.old.looks }
+    {
+        let Some(request) = self.ready_request(rank, index) else {
+            return Err(StepFault::NotEnabled);
+        };
+        let writes = self.any_writes(rank, index, request.call);
+        let call = self.board.last_call(rank);
+        self.board.keep_room()?;
+        self.board.woke(call);
+        let was = ranks::wake_one(&mut self.ranks, rank, writes, Some(request.handle));
         Ok(OtherRecord::Woke { rank, was })
     }
 
@@ -430,6 +521,7 @@ impl<'c> Core<'c> {
         match step {
             OtherStep::Match(send, recv) => self.apply_match(send, recv),
             OtherStep::Wake(rank) => self.apply_wake(rank),
+            OtherStep::WakeAny { rank, index } => self.apply_wake_any(rank, index),
             OtherStep::Release => self.apply_release(),
         }
     }

@@ -12,6 +12,8 @@ pub enum OtherStep {
     Match(CallId, CallId),
     /// A rank goes on from a complete call.
     Wake(usize),
+    /// A rank goes on from a waitany, by the request of that index.
+    WakeAny { rank: usize, index: usize },
     /// All ranks go on from a barrier.
     Release,
 }
@@ -34,6 +36,7 @@ impl AnyStep {
             Step::Local(rank) => AnyStep::Local(rank),
             Step::Match(send, recv) => AnyStep::Other(OtherStep::Match(send, recv)),
             Step::Wake(rank) => AnyStep::Other(OtherStep::Wake(rank)),
+            Step::WakeAny { rank, index } => AnyStep::Other(OtherStep::WakeAny { rank, index }),
             Step::Release => AnyStep::Other(OtherStep::Release),
         }
     }
