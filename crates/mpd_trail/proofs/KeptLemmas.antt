@@ -5,10 +5,10 @@ use Rattle.std.proofs.lemmas.List.{reverse-append, reverse-reverse, length-appen
 use Rattle.std.proofs.lemmas.Option.{get_or_from_slice_get, slice_get_within}
 use Rattle.mpd_model.specs.declared.limits.TheConstants.{STEPS_MAX}
 use Rattle.mpd_model.specs.declared.step.Step.{Step}
-use Rattle.mpd_model.specs.declared.step.Step.TheVariants.{Local, Match, Wake, Release}
+use Rattle.mpd_model.specs.declared.step.Step.TheVariants.{Local, Match, Wake, WakeAny, Release}
 use Rattle.mpd_model.specs.Program.{Program}
 use Rattle.mpd_model.specs.World.{World, start}
-use Rattle.mpd_model.specs.Next.{next, fold, wake_writes, wake_clears}
+use Rattle.mpd_model.specs.Next.{next, fold, wake_writes, wake_clears, any_writes, any_handle}
 use Rattle.mpd_model.specs.Trail.{Trail, Standing, IsReached, kept, is_step, noted, applied, redone, forgotten}
 use Rattle.mpd_rank.specs.Undone.{LocalDone}
 use Rattle.mpd_core.specs.declared.record.OtherRecord.{OtherRecord}
@@ -65,6 +65,7 @@ is_other t a o e is = sym e ∙ ap any_step is
 no_rank : (o : OtherStep) → local_rank (other_step o) ≡ None
 no_rank (other.Match s r) = refl
 no_rank (other.Wake p) = refl
+no_rank (other.WakeAny p i) = refl
 no_rank other.Release = refl
 
 pub is_apart : (t : AnyStep) (a : Step) (o : OtherStep) → any_step t ≡ a → t ≡ any.Other o → local_rank a ≡ None
@@ -96,6 +97,7 @@ pub writes_back : (n : ℕ) (w : World) (a : Step) (done : Record) → record_of
 writes_back n w (Local p) done e = writes_joined n (kind.Local p) done (local_record_at w.ranks p) (λ x. refl) e
 writes_back n w (Match s r) done e = subst (λ (o : Option Record). IfSome o (λ d. most_writes_back n d ≡ 16)) e refl
 writes_back n w (Wake p) done e = writes_joined n (woken_at p) done (wake_record_at w.ranks p (wake_writes w.board p) (wake_clears w.board p)) (λ x. refl) e
+writes_back n w (WakeAny p i) done e = writes_joined n (woken_at p) done (wake_record_at w.ranks p (any_writes w p i) (any_handle w p i)) (λ x. refl) e
 writes_back n w Release done e = subst (λ (o : Option Record). IfSome o (λ d. most_writes_back n d ≡ most_writes n Release)) e refl
 
 take_by : (b : Bool) (steps : List Step) (n : ℕ) (a : Step) → n ≤ length steps → is_step (slice_get steps n) a ≡ b → take (n + 1) (cond b steps (take n steps ++ a ∷ [])) ≡ take n steps ++ a ∷ []

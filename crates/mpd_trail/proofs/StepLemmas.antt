@@ -5,7 +5,7 @@ use Rattle.std.proofs.lemmas.Option.{slice_get_read}
 use Rattle.std.proofs.lemmas.List.{take_more_set}
 use Rattle.mpd_model.specs.declared.step.CallId.{CallId}
 use Rattle.mpd_model.specs.declared.step.Step.{Step}
-use Rattle.mpd_model.specs.declared.step.Step.TheVariants.{Local, Match, Wake, Release}
+use Rattle.mpd_model.specs.declared.step.Step.TheVariants.{Local, Match, Wake, WakeAny, Release}
 use Rattle.mpd_model.specs.World.{id_eq}
 use Rattle.mpd_model.specs.Trail.{step_eq, is_step, noted}
 
@@ -24,10 +24,14 @@ step_eq-true (Match s r) (Match u v) e =
     let h : (id_eq s u ≡ true) × (id_eq r v ≡ true) = both (id_eq s u) (id_eq r v) e in
     λ i. Match (id_eq-true s u h.0 i) (id_eq-true r v h.1 i)
 step_eq-true (Wake p) (Wake q) e = ap Wake (eqb-true p q e)
+step_eq-true (WakeAny p i) (WakeAny q j) e =
+    let h : (p == q ≡ true) × (i == j ≡ true) = both (p == q) (i == j) e in
+    λ k. WakeAny (eqb-true p q h.0 k) (eqb-true i j h.1 k)
 step_eq-true Release Release e = refl
 step_eq-true (Local p) b e = cc
 step_eq-true (Match s r) b e = cc
 step_eq-true (Wake p) b e = cc
+step_eq-true (WakeAny p i) b e = cc
 step_eq-true Release b e = cc
 
 id_eq-same : (a : CallId) → id_eq a a ≡ true
@@ -37,6 +41,7 @@ pub step_eq-same : (a : Step) → step_eq a a ≡ true
 step_eq-same (Local p) = eq-eqb p p refl
 step_eq-same (Match s r) = rw (id_eq-same s, id_eq-same r) refl
 step_eq-same (Wake p) = eq-eqb p p refl
+step_eq-same (WakeAny p i) = rw (eq-eqb p p refl, eq-eqb i i refl) refl
 step_eq-same Release = refl
 
 pub is_step-true : (o : Option Step) (a : Step) → is_step o a ≡ true → o ≡ Some a

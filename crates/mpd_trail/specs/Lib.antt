@@ -3,3 +3,4 @@ pub mod Kept
 pub mod Run
 pub mod Views
 pub mod Writes
+pub mod KindRows
