@@ -1,13 +1,12 @@
 -- What marks a step that is taken or taken back, and a run back.
-use Rattle.std.proofs.Common.{◌≡◌, ℕ, ℤ, zero, suc, ◌+◌, ◌-◌, ◌<◌, ◌≤◌, Option, Some, None, List, [], ◌∷◌, length, take, get_or, slice_get, refl, sym, ap, subst, ◌∙◌, arith}
+use Rattle.std.proofs.Common.{◌≡◌, ℕ, ℤ, zero, suc, ◌+◌, ◌-◌, ◌<◌, ◌≤◌, Option, Some, None, List, [], ◌∷◌, length, get_or, slice_get, refl, sym, ap, subst, ◌∙◌, arith}
 use Rattle.mpd_model.specs.declared.step.Step.{Step}
 use Rattle.mpd_model.specs.declared.breakpoint.Break.{Break}
 use Rattle.mpd_model.specs.declared.breakpoint.Stop.{Stop}
 use Rattle.mpd_model.specs.declared.breakpoint.Cause.{Cause}
 use Rattle.mpd_model.specs.declared.breakpoint.Cause.TheVariants as for
 use Rattle.mpd_model.specs.Program.{Program}
-use Rattle.mpd_model.specs.World.{World, start}
-use Rattle.mpd_model.specs.Next.{fold}
+use Rattle.mpd_model.specs.World.{World}
 use Rattle.mpd_model.specs.Trail.{Trail, Standing, IsReached, taken_back, gone_back, world_of}
 use Rattle.mpd_model.specs.Breakpoints.{break_at, lowest_mark}
 use Rattle.mpd_model.specs.Running.{world_at, mark_of, mark_at, one_back, ran_back}

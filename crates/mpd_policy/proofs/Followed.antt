@@ -1,26 +1,23 @@
 -- What can be done with a decision.
-use Rattle.std.proofs.Common.{◌≡◌, ℕ, zero, suc, ◌<◌, get_or, Bool, true, false, cond, ◌||◌, ◌&&◌, Option, Some, None, IsSome, is_some, is_none, List, [], ◌∷◌, ◌++◌, ◌⊎◌, inl, inr, refl, sym, ap, subst, ◌∙◌, map, length, arith}
-use Rattle.std.specs.List.{filter, flat_map, list_any, All}
+use Rattle.std.proofs.Common.{◌≡◌, ℕ, zero, suc, ◌+◌, ◌<◌, get_or, Bool, true, false, cond, ◌||◌, ◌&&◌, Option, Some, None, IsSome, is_some, is_none, List, [], ◌∷◌, ◌++◌, inl, inr, refl, sym, ap, subst, ◌∙◌, length, arith, option_and_then}
+use Rattle.std.specs.List.{filter, flat_map, range_with_len, list_any}
 use Rattle.mpd_model.specs.declared.step.CallId.{CallId}
 use Rattle.mpd_model.specs.declared.step.Step.{Step}
-use Rattle.mpd_model.specs.declared.step.Step.TheVariants.{Local, Match, Wake, Release}
 use Rattle.mpd_model.specs.declared.call.CallKind.{CallKind}
 use Rattle.mpd_model.specs.declared.call.CallKind.TheVariants.{Recv}
-use Rattle.mpd_model.specs.declared.decision.Decision.{Decision}
-use Rattle.mpd_model.specs.declared.decision.Decision.TheVariants.{Forced, Choice, Leaf}
-use Rattle.mpd_model.specs.declared.outcome.Outcome.{Outcome}
-use Rattle.mpd_model.specs.World.{World, Board, call_id, kind_at, call_numbers, rank_numbers, is_free, is_posted, receives}
+use Rattle.mpd_model.specs.declared.decision.Decision.TheVariants.{Leaf}
+use Rattle.mpd_model.specs.World.{World, Board, call_id, kind_at, call_numbers, rank_numbers, is_free, receives}
 use Rattle.mpd_model.specs.Next.{next, is_enabled, enabled, steps_of}
 use Rattle.mpd_model.specs.Outcomes.{ending, is_stuck, outcome}
 use Rattle.mpd_model.specs.Why.{first_in, or_else}
-use Rattle.mpd_model.specs.Decisions.{is_local, is_release, is_wake, names_source, takes_any, is_named_match, is_open_match, first_enabled, forced_step, choices, chosen_from, decided, decision, CanFollow}
-use Rattle.mpd_match.specs.Matches.{matches_from, matches_with, matches_at, matches_on}
-use Rattle.mpd_match.specs.Picked.{picked_with, picked_at, picked_on}
+use Rattle.mpd_model.specs.Decisions.{is_local, is_release, is_wake, any_rank, is_of, names_source, takes_any, is_named_match, is_open_match, first_enabled, forced_step, open_matches, any_choices, or_those, choices, chosen_from, decided, decision, CanFollow}
+use Rattle.mpd_match.specs.Matches.{matches_with, matches_at, matches_on}
+use Rattle.mpd_match.specs.Picked.{picked_with, picked_at}
 use Rattle.mpd_match.proofs.Bools.{bool_tells}
 use Rattle.mpd_match.proofs.Listed.{not_posted_none}
 use Rattle.mpd_match.proofs.Picked.{picked_all, named_with, open_with}
-use Rattle.mpd_core.proofs.EnabledLemmas.{locals, releases, wakes, enabled_parts}
-use Rattle.mpd_policy.proofs.StepKinds.{local_steps, release_steps, wake_steps, named_steps, open_steps}
+use Rattle.mpd_core.proofs.EnabledLemmas.{releases, wakes, any_wakes_at, any_wakes, any_wakes_joined, enabled_parts}
+use Rattle.mpd_policy.proofs.StepKinds.{local_steps, release_steps, wake_steps, named_steps, open_steps, any_from, any_all}
 
 -- ---- what is picked of a list passes
 
@@ -60,6 +57,10 @@ all_mapped P Q f (x ∷ xs) all = (f x all.0, all_mapped P Q f xs all.1)
 -- all enabled steps are
 all_enabled : (w : World) → AllOf (λ a. IsSome (next w a)) (enabled w)
 all_enabled w = all_mapped (λ a. is_enabled w a ≡ true) (λ a. IsSome (next w a)) (λ a h. some_is (next w a) h) (enabled w) (all_pass (is_enabled w) (steps_of w))
+
+-- the lowest rank that has a step of a waitany
+abbrev first_rank : World → Option ℕ
+first_rank w = option_and_then any_rank (first_enabled w (λ a. is_some (any_rank a)))
 
 first_holds : (P : Step → Type 0) (xs : List Step) (a : Step) → AllOf P xs → first_in xs ≡ Some a → P a
 first_holds P [] a all e = absurd (cc)
@@ -124,16 +125,31 @@ none_on b named any =
     both_none (λ j. picked_with is_named_match b (call_id q j)) (λ j. picked_with is_open_match b (call_id q j)) (λ j. matches_with b (call_id q j)) (λ j. none_with b q j) (call_numbers b q))
     (rank_numbers b) (picked_all is_named_match b ∙ named) (picked_all is_open_match b ∙ any)
 
+no_those : (xs ys : List Step) → or_those xs ys ≡ [] → (xs ≡ []) × (ys ≡ [])
+no_those [] ys e = (refl, e)
+no_those (x ∷ xs) ys e = absurd (let k = ap length e in omega (arith, k))
+
+none_from : (w : World) (i n : ℕ) → any_from w i n ≡ [] → flat_map (any_wakes_at w) (range_with_len i n) ≡ []
+none_from w i zero e = refl
+none_from w i (suc n) e =
+    let both = no_those (any_wakes_at w i) (any_from w (i + 1) n) e in
+    ap (λ ys. ys ++ flat_map (any_wakes_at w) (range_with_len (i + 1) n)) both.0 ∙ none_from w (i + 1) n both.1
+
+no_any_wake : (w : World) → any_choices w ≡ [] → any_wakes w ≡ []
+no_any_wake w e = sym (any_wakes_joined w) ∙ none_from w 0 (length w.board.calls) (any_all w ∙ e)
+
 pub nothing_enabled : (w : World) → forced_step w ≡ None → choices w ≡ [] → enabled w ≡ []
 nothing_enabled w forced chosen =
     let one = no_else (first_enabled w is_local) _ forced in
     let two = no_else (first_enabled w is_release) _ one.1 in
     let three = no_else (first_enabled w is_wake) _ two.1 in
+    let both = no_those (any_choices w) (open_matches w) chosen in
     enabled_parts w
-    ∙ ap (λ ys. ys ++ (releases w ++ (wakes w ++ matches_on w.board))) (sym (local_steps w) ∙ no_first (filter is_local (enabled w)) one.0)
-    ∙ ap (λ ys. ys ++ (wakes w ++ matches_on w.board)) (sym (release_steps w) ∙ no_first (filter is_release (enabled w)) two.0)
-    ∙ ap (λ ys. ys ++ matches_on w.board) (sym (wake_steps w) ∙ no_first (filter is_wake (enabled w)) three.0)
-    ∙ none_on w.board (sym (named_steps w) ∙ no_first (filter (is_named_match w.board) (enabled w)) three.1) (sym (open_steps w) ∙ chosen)
+    ∙ ap (λ ys. ys ++ (releases w ++ (wakes w ++ (any_wakes w ++ matches_on w.board)))) (sym (local_steps w) ∙ no_first (filter is_local (enabled w)) one.0)
+    ∙ ap (λ ys. ys ++ (wakes w ++ (any_wakes w ++ matches_on w.board))) (sym (release_steps w) ∙ no_first (filter is_release (enabled w)) two.0)
+    ∙ ap (λ ys. ys ++ (any_wakes w ++ matches_on w.board)) (sym (wake_steps w) ∙ no_first (filter is_wake (enabled w)) three.0)
+    ∙ ap (λ ys. ys ++ matches_on w.board) (no_any_wake w both.0)
+    ∙ none_on w.board (sym (named_steps w) ∙ no_first (filter (is_named_match w.board) (enabled w)) three.1) (sym (open_steps w) ∙ both.1)
 
 none_any : (t : Step → Bool) (xs : List Step) → filter t xs ≡ [] → list_any t xs ≡ false
 none_any t [] e = refl
@@ -166,11 +182,16 @@ ended_where w e = ap (λ (b : Bool). cond b (Some (ending w)) None) (stuck_where
 
 -- ---- the law
 
+all_those : (P : Step → Type 0) (xs ys : List Step) → AllOf P xs → AllOf P ys → AllOf P (or_those xs ys)
+all_those P [] ys these those = those
+all_those P (x ∷ xs) ys these those = these
+
 chosen_followed : (w : World) (steps : List Step) → forced_step w ≡ None → choices w ≡ steps → CanFollow w (chosen_from w steps)
 chosen_followed w [] forced e = let none = nothing_enabled w forced e in (none, ended_where w none)
 chosen_followed w (a ∷ steps) forced e =
     let P : Step → Type 0 = λ (a : Step). IsSome (next w a) in
-    let all : AllOf P (a ∷ steps) = subst (AllOf P) e (all_kept P (is_open_match w.board) (enabled w) (all_enabled w)) in
+    let kept : (t : Step → Bool) → AllOf P (filter t (enabled w)) = λ t. all_kept P t (enabled w) (all_enabled w) in
+    let all : AllOf P (a ∷ steps) = subst (AllOf P) e (all_those P (any_choices w) (open_matches w) (kept (is_of (first_rank w))) (kept (is_open_match w.board))) in
     (omega arith, λ k d lt. all_at P (a ∷ steps) k d all lt)
 
 decided_followed : (w : World) (o : Option Step) → forced_step w ≡ o → CanFollow w (decided w o)
@@ -185,8 +206,11 @@ followed w = decided_followed w (forced_step w) refl
 abbrev forced_of : Board → List Step → Option Step
 forced_of b xs = or_else (first_in (filter is_local xs)) (or_else (first_in (filter is_release xs)) (or_else (first_in (filter is_wake xs)) (first_in (filter (is_named_match b) xs))))
 
+abbrev chosen_of : Board → List Step → List Step
+chosen_of b xs = or_those (filter (is_of (option_and_then any_rank (first_in (filter (λ a. is_some (any_rank a)) xs)))) xs) (filter (is_open_match b) xs)
+
 pub leaf_where : (w : World) → enabled w ≡ [] → decision w ≡ Leaf (ending w)
 unfolding decision
-leaf_where w e = ap (decided w) (ap (forced_of w.board) e) ∙ ap (λ (xs : List Step). chosen_from w (filter (is_open_match w.board) xs)) e
+leaf_where w e = ap (decided w) (ap (forced_of w.board) e) ∙ ap (λ (xs : List Step). chosen_from w (chosen_of w.board xs)) e
 
 pub ruleset following = (followed, leaf_where)

@@ -1,9 +1,8 @@
 -- What breakpoints mark, told apart.
-use Rattle.std.proofs.Common.{◌≡◌, ℕ, ℤ, ◌+◌, ◌-◌, ◌<◌, ◌≤◌, Bool, true, false, ◌||◌, ◌&&◌, ◌==◌, not, Option, Some, None, IfSome, List, length, get_or, slice_get, refl, sym, ap, subst, ◌∙◌, arith}
+use Rattle.std.proofs.Common.{◌≡◌, ℕ, ℤ, ◌+◌, ◌-◌, ◌<◌, ◌≤◌, Bool, true, false, ◌||◌, ◌&&◌, ◌==◌, not, Option, Some, None, IfSome, List, length, get_or, slice_get, refl, sym, ap, ◌∙◌, arith}
 use Rattle.std.proofs.lemmas.Option.{slice_get_past}
 use Rattle.std.proofs.lemmas.Cmp.{int_eq_equiv}
-use Rattle.std.specs.Option.{option_map, option_and_then}
-use Rattle.std.specs.List.{range_with_len}
+use Rattle.std.specs.Option.{option_map}
 use Rattle.mpd_model.specs.declared.breakpoint.Break.{Break}
 use Rattle.mpd_model.specs.declared.breakpoint.Break.TheVariants.{Line, Change, Match}
 use Rattle.mpd_model.specs.declared.call.Activity.{Activity}
@@ -14,7 +13,7 @@ use Rattle.mpd_model.specs.declared.call.Call.{Call}
 use Rattle.mpd_model.specs.Program.{Program}
 use Rattle.mpd_model.specs.World.{World, RankWorld, Board, call_at}
 use Rattle.mpd_model.specs.Outcomes.{first_number}
-use Rattle.mpd_model.specs.Breakpoints.{is_number, on_line, is_running, comes_to, comes_at, held_at, cell_at, same_value, issued_on, line_marks, match_marks, marked_by, break_at, lowest_mark}
+use Rattle.mpd_model.specs.Breakpoints.{is_number, on_line, is_running, comes_at, held_at, cell_at, same_value, issued_on, line_marks, match_marks, marked_by, break_at, lowest_mark}
 use Rattle.mpd_match.proofs.Matches.{any_from, any_on, any_now}
 use Rattle.mpd_rank.specs.Views.{RankView, rank_of}
 use Rattle.mpd_policy.specs.Places.{told_by, watched_at, changed_by, lowest_told, lowest_changed, lower}

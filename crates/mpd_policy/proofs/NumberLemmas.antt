@@ -1,5 +1,5 @@
 -- The lowest number of a range that passes a test.
-use Rattle.std.proofs.Common.{◌≡◌, ℕ, zero, suc, ◌+◌, ◌-◌, ◌<◌, ◌≤◌, Bool, true, false, ◌||◌, cond, Option, Some, None, IfSome, List, [], ◌∷◌, length, inl, inr, refl, sym, ap, subst, ◌∙◌, arith}
+use Rattle.std.proofs.Common.{◌≡◌, ℕ, zero, suc, ◌+◌, ◌-◌, ◌<◌, ◌≤◌, Bool, true, false, ◌||◌, cond, Option, Some, None, IfSome, List, ◌∷◌, length, refl, sym, ap, subst, ◌∙◌, arith}
 use Rattle.std.proofs.lemmas.Bool.{lt-ltb, le-ltb}
 use Rattle.std.specs.List.{filter, range_with_len}
 use Rattle.mpd_model.specs.declared.step.Step.{Step}
@@ -9,7 +9,6 @@ use Rattle.mpd_model.specs.World.{World}
 use Rattle.mpd_model.specs.Breakpoints.{break_at, marked_by, lowest_mark}
 use Rattle.mpd_model.specs.Running.{mark_of}
 use Rattle.mpd_model.specs.Why.{first_in}
-use Rattle.mpd_match.proofs.Bools.{bool_tells}
 use Rattle.mpd_policy.specs.Places.{lower}
 
 abbrev pub number_from : (ℕ → Bool) → ℕ → ℕ → Option ℕ

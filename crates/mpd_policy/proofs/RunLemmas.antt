@@ -1,5 +1,5 @@
 -- A run, one step after another.
-use Rattle.std.proofs.Common.{◌≡◌, ◌≢◌, ℕ, zero, suc, ◌+◌, ◌-◌, ◌<◌, ◌≤◌, ◌==◌, Bool, true, false, cond, Option, Some, None, IsSome, IfSome, IfNone, List, [], ◌∷◌, ◌++◌, length, take, min, ◌⊎◌, inl, inr, refl, sym, ap, subst, ◌∙◌, append-nil, append_assoc, arith, Result, Ok, Err, OnOk, IfOk}
+use Rattle.std.proofs.Common.{◌≡◌, ◌≢◌, ℕ, zero, suc, ◌+◌, ◌-◌, ◌<◌, ◌≤◌, ◌==◌, Bool, true, false, cond, Option, Some, None, IsSome, IfSome, IfNone, List, [], ◌∷◌, ◌++◌, length, take, inl, inr, refl, sym, ap, subst, ◌∙◌, append-nil, append_assoc, arith}
 use Rattle.std.proofs.lemmas.List.{length-append, length-take, take_all, take-append-le}
 use Rattle.std.proofs.lemmas.Bool.Decides.{eqb_tells}
 use Rattle.std.specs.Option.{option_and_then}
@@ -13,9 +13,9 @@ use Rattle.mpd_model.specs.declared.breakpoint.Cause.{Cause}
 use Rattle.mpd_model.specs.declared.breakpoint.Cause.TheVariants as for
 use Rattle.mpd_model.specs.declared.call.Mode.{Mode}
 use Rattle.mpd_model.specs.Program.{Program}
-use Rattle.mpd_model.specs.World.{World, start}
-use Rattle.mpd_model.specs.Next.{next, fold, enabled}
-use Rattle.mpd_model.specs.Outcomes.{is_stuck, ending}
+use Rattle.mpd_model.specs.World.{World}
+use Rattle.mpd_model.specs.Next.{next, fold}
+use Rattle.mpd_model.specs.Outcomes.{is_stuck}
 use Rattle.mpd_model.specs.Trail.{Trail, Standing, IsReached, IsRun, applied, kept, gone_back, forgotten, with_steps, world_of}
 use Rattle.mpd_model.specs.Decisions.{forced_step, choices, chosen_from, decision, CanFollow}
 use Rattle.mpd_model.specs.Breakpoints.{lowest_mark}
@@ -23,10 +23,9 @@ use Rattle.mpd_model.specs.Running.{Ran, ran, ran_by, ran_on, at_most, stopped, 
 use Rattle.mpd_trail.proofs.KeptLemmas.{fold-append}
 use Rattle.mpd_policy.specs.declared.run.Ahead.{Ahead}
 use Rattle.mpd_policy.specs.declared.run.Ahead.TheVariants.{Take, Halt}
-use Rattle.mpd_policy.specs.Ahead.{ahead_of, ran_from, Ended, Broken, Went}
+use Rattle.mpd_policy.specs.Ahead.{ahead_of, ran_from, Ended, Broken}
 use Rattle.mpd_policy.proofs.StepKinds.{decided_some, decided_none}
 use Rattle.mpd_policy.proofs.Followed.{followed, leaf_where, nothing_enabled, enabled_where, stuck_where}
-use Rattle.mpd_policy.proofs.MarkLemmas.{mark_forward}
 
 -- ---- what is ahead
 

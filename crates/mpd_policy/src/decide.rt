@@ -1,11 +1,11 @@
 //! What comes next in a state.
 
-ghost use Rattle.std.specs.Prelude.{◌≡◌, ◌<◌, [], length, IfOk, OnErr};
+ghost use Rattle.std.specs.Prelude.{◌≡◌, ◌<◌, [], length, IfOk, OnOk, OnErr};
 ghost use Rattle.mpd_model.specs.World.{World};
 ghost use Rattle.mpd_model.specs.Next.{enabled};
 ghost use Rattle.mpd_model.specs.Outcomes.{ending};
 ghost use Rattle.mpd_model.specs.Decisions as decisions;
-ghost use Rattle.mpd_model.specs.Decisions.{is_local, is_release, is_wake, is_named_match, first_enabled, decision, CanFollow};
+ghost use Rattle.mpd_model.specs.Decisions.{is_local, is_release, is_wake, is_named_match, first_enabled, any_choices, decision, CanFollow};
 ghost use Rattle.mpd_model.specs.declared.decision.Decision.TheVariants as next_is;
 ghost use Rattle.mpd_policy.specs.Entries.{entries_of};
 
@@ -81,19 +81,40 @@ pub fn forced_step(core: &Core<'_>) -> Option<Step>
     first_named_match(core)
 }
 
-/// The matches of receives of any source, by receiver, receive and sender. An `Err` is want of memory for the list, and comes only
-/// where it has an entry.
+/// Lists the steps of the waitany of the lowest rank that has one, by index: those of its requests that are complete.
+#[tactic(auto, using(crate::proofs::StepKinds::finding_any))]
+fn push_any_choices(core: &Core<'_>, steps: &mut Vec<Step>) -> Result<(), AllocError>
+    requires { steps.old.items ≡ [] }
+    ensures ok { OnOk result (steps.new.items ≡ any_choices core.now.world) }
+    ensures memory { OnErr result (0 < length (any_choices core.now.world)) }
+{
+    let count = core.rank_count();
+    for rank in 0..count {
+        core.push_any_wakes_of(rank, steps)?;
+        if !steps.is_empty() {
+            return Ok(());
+        }
+    }
+    Ok(())
+}
+
+/// The candidates of a choice: the steps of one rank's waitany, else the matches of receives of any source, by receiver, receive and
+/// sender. An `Err` is want of memory for the list, and comes only where it has an entry.
 #[tactic(auto, using(crate::proofs::StepKinds::opening))]
 fn choices(alloc: Global, core: &Core<'_>) -> Result<Vec<Step>, AllocError>
     ensures ok { IfOk result (λ steps. steps.items ≡ decisions.choices core.now.world) }
     ensures memory { OnErr result (0 < length (decisions.choices core.now.world)) }
 {
     let mut steps = Vec::new(alloc);
+    push_any_choices(core, &mut steps)?;
+    if !steps.is_empty() {
+        return Ok(steps);
+    }
     core.board().push_open_matches(&mut steps)?;
     Ok(steps)
 }
 
-/// What comes next in a state (docs/DEFINITIONS.md, "Decisions"): the step that nobody has to choose, or the matches of which
+/// What comes next in a state (docs/DEFINITIONS.md, "Decisions"): the step that nobody has to choose, or the steps of which
 /// somebody has to choose one, or how the run has ended. It reads the state, and lists of free calls, and lists no enabled step but
 /// those of a choice. An `Err` is want of memory for that list or the list of an outcome, and comes only where it has an entry.
 #[tactic(auto, using(crate::proofs::StepKinds::deciding))]

@@ -75,7 +75,9 @@ fn line_marks_step(core: &Core<'_>, line: usize, step: Step) -> bool
     ensures { result ≡ line_marks core.now.program line step core.now.world }
 {
     match step {
-        Step::Local(rank) | Step::Wake(rank) => comes_to(core, line, rank),
+        Step::Local(rank) | Step::Wake(rank) | Step::WakeAny { rank, .. } => {
+            comes_to(core, line, rank)
+        }
         Step::Release => some_comes_to(core, line),
         _ => false,
     }

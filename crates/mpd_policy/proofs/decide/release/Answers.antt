@@ -1,4 +1,3 @@
-use Rattle.std.proofs.Common.{sym, ◌∙◌}
 use Rattle.mpd_policy.proofs.StepKinds.{release_some, release_none}
 use Rattle.mpd_policy.proofs.decide.release.Goals as goal
 
