@@ -1,5 +1,6 @@
 mod PieceLemmas
 mod TextLemmas
+mod StatusLemmas
 mod FileLemmas
 mod VerdictLemmas
 mod ClearTexts

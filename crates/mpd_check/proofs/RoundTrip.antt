@@ -7,8 +7,8 @@ use Rattle.std.specs.List.{flat_map, AllByRecursion}
 use Rattle.std.proofs.lemmas.Slice.Eq.{bytes_eq-Decides}
 use Rattle.mpd_model.specs.declared.step.CallId.{CallId}
 use Rattle.mpd_model.specs.declared.step.Step.{Step}
-use Rattle.mpd_model.specs.declared.step.Step.TheVariants.{Local, Match, Wake, Release}
-use Rattle.mpd_model.specs.Words.{number_of, call_with, call_of, step_in, step_of, pair_of}
+use Rattle.mpd_model.specs.declared.step.Step.TheVariants.{Local, Match, Wake, WakeAny, Release}
+use Rattle.mpd_model.specs.Words.{number_of, both_of, call_with, call_of, step_in, step_of, pair_of}
 use Rattle.mpd_model.specs.Texts.{id_text, step_text, steps_text, spaced, line}
 use Rattle.mpd_explore.specs.declared.report.Witness.{Witness}
 use Rattle.mpd_explore.specs.ReportText.{choices_text}
@@ -26,6 +26,7 @@ record IsApart (c : ℕ) : Type 0 where
   runs : is_clear c (codes "local ") ≡ true
   pairs : is_clear c (codes "match ") ≡ true
   wakes : is_clear c (codes "wake ") ≡ true
+  chooses : is_clear c (codes "wakeany ") ≡ true
   frees : is_clear c (codes "release") ≡ true
 
 record IsNoLine (c : ℕ) : Type 0 where
@@ -39,11 +40,11 @@ record IsNoLine (c : ℕ) : Type 0 where
   shows : is_clear c (codes "witness ") ≡ true
 
 comma_apart : IsApart 44
-comma_apart = record { digit = refl; dot = refl; blank = refl; runs = refl; pairs = refl; wakes = refl; frees = refl }
+comma_apart = record { digit = refl; dot = refl; blank = refl; runs = refl; pairs = refl; wakes = refl; chooses = refl; frees = refl }
 
 feed_apart : IsNoLine 10
 feed_apart = record {
-  apart = record { digit = refl; dot = refl; blank = refl; runs = refl; pairs = refl; wakes = refl; frees = refl };
+  apart = record { digit = refl; dot = refl; blank = refl; runs = refl; pairs = refl; wakes = refl; chooses = refl; frees = refl };
   comma = refl;
   colon = refl;
   leaf = refl;
@@ -55,7 +56,7 @@ feed_apart = record {
 
 return_apart : IsNoLine 13
 return_apart = record {
-  apart = record { digit = refl; dot = refl; blank = refl; runs = refl; pairs = refl; wakes = refl; frees = refl };
+  apart = record { digit = refl; dot = refl; blank = refl; runs = refl; pairs = refl; wakes = refl; chooses = refl; frees = refl };
   comma = refl;
   colon = refl;
   leaf = refl;
@@ -78,6 +79,9 @@ step_clear c k (Match s r) h =
     clear_join c (codes "match " ++ id_text s) (32 ∷ id_text r) (clear_join c (codes "match ") (id_text s) k.pairs (call_clear c k.digit k.dot s h.0))
     (clear_join c (32 ∷ []) (id_text r) k.blank (call_clear c k.digit k.dot r h.1))
 step_clear c k (Wake p) h = clear_join c (codes "wake ") (decimal p) k.wakes (decimal_clear c p k.digit (wide p h))
+step_clear c k (WakeAny p i) h =
+    clear_join c (codes "wakeany " ++ decimal p) (32 ∷ decimal i) (clear_join c (codes "wakeany ") (decimal p) k.chooses (decimal_clear c p k.digit (wide p h.0)))
+    (clear_join c (32 ∷ []) (decimal i) k.blank (decimal_clear c i k.digit (wide i h.1)))
 step_clear c k Release h = k.frees
 
 each_so : {A : Type 0} (P Q : A → Type 0) → ((x : A) → P x → Q x) → (xs : List A) → AllByRecursion P xs → AllByRecursion Q xs
@@ -114,6 +118,13 @@ step_read (Wake p) h =
     ap step_in (words_next (codes "wake") (decimal p) (omega arith) refl refl
     ∙ ap (λ ws. codes "wake" ∷ ws) (words_last (decimal p) (decimal_some p (wide p h)) (decimal_clear 32 p refl (wide p h)) (decimal_clear 9 p refl (wide p h))))
     ∙ ap (option_map Wake) (number_read p h)
+step_read (WakeAny p i) h =
+    ap (λ t. step_of t) (append_assoc (codes "wakeany ") (decimal p) (32 ∷ decimal i))
+    ∙ ap step_in (words_next (codes "wakeany") (decimal p ++ 32 ∷ decimal i) (omega arith) refl refl
+    ∙ ap (λ ws. codes "wakeany" ∷ ws) (words_next (decimal p) (decimal i) (decimal_some p (wide p h.0)) (decimal_clear 32 p refl (wide p h.0)) (decimal_clear 9 p refl (wide p h.0))
+    ∙ ap (λ ws. decimal p ∷ ws) (words_last (decimal i) (decimal_some i (wide i h.1)) (decimal_clear 32 i refl (wide i h.1)) (decimal_clear 9 i refl (wide i h.1)))))
+    ∙ ap (λ o. option_map (λ q. WakeAny q.0 q.1) (both_of o (number_of (decimal i)))) (number_read p h.0)
+    ∙ ap (λ o. option_map (λ q. WakeAny q.0 q.1) (both_of (Some p) o)) (number_read i h.1)
 step_read Release h = refl
 
 all_read : {A : Type 0} (read : List ℕ → Option A) (f : A → List ℕ) (P : A → Type 0) → ((x : A) → P x → read (f x) ≡ Some x) → (xs : List A) → AllByRecursion P xs → each_read read (map f xs) ≡ Some xs

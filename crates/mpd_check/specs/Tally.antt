@@ -1,6 +1,8 @@
 -- What a report tells of a script, counted, and the status of its check.
-use Rattle.std.specs.Prelude.{ℕ, ◌&&◌, ◌||◌, ◌==◌, nat_lt, not, if◌then◌else◌, Bool, true, false, List, length, count_by}
+use Rattle.std.specs.Prelude.{◌≡◌, ℕ, ◌&&◌, ◌||◌, ◌==◌, nat_lt, not, if◌then◌else◌, Bool, true, false, List, length, count_by}
 use Rattle.mpd_model.specs.declared.outcome.Outcome.TheVariants as outcome
+use Rattle.mpd_model.specs.Tree.{block_of}
+use Rattle.mpd_model.specs.Program.{Program, IsBlockOf}
 use Rattle.mpd_explore.specs.declared.report.Ending.{Ending}
 use Rattle.mpd_explore.specs.declared.report.Ending.TheVariants.{Ended}
 use Rattle.mpd_explore.specs.declared.report.Ending.TheVariants as ends
@@ -35,6 +37,11 @@ is_bad t = nat_lt 0 t.deadlocks || nat_lt 0 t.traps
 abbrev pub is_whole : Tally → Bool
 is_whole t = not t.more && t.cut == 0
 
--- 1 where something bad is listed; else 4 where the report must be whole and isn't; else 0
-abbrev pub status_of : Bool → Tally → ℕ
-status_of complete t = if is_bad t then 1 else (if complete && not (is_whole t) then 4 else 0)
+-- It tells every way in which its script can end. What a waitany takes depends on the order of steps, of which a walk tries one: with a
+-- waitany in the script a report tells of its runs alone.
+abbrev pub TellsAll : Program → Tally → Type 0
+TellsAll s t = (is_whole t ≡ true) × IsBlockOf 1 (block_of s.body)
+
+-- 1 where something bad is listed; else 4 where the report must tell all and doesn't; else 0
+abbrev pub status_of : Bool → Bool → Tally → ℕ
+status_of complete tells_all t = if is_bad t then 1 else (if complete && not tells_all then 4 else 0)

@@ -2,7 +2,7 @@
 use Rattle.std.specs.Prelude.{◌≡◌, ℕ, List, [], ◌∷◌, map, Result, Ok, Err, codes, refl}
 use Rattle.mpd_model.specs.declared.step.CallId.{CallId}
 use Rattle.mpd_model.specs.declared.step.Step.{Step}
-use Rattle.mpd_model.specs.declared.step.Step.TheVariants.{Local, Match, Wake, Release}
+use Rattle.mpd_model.specs.declared.step.Step.TheVariants.{Local, Match, Wake, WakeAny, Release}
 use Rattle.mpd_model.specs.World.{call_id}
 use Rattle.mpd_explore.specs.declared.report.Witness.{Witness}
 use Rattle.mpd_check.specs.WitnessText.{witness_of}
@@ -24,6 +24,9 @@ as_written = refl
 
 no_choice : witness_of (codes "leaf 0 [] deadlock 0.1\nwitness 3: local 0, release\n") ≡ read (Local 0 ∷ Release ∷ []) (call_id 0 1 ∷ [])
 no_choice = refl
+
+chosen_request : witness_of (codes "leaf 1 [1] deadlock 0.3\nwitness 1: local 0, wakeany 0 1, wakeany 12 30\n") ≡ read (Local 0 ∷ WakeAny 0 1 ∷ WakeAny 12 30 ∷ []) (call_id 0 3 ∷ [])
+chosen_request = refl
 
 -- line feeds and carriage returns
 shortest : map witness_of (
@@ -61,8 +64,10 @@ second_wrong : map witness_of (
     ∷ codes "deadlock 0.1\nlocal 0,\n"
     ∷ codes "deadlock 0.1\nlocal 0, back\n"
     ∷ codes "deadlock 0.1\nlocal 0 wake 1\n"
+    ∷ codes "deadlock 0.1\nlocal 0, wakeany 1\n"
+    ∷ codes "deadlock 0.1\nlocal 0, wakeany 1 0 0\n"
     ∷ codes "deadlock 0.1\nwitness: 1: local 0\n"
     ∷ codes "deadlock 0.1\nlocal 0\nleaf 1 [1] done\n"
     ∷ codes "deadlock 0.1\nlocal 0\n \n"
-    ∷ []) ≡ wrong 2 ∷ wrong 2 ∷ wrong 2 ∷ wrong 2 ∷ wrong 2 ∷ wrong 2 ∷ wrong 2 ∷ wrong 2 ∷ wrong 2 ∷ wrong 2 ∷ []
+    ∷ []) ≡ wrong 2 ∷ wrong 2 ∷ wrong 2 ∷ wrong 2 ∷ wrong 2 ∷ wrong 2 ∷ wrong 2 ∷ wrong 2 ∷ wrong 2 ∷ wrong 2 ∷ wrong 2 ∷ wrong 2 ∷ []
 second_wrong = refl

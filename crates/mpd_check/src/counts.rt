@@ -1,15 +1,17 @@
 //! What a report tells of a script, counted (docs/FORMATS.md, "Reports").
 
-ghost use Rattle.std.specs.Prelude.{◌≡◌, ◌<◌, length, count_by};
-ghost use Rattle.mpd_check.specs.Tally.{tally_of, is_of, is_bad, is_whole, status_of};
+ghost use Rattle.std.specs.Prelude.{◌≡◌, ◌<◌, Bool, length, count_by};
+ghost use Rattle.std.specs.Bool.{Decides};
+ghost use Rattle.mpd_check.specs.Tally.{tally_of, is_of, is_bad, is_whole, TellsAll, status_of};
 
+use mpd_code::code::Code;
 use mpd_explore::report::{Ending, Leaf, Report};
 use mpd_model::outcome::Outcome;
 
 /// The status of a check that has listed a deadlock or a trap.
 pub const FOUND: u8 = 1;
 
-/// The status of a check that must be whole and isn't.
+/// The status of a check that must tell every way in which its script can end, and doesn't.
 pub const NOT_WHOLE: u8 = 4;
 
 /// How a run ends, as far as it is counted.
@@ -50,15 +52,24 @@ impl Tally {
         !self.more && self.cut == 0
     }
 
-    /// The status that a check ends with: 1 where a deadlock or a trap is listed; else 4 where the report must be whole and isn't;
-    /// else 0.
-    pub fn status(self, complete: bool) -> u8
-        ensures { result ≡ status_of complete self }
+    /// Whether it tells every way in which its script can end: the report is whole, and no waitany stands in the script. What a waitany
+    /// takes depends on the order of steps, of which one is tried.
+    pub fn tells_all(self, code: &Code) -> bool
+        ensures { Decides result (TellsAll code.now.program self) }
+    {
+        self.is_whole() && code.has_no_waitany()
+    }
+
+    /// The status that a check of this script ends with: 1 where a deadlock or a trap is listed; else 4 where the report must tell every
+    /// way in which the script can end, and doesn't; else 0.
+    #[tactic(auto, using(crate::proofs::StatusLemmas::telling))]
+    pub fn status(self, complete: bool, code: &Code) -> u8
+        ensures { (all : Bool) → Decides all (TellsAll code.now.program self) → result ≡ status_of complete all self }
     {
         if self.is_bad() {
             return FOUND;
         }
-        if complete && !self.is_whole() {
+        if complete && !self.tells_all(code) {
             return NOT_WHOLE;
         }
         0

@@ -100,6 +100,10 @@ fn push_next(out: &mut String, step: Step) -> Result<(), AllocError>
             push_number(out, ".", receive.index)
         }
         Step::Wake(rank) => push_number(out, ", wake ", rank),
+        Step::WakeAny { rank, index } => {
+            push_number(out, ", wakeany ", rank)?;
+            push_number(out, " ", index)
+        }
         Step::Release => out.push_str(", release"),
     }
 }
