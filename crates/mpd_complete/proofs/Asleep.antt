@@ -3,7 +3,7 @@ use Rattle.std.proofs.Common.{◌≡◌, ◌⊎◌, ℕ, suc, Bool, true, false,
 use Rattle.std.specs.List.{list_any}
 use Rattle.mpd_model.specs.declared.step.CallId.{CallId}
 use Rattle.mpd_model.specs.declared.step.Step.{Step}
-use Rattle.mpd_model.specs.declared.step.Step.TheVariants.{Local, Match, Wake, Release}
+use Rattle.mpd_model.specs.declared.step.Step.TheVariants.{Local, Match, Wake, WakeAny, Release}
 use Rattle.mpd_model.specs.declared.call.CallKind.{CallKind}
 use Rattle.mpd_model.specs.declared.call.CallKind.TheVariants.{Recv}
 use Rattle.mpd_model.specs.declared.call.MatchSet.{MatchSet}
@@ -20,10 +20,11 @@ use Rattle.mpd_laws.proofs.Eligible.{both_of}
 use Rattle.mpd_complete.proofs.Sets.{partner_more, else_none, partner_by}
 use Rattle.mpd_meaning.proofs.Members.{In}
 use Rattle.mpd_complete.proofs.Worlds.{same_refl, same_sym, same_trans, follows_all, joined_from}
-use Rattle.mpd_complete.proofs.Moves.{Known, partner_formed}
+use Rattle.mpd_complete.proofs.Moves.{partner_formed}
 use Rattle.mpd_complete.proofs.Pairs.{clash, id_same, same_id, turned, recv_free, send_is_no_recv, recv_known, same_recv, no_both, is_send}
-use Rattle.mpd_complete.proofs.Diamond.{local_step, wake_step, match_step, release_step, diamond}
+use Rattle.mpd_complete.proofs.Steps.{IsWakeStep, local_step, wake_step, any_step, match_step, release_step}
 use Rattle.mpd_complete.proofs.Invariants.{Sound, keeps}
+use Rattle.mpd_complete.proofs.Diamond.{diamond}
 
 -- ---- partners stay
 
@@ -34,13 +35,15 @@ kept_at w c d e None at other = absurd (let clash : None ≡ Some d = sym at ∙
 joined_kept : (w : World) (m : MatchSet) (c d : CallId) → partner w.board.sets c ≡ Some d → partner (w.board.sets ++ m ∷ []) c ≡ Some d
 joined_kept w m c d e = partner_more w.board.sets (m ∷ []) c ∙ kept_at w c d e (partner w.board.sets c) refl (partner (m ∷ []) c)
 
+wake_kept : (w : World) (a : Step) (p : ℕ) (v : World) → IsWakeStep w a p v → (c : CallId) → partner v.board.sets c ≡ partner w.board.sets c
+wake_kept w a p v b c = subst (λ (z : World). partner z.board.sets c ≡ partner w.board.sets c) b.is (partner_formed w.board.sets (Some (last_call w.board p)) c)
+
 partner_kept : (w : World) (b : Step) (v : World) → next w b ≡ Some v → (c d : CallId) → partner w.board.sets c ≡ Some d → partner v.board.sets c ≡ Some d
 partner_kept w (Local p) v f c d e =
     let a = local_step w p v f in
     subst (λ (z : World). partner z.board.sets c ≡ Some d) a.is e
-partner_kept w (Wake p) v f c d e =
-    let a = wake_step w p v f in
-    subst (λ (z : World). partner z.board.sets c ≡ Some d) a.is (partner_formed w.board.sets (Some (last_call w.board p)) c ∙ e)
+partner_kept w (Wake p) v f c d e = wake_kept w (Wake p) p v (wake_step w p v f) c ∙ e
+partner_kept w (WakeAny p i) v f c d e = wake_kept w (WakeAny p i) p v (any_step w p i v f) c ∙ e
 partner_kept w (Match s r) v f c d e = subst (λ (z : World). partner z.board.sets c ≡ Some d) (match_step w s r v f).1 (joined_kept w (Pair s r) c d e)
 partner_kept w Release v f c d e = subst (λ (z : World). partner z.board.sets c ≡ Some d) (release_step w v f).1 (joined_kept w set.Barrier c d e)
 
@@ -78,24 +81,24 @@ from_diamond : (u x : World) (s r : CallId) (b : Step) → (Match s r ≡ b) ⊎
 from_diamond u x s r b (inl same) = inl (sym same)
 from_diamond u x s r b (inr joins) = inr (inl joins)
 
-two_by : (w : World) → Known w.board → (s r t q : CallId) (u x : World) → next w (Match s r) ≡ Some u → next w (Match t q) ≡ Some x → (y z : Bool) → id_eq t s ≡ y → id_eq q r ≡ z
+two_by : (w : World) → Sound w → (s r t q : CallId) (u x : World) → next w (Match s r) ≡ Some u → next w (Match t q) ≡ Some x → (y z : Bool) → id_eq t s ≡ y → id_eq q r ≡ z
     → IsBeside u x s r (Match t q)
-two_by w all s r t q u x e f true z is also =
+two_by w h s r t q u x e f true z is also =
     let send : t ≡ s = same_id t s is in
     let recv : q ≡ r = same_recv w.board s q r (ap (λ (c : CallId). eligible w.board c q) (sym send) ∙ (match_step w t q x f).0) (match_step w s r u e).0 in
     inl (λ i. Match (send i) (recv i))
-two_by w all s r t q u x e f false true is also =
+two_by w h s r t q u x e f false true is also =
     inr (inr (record {
       by = t;
       at = ap (λ (c : CallId). partner x.board.sets c) (sym (same_id q r also)) ∙ pair_made w t q x f;
       other = λ same. clash (id_same t s same) is;
     }))
-two_by w all s r t q u x e f false false is also =
-    from_diamond u x s r (Match t q) (diamond w all (Match s r) (Match t q) u x e f (λ i. not (turned t s is i) && not (turned q r also i)))
+two_by w h s r t q u x e f false false is also =
+    from_diamond u x s r (Match t q) (diamond w h (Match s r) (Match t q) u x e f (λ i. not (turned t s is i) && not (turned q r also i)))
 
-pub beside : (w : World) → Known w.board → (s r : CallId) (b : Step) (u x : World) → next w (Match s r) ≡ Some u → next w b ≡ Some x → IsBeside u x s r b
-beside w all s r (Match t q) u x e f = two_by w all s r t q u x e f (id_eq t s) (id_eq q r) refl refl
-beside w all s r b u x e f = from_diamond u x s r b (diamond w all (Match s r) b u x e f refl)
+pub beside : (w : World) → Sound w → (s r : CallId) (b : Step) (u x : World) → next w (Match s r) ≡ Some u → next w b ≡ Some x → IsBeside u x s r b
+beside w h s r (Match t q) u x e f = two_by w h s r t q u x e f (id_eq t s) (id_eq q r) refl refl
+beside w h s r b u x e f = from_diamond u x s r b (diamond w h (Match s r) b u x e f refl)
 
 -- ---- a match that a run has taken comes to the front
 
@@ -119,7 +122,7 @@ front_pair : (steps : List Step) (s r : CallId) (w u v : World) → Sound w → 
 front_pair [] s r w u v h e f p = let is : w ≡ v = cc in absurd (free_unpaired w s r u e (ap (λ (z : World). partner z.board.sets r) is ∙ p))
 front_pair (b ∷ steps) s r w u v h e f p =
     let after = joined_from (λ x. fold x steps) (next w b) v f in
-    elim (beside w h.known s r b u after.0 e after.1) [
+    elim (beside w h s r b u after.0 e after.1) [
       | inl same ↦
           let is : u ≡ after.0 = some_world (sym e ∙ ap (next w) (sym same) ∙ after.1) in
           record { rest = steps; end = v; leads = ap (λ (z : World). fold z steps) is ∙ after.2; count = refl; same = same_refl v }
@@ -247,9 +250,8 @@ pair_before : (w : World) (a : Step) (v : World) (t r : CallId) → next w a ≡
 pair_before w (Local p) v t r f named opens e =
     let a = local_step w p v f in
     subst (λ (z : World). partner z.board.sets r ≡ Some t → partner w.board.sets r ≡ Some t) a.is (λ k. k) e
-pair_before w (Wake p) v t r f named opens e =
-    let a = wake_step w p v f in
-    subst (λ (z : World). partner z.board.sets r ≡ Some t → partner w.board.sets r ≡ Some t) a.is (λ k. sym (partner_formed w.board.sets (Some (last_call w.board p)) r) ∙ k) e
+pair_before w (Wake p) v t r f named opens e = sym (wake_kept w (Wake p) p v (wake_step w p v f) r) ∙ e
+pair_before w (WakeAny p i) v t r f named opens e = sym (wake_kept w (WakeAny p i) p v (any_step w p i v f) r) ∙ e
 pair_before w Release v t r f named opens e =
     subst (λ (z : World). partner z.board.sets r ≡ Some t → partner w.board.sets r ≡ Some t) (release_step w v f).1
     (λ k. sym (partner_more w.board.sets (set.Barrier ∷ []) r ∙ else_none (partner w.board.sets r)) ∙ k) e

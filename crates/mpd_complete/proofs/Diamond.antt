@@ -1,72 +1,23 @@
--- Two steps that are enabled in one world, and are not two matches of one call, can be taken in either order.
-use Rattle.std.proofs.Common.{◌≡◌, ◌⊎◌, ℕ, zero, suc, ◌+◌, ◌<◌, ◌≤◌, Bool, true, false, ◌&&◌, not, nat_lt, Option, Some, None, List, length, slice_get, inl, inr, refl, sym, ap, subst, ◌∙◌, arith}
+-- Two steps that are enabled in one world, and are not two matches of one call nor two steps of one waitany, can be taken in either order.
+use Rattle.std.proofs.Common.{◌≡◌, ◌≢◌, ◌⊎◌, ℕ, zero, suc, ◌+◌, ◌<◌, ◌≤◌, ◌==◌, Bool, true, false, ◌&&◌, not, nat_lt, Option, Some, None, length, slice_get, inl, inr, refl, sym, ap, subst, ◌∙◌, arith, eq-eqb}
 use Rattle.std.proofs.lemmas.Bool.Decides.{eqb_tells}
 use Rattle.std.proofs.lemmas.Option.{slice_get_within}
 use Rattle.std.specs.Option.{option_map}
 use Rattle.std.specs.List.{list_all, range_with_len}
 use Rattle.mpd_model.specs.declared.step.CallId.{CallId}
 use Rattle.mpd_model.specs.declared.step.Step.{Step}
-use Rattle.mpd_model.specs.declared.step.Step.TheVariants.{Local, Match, Wake, Release}
+use Rattle.mpd_model.specs.declared.step.Step.TheVariants.{Local, Match, Wake, WakeAny, Release}
 use Rattle.mpd_model.specs.declared.call.Call.{Call}
-use Rattle.mpd_model.specs.declared.call.Activity.{Activity}
-use Rattle.mpd_model.specs.declared.call.Activity.TheVariants.{Running, Blocked, Trapped}
-use Rattle.mpd_model.specs.Tree.{Tree}
-use Rattle.mpd_model.specs.World.{World, RankWorld, id_eq, calls_of, kind_at, eligible, is_barrier, last_call}
-use Rattle.mpd_model.specs.Next.{Ran, local_of, local, local_at, stepped, is_blocked, waits, can_wake, woken, is_at_barrier, can_release, released, next}
-use Rattle.mpd_model.specs.Decisions.{is_open_match}
+use Rattle.mpd_model.specs.World.{World, id_eq, eligible, last_call}
+use Rattle.mpd_model.specs.Next.{stepped, waits, can_wake, woken, can_wake_any, woken_any, is_at_barrier, can_release, released, next}
 use Rattle.mpd_complete.specs.CompleteLaws.{apart, Joins}
 use Rattle.mpd_laws.proofs.Eligible.{both_of, denied}
-use Rattle.mpd_complete.proofs.Worlds.{same_sym, chosen, mapped_from, joined_from, taken}
-use Rattle.mpd_complete.proofs.Moves.{Known, joining, moved, paired, awake, stepped_is, woken_is, local_again, wake_again, moved_swapped, moved_paired}
-use Rattle.mpd_complete.proofs.Pairs.{clash, same_id, turned, match_again, match_freed, freed_paired, match_paired, paired_swapped, wake_paired, same_recv, same_send}
-
--- ---- what is known where a step is enabled
-
-pub record IsLocalStep (w : World) (p : ℕ) (u : World) : Type 0 where
-  pub ran : Ran
-  pub at : local_at w p ≡ Some ran
-  pub runs : waits (slice_get w.ranks p) ≡ false
-  pub within : p < length w.ranks
-  pub is : moved w p ran.rank (joining w.board p ran.call) None ≡ u
-
-pub record IsWakeStep (w : World) (p : ℕ) (u : World) : Type 0 where
-  pub rank : RankWorld
-  pub at : slice_get w.ranks p ≡ Some rank
-  pub can : can_wake w p ≡ true
-  pub is : moved w p (awake w p rank) None (Some (last_call w.board p)) ≡ u
-
-waiting : (o : Option RankWorld) → waits o ≡ true → (r : RankWorld) × (o ≡ Some r)
-waiting None e = absurd (cc)
-waiting (Some r) e = (r, refl)
-
-runs_by : (p n count : ℕ) (r : RankWorld) (a : Activity) (ts : List (ℕ × Tree)) (x : Ran) → local_of p n count r a ts ≡ Some x → is_blocked a ≡ false
-runs_by p n count r Running ts x e = refl
-runs_by p n count r Blocked ts x e = absurd (cc)
-runs_by p n count r (Trapped t) ts x e = refl
-
-pub local_step : (w : World) (p : ℕ) (u : World) → next w (Local p) ≡ Some u → IsLocalStep w p u
-local_step w p u e =
-    let ran = mapped_from (stepped w p) (local_at w p) u e in
-    let rank = joined_from (local p (length w.ranks) (length (calls_of w.board p))) (slice_get w.ranks p) ran.0 ran.1 in
-    record {
-      ran = ran.0;
-      at = ran.1;
-      runs = ap waits rank.1 ∙ runs_by p (length w.ranks) (length (calls_of w.board p)) rank.0 rank.0.activity rank.0.rest ran.0 rank.2;
-      within = slice_get_within w.ranks p rank.0 rank.1;
-      is = sym (stepped_is w p ran.0) ∙ ran.2;
-    }
-
-pub wake_step : (w : World) (p : ℕ) (u : World) → next w (Wake p) ≡ Some u → IsWakeStep w p u
-wake_step w p u e =
-    let made = chosen (can_wake w p) (woken w p) u e in
-    let rank = waiting (slice_get w.ranks p) (both_of (waits (slice_get w.ranks p)) _ made.0).0 in
-    record { rank = rank.0; at = rank.1; can = made.0; is = sym (woken_is w p rank.0 rank.1) ∙ made.1 }
-
-pub match_step : (w : World) (s r : CallId) (u : World) → next w (Match s r) ≡ Some u → (eligible w.board s r ≡ true) × (paired w s r ≡ u)
-match_step w s r u e = chosen (eligible w.board s r) (paired w s r) u e
-
-pub release_step : (w : World) (u : World) → next w Release ≡ Some u → (can_release w ≡ true) × (released w ≡ u)
-release_step w u e = chosen (can_release w) (released w) u e
+use Rattle.mpd_complete.proofs.Worlds.{same_sym, chosen, taken}
+use Rattle.mpd_complete.proofs.Moves.{Known, joining, moved, paired, stepped_is, local_again, moved_swapped, moved_paired}
+use Rattle.mpd_complete.proofs.Pairs.{clash, same_id, turned, match_again, match_freed, freed_paired, match_paired, paired_swapped, same_recv, same_send}
+use Rattle.mpd_complete.proofs.Steps.{IsLocalStep, IsWakeStep, local_step, wake_step, any_step, match_step, release_step}
+use Rattle.mpd_complete.proofs.Idle.{never_both}
+use Rattle.mpd_complete.proofs.Invariants.{Sound, IsNamed}
 
 -- ---- steps that exclude one another
 
@@ -84,17 +35,14 @@ one_of_all t a (suc n) p e le lt =
 at_barrier : (w : World) (p : ℕ) → can_release w ≡ true → p < length w.ranks → is_at_barrier w p ≡ true
 at_barrier w p e within = one_of_all (is_at_barrier w) 0 (length w.ranks) p (both_of (nat_lt 0 (length w.ranks)) _ e).1 (omega arith) (omega (arith, within))
 
-no_local_wake : (w : World) (p : ℕ) (u v : World) → IsLocalStep w p u → IsWakeStep w p v → ⊥
-no_local_wake w p u v a b = clash (both_of (waits (slice_get w.ranks p)) _ b.can).0 a.runs
+no_local_wake : (w : World) (p : ℕ) (u v : World) (b : Step) → IsLocalStep w p u → IsWakeStep w b p v → ⊥
+no_local_wake w p u v b here there = clash there.blocked here.runs
 
 no_local_release : (w : World) (p : ℕ) (u : World) → IsLocalStep w p u → can_release w ≡ true → ⊥
 no_local_release w p u a e = clash (both_of (waits (slice_get w.ranks p)) _ (at_barrier w p e a.within)).0 a.runs
 
-no_wake_release : (w : World) (p : ℕ) (u : World) → IsWakeStep w p u → can_release w ≡ true → ⊥
-no_wake_release w p u b e =
-    let here = both_of (waits (slice_get w.ranks p)) _ (at_barrier w p e (slice_get_within w.ranks p b.rank b.at)) in
-    let awaits = both_of (not (is_barrier (kind_at w.board (last_call w.board p)))) _ (both_of (waits (slice_get w.ranks p)) _ b.can).1 in
-    clash here.1 (denied (is_barrier (kind_at w.board (last_call w.board p))) awaits.0)
+no_wake_release : (w : World) (a : Step) (p : ℕ) (u : World) → IsWakeStep w a p u → can_release w ≡ true → ⊥
+no_wake_release w a p u b e = clash (both_of (waits (slice_get w.ranks p)) _ (at_barrier w p e (slice_get_within w.ranks p b.rank b.at))).1 b.no_barrier
 
 -- ---- two steps
 
@@ -124,39 +72,55 @@ two_locals w p q u v a b =
           }))
     ]
 
-local_and_wake : (w : World) → Known w.board → (p q : ℕ) (u v : World) → IsLocalStep w p u → IsWakeStep w q v → Joins u v (Local p) (Wake q)
-local_and_wake w all p q u v a b =
+local_and_wake : (w : World) → Known w.board → (p q : ℕ) (c : Step) (u v : World) → IsLocalStep w p u → IsWakeStep w c q v → Joins u v (Local p) c
+local_and_wake w all p q c u v a b =
     elim (eqb_tells p q) [
-      | inl same ↦ absurd (no_local_wake w q u v (subst (λ (k : ℕ). IsLocalStep w k u) same.1 a) b)
+      | inl same ↦ absurd (no_local_wake w q u v c (subst (λ (k : ℕ). IsLocalStep w k u) same.1 a) b)
       | inr off ↦
           let ne = off.1 in
           let call : Option Call = joining w.board p a.ran.call in
           let wake : Option CallId = Some (last_call w.board q) in
-          at_worlds (moved w p a.ran.rank call None) u (moved w q (awake w q b.rank) None wake) v (Local p) (Wake q) a.is b.is (record {
-            behind_a = moved (moved w p a.ran.rank call None) q (awake w q b.rank) None wake;
-            behind_b = moved (moved w q (awake w q b.rank) None wake) p a.ran.rank call None;
-            by_b = wake_again w p a.ran.rank call None q b.rank (λ e. ne (sym e)) all b.at b.can;
-            by_a = local_again w q (awake w q b.rank) None wake p a.ran ne a.at;
-            same = moved_swapped w p a.ran.rank call None q (awake w q b.rank) None wake ne;
+          at_worlds (moved w p a.ran.rank call None) u (moved w q b.after None wake) v (Local p) c a.is b.is (record {
+            behind_a = moved (moved w p a.ran.rank call None) q b.after None wake;
+            behind_b = moved (moved w q b.after None wake) p a.ran.rank call None;
+            by_b = b.again all p a.ran.rank call None (λ e. ne (sym e));
+            by_a = local_again w q b.after None wake p a.ran ne a.at;
+            same = moved_swapped w p a.ran.rank call None q b.after None wake ne;
           })
     ]
 
-two_wakes : (w : World) → Known w.board → (p q : ℕ) (u v : World) → IsWakeStep w p u → IsWakeStep w q v → SameOrJoins u v (Wake p) (Wake q)
-two_wakes w all p q u v a b =
+-- two ranks go on
+two_wakes : (w : World) → Known w.board → (a b : Step) (p q : ℕ) (u v : World) → IsWakeStep w a p u → IsWakeStep w b q v → p ≢ q → Joins u v a b
+two_wakes w all a b p q u v one other ne =
+    let here : Option CallId = Some (last_call w.board p) in
+    let there : Option CallId = Some (last_call w.board q) in
+    at_worlds (moved w p one.after None here) u (moved w q other.after None there) v a b one.is other.is (record {
+      behind_a = moved (moved w p one.after None here) q other.after None there;
+      behind_b = moved (moved w q other.after None there) p one.after None here;
+      by_b = other.again all p one.after None here (λ e. ne (sym e));
+      by_a = one.again all q other.after None there ne;
+      same = moved_swapped w p one.after None here q other.after None there ne;
+    })
+
+wake_and_wake : (w : World) → Known w.board → (p q : ℕ) (u v : World) → IsWakeStep w (Wake p) p u → IsWakeStep w (Wake q) q v → SameOrJoins u v (Wake p) (Wake q)
+wake_and_wake w all p q u v a b =
     elim (eqb_tells p q) [
       | inl same ↦ inl (ap Wake same.1)
-      | inr off ↦
-          let ne = off.1 in
-          let here : Option CallId = Some (last_call w.board p) in
-          let there : Option CallId = Some (last_call w.board q) in
-          inr (at_worlds (moved w p (awake w p a.rank) None here) u (moved w q (awake w q b.rank) None there) v (Wake p) (Wake q) a.is b.is (record {
-            behind_a = moved (moved w p (awake w p a.rank) None here) q (awake w q b.rank) None there;
-            behind_b = moved (moved w q (awake w q b.rank) None there) p (awake w p a.rank) None here;
-            by_b = wake_again w p (awake w p a.rank) None here q b.rank (λ e. ne (sym e)) all b.at b.can;
-            by_a = wake_again w q (awake w q b.rank) None there p a.rank ne all a.at a.can;
-            same = moved_swapped w p (awake w p a.rank) None here q (awake w q b.rank) None there ne;
-          }))
+      | inr off ↦ inr (two_wakes w all (Wake p) (Wake q) p q u v a b off.1)
     ]
+
+-- No rank goes on by a wake and by a request as well.
+wake_and_any : (w : World) → Sound w → (p q i : ℕ) (u v : World) → next w (Wake p) ≡ Some u → next w (WakeAny q i) ≡ Some v → Joins u v (Wake p) (WakeAny q i)
+wake_and_any w h p q i u v e f =
+    elim (eqb_tells p q) [
+      | inl same ↦
+          absurd (never_both w h.idle q i (subst (λ (k : ℕ). can_wake w k ≡ true) same.1 (chosen (can_wake w p) (woken w p) u e).0) (chosen (can_wake_any w q i) (woken_any w q i) v f).0)
+      | inr off ↦ two_wakes w h.known (Wake p) (WakeAny q i) p q u v (wake_step w p u e) (any_step w q i v f) off.1
+    ]
+
+any_and_any : (w : World) → Known w.board → (p i q j : ℕ) (u v : World) → IsWakeStep w (WakeAny p i) p u → IsWakeStep w (WakeAny q j) q v → apart (WakeAny p i) (WakeAny q j) ≡ true
+    → Joins u v (WakeAny p i) (WakeAny q j)
+any_and_any w all p i q j u v a b off = two_wakes w all (WakeAny p i) (WakeAny q j) p q u v a b (λ same. clash (eq-eqb p q same) (denied (p == q) off))
 
 local_and_match : (w : World) (p : ℕ) (s r : CallId) (u v : World) → IsLocalStep w p u → eligible w.board s r ≡ true → paired w s r ≡ v → Joins u v (Local p) (Match s r)
 local_and_match w p s r u v a e is =
@@ -169,15 +133,15 @@ local_and_match w p s r u v a e is =
       same = moved_paired w p a.ran.rank call None s r;
     })
 
-wake_and_match : (w : World) (p : ℕ) (s r : CallId) (u v : World) → IsWakeStep w p u → eligible w.board s r ≡ true → paired w s r ≡ v → Joins u v (Wake p) (Match s r)
-wake_and_match w p s r u v a e is =
+wake_and_match : (w : World) (a : Step) (p : ℕ) (s r : CallId) (u v : World) → IsWakeStep w a p u → eligible w.board s r ≡ true → paired w s r ≡ v → Joins u v a (Match s r)
+wake_and_match w a p s r u v b e is =
     let wake : Option CallId = Some (last_call w.board p) in
-    at_worlds (moved w p (awake w p a.rank) None wake) u (paired w s r) v (Wake p) (Match s r) a.is is (record {
-      behind_a = paired (moved w p (awake w p a.rank) None wake) s r;
-      behind_b = moved (paired w s r) p (awake w p a.rank) None wake;
-      by_b = match_again w p (awake w p a.rank) None wake s r e;
-      by_a = wake_paired w s r p a.rank a.at a.can;
-      same = moved_paired w p (awake w p a.rank) None wake s r;
+    at_worlds (moved w p b.after None wake) u (paired w s r) v a (Match s r) b.is is (record {
+      behind_a = paired (moved w p b.after None wake) s r;
+      behind_b = moved (paired w s r) p b.after None wake;
+      by_b = match_again w p b.after None wake s r e;
+      by_a = b.beside s r;
+      same = moved_paired w p b.after None wake s r;
     })
 
 release_and_match : (w : World) (s r : CallId) (u v : World) → can_release w ≡ true → released w ≡ u → eligible w.board s r ≡ true → paired w s r ≡ v → Joins u v Release (Match s r)
@@ -201,34 +165,44 @@ two_matches w s r t q u v e is f also sends recvs =
       same = paired_swapped w s r t q e f sends recvs;
     })
 
--- Two steps that are enabled are the same, or can be taken in either order, unless they are two matches that share a call.
-pub diamond : (w : World) → Known w.board → (a b : Step) (u v : World) → next w a ≡ Some u → next w b ≡ Some v → apart a b ≡ true → SameOrJoins u v a b
-diamond w all (Local p) (Local q) u v e f h = two_locals w p q u v (local_step w p u e) (local_step w q v f)
-diamond w all (Local p) (Match s r) u v e f h = let m = match_step w s r v f in inr (local_and_match w p s r u v (local_step w p u e) m.0 m.1)
-diamond w all (Local p) (Wake q) u v e f h = inr (local_and_wake w all p q u v (local_step w p u e) (wake_step w q v f))
-diamond w all (Local p) Release u v e f h = absurd (no_local_release w p u (local_step w p u e) (release_step w v f).0)
-diamond w all (Match s r) (Local q) u v e f h = let m = match_step w s r u e in inr (flip v u (Local q) (Match s r) (local_and_match w q s r v u (local_step w q v f) m.0 m.1))
-diamond w all (Match s r) (Match t q) u v e f h =
+-- Two steps that are enabled are the same, or can be taken in either order, unless they are two matches that share a call, or two steps
+-- of one rank's waitany.
+pub diamond : (w : World) → Sound w → (a b : Step) (u v : World) → next w a ≡ Some u → next w b ≡ Some v → apart a b ≡ true → SameOrJoins u v a b
+diamond w h (Local p) (Local q) u v e f off = two_locals w p q u v (local_step w p u e) (local_step w q v f)
+diamond w h (Local p) (Match s r) u v e f off = let m = match_step w s r v f in inr (local_and_match w p s r u v (local_step w p u e) m.0 m.1)
+diamond w h (Local p) (Wake q) u v e f off = inr (local_and_wake w h.known p q (Wake q) u v (local_step w p u e) (wake_step w q v f))
+diamond w h (Local p) (WakeAny q j) u v e f off = inr (local_and_wake w h.known p q (WakeAny q j) u v (local_step w p u e) (any_step w q j v f))
+diamond w h (Local p) Release u v e f off = absurd (no_local_release w p u (local_step w p u e) (release_step w v f).0)
+diamond w h (Match s r) (Local q) u v e f off = let m = match_step w s r u e in inr (flip v u (Local q) (Match s r) (local_and_match w q s r v u (local_step w q v f) m.0 m.1))
+diamond w h (Match s r) (Match t q) u v e f off =
     let m = match_step w s r u e in
     let n = match_step w t q v f in
-    let off = both_of (not (id_eq s t)) _ h in
-    inr (two_matches w s r t q u v m.0 m.1 n.0 n.1 (denied (id_eq s t) off.0) (denied (id_eq r q) off.1))
-diamond w all (Match s r) (Wake q) u v e f h = let m = match_step w s r u e in inr (flip v u (Wake q) (Match s r) (wake_and_match w q s r v u (wake_step w q v f) m.0 m.1))
-diamond w all (Match s r) Release u v e f h =
+    let parts = both_of (not (id_eq s t)) _ off in
+    inr (two_matches w s r t q u v m.0 m.1 n.0 n.1 (denied (id_eq s t) parts.0) (denied (id_eq r q) parts.1))
+diamond w h (Match s r) (Wake q) u v e f off = let m = match_step w s r u e in inr (flip v u (Wake q) (Match s r) (wake_and_match w (Wake q) q s r v u (wake_step w q v f) m.0 m.1))
+diamond w h (Match s r) (WakeAny q j) u v e f off = let m = match_step w s r u e in inr (flip v u (WakeAny q j) (Match s r) (wake_and_match w (WakeAny q j) q s r v u (any_step w q j v f) m.0 m.1))
+diamond w h (Match s r) Release u v e f off =
     let m = match_step w s r u e in
     let n = release_step w v f in
     inr (flip v u Release (Match s r) (release_and_match w s r v u n.0 n.1 m.0 m.1))
-diamond w all (Wake p) (Local q) u v e f h = inr (flip v u (Local q) (Wake p) (local_and_wake w all q p v u (local_step w q v f) (wake_step w p u e)))
-diamond w all (Wake p) (Match s r) u v e f h = let m = match_step w s r v f in inr (wake_and_match w p s r u v (wake_step w p u e) m.0 m.1)
-diamond w all (Wake p) (Wake q) u v e f h = two_wakes w all p q u v (wake_step w p u e) (wake_step w q v f)
-diamond w all (Wake p) Release u v e f h = absurd (no_wake_release w p u (wake_step w p u e) (release_step w v f).0)
-diamond w all Release (Local q) u v e f h = absurd (no_local_release w q v (local_step w q v f) (release_step w u e).0)
-diamond w all Release (Match s r) u v e f h =
+diamond w h (Wake p) (Local q) u v e f off = inr (flip v u (Local q) (Wake p) (local_and_wake w h.known q p (Wake p) v u (local_step w q v f) (wake_step w p u e)))
+diamond w h (Wake p) (Match s r) u v e f off = let m = match_step w s r v f in inr (wake_and_match w (Wake p) p s r u v (wake_step w p u e) m.0 m.1)
+diamond w h (Wake p) (Wake q) u v e f off = wake_and_wake w h.known p q u v (wake_step w p u e) (wake_step w q v f)
+diamond w h (Wake p) (WakeAny q j) u v e f off = inr (wake_and_any w h p q j u v e f)
+diamond w h (Wake p) Release u v e f off = absurd (no_wake_release w (Wake p) p u (wake_step w p u e) (release_step w v f).0)
+diamond w h (WakeAny p i) (Local q) u v e f off = inr (flip v u (Local q) (WakeAny p i) (local_and_wake w h.known q p (WakeAny p i) v u (local_step w q v f) (any_step w p i u e)))
+diamond w h (WakeAny p i) (Match s r) u v e f off = let m = match_step w s r v f in inr (wake_and_match w (WakeAny p i) p s r u v (any_step w p i u e) m.0 m.1)
+diamond w h (WakeAny p i) (Wake q) u v e f off = inr (flip v u (Wake q) (WakeAny p i) (wake_and_any w h q p i v u f e))
+diamond w h (WakeAny p i) (WakeAny q j) u v e f off = inr (any_and_any w h.known p i q j u v (any_step w p i u e) (any_step w q j v f) off)
+diamond w h (WakeAny p i) Release u v e f off = absurd (no_wake_release w (WakeAny p i) p u (any_step w p i u e) (release_step w v f).0)
+diamond w h Release (Local q) u v e f off = absurd (no_local_release w q v (local_step w q v f) (release_step w u e).0)
+diamond w h Release (Match s r) u v e f off =
     let m = match_step w s r v f in
     let n = release_step w u e in
     inr (release_and_match w s r u v n.0 n.1 m.0 m.1)
-diamond w all Release (Wake q) u v e f h = absurd (no_wake_release w q v (wake_step w q v f) (release_step w u e).0)
-diamond w all Release Release u v e f h = inl refl
+diamond w h Release (Wake q) u v e f off = absurd (no_wake_release w (Wake q) q v (wake_step w q v f) (release_step w u e).0)
+diamond w h Release (WakeAny q j) u v e f off = absurd (no_wake_release w (WakeAny q j) q v (any_step w q j v f) (release_step w u e).0)
+diamond w h Release Release u v e f off = inl refl
 
 -- ---- a step that nobody has to choose
 
@@ -237,19 +211,20 @@ apart_matches true y s r t q e f recvs sends = let a = same_id s t e in let b = 
 apart_matches false true s r t q e f recvs sends = let a = sends f in let b = same_id r q f in inl (λ i. Match (a i) (b i))
 apart_matches false false s r t q e f recvs sends = inr (λ i. not (e i) && not (f i))
 
-same_or_apart : (w : World) (a b : Step) (u v : World) → is_open_match w.board a ≡ false → next w a ≡ Some u → next w b ≡ Some v → (a ≡ b) ⊎ (apart a b ≡ true)
+same_or_apart : (w : World) (a b : Step) (u v : World) → IsNamed w.board a → next w a ≡ Some u → next w b ≡ Some v → (a ≡ b) ⊎ (apart a b ≡ true)
 same_or_apart w (Match s r) (Match t q) u v named e f =
     let m = match_step w s r u e in
     let n = match_step w t q v f in
     apart_matches (id_eq s t) (id_eq r q) s r t q refl refl
     (λ is. same_recv w.board s r q m.0 (ap (λ (c : CallId). eligible w.board c q) (same_id s t is) ∙ n.0))
-    (λ is. same_send w.board s t r named m.0 (ap (λ (c : CallId). eligible w.board t c) (same_id r q is) ∙ n.0))
+    (λ is. same_send w.board s t r named.no_open m.0 (ap (λ (c : CallId). eligible w.board t c) (same_id r q is) ∙ n.0))
+same_or_apart w (WakeAny p i) b u v named e f = absurd (let some : Some p ≡ None = named.no_any in cc)
 same_or_apart w a b u v named e f = inr refl
 
 -- Any other enabled step can be taken before it or behind it.
-pub steady : (w : World) → Known w.board → (a b : Step) (u v : World) → is_open_match w.board a ≡ false → next w a ≡ Some u → next w b ≡ Some v → SameOrJoins u v a b
-steady w all a b u v named e f =
+pub steady : (w : World) → Sound w → (a b : Step) (u v : World) → IsNamed w.board a → next w a ≡ Some u → next w b ≡ Some v → SameOrJoins u v a b
+steady w h a b u v named e f =
     elim (same_or_apart w a b u v named e f) [
       | inl same ↦ inl same
-      | inr off ↦ diamond w all a b u v e f off
+      | inr off ↦ diamond w h a b u v e f off
     ]

@@ -1,9 +1,9 @@
--- What every world of a run keeps: pairs name calls that were issued, and each rank has its list of calls.
+-- What every world of a run keeps: pairs name calls that were issued, each rank has its list of calls, and a waitany for nothing has no request.
 use Rattle.std.proofs.Common.{◌≡◌, ℕ, Bool, true, false, Option, Some, None, is_some, List, [], ◌∷◌, length, refl, sym, ap, subst, ◌∙◌, arith}
 use Rattle.std.proofs.lemmas.List.{length-set, length-map, length-replicate}
 use Rattle.mpd_model.specs.declared.step.CallId.{CallId}
 use Rattle.mpd_model.specs.declared.step.Step.{Step}
-use Rattle.mpd_model.specs.declared.step.Step.TheVariants.{Local, Match, Wake, Release}
+use Rattle.mpd_model.specs.declared.step.Step.TheVariants.{Local, Match, Wake, WakeAny, Release}
 use Rattle.mpd_model.specs.declared.call.Call.{Call}
 use Rattle.mpd_model.specs.declared.call.CallKind.{CallKind}
 use Rattle.mpd_model.specs.declared.call.Mode.{Mode}
@@ -13,17 +13,19 @@ use Rattle.mpd_model.specs.Program.{Program}
 use Rattle.mpd_model.specs.World.{World, Board, RankWorld, start, start_rank, id_eq, kind_at, partner, eligible, last_call}
 use Rattle.mpd_model.specs.Next.{released, going_on, next, fold}
 use Rattle.mpd_model.specs.Why.{or_else}
-use Rattle.mpd_model.specs.Decisions.{is_open_match, takes_any}
+use Rattle.mpd_model.specs.Decisions.{any_rank, is_open_match, takes_any}
 use Rattle.mpd_meaning.specs.StepLaws.{HasCalls}
 use Rattle.mpd_complete.proofs.Sets.{partner_more, else_none, partner_by}
 use Rattle.mpd_complete.proofs.Worlds.{joined_from}
-use Rattle.mpd_complete.proofs.Moves.{Known, issued_calls, joining, moved, paired, awake, kind_kept, partner_formed}
+use Rattle.mpd_complete.proofs.Moves.{Known, issued_calls, joining, moved, paired, kind_kept, partner_formed}
 use Rattle.mpd_complete.proofs.Pairs.{Later, moved_later, paired_later, send_known, recv_known}
-use Rattle.mpd_complete.proofs.Diamond.{local_step, wake_step, match_step, release_step}
+use Rattle.mpd_complete.proofs.Steps.{IsLocalStep, IsWakeStep, local_step, wake_step, any_step, match_step, release_step}
+use Rattle.mpd_complete.proofs.Idle.{Idle, idle_running, idle_local, idle_released, idle_start}
 
 pub record Sound (w : World) : Type 0 where
   pub known : Known w.board
   pub has : HasCalls w
+  pub idle : Idle w
 
 -- what a step keeps of it
 pub record Keeps (w v : World) : Type 0 where
@@ -36,16 +38,25 @@ issued_length : (calls : List (List Call)) (p : ℕ) (o : Option Call) → lengt
 issued_length calls p None = refl
 issued_length calls p (Some c) = length-set calls p _
 
-moved_keeps : (w : World) (p : ℕ) (r : RankWorld) (o : Option Call) (m : Option CallId) → Keeps w (moved w p r o m)
-moved_keeps w p r o m = record {
+moved_keeps : (w : World) (p : ℕ) (r : RankWorld) (o : Option Call) (m : Option CallId) → (Sound w → Idle (moved w p r o m)) → Keeps w (moved w p r o m)
+moved_keeps w p r o m idle = record {
   sound = λ h. record {
     known = λ c d e.
         let was = h.known c d (sym (partner_formed w.board.sets m c) ∙ e) in
         ap (λ (k : Option CallKind). is_some k) (kind_kept w p r o m d was) ∙ was;
     has = let a = length-set w.ranks p r in let b = issued_length w.board.calls p o in let c = h.has in omega (arith, a, b, c);
+    idle = idle h;
   };
   later = moved_later w p r o m;
 }
+
+local_keeps : (w : World) (p : ℕ) (v : World) → IsLocalStep w p v → Keeps w v
+local_keeps w p v a =
+    subst (Keeps w) a.is (moved_keeps w p a.ran.rank (joining w.board p a.ran.call) None (λ h. subst Idle (sym a.is) (idle_local w p v h.has a h.idle)))
+
+wake_keeps : (w : World) (a : Step) (p : ℕ) (v : World) → IsWakeStep w a p v → Keeps w v
+wake_keeps w a p v b =
+    subst (Keeps w) b.is (moved_keeps w p b.after None (Some (last_call w.board p)) (λ h. idle_running w p b.after b.rank None (Some (last_call w.board p)) b.at b.running h.idle))
 
 -- ---- a match
 
@@ -65,6 +76,7 @@ paired_keeps w s r e = record {
     known = λ c d is.
         either_known w.board s r c d h.known (send_known w.board s r e) (recv_known w.board s r e) (partner w.board.sets c) refl (sym (partner_more w.board.sets (Pair s r ∷ []) c) ∙ is);
     has = h.has;
+    idle = h.idle;
   };
   later = paired_later w s r;
 }
@@ -73,7 +85,7 @@ paired_keeps w s r e = record {
 
 released_keeps : (w : World) → Keeps w (released w)
 released_keeps w = record {
-  sound = λ h. record { known = λ c d e. h.known c d (sym (same c) ∙ e); has = let a = length-map w.ranks going_on in let b = h.has in omega (arith, a, b) };
+  sound = λ h. record { known = λ c d e. h.known c d (sym (same c) ∙ e); has = let a = length-map w.ranks going_on in let b = h.has in omega (arith, a, b); idle = idle_released w };
   later = record { kinds = λ c known. refl; partners = λ c known. ap (λ (o : Option CallId). is_some o) (same c) ∙ known };
 }
   where
@@ -83,9 +95,10 @@ released_keeps w = record {
 -- ---- any step
 
 pub keeps : (w : World) (a : Step) (v : World) → next w a ≡ Some v → Keeps w v
-keeps w (Local p) v e = let a = local_step w p v e in subst (Keeps w) a.is (moved_keeps w p a.ran.rank (joining w.board p a.ran.call) None)
+keeps w (Local p) v e = local_keeps w p v (local_step w p v e)
 keeps w (Match s r) v e = let m = match_step w s r v e in subst (Keeps w) m.1 (paired_keeps w s r m.0)
-keeps w (Wake p) v e = let a = wake_step w p v e in subst (Keeps w) a.is (moved_keeps w p (awake w p a.rank) None (Some (last_call w.board p)))
+keeps w (Wake p) v e = wake_keeps w (Wake p) p v (wake_step w p v e)
+keeps w (WakeAny p i) v e = wake_keeps w (WakeAny p i) p v (any_step w p i v e)
 keeps w Release v e = subst (Keeps w) (release_step w v e).1 (released_keeps w)
 
 pub fold_sound : (steps : List Step) (u w : World) → fold u steps ≡ Some w → Sound u → Sound w
@@ -98,9 +111,16 @@ pub start_sound : (s : Program) (mode : Mode) → Sound (start s mode)
 start_sound s mode = record {
   known = λ c d e. absurd (cc);
   has = let a = length-replicate s.ranks (start_rank s) in let b = length-replicate {A = List Call} s.ranks [] in omega (arith, a, b);
+  idle = idle_start s mode;
 }
 
--- a step that nobody has to choose stays so
-pub stays_named : (w : World) (a b : Step) (u v : World) → next w a ≡ Some u → next w b ≡ Some v → is_open_match w.board a ≡ false → is_open_match v.board a ≡ false
-stays_named w (Match s r) b u v e f h = ap takes_any ((keeps w b v f).later.kinds r (recv_known w.board s r (match_step w s r u e).0)) ∙ h
-stays_named w a b u v e f h = refl
+-- ---- steps that nobody has to choose
+
+pub record IsNamed (b : Board) (a : Step) : Type 0 where
+  pub no_open : is_open_match b a ≡ false
+  pub no_any : any_rank a ≡ None
+
+-- such a step stays one
+pub stays_named : (w : World) (a b : Step) (u v : World) → next w a ≡ Some u → next w b ≡ Some v → IsNamed w.board a → IsNamed v.board a
+stays_named w (Match s r) b u v e f h = record { no_open = ap takes_any ((keeps w b v f).later.kinds r (recv_known w.board s r (match_step w s r u e).0)) ∙ h.no_open; no_any = refl }
+stays_named w a b u v e f h = record { no_open = refl; no_any = h.no_any }

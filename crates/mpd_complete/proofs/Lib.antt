@@ -2,9 +2,13 @@ mod Sets
 mod Worlds
 mod Moves
 mod Pairs
-mod Diamond
+mod Steps
+mod Issues
+mod Idle
 mod Invariants
+mod Diamond
 mod Views
+mod Calm
 mod Walks
 mod Plain
 mod Asleep

@@ -1,17 +1,18 @@
--- A local step and a wake in one form: one rank is written, it may issue a call, and a wake may be formed. What that leaves as it was.
-use Rattle.std.proofs.Common.{◌≡◌, ◌≢◌, ℕ, ◌-◌, Bool, true, ◌&&◌, ◌||◌, not, Option, Some, None, is_some, option_and_then, List, [], ◌∷◌, ◌++◌, length, slice_get, slice_set, inl, inr, refl, sym, ap, subst, ◌∙◌}
+-- A local step and a wake, by a waitany or not, in one form: one rank is written, it may issue a call, and a wake may be formed. What that leaves as it was.
+use Rattle.std.proofs.Common.{◌≡◌, ◌≢◌, ℕ, ℤ, ◌-◌, Bool, true, ◌&&◌, ◌||◌, not, Option, Some, None, is_some, option_and_then, List, [], ◌∷◌, ◌++◌, length, slice_get, slice_set, inl, inr, refl, sym, ap, subst, ◌∙◌}
+use Rattle.std.specs.Prelude.{slice_index_or}
 use Rattle.std.proofs.lemmas.Bool.Decides.{eqb_tells}
 use Rattle.std.proofs.lemmas.List.{length-set, set_comm}
 use Rattle.std.specs.Option.{option_map}
 use Rattle.mpd_model.specs.declared.step.CallId.{CallId}
-use Rattle.mpd_model.specs.declared.step.Step.TheVariants.{Local, Wake}
+use Rattle.mpd_model.specs.declared.step.Step.TheVariants.{Local, Wake, WakeAny}
 use Rattle.mpd_model.specs.declared.call.Call.{Call}
 use Rattle.mpd_model.specs.declared.call.CallKind.{CallKind}
-use Rattle.mpd_model.specs.declared.call.CallKind.TheVariants.{Wait}
+use Rattle.mpd_model.specs.declared.call.CallKind.TheVariants.{Wait, Waitany}
 use Rattle.mpd_model.specs.declared.call.MatchSet.{MatchSet}
 use Rattle.mpd_model.specs.declared.call.MatchSet.TheVariants.{Pair, Woke}
-use Rattle.mpd_model.specs.World.{World, Board, RankWorld, call_id, listed_calls, calls_of, kind_of, kind_at, partner, is_barrier, is_buffered, is_done, message_of, awaited_by, awaited, complete_by, complete, last_call}
-use Rattle.mpd_model.specs.Next.{Ran, local, local_at, stepped, entered, with_issued, with_set, waits, can_wake, writes_of, writes_by, cleared_by, put_at, woken_rank, wake_writes, wake_clears, woken, next}
+use Rattle.mpd_model.specs.World.{World, Board, RankWorld, call_id, listed_calls, calls_of, kind_of, kind_at, partner, is_buffered, is_done, message_of, awaited_by, awaited, complete_by, has_own_step, complete, last_call}
+use Rattle.mpd_model.specs.Next.{Ran, local, local_at, stepped, entered, with_issued, with_set, waits, can_wake, writes_of, writes_by, cleared_by, own_writes, put_at, woken_rank, wake_writes, wake_clears, woken_by, woken, request_handle, index_writes, held_in, any_handle, any_call, is_complete_some, can_wake_any, any_writes, woken_any, next}
 use Rattle.mpd_complete.specs.Same.{SameSets, Same}
 use Rattle.mpd_complete.proofs.Sets.{partner_more, else_none, sets_refl, sets_swapped, woke_disjoint}
 use Rattle.mpd_laws.proofs.Splits.{others_kept, read_written, same_or_end}
@@ -39,12 +40,16 @@ issued_is b p (Some c) = refl
 pub stepped_is : (w : World) (p : ℕ) (x : Ran) → stepped w p x ≡ moved w p x.rank (joining w.board p x.call) None
 stepped_is w p x = λ i. record { ranks = slice_set w.ranks p x.rank; board = issued_is w.board p x.call i }
 
--- the rank that a wake leaves
+pub woken_is : (w : World) (p : ℕ) (writes : List (ℕ × ℤ)) (handle : Option ℕ) (r : RankWorld) → slice_get w.ranks p ≡ Some r
+    → woken_by w p writes handle ≡ moved w p (woken_rank writes handle r) None (Some (last_call w.board p))
+woken_is w p writes handle r e = λ i. record { ranks = put_at w.ranks p (e i) (woken_rank writes handle); board = with_set w.board (Woke (last_call w.board p)) }
+
+-- the rank that a wake leaves, and the one that a waitany's request leaves
 abbrev pub awake : World → ℕ → RankWorld → RankWorld
 awake w p r = woken_rank (wake_writes w.board p) (wake_clears w.board p) r
 
-pub woken_is : (w : World) (p : ℕ) (r : RankWorld) → slice_get w.ranks p ≡ Some r → woken w p ≡ moved w p (awake w p r) None (Some (last_call w.board p))
-woken_is w p r e = λ i. record { ranks = put_at w.ranks p (e i) (woken_rank (wake_writes w.board p) (wake_clears w.board p)); board = with_set w.board (Woke (last_call w.board p)) }
+abbrev pub awake_any : World → ℕ → ℕ → RankWorld → RankWorld
+awake_any w p i r = woken_rank (any_writes w p i) (any_handle w p i) r
 
 -- ---- what stays
 
@@ -107,13 +112,13 @@ abbrev pub Known : Board → Type 0
 Known b = (c d : CallId) → partner b.sets c ≡ Some d → is_some (kind_at b d) ≡ true
 
 -- two boards with the same calls of a rank, and the same partners
-record Beside (b e : Board) (q : ℕ) : Type 0 where
+pub record Beside (b e : Board) (q : ℕ) : Type 0 where
   partners : (c : CallId) → partner e.sets c ≡ partner b.sets c
   kinds : (i : ℕ) → kind_at e (call_id q i) ≡ kind_at b (call_id q i)
   known : (c : CallId) → is_some (kind_at b c) ≡ true → kind_at e c ≡ kind_at b c
   last : length (calls_of e q) ≡ length (calls_of b q)
 
-moved_beside : (w : World) (p : ℕ) (r : RankWorld) (o : Option Call) (m : Option CallId) (q : ℕ) → q ≢ p → Beside w.board (moved w p r o m).board q
+pub moved_beside : (w : World) (p : ℕ) (r : RankWorld) (o : Option Call) (m : Option CallId) (q : ℕ) → q ≢ p → Beside w.board (moved w p r o m).board q
 moved_beside w p r o m q ne = record {
   partners = partner_formed w.board.sets m;
   kinds = λ i. kind_elsewhere w p r o m (call_id q i) ne;
@@ -130,12 +135,22 @@ complete_beside b e q h i (Some (Wait t)) = target t.target
     target : (o : Option ℕ) → complete_by e (option_map (call_id q) o) ≡ complete_by b (option_map (call_id q) o)
     target None = refl
     target (Some j) = done_beside b e q h j
+complete_beside b e q h i (Some (Waitany a)) = refl
 complete_beside b e q h i k = done_beside b e q h i
 
 complete_at : (b e : Board) (q : ℕ) → Beside b e q → (i : ℕ) → complete e (call_id q i) ≡ complete b (call_id q i)
 complete_at b e q h i =
-    ap (λ (k : Option CallKind). not (is_barrier k) && complete_by e (awaited_by (call_id q i) k)) (h.kinds i)
-    ∙ ap (λ (t : Bool). not (is_barrier (kind_at b (call_id q i))) && t) (complete_beside b e q h i (kind_at b (call_id q i)))
+    ap (λ (k : Option CallKind). not (has_own_step k) && complete_by e (awaited_by (call_id q i) k)) (h.kinds i)
+    ∙ ap (λ (t : Bool). not (has_own_step (kind_at b (call_id q i))) && t) (complete_beside b e q h i (kind_at b (call_id q i)))
+
+-- the same of what a handle of the rank holds
+held_complete : (b e : Board) (q : ℕ) → Beside b e q → (r : Option RankWorld) (handle : Option ℕ) → is_complete_some e (held_in q r handle) ≡ is_complete_some b (held_in q r handle)
+held_complete b e q h (Some r) (Some n) = call (slice_index_or r.handles n None)
+  where
+    call : (o : Option ℕ) → is_complete_some e (option_map (call_id q) o) ≡ is_complete_some b (option_map (call_id q) o)
+    call None = refl
+    call (Some j) = complete_at b e q h j
+held_complete b e q h r handle = refl
 
 writes_at : (b e : Board) (q : ℕ) → Beside b e q → Known b → (i : ℕ) → writes_by e (Some (call_id q i)) ≡ writes_by b (Some (call_id q i))
 writes_at b e q h all i =
@@ -152,38 +167,68 @@ writes_beside b e q h all i (Some (Wait t)) = target t.target
     target : (o : Option ℕ) → writes_by e (option_map (call_id q) o) ≡ writes_by b (option_map (call_id q) o)
     target None = refl
     target (Some j) = writes_at b e q h all j
+writes_beside b e q h all i (Some (Waitany a)) = refl
 writes_beside b e q h all i k = writes_at b e q h all i
 
--- what a wake is of
-record WakesAlike (w v : World) (q : ℕ) : Type 0 where
-  can : can_wake v q ≡ can_wake w q
-  writes : wake_writes v.board q ≡ wake_writes w.board q
-  clears : wake_clears v.board q ≡ wake_clears w.board q
-  call : last_call v.board q ≡ last_call w.board q
-
-wakes_alike : (w v : World) (q : ℕ) → Beside w.board v.board q → Known w.board → slice_get v.ranks q ≡ slice_get w.ranks q → WakesAlike w v q
-wakes_alike w v q h all rank =
-    let n : ℕ = length (calls_of w.board q) - 1 in
-    record {
-      can = (λ i. waits (rank i) && complete v.board (last i)) ∙ ap (λ (t : Bool). waits (slice_get w.ranks q) && t) (complete_at w.board v.board q h n);
-      writes = ap (λ (c : CallId). writes_by v.board (awaited v.board c)) last
-          ∙ ap (λ (k : Option CallKind). writes_by v.board (awaited_by (call_id q n) k)) (h.kinds n)
-          ∙ writes_beside w.board v.board q h all n (kind_at w.board (call_id q n));
-      clears = ap (λ (c : CallId). cleared_by (kind_at v.board c)) last ∙ ap cleared_by (h.kinds n);
-      call = last;
-    }
+held_writes : (b e : Board) (q : ℕ) → Beside b e q → Known b → (r : Option RankWorld) (handle : Option ℕ) → writes_by e (held_in q r handle) ≡ writes_by b (held_in q r handle)
+held_writes b e q h all (Some r) (Some n) = call (slice_index_or r.handles n None)
   where
-    last : last_call v.board q ≡ last_call w.board q
-    last = ap (λ (n : ℕ). call_id q (n - 1)) h.last
+    call : (o : Option ℕ) → writes_by e (option_map (call_id q) o) ≡ writes_by b (option_map (call_id q) o)
+    call None = refl
+    call (Some j) = writes_at b e q h all j
+held_writes b e q h all r handle = refl
+
+-- the last call of the rank, and its kind
+last_beside : (b e : Board) (q : ℕ) → Beside b e q → last_call e q ≡ last_call b q
+last_beside b e q h = ap (λ (n : ℕ). call_id q (n - 1)) h.last
+
+pub kind_beside : (b e : Board) (q : ℕ) → Beside b e q → kind_at e (last_call e q) ≡ kind_at b (last_call b q)
+kind_beside b e q h = ap (kind_at e) (last_beside b e q h) ∙ h.kinds (length (calls_of b q) - 1)
+
+-- a rank that goes on writes the same there, and clears the same handle
+goes_on : (w v : World) (q : ℕ) (writes also : List (ℕ × ℤ)) (handle other : Option ℕ) (s : RankWorld) → slice_get v.ranks q ≡ Some s → writes ≡ also → handle ≡ other → last_call v.board q ≡ last_call w.board q
+    → Some (woken_by v q writes handle) ≡ Some (moved v q (woken_rank also other s) None (Some (last_call w.board q)))
+goes_on w v q writes also handle other s at e f last =
+    ap (λ (z : World). Some z) (woken_is v q writes handle s at) ∙ (λ i. Some (moved v q (woken_rank (e i) (f i) s) None (Some (last i))))
 
 pub wake_again : (w : World) (p : ℕ) (r : RankWorld) (o : Option Call) (m : Option CallId) (q : ℕ) (s : RankWorld) → q ≢ p → Known w.board → slice_get w.ranks q ≡ Some s → can_wake w q ≡ true
     → next (moved w p r o m) (Wake q) ≡ Some (moved (moved w p r o m) q (awake w q s) None (Some (last_call w.board q)))
 wake_again w p r o m q s ne all at can =
+    let v : World = moved w p r o m in
     let rank = others_kept w.ranks p q r ne in
-    let alike = wakes_alike w (moved w p r o m) q (moved_beside w p r o m q ne) all rank in
-    taken (can_wake (moved w p r o m) q) (woken (moved w p r o m) q) (alike.can ∙ can)
-    ∙ ap (λ (v : World). Some v) (woken_is (moved w p r o m) q s (rank ∙ at))
-    ∙ (λ i. Some (moved (moved w p r o m) q (woken_rank (alike.writes i) (alike.clears i) s) None (Some (alike.call i))))
+    let beside = moved_beside w p r o m q ne in
+    let last = last_beside w.board v.board q beside in
+    let kind = kind_beside w.board v.board q beside in
+    let n : ℕ = length (calls_of w.board q) - 1 in
+    let same : can_wake v q ≡ can_wake w q =
+    (λ i. waits (rank i) && complete v.board (last i)) ∙ ap (λ (t : Bool). waits (slice_get w.ranks q) && t) (complete_at w.board v.board q beside n)
+    in
+    let writes : writes_by v.board (awaited v.board (last_call v.board q)) ≡ writes_by w.board (awaited w.board (last_call w.board q)) =
+    ap (λ (c : CallId). writes_by v.board (awaited v.board c)) last
+    ∙ ap (λ (k : Option CallKind). writes_by v.board (awaited_by (call_id q n) k)) (beside.kinds n)
+    ∙ writes_beside w.board v.board q beside all n (kind_at w.board (call_id q n))
+    in
+    taken (can_wake v q) (woken v q) (same ∙ can)
+    ∙ goes_on w v q (wake_writes v.board q) (wake_writes w.board q) (wake_clears v.board q) (wake_clears w.board q) s (rank ∙ at) (λ i. writes i ++ own_writes (kind i)) (ap cleared_by kind) last
+
+pub any_again : (w : World) (p : ℕ) (r : RankWorld) (o : Option Call) (m : Option CallId) (q i : ℕ) (s : RankWorld) → q ≢ p → Known w.board → slice_get w.ranks q ≡ Some s → can_wake_any w q i ≡ true
+    → next (moved w p r o m) (WakeAny q i) ≡ Some (moved (moved w p r o m) q (awake_any w q i s) None (Some (last_call w.board q)))
+any_again w p r o m q i s ne all at can =
+    let v : World = moved w p r o m in
+    let rank = others_kept w.ranks p q r ne in
+    let beside = moved_beside w p r o m q ne in
+    let kind = kind_beside w.board v.board q beside in
+    let handle : any_handle v q i ≡ any_handle w q i = ap (λ (k : Option CallKind). request_handle k i) kind in
+    let call : any_call v q i ≡ any_call w q i = λ j. held_in q (rank j) (handle j) in
+    let same : can_wake_any v q i ≡ can_wake_any w q i =
+    (λ j. waits (rank j) && is_complete_some v.board (call j))
+    ∙ ap (λ (t : Bool). waits (slice_get w.ranks q) && t) (held_complete w.board v.board q beside (slice_get w.ranks q) (any_handle w q i))
+    in
+    let writes : writes_by v.board (any_call v q i) ≡ writes_by w.board (any_call w q i) =
+    ap (writes_by v.board) call ∙ held_writes w.board v.board q beside all (slice_get w.ranks q) (any_handle w q i)
+    in
+    taken (can_wake_any v q i) (woken_any v q i) (same ∙ can)
+    ∙ goes_on w v q (any_writes v q i) (any_writes w q i) (any_handle v q i) (any_handle w q i) s (rank ∙ at) (λ j. writes j ++ index_writes (kind j) i) handle (last_beside w.board v.board q beside)
 
 -- ---- two ranks, in either order
 

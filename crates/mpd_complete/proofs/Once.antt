@@ -16,13 +16,15 @@ use Rattle.mpd_model.specs.Decisions.{takes_any, is_open_match, decision}
 use Rattle.mpd_explore.specs.declared.report.Ending.{Ending}
 use Rattle.mpd_explore.specs.declared.report.Ending.TheVariants.{Ended, Cut}
 use Rattle.mpd_explore.specs.Walk.{Run, here, stepped, chosen, runs_of, stopped}
+use Rattle.mpd_complete.specs.CompleteLaws.{HasNoWaitany}
 use Rattle.mpd_complete.specs.Sleeping.{same_match, is_asleep, awake_runs, awake_branches, followed_awake, awake_walk, sleeping_walk, EndApart}
 use Rattle.mpd_meaning.proofs.Members.{In, in_either, map_from, in_at}
 use Rattle.mpd_complete.proofs.Worlds.{joined_from}
 use Rattle.mpd_complete.proofs.Pairs.{clash, id_same, recv_known}
-use Rattle.mpd_complete.proofs.Diamond.{match_step}
-use Rattle.mpd_complete.proofs.Invariants.{Sound, keeps, fold_sound, start_sound}
+use Rattle.mpd_complete.proofs.Steps.{match_step}
+use Rattle.mpd_complete.proofs.Invariants.{Sound, keeps}
 use Rattle.mpd_complete.proofs.Views.{View, view}
+use Rattle.mpd_complete.proofs.Calm.{Calm, stays_calm, fold_calm, start_calm, calm_none}
 use Rattle.mpd_complete.proofs.Walks.{only}
 use Rattle.mpd_complete.proofs.Asleep.{fold_kept, pair_made, beside, free_unpaired, some_call}
 use Rattle.mpd_complete.proofs.Runs.{branch_from}
@@ -89,7 +91,7 @@ never_behind : (n : ℕ) → Never n → (asleep : List Step) (u : World) → So
 never_behind n ih asleep u h s r v on o within a ne t k w e p =
     let after = begun u a t.steps w e in
     let here : In (awake_walk true n asleep after.0) t = subst (λ (q : Option World). In (runs_of (awake_walk true n asleep) q) t) after.1 k in
-    elim (beside u h.known s r a v after.0 on after.1) [
+    elim (beside u h s r a v after.0 on after.1) [
       | inl same ↦ ne same
       | inr more ↦ elim more [
         | inl joins ↦
@@ -122,7 +124,7 @@ never_more : (n : ℕ) → Never n → (asleep : List Step) (u : World) → Soun
     → (d : Decision) → View u d → (t : Run) → In (followed_awake true (awake_walk true n) asleep u d) t → (w : World) → fold u t.steps ≡ Some w → partner w.board.sets r ≡ Some s → ⊥
 never_more n ih asleep u h s r v on o within (Forced a) is t k w e p =
     let m = map_from (stepped a) (runs_of (awake_walk true n asleep) (next u a)) t k in
-    never_behind n ih asleep u h s r v on o within a (λ same. clash (ap (is_open_match u.board) same ∙ o) is.named) m.0 m.1 w (ap (λ (y : Run). fold u y.steps) m.2 ∙ e) p
+    never_behind n ih asleep u h s r v on o within a (λ same. clash (ap (is_open_match u.board) same ∙ o) is.named.no_open) m.0 m.1 w (ap (λ (y : Run). fold u y.steps) m.2 ∙ e) p
 never_more n ih asleep u h s r v on o within (Choice candidates) is t k w e p = never_branch n ih asleep u h s r v on o within 0 candidates t k w e p
 never_more n ih asleep u h s r v on o within (Leaf l) is t k w e p = never_here u s r v on (Ended l) t (only (here (Ended l)) t k) w e p
 
@@ -134,7 +136,7 @@ never (suc n) asleep u h s r v on o within t k w e p = never_more n (never n) as
 -- ---- no end twice
 
 abbrev Once : ℕ → Type 0
-Once n = (asleep : List Step) (u : World) → Sound u → EachTwo (EndApart u) (awake_walk true n asleep u)
+Once n = (asleep : List Step) (u : World) → Calm u → EachTwo (EndApart u) (awake_walk true n asleep u)
 
 alone : (u : World) (r : Run) → EachTwo (EndApart u) (r ∷ [])
 alone u r = (λ y h. absurd h, tt)
@@ -146,28 +148,28 @@ apart_behind u a put steps x e r t h v w f g same = h v w (from r v f) (from t w
     from : (r : Run) (v : World) → fold u (put r).steps ≡ Some v → fold x r.steps ≡ Some v
     from r v f = sym (ap (option_and_then (λ z. fold z r.steps)) e) ∙ sym (ap (fold u) (steps r)) ∙ f
 
-once_behind : (n : ℕ) → Once n → (asleep : List Step) (u : World) → Sound u → (a : Step) (put : Run → Run) → ((r : Run) → (put r).steps ≡ a ∷ r.steps)
+once_behind : (n : ℕ) → Once n → (asleep : List Step) (u : World) → Calm u → (a : Step) (put : Run → Run) → ((r : Run) → (put r).steps ≡ a ∷ r.steps)
     → (o : Option World) → next u a ≡ o → EachTwo (EndApart u) (map put (runs_of (awake_walk true n asleep) o))
 once_behind n ih asleep u h a put steps None e = tt
 once_behind n ih asleep u h a put steps (Some x) e =
-    each_map (EndApart u) (EndApart x) put (awake_walk true n asleep x) (apart_behind u a put steps x e) (ih asleep x ((keeps u a x e).sound h))
+    each_map (EndApart u) (EndApart x) put (awake_walk true n asleep x) (apart_behind u a put steps x e) (ih asleep x (stays_calm u a x e h))
 
-once_first : (n : ℕ) → Once n → (asleep : List Step) (u : World) → Sound u → (a : Step) (i : ℕ) (b : Bool) → EachTwo (EndApart u) (map (chosen i a) (awake_runs b (awake_walk true n asleep) (next u a)))
+once_first : (n : ℕ) → Once n → (asleep : List Step) (u : World) → Calm u → (a : Step) (i : ℕ) (b : Bool) → EachTwo (EndApart u) (map (chosen i a) (awake_runs b (awake_walk true n asleep) (next u a)))
 once_first n ih asleep u h a i true = tt
 once_first n ih asleep u h a i false = once_behind n ih asleep u h a (chosen i a) (λ r. refl) (next u a) refl
 
 -- a run of the first branch and one of a later one
-cross : (n : ℕ) (asleep : List Step) (u : World) → Sound u → (i : ℕ) (a : Step) → is_some (next u a) ≡ true → is_open_match u.board a ≡ true → (more : List Step)
+cross : (n : ℕ) (asleep : List Step) (u : World) → Calm u → (i : ℕ) (a : Step) → is_some (next u a) ≡ true → is_open_match u.board a ≡ true → (more : List Step)
     → (r t : Run) → In (map (chosen i a) (awake_runs (is_asleep asleep a) (awake_walk true n asleep) (next u a))) r → In (awake_branches true (awake_walk true n) u (a ∷ asleep) (suc i) more) t
     → EndApart u r t
 cross n asleep u h i (Match s q) on o more r t j k v w f g same =
     let m = map_from (chosen i (Match s q)) (awake_runs (is_asleep asleep (Match s q)) (awake_walk true n asleep) (next u (Match s q))) r j in
     let after = begun u (Match s q) m.0.steps v (ap (λ (y : Run). fold u y.steps) m.2 ∙ f) in
     let has : partner v.board.sets q ≡ Some s = fold_kept m.0.steps after.0 v after.2 q s (pair_made u s q after.0 after.1) in
-    never_branch n (never n) (Match s q ∷ asleep) u h s q after.0 after.1 o (inl refl) (suc i) more t k w g (sym (same.sets.partners q) ∙ has)
+    never_branch n (never n) (Match s q ∷ asleep) u h.sound s q after.0 after.1 o (inl refl) (suc i) more t k w g (sym (same.sets.partners q) ∙ has)
 cross n asleep u h i a on o more r t j k v w f g same = absurd (cc)
 
-once_branches : (n : ℕ) → Once n → (u : World) → Sound u → (i : ℕ) (candidates : List Step) (asleep : List Step) → ((a : Step) → In candidates a → is_some (next u a) ≡ true)
+once_branches : (n : ℕ) → Once n → (u : World) → Calm u → (i : ℕ) (candidates : List Step) (asleep : List Step) → ((a : Step) → In candidates a → is_some (next u a) ≡ true)
     → ((a : Step) → In candidates a → is_open_match u.board a ≡ true) → EachTwo (EndApart u) (awake_branches true (awake_walk true n) u asleep i candidates)
 once_branches n ih u h i [] asleep on opens = tt
 once_branches n ih u h i (a ∷ more) asleep on opens =
@@ -176,9 +178,9 @@ once_branches n ih u h i (a ∷ more) asleep on opens =
     (once_branches n ih u h (suc i) more (a ∷ asleep) (λ b j. on b (inr j)) (λ b j. opens b (inr j)))
     (λ r t j k. cross n asleep u h i a (on a (inl refl)) (opens a (inl refl)) more r t j k)
 
-once_more : (n : ℕ) → Once n → (asleep : List Step) (u : World) → Sound u → (d : Decision) → View u d → EachTwo (EndApart u) (followed_awake true (awake_walk true n) asleep u d)
+once_more : (n : ℕ) → Once n → (asleep : List Step) (u : World) → Calm u → (d : Decision) → View u d → EachTwo (EndApart u) (followed_awake true (awake_walk true n) asleep u d)
 once_more n ih asleep u h (Forced a) is = once_behind n ih asleep u h a (stepped a) (λ r. refl) (next u a) refl
-once_more n ih asleep u h (Choice candidates) is = once_branches n ih u h 0 candidates asleep is.each is.opens
+once_more n ih asleep u h (Choice candidates) is = once_branches n ih u h 0 candidates asleep is.each (is.among (calm_none u h)).opens
 once_more n ih asleep u h (Leaf o) is = alone u (here (Ended o))
 
 once_none : (u : World) (d : Decision) → EachTwo (EndApart u) (stopped d)
@@ -189,7 +191,7 @@ once_none u (Leaf o) = alone u (here (Ended o))
 once : (n : ℕ) → Once n
 unfolding awake_walk
 once zero asleep u h = once_none u (decision u)
-once (suc n) asleep u h = once_more n (once n) asleep u h (decision u) (view u h)
+once (suc n) asleep u h = once_more n (once n) asleep u h (decision u) (view u h.sound)
 
-pub have_no_end_twice : (s : Program) (mode : Mode) (before : List Step) (u : World) → fold (start s mode) before ≡ Some u → (fuel : ℕ) → AllPairs (EndApart u) (sleeping_walk fuel u)
-have_no_end_twice s mode before u e fuel = each_pairs (EndApart u) (awake_walk true fuel [] u) (once fuel [] u (fold_sound before (start s mode) u e (start_sound s mode)))
+pub have_no_end_twice : (s : Program) → HasNoWaitany s → (mode : Mode) (before : List Step) (u : World) → fold (start s mode) before ≡ Some u → (fuel : ℕ) → AllPairs (EndApart u) (sleeping_walk fuel u)
+have_no_end_twice s none mode before u e fuel = each_pairs (EndApart u) (awake_walk true fuel [] u) (once fuel [] u (fold_calm before (start s mode) u e (start_calm s none mode)))

@@ -3,21 +3,21 @@ use Rattle.std.proofs.Common.{◌≡◌, ◌⊎◌, ℕ, zero, suc, ◌<◌, ◌
 use Rattle.std.proofs.lemmas.Bool.{cases_order, eqb-true}
 use Rattle.std.specs.Cmp.Derive.{both_true}
 use Rattle.mpd_model.specs.declared.step.CallId.{CallId}
-use Rattle.mpd_model.specs.declared.step.Step.TheVariants.{Match, Wake}
+use Rattle.mpd_model.specs.declared.step.Step.TheVariants.{Match, Wake, WakeAny}
 use Rattle.mpd_model.specs.declared.call.Call.{Call}
 use Rattle.mpd_model.specs.declared.call.CallKind.{CallKind}
-use Rattle.mpd_model.specs.declared.call.CallKind.TheVariants.{Send, Recv}
+use Rattle.mpd_model.specs.declared.call.CallKind.TheVariants.{Send, Recv, Wait, Waitany}
 use Rattle.mpd_model.specs.declared.call.Message.{Message}
 use Rattle.mpd_model.specs.declared.call.MatchSet.TheVariants.{Pair, Woke}
 use Rattle.mpd_model.specs.declared.call.MatchSet.TheVariants as set
-use Rattle.mpd_model.specs.World.{World, Board, RankWorld, call_id, id_eq, calls_of, kind_of, kind_at, partner, is_message_kind, is_any_or, fitting, sends_to, receives, eligible, message_of, is_barrier, is_buffered, is_done, awaited, complete_by, last_call}
-use Rattle.mpd_model.specs.Next.{waits, can_wake, writes_of, writes_by, woken_rank, wake_clears, woken, released, next}
+use Rattle.mpd_model.specs.World.{World, Board, RankWorld, call_id, id_eq, calls_of, kind_of, kind_at, partner, is_message_kind, is_any_or, fitting, sends_to, receives, eligible, message_of, is_buffered, is_done, awaited_by, awaited, complete_by, has_own_step, last_call}
+use Rattle.mpd_model.specs.Next.{waits, can_wake, writes_of, writes_by, own_writes, woken_rank, wake_writes, wake_clears, woken, any_handle, any_call, is_complete_some, can_wake_any, index_writes, any_writes, woken_any, released, next}
 use Rattle.mpd_model.specs.Decisions.{takes_any}
 use Rattle.mpd_model.specs.Why.{or_else}
 use Rattle.mpd_complete.specs.Same.{Same}
 use Rattle.mpd_laws.proofs.Eligible.{both_of, free_is_unpaired, known_within, message_known, fitting_send, fitting_recv, agrees, earlier_send_paired, earlier_recv_paired, one_send, eligible_from}
 use Rattle.mpd_complete.proofs.Sets.{partner_more, else_none, partner_by, Disjoint, sets_swapped, barrier_disjoint}
-use Rattle.mpd_complete.proofs.Moves.{moved, paired, awake, kind_kept, partner_formed, woken_is}
+use Rattle.mpd_complete.proofs.Moves.{moved, paired, awake, awake_any, kind_kept, partner_formed, woken_is}
 use Rattle.mpd_complete.proofs.Worlds.{taken}
 
 pub clash : {a : Bool} → a ≡ true → a ≡ false → ⊥
@@ -284,8 +284,39 @@ pub wake_paired : (w : World) (s r : CallId) (p : ℕ) (z : RankWorld) → slice
     → next (paired w s r) (Wake p) ≡ Some (moved (paired w s r) p (awake w p z) None (Some (last_call w.board p)))
 wake_paired w s r p z at can =
     let one = both_of (waits (slice_get w.ranks p)) _ can in
-    let two = both_of (not (is_barrier (kind_at w.board (last_call w.board p)))) _ one.1 in
+    let two = both_of (not (has_own_step (kind_at w.board (last_call w.board p)))) _ one.1 in
     let writes = writes_more w.board s r (awaited w.board (last_call w.board p)) two.1 in
     taken (can_wake (paired w s r) p) (woken (paired w s r) p) (both_true one.0 (both_true two.0 (complete_more w.board s r (awaited w.board (last_call w.board p)) two.1)))
-    ∙ ap (λ (v : World). Some v) (woken_is (paired w s r) p z at)
-    ∙ (λ i. Some (moved (paired w s r) p (woken_rank (writes i) (wake_clears w.board p) z) None (Some (last_call w.board p))))
+    ∙ ap (λ (v : World). Some v) (woken_is (paired w s r) p (wake_writes (paired w s r).board p) (wake_clears w.board p) z at)
+    ∙ (λ i. Some (moved (paired w s r) p (woken_rank (writes i ++ own_writes (kind_at w.board (last_call w.board p))) (wake_clears w.board p) z) None (Some (last_call w.board p))))
+
+-- a request that is complete stays so, and brings what it brought
+some_complete_more : (b : Board) (s r : CallId) (o : Option CallId) → is_complete_some b o ≡ true → is_complete_some (record b { sets = b.sets ++ Pair s r ∷ [] }) o ≡ true
+some_complete_more b s r None e = absurd (cc)
+some_complete_more b s r (Some c) e = let parts = both_of (not (has_own_step (kind_at b c))) _ e in both_true parts.0 (complete_more b s r (awaited b c) parts.1)
+
+held_writes_more : (b : Board) (s r : CallId) (o : Option CallId) → is_complete_some b o ≡ true → writes_by (record b { sets = b.sets ++ Pair s r ∷ [] }) o ≡ writes_by b o
+held_writes_more b s r None e = refl
+held_writes_more b s r (Some c) e = by_kind (kind_at b c) refl (both_of (not (has_own_step (kind_at b c))) _ e).1
+  where
+    -- a call that waits for another writes nothing of its own
+    nothing : (k : Option CallKind) → kind_at b c ≡ k → ((m : Option Message) → writes_of k m ≡ []) → writes_by (record b { sets = b.sets ++ Pair s r ∷ [] }) (Some c) ≡ writes_by b (Some c)
+    nothing k is none =
+        ap (λ (x : Option CallKind). writes_of x (option_and_then (λ d. message_of d (kind_at b d)) (partner (b.sets ++ Pair s r ∷ []) c))) is
+        ∙ none (option_and_then (λ d. message_of d (kind_at b d)) (partner (b.sets ++ Pair s r ∷ []) c))
+        ∙ sym (none (option_and_then (λ d. message_of d (kind_at b d)) (partner b.sets c)))
+        ∙ sym (ap (λ (x : Option CallKind). writes_of x (option_and_then (λ d. message_of d (kind_at b d)) (partner b.sets c))) is)
+
+    by_kind : (k : Option CallKind) → kind_at b c ≡ k → complete_by b (awaited_by c k) ≡ true → writes_by (record b { sets = b.sets ++ Pair s r ∷ [] }) (Some c) ≡ writes_by b (Some c)
+    by_kind (Some (Wait t)) is done = nothing (Some (Wait t)) is (λ m. refl)
+    by_kind (Some (Waitany a)) is done = nothing (Some (Waitany a)) is (λ m. refl)
+    by_kind k is done = writes_more b s r (Some c) done
+
+pub any_paired : (w : World) (s r : CallId) (p i : ℕ) (z : RankWorld) → slice_get w.ranks p ≡ Some z → can_wake_any w p i ≡ true
+    → next (paired w s r) (WakeAny p i) ≡ Some (moved (paired w s r) p (awake_any w p i z) None (Some (last_call w.board p)))
+any_paired w s r p i z at can =
+    let parts = both_of (waits (slice_get w.ranks p)) _ can in
+    let writes = held_writes_more w.board s r (any_call w p i) parts.1 in
+    taken (can_wake_any (paired w s r) p i) (woken_any (paired w s r) p i) (both_true parts.0 (some_complete_more w.board s r (any_call w p i) parts.1))
+    ∙ ap (λ (v : World). Some v) (woken_is (paired w s r) p (any_writes (paired w s r) p i) (any_handle w p i) z at)
+    ∙ (λ j. Some (moved (paired w s r) p (woken_rank (writes j ++ index_writes (kind_at w.board (last_call w.board p)) i) (any_handle w p i) z) None (Some (last_call w.board p))))

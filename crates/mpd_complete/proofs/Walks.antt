@@ -9,7 +9,6 @@ use Rattle.mpd_model.specs.declared.decision.Decision.TheVariants.{Forced, Choic
 use Rattle.mpd_model.specs.Program.{Program}
 use Rattle.mpd_model.specs.World.{World, start}
 use Rattle.mpd_model.specs.Next.{next, fold, enabled}
-use Rattle.mpd_model.specs.Decisions.{is_open_match}
 use Rattle.mpd_model.specs.Outcomes.{ending}
 use Rattle.mpd_explore.specs.declared.report.Ending.TheVariants.{Ended, Cut}
 use Rattle.mpd_explore.specs.Walk.{Run, here, runs_of, stopped}
@@ -17,7 +16,7 @@ use Rattle.mpd_complete.specs.Same.{Same}
 use Rattle.mpd_complete.specs.CompleteLaws.{Joins, was_cut, IsWhole, IsListed, GoesOnToAnEnd, IsRun, apart}
 use Rattle.mpd_complete.proofs.Worlds.{same_refl, same_sym, same_trans, ending_same, follows, follows_all, joined_from}
 use Rattle.mpd_meaning.proofs.Members.{In, contains_in}
-use Rattle.mpd_complete.proofs.Invariants.{Sound, keeps, fold_sound, start_sound, stays_named}
+use Rattle.mpd_complete.proofs.Invariants.{Sound, IsNamed, keeps, fold_sound, start_sound, stays_named}
 use Rattle.mpd_complete.proofs.Diamond.{diamond, steady}
 use Rattle.mpd_complete.proofs.Views.{world_of, in_enabled, from_enabled, Stuck, LeafView, View}
 
@@ -40,13 +39,13 @@ pub record Fronted (steps : List Step) (a : Step) (u v : World) : Type 0 where
   pub leads : fold u rest ≡ Some end
   pub either : WasTaken steps rest v end ⊎ IsLeft steps rest a v end
 
-pub front : (steps : List Step) (a : Step) (w u v : World) → Sound w → is_open_match w.board a ≡ false → next w a ≡ Some u → fold w steps ≡ Some v → Fronted steps a u v
+pub front : (steps : List Step) (a : Step) (w u v : World) → Sound w → IsNamed w.board a → next w a ≡ Some u → fold w steps ≡ Some v → Fronted steps a u v
 front [] a w u v h named e f =
     let is : w ≡ v = cc in
     record { rest = []; end = u; leads = refl; either = inr (record { as_long = refl; world = u; leads = subst (λ (z : World). next z a ≡ Some u) is e; same = same_refl u }) }
 front (b ∷ steps) a w u v h named e f =
     let after = joined_from (λ x. fold x steps) (next w b) v f in
-    elim (steady w h.known a b u after.0 named e after.1) [
+    elim (steady w h a b u after.0 named e after.1) [
       | inl same ↦
           let is : u ≡ after.0 = some_same (sym e ∙ ap (next w) same ∙ after.1) in
           record { rest = steps; end = v; leads = ap (λ (z : World). fold z steps) is ∙ after.2; either = inl (refl, same_refl v) }
@@ -178,7 +177,7 @@ listed_from runs u w k = record { run = k.run; listed = contains_in runs k.run k
 pub commute : (s : Program) (mode : Mode) (steps : List Step) (w : World) → fold (start s mode) steps ≡ Some w
     → (a b : Step) (u v : World) → next w a ≡ Some u → next w b ≡ Some v → a ≢ b → apart a b ≡ true → Joins u v a b
 commute s mode steps w e a b u v f g ne off =
-    elim (diamond w (fold_sound steps (start s mode) w e (start_sound s mode)).known a b u v f g off) [
+    elim (diamond w (fold_sound steps (start s mode) w e (start_sound s mode)) a b u v f g off) [
       | inl same ↦ absurd (ne same)
       | inr joins ↦ joins
     ]

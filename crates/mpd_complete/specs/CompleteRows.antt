@@ -1,10 +1,11 @@
 -- Worked rows of walks: how their runs end, and that none is cut.
 use Rattle.std.specs.Prelude.{◌≡◌, ℕ, pos, Bool, true, false, map, List, [], ◌∷◌, length, Option, Some, None, codes, refl}
 use Rattle.std.specs.List.{list_any}
+use Rattle.std.proofs.Common.{arith}
 use Rattle.mpd_model.specs.declared.place.DeclKind.TheVariants.{Variable}
 use Rattle.mpd_model.specs.declared.expr.BinaryOp.TheVariants.{Equal, Less, Subtract}
 use Rattle.mpd_model.specs.declared.step.Step.{Step}
-use Rattle.mpd_model.specs.declared.step.Step.TheVariants.{Match, Wake}
+use Rattle.mpd_model.specs.declared.step.Step.TheVariants.{Match, Wake, WakeAny}
 use Rattle.mpd_model.specs.declared.call.Mode.TheVariants.{Rendezvous, Buffered}
 use Rattle.mpd_model.specs.declared.stmt.Simple.TheVariants as st
 use Rattle.mpd_model.specs.declared.outcome.Outcome.TheVariants as o
@@ -17,7 +18,7 @@ use Rattle.mpd_model.specs.Decisions.{decision}
 use Rattle.mpd_explore.specs.declared.report.Ending.{Ending}
 use Rattle.mpd_explore.specs.declared.report.Ending.TheVariants.{Ended}
 use Rattle.mpd_explore.specs.Walk.{Run, walk}
-use Rattle.mpd_complete.specs.CompleteLaws.{was_cut, apart}
+use Rattle.mpd_complete.specs.CompleteLaws.{was_cut, apart, HasNoWaitany}
 use Rattle.mpd_complete.specs.Sleeping.{awake_walk, sleeping_walk}
 
 abbrev n : ℕ → Term
@@ -55,11 +56,15 @@ pub row_cut : map {B = Bool} (λ (f : ℕ). list_any (λ r. was_cut r.ending) (w
 unfolding walk decision
 row_cut = refl
 
--- two matches of one receive are the only steps here that are not apart
+-- two matches of one receive, and two steps of one rank's waitany, are the only steps here that are not apart
 pub row_apart : map {B = Bool} (λ (s : Step × Step). apart s.0 s.1)
-    ((Match (call_id 1 0) (call_id 0 0), Match (call_id 2 0) (call_id 0 0)) ∷ (Match (call_id 1 0) (call_id 0 0), Match (call_id 2 0) (call_id 0 1)) ∷ (Wake 1, Match (call_id 1 0) (call_id 0 0)) ∷ [])
-    ≡ false ∷ true ∷ true ∷ []
+    ((Match (call_id 1 0) (call_id 0 0), Match (call_id 2 0) (call_id 0 0)) ∷ (Match (call_id 1 0) (call_id 0 0), Match (call_id 2 0) (call_id 0 1)) ∷ (Wake 1, Match (call_id 1 0) (call_id 0 0)) ∷ (WakeAny 1 0, WakeAny 1 1) ∷ (WakeAny 1 0, WakeAny 2 0) ∷ (Wake 1, WakeAny 1 0) ∷ [])
+    ≡ false ∷ true ∷ true ∷ false ∷ true ∷ true ∷ []
 row_apart = refl
+
+-- no statement of it is a waitany
+pub row_none : HasNoWaitany racing
+row_none = (((omega arith, (omega arith, tt)), (omega arith, tt)), tt)
 
 -- ---- a walk that sleeps
 

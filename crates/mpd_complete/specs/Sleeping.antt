@@ -15,7 +15,7 @@ use Rattle.mpd_model.specs.Decisions.{decision}
 use Rattle.mpd_explore.specs.declared.report.Ending.TheVariants.{Ended}
 use Rattle.mpd_explore.specs.Walk.{Run, here, stepped, chosen, runs_of, stopped, walk}
 use Rattle.mpd_complete.specs.Same.{Same}
-use Rattle.mpd_complete.specs.CompleteLaws.{IsWhole, IsComplete, IsRun}
+use Rattle.mpd_complete.specs.CompleteLaws.{HasNoWaitany, IsWhole, IsComplete, IsRun}
 
 -- ---- steps that are asleep: matches of receives of any source
 
@@ -66,7 +66,7 @@ WalksWhereNothingSleeps = (fuel : ℕ) (u : World) → awake_walk false fuel [] 
 -- It is complete, as the walk with every order is.
 abbrev pub SleepingWalksAreComplete : Type 0
 SleepingWalksAreComplete =
-    (s : Program) (mode : Mode) (before : List Step) (u : World) → fold (start s mode) before ≡ Some u
+    (s : Program) → HasNoWaitany s → (mode : Mode) (before : List Step) (u : World) → fold (start s mode) before ≡ Some u
     → (fuel : ℕ) → IsWhole (sleeping_walk fuel u)
     → (steps : List Step) (w : World) → fold u steps ≡ Some w → IsComplete (sleeping_walk fuel u) fuel u w steps
 
@@ -74,10 +74,10 @@ SleepingWalksAreComplete =
 abbrev pub EndApart : World → Run → Run → Type 0
 EndApart u r t = (v w : World) → fold u r.steps ≡ Some v → fold u t.steps ≡ Some w → Same v w → ⊥
 
--- It has no end twice.
+-- It has no end twice. Two waitany that are answered in either order can come to one world.
 abbrev pub SleepingWalksHaveNoEndTwice : Type 0
 SleepingWalksHaveNoEndTwice =
-    (s : Program) (mode : Mode) (before : List Step) (u : World) → fold (start s mode) before ≡ Some u → (fuel : ℕ) → AllPairs (EndApart u) (sleeping_walk fuel u)
+    (s : Program) → HasNoWaitany s → (mode : Mode) (before : List Step) (u : World) → fold (start s mode) before ≡ Some u → (fuel : ℕ) → AllPairs (EndApart u) (sleeping_walk fuel u)
 
 abbrev pub RunsOfSleepingWalksAreRuns : Type 0
 RunsOfSleepingWalksAreRuns =
