@@ -9,9 +9,9 @@ use Rattle.mpd_model.specs.declared.token.Mark.TheVariants as m
 use Rattle.mpd_model.specs.Canonical.{mark_text, parts_text}
 use Rattle.mpd_model.specs.Declaration.{Declared}
 use Rattle.mpd_model.specs.Faults.{fault}
-use Rattle.mpd_model.specs.Grammar.{chain, bracket, place_inside, rounds, unary, atom, level, expr, target, statement_place, source, status, fill, form_of}
+use Rattle.mpd_model.specs.Grammar.{chain, bracket, place_inside, rounds, unary, atom, level, expr, target, statement_place, statement_name, source, status, fill, form_of}
 use Rattle.mpd_model.specs.Input.{Outcome, start_of, token, spelling, place, advanced, refusal, same_mark, sees, after, expect, spend, slot_in, seek}
-use Rattle.mpd_model.specs.Parts.{Hole, mark_hole, term_hole, target_hole, source_hole, status_hole, Contents, filled}
+use Rattle.mpd_model.specs.Parts.{Hole, mark_hole, term_hole, target_hole, name_hole, source_hole, status_hole, Contents, filled}
 use Rattle.mpd_model.specs.Term.{lit, cell, Target}
 use Rattle.mpd_model.specs.Tokens.{reserved, tokens_after, front, sign, word, number}
 
@@ -25,8 +25,11 @@ at_x = record { declaration = 0; first = 0; cells = 1 }
 abbrev into_x : Target
 into_x = record { place = at_x; index = None }
 
+abbrev at_a : Place
+at_a = record { declaration = 1; first = 1; cells = 10 }
+
 abbrev into_a : ℕ → Target
-into_a k = record { place = record { declaration = 1; first = 1; cells = 10 }; index = Some (lit (pos k)) }
+into_a k = record { place = at_a; index = Some (lit (pos k)) }
 
 -- ---- marks
 
@@ -39,7 +42,7 @@ abbrev is_found : {A : Type 0} → Option A → ℕ
 is_found None = 0
 is_found (Some a) = 1
 
-pub row_forms : map (λ k. is_found (form_of k.1)) reserved ≡ 0 ∷ 0 ∷ 0 ∷ 0 ∷ 0 ∷ 0 ∷ 0 ∷ 1 ∷ 1 ∷ 1 ∷ 1 ∷ 1 ∷ 1 ∷ 1 ∷ 1 ∷ 1 ∷ 0 ∷ 1 ∷ 0 ∷ 0 ∷ 0 ∷ 0 ∷ 0 ∷ 0 ∷ 0 ∷ []
+pub row_forms : map (λ k. is_found (form_of k.1)) reserved ≡ 0 ∷ 0 ∷ 0 ∷ 0 ∷ 0 ∷ 0 ∷ 0 ∷ 1 ∷ 1 ∷ 1 ∷ 1 ∷ 1 ∷ 1 ∷ 1 ∷ 1 ∷ 1 ∷ 1 ∷ 1 ∷ 0 ∷ 0 ∷ 0 ∷ 0 ∷ 0 ∷ 0 ∷ 0 ∷ []
 row_forms = refl
 
 -- ---- what fills holes
@@ -53,6 +56,9 @@ filled_by hs text = contents_of (fill hs (λ c. c) (record (start_of text) { dec
 
 abbrev source_and_tag : List Hole
 source_and_tag = source_hole ∷ mark_hole m.Tag ∷ term_hole ∷ []
+
+abbrev two_names : List Hole
+two_names = name_hole Variable ∷ mark_hole m.To ∷ name_hole Variable ∷ []
 
 abbrev target_and_status : List Hole
 target_and_status = target_hole Variable ∷ status_hole ∷ []
@@ -89,6 +95,15 @@ pub row_no_end : filled_by target_and_status (codes "x status x x") ≡ Err (fau
 unfolding chain bracket place_inside rounds unary atom level expr target statement_place source status token spelling place advanced refusal same_mark sees after expect spend slot_in seek tokens_after front sign word number
 row_no_end = refl
 
+-- an array is named as a variable alone is
+pub row_names : filled_by two_names (codes "a to x;") ≡ Ok (at_a, (at_x, tt))
+unfolding chain bracket place_inside rounds unary atom level expr target statement_place statement_name source status token spelling place advanced refusal same_mark sees after expect spend slot_in seek tokens_after front sign word number
+row_names = refl
+
+pub row_name_with_an_index : filled_by two_names (codes "x to a[1];") ≡ Err (fault f.Expected 6)
+unfolding chain bracket place_inside rounds unary atom level expr target statement_place statement_name source status token spelling place advanced refusal same_mark sees after expect spend slot_in seek tokens_after front sign word number
+row_name_with_an_index = refl
+
 -- ---- how they are written
 
 abbrev written_by : (hs : List Hole) → Contents hs → List ℕ
@@ -105,6 +120,9 @@ row_source_text = refl
 pub row_status_text : written_by target_and_status (into_x, (Some (record { source = into_a 1; tag = into_x }), tt)) ≡ codes "x status a[1] x"
 unfolding digits
 row_status_text = refl
+
+pub row_names_text : written_by two_names (at_a, (at_x, tt)) ≡ codes "a to x"
+row_names_text = refl
 
 pub row_no_status_text : written_by target_and_status (into_x, (None, tt)) ≡ codes "x"
 row_no_status_text = refl

@@ -13,6 +13,7 @@ pub mod LeftRows
 pub mod FormRows
 pub mod RequestRows
 pub mod RequestReaderRows
+pub mod VersionReaderRows
 pub mod WildcardRows
 pub mod WildcardReaderRows
 pub mod BarrierRows
@@ -20,3 +21,4 @@ pub mod KindRows
 pub mod SendRows
 pub mod BarrierReaderRows
 pub mod DecisionRows
+pub mod AnyRows

@@ -318,7 +318,7 @@ pub rv_e74 : reading (codes "mpd -1;") ≡ Err (fault f.Expected 4)
 unfolding reading script header version ranks decls decls_from decl declarator single array_size body stmts stmt block if_statement otherwise while_statement target statement_place source status assignment expr level chain atom place_inside bracket rounds unary count spend seek slot_in fresh add expect after sees same_mark advanced place spelling token refusal tokens_after front sign word number
 rv_e74 = refl
 
-pub rv_e75 : reading (codes "mpd 2$") ≡ Err (fault f.NotInVersion 4)
+pub rv_e75 : reading (codes "mpd 3$") ≡ Err (fault f.NotInVersion 4)
 unfolding reading script header version ranks decls decls_from decl declarator single array_size body stmts stmt block if_statement otherwise while_statement target statement_place source status assignment expr level chain atom place_inside bracket rounds unary count spend seek slot_in fresh add expect after sees same_mark advanced place spelling token refusal tokens_after front sign word number
 rv_e75 = refl
 
@@ -666,7 +666,7 @@ rv_a6 = refl
 pub rv_a7 : told (opening s1 Rendezvous) (lines_of (codes "back" ++ replicate 4092 32 ++ 13 ∷ 13 ∷ 10 ∷ [])) ≡ codes "refused bad-word\n"
 rv_a7 = refl
 
-pub rv_a8 : map {B = List ℕ} (λ z. (line_answer (first_standing s1 Rendezvous) z).0) (codes "local 1234567890" ∷ codes "local 999999999" ∷ codes "match 0.0 0.0" ∷ codes "match 00.000 1.0" ∷ codes "wake 00" ∷ codes "local 0 " ∷ codes "local\t0" ∷ codes "goto 1" ∷ codes "wakeany 0 0" ∷ codes "local 000000000" ∷ codes "release\t" ∷ []) ≡ codes "refused bad-word\n" ∷ codes "refused not-enabled\n" ∷ codes "refused not-enabled\n" ∷ codes "refused not-enabled\n" ∷ codes "refused not-enabled\n" ∷ codes "ok 1\n" ∷ codes "ok 1\n" ∷ codes "refused not-before\n" ∷ codes "refused bad-word\n" ∷ codes "ok 1\n" ∷ codes "refused not-enabled\n" ∷ []
+pub rv_a8 : map {B = List ℕ} (λ z. (line_answer (first_standing s1 Rendezvous) z).0) (codes "local 1234567890" ∷ codes "local 999999999" ∷ codes "match 0.0 0.0" ∷ codes "match 00.000 1.0" ∷ codes "wake 00" ∷ codes "local 0 " ∷ codes "local\t0" ∷ codes "goto 1" ∷ codes "wakeany 0 0" ∷ codes "local 000000000" ∷ codes "release\t" ∷ []) ≡ codes "refused bad-word\n" ∷ codes "refused not-enabled\n" ∷ codes "refused not-enabled\n" ∷ codes "refused not-enabled\n" ∷ codes "refused not-enabled\n" ∷ codes "ok 1\n" ∷ codes "ok 1\n" ∷ codes "refused not-before\n" ∷ codes "refused not-enabled\n" ∷ codes "ok 1\n" ∷ codes "refused not-enabled\n" ∷ []
 unfolding digits
 rv_a8 = refl
 

@@ -28,6 +28,7 @@ abbrev at_limits : List ℕ → Input
 at_limits text = record {
   tokens = tokens text;
   end = length text;
+  version = 1;
   decls = record { kind = Variable; name = codes "a"; size = Some 1024 } ∷ [];
   lines = replicate 4096 1;
   budget = 0;
@@ -46,7 +47,7 @@ pub row_end : reading (codes "mpd 1;ranks 1;print") ≡ Err (fault f.Expected 19
 unfolding reading script header version ranks decls decls_from decl declarator single array_size body stmts stmt block if_statement otherwise while_statement target statement_place source status assignment expr level chain atom place_inside bracket rounds unary count spend seek slot_in fresh add expect after sees same_mark advanced place spelling token refusal tokens_after front sign word number
 row_end = refl
 
-pub row_version : reading (codes "mpd 2;") ≡ Err (fault f.NotInVersion 4)
+pub row_version : reading (codes "mpd 3;") ≡ Err (fault f.NotInVersion 4)
 unfolding reading script header version ranks decls decls_from decl declarator single array_size body stmts stmt block if_statement otherwise while_statement target statement_place source status assignment expr level chain atom place_inside bracket rounds unary count spend seek slot_in fresh add expect after sees same_mark advanced place spelling token refusal tokens_after front sign word number
 row_version = refl
 

@@ -1,6 +1,7 @@
 -- Statements that hold no other, as trees.
 use Rattle.std.specs.Prelude.{Option, Some, None}
 use Rattle.std.specs.Option.{option_map}
+use Rattle.mpd_model.specs.declared.place.Place.{Place}
 use Rattle.mpd_model.specs.declared.stmt.RecvStmt.{RecvStmt}
 use Rattle.mpd_model.specs.declared.stmt.Simple.TheVariants as st
 use Rattle.mpd_model.specs.Term.{Term, Target}
@@ -45,6 +46,9 @@ irecv_any request into source tag status = simple (st.Irecv (record { request = 
 
 abbrev pub wait : Target → Tree
 wait request = simple (st.Wait request)
+
+abbrev pub waitany : Place → Target → Tree
+waitany requests into = simple (st.Waitany (record { requests = requests; into = into }))
 
 abbrev pub barrier : Tree
 barrier = simple st.Barrier

@@ -480,7 +480,7 @@ pub row_4097 : map {B = Outcome (List Tree)} (body_after 4095) (codes "x=1;x=1;"
 unfolding reading script header version ranks decls decls_from decl declarator single array_size body stmts stmt block if_statement otherwise while_statement target statement_place source status assignment expr level chain atom place_inside bracket rounds unary count spend seek slot_in fresh add expect after sees same_mark advanced place spelling token refusal tokens_after front sign word number
 row_4097 = refl
 
-pub row_4096 : body_after 4095 (codes "x=1;") ≡ Ok (assign (whole x) (n 1) ∷ [], record { tokens = []; end = 4; decls = declared (codes "x") None ∷ []; lines = replicate 4096 1; budget = 64 })
+pub row_4096 : body_after 4095 (codes "x=1;") ≡ Ok (assign (whole x) (n 1) ∷ [], record { tokens = []; end = 4; version = 1; decls = declared (codes "x") None ∷ []; lines = replicate 4096 1; budget = 64 })
 unfolding reading script header version ranks decls decls_from decl declarator single array_size body stmts stmt block if_statement otherwise while_statement target statement_place source status assignment expr level chain atom place_inside bracket rounds unary count spend seek slot_in fresh add expect after sees same_mark advanced place spelling token refusal tokens_after front sign word number
 row_4096 = refl
 
