@@ -27,6 +27,14 @@ const ENDLESS: &[u8] = b"mpd 1; ranks 1;\nwhile 1 { }";
 const RACE: &[u8] =
     b"mpd 1; ranks 3; var x; var y;\nif rank == 0 { recv x from any tag any; recv y from 2 tag any; } else { send rank to 0 tag 0; }";
 
+/// A wait for any of two messages, which have both come before the receive of any source takes its own; then one for the other, and
+/// one for none.
+const ANY: &[u8] =
+    b"mpd 2; ranks 3; var x; var k; req r[2];\nif rank == 0 { irecv r[0] x from 1 tag 0; irecv r[1] x from 2 tag 0;\nwaitany r to k;\nprint k;\nwaitany r to k; waitany r to k; }\nif rank > 0 { send rank to 0 tag 0; }\nif rank == 2 { isend r[0] 7 to 2 tag 1; recv x from any tag 1; }";
+
+/// The match of the third rank's second and third call, of its message to itself.
+const OWN: Step = Step::Match(CallId { rank: 2, index: 1 }, CallId { rank: 2, index: 2 });
+
 /// The match of the second rank's first call with the first rank's.
 const BACKWARD: Step = Step::Match(CallId { rank: 1, index: 0 }, CallId { rank: 0, index: 0 });
 
@@ -193,6 +201,66 @@ const DRIVES: &[Drive] = &[
             (Act::Take(BACKWARD), 7),
             (Act::Undo, 6),
             (Act::Copies(BACKWARD, 7), 6),
+        ],
+    },
+    Drive {
+        script: ANY,
+        watched: Some(Break::Line(4)),
+        acts: &[
+            (
+                Act::Run {
+                    max: 100,
+                    stop: Stop {
+                        steps: 18,
+                        cause: Cause::Choice,
+                    },
+                },
+                18,
+            ),
+            (
+                Act::Chooses(&[
+                    Step::WakeAny { rank: 0, index: 0 },
+                    Step::WakeAny { rank: 0, index: 1 },
+                ]),
+                18,
+            ),
+            (
+                Act::Refuses(Step::WakeAny { rank: 0, index: 2 }, ApplyFault::NotEnabled),
+                18,
+            ),
+            (Act::Take(Step::WakeAny { rank: 0, index: 1 }), 19),
+            (
+                Act::RunBack(Stop {
+                    steps: 1,
+                    cause: Cause::Break(0),
+                }),
+                18,
+            ),
+            (Act::Take(Step::WakeAny { rank: 0, index: 1 }), 19),
+            (
+                Act::Run {
+                    max: 100,
+                    stop: Stop {
+                        steps: 2,
+                        cause: Cause::Choice,
+                    },
+                },
+                21,
+            ),
+            (Act::Chooses(&[Step::WakeAny { rank: 0, index: 0 }]), 21),
+            (Act::Copies(Step::WakeAny { rank: 0, index: 0 }, 21), 21),
+            (Act::Take(Step::WakeAny { rank: 0, index: 0 }), 22),
+            (
+                Act::Run {
+                    max: 100,
+                    stop: Stop {
+                        steps: 4,
+                        cause: Cause::Choice,
+                    },
+                },
+                26,
+            ),
+            (Act::Chooses(&[OWN]), 26),
         ],
     },
 ];

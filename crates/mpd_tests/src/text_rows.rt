@@ -112,11 +112,19 @@ const SPACED: &str =
 const CANONICAL: &str =
     "mpd 1;\nranks 2;\nreq r[2];\nvar x;\nisend r[x] (1 + 2) * 3 to 1 tag 0;\nirecv r[1] x from 1 tag 0;\nirecv r[0] x from any tag any status x x;\nissend r[1] x to 1 tag 2;\nwait r[x];\n";
 
+/// A script of version 2, whose handles stand without an index behind `waitany`.
+const SECOND: &str =
+    "mpd 02;ranks 1;req r[2];req s;var i;var a[3];waitany r to\ni;if i{waitany s to a [(i)];}#";
+
+const SECOND_PRINTED: &str =
+    "mpd 2;\nranks 1;\nreq r[2];\nreq s;\nvar i;\nvar a[3];\nwaitany r to i;\nif i {\n  waitany s to a[i];\n}\n";
+
 #[test]
 fn prints_what_is_needed(rt: HostRuntime) {
     prints(&rt, rt.alloc(), FIRST, FIRST_PRINTED);
     prints(&rt, rt.alloc(), STATEMENTS.as_bytes(), STATEMENTS_PRINTED);
     prints(&rt, rt.alloc(), SPACED.as_bytes(), CANONICAL);
+    prints(&rt, rt.alloc(), SECOND.as_bytes(), SECOND_PRINTED);
 }
 
 /// A thousand statements in 64 blocks.
@@ -168,6 +176,7 @@ const STEPS: &[Words] = &[
         Some(Step::Match(SEND, CallId { rank: 1, index: 2 })),
     ),
     Words("wake 000000001", Some(Step::Wake(1))),
+    Words("wakeany 1 012", Some(Step::WakeAny { rank: 1, index: 12 })),
     Words("release", Some(Step::Release)),
     Words("", None),
     Words("local", None),
@@ -175,6 +184,10 @@ const STEPS: &[Words] = &[
     Words("match 0.0", None),
     Words("match 0 1", None),
     Words("wake 0000000001", None),
+    Words("wakeany 0", None),
+    Words("wakeany 0.1", None),
+    Words("wakeany 0 1 2", None),
+    Words("wakeany 0 1234567890", None),
     Words("release 1", None),
     Words("Local 0", None),
     Words("local 0\r", None),
@@ -190,6 +203,7 @@ const TEXTS: &[(Step, &str)] = &[
     (Step::Local(15), "local 15"),
     (Step::Match(THIRD, RECV), "match 0.2 1.0"),
     (Step::Wake(0), "wake 0"),
+    (Step::WakeAny { rank: 2, index: 13 }, "wakeany 2 13"),
     (Step::Release, "release"),
 ];
 

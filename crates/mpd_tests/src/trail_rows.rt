@@ -39,8 +39,21 @@ struct Session {
 /// Two ranks that meet at a barrier.
 const MEETING: &[u8] = b"mpd 1; ranks 2;\nbarrier;";
 
-/// A message, forward and back; a release, which waits for all ranks, is taken back, and taken again; and steps that are undone,
-/// taken again and dropped.
+/// A rank that sends to itself, and waits for any of its two requests, twice.
+const ANY: &[u8] =
+    b"mpd 2; ranks 1; var x; var k; req r[2];\nirecv r[1] x from 0 tag 0;\nisend r[0] 7 to 0 tag 0;\nwaitany r to k;\nwaitany r to k;";
+
+/// Its receive, its send, and its waits.
+const OWN_RECV: CallId = CallId { rank: 0, index: 0 };
+
+const OWN_SEND: CallId = CallId { rank: 0, index: 1 };
+
+const FIRST_WAIT: CallId = CallId { rank: 0, index: 2 };
+
+const SECOND_WAIT: CallId = CallId { rank: 0, index: 3 };
+
+/// A message, forward and back; a release, which waits for all ranks, is taken back, and taken again; steps that are undone, taken
+/// again and dropped; and a wait for any of two requests, which goes on by one of them, and by the other in its place.
 const SESSIONS: &[Session] = &[
     Session {
         script: FIRST,
@@ -160,6 +173,46 @@ const SESSIONS: &[Session] = &[
         depth: 1,
         kept: 2,
         shown: &[],
+    },
+    Session {
+        script: ANY,
+        commands: &[
+            Command::Apply(Step::Local(0)),
+            Command::Apply(Step::Local(0)),
+            Command::Apply(Step::Local(0)),
+            Command::Apply(Step::WakeAny { rank: 0, index: 1 }),
+            Command::Apply(Step::Wake(0)),
+            Command::Apply(Step::Match(OWN_SEND, OWN_RECV)),
+            Command::Apply(Step::WakeAny { rank: 0, index: 2 }),
+            Command::Apply(Step::WakeAny { rank: 0, index: 1 }),
+            Command::Undo,
+            Command::Apply(Step::WakeAny { rank: 0, index: 0 }),
+            Command::Apply(Step::Local(0)),
+            Command::Apply(Step::WakeAny { rank: 0, index: 0 }),
+        ],
+        replies: &[
+            Reply::Done,
+            Reply::Done,
+            Reply::Done,
+            Reply::NotEnabled,
+            Reply::NotEnabled,
+            Reply::Done,
+            Reply::NotEnabled,
+            Reply::Done,
+            Reply::Done,
+            Reply::Done,
+            Reply::Done,
+            Reply::NotEnabled,
+        ],
+        depth: 6,
+        kept: 6,
+        shown: &[
+            (Part::Call(FIRST_WAIT), "waitany 0 2"),
+            (Part::Call(SECOND_WAIT), "waitany 0 2"),
+            (Part::Rank(0), "blocked 3"),
+            (Part::Set(0), "pair 0.1 0.0"),
+            (Part::Set(1), "woke 0.2"),
+        ],
     },
 ];
 

@@ -79,7 +79,7 @@ fn check_all<R: Clock + Eprint + Threads + Wait + Sync + AllocGlobal, W: Sink>(
         &progress,
     )?;
     if is_terminal {
-        let _unwritten = say_tally(rt, tally, options.until_bad);
+        let _unwritten = say_tally(rt, code, tally, options.until_bad);
     }
     Ok(tally)
 }
@@ -102,8 +102,8 @@ fn check_one<R: Clock + Eprint + AllocGlobal, W: Sink>(
     let (mode, code) = script;
     let plan = plan_of(options);
     let tally = check_piece(rt.alloc(), code, *mode, plan, number, sink, &mut watch)?;
-    if is_terminal && !tally.is_whole() {
-        let _unwritten = say_part(rt, tally, options.until_bad);
+    if is_terminal && !tally.tells_all(code) {
+        let _unwritten = say_part(rt, code, tally, options.until_bad);
     }
     Ok(tally)
 }
@@ -140,7 +140,8 @@ fn status_of<R: Clock + Eprint + Threads + Wait + Sync + AllocGlobal, W: Sink>(
             return Ok(0);
         }
     };
-    Ok(tally.status(options.complete))
+    let (_, code) = script;
+    Ok(tally.status(options.complete, code))
 }
 
 /// Looks for deadlocks in a script, and answers the status of the program. The number of workers is tested first.

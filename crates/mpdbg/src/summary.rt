@@ -1,6 +1,7 @@
 //! What a report tells of all runs, in one line for a person (docs/FORMATS.md, "Reports").
 
 use mpd_check::counts::Tally;
+use mpd_code::code::Code;
 use std::io;
 
 /// Says how many of something there are, and what it is.
@@ -40,29 +41,56 @@ fn say_more<R: Eprint>(rt: &R, tally: Tally, until_bad: bool) -> io::Result<()> 
     eprint!(rt; "{runs} {are} listed, and there are more ({option})")
 }
 
-/// Says what wasn't tried.
-pub(crate) fn say_part<R: Eprint>(rt: &R, tally: Tally, until_bad: bool) -> io::Result<()> {
-    eprint!(rt; "not everything was tried: ")?;
-    if tally.more {
-        say_more(rt, tally, until_bad)?;
-    }
+/// Says how many runs were cut.
+fn say_cut<R: Eprint>(rt: &R, tally: Tally) -> io::Result<()> {
     if tally.cut == 0 {
-        return eprintln!(rt; "");
+        return Ok(());
     }
     if tally.more {
         eprint!(rt; ", ")?;
     }
     let cut = tally.cut;
     let are = if cut == 1 { "run was" } else { "runs were" };
-    eprintln!(rt; "{cut} {are} cut (--fuel)")
+    eprint!(rt; "{cut} {are} cut (--fuel)")
+}
+
+/// Says what a report leaves open of a script with a waitany, even where it is whole.
+fn say_waitany<R: Eprint>(rt: &R, tally: Tally) -> io::Result<()> {
+    if !tally.is_whole() {
+        eprint!(rt; ", ")?;
+    }
+    eprint!(rt; "what a waitany takes may depend on the order of steps")
+}
+
+/// Says what wasn't tried.
+pub(crate) fn say_part<R: Eprint>(
+    rt: &R,
+    code: &Code,
+    tally: Tally,
+    until_bad: bool,
+) -> io::Result<()> {
+    eprint!(rt; "not everything was tried: ")?;
+    if tally.more {
+        say_more(rt, tally, until_bad)?;
+    }
+    say_cut(rt, tally)?;
+    if !code.has_no_waitany() {
+        say_waitany(rt, tally)?;
+    }
+    eprintln!(rt; "")
 }
 
 /// Says in one line what a report tells of all runs: that every way is listed in which the script can end, or what wasn't tried.
 /// Where a listing ends with the first deadlock or trap, that is why there are more.
-pub(crate) fn say_tally<R: Eprint>(rt: &R, tally: Tally, until_bad: bool) -> io::Result<()> {
-    if tally.is_whole() {
+pub(crate) fn say_tally<R: Eprint>(
+    rt: &R,
+    code: &Code,
+    tally: Tally,
+    until_bad: bool,
+) -> io::Result<()> {
+    if tally.tells_all(code) {
         say_whole(rt, tally)
     } else {
-        say_part(rt, tally, until_bad)
+        say_part(rt, code, tally, until_bad)
     }
 }
