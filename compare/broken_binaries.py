@@ -19,7 +19,7 @@ from collections import Counter
 from concurrent.futures import ProcessPoolExecutor
 from typing import NamedTuple
 
-from cases import KINDS, random_case, shares
+from cases import KINDS_OF_1, random_case, shares
 from run import expected, run
 from runs import limit
 
@@ -135,7 +135,7 @@ def prepare(chosen):
     global TRIAL
     limit(chosen.memory, chosen.output)
     cases = [random_case(kind, chosen.seed, number, False)
-             for kind, count in shares(chosen.count, KINDS).items() for number in range(count)]
+             for kind, count in shares(chosen.count, KINDS_OF_1).items() for number in range(count)]
     random.Random(chosen.seed).shuffle(cases)
     TRIAL = Trial(cases, [expected(case) for case in cases], chosen.seconds)
 

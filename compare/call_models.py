@@ -167,7 +167,8 @@ def lowered(row):
 def code_looks(row):
     script = row.read()
     count = len(list(statements_of(script.body)))
-    told = [count, 0, script.ranks, script.cells, script.handles, count, script.body[0].line, len(script.names), 'true']
+    old = 'false' if explorer.has_waitany(script.body) else 'true'
+    told = [count, 0, script.ranks, script.cells, script.handles, count, script.body[0].line, len(script.names), 'true', old]
     return unchanged(code_text(script), line(' '.join(map(str, told))))
 
 
@@ -233,7 +234,8 @@ def stepped(row, step, answer):
 def record_told(step):
     """What a record says of a step that was taken."""
     kind, *rest = step.split()
-    return {'match': 'matched', 'release': 'released', 'wake': ' '.join(['woke', *rest])}.get(kind, step)
+    woke = ' '.join(['woke', *rest[:1]])
+    return {'match': 'matched', 'release': 'released', 'wake': woke, 'wakeany': woke}.get(kind, step)
 
 
 def core_applied(row):
@@ -273,6 +275,12 @@ def enabled_told(row):
     return unchanged(core_text(world), steps_line('enabled', enabled_steps(world)))
 
 
+def any_wakes_told(row):
+    """The steps of the waitany of the rank that the argument names."""
+    world, head = world_of(row), f'wakeany {row.argument} '
+    return unchanged(core_text(world), steps_line('enabled', [step for step in enabled_steps(world) if step_text(step).startswith(head)]))
+
+
 def step_printed(row):
     return no_state(line(row.argument))
 
@@ -297,6 +305,8 @@ def is_complete(world, call_id):
     call = find_call(world, call_id)
     if call.kind == 'wait':
         return call.target is None or is_complete(world, CallId(call_id.rank, call.target))
+    if call.kind == 'waitany':
+        return not call.active
     if call.kind == 'barrier':
         return False
     return partner(world, call_id) is not None or (world.mode != RENDEZVOUS and call.kind == 'send' and not call.synchronous)
@@ -570,11 +580,12 @@ def asked_of(row, **more):
     return explorer.USUAL._replace(mode=row.mode, split=split_by, **limits, **more)
 
 
-def tally_text(found):
+def tally_text(script, found):
     bad = [leaf.outcome.split()[0] for leaf in found.leaves]
     counts = [f'{name} {bad.count(word)}' for name, word in (('deadlocks', 'deadlock'), ('traps', 'trap'), ('cut', 'cut'))]
     more = 'true' if found.more else 'false'
-    return line(f'runs {len(bad)} {" ".join(counts)} more {more} status {explorer.status(found, True)}')
+    tells_all = 'true' if explorer.is_whole(found) and not explorer.has_waitany(script.body) else 'false'
+    return line(f'runs {len(bad)} {" ".join(counts)} more {more} all {tells_all} status {explorer.status_of(script, found, True)}')
 
 
 def checked(row, **more):
@@ -585,7 +596,7 @@ def checked(row, **more):
         refused = told.errors.decode().removeprefix('mpdbg: ').strip()
         return no_state(line(refused.split()[-1] if refused.startswith('refused') else refused), '')
     parts = cut(Debugger(row.read(), row.mode), asked.split, asked.fuel)
-    return no_state(tally_text(explorer.reported(parts, asked)), told.output.decode())
+    return no_state(tally_text(row.read(), explorer.reported(parts, asked)), told.output.decode())
 
 
 def check_written(row):
@@ -728,7 +739,7 @@ MODELS = {
     'Core::rank_text': core_told(lambda world, numbers: rank_state(world.ranks[numbers[0]])),
     'Core::push_rank': core_told(lambda world, numbers: rank_state(world.ranks[numbers[0]])),
     'Core::set_text': core_told(lambda world, numbers: record_line(world.records[numbers[0]]).removeprefix('set ')),
-    'Core::outcome': outcome_told, 'Core::ending': outcome_told, 'Core::enabled': enabled_told, 'print_step': step_printed,
+    'Core::outcome': outcome_told, 'Core::ending': outcome_told, 'Core::enabled': enabled_told, 'Core::push_any_wakes_of': any_wakes_told, 'print_step': step_printed,
     'print_outcome': outcome_printed, 'mpd_trace::listed': listed, 'mpd_trace::show': shown,
     'Debugger::start': trail_started, 'Debugger::copy': trail_copied, 'Debugger::keep_room': trail_room,
     'Debugger::apply': changed(lambda row: row.argument.encode(), {'ok': 'ok'}),

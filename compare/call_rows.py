@@ -15,6 +15,9 @@ HELD = ('mpd 1; ranks 2; var x; var y; req r[2];\nif rank == 0 { irecv r[0] x fr
         'else { send 5 to 0 tag 0; }')
 PAIRS = 'mpd 1; ranks 4; var x;\nif rank % 2 == 0 { send 7 to rank + 1 tag 0; } else { recv x from rank - 1 tag 0; }'
 MEETING = 'mpd 1; ranks 2;\nbarrier;'
+WHICHEVER = ('mpd 2; ranks 3; var x; var i; req r[2];\n'
+             'if rank == 0 { irecv r[0] x from 1 tag 0; irecv r[1] x from 2 tag 0; waitany r to i; } else { send rank to 0 tag 0; }')
+BOTH_CAME = (*('local 0',) * 4, *('local 1', 'local 2') * 2, 'match 1.0 0.0', 'match 2.0 0.1')
 ENDLESS = 'mpd 1; ranks 1;\nwhile 1 { }'
 TRAPS = 'mpd 1; ranks 2; var x;\nx = 1 / x;'
 BOTH_SEND = 'mpd 1; ranks 2; var x;\nsend rank to 1 - rank tag 5;\nrecv x from 1 - rank tag 5;'
@@ -44,7 +47,7 @@ OTHER_CALLS = TWO_LINES.replace('0.1 1.0', '0.1')
 
 
 def scripts():
-    for script in (MESSAGE, RACE, WHOLE, 'mpd 1; ranks 1;', MISSING, 'mpd 1; ranks 1;\nprint y;', 'mpd 2;', 'mpd 1;ranks 1;var x;var x;'):
+    for script in (MESSAGE, RACE, WHOLE, 'mpd 1; ranks 1;', MISSING, 'mpd 1; ranks 1;\nprint y;', 'mpd 3;', 'mpd 1;ranks 1;var x;var x;'):
         yield Row('mpd_script::read', script)
         yield Row('mpd_trace::read_code', script)
     for script in (MESSAGE, RACE, WHOLE, 'mpd 1; ranks 1;'):
@@ -69,11 +72,13 @@ def expressions():
             'if x { send 1 to 0 tag 0; } isend r[0] 1 to 2 tag 1; issend r[1] 1 to 2 tag 1; recv x from any tag 1; irecv r[0] x from 1 tag any;\n'
             'wait r[1]; barrier; ssend 2 to 1 tag 2;')
     yield Row('eval', head + body, by_hand=no_state('51 4 8\n'), spares=True)
+    # two statements: the first issues a call, since the second handle has one, and the index of the other's place traps
+    yield Row('eval', 'mpd 2; ranks 3; var x; var a[3]; req r[2];\nwaitany r to x; waitany r to a[3];', by_hand=no_state('0 1 1\n'), spares=True)
     for how, value in (('unary', '-4'), ('binary', '16'), ('element', 'bad-index')):
         yield Row('Expr::unary, element, binary', head + 'print a[0];', argument=how, by_hand=no_state(f'{value}\n'))
     # memory 6, full 4, at-start 8, no-redo 7, not-before 10, not-stuck 9, too-many-pieces 15, bad-workers 11, read-failed 11, expected 8;
     # 23, 22, 24, 25, 26, 33, 31, 35, 45 and 4
-    yield Row('numbers and names', by_hand=no_state('89 268 true true 1 true false 2\n'), spares=True)
+    yield Row('numbers and names', by_hand=no_state('89 268 true true true false 2\n'), spares=True)
 
 
 def lists():
@@ -124,8 +129,9 @@ def ranks():
     yield Row('RankState::start', one, by_hand=no_state(text))
     yield Row('RankState::copy', one, ('local',), by_hand=Wanted(printed, printed, printed))
     yield Row('RankState::keep_room', one, by_hand=Wanted(text, 'done\n', text))
-    # it can step, hasn't ended, stands at the first statement, runs, has no handle, issues no call, and has printed once
-    yield Row('RankState::commit', one, by_hand=Wanted(text, 'true false 0 true 0 false 1\n', text), spares=True)
+    # it can step, hasn't ended, stands at the first statement, runs, has no handle, none that holds a call, issues no call, and has printed
+    # once
+    yield Row('RankState::commit', one, by_hand=Wanted(text, 'true false 0 true 0 false false 1\n', text), spares=True)
     receives = 'mpd 1; ranks 1; var x;\nrecv x from 0 tag 0; x = 1;'
     blocked, woken = ('rank 0 blocked\nvars 0\nout\nhandles\n', 'rank 0 running\nvars 1\nout\nhandles\n')
     yield Row('RankState::complete', receives, ('local',), by_hand=Wanted(blocked, '70 true\n', woken), spares=True)
@@ -141,7 +147,7 @@ def cores():
     yield Row('Core::keep_room', MESSAGE)
     yield Row('Core::keep_room', RACE, CHOICE)
     # what a step asks for depends on the room that is there, so all steps of a run are tried, each behind those before it
-    for steps, script in ((ENDED, MESSAGE), (STUCK, RACE), (('local 0', 'local 1', 'release'), MEETING), (('local 0',), TRAPS)):
+    for steps, script in ((ENDED, MESSAGE), (STUCK, RACE), (('local 0', 'local 1', 'release'), MEETING), (('local 0',), TRAPS), ((*BOTH_CAME, 'wakeany 0 1'), WHICHEVER)):
         for count, step in enumerate(steps):
             is_local = step.startswith('local')
             yield Row('Core::apply', script, steps[:count], step)
@@ -188,7 +194,10 @@ def core_texts():
         yield Row('Core::enabled', RACE, steps)
         yield Row('mpd_trace::listed', RACE, steps)
     yield Row('Core::enabled', RACE, STUCK, spares=True)
-    for step in ('local 0', 'match 1.0 0.1', 'wake 15', 'release'):
+    yield Row('Core::enabled', WHICHEVER, BOTH_CAME)
+    yield Row('Core::push_any_wakes_of', WHICHEVER, BOTH_CAME, '0')
+    yield Row('Core::push_any_wakes_of', WHICHEVER, BOTH_CAME, '1', spares=True)
+    for step in ('local 0', 'match 1.0 0.1', 'wake 15', 'wakeany 15 255', 'release'):
         yield Row('print_step', argument=step)
 
 

@@ -1,6 +1,6 @@
 """The canonical text of a script, in the model: what `print` of the crates gives, for which there is no trace word.
 
-    python3 compare/canonical.py               2,000 scripts
+    python3 compare/canonical.py               2,000 scripts of version 1, and 500 of version 2
     python3 compare/canonical.py --print FILE  the canonical text of one
 
 Of each script that is read it is checked that its canonical text is read as that script again, in all but the lines, that the
@@ -13,7 +13,7 @@ import sys
 from random import Random
 
 from language import (COMPARISONS, LEVELS, Assert, Assign, Barrier, Branch, Fault, Number, OwnRank, Place, Print, RankCount,
-                      Receive, Send, Unary, Wait, While, read_script)
+                      Receive, Send, Unary, Wait, WaitAny, While, read_script)
 
 OPERAND = len(LEVELS)
 
@@ -57,6 +57,8 @@ def simple_text(statement):
         return f'assert {expression_text(statement.condition)}'
     if isinstance(statement, Wait):
         return f'wait {place_text(statement.handle)}'
+    if isinstance(statement, WaitAny):
+        return f'waitany {statement.name} to {place_text(statement.place)}'
     if isinstance(statement, Barrier):
         return 'barrier'
     if isinstance(statement, Send):
@@ -86,7 +88,7 @@ def lines_of(statements, indentation=''):
 
 def canonical(script):
     """The canonical text of a script, in bytes."""
-    lines = ['mpd 1;', f'ranks {script.ranks};']
+    lines = [f'mpd {script.version};', f'ranks {script.ranks};']
     for name, declared in script.names.items():
         lines.append(f'{declared.kind} {name};' if declared.size is None else f'{declared.kind} {name}[{declared.size}];')
     return ''.join(f'{line}\n' for line in [*lines, *lines_of(script.body)]).encode('ascii')
@@ -147,23 +149,30 @@ def problem(data):
     return None
 
 
-def main():
-    from cases import KINDS
+def drawn(seed, count):
+    """Scripts of the kinds of version 1, and a share of them of version 2 beside, each with its name."""
+    from cases import BESIDE, KINDS
     from debugger import divided
+    kinds_of_1 = ('script', 'wildcards', 'requests', 'states', 'traps', 'barriers', 'exchanges')
+    for kinds, how_many in ((kinds_of_1, count), (('waitany',), count // BESIDE)):
+        for number in range(how_many):
+            kind = kinds[number % len(kinds)]
+            yield f'{kind} {number}', divided(KINDS[kind].draw(Random(f'canonical/{kind}/{seed}/{number}')))[0]
+
+
+def main():
     parser = argparse.ArgumentParser(description=__doc__, formatter_class=argparse.RawDescriptionHelpFormatter)
-    parser.add_argument('--count', type=int, default=2000, help='how many scripts (2,000)')
+    parser.add_argument('--count', type=int, default=2000, help='how many scripts of version 1 (2,000), and a quarter of these of version 2')
     parser.add_argument('--seed', type=int, default=1)
     parser.add_argument('--print', metavar='FILE', help='print the canonical text of a script')
     chosen = parser.parse_args()
     if chosen.print:
+        from debugger import divided
         with open(chosen.print, 'rb') as file:
             sys.stdout.buffer.write(canonical(read_script(divided(file.read())[0])))
         return 0
     read, wrong = 0, 0
-    kinds = ('script', 'wildcards', 'requests', 'states', 'traps', 'barriers', 'exchanges')
-    for number in range(chosen.count):
-        kind = kinds[number % len(kinds)]
-        script = divided(KINDS[kind].draw(Random(f'canonical/{kind}/{chosen.seed}/{number}')))[0]
+    for name, script in drawn(chosen.seed, chosen.count):
         try:
             found = problem(script)
         except Fault:
@@ -171,7 +180,7 @@ def main():
         read += 1
         if found:
             wrong += 1
-            print(f'{kind} {number}: {found}')
+            print(f'{name}: {found}')
     print(f'{read} scripts read, {wrong} wrong')
     return 0 if read and not wrong else 1
 

@@ -13,6 +13,7 @@ from request_cases import requests_case
 from scripts import Writer, mutated_bytes, mutated_tokens, rendered
 from state_cases import arrays_case, deep_case, messages_case, names_case, states_case, traps_case
 from trail_cases import trails_case
+from waitany_cases import waitany_case, waitany_texts_case
 from walks import ODD, assembled, trace_lines
 from wildcard_cases import wildcards_case
 
@@ -195,7 +196,7 @@ def statements_case(number):
 
 
 class Kind(NamedTuple):
-    """What draws inputs of a kind, and its share of the inputs of a run, in hundredths.
+    """What draws inputs of a kind, its share of the inputs of a run, in hundredths, and the last version that it is of.
 
     One input after the other is given in each of the `ways`: None is a script with its words on standard input, a mode is a script in
     a file.
@@ -203,12 +204,13 @@ class Kind(NamedTuple):
     draw: Callable
     share: int
     ways: tuple = (None,)
+    version: int = 1
 
 
 SOMETIMES, MOSTLY = (None, None, RENDEZVOUS, BUFFERED), (None, RENDEZVOUS, BUFFERED, BUFFERED)
 
-# 2,000 inputs of all kinds have all of those that are counted out.
-KINDS = {
+# Of scripts of version 1, and of texts that are refused. 2,000 inputs of all these kinds have all of those that are counted out.
+KINDS_OF_1 = {
     'script': Kind(script_case, 7, SOMETIMES), 'mutated': Kind(mutated_case, 5, SOMETIMES),
     'limits': Kind(limits_case, 5, SOMETIMES), 'words': Kind(words_case, 5), 'cut': Kind(cut_case, 2),
     'names': Kind(names_case, 3), 'arrays': Kind(arrays_case, 3), 'messages': Kind(messages_case, 2, SOMETIMES),
@@ -217,6 +219,11 @@ KINDS = {
     'barriers': Kind(barriers_case, 6, SOMETIMES), 'exchanges': Kind(exchanges_case, 5, MOSTLY),
     'trails': Kind(trails_case, 7, SOMETIMES), 'statements': Kind(None, 2), 'arithmetic': Kind(None, 12),
     'operators': Kind(None, 18)}
+# Of scripts of version 2, and of texts with faults round what only that has.
+KINDS_OF_2 = {'waitany': Kind(waitany_case, 75, SOMETIMES, 2), 'waitany-texts': Kind(waitany_texts_case, 25, SOMETIMES, 2)}
+KINDS = KINDS_OF_1 | KINDS_OF_2
+# One input of these stands beside so many of the others.
+BESIDE = 4
 # Kinds whose inputs are counted out, and not drawn.
 NUMBERED = {'arithmetic': arithmetic_case, 'operators': operators_case, 'statements': statements_case}
 
@@ -239,6 +246,11 @@ def random_case(kind, seed, number, in_packets):
         script, data = parted(KINDS[kind].draw(random, mode))
     packets = cut(random, data) if in_packets or number % 3 == 0 else None
     return Case(f'{kind}-{seed}-{number}', data, packets, mode, script)
+
+
+def counts_up_to(version, count):
+    """How many inputs of each kind make so many of version 1, and a share of them beside for version 2."""
+    return shares(count, KINDS_OF_1) | (shares(count // BESIDE, KINDS_OF_2) if version > 1 else {})
 
 
 def shares(count, kinds):

@@ -8,7 +8,8 @@ All interleavings of a script are tried, from world to world, where worlds that 
 one. It is checked that two enabled steps that are no two matches of one call lead to one world in either order; that a walk that is
 nowhere cut has exactly the ends that there are, with their outcomes, and no more fuel than it needs; that it is nowhere cut exactly
 where no run has more steps than there is fuel; and all that of the walk that sleeps as well, which has no end twice. The status is 0
-where all of that holds, and was seen.
+where all of that holds, and was seen. All that is of scripts without waits for any: where a rank waits for any of some requests, a walk
+that is nowhere cut may lack an end (worked_waitany.py has such a script).
 """
 
 import argparse

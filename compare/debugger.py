@@ -4,8 +4,9 @@ import argparse
 import sys
 from typing import NamedTuple, Optional
 
-from language import (Assert, Assign, Barrier, Branch, FAULT_NAMES, Fault, Print, Receive, Send, Trap, View, Wait, While, cell_of, evaluate,
-                      read_script)
+import language
+from language import (Assert, Assign, Barrier, Branch, FAULT_NAMES, Fault, Print, Receive, Send, Trap, View, Wait, WaitAny, While, cell_of,
+                      evaluate, read_script)
 
 # In the mode `rendezvous` no send is buffered, in the mode `buffered` each standard one is.
 MODES = RENDEZVOUS, BUFFERED = 'rendezvous', 'buffered'
@@ -15,6 +16,9 @@ MOST_STEPS = 1000000
 MOST_READS = 1000000
 LONGEST_LINE = 4096
 LONGEST_NUMBER = 9
+
+# What a wait for any writes where no handle had a request.
+NO_HANDLE = -1
 
 REFUSED_FULL = 'refused full'
 REFUSED_NOT_ENABLED = 'refused not-enabled'
@@ -56,6 +60,17 @@ class WaitCall(NamedTuple):
     handle: int
     target: Optional[int]
     kind = 'wait'
+    blocks = True
+
+
+class WaitAnyCall(NamedTuple):
+    """A wait for any made: the first of its handles and how many they are, the cell for which one it was, and whether one had a request
+    then."""
+    first: int
+    count: int
+    cell: int
+    active: bool
+    kind = 'waitany'
     blocks = True
 
 
@@ -108,7 +123,8 @@ class World(NamedTuple):
 
 
 class Step(NamedTuple):
-    """A step: local or wake of a rank (`first`), match of a send (`first`) and a receive, or release."""
+    """A step: local or wake of a rank (`first`), wake of a rank by one of the handles that it waits for any of, by its place among them
+    (`second`), match of a send (`first`) and a receive, or release."""
     kind: str
     first: object = None
     second: object = None
@@ -156,6 +172,8 @@ def issued(rank, statement, view):
     """The rank behind a statement that makes a call."""
     if isinstance(statement, Barrier):
         return rank._replace(calls=rank.calls + (BarrierCall(),), mode='blocked')
+    if isinstance(statement, WaitAny):
+        return rank._replace(calls=rank.calls + (waited_for_any(statement, rank, view),), mode='blocked')
     handle = None if statement.handle is None else cell_of(statement.handle, view)
     number = len(rank.calls)
     if isinstance(statement, Wait):
@@ -164,6 +182,13 @@ def issued(rank, statement, view):
     if handle is None:
         return rank._replace(mode='blocked')
     return rank._replace(handles=written(rank.handles, handle, number))
+
+
+def waited_for_any(statement, rank, view):
+    """The call that a wait for any makes."""
+    cell = cell_of(statement.place, view)
+    handles = rank.handles[statement.first:statement.first + statement.count]
+    return WaitAnyCall(statement.first, statement.count, cell, any(handle is not None for handle in handles))
 
 
 def written(cells, cell, value):
@@ -188,7 +213,7 @@ def executed(rank, view):
         if evaluate(statement.condition, view) == 0:
             raise Trap('assert')
         return rank._replace(rest=tail)
-    assert isinstance(statement, (Send, Receive, Wait, Barrier))
+    assert isinstance(statement, (Send, Receive, Wait, WaitAny, Barrier))
     return issued(rank, statement, view)._replace(rest=tail)
 
 
@@ -312,11 +337,18 @@ def is_at_barrier(rank):
     return rank.mode == 'blocked' and rank.calls[-1].kind == 'barrier'
 
 
+def is_at_any(rank):
+    """Whether a rank waits for any of some handles."""
+    return rank.mode == 'blocked' and rank.calls[-1].kind == 'waitany'
+
+
 def can_wake(world, number):
-    """Whether a rank is blocked on a complete call; a barrier never is complete."""
+    """Whether a rank is blocked on a complete call; a barrier never is complete, a wait for any where no handle had a request."""
     rank = world.ranks[number]
     if rank.mode != 'blocked' or is_at_barrier(rank):
         return False
+    if is_at_any(rank):
+        return not rank.calls[-1].active
     call_id = awaited(world, number)
     return call_id is None or is_done(world, call_id)
 
@@ -333,19 +365,65 @@ def writes_of(receive, send, sender):
     return writes
 
 
+def received_writes(world, call_id):
+    """What is written of a call: nothing where it has received nothing, as a send."""
+    call, send_id = find_call(world, call_id), partner(world, call_id)
+    if call.kind != 'recv' or send_id is None:
+        return []
+    return writes_of(call, find_call(world, send_id), send_id.rank)
+
+
+def woken(world, number, writes, handle):
+    """The world in which a rank goes on that writes this, cell by cell, and clears a handle, or none."""
+    rank = world.ranks[number]
+    for cell, value in writes:
+        rank = rank._replace(cells=written(rank.cells, cell, value))
+    if handle is not None:
+        rank = rank._replace(handles=cleared(rank.handles, handle))
+    behind = world.with_rank(number, rank._replace(mode='running'))
+    return behind._replace(records=world.records + (Woken(last_call(world, number)),))
+
+
 def after_wake(world, number):
     if number >= len(world.ranks) or not can_wake(world, number):
         return None
-    rank = world.ranks[number]
+    call = world.ranks[number].calls[-1]
+    if call.kind == 'waitany':
+        return woken(world, number, [(call.cell, NO_HANDLE)], None)
     call_id = awaited(world, number)
-    if call_id is not None and (call := find_call(world, call_id)).kind == 'recv':
-        send_id = partner(world, call_id)
-        for cell, value in writes_of(call, find_call(world, send_id), send_id.rank):
-            rank = rank._replace(cells=written(rank.cells, cell, value))
-    if rank.calls[-1].kind == 'wait':
-        rank = rank._replace(handles=cleared(rank.handles, rank.calls[-1].handle))
-    woken = world.with_rank(number, rank._replace(mode='running'))
-    return woken._replace(records=world.records + (Woken(last_call(world, number)),))
+    writes = [] if call_id is None else received_writes(world, call_id)
+    return woken(world, number, writes, call.handle if call.kind == 'wait' else None)
+
+
+def chosen_handle(call, place):
+    """The handle that stands at a place among those that a wait for any is for; None where there are not so many."""
+    return call.first + place if place < call.count else None
+
+
+def can_wake_by(world, number, place):
+    """Whether a rank waits for any of some handles, and the one at a place among them has a complete call."""
+    if number >= len(world.ranks) or not is_at_any(world.ranks[number]):
+        return False
+    rank = world.ranks[number]
+    handle = chosen_handle(rank.calls[-1], place)
+    if handle is None or rank.handles[handle] is None:
+        return False
+    return is_done(world, CallId(number, rank.handles[handle]))
+
+
+def writes_by(world, number, place):
+    """What is written as a rank goes on by a handle that it waits for any of: what was received, and then which one it was."""
+    rank = world.ranks[number]
+    call = rank.calls[-1]
+    request = CallId(number, rank.handles[chosen_handle(call, place)])
+    return [*received_writes(world, request), (call.cell, place)]
+
+
+def after_wake_by(world, number, place):
+    if not can_wake_by(world, number, place):
+        return None
+    handle = chosen_handle(world.ranks[number].calls[-1], place)
+    return woken(world, number, writes_by(world, number, place), handle)
 
 
 def can_release(world):
@@ -366,17 +444,27 @@ def next_world(world, step):
         return after_local(world, step.first)
     if step.kind == 'wake':
         return after_wake(world, step.first)
+    if step.kind == 'wakeany':
+        return after_wake_by(world, step.first, step.second)
     if step.kind == 'match':
         return after_match(world, step.first, step.second)
     return after_release(world)
 
 
+def wakes_by_handles(world):
+    """The enabled wakes by one of the handles that a rank waits for any of, by rank and place."""
+    places = [(number, place) for number, rank in enumerate(world.ranks) if is_at_any(rank) for place in range(rank.calls[-1].count)]
+    return [Step('wakeany', number, place) for number, place in places if can_wake_by(world, number, place)]
+
+
 def enabled_steps(world):
-    """All enabled steps: local ones, the release, wakes, all by rank, then matches by receiver, number of the receive, sender."""
+    """All enabled steps: local ones, the release, wakes, all by rank, then wakes by one of some handles, by rank and place, and then
+    matches by receiver, number of the receive, sender."""
     ranks = range(len(world.ranks))
     steps = [Step('local', rank) for rank in ranks if can_run(world.ranks[rank])]
     steps += [Step('release')] if can_release(world) else []
     steps += [Step('wake', rank) for rank in ranks if can_wake(world, rank)]
+    steps += wakes_by_handles(world)
     sends = [call_id for rank in ranks for call_id, call in free_calls(world, rank) if call.kind == 'send']
     receives = [call_id for rank in ranks for call_id in posted(world, rank)]
     return steps + [Step('match', send_id, receive_id) for receive_id in receives for send_id in sends
@@ -433,6 +521,8 @@ def call_line(world, call_id):
         return f'call {call_id} barrier'
     if call.kind == 'wait':
         return f'call {call_id} wait {"none" if call.target is None else call.target}'
+    if call.kind == 'waitany':
+        return f'call {call_id} waitany {call.first} {call.count}{"" if call.active else " none"}'
     other_id = partner(world, call_id)
     state = 'free' if other_id is None else f'with {other_id}'
     word = call_word(call)
@@ -501,6 +591,8 @@ def step_of(words):
     kind, *names = words
     if kind in (b'local', b'wake') and len(names) == 1:
         values = [number_of(names[0])]
+    elif kind == b'wakeany' and len(names) == 2 and 2 in language.VERSIONS:
+        values = [number_of(name) for name in names]
     elif kind == b'match' and len(names) == 2:
         values = [call_id_of(name) for name in names]
     elif words == [b'release']:

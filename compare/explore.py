@@ -1,6 +1,8 @@
 """Compares what `check` and `verify` of a program answer with the model, byte for byte: the same scripts for the same seed and count.
 
-    python3 compare/explore.py PROGRAM                  the worked rows, words that are wrong, and 1,000 random scripts
+    python3 compare/explore.py PROGRAM                  the worked rows, words that are wrong, 1,000 random scripts of version 1, and 250
+                                                        of version 2
+    python3 compare/explore.py PROGRAM --version 1      a program that knows version 1 alone
     python3 compare/explore.py PROGRAM --every-split    each script by 0 to 8 choices and by 1 to 16 workers, too
     python3 compare/explore.py PROGRAM --broken         and faults of the model, each of which these scripts must notice
 
@@ -25,11 +27,15 @@ from unittest import mock
 
 import piece_cases
 import piece_faults
+import waitany_faults
 import worked_pieces
+import worked_waitany
+from cases import BESIDE
 from debugger import BUFFERED
-from explore_cases import Case
+from explore_cases import Beside, Case
 from explore_faults import check_faults, told_faults, verify_faults
 from explorer import MOST_SPLIT, MOST_WORKERS
+from language import read_up_to
 from remembered import steps_remembered
 from runs import held, limit, run_at_once
 from witness import ACCEPTED
@@ -47,6 +53,8 @@ MUST_MEET_OF_PIECES = (
     *(f'split {split}' for split in range(MOST_SPLIT + 1)), 'split left out', 'workers left out', 'one worker', 'sixteen workers', 'pieces', 'one piece',
     'one piece of several', 'no piece', 'too many pieces', 'bad workers', 'until: found', 'until: found, and more', 'until: nothing found',
     'until: nothing found, and more')
+# What must be met of version 2.
+MUST_MEET_OF_2 = ('a wake by a handle in a witness', 'an accepted wake by a handle', 'a refused wake by a handle')
 # What must be met where each script is checked by every number of choices.
 PAIRS = tuple(f'split {split} by {workers}' for split in range(MOST_SPLIT + 1) for workers in range(1, MOST_WORKERS + 1))
 MUST_MEET_OF_VERIFY = (
@@ -71,6 +79,7 @@ def met_by_check(asked, wanted):
     yield from outcomes
     yield from [' '.join(line.split()[2:]) for line in lines[-1:] if line.startswith('leaves ')]
     yield from ['witness' for line in lines if line.startswith('witness ')]
+    yield from ['a wake by a handle in a witness' for line in lines if line.startswith('witness ') and 'wakeany' in line]
     yield from ['number of two digits' for numbers in choices if any(len(number) > 1 for number in numbers)]
     yield from ['five choices' for numbers in choices if len(numbers) > 4]
     yield from ['leaves of two outcomes'] * (len(set(outcomes)) > 1) + [f'status {wanted.status}']
@@ -98,6 +107,8 @@ def met_by_pieces(asked, wanted, outcomes):
 def met_by_verify(case, wanted):
     """What a program may answer wrongly to `verify`."""
     said = (wanted.output + wanted.errors).decode().removeprefix('mpdbg: ').removesuffix('\n')
+    if b'wakeany' in (case.text or b'') and wanted.status < 2:
+        yield 'an accepted wake by a handle' if said == 'accepted' else 'a refused wake by a handle'
     if said == 'accepted':
         yield from ['accepted'] + ['accepted, buffered'] * (case.mode == BUFFERED)
         yield from ['accepted, nothing in front'] * case.text.startswith(b'deadlock')
@@ -122,6 +133,11 @@ def checks_of(chosen, number):
     """The checks of a script, and where that is wanted those by every number of choices."""
     found = piece_cases.cases(chosen.seed, number)
     return found + piece_cases.by_every_split(chosen.seed, number) if chosen.every_split else found
+
+
+def checks_beside(chosen, number):
+    """The same of a script of version 2."""
+    return checks_of(beside(chosen), number)
 
 
 def row_checks_of(chosen, number):
@@ -211,10 +227,20 @@ def compare_chunk(chosen, numbers):
     return compared, found, met
 
 
+def beside(chosen):
+    """What is chosen, for the scripts of version 2, of which there are fewer."""
+    return argparse.Namespace(**{**vars(chosen), 'seed': Beside(chosen.seed), 'count': chosen.count // BESIDE})
+
+
+def versions(chosen):
+    """What is chosen, for the scripts of each version."""
+    return [chosen, beside(chosen)][:chosen.version]
+
+
 def compare_random(chosen, pool):
     """Compares so many random scripts; gives how many cases there were and differed, and how much was not met that must be."""
-    chunks = [range(first, min(first + CHUNK, chosen.count)) for first in range(0, chosen.count, CHUNK)]
-    tasks = [pool.submit(compare_chunk, chosen, chunk) for chunk in chunks]
+    chunks = [(one, range(first, min(first + CHUNK, one.count))) for one in versions(chosen) for first in range(0, one.count, CHUNK)]
+    tasks = [pool.submit(compare_chunk, *chunk) for chunk in chunks]
     folder, compared, differing, met = [], 0, 0, Counter()
     for count, found, met_there in (task.result() for task in tasks):
         met += met_there
@@ -223,6 +249,7 @@ def compare_random(chosen, pool):
         for case, what in found:
             print(f'{kept(folder, case)}: {what}', flush=True)
     must_meet = MUST_MEET + MUST_MEET_OF_PIECES + MUST_MEET_OF_VERIFY + ('witnesses verified',) * chosen.every_split
+    must_meet += MUST_MEET_OF_2 * (chosen.version > 1)
     print('; '.join(f'{name} {met[name]}' for name in must_meet))
     if chosen.every_split:
         print(f'{sum(met[name] for name in PAIRS)} checks by {sum(met[name] > 0 for name in PAIRS)} pairs of choices and workers')
@@ -252,6 +279,9 @@ def rows(chosen):
         yield case_of(row), wanted_result(row)
     for row in TOLD + (() if chosen.short else LONG_TOLD):
         yield row.case(), row.wanted()
+    if chosen.version > 1:
+        yield from ((case_of(row), wanted_result(row)) for row in worked_waitany.CHECKS)
+        yield from ((row.case(), row.wanted()) for row in worked_waitany.TOLD)
 
 
 def mistakes(chosen, folder):
@@ -276,7 +306,8 @@ def compare_rows(chosen, pool):
 def faults(chosen):
     """The faults that a program's answers show, each with what gives the cases of a script that may notice it."""
     found = [(fault, checks_of) for fault in check_faults()] + [(fault, row_checks_of) for fault in piece_faults.breakages()]
-    return found + [(fault, verifications_of) for fault in verify_faults() + told_faults()]
+    found += [(fault, verifications_of) for fault in verify_faults() + told_faults()]
+    return found + [(fault, checks_beside) for fault in waitany_faults.walk_faults()] * (chosen.version > 1)
 
 
 # What is said to cases by the program, or else by the sound model, as far as this process has asked.
@@ -316,12 +347,14 @@ def compare_broken(chosen, pool):
 def prepare(chosen):
     """Readies a process for its part of a run."""
     limit(chosen.memory, chosen.output)
+    read_up_to(chosen.version)
 
 
 def arguments():
     parser = argparse.ArgumentParser(description=__doc__, formatter_class=argparse.RawDescriptionHelpFormatter)
     parser.add_argument('program', nargs='?', metavar='PROGRAM')
-    parser.add_argument('--count', type=int, default=1000, help='how many scripts (1000)')
+    parser.add_argument('--count', type=int, default=1000, help='how many scripts of version 1 (1000), and a quarter of these of version 2')
+    parser.add_argument('--version', type=int, choices=[1, 2], default=2, help='the last version that the program knows (2)')
     parser.add_argument('--seed', type=int, default=1, help='another seed gives other scripts (1)')
     parser.add_argument('--every-split', action='store_true', help='check each script by 0 to 8 choices and 1 to 16 workers, too')
     parser.add_argument('--broken', action='store_true', help='break the model on purpose; each fault must be noticed')
@@ -347,7 +380,8 @@ def main():
         if chosen.program:
             compared, differing, missed = compare_random(chosen, pool)
             wrong += compare_rows(chosen, pool) + differing + missed + (compared < 1)
-            print(f'{compared} answers to {chosen.count} scripts compared, {differing} different, {time.monotonic() - began:.1f} seconds')
+            scripts = sum(one.count for one in versions(chosen))
+            print(f'{compared} answers to {scripts} scripts compared, {differing} different, {time.monotonic() - began:.1f} seconds')
         if chosen.broken:
             wrong += compare_broken(chosen, pool)
     return 1 if wrong else 0

@@ -9,6 +9,7 @@ from typing import Callable, NamedTuple, Optional
 
 import barrier_cases
 import exchange_cases
+import waitany_cases
 import wildcard_cases
 from canonical import now_and_then_canonical
 from debugger import MODES, RENDEZVOUS
@@ -204,8 +205,16 @@ def refused(random, ranks):
     return (mutated_bytes(random, text) if draw < 0.6 else text).decode('latin-1')
 
 
+class Beside(NamedTuple):
+    """A seed of scripts of version 2, which stand beside those of version 1 of the same seed."""
+    seed: int
+
+    def __str__(self):
+        return f'{self.seed}-waitany'
+
+
 class Kind(NamedTuple):
-    """What writes a script of a kind, its share of all, how many ranks it has, what it declares (None: it is a whole script).
+    """What writes a script of a kind, its share of all, how many ranks it has, what it declares (None: it is a whole script), its version.
 
     A script that `ends` does so within few steps, whatever is received, so that all of its runs can be followed to their ends; one
     whose steps take the model long gets less fuel at most.
@@ -216,6 +225,7 @@ class Kind(NamedTuple):
     declared: Optional[str] = DECLARED
     ends: bool = True
     fuel: int = 2000
+    version: int = 1
 
 
 KINDS = {
@@ -231,6 +241,17 @@ KINDS = {
     'order': Kind(exchange_cases.in_order, 3, (2, 3, 3), exchange_cases.DECLARED),
     'any': Kind(any_script, 2, (1, 2, 3), None, ends=False), 'refused': Kind(refused, 3, (1, 2, 3), None, ends=False)}
 
+# Those of version 2.
+KINDS_OF_2 = {form.__name__: Kind(form, share, ranks, None if form is waitany_cases.any_script else waitany_cases.DECLARED,
+                                  form is not waitany_cases.any_script, version=2)
+              for form, (ranks, share) in waitany_cases.FORMS.items()}
+
+
+def kinds_by(seed):
+    """The kinds of scripts that are drawn by a seed."""
+    return KINDS_OF_2 if isinstance(seed, Beside) else KINDS
+
+
 RUNS = (1, 2, 3, 5, 8, 13, 20, 30, 40, 40)
 FUELS = (1, 3, 8, 20, 30, 40, 60, 80, 100, 150, 200, 200, 500, 500, 2000, 2000)
 # How far a script is followed before a limit is drawn next to where a leaf stands.
@@ -242,7 +263,7 @@ def script_of(random, kind):
     ranks = random.choice(kind.ranks)
     text = kind.write(random, ranks)
     if kind.declared is not None:
-        text = f'{" ".join(header(ranks))}\n{kind.declared}\n{text}'
+        text = f'{" ".join(header(ranks, kind.version))}\n{kind.declared}\n{text}'
     return now_and_then_canonical(random, text.encode('latin-1'))
 
 
@@ -294,15 +315,15 @@ class Case(NamedTuple):
         return answer(self.script, self.asked)
 
 
-def kind_of(random):
+def kind_of(random, kinds=KINDS):
     """The name of a kind, by their shares."""
-    return random.choices(list(KINDS), [kind.share for kind in KINDS.values()])[0]
+    return random.choices(list(kinds), [kind.share for kind in kinds.values()])[0]
 
 
 def random_case(seed, number):
     """One case, the same each time."""
-    random = Random(f'explore/{seed}/{number}')
-    name = kind_of(random)
-    script = script_of(random, KINDS[name])
-    case = Case(f'{name}-{seed}-{number}', script, asked(random, KINDS[name], script))
+    random, kinds = Random(f'explore/{seed}/{number}'), kinds_by(seed)
+    name = kind_of(random, kinds)
+    script = script_of(random, kinds[name])
+    case = Case(f'{name}-{seed}-{number}', script, asked(random, kinds[name], script))
     return case._replace(script=None) if random.random() < 0.01 else case

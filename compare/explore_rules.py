@@ -1,7 +1,8 @@
 """The explorer: what must hold of its reports and of witnesses, told in other words than compare/explorer.py does.
 
-    python3 compare/explore_rules.py             300 random scripts (explore_cases.py), in both modes
-    python3 compare/explore_rules.py --broken    faults of the model (explore_faults.py, piece_faults.py), each of which these must notice
+    python3 compare/explore_rules.py             300 random scripts (explore_cases.py), in both modes, and 75 with waits for any
+    python3 compare/explore_rules.py --broken    faults of the model (explore_faults.py, piece_faults.py, waitany_faults.py), each of which
+                                                 these must notice
 
 Of each script it is checked that the choices of its leaves rise and none begins another's, that each list is the very next behind
 that before it, by how many candidates there are where the steps are followed anew, and that the last one is the last where it is said
@@ -25,8 +26,10 @@ from unittest import mock
 
 import explorer
 import policy
+import waitany_faults
+from cases import BESIDE
 from debugger import MODES, CallId, Debugger, Step, first_world, free_calls, next_world, rank_state, step_of, step_text
-from explore_cases import KINDS, kind_of, script_of
+from explore_cases import Beside, kind_of, kinds_by, script_of
 from explore_faults import breakages
 from explorer import CUT, MOST_SPLIT, NO_SUCH_STEP, NOT_STUCK, WRONG_BLOCKED, Asked, Refusal, Report, Run, Witness
 from follow import due
@@ -49,7 +52,8 @@ MUST_MEET = (
     'cut by less fuel', 'not cut by less fuel', 'a place behind a choice', 'a place with undone steps', 'accepted',
     'another order accepted', 'refused 32', 'refused 33', 'refused 34', 'refused behind the end', 'status 0', 'status 1',
     'status 0 though more', 'witness lines', 'several pieces', 'a piece of several leaves', 'a run that ends before its last choice',
-    'more of a piece', 'more of one piece alone', 'up to a leaf that is not the last', 'up to the last leaf')
+    'more of a piece', 'more of one piece alone', 'up to a leaf that is not the last', 'up to the last leaf', 'one wake by a handle',
+    'wakes by a handle')
 
 
 class Path(NamedTuple):
@@ -173,7 +177,8 @@ def met_in(seen):
             yield 'cut at the start'
         for steps in path.candidates:
             yield from ['one candidate'] * (len(steps) == 1) + ['more than ten candidates'] * (len(steps) > 10)
-            yield from ['two receives'] * (len({step.second for step in steps}) > 1)
+            yield from ['two receives'] * (steps[0].kind == 'match' and len({step.second for step in steps}) > 1)
+            yield from [f'{"one wake" if len(steps) == 1 else "wakes"} by a handle'] * (steps[0].kind == 'wakeany')
     if len({len(leaf.choices) for leaf in seen.found.leaves}) > 1:
         yield 'choices of another length'
 
@@ -378,15 +383,18 @@ def said_by_show(seen, steps, blocked):
     return None if outcomes == [' '.join(['outcome deadlock', *map(str, blocked)])] else Refusal(WRONG_BLOCKED)
 
 
-def absent_step(random, ranks):
+def absent_step(random, script):
     """A step that is never enabled."""
+    ranks = script.ranks
+    if script.version > 1 and random.random() < 0.3:
+        return random.choice([Step('wakeany', ranks, 0), Step('wakeany', 0, script.handles), Step('wakeany', 0, 999999999)])
     return random.choice([Step('local', ranks), Step('wake', ranks), Step('match', CallId(0, 0), CallId(0, 0)),
                           Step('match', CallId(ranks, 0), CallId(0, 0)), Step('match', CallId(0, 999999999), CallId(0, 0))])
 
 
 def with_other_steps(random, seen, steps, blocked):
     """A witness with other steps, with why it must be refused, if it must; where that hangs on the script, `show` says it."""
-    place, other, absent = random.randrange(len(steps)), random.randrange(len(steps)), absent_step(random, seen.script.ranks)
+    place, other, absent = random.randrange(len(steps)), random.randrange(len(steps)), absent_step(random, seen.script)
     doubled, left_out, exchanged = steps[:place + 1] + steps[place:], steps[:place] + steps[place + 1:], list(steps)
     exchanged[place], exchanged[other] = steps[other], steps[place]
     for calls in (blocked, blocked[1:]):
@@ -456,11 +464,21 @@ def wrong_of(random, text, script, mode, met):
 
 
 def check(seed, count, to_end=True):
-    """Checks so many scripts, or those up to the first that is wrong; gives what was met, and what is wrong."""
-    met, wrong, number = Counter(), [], 0
+    """Checks so many scripts of version 1, and a share of them of version 2, or those up to the first that is wrong; gives what was met,
+    and what is wrong."""
+    met, wrong = check_kinds(seed, count, to_end)
+    if wrong and not to_end:
+        return met, wrong
+    met_beside, wrong_beside = check_kinds(Beside(seed), count // BESIDE, to_end)
+    return met + met_beside, wrong + wrong_beside
+
+
+def check_kinds(seed, count, to_end):
+    """The same of the scripts that are drawn by a seed."""
+    met, wrong, number, kinds = Counter(), [], 0, kinds_by(seed)
     while met['scripts'] < count and number < 2 * count and (to_end or not wrong):
         random = Random(f'rules/{seed}/{number}')
-        text, mode = script_of(random, KINDS[kind_of(random)]), MODES[number % 2]
+        text, mode = script_of(random, kinds[kind_of(random, kinds)]), MODES[number % 2]
         try:
             script = read_script(text)
         except Fault:
@@ -479,7 +497,7 @@ def missed(met):
 def check_broken(seed, count):
     """How many broken models are not noticed."""
     unnoticed = 0
-    for breakage in [*breakages(), *report_breakages()]:
+    for breakage in [*breakages(), *report_breakages(), *waitany_faults.walk_faults()]:
         with mock.patch.object(breakage.owner, breakage.attribute, breakage.replacement):
             _, wrong = check(seed, count, to_end=False)
         unnoticed += not wrong

@@ -14,7 +14,7 @@ from typing import NamedTuple, Optional
 import policy
 from debugger import (BAD_FILE, BAD_MODE, MODES, RENDEZVOUS, Debugger, Result, blocked_calls, call_id_of, enabled_steps, file_content,
                       first_world, next_world, outcome, refusal, step_text)
-from language import Fault, read_script
+from language import Branch, Fault, WaitAny, While, read_script
 from policy import Forced, decision
 
 MOST_RUNS, MOST_FUEL = 65536, 1000000
@@ -205,6 +205,19 @@ def status(found, complete=False):
     return 0 if is_whole(found) or not complete else NOT_WHOLE
 
 
+def has_waitany(statements):
+    """Whether a wait for any of some handles stands among statements, or in a block of one."""
+    return any(isinstance(one, WaitAny)
+               or isinstance(one, Branch) and (has_waitany(one.then) or has_waitany(one.otherwise))
+               or isinstance(one, While) and has_waitany(one.body) for one in statements)
+
+
+def status_of(script, found, complete):
+    """The status of a check of a script: with a wait for any of some handles no report tells every way in which it can end."""
+    told = status(found, complete)
+    return NOT_WHOLE if told == 0 and complete and has_waitany(script.body) else told
+
+
 class Asked(NamedTuple):
     """The options of a check; one that is None is left out. `until` is whether the first deadlock or trap is the last leaf."""
     mode: Optional[str] = None
@@ -247,7 +260,7 @@ def checked(script, asked):
     if asked.piece is not None and asked.piece >= len(cut):
         return refused(f'no piece {asked.piece} of {len(cut)}')
     found = reported(cut, asked)
-    return Result(report_text(found, asked.witnesses).encode(), b'', status(found, asked.complete))
+    return Result(report_text(found, asked.witnesses).encode(), b'', status_of(script, found, asked.complete))
 
 
 def check(text, asked):

@@ -1,7 +1,8 @@
 """Decisions, breakpoints and runs: what must hold of them on walks of the model, told in other words than compare/policy.py does.
 
-    python3 compare/follow.py             300 walks of scripts of all kinds and of worked rows, in both modes
-    python3 compare/follow.py --broken    faults of the model (policy_faults.py), each of which these walks must notice
+    python3 compare/follow.py             300 walks of scripts of all kinds and of worked rows, in both modes, and 150 of scripts with
+                                          waits for any
+    python3 compare/follow.py --broken    faults of the model (policy_faults.py, waitany_faults.py), each of which these walks must notice
 
 Behind each step of a walk it is checked that the decision is what the calls, the match sets and the ranks' places say, that every
 step of it can be taken, and that it is a leaf exactly where no step is enabled. At some of these places a copy of the debugger runs,
@@ -20,9 +21,11 @@ from unittest import mock
 
 import debugger
 import policy
+import waitany_faults
+import worked_waitany
 from debugger import Debugger, Step, eligible, enabled_steps, find_call, free_calls, next_world, rank_state
 from language import read_script
-from order import CHOSEN, LATER, all_calls, steps_due, walks
+from order import CHOSEN, LATER, all_calls, all_walks, steps_due
 from policy import BREAK, CHOICE, FULL, LEAF, MAX, START, Breaks, ChangeBreak, Choice, Forced, Leaf, LineBreak, MatchBreak, Stop
 from policy_faults import breakages
 from policy_words import decision_text, stop_text
@@ -38,7 +41,8 @@ MUST_MEET = (
     'leaf done', 'leaf leftovers', 'leaf deadlock', 'leaf trap', 'match passed over', 'match behind a release', 'runs', 'runs back', 'undone kept',
     'undone dropped', 'stop leaf', 'stop choice', 'stop full', 'stop max', 'stop break', 'stop start', 'line by local', 'line by wake',
     'line by release', 'change by local', 'change by wake', 'match by match', 'two marks', 'break at the last step',
-    'break at the last depth', 'break before a leaf', 'break at the start', 'leaf at the last step', 'places')
+    'break at the last depth', 'break before a leaf', 'break at the start', 'leaf at the last step', 'places', 'choice of one wake',
+    'choice of wakes', 'wakes of two ranks', 'wake before any source', 'line by wakeany', 'change by wakeany')
 
 
 def place_of(rank):
@@ -78,6 +82,10 @@ def due(world):
     named = [(two, one) for two, one in pairs if find_call(world, two).other is not None]
     if named:
         return Forced(Step('match', named[0][1], named[0][0]))
+    by_handles = sorted((step.first, step.second) for step in others if step.kind == 'wakeany')
+    if by_handles:
+        lowest = by_handles[0][0]
+        return Choice(tuple(Step('wakeany', lowest, place) for number, place in by_handles if number == lowest))
     return Choice(tuple(Step('match', one, two) for two, one in pairs)) if pairs else Leaf(ending_of(world))
 
 
@@ -103,12 +111,22 @@ def met_in(world):
     wanted = due(world)
     if isinstance(wanted, Leaf):
         return [f'leaf {wanted.outcome}']
+    if isinstance(wanted, Choice) and wanted.steps[0].kind == 'wakeany':
+        return met_in_wakes(world, wanted.steps)
     if isinstance(wanted, Choice):
         receives = len({step.second for step in wanted.steps})
         return ['choice of one' if len(wanted.steps) == 1 else 'choice of more'] + ['choice of receives'] * (receives > 1)
     others = any(step.kind == 'match' for step in enabled_steps(world)) and wanted.step.kind != 'match'
     return [f'forced {wanted.step.kind}'] + ['match passed over'] * others + ['match behind a release'] * (
         others and wanted.step.kind == 'release')
+
+
+def met_in_wakes(world, wakes):
+    """The same where a rank goes on by one of some handles."""
+    others = enabled_steps(world)
+    return (['choice of one wake' if len(wakes) == 1 else 'choice of wakes']
+            + ['wakes of two ranks'] * any(step.kind == 'wakeany' and step.first != wakes[0].first for step in others)
+            + ['wake before any source'] * any(step.kind == 'match' for step in others))
 
 
 def line_of_call(worlds, call_id):
@@ -126,7 +144,7 @@ def is_marked(stop, worlds, step):
         ranks = list(zip(before.ranks, after.ranks))[stop.rank:stop.rank + 1]
         cells = [pair for was, now in ranks for pair in list(zip(was.cells, now.cells))[stop.cell:stop.cell + 1]]
         return any(was != now for was, now in cells)
-    moved = {'local': [step.first], 'wake': [step.first], 'match': [], 'release': range(len(after.ranks))}[step.kind]
+    moved = {'match': [], 'release': range(len(after.ranks))}.get(step.kind, [step.first])
     return stop.line in [place_of(after.ranks[number]) for number in moved]
 
 
@@ -274,18 +292,23 @@ def places_wrong(random, met):
     return wrong
 
 
-def walks_of_rows(seed):
+def walks_of_rows(seed, rows):
     """Walks of the scripts of worked rows, as `walks` gives them."""
-    for number, (script, mode) in enumerate(dict.fromkeys((row.script, row.mode) for row in RUNS)):
+    for number, (script, mode) in enumerate(dict.fromkeys((row.script, row.mode) for row in rows)):
         text = script.encode()
         lines = trace_lines(Random(f'follow/rows/{seed}/{number}'), text, 40, USUAL, mode)
         yield text, Debugger(read_script(text), mode), [line.encode('latin-1') for line in lines]
 
 
+def every_walk(seed, count):
+    """Those of rows, so many walks, and then those of version 2."""
+    return chain(walks_of_rows(seed, RUNS), all_walks(seed, count, KINDS), walks_of_rows(seed, worked_waitany.RUNS))
+
+
 def check(seed, count, to_end=True):
     """Checks so many walks, or those up to the first that is wrong; gives what was met, and what is wrong."""
     met, wrong = Counter(), []
-    for number, (_, walked, lines) in enumerate(chain(walks_of_rows(seed), walks(seed, count, KINDS))):
+    for number, (_, walked, lines) in enumerate(every_walk(seed, count)):
         if wrong and not to_end:
             break
         random = Random(f'follow/{seed}/{number}')
@@ -309,7 +332,7 @@ def missed(met):
 def check_broken(seed, count):
     """How many broken models are not noticed."""
     unnoticed = 0
-    for breakage in breakages():
+    for breakage in [*breakages(), *waitany_faults.decision_faults(), *waitany_faults.mark_faults()]:
         with mock.patch.object(breakage.owner, breakage.attribute, breakage.replacement):
             _, wrong = check(seed, count, to_end=False)
         unnoticed += not wrong

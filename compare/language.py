@@ -17,6 +17,10 @@ MOST_STATEMENTS = 4096
 MOST_OPEN_BLOCKS = 64
 MOST_OPERATORS = 64
 
+# The versions that are read: `waitany` is a statement of version 2 alone. A program that knows version 1 alone is compared with a model
+# that reads no other (`--version 1` of the runs that compare a program).
+VERSIONS = [1, 2]
+
 TOO_LONG, NOT_TEXT, BAD_TOKEN, EXPECTED, UNKNOWN_NAME = range(1, 6)
 TWICE, TOO_DEEP, TOO_MANY, BAD_RANKS, NOT_IN_VERSION = range(6, 11)
 FAULT_NAMES = {
@@ -144,6 +148,15 @@ class Wait(NamedTuple):
     handle: Place
 
 
+class WaitAny(NamedTuple):
+    """A wait for any of the handles of a declaration: its name, the first of them and how many they are; `place` takes which one it was."""
+    line: int
+    name: str
+    first: int
+    count: int
+    place: Place
+
+
 class Barrier(NamedTuple):
     line: int
 
@@ -156,12 +169,18 @@ class Declared(NamedTuple):
 
 
 class Script(NamedTuple):
-    """A script that was read: how many ranks, cells and handles, its names in the order of declaration, its statements."""
+    """A script that was read: its version, how many ranks, cells and handles, its names in the order of declaration, its statements."""
+    version: int
     ranks: int
     cells: int
     handles: int
     names: dict
     body: list
+
+
+def read_up_to(version):
+    """Has the model read no later version than this one."""
+    VERSIONS[:] = range(1, version + 1)
 
 
 def most(kind):
@@ -213,6 +232,7 @@ class Reader:
     def __init__(self, text):
         self.text = text
         self.tokens = Tokens(text)
+        self.version = None
         self.line_feeds = [found.start() for found in re.finditer('\n', text)]
         self.names = {}
         self.taken = {'var': 0, 'req': 0}
@@ -246,7 +266,8 @@ class Reader:
     def script(self):
         self.expect('mpd')
         self.expect_kind('number')
-        if self.tokens.current.value != 1:
+        self.version = self.tokens.current.value
+        if self.version not in VERSIONS:
             raise self.fault(NOT_IN_VERSION)
         self.tokens.advance()
         self.expect(';')
@@ -262,7 +283,7 @@ class Reader:
         body = []
         while self.tokens.current.kind != 'end':
             body.append(self.statement())
-        return Script(ranks, self.taken['var'], self.taken['req'], self.names, body)
+        return Script(self.version, ranks, self.taken['var'], self.taken['req'], self.names, body)
 
     def declaration(self, kind):
         self.tokens.advance()
@@ -323,7 +344,7 @@ class Reader:
         read_rest = None
         if kind == 'name':
             self.known('var')
-        elif kind == 'word' and value == 'waitany':
+        elif kind == 'word' and value == 'waitany' and not self.has_waitany():
             raise Fault(TOO_MANY if over else NOT_IN_VERSION, place)
         else:
             read_rest = self.rest_of(value) if kind == 'word' else None
@@ -337,13 +358,16 @@ class Reader:
         self.tokens.advance()
         return read_rest(line)
 
+    def has_waitany(self):
+        return self.version > 1
+
     def rest_of(self, word):
         """What reads the rest of the statement that begins with `word`; None where none does."""
         return {
             'if': self.branch, 'while': self.loop, 'print': self.printing, 'assert': self.assertion,
             'send': self.sending, 'recv': self.receiving, 'isend': self.with_handle(self.sending),
             'irecv': self.with_handle(self.receiving), 'wait': self.waiting, 'ssend': self.sending_synchronously,
-            'issend': self.with_handle(self.sending_synchronously), 'barrier': self.meeting,
+            'issend': self.with_handle(self.sending_synchronously), 'waitany': self.waiting_for_any, 'barrier': self.meeting,
         }.get(word)
 
     def with_handle(self, read_rest):
@@ -418,6 +442,21 @@ class Reader:
         handle = self.named_place('req')
         self.expect(';')
         return Wait(line, handle)
+
+    def waiting_for_any(self, line):
+        name, first, count = self.named_handles()
+        self.expect('to')
+        place = self.named_place('var')
+        self.expect(';')
+        return WaitAny(line, name, first, count, place)
+
+    def named_handles(self):
+        """All handles of a declaration, which stands without brackets whether it has a size or not: its name, the first one, how many."""
+        self.expect_kind('name')
+        name = self.tokens.current.value
+        _, first, size = self.known('req')
+        self.tokens.advance()
+        return name, first, 1 if size is None else size
 
     def meeting(self, line):
         self.expect(';')

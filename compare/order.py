@@ -1,6 +1,7 @@
 """What holds a match back, and the order that a run shows: rules with no trace word, in the model, and what must hold of them.
 
-    python3 compare/order.py             300 walks of all scripts with wildcards, requests, messages and barriers, in both modes
+    python3 compare/order.py             300 walks of all scripts with wildcards, requests, messages and barriers, in both modes, and 150
+                                         of scripts with waits for any
     python3 compare/order.py --broken    faults of the model, each of which these walks must notice
     python3 compare/order.py --rows 40   rows of `why` and `before`, for tests of the crate that answers them: script, words, a
                                          line for each call with what `why` says of it, and the calls that come before others
@@ -15,11 +16,13 @@ import argparse
 import json
 import sys
 from collections import Counter
+from itertools import chain
 from random import Random
 from typing import NamedTuple
 from unittest import mock
 
 import debugger
+import waitany_faults
 from breakages import buffered_by, going_on, one_left, wakes_at_barriers, without_gone, without_running
 from cases import KINDS
 from debugger import (BUFFERED, MODES, RENDEZVOUS, CallId, Debugger, Pair, Step, Woken, divided, eligible, enabled_steps, find_call,
@@ -28,8 +31,11 @@ from language import Fault, read_script
 
 CHOSEN = ('wildcards', 'wildcards', 'requests', 'script', 'states')
 LATER = ('barriers', 'exchanges')
+# Of version 2, beside the others.
+WITH_WAITANY = ('waitany',)
 # What must have been seen: the cases of the order, in which a release, or a send that is complete as it is issued, has a part.
-MUST_MEET = ('worlds', 'releases', 'sends', 'receives', 'wait', 'blocks', 'behind a release', 'before a release', 'buffered')
+MUST_MEET = ('worlds', 'releases', 'sends', 'receives', 'wait', 'blocks', 'behind a release', 'before a release', 'buffered',
+             'wakes by a handle', 'waits for any of nothing', 'behind a wait for any')
 
 
 def holder(world, send_id, receive_id):
@@ -134,6 +140,7 @@ def places_between(world, first, second, paired, left):
         else:
             bounds = [places[second] for places in (paired, left) if second in places]
             also = ['behind a release'] * (one.kind == 'barrier') + ['before a release'] * (two.kind == 'barrier')
+            also += ['behind a wait for any'] * (one.kind == 'waitany')
             yield Places(case, bounds, left.get(first), also)
 
 
@@ -158,8 +165,18 @@ def told_of_barriers(world):
             if len(barriers_of(world, number)) != releases + (rank.mode == 'blocked' and rank.calls[-1].kind == 'barrier')]
 
 
+def due_by_any(world, call_id, is_done):
+    """The wakes that must be enabled of a rank that waits for any: by what its handles hold."""
+    call = find_call(world, call_id)
+    held = list(enumerate(world.ranks[call_id.rank].handles))[call.first:call.first + call.count]
+    if all(number is None for _, number in held):
+        return {Step('wake', call_id.rank)}
+    return {Step('wakeany', call_id.rank, handle - call.first) for handle, number in held
+            if number is not None and is_done(CallId(call_id.rank, number))}
+
+
 def steps_due(world):
-    """The wakes and the release that must be enabled, by the calls and the records alone."""
+    """The wakes and the release that must be enabled, by the calls, what handles hold, and the records alone."""
     def is_done(call_id):
         return call_id in paired or (world.mode == BUFFERED and is_standard_send(find_call(world, call_id)))
 
@@ -170,6 +187,9 @@ def steps_due(world):
     due = {Step('release')} if len(barriers) == len(last) else set()
     for call_id in waited:
         call = find_call(world, call_id)
+        if call.kind == 'waitany':
+            due |= due_by_any(world, call_id, is_done)
+            continue
         if call.kind == 'wait':
             is_due = call.target is None or is_done(CallId(call_id.rank, call.target))
         else:
@@ -194,7 +214,7 @@ def told_wrong(world):
                     wrong.append(f'why of {call_id}: {held}')
     if matches != all_matches(world):
         wrong.append('the enabled matches')
-    if {step for step in steps if step.kind in ('wake', 'release')} != steps_due(world):
+    if {step for step in steps if step.kind in ('wake', 'wakeany', 'release')} != steps_due(world):
         wrong.append('the enabled wakes, or the release')
     return wrong + told_of_barriers(world)
 
@@ -221,10 +241,15 @@ def walks(seed, count, kinds=CHOSEN):
             continue
 
 
+def all_walks(seed, count, kinds=CHOSEN + LATER):
+    """So many walks of scripts of version 1, and half as many of version 2 beside."""
+    return chain(walks(seed, count, kinds), walks(seed, count // 2, WITH_WAITANY))
+
+
 def check(seed, count, to_end=True):
     """Checks so many walks, or those up to the first that is wrong; gives what was met, and what is wrong."""
     met, wrong = Counter(), []
-    for _, walked, lines in walks(seed, count, CHOSEN + LATER):
+    for _, walked, lines in all_walks(seed, count):
         if wrong and not to_end:
             break
         longest = walked.world
@@ -235,13 +260,21 @@ def check(seed, count, to_end=True):
             if len(all_calls(walked.world)) > 40:
                 continue
             met['worlds'] += 1
-            met['releases'] += walked.steps[walked.depth - 1].kind == 'release' if walked.depth else 0
+            met.update(met_by_step(walked))
             wrong += told_wrong(walked.world)
         for world in (longest, walked.world):
             cases, found = out_of_order(world)
             met += cases
             wrong += found
     return met, wrong
+
+
+def met_by_step(walked):
+    """What was met as the last step that isn't undone was taken."""
+    step = walked.steps[walked.depth - 1] if walked.depth else Step('none')
+    is_of_nothing = step.kind == 'wake' and walked.world.ranks[step.first].calls[-1].kind == 'waitany'
+    names = {'release': 'releases', 'wakeany': 'wakes by a handle', 'wake': 'waits for any of nothing' if is_of_nothing else 'wakes'}
+    return [names[step.kind]] if step.kind in names else []
 
 
 def missed(met):
@@ -279,7 +312,7 @@ def breakages():
                  buffered_by(lambda _, call: not call.synchronous)),
         Breakage('a rank that goes on behind a buffered send without a wake', debugger, 'after_local',
                  going_on(debugger.after_local)),
-    )
+        *waitany_faults.order_faults(here))
 
 
 def check_broken(seed, count):

@@ -18,7 +18,7 @@ class Forced(NamedTuple):
 
 
 class Choice(NamedTuple):
-    """The matches that somebody has to choose among, in the order of `enabled`; there may be one alone."""
+    """The matches, or the wakes of one rank, that somebody has to choose among, in the order of `enabled`; there may be one alone."""
     steps: tuple
 
 
@@ -40,15 +40,19 @@ def decision(world):
     """What a run does in a world.
 
     The first of these that is there: the local step of the lowest rank, the release, the wake of the lowest rank, the match of a
-    receive that names its source, first by receiver and number; else a choice among all matches that are left, else a leaf.
+    receive that names its source, first by receiver and number; else a choice among the wakes of the lowest rank that goes on by any of
+    some handles, else one among all matches that are left, else a leaf.
     """
     steps = enabled_steps(world)
     for kind in ('local', 'release', 'wake'):
         if (step := first_of_kind(steps, kind)) is not None:
             return Forced(step)
-    named = [step for step in steps if names_source(world, step)]
+    matches = [step for step in steps if step.kind == 'match']
+    named = [step for step in matches if names_source(world, step)]
     if named:
         return Forced(named[0])
+    if (lowest := first_of_kind(steps, 'wakeany')) is not None:
+        return Choice(tuple(step for step in steps if step.kind == 'wakeany' and step.first == lowest.first))
     return Choice(tuple(steps)) if steps else Leaf(outcome(world))
 
 

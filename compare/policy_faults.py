@@ -26,6 +26,9 @@ def deciding(kinds, of_kind=lambda steps: steps[0], pick=lambda steps: steps[0],
         for kind in kinds:
             if groups[kind]:
                 return Forced((pick if kind == 'match' else of_kind)(groups[kind]))
+        wakes = [step for step in steps if step.kind == 'wakeany']
+        if wakes:
+            return Choice(tuple(step for step in wakes if step.first == wakes[0].first))
         return Choice(choose(matches)) if matches else Leaf(outcome(world))
     return decided
 

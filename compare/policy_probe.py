@@ -1,6 +1,7 @@
 """Compares decisions, breakpoints, runs forward and back, and what else a trail can do, as the crates answer them, with the model.
 
-    python3 compare/policy_probe.py                 300 random scripts, in both modes
+    python3 compare/policy_probe.py                 300 random scripts, in both modes, and 150 of version 2
+    python3 compare/policy_probe.py --version 1     crates that know version 1 alone
     python3 compare/policy_probe.py --planted       each wrong body of compare/probe/broken-policy/ too, in a copy of its own
 
 No trace word tells what these do. So a copy of the program is made that takes words for them (compare/policy_words.py): compare/probe/
@@ -22,17 +23,21 @@ from concurrent.futures import ProcessPoolExecutor, ThreadPoolExecutor
 from random import Random
 from unittest import mock
 
+import language
 import policy_faults
+import waitany_faults
 import walks
 from cases import KINDS
 from debugger import MODES, divided, rank_state
-from language import Fault, read_script
+from explore_cases import Beside
+from language import Fault, read_script, read_up_to
 from policy_words import Driven
 from probing import DIVIDER, PROBES, TOP, Batch, Change, Probe, Walked, batches, report, tried
 
 POLICY = Probe('policy.edit', 'policy.rattle', 'driven.rt', 'policy-main.rattle', ('mpd_policy',))
 BODIES = f'{PROBES}/broken-policy'
 CHOSEN = ('wildcards', 'wildcards', 'trails', 'barriers', 'exchanges', 'requests', 'script', 'messages')
+CHOSEN_OF_2 = ('waitany',)
 FORWARD = walks.Habits(show=(0.0,), back=(0.0, 0.05), any_step=(0.0, 0.1), odd=(0.0,), backs=(0, 1, 2, 5), along=(0.0, 0.1),
                        redos=(0, 1, 2, 5))
 # Behind so many steps nothing is asked any more: what a script does for ever would make it long.
@@ -45,6 +50,7 @@ MUST_MEET = (
     'forced local', 'forced match', 'forced wake', 'forced release', 'choice match', 'leaf done', 'leaf leftovers', 'leaf deadlock',
     'leaf trap', 'stop leaf', 'stop choice', 'stop max', 'stop break', 'stop start', 'break line', 'break match', 'break change',
     'removed', 'refused no-such-break', 'refused breaks-full', 'breaks', 'redo', 'goto', 'copy', 'forget')
+MUST_MEET_OF_2 = ('choice wakeany', 'wakeany')
 
 
 class Walk:
@@ -122,7 +128,8 @@ class Walk:
 
 def walked(seed, number):
     """The walk of this number; None where its script can't be read, or there is nothing to ask."""
-    kind, mode = CHOSEN[number % len(CHOSEN)], MODES[number // len(CHOSEN) % 2]
+    kinds = CHOSEN_OF_2 if isinstance(seed, Beside) else CHOSEN
+    kind, mode = kinds[number % len(kinds)], MODES[number // len(kinds) % 2]
     random = Random(f'policy/{kind}/{seed}/{number}')
     script = divided(KINDS[kind].draw(random, mode))[0]
     try:
@@ -140,7 +147,7 @@ def walked(seed, number):
         walk.fill()
     walk.take('show')
     data = mode[:1].encode() + script + b'\1' + ''.join(f'{line}\n' for line in walk.lines).encode('latin-1')
-    return Walked(f'{number}-{mode}', data, expected(data), walk.met)
+    return Walked(f'{seed}-{number}-{mode}', data, expected(data), walk.met)
 
 
 def expected(data):
@@ -181,12 +188,23 @@ def noticing(place, walks):
 
 def faults():
     """The faults that a walk can show: no walk comes to the last depth."""
-    return [breakage for breakage in policy_faults.breakages() if 'last depth' not in breakage.name and 'full' not in breakage.name]
+    found = [breakage for breakage in policy_faults.breakages() if 'last depth' not in breakage.name and 'full' not in breakage.name]
+    return found + faults_of_2() if 2 in language.VERSIONS else found
+
+
+def faults_of_2():
+    """Those of waits for any."""
+    return [*waitany_faults.decision_faults(), *waitany_faults.mark_faults()]
+
+
+def sought_among(walks):
+    """The walks among which one is sought on which a broken model says otherwise: those of version 2 stand last."""
+    return walks[:MOST_SOUGHT] + walks[max(MOST_SOUGHT, len(walks) - MOST_SOUGHT):]
 
 
 def compare(pool, chosen, walks):
     """Compares the walks, and the broken models; gives how much is wrong."""
-    sought = [pool.submit(noticing, place, walks[:MOST_SOUGHT]) for place in range(len(faults()))]
+    sought = [pool.submit(noticing, place, sought_among(walks)) for place in range(len(faults()))]
     broken = [it.result() for it in sought]
     all_batches = batches(walks)
     said, text = tried(POLICY, [*all_batches, *filter(None, broken)], [], chosen.seconds)
@@ -217,7 +235,8 @@ def compare_planted(chosen, walks):
 
 def arguments():
     parser = argparse.ArgumentParser(description=__doc__, formatter_class=argparse.RawDescriptionHelpFormatter)
-    parser.add_argument('--count', type=int, default=300, help='how many scripts (300)')
+    parser.add_argument('--count', type=int, default=300, help='how many scripts of version 1 (300), and half as many of version 2')
+    parser.add_argument('--version', type=int, choices=[1, 2], default=2, help='the last version that the crates know (2)')
     parser.add_argument('--seed', type=int, default=1, help='another seed gives other scripts (1)')
     parser.add_argument('--planted', action='store_true', help='plant the wrong bodies too: a build for each')
     parser.add_argument('--model', action='store_true', help='make no copy: only see that the walks meet all, and notice each fault')
@@ -240,11 +259,14 @@ def main():
     chosen = arguments()
     os.chdir(TOP)
     began = time.monotonic()
-    with ProcessPoolExecutor(chosen.jobs) as pool:
+    read_up_to(chosen.version)
+    with ProcessPoolExecutor(chosen.jobs, initializer=read_up_to, initargs=(chosen.version,)) as pool:
         walks = all_walked(pool, chosen.seed, chosen.count)
+        walks += all_walked(pool, Beside(chosen.seed), chosen.count // 2) if chosen.version > 1 else []
         met = sum((walk.met for walk in walks), Counter())
-        print(', '.join(f'{name} {met[name]}' for name in MUST_MEET), flush=True)
-        wrong = [f'{name} was not met' for name in MUST_MEET if not met[name]]
+        must_meet = MUST_MEET + MUST_MEET_OF_2 * (chosen.version > 1)
+        print(', '.join(f'{name} {met[name]}' for name in must_meet), flush=True)
+        wrong = [f'{name} was not met' for name in must_meet if not met[name]]
         print('\n'.join(wrong), end='\n' if wrong else '')
         is_wrong = (unnoticed_in_model(pool, walks) if chosen.model else compare(pool, chosen, walks)) if walks else True
     if chosen.planted:

@@ -1,6 +1,7 @@
 """Compares a program with the model, byte for byte, on many inputs: the same ones for the same seed and count.
 
-    python3 compare/run.py PROGRAM                 2,000 inputs of all kinds
+    python3 compare/run.py PROGRAM                 2,000 inputs of version 1, of all kinds, and 500 of version 2
+    python3 compare/run.py PROGRAM --version 1     a program that knows version 1 alone: no other inputs, and a model of that
     python3 compare/run.py --broken                faults of the model, each noticed; with no program the sound model stands for it
 
 The status is 0 where inputs were compared and none differed. A program that crashes, takes too long, too much memory or
@@ -16,10 +17,11 @@ from concurrent.futures import ProcessPoolExecutor
 from typing import NamedTuple
 from unittest import mock
 
+import waitany_faults
 from breakages import breakages
-from cases import KINDS, random_case, shares
+from cases import KINDS, counts_up_to, random_case, shares
 from debugger import Result, answer, answer_file, answer_packets
-from language import read_script
+from language import read_script, read_up_to
 from runs import limit, run_at_once, run_in_packets
 
 CHUNK = 8
@@ -97,11 +99,17 @@ def report(folder, kind, count, found):
 def prepare(chosen):
     """Readies a process for its part of a run."""
     limit(chosen.memory, chosen.output)
+    read_up_to(chosen.version)
+
+
+def counts_of(chosen):
+    """How many inputs of each kind there are in a run."""
+    return shares(chosen.count, chosen.kind) if chosen.kind else counts_up_to(chosen.version, chosen.count)
 
 
 def compare_random(chosen, folder):
     """Compares inputs of the kinds; gives how many there were, and how many differed."""
-    counts = shares(chosen.count, chosen.kind or KINDS)
+    counts = counts_of(chosen)
     compared = differing = 0
     with ProcessPoolExecutor(chosen.jobs, initializer=prepare, initargs=(chosen,)) as pool:
         tasks = {kind: [pool.submit(compare_chunk, chosen, kind, range(first, min(first + CHUNK, count)))
@@ -119,7 +127,7 @@ def write_cases(chosen):
     """Writes the inputs that are one file, with what must be written for each, for `rt try --cases FOLDER`."""
     os.makedirs(chosen.write, exist_ok=True)
     count = 0
-    for kind, number_of_kind in shares(chosen.count, chosen.kind or KINDS).items():
+    for kind, number_of_kind in counts_of(chosen).items():
         for number in range(number_of_kind):
             case = random_case(kind, chosen.seed, number, False)
             if case.mode is not None:
@@ -150,7 +158,10 @@ def count_noticed(chosen, breakage):
 def arguments():
     parser = argparse.ArgumentParser(description=__doc__, formatter_class=argparse.RawDescriptionHelpFormatter)
     parser.add_argument('program', nargs='?', metavar='PROGRAM')
-    parser.add_argument('--count', type=int, default=2000, help='inputs in all (2000); with --broken, of each kind')
+    parser.add_argument('--count', type=int, default=2000,
+                        help='inputs of version 1 (2000), a quarter of these of version 2 beside them; with --kind inputs in all; with '
+                        '--broken, of each kind')
+    parser.add_argument('--version', type=int, choices=[1, 2], default=2, help='the last version that the program knows (2)')
     parser.add_argument('--seed', type=int, default=1, help='another seed gives other inputs (1)')
     parser.add_argument('--kind', action='append', choices=list(KINDS), help='only this kind; may be given again')
     parser.add_argument('--packets', action='store_true', help='each input cut into reads, and not only every third')
@@ -174,10 +185,12 @@ def arguments():
 
 def main():
     chosen = arguments()
+    read_up_to(chosen.version)
     if chosen.write:
         return write_cases(chosen)
     if chosen.broken:
-        noticed = [count_noticed(chosen, breakage) for breakage in breakages()]
+        noticed = [count_noticed(chosen, breakage) for breakage in [*breakages(), *waitany_faults.breakages()]
+                   if KINDS[breakage.kind].version <= chosen.version]
         return 0 if all(noticed) else 1
     began = time.monotonic()
     folder = []

@@ -25,8 +25,8 @@ BYTES = (0, 7, 9, 10, 11, 12, 13, 27, 31, 32, 35, 36, 38, 45, 46, 59, 61, 33, 60
          123, 124, 125, 126, 127, 128, 160, 194, 255, 48, 57, 65)
 
 
-def header(ranks):
-    return ['mpd', '1', ';', 'ranks', str(ranks), ';']
+def header(ranks, version=1):
+    return ['mpd', str(version), ';', 'ranks', str(ranks), ';']
 
 
 def declaration(name, size, kind='var'):
@@ -54,11 +54,12 @@ def synchronous(random, share=0.3):
 
 
 class Writer:
-    """Writes a random script as a list of tokens; a calm one avoids most traps."""
+    """Writes a random script of a version as a list of tokens; a calm one avoids most traps."""
 
-    def __init__(self, random, ranks, count=None):
+    def __init__(self, random, ranks, count=None, version=1):
         self.random = random
         self.ranks = ranks
+        self.version = version
         self.calm = self.chance(0.5)
         self.variables = []
         if count is None:
@@ -71,7 +72,7 @@ class Writer:
         if self.chance(0.85) and all(size is not None for _, size in self.variables):
             self.variables.append((names[count], None))
         self.handles = []
-        for name in random.sample(HANDLE_NAMES, random.choice([0, 0, 1, 1, 2, 3])):
+        for name in random.sample(HANDLE_NAMES, random.choice([0, 0, 1, 1, 2, 3] if version == 1 else [1, 1, 2, 3])):
             self.handles.append((name, random.choice([None, None, 1, 2, 3] + ([] if self.calm else [0, 5]))))
 
     def chance(self, probability):
@@ -220,11 +221,17 @@ class Writer:
         return self.one_of(self.handles, 1)
 
     def request(self):
-        """A statement about a handle."""
+        """A statement about a handle, or in version 2 about all of a declaration."""
+        if self.version > 1 and self.chance(0.35):
+            return self.wait_for_any()
         draw = self.random.random()
         if draw < 0.3:
             return self.send(handle=self.handle())
         return self.receive(handle=self.handle()) if draw < 0.6 else ['wait', *self.handle(), ';']
+
+    def wait_for_any(self):
+        place = self.place(2)
+        return ['waitany', self.random.choice(self.handles)[0], 'to', *place, ';'] if place else ['print', '0', ';']
 
     def block(self, depth):
         tokens = ['{']
@@ -275,6 +282,12 @@ class Writer:
             return ['while', name, '<', str(self.random.randint(1, 3)), *body]
         return ['while', *self.expression(1), *self.block(depth)]
 
+    def wait_for(self, handle):
+        """A wait for a handle, or in version 2 one for any of those that it stands among."""
+        if self.version > 1 and self.chance(0.5) and (place := self.place(2)):
+            return ['waitany', handle[0], 'to', *place, ';']
+        return ['wait', *handle, ';']
+
     def messages(self):
         """For each rank its sends, receives and waits of some messages, nearly consistent."""
         parts, waits = [[] for _ in range(self.ranks)], [[] for _ in range(self.ranks)]
@@ -290,7 +303,7 @@ class Writer:
             parts[destination].append(self.receive([str(source)], [tag], handles[1]))
             for rank, handle in zip((source, destination), handles):
                 if handle and self.chance(0.7):
-                    waits[rank].append(['wait', *handle, ';'])
+                    waits[rank].append(self.wait_for(handle))
         for part, waited in zip(parts, waits):
             for wait in waited:
                 part.insert(len(part) if self.chance(0.8) else self.random.randint(0, len(part)), wait)
@@ -333,7 +346,7 @@ class Writer:
         return sum(declared, [])
 
     def script(self):
-        version = '1' if self.chance(0.95) else '001'
+        version = str(self.version) if self.chance(0.95) else f'00{self.version}'
         ranks = str(self.ranks) if self.chance(0.95) else f'00{self.ranks}'
         tokens = ['mpd', version, ';', 'ranks', ranks, ';', *self.declarations()]
         for name, size in self.variables:

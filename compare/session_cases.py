@@ -11,7 +11,7 @@ import session_lines
 from cases import KINDS as TRACED
 from debugger import MODES, RENDEZVOUS, Debugger, enabled_steps, lines_of, parted
 from canonical import canonical
-from explore_cases import KINDS as EXPLORED, kind_of, script_of
+from explore_cases import KINDS as EXPLORED, KINDS_OF_2, Beside, kind_of, script_of
 from language import Fault, read_script
 from policy import Choice, Forced
 from session import Refused, Session, answer_line, parse, serve
@@ -76,7 +76,8 @@ class Talk:
 
     def __init__(self, random, script, mode, habits):
         self.random, self.habits = random, habits
-        self.session = Session(read_script(script), mode)
+        read = read_script(script)
+        self.session, self.version = Session(read, mode), read.version
         self.source_lines = script.count(b'\n') + 1
         self.blank, self.escapes = random.choice([0.0, 0.0, 0.3]), random.choice([0.0, 0.0, 0.0, 0.1, 1.0])
         self.met = Counter()
@@ -93,7 +94,7 @@ class Talk:
     def step(self):
         steps, undone = enabled_steps(self.walked.world), self.walked.steps[self.walked.depth:]
         if self.chance(self.habits.any_step) or not steps:
-            step = random_step(self.random, self.walked.world)
+            step = random_step(self.random, self.walked.world, self.version)
         elif undone and self.chance(0.4):
             step = undone[0]
         else:
@@ -107,6 +108,7 @@ class Talk:
             choice = self.random.choice([None, None, count, near(self.random, count)]) if self.chance(0.25) else self.random.randrange(count)
         else:
             choice = near(self.random, 0) if self.chance(0.1) else None
+        self.met['a choice of wakes by a handle'] += isinstance(decided, Choice) and decided.steps[0].kind == 'wakeany'
         self.met['a choice that is not looked at'] += isinstance(decided, Forced) and choice is not None
         return {'cmd': 'next', **({} if choice is None else {'choice': choice})}
 
@@ -247,8 +249,15 @@ def on_lines(random, script):
         return script
 
 
+def script_by(seed, random, mode):
+    """A script of a seed: of any kind of its version."""
+    if isinstance(seed, Beside):
+        return on_lines(random, script_of(random, KINDS_OF_2[kind_of(random, KINDS_OF_2)]))
+    return script_for(random, mode)
+
+
 def script_for(random, mode):
-    """A script of any kind."""
+    """A script of version 1 of any kind."""
     if random.random() < 0.75:
         return on_lines(random, script_of(random, EXPLORED[kind_of(random)]))
     kind = TRACED[random.choice(CHOSEN_OF_TRACED)]
@@ -299,7 +308,7 @@ def random_case(seed, number):
     """One session, the same each time."""
     random = Random(f'sessions/{seed}/{number}')
     mode = random.choice(MODES)
-    script, way, habits = script_for(random, mode), WAYS[number % len(WAYS)], random.choice(ALL_HABITS)
+    script, way, habits = script_by(seed, random, mode), WAYS[number % len(WAYS)], random.choice(ALL_HABITS)
     try:
         talk = Talk(random, script, mode, habits)
     except Fault:

@@ -10,12 +10,13 @@ import os
 import resource
 import tempfile
 
+import worked_waitany
 from debugger import MOST_READS, Result
 from devices import SECONDS, Files, at_terminal, broken_off, device, file_of_any_size, full, refused, soft_limit, unread_pipe
 from runs import file_of, held, run_in_packets
 from session import serve
 from shims import built
-from worked_program import BAD_MODE, INPUT, NO_FILE, OUTPUT, SCRIPT, Failing
+from worked_program import BAD_MODE, INPUT, NO_FILE, OUTPUT, SCRIPT, Failing, of_each_version
 from worked_runs import FIRST, HEAD_TO_HEAD
 from worked_sessions import DIALOGUES, RUN, STATE, deep, no, ran, step, tested_differently, tested_input
 
@@ -217,7 +218,7 @@ def much_rows(folder):
 
 def dialogue_rows(folder):
     """The worked dialogues, but for those with fewer steps in a trail; compare/checked.py has the checked program answer them."""
-    for row in DIALOGUES:
+    for row in of_each_version(DIALOGUES, worked_waitany.DIALOGUES):
         if row.limit is None:
             result = folder.run(folder.file('dialogue', row.script.encode()), '--mode', row.mode, data=row.asked())
             yield row.what, result, Result(row.wanted(), b'', 0)

@@ -1,6 +1,7 @@
 """Compares what `run` of a program replies with the model, byte for byte: the same sessions for the same seed and count.
 
-    python3 compare/sessions.py PROGRAM             the worked dialogues, and 300 random sessions
+    python3 compare/sessions.py PROGRAM             the worked dialogues, 300 random sessions of scripts of version 1, and 75 of version 2
+    python3 compare/sessions.py PROGRAM --version 1 a program that knows version 1 alone
     python3 compare/sessions.py --broken            faults of the model, each noticed; with no program the sound model stands for it
 
 Each session is a script in a file, in one mode or the other, and lines of requests on standard input (session_cases.py), among them
@@ -22,8 +23,13 @@ from functools import cache
 from typing import NamedTuple, Optional
 from unittest import mock
 
+import waitany_faults
+import worked_waitany
+from cases import BESIDE
 from debugger import Result
 from explore import first_different
+from explore_cases import Beside
+from language import read_up_to
 from runs import held, limit, run_at_once, run_in_packets
 from session import FIELDS, NAMES, lines_of, read_json
 from session_cases import WAYS, Case, random_case
@@ -44,6 +50,8 @@ TOLD = ('a null', 'a number below 0', 'a number printed', 'outcome done', 'outco
         'breakpoint line', 'breakpoint match', 'breakpoint change', 'two stops of one breakpoint', 'a last line without an end', 'no reply to a line',
         'a script that is refused', 'a depth above 100', 'the right version', 'a choice that is not looked at', 'a stop by line',
         'a stop by match', 'a stop by change')
+# What must be met of version 2.
+TOLD_OF_2 = ('a choice of wakes by a handle', 'a wake by a handle', 'a wait for any', 'a wait for any of nothing')
 MUST_MEET = (*(f'{command} ok' for command in FIELDS), *NAMES.values(), *(f'stop {stop}' for stop in STOPS), *TOLD, *WAYS, *KINDS)
 
 
@@ -92,6 +100,8 @@ def met_in_state(reply):
     found += ['a number printed'] * bool(reply.get('out'))
     found += ['held by' if 'held by' in text else 'eligible' for text in reply.get('partners', [])]
     found += ['no partners'] * (reply.get('partners') == [])
+    found += ['a wake by a handle'] * any(text.startswith('wakeany') for text in [reply.get('step', '')])
+    found += [f'a wait for any{" of nothing" * text.endswith(" none")}' for text in reply.get('calls', []) if text.startswith('waitany')]
     return found + [f'breakpoint {text.split()[1]}' for text in reply.get('breaks', [])]
 
 
@@ -152,9 +162,9 @@ def compare_chunk(chosen, numbers):
     return count, found, met
 
 
-def worked_cases():
+def worked_cases(version):
     """The worked dialogues that a program can be asked, each way, and the worked inputs, each with what must be answered."""
-    for row in DIALOGUES + LONG:
+    for row in DIALOGUES + LONG + worked_waitany.DIALOGUES * (version > 1):
         if row.limit is None:
             pieces = tuple(f'{line}\n'.encode('latin-1') for line, _ in row.turns)
             for way in ('at once', 'turn by turn')[:1 if row in LONG else 2]:
@@ -180,7 +190,7 @@ def worked_problem(chosen, case, wanted):
 
 def compare_worked(chosen, pool):
     """Compares the worked dialogues; gives how many differ, and what was met."""
-    cases = list(worked_cases())
+    cases = list(worked_cases(chosen.version))
     problems = [problem for problem in pool.map(worked_problem, [chosen] * len(cases), *zip(*cases)) if problem]
     result = run(chosen, Case('lines', FIRST.encode(), None, (tested_input(),), 'at once', Counter()))
     problems += tested_differently(result.output) + [f'{result.status}'] * (result.status != 0)
@@ -190,10 +200,20 @@ def compare_worked(chosen, pool):
     return len(problems), sum((met_in_session(case.data, wanted) for case, wanted in cases), Counter())
 
 
+def beside(chosen):
+    """What is chosen, for the scripts of version 2, of which there are fewer."""
+    return chosen._replace(seed=Beside(chosen.seed), count=chosen.count // BESIDE)
+
+
+def versions(chosen):
+    """What is chosen, for the scripts of each version."""
+    return [chosen, beside(chosen)][:chosen.version]
+
+
 def compare_random(chosen, pool):
     """Compares so many random sessions; gives how many replies there were, how many sessions differed, and what was met."""
-    chunks = [range(first, min(first + CHUNK, chosen.count)) for first in range(0, chosen.count, CHUNK)]
-    tasks = [pool.submit(compare_chunk, chosen, chunk) for chunk in chunks]
+    chunks = [(one, range(first, min(first + CHUNK, one.count))) for one in versions(chosen) for first in range(0, one.count, CHUNK)]
+    tasks = [pool.submit(compare_chunk, *chunk) for chunk in chunks]
     folder, compared, differing, met = [], 0, 0, Counter()
     for count, found, met_there in (task.result() for task in tasks):
         met += met_there
@@ -206,8 +226,9 @@ def compare_random(chosen, pool):
 
 def unmet(chosen, met):
     """Says what was met; gives how much was not that must be."""
-    print('; '.join(f'{name} {met[name]}' for name in MUST_MEET))
-    missed = [name for name in MUST_MEET if not met[name]] if chosen.count >= MANY else []
+    must_meet = MUST_MEET + TOLD_OF_2 * (chosen.version > 1)
+    print('; '.join(f'{name} {met[name]}' for name in must_meet))
+    missed = [name for name in must_meet if not met[name]] if chosen.count >= MANY else []
     for name in missed:
         print(f'{name} was not met')
     return len(missed)
@@ -215,9 +236,15 @@ def unmet(chosen, met):
 
 # ---- broken models
 
-def breakages():
-    """All faults of the model."""
-    return session_faults.breakages() + session_line_faults.breakages()
+def breakages(version):
+    """All faults of the model that reads scripts up to this version."""
+    found = session_faults.breakages() + session_line_faults.breakages()
+    return found + breakages_of_2() if version > 1 else found
+
+
+def breakages_of_2():
+    """Those of waits for any."""
+    return [*waitany_faults.decision_faults(), *waitany_faults.mark_faults()]
 
 
 @cache
@@ -229,12 +256,18 @@ def heard(chosen, number):
 
 def is_noticed(chosen, place):
     """By what a fault of the model is noticed: a worked dialogue, or a session in which it says otherwise; None where it isn't."""
-    fault = breakages()[place]
+    fault = breakages(chosen.version)[place]
+    is_of_2 = place >= len(breakages(1))
     with mock.patch.object(fault.owner, fault.attribute, fault.replacement):
-        if any(map(dialogue_problem, DIALOGUES)):
+        if any(map(dialogue_problem, worked_waitany.DIALOGUES if is_of_2 else DIALOGUES)):
             return 'a dialogue'
         if any(tested_problem(*row) for row in TESTED):
             return 'a line'
+    return noticing_session(beside(chosen) if is_of_2 else chosen, fault)
+
+
+def noticing_session(chosen, fault):
+    """The session in which a broken model says otherwise; None where there is none."""
     for number in range(chosen.count):
         case, said = heard(chosen, number)
         with mock.patch.object(fault.owner, fault.attribute, fault.replacement):
@@ -245,7 +278,7 @@ def is_noticed(chosen, place):
 
 def compare_broken(chosen, pool):
     """How many faults of the model are not noticed."""
-    faults = breakages()
+    faults = breakages(chosen.version)
     if any(map(dialogue_problem, DIALOGUES)) or any(tested_problem(*row) for row in TESTED):
         print('the sound model itself answers a dialogue otherwise: compare/worked.py tells which')
         return len(faults)
@@ -260,7 +293,8 @@ class Chosen(NamedTuple):
     """What the words of the command line choose."""
     program: Optional[str]
     count: int
-    seed: int
+    seed: object
+    version: int
     broken: bool
     jobs: int
     seconds: float
@@ -271,12 +305,15 @@ class Chosen(NamedTuple):
 def prepare(chosen):
     """Readies a process for its part of a run."""
     limit(chosen.memory, chosen.output)
+    read_up_to(chosen.version)
 
 
 def arguments():
     parser = argparse.ArgumentParser(description=__doc__, formatter_class=argparse.RawDescriptionHelpFormatter)
     parser.add_argument('program', nargs='?', metavar='PROGRAM')
-    parser.add_argument('--count', type=int, default=300, help='how many sessions (300)')
+    parser.add_argument('--count', type=int, default=300,
+                        help='how many sessions of scripts of version 1 (300), and a quarter of these of version 2')
+    parser.add_argument('--version', type=int, choices=[1, 2], default=2, help='the last version that the program knows (2)')
     parser.add_argument('--seed', type=int, default=1, help='another seed gives other sessions (1)')
     parser.add_argument('--broken', action='store_true', help='break the model on purpose; each fault must be noticed')
     parser.add_argument('--jobs', type=int, default=len(os.sched_getaffinity(0)), help='how many processes (one for each core)')
@@ -301,7 +338,8 @@ def main():
             compared, differing, met = compare_random(chosen, pool)
             worked_wrong, met_there = compare_worked(chosen, pool)
             wrong += differing + worked_wrong + unmet(chosen, met + met_there) + (compared < 1)
-            print(f'{compared} replies of {chosen.count} sessions compared, {differing} different, {time.monotonic() - began:.1f} seconds')
+            sessions = sum(one.count for one in versions(chosen))
+            print(f'{compared} replies of {sessions} sessions compared, {differing} different, {time.monotonic() - began:.1f} seconds')
         if chosen.broken:
             wrong += compare_broken(chosen, pool)
     return 1 if wrong else 0

@@ -1,6 +1,7 @@
 """Runs the built program in each way to end: what it writes, what it says on standard error, and its status, each exactly.
 
     python3 compare/statuses.py PROGRAM
+    python3 compare/statuses.py PROGRAM --version 1    a program that knows version 1 of the language alone
 
 The examples, and the worked rows of compare/worked_program.py; devices that are full, closed, broken off, too short or interrupted;
 each fault of a script; the words of the command line, and the order in which they are tested; a script from a file; a refused
@@ -26,7 +27,7 @@ from debugger import MOST_READS, MOST_STEPS, RENDEZVOUS, Debugger, Result, Step,
 from device_statuses import ROWS as DEVICE_ROWS
 from devices import SECONDS, Files, at_terminal, broken_off, device, file_of_any_size, full, refused, soft_limit, unread_pipe
 from examples import EXAMPLES, checks, example_names, lessons, open_example, strays
-from language import MOST_OPEN_BLOCKS, MOST_OPERATORS, read_script
+from language import MOST_OPEN_BLOCKS, MOST_OPERATORS, read_script, read_up_to
 from part_statuses import ROWS as PART_ROWS
 from runs import file_of, run_in_packets
 from session_statuses import ROWS as SESSION_ROWS
@@ -56,7 +57,7 @@ FAULTS = (
     (b'mpd 1;\nranks 1;\nprint ' + b'-' * 65 + b'1;\n', b'7 too-deep at 86 line 3'),
     (b'mpd 1;\nranks 1;\nvar a[1025];\n', b'8 too-many at 22 line 3'),
     (b'mpd 1;\nranks 17;\n', b'9 bad-ranks at 13 line 2'),
-    (b'mpd 2;\n', b'10 not-in-version at 4 line 1'))
+    (b'mpd 3;\n', b'10 not-in-version at 4 line 1'))
 
 
 def ended_rows(program):
@@ -90,7 +91,7 @@ def refused_rows(program):
     """Status 2, also where standard error takes nothing; standard output is not looked at."""
     for data, fault in FAULTS:
         yield fault.decode(), Files(file_of(data)).run(program), refused(fault)
-    behind = b'mpd 2;\n---\nlocal 0\n'
+    behind = b'mpd 3;\n---\nlocal 0\n'
     wanted = refused(FAULTS[-1][1])
     yield 'refused before its words', Files(file_of(behind)).run(program), wanted
     yield 'refused, output full', Files(file_of(behind), full()).run(program), wanted
@@ -472,6 +473,15 @@ SUMMED = (
     ('one_in_seven', '--until deadlock', 1, 'every way it can end is listed: it always ends, in 7 ways, 1 of them a deadlock'),
     ('two_each', '--until deadlock', 1, 'not everything was tried: 1 run was listed, and there are more (--until)'),
     ('one_in_seven', '--split 0 --runs 6 --until deadlock --complete', 4, 'not everything was tried: 6 runs were listed, and there are more (--runs)'),
+    # a waitany takes what is complete by then, so a report tells of its runs alone
+    ('waitany', '', 0, 'not everything was tried: what a waitany takes may depend on the order of steps'),
+    ('waitany', '--complete', 4, 'not everything was tried: what a waitany takes may depend on the order of steps'),
+    ('waitany', '--piece 1', 0, 'not everything was tried: what a waitany takes may depend on the order of steps'),
+    ('waitany', '--fuel 21 --complete', 4,
+     'not everything was tried: 2 runs were cut (--fuel), what a waitany takes may depend on the order of steps'),
+    ('waitany', '--split 0 --runs 1 --fuel 21', 0, 'not everything was tried: 1 run was listed, and there are more (--runs), 1 run was cut (--fuel), '
+     'what a waitany takes may depend on the order of steps'),
+    ('waited_twice', '--until deadlock --complete', 1, 'not everything was tried: what a waitany takes may depend on the order of steps'),
     # a deadlock was found, so the status is not that of a report that isn't whole
     ('race', '--split 0 --runs 1 --complete', 1, 'not everything was tried: 1 run was listed, and there are more (--runs)'),
 )
@@ -535,8 +545,10 @@ ROWS = (ended_rows, example_rows, refused_rows, device_rows, usage_rows, trace_r
 
 
 def main():
-    if len(sys.argv) != 2:
+    if sys.argv[2:] not in ([], ['--version', '1']) or len(sys.argv) < 2:
         sys.exit(__doc__)
+    if sys.argv[2:]:
+        read_up_to(1)
     program = os.path.abspath(sys.argv[1])
     count = wrong = 0
     for rows in ROWS:

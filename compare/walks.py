@@ -2,7 +2,7 @@
 
 from typing import NamedTuple
 
-from debugger import RENDEZVOUS, CallId, Debugger, Step, enabled_steps, free_calls
+from debugger import RENDEZVOUS, CallId, Debugger, Step, enabled_steps, free_calls, is_at_any
 from language import Fault, read_script
 
 # Lines that are no step, or an odd one.
@@ -24,10 +24,18 @@ ODD_LINES_ALONG = (
     ' goto 1', 'goto 0\r', 'goto 0\x00', 'goto \xb2', 'goto0', 'Goto 0', 'go to 0', 'gotos 0', 'goto goto', 'goto redo',
     'goto back', 'goto start', 'goto 000000000', 'goto 0000000000', 'goto 999999999', 'goto 1000000000', 'goto 1000000',
     'goto 1000001', 'goto 00000000000000000001', 'goto 4294967296', 'goto 18446744073709551616', 'back 0', '0 goto', 'to 0')
+# The same of the wakes by one of some handles, for scripts of version 2.
+ODD_LINES_BY = (
+    'wakeany', 'wakeany 0', 'wakeany 0 0 0', 'wakeany 0.0', 'wakeany 0.0 0', 'wakeany 0 0.0', 'wakeany x 0', 'wakeany 0 x', 'Wakeany 0 0',
+    'WAKEANY 0 0', 'wakeanys 0 0', 'wakean 0 0', 'wakeany0 0', 'wakeany 00', 'wake any 0 0', 'wake 0 0', 'waitany 0 0', 'wakeany any 0',
+    'wakeany 0 any', 'wakeany 0 -1', 'wakeany -1 0', 'wakeany 0 +1', 'wakeany 0,0', 'wakeany 0, 0', 'wakeany 0 0;', 'wakeany 0 0\r',
+    'wakeany\t0\t0', ' wakeany  0  0 ', 'wakeany 000000000 000000000', 'wakeany 0000000000 0', 'wakeany 0 0000000000',
+    'wakeany 0 1234567890', 'wakeany 1234567890 0', 'wakeany 0 999999999', 'wakeany 999999999 0', 'wakeany 0 256', 'wakeany 16 0',
+    'wakeany 0 0x0', 'wakeany 0 \xb2', 'wakeany 0\x000', 'wakeany 0 1 ', 'wakeany 0 0', 'wakeany 1 0', 'match 0 0', 'wake 0')
 
 
-def odd_lines():
-    return ODD_LINES + ODD_LINES_ALONG
+def odd_lines(version=1):
+    return ODD_LINES + ODD_LINES_ALONG + ODD_LINES_BY * 3 * (version > 1)
 
 
 def digits(random, number):
@@ -39,6 +47,8 @@ def step_line(random, step):
     if step.kind == 'match':
         ends = ['.'.join(digits(random, part) for part in call_id) for call_id in (step.first, step.second)]
         return ' '.join(['match', *ends])
+    if step.kind == 'wakeany':
+        return f'wakeany {digits(random, step.first)} {digits(random, step.second)}'
     return 'release' if step.kind == 'release' else f'{step.kind} {digits(random, step.first)}'
 
 
@@ -64,8 +74,19 @@ def free_match(random, world):
     return Step('match', random.choice(sends), random.choice(receives)) if sends and receives else None
 
 
-def random_step(random, world):
+def random_wake_by(random, world):
+    """A wake by one of some handles: mostly of a rank that waits for any, at a place that is there or is the first that isn't."""
+    waiting = [number for number, rank in enumerate(world.ranks) if is_at_any(rank)]
+    if waiting and random.random() < 0.85:
+        number = random.choice(waiting)
+        return Step('wakeany', number, any_number(random, world.ranks[number].calls[-1].count))
+    return Step('wakeany', any_number(random, len(world.ranks)), any_number(random, 2))
+
+
+def random_step(random, world, version=1):
     """A step that is often not enabled."""
+    if version > 1 and random.random() < 0.3:
+        return random_wake_by(random, world)
     if random.random() < 0.35 and (match := free_match(random, world)):
         return match
     draw = random.random()
@@ -92,11 +113,16 @@ def respaced(random, line):
     return text + gap(0)
 
 
+# The kinds of steps that are put off by who takes them late.
+LATE = ('match', 'wakeany')
+
+
 class Habits(NamedTuple):
     """How often a walk shows the state, goes back, takes any step at all, writes an odd line, takes undone steps again.
 
     `listed` is how often it lists the enabled steps; `orders` is what it takes of these: any of them, the first, the last, or
-    any, but a match only where nothing else is enabled. `other` is how often a match is taken back at once, for another one.
+    any, but a match, or a wake by one of some handles, only where nothing else is enabled. `other` is how often such a step is taken back
+    at once, for another one.
     `along` is how often it goes along the steps that are there, back to a depth or to an undone step, and `redos` how many undone
     steps it takes again then.
     """
@@ -133,6 +159,7 @@ class Walk:
 
     def __init__(self, random, script, habits, mode):
         self.random = random
+        self.version = script.version
         self.debugger = Debugger(script, mode)
         self.show, self.back, self.any_step, self.odd, self.again = map(random.choice, habits[:5])
         self.backs = habits.backs
@@ -155,10 +182,10 @@ class Walk:
             return self.line_along()
         draw = self.random.random()
         if draw < self.odd:
-            return self.random.choice(odd_lines())
+            return self.random.choice(odd_lines(self.version))
         if draw < self.odd + self.any_step:
-            return step_line(self.random, random_step(self.random, self.debugger.world))
-        if self.took_match() and self.random.random() < self.other:
+            return step_line(self.random, random_step(self.random, self.debugger.world, self.version))
+        if self.took_one_of_some() and self.random.random() < self.other:
             return 'back'
         if self.random.random() < self.back:
             self.backs_left = self.random.choice(self.backs)
@@ -168,10 +195,10 @@ class Walk:
             return step_line(self.random, undone[0])
         return self.forward()
 
-    def took_match(self):
-        """Whether the last step that isn't undone is a match."""
+    def took_one_of_some(self):
+        """Whether the last step that isn't undone is of a kind of which there may be others in its place."""
         depth = self.debugger.depth
-        return depth > 0 and self.debugger.steps[depth - 1].kind == 'match'
+        return depth > 0 and self.debugger.steps[depth - 1].kind in LATE
 
     def line_along(self):
         """What goes back to a depth, takes an undone step again, or another step in its place."""
@@ -207,12 +234,12 @@ class Walk:
         if not steps:
             line = 'back'
             if self.random.random() >= 0.3:
-                line = step_line(self.random, random_step(self.random, self.debugger.world))
+                line = step_line(self.random, random_step(self.random, self.debugger.world, self.version))
             if self.random.random() < 0.05:
                 self.backs_left = self.random.randint(1, 40)
             return line
         if self.order == 'late':
-            steps = [step for step in steps if step.kind != 'match'] or steps
+            steps = [step for step in steps if step.kind not in LATE] or steps
         if self.order in ('any', 'late'):
             return step_line(self.random, self.random.choice(steps))
         return step_line(self.random, steps[0 if self.order == 'first' else -1])

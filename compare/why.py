@@ -1,6 +1,7 @@
 """Compares `why` of calls and `before` of pairs of calls, as the crates answer them, with the model.
 
-    python3 compare/why.py               300 random scripts
+    python3 compare/why.py               300 random scripts of version 1, and 150 of version 2
+    python3 compare/why.py --version 1   crates that know version 1 alone
     python3 compare/why.py --planted     each wrong body of compare/probe/broken/ too, in a copy of its own
 
 No trace word tells what the crates say of `why` and `before`. So a copy of the program is made in which the word `enabled` is
@@ -25,14 +26,18 @@ from typing import NamedTuple
 from unittest import mock
 
 import debugger
+import language
 import order
+import waitany_faults
 from cases import KINDS
 from debugger import CallId, Debugger, Released, divided, find_call
-from language import Fault, read_script
+from explore_cases import Beside
+from language import Fault, read_script, read_up_to
 from probing import DIVIDER, PROBES, TOP, Batch, Change, Probe, Walked, batches, report, tried
 
 WHY = Probe('answer.edit', 'why.rattle', 'why.rt', 'main.rattle')
 CHOSEN = ('wildcards', 'wildcards', 'wildcards', 'requests', 'script', 'states', 'barriers', 'barriers', 'exchanges')
+CHOSEN_OF_2 = ('waitany',)
 # Worlds with more calls are not asked: the pairs of these are too many.
 MOST_CALLS = 40
 # How many walks a process makes at a time.
@@ -42,6 +47,7 @@ MOST_SOUGHT = 1000
 # What must have been met, or the run compared too little.
 MUST_MEET = ('worlds', 'undos', 'whys', 'pairs', 'eligible', 'held by a send', 'held by a recv', 'sends', 'receives', 'wait',
              'blocks', 'any source', 'any tag', 'status', 'barrier', 'synchronous send', 'release', 'behind a barrier')
+MUST_MEET_OF_2 = ('wait for any', 'behind a wait for any', 'a request and its wait for any')
 
 
 def asked(world):
@@ -83,13 +89,24 @@ def met_in(world, is_undo):
         if call is not None and call.kind == 'recv':
             found.update({'any source': call.other is None, 'any tag': call.tag is None, 'status': call.status is not None})
         found['barrier'] += call is not None and call.kind == 'barrier'
+        found['wait for any'] += call is not None and call.kind == 'waitany'
         found['synchronous send'] += call is not None and call.kind == 'send' and call.synchronous
         found.update(way_of(world, held) for _, held in order.why(world, call_id))
     for one, two in pairs:
         found.update(order.cases_of(world, one, two))
         found['behind a barrier'] += order.before(world, one, two) and find_call(world, one).kind == 'barrier'
+        found['behind a wait for any'] += order.before(world, one, two) and find_call(world, one).kind == 'waitany'
+        found['a request and its wait for any'] += waits_for(world, one, two)
     found['release'] += any(isinstance(record, Released) for record in world.records)
     return found
+
+
+def waits_for(world, one, two):
+    """Whether a call is one of those that a later call of its rank is to wait for any of; neither is before the other by that."""
+    request, call = find_call(world, one), find_call(world, two)
+    if request is None or call is None or call.kind != 'waitany' or one.rank != two.rank or request.blocks or one.number > two.number:
+        return False
+    return one.number in world.ranks[one.rank].handles[call.first:call.first + call.count]
 
 
 def way_of(world, held):
@@ -119,7 +136,8 @@ class Walk:
 
 def walked(seed, number):
     """The walk of this number; None where its script can't be read, or there is nothing to ask."""
-    kind = CHOSEN[number % len(CHOSEN)]
+    kinds = CHOSEN_OF_2 if isinstance(seed, Beside) else CHOSEN
+    kind = kinds[number % len(kinds)]
     random = Random(f'why/{kind}/{seed}/{number}')
     script, lines = divided(KINDS[kind].draw(random))
     try:
@@ -270,7 +288,12 @@ def breakages():
         Breakage('both ways', 'cases_of', either_way(cases_of)),
         Breakage('calls of two ranks in order', 'cases_of', of_two_ranks(cases_of)),
         Breakage('before a call that is not there', 'cases_of', calls_there(cases_of)),
-    ) + breakages_of_barriers()
+    ) + breakages_of_barriers() + (breakages_of_2() if 2 in language.VERSIONS else ())
+
+
+def breakages_of_2():
+    """Those of waits for any."""
+    return tuple(Breakage(fault.name, fault.attribute, fault.replacement) for fault in waitany_faults.order_faults(order) if fault.owner is order)
 
 
 def noticing(place, walks):
@@ -284,9 +307,14 @@ def noticing(place, walks):
     return None
 
 
+def sought_among(walks):
+    """The walks among which one is sought on which a broken model says otherwise: those of version 2 stand last."""
+    return walks[:MOST_SOUGHT] + walks[max(MOST_SOUGHT, len(walks) - MOST_SOUGHT):]
+
+
 def compare(pool, chosen, walks):
     """Compares the walks, and the broken models; gives how much is wrong."""
-    sought = [pool.submit(noticing, place, walks[:MOST_SOUGHT]) for place in range(len(breakages()))]
+    sought = [pool.submit(noticing, place, sought_among(walks)) for place in range(len(breakages()))]
     broken = [it.result() for it in sought]
     all_batches = batches(walks)
     said, text = tried(WHY, [*all_batches, *filter(None, broken)], [], chosen.seconds)
@@ -317,7 +345,8 @@ def compare_planted(chosen, walks):
 
 def arguments():
     parser = argparse.ArgumentParser(description=__doc__, formatter_class=argparse.RawDescriptionHelpFormatter)
-    parser.add_argument('--count', type=int, default=300, help='how many scripts (300)')
+    parser.add_argument('--count', type=int, default=300, help='how many scripts of version 1 (300), and half as many of version 2')
+    parser.add_argument('--version', type=int, choices=[1, 2], default=2, help='the last version that the crates know (2)')
     parser.add_argument('--seed', type=int, default=1, help='another seed gives other scripts (1)')
     parser.add_argument('--planted', action='store_true', help='plant the wrong bodies too: a build for each')
     parser.add_argument('--seconds', type=int, default=60, help='how long a run of the copy may take (60)')
@@ -329,11 +358,14 @@ def main():
     chosen = arguments()
     os.chdir(TOP)
     began = time.monotonic()
-    with ProcessPoolExecutor(chosen.jobs) as pool:
+    read_up_to(chosen.version)
+    with ProcessPoolExecutor(chosen.jobs, initializer=read_up_to, initargs=(chosen.version,)) as pool:
         walks = all_walked(pool, chosen.seed, chosen.count)
+        walks += all_walked(pool, Beside(chosen.seed), chosen.count // 2) if chosen.version > 1 else []
         met = sum((walk.met for walk in walks), Counter())
         print(', '.join(f'{name} {count}' for name, count in sorted(met.items())), flush=True)
-        wrong = [f'{name} was not met' for name in MUST_MEET if not met[name]]
+        must_meet = MUST_MEET + MUST_MEET_OF_2 * (chosen.version > 1)
+        wrong = [f'{name} was not met' for name in must_meet if not met[name]]
         print('\n'.join(wrong), end='\n' if wrong else '')
         is_wrong = compare(pool, chosen, walks) if walks else True
     if chosen.planted:

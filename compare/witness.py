@@ -22,7 +22,7 @@ ACCEPTED = Result(b'accepted\n', b'', 0)
 LONGEST = 33554432
 CALL = rb'[0-9]{1,9}\.[0-9]{1,9}'
 # A step as a trace word, with any blanks that may stand there.
-STEP = rb'[ \t]*(?:(?:local|wake)[ \t]+[0-9]{1,9}|match[ \t]+%b[ \t]+%b|release)[ \t]*' % (CALL, CALL)
+STEP = rb'[ \t]*(?:(?:local|wake)[ \t]+[0-9]{1,9}|wakeany[ \t]+[0-9]{1,9}[ \t]+[0-9]{1,9}|match[ \t]+%b[ \t]+%b|release)[ \t]*' % (CALL, CALL)
 # Words with a space behind each, none of which is `deadlock`; this word; the calls, each behind a space.
 FIRST_LINE = re.compile(rb'(?:(?!deadlock )[^ ]* )*deadlock((?: %b)+)' % CALL)
 # All up to the first colon, or nothing; the steps, with a comma between two.

@@ -21,6 +21,10 @@ ODD_BYTES = b' ,.:[]0123456789acdehiklmnostwx\t\r\n\x00\xff'
 ODD_STEPS = ('back', 'redo', 'goto 1', 'show', 'enabled', 'local', 'local 0 0', 'local -1', 'local 0.0', 'Local 0', 'wake', 'match 0.0', 'match 0 0',
              'match 0.0, 1.0', 'release 0', '', 'local 0000000000', 'local 1000000000', 'local 99', 'wake 999999999', 'match 0.0 0.0',
              'match 1.0 0.999999999', 'local 00', 'release', 'send 0', 'local 0x0', 'local\t0')
+# The same of wakes by one of some handles, for scripts of version 2.
+ODD_STEPS_BY = ('wakeany', 'wakeany 0', 'wakeany 0 0 0', 'wakeany 0.0', 'wakeany 0.0 0', 'wakeany 0, 0', 'wakeany x 0', 'Wakeany 0 0', 'wakeany0 0',
+                'wakeany 0 0000000000', 'wakeany 0 999999999', 'wakeany 99 0', 'wakeany 00 00', 'wakeany\t0\t0', 'wakeany 0  0', 'wake 0 0', 'waitany 0 0',
+                'wakeany 0 1', 'wakeany 1 0', 'wakeany 0 0')
 ODD_FRONTS = ('', '', 'leaf 0 [] ', 'leaf 7 [0 1 12] ', 'leaf 1000000000 [] ', 'leaf  0 [] ', 'leaf 0 [0]', 'leaf x [] ', ' ', '  ', 'outcome ', 'a ', '\t',
               'a\t', 'deadlock ', 'deadlock 0.0 ', 'deadlocks ', ': ', 'a,b: ', '\xff ', 'witness 0: local 0 ')
 ODD_NAMES = ('', '', 'witness 7: ', 'witness 0:', 'witness 0:  ', 'witness: ', 'witness ', 'a:', ':', ': ', '::', ' ', '\t', 'witness 0: witness 0: ', 'leaf 0: ',
@@ -46,25 +50,28 @@ class Text(NamedTuple):
     word: str = 'deadlock'
     end: str = '\n'
     between: str = ', '
+    version: int = 1
 
     def written(self):
         return f'{" ".join([self.front + self.word, *self.calls])}\n{self.name}{self.between.join(self.steps)}{self.end}'.encode('latin-1')
 
 
-def text_of(number, leaf):
+def text_of(number, leaf, version):
     """The text of a leaf; of one that is no deadlock, the calls that its outcome names are taken for blocked."""
     found = witness(leaf)
     calls = found.blocked if found else [CallId(0, 0)]
     return Text(f'leaf {number} [{" ".join(map(str, leaf.choices))}] ', tuple(map(str, calls)), f'witness {number}: ',
-                tuple(map(step_text, leaf.steps)))
+                tuple(map(step_text, leaf.steps)), version=version)
 
 
 def inserted(parts, place, *others):
     return parts[:place] + others + parts[place:]
 
 
-def other_step(random):
+def other_step(random, version):
     """A step that may be enabled somewhere."""
+    if version > 1 and random.random() < 0.4:
+        return step_text(Step('wakeany', random.randint(0, 2), random.randint(0, 2)))
     draw, one, other = random.random(), random.randint(0, 3), random.randint(0, 3)
     if draw < 0.4:
         return step_text(Step(random.choice(['local', 'wake']), one))
@@ -73,19 +80,32 @@ def other_step(random):
 
 def with_other_steps(random, text):
     """A step less, doubled, exchanged with another, in front, behind, between; or the steps up to one."""
-    steps, count = list(text.steps) or ['local 0'], max(1, len(text.steps))
+    steps, count, version = list(text.steps) or ['local 0'], max(1, len(text.steps)), text.version
     place, other = random.randrange(count), random.randrange(count)
     exchanged = steps[:]
     exchanged[place], exchanged[other] = steps[other], steps[place]
     return text._replace(steps=tuple(random.choice([
         steps[:-1], steps[1:], steps[:place] + steps[place + 1:], steps[:place] + steps[place:place + 1] + steps[place:], exchanged, steps[::-1],
-        [*steps, other_step(random)], [*steps, steps[-1]], [other_step(random), *steps], ['wake 0', *steps], steps[:place], steps[place:],
-        [*steps[:place], other_step(random), *steps[place:]], [*steps[:place], other_step(random), *steps[place + 1:]]])))
+        [*steps, other_step(random, version)], [*steps, steps[-1]], [other_step(random, version), *steps], ['wake 0', *steps], steps[:place],
+        steps[place:], [*steps[:place], other_step(random, version), *steps[place:]],
+        [*steps[:place], other_step(random, version), *steps[place + 1:]]])))
+
+
+def with_other_wake(random, text):
+    """A wake by another handle in the place of one, or by no handle; the text as it is where there is none."""
+    places = [place for place, step in enumerate(text.steps) if step.startswith('wakeany ')]
+    if not places:
+        return text
+    place = random.choice(places)
+    _, rank, handle = text.steps[place].split()
+    other = random.choice([f'wakeany {rank} {int(handle) + 1}', f'wakeany {rank} {max(0, int(handle) - 1)}', f'wakeany {int(rank) + 1} {handle}',
+                           f'wake {rank}', f'wakeany {rank} {"0" * random.choice([1, 7, 8, 9])}{handle}', f'wakeany {rank}  {handle}', f'wakeany {rank}'])
+    return text._replace(steps=(*text.steps[:place], other, *text.steps[place + 1:]))
 
 
 def with_odd_step(random, text):
     """A word that is no step, or a step that is never enabled, beside a step or in its place."""
-    place, odd = random.randrange(len(text.steps) + 1), random.choice(ODD_STEPS)
+    place, odd = random.randrange(len(text.steps) + 1), random.choice(ODD_STEPS if text.version == 1 else ODD_STEPS + ODD_STEPS_BY)
     behind = text.steps[place + random.choice([0, 1]):]
     return text._replace(steps=text.steps[:place] + (odd,) + behind)
 
@@ -147,6 +167,10 @@ PART_CHANGES = {with_other_steps: 8, with_other_calls: 5, with_odd_step: 3, with
                 with_nothing_in_front: 2, with_odd_outcome: 1, with_zeros: 2, with_other_blanks: 3, with_other_end: 3}
 
 
+# Those of scripts of version 2.
+PART_CHANGES_OF_2 = {**PART_CHANGES, with_other_wake: 8}
+
+
 def with_ends(random, data):
     """Carriage returns before all line feeds, or before one, or more of them than one."""
     return random.choice([data.replace(b'\n', b'\r\n'), data.replace(b'\n', b'\r\n', 1), data.replace(b'\n', b'\r\r\n'),
@@ -193,7 +217,7 @@ def changed(random, text):
         return random.choice(WHOLE)
     draw = random.random()
     if draw < 0.7:
-        text = drawn(random, PART_CHANGES)(random, text)
+        text = drawn(random, PART_CHANGES if text.version == 1 else PART_CHANGES_OF_2)(random, text)
     data = text.written()
     return drawn(random, BYTE_CHANGES)(random, data) if draw > 0.6 and data.count(b'\n') else data
 
@@ -213,7 +237,7 @@ def texts_of(random, script, mode):
     leaves = list(enumerate(report(script, mode, RUNS, FUEL).leaves))
     stuck = [(number, leaf) for number, leaf in leaves if witness(leaf)]
     for number, leaf in random.sample(stuck or leaves[:1], min(LEAVES, len(stuck or leaves[:1]))):
-        text = text_of(number, leaf)
+        text = text_of(number, leaf, script.version)
         if leaf.steps:
             yield text.written()
         yield from (changed(random, text) for _ in range(CHANGES))

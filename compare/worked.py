@@ -7,12 +7,11 @@ some steps. Each row here is a script, a mode, and words with what each is answe
 part. Traces whose every byte was worked out stand in compare/worked_traces.py, texts that print, trap or are refused in
 compare/worked_texts.py; compare/statuses.py has the built program answer all these too. Decisions, breakpoints and runs stand in
 compare/worked_runs.py, reports and witnesses in compare/worked_explorer.py, reports by pieces in compare/worked_pieces.py, dialogues of a
-session in compare/worked_sessions.py. The lessons of docs/COURSE.md are rows too, with their answers in files. The status is 0 where the
+session in compare/worked_sessions.py, and rows of all these kinds for version 2 in compare/worked_waitany.py. The lessons of docs/COURSE.md are rows too, with their answers in files. The status is 0 where the
 model answers all of them so.
 """
 
 import sys
-from typing import NamedTuple
 from unittest import mock
 
 import debugger
@@ -20,13 +19,14 @@ import explorer
 import worked_explorer
 import worked_pieces
 import worked_sessions
+import worked_waitany
 from debugger import BUFFERED, RENDEZVOUS, Result, answer, answer_file
 from examples import checks, lessons, open_example
 from language import read_script
 from policy_words import Driven
 from worked_runs import RUNS
 from worked_texts import all_inputs, wanted_result
-from worked_traces import TRACES
+from worked_traces import TRACES, Row
 
 MEETING = 'mpd 1; ranks 2;\nbarrier;'
 ONE_ENDED = 'mpd 1; ranks 2;\nif rank == 1 { barrier; }'
@@ -41,15 +41,6 @@ MATCHED_LATE = 'mpd 1; ranks 2; var x; req r;\nif rank == 0 { isend r 7 to 1 tag
 IN_ORDER = ('mpd 1; ranks 2; var x; req r;\n'
             'if rank == 0 { isend r 1 to 1 tag 0; ssend 2 to 1 tag 0; } else { recv x from any tag any; }')
 IN_FRONT = 'mpd 1; ranks 2; var x; req r;\nif rank == 0 { isend r 1 to 1 tag 0; } else { irecv r x from 0 tag 0; }\nbarrier;'
-
-
-class Row(NamedTuple):
-    """A script in a mode; words, each with its answer; lines that `show` prints then, in this order, and a text that none has."""
-    script: str
-    mode: str
-    words: str
-    shown: str
-    lacks: str = '?'
 
 
 ROWS = (
@@ -372,11 +363,14 @@ def check_problem(checked):
 
 
 def main():
-    problems = [(f'{row.script} ({row.mode})', model_problem(row)) for row in ALL]
+    problems = [(f'{row.script} ({row.mode})', model_problem(row)) for row in ALL + worked_waitany.ROWS]
     problems += [(row.what, trace_problem(row)) for row in TRACES]
-    problems += [(row.what, input_problem(row)) for row in all_inputs()]
-    problems += [(f'{row.script} ({row.mode}): {row.words}', run_problem(row)) for row in RUNS]
+    problems += [(row.what, input_problem(row)) for row in [*all_inputs(), *worked_waitany.all_inputs()]]
+    problems += [(f'{row.script} ({row.mode}): {row.words}', run_problem(row)) for row in RUNS + worked_waitany.RUNS]
     problems += worked_explorer.problems()
+    problems += worked_explorer.problems(worked_waitany)
+    problems += worked_waitany.problems()
+    problems += worked_sessions.dialogue_problems(worked_waitany.DIALOGUES)
     problems += worked_pieces.problems()
     problems += worked_sessions.problems()
     problems += [(statement, refusal_problem(statement, fault, place)) for statement, fault, place in REFUSED]

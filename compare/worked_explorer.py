@@ -4,6 +4,7 @@ Each was worked out by hand from the rules (docs/DEFINITIONS.md, docs/FORMATS.md
 CHECKS and TOLD too.
 """
 
+import sys
 from itertools import islice, permutations
 from typing import NamedTuple, Optional
 
@@ -390,9 +391,9 @@ def told_problem(row):
     return None if said == row.wanted() else f'{said}'
 
 
-def problems():
-    """The name of each row, with what is wrong in it, or None."""
-    return ([(f'check {row.script} {row.asked}', check_problem(row)) for row in CHECKS]
-            + [(f'explored {row.script} behind {row.words}, fuel {row.fuel}', place_problem(row)) for row in PLACES]
-            + [(f'witness of {row.script} ({row.mode}): {row.steps}: {row.blocked}', witness_problem(row)) for row in WITNESSES]
-            + [(f'verify {row.script} ({row.mode}): {str(row.text)[:500]!r}', told_problem(row)) for row in TOLD])
+def problems(rows=sys.modules[__name__]):
+    """The name of each row of a module, with what is wrong in it, or None."""
+    return ([(f'check {row.script} {row.asked}', check_problem(row)) for row in rows.CHECKS]
+            + [(f'explored {row.script} behind {row.words}, fuel {row.fuel}', place_problem(row)) for row in rows.PLACES]
+            + [(f'witness of {row.script} ({row.mode}): {row.steps}: {row.blocked}', witness_problem(row)) for row in rows.WITNESSES]
+            + [(f'verify {row.script} ({row.mode}): {str(row.text)[:500]!r}', told_problem(row)) for row in rows.TOLD])

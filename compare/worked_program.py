@@ -10,6 +10,8 @@ import os
 import tempfile
 from typing import NamedTuple
 
+import language
+import worked_waitany
 from debugger import Result
 from runs import run_at_once, run_in_packets
 from shims import built
@@ -36,6 +38,11 @@ def traced(program, script, mode, data):
         return run_at_once(program, data, SECONDS, words=('trace', name, '--mode', mode))
 
 
+def of_each_version(rows, rows_of_2):
+    """The rows that the program can be asked: those of version 2 where it knows that."""
+    return [*rows, *(rows_of_2 if 2 in language.VERSIONS else ())]
+
+
 def trace_rows(program):
     """Scripts with their words, and what each is answered."""
     for row in TRACES:
@@ -45,13 +52,13 @@ def trace_rows(program):
 
 def text_rows(program):
     """Texts that print, trap, or are refused, and texts at limits."""
-    for row in [*all_inputs(), FULL]:
+    for row in [*of_each_version(all_inputs(), worked_waitany.all_inputs()), FULL]:
         yield row.what, run_at_once(program, row.text.encode(), SECONDS), wanted_result(row)
 
 
 def state_rows(program):
     """Words with their answers, and lines of what `show` prints behind them."""
-    for row in ALL:
+    for row in of_each_version(ALL, worked_waitany.ROWS):
         problem = row_problem(row, traced(program, row.script.encode(), row.mode, asked_words(row)))
         yield f'{row.script} ({row.mode}): {row.words}', problem, None
 

@@ -474,10 +474,15 @@ def example_problem(name):
     return None if said == Result(open_example(f'{name}.replies'), b'', 0) else f'{said}'
 
 
+def dialogue_problems(dialogues):
+    """Each dialogue, with what is wrong of it, or None."""
+    return ((f'a dialogue, {row.what}', dialogue_problem(row)) for row in dialogues)
+
+
 def problems():
     """Each row, with what is wrong of it, or None."""
     yield from ((f'the session {name}', example_problem(name)) for name in example_names('.requests'))
-    yield from ((f'a dialogue, {row.what}', dialogue_problem(row)) for row in DIALOGUES)
+    yield from dialogue_problems(DIALOGUES)
     yield from ((f'an ending, {data[:50]!r}', ending_problem(data, wanted)) for data, wanted in ENDINGS)
     yield from ((f'pieces, {pieces[-1][:50]!r}', ending_problem(''.join(pieces), f'{wanted}\n')) for pieces, wanted in IN_PIECES)
     yield from ((f'a line, {line[:80]!r}', tested_problem(line, number)) for line, number in TESTED)

@@ -131,10 +131,10 @@ def value_input(expression, value):
                  f'ok 1\ndepth 1 of 1\nrank 0 ended\nvars\nhandles\nout {value}\noutcome done\nend\n')
 
 
-def trap_input(declared, handles, statement, trap):
+def trap_input(declared, handles, statement, trap, head=HEAD):
     """That a statement behind declarations of three cells and such handles traps, and that this is taken back."""
     empty = f'vars 0 0 0\nhandles{handles}\nout\n'
-    return Input(statement, f'{HEAD}{declared}{statement}\n---\nlocal 0\nshow\nback\nshow\n', None,
+    return Input(statement, f'{head}{declared}{statement}\n---\nlocal 0\nshow\nback\nshow\n', None,
                  f'ok 1\ndepth 1 of 1\nrank 0 trapped {trap}\n{empty}outcome trap 0 {trap}\nend\n'
                  f'ok 0\ndepth 0 of 1\nrank 0 at 1\n{empty}end\n')
 

@@ -41,6 +41,15 @@ class Trace(NamedTuple):
         return as_lines(self.answers)
 
 
+class Row(NamedTuple):
+    """A script in a mode; words, each with its answer; lines that `show` prints then, in this order, and a text that none has."""
+    script: str
+    mode: str
+    words: str
+    shown: str
+    lacks: str = '?'
+
+
 def as_lines(text):
     return text.replace('; ', '\n').encode() + b'\n'
 
