@@ -19,6 +19,7 @@ import assumed
 import copies
 import edit_files
 import growing
+import read_lines
 import landing
 import processes
 import record
@@ -720,6 +721,31 @@ class Growing(WithFolder):
 
     def test_what_is_no_file(self):
         self.assertEqual(self.gone('`lib`, `Lines`, `a / b`, and gone.rt'), [])
+
+
+class ReadLines(WithFolder):
+    """The lines of definitions that a theorem rests on."""
+
+    def setUp(self):
+        super().setUp()
+        for number, name in enumerate((*read_lines.STATE, 'Words')):
+            self.write(f'crates/mpd_model/specs/{name}.antt', '\n' * 2 ** number)
+        self.write('crates/mpd_high/specs/Words.antt', '\n' * 1000)
+
+    def wrong(self, *rows):
+        table = '\n'.join(f'| {theorem} | `ok` | {files} | {lines} |' for theorem, files, lines in rows)
+        return read_lines.right(self.folder, f'before\n\n{read_lines.HEAD}\n|---|\n{table}\n\nbehind\n')
+
+    def test_what_is_right(self):
+        self.assertEqual(self.wrong(('a step, `Core::apply`', 'state', '63'), ('its record', 'the same without `Tree`; `Words`', '119'),
+                                    ('both', 'those of the two rows before; `Words` of `mpd_high`', '1,127'),
+                                    ('one', 'the same without `Words` of `mpd_high`, and the contracts of `clap`', '127'),
+                                    ('two', 'those of `Core::apply`', '63'), ('three', 'those of a step without `World`; `Words`', '126'))[1], [])
+
+    def test_what_is_wrong(self):
+        text, wrong = self.wrong(('a step', 'state without `World`', '63'), ('words', '`Words`', '64'))
+        self.assertEqual(wrong, ['a step: 63, and not 62'])
+        self.assertIn('| a step | `ok` | state without `World` | 62 |\n| words | `ok` | `Words` | 64 |\n\nbehind', text)
 
 
 class Processes(unittest.TestCase):
