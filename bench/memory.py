@@ -16,7 +16,7 @@ import sys
 import tempfile
 
 # The kinds of steps.
-KINDS = 'local', 'match', 'wake', 'release'
+KINDS = 'local', 'match', 'wake', 'wakeany', 'release'
 HERE = os.path.dirname(os.path.abspath(__file__))
 
 
