@@ -9,11 +9,11 @@ use Rattle.mpd_model.specs.declared.call.CallKind.TheVariants.{Send, Waitany}
 use Rattle.mpd_model.specs.declared.call.CallKind.{CallKind}
 use Rattle.mpd_model.specs.declared.call.MatchSet.TheVariants as set
 use Rattle.mpd_model.specs.declared.call.Mode.{Mode}
-use Rattle.mpd_model.specs.declared.call.Mode.TheVariants.{Rendezvous, Buffered}
+use Rattle.mpd_model.specs.declared.call.Mode.TheVariants.{Rendezvous, Buffered, Slots}
 use Rattle.mpd_model.specs.declared.call.SendCall.{SendCall}
 use Rattle.mpd_model.specs.declared.step.Step.TheVariants.{Wake, Release}
-use Rattle.mpd_model.specs.World.{World, Board, RankWorld, kind_at, is_barrier, is_buffered, awaited, complete_by, has_own_step, complete, last_call}
-use Rattle.mpd_model.specs.Next.{is_blocked, waits, is_at_barrier, can_release, woken, going_on, released, with_set, next, buffers_all, has_buffer, entered}
+use Rattle.mpd_model.specs.World.{World, Board, RankWorld, kind_at, is_barrier, is_buffered, awaited, complete_by, has_own_step, complete, slots_used, last_call}
+use Rattle.mpd_model.specs.Next.{is_blocked, waits, is_at_barrier, can_release, woken, going_on, released, with_set, next, buffers_one, has_buffer, entered}
 
 -- ---- who isn't at a barrier keeps all ranks at theirs
 
@@ -79,10 +79,18 @@ not_woken w p e = ap (λ (b : Bool). cond b (Some (woken w p)) None) (and_false 
 -- ---- as it is issued, a standard send is buffered in the mode that says so, and a synchronous one never is
 
 pub standard_is_buffered : (b : Board) (p number : ℕ) (s : SendCall) → b.mode ≡ Buffered → s.synchronous ≡ false → is_buffered (Some (entered b p (record { statement = number; kind = Send s })).kind) ≡ true
-standard_is_buffered b p number s e f = (λ i. buffers_all (e i) && not (f i))
+standard_is_buffered b p number s e f = (λ i. buffers_one (e i) (slots_used b p) && not (f i))
 
 pub synchronous_never_is : (b : Board) (p number : ℕ) (s : SendCall) → s.synchronous ≡ true → is_buffered (Some (entered b p (record { statement = number; kind = Send s })).kind) ≡ false
 synchronous_never_is b p number s e = and_false (has_buffer b p) (not s.synchronous) (ap not e)
 
 pub in_rendezvous_none_is : (b : Board) (p number : ℕ) (s : SendCall) → b.mode ≡ Rendezvous → is_buffered (Some (entered b p (record { statement = number; kind = Send s })).kind) ≡ false
-in_rendezvous_none_is b p number s e = ap (λ (m : Mode). buffers_all m && not s.synchronous) e
+in_rendezvous_none_is b p number s e = ap (λ (m : Mode). buffers_one m (slots_used b p) && not s.synchronous) e
+
+pub a_slot_is_taken_while_there_is_one : (b : Board) (p number count : ℕ) (s : SendCall) → b.mode ≡ Slots count → s.synchronous ≡ false
+    → is_buffered (Some (entered b p (record { statement = number; kind = Send s })).kind) ≡ nat_lt (slots_used b p) count
+a_slot_is_taken_while_there_is_one b p number count s e f = (λ i. buffers_one (e i) (slots_used b p) && not (f i)) ∙ and_true (nat_lt (slots_used b p) count)
+  where
+    and_true : (x : Bool) → (x && true) ≡ x
+    and_true true = refl
+    and_true false = refl

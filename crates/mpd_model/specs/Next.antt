@@ -10,7 +10,7 @@ use Rattle.mpd_model.specs.declared.call.CallKind.{CallKind}
 use Rattle.mpd_model.specs.declared.call.CallKind.TheVariants.{Send, Recv, Wait, Waitany, Barrier}
 use Rattle.mpd_model.specs.declared.call.Call.{Call}
 use Rattle.mpd_model.specs.declared.call.Mode.{Mode}
-use Rattle.mpd_model.specs.declared.call.Mode.TheVariants.{Rendezvous, Buffered}
+use Rattle.mpd_model.specs.declared.call.Mode.TheVariants.{Rendezvous, Buffered, Slots}
 use Rattle.mpd_model.specs.declared.call.Issue.{Issue}
 use Rattle.mpd_model.specs.declared.call.StatusCells.{StatusCells}
 use Rattle.mpd_model.specs.declared.call.MatchSet.{MatchSet}
@@ -33,7 +33,7 @@ use Rattle.mpd_model.specs.declared.stmt.WaitanyStmt.{WaitanyStmt}
 use Rattle.mpd_model.specs.declared.stmt.Simple.TheVariants as st
 use Rattle.mpd_model.specs.Tree.{Tree, simple, branch, repeat, Block, trees, statements_in, numbered}
 use Rattle.mpd_model.specs.declared.call.Message.{Message}
-use Rattle.mpd_model.specs.World.{RankWorld, World, Board, call_id, calls_of, kind_at, rank_numbers, call_numbers, eligible, buffer, awaited, is_barrier, complete, last_call}
+use Rattle.mpd_model.specs.World.{RankWorld, World, Board, call_id, calls_of, kind_at, rank_numbers, call_numbers, eligible, buffer, awaited, is_barrier, complete, slots_used, last_call}
 
 -- ---- local steps: the next statement of one rank
 
@@ -231,10 +231,11 @@ abbrev pub HasReceiver : ℕ → CallKind → Type 0
 HasReceiver ranks (Send s) = s.to < ranks
 HasReceiver ranks kind = Unit {0}
 
--- the mode that buffers every standard send
-abbrev pub buffers_all : Mode → Bool
-buffers_all Buffered = true
-buffers_all Rendezvous = false
+-- whether a mode has a buffer for a standard send of a rank that holds so many slots
+abbrev pub buffers_one : Mode → ℕ → Bool
+buffers_one Rendezvous held = false
+buffers_one Buffered held = true
+buffers_one (Slots count) held = nat_lt held count
 
 -- a call more of a rank
 abbrev pub with_call : Board → ℕ → Call → Board
@@ -242,7 +243,7 @@ with_call b p c = record b { calls = slice_set b.calls p (calls_of b p ++ c ∷ 
 
 -- whether a standard send of rank p is buffered, were it issued now (MPI 4.0, section 3.4)
 abbrev pub has_buffer : Board → ℕ → Bool
-has_buffer b p = buffers_all b.mode
+has_buffer b p = buffers_one b.mode (slots_used b p)
 
 -- A standard send gets the buffer that there is, and keeps it; a synchronous one gets none.
 abbrev pub buffered_by : Bool → CallKind → CallKind

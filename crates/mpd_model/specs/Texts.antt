@@ -1,5 +1,5 @@
 -- Printed texts: calls, match sets, what a rank is doing, how a run has ended, and all that `show` prints.
-use Rattle.std.specs.Prelude.{ℕ, ℤ, Bool, true, false, if◌then◌else◌, List, [], ◌∷◌, ◌++◌, Option, Some, None, slice_get, slice_index_or, codes}
+use Rattle.std.specs.Prelude.{ℕ, ℤ, Bool, true, false, ◌&&◌, if◌then◌else◌, List, [], ◌∷◌, ◌++◌, Option, Some, None, slice_get, slice_index_or, codes}
 use Rattle.std.specs.List.{flat_map}
 use Rattle.std.specs.Fmt.{decimal, signed_decimal}
 use Rattle.mpd_model.specs.declared.step.CallId.{CallId}
@@ -7,6 +7,7 @@ use Rattle.mpd_model.specs.declared.step.Step.{Step}
 use Rattle.mpd_model.specs.declared.step.Step.TheVariants.{Local, Match, Wake, WakeAny, Release}
 use Rattle.mpd_model.specs.declared.call.CallKind.{CallKind}
 use Rattle.mpd_model.specs.declared.call.CallKind.TheVariants.{Send, Recv, Wait, Waitany, Barrier}
+use Rattle.mpd_model.specs.declared.call.Mode.{Mode}
 use Rattle.mpd_model.specs.declared.call.Trap.{Trap}
 use Rattle.mpd_model.specs.declared.call.Trap.TheVariants.{Overflow, ZeroDivisor, BadRank, BadTag, BadIndex, Assertion}
 use Rattle.mpd_model.specs.declared.call.Activity.{Activity}
@@ -19,7 +20,7 @@ use Rattle.mpd_model.specs.declared.outcome.TrappedRank.{TrappedRank}
 use Rattle.mpd_model.specs.declared.outcome.Outcome.{Outcome}
 use Rattle.mpd_model.specs.declared.outcome.Outcome.TheVariants as ending
 use Rattle.mpd_model.specs.Program.{Program}
-use Rattle.mpd_model.specs.World.{RankWorld, World, Board, call_id, rank_numbers, call_numbers, kind_at, partner, is_free, buffer, last_call, pending, posted}
+use Rattle.mpd_model.specs.World.{RankWorld, World, Board, call_id, rank_numbers, call_numbers, kind_at, partner, is_free, is_buffered, is_limited, buffer, last_call, pending, posted}
 use Rattle.mpd_model.specs.Outcomes.{first_number, outcome}
 
 -- ---- lists of values: one space before each
@@ -84,6 +85,10 @@ kind_text (Wait t) = codes "wait " ++ target_text t.target
 kind_text (Waitany a) = codes "waitany " ++ decimal a.first ++ 32 ∷ decimal a.count ++ (if a.active then [] else codes " none")
 kind_text Barrier = codes "barrier"
 
+-- in a mode whose buffers run out, what is told of a send that got one
+abbrev pub buffer_text : Mode → CallKind → List ℕ
+buffer_text mode kind = if is_limited mode && is_buffered (Some kind) then codes " buffered" else []
+
 -- the call that a call was paired with, and the mark of one that is free
 abbrev pub partner_text : Option CallId → List ℕ
 partner_text None = []
@@ -99,7 +104,7 @@ got_text kind m = []
 
 abbrev pub call_text_of : Board → CallId → Option CallKind → List ℕ
 call_text_of b c None = []
-call_text_of b c (Some kind) = kind_text kind ++ mark_text b c ++ got_text kind (buffer b c)
+call_text_of b c (Some kind) = kind_text kind ++ buffer_text b.mode kind ++ mark_text b c ++ got_text kind (buffer b c)
 
 abbrev pub call_text : Board → CallId → List ℕ
 call_text b c = call_text_of b c (kind_at b c)

@@ -10,6 +10,7 @@ use Rattle.mpd_model.specs.declared.call.CallKind.{CallKind}
 use Rattle.mpd_model.specs.declared.call.CallKind.TheVariants.{Send, Recv, Wait, Waitany, Barrier}
 use Rattle.mpd_model.specs.declared.call.Message.{Message}
 use Rattle.mpd_model.specs.declared.call.Mode.{Mode}
+use Rattle.mpd_model.specs.declared.call.Mode.TheVariants.{Slots}
 use Rattle.mpd_model.specs.declared.call.Activity.{Activity}
 use Rattle.mpd_model.specs.declared.call.Activity.TheVariants.{Running}
 use Rattle.mpd_model.specs.declared.call.MatchSet.{MatchSet}
@@ -202,6 +203,19 @@ has_own_step kind = is_barrier kind
 -- Such a call never is complete.
 abbrev pub complete : Board → CallId → Bool
 complete b c = not (has_own_step (kind_at b c)) && complete_by b (awaited b c)
+
+-- a buffered send that no pair names: it holds a slot of its rank
+abbrev pub holds_slot : Board → CallId → Bool
+holds_slot b c = is_buffered (kind_at b c) && is_none (partner b.sets c)
+
+-- how many slots of a rank are held
+abbrev pub slots_used : Board → ℕ → ℕ
+slots_used b p = length (filter (λ i. holds_slot b (call_id p i)) (call_numbers b p))
+
+-- a mode whose buffers run out
+abbrev pub is_limited : Mode → Bool
+is_limited (Slots count) = true
+is_limited mode = false
 
 -- the last call that a rank has issued
 abbrev pub last_call : Board → ℕ → CallId

@@ -9,6 +9,10 @@ pub enum Mode {
     Rendezvous,
     /// Every standard send is complete as it is issued, and still matches later. A synchronous send is complete once it is paired.
     Buffered,
+    /// Each rank has so many slots, 0 to `SLOTS_MAX` where a word says it. A standard send that is issued while its rank holds fewer is
+    /// complete as it is issued, and holds one until it is paired; another is complete once it is paired, for good. A synchronous
+    /// send takes none.
+    Slots(usize),
 }
 
 /// A call that a rank has issued. It never changes.

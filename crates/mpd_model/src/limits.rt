@@ -31,6 +31,9 @@ pub const RANKS_MAX: usize = 16;
 /// Tags of messages: 0 to one less than this (MPI 4.0, section 3.2.2, asks for as many at least).
 pub const TAGS: usize = 32_768;
 
+/// Slots for buffered sends of a rank, in a mode that has them.
+pub const SLOTS_MAX: usize = 65_536;
+
 /// Steps of a trail, undone ones included.
 pub const STEPS_MAX: usize = 1_000_000;
 

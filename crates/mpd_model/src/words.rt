@@ -97,7 +97,7 @@ fn dot_len(text: &[u8]) -> usize
 }
 
 /// A number of 1 to 9 digits.
-fn number_of(word: &[u8]) -> Option<usize>
+pub(crate) fn number_of(word: &[u8]) -> Option<usize>
     ensures { result ≡ number_of word.now }
 {
     if word.is_empty() || word.len() > 9 {
