@@ -24,6 +24,7 @@ mod Releases
 mod Runs
 mod SendsDone
 mod Signs
+pub mod Slots
 mod Sound
 mod SoundParts
 mod SoundStatements
