@@ -22,7 +22,7 @@ use Rattle.mpd_laws.proofs.Splits.{mapped_from}
 
 -- ---- the first world
 
-no_calls : (n p : ℕ) → listed_calls (slice_get (replicate n []) p) ≡ []
+pub no_calls : (n p : ℕ) → listed_calls (slice_get (replicate n []) p) ≡ []
 no_calls zero p = refl
 no_calls (suc n) zero = refl
 no_calls (suc n) (suc p) = no_calls n p
@@ -30,7 +30,7 @@ no_calls (suc n) (suc p) = no_calls n p
 no_kind : (n : ℕ) (mode : Mode) (c : CallId) → kind_at (start_board n mode) c ≡ None
 no_kind n mode c = ap (λ (calls : List Call). kind_of (slice_get calls c.index)) (no_calls n c.rank)
 
-start_orderly : (s : Program) (mode : Mode) → Orderly (start s mode)
+pub start_orderly : (s : Program) (mode : Mode) → Orderly (start s mode)
 start_orderly s mode = record {
   named = λ c e. absurd (cc);
   went_on = λ x blocking. absurd (none_blocks _ (no_kind s.ranks mode x) blocking);
@@ -58,15 +58,15 @@ start_orderly s mode = record {
 -- ---- a step
 
 -- what a value that is there came from
-chosen : {A : Type 0} (b : Bool) (x y : A) → cond b (Some x) None ≡ Some y → (b ≡ true) × (x ≡ y)
+pub chosen : {A : Type 0} (b : Bool) (x y : A) → cond b (Some x) None ≡ Some y → (b ≡ true) × (x ≡ y)
 chosen true x y e = (refl, cc)
 chosen false x y e = absurd (cc)
 
-joined_from : {A B : Type 0} (f : A → Option B) (o : Option A) (y : B) → option_and_then f o ≡ Some y → (x : A) × (o ≡ Some x) × (f x ≡ Some y)
+pub joined_from : {A B : Type 0} (f : A → Option B) (o : Option A) (y : B) → option_and_then f o ≡ Some y → (x : A) × (o ≡ Some x) × (f x ≡ Some y)
 joined_from f None y e = absurd (cc)
 joined_from f (Some x) y e = (x, refl, e)
 
-next_orderly : (w : World) (a : Step) (v : World) → next w a ≡ Some v → Orderly w → Orderly v
+pub next_orderly : (w : World) (a : Step) (v : World) → next w a ≡ Some v → Orderly w → Orderly v
 next_orderly w (Local p) v e h =
     let ran = mapped_from (stepped w p) (local_at w p) v e in
     let rank = joined_from (local p (length w.ranks) (length (calls_of w.board p))) (slice_get w.ranks p) ran.0 ran.1 in

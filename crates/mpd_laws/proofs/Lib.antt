@@ -25,6 +25,7 @@ mod Runs
 mod SendsDone
 mod Signs
 pub mod Slots
+mod SlotsHeld
 mod Sound
 mod SoundParts
 mod SoundStatements

@@ -1,5 +1,5 @@
 -- A local step keeps calls in order: what it issues is named by no match set, and comes when its rank isn't blocked.
-use Rattle.std.proofs.Common.{◌≡◌, ◌≢◌, ◌⊎◌, ℕ, suc, ◌+◌, ◌-◌, ◌<◌, Bool, true, false, ◌&&◌, ◌||◌, ◌==◌, Option, Some, None, is_some, List, [], ◌∷◌, ◌++◌, take, length, length-append, slice_get, slice_set, inl, inr, refl, sym, ap, subst, ◌∙◌, arith}
+use Rattle.std.proofs.Common.{◌≡◌, ◌≢◌, ◌⊎◌, ℕ, suc, ◌+◌, ◌-◌, ◌<◌, Bool, true, false, not, ◌&&◌, ◌||◌, ◌==◌, nat_lt, Option, Some, None, is_some, List, [], ◌∷◌, ◌++◌, take, length, length-append, slice_get, slice_set, inl, inr, refl, sym, ap, subst, ◌∙◌, arith}
 use Rattle.std.proofs.lemmas.Bool.{eqb-true}
 use Rattle.std.proofs.lemmas.Bool.Decides.{eqb_tells}
 use Rattle.mpd_model.specs.declared.step.CallId.{CallId}
@@ -7,14 +7,16 @@ use Rattle.mpd_model.specs.declared.call.Call.{Call}
 use Rattle.mpd_model.specs.declared.call.CallKind.{CallKind}
 use Rattle.mpd_model.specs.declared.call.CallKind.TheVariants.{Send, Barrier}
 use Rattle.mpd_model.specs.declared.call.MatchSet.{MatchSet}
+use Rattle.mpd_model.specs.declared.call.Mode.{Mode}
+use Rattle.mpd_model.specs.declared.call.Mode.TheVariants.{Rendezvous, Buffered, Slots}
 use Rattle.mpd_model.specs.declared.call.MatchSet.TheVariants.{Pair, Woke}
 use Rattle.mpd_model.specs.declared.call.MatchSet.TheVariants as set
-use Rattle.mpd_model.specs.World.{World, Board, RankWorld, call_id, listed_calls, calls_of, kind_of, kind_at, partner, is_buffered, is_barrier}
-use Rattle.mpd_model.specs.Next.{Ran, local, blocks, stepped, with_call, with_issued, buffers_all, has_buffer, buffered_by, entered, waits, is_blocked}
+use Rattle.mpd_model.specs.World.{World, Board, RankWorld, call_id, listed_calls, calls_of, kind_of, kind_at, partner, is_buffered, is_barrier, slots_used}
+use Rattle.mpd_model.specs.Next.{Ran, local, blocks, stepped, with_call, with_issued, buffers_one, has_buffer, buffered_by, entered, waits, is_blocked}
 use Rattle.mpd_model.specs.Order.{matches_first, waits_for, blocks_rank, barriers, releases, barriers_before, is_released_by, names, is_exit, WentOn, Ordered}
 use Rattle.mpd_laws.proofs.Eligible.{both_of, known_within}
 use Rattle.mpd_laws.proofs.LocalActivity.{BlocksOn, local_blocks}
-use Rattle.mpd_laws.proofs.Orderly.{Orderly, IsAwaited, IsMarked, mentions, id_same}
+use Rattle.mpd_laws.proofs.Orderly.{Orderly, IsAwaited, IsMarked, may_be, mentions, id_same}
 use Rattle.mpd_laws.proofs.Releases.{one_if, releases_cut, barriers_more}
 use Rattle.mpd_laws.proofs.Splits.{IsSame, any_at_cut, read_written, none_written, others_kept, same_or_end, end_read}
 
@@ -287,15 +289,28 @@ local_counts w p r after call at runs blocked h q s is =
 
 -- ---- the mark of a send
 
-entered_marked : (b : Board) (k : CallKind) → IsMarked b.mode (Some (buffered_by (buffers_all b.mode) k))
-entered_marked b (Send s) = refl
-entered_marked b k = tt
+mark_allowed : (mode : Mode) (count : ℕ) (standard : Bool) → (buffers_one mode count && standard) ≡ (may_be mode (buffers_one mode count && standard) && standard)
+mark_allowed Rendezvous count standard = refl
+mark_allowed Buffered count standard = refl
+mark_allowed (Slots room) count standard = twice (nat_lt count room) standard
+  where
+    twice : (x y : Bool) → (x && y) ≡ ((x && y) && y)
+    twice true y = sym (same y)
+      where
+        same : (z : Bool) → (z && z) ≡ z
+        same true = refl
+        same false = refl
+    twice false y = refl
+
+entered_marked : (b : Board) (p : ℕ) (k : CallKind) → IsMarked b.mode (Some (buffered_by (has_buffer b p) k))
+entered_marked b p (Send s) = mark_allowed b.mode (slots_used b p) (not s.synchronous)
+entered_marked b p k = tt
 
 marked_issued : (w : World) (p : ℕ) (issued : Call) (x : CallId) → Orderly w → IsMarked w.board.mode (kind_at (with_call w.board p (entered w.board p issued)) x)
 marked_issued w p issued x h =
     elim (old_or_new w.board p (entered w.board p issued) x) [
       | inl same ↦ subst (IsMarked w.board.mode) (sym same.kind) (h.marked x)
-      | inr new ↦ subst (IsMarked w.board.mode) (sym new.kind) (entered_marked w.board issued.kind)
+      | inr new ↦ subst (IsMarked w.board.mode) (sym new.kind) (entered_marked w.board p issued.kind)
     ]
 
 -- ---- the whole step

@@ -61,7 +61,7 @@ match_keeps w s r e h = record {
 -- ---- a wake
 
 -- a call that is complete was issued, where pairs name issued calls alone
-paired_named : (sets : List MatchSet) (c : CallId) → is_some (partner sets c) ≡ true → is_named sets c ≡ true
+pub paired_named : (sets : List MatchSet) (c : CallId) → is_some (partner sets c) ≡ true → is_named sets c ≡ true
 paired_named [] c e = cc
 paired_named (Pair s r ∷ sets) c e =
     elim (cases_Bool (id_eq s c)) [

@@ -10,8 +10,9 @@ use Rattle.mpd_model.specs.declared.call.MatchSet.{MatchSet}
 use Rattle.mpd_model.specs.declared.call.MatchSet.TheVariants.{Pair, Woke}
 use Rattle.mpd_model.specs.declared.call.MatchSet.TheVariants as set
 use Rattle.mpd_model.specs.declared.call.Mode.{Mode}
+use Rattle.mpd_model.specs.declared.call.Mode.TheVariants.{Rendezvous, Buffered, Slots}
 use Rattle.mpd_model.specs.World.{World, Board, RankWorld, call_id, id_eq, calls_of, kind_at, partner, is_done, is_any_or, fitting, eligible, is_message_kind}
-use Rattle.mpd_model.specs.Next.{buffers_all, waits, is_at_barrier, with_set}
+use Rattle.mpd_model.specs.Next.{waits, is_at_barrier, with_set}
 use Rattle.mpd_model.specs.Order.{covers_number, matches_first, waits_for, blocks_rank, barriers, releases, WentOn, Ordered}
 use Rattle.mpd_laws.proofs.Eligible.{both_of, agrees, earlier_send_paired, earlier_recv_paired, message_known}
 use Rattle.mpd_laws.proofs.Splits.{end_or_before}
@@ -36,13 +37,19 @@ pub record IsAwaited (w : World) (x : CallId) : Type 0 where
   pub last : length (calls_of w.board x.rank) ≡ suc x.index
   pub blocked : waits (slice_get w.ranks x.rank) ≡ true
 
--- a standard send is buffered where the mode buffers them all, and a synchronous one never is
+-- what the mode makes of a mark of a standard send: a mode with slots leaves it as it is
+abbrev pub may_be : Mode → Bool → Bool
+may_be Rendezvous buffered = false
+may_be Buffered buffered = true
+may_be (Slots count) buffered = buffered
+
+-- a standard send is marked as the mode allows, and a synchronous one never is buffered
 abbrev pub IsMarked : Mode → Option CallKind → Type 0
-IsMarked mode (Some (Send s)) = s.buffered ≡ (buffers_all mode && not s.synchronous)
+IsMarked mode (Some (Send s)) = s.buffered ≡ (may_be mode s.buffered && not s.synchronous)
 IsMarked mode kind = Unit {0}
 
 -- Match sets name calls that were issued; a rank went on from each blocking call, or is blocked on it; each rank has issued a
--- barrier for each release, and one more where it is blocked on that; calls are in order; the mark of each send is what the mode says.
+-- barrier for each release, and one more where it is blocked on that; calls are in order; the mark of each send is one that the mode allows.
 pub record Orderly (w : World) : Type 0 where
   pub named : (c : CallId) → is_named w.board.sets c ≡ true → is_some (kind_at w.board c) ≡ true
   pub went_on : (x : CallId) → blocks_rank (kind_at w.board x) ≡ true → WentOn w.board w.board.sets x ⊎ IsAwaited w x

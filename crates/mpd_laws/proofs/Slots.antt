@@ -7,11 +7,11 @@ use Rattle.std.specs.List.{filter, range_with_len}
 use Rattle.mpd_model.specs.declared.step.CallId.{CallId}
 use Rattle.mpd_model.specs.declared.call.Call.{Call}
 use Rattle.mpd_model.specs.declared.call.CallKind.{CallKind}
-use Rattle.mpd_model.specs.declared.call.CallKind.TheVariants.{Send, Recv}
+use Rattle.mpd_model.specs.declared.call.CallKind.TheVariants.{Recv}
 use Rattle.mpd_model.specs.declared.call.MatchSet.{MatchSet}
 use Rattle.mpd_model.specs.declared.call.MatchSet.TheVariants.{Pair, Woke}
 use Rattle.mpd_model.specs.declared.call.MatchSet.TheVariants as set
-use Rattle.mpd_model.specs.World.{Board, call_id, id_eq, listed_calls, calls_of, kind_of, kind_at, partner, is_message_kind, fitting, fits, receives, eligible, is_buffered, holds_slot, slots_used}
+use Rattle.mpd_model.specs.World.{Board, call_id, id_eq, listed_calls, calls_of, kind_of, kind_at, partner, is_message_kind, fits, receives, eligible, is_buffered, holds_slot, slots_used}
 use Rattle.mpd_model.specs.Next.{with_call, with_set}
 use Rattle.mpd_laws.proofs.Eligible.{both_of, agrees, fitting_recv, known_within}
 use Rattle.mpd_laws.proofs.Releases.{one_if}
@@ -35,7 +35,7 @@ elsewhere p n q ne = ap (λ (b : Bool). cond b n 0) (ne_eqb q p ne)
 
 -- ---- how many numbers pass
 
-abbrev count_from : (ℕ → Bool) → ℕ → ℕ → ℕ
+abbrev pub count_from : (ℕ → Bool) → ℕ → ℕ → ℕ
 count_from t a n = length (filter t (range_with_len a n))
 
 count_first : (t : ℕ → Bool) (a : ℕ) (xs : List ℕ) → length (filter t (a ∷ xs)) ≡ one_if (t a) + length (filter t xs)
@@ -69,7 +69,7 @@ count_more t a (suc n) =
     let at : one_if (t (a + suc n)) ≡ one_if (t (a + 1 + n)) = ap (λ (k : ℕ). one_if (t k)) (omega arith) in
     omega (arith, first, second, rest, at)
 
-count_same : (t u : ℕ → Bool) (a n : ℕ) → ((i : ℕ) → a ≤ i → i < a + n → t i ≡ u i) → count_from t a n ≡ count_from u a n
+pub count_same : (t u : ℕ → Bool) (a n : ℕ) → ((i : ℕ) → a ≤ i → i < a + n → t i ≡ u i) → count_from t a n ≡ count_from u a n
 count_same t u a zero h = refl
 count_same t u a (suc n) h =
     let first = count_first t a (range_with_len (a + 1) n) in
