@@ -19,6 +19,7 @@ pub mod WildcardReaderRows
 pub mod BarrierRows
 pub mod KindRows
 pub mod SendRows
+pub mod SlotsRows
 pub mod BarrierReaderRows
 pub mod DecisionRows
 pub mod AnyRows
