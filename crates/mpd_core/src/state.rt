@@ -206,7 +206,7 @@ impl<'c> Core<'c> {
     }
 
     /// Whether a rank is blocked.
-    fn is_waiting(&self, rank: usize) -> bool
+    pub(crate) fn is_waiting(&self, rank: usize) -> bool
         ensures { result ≡ waits (slice_get self.now.world.ranks rank) }
     {
         match ranks::rank_at(&self.ranks, rank) {

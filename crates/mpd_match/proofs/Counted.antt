@@ -1,5 +1,5 @@
 -- The slots that ranks hold, as a board changes.
-use Rattle.std.proofs.Common.{◌≡◌, ℕ, zero, suc, ◌+◌, ◌-◌, ◌<◌, ◌≤◌, Bool, true, false, cond, eq-eqb, Option, Some, None, List, [], ◌∷◌, ◌++◌, refl, sym, ap, subst, ◌∙◌, length, set, take, slice_get, slice_set, replicate, slice_index_or, append-nil, length-append, option_to_list, arith}
+use Rattle.std.proofs.Common.{◌≡◌, ℕ, zero, suc, ◌+◌, ◌-◌, ◌<◌, ◌≤◌, Bool, true, false, cond, eq-eqb, Option, Some, None, List, [], ◌∷◌, ◌++◌, refl, sym, ap, subst, ◌∙◌, length, set, take, slice_get, slice_set, replicate, append-nil, option_to_list, arith}
 use Rattle.std.proofs.lemmas.List.{length-replicate, length-set, set-set}
 use Rattle.std.specs.List.{filter, range_with_len}
 use Rattle.mpd_model.specs.declared.step.CallId.{CallId}
@@ -60,10 +60,10 @@ counted_issue mode sides new sets slots more p call lt ec free el held h =
     record {
       ranks = el ∙ h.ranks ∙ sym (ap length ec ∙ length-set (calls_in sides) p (listed_calls (slice_get (calls_in sides) p) ++ call ∷ []));
       held = λ q.
-      held q
-      ∙ ap (λ (n : ℕ). n + at_rank p (slots_of (Some call.kind)) q) (h.held q)
-      ∙ sym (slots_with_call b p call q lt free)
-      ∙ sym (ap (λ (x : Board). slots_used x q) is);
+          held q
+          ∙ ap (λ (n : ℕ). n + at_rank p (slots_of (Some call.kind)) q) (h.held q)
+          ∙ sym (slots_with_call b p call q lt free)
+          ∙ sym (ap (λ (x : Board). slots_used x q) is);
     }
 
 -- ---- a call less
@@ -73,8 +73,7 @@ split_last [] some = absurd (omega arith)
 split_last (c ∷ []) some = (c, refl, refl)
 split_last (c ∷ d ∷ xs) some =
     let rest = split_last (d ∷ xs) (omega arith) in
-    let at : length (c ∷ d ∷ xs) - 1 ≡ suc (length (d ∷ xs) - 1) = omega arith in
-    (
+    let at : length (c ∷ d ∷ xs) - 1 ≡ suc (length (d ∷ xs) - 1) = omega arith in (
       rest.0,
       ap (λ (zs : List Call). c ∷ zs) rest.1 ∙ sym (ap (λ (k : ℕ). take k (c ∷ d ∷ xs) ++ rest.0 ∷ []) at),
       ap (slice_get (c ∷ d ∷ xs)) at ∙ rest.2,
@@ -120,12 +119,12 @@ counted_unissue mode sides new sets slots less p kind lt some free ec ek el held
     record {
       ranks = el ∙ h.ranks ∙ sym (ap length ec ∙ length-set (calls_in sides) p (take (length (calls_of b p) - 1) (calls_of b p)));
       held = λ q.
-      let before = h.held q in
-      let after = held q in
-      let all = slots_without_call b p q lt some free in
-      let same = ap (λ (k : Option CallKind). at_rank p (slots_of k) q) ek in
-      let left : held_in less q ≡ slots_used (without_last_call b p) q = omega (arith, before, after, all, same) in
-      left ∙ sym (ap (λ (x : Board). slots_used x q) is);
+          let before = h.held q in
+          let after = held q in
+          let all = slots_without_call b p q lt some free in
+          let same = ap (λ (k : Option CallKind). at_rank p (slots_of k) q) ek in
+          let left : held_in less q ≡ slots_used (without_last_call b p) q = omega (arith, before, after, all, same) in
+          left ∙ sym (ap (λ (x : Board). slots_used x q) is);
     }
 
 -- the last call of a rank holds no more slots than its rank
@@ -175,12 +174,12 @@ counted_pair mode sides new sets more slots less s r kind e able ec ek el held h
     record {
       ranks = el ∙ h.ranks ∙ sym (ap length ec);
       held = λ q.
-      let before = h.held q in
-      let after = held q in
-      let all = slots_with_match b s r q able in
-      let same = ap (λ (k : Option CallKind). at_rank s.rank (slots_of k) q) ek in
-      let left : held_in less q ≡ slots_used (with_set b (Pair s r)) q = omega (arith, before, after, all, same) in
-      left ∙ sym (ap (λ (x : Board). slots_used x q) is);
+          let before = h.held q in
+          let after = held q in
+          let all = slots_with_match b s r q able in
+          let same = ap (λ (k : Option CallKind). at_rank s.rank (slots_of k) q) ek in
+          let left : held_in less q ≡ slots_used (with_set b (Pair s r)) q = omega (arith, before, after, all, same) in
+          left ∙ sym (ap (λ (x : Board). slots_used x q) is);
     }
 
 -- the send of a pair holds no more slots than its rank
@@ -204,12 +203,12 @@ counted_unpair mode sides new sets slots more s r kind free fit ec ek el held h 
     record {
       ranks = el ∙ h.ranks ∙ sym (ap length ec);
       held = λ q.
-      let before = h.held q in
-      let after = held q in
-      let all = slots_with_fitting b s r q free fit in
-      let same = ap (λ (k : Option CallKind). at_rank s.rank (slots_of k) q) ek in
-      let left : held_in more q ≡ slots_used b q = omega (arith, before, after, all, same) in
-      left ∙ sym (ap (λ (x : Board). slots_used x q) is);
+          let before = h.held q in
+          let after = held q in
+          let all = slots_with_fitting b s r q free fit in
+          let same = ap (λ (k : Option CallKind). at_rank s.rank (slots_of k) q) ek in
+          let left : held_in more q ≡ slots_used b q = omega (arith, before, after, all, same) in
+          left ∙ sym (ap (λ (x : Board). slots_used x q) is);
     }
 
 -- where a pair is taken back, its rank holds no more slots behind that than it has calls
@@ -241,9 +240,9 @@ pub counted_new : (mode : Mode) (sides : List SideView) (sets : List MatchSet) (
 counted_new mode sides sets slots n ec es = record {
   ranks = ap length es ∙ length-replicate n 0 ∙ sym (ap length ec ∙ length-replicate n []);
   held = λ q.
-  ap (λ (xs : List ℕ). held_in xs q) es
-  ∙ none_held n q
-  ∙ sym (ap (λ (calls : List Call). count_in (board_in mode sides sets) q calls) (ap (λ (zs : List (List Call)). listed_calls (slice_get zs q)) ec ∙ no_calls n q));
+      ap (λ (xs : List ℕ). held_in xs q) es
+      ∙ none_held n q
+      ∙ sym (ap (λ (calls : List Call). count_in (board_in mode sides sets) q calls) (ap (λ (zs : List (List Call)). listed_calls (slice_get zs q)) ec ∙ no_calls n q));
 }
   where
     count_in : Board → ℕ → List Call → ℕ

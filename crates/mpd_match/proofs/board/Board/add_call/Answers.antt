@@ -35,10 +35,10 @@ invariant_of-self c =
     let lt : c.args.rank < length (calls_in s.sides.items) = omega (arith, c.requires.rank, ap (λ (v : BoardView). length v.board.calls) c.self.view_is) in
     record {
       meets =
-      meets_issue s.mode s.sides.items c.issue_at-number.new.sides.items s.sets.items c.args.rank c.args.call lt c.issue_at-number.ensures.calls c.issue_at-number.ensures.lines c.issue_at-number.ensures.marks h;
+          meets_issue s.mode s.sides.items c.issue_at-number.new.sides.items s.sets.items c.args.rank c.args.call lt c.issue_at-number.ensures.calls c.issue_at-number.ensures.lines c.issue_at-number.ensures.marks h;
       counted =
-      counted_issue s.mode s.sides.items c.issue_at-number.new.sides.items s.sets.items s.slots.items c.take_slot.new.slots.items c.args.rank c.args.call lt c.issue_at-number.ensures.calls free
-      c.take_slot.ensures.ranks c.take_slot.ensures.held c.self.invariant.counted;
+          counted_issue s.mode s.sides.items c.issue_at-number.new.sides.items s.sets.items s.slots.items c.take_slot.new.slots.items c.args.rank c.args.call lt c.issue_at-number.ensures.calls free
+          c.take_slot.ensures.ranks c.take_slot.ensures.held c.self.invariant.counted;
     }
 
 pub returns-clause-some : goal.returns-clause-some

@@ -88,13 +88,13 @@ invariant_of-self c =
     let kind : c.kind-kind.result ≡ kind_at (board_in s.mode sides s.sets.items) c.args.send = c.kind-kind.ensures ∙ ap (λ (b : Board). kind_at b c.args.send) (sym e) in
     record {
       meets =
-      meets_pair s.mode sides mid c.pair_at-recv_spot.new.sides.items s.sets.items c.push_kept.new.self.items c.args.send c.args.recv c.push_kept.ensures.items able
-      c.pair_at-send_spot.ensures.calls c.pair_at-send_spot.ensures.lines c.pair_at-send_spot.ensures.marks
-      c.pair_at-recv_spot.ensures.calls c.pair_at-recv_spot.ensures.lines c.pair_at-recv_spot.ensures.marks h;
+          meets_pair s.mode sides mid c.pair_at-recv_spot.new.sides.items s.sets.items c.push_kept.new.self.items c.args.send c.args.recv c.push_kept.ensures.items able
+          c.pair_at-send_spot.ensures.calls c.pair_at-send_spot.ensures.lines c.pair_at-send_spot.ensures.marks
+          c.pair_at-recv_spot.ensures.calls c.pair_at-recv_spot.ensures.lines c.pair_at-recv_spot.ensures.marks h;
       counted =
-      counted_pair s.mode sides c.pair_at-recv_spot.new.sides.items s.sets.items c.push_kept.new.self.items s.slots.items c.give_slot_back.new.slots.items c.args.send c.args.recv c.kind-kind.result c.push_kept.ensures.items able
-      (c.pair_at-recv_spot.ensures.calls ∙ c.pair_at-send_spot.ensures.calls) kind
-      c.give_slot_back.ensures.ranks c.give_slot_back.ensures.held c.self.invariant.counted;
+          counted_pair s.mode sides c.pair_at-recv_spot.new.sides.items s.sets.items c.push_kept.new.self.items s.slots.items c.give_slot_back.new.slots.items c.args.send c.args.recv c.kind-kind.result c.push_kept.ensures.items able
+          (c.pair_at-recv_spot.ensures.calls ∙ c.pair_at-send_spot.ensures.calls) kind
+          c.give_slot_back.ensures.ranks c.give_slot_back.ensures.held c.self.invariant.counted;
     }
 
 pub returns-clause-recorded : goal.returns-clause-recorded

@@ -28,11 +28,11 @@ invariant_of-self c =
     let kind : c.kind-kind.result ≡ kind_at b (last_call b c.args.rank) = c.kind-kind.ensures ∙ ap (kind_at c.args.self.now.board) c.last_call-last.ensures ∙ ap (λ (x : Board). kind_at x (last_call x c.args.rank)) (sym e) in
     record {
       meets =
-      meets_unissue s.mode s.sides.items c.unissue_at.new.sides.items s.sets.items c.args.rank lt free
-      c.unissue_at.ensures.calls c.unissue_at.ensures.lines c.unissue_at.ensures.marks c.self.invariant.meets;
+          meets_unissue s.mode s.sides.items c.unissue_at.new.sides.items s.sets.items c.args.rank lt free
+          c.unissue_at.ensures.calls c.unissue_at.ensures.lines c.unissue_at.ensures.marks c.self.invariant.meets;
       counted =
-      counted_unissue s.mode s.sides.items c.unissue_at.new.sides.items s.sets.items s.slots.items c.give_slot_back.new.slots.items c.args.rank c.kind-kind.result lt some free c.unissue_at.ensures.calls kind
-      c.give_slot_back.ensures.ranks c.give_slot_back.ensures.held c.self.invariant.counted;
+          counted_unissue s.mode s.sides.items c.unissue_at.new.sides.items s.sets.items s.slots.items c.give_slot_back.new.slots.items c.args.rank c.kind-kind.result lt some free c.unissue_at.ensures.calls kind
+          c.give_slot_back.ensures.ranks c.give_slot_back.ensures.held c.self.invariant.counted;
     }
 
 pub returns-clause-writes : goal.returns-clause-writes

@@ -217,12 +217,12 @@ invariant_of-self c =
     let kind : c.kind_on-kind.result ≡ kind_at (board_in s.mode sides before) send = c.kind_on-kind.ensures ∙ kind_stays sides new send calls ∙ kind_is s.mode sides before send in
     record {
       meets =
-      meets_unpair s.mode sides mid c.unpair_at-2.new.sides.items before send recv held
-      c.unpair_at.ensures.calls c.unpair_at.ensures.lines c.unpair_at.ensures.marks
-      c.unpair_at-2.ensures.calls c.unpair_at-2.ensures.lines c.unpair_at-2.ensures.marks;
+          meets_unpair s.mode sides mid c.unpair_at-2.new.sides.items before send recv held
+          c.unpair_at.ensures.calls c.unpair_at.ensures.lines c.unpair_at.ensures.marks
+          c.unpair_at-2.ensures.calls c.unpair_at-2.ensures.lines c.unpair_at-2.ensures.marks;
       counted =
-      counted_unpair s.mode sides new before s.slots.items c.take_slot.new.slots.items send recv c.kind_on-kind.result last.1 last.0 calls kind
-      c.take_slot.ensures.ranks c.take_slot.ensures.held counted;
+          counted_unpair s.mode sides new before s.slots.items c.take_slot.new.slots.items send recv c.kind_on-kind.result last.1 last.0 calls kind
+          c.take_slot.ensures.ranks c.take_slot.ensures.held counted;
     }
 
 pub returns-clause-writes : goal.returns-clause-writes
