@@ -9,6 +9,7 @@ from debugger import BUFFERED, RENDEZVOUS, parted
 from exchange_cases import exchanges_case
 from language import HIGHEST, LEVELS, LOWEST
 from limit_cases import limits_case
+from modes import by_turns
 from request_cases import requests_case
 from scripts import Writer, mutated_bytes, mutated_tokens, rendered
 from state_cases import arrays_case, deep_case, messages_case, names_case, states_case, traps_case
@@ -231,7 +232,8 @@ NUMBERED = {'arithmetic': arithmetic_case, 'operators': operators_case, 'stateme
 def mode_of(kind, number):
     """The mode in which an input is traced with its script in a file; None where the script comes before its words."""
     ways = KINDS[kind].ways
-    return ways[number % len(ways)]
+    way = ways[number % len(ways)]
+    return way and by_turns(way, number // len(ways))
 
 
 def random_case(kind, seed, number, in_packets):

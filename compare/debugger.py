@@ -7,7 +7,7 @@ from typing import NamedTuple
 import language
 from language import (Assert, Assign, Barrier, Branch, FAULT_NAMES, Fault, Print, Receive, Send, Trap, View, Wait, WaitAny, While, cell_of,
                       evaluate, read_script)
-from modes import BUFFERED, MODES, RENDEZVOUS
+from modes import BUFFERED, RENDEZVOUS, is_mode, slots_of
 from worlds import BarrierCall, Call, CallId, Pair, Rank, Released, Step, WaitAnyCall, WaitCall, Woken, World
 
 HIGHEST_TAG = 32767
@@ -114,6 +114,31 @@ def executed(rank, view):
     return issued(rank, statement, view)._replace(rest=tail)
 
 
+def slots_used(world, number):
+    """How many sends of a rank are buffered and not matched."""
+    return len(world.ranks[number].slots)
+
+
+def has_slot(mode, used):
+    """Whether a standard send is buffered whose sender has so many buffered sends that are not matched."""
+    slots = slots_of(mode)
+    return mode == BUFFERED or slots is not None and used < slots
+
+
+def is_buffered(mode, call, used):
+    """Whether a call is buffered as it is made: a standard send may be, and nothing else ever."""
+    return call.kind == 'send' and not call.synchronous and has_slot(mode, used)
+
+
+def marked(world, number):
+    """The world in which a rank has made its last call, which is marked where it is buffered then, and takes a slot."""
+    rank = world.ranks[number]
+    *calls, call = rank.calls
+    if not is_buffered(world.mode, call, slots_used(world, number)):
+        return world
+    return world.with_rank(number, rank._replace(calls=(*calls, call._replace(buffered=True)), slots=(*rank.slots, len(calls))))
+
+
 def can_run(rank):
     return rank.mode == 'running' and rank.rest is not None
 
@@ -123,9 +148,11 @@ def after_local(world, number):
         return None
     rank = world.ranks[number]
     try:
-        return world.with_rank(number, executed(rank, View(rank.cells, number, len(world.ranks))))
+        behind = executed(rank, View(rank.cells, number, len(world.ranks)))
     except Trap as trap:
         return world.with_rank(number, rank._replace(mode='trapped', trap=trap.name))
+    has_called = len(behind.calls) > len(rank.calls)
+    return marked(world.with_rank(number, behind), number) if has_called else world.with_rank(number, behind)
 
 
 def find_call(world, call_id):
@@ -195,9 +222,10 @@ def eligible(world, send_id, receive_id):
 
 
 def without_free(world, call_id):
+    """The world in which a call isn't free any more, and has no slot."""
     rank = world.ranks[call_id.rank]
-    free = tuple(number for number in rank.free if number != call_id.number)
-    return world.with_rank(call_id.rank, rank._replace(free=free))
+    free, slots = (tuple(number for number in numbers if number != call_id.number) for numbers in (rank.free, rank.slots))
+    return world.with_rank(call_id.rank, rank._replace(free=free, slots=slots))
 
 
 def after_match(world, send_id, receive_id):
@@ -220,14 +248,9 @@ def awaited(world, number):
     return None if call.target is None else CallId(number, call.target)
 
 
-def is_buffered(mode, call):
-    """Whether a call is complete as it is made: a standard send is in the mode `buffered`, and nothing else ever."""
-    return mode == BUFFERED and call.kind == 'send' and not call.synchronous
-
-
 def is_done(world, call_id):
     """Whether a send or a receive is complete: it is matched, or was buffered as it was made."""
-    return partner(world, call_id) is not None or is_buffered(world.mode, find_call(world, call_id))
+    return partner(world, call_id) is not None or find_call(world, call_id).buffered
 
 
 def is_at_barrier(rank):
@@ -412,6 +435,11 @@ def call_word(call):
     return ('' if call.blocks else 'i') + ('s' if call.synchronous else '') + call.kind
 
 
+def mark_text(mode, call):
+    """What is shown of the mark of a send: nothing but in a mode of slots, since in each other one the mode says it."""
+    return ' buffered' if call.buffered and slots_of(mode) is not None else ''
+
+
 def call_line(world, call_id):
     call = find_call(world, call_id)
     if call.kind == 'barrier':
@@ -424,7 +452,7 @@ def call_line(world, call_id):
     state = 'free' if other_id is None else f'with {other_id}'
     word = call_word(call)
     if call.kind == 'send':
-        return f'call {call_id} {word} to {call.other} tag {call.tag} value {call.value} {state}'
+        return f'call {call_id} {word} to {call.other} tag {call.tag} value {call.value}{mark_text(world.mode, call)} {state}'
     if other_id is not None:
         state += f' value {find_call(world, other_id).value}'
     source, tag = ('any' if part is None else part for part in (call.other, call.tag))
@@ -676,7 +704,7 @@ def answer_words(words):
     chosen = parser.parse_args(words)
     if chosen.command is None:
         return answer(sys.stdin.buffer.read())
-    if chosen.mode not in MODES:
+    if not is_mode(chosen.mode):
         return BAD_MODE
     script = file_content(chosen.file)
     if script is None:

@@ -12,9 +12,10 @@ import exchange_cases
 import waitany_cases
 import wildcard_cases
 from canonical import now_and_then_canonical
-from debugger import MODES, RENDEZVOUS
+from debugger import RENDEZVOUS
 from explorer import Asked, answer, option_words, report
 from language import Fault, read_script
+from modes import MODES, by_turns
 from runs import held
 from scripts import Writer, header, mutated_bytes, mutated_tokens, rendered, synchronous
 from wildcard_cases import in_branches
@@ -284,9 +285,9 @@ def limits(random, kind, script, mode):
     return runs, fuel
 
 
-def asked(random, kind, script):
-    """The options of a check; now and then some are left out, or the mode is none."""
-    mode = random.choice(MODES)
+def asked(random, kind, script, number):
+    """The options of a check of this number; now and then some are left out, or the mode is none."""
+    mode = by_turns(random.choice(MODES), number)
     try:
         runs, fuel = limits(random, kind, read_script(script), mode)
     except Fault:
@@ -294,7 +295,8 @@ def asked(random, kind, script):
     if mode == RENDEZVOUS and random.random() < 0.3:
         mode = None
     if random.random() < 0.015:
-        mode = random.choice(['fast', '', 'Buffered', 'buffered ', 'rendezvous,buffered'])
+        mode = random.choice(['fast', '', 'Buffered', 'buffered ', 'rendezvous,buffered', 'slots', 'slots:', 'slots:65537', 'slots:000001',
+                              'slots:-1', 'slots:+1', 'slots:1 ', 'slots: 1', 'Slots:1', 'slots:1x'])
     if kind.ends and random.random() < 0.1:
         runs, fuel = random.choice([None, runs, runs]), None
     return Asked(mode, runs, fuel, random.random() < 0.6, random.random() < 0.3)
@@ -325,5 +327,5 @@ def random_case(seed, number):
     random, kinds = Random(f'explore/{seed}/{number}'), kinds_by(seed)
     name = kind_of(random, kinds)
     script = script_of(random, kinds[name])
-    case = Case(f'{name}-{seed}-{number}', script, asked(random, kinds[name], script))
+    case = Case(f'{name}-{seed}-{number}', script, asked(random, kinds[name], script, number))
     return case._replace(script=None) if random.random() < 0.01 else case

@@ -25,9 +25,10 @@ import debugger
 import waitany_faults
 from breakages import buffered_by, going_on, one_left, wakes_at_barriers, without_gone, without_running
 from cases import KINDS
-from debugger import (BUFFERED, MODES, RENDEZVOUS, CallId, Debugger, Pair, Step, Woken, divided, eligible, enabled_steps, find_call,
-                      fits, free_calls, partner, receives_ahead, sends_ahead, step_text)
+from debugger import (BUFFERED, RENDEZVOUS, CallId, Debugger, Pair, Step, Woken, divided, eligible, enabled_steps, find_call,
+                      fits, free_calls, partner, receives_ahead, sends_ahead, slots_used, step_text)
 from language import Fault, read_script
+from modes import MODES, by_turns, slots_of
 
 CHOSEN = ('wildcards', 'wildcards', 'requests', 'script', 'states')
 LATER = ('barriers', 'exchanges')
@@ -115,6 +116,13 @@ def is_standard_send(call):
     return call.kind == 'send' and not call.synchronous
 
 
+def was_buffered(world, call):
+    """Whether a call is a send that was buffered as it was issued: by the mode alone where that says it, and else by its mark."""
+    if slots_of(world.mode) is not None:
+        return is_standard_send(call) and call.buffered
+    return world.mode == BUFFERED and is_standard_send(call)
+
+
 class Places(NamedTuple):
     """What the records must show of two calls: each of `bounds` is behind `held`, which is None where it isn't there."""
     case: str
@@ -129,7 +137,7 @@ def places_between(world, first, second, paired, left):
     `also` says what was met in that beside the case.
     """
     one, two = find_call(world, first), find_call(world, second)
-    buffered = world.mode == BUFFERED and is_standard_send(one)
+    buffered = was_buffered(world, one)
     for case in cases_of(world, first, second):
         if case in ('sends', 'receives'):
             yield Places(case, [paired[second]] if second in paired else [], paired.get(first), [])
@@ -178,7 +186,7 @@ def due_by_any(world, call_id, is_done):
 def steps_due(world):
     """The wakes and the release that must be enabled, by the calls, what handles hold, and the records alone."""
     def is_done(call_id):
-        return call_id in paired or (world.mode == BUFFERED and is_standard_send(find_call(world, call_id)))
+        return call_id in paired or was_buffered(world, find_call(world, call_id))
 
     paired, left = places_of(world)
     last = [CallId(number, len(rank.calls) - 1) for number, rank in enumerate(world.ranks)]
@@ -219,6 +227,40 @@ def told_wrong(world):
     return wrong + told_of_barriers(world)
 
 
+class Held(NamedTuple):
+    """The sends that were buffered as they were issued, and those of them that aren't matched."""
+    marked: set
+    free: set
+
+
+def held_by(walked):
+    """What was buffered, and is: by the steps from the start, what they issued and what they matched."""
+    held, slots = Held(set(), set()), slots_of(walked.world.mode)
+    for step, before, behind in zip(walked.steps, walked.worlds, walked.worlds[1:]):
+        if step.kind == 'match':
+            held.free.discard(step.first)
+        if step.kind != 'local' or len(all_calls(behind)) == len(all_calls(before)):
+            continue
+        call_id = CallId(step.first, len(before.ranks[step.first].calls))
+        used = sum(other.rank == step.first for other in held.free)
+        has_slot = walked.world.mode == BUFFERED if slots is None else used < slots
+        if has_slot and is_standard_send(find_call(behind, call_id)):
+            held.marked.add(call_id)
+            held.free.add(call_id)
+    return held
+
+
+def slots_wrong(walked):
+    """What the marks of sends, and the sends that have a slot, are otherwise than by the steps."""
+    held, world = held_by(walked), walked.world
+    sends = [call_id for call_id in all_calls(world) if find_call(world, call_id).kind == 'send']
+    wrong = [f'the mark of {call_id}' for call_id in sends if find_call(world, call_id).buffered != (call_id in held.marked)]
+    slots = {CallId(number, place) for number, rank in enumerate(world.ranks) for place in rank.slots}
+    counts = [slots_used(world, number) for number in range(len(world.ranks))]
+    is_counted = counts == [sum(call_id.rank == number for call_id in held.free) for number in range(len(world.ranks))]
+    return wrong + ['the sends that have a slot'] * (slots != held.free) + ['how many slots are used'] * (not is_counted)
+
+
 def all_matches(world):
     """All matches of two calls that are eligible, sought among all pairs of calls."""
     return {(one, two) for one in all_calls(world) for two in all_calls(world) if eligible(world, one, two)}
@@ -232,7 +274,8 @@ def walks(seed, count, kinds=CHOSEN):
     """Inputs of scripts that are read, each with what the model's debugger is of it, and its lines."""
     for number in range(count):
         kind = kinds[number % len(kinds)]
-        mode = RENDEZVOUS if kinds == CHOSEN else MODES[number // len(kinds) % 2]
+        turn = number // len(kinds)
+        mode = RENDEZVOUS if kinds == CHOSEN else by_turns(MODES[turn % 2], turn)
         data = KINDS[kind].draw(Random(f'order/{kind}/{seed}/{number}'), mode)
         script, lines = divided(data)
         try:
@@ -261,7 +304,7 @@ def check(seed, count, to_end=True):
                 continue
             met['worlds'] += 1
             met.update(met_by_step(walked))
-            wrong += told_wrong(walked.world)
+            wrong += told_wrong(walked.world) + slots_wrong(walked)
         for world in (longest, walked.world):
             cases, found = out_of_order(world)
             met += cases

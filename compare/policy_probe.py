@@ -28,9 +28,10 @@ import policy_faults
 import waitany_faults
 import walks
 from cases import KINDS
-from debugger import MODES, divided, rank_state
+from debugger import divided, rank_state
 from explore_cases import Beside
 from language import Fault, read_script, read_up_to
+from modes import MODES, by_turns
 from policy_words import Driven
 from probing import DIVIDER, PROBES, TOP, Batch, Change, Probe, Walked, batches, report, tried
 
@@ -40,6 +41,7 @@ CHOSEN = ('wildcards', 'wildcards', 'trails', 'barriers', 'exchanges', 'requests
 CHOSEN_OF_2 = ('waitany',)
 FORWARD = walks.Habits(show=(0.0,), back=(0.0, 0.05), any_step=(0.0, 0.1), odd=(0.0,), backs=(0, 1, 2, 5), along=(0.0, 0.1),
                        redos=(0, 1, 2, 5))
+SLOTS = 'slots:'
 # Behind so many steps nothing is asked any more: what a script does for ever would make it long.
 MOST_DEPTH = 150
 CHUNK = 20
@@ -129,7 +131,8 @@ class Walk:
 def walked(seed, number):
     """The walk of this number; None where its script can't be read, or there is nothing to ask."""
     kinds = CHOSEN_OF_2 if isinstance(seed, Beside) else CHOSEN
-    kind, mode = kinds[number % len(kinds)], MODES[number // len(kinds) % 2]
+    kind, turn = kinds[number % len(kinds)], number // len(kinds)
+    mode = by_turns(MODES[turn % 2], turn)
     random = Random(f'policy/{kind}/{seed}/{number}')
     script = divided(KINDS[kind].draw(random, mode))[0]
     try:
@@ -146,15 +149,24 @@ def walked(seed, number):
     if random.random() < 0.05:
         walk.fill()
     walk.take('show')
-    data = mode[:1].encode() + script + b'\1' + ''.join(f'{line}\n' for line in walk.lines).encode('latin-1')
+    data = letter_of(mode) + script + b'\1' + ''.join(f'{line}\n' for line in walk.lines).encode('latin-1')
     return Walked(f'{seed}-{number}-{mode}', data, expected(data), walk.met)
+
+
+def letter_of(mode):
+    """The byte that names a mode: its first letter, or how many slots it has."""
+    return (mode[:1] if mode in MODES else mode.removeprefix(SLOTS)).encode()
+
+
+def mode_by(letter):
+    """The mode that a byte names."""
+    return next((mode for mode in MODES if letter_of(mode) == letter), SLOTS + letter.decode())
 
 
 def expected(data):
     """What the copy writes for an input."""
     script, _, words = data[1:].partition(b'\1')
-    mode = next(mode for mode in MODES if mode[:1].encode() == data[:1])
-    driven = Driven(read_script(script), mode)
+    driven = Driven(read_script(script), mode_by(data[:1]))
     lines = [line.removesuffix(b'\r') for line in words.split(b'\n')[:-1]]
     answers = [driven.answer(line) for line in lines]
     return ''.join(f'{text}\n' for text in answers if text is not None).encode() + b'ended' + DIVIDER

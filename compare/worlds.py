@@ -17,7 +17,7 @@ class Call(NamedTuple):
 
     A send is standard or synchronous. Of a receive `other` is None where it takes messages of any source, `tag` where it takes
     them of any tag; `status` has the cells for the source and the tag of what it takes, where it has such cells. `line` is that of
-    the statement that made it.
+    the statement that made it. A send is marked as it is issued where it is `buffered` then, in every mode; the mark stays.
     """
     kind: str
     blocks: bool
@@ -28,6 +28,7 @@ class Call(NamedTuple):
     status: Optional[tuple] = None
     synchronous: bool = False
     line: int = 0
+    buffered: bool = False
 
 
 class WaitCall(NamedTuple):
@@ -59,7 +60,7 @@ class Rank(NamedTuple):
     """A rank; `rest` is None at the end, else (statement, rest); `mode` is running, blocked or trapped.
 
     `handles` has for each handle the number of a call, or None. `free` has the numbers of its sends and receives that
-    are not matched, in the order of issue.
+    are not matched, in the order of issue, and `slots` those of its buffered sends among them.
     """
     rest: Optional[tuple]
     cells: tuple
@@ -69,6 +70,7 @@ class Rank(NamedTuple):
     printed: tuple
     mode: str
     trap: Optional[str]
+    slots: tuple = ()
 
 
 class Pair(NamedTuple):
