@@ -9,13 +9,14 @@ from typing import Callable, NamedTuple, Optional
 
 import barrier_cases
 import exchange_cases
+import slots_cases
 import waitany_cases
 import wildcard_cases
 from canonical import now_and_then_canonical
 from debugger import RENDEZVOUS
 from explorer import Asked, answer, option_words, report
 from language import Fault, read_script
-from modes import MODES, by_turns
+from modes import MODES, by_turns, is_turn_of_slots
 from runs import held
 from scripts import Writer, header, mutated_bytes, mutated_tokens, rendered, synchronous
 from wildcard_cases import in_branches
@@ -246,11 +247,14 @@ KINDS = {
 KINDS_OF_2 = {form.__name__: Kind(form, share, ranks, None if form is waitany_cases.any_script else waitany_cases.DECLARED,
                                   form is not waitany_cases.any_script, version=2)
               for form, (ranks, share) in waitany_cases.FORMS.items()}
+# Those that stand beside the others where a case is in a mode of slots.
+KINDS_OF_SLOTS = {form.__name__: Kind(form, 20, ranks, slots_cases.DECLARED) for form, ranks in slots_cases.FORMS.items()}
 
 
-def kinds_by(seed):
-    """The kinds of scripts that are drawn by a seed."""
-    return KINDS_OF_2 if isinstance(seed, Beside) else KINDS
+def kinds_by(seed, number):
+    """The kinds of scripts of which that of a number is drawn by a seed."""
+    kinds = KINDS_OF_2 if isinstance(seed, Beside) else KINDS
+    return kinds | KINDS_OF_SLOTS if is_turn_of_slots(number) else kinds
 
 
 RUNS = (1, 2, 3, 5, 8, 13, 20, 30, 40, 40)
@@ -324,7 +328,7 @@ def kind_of(random, kinds=KINDS):
 
 def random_case(seed, number):
     """One case, the same each time."""
-    random, kinds = Random(f'explore/{seed}/{number}'), kinds_by(seed)
+    random, kinds = Random(f'explore/{seed}/{number}'), kinds_by(seed, number)
     name = kind_of(random, kinds)
     script = script_of(random, kinds[name])
     case = Case(f'{name}-{seed}-{number}', script, asked(random, kinds[name], script, number))

@@ -476,9 +476,9 @@ def check(seed, count, to_end=True):
 
 def check_kinds(seed, count, to_end):
     """The same of the scripts that are drawn by a seed."""
-    met, wrong, number, kinds = Counter(), [], 0, kinds_by(seed)
+    met, wrong, number = Counter(), [], 0
     while met['scripts'] < count and number < 2 * count and (to_end or not wrong):
-        random = Random(f'rules/{seed}/{number}')
+        random, kinds = Random(f'rules/{seed}/{number}'), kinds_by(seed, number)
         text, mode = script_of(random, kinds[kind_of(random, kinds)]), by_turns(MODES[number % 2], number)
         try:
             script = read_script(text)

@@ -28,13 +28,17 @@ def is_mode(word):
     return word in MODES or slots_of(word) is not None
 
 
+def is_turn_of_slots(turn):
+    """Whether the case of a number is in a mode of slots."""
+    return bool(KNOWN) and turn % SLOTS_EVERY == SLOTS_EVERY - 1
+
+
 def by_turns(mode, turn):
-    """The mode of a case: of each fifth one of slots in place of the one that was drawn, so that nothing else is drawn otherwise."""
-    if not KNOWN or turn % SLOTS_EVERY < SLOTS_EVERY - 1:
-        return mode
-    return f'slots:{turn // SLOTS_EVERY % SLOTS_DRAWN}'
+    """The mode of the case of a number: now and then one of slots in place of the one that was drawn, with all else as it is drawn."""
+    return f'slots:{turn // SLOTS_EVERY % SLOTS_DRAWN}' if is_turn_of_slots(turn) else mode
 
 
-def know_two_modes():
-    """Has the model know the modes `rendezvous` and `buffered` alone."""
+def know_modes(slots):
+    """Has the model know modes of slots, or the modes `rendezvous` and `buffered` alone."""
     KNOWN.clear()
+    KNOWN.update({'slots'} if slots else ())

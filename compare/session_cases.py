@@ -13,9 +13,10 @@ from debugger import RENDEZVOUS, Debugger, enabled_steps, lines_of, parted
 from canonical import canonical
 from explore_cases import KINDS as EXPLORED, KINDS_OF_2, Beside, kind_of, script_of
 from language import Fault, read_script
-from modes import MODES, by_turns
+from modes import MODES, by_turns, slots_of
 from policy import Choice, Forced
 from session import Refused, Session, answer_line, parse, serve
+from slots_cases import script_of as script_of_sends
 from walks import random_step, respaced, step_line
 
 CHOSEN_OF_TRACED = ('requests', 'wildcards', 'barriers', 'exchanges', 'trails', 'states', 'traps', 'arrays')
@@ -251,7 +252,9 @@ def on_lines(random, script):
 
 
 def script_by(seed, random, mode):
-    """A script of a seed: of any kind of its version."""
+    """A script of a seed: of any kind of its version; half of those in a mode of slots have many sends."""
+    if slots_of(mode) is not None and random.random() < 0.5:
+        return on_lines(random, script_of_sends(random))
     if isinstance(seed, Beside):
         return on_lines(random, script_of(random, KINDS_OF_2[kind_of(random, KINDS_OF_2)]))
     return script_for(random, mode)
