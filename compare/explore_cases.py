@@ -16,7 +16,7 @@ from canonical import now_and_then_canonical
 from debugger import RENDEZVOUS
 from explorer import Asked, answer, option_words, report
 from language import Fault, read_script
-from modes import MODES, by_turns, is_turn_of_slots
+from modes import MODES, SLOTS_EVERY, by_turns, is_turn_of_slots
 from runs import held
 from scripts import Writer, header, mutated_bytes, mutated_tokens, rendered, synchronous
 from wildcard_cases import in_branches
@@ -257,6 +257,11 @@ def kinds_by(seed, number):
     return kinds | KINDS_OF_SLOTS if is_turn_of_slots(number) else kinds
 
 
+# Modes of slots that are written in an odd way, and words that are nearly one, in turn: one of so many cases in a mode of slots.
+ODD_EVERY = 3
+ODD_SLOTS = ('slots:65536', 'slots:', 'slots:00001', 'slots:65537', 'slots:00000', 'slots:000001', 'slots:00002', 'slots:-1', 'slots:01', 'slots:+1',
+             'slots:99999', 'slots:1 ', 'slots:10000', 'slots: 1', 'slots', 'slots1', 'Slots:1', 'SLOTS:0', 'slots:1x', 'slots:x', 'slots::1', 'slots:1:',
+             ' slots:1', 'slots:1.0', 'slots:\u0661', 'slots:1\n', 'slot:1', 'slots=1', 'slots 1', 'slots:0x1')
 RUNS = (1, 2, 3, 5, 8, 13, 20, 30, 40, 40)
 FUELS = (1, 3, 8, 20, 30, 40, 60, 80, 100, 150, 200, 200, 500, 500, 2000, 2000)
 # How far a script is followed before a limit is drawn next to where a leaf stands.
@@ -299,8 +304,10 @@ def asked(random, kind, script, number):
     if mode == RENDEZVOUS and random.random() < 0.3:
         mode = None
     if random.random() < 0.015:
-        mode = random.choice(['fast', '', 'Buffered', 'buffered ', 'rendezvous,buffered', 'slots', 'slots:', 'slots:65537', 'slots:000001',
-                              'slots:-1', 'slots:+1', 'slots:1 ', 'slots: 1', 'Slots:1', 'slots:1x'])
+        mode = random.choice(['fast', '', 'Buffered', 'buffered ', 'rendezvous,buffered'])
+    turn = number // SLOTS_EVERY
+    if is_turn_of_slots(number) and turn % ODD_EVERY == ODD_EVERY - 1:
+        mode = ODD_SLOTS[turn // ODD_EVERY % len(ODD_SLOTS)]
     if kind.ends and random.random() < 0.1:
         runs, fuel = random.choice([None, runs, runs]), None
     return Asked(mode, runs, fuel, random.random() < 0.6, random.random() < 0.3)

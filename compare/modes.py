@@ -42,3 +42,8 @@ def know_modes(slots):
     """Has the model know modes of slots, or the modes `rendezvous` and `buffered` alone."""
     KNOWN.clear()
     KNOWN.update({'slots'} if slots else ())
+
+
+def has_slots(chosen):
+    """Whether the program has modes of slots by the words that a run was begun with: one that knows version 1 alone has none."""
+    return not chosen.two_modes and chosen.version > 1

@@ -1,7 +1,8 @@
 """Compares decisions, breakpoints, runs forward and back, and what else a trail can do, as the crates answer them, with the model.
 
     python3 compare/policy_probe.py                 300 random scripts, in both modes, and 150 of version 2
-    python3 compare/policy_probe.py --version 1     crates that know version 1 alone
+    python3 compare/policy_probe.py --two-modes     crates that have no modes `slots:K`
+    python3 compare/policy_probe.py --version 1     crates that know version 1 alone, and two modes
     python3 compare/policy_probe.py --planted       each wrong body of compare/probe/broken-policy/ too, in a copy of its own
 
 No trace word tells what these do. So a copy of the program is made that takes words for them (compare/policy_words.py): compare/probe/
@@ -31,7 +32,7 @@ from cases import KINDS
 from debugger import divided, rank_state
 from explore_cases import Beside
 from language import Fault, read_script, read_up_to
-from modes import MODES, by_turns
+from modes import MODES, by_turns, has_slots, know_modes
 from policy_words import Driven
 from probing import DIVIDER, PROBES, TOP, Batch, Change, Probe, Walked, batches, report, tried
 
@@ -249,6 +250,7 @@ def arguments():
     parser = argparse.ArgumentParser(description=__doc__, formatter_class=argparse.RawDescriptionHelpFormatter)
     parser.add_argument('--count', type=int, default=300, help='how many scripts of version 1 (300), and half as many of version 2')
     parser.add_argument('--version', type=int, choices=[1, 2], default=2, help='the last version that the crates know (2)')
+    parser.add_argument('--two-modes', action='store_true', help='the crates have no modes `slots:K`')
     parser.add_argument('--seed', type=int, default=1, help='another seed gives other scripts (1)')
     parser.add_argument('--planted', action='store_true', help='plant the wrong bodies too: a build for each')
     parser.add_argument('--model', action='store_true', help='make no copy: only see that the walks meet all, and notice each fault')
@@ -267,12 +269,18 @@ def unnoticed_in_model(pool, walks):
     return len(names)
 
 
+def know(chosen):
+    """Has the model know what the crates do."""
+    read_up_to(chosen.version)
+    know_modes(has_slots(chosen))
+
+
 def main():
     chosen = arguments()
     os.chdir(TOP)
     began = time.monotonic()
-    read_up_to(chosen.version)
-    with ProcessPoolExecutor(chosen.jobs, initializer=read_up_to, initargs=(chosen.version,)) as pool:
+    know(chosen)
+    with ProcessPoolExecutor(chosen.jobs, initializer=know, initargs=(chosen,)) as pool:
         walks = all_walked(pool, chosen.seed, chosen.count)
         walks += all_walked(pool, Beside(chosen.seed), chosen.count // 2) if chosen.version > 1 else []
         met = sum((walk.met for walk in walks), Counter())

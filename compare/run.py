@@ -24,7 +24,7 @@ from breakages import breakages
 from cases import KINDS, counts_up_to, random_case, shares
 from debugger import Result, answer, answer_file, answer_packets
 from language import read_script, read_up_to
-from modes import know_modes
+from modes import has_slots, know_modes
 from runs import limit, run_at_once, run_in_packets
 
 CHUNK = 8
@@ -108,7 +108,7 @@ def prepare(chosen):
 def know(chosen):
     """Has the model know what the program does."""
     read_up_to(chosen.version)
-    know_modes(slots=not chosen.two_modes and chosen.version > 1)
+    know_modes(has_slots(chosen))
 
 
 def counts_of(chosen):
