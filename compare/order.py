@@ -1,15 +1,16 @@
 """What holds a match back, and the order that a run shows: rules with no trace word, in the model, and what must hold of them.
 
-    python3 compare/order.py             300 walks of all scripts with wildcards, requests, messages and barriers, in both modes, and 150
-                                         of scripts with waits for any
+    python3 compare/order.py             300 walks of all scripts with wildcards, requests, messages and barriers, in all modes, 150 of
+                                         scripts with waits for any, and 75 of scripts with many sends, in modes of slots
     python3 compare/order.py --broken    faults of the model, each of which these walks must notice
     python3 compare/order.py --rows 40   rows of `why` and `before`, for tests of the crate that answers them: script, words, a
                                          line for each call with what `why` says of it, and the calls that come before others
 
 Behind each step of a walk it is checked that a receive has at most one send of each sender that it may be matched with, that
-`why` tells the matches that are enabled and what stands in the way of each other one, and that wakes and the release are enabled
-where the calls and the records say so; where it has the most records, and at its end, that the calls of each rank are in the order
-that `before` says, and that each rank has left a barrier as often as all have (docs/DEFINITIONS.md). The status is 0 where all of that holds, and was seen.
+`why` tells the matches that are enabled and what stands in the way of each other one, that wakes and the release are enabled where the
+calls and the records say so, and that those sends are marked as buffered, and have a slot, of which the steps say it; where it has the
+most records, and at its end, that the calls of each rank are in the order that `before` says, and that each rank has left a barrier as
+often as all have (docs/DEFINITIONS.md). The status is 0 where all of that holds, and was seen.
 """
 
 import argparse
@@ -22,21 +23,23 @@ from typing import NamedTuple
 from unittest import mock
 
 import debugger
+import slots_faults
 import waitany_faults
 from breakages import buffered_by, going_on, one_left, wakes_at_barriers, without_gone, without_running
 from cases import KINDS
 from debugger import (BUFFERED, RENDEZVOUS, CallId, Debugger, Pair, Step, Woken, divided, eligible, enabled_steps, find_call,
                       fits, free_calls, partner, receives_ahead, sends_ahead, slots_used, step_text)
 from language import Fault, read_script
-from modes import MODES, by_turns, slots_of
+from modes import MODES, SLOTS_DRAWN, by_turns, slots_of
 
 CHOSEN = ('wildcards', 'wildcards', 'requests', 'script', 'states')
 LATER = ('barriers', 'exchanges')
-# Of version 2, beside the others.
-WITH_WAITANY = ('waitany',)
+# Of version 2, and with many sends, beside the others.
+WITH_WAITANY, WITH_SLOTS = ('waitany',), ('slots',)
 # What must have been seen: the cases of the order, in which a release, or a send that is complete as it is issued, has a part.
 MUST_MEET = ('worlds', 'releases', 'sends', 'receives', 'wait', 'blocks', 'behind a release', 'before a release', 'buffered',
-             'wakes by a handle', 'waits for any of nothing', 'behind a wait for any')
+             'wakes by a handle', 'waits for any of nothing', 'behind a wait for any', 'slots that are used', 'sends that find no slot',
+             'slots that fall free')
 
 
 def holder(world, send_id, receive_id):
@@ -270,12 +273,19 @@ def all_calls(world):
     return [CallId(number, place) for number, rank in enumerate(world.ranks) for place in range(len(rank.calls))]
 
 
+def mode_of(kinds, number):
+    """The mode of the walk of a number, among those of some kinds."""
+    turn = number // len(kinds)
+    if kinds == WITH_SLOTS:
+        return f'slots:{turn % SLOTS_DRAWN}'
+    return RENDEZVOUS if kinds == CHOSEN else by_turns(MODES[turn % 2], turn)
+
+
 def walks(seed, count, kinds=CHOSEN):
     """Inputs of scripts that are read, each with what the model's debugger is of it, and its lines."""
     for number in range(count):
         kind = kinds[number % len(kinds)]
-        turn = number // len(kinds)
-        mode = RENDEZVOUS if kinds == CHOSEN else by_turns(MODES[turn % 2], turn)
+        mode = mode_of(kinds, number)
         data = KINDS[kind].draw(Random(f'order/{kind}/{seed}/{number}'), mode)
         script, lines = divided(data)
         try:
@@ -285,8 +295,8 @@ def walks(seed, count, kinds=CHOSEN):
 
 
 def all_walks(seed, count, kinds=CHOSEN + LATER):
-    """So many walks of scripts of version 1, and half as many of version 2 beside."""
-    return chain(walks(seed, count, kinds), walks(seed, count // 2, WITH_WAITANY))
+    """So many walks of scripts of version 1, half as many of version 2 beside, and a quarter as many of scripts with many sends."""
+    return chain(walks(seed, count, kinds), walks(seed, count // 2, WITH_WAITANY), walks(seed, count // 4, WITH_SLOTS))
 
 
 def check(seed, count, to_end=True):
@@ -304,6 +314,7 @@ def check(seed, count, to_end=True):
                 continue
             met['worlds'] += 1
             met.update(met_by_step(walked))
+            met.update(met_by_slots(walked))
             wrong += told_wrong(walked.world) + slots_wrong(walked)
         for world in (longest, walked.world):
             cases, found = out_of_order(world)
@@ -318,6 +329,19 @@ def met_by_step(walked):
     is_of_nothing = step.kind == 'wake' and walked.world.ranks[step.first].calls[-1].kind == 'waitany'
     names = {'release': 'releases', 'wakeany': 'wakes by a handle', 'wake': 'waits for any of nothing' if is_of_nothing else 'wakes'}
     return [names[step.kind]] if step.kind in names else []
+
+
+def met_by_slots(walked):
+    """What was met of slots as that step was taken."""
+    slots, before = slots_of(walked.world.mode), walked.worlds[-2:-1]
+    if not slots or not before:
+        return []
+    found = ['slots that are used'] * any(rank.slots for rank in walked.world.ranks)
+    found += ['slots that fall free'] * any(len(was.slots) > len(now.slots) for was, now in zip(before[0].ranks, walked.world.ranks))
+    step = walked.steps[walked.depth - 1]
+    issued = step.kind == 'local' and len(all_calls(walked.world)) > len(all_calls(before[0]))
+    call = walked.world.ranks[step.first].calls[-1] if issued else None
+    return found + ['sends that find no slot'] * (issued and is_standard_send(call) and not call.buffered)
 
 
 def missed(met):
@@ -355,7 +379,7 @@ def breakages():
                  buffered_by(lambda _, call: not call.synchronous)),
         Breakage('a rank that goes on behind a buffered send without a wake', debugger, 'after_local',
                  going_on(debugger.after_local)),
-        *waitany_faults.order_faults(here))
+        *waitany_faults.order_faults(here), *slots_faults.order_faults())
 
 
 def check_broken(seed, count):

@@ -24,6 +24,7 @@ from functools import cache
 from typing import NamedTuple, Optional
 from unittest import mock
 
+import session
 import slots_faults
 import waitany_faults
 import worked_slots
@@ -264,7 +265,7 @@ def breakages(chosen):
     """All faults of what the program knows, each with what may notice it."""
     parts = [Faults(session_faults.breakages() + session_line_faults.breakages(), DIALOGUES, chosen)]
     parts += [Faults(breakages_of_2(), worked_waitany.DIALOGUES, beside(chosen))] * (chosen.version > 1)
-    parts += [Faults(slots_faults.session_faults(), worked_slots.DIALOGUES, chosen)] * has_slots(chosen)
+    parts += [Faults(slots_faults.session_faults(session), worked_slots.DIALOGUES, chosen)] * has_slots(chosen)
     return [(fault, part.dialogues, part.chosen) for part in parts for fault in part.faults]
 
 

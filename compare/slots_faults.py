@@ -9,10 +9,9 @@ import re
 import debugger
 import explorer
 import modes
-import session
 from breakages import Breakage
 from debugger import CallId, find_call, free_calls, partner
-from modes import BUFFERED, RENDEZVOUS, slots_of
+from modes import BUFFERED, RENDEZVOUS, is_mode, slots_of
 
 
 def is_standard(call):
@@ -189,6 +188,11 @@ def text_faults():
             + [Breakage(name, 'slots', debugger, 'call_line', shown(change)) for name, change in LINES])
 
 
+def line_faults(session):
+    """Those of what a session tells of a call."""
+    return [Breakage(f'{name}, in a session', 'slots', session, 'call_line', shown(change)) for name, change in LINES]
+
+
 def breakages():
     """Those that inputs notice."""
     return undo_faults() + taking_faults() + text_faults()
@@ -199,32 +203,67 @@ def order_faults():
     return undo_faults() + taking_faults()
 
 
-def session_faults():
-    """Those of sessions: what goes back goes to a depth, and a call is shown by its text."""
+def session_faults(session):
+    """Those of sessions, as a module has them: what goes back goes to a depth, and a call is shown by its text."""
     return ([fault for fault in undo_faults() if fault.attribute == 'goto'] + taking_faults()
-            + [Breakage(name, 'slots', debugger, 'mark_text', told) for name, told in MARKS]
-            + [Breakage(name, 'slots', session, 'call_line', shown(change)) for name, change in LINES])
+            + [Breakage(name, 'slots', debugger, 'mark_text', told) for name, told in MARKS] + line_faults(session))
 
 
-# ---- reports, and the words of modes
+# ---- modes that must not differ, reports, and the words of modes
+
+def in_slots(test):
+    """What says of a send whether it is buffered otherwise in modes of slots alone."""
+    sound = debugger.is_buffered
+    return lambda mode, call, used: sound(mode, call, used) if slots_of(mode) is None else (
+        call.kind == 'send' and test(call) and debugger.has_slot(mode, used))
+
+
+def of_16_bits(slots_in):
+    """What has a number of slots in 16 bits."""
+    return lambda mode: None if slots_in(mode) is None else slots_in(mode) % 65536
+
+
+def pair_faults(session):
+    """Those by which `slots:0` isn't like `rendezvous`, or `slots:65536` isn't like `buffered`, in sessions too, as a module has them."""
+    trail, taking = debugger.Debugger, (
+        ('one slot more', 'has_slot', by_slots(lambda slots, used: used <= slots)),
+        ('each standard send buffered in a mode of slots', 'has_slot', by_slots(lambda slots, used: True)),
+        ('no send buffered in a mode of slots', 'has_slot', by_slots(lambda slots, used: False)),
+        ('one slot for any number', 'has_slot', by_slots(lambda slots, used: used < min(slots, 1))),
+        ('slots in 16 bits', 'slots_of', of_16_bits(slots_of)),
+        ('synchronous sends buffered in slots', 'is_buffered', in_slots(lambda call: True)),
+        ('no send buffered in slots that blocks', 'is_buffered', in_slots(lambda call: is_standard(call) and not call.blocks)),
+        ('no send buffered in slots that has a handle', 'is_buffered', in_slots(lambda call: is_standard(call) and call.blocks)))
+    undoing_marks = [Breakage(f'the undo of a match that drops the mark, by {word}', 'slots', trail, word, undoing(getattr(trail, word), match_without_mark))
+                     for word in ('back', 'goto')]
+    return ([Breakage(name, 'slots', debugger, attribute, replacement) for name, attribute, replacement in taking] + undoing_marks + text_faults()
+            + line_faults(session) + telling_faults())
+
 
 def report_faults():
     """Those of reports: by what ends, and by what is said of a report that tells all its runs."""
+    def not_in_buffered(script, mode):
+        return not explorer.has_waitany(script.body) and mode != BUFFERED and slots_of(mode) is None
+
+    return taking_faults() + telling_faults() + [Breakage('no whole report in the mode buffered', 'slots', explorer, 'tells_all', not_in_buffered)]
+
+
+def telling_faults():
+    """Those of whether a report tells every way to end."""
     telling = (('a whole report in a mode of slots', lambda script, mode: not explorer.has_waitany(script.body)),
                ('a whole report without slots', lambda script, mode: not explorer.has_waitany(script.body) and not slots_of(mode)),
-               ('a whole report with slots', lambda script, mode: not explorer.has_waitany(script.body) and slots_of(mode) != 0),
-               ('no whole report in the mode buffered', lambda script, mode: (
-                   not explorer.has_waitany(script.body) and mode != BUFFERED and slots_of(mode) is None)))
-    return taking_faults() + [Breakage(name, 'slots', explorer, 'tells_all', told) for name, told in telling]
+               ('a whole report with slots', lambda script, mode: not explorer.has_waitany(script.body) and slots_of(mode) != 0))
+    return [Breakage(name, 'slots', explorer, 'tells_all', told) for name, told in telling]
 
 
 def word_faults():
     """Those of the words that name modes."""
-    words = (('six digits of slots', 'slots:([0-9]{1,6})'), ('four digits of slots', 'slots:([0-9]{1,4})'), ('no digit of slots', 'slots:([0-9]{1,5})|slots:'),
+    words = (('six digits of slots', 'slots:([0-9]{1,6})'), ('four digits of slots', 'slots:([0-9]{1,4})'),
              ('a sign before slots', 'slots:([+-]?[0-9]{1,5})'), ('a blank behind slots', 'slots:([0-9]{1,5}) *'),
              ('a blank before slots', 'slots: *([0-9]{1,5})'), ('a word behind slots', 'slots:([0-9]{1,5}).*'),
              ('no zeros before slots', 'slots:(0|[1-9][0-9]{0,4})'), ('slots in any letters', '(?i:slots):([0-9]{1,5})'),
              ('slots without a colon', 'slots:?([0-9]{1,5})'))
     return ([Breakage(name, 'slots', modes, 'SLOTS', re.compile(pattern)) for name, pattern in words]
             + [Breakage('one slot more allowed', 'slots', modes, 'MOST_SLOTS', modes.MOST_SLOTS + 1),
-               Breakage('one slot less allowed', 'slots', modes, 'MOST_SLOTS', modes.MOST_SLOTS - 1)])
+               Breakage('one slot less allowed', 'slots', modes, 'MOST_SLOTS', modes.MOST_SLOTS - 1),
+               Breakage('no digit of slots', 'slots', explorer, 'is_mode', lambda word: word == 'slots:' or is_mode(word))])
