@@ -296,13 +296,18 @@ def walks(seed, count, kinds=CHOSEN):
 
 def all_walks(seed, count, kinds=CHOSEN + LATER):
     """So many walks of scripts of version 1, half as many of version 2 beside, and a quarter as many of scripts with many sends."""
-    return chain(walks(seed, count, kinds), walks(seed, count // 2, WITH_WAITANY), walks(seed, count // 4, WITH_SLOTS))
+    return chain(walks(seed, count, kinds), walks(seed, count // 2, WITH_WAITANY), walks_of_sends(seed, count))
 
 
-def check(seed, count, to_end=True):
+def walks_of_sends(seed, count):
+    """A quarter as many walks of scripts with many sends."""
+    return walks(seed, count // 4, WITH_SLOTS)
+
+
+def check(seed, count, to_end=True, drawn=all_walks):
     """Checks so many walks, or those up to the first that is wrong; gives what was met, and what is wrong."""
     met, wrong = Counter(), []
-    for _, walked, lines in all_walks(seed, count):
+    for _, walked, lines in drawn(seed, count):
         if wrong and not to_end:
             break
         longest = walked.world
@@ -379,7 +384,7 @@ def breakages():
                  buffered_by(lambda _, call: not call.synchronous)),
         Breakage('a rank that goes on behind a buffered send without a wake', debugger, 'after_local',
                  going_on(debugger.after_local)),
-        *waitany_faults.order_faults(here), *slots_faults.order_faults())
+        *waitany_faults.order_faults(here))
 
 
 def check_broken(seed, count):
@@ -393,6 +398,17 @@ def check_broken(seed, count):
         told = wrong[0] if wrong else f'not met: {", ".join(lost)}' if lost else 'NOT NOTICED'
         unnoticed += not (wrong or lost)
         print(f'{breakage.name}: {told}', flush=True)
+    return unnoticed + check_broken_slots(seed, count)
+
+
+def check_broken_slots(seed, count):
+    """The same of slots, by walks of scripts with many sends."""
+    unnoticed = 0
+    for breakage in slots_faults.order_faults():
+        with mock.patch.object(breakage.owner, breakage.attribute, breakage.replacement):
+            _, wrong = check(seed, count, to_end=False, drawn=walks_of_sends)
+        unnoticed += not wrong
+        print(f'{breakage.name}: {wrong[0] if wrong else "NOT NOTICED"}', flush=True)
     return unnoticed
 
 
