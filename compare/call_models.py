@@ -309,7 +309,7 @@ def is_complete(world, call_id):
         return not call.active
     if call.kind == 'barrier':
         return False
-    return partner(world, call_id) is not None or (world.mode != RENDEZVOUS and call.kind == 'send' and not call.synchronous)
+    return partner(world, call_id) is not None or call.buffered
 
 
 def board_text(world):
@@ -584,8 +584,8 @@ def tally_text(script, found):
     bad = [leaf.outcome.split()[0] for leaf in found.leaves]
     counts = [f'{name} {bad.count(word)}' for name, word in (('deadlocks', 'deadlock'), ('traps', 'trap'), ('cut', 'cut'))]
     more = 'true' if found.more else 'false'
-    tells_all = 'true' if explorer.is_whole(found) and not explorer.has_waitany(script.body) else 'false'
-    return line(f'runs {len(bad)} {" ".join(counts)} more {more} all {tells_all} status {explorer.status_of(script, found, True)}')
+    tells_all = 'true' if explorer.is_whole(found) and explorer.tells_all(script, row.mode) else 'false'
+    return line(f'runs {len(bad)} {" ".join(counts)} more {more} all {tells_all} status {explorer.status_of(script, row.mode, found, True)}')
 
 
 def checked(row, **more):

@@ -24,10 +24,11 @@ import debugger
 import explorer
 import policy
 from complete_faults import breakages
-from debugger import MODES, first_world, next_world, outcome, step_text
+from debugger import first_world, next_world, outcome, step_text
 from explore_cases import KINDS, Kind, script_of
 from explorer import CUT, Leaf
 from language import Fault, read_script
+from modes import MODES
 from wildcard_cases import in_branches
 
 # A script is small where it has so many worlds at most, and so many leaves; its runs are followed so far.

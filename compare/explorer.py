@@ -12,9 +12,10 @@ from itertools import islice
 from typing import NamedTuple, Optional
 
 import policy
-from debugger import (BAD_FILE, BAD_MODE, MODES, RENDEZVOUS, Debugger, Result, blocked_calls, call_id_of, enabled_steps, file_content,
-                      first_world, next_world, outcome, refusal, step_text)
+from debugger import (BAD_FILE, BAD_MODE, RENDEZVOUS, Debugger, Result, blocked_calls, call_id_of, enabled_steps, file_content, first_world,
+                      next_world, outcome, refusal, step_text)
 from language import Branch, Fault, WaitAny, While, read_script
+from modes import is_mode, slots_of
 from policy import Forced, decision
 
 MOST_RUNS, MOST_FUEL = 65536, 1000000
@@ -212,10 +213,16 @@ def has_waitany(statements):
                or isinstance(one, While) and has_waitany(one.body) for one in statements)
 
 
-def status_of(script, found, complete):
-    """The status of a check of a script: with a wait for any of some handles no report tells every way in which it can end."""
+def tells_all(script, mode):
+    """Whether a report where all runs are listed to their ends tells every way in which a script can end in a mode: with a wait for any of
+    some handles none does, and in a mode of slots neither."""
+    return not has_waitany(script.body) and slots_of(mode) is None
+
+
+def status_of(script, mode, found, complete):
+    """The status of a check of a script in a mode."""
     told = status(found, complete)
-    return NOT_WHOLE if told == 0 and complete and has_waitany(script.body) else told
+    return NOT_WHOLE if told == 0 and complete and not tells_all(script, mode) else told
 
 
 class Asked(NamedTuple):
@@ -260,13 +267,13 @@ def checked(script, asked):
     if asked.piece is not None and asked.piece >= len(cut):
         return refused(f'no piece {asked.piece} of {len(cut)}')
     found = reported(cut, asked)
-    return Result(report_text(found, asked.witnesses).encode(), b'', status_of(script, found, asked.complete))
+    return Result(report_text(found, asked.witnesses).encode(), b'', status_of(script, asked.mode, found, asked.complete))
 
 
 def check(text, asked):
     """The result of a check of the text of a file, which is None where that can't be read: the mode is tested first, and no option is
     left out."""
-    if asked.mode not in MODES:
+    if not is_mode(asked.mode):
         return BAD_MODE
     if text is None:
         return BAD_FILE

@@ -7,10 +7,11 @@ from itertools import islice
 from random import Random
 
 import explorer
-from debugger import MODES, RENDEZVOUS
+from debugger import RENDEZVOUS
 from explore_cases import next_to, random_case
 from explorer import MOST_PIECES, MOST_SPLIT, MOST_WORKERS, USUAL, Run, part, pieces
 from language import Fault
+from modes import is_mode
 from witness import Verification
 
 SPLITS = (None, None, None, 0, 0, 1, 2, 2, 3, 4, 5, 6, 7, 8)
@@ -28,7 +29,7 @@ HIGH_PIECES = (300, 1023)
 
 def script_of(case):
     """The script of a case that is explored; None where the case is refused before."""
-    if case.script is None or case.asked.mode not in (None, *MODES):
+    if case.script is None or case.asked.mode is not None and not is_mode(case.asked.mode):
         return None
     try:
         return explorer.read_script(case.script)

@@ -9,6 +9,8 @@ required alone: options first, those that are required before others, and then t
 
 from typing import NamedTuple
 
+from modes import KNOWN
+
 PROGRAM = """\
 A reversible debugger of small MPI rank scripts.
 
@@ -41,7 +43,7 @@ Arguments:
   <FILE>  The script
 
 Options:
-      --mode <M>  How standard sends behave: rendezvous or buffered [default: rendezvous]
+      --mode <M>  How standard sends behave: rendezvous, buffered, or slots:K with K from 0 to 65536 [default: rendezvous]
   -h, --help      Print help
 
 Trace words stand on standard input, one a line:
@@ -63,7 +65,7 @@ Arguments:
   <FILE>  The script
 
 Options:
-      --mode <M>  How standard sends behave: rendezvous or buffered [default: rendezvous]
+      --mode <M>  How standard sends behave: rendezvous, buffered, or slots:K with K from 0 to 65536 [default: rendezvous]
   -h, --help      Print help
 
 Requests stand on standard input, a JSON object on each line, and each is answered by one line:
@@ -84,7 +86,7 @@ Arguments:
   <FILE>  The script
 
 Options:
-      --mode <M>     How standard sends behave: rendezvous or buffered [default: rendezvous]
+      --mode <M>     How standard sends behave: rendezvous, buffered, or slots:K with K from 0 to 65536 [default: rendezvous]
       --port <P>     The port that it listens on, 1 to 65535
       --clients <N>  How many clients it answers, 1 to 16
   -h, --help         Print help
@@ -106,7 +108,7 @@ Arguments:
   <FILE>  The script
 
 Options:
-      --mode <M>     How standard sends behave: rendezvous or buffered [default: rendezvous]
+      --mode <M>     How standard sends behave: rendezvous, buffered, or slots:K with K from 0 to 65536 [default: rendezvous]
       --runs <N>     How many runs of each piece are tried at most, 1 to 65536 [default: 1000]
       --fuel <N>     How many steps each run takes at most, 1 to 1000000 [default: 100000]
       --split <K>    By how many choices the runs are cut into pieces, 0 to 8 [default: 1]
@@ -132,7 +134,7 @@ Arguments:
   <WITNESS>  The file of the witness
 
 Options:
-      --mode <M>  How standard sends behave: rendezvous or buffered [default: rendezvous]
+      --mode <M>  How standard sends behave: rendezvous, buffered, or slots:K with K from 0 to 65536 [default: rendezvous]
   -h, --help      Print help
 
 Example:
@@ -140,6 +142,16 @@ Example:
 """
 
 VERSION = 'mpdbg 0.1.0\n'
+
+# What is told of a word that names no mode, at a terminal.
+NO_MODE = "'{}' is none; the modes are rendezvous, buffered, and slots:K with K from 0 to 65536"
+
+
+def known(text):
+    """A text as the program has it: without modes of slots, where it has none of them."""
+    if KNOWN:
+        return text
+    return text.replace(', buffered, or slots:K with K from 0 to 65536', ' or buffered').replace(', buffered, and slots:K with K from 0 to 65536', ' and buffered')
 
 # Words, parted by `|`, and what they print. What stands in front of `--help` isn't looked at.
 ANSWERS = (
