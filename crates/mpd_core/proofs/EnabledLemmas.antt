@@ -1,5 +1,5 @@
 -- The enabled steps, by their kinds.
-use Rattle.std.proofs.Common.{◌≡◌, ℕ, ◌<◌, ◌+◌, ◌-◌, Bool, true, false, cond, List, [], ◌∷◌, ◌++◌, refl, sym, ap, subst, ◌∙◌, arith, map, length, append_assoc, Some, None, is_some}
+use Rattle.std.proofs.Common.{◌≡◌, ℕ, ◌<◌, ◌+◌, ◌-◌, Bool, true, false, ◌&&◌, cond, List, [], ◌∷◌, ◌++◌, refl, sym, ap, subst, ◌∙◌, arith, map, length, append_assoc, append-nil, Some, None, is_some, slice_get}
 use Rattle.std.proofs.lemmas.List.{length-append}
 use Rattle.std.proofs.lemmas.List.Elements.{filter-append}
 use Rattle.std.specs.List.{filter, flat_map, range_with_len}
@@ -7,7 +7,7 @@ use Rattle.mpd_model.specs.declared.step.Step.{Step}
 use Rattle.mpd_model.specs.declared.step.Step.TheVariants.{Local, Match, Wake, WakeAny, Release}
 use Rattle.mpd_model.specs.declared.call.MatchSet.TheVariants.{Pair}
 use Rattle.mpd_model.specs.World.{World, Board, call_id, kind_at, last_call, rank_numbers, call_numbers, eligible}
-use Rattle.mpd_model.specs.Next.{is_enabled, enabled, with_set, requests_of, any_wakes_of, any_wakes_in, matches_with, matches_of, matches_in}
+use Rattle.mpd_model.specs.Next.{is_enabled, enabled, with_set, requests_of, waits, any_call, is_complete_some, woken_any, any_wakes_of, any_wakes_in, matches_with, matches_of, matches_in}
 use Rattle.mpd_match.specs.Matches as listed
 
 out_of : {A : Type 0} (f : A → Step) (b : Bool) (x : A) (ys : List A) → cond b (f x ∷ map f ys) (map f ys) ≡ map f (cond b (x ∷ ys) ys)
@@ -64,6 +64,17 @@ any_wakes_by w p = sym (filter_mapped (is_enabled w) (WakeAny p) (λ i. is_enabl
 
 pub any_wakes_joined : (w : World) → flat_map (any_wakes_at w) (rank_numbers w.board) ≡ any_wakes w
 any_wakes_joined w = sym (filter_joined (is_enabled w) (any_wakes_of w.board) (any_wakes_at w) (λ p. refl) (rank_numbers w.board))
+
+-- a rank that isn't blocked goes on by none
+pub no_any_wakes : (w : World) (p : ℕ) (old : List Step) → waits (slice_get w.ranks p) ≡ false → old ≡ old ++ filter (is_enabled w) (any_wakes_of w.board p)
+no_any_wakes w p old e = sym (ap (λ ys. old ++ ys) (none (range_with_len 0 (requests_of (kind_at w.board (last_call w.board p))))) ∙ append-nil old)
+  where
+    not_enabled : (i : ℕ) → is_enabled w (WakeAny p i) ≡ false
+    not_enabled i = ap (λ (b : Bool). is_some (cond (b && is_complete_some w.board (any_call w p i)) (Some (woken_any w p i)) None)) e
+
+    none : (xs : List ℕ) → filter (is_enabled w) (map (WakeAny p) xs) ≡ []
+    none [] = refl
+    none (x ∷ xs) = ap (λ (b : Bool). cond b (WakeAny p x ∷ filter (is_enabled w) (map (WakeAny p) xs)) (filter (is_enabled w) (map (WakeAny p) xs))) (not_enabled x) ∙ none xs
 
 -- gathered from the first number on
 pub any_wakes_ahead : (w : World) (p n : ℕ) (old : List Step) → n ≡ requests_of (kind_at w.board (last_call w.board p))

@@ -52,6 +52,9 @@ impl<'c> Core<'c> {
         ensures ok { OnOk result (out.new.items ≡ out.old.items ++ filter (is_enabled self.now.world) (any_wakes_of self.now.world.board rank)) }
         ensures memory { OnErr result (0 < length (filter (is_enabled self.now.world) (any_wakes_of self.now.world.board rank))) }
     {
+        if !self.is_waiting(rank) {
+            return Ok(());
+        }
         let count = self.request_count(rank);
         for index in 0..count {
             self.push_if_enabled(Step::WakeAny { rank, index }, out)?;

@@ -80,7 +80,7 @@ fn issue_on(board: &mut Board, rank: usize, call: Option<Call>) -> Result<u32, A
     ensures room_left { board.old.room ≤ board.new.room + 1 }
     ensures err_room { OnErr result (board.old.room ≤ board.new.room) }
     ensures rises { board.old.writes ≤ board.new.writes }
-    ensures few { board.new.writes ≤ board.old.writes + 6 }
+    ensures few { board.new.writes ≤ board.old.writes + 7 }
     ensures unwritten { OnErr result (board.new.writes ≡ board.old.writes) }
     ensures ranks { length board.new.board.calls ≡ length board.old.board.calls }
 {

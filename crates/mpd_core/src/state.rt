@@ -13,6 +13,7 @@ ghost use Rattle.mpd_core.specs.Views.{IsMessage};
 ghost use Rattle.mpd_rank.specs.Views.{rank_of};
 ghost use Rattle.mpd_rank.specs.Undone.{blocked_again};
 ghost use Rattle.mpd_match.specs.Changes.{last_set, without_last_set};
+ghost use Rattle.mpd_match.specs.Slots.{slots_of};
 ghost use Rattle.mpd_core.specs.Records.{record_of};
 ghost use Rattle.mpd_core.specs.Steps.{other_step};
 ghost use Rattle.mpd_core.specs.Looks.{step_looks, most_looks};
@@ -205,7 +206,7 @@ impl<'c> Core<'c> {
     }
 
     /// Whether a rank is blocked.
-    fn is_waiting(&self, rank: usize) -> bool
+    pub(crate) fn is_waiting(&self, rank: usize) -> bool
         ensures { result ≡ waits (slice_get self.now.world.ranks rank) }
     {
         match ranks::rank_at(&self.ranks, rank) {
@@ -354,7 +355,7 @@ impl<'c> Core<'c> {
         ensures program { self.new.program ≡ self.old.program }
         ensures room_left { self.old.room ≤ self.new.room + 1 }
         ensures err_room { OnErr result (self.old.room ≤ self.new.room) }
-        ensures writes { OnOk result (self.new.writes ≡ self.old.writes + 7) }
+        ensures writes { OnOk result (self.new.writes ≡ self.old.writes + 7 + slots_of (kind_at self.old.world.board send)) }
         ensures unwritten { OnErr result (self.new.writes ≡ self.old.writes) }
         ensures looks { self.new.looks ≡ self.old.looks + step_looks self.old.world.board (Step.Match send recv) }
         ensures few_looks { self.new.looks ≤ self.old.looks + most_looks self.old.world.board (Step.Match send recv) }

@@ -2,10 +2,10 @@
 
 ghost use Rattle.std.specs.Prelude.{◌≡◌, ◌++◌, ◌<◌, IfOk, OnOk, OnErr, IfSome, IsSome, length, slice_get, string_bytes};
 ghost use Rattle.mpd_model.specs.World.{call_at};
-ghost use Rattle.mpd_model.specs.Texts.{mark_text, got_text, place_text, call_text, rank_text, set_text};
+ghost use Rattle.mpd_model.specs.Texts.{buffer_text, mark_text, got_text, place_text, call_text, rank_text, set_text};
 
 use crate::state::Core;
-use mpd_model::call::{Activity, CallKind, Message};
+use mpd_model::call::{Activity, CallKind, Message, Mode};
 use mpd_model::step::CallId;
 use std::alloc::AllocError;
 
@@ -34,6 +34,18 @@ fn push_place(out: &mut String, lines: &[usize], next: Option<usize>) -> Result<
     Ok(())
 }
 
+/// Adds that a send was buffered as it was issued, in a mode whose buffers run out.
+fn push_buffered(out: &mut String, mode: Mode, kind: CallKind) -> Result<(), AllocError>
+    ensures { OnOk result (string_bytes out.new ≡ string_bytes out.old ++ buffer_text mode kind) }
+{
+    if let (Mode::Slots(_), CallKind::Send(send)) = (mode, kind) {
+        if send.buffered {
+            out.push_str(" buffered")?;
+        }
+    }
+    Ok(())
+}
+
 impl<'c> Core<'c> {
     /// Adds that a send or a receive is free, or the call that a call was paired with.
     fn push_mark(&self, out: &mut String, id: CallId) -> Result<(), AllocError>
@@ -54,6 +66,7 @@ impl<'c> Core<'c> {
         let mut text = String::new(self.allocator());
         if let Some(kind) = self.board().kind(id) {
             write!(text, "{kind}")?;
+            push_buffered(&mut text, self.board().mode(), kind)?;
             self.push_mark(&mut text, id)?;
             push_got(&mut text, kind, self.board().buffer(id))?;
         }

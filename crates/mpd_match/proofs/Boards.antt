@@ -2,7 +2,7 @@
 use Rattle.std.proofs.Common.{◌≡◌, ◌≢◌, ℕ, zero, suc, ◌+◌, ◌-◌, ◌<◌, ◌≤◌, Bool, true, false, ◌&&◌, eqb, is_some, is_none, Option, Some, None, List, [], ◌∷◌, ◌++◌, inl, inr, refl, sym, ap, subst, ◌∙◌, length, set, get_or, take, slice_get, slice_set, replicate, append-nil, length-append, option_to_list, IfSome, IfNone, arith}
 use Rattle.std.proofs.lemmas.Bool.{cases_eq, cases_lt, eq-eqb, ne_eqb, eqb-true}
 use Rattle.std.proofs.lemmas.Bool.Decides.{eqb_tells}
-use Rattle.std.proofs.lemmas.List.{length-map, set-set, take_at, get_or_past}
+use Rattle.std.proofs.lemmas.List.{length-map, length-replicate, set-set, take_at, get_or_past}
 use Rattle.std.specs.List.{range_with_len}
 use Rattle.mpd_model.specs.declared.step.CallId.{CallId}
 use Rattle.mpd_model.specs.declared.call.Call.{Call}
@@ -125,6 +125,18 @@ meets_again mode sides others sets more e marks paired h =
       marks = marks;
       paired = paired;
     }
+
+-- before any call
+pub meets_new : (mode : Mode) (sides : List SideView) (sets : List MatchSet) (n : ℕ) → n ≤ 16 → calls_in sides ≡ replicate n [] → ((c : CallId) → mark_at sides c ≡ None) → lines_in sides ≡ replicate n (suc n) → sets ≡ []
+    → Meets (board_in mode sides sets) sides
+meets_new mode sides sets n few ec marks el es =
+    let many : length sides ≡ n = sym (length-map sides (λ (v : SideView). v.calls)) ∙ ap length ec ∙ length-replicate n [] in
+    subst (λ (zs : List MatchSet). Meets (board_in mode sides zs) sides) (sym es) (record {
+      few = omega (arith, few, many);
+      lines = el ∙ ap (λ (k : ℕ). replicate k (suc k)) (sym many);
+      marks = marks;
+      paired = tt;
+    })
 
 kinds_stay : (mode : Mode) (sides others : List SideView) (sets more : List MatchSet) (c : CallId) → calls_in others ≡ calls_in sides → kind_at (board_in mode others more) c ≡ kind_at (board_in mode sides sets) c
 kinds_stay mode sides others sets more c e = ap (λ (zs : List (List Call)). kind_of (slice_get (listed_calls (slice_get zs c.rank)) c.index)) e
@@ -297,7 +309,7 @@ meets_unpair mode sides mid new sets s r h ec el em fc fl fm =
 
 -- ---- calls are issued and taken back
 
-listed_here : (calls : List (List Call)) (p : ℕ) (xs : List Call) → p < length calls → listed_calls (slice_get (set calls p xs) p) ≡ xs
+pub listed_here : (calls : List (List Call)) (p : ℕ) (xs : List Call) → p < length calls → listed_calls (slice_get (set calls p xs) p) ≡ xs
 listed_here [] p xs lt = absurd (omega arith)
 listed_here (c ∷ cs) zero xs lt = refl
 listed_here (c ∷ cs) (suc p) xs lt = listed_here cs p xs (omega arith)
@@ -309,7 +321,7 @@ listed_there (c ∷ cs) zero (suc q) xs ne = refl
 listed_there (c ∷ cs) (suc p) zero xs ne = refl
 listed_there (c ∷ cs) (suc p) (suc q) xs ne = listed_there cs p q xs (λ e. ne (ap suc e))
 
-listed_back : (calls : List (List Call)) (p : ℕ) → set calls p (listed_calls (slice_get calls p)) ≡ calls
+pub listed_back : (calls : List (List Call)) (p : ℕ) → set calls p (listed_calls (slice_get calls p)) ≡ calls
 listed_back [] p = refl
 listed_back (c ∷ cs) zero = refl
 listed_back (c ∷ cs) (suc p) = ap (λ (zs : List (List Call)). c ∷ zs) (listed_back cs p)

@@ -6,6 +6,7 @@ pub mod AtSide
 pub mod Walks
 pub mod Partners
 pub mod Boards
+pub mod Counted
 pub mod Eligible
 pub mod Matches
 pub mod Firsts

@@ -8,6 +8,7 @@ use Rattle.mpd_queue.specs.InOrder.{list_at}
 use Rattle.mpd_match.specs.Views.{SideView, lines_in}
 use Rattle.mpd_match.specs.Lines.{line_of, kind_in, mark_in, waiting, mark_at}
 use Rattle.mpd_match.specs.Pairs.{Paired}
+use Rattle.mpd_match.specs.Slots.{Counted}
 
 -- the lists of a side are its lines
 pub record InLine (calls : List Call) (marks : List (Option CallId)) (lists : List (List ℕ)) (room : ℕ) : Type 0 where
@@ -23,3 +24,8 @@ pub record Meets (b : Board) (sides : List SideView) : Type 0 where
   pub lines : lines_in sides ≡ replicate (length sides) (suc (length sides))
   pub marks : (c : CallId) → mark_at sides c ≡ partner b.sets c
   pub paired : Paired (kind_at b) b.sets
+
+-- what a board keeps
+pub record Kept (b : Board) (sides : List SideView) (slots : List ℕ) : Type 0 where
+  pub meets : Meets b sides
+  pub counted : Counted b slots

@@ -3,6 +3,7 @@ pub mod Lines
 pub mod Pairs
 pub mod Changes
 pub mod Held
+pub mod Slots
 pub mod Firsts
 pub mod Looks
 pub mod Matches

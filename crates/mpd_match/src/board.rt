@@ -1,12 +1,13 @@
 //! The board: calls, pairs and the lines of free calls.
 ghost use Rattle.std.specs.Prelude.{◌≡◌, ◌+◌, ◌-◌, ◌<◌, ◌≤◌, Some, None, true, length, IfOk, OnOk, OnErr};
 ghost use Rattle.mpd_model.specs.World.{start_board, kind_at, calls_of, partner, eligible, last_call};
-ghost use Rattle.mpd_model.specs.Next.{HasReceiver, with_call, with_issued, buffers_all, with_set};
+ghost use Rattle.mpd_model.specs.Next.{HasReceiver, with_call, with_issued, entered, has_buffer, with_set};
+ghost use Rattle.mpd_match.specs.Slots.{slots_of, slots_paired};
 ghost use Rattle.mpd_match.specs.Changes.{without_last_call, issue_writes, unissue_writes, without_last_set, last_set, record_of_pair, Recorded, is_woke, is_lone};
 
 use crate::record::PairRecord;
 use crate::side::Side;
-use crate::{kinds, sides};
+use crate::{kinds, sides, slots};
 use mpd_model::call::{Call, MatchSet, Mode};
 use mpd_model::limits::RANKS_MAX;
 use mpd_model::step::CallId;
@@ -24,22 +25,24 @@ pub struct Board {
     pub(crate) mode: Mode,
     pub(crate) sides: Vec<Side>,
     pub(crate) sets: Tape<MatchSet>,
+    /// How many slots each rank holds: as many as it has buffered sends that no pair names.
+    pub(crate) slots: Tape<usize>,
 }
 
 impl Model for Board {
     ghost use Rattle.std.specs.Prelude.{◌+◌};
     ghost use Rattle.mpd_match.specs.Views.{BoardView, board_in, room_in, writes_in};
-    ghost use Rattle.mpd_match.specs.Held.{Meets};
+    ghost use Rattle.mpd_match.specs.Held.{Kept};
 
     ghost Value = { BoardView };
 
     ghost view = { λ s. record {
       board = board_in s.mode s.sides.items s.sets.items;
       room = room_in s.sets.room s.sides.items;
-      writes = s.sets.writes + writes_in s.sides.items;
+      writes = s.sets.writes + writes_in s.sides.items + s.slots.writes;
     } };
 
-    ghost invariant = { λ s. Meets (board_in s.mode s.sides.items s.sets.items) s.sides.items };
+    ghost invariant = { λ s. Kept (board_in s.mode s.sides.items s.sets.items) s.sides.items s.slots.items };
 }
 
 impl Board {
@@ -53,6 +56,7 @@ impl Board {
             mode,
             sides: sides::new_sides(alloc, ranks)?,
             sets: Tape::new(alloc),
+            slots: Tape::filled(alloc, ranks, 0)?,
         })
     }
 
@@ -69,7 +73,7 @@ impl Board {
     }
 
     /// A rank issues a call. A send or a receive joins its line, at the end; a standard send is marked as buffered where the
-    /// mode is. It answers the call's number, which is below 4,294,967,295. `unissue` gives the board before.
+    /// mode has a buffer for it now, and then holds a slot of its rank. It answers the call's number, which is below 4,294,967,295. `unissue` gives the board before.
     pub fn issue(&mut self, rank: usize, call: Call) -> u32
         requires rank { rank < length self.old.board.calls }
         requires receiver { HasReceiver (length self.old.board.calls) call.kind }
@@ -81,19 +85,21 @@ impl Board {
         ensures some { 0 < length (calls_of self.new.board rank) }
         ensures free { partner self.new.board.sets (last_call self.new.board rank) ≡ None }
         ensures room { self.old.room ≤ self.new.room + 1 }
-        ensures writes { self.new.writes ≡ self.old.writes + issue_writes (Some call.kind) }
+        ensures writes { self.new.writes ≡ self.old.writes + issue_writes (Some call.kind) + slots_of (Some (entered self.old.board rank call).kind) }
+        ensures few_writes { self.new.writes ≤ self.old.writes + 7 }
     {
-        let kind = kinds::buffered_by(self.has_buffer(), call.kind);
+        let kind = kinds::buffered_by(self.has_buffer(rank), call.kind);
         self.add_call(rank, Call { kind, ..call })
     }
 
-    /// Whether a standard send is buffered, were it issued now (MPI 4.0, section 3.4).
-    fn has_buffer(&self) -> bool
-        ensures { result ≡ buffers_all self.now.board.mode }
+    /// Whether a standard send of a rank is buffered, were it issued now (MPI 4.0, section 3.4).
+    fn has_buffer(&self, rank: usize) -> bool
+        ensures { result ≡ has_buffer self.now.board rank }
     {
         match self.mode {
-            Mode::Buffered => true,
             Mode::Rendezvous => false,
+            Mode::Buffered => true,
+            Mode::Slots(count) => self.slots_used(rank) < count,
         }
     }
 
@@ -109,24 +115,30 @@ impl Board {
         ensures some { 0 < length (calls_of self.new.board rank) }
         ensures free { partner self.new.board.sets (last_call self.new.board rank) ≡ None }
         ensures room { self.old.room ≤ self.new.room + 1 }
-        ensures writes { self.new.writes ≡ self.old.writes + issue_writes (Some call.kind) }
+        ensures writes { self.new.writes ≡ self.old.writes + issue_writes (Some call.kind) + slots_of (Some call.kind) }
     {
-        sides::issue_at(&mut self.sides, rank, call)
+        let number = sides::issue_at(&mut self.sides, rank, call);
+        slots::take_slot(&mut self.slots, rank, Some(call.kind));
+        number
     }
 
-    /// The last call of a rank is taken back, which no pair names.
+    /// The last call of a rank is taken back, which no pair names, and with it the slot that it holds.
     #[inline(never)]
     pub fn unissue(&mut self, rank: usize)
         requires some { 0 < length (calls_of self.old.board rank) }
         requires free { partner self.old.board.sets (last_call self.old.board rank) ≡ None }
         ensures board { self.new.board ≡ without_last_call self.old.board rank }
         ensures room { self.old.room ≤ self.new.room }
-        ensures writes { self.new.writes ≡ self.old.writes + unissue_writes (kind_at self.old.board (last_call self.old.board rank)) }
+        ensures writes { self.new.writes ≡ self.old.writes + unissue_writes (kind_at self.old.board (last_call self.old.board rank)) + slots_of (kind_at self.old.board (last_call self.old.board rank)) }
+        ensures few_writes { self.new.writes ≤ self.old.writes + 5 }
     {
+        let last = self.last_call(rank);
+        let kind = self.kind(last);
         sides::unissue_at(&mut self.sides, rank);
+        slots::give_slot_back(&mut self.slots, rank, kind);
     }
 
-    /// A send and a receive are paired (MPI 4.0, section 3.5). `unpair` with the record gives the board before.
+    /// A send and a receive are paired (MPI 4.0, section 3.5). The slot that the send holds is free again. `unpair` with the record gives the board before.
     pub fn pair(&mut self, send: CallId, recv: CallId) -> PairRecord
         requires eligible { eligible self.old.board send recv ≡ true }
         requires room { 1 ≤ self.old.room }
@@ -135,29 +147,35 @@ impl Board {
         ensures undoable { Recorded (without_last_set self.new.board) result (last_set self.new.board) }
         ensures back { without_last_set self.new.board ≡ self.old.board }
         ensures room { self.old.room ≤ self.new.room + 1 }
-        ensures writes { self.new.writes ≡ self.old.writes + 7 }
+        ensures writes { self.new.writes ≡ self.old.writes + 7 + slots_of (kind_at self.old.board send) }
+        ensures few_writes { self.new.writes ≤ self.old.writes + 8 }
     {
+        let kind = self.kind(send);
         self.sets.push_kept(MatchSet::Pair(send, recv));
         let send_spot = sides::pair_at(&mut self.sides, recv.rank + 1, send, recv);
         let recv_spot = sides::pair_at(&mut self.sides, 0, recv, send);
+        slots::give_slot_back(&mut self.slots, send.rank, kind);
         PairRecord {
             send_spot,
             recv_spot,
         }
     }
 
-    /// The last match set, a pair, is taken back: its calls are free again, where they stood.
+    /// The last match set, a pair, is taken back: its calls are free again, where they stood, and the send holds its slot again.
     pub fn unpair(&mut self, done: PairRecord)
         requires { Recorded (without_last_set self.old.board) done (last_set self.old.board) }
         ensures board { self.new.board ≡ without_last_set self.old.board }
         ensures room { self.old.room ≤ self.new.room }
-        ensures writes { self.new.writes ≡ self.old.writes + 11 }
+        ensures writes { self.new.writes ≡ self.old.writes + 11 + slots_paired self.old.board (last_set self.old.board) }
+        ensures few_writes { self.new.writes ≤ self.old.writes + 12 }
     {
         let Some(MatchSet::Pair(send, recv)) = self.sets.pop() else {
             unreachable!();
         };
         sides::unpair_at(&mut self.sides, recv.rank + 1, send, done.send_spot);
         sides::unpair_at(&mut self.sides, 0, recv, done.recv_spot);
+        let kind = sides::kind_on(&self.sides, send);
+        slots::take_slot(&mut self.slots, send.rank, kind);
     }
 
     /// A rank that was blocked on this call went on.
@@ -214,6 +232,7 @@ impl Board {
             mode: self.mode,
             sides: sides::copy_sides(&self.sides)?,
             sets: self.sets.copy()?,
+            slots: self.slots.copy()?,
         })
     }
 }

@@ -13,5 +13,6 @@ mod release;
 mod seen;
 mod side;
 mod sides;
+mod slots;
 mod walk;
 pub mod why;

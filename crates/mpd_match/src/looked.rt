@@ -1,6 +1,6 @@
 //! What is looked up on a board by number.
 ghost use Rattle.std.specs.Prelude.{◌≡◌, ◌<◌, ◌≤◌, length};
-ghost use Rattle.mpd_model.specs.World.{call_at, kind_at, calls_of, partner as partner_in, is_free, buffer, last_call};
+ghost use Rattle.mpd_model.specs.World.{call_at, kind_at, calls_of, partner as partner_in, is_free, buffer, slots_used, last_call};
 
 use crate::board::Board;
 use crate::kinds;
@@ -83,6 +83,17 @@ impl Board {
     {
         let side = self.sides.get(id.rank)?;
         side.partner(id.index)
+    }
+
+    /// How many slots a rank holds: as many as it has buffered sends that no pair names, in every mode; 0 where there is no such
+    /// rank (docs/DEFINITIONS.md, "Modes"). It is one look at a tape.
+    pub fn slots_used(&self, rank: usize) -> usize
+        ensures { result ≡ slots_used self.now.board rank }
+    {
+        match self.slots.get(rank) {
+            None => 0,
+            Some(held) => held,
+        }
     }
 
     /// Whether it is a send or a receive that no pair names.

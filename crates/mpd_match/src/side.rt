@@ -146,8 +146,10 @@ impl Side {
         ensures marks { (i : ℕ) → mark_in self.new.marks i ≡ with_mark (mark_in self.old.marks) index None i }
         ensures lines { self.new.lines ≡ self.old.lines }
         ensures room { self.new.room ≡ self.old.room }
+        ensures few { length self.new.calls ≤ 4294967295 }
         ensures writes { self.new.writes ≡ self.old.writes + 5 }
     {
+        self.lists.disjoint();
         self.marks.set(index, None);
         self.lists.relink(line, index, spot);
     }

@@ -8,11 +8,19 @@ ghost use Rattle.mpd_match.specs.Lines.{line_of as line_in, with_mark, waiting, 
 ghost use Rattle.mpd_match.specs.Changes.{issue_writes, unissue_writes};
 
 use crate::side::Side;
-use mpd_model::call::Call;
+use mpd_model::call::{Call, CallKind};
 use mpd_model::limits::RANKS_MAX;
 use mpd_model::step::CallId;
 use mpd_queue::lists::Spot;
 use std::alloc::{AllocError, Global};
+
+/// What a call is, where it exists.
+pub(crate) fn kind_on(sides: &Vec<Side>, id: CallId) -> Option<CallKind>
+    ensures { result ≡ kind_on sides.now.items id }
+{
+    let side = sides.get(id.rank)?;
+    side.kind(id.index)
+}
 
 /// So many sides without calls.
 #[tactic(auto, using(crate::proofs::AtSide::copying))]
@@ -109,6 +117,7 @@ pub(crate) fn unpair_at(sides: &mut Vec<Side>, line: usize, id: CallId, spot: Sp
     ensures marks { (c : CallId) → mark_at sides.new.items c ≡ with_partner (mark_at sides.old.items) id None c }
     ensures lines { lines_in sides.new.items ≡ lines_in sides.old.items }
     ensures room { (set_room : ℕ) → room_in set_room sides.new.items ≡ room_in set_room sides.old.items }
+    ensures few { length (side_at sides.new.items id.rank).calls ≤ 4294967295 }
     ensures writes { writes_in sides.new.items ≡ writes_in sides.old.items + 5 }
 {
     let side = &mut sides[id.rank];

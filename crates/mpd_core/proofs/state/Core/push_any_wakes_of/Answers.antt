@@ -1,7 +1,7 @@
-use Rattle.std.proofs.Common.{arith}
+use Rattle.std.proofs.Common.{sym, ◌∙◌, arith}
 use Rattle.mpd_model.specs.declared.step.Step.TheVariants.{WakeAny}
 use Rattle.mpd_model.specs.Next.{is_enabled}
-use Rattle.mpd_core.proofs.EnabledLemmas.{any_wakes_ahead}
+use Rattle.mpd_core.proofs.EnabledLemmas.{any_wakes_ahead, no_any_wakes}
 use Rattle.mpd_core.proofs.RangeLemmas.{chosen_more, chosen_some, chosen_grows, refused_with}
 use Rattle.mpd_core.proofs.state.Core.push_any_wakes_of.Goals as goal
 
@@ -25,3 +25,6 @@ returns-in_err-push_if_enabled-clause-memory c =
     let w = c.args.self.now.world in
     let p = c.args.rank in
     refused_with _ (chosen_some (λ i. is_enabled w (WakeAny p i)) (WakeAny p) c.loop-index.index c.request_count-count.result c.loop-index.out.items c.args.out.now.items _ c.loop-index-test.true c.loop-index.invariant.grows c.loop-index.invariant.given c.in_err-push_if_enabled.ensures.memory)
+
+pub returns-then-not-is_waiting-clause-ok : goal.returns-then-not-is_waiting-clause-ok
+returns-then-not-is_waiting-clause-ok c = no_any_wakes c.args.self.now.world c.args.rank c.args.out.now.items (sym c.is_waiting.ensures ∙ c.if-not-is_waiting.true)

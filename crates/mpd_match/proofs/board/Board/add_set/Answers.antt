@@ -2,6 +2,7 @@ use Rattle.std.proofs.Common.{ap, arith}
 use Rattle.mpd_match.specs.Views.{BoardView}
 use Rattle.mpd_match.proofs.AtSide.{some_set_room, more_set_room}
 use Rattle.mpd_match.proofs.Boards.{meets_lone, last_is}
+use Rattle.mpd_match.proofs.Counted.{counted_lone}
 use Rattle.mpd_match.proofs.board.Board.add_set.Goals as goal
 
 pub push_kept-requires : goal.push_kept-requires
@@ -12,7 +13,10 @@ push_kept-requires c =
 pub invariant_of-self : goal.invariant_of-self
 invariant_of-self c =
     let s = c.self.inside in
-    meets_lone s.mode s.sides.items s.sets.items c.push_kept.new.self.items c.args.set c.requires.lone c.push_kept.ensures.items c.self.invariant
+    record {
+      meets = meets_lone s.mode s.sides.items s.sets.items c.push_kept.new.self.items c.args.set c.requires.lone c.push_kept.ensures.items c.self.invariant.meets;
+      counted = counted_lone s.mode s.sides.items s.sets.items c.push_kept.new.self.items s.slots.items c.args.set c.requires.lone c.push_kept.ensures.items c.self.invariant.counted;
+    }
 
 pub returns-clause-last : goal.returns-clause-last
 returns-clause-last c =

@@ -4,13 +4,18 @@ use Rattle.mpd_match.specs.Changes.{last_set, is_lone}
 use Rattle.mpd_match.specs.Views.{BoardView, board_in}
 use Rattle.mpd_match.proofs.AtSide.{more_set_room}
 use Rattle.mpd_match.proofs.Boards.{meets_dropped, popped_room}
+use Rattle.mpd_match.proofs.Counted.{counted_dropped}
 use Rattle.mpd_match.proofs.board.Board.drop_set.Goals as goal
 
 pub invariant_of-self : goal.invariant_of-self
 invariant_of-self c =
     let s = c.self.inside in
     let e : board_in s.mode s.sides.items s.sets.items ≡ c.args.self.now.board = ap (λ (v : BoardView). v.board) c.self.view_is in
-    meets_dropped s.mode s.sides.items s.sets.items c.pop.new.self.items c.pop.result c.pop.ensures.items (subst (λ (b : Board). is_lone (last_set b) ≡ true) (sym e) c.requires) c.self.invariant
+    let lone : is_lone (last_set (board_in s.mode s.sides.items s.sets.items)) ≡ true = subst (λ (b : Board). is_lone (last_set b) ≡ true) (sym e) c.requires in
+    record {
+      meets = meets_dropped s.mode s.sides.items s.sets.items c.pop.new.self.items c.pop.result c.pop.ensures.items lone c.self.invariant.meets;
+      counted = counted_dropped s.mode s.sides.items s.sets.items c.pop.new.self.items s.slots.items c.pop.result c.pop.ensures.items lone c.self.invariant.counted;
+    }
 
 pub returns-clause-room : goal.returns-clause-room
 returns-clause-room c =

@@ -20,7 +20,7 @@ has_earlier-requires c =
     let send : CallId = c.args.send in
     let recv : CallId = c.args.recv in
     let e : board_in s.mode sides s.sets.items ≡ now = ap (λ (v : BoardView). v.board) c.self.view_is in
-    let h : Meets (board_in s.mode sides s.sets.items) sides = c.self.invariant in
+    let h : Meets (board_in s.mode sides s.sets.items) sides = c.self.invariant.meets in
     let fitted : c.is_fitting.result ≡ true = search rules in
     let fit : fits now send recv ≡ true = ap (λ (k : Option CallKind). fitting k (kind_at now recv) send.rank recv.rank) (sym c.kind-send_kind.ensures)
     ∙ ap (λ (k : Option CallKind). fitting c.kind-send_kind.result k send.rank recv.rank) (sym c.kind-recv_kind.ensures)
@@ -43,7 +43,7 @@ returns-then-has_earlier-clause-eligible c =
     let send : CallId = c.args.send in
     let recv : CallId = c.args.recv in
     let e : board_in s.mode sides s.sets.items ≡ now = ap (λ (v : BoardView). v.board) c.self.view_is in
-    let h : Meets (board_in s.mode sides s.sets.items) sides = c.self.invariant in
+    let h : Meets (board_in s.mode sides s.sets.items) sides = c.self.invariant.meets in
     let fitted : c.is_fitting.result ≡ true = search rules in
     let fit : fits now send recv ≡ true = ap (λ (k : Option CallKind). fitting k (kind_at now recv) send.rank recv.rank) (sym c.kind-send_kind.ensures)
     ∙ ap (λ (k : Option CallKind). fitting c.kind-send_kind.result k send.rank recv.rank) (sym c.kind-recv_kind.ensures)
@@ -75,7 +75,7 @@ returns-then-has_earlier-clause-looks c =
     let send : CallId = c.args.send in
     let recv : CallId = c.args.recv in
     let e : board_in s.mode sides s.sets.items ≡ now = ap (λ (v : BoardView). v.board) c.self.view_is in
-    let h : Meets (board_in s.mode sides s.sets.items) sides = c.self.invariant in
+    let h : Meets (board_in s.mode sides s.sets.items) sides = c.self.invariant.meets in
     let fitted : c.is_fitting.result ≡ true = search rules in
     let fit : fits now send recv ≡ true = ap (λ (k : Option CallKind). fitting k (kind_at now recv) send.rank recv.rank) (sym c.kind-send_kind.ensures)
     ∙ ap (λ (k : Option CallKind). fitting c.kind-send_kind.result k send.rank recv.rank) (sym c.kind-recv_kind.ensures)
@@ -111,7 +111,7 @@ returns-then-has_earlier-clause-at_most c =
     let send : CallId = c.args.send in
     let recv : CallId = c.args.recv in
     let e : board_in s.mode sides s.sets.items ≡ now = ap (λ (v : BoardView). v.board) c.self.view_is in
-    let h : Meets (board_in s.mode sides s.sets.items) sides = c.self.invariant in
+    let h : Meets (board_in s.mode sides s.sets.items) sides = c.self.invariant.meets in
     let fitted : c.is_fitting.result ≡ true = search rules in
     let fit : fits now send recv ≡ true = ap (λ (k : Option CallKind). fitting k (kind_at now recv) send.rank recv.rank) (sym c.kind-send_kind.ensures)
     ∙ ap (λ (k : Option CallKind). fitting c.kind-send_kind.result k send.rank recv.rank) (sym c.kind-recv_kind.ensures)
@@ -142,7 +142,7 @@ index-receiver-requires c =
     let send : CallId = c.args.send in
     let recv : CallId = c.args.recv in
     let e : board_in s.mode sides s.sets.items ≡ now = ap (λ (v : BoardView). v.board) c.self.view_is in
-    let h : Meets (board_in s.mode sides s.sets.items) sides = c.self.invariant in
+    let h : Meets (board_in s.mode sides s.sets.items) sides = c.self.invariant.meets in
     let fitted : c.is_fitting.result ≡ true = search rules in
     let fit : fits now send recv ≡ true = ap (λ (k : Option CallKind). fitting k (kind_at now recv) send.rank recv.rank) (sym c.kind-send_kind.ensures)
     ∙ ap (λ (k : Option CallKind). fitting c.kind-send_kind.result k send.rank recv.rank) (sym c.kind-recv_kind.ensures)
@@ -162,7 +162,7 @@ has_earlier-requires-2 c =
     let send : CallId = c.args.send in
     let recv : CallId = c.args.recv in
     let e : board_in s.mode sides s.sets.items ≡ now = ap (λ (v : BoardView). v.board) c.self.view_is in
-    let h : Meets (board_in s.mode sides s.sets.items) sides = c.self.invariant in
+    let h : Meets (board_in s.mode sides s.sets.items) sides = c.self.invariant.meets in
     let fitted : c.is_fitting.result ≡ true = search rules in
     let fit : fits now send recv ≡ true = ap (λ (k : Option CallKind). fitting k (kind_at now recv) send.rank recv.rank) (sym c.kind-send_kind.ensures)
     ∙ ap (λ (k : Option CallKind). fitting c.kind-send_kind.result k send.rank recv.rank) (sym c.kind-recv_kind.ensures)
@@ -185,7 +185,7 @@ returns-clause-eligible c =
     let send : CallId = c.args.send in
     let recv : CallId = c.args.recv in
     let e : board_in s.mode sides s.sets.items ≡ now = ap (λ (v : BoardView). v.board) c.self.view_is in
-    let h : Meets (board_in s.mode sides s.sets.items) sides = c.self.invariant in
+    let h : Meets (board_in s.mode sides s.sets.items) sides = c.self.invariant.meets in
     let fitted : c.is_fitting.result ≡ true = search rules in
     let fit : fits now send recv ≡ true = ap (λ (k : Option CallKind). fitting k (kind_at now recv) send.rank recv.rank) (sym c.kind-send_kind.ensures)
     ∙ ap (λ (k : Option CallKind). fitting c.kind-send_kind.result k send.rank recv.rank) (sym c.kind-recv_kind.ensures)
@@ -229,7 +229,7 @@ returns-clause-looks c =
     let send : CallId = c.args.send in
     let recv : CallId = c.args.recv in
     let e : board_in s.mode sides s.sets.items ≡ now = ap (λ (v : BoardView). v.board) c.self.view_is in
-    let h : Meets (board_in s.mode sides s.sets.items) sides = c.self.invariant in
+    let h : Meets (board_in s.mode sides s.sets.items) sides = c.self.invariant.meets in
     let fitted : c.is_fitting.result ≡ true = search rules in
     let fit : fits now send recv ≡ true = ap (λ (k : Option CallKind). fitting k (kind_at now recv) send.rank recv.rank) (sym c.kind-send_kind.ensures)
     ∙ ap (λ (k : Option CallKind). fitting c.kind-send_kind.result k send.rank recv.rank) (sym c.kind-recv_kind.ensures)
@@ -272,7 +272,7 @@ returns-clause-at_most c =
     let send : CallId = c.args.send in
     let recv : CallId = c.args.recv in
     let e : board_in s.mode sides s.sets.items ≡ now = ap (λ (v : BoardView). v.board) c.self.view_is in
-    let h : Meets (board_in s.mode sides s.sets.items) sides = c.self.invariant in
+    let h : Meets (board_in s.mode sides s.sets.items) sides = c.self.invariant.meets in
     let fitted : c.is_fitting.result ≡ true = search rules in
     let fit : fits now send recv ≡ true = ap (λ (k : Option CallKind). fitting k (kind_at now recv) send.rank recv.rank) (sym c.kind-send_kind.ensures)
     ∙ ap (λ (k : Option CallKind). fitting c.kind-send_kind.result k send.rank recv.rank) (sym c.kind-recv_kind.ensures)

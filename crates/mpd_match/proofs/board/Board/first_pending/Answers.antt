@@ -14,14 +14,14 @@ first-requires c =
     let s = c.self.inside in
     let ranks : length c.args.self.now.board.calls ≡ length s.sides.items = ap (λ (v : BoardView). length v.board.calls) (sym c.self.view_is) ∙ length-map s.sides.items (λ (v : SideView). v.calls) in
     let lt : c.args.sender < length s.sides.items = omega (arith, c.requires.sender, ranks) in
-    let wide : c.index.result.now.lines ≡ suc (length s.sides.items) = ap (λ (v : SideView). v.lines) (sym (read_side s.sides.items c.args.sender c.index.result.now lt c.index.ensures)) ∙ lines_at s.sides.items c.args.sender lt c.self.invariant.lines in
+    let wide : c.index.result.now.lines ≡ suc (length s.sides.items) = ap (λ (v : SideView). v.lines) (sym (read_side s.sides.items c.args.sender c.index.result.now lt c.index.ensures)) ∙ lines_at s.sides.items c.args.sender lt c.self.invariant.meets.lines in
     omega (arith, c.requires.receiver, ranks, wide)
 
 pub returns-clause-first : goal.returns-clause-first
 returns-clause-first c =
     let s = c.self.inside in
     let e : board_in s.mode s.sides.items s.sets.items ≡ c.args.self.now.board = ap (λ (v : BoardView). v.board) c.self.view_is in
-    let h : Meets (board_in s.mode s.sides.items s.sets.items) s.sides.items = c.self.invariant in
+    let h : Meets (board_in s.mode s.sides.items s.sets.items) s.sides.items = c.self.invariant.meets in
     let ranks : length c.args.self.now.board.calls ≡ length s.sides.items = ap (λ (v : BoardView). length v.board.calls) (sym c.self.view_is) ∙ length-map s.sides.items (λ (v : SideView). v.calls) in
     let lt : c.args.sender < length s.sides.items = omega (arith, c.requires.sender, ranks) in
     c.first.ensures.first

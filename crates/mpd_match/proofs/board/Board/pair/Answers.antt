@@ -1,11 +1,12 @@
 use Rattle.std.proofs.Common.{rules, ◌≡◌, ◌≤◌, ◌+◌, ℕ, true, List, Some, ap, sym, subst, ◌∙◌, arith}
-use Rattle.mpd_model.specs.World.{Board, pending, posted, eligible}
+use Rattle.mpd_model.specs.World.{Board, kind_at, pending, posted, eligible}
 use Rattle.mpd_queue.specs.InOrder.{next_of}
 use Rattle.mpd_match.specs.Views.{SideView, BoardView, board_in}
 use Rattle.mpd_match.specs.Lines.{line_of}
 use Rattle.mpd_match.specs.Held.{Meets}
 use Rattle.mpd_match.proofs.AtSide.{some_set_room, more_set_room}
 use Rattle.mpd_match.proofs.Boards.{lines_of_pair, side_exists, as_many_sides, kind_stays, pending_on, posted_on, other_line, meets_pair, recorded_new}
+use Rattle.mpd_match.proofs.Counted.{one_slot, paired_held, counted_pair}
 use Rattle.mpd_match.proofs.board.Board.pair.Goals as goal
 
 pub push_kept-requires : goal.push_kept-requires
@@ -17,7 +18,7 @@ pub overflow_add-recv : goal.overflow_add-recv
 overflow_add-recv c =
     let s = c.self.inside in
     let e : board_in s.mode s.sides.items s.sets.items ≡ c.args.self.now.board = ap (λ (v : BoardView). v.board) c.self.view_is in
-    let h : Meets (board_in s.mode s.sides.items s.sets.items) s.sides.items = c.self.invariant in
+    let h : Meets (board_in s.mode s.sides.items s.sets.items) s.sides.items = c.self.invariant.meets in
     let sides : List SideView = s.sides.items in
     let able : eligible (board_in s.mode sides s.sets.items) c.args.send c.args.recv ≡ true = subst (λ (b : Board). eligible b c.args.send c.args.recv ≡ true) (sym e) c.requires.eligible in
     let lines = lines_of_pair s.mode sides s.sets.items c.args.send c.args.recv able in
@@ -28,7 +29,7 @@ pub pair_at-send_spot-requires-clause-within : goal.pair_at-send_spot-requires-c
 pair_at-send_spot-requires-clause-within c =
     let s = c.self.inside in
     let e : board_in s.mode s.sides.items s.sets.items ≡ c.args.self.now.board = ap (λ (v : BoardView). v.board) c.self.view_is in
-    let h : Meets (board_in s.mode s.sides.items s.sets.items) s.sides.items = c.self.invariant in
+    let h : Meets (board_in s.mode s.sides.items s.sets.items) s.sides.items = c.self.invariant.meets in
     let sides : List SideView = s.sides.items in
     let able : eligible (board_in s.mode sides s.sets.items) c.args.send c.args.recv ≡ true = subst (λ (b : Board). eligible b c.args.send c.args.recv ≡ true) (sym e) c.requires.eligible in
     let lines = lines_of_pair s.mode sides s.sets.items c.args.send c.args.recv able in
@@ -38,7 +39,7 @@ pub pair_at-send_spot-requires-clause-line : goal.pair_at-send_spot-requires-cla
 pair_at-send_spot-requires-clause-line c =
     let s = c.self.inside in
     let e : board_in s.mode s.sides.items s.sets.items ≡ c.args.self.now.board = ap (λ (v : BoardView). v.board) c.self.view_is in
-    let h : Meets (board_in s.mode s.sides.items s.sets.items) s.sides.items = c.self.invariant in
+    let h : Meets (board_in s.mode s.sides.items s.sets.items) s.sides.items = c.self.invariant.meets in
     let sides : List SideView = s.sides.items in
     let able : eligible (board_in s.mode sides s.sets.items) c.args.send c.args.recv ≡ true = subst (λ (b : Board). eligible b c.args.send c.args.recv ≡ true) (sym e) c.requires.eligible in
     let lines = lines_of_pair s.mode sides s.sets.items c.args.send c.args.recv able in
@@ -48,7 +49,7 @@ pub pair_at-recv_spot-requires-clause-within : goal.pair_at-recv_spot-requires-c
 pair_at-recv_spot-requires-clause-within c =
     let s = c.self.inside in
     let e : board_in s.mode s.sides.items s.sets.items ≡ c.args.self.now.board = ap (λ (v : BoardView). v.board) c.self.view_is in
-    let h : Meets (board_in s.mode s.sides.items s.sets.items) s.sides.items = c.self.invariant in
+    let h : Meets (board_in s.mode s.sides.items s.sets.items) s.sides.items = c.self.invariant.meets in
     let sides : List SideView = s.sides.items in
     let mid : List SideView = c.pair_at-send_spot.new.sides.items in
     let able : eligible (board_in s.mode sides s.sets.items) c.args.send c.args.recv ≡ true = subst (λ (b : Board). eligible b c.args.send c.args.recv ≡ true) (sym e) c.requires.eligible in
@@ -59,31 +60,48 @@ pub pair_at-recv_spot-requires-clause-line : goal.pair_at-recv_spot-requires-cla
 pair_at-recv_spot-requires-clause-line c =
     let s = c.self.inside in
     let e : board_in s.mode s.sides.items s.sets.items ≡ c.args.self.now.board = ap (λ (v : BoardView). v.board) c.self.view_is in
-    let h : Meets (board_in s.mode s.sides.items s.sets.items) s.sides.items = c.self.invariant in
+    let h : Meets (board_in s.mode s.sides.items s.sets.items) s.sides.items = c.self.invariant.meets in
     let sides : List SideView = s.sides.items in
     let mid : List SideView = c.pair_at-send_spot.new.sides.items in
     let able : eligible (board_in s.mode sides s.sets.items) c.args.send c.args.recv ≡ true = subst (λ (b : Board). eligible b c.args.send c.args.recv ≡ true) (sym e) c.requires.eligible in
     let lines = lines_of_pair s.mode sides s.sets.items c.args.send c.args.recv able in
     ap line_of (kind_stays sides mid c.args.recv c.pair_at-send_spot.ensures.calls) ∙ lines.1
 
+pub give_slot_back-requires-clause-some : goal.give_slot_back-requires-clause-some
+give_slot_back-requires-clause-some c =
+    let s = c.self.inside in
+    let e : board_in s.mode s.sides.items s.sets.items ≡ c.args.self.now.board = ap (λ (v : BoardView). v.board) c.self.view_is in
+    let sides : List SideView = s.sides.items in
+    let able : eligible (board_in s.mode sides s.sets.items) c.args.send c.args.recv ≡ true = subst (λ (b : Board). eligible b c.args.send c.args.recv ≡ true) (sym e) c.requires.eligible in
+    let kind : c.kind-kind.result ≡ kind_at (board_in s.mode sides s.sets.items) c.args.send = c.kind-kind.ensures ∙ ap (λ (b : Board). kind_at b c.args.send) (sym e) in
+    paired_held s.mode sides s.sets.items s.slots.items c.args.send c.args.recv c.kind-kind.result able kind c.self.invariant.counted
+
 pub invariant_of-self : goal.invariant_of-self
 invariant_of-self c =
     let s = c.self.inside in
     let e : board_in s.mode s.sides.items s.sets.items ≡ c.args.self.now.board = ap (λ (v : BoardView). v.board) c.self.view_is in
-    let h : Meets (board_in s.mode s.sides.items s.sets.items) s.sides.items = c.self.invariant in
+    let h : Meets (board_in s.mode s.sides.items s.sets.items) s.sides.items = c.self.invariant.meets in
     let sides : List SideView = s.sides.items in
     let mid : List SideView = c.pair_at-send_spot.new.sides.items in
     let able : eligible (board_in s.mode sides s.sets.items) c.args.send c.args.recv ≡ true = subst (λ (b : Board). eligible b c.args.send c.args.recv ≡ true) (sym e) c.requires.eligible in
     let lines = lines_of_pair s.mode sides s.sets.items c.args.send c.args.recv able in
-    meets_pair s.mode sides mid c.pair_at-recv_spot.new.sides.items s.sets.items c.push_kept.new.self.items c.args.send c.args.recv c.push_kept.ensures.items able
-    c.pair_at-send_spot.ensures.calls c.pair_at-send_spot.ensures.lines c.pair_at-send_spot.ensures.marks
-    c.pair_at-recv_spot.ensures.calls c.pair_at-recv_spot.ensures.lines c.pair_at-recv_spot.ensures.marks h
+    let kind : c.kind-kind.result ≡ kind_at (board_in s.mode sides s.sets.items) c.args.send = c.kind-kind.ensures ∙ ap (λ (b : Board). kind_at b c.args.send) (sym e) in
+    record {
+      meets =
+          meets_pair s.mode sides mid c.pair_at-recv_spot.new.sides.items s.sets.items c.push_kept.new.self.items c.args.send c.args.recv c.push_kept.ensures.items able
+          c.pair_at-send_spot.ensures.calls c.pair_at-send_spot.ensures.lines c.pair_at-send_spot.ensures.marks
+          c.pair_at-recv_spot.ensures.calls c.pair_at-recv_spot.ensures.lines c.pair_at-recv_spot.ensures.marks h;
+      counted =
+          counted_pair s.mode sides c.pair_at-recv_spot.new.sides.items s.sets.items c.push_kept.new.self.items s.slots.items c.give_slot_back.new.slots.items c.args.send c.args.recv c.kind-kind.result c.push_kept.ensures.items able
+          (c.pair_at-recv_spot.ensures.calls ∙ c.pair_at-send_spot.ensures.calls) kind
+          c.give_slot_back.ensures.ranks c.give_slot_back.ensures.held c.self.invariant.counted;
+    }
 
 pub returns-clause-recorded : goal.returns-clause-recorded
 returns-clause-recorded c =
     let s = c.self.inside in
     let e : board_in s.mode s.sides.items s.sets.items ≡ c.args.self.now.board = ap (λ (v : BoardView). v.board) c.self.view_is in
-    let h : Meets (board_in s.mode s.sides.items s.sets.items) s.sides.items = c.self.invariant in
+    let h : Meets (board_in s.mode s.sides.items s.sets.items) s.sides.items = c.self.invariant.meets in
     let sides : List SideView = s.sides.items in
     let mid : List SideView = c.pair_at-send_spot.new.sides.items in
     let able : eligible (board_in s.mode sides s.sets.items) c.args.send c.args.recv ≡ true = subst (λ (b : Board). eligible b c.args.send c.args.recv ≡ true) (sym e) c.requires.eligible in
@@ -104,7 +122,7 @@ pub returns-clause-undoable : goal.returns-clause-undoable
 returns-clause-undoable c =
     let s = c.self.inside in
     let e : board_in s.mode s.sides.items s.sets.items ≡ c.args.self.now.board = ap (λ (v : BoardView). v.board) c.self.view_is in
-    let h : Meets (board_in s.mode s.sides.items s.sets.items) s.sides.items = c.self.invariant in
+    let h : Meets (board_in s.mode s.sides.items s.sets.items) s.sides.items = c.self.invariant.meets in
     let sides : List SideView = s.sides.items in
     let mid : List SideView = c.pair_at-send_spot.new.sides.items in
     let able : eligible (board_in s.mode sides s.sets.items) c.args.send c.args.recv ≡ true = subst (λ (b : Board). eligible b c.args.send c.args.recv ≡ true) (sym e) c.requires.eligible in
@@ -130,4 +148,16 @@ returns-clause-room c =
       c.pair_at-send_spot.ensures.room c.push_kept.new.self.room,
       c.pair_at-recv_spot.ensures.room c.push_kept.new.self.room,
       more_set_room s.sides.items s.sets.room c.push_kept.new.self.room 1 (omega (arith, c.push_kept.ensures.room)),
+    )
+
+pub returns-clause-few_writes : goal.returns-clause-few_writes
+returns-clause-few_writes c =
+    omega (
+      arith,
+      c.push_kept.ensures.writes,
+      c.pair_at-send_spot.ensures.writes,
+      c.pair_at-recv_spot.ensures.writes,
+      c.give_slot_back.ensures.writes,
+      one_slot c.kind-kind.result,
+      ap (λ (v : BoardView). v.writes) c.self.view_is,
     )
