@@ -14,16 +14,16 @@ use Rattle.mpd_model.specs.Next.{next, fold}
 use Rattle.mpd_model.specs.Decisions.{takes_any, is_open_match}
 use Rattle.mpd_model.specs.Why.{or_else}
 use Rattle.mpd_complete.specs.Same.{Same}
-use Rattle.mpd_complete.specs.CompleteLaws.{Joins}
+use Rattle.mpd_complete.specs.CompleteLaws.{Joins, KeepsBuffers}
 use Rattle.mpd_complete.specs.Sleeping.{same_match, is_asleep, put_to_sleep}
 use Rattle.mpd_laws.proofs.Eligible.{both_of}
 use Rattle.mpd_complete.proofs.Sets.{partner_more, else_none, partner_by}
 use Rattle.mpd_meaning.proofs.Members.{In}
 use Rattle.mpd_complete.proofs.Worlds.{same_refl, same_sym, same_trans, follows_all, joined_from}
-use Rattle.mpd_complete.proofs.Moves.{partner_formed}
-use Rattle.mpd_complete.proofs.Pairs.{clash, id_same, same_id, turned, recv_free, send_is_no_recv, recv_known, same_recv, no_both, is_send}
+use Rattle.mpd_complete.proofs.Moves.{joining, partner_formed}
+use Rattle.mpd_complete.proofs.Pairs.{clash, id_same, same_id, turned, recv_free, send_is_no_recv, recv_known, same_recv, no_both, is_send, match_again, match_freed, match_paired}
 use Rattle.mpd_complete.proofs.Steps.{IsWakeStep, local_step, wake_step, any_step, match_step, release_step}
-use Rattle.mpd_complete.proofs.Invariants.{Sound, keeps}
+use Rattle.mpd_complete.proofs.Invariants.{Sound, keeps, stays_ample}
 use Rattle.mpd_complete.proofs.Diamond.{diamond}
 
 -- ---- partners stay
@@ -74,31 +74,64 @@ pub record Taken (x : World) (s r : CallId) : Type 0 where
   pub at : partner x.board.sets r ≡ Some by
   pub other : by ≡ s → ⊥
 
-abbrev pub IsBeside : World → World → CallId → CallId → Step → Type 0
-IsBeside u x s r b = (b ≡ Match s r) ⊎ (Joins u x (Match s r) b ⊎ Taken x s r)
+-- Another step is that match, or has this beside it, or has taken the receive.
+abbrev pub IsBeside : Type 0 → World → CallId → CallId → Step → Type 0
+IsBeside This x s r b = (b ≡ Match s r) ⊎ (This ⊎ Taken x s r)
 
-from_diamond : (u x : World) (s r : CallId) (b : Step) → (Match s r ≡ b) ⊎ Joins u x (Match s r) b → IsBeside u x s r b
-from_diamond u x s r b (inl same) = inl (sym same)
-from_diamond u x s r b (inr joins) = inr (inl joins)
-
-two_by : (w : World) → Sound w → (s r t q : CallId) (u x : World) → next w (Match s r) ≡ Some u → next w (Match t q) ≡ Some x → (y z : Bool) → id_eq t s ≡ y → id_eq q r ≡ z
-    → IsBeside u x s r (Match t q)
-two_by w h s r t q u x e f true z is also =
+two_by : (This : Type 0) (w : World) (s r t q : CallId) (u x : World) → next w (Match s r) ≡ Some u → next w (Match t q) ≡ Some x → (id_eq t s ≡ false → id_eq q r ≡ false → This)
+    → (y z : Bool) → id_eq t s ≡ y → id_eq q r ≡ z → IsBeside This x s r (Match t q)
+two_by This w s r t q u x e f apart true z is also =
     let send : t ≡ s = same_id t s is in
     let recv : q ≡ r = same_recv w.board s q r (ap (λ (c : CallId). eligible w.board c q) (sym send) ∙ (match_step w t q x f).0) (match_step w s r u e).0 in
     inl (λ i. Match (send i) (recv i))
-two_by w h s r t q u x e f false true is also =
+two_by This w s r t q u x e f apart false true is also =
     inr (inr (record {
       by = t;
       at = ap (λ (c : CallId). partner x.board.sets c) (sym (same_id q r also)) ∙ pair_made w t q x f;
       other = λ same. clash (id_same t s same) is;
     }))
-two_by w h s r t q u x e f false false is also =
-    from_diamond u x s r (Match t q) (diamond w h (Match s r) (Match t q) u x e f (λ i. not (turned t s is i) && not (turned q r also i)))
+two_by This w s r t q u x e f apart false false is also = inr (inl (apart is also))
 
-pub beside : (w : World) → Sound w → (s r : CallId) (b : Step) (u x : World) → next w (Match s r) ≡ Some u → next w b ≡ Some x → IsBeside u x s r b
-beside w h s r (Match t q) u x e f = two_by w h s r t q u x e f (id_eq t s) (id_eq q r) refl refl
-beside w h s r b u x e f = from_diamond u x s r b (diamond w h (Match s r) b u x e f refl)
+-- in any mode the match can still be taken
+pub record StillOn (x : World) (s r : CallId) : Type 0 where
+  pub behind : World
+  pub leads : next x (Match s r) ≡ Some behind
+
+wake_still_on : (w : World) (s r : CallId) (a : Step) (p : ℕ) (x : World) → eligible w.board s r ≡ true → IsWakeStep w a p x → StillOn x s r
+wake_still_on w s r a p x on b =
+    subst (λ (z : World). StillOn z s r) b.is (record { behind = _; leads = match_again w p b.after None (Some (last_call w.board p)) s r on })
+
+pub still_on : (w : World) (s r : CallId) (b : Step) (u x : World) → next w (Match s r) ≡ Some u → next w b ≡ Some x → IsBeside (StillOn x s r) x s r b
+still_on w s r (Match t q) u x e f =
+    let m = match_step w t q x f in
+    two_by (StillOn x s r) w s r t q u x e f
+    (λ sends recvs. subst (λ (z : World). StillOn z s r) m.1 (record { behind = _; leads = match_paired w t q s r m.0 (match_step w s r u e).0 sends recvs }))
+    (id_eq t s) (id_eq q r) refl refl
+still_on w s r (Local p) u x e f =
+    let a = local_step w p x f in
+    inr (inl (subst (λ (z : World). StillOn z s r) a.is (record { behind = _; leads = match_again w p a.ran.rank (joining w.board p a.ran.call) None s r (match_step w s r u e).0 })))
+still_on w s r (Wake p) u x e f = inr (inl (wake_still_on w s r (Wake p) p x (match_step w s r u e).0 (wake_step w p x f)))
+still_on w s r (WakeAny p i) u x e f = inr (inl (wake_still_on w s r (WakeAny p i) p x (match_step w s r u e).0 (any_step w p i x f)))
+still_on w s r Release u x e f = inr (inl (subst (λ (z : World). StillOn z s r) (release_step w x f).1 (record { behind = _; leads = match_freed w s r (match_step w s r u e).0 })))
+
+-- where buffers never run out, both can be taken in either order
+from_diamond : (u x : World) (s r : CallId) (b : Step) → (Match s r ≡ b) ⊎ Joins u x (Match s r) b → IsBeside (Joins u x (Match s r) b) x s r b
+from_diamond u x s r b (inl same) = inl (sym same)
+from_diamond u x s r b (inr joins) = inr (inl joins)
+
+not_one : (w : World) (s r t q : CallId) (u x : World) → (Match s r ≡ Match t q) ⊎ Joins u x (Match s r) (Match t q) → id_eq t s ≡ false → Joins u x (Match s r) (Match t q)
+not_one w s r t q u x (inl same) ne = absurd (clash (id_same t s (first same)) ne)
+  where
+    first : Match s r ≡ Match t q → t ≡ s
+    first e = cc
+not_one w s r t q u x (inr joins) ne = joins
+
+pub beside : (w : World) → Sound w → KeepsBuffers w.board.mode → (s r : CallId) (b : Step) (u x : World) → next w (Match s r) ≡ Some u → next w b ≡ Some x → IsBeside (Joins u x (Match s r) b) x s r b
+beside w h ample s r (Match t q) u x e f =
+    two_by (Joins u x (Match s r) (Match t q)) w s r t q u x e f
+    (λ sends recvs. not_one w s r t q u x (diamond w h ample (Match s r) (Match t q) u x e f (λ i. not (turned t s sends i) && not (turned q r recvs i))) sends)
+    (id_eq t s) (id_eq q r) refl refl
+beside w h ample s r b u x e f = from_diamond u x s r b (diamond w h ample (Match s r) b u x e f refl)
 
 -- ---- a match that a run has taken comes to the front
 
@@ -118,16 +151,16 @@ some_world p = cc
 pub free_unpaired : (w : World) (s r : CallId) (u : World) → next w (Match s r) ≡ Some u → partner w.board.sets r ≡ Some s → ⊥
 free_unpaired w s r u e p = let clash : None ≡ Some s = sym (free_none (partner w.board.sets r) (recv_free w.board s r (match_step w s r u e).0)) ∙ p in cc
 
-front_pair : (steps : List Step) (s r : CallId) (w u v : World) → Sound w → next w (Match s r) ≡ Some u → fold w steps ≡ Some v → partner v.board.sets r ≡ Some s → FrontedPair steps u v
-front_pair [] s r w u v h e f p = let is : w ≡ v = cc in absurd (free_unpaired w s r u e (ap (λ (z : World). partner z.board.sets r) is ∙ p))
-front_pair (b ∷ steps) s r w u v h e f p =
+front_pair : (steps : List Step) (s r : CallId) (w u v : World) → Sound w → KeepsBuffers w.board.mode → next w (Match s r) ≡ Some u → fold w steps ≡ Some v → partner v.board.sets r ≡ Some s → FrontedPair steps u v
+front_pair [] s r w u v h ample e f p = let is : w ≡ v = cc in absurd (free_unpaired w s r u e (ap (λ (z : World). partner z.board.sets r) is ∙ p))
+front_pair (b ∷ steps) s r w u v h ample e f p =
     let after = joined_from (λ x. fold x steps) (next w b) v f in
-    elim (beside w h s r b u after.0 e after.1) [
+    elim (beside w h ample s r b u after.0 e after.1) [
       | inl same ↦
           let is : u ≡ after.0 = some_world (sym e ∙ ap (next w) (sym same) ∙ after.1) in
           record { rest = steps; end = v; leads = ap (λ (z : World). fold z steps) is ∙ after.2; count = refl; same = same_refl v }
       | inr more ↦ elim more [
-        | inl joins ↦ behind joins (front_pair steps s r after.0 joins.behind_b v ((keeps w b after.0 after.1).sound h) joins.by_a after.2 p)
+        | inl joins ↦ behind joins (front_pair steps s r after.0 joins.behind_b v ((keeps w b after.0 after.1).sound h) (stays_ample w b after.0 after.1 ample) joins.by_a after.2 p)
         | inr taken ↦ absurd (taken.other (some_call (sym (fold_kept steps after.0 v after.2 r taken.by taken.at) ∙ p)))
       ]
     ]
@@ -199,9 +232,9 @@ awake_by asleep w a clear p true e = let k = found_in (same_match a) asleep e in
 
 -- ---- a pair in the end was taken on the way
 
-pub front_any : (steps : List Step) (a : Step) (w u v : World) → Sound w → next w a ≡ Some u → fold w steps ≡ Some v → HasPair v a → FrontedPair steps u v
-front_any steps (Match s r) w u v h e f p = front_pair steps s r w u v h e f p
-front_any steps a w u v h e f p = absurd p
+pub front_any : (steps : List Step) (a : Step) (w u v : World) → Sound w → KeepsBuffers w.board.mode → next w a ≡ Some u → fold w steps ≡ Some v → HasPair v a → FrontedPair steps u v
+front_any steps (Match s r) w u v h ample e f p = front_pair steps s r w u v h ample e f p
+front_any steps a w u v h ample e f p = absurd p
 
 -- an open match that a run begins with has its pair in the end
 pub first_pair : (b : Step) (steps : List Step) (u x w : World) → is_open_match u.board b ≡ true → next u b ≡ Some x → fold x steps ≡ Some w → HasPair w b

@@ -11,17 +11,26 @@ use Rattle.mpd_model.specs.Next.{next, fold}
 use Rattle.mpd_model.specs.Decisions.{is_open_match, decision}
 use Rattle.mpd_explore.specs.declared.report.Ending.TheVariants.{Ended, Cut}
 use Rattle.mpd_explore.specs.Walk.{Run, here, stepped, chosen, runs_of, stopped, walk}
-use Rattle.mpd_complete.specs.CompleteLaws.{HasNoWaitany, IsWhole, IsComplete}
+use Rattle.mpd_complete.specs.CompleteLaws.{HasNoWaitany, KeepsBuffers, IsWhole, IsComplete}
 use Rattle.mpd_complete.specs.Sleeping.{is_asleep, awake_runs, put_to_sleep, awake_branches, followed_awake, awake_walk, sleeping_walk}
 use Rattle.mpd_meaning.proofs.Members.{In, in_left, in_right, in_map}
 use Rattle.mpd_complete.proofs.Worlds.{same_sym, joined_from}
 use Rattle.mpd_complete.proofs.Pairs.{clash}
-use Rattle.mpd_complete.proofs.Invariants.{fold_sound}
+use Rattle.mpd_complete.proofs.Invariants.{stays_ample, fold_ample, fold_sound}
 use Rattle.mpd_complete.proofs.Views.{world_of, Stuck, ForcedView, ChoiceView, LeafView, View, view}
 use Rattle.mpd_complete.proofs.Calm.{Calm, stays_calm, fold_calm, start_calm, calm_none}
 use Rattle.mpd_complete.proofs.Walks.{Whole, Found, front, behind_step, whole_behind, whole_each, stuck_same, some_on, at_leaf, stuck_from, listed_from, Bounded, goes_on}
 use Rattle.mpd_complete.proofs.Plain.{nothing_sleeps}
 use Rattle.mpd_complete.proofs.Asleep.{HasPair, has_pair, Clear, same_pair, pair_tested, is_pair, awake_by, front_any, first_pair, still_clear, opens_on, named_on, has_before, asleep_from}
+
+-- ---- worlds of a script without a waitany, in a mode whose buffers never run out
+
+record Ample (w : World) : Type 0 where
+  calm : Calm w
+  buffers : KeepsBuffers w.board.mode
+
+ample_next : (w : World) (a : Step) (v : World) → next w a ≡ Some v → Ample w → Ample v
+ample_next w a v e h = record { calm = stays_calm w a v e h.calm; buffers = stays_ample w a v e h.buffers }
 
 -- ---- a branch whose pair is in the end
 
@@ -39,7 +48,7 @@ record Picked (sleeps : Bool) (holds : Step → Type 0) (n : ℕ) (runs : List R
 
 abbrev AllEnds : Bool → ℕ → Type 0
 AllEnds sleeps n =
-    (asleep : List Step) (u : World) → Calm u → Whole (awake_walk sleeps n asleep u) → (steps : List Step) (w : World) → fold u steps ≡ Some w → Stuck w → Clear asleep w
+    (asleep : List Step) (u : World) → Ample u → Whole (awake_walk sleeps n asleep u) → (steps : List Step) (w : World) → fold u steps ≡ Some w → Stuck w → Clear asleep w
     → Found (awake_walk sleeps n asleep u) u w
 
 abbrev Opens : List Step → World → Type 0
@@ -50,7 +59,7 @@ open_next u x a asleep e opens z k = opens_on (a ∷ []) u x (ap (option_and_the
 
 abbrev AllShort : Bool → ℕ → Type 0
 AllShort sleeps n =
-    (asleep : List Step) (u : World) → Calm u → Opens asleep u → Whole (awake_walk sleeps n asleep u) → (steps : List Step) (w : World) → fold u steps ≡ Some w → Clear asleep w → length steps ≤ n
+    (asleep : List Step) (u : World) → Ample u → Opens asleep u → Whole (awake_walk sleeps n asleep u) → (steps : List Step) (w : World) → fold u steps ≡ Some w → Clear asleep w → length steps ≤ n
 
 -- ---- a walk in which steps fall asleep, or none do
 
@@ -108,7 +117,7 @@ module _ (sleeps : Bool) where
                 (k.within x f t j);
           }
 
-  ends_forced : (n : ℕ) → AllEnds sleeps n → (asleep : List Step) (u : World) → Calm u → (a : Step) → ForcedView u a → Whole (map (stepped a) (runs_of (awake_walk sleeps n asleep) (next u a)))
+  ends_forced : (n : ℕ) → AllEnds sleeps n → (asleep : List Step) (u : World) → Ample u → (a : Step) → ForcedView u a → Whole (map (stepped a) (runs_of (awake_walk sleeps n asleep) (next u a)))
       → (steps : List Step) (w : World) → fold u steps ≡ Some w → Stuck w → Clear asleep w → Found (map (stepped a) (runs_of (awake_walk sleeps n asleep) (next u a))) u w
   ends_forced n ih asleep u h a force whole steps w e all clear =
       let x : World = force.world in
@@ -117,34 +126,34 @@ module _ (sleeps : Bool) where
       let within : (r : Run) → In more r → In runs (stepped a r) =
       λ r i. subst (λ (o : Option World). In (map (stepped a) (runs_of (awake_walk sleeps n asleep) o)) (stepped a r)) (sym force.leads) (in_map (stepped a) more r i)
       in
-      let k = front steps a u x w h.sound force.named force.leads e in
+      let k = front steps a u x w h.calm.sound h.buffers force.named force.leads e in
       elim k.either [
         | inl took ↦
             behind_step runs more a (stepped a) u x w k.end within (λ r. refl) (λ r. refl) force.leads took.1
-            (ih asleep x (stays_calm u a x force.leads h) (whole_behind runs more (stepped a) within (λ r. refl) whole) k.rest k.end k.leads (stuck_same w k.end took.1 all)
+            (ih asleep x (ample_next u a x force.leads h) (whole_behind runs more (stepped a) within (λ r. refl) whole) k.rest k.end k.leads (stuck_same w k.end took.1 all)
             (still_clear asleep w k.end took.1 clear))
         | inr left ↦ absurd (all a (some_on w a left.world left.leads))
       ]
 
-  ends_choice : (n : ℕ) → AllEnds sleeps n → (asleep : List Step) (u : World) → Calm u → (candidates : List Step) → ChoiceView u candidates → Whole (awake_branches sleeps (awake_walk sleeps n) u asleep 0 candidates)
+  ends_choice : (n : ℕ) → AllEnds sleeps n → (asleep : List Step) (u : World) → Ample u → (candidates : List Step) → ChoiceView u candidates → Whole (awake_branches sleeps (awake_walk sleeps n) u asleep 0 candidates)
       → (steps : List Step) (w : World) → fold u steps ≡ Some w → Stuck w → Clear asleep w → Found (awake_branches sleeps (awake_walk sleeps n) u asleep 0 candidates) u w
   ends_choice n ih asleep u h candidates choice whole [] w e all clear =
       let is : u ≡ w = cc in
       absurd (all choice.one (subst (λ (z : World). is_some (next z choice.one) ≡ true) is choice.leads))
   ends_choice n ih asleep u h candidates choice whole (b ∷ steps) w e all clear =
       let after = joined_from (λ x. fold x steps) (next u b) w e in
-      let among = choice.among (calm_none u h) in
+      let among = choice.among (calm_none u h.calm) in
       let listed = among.listed b (some_on u b after.0 after.1) in
       let k = pick (λ z. Unit {0}) n u w 0 candidates asleep clear (λ z j. tt) (λ z j. tt) choice.each b listed (first_pair b steps u after.0 w (among.opens b listed) after.1 after.2) in
       let to = world_of (next u k.step) k.on in
       let runs : List Run = awake_branches sleeps (awake_walk sleeps n) u asleep 0 candidates in
       let more : List Run = awake_walk sleeps n k.asleep to.0 in
-      let moved = front_any (b ∷ steps) k.step u to.0 w h.sound to.1 e k.has in
+      let moved = front_any (b ∷ steps) k.step u to.0 w h.calm.sound h.buffers to.1 e k.has in
       behind_step runs more k.step (chosen k.number k.step) u to.0 w moved.end (k.within to.0 to.1) (λ r. refl) (λ r. refl) to.1 moved.same
-      (ih k.asleep to.0 (stays_calm u k.step to.0 to.1 h) (whole_behind runs more (chosen k.number k.step) (k.within to.0 to.1) (λ r. refl) whole) moved.rest moved.end moved.leads
+      (ih k.asleep to.0 (ample_next u k.step to.0 to.1 h) (whole_behind runs more (chosen k.number k.step) (k.within to.0 to.1) (λ r. refl) whole) moved.rest moved.end moved.leads
       (stuck_same w moved.end moved.same all) (still_clear k.asleep w moved.end moved.same k.clear))
 
-  ends_more : (n : ℕ) → AllEnds sleeps n → (asleep : List Step) (u : World) → Calm u → (d : Decision) → View u d → Whole (followed_awake sleeps (awake_walk sleeps n) asleep u d)
+  ends_more : (n : ℕ) → AllEnds sleeps n → (asleep : List Step) (u : World) → Ample u → (d : Decision) → View u d → Whole (followed_awake sleeps (awake_walk sleeps n) asleep u d)
       → (steps : List Step) (w : World) → fold u steps ≡ Some w → Stuck w → Clear asleep w → Found (followed_awake sleeps (awake_walk sleeps n) asleep u d) u w
   ends_more n ih asleep u h (Forced a) is whole steps w e all clear = ends_forced n ih asleep u h a is whole steps w e all clear
   ends_more n ih asleep u h (Choice candidates) is whole steps w e all clear = ends_choice n ih asleep u h candidates is whole steps w e all clear
@@ -157,12 +166,12 @@ module _ (sleeps : Bool) where
 
   all_ends : (n : ℕ) → AllEnds sleeps n
   unfolding awake_walk
-  all_ends zero asleep u h whole steps w e all clear = ends_none u (decision u) (view u h.sound) whole steps w e all
-  all_ends (suc n) asleep u h whole steps w e all clear = ends_more n (all_ends n) asleep u h (decision u) (view u h.sound) whole steps w e all clear
+  all_ends zero asleep u h whole steps w e all clear = ends_none u (decision u) (view u h.calm.sound) whole steps w e all
+  all_ends (suc n) asleep u h whole steps w e all clear = ends_more n (all_ends n) asleep u h (decision u) (view u h.calm.sound) whole steps w e all clear
 
   -- ---- no run is longer than the fuel
 
-  short_forced : (n : ℕ) → AllShort sleeps n → (asleep : List Step) (u : World) → Calm u → Opens asleep u → (a : Step) → ForcedView u a
+  short_forced : (n : ℕ) → AllShort sleeps n → (asleep : List Step) (u : World) → Ample u → Opens asleep u → (a : Step) → ForcedView u a
       → Whole (map (stepped a) (runs_of (awake_walk sleeps n asleep) (next u a))) → (steps : List Step) (w : World) → fold u steps ≡ Some w → Clear asleep w → length steps ≤ suc n
   short_forced n ih asleep u h opens a force whole steps w e clear =
       let x : World = force.world in
@@ -171,8 +180,8 @@ module _ (sleeps : Bool) where
       let within : (r : Run) → In more r → In runs (stepped a r) =
       λ r i. subst (λ (o : Option World). In (map (stepped a) (runs_of (awake_walk sleeps n asleep) o)) (stepped a r)) (sym force.leads) (in_map (stepped a) more r i)
       in
-      let k = front steps a u x w h.sound force.named force.leads e in
-      let short = ih asleep x (stays_calm u a x force.leads h) (open_next u x a asleep force.leads opens) (whole_behind runs more (stepped a) within (λ r. refl) whole) k.rest k.end k.leads in
+      let k = front steps a u x w h.calm.sound h.buffers force.named force.leads e in
+      let short = ih asleep x (ample_next u a x force.leads h) (open_next u x a asleep force.leads opens) (whole_behind runs more (stepped a) within (λ r. refl) whole) k.rest k.end k.leads in
       elim k.either [
         | inl took ↦
             let count = took.0 in
@@ -187,19 +196,19 @@ module _ (sleeps : Bool) where
             omega (arith, count, le)
       ]
 
-  short_choice : (n : ℕ) → AllShort sleeps n → (asleep : List Step) (u : World) → Calm u → Opens asleep u → (candidates : List Step) → ChoiceView u candidates → Whole (awake_branches sleeps (awake_walk sleeps n) u asleep 0 candidates)
+  short_choice : (n : ℕ) → AllShort sleeps n → (asleep : List Step) (u : World) → Ample u → Opens asleep u → (candidates : List Step) → ChoiceView u candidates → Whole (awake_branches sleeps (awake_walk sleeps n) u asleep 0 candidates)
       → (steps : List Step) (w : World) → fold u steps ≡ Some w → Clear asleep w → length steps ≤ suc n
   short_choice n ih asleep u h opens candidates choice whole [] w e clear = omega arith
   short_choice n ih asleep u h opens candidates choice whole (b ∷ steps) w e clear =
       let after = joined_from (λ x. fold x steps) (next u b) w e in
-      let among = choice.among (calm_none u h) in
+      let among = choice.among (calm_none u h.calm) in
       let listed = among.listed b (some_on u b after.0 after.1) in
       let k = pick (λ z. is_open_match u.board z ≡ true) n u w 0 candidates asleep clear opens among.opens choice.each b listed (first_pair b steps u after.0 w (among.opens b listed) after.1 after.2) in
       let to = world_of (next u k.step) k.on in
       let runs : List Run = awake_branches sleeps (awake_walk sleeps n) u asleep 0 candidates in
       let more : List Run = awake_walk sleeps n k.asleep to.0 in
-      let moved = front_any (b ∷ steps) k.step u to.0 w h.sound to.1 e k.has in
-      let short = ih k.asleep to.0 (stays_calm u k.step to.0 to.1 h) (open_next u to.0 k.step k.asleep to.1 k.held)
+      let moved = front_any (b ∷ steps) k.step u to.0 w h.calm.sound h.buffers to.1 e k.has in
+      let short = ih k.asleep to.0 (ample_next u k.step to.0 to.1 h) (open_next u to.0 k.step k.asleep to.1 k.held)
       (whole_behind runs more (chosen k.number k.step) (k.within to.0 to.1) (λ r. refl) whole) moved.rest moved.end moved.leads (still_clear k.asleep w moved.end moved.same k.clear)
       in
       let count = moved.count in
@@ -208,7 +217,7 @@ module _ (sleeps : Bool) where
   short_leaf : (n : ℕ) (u : World) (o : Outcome) → LeafView u o → (steps : List Step) (w : World) → fold u steps ≡ Some w → length steps ≤ n
   short_leaf n u o leaf steps w e = (at_leaf n u o (here (Ended o) ∷ []) leaf (inl refl) steps w e).short
 
-  short_more : (n : ℕ) → AllShort sleeps n → (asleep : List Step) (u : World) → Calm u → Opens asleep u → (d : Decision) → View u d → Whole (followed_awake sleeps (awake_walk sleeps n) asleep u d)
+  short_more : (n : ℕ) → AllShort sleeps n → (asleep : List Step) (u : World) → Ample u → Opens asleep u → (d : Decision) → View u d → Whole (followed_awake sleeps (awake_walk sleeps n) asleep u d)
       → (steps : List Step) (w : World) → fold u steps ≡ Some w → Clear asleep w → length steps ≤ suc n
   short_more n ih asleep u h opens (Forced a) is whole steps w e clear = short_forced n ih asleep u h opens a is whole steps w e clear
   short_more n ih asleep u h opens (Choice candidates) is whole steps w e clear = short_choice n ih asleep u h opens candidates is whole steps w e clear
@@ -221,12 +230,12 @@ module _ (sleeps : Bool) where
 
   all_short : (n : ℕ) → AllShort sleeps n
   unfolding awake_walk
-  all_short zero asleep u h opens whole steps w e clear = short_none u (decision u) (view u h.sound) whole steps w e
-  all_short (suc n) asleep u h opens whole steps w e clear = short_more n (all_short n) asleep u h opens (decision u) (view u h.sound) whole steps w e clear
+  all_short zero asleep u h opens whole steps w e clear = short_none u (decision u) (view u h.calm.sound) whole steps w e
+  all_short (suc n) asleep u h opens whole steps w e clear = short_more n (all_short n) asleep u h opens (decision u) (view u h.calm.sound) whole steps w e clear
 
 -- ---- the laws
 
-complete_from : (sleeps : Bool) (u : World) → Calm u → (fuel : ℕ) → IsWhole (awake_walk sleeps fuel [] u) → (steps : List Step) (w : World) → fold u steps ≡ Some w
+complete_from : (sleeps : Bool) (u : World) → Ample u → (fuel : ℕ) → IsWhole (awake_walk sleeps fuel [] u) → (steps : List Step) (w : World) → fold u steps ≡ Some w
     → IsComplete (awake_walk sleeps fuel [] u) fuel u w steps
 complete_from sleeps u h fuel whole steps w e =
     let each = whole_each (awake_walk sleeps fuel [] u) whole in
@@ -234,21 +243,22 @@ complete_from sleeps u h fuel whole steps w e =
     record {
       short = bound steps w e;
       goes_on = goes_on fuel fuel u w steps e bound (omega arith);
-      listed = λ none. listed_from (awake_walk sleeps fuel [] u) u w (all_ends sleeps fuel [] u h each steps w e (stuck_from w (fold_sound steps u w e h.sound) none) (λ z k p. k));
+      listed = λ none. listed_from (awake_walk sleeps fuel [] u) u w (all_ends sleeps fuel [] u h each steps w e (stuck_from w (fold_sound steps u w e h.calm.sound) none) (λ z k p. k));
     }
 
-complete_by : (sleeps : Bool) (s : Program) → HasNoWaitany s → (mode : Mode) (before : List Step) (u : World) → fold (start s mode) before ≡ Some u
+complete_by : (sleeps : Bool) (s : Program) → HasNoWaitany s → (mode : Mode) → KeepsBuffers mode → (before : List Step) (u : World) → fold (start s mode) before ≡ Some u
     → (fuel : ℕ) → IsWhole (awake_walk sleeps fuel [] u)
     → (steps : List Step) (w : World) → fold u steps ≡ Some w → IsComplete (awake_walk sleeps fuel [] u) fuel u w steps
-complete_by sleeps s none mode before u e = complete_from sleeps u (fold_calm before (start s mode) u e (start_calm s none mode))
+complete_by sleeps s none mode ample before u e =
+    complete_from sleeps u (record { calm = fold_calm before (start s mode) u e (start_calm s none mode); buffers = fold_ample before (start s mode) u e ample })
 
-pub sleeping_complete : (s : Program) → HasNoWaitany s → (mode : Mode) (before : List Step) (u : World) → fold (start s mode) before ≡ Some u
+pub sleeping_complete : (s : Program) → HasNoWaitany s → (mode : Mode) → KeepsBuffers mode → (before : List Step) (u : World) → fold (start s mode) before ≡ Some u
     → (fuel : ℕ) → IsWhole (sleeping_walk fuel u)
     → (steps : List Step) (w : World) → fold u steps ≡ Some w → IsComplete (sleeping_walk fuel u) fuel u w steps
 sleeping_complete = complete_by true
 
-pub complete : (s : Program) → HasNoWaitany s → (mode : Mode) (before : List Step) (u : World) → fold (start s mode) before ≡ Some u
+pub complete : (s : Program) → HasNoWaitany s → (mode : Mode) → KeepsBuffers mode → (before : List Step) (u : World) → fold (start s mode) before ≡ Some u
     → (fuel : ℕ) → IsWhole (walk fuel u) → (steps : List Step) (w : World) → fold u steps ≡ Some w → IsComplete (walk fuel u) fuel u w steps
-complete s none mode before u e fuel =
+complete s none mode ample before u e fuel =
     subst (λ (runs : List Run). IsWhole runs → (steps : List Step) (w : World) → fold u steps ≡ Some w → IsComplete runs fuel u w steps) (nothing_sleeps fuel u)
-    (complete_by false s none mode before u e fuel)
+    (complete_by false s none mode ample before u e fuel)

@@ -10,10 +10,10 @@ use Rattle.mpd_model.specs.declared.step.Step.TheVariants.{Local, Match, Wake, W
 use Rattle.mpd_model.specs.declared.call.Call.{Call}
 use Rattle.mpd_model.specs.World.{World, id_eq, eligible, last_call}
 use Rattle.mpd_model.specs.Next.{stepped, waits, can_wake, woken, can_wake_any, woken_any, is_at_barrier, can_release, released, next}
-use Rattle.mpd_complete.specs.CompleteLaws.{apart, Joins}
+use Rattle.mpd_complete.specs.CompleteLaws.{apart, Joins, KeepsBuffers}
 use Rattle.mpd_laws.proofs.Eligible.{both_of, denied}
 use Rattle.mpd_complete.proofs.Worlds.{same_sym, chosen, taken}
-use Rattle.mpd_complete.proofs.Moves.{Known, joining, moved, paired, stepped_is, local_again, moved_swapped, moved_paired}
+use Rattle.mpd_complete.proofs.Moves.{Known, joining, moved, paired, stepped_is, joining_paired, local_again, moved_swapped, moved_paired}
 use Rattle.mpd_complete.proofs.Pairs.{clash, same_id, turned, match_again, match_freed, freed_paired, match_paired, paired_swapped, same_recv, same_send}
 use Rattle.mpd_complete.proofs.Steps.{IsLocalStep, IsWakeStep, local_step, wake_step, any_step, match_step, release_step}
 use Rattle.mpd_complete.proofs.Idle.{never_both}
@@ -122,14 +122,17 @@ any_and_any : (w : World) → Known w.board → (p i q j : ℕ) (u v : World) �
     → Joins u v (WakeAny p i) (WakeAny q j)
 any_and_any w all p i q j u v a b off = two_wakes w all (WakeAny p i) (WakeAny q j) p q u v a b (λ same. clash (eq-eqb p q same) (denied (p == q) off))
 
-local_and_match : (w : World) (p : ℕ) (s r : CallId) (u v : World) → IsLocalStep w p u → eligible w.board s r ≡ true → paired w s r ≡ v → Joins u v (Local p) (Match s r)
-local_and_match w p s r u v a e is =
+local_and_match : (w : World) → KeepsBuffers w.board.mode → (p : ℕ) (s r : CallId) (u v : World) → IsLocalStep w p u → eligible w.board s r ≡ true → paired w s r ≡ v → Joins u v (Local p) (Match s r)
+local_and_match w ample p s r u v a e is =
     let call : Option Call = joining w.board p a.ran.call in
     at_worlds (moved w p a.ran.rank call None) u (paired w s r) v (Local p) (Match s r) a.is is (record {
       behind_a = paired (moved w p a.ran.rank call None) s r;
       behind_b = moved (paired w s r) p a.ran.rank call None;
       by_b = match_again w p a.ran.rank call None s r e;
-      by_a = ap (option_map (stepped (paired w s r) p)) a.at ∙ ap (λ (z : World). Some z) (stepped_is (paired w s r) p a.ran);
+      by_a =
+          ap (option_map (stepped (paired w s r) p)) a.at
+          ∙ ap (λ (z : World). Some z) (stepped_is (paired w s r) p a.ran)
+          ∙ ap (λ (k : Option Call). Some (moved (paired w s r) p a.ran.rank k None)) (joining_paired w s r p a.ran.call ample);
       same = moved_paired w p a.ran.rank call None s r;
     })
 
@@ -166,43 +169,43 @@ two_matches w s r t q u v e is f also sends recvs =
     })
 
 -- Two steps that are enabled are the same, or can be taken in either order, unless they are two matches that share a call, or two steps
--- of one rank's waitany.
-pub diamond : (w : World) → Sound w → (a b : Step) (u v : World) → next w a ≡ Some u → next w b ≡ Some v → apart a b ≡ true → SameOrJoins u v a b
-diamond w h (Local p) (Local q) u v e f off = two_locals w p q u v (local_step w p u e) (local_step w q v f)
-diamond w h (Local p) (Match s r) u v e f off = let m = match_step w s r v f in inr (local_and_match w p s r u v (local_step w p u e) m.0 m.1)
-diamond w h (Local p) (Wake q) u v e f off = inr (local_and_wake w h.known p q (Wake q) u v (local_step w p u e) (wake_step w q v f))
-diamond w h (Local p) (WakeAny q j) u v e f off = inr (local_and_wake w h.known p q (WakeAny q j) u v (local_step w p u e) (any_step w q j v f))
-diamond w h (Local p) Release u v e f off = absurd (no_local_release w p u (local_step w p u e) (release_step w v f).0)
-diamond w h (Match s r) (Local q) u v e f off = let m = match_step w s r u e in inr (flip v u (Local q) (Match s r) (local_and_match w q s r v u (local_step w q v f) m.0 m.1))
-diamond w h (Match s r) (Match t q) u v e f off =
+-- of one rank's waitany. Where buffers run out, a match may give back the one that a local step then takes.
+pub diamond : (w : World) → Sound w → KeepsBuffers w.board.mode → (a b : Step) (u v : World) → next w a ≡ Some u → next w b ≡ Some v → apart a b ≡ true → SameOrJoins u v a b
+diamond w h ample (Local p) (Local q) u v e f off = two_locals w p q u v (local_step w p u e) (local_step w q v f)
+diamond w h ample (Local p) (Match s r) u v e f off = let m = match_step w s r v f in inr (local_and_match w ample p s r u v (local_step w p u e) m.0 m.1)
+diamond w h ample (Local p) (Wake q) u v e f off = inr (local_and_wake w h.known p q (Wake q) u v (local_step w p u e) (wake_step w q v f))
+diamond w h ample (Local p) (WakeAny q j) u v e f off = inr (local_and_wake w h.known p q (WakeAny q j) u v (local_step w p u e) (any_step w q j v f))
+diamond w h ample (Local p) Release u v e f off = absurd (no_local_release w p u (local_step w p u e) (release_step w v f).0)
+diamond w h ample (Match s r) (Local q) u v e f off = let m = match_step w s r u e in inr (flip v u (Local q) (Match s r) (local_and_match w ample q s r v u (local_step w q v f) m.0 m.1))
+diamond w h ample (Match s r) (Match t q) u v e f off =
     let m = match_step w s r u e in
     let n = match_step w t q v f in
     let parts = both_of (not (id_eq s t)) _ off in
     inr (two_matches w s r t q u v m.0 m.1 n.0 n.1 (denied (id_eq s t) parts.0) (denied (id_eq r q) parts.1))
-diamond w h (Match s r) (Wake q) u v e f off = let m = match_step w s r u e in inr (flip v u (Wake q) (Match s r) (wake_and_match w (Wake q) q s r v u (wake_step w q v f) m.0 m.1))
-diamond w h (Match s r) (WakeAny q j) u v e f off = let m = match_step w s r u e in inr (flip v u (WakeAny q j) (Match s r) (wake_and_match w (WakeAny q j) q s r v u (any_step w q j v f) m.0 m.1))
-diamond w h (Match s r) Release u v e f off =
+diamond w h ample (Match s r) (Wake q) u v e f off = let m = match_step w s r u e in inr (flip v u (Wake q) (Match s r) (wake_and_match w (Wake q) q s r v u (wake_step w q v f) m.0 m.1))
+diamond w h ample (Match s r) (WakeAny q j) u v e f off = let m = match_step w s r u e in inr (flip v u (WakeAny q j) (Match s r) (wake_and_match w (WakeAny q j) q s r v u (any_step w q j v f) m.0 m.1))
+diamond w h ample (Match s r) Release u v e f off =
     let m = match_step w s r u e in
     let n = release_step w v f in
     inr (flip v u Release (Match s r) (release_and_match w s r v u n.0 n.1 m.0 m.1))
-diamond w h (Wake p) (Local q) u v e f off = inr (flip v u (Local q) (Wake p) (local_and_wake w h.known q p (Wake p) v u (local_step w q v f) (wake_step w p u e)))
-diamond w h (Wake p) (Match s r) u v e f off = let m = match_step w s r v f in inr (wake_and_match w (Wake p) p s r u v (wake_step w p u e) m.0 m.1)
-diamond w h (Wake p) (Wake q) u v e f off = wake_and_wake w h.known p q u v (wake_step w p u e) (wake_step w q v f)
-diamond w h (Wake p) (WakeAny q j) u v e f off = inr (wake_and_any w h p q j u v e f)
-diamond w h (Wake p) Release u v e f off = absurd (no_wake_release w (Wake p) p u (wake_step w p u e) (release_step w v f).0)
-diamond w h (WakeAny p i) (Local q) u v e f off = inr (flip v u (Local q) (WakeAny p i) (local_and_wake w h.known q p (WakeAny p i) v u (local_step w q v f) (any_step w p i u e)))
-diamond w h (WakeAny p i) (Match s r) u v e f off = let m = match_step w s r v f in inr (wake_and_match w (WakeAny p i) p s r u v (any_step w p i u e) m.0 m.1)
-diamond w h (WakeAny p i) (Wake q) u v e f off = inr (flip v u (Wake q) (WakeAny p i) (wake_and_any w h q p i v u f e))
-diamond w h (WakeAny p i) (WakeAny q j) u v e f off = inr (any_and_any w h.known p i q j u v (any_step w p i u e) (any_step w q j v f) off)
-diamond w h (WakeAny p i) Release u v e f off = absurd (no_wake_release w (WakeAny p i) p u (any_step w p i u e) (release_step w v f).0)
-diamond w h Release (Local q) u v e f off = absurd (no_local_release w q v (local_step w q v f) (release_step w u e).0)
-diamond w h Release (Match s r) u v e f off =
+diamond w h ample (Wake p) (Local q) u v e f off = inr (flip v u (Local q) (Wake p) (local_and_wake w h.known q p (Wake p) v u (local_step w q v f) (wake_step w p u e)))
+diamond w h ample (Wake p) (Match s r) u v e f off = let m = match_step w s r v f in inr (wake_and_match w (Wake p) p s r u v (wake_step w p u e) m.0 m.1)
+diamond w h ample (Wake p) (Wake q) u v e f off = wake_and_wake w h.known p q u v (wake_step w p u e) (wake_step w q v f)
+diamond w h ample (Wake p) (WakeAny q j) u v e f off = inr (wake_and_any w h p q j u v e f)
+diamond w h ample (Wake p) Release u v e f off = absurd (no_wake_release w (Wake p) p u (wake_step w p u e) (release_step w v f).0)
+diamond w h ample (WakeAny p i) (Local q) u v e f off = inr (flip v u (Local q) (WakeAny p i) (local_and_wake w h.known q p (WakeAny p i) v u (local_step w q v f) (any_step w p i u e)))
+diamond w h ample (WakeAny p i) (Match s r) u v e f off = let m = match_step w s r v f in inr (wake_and_match w (WakeAny p i) p s r u v (any_step w p i u e) m.0 m.1)
+diamond w h ample (WakeAny p i) (Wake q) u v e f off = inr (flip v u (Wake q) (WakeAny p i) (wake_and_any w h q p i v u f e))
+diamond w h ample (WakeAny p i) (WakeAny q j) u v e f off = inr (any_and_any w h.known p i q j u v (any_step w p i u e) (any_step w q j v f) off)
+diamond w h ample (WakeAny p i) Release u v e f off = absurd (no_wake_release w (WakeAny p i) p u (any_step w p i u e) (release_step w v f).0)
+diamond w h ample Release (Local q) u v e f off = absurd (no_local_release w q v (local_step w q v f) (release_step w u e).0)
+diamond w h ample Release (Match s r) u v e f off =
     let m = match_step w s r v f in
     let n = release_step w u e in
     inr (release_and_match w s r u v n.0 n.1 m.0 m.1)
-diamond w h Release (Wake q) u v e f off = absurd (no_wake_release w (Wake q) q v (wake_step w q v f) (release_step w u e).0)
-diamond w h Release (WakeAny q j) u v e f off = absurd (no_wake_release w (WakeAny q j) q v (any_step w q j v f) (release_step w u e).0)
-diamond w h Release Release u v e f off = inl refl
+diamond w h ample Release (Wake q) u v e f off = absurd (no_wake_release w (Wake q) q v (wake_step w q v f) (release_step w u e).0)
+diamond w h ample Release (WakeAny q j) u v e f off = absurd (no_wake_release w (WakeAny q j) q v (any_step w q j v f) (release_step w u e).0)
+diamond w h ample Release Release u v e f off = inl refl
 
 -- ---- a step that nobody has to choose
 
@@ -222,9 +225,9 @@ same_or_apart w (WakeAny p i) b u v named e f = absurd (let some : Some p ≡ No
 same_or_apart w a b u v named e f = inr refl
 
 -- Any other enabled step can be taken before it or behind it.
-pub steady : (w : World) → Sound w → (a b : Step) (u v : World) → IsNamed w.board a → next w a ≡ Some u → next w b ≡ Some v → SameOrJoins u v a b
-steady w h a b u v named e f =
+pub steady : (w : World) → Sound w → KeepsBuffers w.board.mode → (a b : Step) (u v : World) → IsNamed w.board a → next w a ≡ Some u → next w b ≡ Some v → SameOrJoins u v a b
+steady w h ample a b u v named e f =
     elim (same_or_apart w a b u v named e f) [
       | inl same ↦ inl same
-      | inr off ↦ diamond w h a b u v e f off
+      | inr off ↦ diamond w h ample a b u v e f off
     ]

@@ -10,11 +10,12 @@ use Rattle.mpd_model.specs.declared.call.Mode.{Mode}
 use Rattle.mpd_model.specs.declared.call.MatchSet.TheVariants.{Pair, Woke}
 use Rattle.mpd_model.specs.declared.call.MatchSet.TheVariants as set
 use Rattle.mpd_model.specs.Program.{Program}
-use Rattle.mpd_model.specs.World.{World, Board, RankWorld, start, start_rank, id_eq, kind_at, partner, eligible, last_call}
+use Rattle.mpd_model.specs.World.{World, Board, RankWorld, start, start_rank, id_eq, kind_at, partner, is_limited, eligible, last_call}
 use Rattle.mpd_model.specs.Next.{released, going_on, next, fold}
 use Rattle.mpd_model.specs.Why.{or_else}
 use Rattle.mpd_model.specs.Decisions.{any_rank, is_open_match, takes_any}
 use Rattle.mpd_meaning.specs.StepLaws.{HasCalls}
+use Rattle.mpd_complete.specs.CompleteLaws.{KeepsBuffers}
 use Rattle.mpd_complete.proofs.Sets.{partner_more, else_none, partner_by}
 use Rattle.mpd_complete.proofs.Worlds.{joined_from}
 use Rattle.mpd_complete.proofs.Moves.{Known, issued_calls, joining, moved, paired, kind_kept, partner_formed}
@@ -31,6 +32,7 @@ pub record Sound (w : World) : Type 0 where
 pub record Keeps (w v : World) : Type 0 where
   pub sound : Sound w → Sound v
   pub later : Later w.board v.board
+  pub mode : v.board.mode ≡ w.board.mode
 
 -- ---- a local step or a wake
 
@@ -48,6 +50,7 @@ moved_keeps w p r o m idle = record {
     idle = idle h;
   };
   later = moved_later w p r o m;
+  mode = refl;
 }
 
 local_keeps : (w : World) (p : ℕ) (v : World) → IsLocalStep w p v → Keeps w v
@@ -79,6 +82,7 @@ paired_keeps w s r e = record {
     idle = h.idle;
   };
   later = paired_later w s r;
+  mode = refl;
 }
 
 -- ---- a release
@@ -87,6 +91,7 @@ released_keeps : (w : World) → Keeps w (released w)
 released_keeps w = record {
   sound = λ h. record { known = λ c d e. h.known c d (sym (same c) ∙ e); has = let a = length-map w.ranks going_on in let b = h.has in omega (arith, a, b); idle = idle_released w };
   later = record { kinds = λ c known. refl; partners = λ c known. ap (λ (o : Option CallId). is_some o) (same c) ∙ known };
+  mode = refl;
 }
   where
     same : (c : CallId) → partner (released w).board.sets c ≡ partner w.board.sets c
@@ -100,6 +105,16 @@ keeps w (Match s r) v e = let m = match_step w s r v e in subst (Keeps w) m.1 (p
 keeps w (Wake p) v e = wake_keeps w (Wake p) p v (wake_step w p v e)
 keeps w (WakeAny p i) v e = wake_keeps w (WakeAny p i) p v (any_step w p i v e)
 keeps w Release v e = subst (Keeps w) (release_step w v e).1 (released_keeps w)
+
+-- the mode stays
+pub stays_ample : (w : World) (a : Step) (v : World) → next w a ≡ Some v → KeepsBuffers w.board.mode → KeepsBuffers v.board.mode
+stays_ample w a v e h = ap is_limited (keeps w a v e).mode ∙ h
+
+pub fold_ample : (steps : List Step) (u w : World) → fold u steps ≡ Some w → KeepsBuffers u.board.mode → KeepsBuffers w.board.mode
+fold_ample [] u w e h = let same : u ≡ w = cc in subst (λ (z : World). KeepsBuffers z.board.mode) same h
+fold_ample (a ∷ steps) u w e h =
+    let after = joined_from (λ v. fold v steps) (next u a) w e in
+    fold_ample steps after.0 w after.2 (stays_ample u a after.0 after.1 h)
 
 pub fold_sound : (steps : List Step) (u w : World) → fold u steps ≡ Some w → Sound u → Sound w
 fold_sound [] u w e h = let same : u ≡ w = cc in subst Sound same h

@@ -26,7 +26,7 @@ use Rattle.mpd_complete.proofs.Invariants.{Sound, keeps}
 use Rattle.mpd_complete.proofs.Views.{View, view}
 use Rattle.mpd_complete.proofs.Calm.{Calm, stays_calm, fold_calm, start_calm, calm_none}
 use Rattle.mpd_complete.proofs.Walks.{only}
-use Rattle.mpd_complete.proofs.Asleep.{fold_kept, pair_made, beside, free_unpaired, some_call}
+use Rattle.mpd_complete.proofs.Asleep.{fold_kept, pair_made, still_on, free_unpaired, some_call}
 use Rattle.mpd_complete.proofs.Runs.{branch_from}
 
 -- ---- any two of a list
@@ -91,11 +91,11 @@ never_behind : (n : ℕ) → Never n → (asleep : List Step) (u : World) → So
 never_behind n ih asleep u h s r v on o within a ne t k w e p =
     let after = begun u a t.steps w e in
     let here : In (awake_walk true n asleep after.0) t = subst (λ (q : Option World). In (runs_of (awake_walk true n asleep) q) t) after.1 k in
-    elim (beside u h s r a v after.0 on after.1) [
+    elim (still_on u s r a v after.0 on after.1) [
       | inl same ↦ ne same
       | inr more ↦ elim more [
-        | inl joins ↦
-            ih asleep after.0 ((keeps u a after.0 after.1).sound h) s r joins.behind_b joins.by_a (open_kept u after.0 v a s r after.1 on o) within t here w after.2 p
+        | inl still ↦
+            ih asleep after.0 ((keeps u a after.0 after.1).sound h) s r still.behind still.leads (open_kept u after.0 v a s r after.1 on o) within t here w after.2 p
         | inr taken ↦ taken.other (some_call (sym (fold_kept t.steps after.0 w after.2 r taken.by taken.at) ∙ p))
       ]
     ]

@@ -13,7 +13,7 @@ use Rattle.mpd_explore.specs.declared.report.Limits.{Limits}
 use Rattle.mpd_explore.specs.Walk.{Run, walk}
 use Rattle.mpd_explore.specs.Report.{shown, left_out}
 use Rattle.mpd_explore.proofs.ListedLemmas.{all_listed}
-use Rattle.mpd_complete.specs.CompleteLaws.{HasNoWaitany, was_cut, IsWhole, GoesOnToAnEnd}
+use Rattle.mpd_complete.specs.CompleteLaws.{HasNoWaitany, KeepsBuffers, was_cut, IsWhole, GoesOnToAnEnd}
 use Rattle.mpd_complete.specs.Reported.{all_leaves, reported}
 use Rattle.mpd_meaning.proofs.Members.{contains_in, in_contains, in_map}
 use Rattle.mpd_complete.proofs.Complete.{complete}
@@ -25,21 +25,21 @@ cut_shown (r ∷ runs) = ap (λ (b : Bool). was_cut r.ending || b) (cut_shown ru
 whole_walk : (l : Limits) (u : World) → left_out l (all_leaves l u) ≡ false → list_any (λ x. was_cut x.ending) (reported l u) ≡ false → IsWhole (walk l.fuel u)
 whole_walk l u few whole = sym (cut_shown (walk l.fuel u)) ∙ sym (ap (list_any (λ (x : Leaf). was_cut x.ending)) (all_listed l (all_leaves l u) few)) ∙ whole
 
-pub have_all_outcomes : (s : Program) → HasNoWaitany s → (mode : Mode) (before : List Step) (u : World) → fold (start s mode) before ≡ Some u
+pub have_all_outcomes : (s : Program) → HasNoWaitany s → (mode : Mode) → KeepsBuffers mode → (before : List Step) (u : World) → fold (start s mode) before ≡ Some u
     → (l : Limits) → left_out l (all_leaves l u) ≡ false → list_any (λ x. was_cut x.ending) (reported l u) ≡ false
     → (steps : List Step) (w : World) → fold u steps ≡ Some w → enabled w ≡ []
     → (x : Leaf) × Contains (reported l u) x × (x.ending ≡ Ended (ending w))
-have_all_outcomes s old mode before u e l few whole steps w f none =
-    let k = (complete s old mode before u e l.fuel (whole_walk l u few whole) steps w f).listed none in (
+have_all_outcomes s old mode ample before u e l few whole steps w f none =
+    let k = (complete s old mode ample before u e l.fuel (whole_walk l u few whole) steps w f).listed none in (
       shown k.run,
       subst (λ (ls : List Leaf). Contains ls (shown k.run)) (sym (all_listed l (all_leaves l u) few))
           (contains_in (all_leaves l u) (shown k.run) (in_map shown (walk l.fuel u) k.run (in_contains (walk l.fuel u) k.run k.listed))),
       k.ending,
     )
 
-pub bound_all_runs : (s : Program) → HasNoWaitany s → (mode : Mode) (before : List Step) (u : World) → fold (start s mode) before ≡ Some u
+pub bound_all_runs : (s : Program) → HasNoWaitany s → (mode : Mode) → KeepsBuffers mode → (before : List Step) (u : World) → fold (start s mode) before ≡ Some u
     → (l : Limits) → left_out l (all_leaves l u) ≡ false → list_any (λ x. was_cut x.ending) (reported l u) ≡ false
     → (steps : List Step) (w : World) → fold u steps ≡ Some w → (length steps ≤ l.fuel) × GoesOnToAnEnd w
-bound_all_runs s old mode before u e l few whole steps w f =
-    let k = complete s old mode before u e l.fuel (whole_walk l u few whole) steps w f in
+bound_all_runs s old mode ample before u e l few whole steps w f =
+    let k = complete s old mode ample before u e l.fuel (whole_walk l u few whole) steps w f in
     (k.short, k.goes_on)

@@ -13,10 +13,10 @@ use Rattle.mpd_model.specs.Outcomes.{ending}
 use Rattle.mpd_explore.specs.declared.report.Ending.TheVariants.{Ended, Cut}
 use Rattle.mpd_explore.specs.Walk.{Run, here, runs_of, stopped}
 use Rattle.mpd_complete.specs.Same.{Same}
-use Rattle.mpd_complete.specs.CompleteLaws.{Joins, was_cut, IsWhole, IsListed, GoesOnToAnEnd, IsRun, apart}
+use Rattle.mpd_complete.specs.CompleteLaws.{Joins, KeepsBuffers, was_cut, IsWhole, IsListed, GoesOnToAnEnd, IsRun, apart}
 use Rattle.mpd_complete.proofs.Worlds.{same_refl, same_sym, same_trans, ending_same, follows, follows_all, joined_from}
 use Rattle.mpd_meaning.proofs.Members.{In, contains_in}
-use Rattle.mpd_complete.proofs.Invariants.{Sound, IsNamed, keeps, fold_sound, start_sound, stays_named}
+use Rattle.mpd_complete.proofs.Invariants.{Sound, IsNamed, keeps, stays_ample, fold_ample, fold_sound, start_sound, stays_named}
 use Rattle.mpd_complete.proofs.Diamond.{diamond, steady}
 use Rattle.mpd_complete.proofs.Views.{world_of, in_enabled, from_enabled, Stuck, LeafView, View}
 
@@ -39,18 +39,18 @@ pub record Fronted (steps : List Step) (a : Step) (u v : World) : Type 0 where
   pub leads : fold u rest ≡ Some end
   pub either : WasTaken steps rest v end ⊎ IsLeft steps rest a v end
 
-pub front : (steps : List Step) (a : Step) (w u v : World) → Sound w → IsNamed w.board a → next w a ≡ Some u → fold w steps ≡ Some v → Fronted steps a u v
-front [] a w u v h named e f =
+pub front : (steps : List Step) (a : Step) (w u v : World) → Sound w → KeepsBuffers w.board.mode → IsNamed w.board a → next w a ≡ Some u → fold w steps ≡ Some v → Fronted steps a u v
+front [] a w u v h ample named e f =
     let is : w ≡ v = cc in
     record { rest = []; end = u; leads = refl; either = inr (record { as_long = refl; world = u; leads = subst (λ (z : World). next z a ≡ Some u) is e; same = same_refl u }) }
-front (b ∷ steps) a w u v h named e f =
+front (b ∷ steps) a w u v h ample named e f =
     let after = joined_from (λ x. fold x steps) (next w b) v f in
-    elim (steady w h a b u after.0 named e after.1) [
+    elim (steady w h ample a b u after.0 named e after.1) [
       | inl same ↦
           let is : u ≡ after.0 = some_same (sym e ∙ ap (next w) same ∙ after.1) in
           record { rest = steps; end = v; leads = ap (λ (z : World). fold z steps) is ∙ after.2; either = inl (refl, same_refl v) }
       | inr joins ↦
-          behind joins (front steps a after.0 joins.behind_b v ((keeps w b after.0 after.1).sound h) (stays_named w a b u after.0 e after.1 named) joins.by_a after.2)
+          behind joins (front steps a after.0 joins.behind_b v ((keeps w b after.0 after.1).sound h) (stays_ample w b after.0 after.1 ample) (stays_named w a b u after.0 e after.1 named) joins.by_a after.2)
     ]
   where
     some_same : {x y : World} → Some x ≡ Some y → x ≡ y
@@ -174,10 +174,10 @@ stuck_from w h e a on = subst (λ (xs : List Step). In xs a) e (in_enabled w h a
 pub listed_from : (runs : List Run) (u w : World) → Found runs u w → IsListed runs u w
 listed_from runs u w k = record { run = k.run; listed = contains_in runs k.run k.listed; ending = k.ending; end = k.end; leads = k.leads; same = k.same }
 
-pub commute : (s : Program) (mode : Mode) (steps : List Step) (w : World) → fold (start s mode) steps ≡ Some w
+pub commute : (s : Program) (mode : Mode) → KeepsBuffers mode → (steps : List Step) (w : World) → fold (start s mode) steps ≡ Some w
     → (a b : Step) (u v : World) → next w a ≡ Some u → next w b ≡ Some v → a ≢ b → apart a b ≡ true → Joins u v a b
-commute s mode steps w e a b u v f g ne off =
-    elim (diamond w (fold_sound steps (start s mode) w e (start_sound s mode)) a b u v f g off) [
+commute s mode ample steps w e a b u v f g ne off =
+    elim (diamond w (fold_sound steps (start s mode) w e (start_sound s mode)) (fold_ample steps (start s mode) w e ample) a b u v f g off) [
       | inl same ↦ absurd (ne same)
       | inr joins ↦ joins
     ]

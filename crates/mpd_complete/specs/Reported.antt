@@ -12,7 +12,7 @@ use Rattle.mpd_explore.specs.declared.report.Leaf.{Leaf}
 use Rattle.mpd_explore.specs.declared.report.Limits.{Limits}
 use Rattle.mpd_explore.specs.Walk.{walk}
 use Rattle.mpd_explore.specs.Report.{shown, listed, left_out}
-use Rattle.mpd_complete.specs.CompleteLaws.{HasNoWaitany, was_cut, GoesOnToAnEnd}
+use Rattle.mpd_complete.specs.CompleteLaws.{HasNoWaitany, KeepsBuffers, was_cut, GoesOnToAnEnd}
 
 -- the leaves of all runs with so much fuel
 abbrev pub all_leaves : Limits → World → List Leaf
@@ -25,7 +25,7 @@ reported l u = listed l (all_leaves l u)
 -- Every run that can't go on has an outcome that is a leaf's.
 abbrev pub ReportsHaveAllOutcomes : Type 0
 ReportsHaveAllOutcomes =
-    (s : Program) → HasNoWaitany s → (mode : Mode) (before : List Step) (u : World) → fold (start s mode) before ≡ Some u
+    (s : Program) → HasNoWaitany s → (mode : Mode) → KeepsBuffers mode → (before : List Step) (u : World) → fold (start s mode) before ≡ Some u
     → (l : Limits) → left_out l (all_leaves l u) ≡ false → list_any (λ x. was_cut x.ending) (reported l u) ≡ false
     → (steps : List Step) (w : World) → fold u steps ≡ Some w → enabled w ≡ []
     → (x : Leaf) × Contains (reported l u) x × (x.ending ≡ Ended (ending w))
@@ -33,7 +33,7 @@ ReportsHaveAllOutcomes =
 -- None has more steps than the fuel, and each can be continued until no step is enabled.
 abbrev pub ReportsBoundAllRuns : Type 0
 ReportsBoundAllRuns =
-    (s : Program) → HasNoWaitany s → (mode : Mode) (before : List Step) (u : World) → fold (start s mode) before ≡ Some u
+    (s : Program) → HasNoWaitany s → (mode : Mode) → KeepsBuffers mode → (before : List Step) (u : World) → fold (start s mode) before ≡ Some u
     → (l : Limits) → left_out l (all_leaves l u) ≡ false
     → list_any (λ x. was_cut x.ending) (reported l u) ≡ false
     → (steps : List Step) (w : World) → fold u steps ≡ Some w → (length steps ≤ l.fuel) × GoesOnToAnEnd w

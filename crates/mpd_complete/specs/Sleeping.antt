@@ -15,7 +15,7 @@ use Rattle.mpd_model.specs.Decisions.{decision}
 use Rattle.mpd_explore.specs.declared.report.Ending.TheVariants.{Ended}
 use Rattle.mpd_explore.specs.Walk.{Run, here, stepped, chosen, runs_of, stopped, walk}
 use Rattle.mpd_complete.specs.Same.{Same}
-use Rattle.mpd_complete.specs.CompleteLaws.{HasNoWaitany, IsWhole, IsComplete, IsRun}
+use Rattle.mpd_complete.specs.CompleteLaws.{HasNoWaitany, KeepsBuffers, IsWhole, IsComplete, IsRun}
 
 -- ---- steps that are asleep: matches of receives of any source
 
@@ -66,7 +66,7 @@ WalksWhereNothingSleeps = (fuel : ℕ) (u : World) → awake_walk false fuel [] 
 -- It is complete, as the walk with every order is.
 abbrev pub SleepingWalksAreComplete : Type 0
 SleepingWalksAreComplete =
-    (s : Program) → HasNoWaitany s → (mode : Mode) (before : List Step) (u : World) → fold (start s mode) before ≡ Some u
+    (s : Program) → HasNoWaitany s → (mode : Mode) → KeepsBuffers mode → (before : List Step) (u : World) → fold (start s mode) before ≡ Some u
     → (fuel : ℕ) → IsWhole (sleeping_walk fuel u)
     → (steps : List Step) (w : World) → fold u steps ≡ Some w → IsComplete (sleeping_walk fuel u) fuel u w steps
 
