@@ -1,5 +1,5 @@
 -- What is told of a check is what is answered.
-use Rattle.std.proofs.Common.{◌≡◌, ◌<◌, ◌≤◌, ℕ, List, length, Some, slice_get, get_or, Result, Ok, Err, string_bytes, refl, sym, ap, subst, ◌∙◌}
+use Rattle.std.proofs.Common.{◌≡◌, ◌<◌, ◌≤◌, ℕ, List, length, Option, Some, slice_get, get_or, Result, Ok, Err, string_bytes, refl, sym, ap, subst, ◌∙◌}
 use Rattle.std.specs.Option.{option_map}
 use Rattle.std.proofs.lemmas.List.{length-map}
 use Rattle.std.proofs.lemmas.Option.{slice_get-map, slice_get_read}
@@ -25,27 +25,40 @@ use Rattle.mpd_check.specs.declared.fault.CheckFault.{CheckFault}
 use Rattle.mpd_check.specs.declared.fault.CheckFault.TheVariants.{BadWorkers, TooManyPieces, NoSuchPiece, Engine}
 use Rattle.mpd_check.specs.declared.counts.Tally.{Tally}
 use Rattle.mpd_check.specs.Tally.{tally_of}
+use Rattle.mpd_check.specs.ModeText.{least_line}
 use Rattle.mpd_check.specs.Refused.{refused_by, split_refused}
-use Rattle.mpd_check.specs.Checked.{pieces_of, leaves_of, more_of, text_of, leaves_at, more_at, count_text, IsCrew, AreFew, Put, PutCount, Answered, PartTold, PartAnswered, Counted}
+use Rattle.mpd_check.specs.Checked.{pieces_of, leaves_of, more_of, text_of, leaves_at, more_at, count_text, IsCrew, AreFew, Put, PutCount, LeastPut, AnsweredBy, PartTold, PartAnswered, Counted}
 
 -- ---- a report of all pieces
 
-pub put_answered : (s : Program) (mode : Mode) (plan : CheckPlan) (workers : ℕ) (old new : SinkSeen) (text : List ℕ) (told : Tally) (r : Result Tally CheckFault) → text ≡ text_of s mode plan (leaves_of s mode plan) (more_of s mode plan)
-    → told ≡ tally_of (leaves_of s mode plan) (more_of s mode plan) → IsCrew workers → AreFew s mode plan → Put text told old new r → Answered s mode plan workers old new r
-put_answered s mode plan workers old new text told (Ok t) is tells crew few h = (rw is at h.0, h.1 ∙ tells, crew, few)
-put_answered s mode plan workers old new text told (Err (Engine WriteFailed)) is tells crew few h = (rw is at h, crew, few)
-put_answered s mode plan workers old new text told (Err (Engine ReadFailed)) is tells crew few h = h
-put_answered s mode plan workers old new text told (Err (Engine TooManyTurns)) is tells crew few h = h
-put_answered s mode plan workers old new text told (Err (Engine Memory)) is tells crew few h = absurd h
-put_answered s mode plan workers old new text told (Err BadWorkers) is tells crew few h = absurd h
-put_answered s mode plan workers old new text told (Err TooManyPieces) is tells crew few h = absurd h
-put_answered s mode plan workers old new text told (Err (NoSuchPiece n m)) is tells crew few h = h
+pub put_answered : (want : List ℕ) (s : Program) (mode : Mode) (plan : CheckPlan) (workers : ℕ) (old new : SinkSeen) (text : List ℕ) (told : Tally) (r : Result Tally CheckFault) → text ≡ want
+    → told ≡ tally_of (leaves_of s mode plan) (more_of s mode plan) → IsCrew workers → AreFew s mode plan → Put text told old new r → AnsweredBy want s mode plan workers old new r
+put_answered want s mode plan workers old new text told (Ok t) is tells crew few h = (rw is at h.0, h.1 ∙ tells, crew, few)
+put_answered want s mode plan workers old new text told (Err (Engine WriteFailed)) is tells crew few h = (rw is at h, crew, few)
+put_answered want s mode plan workers old new text told (Err (Engine ReadFailed)) is tells crew few h = h
+put_answered want s mode plan workers old new text told (Err (Engine TooManyTurns)) is tells crew few h = h
+put_answered want s mode plan workers old new text told (Err (Engine Memory)) is tells crew few h = absurd h
+put_answered want s mode plan workers old new text told (Err BadWorkers) is tells crew few h = absurd h
+put_answered want s mode plan workers old new text told (Err TooManyPieces) is tells crew few h = absurd h
+put_answered want s mode plan workers old new text told (Err (NoSuchPiece n m)) is tells crew few h = h
 
-pub refused_answered : (s : Program) (mode : Mode) (plan : CheckPlan) (workers : ℕ) (old new : SinkSeen) (f : PoolFault) → new ≡ old → IsCrew workers → (f ≡ pool.BadWorkers → ⊥) → (f ≡ pool.TooManyPieces → PIECES_MAX < length (pieces_of s mode plan))
-    → Answered s mode plan workers old new (Err (refused_by f))
-refused_answered s mode plan workers old new pool.BadWorkers same crew some many = absurd (some refl)
-refused_answered s mode plan workers old new pool.TooManyPieces same crew some many = (same, crew, many refl)
-refused_answered s mode plan workers old new pool.Memory same crew some many = (same, crew)
+pub refused_answered : (want : List ℕ) (s : Program) (mode : Mode) (plan : CheckPlan) (workers : ℕ) (old new : SinkSeen) (f : PoolFault) → new ≡ old → IsCrew workers → (f ≡ pool.BadWorkers → ⊥)
+    → (f ≡ pool.TooManyPieces → PIECES_MAX < length (pieces_of s mode plan)) → AnsweredBy want s mode plan workers old new (Err (refused_by f))
+refused_answered want s mode plan workers old new pool.BadWorkers same crew some many = absurd (some refl)
+refused_answered want s mode plan workers old new pool.TooManyPieces same crew some many = (same, crew, many refl)
+refused_answered want s mode plan workers old new pool.Memory same crew some many = (same, crew)
+
+-- ---- which mode is the first without anything bad
+
+pub least_put : (least : Option Mode) (old new : SinkSeen) (text : List ℕ) (r : Result Unit CheckFault) → text ≡ least_line least → PutCount text old new r → LeastPut least old new r
+least_put least old new text (Ok u) is h = rw is at h
+least_put least old new text (Err (Engine WriteFailed)) is h = rw is at h
+least_put least old new text (Err (Engine ReadFailed)) is h = h
+least_put least old new text (Err (Engine TooManyTurns)) is h = h
+least_put least old new text (Err (Engine Memory)) is h = absurd h
+least_put least old new text (Err BadWorkers) is h = h
+least_put least old new text (Err TooManyPieces) is h = h
+least_put least old new text (Err (NoSuchPiece n m)) is h = h
 
 -- ---- one piece
 
