@@ -25,6 +25,8 @@ MANY_RANKS = 8
 # A script of more leaves is not cut where as many runs are listed of a piece as there are without an option.
 FEW_LEAVES = 300
 HIGH_PIECES = (300, 1023)
+# Of so many scripts one is checked in several modes, one after another.
+MODES_EVERY = 7
 
 
 def script_of(case):
@@ -112,10 +114,13 @@ def one_piece(random, script, asked):
 
 
 def beside(seed, number, case, script):
-    """The same script once more: how many pieces it has, one of them, up to its first deadlock, or with other workers and witnesses."""
+    """The same script once more: in several modes, how many pieces it has, one of them, up to its first deadlock, or with other workers
+    and witnesses."""
     random = Random(f'beside/{seed}/{number}')
     asked, draw = case.asked, random.random()
-    if draw < 0.15:
+    if number % MODES_EVERY == MODES_EVERY - 1:
+        other, name = asked._replace(modes=number // MODES_EVERY % 4), 'modes'
+    elif draw < 0.15:
         other, name = asked._replace(pieces=True), 'pieces'
     elif draw < 0.5:
         other, name = asked._replace(piece=one_piece(random, script, asked), until=random.random() < 0.3), 'piece'

@@ -158,6 +158,12 @@ RUNS = (
     RunRow(EARLY_OR_LATE, 'slots:1', 'run 100: stop leaf steps 7 depth 7; run-back: stop start steps 7 depth 0; local 0: ok 1; local 0: ok 2; '
            'local 1: ok 3; local 1: ok 4; match 0.0 1.0: ok 5; run 100: stop leaf steps 3 depth 8; decide: leaf leftovers 0.1'))
 
+def told_of(*modes, least):
+    """What is told of modes that were tried one after another, each with its one leaf, by whether that is a deadlock."""
+    lines = [f'{mode} leaves 1 deadlocks {deadlocks} traps 0 cut 0 more no' for mode, deadlocks in modes]
+    return '; '.join([*lines, f'least {least}'])
+
+
 FIVE_LEFT = 'leaf 0 [] leftovers 0.0 0.1 0.2 0.3 0.4; leaves 1 more no'
 ENDED = 'leaf 0 [] done; leaves 1 more no'
 CHECKS = (
@@ -170,6 +176,15 @@ CHECKS = (
     CheckRow(THREE_SENDS, Asked('slots:1', witnesses=True), f'leaf 0 [] deadlock 0.1 1.0; witness 0: {STUCK}; leaves 1 more no', 1),
     CheckRow(HEAD_TO_HEAD, Asked('slots:0'), 'leaf 0 [] deadlock 0.0 1.0; leaves 1 more no', 1), CheckRow(HEAD_TO_HEAD, Asked('slots:1'), ENDED, 0),
     CheckRow(HEAD_TO_HEAD, Asked('slots:65536'), ENDED, 0),
+    # one mode after another: what ends in the first, with one slot, with two, with none of those that are tried, and in none at all
+    CheckRow(EMPTY, Asked(modes=0), told_of((RENDEZVOUS, 0), (BUFFERED, 0), least=RENDEZVOUS), 0),
+    CheckRow(HEAD_TO_HEAD, Asked(modes=0), told_of((RENDEZVOUS, 1), (BUFFERED, 0), least=BUFFERED), 1),
+    CheckRow(HEAD_TO_HEAD, Asked(modes=2), told_of((RENDEZVOUS, 1), ('slots:1', 0), ('slots:2', 0), (BUFFERED, 0), least='slots:1'), 1),
+    CheckRow(THREE_SENDS, Asked(BUFFERED, modes=3, pieces=True, piece=9, witnesses=True, complete=True),
+             told_of((RENDEZVOUS, 1), ('slots:1', 1), ('slots:2', 0), ('slots:3', 0), (BUFFERED, 0), least='slots:2'), 1),
+    CheckRow(FIVE, Asked(modes=1), told_of((RENDEZVOUS, 1), ('slots:1', 1), (BUFFERED, 0), least=BUFFERED), 1),
+    CheckRow(UNRECEIVED.replace('send', 'ssend'), Asked(modes=1), told_of((RENDEZVOUS, 1), ('slots:1', 1), (BUFFERED, 1), least='none'), 1),
+    CheckRow(HEAD_TO_HEAD, Asked('fast', modes=2), '', 2, 'mpdbg: bad mode'),
     # the words of a mode, by which of five sends is the first that isn't buffered
     CheckRow(FIVE, Asked('slots:0'), 'leaf 0 [] deadlock 0.0; leaves 1 more no', 1),
     *(CheckRow(FIVE, Asked(word), 'leaf 0 [] deadlock 0.3; leaves 1 more no', 1) for word in ('slots:3', 'slots:03', 'slots:00003')),
