@@ -67,11 +67,11 @@ class Checked(NamedTuple):
 
 
 def reports_of(text):
-    """The reports that stand one behind the other: each ends with the line that counts its leaves."""
+    """The reports that stand one behind the other: each ends with the line that counts its leaves, or says which mode is the first."""
     found, lines = [], []
     for line in text.splitlines(keepends=True):
         lines.append(line)
-        if line.startswith(b'leaves '):
+        if line.startswith((b'leaves ', b'least ')):
             found.append(b''.join(lines))
             lines = []
     assert not lines, lines

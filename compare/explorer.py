@@ -12,7 +12,7 @@ from itertools import islice
 from typing import NamedTuple, Optional
 
 import policy
-from debugger import (BAD_FILE, BAD_MODE, RENDEZVOUS, Debugger, Result, blocked_calls, call_id_of, enabled_steps, file_content, first_world,
+from debugger import (BAD_FILE, BAD_MODE, BUFFERED, RENDEZVOUS, Debugger, Result, blocked_calls, call_id_of, enabled_steps, file_content, first_world,
                       next_world, outcome, refusal, step_text)
 from language import Branch, Fault, WaitAny, While, read_script
 from modes import is_mode, slots_of
