@@ -1,7 +1,7 @@
 """Decisions, breakpoints and runs: what must hold of them on walks of the model, told in other words than compare/policy.py does.
 
-    python3 compare/follow.py             300 walks of scripts of all kinds and of worked rows, in both modes, and 150 of scripts with
-                                          waits for any
+    python3 compare/follow.py             300 walks of scripts of all kinds and of worked rows, in all modes, and 150 of scripts with
+                                          waits for any, and 75 of scripts with many sends, in modes of slots
     python3 compare/follow.py --broken    faults of the model (policy_faults.py, waitany_faults.py), each of which these walks must notice
 
 Behind each step of a walk it is checked that the decision is what the calls, the match sets and the ranks' places say, that every

@@ -174,7 +174,8 @@ CHECKS = (
     CheckRow(FIVE, Asked('slots:0'), 'leaf 0 [] deadlock 0.0; leaves 1 more no', 1),
     *(CheckRow(FIVE, Asked(word), 'leaf 0 [] deadlock 0.3; leaves 1 more no', 1) for word in ('slots:3', 'slots:03', 'slots:00003')),
     CheckRow(FIVE, Asked('slots:4'), 'leaf 0 [] deadlock 0.4; leaves 1 more no', 1),
-    *(CheckRow(FIVE, Asked(word), FIVE_LEFT, 0) for word in ('slots:5', 'slots:10', 'slots:00010', 'slots:30000', 'slots:65535', 'slots:65536', BUFFERED)),
+    *(CheckRow(FIVE, Asked(word), FIVE_LEFT, 0) for word in (
+        'slots:5', 'slots:10', 'slots:00010', 'slots:30000', 'slots:65535', 'slots:65536', BUFFERED)),
     # no report tells every way to end, whatever the number of slots, and whatever is listed but what is bad
     *(CheckRow(EMPTY, Asked(word, complete=True), ENDED, 4) for word in ('slots:0', 'slots:1', 'slots:65536')),
     *(CheckRow(EMPTY, Asked(word, complete=True), ENDED, 0) for word in (RENDEZVOUS, BUFFERED)), CheckRow(EMPTY, Asked('slots:1'), ENDED, 0),
@@ -240,14 +241,20 @@ DIALOGUES = (
         (ENABLED, '{"ok":true,"steps":["wake 0","match 0.0 1.0"],"version":1}')), 'slots:2'),
     Dialogue('a match that is taken back takes its slot again', SENT_TWICE, (
         (step('local 0'), deep(1, 1)), (step('local 0'), deep(2, 2)), (step('match 0.0 0.1'), deep(3, 3)), (step('local 0'), deep(4, 4)),
-        calls('isend to 0 tag 0 value 1 buffered with 0.1', 'irecv from 0 tag 0 with 0.0 value 1', 'isend to 0 tag 0 value 2 buffered free', version=4),
+        calls('isend to 0 tag 0 value 1 buffered with 0.1', 'irecv from 0 tag 0 with 0.0 value 1',
+              'isend to 0 tag 0 value 2 buffered free', version=4),
         ('{"cmd":"back","count":2}', deep(2, 5)), (step('local 0'), deep(3, 6)),
         calls('isend to 0 tag 0 value 1 buffered free', 'irecv from 0 tag 0 free', 'isend to 0 tag 0 value 2 free', version=6)), 'slots:1'),
     Dialogue('an issue that is taken back gives its slot up', OF_EACH, (
         (step('local 1'), deep(1, 1)), ('{"cmd":"goto","depth":0}', deep(0, 2)), (step('local 1'), deep(1, 3)), (step('local 1'), deep(2, 4)),
         calls('isend to 0 tag 0 value 1 buffered free', 'isend to 1 tag 0 value 2 free', version=4, rank=1)), 'slots:1'),
+    Dialogue('a synchronous send takes no slot', MIXED, (
+        (RUN, ran(4, 4, 'leaf', 1)),
+        calls('issend to 0 tag 0 value 1 free', 'isend to 0 tag 0 value 2 buffered free', 'issend to 0 tag 0 value 3 free',
+              'isend to 0 tag 0 value 4 free', version=1)), 'slots:1'),
     *(Dialogue(f'no mark in the mode {mode}', OF_EACH, (
-        (step('local 1'), deep(1, 1)), calls('isend to 0 tag 0 value 1 free', version=1, rank=1)), mode) for mode in (RENDEZVOUS, BUFFERED, 'slots:0')))
+        (step('local 1'), deep(1, 1)), calls('isend to 0 tag 0 value 1 free', version=1, rank=1)), mode)
+      for mode in (RENDEZVOUS, BUFFERED, 'slots:0')))
 
 # Words, and how many slots there are in the mode that each names; None where it names none of slots.
 NAMED = (
@@ -257,9 +264,9 @@ NAMED = (
 NONE = (
     'slots:', 'slots:65537', 'slots:65600', 'slots:70000', 'slots:99999', 'slots:000001', 'slots:000000', 'slots:065536', 'slots:100000', 'slots:-1',
     'slots:-0', 'slots:+1', 'slots:1 ', ' slots:1', 'slots: 1', 'slots :1', 'slots:\t1', 'slots:1\n', 'slots:1\r', 'Slots:1', 'SLOTS:1', 'slots:1x',
-    'slots:x', 'slots:x1', 'slots', 'slots1', 'slots 1', 'slot:1', 'slots=1', 'slots;1', 'slots::1', 'slots:1:', 'slots:1:1', 'slots:1.0', 'slots:1e1',
-    'slots:0x1', 'slots:1_0', 'slots:\u0661', 'slots:\uff11', 'slots:\u00b2', 'slots:any', 'rendezvous:1', 'buffered:1', 'buffered:', 'slots:buffered', ':1', '1',
-    'Rendezvous', 'BUFFERED', 'buffer', '')
+    'slots:x', 'slots:x1', 'slots', 'slots1', 'slots 1', 'slot:1', 'slots=1', 'slots;1', 'slots::1', 'slots:1:', 'slots:1:1', 'slots:1.0',
+    'slots:1e1', 'slots:0x1', 'slots:1_0', 'slots:\u0661', 'slots:\uff11', 'slots:\u00b2', 'slots:any', 'rendezvous:1', 'buffered:1', 'buffered:',
+    'slots:buffered', ':1', '1', 'Rendezvous', 'BUFFERED', 'buffer', '')
 
 
 def named_problem(word, slots):
