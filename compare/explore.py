@@ -163,8 +163,9 @@ def checks_beside(chosen, number):
 
 
 def checks_of_slots(chosen, number):
-    """The checks of a script in a mode of slots, or in one that such a mode must not be taken for."""
-    return checks_of(chosen, number) if is_turn_of_slots(number) or number % SLOTS_EVERY == 0 else []
+    """The checks of a script in a mode of slots, or in one that such a mode must not be taken for, and in front of the first the worked rows."""
+    rows = worked_slots.CHECKS if number == 0 else ()
+    return [case_of(row) for row in rows] + (checks_of(chosen, number) if is_turn_of_slots(number) or number % SLOTS_EVERY == 0 else [])
 
 
 def row_checks_of(chosen, number):

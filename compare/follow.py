@@ -22,6 +22,7 @@ from unittest import mock
 import debugger
 import policy
 import waitany_faults
+import worked_slots
 import worked_waitany
 from debugger import Debugger, Step, eligible, enabled_steps, find_call, free_calls, next_world, rank_state
 from language import read_script
@@ -302,7 +303,7 @@ def walks_of_rows(seed, rows):
 
 def every_walk(seed, count):
     """Those of rows, so many walks, and then those of version 2."""
-    return chain(walks_of_rows(seed, RUNS), all_walks(seed, count, KINDS), walks_of_rows(seed, worked_waitany.RUNS))
+    return chain(walks_of_rows(seed, RUNS), all_walks(seed, count, KINDS), walks_of_rows(seed, worked_waitany.RUNS + worked_slots.RUNS))
 
 
 def check(seed, count, to_end=True):
