@@ -7,7 +7,7 @@
     python3 compare/explore.py PROGRAM --every-split    each script by 0 to 8 choices and by 1 to 16 workers, too
     python3 compare/explore.py PROGRAM --broken         and faults of the model, each of which these scripts must notice
 
-Each script is a file, checked in one mode or the other with limits drawn at random (explore_cases.py), by some number of choices and of
+Each script is a file, checked in some mode with limits drawn at random (explore_cases.py), by some number of choices and of
 workers, and once more so: one piece, how many there are, up to the first deadlock, or by other workers (piece_cases.py). `verify` is
 asked of its witnesses, and of changed ones (witness_cases.py); with `--every-split` it must accept each witness that is written. Standard
 output, standard error and status must be the model's. A program that crashes, takes too long, too much memory or writes too much differs.
@@ -61,8 +61,8 @@ MUST_MEET_OF_PIECES = (
 MUST_MEET_OF_2 = ('a wake by a handle in a witness', 'an accepted wake by a handle', 'a refused wake by a handle')
 # What must be met of modes of slots.
 MUST_MEET_OF_SLOTS = (
-    *(f'slots:{slots}' for slots in range(SLOTS_DRAWN)), 'slots:65536', 'bad slots', 'slots and a whole report', 'slots and a deadlock', 'slots and --complete',
-    'accepted, slots', 'refused, slots')
+    *(f'slots:{slots}' for slots in range(SLOTS_DRAWN)), 'slots:65536', 'bad slots', 'slots and a whole report', 'slots and a deadlock',
+    'slots and --complete', 'accepted, slots', 'refused, slots')
 # What must be met where each script is checked by every number of choices.
 PAIRS = tuple(f'split {split} by {workers}' for split in range(MOST_SPLIT + 1) for workers in range(1, MOST_WORKERS + 1))
 MUST_MEET_OF_VERIFY = (
@@ -163,8 +163,9 @@ def checks_beside(chosen, number):
 
 
 def checks_of_slots(chosen, number):
-    """The checks of a script in a mode of slots, or in one that such a mode must not be taken for."""
-    return checks_of(chosen, number) if is_turn_of_slots(number) or number % SLOTS_EVERY == 0 else []
+    """The checks of a script in a mode of slots, or in one that such a mode must not be taken for, and in front of the first the worked rows."""
+    rows = worked_slots.CHECKS if number == 0 else ()
+    return [case_of(row) for row in rows] + (checks_of(chosen, number) if is_turn_of_slots(number) or number % SLOTS_EVERY == 0 else [])
 
 
 def row_checks_of(chosen, number):

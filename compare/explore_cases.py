@@ -259,9 +259,9 @@ def kinds_by(seed, number):
 
 # Modes of slots that are written in an odd way, and words that are nearly one, in turn: one of so many cases in a mode of slots.
 ODD_EVERY = 3
-ODD_SLOTS = ('slots:65536', 'slots:', 'slots:00001', 'slots:65537', 'slots:00000', 'slots:000001', 'slots:00002', 'slots:-1', 'slots:01', 'slots:+1',
-             'slots:99999', 'slots:1 ', 'slots:10000', 'slots: 1', 'slots', 'slots1', 'Slots:1', 'SLOTS:0', 'slots:1x', 'slots:x', 'slots::1', 'slots:1:',
-             ' slots:1', 'slots:1.0', 'slots:\u0661', 'slots:1\n', 'slot:1', 'slots=1', 'slots 1', 'slots:0x1')
+ODD_SLOTS = ('slots:65536', 'slots:', 'slots:00001', 'slots:65537', 'slots:00000', 'slots:000001', 'slots:00002', 'slots:-1', 'slots:01',
+             'slots:+1', 'slots:99999', 'slots:1 ', 'slots:10000', 'slots: 1', 'slots', 'slots1', 'Slots:1', 'SLOTS:0', 'slots:1x', 'slots:x',
+             'slots::1', 'slots:1:', ' slots:1', 'slots:1.0', 'slots:\u0661', 'slots:1\n', 'slot:1', 'slots=1', 'slots 1', 'slots:0x1')
 RUNS = (1, 2, 3, 5, 8, 13, 20, 30, 40, 40)
 FUELS = (1, 3, 8, 20, 30, 40, 60, 80, 100, 150, 200, 200, 500, 500, 2000, 2000)
 # How far a script is followed before a limit is drawn next to where a leaf stands.

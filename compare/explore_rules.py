@@ -1,6 +1,6 @@
 """The explorer: what must hold of its reports and of witnesses, told in other words than compare/explorer.py does.
 
-    python3 compare/explore_rules.py             300 random scripts (explore_cases.py), in both modes, and 75 with waits for any
+    python3 compare/explore_rules.py             300 random scripts (explore_cases.py), in all modes, and 75 with waits for any
     python3 compare/explore_rules.py --broken    faults of the model (explore_faults.py, piece_faults.py, waitany_faults.py), each of which
                                                  these must notice
 

@@ -1,6 +1,6 @@
 """Compares decisions, breakpoints, runs forward and back, and what else a trail can do, as the crates answer them, with the model.
 
-    python3 compare/policy_probe.py                 300 random scripts, in both modes, and 150 of version 2
+    python3 compare/policy_probe.py                 300 random scripts, in all modes, and 150 of version 2
     python3 compare/policy_probe.py --two-modes     crates that have no modes `slots:K`
     python3 compare/policy_probe.py --version 1     crates that know version 1 alone, and two modes
     python3 compare/policy_probe.py --planted       each wrong body of compare/probe/broken-policy/ too, in a copy of its own

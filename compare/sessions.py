@@ -5,7 +5,7 @@
     python3 compare/sessions.py PROGRAM --version 1 a program that knows version 1 alone, and two modes
     python3 compare/sessions.py --broken            faults of the model, each noticed; with no program the sound model stands for it
 
-Each session is a script in a file, in one mode or the other, and lines of requests on standard input (session_cases.py), among them
+Each session is a script in a file, in some mode, and lines of requests on standard input (session_cases.py), among them
 lines that are spoiled in every way (session_lines.py). A third is given at once; a third in pieces, each of which is one read of the
 program, whatever lines it ends in; and of a third each line is written only when the reply to the one before it has come, so that a
 program that reads on before it replies never ends. Replies, standard error and status must be the model's. The status is 0 where

@@ -47,6 +47,11 @@ STANDARD = re.compile(rb'^(call \d+\.\d+ i?send to \d+ tag \d+ value -?\d+)|("i?
 MUST_MEET = ('check', 'trace', 'run', 'a deadlock', 'a trap', 'leftovers', 'all done', 'a run that is cut', 'a witness', 'a whole report', 'status 4',
              'refused', 'a step back', 'a step forward', 'a buffered send that is free', 'a buffered send that is matched', 'a synchronous send',
              'a send that is not buffered', 'calls of a session', 'a wait for any')
+# What was met, by a text in an answer.
+TOLD_BY = (
+    ('a deadlock', b'] deadlock '), ('a trap', b'] trap '), ('leftovers', b'] leftovers '), ('all done', b'] done'),
+    ('a run that is cut', b'] cut\n'), ('a witness', b'witness '), ('a wait for any', b' waitany '), ('a synchronous send', b'ssend to '),
+    ('a buffered send that is free', b' buffered free'), ('a buffered send that is matched', b' buffered with '))
 
 
 class Pair(NamedTuple):
@@ -144,10 +149,7 @@ def met_in(question, pair, result):
     if result.status == 2:
         yield 'refused'
         return
-    yield from [name for name, text in (('a deadlock', b'] deadlock '), ('a trap', b'] trap '), ('leftovers', b'] leftovers '), ('all done', b'] done'),
-                                        ('a run that is cut', b'] cut\n'), ('a witness', b'witness '), ('a wait for any', b' waitany '),
-                                        ('a synchronous send', b'ssend to '), ('a buffered send that is free', b' buffered free'),
-                                        ('a buffered send that is matched', b' buffered with ')) if text in result.output]
+    yield from [name for name, text in TOLD_BY if text in result.output]
     if question.command == 'check':
         yield from ['a whole report'] * result.output.endswith(b'more no\n') + ['status 4'] * (result.status == NOT_WHOLE)
     elif question.command == 'trace':

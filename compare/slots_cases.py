@@ -1,4 +1,8 @@
-"""Scripts that show how many sends of a rank are buffered at once: many sends, some of which are matched before the next are issued."""
+"""Scripts that show how many sends of a rank are buffered at once: many sends, some of which are matched before the next are issued.
+
+`compare/run.py` traces them (slots_case), with matches that are taken back, and other steps in their place; explore_cases.py, session_cases.py
+and slots.py have the same scripts explored and talked about.
+"""
 
 from canonical import now_and_then_canonical
 from modes import RENDEZVOUS

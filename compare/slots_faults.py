@@ -225,7 +225,7 @@ def of_16_bits(slots_in):
 
 def pair_faults(session):
     """Those by which `slots:0` isn't like `rendezvous`, or `slots:65536` isn't like `buffered`, in sessions too, as a module has them."""
-    trail, taking = debugger.Debugger, (
+    taking = (
         ('one slot more', 'has_slot', by_slots(lambda slots, used: used <= slots)),
         ('each standard send buffered in a mode of slots', 'has_slot', by_slots(lambda slots, used: True)),
         ('no send buffered in a mode of slots', 'has_slot', by_slots(lambda slots, used: False)),
@@ -234,9 +234,8 @@ def pair_faults(session):
         ('synchronous sends buffered in slots', 'is_buffered', in_slots(lambda call: True)),
         ('no send buffered in slots that blocks', 'is_buffered', in_slots(lambda call: is_standard(call) and not call.blocks)),
         ('no send buffered in slots that has a handle', 'is_buffered', in_slots(lambda call: is_standard(call) and call.blocks)))
-    undoing_marks = [Breakage(f'the undo of a match that drops the mark, by {word}', 'slots', trail, word, undoing(getattr(trail, word), match_without_mark))
-                     for word in ('back', 'goto')]
-    return ([Breakage(name, 'slots', debugger, attribute, replacement) for name, attribute, replacement in taking] + undoing_marks + text_faults()
+    marks = [fault for fault in undo_faults() if 'drops the mark' in fault.name]
+    return ([Breakage(name, 'slots', debugger, attribute, replacement) for name, attribute, replacement in taking] + marks + text_faults()
             + line_faults(session) + telling_faults())
 
 

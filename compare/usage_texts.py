@@ -7,6 +7,7 @@ usage, and where help is. The usage has `[OPTIONS]` where nothing that was given
 required alone: options first, those that are required before others, and then the words of files.
 """
 
+import re
 from typing import NamedTuple
 
 from modes import KNOWN
@@ -150,9 +151,7 @@ NO_MODE = "'{}' is none; the modes are rendezvous, buffered, and slots:K with K 
 
 def known(text):
     """A text as the program has it: without modes of slots, where it has none of them."""
-    if KNOWN:
-        return text
-    return text.replace(', buffered, or slots:K with K from 0 to 65536', ' or buffered').replace(', buffered, and slots:K with K from 0 to 65536', ' and buffered')
+    return text if KNOWN else re.sub(', buffered, (and|or) slots:K with K from 0 to 65536', r' \1 buffered', text)
 
 # Words, parted by `|`, and what they print. What stands in front of `--help` isn't looked at.
 ANSWERS = (

@@ -30,6 +30,7 @@ TO_ITSELF = 'mpd 1; ranks 1; var x;\nsend 7 to 0 tag 5;\nrecv x from 0 tag 5;\ns
 RECEIVED = ('mpd 1; ranks 1; var x; req r[6];\nisend r[0] 1 to 0 tag 1;\nisend r[1] 2 to 0 tag 2;\nisend r[2] 3 to 0 tag 3;\n'
             'irecv r[3] x from 0 tag TAG;\nisend r[4] 4 to 0 tag 4;\nisend r[5] 5 to 0 tag 5;')
 WAITED_FOR = 'mpd 2; ranks 1; var i; req r[2];\nisend r[0] 1 to 0 tag 0;\nisend r[1] 2 to 0 tag 0;\nwaitany r to i;'
+SYNCHRONOUS_FIRST = 'mpd 1; ranks 1; req r;\nissend r 1 to 0 tag 0;\nsend 2 to 0 tag 0;'
 # A rank that sends to itself and never receives.
 FIVE = 'mpd 1; ranks 1; var i;\nwhile i < 5 { send i to 0 tag 0; i = i + 1; }'
 # What ends otherwise where the first message is received before the second is sent.
@@ -164,6 +165,18 @@ def told_of(*modes, least):
     return '; '.join([*lines, f'least {least}'])
 
 
+# Words, and how many slots there are in the mode that each names; None where it names none of slots.
+NAMED = (
+    ('slots:0', 0), ('slots:1', 1), ('slots:9', 9), ('slots:00003', 3), ('slots:00000', 0), ('slots:010', 10), ('slots:12345', 12345),
+    ('slots:65535', 65535), ('slots:65536', 65536), (RENDEZVOUS, None), (BUFFERED, None))
+# Words that name no mode.
+NONE = (
+    'slots:', 'slots:65537', 'slots:65600', 'slots:70000', 'slots:99999', 'slots:000001', 'slots:000000', 'slots:065536', 'slots:100000', 'slots:-1',
+    'slots:-0', 'slots:+1', 'slots:1 ', ' slots:1', 'slots: 1', 'slots :1', 'slots:\t1', 'slots:1\n', 'slots:1\r', 'Slots:1', 'SLOTS:1', 'slots:1x',
+    'slots:x', 'slots:x1', 'slots', 'slots1', 'slots 1', 'slot:1', 'slots=1', 'slots;1', 'slots::1', 'slots:1:', 'slots:1:1', 'slots:1.0',
+    'slots:1e1', 'slots:0x1', 'slots:1_0', 'slots:\u0661', 'slots:\uff11', 'slots:\u00b2', 'slots:any', 'rendezvous:1', 'buffered:1', 'buffered:',
+    'slots:buffered', ':1', '1', 'Rendezvous', 'BUFFERED', 'buffer', '')
+
 FIVE_LEFT = 'leaf 0 [] leftovers 0.0 0.1 0.2 0.3 0.4; leaves 1 more no'
 ENDED = 'leaf 0 [] done; leaves 1 more no'
 CHECKS = (
@@ -185,11 +198,15 @@ CHECKS = (
     CheckRow(FIVE, Asked(modes=1), told_of((RENDEZVOUS, 1), ('slots:1', 1), (BUFFERED, 0), least=BUFFERED), 1),
     CheckRow(UNRECEIVED.replace('send', 'ssend'), Asked(modes=1), told_of((RENDEZVOUS, 1), ('slots:1', 1), (BUFFERED, 1), least='none'), 1),
     CheckRow(HEAD_TO_HEAD, Asked('fast', modes=2), '', 2, 'mpdbg: bad mode'),
+    # a synchronous send in front takes no slot
+    CheckRow(SYNCHRONOUS_FIRST, Asked('slots:1'), 'leaf 0 [] leftovers 0.0 0.1; leaves 1 more no', 0),
+    CheckRow(SYNCHRONOUS_FIRST, Asked('slots:0'), 'leaf 0 [] deadlock 0.1; leaves 1 more no', 1),
     # the words of a mode, by which of five sends is the first that isn't buffered
     CheckRow(FIVE, Asked('slots:0'), 'leaf 0 [] deadlock 0.0; leaves 1 more no', 1),
     *(CheckRow(FIVE, Asked(word), 'leaf 0 [] deadlock 0.3; leaves 1 more no', 1) for word in ('slots:3', 'slots:03', 'slots:00003')),
     CheckRow(FIVE, Asked('slots:4'), 'leaf 0 [] deadlock 0.4; leaves 1 more no', 1),
-    *(CheckRow(FIVE, Asked(word), FIVE_LEFT, 0) for word in ('slots:5', 'slots:10', 'slots:00010', 'slots:30000', 'slots:65535', 'slots:65536', BUFFERED)),
+    *(CheckRow(FIVE, Asked(word), FIVE_LEFT, 0) for word in (
+        'slots:5', 'slots:10', 'slots:00010', 'slots:30000', 'slots:65535', 'slots:65536', BUFFERED)),
     # no report tells every way to end, whatever the number of slots, and whatever is listed but what is bad
     *(CheckRow(EMPTY, Asked(word, complete=True), ENDED, 4) for word in ('slots:0', 'slots:1', 'slots:65536')),
     *(CheckRow(EMPTY, Asked(word, complete=True), ENDED, 0) for word in (RENDEZVOUS, BUFFERED)), CheckRow(EMPTY, Asked('slots:1'), ENDED, 0),
@@ -209,8 +226,8 @@ CHECKS = (
     *(CheckRow(NOT_LISTED, Asked(word, complete=True), 'leaf 0 [0] trap 2 assert; leaf 1 [1] done; leaves 2 more no', 1)
       for word in ('slots:2', BUFFERED)),
     # words that name no mode, before the file and the script
-    *(CheckRow(script, Asked(word), '', 2, 'mpdbg: bad mode') for script, word in (
-        (EMPTY, 'slots:'), (EMPTY, 'slots:65537'), (EMPTY, 'slots:000001'), (EMPTY, 'slots'), (None, 'slots:65537'), ('mpd 3;', 'slots:'))),
+    *(CheckRow(EMPTY, Asked(word), '', 2, 'mpdbg: bad mode') for word in NONE),
+    *(CheckRow(script, Asked('slots:65537'), '', 2, 'mpdbg: bad mode') for script in (None, 'mpd 3;')),
     CheckRow(None, Asked('slots:1'), '', 3, 'mpdbg: device'))
 
 PLACES = ()
@@ -255,27 +272,20 @@ DIALOGUES = (
         (ENABLED, '{"ok":true,"steps":["wake 0","match 0.0 1.0"],"version":1}')), 'slots:2'),
     Dialogue('a match that is taken back takes its slot again', SENT_TWICE, (
         (step('local 0'), deep(1, 1)), (step('local 0'), deep(2, 2)), (step('match 0.0 0.1'), deep(3, 3)), (step('local 0'), deep(4, 4)),
-        calls('isend to 0 tag 0 value 1 buffered with 0.1', 'irecv from 0 tag 0 with 0.0 value 1', 'isend to 0 tag 0 value 2 buffered free', version=4),
+        calls('isend to 0 tag 0 value 1 buffered with 0.1', 'irecv from 0 tag 0 with 0.0 value 1',
+              'isend to 0 tag 0 value 2 buffered free', version=4),
         ('{"cmd":"back","count":2}', deep(2, 5)), (step('local 0'), deep(3, 6)),
         calls('isend to 0 tag 0 value 1 buffered free', 'irecv from 0 tag 0 free', 'isend to 0 tag 0 value 2 free', version=6)), 'slots:1'),
     Dialogue('an issue that is taken back gives its slot up', OF_EACH, (
         (step('local 1'), deep(1, 1)), ('{"cmd":"goto","depth":0}', deep(0, 2)), (step('local 1'), deep(1, 3)), (step('local 1'), deep(2, 4)),
         calls('isend to 0 tag 0 value 1 buffered free', 'isend to 1 tag 0 value 2 free', version=4, rank=1)), 'slots:1'),
+    Dialogue('a synchronous send takes no slot', MIXED, (
+        (RUN, ran(4, 4, 'leaf', 1)),
+        calls('issend to 0 tag 0 value 1 free', 'isend to 0 tag 0 value 2 buffered free', 'issend to 0 tag 0 value 3 free',
+              'isend to 0 tag 0 value 4 free', version=1)), 'slots:1'),
     *(Dialogue(f'no mark in the mode {mode}', OF_EACH, (
-        (step('local 1'), deep(1, 1)), calls('isend to 0 tag 0 value 1 free', version=1, rank=1)), mode) for mode in (RENDEZVOUS, BUFFERED, 'slots:0')))
-
-# Words, and how many slots there are in the mode that each names; None where it names none of slots.
-NAMED = (
-    ('slots:0', 0), ('slots:1', 1), ('slots:9', 9), ('slots:00003', 3), ('slots:00000', 0), ('slots:010', 10), ('slots:12345', 12345),
-    ('slots:65535', 65535), ('slots:65536', 65536), (RENDEZVOUS, None), (BUFFERED, None))
-# Words that name no mode.
-NONE = (
-    'slots:', 'slots:65537', 'slots:65600', 'slots:70000', 'slots:99999', 'slots:000001', 'slots:000000', 'slots:065536', 'slots:100000', 'slots:-1',
-    'slots:-0', 'slots:+1', 'slots:1 ', ' slots:1', 'slots: 1', 'slots :1', 'slots:\t1', 'slots:1\n', 'slots:1\r', 'Slots:1', 'SLOTS:1', 'slots:1x',
-    'slots:x', 'slots:x1', 'slots', 'slots1', 'slots 1', 'slot:1', 'slots=1', 'slots;1', 'slots::1', 'slots:1:', 'slots:1:1', 'slots:1.0', 'slots:1e1',
-    'slots:0x1', 'slots:1_0', 'slots:\u0661', 'slots:\uff11', 'slots:\u00b2', 'slots:any', 'rendezvous:1', 'buffered:1', 'buffered:', 'slots:buffered', ':1', '1',
-    'Rendezvous', 'BUFFERED', 'buffer', '')
-
+        (step('local 1'), deep(1, 1)), calls('isend to 0 tag 0 value 1 free', version=1, rank=1)), mode)
+      for mode in (RENDEZVOUS, BUFFERED, 'slots:0')))
 
 def named_problem(word, slots):
     """What a word is taken for otherwise than a mode with so many slots; None where nothing is."""
