@@ -1,5 +1,5 @@
 -- What is told of a check is what is answered.
-use Rattle.std.proofs.Common.{◌≡◌, ◌<◌, ◌≤◌, ℕ, List, length, Option, Some, slice_get, get_or, Result, Ok, Err, string_bytes, refl, sym, ap, subst, ◌∙◌}
+use Rattle.std.proofs.Common.{◌≡◌, ◌<◌, ◌≤◌, ℕ, List, length, Some, slice_get, get_or, Result, Ok, Err, string_bytes, refl, sym, ap, subst, ◌∙◌}
 use Rattle.std.specs.Option.{option_map}
 use Rattle.std.proofs.lemmas.List.{length-map}
 use Rattle.std.proofs.lemmas.Option.{slice_get-map, slice_get_read}
@@ -25,9 +25,8 @@ use Rattle.mpd_check.specs.declared.fault.CheckFault.{CheckFault}
 use Rattle.mpd_check.specs.declared.fault.CheckFault.TheVariants.{BadWorkers, TooManyPieces, NoSuchPiece, Engine}
 use Rattle.mpd_check.specs.declared.counts.Tally.{Tally}
 use Rattle.mpd_check.specs.Tally.{tally_of}
-use Rattle.mpd_check.specs.ModeText.{least_line}
 use Rattle.mpd_check.specs.Refused.{refused_by, split_refused}
-use Rattle.mpd_check.specs.Checked.{pieces_of, leaves_of, more_of, text_of, leaves_at, more_at, count_text, IsCrew, AreFew, Put, PutCount, LeastPut, AnsweredBy, PartTold, PartAnswered, Counted}
+use Rattle.mpd_check.specs.Checked.{pieces_of, leaves_of, more_of, text_of, leaves_at, more_at, count_text, IsCrew, AreFew, Put, PutCount, AnsweredBy, PartTold, PartAnswered, Counted}
 
 -- ---- a report of all pieces
 
@@ -47,18 +46,6 @@ pub refused_answered : (want : List ℕ) (s : Program) (mode : Mode) (plan : Che
 refused_answered want s mode plan workers old new pool.BadWorkers same crew some many = absurd (some refl)
 refused_answered want s mode plan workers old new pool.TooManyPieces same crew some many = (same, crew, many refl)
 refused_answered want s mode plan workers old new pool.Memory same crew some many = (same, crew)
-
--- ---- which mode is the first without anything bad
-
-pub least_put : (least : Option Mode) (old new : SinkSeen) (text : List ℕ) (r : Result Unit CheckFault) → text ≡ least_line least → PutCount text old new r → LeastPut least old new r
-least_put least old new text (Ok u) is h = rw is at h
-least_put least old new text (Err (Engine WriteFailed)) is h = rw is at h
-least_put least old new text (Err (Engine ReadFailed)) is h = h
-least_put least old new text (Err (Engine TooManyTurns)) is h = h
-least_put least old new text (Err (Engine Memory)) is h = absurd h
-least_put least old new text (Err BadWorkers) is h = h
-least_put least old new text (Err TooManyPieces) is h = h
-least_put least old new text (Err (NoSuchPiece n m)) is h = h
 
 -- ---- one piece
 

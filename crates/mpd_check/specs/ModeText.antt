@@ -18,16 +18,13 @@ mode_word (Slots count) = slots_word ++ decimal count
 abbrev pub yes_or_no : Bool → List ℕ
 yes_or_no b = if b then codes "yes" else codes "no"
 
+-- how many leaves a report lists, and how many of them are deadlocks, traps and cut
+abbrev pub counts_text : Tally → List ℕ
+counts_text t = codes " leaves " ++ decimal t.runs ++ codes " deadlocks " ++ decimal t.deadlocks ++ codes " traps " ++ decimal t.traps ++ codes " cut " ++ decimal t.cut
+
 -- what the report of a mode tells: `slots:2 leaves 12 deadlocks 3 traps 0 cut 0 more no`
 abbrev pub mode_line : Mode → Tally → List ℕ
-mode_line mode t =
-    line (
-    mode_word mode
-    ++ codes " leaves " ++ decimal t.runs
-    ++ codes " deadlocks " ++ decimal t.deadlocks
-    ++ codes " traps " ++ decimal t.traps
-    ++ codes " cut " ++ decimal t.cut
-    ++ codes " more " ++ yes_or_no t.more)
+mode_line mode t = line (mode_word mode ++ counts_text t ++ codes " more " ++ yes_or_no t.more)
 
 -- the first mode that was tried in which no deadlock and no trap is listed
 abbrev pub least_line : Option Mode → List ℕ

@@ -2,7 +2,7 @@
 
 ghost use Rattle.std.specs.Prelude.{◌≡◌, ◌++◌, ◌<◌, ◌≤◌, ◌⊎◌, IfOk, OnOk, IsErrOf, Some, None, true, false, if◌then◌else◌, length, string_bytes};
 ghost use Rattle.mpd_check.specs.Checked.{pieces_of, leaves_of, more_of, AreFew, ModeAnswered, PutCount, LeastPut};
-ghost use Rattle.mpd_check.specs.ModeText.{mode_word, yes_or_no, mode_line, least_line, tried_more};
+ghost use Rattle.mpd_check.specs.ModeText.{mode_word, yes_or_no, counts_text, mode_line, least_line, tried_more};
 ghost use Rattle.mpd_check.specs.Tally.{tally_of};
 
 use crate::counts::{FOUND, Tally, tally_of};
@@ -84,21 +84,27 @@ fn yes_or_no(is_so: bool) -> &'static str
     if is_so { "yes" } else { "no" }
 }
 
+/// Adds how many leaves a report lists, and how many of them are deadlocks, traps and cut.
+fn push_counts(out: &mut String, tally: Tally) -> Result<(), AllocError>
+    ensures { OnOk result (string_bytes out.new ≡ string_bytes out.old ++ counts_text tally) }
+{
+    write!(
+        out,
+        " leaves {} deadlocks {} traps {} cut {}",
+        tally.runs, tally.deadlocks, tally.traps, tally.cut
+    )
+}
+
 /// What the report of a mode tells, as a line.
 fn line_of(alloc: Global, mode: Mode, tally: Tally) -> Result<String, AllocError>
     ensures { IfOk result (λ t. string_bytes t ≡ mode_line mode tally) }
 {
     let mut out = String::new(alloc);
     push_mode(&mut out, mode)?;
-    let more = yes_or_no(tally.more);
-    write!(
-        out,
-        " leaves {} deadlocks {} traps {} cut {} more {more}\n",
-        tally.runs,
-        tally.deadlocks,
-        tally.traps,
-        tally.cut
-    )?;
+    push_counts(&mut out, tally)?;
+    out.push_str(" more ")?;
+    out.push_str(yes_or_no(tally.more))?;
+    out.push_str("\n")?;
     Ok(out)
 }
 
