@@ -91,11 +91,18 @@ def met_by_check(asked, wanted):
     yield from ['number of two digits' for numbers in choices if any(len(number) > 1 for number in numbers)]
     yield from ['five choices' for numbers in choices if len(numbers) > 4]
     yield from ['leaves of two outcomes'] * (len(set(outcomes)) > 1) + [f'status {wanted.status}']
-    yield from ['status 1 for a later leaf'] * (wanted.status == 1 and outcomes[0] not in ('deadlock', 'trap'))
+    yield from ['status 1 for a later leaf'] * (wanted.status == 1 and outcomes[:1] not in ([], ['deadlock'], ['trap']))
+    yield from met_by_modes(lines)
     yield from [kind for kind in ('script refused', 'bad mode', 'device') if kind.encode() in wanted.errors]
     yield from ['options left out'] * (not wanted.status and None in asked[:3])
     yield from met_by_slots(asked, wanted)
     yield from met_by_pieces(asked, wanted, outcomes)
+
+
+def met_by_modes(lines):
+    """The same of modes that are tried in turn: which of them is the first without a deadlock or trap."""
+    least = lines[-1].removeprefix('least ') if lines and lines[-1].startswith('least ') else None
+    yield from [] if least is None else [f'least {"a number of slots" if least.startswith("slots:") else least}']
 
 
 def met_by_slots(asked, wanted):

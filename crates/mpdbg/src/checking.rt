@@ -163,15 +163,7 @@ fn check_modes<R: Clock + Eprint + Threads + Wait + Sync + AllocGlobal, W: Sink>
         let mode = Mode::Slots(before + 1);
         tried = check_one_mode(rt, code, mode, options, tried, sink, is_terminal)?;
     }
-    tried = check_one_mode(
-        rt,
-        code,
-        Mode::Buffered,
-        options,
-        tried,
-        sink,
-        is_terminal,
-    )?;
+    tried = check_one_mode(rt, code, Mode::Buffered, options, tried, sink, is_terminal)?;
     put_least(rt.alloc(), tried.least, sink)?;
     if is_terminal {
         let _unwritten = say_least(rt, tried);

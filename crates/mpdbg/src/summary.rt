@@ -69,7 +69,11 @@ fn say_order<R: Eprint>(
         eprint!(rt; "{comma}what a waitany takes may depend on the order of steps")?;
     }
     if is_limited {
-        let comma = if tally.is_whole() && !has_waitany { "" } else { ", " };
+        let comma = if tally.is_whole() && !has_waitany {
+            ""
+        } else {
+            ", "
+        };
         eprint!(rt; "{comma}which sends are buffered may depend on the order of steps")?;
     }
     Ok(())

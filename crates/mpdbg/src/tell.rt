@@ -193,7 +193,9 @@ fn tell_listener<R: Eprint>(rt: &R, error: Error, is_terminal: bool) -> u8 {
 fn tell_mode<R: Eprint>(rt: &R, word: &str, is_terminal: bool) -> u8 {
     let _unwritten = eprintln!(rt; "mpdbg: bad mode");
     if is_terminal {
-        let _unwritten = eprintln!(rt; "  '{word}' is none; the modes are rendezvous, buffered, and slots:K with K from 0 to {SLOTS_MAX}");
+        let _unwritten = eprintln!(rt;
+            "  '{word}' is none; the modes are rendezvous, buffered, and slots:K with K from 0 to {SLOTS_MAX}"
+        );
     }
     WRONG
 }
