@@ -152,7 +152,7 @@ def main():
         sys.exit(f'there is no such edit: {" ".join(lacking)}')
     digests = {it.name: record.digest(repository, it.name) for it in crates}
     drawn = record.take_due(repository, crates, digests) if given.due else set()
-    crates = record.longest_first(record.read(repository.root), [it for it in crates if it.edits or it.bad])
+    crates = record.longest_first(record.read(repository), [it for it in crates if it.edits or it.bad])
     if given.log:
         os.makedirs(given.log, exist_ok=True)
     if not given.built:

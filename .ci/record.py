@@ -1,9 +1,10 @@
 """What is remembered of earlier runs of the gate (docs/GATE.md, "What is remembered").
 
-`.ci/refused.txt` has a line for each crate: its name, how many edits it has, how many processor seconds they took, and a digest of
-all that tells whether they are refused. `.ci/edits.py --record` writes it, where all edits of all crates were refused. An edit of a
-crate whose digest is the same is remembered; a twentieth of these are tried nevertheless, so that a wrong record is found. The
-seconds tell nothing of the edits, but which crate is begun first.
+`.ci/refused.txt` has a line for each crate and kit: the crate's name, how many edits it has, how many processor seconds they took, a
+digest of all that tells whether they are refused, the kit among it, and the kit's name. `.ci/edits.py --record` writes the lines of the
+kit at hand, where all edits of all crates were refused, and leaves those of other kits: machines have one or another, and what one of
+them remembers is not lost by a run on the other. An edit of a crate whose digest is the same is remembered; a twentieth of these are
+tried nevertheless, so that a wrong record is found. The seconds tell nothing of the edits, but which crate is begun first.
 """
 import hashlib
 import os
@@ -27,7 +28,10 @@ SHARE = 20
 # A name of what a proof file of a crate has.
 OF_PROOFS = re.compile(rb'\bRattle\.(\w+)\.proofs\b')
 
-HEAD = '# Written by .ci/edits.py --record, where all edits of all crates were refused, and never by hand: crate, edits, seconds, digest.\n'
+HEAD = '# Written by .ci/edits.py --record, where all edits of all crates were refused, and never by hand: crate, edits, seconds, digest, kit.\n'
+
+# A line of the record.
+LINE = re.compile(r'(\w+) (\d+) (\d+) ([0-9a-f]{64}) (\S+)')
 
 # What an edit is reckoned to take where nothing is remembered of its crate.
 SECONDS = 8
@@ -96,13 +100,23 @@ def digest(repository, crate):
     return digest_of(pieces(repository, crate))
 
 
-def read(root):
-    """The record: what is remembered of each crate."""
+def name_of_kit(repository):
+    """The first word of what a kit says of itself."""
+    return kit_of(repository).decode().split()[0]
+
+
+def lines_of(root):
+    """The lines of the record, in order, each as a match."""
     if not os.path.exists(f'{root}/{FILE}'):
-        return {}
-    lines = bytes_of(f'{root}/{FILE}').decode().splitlines()
-    found = [re.fullmatch(r'(\w+) (\d+) (\d+) ([0-9a-f]{64})', it) for it in lines]
-    return {it[1]: Kept(int(it[2]), it[4], int(it[3])) for it in found if it}
+        return []
+    found = [LINE.fullmatch(it) for it in bytes_of(f'{root}/{FILE}').decode().splitlines()]
+    return [it for it in found if it]
+
+
+def read(repository):
+    """What is remembered of each crate under the kit at hand."""
+    kit = name_of_kit(repository)
+    return {it[1]: Kept(int(it[2]), it[4], int(it[3])) for it in lines_of(repository.root) if it[5] == kit}
 
 
 def longest_first(kept, crates):
@@ -118,9 +132,11 @@ def write(repository, crates, digests):
     changed = [it.name for it in crates if digest(repository, it.name) != digests[it.name]]
     if changed:
         return f'{FILE} is not written: files that tell of {" ".join(changed)} were changed since the run began'
-    lines = [f'{it.name} {len(it.edits)} {it.seconds:.0f} {digests[it.name]}\n' for it in sorted(crates, key=lambda it: it.name)]
+    kit = name_of_kit(repository)
+    lines = [f'{it.name} {len(it.edits)} {it.seconds:.0f} {digests[it.name]} {kit}' for it in crates]
+    others = [it[0] for it in lines_of(repository.root) if it[5] != kit]
     with open(f'{repository.root}/{FILE}', 'w', encoding='utf-8') as it:
-        it.write(HEAD + ''.join(lines))
+        it.write(HEAD + ''.join(f'{line}\n' for line in sorted(lines + others)))
     return f'{FILE} is written: {len(lines)} crates, {sum(len(it.edits) for it in crates)} edits'
 
 
@@ -148,7 +164,7 @@ def seed_of(root, digests):
 def take_due(repository, crates, digests):
     """Leaves each of these crates the edits that are due: all where the record doesn't answer for it, and else those that are drawn.
     Says which, and answers the names of those that are drawn."""
-    kept = read(repository.root)
+    kept = read(repository)
     remembered = [it for it in crates if it.name in kept and kept[it.name][:2] == (len(it.edits), digests[it.name]) and not it.bad]
     drawn = draw([edit.name for it in remembered for edit in it.edits], seed_of(repository.root, digests))
     changed = [it for it in crates if it not in remembered]

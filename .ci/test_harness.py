@@ -607,14 +607,24 @@ class Remembered(WithFolder):
         self.assertEqual([len(crates[0].edits), len(crates[2].edits)], [29, 5])
 
     def test_the_record(self):
-        self.assertEqual(record.read(self.folder), {})
+        self.assertEqual(record.read(self.repository()), {})
         digests = self.digests()
         record.write(self.repository(), self.crates(), digests)
-        self.assertEqual(record.read(self.folder), {it: (count, digests[it], took) for it, count, took in (('high', 30, 30), ('low', 25, 200), ('side', 5, 100))})
+        self.assertEqual(record.read(self.repository()), {it: (count, digests[it], took) for it, count, took in (('high', 30, 30), ('low', 25, 200), ('side', 5, 100))})
+
+    def test_each_kit_has_lines_of_its_own(self):
+        of_first, first = self.digests(), record.write(self.repository(), self.crates(), self.digests())
+        self.write('KIT-ID', 'other 1')
+        self.assertEqual(record.read(self.repository()), {})
+        self.assertEqual(record.write(self.repository(), self.crates(), self.digests()), first)
+        self.assertNotEqual(record.read(self.repository())['low'].digest, of_first['low'])
+        self.write('KIT-ID', 'kit 1')
+        self.assertEqual({it: kept.digest for it, kept in record.read(self.repository()).items()}, of_first)
+        self.assertEqual(len(record.lines_of(self.folder)), 6)
 
     def test_which_crate_is_begun_first(self):
         def order(crates):
-            return [it.name for it in record.longest_first(record.read(self.folder), crates)]
+            return [it.name for it in record.longest_first(record.read(self.repository()), crates)]
 
         self.assertEqual(order(self.crates()), ['high', 'low', 'side'])
         record.write(self.repository(), self.crates(), self.digests())
@@ -628,7 +638,7 @@ class Remembered(WithFolder):
         digests = self.digests()
         self.write('crates/side/src/lib.rt', 'changed')
         self.assertIn('is not written', record.write(self.repository(), self.crates(), digests))
-        self.assertEqual(record.read(self.folder), {})
+        self.assertEqual(record.read(self.repository()), {})
 
     def test_the_seed_of_a_tree_without_a_repository(self):
         self.assertEqual(record.seed_of(self.folder, {'b': '2', 'a': '1'}), '1 2')

@@ -163,13 +163,17 @@ def released_but_one(back):
     return back_of
 
 
+def is_buffered_send(call):
+    return call.kind == 'send' and call.buffered
+
+
 def going_on(after_local):
     """What has a rank go on behind a buffered send that blocks it, without a wake."""
     def after(world, number):
         behind = after_local(world, number)
         if behind is None or behind.ranks[number].mode != 'blocked':
             return behind
-        if not debugger.is_buffered(behind.mode, behind.ranks[number].calls[-1]):
+        if not is_buffered_send(behind.ranks[number].calls[-1]):
             return behind
         return behind.with_rank(number, behind.ranks[number]._replace(mode='running'))
     return after
@@ -204,7 +208,7 @@ def with_word(meeting):
 
 def buffered_by(test):
     """What says of a send whether it is buffered, by the mode and the send."""
-    return lambda mode, call: call.kind == 'send' and test(mode, call)
+    return lambda mode, call, used: call.kind == 'send' and test(mode, call)
 
 
 def dropping(method):

@@ -14,7 +14,7 @@ import policy
 import session
 import witness
 from canonical import canonical
-from debugger import (RENDEZVOUS, CallId, Debugger, enabled_steps, find_call, first_world, next_world, outcome, partner, pending, rank_state,
+from debugger import (RENDEZVOUS, CallId, Debugger, enabled_steps, find_call, first_world, next_world, outcome, partner, pending, rank_state, slots_used,
                       record_line, show, step_of, step_text)
 from explorer import Report, Run, pieces, report_text
 from language import FAULT_NAMES, Branch, Fault, While, read_script
@@ -309,7 +309,7 @@ def is_complete(world, call_id):
         return not call.active
     if call.kind == 'barrier':
         return False
-    return partner(world, call_id) is not None or (world.mode != RENDEZVOUS and call.kind == 'send' and not call.synchronous)
+    return partner(world, call_id) is not None or call.buffered
 
 
 def board_text(world):
@@ -356,7 +356,8 @@ def matches_told(row):
 
 def board_looked_at(row):
     world, call_id = world_of(row), row.call_id()
-    told = [len(world.ranks), row.mode == RENDEZVOUS, len(world.records), len(world.ranks[call_id.rank].calls), is_complete(world, call_id)]
+    told = [len(world.ranks), row.mode == RENDEZVOUS, len(world.records), len(world.ranks[call_id.rank].calls), slots_used(world, call_id.rank)]
+    told += [is_complete(world, call_id)]
     call = find_call(world, call_id)
     told += [bool(list(pending(world, 0, 1))), call.blocks, call.kind == 'barrier']
     return unchanged(board_text(world), line(' '.join(str(it).lower() for it in told)))
@@ -580,12 +581,13 @@ def asked_of(row, **more):
     return explorer.USUAL._replace(mode=row.mode, split=split_by, **limits, **more)
 
 
-def tally_text(script, found):
+def tally_text(row, found):
+    script = row.read()
     bad = [leaf.outcome.split()[0] for leaf in found.leaves]
     counts = [f'{name} {bad.count(word)}' for name, word in (('deadlocks', 'deadlock'), ('traps', 'trap'), ('cut', 'cut'))]
     more = 'true' if found.more else 'false'
-    tells_all = 'true' if explorer.is_whole(found) and not explorer.has_waitany(script.body) else 'false'
-    return line(f'runs {len(bad)} {" ".join(counts)} more {more} all {tells_all} status {explorer.status_of(script, found, True)}')
+    tells_all = 'true' if explorer.is_whole(found) and explorer.tells_all(script, row.mode) else 'false'
+    return line(f'runs {len(bad)} {" ".join(counts)} more {more} all {tells_all} status {explorer.status_of(script, row.mode, found, True)}')
 
 
 def checked(row, **more):
@@ -596,7 +598,7 @@ def checked(row, **more):
         refused = told.errors.decode().removeprefix('mpdbg: ').strip()
         return no_state(line(refused.split()[-1] if refused.startswith('refused') else refused), '')
     parts = cut(Debugger(row.read(), row.mode), asked.split, asked.fuel)
-    return no_state(tally_text(row.read(), explorer.reported(parts, asked)), told.output.decode())
+    return no_state(tally_text(row, explorer.reported(parts, asked)), told.output.decode())
 
 
 def check_written(row):
@@ -605,6 +607,16 @@ def check_written(row):
 
 def piece_written(row):
     return checked(row, piece=row.numbers()[0])
+
+
+def mode_written(row):
+    """A line of what a check in the mode of a row tells."""
+    told = checked(row, workers=row.numbers()[0])
+    parts = cut(Debugger(row.read(), row.mode), asked_of(row).split, asked_of(row).fuel)
+    if not told.end:
+        return told
+    text, _ = explorer.counted(explorer.reported(parts, asked_of(row)))
+    return told._replace(end=line(f'{row.mode} {text}'))
 
 
 def pieces_counted(row):
@@ -755,7 +767,7 @@ MODELS = {
     'push_leaves, push_total': report_printed, 'mpd_pool::print_report': report_by_workers,
     'Report looks': report_looks, 'verify': verified, 'verify_from': verified, 'split': split, 'explore_at': part_explored,
     'explore_by_pieces': by_pieces, 'mpd_pool::check': by_workers, 'mpd_check::check': check_written, 'check_piece': piece_written,
-    'count_pieces': pieces_counted, 'judge': judged, 'read_witness': witness_read, 'read_witness_file': witness_read,
+    'count_pieces': pieces_counted, 'check_mode': mode_written, 'put_least': by_hand, 'judge': judged, 'read_witness': witness_read, 'read_witness_file': witness_read,
     'Session::start': session_started, 'Session::answer': session_answered, 'mpd_wire::parse': request_parsed,
     'mpd_wire::print': reply_printed, 'Reply::copy': reply_copied, 'same_request, same_reply': compared, 'Book::take': taken,
     'Book::new, len, audit': book_looks, 'Shared::new': shared_opened, 'Shared::call': shared_called, 'Shared::settle, code, SeatDesk': by_hand,

@@ -5,7 +5,7 @@ What the model says of them is in call_models.py. What it doesn't say stands her
 
 from call_models import Row, Wanted, core_room, no_state
 from call_sizes import sizes
-from debugger import BUFFERED
+from debugger import BUFFERED, RENDEZVOUS
 
 # A message; two sends for one receive of any source, after which another wants that of rank 2; a status in its value's cell; requests.
 MESSAGE = 'mpd 1;\nranks 2;\nvar x;\nif rank == 0 { send 7 to 1 tag 0; } else { recv x from 0 tag 0; print x; }'
@@ -78,7 +78,7 @@ def expressions():
         yield Row('Expr::unary, element, binary', head + 'print a[0];', argument=how, by_hand=no_state(f'{value}\n'))
     # memory 6, full 4, at-start 8, no-redo 7, not-before 10, not-stuck 9, too-many-pieces 15, bad-workers 11, read-failed 11, expected 8;
     # 23, 22, 24, 25, 26, 33, 31, 35, 45 and 4
-    yield Row('numbers and names', by_hand=no_state('89 268 true true true false 2\n'), spares=True)
+    yield Row('numbers and names', by_hand=no_state('89 268 true true true true false 2\n'), spares=True)
 
 
 def lists():
@@ -111,6 +111,9 @@ def boards():
     yield Row('Board::why', MESSAGE, MATCHED, '0.0', spares=True)
     for script, steps, call in ((HELD, ISSUED, '0.0'), (MESSAGE, SENT, '0.0'), (MESSAGE, MATCHED, '0.0'), (MEETING, ('local 0',), '0.0')):
         yield Row('Board looks', script, steps, call, spares=True)
+    # a send that holds the one slot of its rank, and one whose slot is free again
+    for mode, steps in (('slots:1', SENT), ('slots:1', MATCHED), (BUFFERED, SENT), ('slots:0', SENT)):
+        yield Row('Board looks', MESSAGE, steps, '0.0', mode=mode, spares=True)
     # eligible, no named receive, the first candidate, both ways; then paired, no longer free, and with a buffer
     yield Row('Board::pair', RACE, CHOICE, '1.0 0.0', by_hand='true false 0 true true true false true\n', spares=True)
     yield Row('Board::pair', MESSAGE, SENT, '0.0 1.0', by_hand='true true 0 true true true false true\n', spares=True)
@@ -293,6 +296,13 @@ def checks():
     for piece in (0, 1, 2):
         yield Row('check_piece', RACE, (), f'{piece} 1 10 100 witnesses')
     yield Row('count_pieces', RACE, (), '0 1 10 100')
+    for mode in (RENDEZVOUS, BUFFERED, 'slots:1'):
+        yield Row('check_mode', BOTH_SEND, (), '2 1 10 100', mode=mode)
+    yield Row('check_mode', RACE, (), '2 1 1 100 until')
+    yield Row('check_mode', RACE, (), '0 1 10 100', spares=True)
+    # deadlocks that rendezvous, slots:1 and slots:2 list
+    for deadlocks, status, least in (('1 0 2', 1, 'slots:1'), ('0', 0, 'rendezvous'), ('1 1', 1, 'none'), ('0 3', 1, 'rendezvous')):
+        yield Row('put_least', argument=deadlocks, by_hand=no_state(f'status {status}\n', f'least {least}\n'))
 
 
 # Requests that lead to places of a session: at the choice of a race, with breakpoints, and with steps undone.

@@ -9,8 +9,10 @@ from debugger import BUFFERED, RENDEZVOUS, parted
 from exchange_cases import exchanges_case
 from language import HIGHEST, LEVELS, LOWEST
 from limit_cases import limits_case
+from modes import KNOWN, by_turns
 from request_cases import requests_case
 from scripts import Writer, mutated_bytes, mutated_tokens, rendered
+from slots_cases import slots_case
 from state_cases import arrays_case, deep_case, messages_case, names_case, states_case, traps_case
 from trail_cases import trails_case
 from waitany_cases import waitany_case, waitany_texts_case
@@ -221,7 +223,9 @@ KINDS_OF_1 = {
     'operators': Kind(None, 18)}
 # Of scripts of version 2, and of texts with faults round what only that has.
 KINDS_OF_2 = {'waitany': Kind(waitany_case, 75, SOMETIMES, 2), 'waitany-texts': Kind(waitany_texts_case, 25, SOMETIMES, 2)}
-KINDS = KINDS_OF_1 | KINDS_OF_2
+# Of scripts with many sends, mostly in a mode of slots.
+KINDS_OF_SLOTS = {'slots': Kind(slots_case, 100, ('slots:1', 'slots:2', BUFFERED, 'slots:1', 'slots:3', 'slots:0', RENDEZVOUS, 'slots:2'))}
+KINDS = KINDS_OF_1 | KINDS_OF_2 | KINDS_OF_SLOTS
 # One input of these stands beside so many of the others.
 BESIDE = 4
 # Kinds whose inputs are counted out, and not drawn.
@@ -231,7 +235,8 @@ NUMBERED = {'arithmetic': arithmetic_case, 'operators': operators_case, 'stateme
 def mode_of(kind, number):
     """The mode in which an input is traced with its script in a file; None where the script comes before its words."""
     ways = KINDS[kind].ways
-    return ways[number % len(ways)]
+    way = ways[number % len(ways)]
+    return way and by_turns(way, number // len(ways))
 
 
 def random_case(kind, seed, number, in_packets):
@@ -249,8 +254,9 @@ def random_case(kind, seed, number, in_packets):
 
 
 def counts_up_to(version, count):
-    """How many inputs of each kind make so many of version 1, and a share of them beside for version 2."""
-    return shares(count, KINDS_OF_1) | (shares(count // BESIDE, KINDS_OF_2) if version > 1 else {})
+    """How many inputs of each kind make so many of version 1, and a share of them beside for version 2, and for modes of slots."""
+    beside = (KINDS_OF_2 if version > 1 else {}, KINDS_OF_SLOTS if KNOWN else {})
+    return shares(count, KINDS_OF_1) | {kind: part for kinds in beside for kind, part in shares(count // BESIDE, kinds).items()}
 
 
 def shares(count, kinds):

@@ -9,7 +9,8 @@ one. It is checked that two enabled steps that are no two matches of one call le
 nowhere cut has exactly the ends that there are, with their outcomes, and no more fuel than it needs; that it is nowhere cut exactly
 where no run has more steps than there is fuel; and all that of the walk that sleeps as well, which has no end twice. The status is 0
 where all of that holds, and was seen. All that is of scripts without waits for any: where a rank waits for any of some requests, a walk
-that is nowhere cut may lack an end (worked_waitany.py has such a script).
+that is nowhere cut may lack an end (worked_waitany.py has such a script). And it is of the modes `rendezvous` and `buffered` alone: in a mode of
+slots which send is buffered hangs on what was matched before, so that an end may be missing too (worked_slots.py).
 """
 
 import argparse
@@ -24,10 +25,11 @@ import debugger
 import explorer
 import policy
 from complete_faults import breakages
-from debugger import MODES, first_world, next_world, outcome, step_text
+from debugger import first_world, next_world, outcome, step_text
 from explore_cases import KINDS, Kind, script_of
 from explorer import CUT, Leaf
 from language import Fault, read_script
+from modes import MODES
 from wildcard_cases import in_branches
 
 # A script is small where it has so many worlds at most, and so many leaves; its runs are followed so far.

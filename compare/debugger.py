@@ -2,14 +2,13 @@
 
 import argparse
 import sys
-from typing import NamedTuple, Optional
+from typing import NamedTuple
 
 import language
 from language import (Assert, Assign, Barrier, Branch, FAULT_NAMES, Fault, Print, Receive, Send, Trap, View, Wait, WaitAny, While, cell_of,
                       evaluate, read_script)
-
-# In the mode `rendezvous` no send is buffered, in the mode `buffered` each standard one is.
-MODES = RENDEZVOUS, BUFFERED = 'rendezvous', 'buffered'
+from modes import BUFFERED, RENDEZVOUS, is_mode, slots_of
+from worlds import BarrierCall, Call, CallId, Pair, Rank, Released, Step, WaitAnyCall, WaitCall, Woken, World
 
 HIGHEST_TAG = 32767
 MOST_STEPS = 1000000
@@ -26,108 +25,6 @@ REFUSED_AT_START = 'refused at-start'
 REFUSED_NO_REDO = 'refused no-redo'
 REFUSED_NOT_BEFORE = 'refused not-before'
 REFUSED_BAD_WORD = 'refused bad-word'
-
-
-class CallId(NamedTuple):
-    """A call by its rank and its number among the calls of that rank."""
-    rank: int
-    number: int
-
-    def __str__(self):
-        return f'{self.rank}.{self.number}'
-
-
-class Call(NamedTuple):
-    """A send or receive made, which its rank waits for or not; a send has a value, a receive the cell it writes.
-
-    A send is standard or synchronous. Of a receive `other` is None where it takes messages of any source, `tag` where it takes
-    them of any tag; `status` has the cells for the source and the tag of what it takes, where it has such cells. `line` is that of
-    the statement that made it.
-    """
-    kind: str
-    blocks: bool
-    other: Optional[int]
-    tag: Optional[int]
-    value: Optional[int] = None
-    cell: Optional[int] = None
-    status: Optional[tuple] = None
-    synchronous: bool = False
-    line: int = 0
-
-
-class WaitCall(NamedTuple):
-    """A wait made: the handle that it clears, and the number of the call that this handle had then, or None."""
-    handle: int
-    target: Optional[int]
-    kind = 'wait'
-    blocks = True
-
-
-class WaitAnyCall(NamedTuple):
-    """A wait for any made: the first of its handles and how many they are, the cell for which one it was, and whether one had a request
-    then."""
-    first: int
-    count: int
-    cell: int
-    active: bool
-    kind = 'waitany'
-    blocks = True
-
-
-class BarrierCall(NamedTuple):
-    """A barrier, at which its rank is until all ranks are at one."""
-    kind = 'barrier'
-    blocks = True
-
-
-class Rank(NamedTuple):
-    """A rank; `rest` is None at the end, else (statement, rest); `mode` is running, blocked or trapped.
-
-    `handles` has for each handle the number of a call, or None. `free` has the numbers of its sends and receives that
-    are not matched, in the order of issue.
-    """
-    rest: Optional[tuple]
-    cells: tuple
-    handles: tuple
-    calls: tuple
-    free: tuple
-    printed: tuple
-    mode: str
-    trap: Optional[str]
-
-
-class Pair(NamedTuple):
-    """The record that a send and a receive were matched."""
-    send: CallId
-    receive: CallId
-
-
-class Woken(NamedTuple):
-    """The record that the rank of a call went on behind it."""
-    call: CallId
-
-
-class Released(NamedTuple):
-    """The record that all ranks left the barriers that they were at."""
-
-
-class World(NamedTuple):
-    """The mode, all ranks, the records in the order they were made, and the partner of each call that is matched."""
-    mode: str
-    ranks: tuple
-    records: tuple
-    partners: dict
-
-    def with_rank(self, number, rank):
-        return self._replace(ranks=self.ranks[:number] + (rank,) + self.ranks[number + 1:])
-
-
-class Step(NamedTuple):
-    """A step: local or wake of a rank (`first`), wake of a rank by one of the handles that it waits for any of, by its place among them
-    (`second`), match of a send (`first`) and a receive, or release."""
-    kind: str
-    first: object = None
-    second: object = None
 
 
 def pushed(statements, rest):
@@ -217,6 +114,31 @@ def executed(rank, view):
     return issued(rank, statement, view)._replace(rest=tail)
 
 
+def slots_used(world, number):
+    """How many sends of a rank are buffered and not matched."""
+    return len(world.ranks[number].slots)
+
+
+def has_slot(mode, used):
+    """Whether a standard send is buffered whose sender has so many buffered sends that are not matched."""
+    slots = slots_of(mode)
+    return mode == BUFFERED or slots is not None and used < slots
+
+
+def is_buffered(mode, call, used):
+    """Whether a call is buffered as it is made: a standard send may be, and nothing else ever."""
+    return call.kind == 'send' and not call.synchronous and has_slot(mode, used)
+
+
+def marked(world, number):
+    """The world in which a rank has made its last call, which is marked where it is buffered then, and takes a slot."""
+    rank = world.ranks[number]
+    *calls, call = rank.calls
+    if not is_buffered(world.mode, call, slots_used(world, number)):
+        return world
+    return world.with_rank(number, rank._replace(calls=(*calls, call._replace(buffered=True)), slots=(*rank.slots, len(calls))))
+
+
 def can_run(rank):
     return rank.mode == 'running' and rank.rest is not None
 
@@ -226,9 +148,11 @@ def after_local(world, number):
         return None
     rank = world.ranks[number]
     try:
-        return world.with_rank(number, executed(rank, View(rank.cells, number, len(world.ranks))))
+        behind = executed(rank, View(rank.cells, number, len(world.ranks)))
     except Trap as trap:
         return world.with_rank(number, rank._replace(mode='trapped', trap=trap.name))
+    has_called = len(behind.calls) > len(rank.calls)
+    return marked(world.with_rank(number, behind), number) if has_called else world.with_rank(number, behind)
 
 
 def find_call(world, call_id):
@@ -298,9 +222,10 @@ def eligible(world, send_id, receive_id):
 
 
 def without_free(world, call_id):
+    """The world in which a call isn't free any more, and has no slot."""
     rank = world.ranks[call_id.rank]
-    free = tuple(number for number in rank.free if number != call_id.number)
-    return world.with_rank(call_id.rank, rank._replace(free=free))
+    free, slots = (tuple(number for number in numbers if number != call_id.number) for numbers in (rank.free, rank.slots))
+    return world.with_rank(call_id.rank, rank._replace(free=free, slots=slots))
 
 
 def after_match(world, send_id, receive_id):
@@ -323,14 +248,9 @@ def awaited(world, number):
     return None if call.target is None else CallId(number, call.target)
 
 
-def is_buffered(mode, call):
-    """Whether a call is complete as it is made: a standard send is in the mode `buffered`, and nothing else ever."""
-    return mode == BUFFERED and call.kind == 'send' and not call.synchronous
-
-
 def is_done(world, call_id):
     """Whether a send or a receive is complete: it is matched, or was buffered as it was made."""
-    return partner(world, call_id) is not None or is_buffered(world.mode, find_call(world, call_id))
+    return partner(world, call_id) is not None or find_call(world, call_id).buffered
 
 
 def is_at_barrier(rank):
@@ -515,6 +435,11 @@ def call_word(call):
     return ('' if call.blocks else 'i') + ('s' if call.synchronous else '') + call.kind
 
 
+def mark_text(mode, call):
+    """What is shown of the mark of a send: nothing but in a mode of slots, since in each other one the mode says it."""
+    return ' buffered' if call.buffered and slots_of(mode) is not None else ''
+
+
 def call_line(world, call_id):
     call = find_call(world, call_id)
     if call.kind == 'barrier':
@@ -527,7 +452,7 @@ def call_line(world, call_id):
     state = 'free' if other_id is None else f'with {other_id}'
     word = call_word(call)
     if call.kind == 'send':
-        return f'call {call_id} {word} to {call.other} tag {call.tag} value {call.value} {state}'
+        return f'call {call_id} {word} to {call.other} tag {call.tag} value {call.value}{mark_text(world.mode, call)} {state}'
     if other_id is not None:
         state += f' value {find_call(world, other_id).value}'
     source, tag = ('any' if part is None else part for part in (call.other, call.tag))
@@ -779,7 +704,7 @@ def answer_words(words):
     chosen = parser.parse_args(words)
     if chosen.command is None:
         return answer(sys.stdin.buffer.read())
-    if chosen.mode not in MODES:
+    if not is_mode(chosen.mode):
         return BAD_MODE
     script = file_content(chosen.file)
     if script is None:

@@ -2,7 +2,7 @@
 reports at its end), whose script and words are files of their own.
 
 NAME.trace is answered by NAME.stdout. NAME.mpd with NAME.words is answered by NAME.stdout, and in the mode `buffered` by
-NAME.buffered.stdout, where that is there. Each line of NAME.checks is the status and the options of a check of NAME.mpd; NAME.reports has
+NAME.buffered.stdout, in `slots:1` by NAME.slots1.stdout, where that is there. Each line of NAME.checks is the status and the options of a check of NAME.mpd; NAME.reports has
 what these write, one behind the other. The lines of NAME.requests are the requests of a session on NAME.mpd, and NAME.replies has its
 replies. client.py drives a session by itself; docs/SESSIONS.md shows what it writes. NAME.dialogue is a session on NAME.mpd that clients
 share: `0 > LINE` is what client 0 sends, `0 < LINE` what it is replied, one behind the other, and the last line is what `serve` says when
@@ -13,6 +13,9 @@ import os
 from typing import NamedTuple
 
 from debugger import BUFFERED, RENDEZVOUS, Result
+
+# The modes that a lesson may have answers for beside rendezvous, and how their files are called.
+OTHER_MODES = (BUFFERED, BUFFERED), ('slots:1', 'slots1')
 
 EXAMPLES = os.path.join(os.path.dirname(os.path.abspath(__file__)), '..', 'examples')
 
@@ -45,8 +48,9 @@ def lessons():
     found = []
     for name in example_names('.words'):
         found.append(Lesson(name, RENDEZVOUS, f'{name}.stdout'))
-        if os.path.exists(os.path.join(EXAMPLES, buffered := f'{name}.{BUFFERED}.stdout')):
-            found.append(Lesson(name, BUFFERED, buffered))
+        for mode, ending in OTHER_MODES:
+            if os.path.exists(os.path.join(EXAMPLES, answers := f'{name}.{ending}.stdout')):
+                found.append(Lesson(name, mode, answers))
     return found
 
 
@@ -63,11 +67,11 @@ class Checked(NamedTuple):
 
 
 def reports_of(text):
-    """The reports that stand one behind the other: each ends with the line that counts its leaves."""
+    """The reports that stand one behind the other: each ends with the line that counts its leaves, or says which mode is the first."""
     found, lines = [], []
     for line in text.splitlines(keepends=True):
         lines.append(line)
-        if line.startswith(b'leaves '):
+        if line.startswith((b'leaves ', b'least ')):
             found.append(b''.join(lines))
             lines = []
     assert not lines, lines

@@ -2,11 +2,12 @@
 
     python3 compare/explore.py PROGRAM                  the worked rows, words that are wrong, 1,000 random scripts of version 1, and 250
                                                         of version 2
-    python3 compare/explore.py PROGRAM --version 1      a program that knows version 1 alone
+    python3 compare/explore.py PROGRAM --two-modes      a program that has no modes `slots:K`
+    python3 compare/explore.py PROGRAM --version 1      a program that knows version 1 alone, and two modes
     python3 compare/explore.py PROGRAM --every-split    each script by 0 to 8 choices and by 1 to 16 workers, too
     python3 compare/explore.py PROGRAM --broken         and faults of the model, each of which these scripts must notice
 
-Each script is a file, checked in one mode or the other with limits drawn at random (explore_cases.py), by some number of choices and of
+Each script is a file, checked in some mode with limits drawn at random (explore_cases.py), by some number of choices and of
 workers, and once more so: one piece, how many there are, up to the first deadlock, or by other workers (piece_cases.py). `verify` is
 asked of its witnesses, and of changed ones (witness_cases.py); with `--every-split` it must accept each witness that is written. Standard
 output, standard error and status must be the model's. A program that crashes, takes too long, too much memory or writes too much differs.
@@ -27,15 +28,18 @@ from unittest import mock
 
 import piece_cases
 import piece_faults
+import slots_faults
 import waitany_faults
 import worked_pieces
+import worked_slots
 import worked_waitany
 from cases import BESIDE
 from debugger import BUFFERED
 from explore_cases import Beside, Case
 from explore_faults import check_faults, told_faults, verify_faults
-from explorer import MOST_SPLIT, MOST_WORKERS
+from explorer import MOST_SPLIT, MOST_WORKERS, NOT_WHOLE
 from language import read_up_to
+from modes import SLOTS_DRAWN, SLOTS_EVERY, has_slots, is_turn_of_slots, know_modes, slots_of
 from remembered import steps_remembered
 from runs import held, limit, run_at_once
 from witness import ACCEPTED
@@ -55,6 +59,10 @@ MUST_MEET_OF_PIECES = (
     'until: nothing found, and more')
 # What must be met of version 2.
 MUST_MEET_OF_2 = ('a wake by a handle in a witness', 'an accepted wake by a handle', 'a refused wake by a handle')
+# What must be met of modes of slots.
+MUST_MEET_OF_SLOTS = (
+    *(f'slots:{slots}' for slots in range(SLOTS_DRAWN)), 'slots:65536', 'bad slots', 'slots and a whole report', 'slots and a deadlock',
+    'slots and --complete', 'accepted, slots', 'refused, slots')
 # What must be met where each script is checked by every number of choices.
 PAIRS = tuple(f'split {split} by {workers}' for split in range(MOST_SPLIT + 1) for workers in range(1, MOST_WORKERS + 1))
 MUST_MEET_OF_VERIFY = (
@@ -86,7 +94,19 @@ def met_by_check(asked, wanted):
     yield from ['status 1 for a later leaf'] * (wanted.status == 1 and outcomes[0] not in ('deadlock', 'trap'))
     yield from [kind for kind in ('script refused', 'bad mode', 'device') if kind.encode() in wanted.errors]
     yield from ['options left out'] * (not wanted.status and None in asked[:3])
+    yield from met_by_slots(asked, wanted)
     yield from met_by_pieces(asked, wanted, outcomes)
+
+
+def met_by_slots(asked, wanted):
+    """The same in a mode of slots, or one that is nearly such."""
+    if asked.mode is None or not asked.mode.startswith('slots:') or wanted.status == 2:
+        yield from ['bad slots'] * (asked.mode is not None and 'slots:' in asked.mode and b'bad mode' in wanted.errors)
+        return
+    is_whole = wanted.output.endswith(b' more no\n') and b'] cut\n' not in wanted.output and not asked.pieces
+    yield asked.mode
+    yield from ['slots and a deadlock'] * (b'] deadlock ' in wanted.output) + ['slots and a whole report'] * is_whole
+    yield from ['slots and --complete'] * (is_whole and asked.complete and wanted.status == NOT_WHOLE)
 
 
 def met_by_pieces(asked, wanted, outcomes):
@@ -109,6 +129,8 @@ def met_by_verify(case, wanted):
     said = (wanted.output + wanted.errors).decode().removeprefix('mpdbg: ').removesuffix('\n')
     if b'wakeany' in (case.text or b'') and wanted.status < 2:
         yield 'an accepted wake by a handle' if said == 'accepted' else 'a refused wake by a handle'
+    if case.mode and slots_of(case.mode) is not None and wanted.status < 2:
+        yield 'accepted, slots' if said == 'accepted' else 'refused, slots'
     if said == 'accepted':
         yield from ['accepted'] + ['accepted, buffered'] * (case.mode == BUFFERED)
         yield from ['accepted, nothing in front'] * case.text.startswith(b'deadlock')
@@ -138,6 +160,12 @@ def checks_of(chosen, number):
 def checks_beside(chosen, number):
     """The same of a script of version 2."""
     return checks_of(beside(chosen), number)
+
+
+def checks_of_slots(chosen, number):
+    """The checks of a script in a mode of slots, or in one that such a mode must not be taken for, and in front of the first the worked rows."""
+    rows = worked_slots.CHECKS if number == 0 else ()
+    return [case_of(row) for row in rows] + (checks_of(chosen, number) if is_turn_of_slots(number) or number % SLOTS_EVERY == 0 else [])
 
 
 def row_checks_of(chosen, number):
@@ -249,7 +277,7 @@ def compare_random(chosen, pool):
         for case, what in found:
             print(f'{kept(folder, case)}: {what}', flush=True)
     must_meet = MUST_MEET + MUST_MEET_OF_PIECES + MUST_MEET_OF_VERIFY + ('witnesses verified',) * chosen.every_split
-    must_meet += MUST_MEET_OF_2 * (chosen.version > 1)
+    must_meet += MUST_MEET_OF_2 * (chosen.version > 1) + MUST_MEET_OF_SLOTS * has_slots(chosen)
     print('; '.join(f'{name} {met[name]}' for name in must_meet))
     if chosen.every_split:
         print(f'{sum(met[name] for name in PAIRS)} checks by {sum(met[name] > 0 for name in PAIRS)} pairs of choices and workers')
@@ -282,6 +310,9 @@ def rows(chosen):
     if chosen.version > 1:
         yield from ((case_of(row), wanted_result(row)) for row in worked_waitany.CHECKS)
         yield from ((row.case(), row.wanted()) for row in worked_waitany.TOLD)
+    if has_slots(chosen):
+        yield from ((case_of(row), wanted_result(row)) for row in worked_slots.CHECKS)
+        yield from ((row.case(), row.wanted()) for row in worked_slots.TOLD)
 
 
 def mistakes(chosen, folder):
@@ -307,7 +338,8 @@ def faults(chosen):
     """The faults that a program's answers show, each with what gives the cases of a script that may notice it."""
     found = [(fault, checks_of) for fault in check_faults()] + [(fault, row_checks_of) for fault in piece_faults.breakages()]
     found += [(fault, verifications_of) for fault in verify_faults() + told_faults()]
-    return found + [(fault, checks_beside) for fault in waitany_faults.walk_faults()] * (chosen.version > 1)
+    found += [(fault, checks_beside) for fault in waitany_faults.walk_faults()] * (chosen.version > 1)
+    return found + [(fault, checks_of_slots) for fault in slots_faults.report_faults() + slots_faults.word_faults()] * has_slots(chosen)
 
 
 # What is said to cases by the program, or else by the sound model, as far as this process has asked.
@@ -348,6 +380,7 @@ def prepare(chosen):
     """Readies a process for its part of a run."""
     limit(chosen.memory, chosen.output)
     read_up_to(chosen.version)
+    know_modes(has_slots(chosen))
 
 
 def arguments():
@@ -355,6 +388,7 @@ def arguments():
     parser.add_argument('program', nargs='?', metavar='PROGRAM')
     parser.add_argument('--count', type=int, default=1000, help='how many scripts of version 1 (1000), and a quarter of these of version 2')
     parser.add_argument('--version', type=int, choices=[1, 2], default=2, help='the last version that the program knows (2)')
+    parser.add_argument('--two-modes', action='store_true', help='the program has no modes `slots:K`')
     parser.add_argument('--seed', type=int, default=1, help='another seed gives other scripts (1)')
     parser.add_argument('--every-split', action='store_true', help='check each script by 0 to 8 choices and 1 to 16 workers, too')
     parser.add_argument('--broken', action='store_true', help='break the model on purpose; each fault must be noticed')

@@ -9,12 +9,14 @@ from typing import Callable, NamedTuple, Optional
 
 import barrier_cases
 import exchange_cases
+import slots_cases
 import waitany_cases
 import wildcard_cases
 from canonical import now_and_then_canonical
-from debugger import MODES, RENDEZVOUS
+from debugger import RENDEZVOUS
 from explorer import Asked, answer, option_words, report
 from language import Fault, read_script
+from modes import MODES, SLOTS_EVERY, by_turns, is_turn_of_slots
 from runs import held
 from scripts import Writer, header, mutated_bytes, mutated_tokens, rendered, synchronous
 from wildcard_cases import in_branches
@@ -245,13 +247,21 @@ KINDS = {
 KINDS_OF_2 = {form.__name__: Kind(form, share, ranks, None if form is waitany_cases.any_script else waitany_cases.DECLARED,
                                   form is not waitany_cases.any_script, version=2)
               for form, (ranks, share) in waitany_cases.FORMS.items()}
+# Those that stand beside the others where a case is in a mode of slots.
+KINDS_OF_SLOTS = {form.__name__: Kind(form, 20, ranks, slots_cases.DECLARED) for form, ranks in slots_cases.FORMS.items()}
 
 
-def kinds_by(seed):
-    """The kinds of scripts that are drawn by a seed."""
-    return KINDS_OF_2 if isinstance(seed, Beside) else KINDS
+def kinds_by(seed, number):
+    """The kinds of scripts of which that of a number is drawn by a seed."""
+    kinds = KINDS_OF_2 if isinstance(seed, Beside) else KINDS
+    return kinds | KINDS_OF_SLOTS if is_turn_of_slots(number) else kinds
 
 
+# Modes of slots that are written in an odd way, and words that are nearly one, in turn: one of so many cases in a mode of slots.
+ODD_EVERY = 3
+ODD_SLOTS = ('slots:65536', 'slots:', 'slots:00001', 'slots:65537', 'slots:00000', 'slots:000001', 'slots:00002', 'slots:-1', 'slots:01',
+             'slots:+1', 'slots:99999', 'slots:1 ', 'slots:10000', 'slots: 1', 'slots', 'slots1', 'Slots:1', 'SLOTS:0', 'slots:1x', 'slots:x',
+             'slots::1', 'slots:1:', ' slots:1', 'slots:1.0', 'slots:\u0661', 'slots:1\n', 'slot:1', 'slots=1', 'slots 1', 'slots:0x1')
 RUNS = (1, 2, 3, 5, 8, 13, 20, 30, 40, 40)
 FUELS = (1, 3, 8, 20, 30, 40, 60, 80, 100, 150, 200, 200, 500, 500, 2000, 2000)
 # How far a script is followed before a limit is drawn next to where a leaf stands.
@@ -284,9 +294,9 @@ def limits(random, kind, script, mode):
     return runs, fuel
 
 
-def asked(random, kind, script):
-    """The options of a check; now and then some are left out, or the mode is none."""
-    mode = random.choice(MODES)
+def asked(random, kind, script, number):
+    """The options of a check of this number; now and then some are left out, or the mode is none."""
+    mode = by_turns(random.choice(MODES), number)
     try:
         runs, fuel = limits(random, kind, read_script(script), mode)
     except Fault:
@@ -295,6 +305,9 @@ def asked(random, kind, script):
         mode = None
     if random.random() < 0.015:
         mode = random.choice(['fast', '', 'Buffered', 'buffered ', 'rendezvous,buffered'])
+    turn = number // SLOTS_EVERY
+    if is_turn_of_slots(number) and turn % ODD_EVERY == ODD_EVERY - 1:
+        mode = ODD_SLOTS[turn // ODD_EVERY % len(ODD_SLOTS)]
     if kind.ends and random.random() < 0.1:
         runs, fuel = random.choice([None, runs, runs]), None
     return Asked(mode, runs, fuel, random.random() < 0.6, random.random() < 0.3)
@@ -322,8 +335,8 @@ def kind_of(random, kinds=KINDS):
 
 def random_case(seed, number):
     """One case, the same each time."""
-    random, kinds = Random(f'explore/{seed}/{number}'), kinds_by(seed)
+    random, kinds = Random(f'explore/{seed}/{number}'), kinds_by(seed, number)
     name = kind_of(random, kinds)
     script = script_of(random, kinds[name])
-    case = Case(f'{name}-{seed}-{number}', script, asked(random, kinds[name], script))
+    case = Case(f'{name}-{seed}-{number}', script, asked(random, kinds[name], script, number))
     return case._replace(script=None) if random.random() < 0.01 else case

@@ -8,8 +8,9 @@ from typing import NamedTuple
 import explorer
 import policy
 import witness
-from debugger import BAD_FILE, BAD_MODE, BUFFERED, MODES, RENDEZVOUS, blocked_calls, enabled_steps, first_world, next_world, outcome, step_text
+from debugger import BAD_FILE, BAD_MODE, BUFFERED, RENDEZVOUS, blocked_calls, enabled_steps, first_world, next_world, outcome, step_text
 from explorer import CUT, NO_SUCH_STEP, NOT_STUCK, WRONG_BLOCKED, Leaf, Refusal, Report
+from modes import is_mode
 from policy import Choice, Forced
 from policy_faults import Breakage, without_forced_match
 from witness import BadWitness
@@ -500,8 +501,8 @@ def order_faults():
 
     return [Breakage(name, witness, 'verify', told_otherwise_than(change)) for name, change in (
         ('the witness before the script', text_first), ('files before the mode and the script', file_first), ('the mode last', mode_last),
-        ('the mode is not looked at', lambda said, script, text, mode: TELL(script, text, RENDEZVOUS) if mode in MODES else said),
-        ('always buffered', lambda said, script, text, mode: TELL(script, text, BUFFERED) if mode in MODES else said),
+        ('the mode is not looked at', lambda said, script, text, mode: TELL(script, text, RENDEZVOUS) if is_mode(mode) else said),
+        ('always buffered', lambda said, script, text, mode: TELL(script, text, BUFFERED) if is_mode(mode) else said),
         ('a file that is not there is empty', lambda said, script, text, mode: TELL(script or b'', text or b'', mode)),
         ('status 1 for a bad text', lambda said, script, text, mode: said._replace(status=1) if b'witness' in said.errors else said),
         ('a bad text on standard output', lambda said, script, text, mode: (

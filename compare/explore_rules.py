@@ -1,6 +1,6 @@
 """The explorer: what must hold of its reports and of witnesses, told in other words than compare/explorer.py does.
 
-    python3 compare/explore_rules.py             300 random scripts (explore_cases.py), in both modes, and 75 with waits for any
+    python3 compare/explore_rules.py             300 random scripts (explore_cases.py), in all modes, and 75 with waits for any
     python3 compare/explore_rules.py --broken    faults of the model (explore_faults.py, piece_faults.py, waitany_faults.py), each of which
                                                  these must notice
 
@@ -28,12 +28,13 @@ import explorer
 import policy
 import waitany_faults
 from cases import BESIDE
-from debugger import MODES, CallId, Debugger, Step, first_world, free_calls, next_world, rank_state, step_of, step_text
+from debugger import CallId, Debugger, Step, first_world, free_calls, next_world, rank_state, step_of, step_text
 from explore_cases import Beside, kind_of, kinds_by, script_of
 from explore_faults import breakages
 from explorer import CUT, MOST_SPLIT, NO_SUCH_STEP, NOT_STUCK, WRONG_BLOCKED, Asked, Refusal, Report, Run, Witness
 from follow import due
 from language import Fault, read_script
+from modes import MODES, by_turns
 from piece_faults import report_breakages
 from policy import Choice
 from remembered import steps_remembered
@@ -475,10 +476,10 @@ def check(seed, count, to_end=True):
 
 def check_kinds(seed, count, to_end):
     """The same of the scripts that are drawn by a seed."""
-    met, wrong, number, kinds = Counter(), [], 0, kinds_by(seed)
+    met, wrong, number = Counter(), [], 0
     while met['scripts'] < count and number < 2 * count and (to_end or not wrong):
-        random = Random(f'rules/{seed}/{number}')
-        text, mode = script_of(random, kinds[kind_of(random, kinds)]), MODES[number % 2]
+        random, kinds = Random(f'rules/{seed}/{number}'), kinds_by(seed, number)
+        text, mode = script_of(random, kinds[kind_of(random, kinds)]), by_turns(MODES[number % 2], number)
         try:
             script = read_script(text)
         except Fault:

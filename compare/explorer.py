@@ -12,12 +12,15 @@ from itertools import islice
 from typing import NamedTuple, Optional
 
 import policy
-from debugger import (BAD_FILE, BAD_MODE, MODES, RENDEZVOUS, Debugger, Result, blocked_calls, call_id_of, enabled_steps, file_content,
-                      first_world, next_world, outcome, refusal, step_text)
+from debugger import (BAD_FILE, BAD_MODE, BUFFERED, RENDEZVOUS, Debugger, Result, blocked_calls, call_id_of, enabled_steps, file_content, first_world,
+                      next_world, outcome, refusal, step_text)
 from language import Branch, Fault, WaitAny, While, read_script
+from modes import is_mode, slots_of
 from policy import Forced, decision
 
 MOST_RUNS, MOST_FUEL = 65536, 1000000
+# Up to how many slots modes are tried one after another.
+MOST_MODES = 1000
 # Of pieces, choices that cut them, and workers; and how many workers can be asked for, though no more than 16 are there.
 MOST_PIECES, MOST_SPLIT, MOST_WORKERS, MOST_WORKERS_ASKED = 1024, 8, 16, 1000
 CUT = 'cut'
@@ -212,10 +215,16 @@ def has_waitany(statements):
                or isinstance(one, While) and has_waitany(one.body) for one in statements)
 
 
-def status_of(script, found, complete):
-    """The status of a check of a script: with a wait for any of some handles no report tells every way in which it can end."""
+def tells_all(script, mode):
+    """Whether a report where all runs are listed to their ends tells every way in which a script can end in a mode: with a wait for any of
+    some handles none does, and in a mode of slots neither."""
+    return not has_waitany(script.body) and slots_of(mode) is None
+
+
+def status_of(script, mode, found, complete):
+    """The status of a check of a script in a mode."""
     told = status(found, complete)
-    return NOT_WHOLE if told == 0 and complete and has_waitany(script.body) else told
+    return NOT_WHOLE if told == 0 and complete and not tells_all(script, mode) else told
 
 
 class Asked(NamedTuple):
@@ -230,6 +239,7 @@ class Asked(NamedTuple):
     until: bool = False
     piece: Optional[int] = None
     pieces: bool = False
+    modes: Optional[int] = None
 
 
 # What is meant where an option is left out.
@@ -248,10 +258,34 @@ def reported(cut, asked):
     return up_to_bad(found) if asked.until else found
 
 
+def counted(found):
+    """What a report tells of its leaves in one line, and whether a deadlock or a trap is among them."""
+    ended = [leaf.outcome.split()[0] for leaf in found.leaves]
+    counts = [f'{name} {ended.count(word)}' for name, word in (('deadlocks', 'deadlock'), ('traps', 'trap'), ('cut', 'cut'))]
+    return f'leaves {len(ended)} {" ".join(counts)} more {"yes" if found.more else "no"}', any(map(is_bad, found.leaves))
+
+
+def modes_tried(script, asked):
+    """The result of a check in several modes, one after another: a line for each, up to one that is refused, and which is the first that has
+    nothing bad."""
+    lines, least, status = [], 'none', 0
+    for mode in (RENDEZVOUS, *(f'slots:{slots}' for slots in range(1, asked.modes + 1)), BUFFERED):
+        cut = list(islice(pieces(Run(first_world(script, mode), asked.fuel), asked.split), MOST_PIECES + 1))
+        if len(cut) > MOST_PIECES:
+            return refused('refused 31 too-many-pieces')._replace(output=''.join(lines).encode())
+        line, bad = counted(reported(cut, asked._replace(mode=mode, piece=None)))
+        lines.append(f'{mode} {line}\n')
+        least = mode if least == 'none' and not bad else least
+        status = 1 if bad else status
+    return Result(''.join([*lines, f'least {least}\n']).encode(), b'', status)
+
+
 def checked(script, asked):
     """The result of a check of a script that was read: workers are tested first, then the number of pieces, and then that of the piece."""
     if not 1 <= asked.workers <= MOST_WORKERS:
         return refused('refused 35 bad-workers')
+    if asked.modes is not None:
+        return modes_tried(script, asked)
     cut = list(islice(pieces(Run(first_world(script, asked.mode), asked.fuel), asked.split), MOST_PIECES + 1))
     if len(cut) > MOST_PIECES:
         return refused('refused 31 too-many-pieces')
@@ -260,13 +294,13 @@ def checked(script, asked):
     if asked.piece is not None and asked.piece >= len(cut):
         return refused(f'no piece {asked.piece} of {len(cut)}')
     found = reported(cut, asked)
-    return Result(report_text(found, asked.witnesses).encode(), b'', status_of(script, found, asked.complete))
+    return Result(report_text(found, asked.witnesses).encode(), b'', status_of(script, asked.mode, found, asked.complete))
 
 
 def check(text, asked):
     """The result of a check of the text of a file, which is None where that can't be read: the mode is tested first, and no option is
     left out."""
-    if asked.mode not in MODES:
+    if not is_mode(asked.mode):
         return BAD_MODE
     if text is None:
         return BAD_FILE
@@ -283,7 +317,7 @@ def answer(text, asked):
 
 def option_words(asked):
     """The options as words of the command line."""
-    numbers = [(name, getattr(asked, name)) for name in ('mode', 'runs', 'fuel', 'split', 'workers', 'piece')]
+    numbers = [(name, getattr(asked, name)) for name in ('mode', 'runs', 'fuel', 'split', 'workers', 'piece', 'modes')]
     there = [(f'--{name}', str(value)) for name, value in numbers if value is not None]
     flags = ['--witness'] * asked.witnesses + ['--complete'] * asked.complete + ['--pieces'] * asked.pieces
     return [word for pair in there for word in pair] + flags + ['--until', 'deadlock'] * asked.until
@@ -304,7 +338,7 @@ def asked_by(words):
     parser.add_argument('file', metavar='FILE')
     parser.add_argument('--mode', metavar='M')
     for name, least, most in (('runs', 1, MOST_RUNS), ('fuel', 1, MOST_FUEL), ('split', 0, MOST_SPLIT), ('workers', 0, MOST_WORKERS_ASKED),
-                              ('piece', 0, MOST_PIECES - 1)):
+                              ('piece', 0, MOST_PIECES - 1), ('modes', 0, MOST_MODES)):
         parser.add_argument(f'--{name}', type=number_between(least, most), metavar='N')
     parser.add_argument('--until', choices=['deadlock'])
     parser.add_argument('--witness', dest='witnesses', action='store_true')

@@ -1,7 +1,7 @@
 """Decisions, breakpoints and runs: what must hold of them on walks of the model, told in other words than compare/policy.py does.
 
-    python3 compare/follow.py             300 walks of scripts of all kinds and of worked rows, in both modes, and 150 of scripts with
-                                          waits for any
+    python3 compare/follow.py             300 walks of scripts of all kinds and of worked rows, in all modes, and 150 of scripts with
+                                          waits for any, and 75 of scripts with many sends, in modes of slots
     python3 compare/follow.py --broken    faults of the model (policy_faults.py, waitany_faults.py), each of which these walks must notice
 
 Behind each step of a walk it is checked that the decision is what the calls, the match sets and the ranks' places say, that every
@@ -22,6 +22,7 @@ from unittest import mock
 import debugger
 import policy
 import waitany_faults
+import worked_slots
 import worked_waitany
 from debugger import Debugger, Step, eligible, enabled_steps, find_call, free_calls, next_world, rank_state
 from language import read_script
@@ -302,7 +303,7 @@ def walks_of_rows(seed, rows):
 
 def every_walk(seed, count):
     """Those of rows, so many walks, and then those of version 2."""
-    return chain(walks_of_rows(seed, RUNS), all_walks(seed, count, KINDS), walks_of_rows(seed, worked_waitany.RUNS))
+    return chain(walks_of_rows(seed, RUNS), all_walks(seed, count, KINDS), walks_of_rows(seed, worked_waitany.RUNS + worked_slots.RUNS))
 
 
 def check(seed, count, to_end=True):

@@ -1,15 +1,16 @@
 """What holds a match back, and the order that a run shows: rules with no trace word, in the model, and what must hold of them.
 
-    python3 compare/order.py             300 walks of all scripts with wildcards, requests, messages and barriers, in both modes, and 150
-                                         of scripts with waits for any
+    python3 compare/order.py             300 walks of all scripts with wildcards, requests, messages and barriers, in all modes, 150 of
+                                         scripts with waits for any, and 75 of scripts with many sends, in modes of slots
     python3 compare/order.py --broken    faults of the model, each of which these walks must notice
     python3 compare/order.py --rows 40   rows of `why` and `before`, for tests of the crate that answers them: script, words, a
                                          line for each call with what `why` says of it, and the calls that come before others
 
 Behind each step of a walk it is checked that a receive has at most one send of each sender that it may be matched with, that
-`why` tells the matches that are enabled and what stands in the way of each other one, and that wakes and the release are enabled
-where the calls and the records say so; where it has the most records, and at its end, that the calls of each rank are in the order
-that `before` says, and that each rank has left a barrier as often as all have (docs/DEFINITIONS.md). The status is 0 where all of that holds, and was seen.
+`why` tells the matches that are enabled and what stands in the way of each other one, that wakes and the release are enabled where the
+calls and the records say so, and that those sends are marked as buffered, and have a slot, of which the steps say it; where it has the
+most records, and at its end, that the calls of each rank are in the order that `before` says, and that each rank has left a barrier as
+often as all have (docs/DEFINITIONS.md). The status is 0 where all of that holds, and was seen.
 """
 
 import argparse
@@ -22,20 +23,23 @@ from typing import NamedTuple
 from unittest import mock
 
 import debugger
+import slots_faults
 import waitany_faults
 from breakages import buffered_by, going_on, one_left, wakes_at_barriers, without_gone, without_running
 from cases import KINDS
-from debugger import (BUFFERED, MODES, RENDEZVOUS, CallId, Debugger, Pair, Step, Woken, divided, eligible, enabled_steps, find_call,
-                      fits, free_calls, partner, receives_ahead, sends_ahead, step_text)
+from debugger import (BUFFERED, RENDEZVOUS, CallId, Debugger, Pair, Step, Woken, divided, eligible, enabled_steps, find_call,
+                      fits, free_calls, partner, receives_ahead, sends_ahead, slots_used, step_text)
 from language import Fault, read_script
+from modes import MODES, SLOTS_DRAWN, by_turns, slots_of
 
 CHOSEN = ('wildcards', 'wildcards', 'requests', 'script', 'states')
 LATER = ('barriers', 'exchanges')
-# Of version 2, beside the others.
-WITH_WAITANY = ('waitany',)
+# Of version 2, and with many sends, beside the others.
+WITH_WAITANY, WITH_SLOTS = ('waitany',), ('slots',)
 # What must have been seen: the cases of the order, in which a release, or a send that is complete as it is issued, has a part.
 MUST_MEET = ('worlds', 'releases', 'sends', 'receives', 'wait', 'blocks', 'behind a release', 'before a release', 'buffered',
-             'wakes by a handle', 'waits for any of nothing', 'behind a wait for any')
+             'wakes by a handle', 'waits for any of nothing', 'behind a wait for any', 'slots that are used', 'sends that find no slot',
+             'slots that fall free')
 
 
 def holder(world, send_id, receive_id):
@@ -115,6 +119,13 @@ def is_standard_send(call):
     return call.kind == 'send' and not call.synchronous
 
 
+def was_buffered(world, call):
+    """Whether a call is a send that was buffered as it was issued: by the mode alone where that says it, and else by its mark."""
+    if slots_of(world.mode) is not None:
+        return is_standard_send(call) and call.buffered
+    return world.mode == BUFFERED and is_standard_send(call)
+
+
 class Places(NamedTuple):
     """What the records must show of two calls: each of `bounds` is behind `held`, which is None where it isn't there."""
     case: str
@@ -129,7 +140,7 @@ def places_between(world, first, second, paired, left):
     `also` says what was met in that beside the case.
     """
     one, two = find_call(world, first), find_call(world, second)
-    buffered = world.mode == BUFFERED and is_standard_send(one)
+    buffered = was_buffered(world, one)
     for case in cases_of(world, first, second):
         if case in ('sends', 'receives'):
             yield Places(case, [paired[second]] if second in paired else [], paired.get(first), [])
@@ -178,7 +189,7 @@ def due_by_any(world, call_id, is_done):
 def steps_due(world):
     """The wakes and the release that must be enabled, by the calls, what handles hold, and the records alone."""
     def is_done(call_id):
-        return call_id in paired or (world.mode == BUFFERED and is_standard_send(find_call(world, call_id)))
+        return call_id in paired or was_buffered(world, find_call(world, call_id))
 
     paired, left = places_of(world)
     last = [CallId(number, len(rank.calls) - 1) for number, rank in enumerate(world.ranks)]
@@ -219,6 +230,40 @@ def told_wrong(world):
     return wrong + told_of_barriers(world)
 
 
+class Held(NamedTuple):
+    """The sends that were buffered as they were issued, and those of them that aren't matched."""
+    marked: set
+    free: set
+
+
+def held_by(walked):
+    """What was buffered, and is: by the steps from the start, what they issued and what they matched."""
+    held, slots = Held(set(), set()), slots_of(walked.world.mode)
+    for step, before, behind in zip(walked.steps, walked.worlds, walked.worlds[1:]):
+        if step.kind == 'match':
+            held.free.discard(step.first)
+        if step.kind != 'local' or len(all_calls(behind)) == len(all_calls(before)):
+            continue
+        call_id = CallId(step.first, len(before.ranks[step.first].calls))
+        used = sum(other.rank == step.first for other in held.free)
+        has_slot = walked.world.mode == BUFFERED if slots is None else used < slots
+        if has_slot and is_standard_send(find_call(behind, call_id)):
+            held.marked.add(call_id)
+            held.free.add(call_id)
+    return held
+
+
+def slots_wrong(walked):
+    """What the marks of sends, and the sends that have a slot, are otherwise than by the steps."""
+    held, world = held_by(walked), walked.world
+    sends = [call_id for call_id in all_calls(world) if find_call(world, call_id).kind == 'send']
+    wrong = [f'the mark of {call_id}' for call_id in sends if find_call(world, call_id).buffered != (call_id in held.marked)]
+    slots = {CallId(number, place) for number, rank in enumerate(world.ranks) for place in rank.slots}
+    counts = [slots_used(world, number) for number in range(len(world.ranks))]
+    is_counted = counts == [sum(call_id.rank == number for call_id in held.free) for number in range(len(world.ranks))]
+    return wrong + ['the sends that have a slot'] * (slots != held.free) + ['how many slots are used'] * (not is_counted)
+
+
 def all_matches(world):
     """All matches of two calls that are eligible, sought among all pairs of calls."""
     return {(one, two) for one in all_calls(world) for two in all_calls(world) if eligible(world, one, two)}
@@ -228,11 +273,19 @@ def all_calls(world):
     return [CallId(number, place) for number, rank in enumerate(world.ranks) for place in range(len(rank.calls))]
 
 
+def mode_of(kinds, number):
+    """The mode of the walk of a number, among those of some kinds."""
+    turn = number // len(kinds)
+    if kinds == WITH_SLOTS:
+        return f'slots:{turn % SLOTS_DRAWN}'
+    return RENDEZVOUS if kinds == CHOSEN else by_turns(MODES[turn % 2], turn)
+
+
 def walks(seed, count, kinds=CHOSEN):
     """Inputs of scripts that are read, each with what the model's debugger is of it, and its lines."""
     for number in range(count):
         kind = kinds[number % len(kinds)]
-        mode = RENDEZVOUS if kinds == CHOSEN else MODES[number // len(kinds) % 2]
+        mode = mode_of(kinds, number)
         data = KINDS[kind].draw(Random(f'order/{kind}/{seed}/{number}'), mode)
         script, lines = divided(data)
         try:
@@ -242,14 +295,19 @@ def walks(seed, count, kinds=CHOSEN):
 
 
 def all_walks(seed, count, kinds=CHOSEN + LATER):
-    """So many walks of scripts of version 1, and half as many of version 2 beside."""
-    return chain(walks(seed, count, kinds), walks(seed, count // 2, WITH_WAITANY))
+    """So many walks of scripts of version 1, half as many of version 2 beside, and a quarter as many of scripts with many sends."""
+    return chain(walks(seed, count, kinds), walks(seed, count // 2, WITH_WAITANY), walks_of_sends(seed, count))
 
 
-def check(seed, count, to_end=True):
+def walks_of_sends(seed, count):
+    """A quarter as many walks of scripts with many sends."""
+    return walks(seed, count // 4, WITH_SLOTS)
+
+
+def check(seed, count, to_end=True, drawn=all_walks):
     """Checks so many walks, or those up to the first that is wrong; gives what was met, and what is wrong."""
     met, wrong = Counter(), []
-    for _, walked, lines in all_walks(seed, count):
+    for _, walked, lines in drawn(seed, count):
         if wrong and not to_end:
             break
         longest = walked.world
@@ -261,7 +319,8 @@ def check(seed, count, to_end=True):
                 continue
             met['worlds'] += 1
             met.update(met_by_step(walked))
-            wrong += told_wrong(walked.world)
+            met.update(met_by_slots(walked))
+            wrong += told_wrong(walked.world) + slots_wrong(walked)
         for world in (longest, walked.world):
             cases, found = out_of_order(world)
             met += cases
@@ -275,6 +334,19 @@ def met_by_step(walked):
     is_of_nothing = step.kind == 'wake' and walked.world.ranks[step.first].calls[-1].kind == 'waitany'
     names = {'release': 'releases', 'wakeany': 'wakes by a handle', 'wake': 'waits for any of nothing' if is_of_nothing else 'wakes'}
     return [names[step.kind]] if step.kind in names else []
+
+
+def met_by_slots(walked):
+    """What was met of slots as that step was taken."""
+    slots, before = slots_of(walked.world.mode), walked.worlds[-2:-1]
+    if not slots or not before:
+        return []
+    found = ['slots that are used'] * any(rank.slots for rank in walked.world.ranks)
+    found += ['slots that fall free'] * any(len(was.slots) > len(now.slots) for was, now in zip(before[0].ranks, walked.world.ranks))
+    step = walked.steps[walked.depth - 1]
+    issued = step.kind == 'local' and len(all_calls(walked.world)) > len(all_calls(before[0]))
+    call = walked.world.ranks[step.first].calls[-1] if issued else None
+    return found + ['sends that find no slot'] * (issued and is_standard_send(call) and not call.buffered)
 
 
 def missed(met):
@@ -326,6 +398,17 @@ def check_broken(seed, count):
         told = wrong[0] if wrong else f'not met: {", ".join(lost)}' if lost else 'NOT NOTICED'
         unnoticed += not (wrong or lost)
         print(f'{breakage.name}: {told}', flush=True)
+    return unnoticed + check_broken_slots(seed, count)
+
+
+def check_broken_slots(seed, count):
+    """The same of slots, by walks of scripts with many sends."""
+    unnoticed = 0
+    for breakage in slots_faults.order_faults():
+        with mock.patch.object(breakage.owner, breakage.attribute, breakage.replacement):
+            _, wrong = check(seed, count, to_end=False, drawn=walks_of_sends)
+        unnoticed += not wrong
+        print(f'{breakage.name}: {wrong[0] if wrong else "NOT NOTICED"}', flush=True)
     return unnoticed
 
 

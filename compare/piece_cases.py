@@ -7,10 +7,11 @@ from itertools import islice
 from random import Random
 
 import explorer
-from debugger import MODES, RENDEZVOUS
+from debugger import RENDEZVOUS
 from explore_cases import next_to, random_case
 from explorer import MOST_PIECES, MOST_SPLIT, MOST_WORKERS, USUAL, Run, part, pieces
 from language import Fault
+from modes import is_mode
 from witness import Verification
 
 SPLITS = (None, None, None, 0, 0, 1, 2, 2, 3, 4, 5, 6, 7, 8)
@@ -24,11 +25,13 @@ MANY_RANKS = 8
 # A script of more leaves is not cut where as many runs are listed of a piece as there are without an option.
 FEW_LEAVES = 300
 HIGH_PIECES = (300, 1023)
+# Of so many scripts one is checked in several modes, one after another.
+MODES_EVERY = 7
 
 
 def script_of(case):
     """The script of a case that is explored; None where the case is refused before."""
-    if case.script is None or case.asked.mode not in (None, *MODES):
+    if case.script is None or case.asked.mode is not None and not is_mode(case.asked.mode):
         return None
     try:
         return explorer.read_script(case.script)
@@ -111,10 +114,13 @@ def one_piece(random, script, asked):
 
 
 def beside(seed, number, case, script):
-    """The same script once more: how many pieces it has, one of them, up to its first deadlock, or with other workers and witnesses."""
+    """The same script once more: in several modes, how many pieces it has, one of them, up to its first deadlock, or with other workers
+    and witnesses."""
     random = Random(f'beside/{seed}/{number}')
     asked, draw = case.asked, random.random()
-    if draw < 0.15:
+    if number % MODES_EVERY == MODES_EVERY - 1:
+        other, name = asked._replace(modes=number // MODES_EVERY % 4), 'modes'
+    elif draw < 0.15:
         other, name = asked._replace(pieces=True), 'pieces'
     elif draw < 0.5:
         other, name = asked._replace(piece=one_piece(random, script, asked), until=random.random() < 0.3), 'piece'

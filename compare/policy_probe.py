@@ -1,7 +1,8 @@
 """Compares decisions, breakpoints, runs forward and back, and what else a trail can do, as the crates answer them, with the model.
 
-    python3 compare/policy_probe.py                 300 random scripts, in both modes, and 150 of version 2
-    python3 compare/policy_probe.py --version 1     crates that know version 1 alone
+    python3 compare/policy_probe.py                 300 random scripts, in all modes, and 150 of version 2
+    python3 compare/policy_probe.py --two-modes     crates that have no modes `slots:K`
+    python3 compare/policy_probe.py --version 1     crates that know version 1 alone, and two modes
     python3 compare/policy_probe.py --planted       each wrong body of compare/probe/broken-policy/ too, in a copy of its own
 
 No trace word tells what these do. So a copy of the program is made that takes words for them (compare/policy_words.py): compare/probe/
@@ -28,9 +29,10 @@ import policy_faults
 import waitany_faults
 import walks
 from cases import KINDS
-from debugger import MODES, divided, rank_state
+from debugger import divided, rank_state
 from explore_cases import Beside
 from language import Fault, read_script, read_up_to
+from modes import MODES, by_turns, has_slots, know_modes
 from policy_words import Driven
 from probing import DIVIDER, PROBES, TOP, Batch, Change, Probe, Walked, batches, report, tried
 
@@ -40,6 +42,7 @@ CHOSEN = ('wildcards', 'wildcards', 'trails', 'barriers', 'exchanges', 'requests
 CHOSEN_OF_2 = ('waitany',)
 FORWARD = walks.Habits(show=(0.0,), back=(0.0, 0.05), any_step=(0.0, 0.1), odd=(0.0,), backs=(0, 1, 2, 5), along=(0.0, 0.1),
                        redos=(0, 1, 2, 5))
+SLOTS = 'slots:'
 # Behind so many steps nothing is asked any more: what a script does for ever would make it long.
 MOST_DEPTH = 150
 CHUNK = 20
@@ -129,7 +132,8 @@ class Walk:
 def walked(seed, number):
     """The walk of this number; None where its script can't be read, or there is nothing to ask."""
     kinds = CHOSEN_OF_2 if isinstance(seed, Beside) else CHOSEN
-    kind, mode = kinds[number % len(kinds)], MODES[number // len(kinds) % 2]
+    kind, turn = kinds[number % len(kinds)], number // len(kinds)
+    mode = by_turns(MODES[turn % 2], turn)
     random = Random(f'policy/{kind}/{seed}/{number}')
     script = divided(KINDS[kind].draw(random, mode))[0]
     try:
@@ -146,15 +150,24 @@ def walked(seed, number):
     if random.random() < 0.05:
         walk.fill()
     walk.take('show')
-    data = mode[:1].encode() + script + b'\1' + ''.join(f'{line}\n' for line in walk.lines).encode('latin-1')
+    data = letter_of(mode) + script + b'\1' + ''.join(f'{line}\n' for line in walk.lines).encode('latin-1')
     return Walked(f'{seed}-{number}-{mode}', data, expected(data), walk.met)
+
+
+def letter_of(mode):
+    """The byte that names a mode: its first letter, or how many slots it has."""
+    return (mode[:1] if mode in MODES else mode.removeprefix(SLOTS)).encode()
+
+
+def mode_by(letter):
+    """The mode that a byte names."""
+    return next((mode for mode in MODES if letter_of(mode) == letter), SLOTS + letter.decode())
 
 
 def expected(data):
     """What the copy writes for an input."""
     script, _, words = data[1:].partition(b'\1')
-    mode = next(mode for mode in MODES if mode[:1].encode() == data[:1])
-    driven = Driven(read_script(script), mode)
+    driven = Driven(read_script(script), mode_by(data[:1]))
     lines = [line.removesuffix(b'\r') for line in words.split(b'\n')[:-1]]
     answers = [driven.answer(line) for line in lines]
     return ''.join(f'{text}\n' for text in answers if text is not None).encode() + b'ended' + DIVIDER
@@ -237,6 +250,7 @@ def arguments():
     parser = argparse.ArgumentParser(description=__doc__, formatter_class=argparse.RawDescriptionHelpFormatter)
     parser.add_argument('--count', type=int, default=300, help='how many scripts of version 1 (300), and half as many of version 2')
     parser.add_argument('--version', type=int, choices=[1, 2], default=2, help='the last version that the crates know (2)')
+    parser.add_argument('--two-modes', action='store_true', help='the crates have no modes `slots:K`')
     parser.add_argument('--seed', type=int, default=1, help='another seed gives other scripts (1)')
     parser.add_argument('--planted', action='store_true', help='plant the wrong bodies too: a build for each')
     parser.add_argument('--model', action='store_true', help='make no copy: only see that the walks meet all, and notice each fault')
@@ -255,12 +269,18 @@ def unnoticed_in_model(pool, walks):
     return len(names)
 
 
+def know(chosen):
+    """Has the model know what the crates do."""
+    read_up_to(chosen.version)
+    know_modes(has_slots(chosen))
+
+
 def main():
     chosen = arguments()
     os.chdir(TOP)
     began = time.monotonic()
-    read_up_to(chosen.version)
-    with ProcessPoolExecutor(chosen.jobs, initializer=read_up_to, initargs=(chosen.version,)) as pool:
+    know(chosen)
+    with ProcessPoolExecutor(chosen.jobs, initializer=know, initargs=(chosen,)) as pool:
         walks = all_walked(pool, chosen.seed, chosen.count)
         walks += all_walked(pool, Beside(chosen.seed), chosen.count // 2) if chosen.version > 1 else []
         met = sum((walk.met for walk in walks), Counter())

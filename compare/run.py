@@ -1,7 +1,8 @@
 """Compares a program with the model, byte for byte, on many inputs: the same ones for the same seed and count.
 
-    python3 compare/run.py PROGRAM                 2,000 inputs of version 1, of all kinds, and 500 of version 2
-    python3 compare/run.py PROGRAM --version 1     a program that knows version 1 alone: no other inputs, and a model of that
+    python3 compare/run.py PROGRAM                 2,000 inputs of version 1, of all kinds, 500 of version 2, and 500 that show slots
+    python3 compare/run.py PROGRAM --two-modes     a program that has no modes `slots:K`: no inputs in one, and a model of that
+    python3 compare/run.py PROGRAM --version 1     a program that knows version 1 alone: no other inputs, and a model of that; two modes
     python3 compare/run.py --broken                faults of the model, each noticed; with no program the sound model stands for it
 
 The status is 0 where inputs were compared and none differed. A program that crashes, takes too long, too much memory or
@@ -17,11 +18,13 @@ from concurrent.futures import ProcessPoolExecutor
 from typing import NamedTuple
 from unittest import mock
 
+import slots_faults
 import waitany_faults
 from breakages import breakages
 from cases import KINDS, counts_up_to, random_case, shares
 from debugger import Result, answer, answer_file, answer_packets
 from language import read_script, read_up_to
+from modes import has_slots, know_modes
 from runs import limit, run_at_once, run_in_packets
 
 CHUNK = 8
@@ -99,7 +102,13 @@ def report(folder, kind, count, found):
 def prepare(chosen):
     """Readies a process for its part of a run."""
     limit(chosen.memory, chosen.output)
+    know(chosen)
+
+
+def know(chosen):
+    """Has the model know what the program does."""
     read_up_to(chosen.version)
+    know_modes(has_slots(chosen))
 
 
 def counts_of(chosen):
@@ -155,13 +164,20 @@ def count_noticed(chosen, breakage):
     return noticed
 
 
+def faults(chosen):
+    """The faults of what the program knows."""
+    kinds = counts_up_to(chosen.version, chosen.count)
+    return [fault for fault in (*breakages(), *waitany_faults.breakages(), *slots_faults.breakages()) if fault.kind in kinds]
+
+
 def arguments():
     parser = argparse.ArgumentParser(description=__doc__, formatter_class=argparse.RawDescriptionHelpFormatter)
     parser.add_argument('program', nargs='?', metavar='PROGRAM')
     parser.add_argument('--count', type=int, default=2000,
-                        help='inputs of version 1 (2000), a quarter of these of version 2 beside them; with --kind inputs in all; with '
-                        '--broken, of each kind')
+                        help='inputs of version 1 (2000), a quarter of these of version 2 beside them, and a quarter that show slots; with '
+                        '--kind inputs in all; with --broken, of each kind')
     parser.add_argument('--version', type=int, choices=[1, 2], default=2, help='the last version that the program knows (2)')
+    parser.add_argument('--two-modes', action='store_true', help='the program has no modes `slots:K`')
     parser.add_argument('--seed', type=int, default=1, help='another seed gives other inputs (1)')
     parser.add_argument('--kind', action='append', choices=list(KINDS), help='only this kind; may be given again')
     parser.add_argument('--packets', action='store_true', help='each input cut into reads, and not only every third')
@@ -185,12 +201,11 @@ def arguments():
 
 def main():
     chosen = arguments()
-    read_up_to(chosen.version)
+    know(chosen)
     if chosen.write:
         return write_cases(chosen)
     if chosen.broken:
-        noticed = [count_noticed(chosen, breakage) for breakage in [*breakages(), *waitany_faults.breakages()]
-                   if KINDS[breakage.kind].version <= chosen.version]
+        noticed = [count_noticed(chosen, breakage) for breakage in faults(chosen)]
         return 0 if all(noticed) else 1
     began = time.monotonic()
     folder = []

@@ -1,6 +1,7 @@
 """Tries `serve` of a program over sockets: clients that share a session, each in a scenario of its own, and what they are told.
 
     python3 compare/serving.py PROGRAM             all scenarios
+    python3 compare/serving.py PROGRAM --two-modes a program that has no modes `slots:K`
     python3 compare/serving.py PROGRAM --broken    and a stand-in: without a fault, and with each of its faults, which must be noticed
     python3 compare/serving.py --broken            needs no program
 
@@ -20,6 +21,7 @@ from typing import NamedTuple, Optional
 import served_crowds
 import served_leavers
 import served_starts
+from modes import know_modes
 from served_clients import Wrong
 from served_program import Tried
 from stand_in_server_faults import FAULTS
@@ -112,6 +114,7 @@ def arguments():
     parser = argparse.ArgumentParser(description=__doc__, formatter_class=argparse.RawDescriptionHelpFormatter)
     parser.add_argument('program', nargs='?', metavar='PROGRAM')
     parser.add_argument('--broken', action='store_true', help='break the stand-in on purpose; each fault must be noticed')
+    parser.add_argument('--two-modes', action='store_true', help='the program has no modes `slots:K`')
     parser.add_argument('--only', action='append', choices=BY_NAME, metavar='SCENARIO', help='a scenario of PROGRAM in the place of all, by its name')
     parser.add_argument('--seed', type=int, default=1, help='another seed gives other crowds and sessions (1)')
     parser.add_argument('--crowd', type=int, default=1200, help='how many lines each client of a crowd sends (1200)')
@@ -128,6 +131,7 @@ def arguments():
 
 def main():
     chosen, wrong = arguments(), 0
+    know_modes(not chosen.two_modes)
     with ProcessPoolExecutor(chosen.jobs) as pool:
         if chosen.program:
             program = Tried((os.path.abspath(chosen.program),), chosen.seed, chosen.sessions, chosen.crowd, seconds=chosen.seconds)

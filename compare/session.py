@@ -15,10 +15,11 @@ import debugger
 import explorer
 import order
 import policy
-from debugger import (BAD_FILE, BAD_MODE, MODES, MOST_READS, RENDEZVOUS, CallId, Debugger, Result, call_line, enabled_steps, file_content,
+from debugger import (BAD_FILE, BAD_MODE, MOST_READS, RENDEZVOUS, CallId, Debugger, Result, call_line, enabled_steps, file_content,
                       find_call, lines_of, next_world, outcome, rank_state, record_line, refusal, step_of, step_text)
 from json_text import LARGEST_UNSIGNED, NoJson, read_json
 from language import Fault, read_script
+from modes import is_mode
 from policy import BREAK, Breaks, ChangeBreak, Choice, Forced, LineBreak, MatchBreak
 
 LONGEST_LINE = 4096
@@ -343,7 +344,7 @@ def replies(session, data):
 
 def serve(text, data, mode=RENDEZVOUS):
     """The result for the text of a script, which is None where its file can't be read, and an input of requests."""
-    if mode not in MODES:
+    if not is_mode(mode):
         return BAD_MODE
     if text is None:
         return BAD_FILE

@@ -9,12 +9,14 @@ import explorer
 import policy
 import session_lines
 from cases import KINDS as TRACED
-from debugger import MODES, RENDEZVOUS, Debugger, enabled_steps, lines_of, parted
+from debugger import RENDEZVOUS, Debugger, enabled_steps, lines_of, parted
 from canonical import canonical
 from explore_cases import KINDS as EXPLORED, KINDS_OF_2, Beside, kind_of, script_of
 from language import Fault, read_script
+from modes import MODES, by_turns, slots_of
 from policy import Choice, Forced
 from session import Refused, Session, answer_line, parse, serve
+from slots_cases import script_of as script_of_sends
 from walks import random_step, respaced, step_line
 
 CHOSEN_OF_TRACED = ('requests', 'wildcards', 'barriers', 'exchanges', 'trails', 'states', 'traps', 'arrays')
@@ -250,7 +252,9 @@ def on_lines(random, script):
 
 
 def script_by(seed, random, mode):
-    """A script of a seed: of any kind of its version."""
+    """A script of a seed: of any kind of its version; half of those in a mode of slots have many sends."""
+    if slots_of(mode) is not None and random.random() < 0.5:
+        return on_lines(random, script_of_sends(random))
     if isinstance(seed, Beside):
         return on_lines(random, script_of(random, KINDS_OF_2[kind_of(random, KINDS_OF_2)]))
     return script_for(random, mode)
@@ -261,7 +265,7 @@ def script_for(random, mode):
     if random.random() < 0.75:
         return on_lines(random, script_of(random, EXPLORED[kind_of(random)]))
     kind = TRACED[random.choice(CHOSEN_OF_TRACED)]
-    return on_lines(random, parted(kind.draw(random, mode) if mode in kind.ways else kind.draw(random))[0])
+    return on_lines(random, parted(kind.draw(random, mode) if len(kind.ways) > 1 else kind.draw(random))[0])
 
 
 class Case(NamedTuple):
@@ -307,7 +311,7 @@ def in_pieces(random, data):
 def random_case(seed, number):
     """One session, the same each time."""
     random = Random(f'sessions/{seed}/{number}')
-    mode = random.choice(MODES)
+    mode = by_turns(random.choice(MODES), number)
     script, way, habits = script_by(seed, random, mode), WAYS[number % len(WAYS)], random.choice(ALL_HABITS)
     try:
         talk = Talk(random, script, mode, habits)

@@ -10,13 +10,16 @@ import os
 import resource
 import tempfile
 
+import worked_slots
 import worked_waitany
 from debugger import MOST_READS, Result
 from devices import SECONDS, Files, at_terminal, broken_off, device, file_of_any_size, full, refused, soft_limit, unread_pipe
+from modes import KNOWN
 from runs import file_of, held, run_in_packets
 from session import serve
 from shims import built
-from worked_program import BAD_MODE, INPUT, NO_FILE, OUTPUT, SCRIPT, Failing, of_each_version
+from usage_texts import NO_MODE, known
+from worked_program import BAD_MODE, INPUT, NO_FILE, OUTPUT, SCRIPT, Failing, of_what_is_known
 from worked_runs import FIRST, HEAD_TO_HEAD
 from worked_sessions import DIALOGUES, RUN, STATE, deep, no, ran, step, tested_differently, tested_input
 
@@ -69,7 +72,8 @@ def word_rows(folder):
     yield 'buffered', folder.run(both, '--mode', 'buffered', data=asked), passes
     yield 'buffered first', folder.run('--mode=buffered', both, data=asked), passes
     yield 'a file behind --', folder.run('--mode', 'buffered', '--', both, data=asked), passes
-    for mode in ('buffer', '', 'Buffered', 'buffered ', 'slots:1', 'rendezvous buffered'):
+    yield from ((f'mode {mode!r}', folder.run(both, '--mode', mode, data=asked), passes) for mode in ('slots:1', 'slots:65536') * bool(KNOWN))
+    for mode in ('buffer', '', 'Buffered', 'buffered ', 'slots:', 'slots:65537', 'rendezvous buffered', *(() if KNOWN else ('slots:1',))):
         yield f'mode {mode!r}', folder.run(first, '--mode', mode), BAD_MODE
     yield 'a mode before a missing file', folder.run(missing, '--mode', 'none'), BAD_MODE
     yield 'a mode before a bad script', folder.run(bad, '--mode', 'none'), BAD_MODE
@@ -171,7 +175,7 @@ def terminal_rows(folder):
     yield 'a terminal, a bad script', at_terminal(folder.program, 'run', bad, data=DATA), Result(b'', told, 2)
     missing = os.path.join(folder.path, 'none')
     yield 'a terminal, no file', at_terminal(folder.program, 'run', missing), Result(b'', f"mpdbg: device\n  '{missing}': no such file\n".encode(), 3)
-    modes = b"mpdbg: bad mode\n  'x' is none; the modes are rendezvous and buffered\n"
+    modes = f'mpdbg: bad mode\n  {known(NO_MODE).format("x")}\n'.encode()
     yield 'a terminal, no mode', at_terminal(folder.program, 'run', first, '--mode', 'x'), Result(b'', modes, 2)
     full_output = at_terminal(folder.program, 'run', first, data=DATA, output=full())
     yield 'a terminal, output full', full_output, Result(b'', HINT + b'mpdbg: device\n  standard output: no space left\n', 3)
@@ -218,7 +222,7 @@ def much_rows(folder):
 
 def dialogue_rows(folder):
     """The worked dialogues, but for those with fewer steps in a trail; compare/checked.py has the checked program answer them."""
-    for row in of_each_version(DIALOGUES, worked_waitany.DIALOGUES):
+    for row in of_what_is_known(DIALOGUES, worked_waitany.DIALOGUES, worked_slots.DIALOGUES):
         if row.limit is None:
             result = folder.run(folder.file('dialogue', row.script.encode()), '--mode', row.mode, data=row.asked())
             yield row.what, result, Result(row.wanted(), b'', 0)

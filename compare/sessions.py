@@ -1,10 +1,11 @@
 """Compares what `run` of a program replies with the model, byte for byte: the same sessions for the same seed and count.
 
     python3 compare/sessions.py PROGRAM             the worked dialogues, 300 random sessions of scripts of version 1, and 75 of version 2
-    python3 compare/sessions.py PROGRAM --version 1 a program that knows version 1 alone
+    python3 compare/sessions.py PROGRAM --two-modes a program that has no modes `slots:K`
+    python3 compare/sessions.py PROGRAM --version 1 a program that knows version 1 alone, and two modes
     python3 compare/sessions.py --broken            faults of the model, each noticed; with no program the sound model stands for it
 
-Each session is a script in a file, in one mode or the other, and lines of requests on standard input (session_cases.py), among them
+Each session is a script in a file, in some mode, and lines of requests on standard input (session_cases.py), among them
 lines that are spoiled in every way (session_lines.py). A third is given at once; a third in pieces, each of which is one read of the
 program, whatever lines it ends in; and of a third each line is written only when the reply to the one before it has come, so that a
 program that reads on before it replies never ends. Replies, standard error and status must be the model's. The status is 0 where
@@ -23,13 +24,17 @@ from functools import cache
 from typing import NamedTuple, Optional
 from unittest import mock
 
+import session
+import slots_faults
 import waitany_faults
+import worked_slots
 import worked_waitany
 from cases import BESIDE
 from debugger import Result
 from explore import first_different
 from explore_cases import Beside
 from language import read_up_to
+from modes import has_slots, know_modes, slots_of
 from runs import held, limit, run_at_once, run_in_packets
 from session import FIELDS, NAMES, lines_of, read_json
 from session_cases import WAYS, Case, random_case
@@ -52,6 +57,8 @@ TOLD = ('a null', 'a number below 0', 'a number printed', 'outcome done', 'outco
         'a stop by match', 'a stop by change')
 # What must be met of version 2.
 TOLD_OF_2 = ('a choice of wakes by a handle', 'a wake by a handle', 'a wait for any', 'a wait for any of nothing')
+# What must be met of modes of slots.
+TOLD_OF_SLOTS = ('a session in slots', 'a buffered send', 'a buffered send that is matched', 'a standard send that is not buffered')
 MUST_MEET = (*(f'{command} ok' for command in FIELDS), *NAMES.values(), *(f'stop {stop}' for stop in STOPS), *TOLD, *WAYS, *KINDS)
 
 
@@ -136,7 +143,18 @@ def met_in(case, wanted):
     """The same of a session."""
     if wanted.status:
         return Counter({'a script that is refused': 1})
-    return case.met + met_in_session(case.data, wanted.output) + Counter({case.way: 1})
+    return case.met + met_in_session(case.data, wanted.output) + Counter({case.way: 1}) + met_of_slots(case, wanted)
+
+
+def met_of_slots(case, wanted):
+    """The same of one in a mode of slots."""
+    if case.mode is None or slots_of(case.mode) is None:
+        return Counter()
+    calls = [text for line in wanted.output.splitlines() for text in json.loads(line).get('calls', []) if text.startswith(('send', 'isend'))]
+    buffered = [' buffered' in text for text in calls]
+    matched = sum(' buffered with ' in text for text in calls)
+    return Counter({'a session in slots': 1, 'a buffered send': sum(buffered), 'a buffered send that is matched': matched,
+                    'a standard send that is not buffered': len(calls) - sum(buffered)})
 
 
 # ---- comparing
@@ -162,9 +180,9 @@ def compare_chunk(chosen, numbers):
     return count, found, met
 
 
-def worked_cases(version):
+def worked_cases(chosen):
     """The worked dialogues that a program can be asked, each way, and the worked inputs, each with what must be answered."""
-    for row in DIALOGUES + LONG + worked_waitany.DIALOGUES * (version > 1):
+    for row in DIALOGUES + LONG + worked_waitany.DIALOGUES * (chosen.version > 1) + worked_slots.DIALOGUES * has_slots(chosen):
         if row.limit is None:
             pieces = tuple(f'{line}\n'.encode('latin-1') for line, _ in row.turns)
             for way in ('at once', 'turn by turn')[:1 if row in LONG else 2]:
@@ -190,7 +208,7 @@ def worked_problem(chosen, case, wanted):
 
 def compare_worked(chosen, pool):
     """Compares the worked dialogues; gives how many differ, and what was met."""
-    cases = list(worked_cases(chosen.version))
+    cases = list(worked_cases(chosen))
     problems = [problem for problem in pool.map(worked_problem, [chosen] * len(cases), *zip(*cases)) if problem]
     result = run(chosen, Case('lines', FIRST.encode(), None, (tested_input(),), 'at once', Counter()))
     problems += tested_differently(result.output) + [f'{result.status}'] * (result.status != 0)
@@ -226,7 +244,7 @@ def compare_random(chosen, pool):
 
 def unmet(chosen, met):
     """Says what was met; gives how much was not that must be."""
-    must_meet = MUST_MEET + TOLD_OF_2 * (chosen.version > 1)
+    must_meet = MUST_MEET + TOLD_OF_2 * (chosen.version > 1) + TOLD_OF_SLOTS * has_slots(chosen)
     print('; '.join(f'{name} {met[name]}' for name in must_meet))
     missed = [name for name in must_meet if not met[name]] if chosen.count >= MANY else []
     for name in missed:
@@ -236,10 +254,19 @@ def unmet(chosen, met):
 
 # ---- broken models
 
-def breakages(version):
-    """All faults of the model that reads scripts up to this version."""
-    found = session_faults.breakages() + session_line_faults.breakages()
-    return found + breakages_of_2() if version > 1 else found
+class Faults(NamedTuple):
+    """Faults of the model, the worked dialogues that may notice them, and what is chosen for the sessions that may."""
+    faults: list
+    dialogues: tuple
+    chosen: object
+
+
+def breakages(chosen):
+    """All faults of what the program knows, each with what may notice it."""
+    parts = [Faults(session_faults.breakages() + session_line_faults.breakages(), DIALOGUES, chosen)]
+    parts += [Faults(breakages_of_2(), worked_waitany.DIALOGUES, beside(chosen))] * (chosen.version > 1)
+    parts += [Faults(slots_faults.session_faults(session), worked_slots.DIALOGUES, chosen)] * has_slots(chosen)
+    return [(fault, part.dialogues, part.chosen) for part in parts for fault in part.faults]
 
 
 def breakages_of_2():
@@ -256,14 +283,13 @@ def heard(chosen, number):
 
 def is_noticed(chosen, place):
     """By what a fault of the model is noticed: a worked dialogue, or a session in which it says otherwise; None where it isn't."""
-    fault = breakages(chosen.version)[place]
-    is_of_2 = place >= len(breakages(1))
+    fault, dialogues, chosen = breakages(chosen)[place]
     with mock.patch.object(fault.owner, fault.attribute, fault.replacement):
-        if any(map(dialogue_problem, worked_waitany.DIALOGUES if is_of_2 else DIALOGUES)):
+        if any(map(dialogue_problem, dialogues)):
             return 'a dialogue'
         if any(tested_problem(*row) for row in TESTED):
             return 'a line'
-    return noticing_session(beside(chosen) if is_of_2 else chosen, fault)
+    return noticing_session(chosen, fault)
 
 
 def noticing_session(chosen, fault):
@@ -278,7 +304,7 @@ def noticing_session(chosen, fault):
 
 def compare_broken(chosen, pool):
     """How many faults of the model are not noticed."""
-    faults = breakages(chosen.version)
+    faults = [fault for fault, _, _ in breakages(chosen)]
     if any(map(dialogue_problem, DIALOGUES)) or any(tested_problem(*row) for row in TESTED):
         print('the sound model itself answers a dialogue otherwise: compare/worked.py tells which')
         return len(faults)
@@ -295,6 +321,7 @@ class Chosen(NamedTuple):
     count: int
     seed: object
     version: int
+    two_modes: bool
     broken: bool
     jobs: int
     seconds: float
@@ -306,6 +333,7 @@ def prepare(chosen):
     """Readies a process for its part of a run."""
     limit(chosen.memory, chosen.output)
     read_up_to(chosen.version)
+    know_modes(has_slots(chosen))
 
 
 def arguments():
@@ -314,6 +342,7 @@ def arguments():
     parser.add_argument('--count', type=int, default=300,
                         help='how many sessions of scripts of version 1 (300), and a quarter of these of version 2')
     parser.add_argument('--version', type=int, choices=[1, 2], default=2, help='the last version that the program knows (2)')
+    parser.add_argument('--two-modes', action='store_true', help='the program has no modes `slots:K`')
     parser.add_argument('--seed', type=int, default=1, help='another seed gives other sessions (1)')
     parser.add_argument('--broken', action='store_true', help='break the model on purpose; each fault must be noticed')
     parser.add_argument('--jobs', type=int, default=len(os.sched_getaffinity(0)), help='how many processes (one for each core)')

@@ -12,8 +12,9 @@ import socket
 import sys
 import threading
 
-from debugger import BAD_FILE, BAD_MODE, MODES, RENDEZVOUS, file_content, refusal
+from debugger import BAD_FILE, BAD_MODE, RENDEZVOUS, file_content, refusal
 from language import Fault, read_script
+from modes import is_mode
 from session import LONGEST_LINE, Refused, Session, parse, reply_bytes
 
 HERE, READ, MOST_ENTRIES = '127.0.0.1', 4096, 65536
@@ -161,7 +162,7 @@ class Ended(Exception):
 
 def session_of(words):
     """The session that the words ask for: mode, file and script are tested in this order."""
-    if words.mode not in MODES:
+    if not is_mode(words.mode):
         raise Ended(BAD_MODE)
     text = file_content(words.file)
     if text is None:

@@ -1,7 +1,8 @@
 """Runs the built program in each way to end: what it writes, what it says on standard error, and its status, each exactly.
 
     python3 compare/statuses.py PROGRAM
-    python3 compare/statuses.py PROGRAM --version 1    a program that knows version 1 of the language alone
+    python3 compare/statuses.py PROGRAM --two-modes    a program that has no modes `slots:K`
+    python3 compare/statuses.py PROGRAM --version 1    a program that knows version 1 of the language alone, and two modes
 
 The examples, and the worked rows of compare/worked_program.py; devices that are full, closed, broken off, too short or interrupted;
 each fault of a script; the words of the command line, and the order in which they are tested; a script from a file; a refused
@@ -28,12 +29,14 @@ from device_statuses import ROWS as DEVICE_ROWS
 from devices import SECONDS, Files, at_terminal, broken_off, device, file_of_any_size, full, refused, soft_limit, unread_pipe
 from examples import EXAMPLES, checks, example_names, lessons, open_example, strays
 from language import MOST_OPEN_BLOCKS, MOST_OPERATORS, read_script, read_up_to
+from modes import KNOWN, know_modes
 from part_statuses import ROWS as PART_ROWS
 from runs import file_of, run_in_packets
 from session_statuses import ROWS as SESSION_ROWS
 from shims import built
-from usage_texts import ANSWERS, BEFORE_A_MODE, MISTAKES, NO_TEXT
+from usage_texts import ANSWERS, BEFORE_A_MODE, MISTAKES, NO_MODE, NO_TEXT, known
 from worked_program import ROWS as WORKED_ROWS
+from worked_slots import NONE as BAD_SLOTS
 
 HERE = os.path.dirname(os.path.abspath(__file__))
 # What the deepest scripts are run with (docs/LANGUAGE.md, "Limits").
@@ -208,7 +211,7 @@ def no_input(program, *words):
 def usage_rows(program):
     """Words that ask for help (status 0) or are wrong (2), with the whole text of each."""
     for words, text in ANSWERS:
-        yield f'asked for {words}', no_input(program, *words.split('|')), Result(text.encode(), b'', 0)
+        yield f'asked for {words}', no_input(program, *words.split('|')), Result(known(text).encode(), b'', 0)
     for mistake in MISTAKES:
         yield f'mistaken {mistake.words}', no_input(program, *mistake.words.split('|')), wrong_words(mistake)
     yield 'no text', no_input(program, 'trace', b'\xff'), wrong_words(NO_TEXT)
@@ -245,7 +248,11 @@ def trace_rows(program):
         yield 'buffered', traced(exchange, '--mode', 'buffered'), passes
         yield 'buffered first', traced('--mode=buffered', exchange), passes
         yield 'a file behind --', traced('--mode', 'buffered', '--', exchange), passes
-        for mode in ('buffer', '', 'Buffered', 'buffered ', 'rendezvous buffered'):
+        for mode in ('slots:1', 'slots:65536', 'slots:00001') * bool(KNOWN):
+            yield f'mode {mode!r}', traced(exchange, '--mode', mode), passes
+        for mode in ('slots:0', 'slots:00000') * bool(KNOWN):
+            yield f'mode {mode!r}', traced(exchange, '--mode', mode), waits
+        for mode in ('buffer', '', 'Buffered', 'buffered ', 'rendezvous buffered', *(() if KNOWN else ('slots:1',)), *BAD_SLOTS):
             yield f'mode {mode!r}', traced(exchange, '--mode', mode), BAD_MODE
         words = BEFORE_A_MODE.words.format(FILE=exchange).split('|')
         yield 'a word before a mode', Files(file_of(WORDS)).run(program, *words), wrong_words(BEFORE_A_MODE)
@@ -377,8 +384,8 @@ def why_rows(program):
         for name, reason in reasons:
             for words in (('trace', name), ('check', name, '--witness'), ('verify', name, script), ('verify', script, name)):
                 yield f'a terminal, {words}', at_terminal(program, *words, LD_PRELOAD=shim), why(f"'{name}': {reason}")
-        for word in ('none', '', 'Buffered'):
-            wanted = BAD_MODE._replace(errors=BAD_MODE.errors + f"  '{word}' is none; the modes are rendezvous and buffered\n".encode())
+        for word in ('none', '', 'Buffered', 'slots:', 'slots:65537'):
+            wanted = BAD_MODE._replace(errors=BAD_MODE.errors + f'  {known(NO_MODE).format(word)}\n'.encode())
             yield f'a terminal, mode {word!r}', at_terminal(program, 'trace', script, '--mode', word), wanted
         yield 'a terminal, output full', at_terminal(program, data=SESSION, output=full()), why('standard output: no space left')
         yield 'a terminal, help and output full', at_terminal(program, '--help', output=full()), why('standard output: no space left')
@@ -486,11 +493,26 @@ SUMMED = (
     ('race', '--split 0 --runs 1 --complete', 1, 'not everything was tried: 1 run was listed, and there are more (--runs)'),
 )
 
+# In a mode of slots a send is buffered or not by what was matched before it, so again a report tells of its runs alone.
+BY_ORDER = 'which sends are buffered may depend on the order of steps'
+SUMMED_IN_SLOTS = (
+    ('first_message', '--mode slots:1', 0, f'not everything was tried: {BY_ORDER}'),
+    ('first_message', '--mode slots:0 --complete', 4, f'not everything was tried: {BY_ORDER}'),
+    ('first_message', '--mode slots:65536 --complete', 4, f'not everything was tried: {BY_ORDER}'),
+    ('first_message', '--mode slots:1 --fuel 1 --complete', 4, f'not everything was tried: 1 run was cut (--fuel), {BY_ORDER}'),
+    ('first_message', '--mode slots:1 --piece 0', 0, f'not everything was tried: {BY_ORDER}'),
+    ('head_to_head', '--mode slots:0', 1, f'not everything was tried: {BY_ORDER}'),
+    ('head_to_head', '--mode slots:0 --complete', 1, f'not everything was tried: {BY_ORDER}'),
+    ('trap', '--mode slots:2', 1, f'not everything was tried: {BY_ORDER}'),
+    ('waitany', '--mode slots:0', 0, f'not everything was tried: what a waitany takes may depend on the order of steps, {BY_ORDER}'),
+    ('waitany', '--mode slots:0 --complete', 4, f'not everything was tried: what a waitany takes may depend on the order of steps, {BY_ORDER}'),
+)
+
 
 def summed_rows(program):
     """At a terminal, and there alone, a line below a report says whether everything was tried, and how the script can end; with
     `--complete` a report that isn't whole and has nothing bad has a status of its own."""
-    for name, options, status, line in SUMMED:
+    for name, options, status, line in SUMMED + SUMMED_IN_SLOTS * bool(KNOWN):
         words = ('check', os.path.join(EXAMPLES, f'{name}.mpd'), *options.split())
         result = at_terminal(program, *words)
         yield f'a terminal, check {name} {options}', (result.errors, result.status), (line.encode() + b'\n', status)
@@ -545,10 +567,11 @@ ROWS = (ended_rows, example_rows, refused_rows, device_rows, usage_rows, trace_r
 
 
 def main():
-    if sys.argv[2:] not in ([], ['--version', '1']) or len(sys.argv) < 2:
+    if sys.argv[2:] not in ([], ['--two-modes'], ['--version', '1']) or len(sys.argv) < 2:
         sys.exit(__doc__)
-    if sys.argv[2:]:
+    if sys.argv[2:] == ['--version', '1']:
         read_up_to(1)
+    know_modes(not sys.argv[2:])
     program = os.path.abspath(sys.argv[1])
     count = wrong = 0
     for rows in ROWS:

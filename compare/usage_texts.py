@@ -7,7 +7,10 @@ usage, and where help is. The usage has `[OPTIONS]` where nothing that was given
 required alone: options first, those that are required before others, and then the words of files.
 """
 
+import re
 from typing import NamedTuple
+
+from modes import KNOWN
 
 PROGRAM = """\
 A reversible debugger of small MPI rank scripts.
@@ -41,7 +44,7 @@ Arguments:
   <FILE>  The script
 
 Options:
-      --mode <M>  How standard sends behave: rendezvous or buffered [default: rendezvous]
+      --mode <M>  How standard sends behave: rendezvous, buffered, or slots:K with K from 0 to 65536 [default: rendezvous]
   -h, --help      Print help
 
 Trace words stand on standard input, one a line:
@@ -63,7 +66,7 @@ Arguments:
   <FILE>  The script
 
 Options:
-      --mode <M>  How standard sends behave: rendezvous or buffered [default: rendezvous]
+      --mode <M>  How standard sends behave: rendezvous, buffered, or slots:K with K from 0 to 65536 [default: rendezvous]
   -h, --help      Print help
 
 Requests stand on standard input, a JSON object on each line, and each is answered by one line:
@@ -84,7 +87,7 @@ Arguments:
   <FILE>  The script
 
 Options:
-      --mode <M>     How standard sends behave: rendezvous or buffered [default: rendezvous]
+      --mode <M>     How standard sends behave: rendezvous, buffered, or slots:K with K from 0 to 65536 [default: rendezvous]
       --port <P>     The port that it listens on, 1 to 65535
       --clients <N>  How many clients it answers, 1 to 16
   -h, --help         Print help
@@ -106,7 +109,8 @@ Arguments:
   <FILE>  The script
 
 Options:
-      --mode <M>     How standard sends behave: rendezvous or buffered [default: rendezvous]
+      --mode <M>     How standard sends behave: rendezvous, buffered, or slots:K with K from 0 to 65536 [default: rendezvous]
+      --modes <N>    Try rendezvous, slots:1 to slots:N and buffered in place of one mode, 0 to 1000
       --runs <N>     How many runs of each piece are tried at most, 1 to 65536 [default: 1000]
       --fuel <N>     How many steps each run takes at most, 1 to 1000000 [default: 100000]
       --split <K>    By how many choices the runs are cut into pieces, 0 to 8 [default: 1]
@@ -132,7 +136,7 @@ Arguments:
   <WITNESS>  The file of the witness
 
 Options:
-      --mode <M>  How standard sends behave: rendezvous or buffered [default: rendezvous]
+      --mode <M>  How standard sends behave: rendezvous, buffered, or slots:K with K from 0 to 65536 [default: rendezvous]
   -h, --help      Print help
 
 Example:
@@ -141,6 +145,14 @@ Example:
 
 VERSION = 'mpdbg 0.1.0\n'
 
+# What is told of a word that names no mode, at a terminal.
+NO_MODE = "'{}' is none; the modes are rendezvous, buffered, and slots:K with K from 0 to 65536"
+
+
+def known(text):
+    """A text as the program has it: without modes of slots, where it has none of them."""
+    return text if KNOWN else re.sub(', buffered, (and|or) slots:K with K from 0 to 65536', r' \1 buffered', text)
+
 # Words, parted by `|`, and what they print. What stands in front of `--help` isn't looked at.
 ANSWERS = (
     ('--help', PROGRAM), ('-h', PROGRAM), ('help', PROGRAM), ('--version', VERSION), ('-V', VERSION),
@@ -148,7 +160,7 @@ ANSWERS = (
     ('run|--help', RUN), ('run|-h', RUN), ('help|run', RUN), ('run|no-such-file|--mode|no-mode|--help', RUN),
     ('serve|--help', SERVE), ('serve|-h', SERVE), ('help|serve', SERVE), ('serve|no-such-file|--port|1|--mode|no-mode|--help', SERVE),
     ('check|--help', CHECK), ('check|-h', CHECK), ('help|check', CHECK), ('check|a|--runs|5|-h', CHECK),
-    ('check|a|--until|deadlock|--split=8|--workers|0|--piece|1023|--pieces|--help', CHECK),
+    ('check|a|--until|deadlock|--split=8|--workers|0|--piece|1023|--pieces|--help', CHECK), ('check|a|--modes|1000|-h', CHECK),
     ('verify|--help', VERIFY), ('verify|-h', VERIFY), ('help|verify', VERIFY), ('verify|a|b|--help', VERIFY))
 
 NO_COMMAND = 'mpdbg <COMMAND>'
@@ -228,6 +240,7 @@ MISTAKES = (
     missing('serve|a|--mode|buffered|--clients|2', ['--port <P>'], 'mpdbg serve --port <P> --clients <N> --mode <M> <FILE>'),
     missing('check', ['<FILE>'], 'mpdbg check <FILE>'),
     missing('check|--pieces', ['<FILE>'], 'mpdbg check --pieces <FILE>'),
+    missing('check|--modes|4', ['<FILE>'], 'mpdbg check --modes <N> <FILE>'),
     missing('check|--until|deadlock', ['<FILE>'], 'mpdbg check --until <END> <FILE>'),
     missing('verify', ['<FILE>', '<WITNESS>'], 'mpdbg verify <FILE> <WITNESS>'),
     missing('verify|a', ['<WITNESS>'], 'mpdbg verify <FILE> <WITNESS>'),
@@ -242,6 +255,7 @@ MISTAKES = (
     unknown('check|a|--splits|2', '--splits', 'mpdbg check --split <K> <FILE>', "a similar argument exists: '--split'"),
     unknown('check|a|--worker|2', '--worker', 'mpdbg check --workers <N> <FILE>', "a similar argument exists: '--workers'"),
     unknown('check|a|--peice|2', '--peice', 'mpdbg check --piece <N> <FILE>', "a similar argument exists: '--piece'"),
+    unknown('check|a|--mods|4', '--mods', 'mpdbg check --modes <N> <FILE>', "a similar argument exists: '--modes'"),
     unknown('check|a|--untill|deadlock', '--untill', 'mpdbg check --until <END> <FILE>', "a similar argument exists: '--until'"),
     unknown('run|a|--mod|buffered', '--mod', 'mpdbg run --mode <M> <FILE>', "a similar argument exists: '--mode'"),
     hyphened('run|a|--witness', '--witness', 'mpdbg run <FILE>'),
@@ -264,6 +278,7 @@ MISTAKES = (
     hyphened('verify|a|b|--runs|1', '--runs', 'mpdbg verify <FILE> <WITNESS>'),
     hyphened('check|a|--runs|-1', '-1', OF_CHECK),
     hyphened('check|a|--split|-1', '-1', OF_CHECK),
+    hyphened('check|a|--modes|-1', '-1', OF_CHECK),
     Mistake('trace|a|--mode', "a value is required for '--mode <M>' but none was supplied"),
     Mistake('check|a|--fuel', "a value is required for '--fuel <N>' but none was supplied"),
     Mistake('trace|a|--mode|buffered|--mode=buffered', "the argument '--mode <M>' cannot be used multiple times", OF_TRACE),
@@ -276,8 +291,10 @@ MISTAKES = (
     Mistake('verify|a|b|--mode=c|--mode=c', "the argument '--mode <M>' cannot be used multiple times", OF_VERIFY),
     Mistake('check|a|--runs|5|--runs=5', "the argument '--runs <N>' cannot be used multiple times", OF_CHECK),
     Mistake('check|a|--split', "a value is required for '--split <K>' but none was supplied"),
+    Mistake('check|a|--modes', "a value is required for '--modes <N>' but none was supplied"),
     Mistake('check|a|--piece|--pieces', "a value is required for '--piece <N>' but none was supplied"),
     Mistake('check|a|--workers|4|--workers=4', "the argument '--workers <N>' cannot be used multiple times", OF_CHECK),
+    Mistake('check|a|--modes|4|--modes=4', "the argument '--modes <N>' cannot be used multiple times", OF_CHECK),
     Mistake('check|a|--piece=1|--piece=2', "the argument '--piece <N>' cannot be used multiple times", OF_CHECK),
     Mistake('check|a|--until=deadlock|--until=deadlock', "the argument '--until <END>' cannot be used multiple times", OF_CHECK),
     Mistake('check|a|--pieces|--pieces', "the argument '--pieces' cannot be used multiple times", OF_CHECK),
@@ -307,6 +324,9 @@ MISTAKES = (
     bad_number('check|a|--split=two', 'two', 'split', NO_DIGIT, 'K'),
     bad_number('check|a|--workers|1001', '1001', 'workers', '1001 is not in 0..=1000'),
     bad_number('check|a|--workers=', '', 'workers', 'cannot parse integer from empty string'),
+    bad_number('check|a|--modes|1001', '1001', 'modes', '1001 is not in 0..=1000'),
+    bad_number('check|a|--modes=-1', '-1', 'modes', NO_DIGIT),
+    bad_number('check|a|--modes|x', 'x', 'modes', NO_DIGIT),
     bad_number('check|a|--piece|1024', '1024', 'piece', '1024 is not in 0..=1023'),
     bad_number('check|a|--piece=99999999999999999999', '99999999999999999999', 'piece', TOO_LARGE),
     bad_number('check|a|--runs=', '', 'runs', 'cannot parse integer from empty string'),

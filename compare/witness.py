@@ -11,9 +11,10 @@ import sys
 from typing import NamedTuple, Optional
 
 import explorer
-from debugger import BAD_FILE, BAD_MODE, MODES, RENDEZVOUS, Result, call_id_of, file_content, refusal, step_of
+from debugger import BAD_FILE, BAD_MODE, RENDEZVOUS, Result, call_id_of, file_content, refusal, step_of
 from explorer import NO_SUCH_STEP, NOT_STUCK, WRONG_BLOCKED, Witness
 from language import Fault, read_script
+from modes import is_mode
 from runs import held
 
 REFUSAL_NAMES = {NO_SUCH_STEP: 'no-such-step', NOT_STUCK: 'not-stuck', WRONG_BLOCKED: 'wrong-blocked'}
@@ -70,7 +71,7 @@ def told(refused):
 
 def verify(script, text, mode=RENDEZVOUS):
     """The result for the texts of two files, each None where it can't be read: mode, script and witness are tested in this order."""
-    if mode not in MODES:
+    if not is_mode(mode):
         return BAD_MODE
     if script is None:
         return BAD_FILE

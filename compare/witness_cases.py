@@ -7,10 +7,11 @@ some are asked in the other mode, or in none, of a script that is refused, or of
 from random import Random
 from typing import NamedTuple
 
-from debugger import MODES, RENDEZVOUS, CallId, Step, step_text
+from debugger import RENDEZVOUS, CallId, Step, step_text
 from explore_cases import random_case
 from explorer import report, witness
 from language import Fault, read_script
+from modes import MODES, by_turns
 from witness import Verification
 
 RUNS, FUEL = 12, 120
@@ -223,12 +224,12 @@ def changed(random, text):
 
 
 def mode_asked(random, mode):
-    """A mode for a witness of a mode: mostly that one, which may be left out, now and then the other, or none at all."""
+    """A mode for a witness of a mode: mostly that one, which may be left out, now and then another, or none at all."""
     draw = random.random()
     if draw < 0.1:
         return next(other for other in MODES if other != mode)
     if draw < 0.12:
-        return random.choice(['fast', '', 'Buffered'])
+        return random.choice(['fast', '', 'Buffered', 'slots:', 'slots:70000'])
     return None if mode == RENDEZVOUS and draw < 0.5 else mode
 
 
@@ -246,7 +247,7 @@ def texts_of(random, script, mode):
 def random_verifications(seed, number):
     """What is asked of one script, the same each time."""
     random = Random(f'verify/{seed}/{number}')
-    data, mode = random_case(seed, number).script or b'', random.choice(MODES)
+    data, mode = random_case(seed, number).script or b'', by_turns(random.choice(MODES), number)
     try:
         script = read_script(data)
     except Fault:

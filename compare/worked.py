@@ -7,8 +7,9 @@ some steps. Each row here is a script, a mode, and words with what each is answe
 part. Traces whose every byte was worked out stand in compare/worked_traces.py, texts that print, trap or are refused in
 compare/worked_texts.py; compare/statuses.py has the built program answer all these too. Decisions, breakpoints and runs stand in
 compare/worked_runs.py, reports and witnesses in compare/worked_explorer.py, reports by pieces in compare/worked_pieces.py, dialogues of a
-session in compare/worked_sessions.py, and rows of all these kinds for version 2 in compare/worked_waitany.py. The lessons of docs/COURSE.md are rows too, with their answers in files. The status is 0 where the
-model answers all of them so.
+session in compare/worked_sessions.py, rows of all these kinds for version 2 in compare/worked_waitany.py, and for the modes `slots:K` in
+compare/worked_slots.py. The lessons of docs/COURSE.md are rows too, with their answers in files. The status is 0 where the model answers
+all of them so.
 """
 
 import sys
@@ -19,6 +20,7 @@ import explorer
 import worked_explorer
 import worked_pieces
 import worked_sessions
+import worked_slots
 import worked_waitany
 from debugger import BUFFERED, RENDEZVOUS, Result, answer, answer_file
 from examples import checks, lessons, open_example
@@ -363,14 +365,15 @@ def check_problem(checked):
 
 
 def main():
-    problems = [(f'{row.script} ({row.mode})', model_problem(row)) for row in ALL + worked_waitany.ROWS]
-    problems += [(row.what, trace_problem(row)) for row in TRACES]
+    problems = [(f'{row.script} ({row.mode})', model_problem(row)) for row in ALL + worked_waitany.ROWS + worked_slots.ROWS]
+    problems += [(row.what, trace_problem(row)) for row in TRACES + worked_slots.TRACES]
     problems += [(row.what, input_problem(row)) for row in [*all_inputs(), *worked_waitany.all_inputs()]]
-    problems += [(f'{row.script} ({row.mode}): {row.words}', run_problem(row)) for row in RUNS + worked_waitany.RUNS]
+    problems += [(f'{row.script} ({row.mode}): {row.words}', run_problem(row)) for row in RUNS + worked_waitany.RUNS + worked_slots.RUNS]
     problems += worked_explorer.problems()
-    problems += worked_explorer.problems(worked_waitany)
-    problems += worked_waitany.problems()
-    problems += worked_sessions.dialogue_problems(worked_waitany.DIALOGUES)
+    for rows in (worked_waitany, worked_slots):
+        problems += worked_explorer.problems(rows)
+        problems += rows.problems()
+        problems += worked_sessions.dialogue_problems(rows.DIALOGUES)
     problems += worked_pieces.problems()
     problems += worked_sessions.problems()
     problems += [(statement, refusal_problem(statement, fault, place)) for statement, fault, place in REFUSED]

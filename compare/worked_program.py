@@ -11,8 +11,10 @@ import tempfile
 from typing import NamedTuple
 
 import language
+import worked_slots
 import worked_waitany
 from debugger import Result
+from modes import KNOWN
 from runs import run_at_once, run_in_packets
 from shims import built
 from worked import ALL, asked_words, row_problem
@@ -38,27 +40,27 @@ def traced(program, script, mode, data):
         return run_at_once(program, data, SECONDS, words=('trace', name, '--mode', mode))
 
 
-def of_each_version(rows, rows_of_2):
-    """The rows that the program can be asked: those of version 2 where it knows that."""
-    return [*rows, *(rows_of_2 if 2 in language.VERSIONS else ())]
+def of_what_is_known(rows, rows_of_2=(), rows_of_slots=()):
+    """The rows that the program can be asked: those of version 2 where it knows that, and those of modes of slots where it has these."""
+    return [*rows, *(rows_of_2 if 2 in language.VERSIONS else ()), *(rows_of_slots if KNOWN else ())]
 
 
 def trace_rows(program):
     """Scripts with their words, and what each is answered."""
-    for row in TRACES:
+    for row in of_what_is_known(TRACES, rows_of_slots=worked_slots.TRACES):
         said = run_at_once(program, row.input, SECONDS) if row.mode is None else traced(program, row.file, row.mode, row.asked)
         yield row.what, said, Result(row.wanted, b'', 0)
 
 
 def text_rows(program):
     """Texts that print, trap, or are refused, and texts at limits."""
-    for row in [*of_each_version(all_inputs(), worked_waitany.all_inputs()), FULL]:
+    for row in [*of_what_is_known(all_inputs(), worked_waitany.all_inputs()), FULL]:
         yield row.what, run_at_once(program, row.text.encode(), SECONDS), wanted_result(row)
 
 
 def state_rows(program):
     """Words with their answers, and lines of what `show` prints behind them."""
-    for row in of_each_version(ALL, worked_waitany.ROWS):
+    for row in of_what_is_known(ALL, worked_waitany.ROWS, worked_slots.ROWS):
         problem = row_problem(row, traced(program, row.script.encode(), row.mode, asked_words(row)))
         yield f'{row.script} ({row.mode}): {row.words}', problem, None
 

@@ -26,26 +26,26 @@ use Rattle.mpd_check.specs.declared.fault.CheckFault.TheVariants.{BadWorkers, To
 use Rattle.mpd_check.specs.declared.counts.Tally.{Tally}
 use Rattle.mpd_check.specs.Tally.{tally_of}
 use Rattle.mpd_check.specs.Refused.{refused_by, split_refused}
-use Rattle.mpd_check.specs.Checked.{pieces_of, leaves_of, more_of, text_of, leaves_at, more_at, count_text, IsCrew, AreFew, Put, PutCount, Answered, PartTold, PartAnswered, Counted}
+use Rattle.mpd_check.specs.Checked.{pieces_of, leaves_of, more_of, text_of, leaves_at, more_at, count_text, IsCrew, AreFew, Put, PutCount, AnsweredBy, PartTold, PartAnswered, Counted}
 
 -- ---- a report of all pieces
 
-pub put_answered : (s : Program) (mode : Mode) (plan : CheckPlan) (workers : ℕ) (old new : SinkSeen) (text : List ℕ) (told : Tally) (r : Result Tally CheckFault) → text ≡ text_of s mode plan (leaves_of s mode plan) (more_of s mode plan)
-    → told ≡ tally_of (leaves_of s mode plan) (more_of s mode plan) → IsCrew workers → AreFew s mode plan → Put text told old new r → Answered s mode plan workers old new r
-put_answered s mode plan workers old new text told (Ok t) is tells crew few h = (rw is at h.0, h.1 ∙ tells, crew, few)
-put_answered s mode plan workers old new text told (Err (Engine WriteFailed)) is tells crew few h = (rw is at h, crew, few)
-put_answered s mode plan workers old new text told (Err (Engine ReadFailed)) is tells crew few h = h
-put_answered s mode plan workers old new text told (Err (Engine TooManyTurns)) is tells crew few h = h
-put_answered s mode plan workers old new text told (Err (Engine Memory)) is tells crew few h = absurd h
-put_answered s mode plan workers old new text told (Err BadWorkers) is tells crew few h = absurd h
-put_answered s mode plan workers old new text told (Err TooManyPieces) is tells crew few h = absurd h
-put_answered s mode plan workers old new text told (Err (NoSuchPiece n m)) is tells crew few h = h
+pub put_answered : (want : List ℕ) (s : Program) (mode : Mode) (plan : CheckPlan) (workers : ℕ) (old new : SinkSeen) (text : List ℕ) (told : Tally) (r : Result Tally CheckFault) → text ≡ want
+    → told ≡ tally_of (leaves_of s mode plan) (more_of s mode plan) → IsCrew workers → AreFew s mode plan → Put text told old new r → AnsweredBy want s mode plan workers old new r
+put_answered want s mode plan workers old new text told (Ok t) is tells crew few h = (rw is at h.0, h.1 ∙ tells, crew, few)
+put_answered want s mode plan workers old new text told (Err (Engine WriteFailed)) is tells crew few h = (rw is at h, crew, few)
+put_answered want s mode plan workers old new text told (Err (Engine ReadFailed)) is tells crew few h = h
+put_answered want s mode plan workers old new text told (Err (Engine TooManyTurns)) is tells crew few h = h
+put_answered want s mode plan workers old new text told (Err (Engine Memory)) is tells crew few h = absurd h
+put_answered want s mode plan workers old new text told (Err BadWorkers) is tells crew few h = absurd h
+put_answered want s mode plan workers old new text told (Err TooManyPieces) is tells crew few h = absurd h
+put_answered want s mode plan workers old new text told (Err (NoSuchPiece n m)) is tells crew few h = h
 
-pub refused_answered : (s : Program) (mode : Mode) (plan : CheckPlan) (workers : ℕ) (old new : SinkSeen) (f : PoolFault) → new ≡ old → IsCrew workers → (f ≡ pool.BadWorkers → ⊥) → (f ≡ pool.TooManyPieces → PIECES_MAX < length (pieces_of s mode plan))
-    → Answered s mode plan workers old new (Err (refused_by f))
-refused_answered s mode plan workers old new pool.BadWorkers same crew some many = absurd (some refl)
-refused_answered s mode plan workers old new pool.TooManyPieces same crew some many = (same, crew, many refl)
-refused_answered s mode plan workers old new pool.Memory same crew some many = (same, crew)
+pub refused_answered : (want : List ℕ) (s : Program) (mode : Mode) (plan : CheckPlan) (workers : ℕ) (old new : SinkSeen) (f : PoolFault) → new ≡ old → IsCrew workers → (f ≡ pool.BadWorkers → ⊥)
+    → (f ≡ pool.TooManyPieces → PIECES_MAX < length (pieces_of s mode plan)) → AnsweredBy want s mode plan workers old new (Err (refused_by f))
+refused_answered want s mode plan workers old new pool.BadWorkers same crew some many = absurd (some refl)
+refused_answered want s mode plan workers old new pool.TooManyPieces same crew some many = (same, crew, many refl)
+refused_answered want s mode plan workers old new pool.Memory same crew some many = (same, crew)
 
 -- ---- one piece
 

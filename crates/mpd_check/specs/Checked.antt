@@ -1,5 +1,5 @@
 -- What a check answers.
-use Rattle.std.specs.Prelude.{◌≡◌, ◌<◌, ◌≤◌, ℕ, ◌+◌, ◌++◌, Bool, List, [], length, slice_get, Some, Result, Ok, Err, codes, string_bytes}
+use Rattle.std.specs.Prelude.{◌≡◌, ◌<◌, ◌≤◌, ℕ, ◌+◌, ◌++◌, Bool, List, [], length, slice_get, Option, Some, Result, Ok, Err, codes, string_bytes}
 use Rattle.std.specs.Fmt.{decimal}
 use Rattle.std.specs.Io.KnownBytes.{Appends}
 use Rattle.mpd_model.specs.declared.call.Mode.{Mode}
@@ -20,6 +20,7 @@ use Rattle.mpd_check.specs.declared.fault.CheckFault.TheVariants.{BadWorkers, To
 use Rattle.mpd_check.specs.declared.counts.Tally.{Tally}
 use Rattle.mpd_check.specs.declared.Told.{Told}
 use Rattle.mpd_check.specs.Tally.{tally_of}
+use Rattle.mpd_check.specs.ModeText.{mode_line, least_line}
 
 -- ---- what is told of a script's runs from its start
 
@@ -77,18 +78,25 @@ Put text told old new (Err BadWorkers) = ⊥
 Put text told old new (Err TooManyPieces) = ⊥
 Put text told old new (Err (NoSuchPiece number count)) = ⊥
 
--- The whole report was written, or a part of it until a write failed; or nothing: the number of workers is refused, else there are too
--- many pieces, or memory was refused.
+-- This text of a whole report was written, or a part of it until a write failed; or nothing: the number of workers is refused, else there
+-- are too many pieces, or memory was refused.
+abbrev pub AnsweredBy : List ℕ → Program → Mode → CheckPlan → ℕ → SinkSeen → SinkSeen → Result Tally CheckFault → Type 0
+AnsweredBy text s mode plan workers old new (Ok tally) = Wrote text old new × (tally ≡ tally_of (leaves_of s mode plan) (more_of s mode plan)) × IsCrew workers × AreFew s mode plan
+AnsweredBy text s mode plan workers old new (Err (Engine WriteFailed)) = WrotePart text old new × IsCrew workers × AreFew s mode plan
+AnsweredBy text s mode plan workers old new (Err (Engine Memory)) = (new ≡ old) × IsCrew workers
+AnsweredBy text s mode plan workers old new (Err (Engine ReadFailed)) = ⊥
+AnsweredBy text s mode plan workers old new (Err (Engine TooManyTurns)) = ⊥
+AnsweredBy text s mode plan workers old new (Err BadWorkers) = (new ≡ old) × (IsCrew workers → ⊥)
+AnsweredBy text s mode plan workers old new (Err TooManyPieces) = (new ≡ old) × IsCrew workers × (PIECES_MAX < length (pieces_of s mode plan))
+AnsweredBy text s mode plan workers old new (Err (NoSuchPiece number count)) = ⊥
+
+-- the whole report
 abbrev pub Answered : Program → Mode → CheckPlan → ℕ → SinkSeen → SinkSeen → Result Tally CheckFault → Type 0
-Answered s mode plan workers old new (Ok tally) =
-    Wrote (text_of s mode plan (leaves_of s mode plan) (more_of s mode plan)) old new × (tally ≡ tally_of (leaves_of s mode plan) (more_of s mode plan)) × IsCrew workers × AreFew s mode plan
-Answered s mode plan workers old new (Err (Engine WriteFailed)) = WrotePart (text_of s mode plan (leaves_of s mode plan) (more_of s mode plan)) old new × IsCrew workers × AreFew s mode plan
-Answered s mode plan workers old new (Err (Engine Memory)) = (new ≡ old) × IsCrew workers
-Answered s mode plan workers old new (Err (Engine ReadFailed)) = ⊥
-Answered s mode plan workers old new (Err (Engine TooManyTurns)) = ⊥
-Answered s mode plan workers old new (Err BadWorkers) = (new ≡ old) × (IsCrew workers → ⊥)
-Answered s mode plan workers old new (Err TooManyPieces) = (new ≡ old) × IsCrew workers × (PIECES_MAX < length (pieces_of s mode plan))
-Answered s mode plan workers old new (Err (NoSuchPiece number count)) = ⊥
+Answered s mode plan workers old new result = AnsweredBy (text_of s mode plan (leaves_of s mode plan) (more_of s mode plan)) s mode plan workers old new result
+
+-- one line of what it tells
+abbrev pub ModeAnswered : Program → Mode → CheckPlan → ℕ → SinkSeen → SinkSeen → Result Tally CheckFault → Type 0
+ModeAnswered s mode plan workers old new result = AnsweredBy (mode_line mode (tally_of (leaves_of s mode plan) (more_of s mode plan))) s mode plan workers old new result
 
 -- The part of the report that the piece of a number has is told; or there are too many pieces, or so few.
 abbrev pub PartTold : Program → Mode → CheckPlan → ℕ → Result Told CheckFault → Type 0
@@ -127,6 +135,11 @@ PutCount text old new (Err (Engine Memory)) = ⊥
 PutCount text old new (Err BadWorkers) = ⊥
 PutCount text old new (Err TooManyPieces) = ⊥
 PutCount text old new (Err (NoSuchPiece number count)) = ⊥
+
+-- which mode is the first without a deadlock or a trap was written; or nothing, where memory was refused
+abbrev pub LeastPut : Option Mode → SinkSeen → SinkSeen → Result Unit CheckFault → Type 0
+LeastPut least old new (Err (Engine Memory)) = new ≡ old
+LeastPut least old new result = PutCount (least_line least) old new result
 
 -- How many pieces there are was written; or nothing, where they are too many.
 abbrev pub Counted : Program → Mode → CheckPlan → SinkSeen → SinkSeen → Result Unit CheckFault → Type 0

@@ -1,5 +1,6 @@
 pub mod Tally
 pub mod Refused
+pub mod ModeText
 pub mod Checked
 pub mod Pieces
 pub mod WitnessText

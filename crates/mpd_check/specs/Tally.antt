@@ -1,6 +1,8 @@
 -- What a report tells of a script, counted, and the status of its check.
 use Rattle.std.specs.Prelude.{◌≡◌, ℕ, ◌&&◌, ◌||◌, ◌==◌, nat_lt, not, if◌then◌else◌, Bool, true, false, List, length, count_by}
+use Rattle.mpd_model.specs.declared.call.Mode.{Mode}
 use Rattle.mpd_model.specs.declared.outcome.Outcome.TheVariants as outcome
+use Rattle.mpd_model.specs.World.{is_limited}
 use Rattle.mpd_model.specs.Tree.{block_of}
 use Rattle.mpd_model.specs.Program.{Program, IsBlockOf}
 use Rattle.mpd_explore.specs.declared.report.Ending.{Ending}
@@ -37,10 +39,10 @@ is_bad t = nat_lt 0 t.deadlocks || nat_lt 0 t.traps
 abbrev pub is_whole : Tally → Bool
 is_whole t = not t.more && t.cut == 0
 
--- It tells every way in which its script can end. What a waitany takes depends on the order of steps, of which a walk tries one: with a
--- waitany in the script a report tells of its runs alone.
-abbrev pub TellsAll : Program → Tally → Type 0
-TellsAll s t = (is_whole t ≡ true) × IsBlockOf 1 (block_of s.body)
+-- It tells every way in which its script can end in a mode. What a waitany takes, and which sends are buffered where buffers run out, depends
+-- on the order of steps, of which a walk tries one: there a report tells of its runs alone.
+abbrev pub TellsAll : Program → Mode → Tally → Type 0
+TellsAll s mode t = (is_whole t ≡ true) × (IsBlockOf 1 (block_of s.body) × (is_limited mode ≡ false))
 
 -- 1 where something bad is listed; else 4 where the report must tell all and doesn't; else 0
 abbrev pub status_of : Bool → Bool → Tally → ℕ

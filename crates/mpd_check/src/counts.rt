@@ -2,10 +2,12 @@
 
 ghost use Rattle.std.specs.Prelude.{◌≡◌, ◌<◌, Bool, length, count_by};
 ghost use Rattle.std.specs.Bool.{Decides};
+ghost use Rattle.mpd_model.specs.World.{is_limited as limited};
 ghost use Rattle.mpd_check.specs.Tally.{tally_of, is_of, is_bad, is_whole, TellsAll, status_of};
 
 use mpd_code::code::Code;
 use mpd_explore::report::{Ending, Leaf, Report};
+use mpd_model::call::Mode;
 use mpd_model::outcome::Outcome;
 
 /// The status of a check that has listed a deadlock or a trap.
@@ -52,28 +54,36 @@ impl Tally {
         !self.more && self.cut == 0
     }
 
-    /// Whether it tells every way in which its script can end: the report is whole, and no waitany stands in the script. What a waitany
-    /// takes depends on the order of steps, of which one is tried.
-    pub fn tells_all(self, code: &Code) -> bool
-        ensures { Decides result (TellsAll code.now.program self) }
+    /// Whether it tells every way in which its script can end in a mode: the report is whole, no waitany stands in the script, and the
+    /// mode's buffers don't run out. What a waitany takes, and which sends get a buffer where these are few, depends on the order of
+    /// steps, of which one is tried.
+    pub fn tells_all(self, mode: Mode, code: &Code) -> bool
+        ensures { Decides result (TellsAll code.now.program mode self) }
     {
-        self.is_whole() && code.has_no_waitany()
+        self.is_whole() && (code.has_no_waitany() && !is_limited(mode))
     }
 
-    /// The status that a check of this script ends with: 1 where a deadlock or a trap is listed; else 4 where the report must tell every
+    /// The status that a check of this script in a mode ends with: 1 where a deadlock or a trap is listed; else 4 where the report must tell every
     /// way in which the script can end, and doesn't; else 0.
     #[tactic(auto, using(crate::proofs::StatusLemmas::telling))]
-    pub fn status(self, complete: bool, code: &Code) -> u8
-        ensures { (all : Bool) → Decides all (TellsAll code.now.program self) → result ≡ status_of complete all self }
+    pub fn status(self, complete: bool, mode: Mode, code: &Code) -> u8
+        ensures { (all : Bool) → Decides all (TellsAll code.now.program mode self) → result ≡ status_of complete all self }
     {
         if self.is_bad() {
             return FOUND;
         }
-        if complete && !self.tells_all(code) {
+        if complete && !self.tells_all(mode, code) {
             return NOT_WHOLE;
         }
         0
     }
+}
+
+/// Whether the buffers of a mode run out.
+pub fn is_limited(mode: Mode) -> bool
+    ensures { result ≡ limited mode }
+{
+    matches!(mode, Mode::Slots(_))
 }
 
 /// Whether a run ends so.

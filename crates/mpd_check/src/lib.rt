@@ -6,6 +6,7 @@ pub mod counts;
 pub mod fault;
 pub mod judge;
 pub mod laws;
+pub mod modes;
 pub mod part;
 mod pieces;
 pub mod witness_file;
@@ -42,7 +43,7 @@ pub(crate) struct Told {
 }
 
 /// Why a check is refused whose workers or pieces are.
-fn refused(fault: PoolFault) -> CheckFault
+pub(crate) fn refused(fault: PoolFault) -> CheckFault
     ensures { result ≡ refused_by fault }
 {
     match fault {

@@ -4,19 +4,19 @@ ghost use Rattle.std.specs.Prelude.{◌≡◌, ◌≤◌, ◌<◌, IfOk, OnOk, I
 ghost use Rattle.mpd_model.specs.Trail.{first_standing};
 ghost use Rattle.mpd_trail.specs.Views.{standing_of};
 ghost use Rattle.mpd_pieces.specs.Pieces.{numbered, Reaches};
-ghost use Rattle.mpd_check.specs.Checked.{pieces_of, leaves_at, more_at, text_of, count_text, AreFew, Counted, PutCount, PartAnswered, PartTold};
+ghost use Rattle.mpd_check.specs.Checked.{pieces_of, leaves_at, more_at, text_of, count_text, AreFew, Counted, PartAnswered, PartTold};
 ghost use Rattle.mpd_check.specs.Refused.{split_refused};
 ghost use Rattle.mpd_check.specs.Tally.{tally_of};
 
 use crate::counts::{Tally, tally_of};
 use crate::fault::CheckFault;
+use crate::modes::put_text;
 use crate::{Told, put};
 use mpd_code::code::Code;
 use mpd_device::device::Sink;
 use mpd_explore::print::print_report;
 use mpd_explore::watch::Watch;
 use mpd_lines::engine::EngineFault;
-use mpd_lines::outbox::write_all;
 use mpd_model::call::Mode;
 use mpd_model::limits::STEPS_MAX;
 use mpd_pieces::explore_at::explore_at;
@@ -76,16 +76,6 @@ fn count_text(alloc: Global, count: usize) -> Result<String, AllocError>
     Ok(out)
 }
 
-/// Writes the text of how many pieces there are.
-fn put_count<W: Sink>(text: String, sink: &mut W) -> Result<(), CheckFault>
-    ensures { PutCount (string_bytes text) (W.seen sink.old) (W.seen sink.new) result }
-{
-    if write_all(sink, text.as_bytes()).is_err() {
-        return Err(CheckFault::Engine(EngineFault::WriteFailed));
-    }
-    Ok(())
-}
-
 /// Writes into how many pieces the runs of a script from its start are cut, as `pieces 225`. It is refused where there are more than
 /// 1,024 (31); `WriteFailed` (46) comes only where a write failed, and `Memory` only before anything is written. The fuel is at most
 /// 1,000,000 steps.
@@ -106,7 +96,7 @@ pub fn count_pieces<W: Sink>(
     let count = begun.pieces.len();
     drop(begun);
     match count_text(alloc, count) {
-        Ok(text) => put_count(text, sink),
+        Ok(text) => put_text(text, sink),
         Err(_) => Err(CheckFault::Engine(EngineFault::Memory)),
     }
 }

@@ -14,7 +14,7 @@ use Rattle.clap.specs.declared.builder.value_parser.Reading.{Reading}
 use Rattle.clap.specs.declared.error.kind.ErrorKind.TheVariants as kind
 use Rattle.clap.specs.declared.parser.matches.ValueSource.TheVariants.{DefaultValue}
 use Rattle.clap.proofs.OnLiterals.{clap_on_literals}
-use Rattle.mpd_options.specs.Asked.{Asked, Item, Said, Tool, checker, default_of, fits, found, found_check, found_in, found_of_file, found_options, found_serve, found_verify, most_clients, most_fuel, most_piece, most_port, most_runs, most_split, most_workers, name_of, number_if_given, options_of_items, or_default, said_of, text_in, text_of, the_clients, the_complete, the_file, the_fuel, the_mode, the_piece, the_pieces, the_port, the_runs, the_split, the_until, the_witness, the_witness_file, the_workers, run, runner, server, trace, tracer, until_bad_in, verifier}
+use Rattle.mpd_options.specs.Asked.{Asked, Item, Said, Tool, checker, default_of, fits, found, found_check, found_in, found_of_file, found_options, found_serve, found_verify, most_clients, most_fuel, most_modes, most_piece, most_port, most_runs, most_split, most_workers, name_of, number_if_given, options_of_items, or_default, said_of, text_in, text_of, the_clients, the_complete, the_file, the_fuel, the_mode, the_modes, the_piece, the_pieces, the_port, the_runs, the_split, the_until, the_witness, the_witness_file, the_workers, run, runner, server, trace, tracer, until_bad_in, verifier}
 use Rattle.mpd_options.specs.Numbers.{flag_in, number_in}
 use Rattle.mpd_options.specs.declared.options.CheckOptions.{CheckOptions}
 use Rattle.mpd_options.specs.Program.{Lies}
@@ -108,6 +108,7 @@ unfolding clap_on_literals
 checker_row lie the_file = refl
 checker_row lie the_witness_file = refl
 checker_row lie the_mode = refl
+checker_row lie the_modes = refl
 checker_row lie the_port = refl
 checker_row lie the_clients = refl
 checker_row lie the_runs = refl
@@ -168,6 +169,7 @@ text_ended : (lie : Lies) (i : Item) (said : Said) → Valid said → text_in (e
 text_ended lie the_file said h = first_ended lie checker the_file said (checker_row lie the_file) h
 text_ended lie the_witness_file said h = first_ended lie checker the_witness_file said (checker_row lie the_witness_file) h
 text_ended lie the_mode said h = first_ended lie checker the_mode said (checker_row lie the_mode) h
+text_ended lie the_modes said h = one_ended lie checker the_modes said (checker_row lie the_modes) h
 text_ended lie the_port said h = one_ended lie checker the_port said (checker_row lie the_port) h
 text_ended lie the_clients said h = one_ended lie checker the_clients said (checker_row lie the_clients) h
 text_ended lie the_runs said h = one_ended lie checker the_runs said (checker_row lie the_runs) h
@@ -199,6 +201,7 @@ item_named name =
     if bytes_eq name (codes "FILE") then Some the_file
     else (if bytes_eq name (codes "WITNESS") then Some the_witness_file
     else (if bytes_eq name (codes "mode") then Some the_mode
+    else (if bytes_eq name (codes "modes") then Some the_modes
     else (if bytes_eq name (codes "port") then Some the_port
     else (if bytes_eq name (codes "clients") then Some the_clients
     else (if bytes_eq name (codes "runs") then Some the_runs
@@ -207,12 +210,13 @@ item_named name =
     else (if bytes_eq name (codes "workers") then Some the_workers
     else (if bytes_eq name (codes "until") then Some the_until
     else (if bytes_eq name (codes "witness") then Some the_witness
-    else (if bytes_eq name (codes "complete") then Some the_complete else (if bytes_eq name (codes "piece") then Some the_piece else (if bytes_eq name (codes "pieces") then Some the_pieces else None)))))))))))))
+    else (if bytes_eq name (codes "complete") then Some the_complete else (if bytes_eq name (codes "piece") then Some the_piece else (if bytes_eq name (codes "pieces") then Some the_pieces else None))))))))))))))
 
 named_is : (i : Item) → item_named (name_of i) ≡ Some i
 named_is the_file = refl
 named_is the_witness_file = refl
 named_is the_mode = refl
+named_is the_modes = refl
 named_is the_port = refl
 named_is the_clients = refl
 named_is the_runs = refl
@@ -261,18 +265,19 @@ is_serve (Some f) None d (Some p) (Some c) = refl
 is_serve (Some f) (Some m) d (Some p) (Some c) = refl
 
 -- each of these is there
-all_there : (r n s k : Option ℕ) (u w x : Option Bool) (i : Option (Option ℕ)) (p : Option Bool) → is_some r ≡ true → is_some n ≡ true → is_some s ≡ true → is_some k ≡ true → is_some u ≡ true → is_some w ≡ true
-    → is_some x ≡ true → is_some i ≡ true → is_some p ≡ true → is_some (options_of_items r n s k u w x i p) ≡ true
-all_there (Some r) (Some n) (Some s) (Some k) (Some u) (Some w) (Some x) (Some i) (Some p) a b c d e f g h j = refl
-all_there None n s k u w x i p a b c d e f g h j = cc
-all_there (Some r) None s k u w x i p a b c d e f g h j = cc
-all_there (Some r) (Some n) None k u w x i p a b c d e f g h j = cc
-all_there (Some r) (Some n) (Some s) None u w x i p a b c d e f g h j = cc
-all_there (Some r) (Some n) (Some s) (Some k) None w x i p a b c d e f g h j = cc
-all_there (Some r) (Some n) (Some s) (Some k) (Some u) None x i p a b c d e f g h j = cc
-all_there (Some r) (Some n) (Some s) (Some k) (Some u) (Some w) None i p a b c d e f g h j = cc
-all_there (Some r) (Some n) (Some s) (Some k) (Some u) (Some w) (Some x) None p a b c d e f g h j = cc
-all_there (Some r) (Some n) (Some s) (Some k) (Some u) (Some w) (Some x) (Some i) None a b c d e f g h j = cc
+all_there : (m : Option (Option ℕ)) (r n s k : Option ℕ) (u w x : Option Bool) (i : Option (Option ℕ)) (p : Option Bool) → is_some m ≡ true → is_some r ≡ true → is_some n ≡ true → is_some s ≡ true → is_some k ≡ true → is_some u ≡ true → is_some w ≡ true
+    → is_some x ≡ true → is_some i ≡ true → is_some p ≡ true → is_some (options_of_items m r n s k u w x i p) ≡ true
+all_there (Some m) (Some r) (Some n) (Some s) (Some k) (Some u) (Some w) (Some x) (Some i) (Some p) a b c d e f g h j l = refl
+all_there None r n s k u w x i p a b c d e f g h j l = cc
+all_there (Some m) None n s k u w x i p a b c d e f g h j l = cc
+all_there (Some m) (Some r) None s k u w x i p a b c d e f g h j l = cc
+all_there (Some m) (Some r) (Some n) None k u w x i p a b c d e f g h j l = cc
+all_there (Some m) (Some r) (Some n) (Some s) None u w x i p a b c d e f g h j l = cc
+all_there (Some m) (Some r) (Some n) (Some s) (Some k) None w x i p a b c d e f g h j l = cc
+all_there (Some m) (Some r) (Some n) (Some s) (Some k) (Some u) None x i p a b c d e f g h j l = cc
+all_there (Some m) (Some r) (Some n) (Some s) (Some k) (Some u) (Some w) None i p a b c d e f g h j l = cc
+all_there (Some m) (Some r) (Some n) (Some s) (Some k) (Some u) (Some w) (Some x) None p a b c d e f g h j l = cc
+all_there (Some m) (Some r) (Some n) (Some s) (Some k) (Some u) (Some w) (Some x) (Some i) None a b c d e f g h j l = cc
 
 -- a number that need not be there
 given_number : (low high : ℕ) (said : Option Text) → ((v : Text) → said ≡ Some v → is_some (number_in low high v) ≡ true) → is_some (number_if_given low high (or_default said None)) ≡ true
@@ -290,9 +295,10 @@ given_until (Some v) h = ap (λ b. is_some (if b then Some true else None)) (h v
 
 options_there : (said : Said) → Valid said → is_some (found_options (text_of said)) ≡ true
 options_there said h =
-    all_there (option_and_then (number_in 1 most_runs) (text_of said the_runs)) (option_and_then (number_in 1 most_fuel) (text_of said the_fuel))
+    all_there (number_if_given 0 most_modes (text_of said the_modes)) (option_and_then (number_in 1 most_runs) (text_of said the_runs)) (option_and_then (number_in 1 most_fuel) (text_of said the_fuel))
     (option_and_then (number_in 0 most_split) (text_of said the_split)) (option_and_then (number_in 0 most_workers) (text_of said the_workers)) (until_bad_in (text_of said the_until))
     (option_and_then flag_in (text_of said the_witness)) (option_and_then flag_in (text_of said the_complete)) (number_if_given 0 most_piece (text_of said the_piece)) (option_and_then flag_in (text_of said the_pieces))
+    (given_number 0 most_modes (said_of the_modes said) (λ v e. said_fits the_modes v said h e))
     (read_said (number_in 1 most_runs) (codes "1000") (said_of the_runs said) refl (λ v e. said_fits the_runs v said h e))
     (read_said (number_in 1 most_fuel) (codes "100000") (said_of the_fuel said) refl (λ v e. said_fits the_fuel v said h e))
     (read_said (number_in 0 most_split) (codes "1") (said_of the_split said) refl (λ v e. said_fits the_split v said h e))
@@ -413,7 +419,7 @@ unfolding clap_on_literals
 takes_defaults lie tracer = (refl, (refl, (refl, tt)))
 takes_defaults lie runner = (refl, (refl, (refl, tt)))
 takes_defaults lie server = (refl, (refl, (refl, (refl, (refl, tt)))))
-takes_defaults lie checker = (refl, (refl, (refl, (refl, (refl, (refl, (refl, (refl, (refl, (refl, (refl, (refl, tt))))))))))))
+takes_defaults lie checker = (refl, (refl, (refl, (refl, (refl, (refl, (refl, (refl, (refl, (refl, (refl, (refl, (refl, tt)))))))))))))
 takes_defaults lie verifier = (refl, (refl, (refl, (refl, tt))))
 
 -- ---- what is held is settled

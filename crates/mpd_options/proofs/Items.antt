@@ -16,7 +16,7 @@ use Rattle.clap.specs.declared.error.kind.ErrorKind.TheVariants as kind
 use Rattle.clap.specs.declared.parser.matches.ValueSource.{ValueSource}
 use Rattle.clap.specs.declared.parser.matches.ValueSource.TheVariants.{CommandLine}
 use Rattle.clap.proofs.OnLiterals.{clap_on_literals}
-use Rattle.mpd_options.specs.Asked.{Item, Said, Tool, checker, fits, most_clients, most_fuel, most_piece, most_port, most_runs, most_split, most_workers, name_of, said_named, said_of, the_clients, the_complete, the_file, the_fuel, the_mode, the_piece, the_pieces, the_port, the_runs, the_split, the_until, the_witness, the_witness_file, the_workers, runner, server, tracer, verifier}
+use Rattle.mpd_options.specs.Asked.{Item, Said, Tool, checker, fits, most_clients, most_fuel, most_modes, most_piece, most_port, most_runs, most_split, most_workers, name_of, said_named, said_of, the_clients, the_complete, the_file, the_fuel, the_mode, the_modes, the_piece, the_pieces, the_port, the_runs, the_split, the_until, the_witness, the_witness_file, the_workers, runner, server, tracer, verifier}
 use Rattle.mpd_options.specs.Program.{Lies, mpdbg_app, only_deadlock}
 use Rattle.mpd_options.proofs.NumberReads.{accepts_number}
 
@@ -79,6 +79,7 @@ asks server the_port = true
 asks server the_clients = true
 asks server _ = false
 asks checker the_mode = true
+asks checker the_modes = true
 asks checker the_runs = true
 asks checker the_fuel = true
 asks checker the_split = true
@@ -101,6 +102,7 @@ abbrev pub keeps : Tool → Item → Bool
 keeps t the_file = true
 keeps t the_witness_file = reads_witness t
 keeps t the_mode = asks t the_mode
+keeps t the_modes = asks t the_modes
 keeps t the_port = asks t the_port
 keeps t the_clients = asks t the_clients
 keeps t the_runs = asks t the_runs
@@ -116,63 +118,65 @@ mode_alone Q m the_mode e = m
 mode_alone Q m _ e = cc
 
 pub each_asks : (P : Tool → Item → Type 0) → P tracer the_mode → P runner the_mode → P server the_mode → P server the_port → P server the_clients
-    → P checker the_mode → P checker the_runs → P checker the_fuel → P checker the_split → P checker the_workers → P checker the_until → P checker the_piece → P verifier the_mode
+    → P checker the_mode → P checker the_modes → P checker the_runs → P checker the_fuel → P checker the_split → P checker the_workers → P checker the_until → P checker the_piece → P verifier the_mode
     → (t : Tool) (i : Item) → asks t i ≡ true → P t i
-each_asks P a r s p k b c d f w u n m tracer i e = mode_alone (P tracer) a i e
-each_asks P a r s p k b c d f w u n m runner i e = mode_alone (P runner) r i e
-each_asks P a r s p k b c d f w u n m server the_mode e = s
-each_asks P a r s p k b c d f w u n m server the_port e = p
-each_asks P a r s p k b c d f w u n m server the_clients e = k
-each_asks P a r s p k b c d f w u n m server _ e = cc
-each_asks P a r s p k b c d f w u n m checker the_mode e = b
-each_asks P a r s p k b c d f w u n m checker the_runs e = c
-each_asks P a r s p k b c d f w u n m checker the_fuel e = d
-each_asks P a r s p k b c d f w u n m checker the_split e = f
-each_asks P a r s p k b c d f w u n m checker the_workers e = w
-each_asks P a r s p k b c d f w u n m checker the_until e = u
-each_asks P a r s p k b c d f w u n m checker the_piece e = n
-each_asks P a r s p k b c d f w u n m checker _ e = cc
-each_asks P a r s p k b c d f w u n m verifier i e = mode_alone (P verifier) m i e
+each_asks P a r s p k b l c d f w u n m tracer i e = mode_alone (P tracer) a i e
+each_asks P a r s p k b l c d f w u n m runner i e = mode_alone (P runner) r i e
+each_asks P a r s p k b l c d f w u n m server the_mode e = s
+each_asks P a r s p k b l c d f w u n m server the_port e = p
+each_asks P a r s p k b l c d f w u n m server the_clients e = k
+each_asks P a r s p k b l c d f w u n m server _ e = cc
+each_asks P a r s p k b l c d f w u n m checker the_mode e = b
+each_asks P a r s p k b l c d f w u n m checker the_modes e = l
+each_asks P a r s p k b l c d f w u n m checker the_runs e = c
+each_asks P a r s p k b l c d f w u n m checker the_fuel e = d
+each_asks P a r s p k b l c d f w u n m checker the_split e = f
+each_asks P a r s p k b l c d f w u n m checker the_workers e = w
+each_asks P a r s p k b l c d f w u n m checker the_until e = u
+each_asks P a r s p k b l c d f w u n m checker the_piece e = n
+each_asks P a r s p k b l c d f w u n m checker _ e = cc
+each_asks P a r s p k b l c d f w u n m verifier i e = mode_alone (P verifier) m i e
 
 pub each_keeps : (P : Tool → Item → Type 0) → P tracer the_file → P runner the_file → P server the_file → P checker the_file → P verifier the_file → P verifier the_witness_file
     → P tracer the_mode → P runner the_mode → P server the_mode → P server the_port → P server the_clients
-    → P checker the_mode → P checker the_runs → P checker the_fuel → P checker the_split → P checker the_workers → P checker the_until → P checker the_piece → P verifier the_mode
+    → P checker the_mode → P checker the_modes → P checker the_runs → P checker the_fuel → P checker the_split → P checker the_workers → P checker the_until → P checker the_piece → P verifier the_mode
     → (t : Tool) (i : Item) → keeps t i ≡ true → P t i
-each_keeps P x q o g h y a r s p k b c d f w u n m tracer the_file e = x
-each_keeps P x q o g h y a r s p k b c d f w u n m tracer the_mode e = a
-each_keeps P x q o g h y a r s p k b c d f w u n m tracer _ e = cc
-each_keeps P x q o g h y a r s p k b c d f w u n m runner the_file e = q
-each_keeps P x q o g h y a r s p k b c d f w u n m runner the_mode e = r
-each_keeps P x q o g h y a r s p k b c d f w u n m runner _ e = cc
-each_keeps P x q o g h y a r s p k b c d f w u n m server the_file e = o
-each_keeps P x q o g h y a r s p k b c d f w u n m server the_mode e = s
-each_keeps P x q o g h y a r s p k b c d f w u n m server the_port e = p
-each_keeps P x q o g h y a r s p k b c d f w u n m server the_clients e = k
-each_keeps P x q o g h y a r s p k b c d f w u n m server _ e = cc
-each_keeps P x q o g h y a r s p k b c d f w u n m checker the_file e = g
-each_keeps P x q o g h y a r s p k b c d f w u n m checker the_mode e = b
-each_keeps P x q o g h y a r s p k b c d f w u n m checker the_runs e = c
-each_keeps P x q o g h y a r s p k b c d f w u n m checker the_fuel e = d
-each_keeps P x q o g h y a r s p k b c d f w u n m checker the_split e = f
-each_keeps P x q o g h y a r s p k b c d f w u n m checker the_workers e = w
-each_keeps P x q o g h y a r s p k b c d f w u n m checker the_until e = u
-each_keeps P x q o g h y a r s p k b c d f w u n m checker the_piece e = n
-each_keeps P x q o g h y a r s p k b c d f w u n m checker _ e = cc
-each_keeps P x q o g h y a r s p k b c d f w u n m verifier the_file e = h
-each_keeps P x q o g h y a r s p k b c d f w u n m verifier the_witness_file e = y
-each_keeps P x q o g h y a r s p k b c d f w u n m verifier the_mode e = m
-each_keeps P x q o g h y a r s p k b c d f w u n m verifier _ e = cc
+each_keeps P x q o g h y a r s p k b l c d f w u n m tracer the_file e = x
+each_keeps P x q o g h y a r s p k b l c d f w u n m tracer the_mode e = a
+each_keeps P x q o g h y a r s p k b l c d f w u n m tracer _ e = cc
+each_keeps P x q o g h y a r s p k b l c d f w u n m runner the_file e = q
+each_keeps P x q o g h y a r s p k b l c d f w u n m runner the_mode e = r
+each_keeps P x q o g h y a r s p k b l c d f w u n m runner _ e = cc
+each_keeps P x q o g h y a r s p k b l c d f w u n m server the_file e = o
+each_keeps P x q o g h y a r s p k b l c d f w u n m server the_mode e = s
+each_keeps P x q o g h y a r s p k b l c d f w u n m server the_port e = p
+each_keeps P x q o g h y a r s p k b l c d f w u n m server the_clients e = k
+each_keeps P x q o g h y a r s p k b l c d f w u n m server _ e = cc
+each_keeps P x q o g h y a r s p k b l c d f w u n m checker the_file e = g
+each_keeps P x q o g h y a r s p k b l c d f w u n m checker the_mode e = b
+each_keeps P x q o g h y a r s p k b l c d f w u n m checker the_modes e = l
+each_keeps P x q o g h y a r s p k b l c d f w u n m checker the_runs e = c
+each_keeps P x q o g h y a r s p k b l c d f w u n m checker the_fuel e = d
+each_keeps P x q o g h y a r s p k b l c d f w u n m checker the_split e = f
+each_keeps P x q o g h y a r s p k b l c d f w u n m checker the_workers e = w
+each_keeps P x q o g h y a r s p k b l c d f w u n m checker the_until e = u
+each_keeps P x q o g h y a r s p k b l c d f w u n m checker the_piece e = n
+each_keeps P x q o g h y a r s p k b l c d f w u n m checker _ e = cc
+each_keeps P x q o g h y a r s p k b l c d f w u n m verifier the_file e = h
+each_keeps P x q o g h y a r s p k b l c d f w u n m verifier the_witness_file e = y
+each_keeps P x q o g h y a r s p k b l c d f w u n m verifier the_mode e = m
+each_keeps P x q o g h y a r s p k b l c d f w u n m verifier _ e = cc
 
 pub asks_keeps : (t : Tool) (i : Item) → asks t i ≡ true → keeps t i ≡ true
-asks_keeps = each_asks (λ t i. keeps t i ≡ true) refl refl refl refl refl refl refl refl refl refl refl refl refl
+asks_keeps = each_asks (λ t i. keeps t i ≡ true) refl refl refl refl refl refl refl refl refl refl refl refl refl refl
 
 pub by_id : (lie : Lies) (t : Tool) (i : Item) → keeps t i ≡ true → arg_by_id (rules lie t) (name_of i) ≡ Some (arg lie t i)
 unfolding clap_on_literals
-by_id lie = each_keeps (λ t i. arg_by_id (rules lie t) (name_of i) ≡ Some (arg lie t i)) refl refl refl refl refl refl refl refl refl refl refl refl refl refl refl refl refl refl refl
+by_id lie = each_keeps (λ t i. arg_by_id (rules lie t) (name_of i) ≡ Some (arg lie t i)) refl refl refl refl refl refl refl refl refl refl refl refl refl refl refl refl refl refl refl refl
 
 pub by_long : (lie : Lies) (t : Tool) (i : Item) → asks t i ≡ true → arg_by_long (rules lie t) (name_of i) ≡ Some (arg lie t i)
 unfolding clap_on_literals
-by_long lie = each_asks (λ t i. arg_by_long (rules lie t) (name_of i) ≡ Some (arg lie t i)) refl refl refl refl refl refl refl refl refl refl refl refl refl
+by_long lie = each_asks (λ t i. arg_by_long (rules lie t) (name_of i) ≡ Some (arg lie t i)) refl refl refl refl refl refl refl refl refl refl refl refl refl refl
 
 -- the flags, which have no value
 abbrev pub flags : Tool → Item → Bool
@@ -201,6 +205,7 @@ abbrev accepted : Item → Text → Bool
 accepted the_file text = true
 accepted the_witness_file text = true
 accepted the_mode text = true
+accepted the_modes text = is_unsigned_in 0 most_modes text
 accepted the_port text = is_unsigned_in 1 most_port text
 accepted the_clients text = is_unsigned_in 1 most_clients text
 accepted the_runs text = is_unsigned_in 1 most_runs text
@@ -226,7 +231,7 @@ or_nothing false = refl
 
 accepted_fits : (t : Tool) (i : Item) (v : Text) → keeps t i ≡ true → accepted i v ≡ fits i v
 accepted_fits t i v k =
-    each_keeps (λ t i. accepted i v ≡ fits i v) refl refl refl refl refl refl refl refl refl (accepts_number 1 most_port v (omega arith)) (accepts_number 1 most_clients v (omega arith)) refl
+    each_keeps (λ t i. accepted i v ≡ fits i v) refl refl refl refl refl refl refl refl refl (accepts_number 1 most_port v (omega arith)) (accepts_number 1 most_clients v (omega arith)) refl (accepts_number 0 most_modes v (omega arith))
     (accepts_number 1 most_runs v (omega arith)) (accepts_number 1 most_fuel v (omega arith)) (accepts_number 0 most_split v (omega arith)) (accepts_number 0 most_workers v (omega arith))
     (or_nothing (bytes_eq (codes "deadlock") v) ∙ same_either_way (codes "deadlock") v) (accepts_number 0 most_piece v (omega arith)) refl t i k
 
@@ -246,7 +251,7 @@ again_fault again = if again && not false then kind.ArgumentConflict ∷ [] else
 use_is : (lie : Lies) (v : Text) (rows : List Row) (t : Tool) (i : Item) → keeps t i ≡ true
     → use_fault false (arg lie t i) (v ∷ []) rows ≡ or_else (again_fault (has_row (name_of i) rows)) (value_fault (refused_as i) (accepted i v))
 unfolding clap_on_literals
-use_is lie v rows = each_keeps (λ t i. use_fault false (arg lie t i) (v ∷ []) rows ≡ or_else (again_fault (has_row (name_of i) rows)) (value_fault (refused_as i) (accepted i v))) refl refl refl refl refl refl refl refl refl refl refl refl refl refl refl refl refl refl refl
+use_is lie v rows = each_keeps (λ t i. use_fault false (arg lie t i) (v ∷ []) rows ≡ or_else (again_fault (has_row (name_of i) rows)) (value_fault (refused_as i) (accepted i v))) refl refl refl refl refl refl refl refl refl refl refl refl refl refl refl refl refl refl refl refl
 
 flag_use_is : (lie : Lies) (rows : List Row) (t : Tool) (i : Item) → flags t i ≡ true → use_fault false (arg lie t i) [] rows ≡ or_else (again_fault (has_row (name_of i) rows)) []
 unfolding clap_on_literals
@@ -299,7 +304,7 @@ some_fault (k ∷ ks) e = λ z. cc
 -- an option that waits for its value still
 pub no_value : (lie : Lies) (rows : List Row) (t : Tool) (i : Item) → asks t i ≡ true → use_fault false (arg lie t i) [] rows ≢ []
 unfolding clap_on_literals
-no_value lie rows = each_asks (λ t i. use_fault false (arg lie t i) [] rows ≢ []) (some_fault _ refl) (some_fault _ refl) (some_fault _ refl) (some_fault _ refl) (some_fault _ refl) (some_fault _ refl) (some_fault _ refl) (some_fault _ refl) (some_fault _ refl) (some_fault _ refl) (some_fault _ refl) (some_fault _ refl) (some_fault _ refl)
+no_value lie rows = each_asks (λ t i. use_fault false (arg lie t i) [] rows ≢ []) (some_fault _ refl) (some_fault _ refl) (some_fault _ refl) (some_fault _ refl) (some_fault _ refl) (some_fault _ refl) (some_fault _ refl) (some_fault _ refl) (some_fault _ refl) (some_fault _ refl) (some_fault _ refl) (some_fault _ refl) (some_fault _ refl) (some_fault _ refl)
 
 -- ---- rows
 
@@ -330,7 +335,7 @@ values_at_end id how source values (r ∷ rs) h =
 
 used_is : (lie : Lies) (v : Text) (rows : List Row) (t : Tool) (i : Item) → keeps t i ≡ true → used (arg lie t i) (v ∷ []) rows ≡ with_values (name_of i) AsWritten CommandLine (v ∷ []) (without (name_of i) rows)
 unfolding clap_on_literals
-used_is lie v rows = each_keeps (λ t i. used (arg lie t i) (v ∷ []) rows ≡ with_values (name_of i) AsWritten CommandLine (v ∷ []) (without (name_of i) rows)) refl refl refl refl refl refl refl refl refl refl refl refl refl refl refl refl refl refl refl
+used_is lie v rows = each_keeps (λ t i. used (arg lie t i) (v ∷ []) rows ≡ with_values (name_of i) AsWritten CommandLine (v ∷ []) (without (name_of i) rows)) refl refl refl refl refl refl refl refl refl refl refl refl refl refl refl refl refl refl refl refl
 
 at_end_of : (i : Item) (v : Text) (rows : List Row) → has_row (name_of i) rows ≡ false → with_values (name_of i) AsWritten CommandLine (v ∷ []) (without (name_of i) rows) ≡ rows ++ row_for i v CommandLine ∷ []
 at_end_of i v rows h = ap (λ rs. with_values (name_of i) AsWritten CommandLine (v ∷ []) rs) (without_none (name_of i) rows h) ∙ values_at_end (name_of i) AsWritten CommandLine (v ∷ []) rows h

@@ -15,7 +15,7 @@ use Rattle.clap.specs.declared.parser.matches.ArgMatches.TheViews.{out-ArgMatche
 use Rattle.clap.specs.declared.parser.matches.Found.{Found}
 use Rattle.clap.proofs.OnLiterals.{clap_on_literals}
 use Rattle.clap.proofs.WalkLemmas.{first_value-rows, one_text-rows}
-use Rattle.mpd_options.specs.Asked.{AreInRange, Asked, IsFound, IsInRange, Item, Tool, asked, check, checker, found, found_by, found_check, found_in, found_of_command, found_of_file, found_options, found_serve, found_verify, meant, most_clients, most_fuel, most_piece, most_port, most_runs, most_split, most_workers, number_if_given, options_of_items, text_in, the_clients, the_complete, the_file, the_fuel, the_mode, the_piece, the_pieces, the_port, the_runs, the_split, the_until, the_witness, the_witness_file, the_workers, tool_named, run, runner, serve, server, trace, tracer, until_bad_in, verifier, verify}
+use Rattle.mpd_options.specs.Asked.{AreInRange, Asked, IsFound, IsInRange, Item, Tool, asked, check, checker, found, found_by, found_check, found_in, found_of_command, found_of_file, found_options, found_serve, found_verify, meant, most_clients, most_fuel, most_modes, most_piece, most_port, most_runs, most_split, most_workers, number_if_given, options_of_items, text_in, the_clients, the_complete, the_file, the_fuel, the_mode, the_modes, the_piece, the_pieces, the_port, the_runs, the_split, the_until, the_witness, the_witness_file, the_workers, tool_named, run, runner, serve, server, trace, tracer, until_bad_in, verifier, verify}
 use Rattle.mpd_options.specs.Numbers.{flag_in, most_usize, number_in, without_plus}
 use Rattle.mpd_options.specs.declared.options.CheckOptions.{CheckOptions}
 use Rattle.mpd_options.specs.declared.options.Options.{Options}
@@ -167,8 +167,9 @@ some_check (Some f) None o e = cc
 some_check (Some f) (Some m) None e = cc
 some_check (Some f) (Some m) (Some o) e = (refl, refl, refl)
 
--- how deadlocks are looked for: each item says something, but a piece that need not be there
-pub record HasItems (r n s k : Option ℕ) (u w x : Option Bool) (i : Option (Option ℕ)) (p : Option Bool) : Type 0 where
+-- how deadlocks are looked for: each item says something, but those that need not be there
+pub record HasItems (m : Option (Option ℕ)) (r n s k : Option ℕ) (u w x : Option Bool) (i : Option (Option ℕ)) (p : Option Bool) : Type 0 where
+  pub modes : is_some m ≡ true
   pub runs : is_some r ≡ true
   pub fuel : is_some n ≡ true
   pub split : is_some s ≡ true
@@ -179,18 +180,19 @@ pub record HasItems (r n s k : Option ℕ) (u w x : Option Bool) (i : Option (Op
   pub piece : is_some i ≡ true
   pub pieces : is_some p ≡ true
 
-some_items : (r n s k : Option ℕ) (u w x : Option Bool) (i : Option (Option ℕ)) (p : Option Bool) → is_some (options_of_items r n s k u w x i p) ≡ true → HasItems r n s k u w x i p
-some_items None n s k u w x i p e = cc
-some_items (Some r) None s k u w x i p e = cc
-some_items (Some r) (Some n) None k u w x i p e = cc
-some_items (Some r) (Some n) (Some s) None u w x i p e = cc
-some_items (Some r) (Some n) (Some s) (Some k) None w x i p e = cc
-some_items (Some r) (Some n) (Some s) (Some k) (Some u) None x i p e = cc
-some_items (Some r) (Some n) (Some s) (Some k) (Some u) (Some w) None i p e = cc
-some_items (Some r) (Some n) (Some s) (Some k) (Some u) (Some w) (Some x) None p e = cc
-some_items (Some r) (Some n) (Some s) (Some k) (Some u) (Some w) (Some x) (Some i) None e = cc
-some_items (Some r) (Some n) (Some s) (Some k) (Some u) (Some w) (Some x) (Some i) (Some p) e =
-    record { runs = refl; fuel = refl; split = refl; workers = refl; until = refl; witness = refl; complete = refl; piece = refl; pieces = refl }
+some_items : (m : Option (Option ℕ)) (r n s k : Option ℕ) (u w x : Option Bool) (i : Option (Option ℕ)) (p : Option Bool) → is_some (options_of_items m r n s k u w x i p) ≡ true → HasItems m r n s k u w x i p
+some_items None r n s k u w x i p e = cc
+some_items (Some m) None n s k u w x i p e = cc
+some_items (Some m) (Some r) None s k u w x i p e = cc
+some_items (Some m) (Some r) (Some n) None k u w x i p e = cc
+some_items (Some m) (Some r) (Some n) (Some s) None u w x i p e = cc
+some_items (Some m) (Some r) (Some n) (Some s) (Some k) None w x i p e = cc
+some_items (Some m) (Some r) (Some n) (Some s) (Some k) (Some u) None x i p e = cc
+some_items (Some m) (Some r) (Some n) (Some s) (Some k) (Some u) (Some w) None i p e = cc
+some_items (Some m) (Some r) (Some n) (Some s) (Some k) (Some u) (Some w) (Some x) None p e = cc
+some_items (Some m) (Some r) (Some n) (Some s) (Some k) (Some u) (Some w) (Some x) (Some i) None e = cc
+some_items (Some m) (Some r) (Some n) (Some s) (Some k) (Some u) (Some w) (Some x) (Some i) (Some p) e =
+    record { modes = refl; runs = refl; fuel = refl; split = refl; workers = refl; until = refl; witness = refl; complete = refl; piece = refl; pieces = refl }
 
 pub has_file : (t : Tool) (rows : List Row) → is_some (found_in t rows) ≡ true → is_some (first_of (codes "FILE") rows) ≡ true
 has_file tracer rows e = (some_both trace _ _ e).0
@@ -308,24 +310,24 @@ check_found f file mode options a b c = sym (all_three a b c)
     all_three a b c = rw (a, b, c) refl
 
 pub has_items : (f : Found) → is_some (found_options (text_in (rows_of f))) ≡ true
-    → HasItems (number_at 1 most_runs (codes "runs") f) (number_at 1 most_fuel (codes "fuel") f) (number_at 0 most_split (codes "split") f) (number_at 0 most_workers (codes "workers") f)
+    → HasItems (number_if_given 0 most_modes (one_of (codes "modes") (rows_of f))) (number_at 1 most_runs (codes "runs") f) (number_at 1 most_fuel (codes "fuel") f) (number_at 0 most_split (codes "split") f) (number_at 0 most_workers (codes "workers") f)
     (until_bad_in (first_of (codes "until") (rows_of f))) (flag_at (codes "witness") f) (flag_at (codes "complete") f) (number_if_given 0 most_piece (one_of (codes "piece") (rows_of f))) (flag_at (codes "pieces") f)
-has_items f e = some_items _ _ _ _ _ _ _ _ _ e
+has_items f e = some_items _ _ _ _ _ _ _ _ _ _ e
 
-abbrev options_with : ℕ → ℕ → ℕ → ℕ → Bool → Bool → Bool → Option ℕ → Bool → CheckOptions
-options_with runs fuel split workers until witness complete piece pieces =
-    record { runs = runs; fuel = fuel; split = split; workers = workers; until_bad = until; witness = witness; complete = complete; piece = piece; count_pieces = pieces }
+abbrev options_with : Option ℕ → ℕ → ℕ → ℕ → ℕ → Bool → Bool → Bool → Option ℕ → Bool → CheckOptions
+options_with modes runs fuel split workers until witness complete piece pieces =
+    record { modes = modes; runs = runs; fuel = fuel; split = split; workers = workers; until_bad = until; witness = witness; complete = complete; piece = piece; count_pieces = pieces }
 
-pub items_found : (f : Found) (runs fuel split workers : ℕ) (until witness complete : Bool) (piece : Option ℕ) (pieces : Bool) → number_at 1 most_runs (codes "runs") f ≡ Some runs → number_at 1 most_fuel (codes "fuel") f ≡ Some fuel
+pub items_found : (f : Found) (modes : Option ℕ) (runs fuel split workers : ℕ) (until witness complete : Bool) (piece : Option ℕ) (pieces : Bool) → number_if_given 0 most_modes (one_of (codes "modes") (rows_of f)) ≡ Some modes → number_at 1 most_runs (codes "runs") f ≡ Some runs → number_at 1 most_fuel (codes "fuel") f ≡ Some fuel
     → number_at 0 most_split (codes "split") f ≡ Some split → number_at 0 most_workers (codes "workers") f ≡ Some workers → until_bad_in (first_of (codes "until") (rows_of f)) ≡ Some until
     → flag_at (codes "witness") f ≡ Some witness → flag_at (codes "complete") f ≡ Some complete
     → number_if_given 0 most_piece (one_of (codes "piece") (rows_of f)) ≡ Some piece → flag_at (codes "pieces") f ≡ Some pieces
-    → Some (options_with runs fuel split workers until witness complete piece pieces) ≡ found_options (text_in (rows_of f))
-items_found f runs fuel split workers until witness complete piece pieces a b c d e g h k m = sym (all_nine a b c d e g h k m)
+    → Some (options_with modes runs fuel split workers until witness complete piece pieces) ≡ found_options (text_in (rows_of f))
+items_found f modes runs fuel split workers until witness complete piece pieces o a b c d e g h k m = sym (all_ten o a b c d e g h k m)
   where
-    all_nine : {r n s l : Option ℕ} {u w x : Option Bool} {i : Option (Option ℕ)} {p : Option Bool} → r ≡ Some runs → n ≡ Some fuel → s ≡ Some split → l ≡ Some workers → u ≡ Some until → w ≡ Some witness
-        → x ≡ Some complete → i ≡ Some piece → p ≡ Some pieces → options_of_items r n s l u w x i p ≡ Some (options_with runs fuel split workers until witness complete piece pieces)
-    all_nine a b c d e g h k m = rw (a, b, c, d, e, g, h, k, m) refl
+    all_ten : {j : Option (Option ℕ)} {r n s l : Option ℕ} {u w x : Option Bool} {i : Option (Option ℕ)} {p : Option Bool} → j ≡ Some modes → r ≡ Some runs → n ≡ Some fuel → s ≡ Some split → l ≡ Some workers → u ≡ Some until → w ≡ Some witness
+        → x ≡ Some complete → i ≡ Some piece → p ≡ Some pieces → options_of_items j r n s l u w x i p ≡ Some (options_with modes runs fuel split workers until witness complete piece pieces)
+    all_ten o a b c d e g h k m = rw (o, a, b, c, d, e, g, h, k, m) refl
 
 -- a word that was found is the one that there is
 until_taken : (t : Text) → is_some (until_bad_in (Some t)) ≡ true → until_bad_in (Some t) ≡ Some true
@@ -377,17 +379,18 @@ read_within : (low high : ℕ) (t : Option Text) → Within low high (option_and
 read_within low high None = tt
 read_within low high (Some t) = within low high t (number_in low high t) refl
 
-abbrev PieceWithin : Option (Option ℕ) → Type 0
-PieceWithin None = Unit {0}
-PieceWithin (Some o) = IfSome o (λ n. n ≤ most_piece)
+-- and one that need not be there
+abbrev GivenWithin : ℕ → Option (Option ℕ) → Type 0
+GivenWithin high None = Unit {0}
+GivenWithin high (Some o) = IfSome o (λ n. n ≤ high)
 
-piece_read : (t : Text) (o : Option ℕ) → number_in 0 most_piece t ≡ o → PieceWithin (option_map Some o)
-piece_read t None e = tt
-piece_read t (Some n) e = (let facts = of_digits 0 most_piece (without_plus t) n e in facts.most)
+given_read : (high : ℕ) (t : Text) (o : Option ℕ) → number_in 0 high t ≡ o → GivenWithin high (option_map Some o)
+given_read high t None e = tt
+given_read high t (Some n) e = (let facts = of_digits 0 high (without_plus t) n e in facts.most)
 
-piece_within : (t : Option Text) → PieceWithin (number_if_given 0 most_piece t)
-piece_within None = tt
-piece_within (Some t) = piece_read t (number_in 0 most_piece t) refl
+given_within : (high : ℕ) (t : Option Text) → GivenWithin high (number_if_given 0 high t)
+given_within high None = tt
+given_within high (Some t) = given_read high t (number_in 0 high t) refl
 
 file_range : (asks : Text → Text → Asked) (f m : Option Text) → ((f m : Text) → HasRange (asks f m)) → RangeOf (found_of_file asks f m)
 file_range asks None m h = tt
@@ -405,25 +408,26 @@ abbrev OptionsRange : Option CheckOptions → Type 0
 OptionsRange None = Unit {0}
 OptionsRange (Some o) = AreInRange o
 
-items_range : (r n s k : Option ℕ) (u w x : Option Bool) (i : Option (Option ℕ)) (p : Option Bool) → Within 1 most_runs r → Within 1 most_fuel n → Within 0 most_split s → Within 0 most_workers k → PieceWithin i
-    → OptionsRange (options_of_items r n s k u w x i p)
-items_range None n s k u w x i p a b c d e = tt
-items_range (Some r) None s k u w x i p a b c d e = tt
-items_range (Some r) (Some n) None k u w x i p a b c d e = tt
-items_range (Some r) (Some n) (Some s) None u w x i p a b c d e = tt
-items_range (Some r) (Some n) (Some s) (Some k) None w x i p a b c d e = tt
-items_range (Some r) (Some n) (Some s) (Some k) (Some u) None x i p a b c d e = tt
-items_range (Some r) (Some n) (Some s) (Some k) (Some u) (Some w) None i p a b c d e = tt
-items_range (Some r) (Some n) (Some s) (Some k) (Some u) (Some w) (Some x) None p a b c d e = tt
-items_range (Some r) (Some n) (Some s) (Some k) (Some u) (Some w) (Some x) (Some i) None a b c d e = tt
-items_range (Some r) (Some n) (Some s) (Some k) (Some u) (Some w) (Some x) (Some i) (Some p) a b c d e = (a.0, a.1, b.0, b.1, c.1, d.1, e)
+items_range : (m : Option (Option ℕ)) (r n s k : Option ℕ) (u w x : Option Bool) (i : Option (Option ℕ)) (p : Option Bool) → Within 1 most_runs r → Within 1 most_fuel n → Within 0 most_split s → Within 0 most_workers k → GivenWithin most_piece i → GivenWithin most_modes m
+    → OptionsRange (options_of_items m r n s k u w x i p)
+items_range None r n s k u w x i p a b c d e f = tt
+items_range (Some m) None n s k u w x i p a b c d e f = tt
+items_range (Some m) (Some r) None s k u w x i p a b c d e f = tt
+items_range (Some m) (Some r) (Some n) None k u w x i p a b c d e f = tt
+items_range (Some m) (Some r) (Some n) (Some s) None u w x i p a b c d e f = tt
+items_range (Some m) (Some r) (Some n) (Some s) (Some k) None w x i p a b c d e f = tt
+items_range (Some m) (Some r) (Some n) (Some s) (Some k) (Some u) None x i p a b c d e f = tt
+items_range (Some m) (Some r) (Some n) (Some s) (Some k) (Some u) (Some w) None i p a b c d e f = tt
+items_range (Some m) (Some r) (Some n) (Some s) (Some k) (Some u) (Some w) (Some x) None p a b c d e f = tt
+items_range (Some m) (Some r) (Some n) (Some s) (Some k) (Some u) (Some w) (Some x) (Some i) None a b c d e f = tt
+items_range (Some m) (Some r) (Some n) (Some s) (Some k) (Some u) (Some w) (Some x) (Some i) (Some p) a b c d e f = (a.0, a.1, b.0, b.1, c.1, d.1, e, f)
 
 options_range : (text : Item → Option Text) → OptionsRange (found_options text)
 options_range text =
-    items_range (option_and_then (number_in 1 most_runs) (text the_runs)) (option_and_then (number_in 1 most_fuel) (text the_fuel))
+    items_range (number_if_given 0 most_modes (text the_modes)) (option_and_then (number_in 1 most_runs) (text the_runs)) (option_and_then (number_in 1 most_fuel) (text the_fuel))
     (option_and_then (number_in 0 most_split) (text the_split)) (option_and_then (number_in 0 most_workers) (text the_workers)) (until_bad_in (text the_until))
     (option_and_then flag_in (text the_witness)) (option_and_then flag_in (text the_complete)) (number_if_given 0 most_piece (text the_piece)) (option_and_then flag_in (text the_pieces))
-    (read_within 1 most_runs (text the_runs)) (read_within 1 most_fuel (text the_fuel)) (read_within 0 most_split (text the_split)) (read_within 0 most_workers (text the_workers)) (piece_within (text the_piece))
+    (read_within 1 most_runs (text the_runs)) (read_within 1 most_fuel (text the_fuel)) (read_within 0 most_split (text the_split)) (read_within 0 most_workers (text the_workers)) (given_within most_piece (text the_piece)) (given_within most_modes (text the_modes))
 
 check_range : (f m : Option Text) (o : Option CheckOptions) → OptionsRange o → RangeOf (found_check f m o)
 check_range None m o h = tt

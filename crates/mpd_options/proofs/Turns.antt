@@ -45,7 +45,7 @@ unfolding clap_on_literals
 find_help lie tracer name u h = rw (u.0, h) refl
 find_help lie runner name u h = rw (u.0, h) refl
 find_help lie server name u h = rw (u.0, u.1.0, u.1.1.0, h) refl
-find_help lie checker name u h = rw (u.0, u.1.0, u.1.1.0, u.1.1.1.0, u.1.1.1.1.0, u.1.1.1.1.1.0, u.1.1.1.1.1.1.0, u.1.1.1.1.1.1.1.0, u.1.1.1.1.1.1.1.1.0, u.1.1.1.1.1.1.1.1.1.0, h) refl
+find_help lie checker name u h = rw (u.0, u.1.0, u.1.1.0, u.1.1.1.0, u.1.1.1.1.0, u.1.1.1.1.1.0, u.1.1.1.1.1.1.0, u.1.1.1.1.1.1.1.0, u.1.1.1.1.1.1.1.1.0, u.1.1.1.1.1.1.1.1.1.0, u.1.1.1.1.1.1.1.1.1.1.0, h) refl
 find_help lie verifier name u h = rw (u.0, h) refl
 
 find_none : (lie : Lies) (t : Tool) (name : Text) → Unnamed t name → bytes_eq (codes "help") name ≡ false → arg_by_long (rules lie t) name ≡ None
@@ -53,7 +53,7 @@ unfolding clap_on_literals
 find_none lie tracer name u h = rw (u.0, h) refl
 find_none lie runner name u h = rw (u.0, h) refl
 find_none lie server name u h = rw (u.0, u.1.0, u.1.1.0, h) refl
-find_none lie checker name u h = rw (u.0, u.1.0, u.1.1.0, u.1.1.1.0, u.1.1.1.1.0, u.1.1.1.1.1.0, u.1.1.1.1.1.1.0, u.1.1.1.1.1.1.1.0, u.1.1.1.1.1.1.1.1.0, u.1.1.1.1.1.1.1.1.1.0, h) refl
+find_none lie checker name u h = rw (u.0, u.1.0, u.1.1.0, u.1.1.1.0, u.1.1.1.1.0, u.1.1.1.1.1.0, u.1.1.1.1.1.1.0, u.1.1.1.1.1.1.1.0, u.1.1.1.1.1.1.1.1.0, u.1.1.1.1.1.1.1.1.1.0, u.1.1.1.1.1.1.1.1.1.1.0, h) refl
 find_none lie verifier name u h = rw (u.0, h) refl
 
 pub dead_long : (lie : Lies) (t : Tool) (name : Text) (v : Option Text) (h : Held) → Unnamed t name → long_fault (rules lie t) false (arg_by_long (rules lie t) name) v h ≢ []
@@ -82,7 +82,7 @@ own_options : (t : Tool) → AreOptions t (options_of t)
 own_options tracer = (inl refl, tt)
 own_options runner = (inl refl, tt)
 own_options server = (inl refl, (inl refl, (inl refl, tt)))
-own_options checker = (inl refl, (inl refl, (inl refl, (inl refl, (inl refl, (inl refl, (inr refl, (inr refl, (inl refl, (inr refl, tt))))))))))
+own_options checker = (inl refl, (inl refl, (inl refl, (inl refl, (inl refl, (inl refl, (inl refl, (inr refl, (inr refl, (inl refl, (inr refl, tt)))))))))))
 own_options verifier = (inl refl, tt)
 
 -- the first of these that has the name, or that none has it

@@ -33,6 +33,9 @@ most_port = 65535
 abbrev pub most_clients : ℕ
 most_clients = 16
 
+abbrev pub most_modes : ℕ
+most_modes = 1000
+
 abbrev pub most_runs : ℕ
 most_runs = 65536
 
@@ -51,7 +54,7 @@ most_piece = 1023
 -- each number of a look for deadlocks lies in its range
 abbrev pub AreInRange : CheckOptions → Type 0
 AreInRange o =
-    (1 ≤ o.runs) × (o.runs ≤ most_runs) × (1 ≤ o.fuel) × (o.fuel ≤ most_fuel) × (o.split ≤ most_split) × (o.workers ≤ most_workers) × IfSome o.piece (λ n. n ≤ most_piece)
+    (1 ≤ o.runs) × (o.runs ≤ most_runs) × (1 ≤ o.fuel) × (o.fuel ≤ most_fuel) × (o.split ≤ most_split) × (o.workers ≤ most_workers) × IfSome o.piece (λ n. n ≤ most_piece) × IfSome o.modes (λ n. n ≤ most_modes)
 
 -- each number lies in its range
 abbrev pub IsInRange : Options → Type 0
@@ -82,6 +85,7 @@ pub data Item : Type 0 where
   the_file : Item
   the_witness_file : Item
   the_mode : Item
+  the_modes : Item
   the_port : Item
   the_clients : Item
   the_runs : Item
@@ -98,6 +102,7 @@ abbrev pub name_of : Item → List ℕ
 name_of the_file = codes "FILE"
 name_of the_witness_file = codes "WITNESS"
 name_of the_mode = codes "mode"
+name_of the_modes = codes "modes"
 name_of the_port = codes "port"
 name_of the_clients = codes "clients"
 name_of the_runs = codes "runs"
@@ -114,7 +119,7 @@ abbrev pub options_of : Tool → List Item
 options_of tracer = the_mode ∷ []
 options_of runner = the_mode ∷ []
 options_of server = the_mode ∷ the_port ∷ the_clients ∷ []
-options_of checker = the_mode ∷ the_runs ∷ the_fuel ∷ the_split ∷ the_workers ∷ the_until ∷ the_witness ∷ the_complete ∷ the_piece ∷ the_pieces ∷ []
+options_of checker = the_mode ∷ the_modes ∷ the_runs ∷ the_fuel ∷ the_split ∷ the_workers ∷ the_until ∷ the_witness ∷ the_complete ∷ the_piece ∷ the_pieces ∷ []
 options_of verifier = the_mode ∷ []
 
 -- what the words that are no options name, in this order
@@ -140,6 +145,7 @@ abbrev pub fits : Item → List ℕ → Bool
 fits the_file text = true
 fits the_witness_file text = true
 fits the_mode text = true
+fits the_modes text = is_some (number_in 0 most_modes text)
 fits the_port text = is_some (number_in 1 most_port text)
 fits the_clients text = is_some (number_in 1 most_clients text)
 fits the_runs text = is_some (number_in 1 most_runs text)
@@ -152,11 +158,12 @@ fits the_complete text = is_some (flag_in text)
 fits the_piece text = is_some (number_in 0 most_piece text)
 fits the_pieces text = is_some (flag_in text)
 
--- the value of an item of which nothing is said; where it has none, something must be said of it, but of a piece and of where the report ends
+-- the value of an item of which nothing is said; where it has none, something must be said of it, but of how many modes are tried, of a piece and of where the report ends
 abbrev pub default_of : Item → Option (List ℕ)
 default_of the_file = None
 default_of the_witness_file = None
 default_of the_mode = Some (codes "rendezvous")
+default_of the_modes = None
 default_of the_port = None
 default_of the_clients = None
 default_of the_runs = Some (codes "1000")
@@ -283,14 +290,14 @@ until_bad_in None = Some false
 until_bad_in (Some text) = if bytes_eq text (codes "deadlock") then Some true else None
 
 -- how deadlocks are looked for, by what each item says
-abbrev pub options_of_items : Option ℕ → Option ℕ → Option ℕ → Option ℕ → Option Bool → Option Bool → Option Bool → Option (Option ℕ) → Option Bool → Option CheckOptions
-options_of_items (Some runs) (Some fuel) (Some split) (Some workers) (Some until) (Some witness) (Some complete) (Some piece) (Some pieces) =
-    Some (record { runs = runs; fuel = fuel; split = split; workers = workers; until_bad = until; witness = witness; complete = complete; piece = piece; count_pieces = pieces })
-options_of_items _ _ _ _ _ _ _ _ _ = None
+abbrev pub options_of_items : Option (Option ℕ) → Option ℕ → Option ℕ → Option ℕ → Option ℕ → Option Bool → Option Bool → Option Bool → Option (Option ℕ) → Option Bool → Option CheckOptions
+options_of_items (Some modes) (Some runs) (Some fuel) (Some split) (Some workers) (Some until) (Some witness) (Some complete) (Some piece) (Some pieces) =
+    Some (record { modes = modes; runs = runs; fuel = fuel; split = split; workers = workers; until_bad = until; witness = witness; complete = complete; piece = piece; count_pieces = pieces })
+options_of_items _ _ _ _ _ _ _ _ _ _ = None
 
 abbrev pub found_options : (Item → Option (List ℕ)) → Option CheckOptions
 found_options text =
-    options_of_items (option_and_then (number_in 1 most_runs) (text the_runs)) (option_and_then (number_in 1 most_fuel) (text the_fuel))
+    options_of_items (number_if_given 0 most_modes (text the_modes)) (option_and_then (number_in 1 most_runs) (text the_runs)) (option_and_then (number_in 1 most_fuel) (text the_fuel))
     (option_and_then (number_in 0 most_split) (text the_split)) (option_and_then (number_in 0 most_workers) (text the_workers)) (until_bad_in (text the_until))
     (option_and_then flag_in (text the_witness)) (option_and_then flag_in (text the_complete)) (number_if_given 0 most_piece (text the_piece)) (option_and_then flag_in (text the_pieces))
 
@@ -302,7 +309,7 @@ abbrev pub found_verify : Option (List ℕ) → Option (List ℕ) → Option (Li
 found_verify (Some file) (Some witness) (Some mode) = Some (verify file witness mode)
 found_verify _ _ _ = None
 
--- what a command asks for, by the text of each of its items: each must have one, but a piece and where the report ends, and each number lies in its range
+-- what a command asks for, by the text of each of its items: each must have one, but how many modes are tried, a piece and where the report ends, and each number lies in its range
 abbrev pub found : Tool → (Item → Option (List ℕ)) → Option Asked
 found tracer text = found_of_file trace (text the_file) (text the_mode)
 found runner text = found_of_file run (text the_file) (text the_mode)
@@ -342,6 +349,7 @@ abbrev pub text_in : List Row → Item → Option (List ℕ)
 text_in rows the_file = first_of (name_of the_file) rows
 text_in rows the_witness_file = first_of (name_of the_witness_file) rows
 text_in rows the_mode = first_of (name_of the_mode) rows
+text_in rows the_modes = one_of (name_of the_modes) rows
 text_in rows the_port = one_of (name_of the_port) rows
 text_in rows the_clients = one_of (name_of the_clients) rows
 text_in rows the_runs = one_of (name_of the_runs) rows

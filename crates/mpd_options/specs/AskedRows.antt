@@ -25,7 +25,7 @@ wastes words = (codes "serve" ∷ codes "a" ∷ words, None)
 
 -- how deadlocks are looked for where nothing is said of it
 abbrev by_default : CheckOptions
-by_default = record { runs = 1000; fuel = 100000; split = 1; workers = 4; until_bad = false; witness = false; complete = false; piece = None; count_pieces = false }
+by_default = record { modes = None; runs = 1000; fuel = 100000; split = 1; workers = 4; until_bad = false; witness = false; complete = false; piece = None; count_pieces = false }
 
 -- words behind `check`, and what they ask for of the file `a`
 abbrev asks : List (List ℕ) → List ℕ → ℕ → ℕ → Bool → Row

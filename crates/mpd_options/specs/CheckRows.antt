@@ -1,4 +1,4 @@
--- Worked rows of what the words behind `check` ask for, of the options that cut it into pieces and that end it, and of their faults.
+-- Worked rows of what the words behind `check` ask for, of the options that try several modes, that cut it into pieces and that end it, and of their faults.
 use Rattle.std.specs.Prelude.{◌≡◌, ℕ, true, false, List, [], ◌∷◌, map, Option, Some, None, codes, refl}
 use Rattle.std.specs.Char.{encode_utf8}
 use Rattle.std.specs.Str.{chars}
@@ -17,7 +17,7 @@ Row = List (List ℕ) × Option Asked
 
 -- how deadlocks are looked for where nothing is said of it
 abbrev by_default : CheckOptions
-by_default = record { runs = 1000; fuel = 100000; split = 1; workers = 4; until_bad = false; witness = false; complete = false; piece = None; count_pieces = false }
+by_default = record { modes = None; runs = 1000; fuel = 100000; split = 1; workers = 4; until_bad = false; witness = false; complete = false; piece = None; count_pieces = false }
 
 -- words behind `check a`, and how they ask for it to be looked for
 abbrev seeks : List (List ℕ) → CheckOptions → Row
@@ -107,8 +107,33 @@ rows =
     ∷ seeks (codes "--until" ∷ codes "deadlock" ∷ []) (record by_default { until_bad = true })
     ∷ seeks (codes "--until=deadlock" ∷ []) (record by_default { until_bad = true })
     ∷ seeks (codes "--until" ∷ codes "deadlock" ∷ codes "--pieces" ∷ codes "--workers=2" ∷ []) (record by_default { until_bad = true; count_pieces = true; workers = 2 })
+    ∷ seeks (codes "--modes" ∷ codes "0" ∷ []) (record by_default { modes = Some 0 })
+    ∷ seeks (codes "--modes" ∷ codes "1000" ∷ []) (record by_default { modes = Some 1000 })
+    ∷ seeks (codes "--modes=4" ∷ []) (record by_default { modes = Some 4 })
+    ∷ seeks (codes "--modes=+007" ∷ []) (record by_default { modes = Some 7 })
+    ∷ seeks (codes "--modes" ∷ codes "2" ∷ codes "--piece" ∷ codes "3" ∷ []) (record by_default { modes = Some 2; piece = Some 3 })
+    ∷ seeks (codes "--pieces" ∷ codes "--modes=2" ∷ []) (record by_default { modes = Some 2; count_pieces = true })
+    ∷ (codes "check" ∷ codes "--modes" ∷ codes "2" ∷ codes "--mode" ∷ codes "buffered" ∷ codes "a" ∷ [], Some (check (codes "a") (codes "buffered") (record by_default { modes = Some 2 })))
+    ∷ (codes "check" ∷ codes "--mode" ∷ codes "2" ∷ codes "a" ∷ [], Some (check (codes "a") (codes "2") by_default))
+    ∷ (codes "check" ∷ codes "--modes" ∷ codes "1" ∷ codes "--" ∷ codes "--modes" ∷ [], Some (check (codes "--modes") (codes "rendezvous") (record by_default { modes = Some 1 })))
     ∷ (codes "check" ∷ codes "--until" ∷ codes "deadlock" ∷ codes "a" ∷ [], Some (check (codes "a") (codes "rendezvous") (record by_default { until_bad = true })))
     ∷ (codes "check" ∷ codes "--" ∷ codes "--until" ∷ [], Some (check (codes "--until") (codes "rendezvous") by_default))
+    ∷ spoils (codes "--modes" ∷ codes "1001" ∷ [])
+    ∷ spoils (codes "--modes" ∷ codes "-1" ∷ [])
+    ∷ spoils (codes "--modes=-1" ∷ [])
+    ∷ spoils (codes "--modes" ∷ codes "x" ∷ [])
+    ∷ spoils (codes "--modes=99999999999999999999" ∷ [])
+    ∷ spoils (codes "--modes=" ∷ [])
+    ∷ spoils (codes "--modes" ∷ [])
+    ∷ spoils (codes "--modes" ∷ codes "--mode" ∷ codes "buffered" ∷ [])
+    ∷ spoils (codes "--modes" ∷ codes "4" ∷ codes "--modes" ∷ codes "4" ∷ [])
+    ∷ spoils (codes "--modes=4" ∷ codes "--modes=5" ∷ [])
+    ∷ spoils (codes "--mod" ∷ codes "4" ∷ [])
+    ∷ nothing (codes "check" ∷ codes "--modes" ∷ codes "4" ∷ [])
+    ∷ nothing (codes "trace" ∷ codes "a" ∷ codes "--modes" ∷ codes "4" ∷ [])
+    ∷ nothing (codes "run" ∷ codes "a" ∷ codes "--modes=4" ∷ [])
+    ∷ nothing (codes "verify" ∷ codes "a" ∷ codes "b" ∷ codes "--modes=4" ∷ [])
+    ∷ nothing (codes "--modes" ∷ codes "4" ∷ codes "check" ∷ codes "a" ∷ [])
     ∷ spoils (codes "--until" ∷ codes "trap" ∷ [])
     ∷ spoils (codes "--until" ∷ codes "Deadlock" ∷ [])
     ∷ spoils (codes "--until" ∷ codes "deadlocks" ∷ [])
@@ -182,6 +207,21 @@ fault_rows =
     ∷ wrong kind.ArgumentConflict (codes "check" ∷ codes "a" ∷ codes "--pieces" ∷ codes "--pieces" ∷ [])
     ∷ wrong kind.ArgumentConflict (codes "check" ∷ codes "--split=1" ∷ codes "--split=9" ∷ codes "a" ∷ [])
     ∷ wrong kind.ValueValidation (codes "check" ∷ codes "--piece" ∷ codes "a" ∷ [])
+    ∷ help (codes "check" ∷ codes "a" ∷ codes "--modes" ∷ codes "4" ∷ codes "--help" ∷ [])
+    ∷ wrong kind.UnknownArgument (codes "trace" ∷ codes "a" ∷ codes "--modes" ∷ codes "4" ∷ [])
+    ∷ wrong kind.UnknownArgument (codes "verify" ∷ codes "a" ∷ codes "b" ∷ codes "--modes=4" ∷ [])
+    ∷ wrong kind.UnknownArgument (codes "--modes" ∷ codes "4" ∷ codes "check" ∷ codes "a" ∷ [])
+    ∷ wrong kind.UnknownArgument (codes "check" ∷ codes "a" ∷ codes "--modes" ∷ codes "-1" ∷ [])
+    ∷ wrong kind.MissingRequiredArgument (codes "check" ∷ codes "--modes" ∷ codes "4" ∷ [])
+    ∷ wrong kind.InvalidValue (codes "check" ∷ codes "a" ∷ codes "--modes" ∷ [])
+    ∷ wrong kind.InvalidValue (codes "check" ∷ codes "a" ∷ codes "--modes" ∷ codes "--mode" ∷ codes "buffered" ∷ [])
+    ∷ wrong kind.ValueValidation (codes "check" ∷ codes "a" ∷ codes "--modes" ∷ codes "1001" ∷ [])
+    ∷ wrong kind.ValueValidation (codes "check" ∷ codes "a" ∷ codes "--modes=-1" ∷ [])
+    ∷ wrong kind.ValueValidation (codes "check" ∷ codes "a" ∷ codes "--modes" ∷ codes "x" ∷ [])
+    ∷ wrong kind.ValueValidation (codes "check" ∷ codes "a" ∷ codes "--modes=" ∷ [])
+    ∷ wrong kind.ValueValidation (codes "check" ∷ codes "--modes" ∷ codes "a" ∷ [])
+    ∷ wrong kind.ArgumentConflict (codes "check" ∷ codes "a" ∷ codes "--modes" ∷ codes "4" ∷ codes "--modes" ∷ codes "4" ∷ [])
+    ∷ wrong kind.ArgumentConflict (codes "check" ∷ codes "a" ∷ codes "--modes=4" ∷ codes "--modes=1001" ∷ [])
     ∷ help (codes "check" ∷ codes "a" ∷ codes "--until" ∷ codes "deadlock" ∷ codes "--help" ∷ [])
     ∷ wrong kind.UnknownArgument (codes "trace" ∷ codes "a" ∷ codes "--until" ∷ codes "deadlock" ∷ [])
     ∷ wrong kind.UnknownArgument (codes "check" ∷ codes "a" ∷ codes "--unti" ∷ codes "deadlock" ∷ [])

@@ -5,7 +5,7 @@ use Rattle.clap.specs.Words.{App, Rule, new_app, new_rule, with_rule, with_subco
 use Rattle.clap.specs.declared.builder.action.ArgAction.TheVariants.{Set, SetTrue}
 use Rattle.clap.specs.declared.builder.value_parser.ValueParser.{ValueParser}
 use Rattle.clap.specs.declared.builder.value_parser.ValueParser.TheVariants.{Names, Unsigned}
-use Rattle.mpd_options.specs.Asked.{most_clients, most_fuel, most_piece, most_port, most_runs, most_split, most_workers}
+use Rattle.mpd_options.specs.Asked.{most_clients, most_fuel, most_modes, most_piece, most_port, most_runs, most_split, most_workers}
 
 -- the word of a file, which must be there
 abbrev pub file_rule : List ℕ → Rule
@@ -33,6 +33,9 @@ required_number_rule name most = record (valued_rule name (Unsigned 1 most)) { r
 
 abbrev pub flag_rule : List ℕ → Rule
 flag_rule name = record (new_rule name) { long = Some name; action = Some SetTrue }
+
+abbrev pub modes_rule : Rule
+modes_rule = valued_rule (codes "modes") (Unsigned 0 most_modes)
 
 abbrev pub runs_rule : Rule
 runs_rule = number_rule (codes "runs") 1 most_runs (codes "1000")
@@ -92,7 +95,7 @@ abbrev pub serve_app : App
 serve_app = with_rule (with_rule (script_app (codes "serve")) port_rule) clients_rule
 
 abbrev pub numbers_app : App
-numbers_app = with_rule (with_rule (script_app (codes "check")) runs_rule) fuel_rule
+numbers_app = with_rule (with_rule (with_rule (script_app (codes "check")) modes_rule) runs_rule) fuel_rule
 
 abbrev pub work_app : App
 work_app = with_rule (with_rule numbers_app split_rule) workers_rule

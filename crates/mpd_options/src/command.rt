@@ -6,7 +6,7 @@ ghost use Rattle.clap.specs.Words.{app_of, rule_of};
 ghost use Rattle.clap.specs.declared.builder.command.Command.TheViews.{out-Command as fields_of};
 ghost use Rattle.mpd_options.specs.Help.{example_of};
 ghost use Rattle.mpd_options.specs.declared.command.Topic.TheVariants.{Check, Program, Run, Serve, Trace, Verify};
-ghost use Rattle.mpd_options.specs.Program.{check_app, clients_rule, complete_rule, file_rule, flag_rule, fuel_rule, mode_rule, mpdbg_app, named_app, number_rule, numbers_app, piece_rule, pieces_rule, port_rule, required_number_rule, run_app, runs_rule, script_app, serve_app, split_rule, trace_app, until_rule, valued_rule, verify_app, witness_rule, work_app, workers_rule};
+ghost use Rattle.mpd_options.specs.Program.{check_app, clients_rule, complete_rule, file_rule, flag_rule, fuel_rule, mode_rule, modes_rule, mpdbg_app, named_app, number_rule, numbers_app, piece_rule, pieces_rule, port_rule, required_number_rule, run_app, runs_rule, script_app, serve_app, split_rule, trace_app, until_rule, valued_rule, verify_app, witness_rule, work_app, workers_rule};
 
 use clap::builder::ValueParser;
 use clap::{Arg, ArgAction, Command};
@@ -17,6 +17,9 @@ pub(crate) const FILE: &str = "FILE";
 
 /// The option of the mode, without its hyphens.
 pub(crate) const MODE: &str = "mode";
+
+/// The option of up to how many slots modes are tried, without its hyphens.
+pub(crate) const MODES: &str = "modes";
 
 /// The option of the port, without its hyphens.
 pub(crate) const PORT: &str = "port";
@@ -72,6 +75,8 @@ pub(crate) const VERIFY: &str = "verify";
 const MOST_PORT: u64 = 65_535;
 
 const MOST_CLIENTS: u64 = 16;
+
+const MOST_MODES: u64 = 1_000;
 
 const MOST_RUNS: u64 = 65_536;
 
@@ -197,7 +202,7 @@ fn mode_option<'a>(alloc: Global) -> Arg<'a>
         .value_name("M")
         .action(ArgAction::Set)
         .default_value("rendezvous")
-        .help("How standard sends behave: rendezvous or buffered")
+        .help("How standard sends behave: rendezvous, buffered, or slots:K with K from 0 to 65536")
 }
 
 /// An option with a value, which may be left out.
@@ -267,6 +272,16 @@ fn clients_option<'a>(alloc: Global) -> Arg<'a>
 {
     let help = "How many clients it answers, 1 to 16";
     required_number(alloc, CLIENTS, "N", MOST_CLIENTS, help)
+}
+
+/// `--modes N`.
+fn modes_option<'a>(alloc: Global) -> Arg<'a>
+    ensures rule { rule_of result ≡ modes_rule }
+    ensures own { result.global ≡ false }
+{
+    let numbers = ValueParser::unsigned(0, MOST_MODES);
+    let help = "Try rendezvous, slots:1 to slots:N and buffered in place of one mode, 0 to 1000";
+    valued_option(alloc, MODES, "N", numbers, help)
 }
 
 /// `--runs N`.
@@ -420,17 +435,18 @@ fn serve_command<'a>(alloc: Global) -> Result<Command<'a>, AllocError>
     Ok(with_help(command, Topic::Serve))
 }
 
-/// `mpdbg check FILE --mode M --runs N --fuel N`.
+/// `mpdbg check FILE --mode M --modes N --runs N --fuel N`.
 fn numbers_command<'a>(alloc: Global) -> Result<Command<'a>, AllocError>
     ensures app { IfOk result (λ c. app_of c ≡ numbers_app) }
     ensures own { IfOk result (λ c. (fields_of c).has_globals ≡ false) }
 {
     script_command(alloc, CHECK)?
+        .arg(modes_option(alloc))?
         .arg(runs_option(alloc))?
         .arg(fuel_option(alloc))
 }
 
-/// `mpdbg check FILE --mode M --runs N --fuel N --split K --workers N`.
+/// `mpdbg check FILE --mode M --modes N --runs N --fuel N --split K --workers N`.
 fn work_command<'a>(alloc: Global) -> Result<Command<'a>, AllocError>
     ensures app { IfOk result (λ c. app_of c ≡ work_app) }
     ensures own { IfOk result (λ c. (fields_of c).has_globals ≡ false) }

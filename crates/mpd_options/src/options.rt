@@ -1,13 +1,13 @@
 //! What the words of a command line ask for.
 ghost use Rattle.std.specs.Prelude.{◌≡◌, ◌<◌, IfOk, IfErr, Some, true, is_some, length, map, option_and_then};
 ghost use Rattle.clap.specs.Words.{first_of, found_of, one_of, rows_of, subcommand_rows_of};
-ghost use Rattle.mpd_options.specs.Asked.{IsFound, IsInRange, asked, checker, found_in, found_of_command, found_options, meant, most_piece, number_if_given, runner, server, text_in, tracer, until_bad_in, verifier};
+ghost use Rattle.mpd_options.specs.Asked.{IsFound, IsInRange, asked, checker, found_in, found_of_command, found_options, meant, most_modes, most_piece, number_if_given, runner, server, text_in, tracer, until_bad_in, verifier};
 ghost use Rattle.mpd_options.specs.Numbers.{flag_in, most_usize, number_in};
 ghost use Rattle.mpd_options.specs.Refused.{IsRefused, is_answer, usage_of, usage_status, usage_text};
 
 use crate::command::{
-    CHECK, CLIENTS, COMPLETE, FILE, FUEL, MODE, PIECE, PIECES, PORT, RUN, RUNS, SERVE, SPLIT,
-    TRACE, UNTIL, VERIFY, WITNESS, WITNESS_FILE, WORKERS, only_deadlock, program,
+    CHECK, CLIENTS, COMPLETE, FILE, FUEL, MODE, MODES, PIECE, PIECES, PORT, RUN, RUNS, SERVE,
+    SPLIT, TRACE, UNTIL, VERIFY, WITNESS, WITNESS_FILE, WORKERS, only_deadlock, program,
 };
 use clap::ArgMatches;
 use clap::error::ErrorKind;
@@ -22,6 +22,9 @@ const NOT_TEXT: &str =
 /// How deadlocks are looked for.
 #[derive(Clone, Copy)]
 pub struct CheckOptions {
+    /// Up to how many slots each mode is tried, in place of one mode: `rendezvous`, `slots:1` to `slots:N`, `buffered`; none tries the
+    /// one mode alone.
+    pub modes: Option<usize>,
     /// How many runs of each piece are tried at most.
     pub runs: usize,
     /// How many steps each run takes at most.
@@ -244,6 +247,14 @@ fn until_bad_of<'a>(check: &ArgMatches<'a>) -> bool
     check.get_str(UNTIL).is_some()
 }
 
+/// Up to how many slots modes are tried, where that was given.
+fn modes_of<'a>(check: &ArgMatches<'a>) -> Option<usize>
+    requires { is_some (number_if_given 0 most_modes (one_of MODES.now (rows_of (found_of check.now)))) ≡ true }
+    ensures { number_if_given 0 most_modes (one_of MODES.now (rows_of (found_of check.now))) ≡ Some result }
+{
+    check.get_one::<usize>(MODES)
+}
+
 /// The number of a piece, where one was given.
 fn piece_of<'a>(check: &ArgMatches<'a>) -> Option<usize>
     requires { is_some (number_if_given 0 most_piece (one_of PIECE.now (rows_of (found_of check.now)))) ≡ true }
@@ -257,6 +268,7 @@ fn check_options_in<'a>(check: &ArgMatches<'a>) -> CheckOptions
     requires { is_some (found_options (text_in (rows_of (found_of check.now)))) ≡ true }
     ensures { Some result ≡ found_options (text_in (rows_of (found_of check.now))) }
 {
+    let modes = modes_of(check);
     let runs = number_of(check, RUNS);
     let fuel = number_of(check, FUEL);
     let split = number_of(check, SPLIT);
@@ -267,6 +279,7 @@ fn check_options_in<'a>(check: &ArgMatches<'a>) -> CheckOptions
     let piece = piece_of(check);
     let counts_pieces = flag_of(check, PIECES);
     CheckOptions {
+        modes,
         runs,
         fuel,
         split,

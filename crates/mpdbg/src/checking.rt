@@ -3,10 +3,11 @@
 ghost use Rattle.std.specs.Prelude.{◌≡◌, ◌≤◌};
 
 use crate::progress::{OfPiece, Progress};
-use crate::summary::{say_part, say_tally};
+use crate::summary::{say_least, say_part, say_tally};
 use crate::tell::Fault;
 use mpd_check::counts::Tally;
 use mpd_check::fault::CheckFault;
+use mpd_check::modes::{Tried, check_mode, put_least};
 use mpd_check::part::{check_piece, count_pieces};
 use mpd_check::{check, is_crew};
 use mpd_code::code::Code;
@@ -24,6 +25,8 @@ use std::thread::Threads;
 /// What is looked at.
 #[derive(Clone, Copy)]
 enum Part {
+    /// All pieces, in each mode up to so many slots.
+    Modes(usize),
     /// All pieces.
     Whole,
     /// The piece of this number.
@@ -32,12 +35,13 @@ enum Part {
     Count,
 }
 
-/// What is looked at, by the words: how many pieces there are is asked for before one of them.
+/// What is looked at, by the words: several modes are asked for before how many pieces there are, and that before one of them.
 fn part_of(options: CheckOptions) -> Part {
-    match (options.count_pieces, options.piece) {
-        (true, _) => Part::Count,
-        (false, Some(number)) => Part::Piece(number),
-        (false, None) => Part::Whole,
+    match (options.modes, options.count_pieces, options.piece) {
+        (Some(most), _, _) => Part::Modes(most),
+        (None, true, _) => Part::Count,
+        (None, false, Some(number)) => Part::Piece(number),
+        (None, false, None) => Part::Whole,
     }
 }
 
@@ -79,7 +83,7 @@ fn check_all<R: Clock + Eprint + Threads + Wait + Sync + AllocGlobal, W: Sink>(
         &progress,
     )?;
     if is_terminal {
-        let _unwritten = say_tally(rt, code, tally, options.until_bad);
+        let _unwritten = say_tally(rt, script, tally, options.until_bad);
     }
     Ok(tally)
 }
@@ -102,10 +106,77 @@ fn check_one<R: Clock + Eprint + AllocGlobal, W: Sink>(
     let (mode, code) = script;
     let plan = plan_of(options);
     let tally = check_piece(rt.alloc(), code, *mode, plan, number, sink, &mut watch)?;
-    if is_terminal && !tally.tells_all(code) {
-        let _unwritten = say_part(rt, code, tally, options.until_bad);
+    if is_terminal && !tally.tells_all(*mode, code) {
+        let _unwritten = say_part(rt, script, tally, options.until_bad);
     }
     Ok(tally)
+}
+
+/// Explores all pieces in one mode more, and writes what came of it.
+fn check_one_mode<R: Clock + Eprint + Threads + Wait + Sync + AllocGlobal, W: Sink>(
+    rt: &R,
+    code: &Code,
+    mode: Mode,
+    options: CheckOptions,
+    tried: Tried,
+    sink: &mut W,
+    is_terminal: bool,
+) -> Result<Tried, CheckFault>
+    requires { options.fuel ≤ STEPS_MAX }
+{
+    let progress = Progress::new(rt, is_terminal);
+    let tally = check_mode(
+        rt,
+        rt.alloc(),
+        code,
+        mode,
+        plan_of(options),
+        options.workers,
+        sink,
+        &progress,
+    )?;
+    Ok(tried.and(mode, tally))
+}
+
+/// Explores all pieces in rendezvous, with 1 slot and more up to `most`, and buffered, and tells at a terminal how many are enough.
+fn check_modes<R: Clock + Eprint + Threads + Wait + Sync + AllocGlobal, W: Sink>(
+    rt: &R,
+    code: &Code,
+    most: usize,
+    options: CheckOptions,
+    sink: &mut W,
+    is_terminal: bool,
+) -> Result<Tried, CheckFault>
+    requires { options.fuel ≤ STEPS_MAX }
+{
+    let mut tried = Tried::none();
+    tried = check_one_mode(
+        rt,
+        code,
+        Mode::Rendezvous,
+        options,
+        tried,
+        sink,
+        is_terminal,
+    )?;
+    for before in 0..most {
+        let mode = Mode::Slots(before + 1);
+        tried = check_one_mode(rt, code, mode, options, tried, sink, is_terminal)?;
+    }
+    tried = check_one_mode(
+        rt,
+        code,
+        Mode::Buffered,
+        options,
+        tried,
+        sink,
+        is_terminal,
+    )?;
+    put_least(rt.alloc(), tried.least, sink)?;
+    if is_terminal {
+        let _unwritten = say_least(rt, tried);
+    }
+    Ok(tried)
 }
 
 /// Why a check is refused.
@@ -132,6 +203,11 @@ fn status_of<R: Clock + Eprint + Threads + Wait + Sync + AllocGlobal, W: Sink>(
         return Err(CheckFault::BadWorkers);
     }
     let tally = match part_of(options) {
+        Part::Modes(most) => {
+            let (_, code) = script;
+            let tried = check_modes(rt, code, most, options, sink, is_terminal)?;
+            return Ok(tried.status());
+        }
         Part::Whole => check_all(rt, script, options, sink, is_terminal)?,
         Part::Piece(number) => check_one(rt, script, options, number, sink, is_terminal)?,
         Part::Count => {
@@ -140,8 +216,8 @@ fn status_of<R: Clock + Eprint + Threads + Wait + Sync + AllocGlobal, W: Sink>(
             return Ok(0);
         }
     };
-    let (_, code) = script;
-    Ok(tally.status(options.complete, code))
+    let (mode, code) = script;
+    Ok(tally.status(options.complete, *mode, code))
 }
 
 /// Looks for deadlocks in a script, and answers the status of the program. The number of workers is tested first.

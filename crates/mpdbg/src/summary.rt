@@ -1,7 +1,9 @@
 //! What a report tells of all runs, in one line for a person (docs/FORMATS.md, "Reports").
 
-use mpd_check::counts::Tally;
+use mpd_check::counts::{Tally, is_limited};
+use mpd_check::modes::Tried;
 use mpd_code::code::Code;
+use mpd_model::call::Mode;
 use std::io;
 
 /// Says how many of something there are, and what it is.
@@ -54,29 +56,39 @@ fn say_cut<R: Eprint>(rt: &R, tally: Tally) -> io::Result<()> {
     eprint!(rt; "{cut} {are} cut (--fuel)")
 }
 
-/// Says what a report leaves open of a script with a waitany, even where it is whole.
-fn say_waitany<R: Eprint>(rt: &R, tally: Tally) -> io::Result<()> {
-    if !tally.is_whole() {
-        eprint!(rt; ", ")?;
+/// Says what a report leaves open where what is tried depends on the order of steps, even where it is whole: what a waitany takes, and
+/// which sends are buffered where buffers run out.
+fn say_order<R: Eprint>(
+    rt: &R,
+    has_waitany: bool,
+    is_limited: bool,
+    tally: Tally,
+) -> io::Result<()> {
+    if has_waitany {
+        let comma = if tally.is_whole() { "" } else { ", " };
+        eprint!(rt; "{comma}what a waitany takes may depend on the order of steps")?;
     }
-    eprint!(rt; "what a waitany takes may depend on the order of steps")
+    if is_limited {
+        let comma = if tally.is_whole() && !has_waitany { "" } else { ", " };
+        eprint!(rt; "{comma}which sends are buffered may depend on the order of steps")?;
+    }
+    Ok(())
 }
 
 /// Says what wasn't tried.
 pub(crate) fn say_part<R: Eprint>(
     rt: &R,
-    code: &Code,
+    script: &(Mode, Code),
     tally: Tally,
     until_bad: bool,
 ) -> io::Result<()> {
+    let (mode, code) = script;
     eprint!(rt; "not everything was tried: ")?;
     if tally.more {
         say_more(rt, tally, until_bad)?;
     }
     say_cut(rt, tally)?;
-    if !code.has_no_waitany() {
-        say_waitany(rt, tally)?;
-    }
+    say_order(rt, !code.has_no_waitany(), is_limited(*mode), tally)?;
     eprintln!(rt; "")
 }
 
@@ -84,13 +96,30 @@ pub(crate) fn say_part<R: Eprint>(
 /// Where a listing ends with the first deadlock or trap, that is why there are more.
 pub(crate) fn say_tally<R: Eprint>(
     rt: &R,
-    code: &Code,
+    script: &(Mode, Code),
     tally: Tally,
     until_bad: bool,
 ) -> io::Result<()> {
-    if tally.tells_all(code) {
+    let (mode, code) = script;
+    if tally.tells_all(*mode, code) {
         say_whole(rt, tally)
     } else {
-        say_part(rt, code, tally, until_bad)
+        say_part(rt, script, tally, until_bad)
+    }
+}
+
+/// Says how many slots are enough for a script, by the modes that were tried.
+pub(crate) fn say_least<R: Eprint>(rt: &R, tried: Tried) -> io::Result<()> {
+    match tried.least {
+        Some(Mode::Rendezvous) if tried.is_bad => {
+            eprintln!(rt; "ends well without a buffer, and not in each mode with some")
+        }
+        Some(Mode::Rendezvous) => eprintln!(rt; "ends well however many sends are buffered"),
+        Some(Mode::Slots(1)) => eprintln!(rt; "hangs without a slot"),
+        Some(Mode::Slots(count)) => eprintln!(rt; "hangs with fewer than {count} slots"),
+        Some(Mode::Buffered) => {
+            eprintln!(rt; "hangs with each number of slots that was tried (--modes)")
+        }
+        None => eprintln!(rt; "hangs in each mode that was tried"),
     }
 }

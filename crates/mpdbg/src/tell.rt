@@ -1,6 +1,7 @@
 //! Why the program ends before its input does, and what a person is told of it (docs/FORMATS.md, "Faults and statuses").
 
 use mpd_lines::engine::EngineFault;
+use mpd_model::limits::SLOTS_MAX;
 use mpd_model::read_fault::{FaultCode, ReadFault};
 use mpd_options::options::UsageFault;
 use mpd_pool::check::PoolFault;
@@ -192,7 +193,7 @@ fn tell_listener<R: Eprint>(rt: &R, error: Error, is_terminal: bool) -> u8 {
 fn tell_mode<R: Eprint>(rt: &R, word: &str, is_terminal: bool) -> u8 {
     let _unwritten = eprintln!(rt; "mpdbg: bad mode");
     if is_terminal {
-        let _unwritten = eprintln!(rt; "  '{word}' is none; the modes are rendezvous and buffered");
+        let _unwritten = eprintln!(rt; "  '{word}' is none; the modes are rendezvous, buffered, and slots:K with K from 0 to {SLOTS_MAX}");
     }
     WRONG
 }

@@ -4,6 +4,9 @@ use Rattle.mpd_options.specs.Asked.{most_fuel, most_runs, most_split, most_worke
 use Rattle.mpd_options.proofs.Reading.{has_items, items_found, number_is, number_there}
 use Rattle.mpd_options.proofs.options.check_options_in.Goals as goal
 
+pub modes_of-modes-requires : goal.modes_of-modes-requires
+modes_of-modes-requires c = (has_items (found_of c.args.check.now) c.requires).modes
+
 pub number_of-runs-requires : goal.number_of-runs-requires
 number_of-runs-requires c = let f = found_of c.args.check.now in number_there 1 most_runs (one_of (codes "runs") (rows_of f)) (omega arith) (has_items f c.requires).runs
 
@@ -35,7 +38,8 @@ pub returns : goal.returns
 returns c =
     let f = found_of c.args.check.now in
     let has = has_items f c.requires in
-    items_found f c.number_of-runs.result c.number_of-fuel.result c.number_of-split.result c.number_of-workers.result c.until_bad_of-ends_at_first.result c.flag_of-wants_witness.result c.flag_of-is_complete.result c.piece_of-piece.result c.flag_of-counts_pieces.result
+    items_found f c.modes_of-modes.result c.number_of-runs.result c.number_of-fuel.result c.number_of-split.result c.number_of-workers.result c.until_bad_of-ends_at_first.result c.flag_of-wants_witness.result c.flag_of-is_complete.result c.piece_of-piece.result c.flag_of-counts_pieces.result
+    c.modes_of-modes.ensures
     (number_is 1 most_runs (one_of (codes "runs") (rows_of f)) c.number_of-runs.result c.number_of-runs.ensures has.runs)
     (number_is 1 most_fuel (one_of (codes "fuel") (rows_of f)) c.number_of-fuel.result c.number_of-fuel.ensures has.fuel)
     (number_is 0 most_split (one_of (codes "split") (rows_of f)) c.number_of-split.result c.number_of-split.ensures has.split)

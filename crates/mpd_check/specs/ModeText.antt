@@ -1,0 +1,43 @@
+-- What is said of each mode that is tried, and of all of them.
+use Rattle.std.specs.Prelude.{ℕ, ◌++◌, ◌||◌, Bool, List, Option, Some, None, codes, if◌then◌else◌}
+use Rattle.std.specs.Fmt.{decimal}
+use Rattle.mpd_model.specs.declared.call.Mode.{Mode}
+use Rattle.mpd_model.specs.declared.call.Mode.TheVariants.{Rendezvous, Buffered, Slots}
+use Rattle.mpd_model.specs.Modes.{rendezvous_word, buffered_word, slots_word}
+use Rattle.mpd_model.specs.Texts.{line}
+use Rattle.mpd_check.specs.declared.counts.Tally.{Tally}
+use Rattle.mpd_check.specs.declared.modes.Tried.{Tried}
+use Rattle.mpd_check.specs.Tally.{is_bad}
+
+-- the word of a mode
+abbrev pub mode_word : Mode → List ℕ
+mode_word Rendezvous = rendezvous_word
+mode_word Buffered = buffered_word
+mode_word (Slots count) = slots_word ++ decimal count
+
+abbrev pub yes_or_no : Bool → List ℕ
+yes_or_no b = if b then codes "yes" else codes "no"
+
+-- how many leaves a report lists, and how many of them are deadlocks, traps and cut
+abbrev pub counts_text : Tally → List ℕ
+counts_text t = codes " leaves " ++ decimal t.runs ++ codes " deadlocks " ++ decimal t.deadlocks ++ codes " traps " ++ decimal t.traps ++ codes " cut " ++ decimal t.cut
+
+-- what the report of a mode tells: `slots:2 leaves 12 deadlocks 3 traps 0 cut 0 more no`
+abbrev pub mode_line : Mode → Tally → List ℕ
+mode_line mode t = line (mode_word mode ++ counts_text t ++ codes " more " ++ yes_or_no t.more)
+
+-- the first mode that was tried in which no deadlock and no trap is listed
+abbrev pub least_line : Option Mode → List ℕ
+least_line None = line (codes "least none")
+least_line (Some mode) = line (codes "least " ++ mode_word mode)
+
+-- ---- modes one after another
+
+-- the first of them stays
+abbrev pub first_good : Option Mode → Mode → Tally → Option Mode
+first_good None mode t = if is_bad t then None else Some mode
+first_good (Some first) mode t = Some first
+
+-- with one mode more
+abbrev pub tried_more : Tried → Mode → Tally → Tried
+tried_more tried mode t = record { is_bad = tried.is_bad || is_bad t; least = first_good tried.least mode t }

@@ -1,0 +1,210 @@
+//! What a script does in several modes, a line for each (docs/FORMATS.md, "Modes tried in turn").
+
+ghost use Rattle.std.specs.Prelude.{◌≡◌, ◌++◌, ◌<◌, ◌≤◌, ◌⊎◌, IfOk, OnOk, IsErrOf, Some, None, true, false, if◌then◌else◌, length, string_bytes};
+ghost use Rattle.mpd_check.specs.Checked.{pieces_of, leaves_of, more_of, AreFew, ModeAnswered, PutCount, LeastPut};
+ghost use Rattle.mpd_check.specs.ModeText.{mode_word, yes_or_no, counts_text, mode_line, least_line, tried_more};
+ghost use Rattle.mpd_check.specs.Tally.{tally_of};
+
+use crate::counts::{FOUND, Tally, tally_of};
+use crate::fault::CheckFault;
+use crate::{Told, is_crew, put, refused};
+use mpd_code::code::Code;
+use mpd_device::device::Sink;
+use mpd_lines::engine::EngineFault;
+use mpd_lines::outbox::write_all;
+use mpd_model::call::Mode;
+use mpd_model::limits::STEPS_MAX;
+use mpd_pieces::split::PIECES_MAX;
+use mpd_pool::check::{CheckPlan, PoolFault, WORKERS_MAX};
+use mpd_pool::gate::Gate;
+use mpd_trail::debugger::Debugger;
+use std::alloc::{AllocError, Global};
+use std::marker::Sync;
+use std::sync::Wait;
+use std::thread::Threads;
+
+/// What modes that were tried one after another have told.
+#[derive(Clone, Copy)]
+pub struct Tried {
+    /// Whether a deadlock or a trap is listed in one of them.
+    pub is_bad: bool,
+    /// The first of them in which none is.
+    pub least: Option<Mode>,
+}
+
+impl Tried {
+    /// Before the first.
+    pub fn none() -> Tried
+        ensures { result ≡ record { is_bad = false; least = None } }
+    {
+        Tried {
+            is_bad: false,
+            least: None,
+        }
+    }
+
+    /// With what the report of one mode more tells.
+    pub fn and(self, mode: Mode, tally: Tally) -> Tried
+        ensures { result ≡ tried_more self mode tally }
+    {
+        let least = match self.least {
+            Some(first) => Some(first),
+            None if tally.is_bad() => None,
+            None => Some(mode),
+        };
+        Tried {
+            is_bad: self.is_bad || tally.is_bad(),
+            least,
+        }
+    }
+
+    /// The status that a check of these modes ends with: 1 where a deadlock or a trap is listed in one of them, else 0.
+    pub fn status(self) -> u8
+        ensures { result ≡ if self.is_bad then FOUND else 0 }
+    {
+        if self.is_bad { FOUND } else { 0 }
+    }
+}
+
+/// Adds the word of a mode.
+fn push_mode(out: &mut String, mode: Mode) -> Result<(), AllocError>
+    ensures { OnOk result (string_bytes out.new ≡ string_bytes out.old ++ mode_word mode) }
+{
+    match mode {
+        Mode::Rendezvous => out.push_str("rendezvous"),
+        Mode::Buffered => out.push_str("buffered"),
+        Mode::Slots(count) => write!(out, "slots:{count}"),
+    }
+}
+
+/// Yes or no.
+fn yes_or_no(is_so: bool) -> &'static str
+    ensures { result.now ≡ yes_or_no is_so }
+{
+    if is_so { "yes" } else { "no" }
+}
+
+/// Adds how many leaves a report lists, and how many of them are deadlocks, traps and cut.
+fn push_counts(out: &mut String, tally: Tally) -> Result<(), AllocError>
+    ensures { OnOk result (string_bytes out.new ≡ string_bytes out.old ++ counts_text tally) }
+{
+    write!(
+        out,
+        " leaves {} deadlocks {} traps {} cut {}",
+        tally.runs, tally.deadlocks, tally.traps, tally.cut
+    )
+}
+
+/// What the report of a mode tells, as a line.
+fn line_of(alloc: Global, mode: Mode, tally: Tally) -> Result<String, AllocError>
+    ensures { IfOk result (λ t. string_bytes t ≡ mode_line mode tally) }
+{
+    let mut out = String::new(alloc);
+    push_mode(&mut out, mode)?;
+    push_counts(&mut out, tally)?;
+    out.push_str(" more ")?;
+    out.push_str(yes_or_no(tally.more))?;
+    out.push_str("\n")?;
+    Ok(out)
+}
+
+/// What the report of a mode tells.
+fn tally_in<G: Gate, R: Threads + Wait + Sync>(
+    rt: &R,
+    alloc: Global,
+    code: &Code,
+    mode: Mode,
+    plan: CheckPlan,
+    workers: usize,
+    gate: &G,
+) -> Result<Tally, PoolFault>
+    requires { plan.limits.fuel ≤ STEPS_MAX }
+    ensures tally { IfOk result (λ t. t ≡ tally_of (leaves_of code.now.program mode plan) (more_of code.now.program mode plan)) }
+    ensures workers { IsErrOf result PoolFault.BadWorkers → (workers ≡ 0) ⊎ (WORKERS_MAX < workers) }
+    ensures few { OnOk result (AreFew code.now.program mode plan) }
+    ensures many { IsErrOf result PoolFault.TooManyPieces → PIECES_MAX < length (pieces_of code.now.program mode plan) }
+{
+    let Ok(mut debugger) = Debugger::start(alloc, code, mode) else {
+        return Err(PoolFault::Memory);
+    };
+    match mpd_pool::check::check(rt, alloc, &mut debugger, plan, workers, gate) {
+        Ok(report) => {
+            drop(debugger);
+            let tally = tally_of(&report);
+            drop(report);
+            Ok(tally)
+        }
+        Err(fault) => {
+            drop(debugger);
+            Err(fault)
+        }
+    }
+}
+
+/// Explores a script from its start in a mode, as `check` does, and writes one line of what the report tells: how many runs it lists,
+/// how many of them end in a deadlock, with a trap, or cut, and whether there are more. It is refused as `check` is.
+pub fn check_mode<W: Sink, G: Gate, R: Threads + Wait + Sync>(
+    rt: &R,
+    alloc: Global,
+    code: &Code,
+    mode: Mode,
+    plan: CheckPlan,
+    workers: usize,
+    sink: &mut W,
+    gate: &G,
+) -> Result<Tally, CheckFault>
+    requires { plan.limits.fuel ≤ STEPS_MAX }
+    ensures { ModeAnswered code.now.program mode plan workers (W.seen sink.old) (W.seen sink.new) result }
+{
+    if !is_crew(workers) {
+        return Err(CheckFault::BadWorkers);
+    }
+    let told = tally_in(rt, alloc, code, mode, plan, workers, gate);
+    gate.done();
+    match told {
+        Ok(tally) => match line_of(alloc, mode, tally) {
+            Ok(text) => put(Told { text, tally }, sink),
+            Err(_) => Err(CheckFault::Engine(EngineFault::Memory)),
+        },
+        Err(fault) => Err(refused(fault)),
+    }
+}
+
+/// Which of the modes that were tried is the first without a deadlock or a trap, as a line.
+fn least_of(alloc: Global, least: Option<Mode>) -> Result<String, AllocError>
+    ensures { IfOk result (λ t. string_bytes t ≡ least_line least) }
+{
+    let mut out = String::new(alloc);
+    out.push_str("least ")?;
+    match least {
+        None => out.push_str("none")?,
+        Some(mode) => push_mode(&mut out, mode)?,
+    }
+    out.push_str("\n")?;
+    Ok(out)
+}
+
+/// Writes a text.
+pub(crate) fn put_text<W: Sink>(text: String, sink: &mut W) -> Result<(), CheckFault>
+    ensures { PutCount (string_bytes text) (W.seen sink.old) (W.seen sink.new) result }
+{
+    if write_all(sink, text.as_bytes()).is_err() {
+        return Err(CheckFault::Engine(EngineFault::WriteFailed));
+    }
+    Ok(())
+}
+
+/// Writes which of the modes that were tried is the first without a deadlock or a trap: `least slots:2`, or `least none`. `WriteFailed`
+/// (46) comes only where a write failed, and `Memory` only before anything is written.
+pub fn put_least<W: Sink>(
+    alloc: Global,
+    least: Option<Mode>,
+    sink: &mut W,
+) -> Result<(), CheckFault>
+    ensures { LeastPut least (W.seen sink.old) (W.seen sink.new) result }
+{
+    match least_of(alloc, least) {
+        Ok(text) => put_text(text, sink),
+        Err(_) => Err(CheckFault::Engine(EngineFault::Memory)),
+    }
+}
