@@ -4,7 +4,6 @@ use Rattle.std.specs.Prelude.{◌≡◌, ◌≤◌, ℕ, ◌+◌, pos, Bool, tru
 use Rattle.std.specs.Option.{option_map}
 use Rattle.std.proofs.Common.{arith, sym, ap, ◌∙◌}
 use Rattle.mpd_model.specs.declared.place.DeclKind.TheVariants.{Variable, Handle}
-use Rattle.mpd_model.specs.declared.place.Place.{Place}
 use Rattle.mpd_model.specs.declared.expr.BinaryOp.TheVariants.{Equal}
 use Rattle.mpd_model.specs.declared.step.Step.{Step}
 use Rattle.mpd_model.specs.declared.step.Step.TheVariants.{Local, Match, Wake}
@@ -15,7 +14,7 @@ use Rattle.mpd_model.specs.declared.stmt.Simple.TheVariants as st
 use Rattle.mpd_model.specs.declared.outcome.Outcome.{Outcome}
 use Rattle.mpd_model.specs.declared.outcome.Outcome.TheVariants as o
 use Rattle.mpd_model.specs.Term.{Term, lit, own_rank, op2, Target}
-use Rattle.mpd_model.specs.Tree.{Tree, simple, branch, repeat, Block, no_more, then_more, block_of, statements_in}
+use Rattle.mpd_model.specs.Tree.{Tree, simple, branch, repeat, Block, no_more, then_more, statements_in}
 use Rattle.mpd_model.specs.Program.{Program}
 use Rattle.mpd_model.specs.World.{World, start, call_id, listed_calls, kind_of, is_buffered}
 use Rattle.mpd_model.specs.Next.{next, fold, enabled}
