@@ -1,5 +1,5 @@
 -- What sleeps at open choices, and the candidates that are passed.
-use Rattle.std.proofs.Common.{◌≡◌, ℕ, zero, suc, ◌<◌, ◌≤◌, ◌||◌, Bool, true, false, List, [], ◌∷◌, ◌++◌, length, take, drop, map, reverse, get_or, Some, refl, sym, ap, subst, ◌∙◌, arith}
+use Rattle.std.proofs.Common.{◌≡◌, ℕ, zero, suc, ◌<◌, ◌≤◌, ◌+◌, ◌||◌, Bool, true, false, List, [], ◌∷◌, ◌++◌, length, take, drop, map, reverse, get_or, Some, refl, sym, ap, subst, ◌∙◌, arith, add-one}
 use Rattle.std.specs.List.{list_any}
 use Rattle.mpd_model.specs.declared.step.Step.{Step}
 use Rattle.mpd_model.specs.World.{World}
@@ -83,3 +83,30 @@ skips_here asleep candidates from i a p within read wakes =
 pub skips_all : (asleep candidates : List Step) (from i n : ℕ) → Passes asleep candidates from i → i ≡ n → n ≡ length candidates → Skips asleep candidates from n
 skips_all asleep candidates from i n p same long =
     record { passes = subst (λ m. Passes asleep candidates from m) same p; high = omega (arith, long); awake = λ a less read. absurd (omega (arith, long, less)) }
+
+-- ---- the test of the code, with whatever stands for a candidate that isn't there
+
+read_same : (xs : List Step) (i : ℕ) (d e : Step) → i < length xs → get_or xs i d ≡ get_or xs i e
+read_same [] i d e h = absurd (omega (arith, h))
+read_same (x ∷ xs) zero d e h = refl
+read_same (x ∷ xs) (suc i) d e h = read_same xs i d e (omega (arith, h))
+
+test_is : (stack : List Open) (candidates before : List Step) (i : ℕ) (a : Step) (r : Bool) → before ≡ take i candidates → r ≡ (list_any (same_match a) before || list_any (was_tried a) stack) → is_asleep (put_off i candidates (asleep_below (reverse stack))) a ≡ r
+test_is stack candidates before i a r front is = tested a i candidates stack ∙ sym (is ∙ ap (λ xs. list_any (same_match a) xs || list_any (was_tried a) stack) front)
+
+pub passes_tested : (stack : List Open) (candidates before : List Step) (from i : ℕ) (d : Step) (r : Bool) → Passes (asleep_below (reverse stack)) candidates from i → i < length candidates → before ≡ take i candidates
+    → r ≡ (list_any (same_match (get_or candidates i d)) before || list_any (was_tried (get_or candidates i d)) stack) → r ≡ true → Passes (asleep_below (reverse stack)) candidates from (i + 1)
+passes_tested stack candidates before from i d r p within front is on =
+    let a : Step = get_or candidates i d in
+    passes_more (asleep_below (reverse stack)) candidates from i (i + 1) a p within (read_same candidates i d a within) (add-one i) (test_is stack candidates before i a r front is ∙ on)
+
+pub skips_tested : (stack : List Open) (candidates before : List Step) (from i : ℕ) (d : Step) (r : Bool) → Passes (asleep_below (reverse stack)) candidates from i → i < length candidates → before ≡ take i candidates
+    → r ≡ (list_any (same_match (get_or candidates i d)) before || list_any (was_tried (get_or candidates i d)) stack) → r ≡ false → Skips (asleep_below (reverse stack)) candidates from i
+skips_tested stack candidates before from i d r p within front is off =
+    let a : Step = get_or candidates i d in
+    skips_here (asleep_below (reverse stack)) candidates from i a p within (read_same candidates i d a within) (test_is stack candidates before i a r front is ∙ off)
+
+-- the same of lists that are read through references
+pub skips_same : (seen stack : List Open) (read candidates : List Step) (from i : ℕ) → seen ≡ stack → read ≡ candidates → Skips (asleep_below (reverse seen)) read from i → Skips (asleep_below (reverse stack)) candidates from i
+skips_same seen stack read candidates from i same told h =
+    subst (λ (xs : List Step). Skips (asleep_below (reverse stack)) xs from i) told (subst (λ (fs : List Open). Skips (asleep_below (reverse fs)) read from i) same h)

@@ -310,6 +310,16 @@ exhausted_at first b f fs gs d c e from taken at came off tried =
     let t : Tried first b fs c f.candidates from false gs e = rw off at tried in
     rw (t.0, t.1) (at_popped first b f fs d c at came)
 
+-- all three of them, where the first world is told by the debugger
+pub passed_back : (first own : World) (b : Bounds) (f : Open) (fs gs : List Open) (d c e : Standing) (from : ℕ) (taken : Bool) → own ≡ first → At first b (f ∷ fs) d → Came d f.depth c → from ≡ suc f.index → taken ≡ false → Tried own b fs c f.candidates from taken gs e
+    → At first b gs e × (later first b (f ∷ fs) (kept d.trail) ≡ later first b gs (kept e.trail)) × (states_later first b gs (kept e.trail) ≤ states_later first b (f ∷ fs) (kept d.trail))
+passed_back first own b f fs gs d c e from taken own_is at came next off tried =
+    let t : Tried first b fs c f.candidates from taken gs e = rw own_is at tried in (
+      exhausted_at first b f fs gs d c e from taken at came off t,
+      exhausted first b f fs gs d c e from taken at came next off t,
+      exhausted_states first b f fs gs d c e from taken at came off t,
+    )
+
 -- ---- what is below the base stays
 
 pub safe_pushed : (first : World) (b : Bounds) (fs : List Open) (d e : Standing) (a : Step) → At first b fs d → Went d a e → Safe b.base d e

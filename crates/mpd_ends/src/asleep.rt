@@ -33,11 +33,11 @@ fn has_match(steps: &[Step], step: Step) -> bool
 }
 
 /// The candidates of an open choice that were tried before the one that is taken.
-fn tried(open: &Open) -> &[Step]
-    ensures { result.now ≡ take open.now.index open.now.candidates }
+fn tried(choice: &Open) -> &[Step]
+    ensures { result.now ≡ take choice.now.index choice.now.candidates }
 {
-    let count = open.index.min(open.candidates.items.len());
-    let (before, _) = open.candidates.items.split_at(count);
+    let count = choice.index.min(choice.candidates.items.len());
+    let (before, _) = choice.candidates.items.split_at(count);
     before
 }
 
