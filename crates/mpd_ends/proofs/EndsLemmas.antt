@@ -1,5 +1,5 @@
 -- One leaf more is gathered, and what is gathered in the end is what is to be listed.
-use Rattle.std.proofs.Common.{◌≡◌, ℕ, ◌<◌, ◌≤◌, ◌+◌, ◌&&◌, if◌then◌else◌, Bool, true, false, List, [], ◌∷◌, ◌++◌, length, take, map, reverse, get_or, refl, sym, ap, ◌∙◌, arith, append_assoc, append-nil}
+use Rattle.std.proofs.Common.{◌≡◌, ℕ, ◌<◌, ◌≤◌, ◌+◌, ◌&&◌, if◌then◌else◌, Bool, true, false, List, [], ◌∷◌, ◌++◌, length, take, map, reverse, get_or, Option, Some, None, IsTrue, refl, sym, ap, subst, ◌∙◌, arith, append_assoc, append-nil}
 use Rattle.std.proofs.lemmas.List.{length-map, take_all, take_more, reverse-append}
 use Rattle.std.proofs.Math.Seq.{take-append_seam}
 use Rattle.mpd_model.specs.declared.step.Step.{Step}
@@ -14,11 +14,11 @@ use Rattle.mpd_explore.specs.WitnessTexts.{behind_number}
 use Rattle.mpd_explore.specs.Gathered.{run_text, run_texts, Gathered, Lists}
 use Rattle.mpd_explore.proofs.RunLemmas.{prefixed_here}
 use Rattle.mpd_explore.proofs.ListedLemmas.{up_none, ended_same, none_out}
-use Rattle.mpd_explore.proofs.GatherLemmas.{lists_all, lists_bad, lists_full}
+use Rattle.mpd_explore.proofs.GatherLemmas.{gathered_none, lists_all, lists_bad, lists_full}
 use Rattle.mpd_ends.specs.declared.search.Open.{Open}
 use Rattle.mpd_ends.specs.declared.search.Bounds.{Bounds}
 use Rattle.mpd_ends.specs.Search.{picked, later, to_come, At, Advanced, Found}
-use Rattle.mpd_ends.specs.Ends.{IsMore}
+use Rattle.mpd_ends.specs.Ends.{IsMore, FoundLeaf}
 
 -- the candidates of one more open choice
 pub picked_more : (stack : List Open) (i : ℕ) (x : Open) (so_far now : List ℕ) → i < length stack → x ≡ get_or stack i x → so_far ≡ picked (reverse (take i stack)) → now ≡ so_far ++ x.index ∷ [] → now ≡ picked (reverse (take (i + 1) stack))
@@ -100,3 +100,22 @@ lists_last l all rest old leaves x texts last false g more pushed good few is on
 pub lists_asked : (l : Limits) (all rest : List Run) (leaves : List Leaf) (texts : List (List ℕ)) (more : Bool) → Gathered l.witnesses all rest leaves texts → IsMore more rest → length leaves ≡ l.runs → (l.until_bad ≡ true → any_bad leaves ≡ false) → Lists l all leaves texts more
 lists_asked l all rest leaves texts true g more long good = lists_full l all rest leaves texts g more long good
 lists_asked l all rest leaves texts false g more long good = lists_none l all rest leaves texts g more good (omega (arith, long))
+
+-- ---- what was found, where the first world is told by the debugger
+
+pub leaf_found : (first own : World) (b : Bounds) (fs gs : List Open) (d m : Standing) (o : Option Leaf) (x : Leaf) → own ≡ first → o ≡ Some x → FoundLeaf own b fs d o gs m
+    → At first b gs m × (to_come first b fs (kept d.trail) d.world ≡ prefixed (picked gs) (kept m.trail) (here x.ending) ∷ later first b gs (kept m.trail)) × (x.choices ≡ picked gs)
+leaf_found first own b fs gs d m o x own_is is found =
+    let h : FoundLeaf first b fs d (Some x) gs m = rw (own_is, is) at found in
+    (h.0.0, h.0.1, h.1)
+
+pub no_leaf : (first own : World) (b : Bounds) (fs gs : List Open) (d m : Standing) (o : Option Leaf) → own ≡ first → o ≡ None → FoundLeaf own b fs d o gs m → to_come first b fs (kept d.trail) d.world ≡ []
+no_leaf first own b fs gs d m o own_is is found = let h : FoundLeaf first b fs d None gs m = rw (own_is, is) at found in h
+
+pub more_of : (first own : World) (b : Bounds) (fs : List Open) (path : List Step) (w : World) (more : Bool) → own ≡ first → IsMore more (to_come own b fs path w) → IsMore more (to_come first b fs path w)
+more_of first own b fs path w more own_is h = subst (λ (u : World). IsMore more (to_come u b fs path w)) own_is h
+
+-- nothing is asked for
+pub lists_nothing : (l : Limits) (all : List Run) (leaves : List Leaf) (texts : List (List ℕ)) (more : Bool) → l.runs ≡ 0 → 0 < length all → leaves ≡ [] → texts ≡ [] → IsTrue more → Lists l all leaves texts more
+lists_nothing l all leaves texts true none some empty blank on = lists_full l all all leaves texts (gathered_none l.witnesses all all leaves texts refl empty blank) some (ap length empty ∙ sym none) (λ h. ap any_bad empty)
+lists_nothing l all leaves texts false none some empty blank on = cc
