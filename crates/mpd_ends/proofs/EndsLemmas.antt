@@ -17,7 +17,7 @@ use Rattle.mpd_explore.proofs.ListedLemmas.{up_none, ended_same, none_out}
 use Rattle.mpd_explore.proofs.GatherLemmas.{gathered_none, lists_all, lists_bad, lists_full}
 use Rattle.mpd_ends.specs.declared.search.Open.{Open}
 use Rattle.mpd_ends.specs.declared.search.Bounds.{Bounds}
-use Rattle.mpd_ends.specs.Search.{picked, later, to_come, At, Advanced, Found}
+use Rattle.mpd_ends.specs.Search.{picked, later, to_come, At, Advanced}
 use Rattle.mpd_ends.specs.Ends.{IsMore, FoundLeaf}
 
 -- the candidates of one more open choice

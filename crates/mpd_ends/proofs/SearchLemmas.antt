@@ -8,7 +8,7 @@ use Rattle.mpd_model.specs.declared.decision.Decision.{Decision}
 use Rattle.mpd_model.specs.declared.decision.Decision.TheVariants.{Forced, Choice, Leaf}
 use Rattle.mpd_model.specs.World.{World, start}
 use Rattle.mpd_model.specs.Next.{next, fold}
-use Rattle.mpd_model.specs.Trail.{Trail, Standing, IsReached, kept}
+use Rattle.mpd_model.specs.Trail.{Trail, Standing, kept}
 use Rattle.mpd_model.specs.Decisions.{decision}
 use Rattle.mpd_trail.specs.Run.{first_of}
 use Rattle.mpd_explore.specs.declared.report.Ending.{Ending}
@@ -24,7 +24,7 @@ use Rattle.mpd_ends.specs.declared.search.Stop.{Stop}
 use Rattle.mpd_ends.specs.declared.search.Stop.TheVariants as stop
 use Rattle.mpd_ends.specs.Asleep.{put_off, asleep_below, Skips}
 use Rattle.mpd_ends.specs.States.{states_of, states_by, states}
-use Rattle.mpd_ends.specs.Search.{picked, branches_from, others, later, to_come, states_beside, states_later, states_to_come, Stands, At, stopped_at, Moved, Tried, Advanced, Found}
+use Rattle.mpd_ends.specs.Search.{picked, branches_from, others, later, to_come, states_beside, states_later, states_to_come, Stands, At, stopped_at, Moved, Tried, Advanced}
 use Rattle.mpd_ends.proofs.ListLemmas.{drop_at}
 use Rattle.mpd_ends.proofs.AsleepLemmas.{branch_awake}
 use Rattle.mpd_ends.proofs.StateLemmas.{states_is, some_states, states_fewer, states_split}

@@ -1,5 +1,5 @@
 -- What is found of runs, a leaf at a time.
-use Rattle.std.specs.Prelude.{◌≡◌, ◌<◌, Bool, true, false, List, [], ◌∷◌, length, Option, Some, None}
+use Rattle.std.specs.Prelude.{◌≡◌, ◌<◌, Bool, true, false, List, [], length, Option, Some, None}
 use Rattle.mpd_model.specs.World.{World}
 use Rattle.mpd_model.specs.Trail.{Standing, kept}
 use Rattle.mpd_trail.specs.Run.{first_of}

@@ -1,10 +1,9 @@
 -- Worked rows of the walk that sleeps: two races of two senders each, which share no call.
-use Rattle.std.specs.Prelude.{◌≡◌, ℕ, pos, map, List, [], ◌∷◌, length, None, codes, refl}
+use Rattle.std.specs.Prelude.{◌≡◌, ℕ, pos, map, List, [], ◌∷◌, None, codes, refl}
 use Rattle.mpd_model.specs.declared.place.DeclKind.TheVariants.{Variable}
 use Rattle.mpd_model.specs.declared.expr.BinaryOp.TheVariants.{Less, Remainder}
 use Rattle.mpd_model.specs.declared.call.Mode.TheVariants.{Rendezvous}
 use Rattle.mpd_model.specs.declared.stmt.Simple.TheVariants as st
-use Rattle.mpd_model.specs.Declaration.{Declared}
 use Rattle.mpd_model.specs.Term.{Term, lit, own_rank, op2, Target}
 use Rattle.mpd_model.specs.Tree.{simple, branch, no_more, then_more}
 use Rattle.mpd_model.specs.Program.{Program}

@@ -1,4 +1,4 @@
-use Rattle.mpd_ends.proofs.AsleepLemmas.{passes_tested, skips_tested, passes_none, skips_all}
+use Rattle.mpd_ends.proofs.AsleepLemmas.{passes_tested, skips_tested}
 use Rattle.mpd_ends.proofs.asleep.first_awake.Goals as goal
 
 pub returns-then-not-is_asleep : goal.returns-then-not-is_asleep

@@ -1,4 +1,4 @@
-use Rattle.std.proofs.Common.{◌≡◌, ap, map, string_bytes}
+use Rattle.std.proofs.Common.{ap, map, string_bytes}
 use Rattle.mpd_trail.specs.Views.{standing_of}
 use Rattle.mpd_ends.specs.Ends.{to_find}
 use Rattle.mpd_ends.proofs.WalkLemmas.{some_to_find}

@@ -1,4 +1,4 @@
-use Rattle.std.proofs.Common.{◌≡◌, ◌+◌, ◌≤◌, ◌<◌, [], ◌∷◌, length, map, reverse, string_bytes, List, refl, sym, ap, subst, ◌∙◌, arith}
+use Rattle.std.proofs.Common.{◌≡◌, ◌+◌, ◌≤◌, [], length, map, reverse, string_bytes, List, refl, sym, ap, subst, arith}
 use Rattle.mpd_model.specs.World.{World}
 use Rattle.mpd_model.specs.Trail.{kept}
 use Rattle.mpd_trail.specs.Run.{first_of}

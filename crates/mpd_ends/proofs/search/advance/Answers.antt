@@ -1,4 +1,4 @@
-use Rattle.std.proofs.Common.{rules, ◌≡◌, ◌≤◌, ◌+◌, ◌∷◌, length, reverse, sym, ap, ◌∙◌, arith, suc, List, add-one}
+use Rattle.std.proofs.Common.{◌≡◌, ◌+◌, ◌∷◌, reverse, ap, ◌∙◌, arith, List, add-one}
 use Rattle.mpd_model.specs.World.{World}
 use Rattle.mpd_model.specs.Trail.{Trail, kept}
 use Rattle.mpd_trail.specs.Run.{first_of}
@@ -8,7 +8,7 @@ use Rattle.mpd_explore.proofs.SearchLemmas.{Came, safe_then}
 use Rattle.mpd_ends.specs.declared.search.Open.{Open}
 use Rattle.mpd_ends.specs.Search.{At, later, states_later}
 use Rattle.mpd_ends.proofs.ListLemmas.{reverse_pushed}
-use Rattle.mpd_ends.proofs.SearchLemmas.{at_popped, popped_enabled, retaken, exhausted, exhausted_states, exhausted_at, passed_back, safe_popped}
+use Rattle.mpd_ends.proofs.SearchLemmas.{at_popped, passed_back, safe_popped}
 use Rattle.mpd_ends.proofs.search.advance.Goals as goal
 
 pub returns-in_err-is_taken-clause-safe : goal.returns-in_err-is_taken-clause-safe

@@ -1,4 +1,4 @@
-use Rattle.std.proofs.Common.{rules, ◌≡◌, ◌<◌, ◌∷◌, length, reverse, get_or, subst, sym, refl, ap, ◌∙◌, arith, List}
+use Rattle.std.proofs.Common.{rules, ◌≡◌, ◌<◌, ◌∷◌, length, reverse, get_or, ap, ◌∙◌, List}
 use Rattle.mpd_model.specs.declared.step.Step.{Step}
 use Rattle.mpd_model.specs.Trail.{Trail}
 use Rattle.mpd_trail.specs.Run.{first_of}
@@ -9,7 +9,7 @@ use Rattle.mpd_ends.specs.declared.search.Open.{Open}
 use Rattle.mpd_ends.specs.Asleep.{asleep_below, Skips}
 use Rattle.mpd_ends.proofs.AsleepLemmas.{skips_same}
 use Rattle.mpd_ends.proofs.ListLemmas.{reverse_pushed}
-use Rattle.mpd_ends.proofs.SearchLemmas.{candidate_taken, none_taken, safe_pushed}
+use Rattle.mpd_ends.proofs.SearchLemmas.{candidate_taken, safe_pushed}
 use Rattle.mpd_ends.proofs.search.take_from.Goals as goal
 
 pub forward-requires-clause-enabled : goal.forward-requires-clause-enabled
