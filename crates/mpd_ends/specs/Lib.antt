@@ -1,0 +1,5 @@
+pub mod Asleep
+pub mod States
+pub mod Search
+pub mod Ends
+pub mod EndsRows
