@@ -8,6 +8,7 @@ import sys
 from itertools import islice
 from typing import NamedTuple, Optional
 
+import complete
 import explorer
 import order
 import policy
@@ -469,6 +470,16 @@ def explored(row):
     return unchanged(trail_text(found), told_report(row, explorer.explored(found, runs, fuel)))
 
 
+def ends_explored(row):
+    """The same along the walk that takes two matches which share no call in one order alone."""
+    found = walked(row)
+    runs, fuel, *_ = row.numbers()
+    leaves = list(islice(complete.asleep_walk(found.world, fuel), runs + 1))
+    before = tuple(found.steps[:found.depth])
+    listed_leaves = tuple(leaf._replace(steps=before + tuple(leaf.steps)) for leaf in leaves[:runs])
+    return unchanged(trail_text(found), told_report(row, explorer.Report(listed_leaves, len(leaves) > runs)))
+
+
 def report_printed(row):
     return no_state(explored(row).answer + '\n')
 
@@ -763,7 +774,7 @@ MODELS = {
     'mpd_trail::follow': replayed, 'mpd_trail::replay': replayed, 'decide': decided, 'forced_step': forced,
     'mpd_policy::run': run_by(lambda found, row: policy.run(found, breaks_of(row), row.numbers()[0])),
     'run_back': run_by(lambda found, row: policy.run_back(found, breaks_of(row))), 'Breaks': by_hand,
-    'explore': explored, 'witness_of': witness_made, 'print_report': report_printed, 'push_leaf_text': leaves_pushed,
+    'explore': explored, 'explore_ends': ends_explored, 'witness_of': witness_made, 'print_report': report_printed, 'push_leaf_text': leaves_pushed,
     'push_leaves, push_total': report_printed, 'mpd_pool::print_report': report_by_workers,
     'Report looks': report_looks, 'verify': verified, 'verify_from': verified, 'split': split, 'explore_at': part_explored,
     'explore_by_pieces': by_pieces, 'mpd_pool::check': by_workers, 'mpd_check::check': check_written, 'check_piece': piece_written,

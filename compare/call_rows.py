@@ -18,6 +18,8 @@ MEETING = 'mpd 1; ranks 2;\nbarrier;'
 WHICHEVER = ('mpd 2; ranks 3; var x; var i; req r[2];\n'
              'if rank == 0 { irecv r[0] x from 1 tag 0; irecv r[1] x from 2 tag 0; waitany r to i; } else { send rank to 0 tag 0; }')
 BOTH_CAME = (*('local 0',) * 4, *('local 1', 'local 2') * 2, 'match 1.0 0.0', 'match 2.0 0.1')
+TWO_RACES = ('mpd 1; ranks 6; var x; var y;\nif rank < 2 { recv x from any tag any; recv y from any tag any; assert x < y; } '
+             'else { send rank to rank % 2 tag 0; }')
 ENDLESS = 'mpd 1; ranks 1;\nwhile 1 { }'
 TRAPS = 'mpd 1; ranks 2; var x;\nx = 1 / x;'
 BOTH_SEND = 'mpd 1; ranks 2; var x;\nsend rank to 1 - rank tag 5;\nrecv x from 1 - rank tag 5;'
@@ -253,12 +255,17 @@ def reports():
     for script, mode in ((RACE, 'rendezvous'), (BOTH_SEND, 'rendezvous'), (BOTH_SEND, BUFFERED), (ENDLESS, 'rendezvous'), (TRAPS, BUFFERED)):
         for limits in ('10 100', '1 5', '10 100 witnesses', '10 100 until'):
             yield Row('explore', script, (), limits, mode)
+            yield Row('explore_ends', script, (), limits, mode)
         yield Row('print_report', script, (), '10 100 witnesses', mode)
         yield Row('push_leaves, push_total', script, (), '10 100 witnesses', mode)
         yield Row('mpd_pool::print_report', script, (), '2 10 100 witnesses', mode)
         yield Row('push_leaf_text', script, (), '10 100', mode)
         yield Row('Report looks', script, (), '10 100', mode, spares=True)
     yield Row('explore', RACE, (*CHOICE, 'match 1.0 0.0'), '10 100 witnesses')
+    yield Row('explore_ends', RACE, (*CHOICE, 'match 1.0 0.0'), '10 100 witnesses')
+    # two races of two senders: 8 runs along the choices, of which 4 end in another way than those before
+    for limits in ('20 200', '4 200', '3 200', '20 12', '2 200 until', '0 200'):
+        yield Row('explore_ends', TWO_RACES, (), limits, most=40)
     yield Row('witness_of', RACE, (), '10 100 1')
     yield Row('witness_of', RACE, CHOICE, '10 100 1')
     yield Row('witness_of', RACE, (), '10 100 0', spares=True)
