@@ -36,7 +36,7 @@ RUN = ('./mpdbg', 'cat ', 'sed ', 'echo ', 'mkdir ', 'seq ', 'sbatch ', 'sh exam
 # How a block begins that shows neither commands nor what one of the commands answers: a line of another command, or a form.
 EXCERPTS = {
     'README.md': ('proving ', 'checked as it runs'),
-    'docs/FORMATS.md': ('enabled local 3', 'handles 1', 'leaf N ', 'witness N: ', 'leaf 1 [1] deadlock', 'deadlock 0.1', 'mpdbg: script refused', 'mpdbg: device',
+    'docs/FORMATS.md': ('enabled local 3', 'handles 1', 'leaf N ', 'rendezvous leaves 2', 'witness N: ', 'leaf 1 [1] deadlock', 'deadlock 0.1', 'mpdbg: script refused', 'mpdbg: device',
                         'every way it can end', 'JSON requests'),
     'docs/GATE.md': ('fn: ',)}
 # Files that a page names by a word: a script, words for it, and a witness of it, which is made.
@@ -283,7 +283,8 @@ def answer_of_example(command):
 def problem_of(shown, result):
     """What is wrong with what a command gave; None where nothing is."""
     said = result.output.decode()
-    status = 1 if re.search(r'^leaf .*\] (?:deadlock|trap) ', said, re.M) and '|' not in shown.command else 0
+    is_bad = re.search(r'^leaf .*\] (?:deadlock|trap) |^\S+ leaves \d+ (?:deadlocks [1-9]|deadlocks 0 traps [1-9])', said, re.M)
+    status = 1 if is_bad and '|' not in shown.command else 0
     if not shown.command or result.errors or result.status != status:
         return f'status {result.status}, {result.errors.decode()!r}'
     if shown.command.startswith('./mpdbg verify') and said != 'accepted\n':
