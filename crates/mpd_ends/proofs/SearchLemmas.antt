@@ -1,6 +1,6 @@
 -- What one step of the search makes of the runs to come, and of how many states are.
 use Rattle.std.proofs.Common.{◌≡◌, ℕ, zero, suc, ◌<◌, ◌≤◌, ◌+◌, ◌-◌, Bool, true, false, List, [], ◌∷◌, ◌++◌, length, take, drop, map, get_or, Option, Some, None, refl, sym, ap, ◌∙◌, arith, append_assoc}
-use Rattle.std.proofs.lemmas.List.{length-append, length-take, take-append-le, take_all, drop_all}
+use Rattle.std.proofs.lemmas.List.{length-append, length-take, take-append-le, drop_all}
 use Rattle.std.proofs.Math.Seq.{take-append_seam}
 use Rattle.mpd_model.specs.declared.outcome.Outcome.{Outcome}
 use Rattle.mpd_model.specs.declared.step.Step.{Step}
@@ -254,9 +254,6 @@ choice_moved first b fs gs d e candidates taken at room choice on tried =
     )
 
 -- ---- back to a choice
-
-take_same : (n : ℕ) (xs : List Step) → take n (take n xs) ≡ take n xs
-take_same n xs = take_all n (take n xs) (omega (arith, length-take n xs))
 
 pub at_popped : (first : World) (b : Bounds) (f : Open) (fs : List Open) (d e : Standing) → At first b (f ∷ fs) d → Came d f.depth e → At first b fs e
 at_popped first b f fs d e at came =
