@@ -42,6 +42,10 @@ OF_MODEL, OF_PROGRAM = 500, 5000
 MANY = 300
 # One script of so many is a session too, and one of so many is of version 2.
 SESSION_EVERY, VERSION_2_EVERY = 5, 6
+# Of each piece so many runs are listed, where there may be several; a script of more ranks, whose steps take the model long, is one piece.
+FEW_RUNS, MANY_RANKS, MOST_FUEL = (1, 2, 3, 5), 8, 200
+# A number that a request of a session may not have: what ends soon in the mode that it was drawn in may not do so in another one.
+LARGE = re.compile(rb'[0-9]{3}')
 # A standard send, as `show` and a session tell it, up to its value.
 STANDARD = re.compile(rb'^(call \d+\.\d+ i?send to \d+ tag \d+ value -?\d+)|("i?send to \d+ tag \d+ value -?\d+)', re.MULTILINE)
 MUST_MEET = ('check', 'trace', 'run', 'a deadlock', 'a trap', 'leftovers', 'all done', 'a run that is cut', 'a witness', 'a whole report', 'status 4',
@@ -105,8 +109,8 @@ def wanted(question, pair, plain):
 
 def report_asked(random, kind, script):
     """A report with limits, and options that any report may have."""
-    split, workers = random.choice([None, 0, 1, 2]), random.choice([None, 1, 2, 4])
-    asked = Asked(None, random.choice(RUNS), min(random.choice(FUELS), kind.fuel), random.random() < 0.6, random.random() < 0.5, split, workers,
+    split, workers = 0 if max(kind.ranks) > MANY_RANKS else random.choice([None, 0, 1, 2]), random.choice([None, 1, 2, 4])
+    asked = Asked(None, random.choice(RUNS if split == 0 else FEW_RUNS), min(random.choice(FUELS), MOST_FUEL), random.random() < 0.6, random.random() < 0.5, split, workers,
                   until=random.random() < 0.1, pieces=random.random() < 0.03)
     return Question('check', script, asked, b'')
 
@@ -127,7 +131,7 @@ def session_asked(random, script, mode):
     except Fault:
         lines = []
     lines += [f'{{"cmd":"calls","rank":{rank}}}\n'.encode() for rank in range(4)]
-    return Question('run', script, Asked(), b''.join(line.rstrip(b'\r\n') + b'\n' for line in lines))
+    return Question('run', script, Asked(), b''.join(line.rstrip(b'\r\n') + b'\n' for line in lines if not LARGE.search(line)))
 
 
 def questions(seed, number):
