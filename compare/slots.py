@@ -110,8 +110,9 @@ def wanted(question, pair, plain):
 def report_asked(random, kind, script):
     """A report with limits, and options that any report may have."""
     split, workers = 0 if max(kind.ranks) > MANY_RANKS else random.choice([None, 0, 1, 2]), random.choice([None, 1, 2, 4])
-    asked = Asked(None, random.choice(RUNS if split == 0 else FEW_RUNS), min(random.choice(FUELS), MOST_FUEL), random.random() < 0.6, random.random() < 0.5, split, workers,
-                  until=random.random() < 0.1, pieces=random.random() < 0.03)
+    runs, fuel = random.choice(RUNS if split == 0 else FEW_RUNS), min(random.choice(FUELS), MOST_FUEL)
+    asked = Asked(None, runs, fuel, random.random() < 0.6, random.random() < 0.5, split, workers, random.random() < 0.1,
+                  pieces=random.random() < 0.03)
     return Question('check', script, asked, b'')
 
 
