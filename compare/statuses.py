@@ -508,11 +508,21 @@ SUMMED_IN_SLOTS = (
     ('waitany', '--mode slots:0 --complete', 4, f'not everything was tried: what a waitany takes may depend on the order of steps, {BY_ORDER}'),
 )
 
+# Of modes that are tried in turn it is said which ones have a deadlock or a trap, as far as the first that has none.
+SUMMED_MODES = (
+    ('first_message', '--modes 1', 0, 'no deadlock or trap is listed in any of these modes'),
+    ('swapped_tags', '--modes 1', 1, 'hangs or traps in each of these modes'),
+    ('head_to_head', '--modes 2', 1, 'hangs or traps without a slot'),
+    ('freed_slot', '--modes 3', 1, 'hangs or traps with fewer than 2 slots'),
+    ('freed_slot', '--modes 1', 1, 'hangs or traps with each number of slots that was tried (--modes)'),
+    ('two_receives', '--modes 0', 1, 'hangs or traps in each of these modes'),
+)
+
 
 def summed_rows(program):
     """At a terminal, and there alone, a line below a report says whether everything was tried, and how the script can end; with
     `--complete` a report that isn't whole and has nothing bad has a status of its own."""
-    for name, options, status, line in SUMMED + SUMMED_IN_SLOTS * bool(KNOWN):
+    for name, options, status, line in SUMMED + (SUMMED_IN_SLOTS + SUMMED_MODES) * bool(KNOWN):
         words = ('check', os.path.join(EXAMPLES, f'{name}.mpd'), *options.split())
         result = at_terminal(program, *words)
         yield f'a terminal, check {name} {options}', (result.errors, result.status), (line.encode() + b'\n', status)

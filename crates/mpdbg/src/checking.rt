@@ -138,7 +138,8 @@ fn check_one_mode<R: Clock + Eprint + Threads + Wait + Sync + AllocGlobal, W: Si
     Ok(tried.and(mode, tally))
 }
 
-/// Explores all pieces in rendezvous, with 1 slot and more up to `most`, and buffered, and tells at a terminal how many are enough.
+/// Explores all pieces in rendezvous, with 1 slot and more up to `most`, and buffered, and tells at a terminal which modes list a deadlock
+/// or a trap.
 fn check_modes<R: Clock + Eprint + Threads + Wait + Sync + AllocGlobal, W: Sink>(
     rt: &R,
     code: &Code,

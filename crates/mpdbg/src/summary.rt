@@ -112,18 +112,20 @@ pub(crate) fn say_tally<R: Eprint>(
     }
 }
 
-/// Says how many slots are enough for a script, by the modes that were tried.
+/// Says of the modes that were tried which ones list a deadlock or a trap, as far as the first that lists none.
 pub(crate) fn say_least<R: Eprint>(rt: &R, tried: Tried) -> io::Result<()> {
     match tried.least {
         Some(Mode::Rendezvous) if tried.is_bad => {
-            eprintln!(rt; "ends well without a buffer, and not in each mode with some")
+            eprintln!(rt; "no deadlock or trap is listed without buffers, but with some one is")
         }
-        Some(Mode::Rendezvous) => eprintln!(rt; "ends well however many sends are buffered"),
-        Some(Mode::Slots(1)) => eprintln!(rt; "hangs without a slot"),
-        Some(Mode::Slots(count)) => eprintln!(rt; "hangs with fewer than {count} slots"),
+        Some(Mode::Rendezvous) => {
+            eprintln!(rt; "no deadlock or trap is listed in any of these modes")
+        }
+        Some(Mode::Slots(1)) => eprintln!(rt; "hangs or traps without a slot"),
+        Some(Mode::Slots(count)) => eprintln!(rt; "hangs or traps with fewer than {count} slots"),
         Some(Mode::Buffered) => {
-            eprintln!(rt; "hangs with each number of slots that was tried (--modes)")
+            eprintln!(rt; "hangs or traps with each number of slots that was tried (--modes)")
         }
-        None => eprintln!(rt; "hangs in each mode that was tried"),
+        None => eprintln!(rt; "hangs or traps in each of these modes"),
     }
 }
