@@ -15,7 +15,7 @@ use Rattle.mpd_model.specs.Decisions.{takes_any, is_open_match}
 use Rattle.mpd_model.specs.Why.{or_else}
 use Rattle.mpd_complete.specs.Same.{Same}
 use Rattle.mpd_complete.specs.CompleteLaws.{Joins, KeepsBuffers}
-use Rattle.mpd_complete.specs.Sleeping.{same_match, is_asleep, put_to_sleep}
+use Rattle.mpd_explore.specs.Sleeping.{same_match, is_asleep, put_to_sleep}
 use Rattle.mpd_laws.proofs.Eligible.{both_of}
 use Rattle.mpd_complete.proofs.Sets.{partner_more, else_none, partner_by}
 use Rattle.mpd_meaning.proofs.Members.{In}

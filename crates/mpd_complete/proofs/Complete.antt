@@ -12,7 +12,7 @@ use Rattle.mpd_model.specs.Decisions.{is_open_match, decision}
 use Rattle.mpd_explore.specs.declared.report.Ending.TheVariants.{Ended, Cut}
 use Rattle.mpd_explore.specs.Walk.{Run, here, stepped, chosen, runs_of, stopped, walk}
 use Rattle.mpd_complete.specs.CompleteLaws.{HasNoWaitany, KeepsBuffers, IsWhole, IsComplete}
-use Rattle.mpd_complete.specs.Sleeping.{is_asleep, awake_runs, put_to_sleep, awake_branches, followed_awake, awake_walk, sleeping_walk}
+use Rattle.mpd_explore.specs.Sleeping.{is_asleep, awake_runs, put_to_sleep, awake_branches, followed_awake, awake_walk, sleeping_walk}
 use Rattle.mpd_meaning.proofs.Members.{In, in_left, in_right, in_map}
 use Rattle.mpd_complete.proofs.Worlds.{same_sym, joined_from}
 use Rattle.mpd_complete.proofs.Pairs.{clash}
@@ -20,7 +20,7 @@ use Rattle.mpd_complete.proofs.Invariants.{stays_ample, fold_ample, fold_sound}
 use Rattle.mpd_complete.proofs.Views.{world_of, Stuck, ForcedView, ChoiceView, LeafView, View, view}
 use Rattle.mpd_complete.proofs.Calm.{Calm, stays_calm, fold_calm, start_calm, calm_none}
 use Rattle.mpd_complete.proofs.Walks.{Whole, Found, front, behind_step, whole_behind, whole_each, stuck_same, some_on, at_leaf, stuck_from, listed_from, Bounded, goes_on}
-use Rattle.mpd_complete.proofs.Plain.{nothing_sleeps}
+use Rattle.mpd_explore.proofs.AwakeLemmas.{nothing_sleeps}
 use Rattle.mpd_complete.proofs.Asleep.{HasPair, has_pair, Clear, same_pair, pair_tested, is_pair, awake_by, front_any, first_pair, still_clear, opens_on, named_on, has_before, asleep_from}
 
 -- ---- worlds of a script without a waitany, in a mode whose buffers never run out

@@ -10,7 +10,6 @@ mod Diamond
 mod Views
 mod Calm
 mod Walks
-mod Plain
 mod Asleep
 mod Complete
 mod Runs

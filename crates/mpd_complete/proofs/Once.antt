@@ -17,7 +17,8 @@ use Rattle.mpd_explore.specs.declared.report.Ending.{Ending}
 use Rattle.mpd_explore.specs.declared.report.Ending.TheVariants.{Ended, Cut}
 use Rattle.mpd_explore.specs.Walk.{Run, here, stepped, chosen, runs_of, stopped}
 use Rattle.mpd_complete.specs.CompleteLaws.{HasNoWaitany}
-use Rattle.mpd_complete.specs.Sleeping.{same_match, is_asleep, awake_runs, awake_branches, followed_awake, awake_walk, sleeping_walk, EndApart}
+use Rattle.mpd_explore.specs.Sleeping.{same_match, is_asleep, awake_runs, awake_branches, followed_awake, awake_walk, sleeping_walk}
+use Rattle.mpd_complete.specs.Sleeping.{EndApart}
 use Rattle.mpd_meaning.proofs.Members.{In, in_either, map_from, in_at}
 use Rattle.mpd_complete.proofs.Worlds.{joined_from}
 use Rattle.mpd_complete.proofs.Pairs.{clash, id_same, recv_known}

@@ -10,13 +10,13 @@ use Rattle.mpd_model.specs.Outcomes.{ending}
 use Rattle.mpd_explore.specs.declared.report.Ending.TheVariants.{Ended}
 use Rattle.mpd_explore.specs.declared.report.Leaf.{Leaf}
 use Rattle.mpd_explore.specs.declared.report.Limits.{Limits}
-use Rattle.mpd_explore.specs.Walk.{walk}
+use Rattle.mpd_explore.specs.Sleeping.{walk_of}
 use Rattle.mpd_explore.specs.Report.{shown, listed, left_out}
 use Rattle.mpd_complete.specs.CompleteLaws.{HasNoWaitany, KeepsBuffers, was_cut, GoesOnToAnEnd}
 
--- the leaves of all runs with so much fuel
+-- the leaves of all runs with so much fuel, each end once or in every order
 abbrev pub all_leaves : Limits → World → List Leaf
-all_leaves l u = map shown (walk l.fuel u)
+all_leaves l u = map shown (walk_of l u)
 
 -- those that `explore` lists
 abbrev pub reported : Limits → World → List Leaf

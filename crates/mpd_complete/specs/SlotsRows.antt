@@ -24,7 +24,7 @@ use Rattle.mpd_explore.specs.declared.report.Ending.{Ending}
 use Rattle.mpd_explore.specs.declared.report.Ending.TheVariants.{Ended}
 use Rattle.mpd_explore.specs.Walk.{Run, walk}
 use Rattle.mpd_complete.specs.CompleteLaws.{HasNoWaitany, KeepsBuffers, apart, Joins, IsWhole, IsComplete}
-use Rattle.mpd_complete.specs.Sleeping.{awake_walk, sleeping_walk}
+use Rattle.mpd_explore.specs.Sleeping.{awake_walk, sleeping_walk}
 
 abbrev n : ℕ → Term
 n k = lit (pos k)

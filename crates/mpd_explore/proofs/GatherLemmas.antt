@@ -1,25 +1,27 @@
 -- One leaf more is gathered, and what is gathered in the end is what is to be listed.
-use Rattle.std.proofs.Common.{◌≡◌, ℕ, zero, suc, ◌<◌, ◌≤◌, ◌+◌, ◌-◌, ◌&&◌, if◌then◌else◌, Bool, true, false, true≢false, List, [], ◌∷◌, ◌++◌, length, take, map, Some, refl, sym, ap, ◌∙◌, arith, append_assoc, append-nil}
+use Rattle.std.proofs.Common.{◌≡◌, ℕ, zero, suc, ◌<◌, ◌≤◌, ◌+◌, ◌-◌, ◌&&◌, if◌then◌else◌, Bool, true, false, true≢false, List, [], ◌∷◌, ◌++◌, length, take, map, Option, Some, None, IsTrue, refl, sym, ap, subst, ◌∙◌, arith, append_assoc, append-nil}
 use Rattle.std.proofs.lemmas.List.{length-append, length-map, take_all}
 use Rattle.std.proofs.Math.Seq.{take-append_seam}
-use Rattle.std.specs.List.{AllByRecursion}
 use Rattle.mpd_model.specs.declared.step.Step.{Step}
 use Rattle.mpd_model.specs.World.{World}
 use Rattle.mpd_model.specs.Trail.{Standing, kept}
-use Rattle.mpd_model.specs.Decisions.{decision, CanFollow}
 use Rattle.mpd_explore.specs.declared.report.Leaf.{Leaf}
 use Rattle.mpd_explore.specs.declared.report.Limits.{Limits}
 use Rattle.mpd_explore.specs.declared.search.Open.{Open}
 use Rattle.mpd_explore.specs.declared.search.Bounds.{Bounds}
-use Rattle.mpd_explore.specs.Walk.{Run, prefixed, here, walk, steps_by}
-use Rattle.mpd_explore.specs.Search.{picked, later, to_come, At, Moved, Advanced}
+use Rattle.mpd_explore.specs.Walk.{Run, prefixed, here}
+use Rattle.mpd_explore.specs.Sleeping.{awake_walk}
+use Rattle.mpd_explore.specs.Asleep.{asleep_below}
+use Rattle.mpd_explore.specs.Search.{picked, later, to_come, At, Advanced}
 use Rattle.mpd_explore.specs.Report.{shown, is_bad, any_bad, up_to_bad, ended_by, listed}
 use Rattle.mpd_explore.specs.Witness.{witness_by}
 use Rattle.mpd_explore.specs.WitnessTexts.{behind_number, witness_text, witness_texts}
-use Rattle.mpd_explore.specs.Gathered.{run_text, run_texts, Gathered, Lists}
-use Rattle.mpd_explore.proofs.RunLemmas.{walk_some, prefixed_here}
-use Rattle.mpd_explore.proofs.WitnessLemmas.{Holds, walk_holds}
-use Rattle.mpd_explore.proofs.ListedLemmas.{both_true, not_both, bad_last, good_last, up_last, up_none, up_taken, ended_same, none_out, some_out, listed_front}
+use Rattle.mpd_explore.specs.Gathered.{run_text, run_texts, Gathered, Lists, IsMore, FoundLeaf}
+use Rattle.mpd_explore.proofs.RunLemmas.{prefixed_here}
+use Rattle.mpd_explore.proofs.AsleepLemmas.{below_none}
+use Rattle.mpd_explore.proofs.AwakeLemmas.{awake_some}
+use Rattle.mpd_explore.proofs.WitnessLemmas.{AllFollow}
+use Rattle.mpd_explore.proofs.ListedLemmas.{both_true, not_both, bad_last, good_last, up_last, up_none, up_taken, ended_same, none_out, some_out}
 
 map_joins : {A B : Type 0} (f : A → B) (xs ys : List A) → map f (xs ++ ys) ≡ map f xs ++ map f ys
 map_joins f [] ys = refl
@@ -46,32 +48,43 @@ gathered_run asked all before rest old leaves texts now r g split pushed added =
       texts_are = added ∙ ap (λ ts. ts ++ (if asked then run_text r ∷ [] else [])) g.texts_are ∙ sym (texts_last asked g.found r);
     }
 
--- the leaf at which the debugger stands
-pub gathered_leaf : (asked : Bool) (first own : World) (b : Bounds) (fs gs : List Open) (d m : Standing) (x : Leaf) (all rest : List Run) (old leaves : List Leaf) (texts now : List (List ℕ)) → own ≡ first
-    → Gathered asked all (to_come first b fs (kept d.trail) d.world) old texts → Moved own b fs d (Some x.ending) gs m → x.choices ≡ picked gs → leaves ≡ old ++ x ∷ []
-    → now ≡ texts ++ (if asked then behind_number (witness_by (kept m.trail) x.ending) ∷ [] else []) → later first b gs (kept m.trail) ≡ rest → Gathered asked all rest leaves now
-gathered_leaf asked first own b fs gs d m x all rest old leaves texts now own_is g moved chosen pushed added behind =
-    let here_is : Moved first b fs d (Some x.ending) gs m = rw own_is at moved in
+-- the leaf at which the debugger stands, with what is behind it
+pub gathered_leaf : (asked : Bool) (first : World) (b : Bounds) (above : List Step) (gs : List Open) (m : Standing) (x : Leaf) (all before rest : List Run) (old leaves : List Leaf) (texts now : List (List ℕ))
+    → Gathered asked all before old texts → before ≡ prefixed (picked gs) (kept m.trail) (here x.ending) ∷ later first b above gs (kept m.trail) → x.choices ≡ picked gs → leaves ≡ old ++ x ∷ []
+    → now ≡ texts ++ (if asked then behind_number (witness_by (kept m.trail) x.ending) ∷ [] else []) → later first b above gs (kept m.trail) ≡ rest → Gathered asked all rest leaves now
+gathered_leaf asked first b above gs m x all before rest old leaves texts now g found chosen pushed added behind =
     let r : Run = record { choices = x.choices; steps = kept m.trail; ending = x.ending } in
     let same : prefixed (picked gs) (kept m.trail) (here x.ending) ≡ r = prefixed_here (picked gs) (kept m.trail) x.ending ∙ ap (λ cs. record { choices = cs; steps = kept m.trail; ending = x.ending }) (sym chosen) in
-    let split : to_come first b fs (kept d.trail) d.world ≡ r ∷ rest = here_is.1 ∙ ap (λ (q : Run). q ∷ later first b gs (kept m.trail)) same ∙ ap (λ rs. r ∷ rs) behind in
-    gathered_run asked all (to_come first b fs (kept d.trail) d.world) rest old leaves texts now r g split pushed added
+    let split : before ≡ r ∷ rest = found ∙ ap (λ (q : Run). q ∷ later first b above gs (kept m.trail)) same ∙ ap (λ rs. r ∷ rs) behind in
+    gathered_run asked all before rest old leaves texts now r g split pushed added
 
 -- the next candidate was taken
-pub goes_on : (first own : World) (b : Bounds) (gs hs : List Open) (path : List Step) (e : Standing) (more : Bool) → own ≡ first → more ≡ true → Advanced own b gs path more hs e → later first b gs path ≡ to_come first b hs (kept e.trail) e.world
-goes_on first own b gs hs path e more own_is is advanced = let h : Advanced first b gs path true hs e = rw (own_is, is) at advanced in h.1
+pub goes_on : (first own : World) (b : Bounds) (above : List Step) (gs hs : List Open) (path : List Step) (e : Standing) (more : Bool) → own ≡ first → more ≡ true → Advanced own b above gs path more hs e → later first b above gs path ≡ to_come first b above hs (kept e.trail) e.world
+goes_on first own b above gs hs path e more own_is is advanced = let h : Advanced first b above gs path true hs e = rw (own_is, is) at advanced in h.1
 
-pub goes_at : (first own : World) (b : Bounds) (gs hs : List Open) (path : List Step) (e : Standing) (more : Bool) → own ≡ first → more ≡ true → Advanced own b gs path more hs e → At first b hs e
-goes_at first own b gs hs path e more own_is is advanced = let h : Advanced first b gs path true hs e = rw (own_is, is) at advanced in h.0
+pub goes_at : (first own : World) (b : Bounds) (above : List Step) (gs hs : List Open) (path : List Step) (e : Standing) (more : Bool) → own ≡ first → more ≡ true → Advanced own b above gs path more hs e → At first b hs e
+goes_at first own b above gs hs path e more own_is is advanced = let h : Advanced first b above gs path true hs e = rw (own_is, is) at advanced in h.0
 
 -- none is left
-pub goes_nowhere : (first own : World) (b : Bounds) (gs hs : List Open) (path : List Step) (e : Standing) (more : Bool) → own ≡ first → more ≡ false → Advanced own b gs path more hs e → later first b gs path ≡ []
-goes_nowhere first own b gs hs path e more own_is is advanced = let h : Advanced first b gs path false hs e = rw (own_is, is) at advanced in h
+pub goes_nowhere : (first own : World) (b : Bounds) (above : List Step) (gs hs : List Open) (path : List Step) (e : Standing) (more : Bool) → own ≡ first → more ≡ false → Advanced own b above gs path more hs e → later first b above gs path ≡ []
+goes_nowhere first own b above gs hs path e more own_is is advanced = let h : Advanced first b above gs path false hs e = rw (own_is, is) at advanced in h
 
-pub some_to_come : (first : World) (b : Bounds) (fs : List Open) (path : List Step) (w : World) → ((v : World) → CanFollow v (decision v)) → 0 < length (to_come first b fs path w)
-some_to_come first b fs path w law =
-    let t : List Run = walk (b.limit - length path) w in
-    omega (arith, length-append (map (prefixed (picked fs) path) t) (later first b fs path), length-map t (prefixed (picked fs) path), walk_some (b.limit - length path) w law)
+-- where nothing sleeps, there is a run to come
+pub some_to_come : (first : World) (b : Bounds) (above : List Step) (fs : List Open) (path : List Step) (w : World) → AllFollow → b.sleeps ≡ false → above ≡ [] → 0 < length (to_come first b above fs path w)
+some_to_come first b above fs path w law off none =
+    let n : ℕ = b.limit - length path in
+    let s : List Step = asleep_below b.sleeps above fs in
+    let clear : s ≡ [] = ap (λ c. asleep_below c above fs) off ∙ below_none above fs ∙ none in
+    omega (
+      arith,
+      length-append (map (prefixed (picked fs) path) (awake_walk b.sleeps n s w)) (later first b above fs path),
+      length-map (awake_walk b.sleeps n s w) (prefixed (picked fs) path),
+      ap (λ (xs : List Step). length (awake_walk b.sleeps n xs w)) clear,
+      awake_some b.sleeps n w law,
+    )
+
+pub is_some : (first own : World) (b : Bounds) (above : List Step) (fs : List Open) (path : List Step) (w : World) → AllFollow → own ≡ first → (b.sleeps ≡ false) × (above ≡ []) → IsMore true (to_come own b above fs path w)
+is_some first own b above fs path w law own_is clear = some_to_come own b above fs path w law clear.0 clear.1
 
 -- none of those that are gathered is bad, if that ends a list
 pub still_good : (u last : Bool) (old leaves : List Leaf) (x : Leaf) → leaves ≡ old ++ x ∷ [] → last ≡ (u && is_bad x.ending) → last ≡ false → (u ≡ true → any_bad old ≡ false) → u ≡ true → any_bad leaves ≡ false
@@ -135,28 +148,48 @@ lists_full l all rest leaves texts g some long good =
 
 -- ---- the texts of leaves
 
-one_text : (path : List Step) (n : ℕ) (w : World) (r : Run) → Holds n w r → run_text (prefixed [] path r) ≡ witness_text path n w (shown r)
-one_text path n w r h = ap (λ o. behind_number (witness_by (path ++ steps_by o) r.ending)) (sym h.by)
-
-each_text : (path : List Step) (n k : ℕ) (w : World) (rs : List Run) → AllByRecursion (Holds n w) rs → map run_text (take k (map (prefixed [] path) rs)) ≡ map (witness_text path n w) (take k (map shown rs))
-each_text path n zero w rs h = refl
-each_text path n (suc k) w [] h = refl
-each_text path n (suc k) w (r ∷ rs) h = λ i. one_text path n w r h.0 i ∷ each_text path n k w rs h.1 i
-
-texts_by : (asked : Bool) (path : List Step) (n k : ℕ) (w : World) → run_texts asked (take k (map (prefixed [] path) (walk n w))) ≡ witness_texts asked path n w (take k (map shown (walk n w)))
-texts_by false path n k w = refl
-texts_by true path n k w = each_text path n k w (walk n w) (walk_holds n w)
-
 pub texts_join : (asked : Bool) (path : List Step) (n : ℕ) (w : World) (xs ys : List Leaf) → witness_texts asked path n w (xs ++ ys) ≡ witness_texts asked path n w xs ++ witness_texts asked path n w ys
 texts_join false path n w xs ys = refl
 texts_join true path n w xs ys = map_joins (witness_text path n w) xs ys
 
--- the leaves that are listed are the first ones
-pub first_listed : (l : Limits) (all leaves : List Leaf) → leaves ≡ listed l all → leaves ≡ take (length leaves) all
-first_listed l all leaves is = is ∙ listed_front l all ∙ ap (λ ls. take (length ls) all) (sym is)
+-- all are gathered, and none of them ends the list
+pub lists_none : (l : Limits) (all rest : List Run) (leaves : List Leaf) (texts : List (List ℕ)) → Gathered l.witnesses all rest leaves texts → rest ≡ [] → (l.until_bad ≡ true → any_bad leaves ≡ false) → length leaves ≤ l.runs → Lists l all leaves texts false
+lists_none l all rest leaves texts g none good few =
+    let whole : map shown all ≡ leaves = told_is l.witnesses all rest leaves texts g ∙ ap (λ (rs : List Run). leaves ++ map shown rs) none ∙ append-nil leaves in
+    let taken : take l.runs (map shown all) ≡ map shown all = take_all l.runs (map shown all) (omega (arith, ap length whole, few)) in
+    let is : listed l (map shown all) ≡ map shown all = ap (ended_by l.until_bad) taken ∙ ended_same l.until_bad (map shown all) (λ h. ap up_to_bad whole ∙ up_none leaves (good h) ∙ sym whole) in
+    record {
+      leaves_are = sym whole ∙ sym is;
+      more_is = sym (none_out l (map shown all) (omega (arith, ap length is)) (omega (arith, ap length whole, few)));
+      texts_are = texts_is l.witnesses all rest leaves texts g;
+    }
 
-pub texts_hold : (l : Limits) (path : List Step) (n : ℕ) (w : World) (all : List Run) (leaves : List Leaf) (texts : List (List ℕ)) → all ≡ map (prefixed [] path) (walk n w) → leaves ≡ listed l (map shown (walk n w)) → texts ≡ run_texts l.witnesses (take (length leaves) all)
-    → texts ≡ witness_texts l.witnesses path n w leaves
-texts_hold l path n w all leaves texts all_are is told =
-    told ∙ ap (λ rs. run_texts l.witnesses (take (length leaves) rs)) all_are ∙ texts_by l.witnesses path n (length leaves) w
-    ∙ ap (witness_texts l.witnesses path n w) (sym (first_listed l (map shown (walk n w)) leaves is))
+-- the last that is gathered ends the list, and it was asked whether there are others
+pub lists_last : (l : Limits) (all rest : List Run) (old leaves : List Leaf) (x : Leaf) (texts : List (List ℕ)) (last more : Bool) → Gathered l.witnesses all rest leaves texts → IsMore more rest → leaves ≡ old ++ x ∷ [] → (l.until_bad ≡ true → any_bad old ≡ false) → length leaves ≤ l.runs
+    → last ≡ (l.until_bad && is_bad x.ending) → last ≡ true → Lists l all leaves texts more
+lists_last l all rest old leaves x texts last true g more pushed good few is on = lists_bad l all rest old leaves x texts last g more pushed good few is on
+lists_last l all rest old leaves x texts last false g more pushed good few is on = lists_all l all rest old leaves x texts g more pushed good few
+
+-- as many are gathered as are asked for, and it was asked whether there are others
+pub lists_asked : (l : Limits) (all rest : List Run) (leaves : List Leaf) (texts : List (List ℕ)) (more : Bool) → Gathered l.witnesses all rest leaves texts → IsMore more rest → length leaves ≡ l.runs → (l.until_bad ≡ true → any_bad leaves ≡ false) → Lists l all leaves texts more
+lists_asked l all rest leaves texts true g more long good = lists_full l all rest leaves texts g more long good
+lists_asked l all rest leaves texts false g more long good = lists_none l all rest leaves texts g more good (omega (arith, long))
+
+-- ---- what was found, where the first world is told by the debugger
+
+pub leaf_found : (first own : World) (b : Bounds) (above : List Step) (fs gs : List Open) (d m : Standing) (o : Option Leaf) (x : Leaf) → own ≡ first → o ≡ Some x → FoundLeaf own b above fs d o gs m
+    → At first b gs m × (to_come first b above fs (kept d.trail) d.world ≡ prefixed (picked gs) (kept m.trail) (here x.ending) ∷ later first b above gs (kept m.trail)) × (x.choices ≡ picked gs)
+leaf_found first own b above fs gs d m o x own_is is found =
+    let h : FoundLeaf first b above fs d (Some x) gs m = rw (own_is, is) at found in
+    (h.0.0, h.0.1, h.1)
+
+pub no_leaf : (first own : World) (b : Bounds) (above : List Step) (fs gs : List Open) (d m : Standing) (o : Option Leaf) → own ≡ first → o ≡ None → FoundLeaf own b above fs d o gs m → to_come first b above fs (kept d.trail) d.world ≡ []
+no_leaf first own b above fs gs d m o own_is is found = let h : FoundLeaf first b above fs d None gs m = rw (own_is, is) at found in h
+
+pub more_of : (first own : World) (b : Bounds) (above : List Step) (fs : List Open) (path : List Step) (w : World) (more : Bool) → own ≡ first → IsMore more (to_come own b above fs path w) → IsMore more (to_come first b above fs path w)
+more_of first own b above fs path w more own_is h = subst (λ (u : World). IsMore more (to_come u b above fs path w)) own_is h
+
+-- nothing is asked for
+pub lists_nothing : (l : Limits) (all : List Run) (leaves : List Leaf) (texts : List (List ℕ)) (more : Bool) → l.runs ≡ 0 → 0 < length all → leaves ≡ [] → texts ≡ [] → IsTrue more → Lists l all leaves texts more
+lists_nothing l all leaves texts true none some empty blank on = lists_full l all all leaves texts (gathered_none l.witnesses all all leaves texts refl empty blank) some (ap length empty ∙ sym none) (λ h. ap any_bad empty)
+lists_nothing l all leaves texts false none some empty blank on = cc

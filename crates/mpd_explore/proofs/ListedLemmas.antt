@@ -193,3 +193,7 @@ all_by true n leaves h = not_less (length (up_to_bad (take n leaves))) (length l
 -- where none is left out, all are listed
 pub all_listed : (l : Limits) (leaves : List Leaf) → left_out l leaves ≡ false → listed l leaves ≡ leaves
 all_listed l leaves h = listed_whole l leaves (all_by l.until_bad l.runs leaves h)
+
+-- the leaves that are listed are the first ones
+pub first_listed : (l : Limits) (all leaves : List Leaf) → leaves ≡ listed l all → leaves ≡ take (length leaves) all
+first_listed l all leaves is = is ∙ listed_front l all ∙ ap (λ ls. take (length ls) all) (sym is)

@@ -1,7 +1,7 @@
--- What one step of the search makes of the runs to come.
-use Rattle.std.proofs.Common.{◌≡◌, ℕ, zero, suc, ◌<◌, ◌≤◌, ◌+◌, ◌-◌, true, List, [], ◌∷◌, ◌++◌, length, take, drop, map, reverse, get_or, Option, Some, None, refl, sym, ap, ◌∙◌, arith, append_assoc}
-use Rattle.std.proofs.lemmas.List.{length-append, length-take, take-append-le, take_all, drop_all, reverse-append}
-use Rattle.std.proofs.Math.Seq.{take-append_seam, drop-cons}
+-- What one step of the search makes of the runs to come, and of how many states are.
+use Rattle.std.proofs.Common.{◌≡◌, ℕ, zero, suc, ◌<◌, ◌≤◌, ◌+◌, ◌-◌, Bool, true, false, List, [], ◌∷◌, ◌++◌, length, take, drop, map, get_or, Option, Some, None, refl, sym, ap, ◌∙◌, arith, append_assoc}
+use Rattle.std.proofs.lemmas.List.{length-append, length-take, take-append-le, drop_all}
+use Rattle.std.proofs.Math.Seq.{take-append_seam}
 use Rattle.mpd_model.specs.declared.outcome.Outcome.{Outcome}
 use Rattle.mpd_model.specs.declared.step.Step.{Step}
 use Rattle.mpd_model.specs.declared.decision.Decision.{Decision}
@@ -9,15 +9,33 @@ use Rattle.mpd_model.specs.declared.decision.Decision.TheVariants.{Forced, Choic
 use Rattle.mpd_model.specs.World.{World, start}
 use Rattle.mpd_model.specs.Next.{next, fold}
 use Rattle.mpd_model.specs.Trail.{Trail, Standing, IsReached, kept}
-use Rattle.mpd_model.specs.Decisions.{decision, CanFollow}
+use Rattle.mpd_model.specs.Decisions.{decision}
 use Rattle.mpd_trail.specs.Run.{first_of}
 use Rattle.mpd_explore.specs.declared.report.Ending.{Ending}
 use Rattle.mpd_explore.specs.declared.report.Ending.TheVariants.{Ended}
+use Rattle.mpd_explore.specs.Walk.{Run, here, stepped, chosen, prefixed, runs_of, stopped}
+use Rattle.mpd_explore.proofs.RunLemmas.{map_stepped, map_chosen, map_join}
+use Rattle.mpd_explore.specs.Sleeping.{is_asleep, awake_branches, followed_awake, awake_walk, put_off}
 use Rattle.mpd_explore.specs.declared.search.Open.{Open}
 use Rattle.mpd_explore.specs.declared.search.Bounds.{Bounds}
-use Rattle.mpd_explore.specs.Walk.{Run, here, stepped, chosen, prefixed, runs_of, branches, stopped, walk}
-use Rattle.mpd_explore.specs.Search.{AllEnabled, picked, others, later, to_come, EnabledAt, Stands, At, Moved, Advanced, Safe}
-use Rattle.mpd_explore.proofs.RunLemmas.{map_stepped, map_chosen, map_join, walk_is, walk_empty, branch_on}
+use Rattle.mpd_explore.specs.declared.search.Stop.{Stop}
+use Rattle.mpd_explore.specs.declared.search.Stop.TheVariants as stop
+use Rattle.mpd_explore.specs.Asleep.{asleep_below, Skips}
+use Rattle.mpd_explore.specs.States.{states_of, states_by, states}
+use Rattle.mpd_explore.specs.Search.{picked, branches_from, others, later, to_come, states_beside, states_later, states_to_come, AllEnabled, EnabledAt, Stands, At, stopped_at, Moved, Tried, Advanced, Safe}
+use Rattle.mpd_explore.proofs.ListLemmas.{drop_at}
+use Rattle.mpd_explore.proofs.AsleepLemmas.{branch_awake}
+use Rattle.mpd_explore.proofs.StateLemmas.{states_is, some_states, states_fewer, states_split}
+
+-- ---- the walk, by the decision
+
+pub awake_is : (sleeps : Bool) (n : ℕ) (asleep : List Step) (w : World) (d : Decision) → decision w ≡ d → awake_walk sleeps (suc n) asleep w ≡ followed_awake sleeps (awake_walk sleeps n) asleep w d
+unfolding awake_walk
+awake_is sleeps n asleep w d h = ap (followed_awake sleeps (awake_walk sleeps n) asleep w) h
+
+pub awake_empty : (sleeps : Bool) (asleep : List Step) (w : World) (d : Decision) → decision w ≡ d → awake_walk sleeps zero asleep w ≡ stopped d
+unfolding awake_walk
+awake_empty sleeps asleep w d h = ap stopped h
 
 -- ---- a longer path
 
@@ -30,56 +48,24 @@ stands_pushed first b (f ∷ fs) path a h =
     let e : take f.depth (path ++ a ∷ []) ≡ take f.depth path = take_pushed f.depth path a (omega (arith, h.0)) in
     (omega (arith, length-append path (a ∷ []), h.0), h.1, h.2, rw e h.3, rw e h.4)
 
-later_pushed : (first : World) (b : Bounds) (fs : List Open) (path : List Step) (a : Step) → Stands first b fs path → later first b fs (path ++ a ∷ []) ≡ later first b fs path
-later_pushed first b [] path a h = refl
-later_pushed first b (f ∷ fs) path a h =
+later_pushed : (first : World) (b : Bounds) (above : List Step) (fs : List Open) (path : List Step) (a : Step) → Stands first b fs path → later first b above fs (path ++ a ∷ []) ≡ later first b above fs path
+later_pushed first b above [] path a h = refl
+later_pushed first b above (f ∷ fs) path a h =
     let e : take f.depth (path ++ a ∷ []) ≡ take f.depth path = take_pushed f.depth path a (omega (arith, h.0)) in
-    ap (λ (p : List Step). map (prefixed (picked fs) p) (others (walk (b.limit - suc f.depth)) (fold first p) f) ++ later first b fs p) e
+    ap (λ (p : List Step). map (prefixed (picked fs) p) (others b.sleeps (b.limit - suc f.depth) (asleep_below b.sleeps above fs) (fold first p) f) ++ later first b above fs p) e
+
+states_pushed : (first : World) (b : Bounds) (fs : List Open) (path : List Step) (a : Step) → Stands first b fs path → states_later first b fs (path ++ a ∷ []) ≡ states_later first b fs path
+states_pushed first b [] path a h = refl
+states_pushed first b (f ∷ fs) path a h =
+    let e : take f.depth (path ++ a ∷ []) ≡ take f.depth path = take_pushed f.depth path a (omega (arith, h.0)) in
+    ap (λ (p : List Step). states_beside (b.limit - suc f.depth) (fold first p) f + states_later first b fs p) e
 
 -- nothing below the base goes
 base_within : (first : World) (b : Bounds) (fs : List Open) (path : List Step) → Stands first b fs path → b.base ≤ length path
 base_within first b [] path h = h
 base_within first b (f ∷ fs) path h = omega (arith, base_within first b fs (take f.depth path) h.4, length-take f.depth path)
 
--- ---- one step that is forced
-
-forced_on : (first : World) (b : Bounds) (fs : List Open) (path : List Step) (w v : World) (a : Step) → Stands first b fs path → length path < b.limit → decision w ≡ Forced a → next w a ≡ Some v
-    → to_come first b fs path w ≡ to_come first b fs (path ++ a ∷ []) v
-forced_on first b fs path w v a stands room d step =
-    let n : ℕ = b.limit - suc (length path) in
-    let left : b.limit - length path ≡ suc n = omega arith in
-    let after : b.limit - length (path ++ a ∷ []) ≡ n = omega (arith, length-append path (a ∷ [])) in
-    let now : walk (suc n) w ≡ map (stepped a) (walk n v) = walk_is n w (Forced a) d ∙ ap (λ o. map (stepped a) (runs_of (walk n) o)) step in
-    ap (λ m. map (prefixed (picked fs) path) (walk m w) ++ later first b fs path) left
-    ∙ ap (λ rs. map (prefixed (picked fs) path) rs ++ later first b fs path) now
-    ∙ ap (λ rs. rs ++ later first b fs path) (map_stepped (picked fs) path a (walk n v))
-    ∙ ap (λ rs. map (prefixed (picked fs) (path ++ a ∷ [])) (walk n v) ++ rs) (sym (later_pushed first b fs path a stands))
-    ∙ ap (λ m. map (prefixed (picked fs) (path ++ a ∷ [])) (walk m v) ++ later first b fs (path ++ a ∷ [])) (sym after)
-
--- ---- one candidate
-
--- a candidate of the choice at the end of a path, with those after it
-entered : (first : World) (b : Bounds) (f : Open) (fs : List Open) (path : List Step) (w v : World) (a : Step) → f.depth ≡ length path → fold first path ≡ Some w → drop f.index f.candidates ≡ a ∷ drop (suc f.index) f.candidates → next w a ≡ Some v
-    → map (prefixed (picked fs) path) (branches (walk (b.limit - suc (length path))) w f.index (drop f.index f.candidates)) ++ later first b fs path ≡ to_come first b (f ∷ fs) (path ++ a ∷ []) v
-entered first b f fs path w v a depth reached split step =
-    let g : World → List Run = walk (b.limit - suc (length path)) in
-    let rest : List Run = branches g w (suc f.index) (drop (suc f.index) f.candidates) in
-    let cs : List ℕ = picked fs in
-    let cut : take f.depth (path ++ a ∷ []) ≡ path = ap (λ m. take m (path ++ a ∷ [])) depth ∙ take-append_seam path (a ∷ []) in
-    let now : later first b (f ∷ fs) (path ++ a ∷ []) ≡ map (prefixed cs path) rest ++ later first b fs path =
-    ap (λ (p : List Step). map (prefixed cs p) (others (walk (b.limit - suc f.depth)) (fold first p) f) ++ later first b fs p) cut
-    ∙ ap (λ o. map (prefixed cs path) (others (walk (b.limit - suc f.depth)) o f) ++ later first b fs path) reached
-    ∙ ap (λ m. map (prefixed cs path) (branches (walk (b.limit - suc m)) w (suc f.index) (drop (suc f.index) f.candidates)) ++ later first b fs path) depth in
-    let after : b.limit - length (path ++ a ∷ []) ≡ b.limit - suc (length path) = omega (arith, length-append path (a ∷ [])) in
-    ap (λ xs. map (prefixed cs path) (branches g w f.index xs) ++ later first b fs path) split
-    ∙ ap (λ rs. map (prefixed cs path) rs ++ later first b fs path) (branch_on g w v f.index a (drop (suc f.index) f.candidates) step)
-    ∙ ap (λ rs. rs ++ later first b fs path) (map_join (prefixed cs path) (map (chosen f.index a) (g v)) rest)
-    ∙ ap (λ rs. (rs ++ map (prefixed cs path) rest) ++ later first b fs path) (map_chosen cs path f.index a (g v))
-    ∙ append_assoc (map (prefixed (cs ++ f.index ∷ []) (path ++ a ∷ [])) (g v)) (map (prefixed cs path) rest) (later first b fs path)
-    ∙ ap (λ rs. map (prefixed (cs ++ f.index ∷ []) (path ++ a ∷ [])) (g v) ++ rs) (sym now)
-    ∙ ap (λ m. map (prefixed (cs ++ f.index ∷ []) (path ++ a ∷ [])) (walk m v) ++ later first b (f ∷ fs) (path ++ a ∷ [])) (sym after)
-
--- ---- the same of a debugger
+-- ---- of a debugger
 
 -- a step was taken
 pub record Went (d : Standing) (a : Step) (e : Standing) : Type 0 where
@@ -110,24 +96,52 @@ at_length first b fs d h = length-kept d h.reached
 at_world : (first : World) (b : Bounds) (fs : List Open) (d : Standing) → At first b fs d → fold first (kept d.trail) ≡ Some d.world
 at_world first b fs d h = ap (λ w. fold w (kept d.trail)) (sym h.first_is) ∙ h.reached.world
 
-ended_at : (first : World) (b : Bounds) (fs : List Open) (path : List Step) (w : World) (e : Ending) → walk (b.limit - length path) w ≡ here e ∷ [] → to_come first b fs path w ≡ prefixed (picked fs) path (here e) ∷ later first b fs path
-ended_at first b fs path w e h = ap (λ rs. map (prefixed (picked fs) path) rs ++ later first b fs path) h
+-- with fuel left, by how much of it is left behind a step
+come_is : (first : World) (b : Bounds) (above : List Step) (fs : List Open) (d : Standing) (n : ℕ) → b.limit - length (kept d.trail) ≡ n → to_come first b above fs (kept d.trail) d.world ≡ map (prefixed (picked fs) (kept d.trail)) (awake_walk b.sleeps n (asleep_below b.sleeps above fs) d.world) ++ later first b above fs (kept d.trail)
+come_is first b above fs d n left = ap (λ m. map (prefixed (picked fs) (kept d.trail)) (awake_walk b.sleeps m (asleep_below b.sleeps above fs) d.world) ++ later first b above fs (kept d.trail)) left
 
-left_some : (first : World) (b : Bounds) (fs : List Open) (d : Standing) → At first b fs d → d.trail.depth < b.limit → b.limit - length (kept d.trail) ≡ suc (b.limit - suc (length (kept d.trail)))
+states_come : (first : World) (b : Bounds) (fs : List Open) (d : Standing) (n : ℕ) → b.limit - length (kept d.trail) ≡ n → states_to_come first b fs (kept d.trail) d.world ≡ states n d.world + states_later first b fs (kept d.trail)
+states_come first b fs d n left = ap (λ m. states m d.world + states_later first b fs (kept d.trail)) left
+
+left_some : (first : World) (b : Bounds) (fs : List Open) (d : Standing) → At first b fs d → d.trail.depth < b.limit → b.limit - length (kept d.trail) ≡ suc (b.limit - suc d.trail.depth)
 left_some first b fs d at room = omega (arith, at_length first b fs d at)
 
--- a leaf
-pub leaf_end : (first : World) (b : Bounds) (fs : List Open) (d : Standing) (o : Outcome) → At first b fs d → d.trail.depth < b.limit → decision d.world ≡ Leaf o → Moved first b fs d (Some (Ended o)) fs d
-leaf_end first b fs d o at room leaf = (
+-- ---- where a way stops
+
+stop_at : (first : World) (b : Bounds) (above : List Step) (fs : List Open) (d : Standing) (s : Stop) (rs : List Run) → At first b fs d → awake_walk b.sleeps (b.limit - length (kept d.trail)) (asleep_below b.sleeps above fs) d.world ≡ rs → map (prefixed (picked fs) (kept d.trail)) rs ≡ stopped_at fs (kept d.trail) s
+    → Moved first b above fs d (Some s) fs d
+stop_at first b above fs d s rs at is shown = (
   at,
-  ended_at first b fs (kept d.trail) d.world (Ended o) (ap (λ m. walk m d.world) (left_some first b fs d at room) ∙ walk_is (b.limit - suc (length (kept d.trail))) d.world (Leaf o) leaf),
+  ap (λ xs. map (prefixed (picked fs) (kept d.trail)) xs ++ later first b above fs (kept d.trail)) is ∙ ap (λ xs. xs ++ later first b above fs (kept d.trail)) shown,
+  omega (arith, some_states (b.limit - length (kept d.trail)) d.world),
 )
 
+-- a leaf
+pub leaf_end : (first : World) (b : Bounds) (above : List Step) (fs : List Open) (d : Standing) (o : Outcome) → At first b fs d → d.trail.depth < b.limit → decision d.world ≡ Leaf o → Moved first b above fs d (Some (stop.Run (Ended o))) fs d
+leaf_end first b above fs d o at room leaf =
+    let n : ℕ = b.limit - suc d.trail.depth in
+    stop_at first b above fs d (stop.Run (Ended o)) (here (Ended o) ∷ []) at (ap (λ m. awake_walk b.sleeps m (asleep_below b.sleeps above fs) d.world) (left_some first b fs d at room) ∙ awake_is b.sleeps n (asleep_below b.sleeps above fs) d.world (Leaf o) leaf) refl
+
 -- no fuel
-pub fuel_end : (first : World) (b : Bounds) (fs : List Open) (d : Standing) (c : Decision) (e : Ending) → At first b fs d → d.trail.depth ≡ b.limit → decision d.world ≡ c → stopped c ≡ here e ∷ [] → Moved first b fs d (Some e) fs d
-fuel_end first b fs d c e at empty is stop =
+pub fuel_end : (first : World) (b : Bounds) (above : List Step) (fs : List Open) (d : Standing) (c : Decision) (e : Ending) → At first b fs d → d.trail.depth ≡ b.limit → decision d.world ≡ c → stopped c ≡ here e ∷ [] → Moved first b above fs d (Some (stop.Run e)) fs d
+fuel_end first b above fs d c e at empty is stops =
     let none : b.limit - length (kept d.trail) ≡ zero = omega (arith, at_length first b fs d at) in
-    (at, ended_at first b fs (kept d.trail) d.world e (ap (λ m. walk m d.world) none ∙ walk_empty d.world c is ∙ stop))
+    stop_at first b above fs d (stop.Run e) (here e ∷ []) at (ap (λ m. awake_walk b.sleeps m (asleep_below b.sleeps above fs) d.world) none ∙ awake_empty b.sleeps (asleep_below b.sleeps above fs) d.world c is ∙ stops) refl
+
+choice_is : (first : World) (b : Bounds) (above : List Step) (fs : List Open) (d : Standing) (candidates : List Step) → At first b fs d → d.trail.depth < b.limit → decision d.world ≡ Choice candidates
+    → awake_walk b.sleeps (b.limit - length (kept d.trail)) (asleep_below b.sleeps above fs) d.world ≡ branches_from b.sleeps (b.limit - suc d.trail.depth) d.world (asleep_below b.sleeps above fs) candidates 0
+choice_is first b above fs d candidates at room choice =
+    ap (λ m. awake_walk b.sleeps m (asleep_below b.sleeps above fs) d.world) (left_some first b fs d at room) ∙ awake_is b.sleeps (b.limit - suc d.trail.depth) (asleep_below b.sleeps above fs) d.world (Choice candidates) choice
+
+-- a choice whose candidates are all asleep
+pub choice_end : (first : World) (b : Bounds) (above : List Step) (fs gs : List Open) (d e : Standing) (candidates : List Step) (taken : Bool) → At first b fs d → d.trail.depth < b.limit → decision d.world ≡ Choice candidates → taken ≡ false → Tried first b above fs d candidates 0 taken gs e
+    → Moved first b above fs d (Some stop.Asleep) gs e
+choice_end first b above fs gs d e candidates taken at room choice off tried =
+    let t : Tried first b above fs d candidates 0 false gs e = rw off at tried in
+    let m : Moved first b above fs d (Some stop.Asleep) fs d = stop_at first b above fs d stop.Asleep [] at (choice_is first b above fs d candidates at room choice ∙ t.2) refl in
+    rw (t.0, t.1) m
+
+-- ---- a step forward
 
 pub at_pushed : (first : World) (b : Bounds) (fs : List Open) (d e : Standing) (a : Step) → At first b fs d → d.trail.depth < b.limit → Went d a e → At first b fs e
 at_pushed first b fs d e a at room went =
@@ -138,49 +152,126 @@ at_pushed first b fs d e a at room went =
       stands = rw went.kept_is (stands_pushed first b fs (kept d.trail) a at.stands);
     }
 
+fuel_after : (first : World) (b : Bounds) (fs : List Open) (d e : Standing) (a : Step) → At first b fs d → Went d a e → b.limit - length (kept e.trail) ≡ b.limit - suc d.trail.depth
+fuel_after first b fs d e a at went = omega (arith, length-kept e went.reached, went.depth)
+
 -- a forced step
-pub forced_moved : (first : World) (b : Bounds) (fs : List Open) (d e : Standing) (a : Step) → At first b fs d → d.trail.depth < b.limit → decision d.world ≡ Forced a → Went d a e → Moved first b fs d None fs e
-forced_moved first b fs d e a at room forced went = (
-  at_pushed first b fs d e a at room went,
-  omega (arith, went.depth),
-  forced_on first b fs (kept d.trail) d.world e.world a at.stands (omega (arith, at_length first b fs d at)) forced went.world ∙ ap (λ p. to_come first b fs p e.world) (sym went.kept_is),
-)
+pub forced_moved : (first : World) (b : Bounds) (above : List Step) (fs : List Open) (d e : Standing) (a : Step) → At first b fs d → d.trail.depth < b.limit → decision d.world ≡ Forced a → Went d a e → Moved first b above fs d None fs e
+forced_moved first b above fs d e a at room forced went =
+    let n : ℕ = b.limit - suc d.trail.depth in
+    let s : List Step = asleep_below b.sleeps above fs in
+    let left : b.limit - length (kept d.trail) ≡ suc n = left_some first b fs d at room in
+    let after : b.limit - length (kept e.trail) ≡ n = fuel_after first b fs d e a at went in
+    let now : awake_walk b.sleeps (suc n) s d.world ≡ map (stepped a) (awake_walk b.sleeps n s e.world) = awake_is b.sleeps n s d.world (Forced a) forced ∙ ap (λ o. map (stepped a) (runs_of (awake_walk b.sleeps n s) o)) went.world in
+    let count : states (suc n) d.world ≡ suc (states n e.world) = states_is n d.world (Forced a) forced ∙ ap (λ o. suc (states_of (states n) o)) went.world in
+    let stay : states_later first b fs (kept e.trail) ≡ states_later first b fs (kept d.trail) = ap (states_later first b fs) went.kept_is ∙ states_pushed first b fs (kept d.trail) a at.stands in (
+      at_pushed first b fs d e a at room went,
+      omega (arith, went.depth),
+      come_is first b above fs d (suc n) left
+          ∙ ap (λ rs. map (prefixed (picked fs) (kept d.trail)) rs ++ later first b above fs (kept d.trail)) now
+          ∙ ap (λ rs. rs ++ later first b above fs (kept d.trail)) (map_stepped (picked fs) (kept d.trail) a (awake_walk b.sleeps n s e.world))
+          ∙ ap (λ rs. map (prefixed (picked fs) (kept d.trail ++ a ∷ [])) (awake_walk b.sleeps n s e.world) ++ rs) (sym (later_pushed first b above fs (kept d.trail) a at.stands))
+          ∙ ap (λ p. map (prefixed (picked fs) p) (awake_walk b.sleeps n s e.world) ++ later first b above fs p) (sym went.kept_is)
+          ∙ sym (come_is first b above fs e n after),
+      omega (arith, states_come first b fs d (suc n) left, states_come first b fs e n after, count, stay),
+    )
 
--- ---- a choice is opened
+-- ---- a candidate is taken
 
-drop_at : (candidates : List Step) (i : ℕ) (a : Step) → i < length candidates → a ≡ get_or candidates i a → drop i candidates ≡ a ∷ drop (suc i) candidates
-drop_at candidates i a within read = drop-cons candidates i a within ∙ ap (λ x. x ∷ drop (suc i) candidates) (sym read)
+-- an open choice at the end of a path, seen from behind its candidate
+later_open : (first : World) (b : Bounds) (above : List Step) (f : Open) (fs : List Open) (d : Standing) (a : Step) → At first b fs d → f.depth ≡ d.trail.depth
+    → later first b above (f ∷ fs) (kept d.trail ++ a ∷ []) ≡ map (prefixed (picked fs) (kept d.trail)) (branches_from b.sleeps (b.limit - suc d.trail.depth) d.world (asleep_below b.sleeps above fs) f.candidates (suc f.index)) ++ later first b above fs (kept d.trail)
+later_open first b above f fs d a at depth =
+    let path : List Step = kept d.trail in
+    let cut : take f.depth (path ++ a ∷ []) ≡ path = ap (λ m. take m (path ++ a ∷ [])) (depth ∙ sym (at_length first b fs d at)) ∙ take-append_seam path (a ∷ []) in
+    ap (λ (p : List Step). map (prefixed (picked fs) p) (others b.sleeps (b.limit - suc f.depth) (asleep_below b.sleeps above fs) (fold first p) f) ++ later first b above fs p) cut
+    ∙ ap (λ o. map (prefixed (picked fs) path) (others b.sleeps (b.limit - suc f.depth) (asleep_below b.sleeps above fs) o f) ++ later first b above fs path) (at_world first b fs d at)
+    ∙ ap (λ m. map (prefixed (picked fs) path) (branches_from b.sleeps (b.limit - suc m) d.world (asleep_below b.sleeps above fs) f.candidates (suc f.index)) ++ later first b above fs path) depth
+
+states_open : (first : World) (b : Bounds) (f : Open) (fs : List Open) (d : Standing) (a : Step) → At first b fs d → f.depth ≡ d.trail.depth
+    → states_later first b (f ∷ fs) (kept d.trail ++ a ∷ []) ≡ states_by (states (b.limit - suc d.trail.depth)) d.world (drop (suc f.index) f.candidates) + states_later first b fs (kept d.trail)
+states_open first b f fs d a at depth =
+    let path : List Step = kept d.trail in
+    let cut : take f.depth (path ++ a ∷ []) ≡ path = ap (λ m. take m (path ++ a ∷ [])) (depth ∙ sym (at_length first b fs d at)) ∙ take-append_seam path (a ∷ []) in
+    ap (λ (p : List Step). states_beside (b.limit - suc f.depth) (fold first p) f + states_later first b fs p) cut
+    ∙ ap (λ o. states_beside (b.limit - suc f.depth) o f + states_later first b fs path) (at_world first b fs d at)
+    ∙ ap (λ m. states_by (states (b.limit - suc m)) d.world (drop (suc f.index) f.candidates) + states_later first b fs path) depth
 
 stands_open : (first : World) (b : Bounds) (f : Open) (fs : List Open) (path : List Step) (w : World) (a : Step) → Stands first b fs path → f.depth ≡ length path → f.depth < b.limit → f.index < length f.candidates → fold first path ≡ Some w → AllEnabled w f.candidates → Stands first b (f ∷ fs) (path ++ a ∷ [])
 stands_open first b f fs path w a stands depth room within reached all =
     let cut : take f.depth (path ++ a ∷ []) ≡ path = ap (λ m. take m (path ++ a ∷ [])) depth ∙ take-append_seam path (a ∷ []) in
     (omega (arith, length-append path (a ∷ [])), room, within, rw (cut, reached) all, rw cut stands)
 
-pub entered_moved : (first : World) (b : Bounds) (fs : List Open) (d e : Standing) (f : Open) (a : Step) → At first b fs d → d.trail.depth < b.limit → decision d.world ≡ Choice f.candidates → CanFollow d.world (Choice f.candidates)
-    → f.depth ≡ d.trail.depth → f.index ≡ 0 → a ≡ get_or f.candidates 0 a → Went d a e → Moved first b fs d None (f ∷ fs) e
-entered_moved first b fs d e f a at room choice follow depth index read went =
-    let some : 0 < length f.candidates = follow.0 in
-    let long : f.depth ≡ length (kept d.trail) = depth ∙ sym (at_length first b fs d at) in
-    let n : ℕ = b.limit - suc (length (kept d.trail)) in
-    let split : drop f.index f.candidates ≡ a ∷ drop (suc f.index) f.candidates = rw index (drop_at f.candidates 0 a some read) in
-    let now : walk (b.limit - length (kept d.trail)) d.world ≡ branches (walk n) d.world f.index (drop f.index f.candidates) =
-    ap (λ m. walk m d.world) (left_some first b fs d at room) ∙ walk_is n d.world (Choice f.candidates) choice ∙ rw index refl in (
+-- the candidate at which an open choice stands is taken, and it is awake
+entered : (first : World) (b : Bounds) (above : List Step) (f : Open) (fs : List Open) (d e : Standing) (a : Step) → At first b fs d → f.depth ≡ d.trail.depth → drop f.index f.candidates ≡ a ∷ drop (suc f.index) f.candidates → is_asleep (put_off b.sleeps f.index f.candidates (asleep_below b.sleeps above fs)) a ≡ false → Went d a e
+    → map (prefixed (picked fs) (kept d.trail)) (branches_from b.sleeps (b.limit - suc d.trail.depth) d.world (asleep_below b.sleeps above fs) f.candidates f.index) ++ later first b above fs (kept d.trail) ≡ to_come first b above (f ∷ fs) (kept e.trail) e.world
+entered first b above f fs d e a at depth split wakes went =
+    let n : ℕ = b.limit - suc d.trail.depth in
+    let path : List Step = kept d.trail in
+    let cs : List ℕ = picked fs in
+    let mine : List Run = awake_walk b.sleeps n (asleep_below b.sleeps above (f ∷ fs)) e.world in
+    let rest : List Run = branches_from b.sleeps n d.world (asleep_below b.sleeps above fs) f.candidates (suc f.index) in
+    ap (λ rs. map (prefixed cs path) rs ++ later first b above fs path) (branch_awake b.sleeps (awake_walk b.sleeps n) d.world e.world (asleep_below b.sleeps above fs) f.candidates f.index a split wakes went.world)
+    ∙ ap (λ rs. rs ++ later first b above fs path) (map_join (prefixed cs path) (map (chosen f.index a) mine) rest)
+    ∙ ap (λ rs. (rs ++ map (prefixed cs path) rest) ++ later first b above fs path) (map_chosen cs path f.index a mine)
+    ∙ append_assoc (map (prefixed (cs ++ f.index ∷ []) (path ++ a ∷ [])) mine) (map (prefixed cs path) rest) (later first b above fs path)
+    ∙ ap (λ rs. map (prefixed (cs ++ f.index ∷ []) (path ++ a ∷ [])) mine ++ rs) (sym (later_open first b above f fs d a at depth))
+    ∙ ap (λ p. map (prefixed (picked (f ∷ fs)) p) mine ++ later first b above (f ∷ fs) p) (sym went.kept_is)
+    ∙ sym (come_is first b above (f ∷ fs) e n (fuel_after first b fs d e a at went))
+
+entered_states : (first : World) (b : Bounds) (f : Open) (fs : List Open) (d e : Standing) (a : Step) → At first b fs d → f.depth ≡ d.trail.depth → drop f.index f.candidates ≡ a ∷ drop (suc f.index) f.candidates → Went d a e
+    → states_to_come first b (f ∷ fs) (kept e.trail) e.world ≡ states_by (states (b.limit - suc d.trail.depth)) d.world (drop f.index f.candidates) + states_later first b fs (kept d.trail)
+entered_states first b f fs d e a at depth split went =
+    let n : ℕ = b.limit - suc d.trail.depth in
+    let more : ℕ = states_by (states n) d.world (drop (suc f.index) f.candidates) in
+    omega (
+      arith,
+      states_come first b (f ∷ fs) e n (fuel_after first b fs d e a at went),
+      ap (states_later first b (f ∷ fs)) went.kept_is,
+      states_open first b f fs d a at depth,
+      states_split (states n) d.world e.world a (drop f.index f.candidates) (drop (suc f.index) f.candidates) split went.world,
+    )
+
+pub candidate_taken : (first : World) (b : Bounds) (above : List Step) (f : Open) (fs : List Open) (d e : Standing) (from : ℕ) (a : Step) → At first b fs d → d.trail.depth < b.limit → AllEnabled d.world f.candidates → f.depth ≡ d.trail.depth → Skips b.sleeps (asleep_below b.sleeps above fs) f.candidates from f.index
+    → f.index < length f.candidates → a ≡ get_or f.candidates f.index a → Went d a e → Tried first b above fs d f.candidates from true (f ∷ fs) e
+candidate_taken first b above f fs d e from a at room all depth skips within read went =
+    let n : ℕ = b.limit - suc d.trail.depth in
+    let split : drop f.index f.candidates ≡ a ∷ drop (suc f.index) f.candidates = drop_at f.candidates f.index a within read in
+    let long : f.depth ≡ length (kept d.trail) = depth ∙ sym (at_length first b fs d at) in (
       record {
         first_is = first_same d.trail e.trail went.program went.mode ∙ at.first_is;
         reached = went.reached;
         within = omega (arith, went.depth);
-        stands = rw went.kept_is (stands_open first b f fs (kept d.trail) d.world a at.stands long (omega arith) (omega arith) (at_world first b fs d at) follow.1);
+        stands = rw went.kept_is (stands_open first b f fs (kept d.trail) d.world a at.stands long (omega (arith, depth)) within (at_world first b fs d at) all);
       },
       omega (arith, went.depth),
-      ap (λ rs. map (prefixed (picked fs) (kept d.trail)) rs ++ later first b fs (kept d.trail)) now
-          ∙ entered first b f fs (kept d.trail) d.world e.world a long (at_world first b fs d at) split went.world
-          ∙ ap (λ p. to_come first b (f ∷ fs) p e.world) (sym went.kept_is),
+      ap (λ rs. map (prefixed (picked fs) (kept d.trail)) rs ++ later first b above fs (kept d.trail)) (skips.passes.same (awake_walk b.sleeps n) d.world)
+          ∙ entered first b above f fs d e a at depth split (skips.awake a within read) went,
+      omega (arith, entered_states first b f fs d e a at depth split went, states_fewer (states n) d.world from f.index f.candidates skips.passes.low),
+    )
+
+no_branches : (sleeps : Bool) (n : ℕ) (w : World) (asleep candidates : List Step) (i : ℕ) → i ≡ length candidates → branches_from sleeps n w asleep candidates i ≡ []
+no_branches sleeps n w asleep candidates i all = ap (awake_branches sleeps (awake_walk sleeps n) w (put_off sleeps i candidates asleep) i) (drop_all i candidates (omega (arith, all)))
+
+-- all are asleep
+pub none_taken : (first : World) (b : Bounds) (above : List Step) (fs : List Open) (d : Standing) (candidates : List Step) (from i : ℕ) → Skips b.sleeps (asleep_below b.sleeps above fs) candidates from i → i ≡ length candidates → Tried first b above fs d candidates from false fs d
+none_taken first b above fs d candidates from i skips all =
+    let n : ℕ = b.limit - suc d.trail.depth in
+    (refl, refl, skips.passes.same (awake_walk b.sleeps n) d.world ∙ no_branches b.sleeps n d.world (asleep_below b.sleeps above fs) candidates i all)
+
+-- a choice is entered
+pub choice_moved : (first : World) (b : Bounds) (above : List Step) (fs gs : List Open) (d e : Standing) (candidates : List Step) (taken : Bool) → At first b fs d → d.trail.depth < b.limit → decision d.world ≡ Choice candidates → taken ≡ true → Tried first b above fs d candidates 0 taken gs e
+    → Moved first b above fs d None gs e
+choice_moved first b above fs gs d e candidates taken at room choice on tried =
+    let t : Tried first b above fs d candidates 0 true gs e = rw on at tried in
+    let n : ℕ = b.limit - suc d.trail.depth in (
+      t.0,
+      t.1,
+      ap (λ rs. map (prefixed (picked fs) (kept d.trail)) rs ++ later first b above fs (kept d.trail)) (choice_is first b above fs d candidates at room choice) ∙ t.2,
+      omega (arith, t.3, states_come first b fs d (suc n) (left_some first b fs d at room), states_is n d.world (Choice candidates) choice),
     )
 
 -- ---- back to a choice
-
-take_same : (n : ℕ) (xs : List Step) → take n (take n xs) ≡ take n xs
-take_same n xs = take_all n (take n xs) (omega (arith, length-take n xs))
 
 pub at_popped : (first : World) (b : Bounds) (f : Open) (fs : List Open) (d e : Standing) → At first b (f ∷ fs) d → Came d f.depth e → At first b fs e
 at_popped first b f fs d e at came =
@@ -193,44 +284,55 @@ pub popped_enabled : (first : World) (b : Bounds) (f : Open) (fs : List Open) (d
 popped_enabled first b f fs d e at came =
     enabled_by (fold first (take f.depth (kept d.trail))) e.world f.candidates (ap (fold first) (sym came.kept_is) ∙ at_world first b fs e (at_popped first b f fs d e at came)) at.stands.3
 
-pub popped_later : (first : World) (b : Bounds) (f : Open) (fs : List Open) (d e : Standing) → Came d f.depth e → later first b (f ∷ fs) (kept d.trail) ≡ later first b (f ∷ fs) (kept e.trail)
-popped_later first b f fs d e came =
-    ap (λ (p : List Step). map (prefixed (picked fs) p) (others (walk (b.limit - suc f.depth)) (fold first p) f) ++ later first b fs p)
-    (sym (take_same f.depth (kept d.trail)) ∙ ap (take f.depth) (sym came.kept_is))
+popped_later : (first : World) (b : Bounds) (above : List Step) (f : Open) (fs : List Open) (d e : Standing) → At first b (f ∷ fs) d → Came d f.depth e
+    → later first b above (f ∷ fs) (kept d.trail) ≡ map (prefixed (picked fs) (kept e.trail)) (branches_from b.sleeps (b.limit - suc e.trail.depth) e.world (asleep_below b.sleeps above fs) f.candidates (suc f.index)) ++ later first b above fs (kept e.trail)
+popped_later first b above f fs d e at came =
+    ap (λ (p : List Step). map (prefixed (picked fs) p) (others b.sleeps (b.limit - suc f.depth) (asleep_below b.sleeps above fs) (fold first p) f) ++ later first b above fs p) (sym came.kept_is)
+    ∙ ap (λ o. map (prefixed (picked fs) (kept e.trail)) (others b.sleeps (b.limit - suc f.depth) (asleep_below b.sleeps above fs) o f) ++ later first b above fs (kept e.trail)) (at_world first b fs e (at_popped first b f fs d e at came))
+    ∙ ap (λ m. map (prefixed (picked fs) (kept e.trail)) (branches_from b.sleeps (b.limit - suc m) e.world (asleep_below b.sleeps above fs) f.candidates (suc f.index)) ++ later first b above fs (kept e.trail)) (sym came.depth)
 
-others_none : (runs : World → List Run) (o : Option World) (f : Open) → drop (suc f.index) f.candidates ≡ [] → others runs o f ≡ []
-others_none runs None f e = refl
-others_none runs (Some w) f e = ap (branches runs w (suc f.index)) e
+popped_states : (first : World) (b : Bounds) (f : Open) (fs : List Open) (d e : Standing) → At first b (f ∷ fs) d → Came d f.depth e
+    → states_later first b (f ∷ fs) (kept d.trail) ≡ states_by (states (b.limit - suc e.trail.depth)) e.world (drop (suc f.index) f.candidates) + states_later first b fs (kept e.trail)
+popped_states first b f fs d e at came =
+    ap (λ (p : List Step). states_beside (b.limit - suc f.depth) (fold first p) f + states_later first b fs p) (sym came.kept_is)
+    ∙ ap (λ o. states_beside (b.limit - suc f.depth) o f + states_later first b fs (kept e.trail)) (at_world first b fs e (at_popped first b f fs d e at came))
+    ∙ ap (λ m. states_by (states (b.limit - suc m)) e.world (drop (suc f.index) f.candidates) + states_later first b fs (kept e.trail)) (sym came.depth)
 
--- no candidate is left
-pub exhausted : (first : World) (b : Bounds) (f : Open) (fs : List Open) (d e : Standing) → Came d f.depth e → length f.candidates ≤ suc f.index → later first b (f ∷ fs) (kept d.trail) ≡ later first b fs (kept e.trail)
-exhausted first b f fs d e came none =
-    let gone : drop (suc f.index) f.candidates ≡ [] = drop_all (suc f.index) f.candidates none in
-    ap (λ rs. map (prefixed (picked fs) (take f.depth (kept d.trail))) rs ++ later first b fs (take f.depth (kept d.trail))) (others_none (walk (b.limit - suc f.depth)) (fold first (take f.depth (kept d.trail))) f gone)
-    ∙ ap (later first b fs) (sym came.kept_is)
+-- the next candidate that is awake is taken, seen from further back
+pub retaken : (first : World) (b : Bounds) (above : List Step) (f : Open) (before fs gs : List Open) (path : List Step) (d c e : Standing) (from : ℕ) (taken : Bool) → At first b (f ∷ fs) d → Came d f.depth c → from ≡ suc f.index → taken ≡ true → Tried first b above fs c f.candidates from taken gs e
+    → later first b above before path ≡ later first b above (f ∷ fs) (kept d.trail) → states_later first b (f ∷ fs) (kept d.trail) ≤ states_later first b before path → Advanced first b above before path true gs e
+retaken first b above f before fs gs path d c e from taken at came next on tried same less =
+    let t : Tried first b above fs c f.candidates (suc f.index) true gs e = rw (next, on) at tried in
+    (t.0, same ∙ popped_later first b above f fs d c at came ∙ t.2, omega (arith, t.3, popped_states first b f fs d c at came, less))
 
--- the next candidate is taken
-pub retaken : (first : World) (b : Bounds) (f g : Open) (fs : List Open) (d e : Standing) (a : Step) → At first b fs d → d.trail.depth ≡ f.depth → f.depth < b.limit → AllEnabled d.world f.candidates
-    → g ≡ record { depth = f.depth; candidates = f.candidates; index = suc f.index } → suc f.index < length f.candidates → a ≡ get_or f.candidates (suc f.index) a → Went d a e → Advanced first b (f ∷ fs) (kept d.trail) true (g ∷ fs) e
-retaken first b f g fs d e a at depth room all is within read went =
-    let h : Open = record { depth = f.depth; candidates = f.candidates; index = suc f.index } in
-    let long : f.depth ≡ length (kept d.trail) = omega (arith, at_length first b fs d at) in
-    let whole : take f.depth (kept d.trail) ≡ kept d.trail = take_all f.depth (kept d.trail) (omega (arith, long)) in
-    let c : ℕ → World → List Run = λ m. walk (b.limit - suc m) in
-    let at_h : At first b (h ∷ fs) e =
-    record {
-      first_is = first_same d.trail e.trail went.program went.mode ∙ at.first_is;
-      reached = went.reached;
-      within = omega (arith, went.depth);
-      stands = rw went.kept_is (stands_open first b h fs (kept d.trail) d.world a at.stands long room within (at_world first b fs d at) all);
-    } in (
-      rw is at_h,
-      ap (λ (p : List Step). map (prefixed (picked fs) p) (others (c f.depth) (fold first p) f) ++ later first b fs p) whole
-          ∙ ap (λ o. map (prefixed (picked fs) (kept d.trail)) (others (c f.depth) o f) ++ later first b fs (kept d.trail)) (at_world first b fs d at)
-          ∙ ap (λ m. map (prefixed (picked fs) (kept d.trail)) (branches (c m) d.world (suc f.index) (drop (suc f.index) f.candidates)) ++ later first b fs (kept d.trail)) long
-          ∙ entered first b h fs (kept d.trail) d.world e.world a long (at_world first b fs d at) (drop_at f.candidates (suc f.index) a within read) went.world
-          ∙ ap (λ p. to_come first b (h ∷ fs) p e.world) (sym went.kept_is)
-          ∙ ap (λ k. to_come first b (k ∷ fs) (kept e.trail) e.world) (sym is),
+-- none is left
+pub exhausted : (first : World) (b : Bounds) (above : List Step) (f : Open) (fs gs : List Open) (d c e : Standing) (from : ℕ) (taken : Bool) → At first b (f ∷ fs) d → Came d f.depth c → from ≡ suc f.index → taken ≡ false → Tried first b above fs c f.candidates from taken gs e
+    → later first b above (f ∷ fs) (kept d.trail) ≡ later first b above gs (kept e.trail)
+exhausted first b above f fs gs d c e from taken at came next off tried =
+    let t : Tried first b above fs c f.candidates (suc f.index) false gs e = rw (next, off) at tried in
+    popped_later first b above f fs d c at came ∙ ap (λ rs. map (prefixed (picked fs) (kept c.trail)) rs ++ later first b above fs (kept c.trail)) t.2
+    ∙ ap (λ hs. later first b above hs (kept c.trail)) (sym t.0) ∙ ap (λ (s : Standing). later first b above gs (kept s.trail)) (sym t.1)
+
+pub exhausted_states : (first : World) (b : Bounds) (above : List Step) (f : Open) (fs gs : List Open) (d c e : Standing) (from : ℕ) (taken : Bool) → At first b (f ∷ fs) d → Came d f.depth c → taken ≡ false → Tried first b above fs c f.candidates from taken gs e
+    → states_later first b gs (kept e.trail) ≤ states_later first b (f ∷ fs) (kept d.trail)
+exhausted_states first b above f fs gs d c e from taken at came off tried =
+    let t : Tried first b above fs c f.candidates from false gs e = rw off at tried in
+    let same : states_later first b gs (kept e.trail) ≡ states_later first b fs (kept c.trail) = ap (λ hs. states_later first b hs (kept e.trail)) t.0 ∙ ap (λ (s : Standing). states_later first b fs (kept s.trail)) t.1 in
+    omega (arith, same, popped_states first b f fs d c at came)
+
+pub exhausted_at : (first : World) (b : Bounds) (above : List Step) (f : Open) (fs gs : List Open) (d c e : Standing) (from : ℕ) (taken : Bool) → At first b (f ∷ fs) d → Came d f.depth c → taken ≡ false → Tried first b above fs c f.candidates from taken gs e → At first b gs e
+exhausted_at first b above f fs gs d c e from taken at came off tried =
+    let t : Tried first b above fs c f.candidates from false gs e = rw off at tried in
+    rw (t.0, t.1) (at_popped first b f fs d c at came)
+
+-- all three of them, where the first world is told by the debugger
+pub passed_back : (first own : World) (b : Bounds) (above : List Step) (f : Open) (fs gs : List Open) (d c e : Standing) (from : ℕ) (taken : Bool) → own ≡ first → At first b (f ∷ fs) d → Came d f.depth c → from ≡ suc f.index → taken ≡ false → Tried own b above fs c f.candidates from taken gs e
+    → At first b gs e × (later first b above (f ∷ fs) (kept d.trail) ≡ later first b above gs (kept e.trail)) × (states_later first b gs (kept e.trail) ≤ states_later first b (f ∷ fs) (kept d.trail))
+passed_back first own b above f fs gs d c e from taken own_is at came next off tried =
+    let t : Tried first b above fs c f.candidates from taken gs e = rw own_is at tried in (
+      exhausted_at first b above f fs gs d c e from taken at came off t,
+      exhausted first b above f fs gs d c e from taken at came next off t,
+      exhausted_states first b above f fs gs d c e from taken at came off t,
     )
 
 -- ---- what is below the base stays
@@ -244,9 +346,6 @@ safe_pushed first b fs d e a at went =
       below = ap (take b.base) went.kept_is ∙ take_pushed b.base (kept d.trail) a (base_within first b fs (kept d.trail) at.stands);
     }
 
-pub safe_same : (base : ℕ) (d e : Standing) → e.trail ≡ d.trail → IsReached e → Safe base d e
-safe_same base d e same reached = record { program = ap (λ (t : Trail). t.program) same; mode = ap (λ (t : Trail). t.mode) same; reached = reached; below = ap (λ (t : Trail). take base (kept t)) same }
-
 take_lower : (m n : ℕ) (xs : List Step) → m ≤ n → take m (take n xs) ≡ take m xs
 take_lower zero n xs h = refl
 take_lower (suc m) zero xs h = absurd (omega arith)
@@ -258,20 +357,20 @@ safe_popped first b f fs d e at came =
     let low : b.base ≤ f.depth = omega (arith, base_within first b fs (take f.depth (kept d.trail)) at.stands.4, length-take f.depth (kept d.trail)) in
     record { program = came.program; mode = came.mode; reached = came.reached; below = ap (take b.base) came.kept_is ∙ take_lower b.base f.depth (kept d.trail) low }
 
+pub safe_same : (base : ℕ) (d e : Standing) → e.trail ≡ d.trail → IsReached e → Safe base d e
+safe_same base d e same reached = record { program = ap (λ (t : Trail). t.program) same; mode = ap (λ (t : Trail). t.mode) same; reached = reached; below = ap (λ (t : Trail). take base (kept t)) same }
+
 pub safe_then : (base : ℕ) (c d e : Standing) → Safe base c d → Safe base d e → Safe base c e
 safe_then base c d e x y = record { program = y.program ∙ x.program; mode = y.mode ∙ x.mode; reached = y.reached; below = y.below ∙ x.below }
 
 pub safe_first : (base : ℕ) (c d : Standing) → Safe base c d → first_of d.trail ≡ first_of c.trail
 safe_first base c d x = first_same c.trail d.trail x.program x.mode
 
-pub reverse_pushed : (xs now : List Open) (f : Open) → now ≡ xs ++ f ∷ [] → reverse now ≡ f ∷ reverse xs
-reverse_pushed xs now f e = ap reverse e ∙ reverse-append xs (f ∷ [])
-
 -- the same seen from further back
-pub moved_then : (first own : World) (b : Bounds) (fs0 fs gs : List Open) (d0 d : Standing) (e : Ending) → own ≡ first → gs ≡ fs → to_come first b fs0 (kept d0.trail) d0.world ≡ to_come first b fs (kept d.trail) d.world
-    → Moved own b gs d (Some e) gs d → Moved first b fs0 d0 (Some e) fs d
-moved_then first own b fs0 fs gs d0 d e own_is gs_is same m =
-    let n : Moved first b fs d (Some e) fs d = rw (own_is, gs_is) at m in
-    (n.0, same ∙ n.1)
+pub moved_then : (first own : World) (b : Bounds) (above : List Step) (fs0 fs gs : List Open) (d0 d : Standing) (s : Stop) → own ≡ first → gs ≡ fs → to_come first b above fs0 (kept d0.trail) d0.world ≡ to_come first b above fs (kept d.trail) d.world
+    → states_to_come first b fs (kept d.trail) d.world ≤ states_to_come first b fs0 (kept d0.trail) d0.world → Moved own b above gs d (Some s) gs d → Moved first b above fs0 d0 (Some s) fs d
+moved_then first own b above fs0 fs gs d0 d s own_is gs_is same less m =
+    let n : Moved first b above fs d (Some s) fs d = rw (own_is, gs_is) at m in
+    (n.0, same ∙ n.1, omega (arith, n.2, less))
 
 pub ruleset searching = (leaf_end, safe_same)

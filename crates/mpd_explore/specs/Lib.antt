@@ -1,5 +1,8 @@
 pub mod Walk
+pub mod Sleeping
 pub mod Report
+pub mod Asleep
+pub mod States
 pub mod Search
 pub mod Witness
 pub mod Stops

@@ -18,6 +18,8 @@ pub struct Limits {
     pub witnesses: bool,
     /// Whether the list ends with the first leaf that is a deadlock or a trap.
     pub until_bad: bool,
+    /// Whether each end is looked for once: of runs that differ only in the order of choices that share no call, one is listed.
+    pub ends: bool,
 }
 
 /// Numbers of candidates, from 0, one for each choice, in order; contracts see them as a list.

@@ -151,6 +151,7 @@ pub fn witness_of(
     let bounds = Bounds {
         base,
         limit: base + fuel,
+        sleeps: false,
     };
     let found = retrace(alloc, debugger, bounds, &leaf.choices.items);
     put_back(debugger, base);

@@ -73,6 +73,7 @@ pub fn report(
         fuel,
         witnesses: false,
         until_bad: false,
+        ends: false,
     };
     if debugger.steps().len() == debugger.depth() {
         return explore(alloc, debugger, limits, &mut Unwatched);

@@ -252,6 +252,7 @@ fn reports_so(rt: &impl Abort, alloc: Global, code: &Code, row: &Reports) {
         fuel: FUEL,
         witnesses: !row.texts.is_empty(),
         until_bad: row.until_bad,
+        ends: false,
     };
     let report = match row.choices {
         None => explore(alloc, &mut debugger, limits, &mut Unwatched).expect(rt, "a report"),
@@ -301,6 +302,7 @@ fn second_again(alloc: Global, code: &Code) -> Option<(usize, usize)> {
         fuel: FUEL,
         witnesses: false,
         until_bad: false,
+        ends: false,
     };
     let report = explore(alloc, &mut debugger, limits, &mut Unwatched).ok()?;
     if report.leaves.len() < 2 {

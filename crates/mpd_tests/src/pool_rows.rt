@@ -38,6 +38,7 @@ const ALL: Limits = Limits {
     fuel: 100,
     witnesses: false,
     until_bad: false,
+    ends: false,
 };
 
 /// The same with witnesses, up to the first bad one.
@@ -46,6 +47,7 @@ const UNTIL_BAD: Limits = Limits {
     fuel: 100,
     witnesses: true,
     until_bad: true,
+    ends: false,
 };
 
 /// So many workers, and what they find: nothing where their number is refused.

@@ -1,4 +1,4 @@
-use Rattle.mpd_complete.proofs.Plain.{nothing_sleeps}
+use Rattle.mpd_explore.proofs.AwakeLemmas.{nothing_sleeps}
 use Rattle.mpd_complete.proofs.walks_where_nothing_sleeps.Goals as goal
 
 pub returns : goal.returns

@@ -1,41 +1,16 @@
-use Rattle.std.proofs.Common.{◌≡◌, ◌+◌, ◌-◌, length, map, ap, ◌∙◌, arith}
-use Rattle.mpd_model.specs.Trail.{kept}
-use Rattle.mpd_trail.specs.Views.{standing_of}
-use Rattle.mpd_explore.specs.declared.search.Bounds.{Bounds}
+use Rattle.std.proofs.Common.{map, ap, ◌∙◌}
 use Rattle.mpd_explore.specs.declared.report.Report as report
-use Rattle.mpd_explore.specs.Walk.{walk}
 use Rattle.mpd_explore.specs.Report.{shown, listed, left_out}
-use Rattle.mpd_explore.specs.Gathered.{to_find}
-use Rattle.mpd_explore.proofs.SearchLemmas.{length-kept}
-use Rattle.mpd_explore.proofs.CollectLemmas.{to_find_is, found_shown}
-use Rattle.mpd_explore.proofs.GatherLemmas.{first_listed, texts_hold}
-use Rattle.mpd_explore.proofs.WitnessLemmas.{witnesses_hold, on_ok}
+use Rattle.mpd_explore.proofs.AwakeLemmas.{walk_by_is}
+use Rattle.mpd_explore.proofs.WitnessLemmas.{on_ok}
 use Rattle.mpd_explore.proofs.explore.explore.Goals as goal
 
 pub returns-clause-leaves : goal.returns-clause-leaves
 returns-clause-leaves g c =
-    let d = standing_of c.args.debugger.now in
-    let b : Bounds = record { base = c.depth-base.result; limit = c.depth-base.result + c.args.limits.fuel } in
-    let left : b.limit - length (kept d.trail) ≡ c.args.limits.fuel = omega (arith, length-kept d c.core.ensures.reached, c.depth-base.ensures.value) in
-    on_ok c.collect-found.result _ _ (λ (r : report.Report) h. h.leaves_are ∙ ap (listed c.args.limits) (found_shown b d c.args.limits.fuel left)) c.collect-found.ensures.lists
+    let l = c.args.limits in
+    on_ok c.explore_asleep.result _ _ (λ (r : report.Report) h. h ∙ ap (λ rs. listed l (map shown rs)) (walk_by_is l.ends l.fuel c.args.debugger.now.world)) c.explore_asleep.ensures.leaves
 
 pub returns-clause-more : goal.returns-clause-more
 returns-clause-more g c =
-    let d = standing_of c.args.debugger.now in
-    let b : Bounds = record { base = c.depth-base.result; limit = c.depth-base.result + c.args.limits.fuel } in
-    let left : b.limit - length (kept d.trail) ≡ c.args.limits.fuel = omega (arith, length-kept d c.core.ensures.reached, c.depth-base.ensures.value) in
-    on_ok c.collect-found.result _ _ (λ (r : report.Report) h. h.more_is ∙ ap (left_out c.args.limits) (found_shown b d c.args.limits.fuel left)) c.collect-found.ensures.lists
-
-pub returns-clause-witnesses : goal.returns-clause-witnesses
-returns-clause-witnesses g c =
-    let d = standing_of c.args.debugger.now in
-    let fuel = c.args.limits.fuel in
-    on_ok c.collect-found.result _ _ (λ (r : report.Report) is. witnesses_hold d.trail.program d.trail.mode (kept d.trail) fuel (length r.leaves.items) d.world r.leaves.items c.decisions_can_be_followed.ensures.follow c.core.ensures.reached.world (first_listed c.args.limits (map shown (walk fuel d.world)) r.leaves.items is)) (returns-clause-leaves g c)
-
-pub returns-clause-texts : goal.returns-clause-texts
-returns-clause-texts g c =
-    let d = standing_of c.args.debugger.now in
-    let b : Bounds = record { base = c.depth-base.result; limit = c.depth-base.result + c.args.limits.fuel } in
-    let fuel = c.args.limits.fuel in
-    let left : b.limit - length (kept d.trail) ≡ fuel = omega (arith, length-kept d c.core.ensures.reached, c.depth-base.ensures.value) in
-    on_ok c.collect-found.result _ _ (λ (r : report.Report) h. texts_hold c.args.limits (kept d.trail) fuel d.world (to_find b d) r.leaves.items _ (to_find_is b d fuel left) (h.leaves_are ∙ ap (listed c.args.limits) (found_shown b d fuel left)) h.texts_are) c.collect-found.ensures.lists
+    let l = c.args.limits in
+    on_ok c.explore_asleep.result _ _ (λ (r : report.Report) h. h ∙ ap (λ rs. left_out l (map shown rs)) (walk_by_is l.ends l.fuel c.args.debugger.now.world)) c.explore_asleep.ensures.more

@@ -1,5 +1,0 @@
-pub mod Asleep
-pub mod States
-pub mod Search
-pub mod Ends
-pub mod EndsRows
