@@ -1,5 +1,5 @@
 -- One step along some choices, and many.
-use Rattle.std.proofs.Common.{◌≡◌, ℕ, zero, suc, ◌<◌, ◌≤◌, ◌-◌, List, [], ◌∷◌, ◌++◌, length, take, map, slice_get, Option, Some, None, refl, sym, ap, ◌∙◌, arith, append_assoc, append-nil}
+use Rattle.std.proofs.Common.{◌≡◌, ℕ, zero, suc, ◌<◌, ◌≤◌, ◌-◌, Bool, true, false, if◌then◌else◌, List, [], ◌∷◌, ◌++◌, length, take, map, slice_get, Option, Some, None, refl, sym, ap, ◌∙◌, arith, append_assoc, append-nil}
 use Rattle.std.specs.Option.{option_map}
 use Rattle.std.proofs.lemmas.List.{length-append, take-append-le}
 use Rattle.std.proofs.lemmas.Option.{slice_get_within}
@@ -11,12 +11,12 @@ use Rattle.mpd_model.specs.World.{World}
 use Rattle.mpd_model.specs.Next.{next}
 use Rattle.mpd_model.specs.Decisions.{decision}
 use Rattle.mpd_model.specs.Trail.{Standing, IsReached, kept}
-use Rattle.mpd_explore.specs.Walk.{Run, stepped, chosen, prefixed, runs_of, walk, run_from, run_taken, run_at}
-use Rattle.mpd_explore.proofs.RunLemmas.{walk_is}
-use Rattle.mpd_explore.proofs.SearchLemmas.{Went, length-kept}
+use Rattle.mpd_explore.specs.Walk.{Run, stepped, chosen, prefixed, runs_of, run_from, run_taken, run_at}
+use Rattle.mpd_explore.specs.Sleeping.{is_asleep, put_off, awake_runs, awake_walk}
+use Rattle.mpd_explore.proofs.SearchLemmas.{Went, length-kept, awake_is}
 use Rattle.mpd_explore.proofs.WitnessLemmas.{run_is}
-use Rattle.mpd_pieces.specs.Pieces.{led_by, cut_by, pieces, runs_by, beginning, walk_at, InState, ByCandidate, BeginsSo, Reaches}
-use Rattle.mpd_pieces.specs.Along.{lists_by, longer_by, longer, Along, Beyond, Going}
+use Rattle.mpd_pieces.specs.Pieces.{led_by, cut_by, pieces, runs_by, beginning, walk_from, InState, ByCandidate, BeginsSo, Reaches}
+use Rattle.mpd_pieces.specs.Along.{lists_by, longer_by, longer, runs_on, sleeping_behind, Along, Beyond, Going}
 
 -- ---- runs with nothing in front, and with two things
 
@@ -45,10 +45,10 @@ lists_twice cs ds (x ∷ xs) = λ i. sym (append_assoc cs ds x) i ∷ lists_twic
 
 -- ---- without choices
 
-pub walk_whole : (n : ℕ) (w : World) → walk_at n [] w ≡ walk n w
-unfolding walk_at
-walk_whole zero w = refl
-walk_whole (suc n) w = refl
+pub walk_whole : (sleeps : Bool) (n : ℕ) (asleep : List Step) (w : World) → walk_from sleeps n [] asleep w ≡ awake_walk sleeps n asleep w
+unfolding walk_from
+walk_whole sleeps zero asleep w = refl
+walk_whole sleeps (suc n) asleep w = refl
 
 pub longer_none : (n : ℕ) (w : World) → longer n [] w ≡ pieces 1 n w
 unfolding longer
@@ -57,10 +57,15 @@ longer_none (suc n) w = refl
 
 -- ---- a forced step
 
-pub walk_forced : (n : ℕ) (x : List ℕ) (w v : World) (a : Step) → decision w ≡ Forced a → next w a ≡ Some v → walk_at (suc n) x w ≡ map (stepped a) (walk_at n x v)
-unfolding walk_at
-walk_forced n [] w v a forced step = walk_is n w (Forced a) forced ∙ ap (λ o. map (stepped a) (runs_of (walk n) o)) step ∙ ap (map (stepped a)) (sym (walk_whole n v))
-walk_forced n (c ∷ cs) w v a forced step = ap (beginning (walk_at n) w c cs) forced ∙ ap (λ o. map (stepped a) (runs_of (walk_at n (c ∷ cs)) o)) step
+pub walk_forced : (sleeps : Bool) (n : ℕ) (x : List ℕ) (asleep : List Step) (w v : World) (a : Step) → decision w ≡ Forced a → next w a ≡ Some v → walk_from sleeps (suc n) x asleep w ≡ map (stepped a) (walk_from sleeps n x asleep v)
+unfolding walk_from
+walk_forced sleeps n [] asleep w v a forced step =
+    awake_is sleeps n asleep w (Forced a) forced ∙ ap (λ o. map (stepped a) (runs_of (awake_walk sleeps n asleep) o)) step ∙ ap (map (stepped a)) (sym (walk_whole sleeps n asleep v))
+walk_forced sleeps n (c ∷ cs) asleep w v a forced step = ap (beginning sleeps (walk_from sleeps n) asleep w c cs) forced ∙ ap (λ o. map (stepped a) (runs_of (walk_from sleeps n (c ∷ cs) asleep) o)) step
+
+on_forced : (sleeps : Bool) (n : ℕ) (s : Option (List Step)) (x : List ℕ) (w v : World) (a : Step) → decision w ≡ Forced a → next w a ≡ Some v → runs_on sleeps (suc n) s x w ≡ map (stepped a) (runs_on sleeps n s x v)
+on_forced sleeps n None x w v a forced step = refl
+on_forced sleeps n (Some asleep) x w v a forced step = walk_forced sleeps n x asleep w v a forced step
 
 run_forced : (n : ℕ) (x : List ℕ) (w v : World) (a : Step) → decision w ≡ Forced a → next w a ≡ Some v → run_at (suc n) x w ≡ option_map (stepped a) (run_at n x v)
 run_forced n x w v a forced step = run_is n x w (Forced a) forced ∙ ap (λ o. option_map (stepped a) (run_from (run_at n x) o)) step
@@ -77,20 +82,31 @@ unfolding longer
 longer_forced n [] w v a forced step = pieces_forced 0 n w v a forced step ∙ sym (longer_none n v)
 longer_forced n (c ∷ cs) w v a forced step = ap (longer_by (longer n) w c cs) forced ∙ ap (runs_of (longer n (c ∷ cs))) step
 
-along_forced : (n : ℕ) (w v : World) (a : Step) → decision w ≡ Forced a → next w a ≡ Some v → Along (suc n) w [] (a ∷ []) n v
-along_forced n w v a forced step =
+along_forced : (sleeps : Bool) (n : ℕ) (s : Option (List Step)) (w v : World) (a : Step) → decision w ≡ Forced a → next w a ≡ Some v → Along sleeps (suc n) s w [] (a ∷ []) n s v
+along_forced sleeps n s w v a forced step =
     record {
-      walks = λ x. walk_forced n x w v a forced step;
+      walks = λ x. on_forced sleeps n s x w v a forced step;
       runs = λ x. run_forced n x w v a forced step;
       lists = λ x. longer_forced n x w v a forced step ∙ sym (map_same (longer n x v));
     }
 
 -- ---- a choice
 
-pub walk_chosen : (n c : ℕ) (x : List ℕ) (w v : World) (candidates : List Step) (a : Step) → decision w ≡ Choice candidates → slice_get candidates c ≡ Some a → next w a ≡ Some v → walk_at (suc n) (c ∷ x) w ≡ map (chosen c a) (walk_at n x v)
-unfolding walk_at
-walk_chosen n c x w v candidates a choice read step =
-    ap (beginning (walk_at n) w c x) choice ∙ ap (runs_by (walk_at n x) w c) read ∙ ap (λ o. map (chosen c a) (runs_of (walk_at n x) o)) step
+chosen_on : (sleeps : Bool) (n : ℕ) (x : List ℕ) (b : Bool) (asleep : List Step) (o : Option World) (v : World) → o ≡ Some v → awake_runs b (walk_from sleeps n x asleep) o ≡ runs_on sleeps n (if b then None else Some asleep) x v
+chosen_on sleeps n x true asleep o v step = refl
+chosen_on sleeps n x false asleep o v step = ap (runs_of (walk_from sleeps n x asleep)) step
+
+pub walk_chosen : (sleeps : Bool) (n c : ℕ) (x : List ℕ) (asleep : List Step) (w v : World) (candidates : List Step) (a : Step) → decision w ≡ Choice candidates → slice_get candidates c ≡ Some a → next w a ≡ Some v
+    → walk_from sleeps (suc n) (c ∷ x) asleep w ≡ map (chosen c a) (runs_on sleeps n (sleeping_behind sleeps candidates c a (Some asleep)) x v)
+unfolding walk_from
+walk_chosen sleeps n c x asleep w v candidates a choice read step =
+    let s : List Step = put_off sleeps c candidates asleep in
+    ap (beginning sleeps (walk_from sleeps n) asleep w c x) choice ∙ ap (runs_by sleeps (walk_from sleeps n x) asleep w candidates c) read ∙ ap (map (chosen c a)) (chosen_on sleeps n x (is_asleep s a) s (next w a) v step)
+
+on_chosen : (sleeps : Bool) (n c : ℕ) (s : Option (List Step)) (x : List ℕ) (w v : World) (candidates : List Step) (a : Step) → decision w ≡ Choice candidates → slice_get candidates c ≡ Some a → next w a ≡ Some v
+    → runs_on sleeps (suc n) s (c ∷ x) w ≡ map (chosen c a) (runs_on sleeps n (sleeping_behind sleeps candidates c a s) x v)
+on_chosen sleeps n c None x w v candidates a choice read step = refl
+on_chosen sleeps n c (Some asleep) x w v candidates a choice read step = walk_chosen sleeps n c x asleep w v candidates a choice read step
 
 run_chosen : (n c : ℕ) (x : List ℕ) (w v : World) (candidates : List Step) (a : Step) → decision w ≡ Choice candidates → slice_get candidates c ≡ Some a → next w a ≡ Some v → run_at (suc n) (c ∷ x) w ≡ option_map (chosen c a) (run_at n x v)
 run_chosen n c x w v candidates a choice read step =
@@ -101,28 +117,29 @@ unfolding longer
 longer_chosen n c x w v candidates a choice read step =
     ap (longer_by (longer n) w c x) choice ∙ ap (lists_by (longer n x) w c) read ∙ ap (λ o. led_by c (runs_of (longer n x) o)) step
 
-along_chosen : (n c : ℕ) (w v : World) (candidates : List Step) (a : Step) → decision w ≡ Choice candidates → slice_get candidates c ≡ Some a → next w a ≡ Some v → Along (suc n) w (c ∷ []) (a ∷ []) n v
-along_chosen n c w v candidates a choice read step =
+along_chosen : (sleeps : Bool) (n c : ℕ) (s : Option (List Step)) (w v : World) (candidates : List Step) (a : Step) → decision w ≡ Choice candidates → slice_get candidates c ≡ Some a → next w a ≡ Some v
+    → Along sleeps (suc n) s w (c ∷ []) (a ∷ []) n (sleeping_behind sleeps candidates c a s) v
+along_chosen sleeps n c s w v candidates a choice read step =
     record {
-      walks = λ x. walk_chosen n c x w v candidates a choice read step;
+      walks = λ x. on_chosen sleeps n c s x w v candidates a choice read step;
       runs = λ x. run_chosen n c x w v candidates a choice read step;
       lists = λ x. longer_chosen n c x w v candidates a choice read step;
     }
 
 -- ---- no step, and one way behind another
 
-along_none : (n : ℕ) (w : World) → Along n w [] [] n w
-along_none n w =
+along_none : (sleeps : Bool) (n : ℕ) (s : Option (List Step)) (w : World) → Along sleeps n s w [] [] n s w
+along_none sleeps n s w =
     record {
-      walks = λ x. sym (map_same (walk_at n x w));
+      walks = λ x. sym (map_same (runs_on sleeps n s x w));
       runs = λ x. sym (option_same (run_at n x w));
       lists = λ x. sym (map_same (longer n x w));
     }
 
-along_then : (fuel m n : ℕ) (w v u : World) (cs ds : List ℕ) (p q : List Step) → Along fuel w cs p m v → Along m v ds q n u → Along fuel w (cs ++ ds) (p ++ q) n u
-along_then fuel m n w v u cs ds p q a b =
+along_then : (sleeps : Bool) (fuel m n : ℕ) (r s t : Option (List Step)) (w v u : World) (cs ds : List ℕ) (p q : List Step) → Along sleeps fuel r w cs p m s v → Along sleeps m s v ds q n t u → Along sleeps fuel r w (cs ++ ds) (p ++ q) n t u
+along_then sleeps fuel m n r s t w v u cs ds p q a b =
     record {
-      walks = λ x. ap (λ y. walk_at fuel y w) (append_assoc cs ds x) ∙ a.walks (ds ++ x) ∙ ap (map (prefixed cs p)) (b.walks x) ∙ map_twice cs ds p q (walk_at n x u);
+      walks = λ x. ap (λ y. runs_on sleeps fuel r y w) (append_assoc cs ds x) ∙ a.walks (ds ++ x) ∙ ap (map (prefixed cs p)) (b.walks x) ∙ map_twice cs ds p q (runs_on sleeps n t x u);
       runs = λ x. ap (λ y. run_at fuel y w) (append_assoc cs ds x) ∙ a.runs (ds ++ x) ∙ ap (option_map (prefixed cs p)) (b.runs x) ∙ option_twice cs ds p q (run_at n x u);
       lists = λ x. ap (λ y. longer fuel y w) (append_assoc cs ds x) ∙ a.lists (ds ++ x) ∙ ap (map (λ y. cs ++ y)) (b.lists x) ∙ lists_twice cs ds (longer n x u);
     }
@@ -190,15 +207,15 @@ beyond_below d e reached h = ap (take d.trail.depth) h.kept_is ∙ take-append-l
 
 -- ---- and one that goes along choices
 
-pub going_none : (fuel : ℕ) (choices : List ℕ) (d : Standing) → IsReached d → Reaches fuel choices d.world → Going fuel choices d choices d
-going_none fuel choices d reached h =
-    record { beyond = record { program = refl; mode = refl; reached = reached; path = []; kept_is = sym (append-nil (kept d.trail)) }; taken = []; joined = refl; rest = fuel; spent = refl; along = along_none fuel d.world; reaches = h }
+pub going_none : (sleeps : Bool) (s : Option (List Step)) (fuel : ℕ) (choices : List ℕ) (d : Standing) → IsReached d → Reaches fuel choices d.world → Going sleeps fuel choices s d choices s d
+going_none sleeps s fuel choices d reached h =
+    record { beyond = record { program = refl; mode = refl; reached = reached; path = []; kept_is = sym (append-nil (kept d.trail)) }; taken = []; joined = refl; rest = fuel; spent = refl; along = along_none sleeps fuel s d.world; reaches = h }
 
 fuel_left : (limit : ℕ) (d : Standing) → 0 < limit - d.trail.depth → limit - d.trail.depth ≡ suc (limit - suc d.trail.depth)
 fuel_left limit d room = omega arith
 
-forced_on : (limit c : ℕ) (cs : List ℕ) (d e : Standing) (a : Step) → Reaches (limit - d.trail.depth) (c ∷ cs) d.world → decision d.world ≡ Forced a → Went d a e → Going (limit - d.trail.depth) (c ∷ cs) d (c ∷ cs) e
-forced_on limit c cs d e a h forced went =
+forced_on : (sleeps : Bool) (s : Option (List Step)) (limit c : ℕ) (cs : List ℕ) (d e : Standing) (a : Step) → Reaches (limit - d.trail.depth) (c ∷ cs) d.world → decision d.world ≡ Forced a → Went d a e → Going sleeps (limit - d.trail.depth) (c ∷ cs) s d (c ∷ cs) s e
+forced_on sleeps s limit c cs d e a h forced went =
     let room : 0 < limit - d.trail.depth = reaches_fuel (limit - d.trail.depth) c cs d.world h in
     let n : ℕ = limit - suc d.trail.depth in
     let left : limit - d.trail.depth ≡ suc n = fuel_left limit d room in
@@ -208,7 +225,7 @@ forced_on limit c cs d e a h forced went =
       joined = refl;
       rest = n;
       spent = omega (arith, went.depth);
-      along = rw left (along_forced n d.world e.world a forced went.world);
+      along = rw left (along_forced sleeps n s d.world e.world a forced went.world);
       reaches = reaches_forced n c cs d.world e.world a forced went.world (rw left at h);
     }
 
@@ -217,9 +234,9 @@ choice_within limit c cs d candidates h choice =
     let left : limit - d.trail.depth ≡ suc (limit - suc d.trail.depth) = fuel_left limit d (reaches_fuel (limit - d.trail.depth) c cs d.world h) in
     reaches_within (limit - suc d.trail.depth) c cs d.world candidates choice (rw left at h)
 
-pub going_chosen : (limit c : ℕ) (cs : List ℕ) (d e : Standing) (candidates : List Step) (a : Step) → Reaches (limit - d.trail.depth) (c ∷ cs) d.world → decision d.world ≡ Choice candidates → slice_get candidates c ≡ Some a → Went d a e
-    → Going (limit - d.trail.depth) (c ∷ cs) d cs e
-going_chosen limit c cs d e candidates a h choice read went =
+pub going_chosen : (sleeps : Bool) (s : Option (List Step)) (limit c : ℕ) (cs : List ℕ) (d e : Standing) (candidates : List Step) (a : Step) → Reaches (limit - d.trail.depth) (c ∷ cs) d.world → decision d.world ≡ Choice candidates → slice_get candidates c ≡ Some a → Went d a e
+    → Going sleeps (limit - d.trail.depth) (c ∷ cs) s d cs (sleeping_behind sleeps candidates c a s) e
+going_chosen sleeps s limit c cs d e candidates a h choice read went =
     let room : 0 < limit - d.trail.depth = reaches_fuel (limit - d.trail.depth) c cs d.world h in
     let n : ℕ = limit - suc d.trail.depth in
     let left : limit - d.trail.depth ≡ suc n = fuel_left limit d room in
@@ -229,7 +246,7 @@ going_chosen limit c cs d e candidates a h choice read went =
       joined = refl;
       rest = n;
       spent = omega (arith, went.depth);
-      along = rw left (along_chosen n c d.world e.world candidates a choice read went.world);
+      along = rw left (along_chosen sleeps n c s d.world e.world candidates a choice read went.world);
       reaches = reaches_chosen n c cs d.world e.world candidates a choice read went.world (rw left at h);
     }
 
@@ -241,16 +258,16 @@ leaf_on limit c cs d o h leaf =
 room_on : (limit c : ℕ) (cs : List ℕ) (d : Standing) → Reaches (limit - d.trail.depth) (c ∷ cs) d.world → d.trail.depth < limit
 room_on limit c cs d h = omega (arith, reaches_fuel (limit - d.trail.depth) c cs d.world h)
 
-pub going_then : (fuel m : ℕ) (choices left more : List ℕ) (c d e : Standing) (x : Going fuel choices c left d) → x.rest ≡ m → Going m left d more e → Going fuel choices c more e
-going_then fuel m choices left more c d e x is y =
-    let here : Along x.rest d.world y.taken y.beyond.path y.rest e.world = rw is y.along in
+pub going_then : (sleeps : Bool) (r s t : Option (List Step)) (fuel m : ℕ) (choices left more : List ℕ) (c d e : Standing) (x : Going sleeps fuel choices r c left s d) → x.rest ≡ m → Going sleeps m left s d more t e → Going sleeps fuel choices r c more t e
+going_then sleeps r s t fuel m choices left more c d e x is y =
+    let here : Along sleeps x.rest s d.world y.taken y.beyond.path y.rest t e.world = rw is y.along in
     record {
       beyond = beyond_then c d e x.beyond y.beyond;
       taken = x.taken ++ y.taken;
       joined = append_assoc x.taken y.taken more ∙ ap (λ z. x.taken ++ z) y.joined ∙ x.joined;
       rest = y.rest;
       spent = omega (arith, x.spent, y.spent, is);
-      along = along_then fuel x.rest y.rest c.world d.world e.world x.taken y.taken x.beyond.path y.beyond.path x.along here;
+      along = along_then sleeps fuel x.rest y.rest r s t c.world d.world e.world x.taken y.taken x.beyond.path y.beyond.path x.along here;
       reaches = y.reaches;
     }
 
@@ -264,20 +281,20 @@ pub no_leaf : (limit : ℕ) (left : List ℕ) (d : Standing) (o : Outcome) → 0
 no_leaf limit [] d o some h leaf = absurd (omega (arith, some))
 no_leaf limit (c ∷ cs) d o some h leaf = leaf_on limit c cs d o h leaf
 
-pub going_forced : (limit : ℕ) (left : List ℕ) (d e : Standing) (a : Step) → 0 < length left → Reaches (limit - d.trail.depth) left d.world → decision d.world ≡ Forced a → Went d a e → Going (limit - d.trail.depth) left d left e
-going_forced limit [] d e a some h forced went = absurd (omega (arith, some))
-going_forced limit (c ∷ cs) d e a some h forced went = forced_on limit c cs d e a h forced went
+pub going_forced : (sleeps : Bool) (s : Option (List Step)) (limit : ℕ) (left : List ℕ) (d e : Standing) (a : Step) → 0 < length left → Reaches (limit - d.trail.depth) left d.world → decision d.world ≡ Forced a → Went d a e → Going sleeps (limit - d.trail.depth) left s d left s e
+going_forced sleeps s limit [] d e a some h forced went = absurd (omega (arith, some))
+going_forced sleeps s limit (c ∷ cs) d e a some h forced went = forced_on sleeps s limit c cs d e a h forced went
 
 -- no fuel is left
 pub none_left : (n : ℕ) (left : List ℕ) (w : World) → n ≡ 0 → Reaches n left w → left ≡ []
 none_left n [] w e h = refl
 none_left n (c ∷ cs) w e h = absurd (omega (arith, e, reaches_fuel n c cs w h))
 
-pub going_ended : (fuel : ℕ) (choices left : List ℕ) (d e : Standing) → Going fuel choices d left e → left ≡ [] → Going fuel choices d [] e
-going_ended fuel choices left d e h is = rw is at h
+pub going_ended : (sleeps : Bool) (s t : Option (List Step)) (fuel : ℕ) (choices left : List ℕ) (d e : Standing) → Going sleeps fuel choices s d left t e → left ≡ [] → Going sleeps fuel choices s d [] t e
+going_ended sleeps s t fuel choices left d e h is = rw is at h
 
 -- ---- a loop along choices
 
 -- so much fuel is left
-pub rest_is : (limit : ℕ) (choices left : List ℕ) (d e : Standing) (h : Going (limit - d.trail.depth) choices d left e) → d.trail.depth ≤ limit → h.rest ≡ limit - e.trail.depth
-rest_is limit choices left d e h within = omega (arith, h.spent)
+pub rest_is : (sleeps : Bool) (s t : Option (List Step)) (limit : ℕ) (choices left : List ℕ) (d e : Standing) (h : Going sleeps (limit - d.trail.depth) choices s d left t e) → d.trail.depth ≤ limit → h.rest ≡ limit - e.trail.depth
+rest_is sleeps s t limit choices left d e h within = omega (arith, h.spent)

@@ -1,5 +1,5 @@
 -- What is behind some choices, told from where these begin.
-use Rattle.std.proofs.Common.{◌≡◌, ℕ, zero, suc, ◌<◌, ◌≤◌, ◌+◌, nat_lt, Bool, true, false, if◌then◌else◌, List, [], ◌∷◌, ◌++◌, length, take, drop, map, get_or, refl, sym, ap, subst, ◌∙◌, arith, append_assoc, append-nil}
+use Rattle.std.proofs.Common.{◌≡◌, ℕ, zero, suc, ◌<◌, ◌≤◌, ◌+◌, nat_lt, Bool, true, false, if◌then◌else◌, List, [], ◌∷◌, ◌++◌, length, take, drop, map, get_or, refl, sym, ap, subst, ◌∙◌, arith, append_assoc, append-nil, Option, Some, None, reverse}
 use Rattle.std.specs.Option.{option_map}
 use Rattle.std.specs.List.{AllByRecursion}
 use Rattle.std.proofs.lemmas.List.{length-map, take-map, take_all, drop_all}
@@ -7,16 +7,21 @@ use Rattle.std.proofs.Math.ListN.{set}
 use Rattle.mpd_model.specs.declared.call.Mode.{Mode}
 use Rattle.mpd_model.specs.declared.step.Step.{Step}
 use Rattle.mpd_model.specs.Program.{Program}
+use Rattle.mpd_model.specs.World.{World}
 use Rattle.mpd_model.specs.Trail.{Trail, Standing, IsReached, kept, gone_back, forgotten}
 use Rattle.mpd_explore.specs.declared.report.Leaf as leaf
 use Rattle.mpd_explore.specs.declared.report.Limits.{Limits}
-use Rattle.mpd_explore.specs.Walk.{Run, prefixed, walk, run_at, steps_by}
+use Rattle.mpd_explore.specs.Walk.{Run, prefixed, run_at, steps_by}
+use Rattle.mpd_explore.specs.Sleeping.{awake_walk}
 use Rattle.mpd_explore.specs.Report.{shown, is_bad, up_to_bad, ended_by, listed, left_out}
 use Rattle.mpd_explore.specs.Witness.{WitnessBy, HasWitness, witness_by}
 use Rattle.mpd_explore.specs.WitnessTexts.{behind_number, witness_text, witness_texts}
 use Rattle.mpd_explore.proofs.CollectLemmas.{as_found}
-use Rattle.mpd_pieces.specs.Pieces.{walk_at, part, part_left, behind}
-use Rattle.mpd_pieces.specs.Along.{Beyond, Going}
+use Rattle.mpd_explore.proofs.ListedLemmas.{none_out}
+use Rattle.mpd_pieces.specs.Pieces.{walk_from, walk_at, part, part_left, behind}
+use Rattle.mpd_pieces.specs.Along.{runs_on, Beyond, Going}
+use Rattle.mpd_pieces.specs.Slept.{asleep_there}
+use Rattle.mpd_pieces.specs.declared.sleep.Sleep.{Sleep}
 use Rattle.mpd_pieces.proofs.AlongLemmas.{walk_whole, beyond_below, beyond_depth}
 
 -- ---- choices in front of each of a list
@@ -41,18 +46,18 @@ shown_behind cs p [] = refl
 shown_behind cs p (r ∷ rs) = ap (λ ls. shown (prefixed cs p r) ∷ ls) (shown_behind cs p rs)
 
 -- all choices are made
-all_made : (fuel : ℕ) (choices : List ℕ) (d e : Standing) (h : Going fuel choices d [] e) → h.taken ≡ choices
-all_made fuel choices d e h = sym (append-nil h.taken) ∙ h.joined
+all_made : (sleeps : Bool) (near far : Option (List Step)) (fuel : ℕ) (choices : List ℕ) (d e : Standing) (h : Going sleeps fuel choices near d [] far e) → h.taken ≡ choices
+all_made sleeps near far fuel choices d e h = sym (append-nil h.taken) ∙ h.joined
 
-walk_behind : (fuel n : ℕ) (choices : List ℕ) (d e : Standing) (h : Going fuel choices d [] e) → h.rest ≡ n → walk_at fuel choices d.world ≡ map (prefixed choices h.beyond.path) (walk n e.world)
-walk_behind fuel n choices d e h left =
-    ap (λ cs. walk_at fuel cs d.world) (sym h.joined) ∙ h.along.walks []
-    ∙ ap (λ cs. map (prefixed cs h.beyond.path) (walk_at h.rest [] e.world)) (all_made fuel choices d e h)
-    ∙ ap (map (prefixed choices h.beyond.path)) (walk_whole h.rest e.world ∙ ap (λ m. walk m e.world) left)
+walk_behind : (sleeps : Bool) (far : Option (List Step)) (fuel n : ℕ) (choices : List ℕ) (d e : Standing) (h : Going sleeps fuel choices (Some []) d [] far e) → h.rest ≡ n → walk_from sleeps fuel choices [] d.world ≡ map (prefixed choices h.beyond.path) (runs_on sleeps n far [] e.world)
+walk_behind sleeps far fuel n choices d e h left =
+    ap (λ cs. walk_from sleeps fuel cs [] d.world) (sym h.joined) ∙ h.along.walks []
+    ∙ ap (λ cs. map (prefixed cs h.beyond.path) (runs_on sleeps h.rest far [] e.world)) (all_made sleeps (Some []) far fuel choices d e h)
+    ∙ ap (λ m. map (prefixed choices h.beyond.path) (runs_on sleeps m far [] e.world)) left
 
 -- so much fuel is left
 abbrev pub with_fuel : Limits → ℕ → Limits
-with_fuel l n = record { runs = l.runs; fuel = n; witnesses = l.witnesses; until_bad = l.until_bad }
+with_fuel l n = record { runs = l.runs; fuel = n; witnesses = l.witnesses; until_bad = l.until_bad; ends = l.ends }
 
 front_case : (cs : List ℕ) (b : Bool) (xs ys : List leaf.Leaf) → ys ≡ map (behind cs) xs → ◌≡◌ {A = List leaf.Leaf} (if b then [] else ys) (map (behind cs) (if b then [] else xs))
 front_case cs true xs ys h = refl
@@ -66,77 +71,112 @@ ended_behind : (cs : List ℕ) (b : Bool) (xs : List leaf.Leaf) → ended_by b (
 ended_behind cs false xs = refl
 ended_behind cs true xs = up_behind cs xs
 
-walk_shown : (n : ℕ) (l : Limits) (choices : List ℕ) (d e : Standing) (h : Going l.fuel choices d [] e) → h.rest ≡ n → map (behind choices) (map shown (walk n e.world)) ≡ map shown (walk_at l.fuel choices d.world)
-walk_shown n l choices d e h left = shown_behind choices h.beyond.path (walk n e.world) ∙ ap (map shown) (sym (walk_behind l.fuel n choices d e h left))
+walk_shown : (n : ℕ) (l : Limits) (choices : List ℕ) (asleep : List Step) (d e : Standing) (h : Going l.ends l.fuel choices (Some []) d [] (Some asleep) e) → h.rest ≡ n → map (behind choices) (map shown (awake_walk l.ends n asleep e.world)) ≡ map shown (walk_at l choices d.world)
+walk_shown n l choices asleep d e h left =
+    shown_behind choices h.beyond.path (awake_walk l.ends n asleep e.world)
+    ∙ ap (λ rs. map shown (map (prefixed choices h.beyond.path) rs)) (sym (walk_whole l.ends n asleep e.world))
+    ∙ ap (map shown) (sym (walk_behind l.ends (Some asleep) l.fuel n choices d e h left))
 
-pub part_is : (n : ℕ) (l : Limits) (choices : List ℕ) (d e : Standing) (h : Going l.fuel choices d [] e) → h.rest ≡ n → map (behind choices) (listed (with_fuel l n) (map shown (walk n e.world))) ≡ part l choices d.world
-part_is n l choices d e h left =
-    sym (ended_behind choices l.until_bad (take l.runs (map shown (walk n e.world))))
-    ∙ ap (ended_by l.until_bad) (sym (take-map (behind choices) l.runs (map shown (walk n e.world))) ∙ ap (take l.runs) (walk_shown n l choices d e h left))
+pub part_is : (n : ℕ) (l : Limits) (choices : List ℕ) (asleep : List Step) (d e : Standing) (h : Going l.ends l.fuel choices (Some []) d [] (Some asleep) e) → h.rest ≡ n → map (behind choices) (listed (with_fuel l n) (map shown (awake_walk l.ends n asleep e.world))) ≡ part l choices d.world
+part_is n l choices asleep d e h left =
+    sym (ended_behind choices l.until_bad (take l.runs (map shown (awake_walk l.ends n asleep e.world))))
+    ∙ ap (ended_by l.until_bad) (sym (take-map (behind choices) l.runs (map shown (awake_walk l.ends n asleep e.world))) ∙ ap (take l.runs) (walk_shown n l choices asleep d e h left))
 
 left_same : (b : Bool) (runs x y m n : ℕ) → x ≡ y → m ≡ n → (if b then nat_lt x m else nat_lt runs m) ≡ (if b then nat_lt y n else nat_lt runs n)
 left_same b runs x y m n e f = ap (λ z. if b then nat_lt z m else nat_lt runs m) e ∙ ap (λ z. if b then nat_lt y z else nat_lt runs z) f
 
-pub left_is : (n : ℕ) (l : Limits) (choices : List ℕ) (d e : Standing) (h : Going l.fuel choices d [] e) → h.rest ≡ n → left_out (with_fuel l n) (map shown (walk n e.world)) ≡ part_left l choices d.world
-left_is n l choices d e h left =
-    let here : List leaf.Leaf = listed (with_fuel l n) (map shown (walk n e.world)) in
-    left_same l.until_bad l.runs (length here) (length (part l choices d.world)) (length (map shown (walk n e.world))) (length (map shown (walk_at l.fuel choices d.world)))
-    (sym (length-map here (behind choices)) ∙ ap length (part_is n l choices d e h left))
-    (sym (length-map (map shown (walk n e.world)) (behind choices)) ∙ ap length (walk_shown n l choices d e h left))
+pub left_is : (n : ℕ) (l : Limits) (choices : List ℕ) (asleep : List Step) (d e : Standing) (h : Going l.ends l.fuel choices (Some []) d [] (Some asleep) e) → h.rest ≡ n → left_out (with_fuel l n) (map shown (awake_walk l.ends n asleep e.world)) ≡ part_left l choices d.world
+left_is n l choices asleep d e h left =
+    let here : List leaf.Leaf = listed (with_fuel l n) (map shown (awake_walk l.ends n asleep e.world)) in
+    left_same l.until_bad l.runs (length here) (length (part l choices d.world)) (length (map shown (awake_walk l.ends n asleep e.world))) (length (map shown (walk_at l choices d.world)))
+    (sym (length-map here (behind choices)) ∙ ap length (part_is n l choices asleep d e h left))
+    (sym (length-map (map shown (awake_walk l.ends n asleep e.world)) (behind choices)) ∙ ap length (walk_shown n l choices asleep d e h left))
+
+-- ---- where one of the choices is asleep, there is none
+
+no_walk : (l : Limits) (choices : List ℕ) (d e : Standing) → Going l.ends l.fuel choices (Some []) d [] None e → walk_at l choices d.world ≡ []
+no_walk l choices d e h = walk_behind l.ends None l.fuel h.rest choices d e h refl
+
+take_none : (n : ℕ) → ◌≡◌ {A = List leaf.Leaf} (take n []) []
+take_none zero = refl
+take_none (suc n) = refl
+
+ended_none : (b : Bool) → ended_by b [] ≡ []
+ended_none false = refl
+ended_none true = refl
+
+none_listed : (l : Limits) → listed l [] ≡ []
+none_listed l = ap (ended_by l.until_bad) (take_none l.runs) ∙ ended_none l.until_bad
+
+pub no_part : (l : Limits) (choices : List ℕ) (d e : Standing) → Going l.ends l.fuel choices (Some []) d [] None e → part l choices d.world ≡ []
+no_part l choices d e h = ap (λ (rs : List Run). listed l (map shown rs)) (no_walk l choices d e h) ∙ none_listed l
+
+pub none_left_out : (l : Limits) (choices : List ℕ) (d e : Standing) → Going l.ends l.fuel choices (Some []) d [] None e → part_left l choices d.world ≡ false
+none_left_out l choices d e h = ap (λ (rs : List Run). left_out l (map shown rs)) (no_walk l choices d e h) ∙ none_out l [] (omega arith) (omega arith)
+
+pub no_witnesses : (d : Standing) (fuel : ℕ) (ls : List leaf.Leaf) → ls ≡ [] → AllByRecursion (HasWitness d.trail.program d.trail.mode (kept d.trail) fuel d.world) ls
+no_witnesses d fuel ls none = rw none tt
+
+blank_texts : (asked : Bool) (path : List Step) (n : ℕ) (w : World) → [] ≡ witness_texts asked path n w []
+blank_texts false path n w = refl
+blank_texts true path n w = refl
+
+pub no_texts : (asked : Bool) (d : Standing) (fuel : ℕ) (ls : List leaf.Leaf) (texts : List (List ℕ)) → ls ≡ [] → texts ≡ [] → texts ≡ witness_texts asked (kept d.trail) fuel d.world ls
+no_texts asked d fuel ls texts none empty = empty ∙ blank_texts asked (kept d.trail) fuel d.world ∙ ap (witness_texts asked (kept d.trail) fuel d.world) (sym none)
 
 -- ---- and their witnesses
 
-run_behind : (fuel n : ℕ) (choices x : List ℕ) (d e : Standing) (h : Going fuel choices d [] e) → h.rest ≡ n → run_at fuel (choices ++ x) d.world ≡ option_map (prefixed choices h.beyond.path) (run_at n x e.world)
-run_behind fuel n choices x d e h left =
-    ap (λ cs. run_at fuel (cs ++ x) d.world) (sym (all_made fuel choices d e h)) ∙ h.along.runs x
-    ∙ ap (λ cs. option_map (prefixed cs h.beyond.path) (run_at h.rest x e.world)) (all_made fuel choices d e h)
+run_behind : (sleeps : Bool) (near far : Option (List Step)) (fuel n : ℕ) (choices x : List ℕ) (d e : Standing) (h : Going sleeps fuel choices near d [] far e) → h.rest ≡ n → run_at fuel (choices ++ x) d.world ≡ option_map (prefixed choices h.beyond.path) (run_at n x e.world)
+run_behind sleeps near far fuel n choices x d e h left =
+    ap (λ cs. run_at fuel (cs ++ x) d.world) (sym (all_made sleeps near far fuel choices d e h)) ∙ h.along.runs x
+    ∙ ap (λ cs. option_map (prefixed cs h.beyond.path) (run_at h.rest x e.world)) (all_made sleeps near far fuel choices d e h)
     ∙ ap (λ m. option_map (prefixed choices h.beyond.path) (run_at m x e.world)) left
 
-witness_behind : (fuel n : ℕ) (choices : List ℕ) (d e : Standing) (s : Program) (mode : Mode) (l : leaf.Leaf) (h : Going fuel choices d [] e) → h.rest ≡ n → HasWitness s mode (kept e.trail) n e.world l → HasWitness s mode (kept d.trail) fuel d.world (behind choices l)
-witness_behind fuel n choices d e s mode l h left x =
+witness_behind : (sleeps : Bool) (near far : Option (List Step)) (fuel n : ℕ) (choices : List ℕ) (d e : Standing) (s : Program) (mode : Mode) (l : leaf.Leaf) (h : Going sleeps fuel choices near d [] far e) → h.rest ≡ n → HasWitness s mode (kept e.trail) n e.world l → HasWitness s mode (kept d.trail) fuel d.world (behind choices l)
+witness_behind sleeps near far fuel n choices d e s mode l h left x =
     record {
       run = prefixed choices h.beyond.path x.run;
-      by = run_behind fuel n choices l.choices d e h left ∙ ap (option_map (prefixed choices h.beyond.path)) x.by;
+      by = run_behind sleeps near far fuel n choices l.choices d e h left ∙ ap (option_map (prefixed choices h.beyond.path)) x.by;
       ending = x.ending;
       witness = subst (λ (p : List Step). WitnessBy s mode p l.ending) (ap (λ p. p ++ x.run.steps) h.beyond.kept_is ∙ append_assoc (kept d.trail) h.beyond.path x.run.steps) x.witness;
     }
 
-all_behind : (fuel n : ℕ) (choices : List ℕ) (d e : Standing) (s : Program) (mode : Mode) (ls : List leaf.Leaf) (h : Going fuel choices d [] e) → h.rest ≡ n → AllByRecursion (HasWitness s mode (kept e.trail) n e.world) ls → AllByRecursion (HasWitness s mode (kept d.trail) fuel d.world) (map (behind choices) ls)
-all_behind fuel n choices d e s mode [] h left x = tt
-all_behind fuel n choices d e s mode (l ∷ ls) h left x = (witness_behind fuel n choices d e s mode l h left x.0, all_behind fuel n choices d e s mode ls h left x.1)
+all_behind : (sleeps : Bool) (near far : Option (List Step)) (fuel n : ℕ) (choices : List ℕ) (d e : Standing) (s : Program) (mode : Mode) (ls : List leaf.Leaf) (h : Going sleeps fuel choices near d [] far e) → h.rest ≡ n → AllByRecursion (HasWitness s mode (kept e.trail) n e.world) ls → AllByRecursion (HasWitness s mode (kept d.trail) fuel d.world) (map (behind choices) ls)
+all_behind sleeps near far fuel n choices d e s mode [] h left x = tt
+all_behind sleeps near far fuel n choices d e s mode (l ∷ ls) h left x = (witness_behind sleeps near far fuel n choices d e s mode l h left x.0, all_behind sleeps near far fuel n choices d e s mode ls h left x.1)
 
-pub witnesses_behind : (fuel n : ℕ) (choices : List ℕ) (d e : Standing) (ls now : List leaf.Leaf) (h : Going fuel choices d [] e) → h.rest ≡ n → now ≡ map (behind choices) ls → AllByRecursion (HasWitness e.trail.program e.trail.mode (kept e.trail) n e.world) ls
+pub witnesses_behind : (sleeps : Bool) (near far : Option (List Step)) (fuel n : ℕ) (choices : List ℕ) (d e : Standing) (ls now : List leaf.Leaf) (h : Going sleeps fuel choices near d [] far e) → h.rest ≡ n → now ≡ map (behind choices) ls → AllByRecursion (HasWitness e.trail.program e.trail.mode (kept e.trail) n e.world) ls
     → AllByRecursion (HasWitness d.trail.program d.trail.mode (kept d.trail) fuel d.world) now
-witnesses_behind fuel n choices d e ls now h left is x =
+witnesses_behind sleeps near far fuel n choices d e ls now h left is x =
     let own : AllByRecursion (HasWitness d.trail.program d.trail.mode (kept e.trail) n e.world) ls = rw (h.beyond.program, h.beyond.mode) at x in
-    rw is (all_behind fuel n choices d e d.trail.program d.trail.mode ls h left own)
+    rw is (all_behind sleeps near far fuel n choices d e d.trail.program d.trail.mode ls h left own)
 
 -- ---- and the texts of these
 
-text_behind : (fuel n : ℕ) (choices : List ℕ) (d e : Standing) (s : Program) (mode : Mode) (l : leaf.Leaf) (h : Going fuel choices d [] e) → h.rest ≡ n → HasWitness s mode (kept e.trail) n e.world l → witness_text (kept e.trail) n e.world l ≡ witness_text (kept d.trail) fuel d.world (behind choices l)
-text_behind fuel n choices d e s mode l h left x =
+text_behind : (sleeps : Bool) (near far : Option (List Step)) (fuel n : ℕ) (choices : List ℕ) (d e : Standing) (s : Program) (mode : Mode) (l : leaf.Leaf) (h : Going sleeps fuel choices near d [] far e) → h.rest ≡ n → HasWitness s mode (kept e.trail) n e.world l → witness_text (kept e.trail) n e.world l ≡ witness_text (kept d.trail) fuel d.world (behind choices l)
+text_behind sleeps near far fuel n choices d e s mode l h left x =
     let here : kept e.trail ++ steps_by (run_at n l.choices e.world) ≡ kept d.trail ++ (h.beyond.path ++ x.run.steps) =
     ap (λ o. kept e.trail ++ steps_by o) x.by ∙ ap (λ p. p ++ x.run.steps) h.beyond.kept_is ∙ append_assoc (kept d.trail) h.beyond.path x.run.steps in
-    let there : steps_by (run_at fuel (choices ++ l.choices) d.world) ≡ h.beyond.path ++ x.run.steps = ap steps_by (run_behind fuel n choices l.choices d e h left ∙ ap (option_map (prefixed choices h.beyond.path)) x.by) in
+    let there : steps_by (run_at fuel (choices ++ l.choices) d.world) ≡ h.beyond.path ++ x.run.steps = ap steps_by (run_behind sleeps near far fuel n choices l.choices d e h left ∙ ap (option_map (prefixed choices h.beyond.path)) x.by) in
     ap (λ p. behind_number (witness_by p l.ending)) (here ∙ ap (λ p. kept d.trail ++ p) (sym there))
 
-each_behind : (fuel n : ℕ) (choices : List ℕ) (d e : Standing) (s : Program) (mode : Mode) (ls : List leaf.Leaf) (h : Going fuel choices d [] e) → h.rest ≡ n → AllByRecursion (HasWitness s mode (kept e.trail) n e.world) ls
+each_behind : (sleeps : Bool) (near far : Option (List Step)) (fuel n : ℕ) (choices : List ℕ) (d e : Standing) (s : Program) (mode : Mode) (ls : List leaf.Leaf) (h : Going sleeps fuel choices near d [] far e) → h.rest ≡ n → AllByRecursion (HasWitness s mode (kept e.trail) n e.world) ls
     → map (witness_text (kept e.trail) n e.world) ls ≡ map (witness_text (kept d.trail) fuel d.world) (map (behind choices) ls)
-each_behind fuel n choices d e s mode [] h left x = refl
-each_behind fuel n choices d e s mode (l ∷ ls) h left x = λ i. text_behind fuel n choices d e s mode l h left x.0 i ∷ each_behind fuel n choices d e s mode ls h left x.1 i
+each_behind sleeps near far fuel n choices d e s mode [] h left x = refl
+each_behind sleeps near far fuel n choices d e s mode (l ∷ ls) h left x = λ i. text_behind sleeps near far fuel n choices d e s mode l h left x.0 i ∷ each_behind sleeps near far fuel n choices d e s mode ls h left x.1 i
 
-texts_by : (asked : Bool) (fuel n : ℕ) (choices : List ℕ) (d e : Standing) (s : Program) (mode : Mode) (ls : List leaf.Leaf) (h : Going fuel choices d [] e) → h.rest ≡ n → AllByRecursion (HasWitness s mode (kept e.trail) n e.world) ls
+texts_by : (sleeps : Bool) (near far : Option (List Step)) (asked : Bool) (fuel n : ℕ) (choices : List ℕ) (d e : Standing) (s : Program) (mode : Mode) (ls : List leaf.Leaf) (h : Going sleeps fuel choices near d [] far e) → h.rest ≡ n → AllByRecursion (HasWitness s mode (kept e.trail) n e.world) ls
     → witness_texts asked (kept e.trail) n e.world ls ≡ witness_texts asked (kept d.trail) fuel d.world (map (behind choices) ls)
-texts_by false fuel n choices d e s mode ls h left x = refl
-texts_by true fuel n choices d e s mode ls h left x = each_behind fuel n choices d e s mode ls h left x
+texts_by sleeps near far false fuel n choices d e s mode ls h left x = refl
+texts_by sleeps near far true fuel n choices d e s mode ls h left x = each_behind sleeps near far fuel n choices d e s mode ls h left x
 
-pub texts_behind : (asked : Bool) (fuel n : ℕ) (choices : List ℕ) (d e : Standing) (s : Program) (mode : Mode) (ls now : List leaf.Leaf) (texts : List (List ℕ)) (h : Going fuel choices d [] e) → h.rest ≡ n → now ≡ map (behind choices) ls
+pub texts_behind : (sleeps : Bool) (near far : Option (List Step)) (asked : Bool) (fuel n : ℕ) (choices : List ℕ) (d e : Standing) (s : Program) (mode : Mode) (ls now : List leaf.Leaf) (texts : List (List ℕ)) (h : Going sleeps fuel choices near d [] far e) → h.rest ≡ n → now ≡ map (behind choices) ls
     → AllByRecursion (HasWitness s mode (kept e.trail) n e.world) ls → texts ≡ witness_texts asked (kept e.trail) n e.world ls → texts ≡ witness_texts asked (kept d.trail) fuel d.world now
-texts_behind asked fuel n choices d e s mode ls now texts h left is x told =
-    told ∙ texts_by asked fuel n choices d e s mode ls h left x ∙ ap (witness_texts asked (kept d.trail) fuel d.world) (sym is)
+texts_behind sleeps near far asked fuel n choices d e s mode ls now texts h left is x told =
+    told ∙ texts_by sleeps near far asked fuel n choices d e s mode ls h left x ∙ ap (witness_texts asked (kept d.trail) fuel d.world) (sym is)
 
-forgotten_on : (fuel : ℕ) (choices : List ℕ) (d e f : Standing) → Going fuel choices d [] e → f.trail ≡ forgotten e.trail → f.world ≡ e.world → kept f.trail ≡ kept e.trail → IsReached f → Going fuel choices d [] f
-forgotten_on fuel choices d e f h trail world same reached =
+forgotten_on : (sleeps : Bool) (near far : Option (List Step)) (fuel : ℕ) (choices : List ℕ) (d e f : Standing) → Going sleeps fuel choices near d [] far e → f.trail ≡ forgotten e.trail → f.world ≡ e.world → kept f.trail ≡ kept e.trail → IsReached f → Going sleeps fuel choices near d [] far f
+forgotten_on sleeps near far fuel choices d e f h trail world same reached =
     record {
       beyond = record { program = ap (λ (t : Trail). t.program) trail ∙ h.beyond.program; mode = ap (λ (t : Trail). t.mode) trail ∙ h.beyond.mode; reached = reached; path = h.beyond.path; kept_is = same ∙ h.beyond.kept_is };
       taken = h.taken;
@@ -148,10 +188,24 @@ forgotten_on fuel choices d e f h trail world same reached =
     }
 
 -- the same where undone steps are forgotten
-pub going_forgotten : (fuel m : ℕ) (choices : List ℕ) (d e f : Standing) → m ≡ fuel → Going m choices d [] e → f.trail ≡ forgotten e.trail → f.world ≡ e.world → kept f.trail ≡ kept e.trail → IsReached f → Going fuel choices d [] f
-going_forgotten fuel m choices d e f is h trail world same reached = forgotten_on fuel choices d e f (rw is at h) trail world same reached
+pub going_forgotten : (sleeps : Bool) (near far : Option (List Step)) (fuel m : ℕ) (choices : List ℕ) (d e f : Standing) → m ≡ fuel → Going sleeps m choices near d [] far e → f.trail ≡ forgotten e.trail → f.world ≡ e.world → kept f.trail ≡ kept e.trail → IsReached f → Going sleeps fuel choices near d [] far f
+going_forgotten sleeps near far fuel m choices d e f is h trail world same reached = forgotten_on sleeps near far fuel choices d e f (rw is at h) trail world same reached
 
 -- ---- as found
 
 pub trail_found : (d m e : Standing) → IsReached d → length d.trail.steps ≡ d.trail.depth → Beyond d m → e.trail ≡ forgotten (gone_back m.trail d.trail.depth) → e.trail ≡ d.trail
 trail_found d m e reached clean h is = as_found d.trail m.trail e.trail clean (beyond_depth d m reached h) h.program h.mode (beyond_below d m reached h) is
+
+-- ---- what is asleep, as the code notes it
+
+pub going_there : (sleeps : Bool) (s near t far : Option (List Step)) (fuel : ℕ) (choices left : List ℕ) (d e : Standing) → s ≡ near → t ≡ far → Going sleeps fuel choices s d left t e → Going sleeps fuel choices near d left far e
+going_there sleeps s near t far fuel choices left d e is there h = rw (is, there) at h
+
+pub none_there : (s : Sleep) → s.steps.items ≡ [] → s.is_passed ≡ false → asleep_there s ≡ Some []
+none_there s none awake = ap (λ (b : Bool). if b then None else Some (reverse s.steps.items)) awake ∙ ap (λ (xs : List Step). Some (reverse xs)) none
+
+pub passed_there : (s : Sleep) → s.is_passed ≡ true → asleep_there s ≡ None
+passed_there s passed = ap (λ (b : Bool). if b then None else Some (reverse s.steps.items)) passed
+
+pub awake_there : (s : Sleep) (now : List Step) → s.is_passed ≡ false → now ≡ reverse s.steps.items → asleep_there s ≡ Some now
+awake_there s now awake turned = ap (λ (b : Bool). if b then None else Some (reverse s.steps.items)) awake ∙ ap Some (sym turned)

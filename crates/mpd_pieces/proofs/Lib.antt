@@ -1,4 +1,5 @@
 pub mod AlongLemmas
+pub mod SleepLemmas
 pub mod BehindLemmas
 pub mod PieceLemmas
 pub mod SplitLemmas

@@ -13,14 +13,17 @@ use Rattle.mpd_model.specs.Next.{next}
 use Rattle.mpd_model.specs.Decisions.{decision, CanFollow}
 use Rattle.mpd_explore.specs.declared.report.Leaf as leaf
 use Rattle.mpd_explore.specs.declared.report.Limits.{Limits}
-use Rattle.mpd_explore.specs.Walk.{Run, stepped, chosen, runs_of, branches, followed, walk}
+use Rattle.mpd_explore.specs.Walk.{Run, stepped, chosen, runs_of}
+use Rattle.mpd_explore.specs.Sleeping.{is_asleep, put_off, put_to_sleep, awake_runs, awake_branches, followed_awake, awake_walk, walk_of}
 use Rattle.mpd_explore.specs.Search.{AllEnabled}
 use Rattle.mpd_explore.specs.Report.{shown, up_to_bad, ended_by, listed, left_out}
-use Rattle.mpd_explore.proofs.RunLemmas.{walk_is}
+use Rattle.mpd_explore.proofs.AsleepLemmas.{put_off_more}
+use Rattle.mpd_explore.proofs.AwakeLemmas.{walk_by_is}
+use Rattle.mpd_explore.proofs.SearchLemmas.{awake_is}
 use Rattle.mpd_explore.proofs.WitnessLemmas.{AllFollow}
 use Rattle.mpd_explore.proofs.ListedLemmas.{neither, not_less, up_few, up_whole, listed_few, listed_whole, ended_twice}
-use Rattle.mpd_pieces.specs.Pieces.{led_by, branched, cut_by, pieces, numbered, walk_at, InState, ByCandidate, BeginsSo, Reaches, part, split_report, split_more}
-use Rattle.mpd_pieces.specs.Along.{counted, longer, Adds, choices_of}
+use Rattle.mpd_pieces.specs.Pieces.{led_by, branched, cut_by, pieces, numbered, walk_from, walk_at, InState, ByCandidate, BeginsSo, Reaches, part, split_report, split_more}
+use Rattle.mpd_pieces.specs.Along.{counted, longer, runs_on, sleeping_behind, Adds, choices_of}
 use Rattle.mpd_pieces.specs.declared.split.Piece.{Piece}
 use Rattle.mpd_pieces.proofs.AlongLemmas.{walk_whole, walk_forced, walk_chosen, longer_none, longer_forced, longer_chosen, pieces_is, reaches_none}
 
@@ -101,44 +104,67 @@ never_longer fuel k (suc j) w e =
 
 -- ---- all pieces joined
 
-walk_state : (k n : ℕ) (w : World) (a : Step) (o : Option World) → decision w ≡ Forced a → next w a ≡ o → ((v : World) → flat_map (λ cs. walk_at n cs v) (pieces (suc k) n v) ≡ walk n v)
-    → flat_map (λ cs. walk_at (suc n) cs w) (runs_of (pieces (suc k) n) o) ≡ map (stepped a) (runs_of (walk n) o)
-walk_state k n w a None forced e all = refl
-walk_state k n w a (Some v) forced e all =
-    (λ i. flat_map (λ cs. walk_forced n cs w v a forced e i) (pieces (suc k) n v)) ∙ map_all (stepped a) (λ cs. walk_at n cs v) (pieces (suc k) n v) ∙ ap (map (stepped a)) (all v)
+abbrev AllJoin : Bool → ℕ → ℕ → Type 0
+AllJoin sleeps k n = (asleep : List Step) (v : World) → flat_map (λ cs. walk_from sleeps n cs asleep v) (pieces k n v) ≡ awake_walk sleeps n asleep v
 
-walk_candidate : (k n c : ℕ) (w : World) (candidates : List Step) (a : Step) (o : Option World) → decision w ≡ Choice candidates → slice_get candidates c ≡ Some a → next w a ≡ o → ((v : World) → flat_map (λ cs. walk_at n cs v) (pieces k n v) ≡ walk n v)
-    → flat_map (λ cs. walk_at (suc n) cs w) (led_by c (runs_of (pieces k n) o)) ≡ map (chosen c a) (runs_of (walk n) o)
-walk_candidate k n c w candidates a None choice read e all = refl
-walk_candidate k n c w candidates a (Some v) choice read e all =
-    flat_map-map (λ cs. walk_at (suc n) cs w) (λ cs. c ∷ cs) (pieces k n v)
-    ∙ (λ i. flat_map (λ cs. walk_chosen n c cs w v candidates a choice read e i) (pieces k n v))
-    ∙ map_all (chosen c a) (λ cs. walk_at n cs v) (pieces k n v)
-    ∙ ap (map (chosen c a)) (all v)
+walk_state : (sleeps : Bool) (k n : ℕ) (asleep : List Step) (w : World) (a : Step) (o : Option World) → decision w ≡ Forced a → next w a ≡ o → AllJoin sleeps (suc k) n
+    → flat_map (λ cs. walk_from sleeps (suc n) cs asleep w) (runs_of (pieces (suc k) n) o) ≡ map (stepped a) (runs_of (awake_walk sleeps n asleep) o)
+walk_state sleeps k n asleep w a None forced e all = refl
+walk_state sleeps k n asleep w a (Some v) forced e all =
+    (λ i. flat_map (λ cs. walk_forced sleeps n cs asleep w v a forced e i) (pieces (suc k) n v)) ∙ map_all (stepped a) (λ cs. walk_from sleeps n cs asleep v) (pieces (suc k) n v) ∙ ap (map (stepped a)) (all asleep v)
 
-walk_branched : (k n i : ℕ) (w : World) (candidates more : List Step) → decision w ≡ Choice candidates → drop i candidates ≡ more → ((v : World) → flat_map (λ cs. walk_at n cs v) (pieces k n v) ≡ walk n v)
-    → flat_map (λ cs. walk_at (suc n) cs w) (branched (pieces k n) w i more) ≡ branches (walk n) w i more
-walk_branched k n i w candidates [] choice e all = refl
-walk_branched k n i w candidates (a ∷ more) choice e all =
-    flat_map-append (λ cs. walk_at (suc n) cs w) (led_by i (runs_of (pieces k n) (next w a))) (branched (pieces k n) w (suc i) more)
-    ∙ ap (λ xs. xs ++ flat_map (λ cs. walk_at (suc n) cs w) (branched (pieces k n) w (suc i) more)) (walk_candidate k n i w candidates a (next w a) choice (drop_read candidates more i a e) refl all)
-    ∙ ap (λ xs. map (chosen i a) (runs_of (walk n) (next w a)) ++ xs) (walk_branched k n (suc i) w candidates more choice (drop_next candidates more i a e) all)
+none_all : {A : Type 0} (xs : List A) → ◌≡◌ {A = List Run} (flat_map (λ (x : A). []) xs) []
+none_all [] = refl
+none_all (x ∷ xs) = none_all xs
 
-walk_cut : (k n : ℕ) (w : World) (d : Decision) → decision w ≡ d → ((v : World) → flat_map (λ cs. walk_at n cs v) (pieces (suc k) n v) ≡ walk n v) → ((v : World) → flat_map (λ cs. walk_at n cs v) (pieces k n v) ≡ walk n v)
-    → flat_map (λ cs. walk_at (suc n) cs w) (cut_by (pieces (suc k) n) (pieces k n) w d) ≡ followed (walk n) (walk n) w d
-walk_cut k n w (Forced a) e same less = walk_state k n w a (next w a) e refl same
-walk_cut k n w (Choice candidates) e same less = walk_branched k n 0 w candidates candidates e refl less
-walk_cut k n w (Leaf o) e same less = one_list (λ cs. walk_at (suc n) cs w) ∙ walk_whole (suc n) w ∙ walk_is n w (Leaf o) e
+none_by : (c : ℕ) (a : Step) (b : Bool) (runs : World → List Run) → [] ≡ map (chosen c a) (awake_runs b runs None)
+none_by c a true runs = refl
+none_by c a false runs = refl
 
-walks_joined : (n k : ℕ) (w : World) → flat_map (λ cs. walk_at n cs w) (pieces k n w) ≡ walk n w
+walks_behind : (sleeps : Bool) (k n : ℕ) (b : Bool) (s : List Step) (v : World) → AllJoin sleeps k n → flat_map (λ cs. runs_on sleeps n (if b then None else Some s) cs v) (pieces k n v) ≡ awake_runs b (awake_walk sleeps n s) (Some v)
+walks_behind sleeps k n true s v all = none_all (pieces k n v)
+walks_behind sleeps k n false s v all = all s v
+
+walk_candidate : (sleeps : Bool) (k n c : ℕ) (asleep : List Step) (w : World) (candidates : List Step) (a : Step) (o : Option World) → decision w ≡ Choice candidates → slice_get candidates c ≡ Some a → next w a ≡ o → AllJoin sleeps k n
+    → flat_map (λ cs. walk_from sleeps (suc n) cs asleep w) (led_by c (runs_of (pieces k n) o)) ≡ map (chosen c a) (awake_runs (is_asleep (put_off sleeps c candidates asleep) a) (awake_walk sleeps n (put_off sleeps c candidates asleep)) o)
+walk_candidate sleeps k n c asleep w candidates a None choice read e all = none_by c a (is_asleep (put_off sleeps c candidates asleep) a) (awake_walk sleeps n (put_off sleeps c candidates asleep))
+walk_candidate sleeps k n c asleep w candidates a (Some v) choice read e all =
+    let s : List Step = put_off sleeps c candidates asleep in
+    flat_map-map (λ cs. walk_from sleeps (suc n) cs asleep w) (λ cs. c ∷ cs) (pieces k n v)
+    ∙ (λ i. flat_map (λ cs. walk_chosen sleeps n c cs asleep w v candidates a choice read e i) (pieces k n v))
+    ∙ map_all (chosen c a) (λ cs. runs_on sleeps n (sleeping_behind sleeps candidates c a (Some asleep)) cs v) (pieces k n v)
+    ∙ ap (map (chosen c a)) (walks_behind sleeps k n (is_asleep s a) s v all)
+
+walk_branched : (sleeps : Bool) (k n i : ℕ) (asleep : List Step) (w : World) (candidates more : List Step) → decision w ≡ Choice candidates → drop i candidates ≡ more → AllJoin sleeps k n
+    → flat_map (λ cs. walk_from sleeps (suc n) cs asleep w) (branched (pieces k n) w i more) ≡ awake_branches sleeps (awake_walk sleeps n) w (put_off sleeps i candidates asleep) i more
+walk_branched sleeps k n i asleep w candidates [] choice e all = refl
+walk_branched sleeps k n i asleep w candidates (a ∷ more) choice e all =
+    let s : List Step = put_off sleeps i candidates asleep in
+    let rest : drop (suc i) candidates ≡ more = drop_next candidates more i a e in
+    let fallen : put_off sleeps (suc i) candidates asleep ≡ put_to_sleep sleeps a s = put_off_more sleeps i candidates asleep a (e ∙ ap (λ xs. a ∷ xs) (sym rest)) in
+    flat_map-append (λ cs. walk_from sleeps (suc n) cs asleep w) (led_by i (runs_of (pieces k n) (next w a))) (branched (pieces k n) w (suc i) more)
+    ∙ ap (λ xs. xs ++ flat_map (λ cs. walk_from sleeps (suc n) cs asleep w) (branched (pieces k n) w (suc i) more)) (walk_candidate sleeps k n i asleep w candidates a (next w a) choice (drop_read candidates more i a e) refl all)
+    ∙ ap (λ xs. map (chosen i a) (awake_runs (is_asleep s a) (awake_walk sleeps n s) (next w a)) ++ xs) (walk_branched sleeps k n (suc i) asleep w candidates more choice rest all ∙ ap (λ z. awake_branches sleeps (awake_walk sleeps n) w z (suc i) more) fallen)
+
+walk_cut : (sleeps : Bool) (k n : ℕ) (asleep : List Step) (w : World) (d : Decision) → decision w ≡ d → AllJoin sleeps (suc k) n → AllJoin sleeps k n
+    → flat_map (λ cs. walk_from sleeps (suc n) cs asleep w) (cut_by (pieces (suc k) n) (pieces k n) w d) ≡ followed_awake sleeps (awake_walk sleeps n) asleep w d
+walk_cut sleeps k n asleep w (Forced a) e same less = walk_state sleeps k n asleep w a (next w a) e refl same
+walk_cut sleeps k n asleep w (Choice candidates) e same less = walk_branched sleeps k n 0 asleep w candidates candidates e refl less
+walk_cut sleeps k n asleep w (Leaf o) e same less = one_list (λ cs. walk_from sleeps (suc n) cs asleep w) ∙ walk_whole sleeps (suc n) asleep w ∙ awake_is sleeps n asleep w (Leaf o) e
+
+walks_joined : (sleeps : Bool) (n k : ℕ) → AllJoin sleeps k n
 unfolding pieces
-walks_joined zero zero w = one_list (λ cs. walk_at 0 cs w) ∙ walk_whole 0 w
-walks_joined zero (suc k) w = one_list (λ cs. walk_at 0 cs w) ∙ walk_whole 0 w
-walks_joined (suc n) zero w = one_list (λ cs. walk_at (suc n) cs w) ∙ walk_whole (suc n) w
-walks_joined (suc n) (suc k) w = walk_cut k n w (decision w) refl (λ v. walks_joined n (suc k) v) (λ v. walks_joined n k v) ∙ sym (walk_is n w (decision w) refl)
+walks_joined sleeps zero zero = λ asleep w. one_list (λ cs. walk_from sleeps 0 cs asleep w) ∙ walk_whole sleeps 0 asleep w
+walks_joined sleeps zero (suc k) = λ asleep w. one_list (λ cs. walk_from sleeps 0 cs asleep w) ∙ walk_whole sleeps 0 asleep w
+walks_joined sleeps (suc n) zero = λ asleep w. one_list (λ cs. walk_from sleeps (suc n) cs asleep w) ∙ walk_whole sleeps (suc n) asleep w
+walks_joined sleeps (suc n) (suc k) = λ asleep w. walk_cut sleeps k n asleep w (decision w) refl (walks_joined sleeps n (suc k)) (walks_joined sleeps n k) ∙ sym (awake_is sleeps n asleep w (decision w) refl)
 
-pub pieces_join : (k fuel : ℕ) (w : World) → flat_map (λ cs. walk_at fuel cs w) (pieces k fuel w) ≡ walk fuel w
-pieces_join k fuel w = walks_joined fuel k w
+-- of the walk that is asked for
+pub whole_at : (l : Limits) (w : World) → walk_at l [] w ≡ walk_of l w
+whole_at l w = walk_whole l.ends l.fuel [] w ∙ walk_by_is l.ends l.fuel w
+
+pub pieces_join : (k : ℕ) (l : Limits) (w : World) → flat_map (λ cs. walk_at l cs w) (pieces k l.fuel w) ≡ walk_of l w
+pieces_join k l w = walks_joined l.ends l.fuel k [] w ∙ walk_by_is l.ends l.fuel w
 
 -- ---- some run begins with the choices of each
 
@@ -307,21 +333,21 @@ pub if_same : (b x y u v : Bool) → x ≡ u → (b ≡ false → y ≡ v) → (
 if_same true x y u v e f = e
 if_same false x y u v e f = f refl
 
-whole_report : (l : Limits) (w : World) → split_report 0 l w ≡ listed l (map shown (walk l.fuel w))
+whole_report : (l : Limits) (w : World) → split_report 0 l w ≡ listed l (map shown (walk_of l w))
 whole_report l w =
     ap (λ cs. ended_by l.until_bad (flat_map (λ x. part l x w) cs)) (pieces_none l.fuel w)
     ∙ ap (ended_by l.until_bad) (one_list (λ x. part l x w))
-    ∙ ended_twice l.until_bad (take l.runs (map shown (walk_at l.fuel [] w)))
-    ∙ ap (λ rs. listed l (map shown rs)) (walk_whole l.fuel w)
+    ∙ ended_twice l.until_bad (take l.runs (map shown (walk_at l [] w)))
+    ∙ ap (λ rs. listed l (map shown rs)) (whole_at l w)
 
-whole_more : (l : Limits) (w : World) → split_more 0 l w ≡ left_out l (map shown (walk l.fuel w))
+whole_more : (l : Limits) (w : World) → split_more 0 l w ≡ left_out l (map shown (walk_of l w))
 whole_more l w =
-    let long : length (walk l.fuel w) ≡ length (map shown (walk l.fuel w)) = sym (length-map (walk l.fuel w) shown) in
-    let any : list_any (λ cs. nat_lt l.runs (length (walk_at l.fuel cs w))) (pieces 0 l.fuel w) ≡ nat_lt l.runs (length (map shown (walk l.fuel w))) =
-    ap (list_any (λ cs. nat_lt l.runs (length (walk_at l.fuel cs w)))) (pieces_none l.fuel w) ∙ or_nothing (nat_lt l.runs (length (walk_at l.fuel [] w))) ∙ ap (λ rs. nat_lt l.runs (length rs)) (walk_whole l.fuel w) ∙ ap (nat_lt l.runs) long in
-    if_same l.until_bad _ _ _ _ (ap (λ ls. nat_lt (length ls) (length (walk l.fuel w))) (whole_report l w) ∙ ap (nat_lt (length (listed l (map shown (walk l.fuel w))))) long) (λ h. any)
+    let long : length (walk_of l w) ≡ length (map shown (walk_of l w)) = sym (length-map (walk_of l w) shown) in
+    let any : list_any (λ cs. nat_lt l.runs (length (walk_at l cs w))) (pieces 0 l.fuel w) ≡ nat_lt l.runs (length (map shown (walk_of l w))) =
+    ap (list_any (λ cs. nat_lt l.runs (length (walk_at l cs w)))) (pieces_none l.fuel w) ∙ or_nothing (nat_lt l.runs (length (walk_at l [] w))) ∙ ap (λ rs. nat_lt l.runs (length rs)) (whole_at l w) ∙ ap (nat_lt l.runs) long in
+    if_same l.until_bad _ _ _ _ (ap (λ ls. nat_lt (length ls) (length (walk_of l w))) (whole_report l w) ∙ ap (nat_lt (length (listed l (map shown (walk_of l w))))) long) (λ h. any)
 
-pub no_choice : (l : Limits) (w : World) → (split_report 0 l w ≡ listed l (map shown (walk l.fuel w))) × (split_more 0 l w ≡ left_out l (map shown (walk l.fuel w)))
+pub no_choice : (l : Limits) (w : World) → (split_report 0 l w ≡ listed l (map shown (walk_of l w))) × (split_more 0 l w ≡ left_out l (map shown (walk_of l w)))
 no_choice l w = (whole_report l w, whole_more l w)
 
 -- ---- no piece has more
@@ -374,15 +400,15 @@ up_joined l of xs h =
 no_more_by : (b : Bool) (runs fuel : ℕ) (witnesses : Bool) (of : List ℕ → List Run) (xs : List (List ℕ))
     → (if b then nat_lt (length (ended_by b (flat_map (λ cs. ended_by b (take runs (map shown (of cs)))) xs))) (length (flat_map of xs)) else list_any (λ cs. nat_lt runs (length (of cs))) xs) ≡ false
     → ended_by b (flat_map (λ cs. ended_by b (take runs (map shown (of cs)))) xs) ≡ map shown (flat_map of xs)
-no_more_by true runs fuel witnesses of xs h = up_joined (record { runs = runs; fuel = fuel; witnesses = witnesses; until_bad = true }) of xs h
+no_more_by true runs fuel witnesses of xs h = up_joined (record { runs = runs; fuel = fuel; witnesses = witnesses; until_bad = true; ends = false }) of xs h
 no_more_by false runs fuel witnesses of xs h = each_taken runs of xs h
 
-pub no_more : (k : ℕ) (l : Limits) (w : World) → split_more k l w ≡ false → split_report k l w ≡ map shown (walk l.fuel w)
+pub no_more : (k : ℕ) (l : Limits) (w : World) → split_more k l w ≡ false → split_report k l w ≡ map shown (walk_of l w)
 no_more k l w h =
-    let joined : length (walk l.fuel w) ≡ length (flat_map (λ cs. walk_at l.fuel cs w) (pieces k l.fuel w)) = sym (ap length (pieces_join k l.fuel w)) in
-    let more : (if l.until_bad then nat_lt (length (split_report k l w)) (length (flat_map (λ cs. walk_at l.fuel cs w) (pieces k l.fuel w))) else list_any (λ cs. nat_lt l.runs (length (walk_at l.fuel cs w))) (pieces k l.fuel w)) ≡ false =
-    sym (ap (λ n. if l.until_bad then nat_lt (length (split_report k l w)) n else list_any (λ cs. nat_lt l.runs (length (walk_at l.fuel cs w))) (pieces k l.fuel w)) joined) ∙ h in
-    no_more_by l.until_bad l.runs l.fuel l.witnesses (λ cs. walk_at l.fuel cs w) (pieces k l.fuel w) more ∙ ap (map shown) (pieces_join k l.fuel w)
+    let joined : length (walk_of l w) ≡ length (flat_map (λ cs. walk_at l cs w) (pieces k l.fuel w)) = sym (ap length (pieces_join k l w)) in
+    let more : (if l.until_bad then nat_lt (length (split_report k l w)) (length (flat_map (λ cs. walk_at l cs w) (pieces k l.fuel w))) else list_any (λ cs. nat_lt l.runs (length (walk_at l cs w))) (pieces k l.fuel w)) ≡ false =
+    sym (ap (λ n. if l.until_bad then nat_lt (length (split_report k l w)) n else list_any (λ cs. nat_lt l.runs (length (walk_at l cs w))) (pieces k l.fuel w)) joined) ∙ h in
+    no_more_by l.until_bad l.runs l.fuel l.witnesses (λ cs. walk_at l cs w) (pieces k l.fuel w) more ∙ ap (map shown) (pieces_join k l w)
 
 -- ---- the pieces of one choice
 

@@ -13,16 +13,18 @@ use Rattle.mpd_model.specs.Next.{next}
 use Rattle.mpd_model.specs.Decisions.{decision}
 use Rattle.mpd_explore.specs.declared.report.Leaf as leaf
 use Rattle.mpd_explore.specs.declared.report.Limits.{Limits}
-use Rattle.mpd_explore.specs.Walk.{Run, stepped, chosen, runs_of, walk}
+use Rattle.mpd_explore.specs.Walk.{Run, stepped, chosen, runs_of}
+use Rattle.mpd_explore.specs.Sleeping.{is_asleep, put_off, awake_runs, walk_of}
 use Rattle.mpd_explore.specs.Report.{shown, any_bad, up_to_bad, ended_by}
 use Rattle.mpd_explore.specs.WitnessTexts.{witness_texts}
-use Rattle.mpd_explore.proofs.RunLemmas.{walk_some}
+use Rattle.mpd_explore.proofs.AsleepLemmas.{put_off_none}
+use Rattle.mpd_explore.proofs.AwakeLemmas.{awake_some}
 use Rattle.mpd_explore.proofs.WitnessLemmas.{AllFollow}
 use Rattle.mpd_explore.proofs.ListedLemmas.{is_less, is_not_less, not_less, not_both, both_true, bad_behind, up_behind, up_none, up_has, listed_up, listed_few, ended_same}
 use Rattle.mpd_explore.proofs.GatherLemmas.{texts_join}
 use Rattle.mpd_pieces.specs.declared.split.Piece.{Piece}
-use Rattle.mpd_pieces.specs.Pieces.{pieces, numbered, runs_by, beginning, walk_at, InState, ByCandidate, BeginsSo, Reaches, part, part_left, split_report, split_more}
-use Rattle.mpd_pieces.specs.Along.{choices_of, parts, has_more, walks, report_of, more_of}
+use Rattle.mpd_pieces.specs.Pieces.{pieces, numbered, runs_by, beginning, walk_from, walk_at, InState, ByCandidate, BeginsSo, Reaches, part, part_left, split_report, split_more}
+use Rattle.mpd_pieces.specs.Along.{choices_of, parts, has_more, have_run, walks, report_of, more_of}
 use Rattle.mpd_pieces.proofs.PieceLemmas.{if_same, pieces_join}
 use Rattle.mpd_pieces.proofs.SplitLemmas.{take_next, choices_are}
 
@@ -65,28 +67,39 @@ some_runs : (runs : World → List Run) (P : World → Type 0) (o : Option World
 some_runs runs P None all h = absurd h
 some_runs runs P (Some v) all h = all v h
 
-some_candidate : (runs : World → List Run) (P : World → Type 0) (w : World) (c : ℕ) (o : Option Step) → ((v : World) → P v → 0 < length (runs v)) → ByCandidate P w o → 0 < length (runs_by runs w c o)
-some_candidate runs P w c None all h = absurd h
-some_candidate runs P w c (Some a) all h = omega (arith, length-map (runs_of runs (next w a)) (chosen c a), some_runs runs P (next w a) all h)
+abbrev AllBegin : ℕ → Type 0
+AllBegin n = (cs : List ℕ) (v : World) → Reaches n cs v → 0 < length (walk_from false n cs [] v)
 
-some_beginning : (runs : List ℕ → World → List Run) (reaches : List ℕ → World → Type 0) (w : World) (c : ℕ) (cs : List ℕ) (d : Decision) → ((xs : List ℕ) (v : World) → reaches xs v → 0 < length (runs xs v)) → BeginsSo reaches w c cs d → 0 < length (beginning runs w c cs d)
-some_beginning runs reaches w c cs (Forced a) all h = omega (arith, length-map (runs_of (runs (c ∷ cs)) (next w a)) (stepped a), some_runs (runs (c ∷ cs)) (reaches (c ∷ cs)) (next w a) (all (c ∷ cs)) h)
-some_beginning runs reaches w c cs (Choice candidates) all h = some_candidate (runs cs) (reaches cs) w c (slice_get candidates c) (all cs) h
-some_beginning runs reaches w c cs (Leaf o) all h = absurd h
+some_candidate : (n : ℕ) (w : World) (candidates : List Step) (c : ℕ) (cs : List ℕ) (o : Option Step) → AllBegin n → ByCandidate (Reaches n cs) w o → 0 < length (runs_by false (walk_from false n cs) [] w candidates c o)
+some_candidate n w candidates c cs None all h = absurd h
+some_candidate n w candidates c cs (Some a) all h =
+    let same : put_off false c candidates [] ≡ [] = put_off_none c candidates [] in
+    let runs : List Step → ℕ = λ s. length (map (chosen c a) (awake_runs (is_asleep s a) (walk_from false n cs s) (next w a))) in
+    omega (arith, ap runs same, length-map (runs_of (walk_from false n cs []) (next w a)) (chosen c a), some_runs (walk_from false n cs []) (Reaches n cs) (next w a) (all cs) h)
 
-reached_some : (n : ℕ) (cs : List ℕ) (w : World) → AllFollow → Reaches n cs w → 0 < length (walk_at n cs w)
-unfolding walk_at Reaches
-reached_some zero [] w law h = walk_some zero w law
-reached_some (suc n) [] w law h = walk_some (suc n) w law
+some_beginning : (n : ℕ) (w : World) (c : ℕ) (cs : List ℕ) (d : Decision) → AllBegin n → BeginsSo (Reaches n) w c cs d → 0 < length (beginning false (walk_from false n) [] w c cs d)
+some_beginning n w c cs (Forced a) all h =
+    omega (arith, length-map (runs_of (walk_from false n (c ∷ cs) []) (next w a)) (stepped a), some_runs (walk_from false n (c ∷ cs) []) (Reaches n (c ∷ cs)) (next w a) (all (c ∷ cs)) h)
+some_beginning n w c cs (Choice candidates) all h = some_candidate n w candidates c cs (slice_get candidates c) all h
+some_beginning n w c cs (Leaf o) all h = absurd h
+
+-- where nothing falls asleep
+reached_some : (n : ℕ) (cs : List ℕ) (w : World) → AllFollow → Reaches n cs w → 0 < length (walk_from false n cs [] w)
+unfolding walk_from Reaches
+reached_some zero [] w law h = awake_some false zero w law
+reached_some (suc n) [] w law h = awake_some false (suc n) w law
 reached_some zero (c ∷ cs) w law h = absurd h
-reached_some (suc n) (c ∷ cs) w law h = some_beginning (walk_at n) (Reaches n) w c cs (decision w) (λ xs v k. reached_some n xs v law k) h
+reached_some (suc n) (c ∷ cs) w law h = some_beginning n w c cs (decision w) (λ xs v k. reached_some n xs v law k) h
+
+plain_some : (l : Limits) (cs : List ℕ) (w : World) → AllFollow → l.ends ≡ false → Reaches l.fuel cs w → 0 < length (walk_at l cs w)
+plain_some l cs w law off h = rw off (reached_some l.fuel cs w law h)
 
 abbrev AllSome : Limits → World → List Piece → Type 0
-AllSome l w ps = AllByRecursion (λ (p : Piece). 0 < length (walk_at l.fuel p.choices w)) ps
+AllSome l w ps = AllByRecursion (λ (p : Piece). 0 < length (walk_at l p.choices w)) ps
 
-all_some : (l : Limits) (w : World) (ps : List Piece) → AllFollow → AllByRecursion (λ cs. Reaches l.fuel cs w) (choices_of ps) → AllSome l w ps
-all_some l w [] law h = tt
-all_some l w (p ∷ ps) law h = (reached_some l.fuel p.choices w law h.0, all_some l w ps law h.1)
+all_some : (l : Limits) (w : World) (ps : List Piece) → AllFollow → l.ends ≡ false → AllByRecursion (λ cs. Reaches l.fuel cs w) (choices_of ps) → AllSome l w ps
+all_some l w [] law off h = tt
+all_some l w (p ∷ ps) law off h = (plain_some l p.choices w law off h.0, all_some l w ps law off h.1)
 
 some_behind : (l : Limits) (w : World) (n : ℕ) (ps : List Piece) → AllSome l w ps → AllSome l w (drop n ps)
 some_behind l w zero ps h = h
@@ -116,32 +129,78 @@ or_assoc false b c = refl
 few_joined : (l : Limits) (w : World) (front back : List Piece) → length (parts l w front) ≤ length (walks l w (front ++ back))
 few_joined l w [] back = omega arith
 few_joined l w (p ∷ front) back =
-    omega (arith, length-append (part l p.choices w) (parts l w front), length-append (walk_at l.fuel p.choices w) (walks l w (front ++ back)), listed_few l (map shown (walk_at l.fuel p.choices w)), length-map (walk_at l.fuel p.choices w) shown, few_joined l w front back)
+    omega (arith, length-append (part l p.choices w) (parts l w front), length-append (walk_at l p.choices w) (walks l w (front ++ back)), listed_few l (map shown (walk_at l p.choices w)), length-map (walk_at l p.choices w) shown, few_joined l w front back)
 
-left_is : (l : Limits) (w : World) (cs : List ℕ) → l.until_bad ≡ true → part_left l cs w ≡ nat_lt (length (part l cs w)) (length (walk_at l.fuel cs w))
+left_is : (l : Limits) (w : World) (cs : List ℕ) → l.until_bad ≡ true → part_left l cs w ≡ nat_lt (length (part l cs w)) (length (walk_at l cs w))
 left_is l w cs until =
-    ap (λ b. if b then nat_lt (length (part l cs w)) (length (map shown (walk_at l.fuel cs w))) else nat_lt l.runs (length (map shown (walk_at l.fuel cs w)))) until
-    ∙ ap (nat_lt (length (part l cs w))) (length-map (walk_at l.fuel cs w) shown)
+    ap (λ b. if b then nat_lt (length (part l cs w)) (length (map shown (walk_at l cs w))) else nat_lt l.runs (length (map shown (walk_at l cs w)))) until
+    ∙ ap (nat_lt (length (part l cs w))) (length-map (walk_at l cs w) shown)
 
-none_joined : (l : Limits) (w : World) (back : List Piece) → AllSome l w back → nat_lt 0 (length back) ≡ nat_lt 0 (length (walks l w back))
-none_joined l w [] some = refl
-none_joined l w (p ∷ back) some =
-    less_same 0 (length (p ∷ back)) 0 (length (walks l w (p ∷ back))) (λ h. omega (arith, length-append (walk_at l.fuel p.choices w) (walks l w back), some.0)) (λ h. absurd (omega (arith, h)))
+none_joined : (l : Limits) (w : World) (back : List Piece) → have_run l w back ≡ nat_lt 0 (length (walks l w back))
+none_joined l w [] = refl
+none_joined l w (p ∷ back) =
+    let b : ℕ = length (walk_at l p.choices w) in
+    let d : ℕ = length (walks l w back) in
+    ap (λ x. nat_lt 0 b || x) (none_joined l w back) ∙ sum_case (nat_lt 0 b) 0 b 0 d refl (omega arith) (omega arith) ∙ ap (nat_lt 0) (sym (length-append (walk_at l p.choices w) (walks l w back)))
 
--- one of the pieces in front has more, or some are behind
-more_joined : (l : Limits) (w : World) (front back : List Piece) → l.until_bad ≡ true → AllSome l w back → (has_more l w front || nat_lt 0 (length back)) ≡ nat_lt (length (parts l w front)) (length (walks l w (front ++ back)))
-more_joined l w [] back until some = none_joined l w back some
-more_joined l w (p ∷ front) back until some =
+-- one of the pieces in front has more, or one behind has a run
+more_joined : (l : Limits) (w : World) (front back : List Piece) → l.until_bad ≡ true → (has_more l w front || have_run l w back) ≡ nat_lt (length (parts l w front)) (length (walks l w (front ++ back)))
+more_joined l w [] back until = none_joined l w back
+more_joined l w (p ∷ front) back until =
     let a : ℕ = length (part l p.choices w) in
-    let b : ℕ = length (walk_at l.fuel p.choices w) in
+    let b : ℕ = length (walk_at l p.choices w) in
     let c : ℕ = length (parts l w front) in
     let d : ℕ = length (walks l w (front ++ back)) in
-    let few : a ≤ b = omega (arith, listed_few l (map shown (walk_at l.fuel p.choices w)), length-map (walk_at l.fuel p.choices w) shown) in
-    or_assoc (part_left l p.choices w) (has_more l w front) (nat_lt 0 (length back))
-    ∙ ap (λ x. x || (has_more l w front || nat_lt 0 (length back))) (left_is l w p.choices until)
-    ∙ ap (λ x. nat_lt a b || x) (more_joined l w front back until some)
+    let few : a ≤ b = omega (arith, listed_few l (map shown (walk_at l p.choices w)), length-map (walk_at l p.choices w) shown) in
+    or_assoc (part_left l p.choices w) (has_more l w front) (have_run l w back)
+    ∙ ap (λ x. x || (has_more l w front || have_run l w back)) (left_is l w p.choices until)
+    ∙ ap (λ x. nat_lt a b || x) (more_joined l w front back until)
     ∙ sum_case (nat_lt a b) a b c d refl few (few_joined l w front back)
-    ∙ (λ i. nat_lt (sym (length-append (part l p.choices w) (parts l w front)) i) (sym (length-append (walk_at l.fuel p.choices w) (walks l w (front ++ back))) i))
+    ∙ (λ i. nat_lt (sym (length-append (part l p.choices w) (parts l w front)) i) (sym (length-append (walk_at l p.choices w) (walks l w (front ++ back))) i))
+
+-- ---- which pieces have a run
+
+pub reached_behind : (fuel : ℕ) (w : World) (n : ℕ) (ps : List Piece) → AllByRecursion (λ cs. Reaches fuel cs w) (choices_of ps) → AllByRecursion (λ cs. Reaches fuel cs w) (choices_of (drop n ps))
+reached_behind fuel w zero ps h = h
+reached_behind fuel w (suc n) [] h = tt
+reached_behind fuel w (suc n) (p ∷ ps) h = reached_behind fuel w n ps h.1
+
+take_drop : (n : ℕ) (ps : List Piece) → take n ps ++ drop n ps ≡ ps
+take_drop zero ps = refl
+take_drop (suc n) [] = refl
+take_drop (suc n) (p ∷ ps) = ap (λ qs. p ∷ qs) (take_drop n ps)
+
+some_run : (l : Limits) (w : World) (back : List Piece) → AllSome l w back → nat_lt 0 (length back) ≡ have_run l w back
+some_run l w [] some = refl
+some_run l w (p ∷ back) some = is_less 0 (length (p ∷ back)) _ refl (omega arith) ∙ sym (ap (λ b. b || have_run l w back) (is_less 0 (length (walk_at l p.choices w)) _ refl some.0))
+
+-- a loop that looks for one
+run_at_place : (l : Limits) (w : World) (ps : List Piece) (i : ℕ) (p : Piece) → i < length ps → p ≡ get_or ps i p → have_run l w (take (i + 1) ps) ≡ (have_run l w (take i ps) || nat_lt 0 (length (walk_at l p.choices w)))
+run_at_place l w ps i p within read =
+    let test : Piece → Bool = λ q. nat_lt 0 (length (walk_at l q.choices w)) in
+    ap (have_run l w) (take_next ps i p within read) ∙ list_any-append test (take i ps) (p ∷ []) ∙ or_nothing (have_run l w (take i ps)) (test p)
+
+pub run_next : (l : Limits) (w : World) (ps : List Piece) (i : ℕ) (p : Piece) (b : Bool) → i < length ps → p ≡ get_or ps i p → have_run l w (take i ps) ≡ false → b ≡ nat_lt 0 (length (walk_at l p.choices w)) → b ≡ false → have_run l w (take (i + 1) ps) ≡ false
+run_next l w ps i p b within read none is off = run_at_place l w ps i p within read ∙ ap (λ x. x || nat_lt 0 (length (walk_at l p.choices w))) none ∙ sym is ∙ off
+
+or_true : (b : Bool) → (b || true) ≡ true
+or_true true = refl
+or_true false = refl
+
+true_in_front : (l : Limits) (w : World) (n : ℕ) (ps : List Piece) → have_run l w (take n ps) ≡ true → have_run l w ps ≡ true
+true_in_front l w n ps h = ap (have_run l w) (sym (take_drop n ps)) ∙ list_any-append (λ (q : Piece). nat_lt 0 (length (walk_at l q.choices w))) (take n ps) (drop n ps) ∙ ap (λ b. b || have_run l w (drop n ps)) h
+
+pub run_found : (l : Limits) (w : World) (ps : List Piece) (i : ℕ) (p : Piece) (b : Bool) → i < length ps → p ≡ get_or ps i p → b ≡ nat_lt 0 (length (walk_at l p.choices w)) → b ≡ true → true ≡ have_run l w ps
+run_found l w ps i p b within read is on =
+    sym (true_in_front l w (i + 1) ps (run_at_place l w ps i p within read ∙ ap (λ x. have_run l w (take i ps) || x) (sym is ∙ on) ∙ or_true (have_run l w (take i ps))))
+
+pub run_none : (l : Limits) (w : World) (ps : List Piece) (i : ℕ) → length ps ≤ i → have_run l w (take i ps) ≡ false → false ≡ have_run l w ps
+run_none l w ps i long none = sym none ∙ ap (have_run l w) (take_all i ps long)
+
+-- where nothing falls asleep, each piece has one
+pub plain_left : (l : Limits) (w : World) (ps : List Piece) (n : ℕ) → AllFollow → l.ends ≡ false → AllByRecursion (λ cs. Reaches l.fuel cs w) (choices_of ps) → nat_lt n (length ps) ≡ have_run l w (drop n ps)
+plain_left l w ps n law off reached =
+    less_same n (length ps) 0 (length (drop n ps)) (λ h. omega (arith, length-drop n ps, h)) (λ h. omega (arith, length-drop n ps, h)) ∙ some_run l w (drop n ps) (some_behind l w n ps (all_some l w ps law off reached))
 
 -- ---- all pieces are joined
 
@@ -164,16 +223,11 @@ all_more l w ps i ls b long is good more =
     let report : parts l w ps ≡ report_of l w ps = sym whole ∙ all_parts l w ps i ls long is good in
     let all : b ≡ has_more l w ps = more ∙ ap (has_more l w) (take_all i ps long) in
     if_is l.until_bad (nat_lt (length (report_of l w ps)) (length (walks l w ps))) (has_more l w ps) b
-    (λ until. all ∙ or_none (has_more l w ps) ∙ more_joined l w ps [] until tt
+    (λ until. all ∙ or_none (has_more l w ps) ∙ more_joined l w ps [] until
     ∙ (λ i. nat_lt (length (report i)) (length (walks l w (append-nil ps i)))))
     (λ until. all)
 
 -- ---- a report ends behind a piece with a bad leaf
-
-take_drop : (n : ℕ) (ps : List Piece) → take n ps ++ drop n ps ≡ ps
-take_drop zero ps = refl
-take_drop (suc n) [] = refl
-take_drop (suc n) (p ∷ ps) = ap (λ qs. p ∷ qs) (take_drop n ps)
 
 ended_parts : (l : Limits) (w : World) (ps : List Piece) (n : ℕ) (ls : List leaf.Leaf) → l.until_bad ≡ true → ls ≡ parts l w (take n ps) → any_bad ls ≡ true → up_to_bad ls ≡ ls → ls ≡ report_of l w ps
 ended_parts l w ps n ls until is bad up =
@@ -187,29 +241,27 @@ ends_parts l w ps n cs old ls last is added good is_last on =
     let both = both_true l.until_bad (any_bad (part l cs w)) (sym is_last ∙ on) in
     ended_parts l w ps n ls both.0 is
     (ap any_bad added ∙ bad_behind old (part l cs w) (good both.0) ∙ both.1)
-    (ap up_to_bad added ∙ up_behind old (part l cs w) (good both.0) ∙ ap (λ xs. old ++ xs) (listed_up l (map shown (walk_at l.fuel cs w)) both.0) ∙ sym added)
+    (ap up_to_bad added ∙ up_behind old (part l cs w) (good both.0) ∙ ap (λ xs. old ++ xs) (listed_up l (map shown (walk_at l cs w)) both.0) ∙ sym added)
 
-pub ends_more : (l : Limits) (w : World) (ps : List Piece) (n : ℕ) (cs : List ℕ) (old ls : List leaf.Leaf) (last m b : Bool) → AllFollow → AllByRecursion (λ cs. Reaches l.fuel cs w) (choices_of ps) → ls ≡ parts l w (take n ps) → ls ≡ old ++ part l cs w → (l.until_bad ≡ true → any_bad old ≡ false)
-    → last ≡ (l.until_bad && any_bad (part l cs w)) → last ≡ true → m ≡ has_more l w (take n ps) → b ≡ (m || nat_lt n (length ps)) → b ≡ more_of l w ps
-ends_more l w ps n cs old ls last m b law reached is added good is_last on more behind =
+pub ends_more : (l : Limits) (w : World) (ps : List Piece) (n : ℕ) (cs : List ℕ) (old ls : List leaf.Leaf) (last m left b : Bool) → ls ≡ parts l w (take n ps) → ls ≡ old ++ part l cs w → (l.until_bad ≡ true → any_bad old ≡ false) → last ≡ (l.until_bad && any_bad (part l cs w)) → last ≡ true
+    → m ≡ has_more l w (take n ps) → left ≡ have_run l w (drop n ps) → b ≡ (m || left) → b ≡ more_of l w ps
+ends_more l w ps n cs old ls last m left b is added good is_last on more some behind =
     let both = both_true l.until_bad (any_bad (part l cs w)) (sym is_last ∙ on) in
     let report : parts l w (take n ps) ≡ report_of l w ps = sym is ∙ ends_parts l w ps n cs old ls last is added good is_last on in
-    let left : nat_lt n (length ps) ≡ nat_lt 0 (length (drop n ps)) = less_same n (length ps) 0 (length (drop n ps)) (λ h. omega (arith, length-drop n ps, h)) (λ h. omega (arith, length-drop n ps, h)) in
-    let some : AllSome l w (drop n ps) = some_behind l w n ps (all_some l w ps law reached) in
-    behind ∙ ap (λ x. x || nat_lt n (length ps)) more ∙ ap (λ x. has_more l w (take n ps) || x) left
-    ∙ more_joined l w (take n ps) (drop n ps) both.0 some
+    behind ∙ ap (λ x. x || left) more ∙ ap (λ x. has_more l w (take n ps) || x) some
+    ∙ more_joined l w (take n ps) (drop n ps) both.0
     ∙ (λ i. nat_lt (length (report i)) (length (walks l w (take_drop n ps i))))
     ∙ sym (ap (λ x. if x then nat_lt (length (report_of l w ps)) (length (walks l w ps)) else has_more l w ps) both.0)
 
 -- ---- the pieces of a split
 
-any_choices : (l : Limits) (w : World) (ps : List Piece) → l.until_bad ≡ false → has_more l w ps ≡ list_any (λ cs. nat_lt l.runs (length (walk_at l.fuel cs w))) (choices_of ps)
+any_choices : (l : Limits) (w : World) (ps : List Piece) → l.until_bad ≡ false → has_more l w ps ≡ list_any (λ cs. nat_lt l.runs (length (walk_at l cs w))) (choices_of ps)
 any_choices l w [] off = refl
 any_choices l w (p ∷ ps) off =
-    let own : part_left l p.choices w ≡ nat_lt l.runs (length (walk_at l.fuel p.choices w)) =
-    ap (λ b. if b then nat_lt (length (part l p.choices w)) (length (map shown (walk_at l.fuel p.choices w))) else nat_lt l.runs (length (map shown (walk_at l.fuel p.choices w)))) off
-    ∙ ap (nat_lt l.runs) (length-map (walk_at l.fuel p.choices w) shown) in
-    ap (λ b. b || has_more l w ps) own ∙ ap (λ b. nat_lt l.runs (length (walk_at l.fuel p.choices w)) || b) (any_choices l w ps off)
+    let own : part_left l p.choices w ≡ nat_lt l.runs (length (walk_at l p.choices w)) =
+    ap (λ b. if b then nat_lt (length (part l p.choices w)) (length (map shown (walk_at l p.choices w))) else nat_lt l.runs (length (map shown (walk_at l p.choices w)))) off
+    ∙ ap (nat_lt l.runs) (length-map (walk_at l p.choices w) shown) in
+    ap (λ b. b || has_more l w ps) own ∙ ap (λ b. nat_lt l.runs (length (walk_at l p.choices w)) || b) (any_choices l w ps off)
 
 pub parts_are : (k : ℕ) (l : Limits) (w : World) (ps : List Piece) → ps ≡ numbered 0 (pieces k l.fuel w) → report_of l w ps ≡ split_report k l w
 parts_are k l w ps made =
@@ -217,6 +269,6 @@ parts_are k l w ps made =
 
 pub more_is : (k : ℕ) (l : Limits) (w : World) (ps : List Piece) → ps ≡ numbered 0 (pieces k l.fuel w) → more_of l w ps ≡ split_more k l w
 more_is k l w ps made =
-    let all : walks l w ps ≡ walk l.fuel w = sym (flat_map-map (λ cs. walk_at l.fuel cs w) (λ (p : Piece). p.choices) ps) ∙ ap (flat_map (λ cs. walk_at l.fuel cs w)) (choices_are l.fuel k w ps made) ∙ pieces_join k l.fuel w in
+    let all : walks l w ps ≡ walk_of l w = sym (flat_map-map (λ cs. walk_at l cs w) (λ (p : Piece). p.choices) ps) ∙ ap (flat_map (λ cs. walk_at l cs w)) (choices_are l.fuel k w ps made) ∙ pieces_join k l w in
     if_same l.until_bad _ _ _ _ (λ i. nat_lt (length (parts_are k l w ps made i)) (length (all i)))
-    (λ off. any_choices l w ps off ∙ ap (list_any (λ cs. nat_lt l.runs (length (walk_at l.fuel cs w)))) (choices_are l.fuel k w ps made))
+    (λ off. any_choices l w ps off ∙ ap (list_any (λ cs. nat_lt l.runs (length (walk_at l cs w)))) (choices_are l.fuel k w ps made))

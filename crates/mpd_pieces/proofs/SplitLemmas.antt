@@ -1,10 +1,11 @@
 -- What a split has of the pieces so far.
-use Rattle.std.proofs.Common.{◌≡◌, ℕ, zero, suc, ◌<◌, ◌≤◌, ◌+◌, ◌-◌, Bool, true, false, not, List, [], ◌∷◌, ◌++◌, length, take, map, get_or, Err, IsErrOf, refl, sym, ap, subst, ◌∙◌, arith, add-one, append-nil}
+use Rattle.std.proofs.Common.{◌≡◌, ℕ, zero, suc, ◌<◌, ◌≤◌, ◌+◌, ◌-◌, Bool, true, false, not, List, [], ◌∷◌, ◌++◌, length, take, map, get_or, Err, IsErrOf, refl, sym, ap, subst, ◌∙◌, arith, add-one, append-nil, Option}
 use Rattle.std.specs.List.{AllByRecursion, flat_map, range_with_len}
 use Rattle.std.proofs.lemmas.List.{length-map, take_more, take_all}
 use Rattle.std.proofs.lemmas.List.Folds.{flat_map-map, length-flat_map-take}
 use Rattle.std.proofs.lemmas.List.FromFn.{map-range_with_len_more, length-range_with_len}
 use Rattle.std.proofs.lemmas.Grind.{flat_map-append}
+use Rattle.mpd_model.specs.declared.step.Step.{Step}
 use Rattle.mpd_model.specs.World.{World}
 use Rattle.mpd_model.specs.Trail.{Standing}
 use Rattle.mpd_explore.proofs.WitnessLemmas.{AllFollow}
@@ -20,8 +21,8 @@ use Rattle.mpd_pieces.proofs.PieceLemmas.{counted_some, adds_then, adds_same, al
 pub ahead_is : (limit n : ℕ) (w v : World) (depth : ℕ) → pieces 1 n w ≡ pieces 1 (limit - depth) v → depth < limit → pieces 1 n w ≡ pieces 1 (suc (limit - suc depth)) v
 ahead_is limit n w v depth same room = same ∙ ap (λ m. pieces 1 m v) (omega arith)
 
-pub longer_behind : (fuel n m : ℕ) (choices : List ℕ) (d e : Standing) (h : Going fuel choices d [] e) → h.rest ≡ n → pieces 1 n e.world ≡ counted m → longer fuel choices d.world ≡ map (λ cs. choices ++ cs) (counted m)
-longer_behind fuel n m choices d e h left is =
+pub longer_behind : (sleeps : Bool) (s t : Option (List Step)) (fuel n m : ℕ) (choices : List ℕ) (d e : Standing) (h : Going sleeps fuel choices s d [] t e) → h.rest ≡ n → pieces 1 n e.world ≡ counted m → longer fuel choices d.world ≡ map (λ cs. choices ++ cs) (counted m)
+longer_behind sleeps s t fuel n m choices d e h left is =
     let made : h.taken ≡ choices = sym (append-nil h.taken) ∙ h.joined in
     ap (λ cs. longer fuel cs d.world) (sym h.joined) ∙ h.along.lists []
     ∙ ap (λ cs. map (λ x. cs ++ x) (longer h.rest [] e.world)) made

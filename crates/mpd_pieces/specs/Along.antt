@@ -14,7 +14,8 @@ use Rattle.mpd_explore.specs.declared.report.Limits.{Limits}
 use Rattle.mpd_explore.specs.Walk.{Run, prefixed, runs_of, run_at}
 use Rattle.mpd_explore.specs.Report.{ended_by}
 use Rattle.mpd_pieces.specs.declared.split.Piece.{Piece}
-use Rattle.mpd_pieces.specs.Pieces.{led_by, pieces, numbered, walk_at, Reaches, part, part_left}
+use Rattle.mpd_explore.specs.Sleeping.{is_asleep, put_off}
+use Rattle.mpd_pieces.specs.Pieces.{led_by, pieces, numbered, walk_from, walk_at, Reaches, part, part_left}
 
 -- ---- one choice more
 
@@ -40,10 +41,20 @@ counted (suc m) = map (λ i. i ∷ []) (range_with_len 0 (suc m))
 
 -- ---- along some choices
 
+-- What is asleep behind some choices: these steps, or one of the choices is itself of a step that is asleep, and then no run goes there.
+abbrev pub runs_on : Bool → ℕ → Option (List Step) → List ℕ → World → List Run
+runs_on sleeps n None cs w = []
+runs_on sleeps n (Some asleep) cs w = walk_from sleeps n cs asleep w
+
+-- behind one choice more
+abbrev pub sleeping_behind : Bool → List Step → ℕ → Step → Option (List Step) → Option (List Step)
+sleeping_behind sleeps candidates c a None = None
+sleeping_behind sleeps candidates c a (Some asleep) = if is_asleep (put_off sleeps c candidates asleep) a then None else Some (put_off sleeps c candidates asleep)
+
 -- Steps that make some choices lead from one world to another, and so much of the fuel is left: what begins there with whatever choices
--- is what begins here with those in front.
-pub record Along (fuel : ℕ) (w : World) (choices : List ℕ) (path : List Step) (rest : ℕ) (v : World) : Type 0 where
-  pub walks : (x : List ℕ) → walk_at fuel (choices ++ x) w ≡ map (prefixed choices path) (walk_at rest x v)
+-- is what begins here with those in front. What sleeps here and there is told, too.
+pub record Along (sleeps : Bool) (fuel : ℕ) (here : Option (List Step)) (w : World) (choices : List ℕ) (path : List Step) (rest : ℕ) (there : Option (List Step)) (v : World) : Type 0 where
+  pub walks : (x : List ℕ) → runs_on sleeps fuel here (choices ++ x) w ≡ map (prefixed choices path) (runs_on sleeps rest there x v)
   pub runs : (x : List ℕ) → run_at fuel (choices ++ x) w ≡ option_map (prefixed choices path) (run_at rest x v)
   pub lists : (x : List ℕ) → longer fuel (choices ++ x) w ≡ map (λ cs. choices ++ cs) (longer rest x v)
 
@@ -56,13 +67,13 @@ pub record Beyond (d e : Standing) : Type 0 where
   pub kept_is : kept e.trail ≡ kept d.trail ++ path
 
 -- One that has gone on along some choices, of which these are still to be made.
-pub record Going (fuel : ℕ) (choices : List ℕ) (d : Standing) (left : List ℕ) (e : Standing) : Type 0 where
+pub record Going (sleeps : Bool) (fuel : ℕ) (choices : List ℕ) (here : Option (List Step)) (d : Standing) (left : List ℕ) (there : Option (List Step)) (e : Standing) : Type 0 where
   pub beyond : Beyond d e
   pub taken : List ℕ
   pub joined : taken ++ left ≡ choices
   pub rest : ℕ
   pub spent : e.trail.depth + rest ≡ d.trail.depth + fuel
-  pub along : Along fuel d.world taken beyond.path rest e.world
+  pub along : Along sleeps fuel here d.world taken beyond.path rest there e.world
   pub reaches : Reaches rest left e.world
 
 -- ---- on to the next choice
@@ -95,9 +106,13 @@ parts l w ps = flat_map (λ (p : Piece). part l p.choices w) ps
 abbrev pub has_more : Limits → World → List Piece → Bool
 has_more l w ps = list_any (λ (p : Piece). part_left l p.choices w) ps
 
+-- whether one of them has a run
+abbrev pub have_run : Limits → World → List Piece → Bool
+have_run l w ps = list_any (λ (p : Piece). nat_lt 0 (length (walk_at l p.choices w))) ps
+
 -- all their runs
 abbrev pub walks : Limits → World → List Piece → List Run
-walks l w ps = flat_map (λ (p : Piece). walk_at l.fuel p.choices w) ps
+walks l w ps = flat_map (λ (p : Piece). walk_at l p.choices w) ps
 
 -- the report of these pieces, and whether there are others
 abbrev pub report_of : Limits → World → List Piece → List leaf.Leaf

@@ -9,7 +9,8 @@ use Rattle.mpd_model.specs.Next.{next}
 use Rattle.mpd_model.specs.Decisions.{decision}
 use Rattle.mpd_explore.specs.declared.report.Leaf as leaf
 use Rattle.mpd_explore.specs.declared.report.Limits.{Limits}
-use Rattle.mpd_explore.specs.Walk.{Run, stepped, chosen, runs_of, walk}
+use Rattle.mpd_explore.specs.Walk.{Run, stepped, chosen, runs_of}
+use Rattle.mpd_explore.specs.Sleeping.{is_asleep, put_off, awake_runs, awake_walk, walk_of}
 use Rattle.mpd_explore.specs.Report.{shown, ended_by, listed, left_out}
 use Rattle.mpd_pieces.specs.declared.split.Piece.{Piece}
 
@@ -44,22 +45,27 @@ numbered i (cs ∷ more) = record { number = i; choices = cs } ∷ numbered (suc
 
 -- ---- the runs of a piece
 
--- the runs by a candidate of a choice, where there is one of that number
-abbrev pub runs_by : (World → List Run) → World → ℕ → Option Step → List Run
-runs_by runs w c None = []
-runs_by runs w c (Some a) = map (chosen c a) (runs_of runs (next w a))
+-- the runs by a candidate of a choice, where there is one of that number, and it is awake
+abbrev pub runs_by : Bool → (List Step → World → List Run) → List Step → World → List Step → ℕ → Option Step → List Run
+runs_by sleeps runs asleep w candidates c None = []
+runs_by sleeps runs asleep w candidates c (Some a) =
+    map (chosen c a) (awake_runs (is_asleep (put_off sleeps c candidates asleep) a) (runs (put_off sleeps c candidates asleep)) (next w a))
 
 -- the runs after a decision that begin with a choice and those behind it
-abbrev pub beginning : (List ℕ → World → List Run) → World → ℕ → List ℕ → Decision → List Run
-beginning runs w c cs (Forced a) = map (stepped a) (runs_of (runs (c ∷ cs)) (next w a))
-beginning runs w c cs (Choice candidates) = runs_by (runs cs) w c (slice_get candidates c)
-beginning runs w c cs (Leaf o) = []
+abbrev pub beginning : Bool → (List ℕ → List Step → World → List Run) → List Step → World → ℕ → List ℕ → Decision → List Run
+beginning sleeps runs asleep w c cs (Forced a) = map (stepped a) (runs_of (runs (c ∷ cs) asleep) (next w a))
+beginning sleeps runs asleep w c cs (Choice candidates) = runs_by sleeps (runs cs) asleep w candidates c (slice_get candidates c)
+beginning sleeps runs asleep w c cs (Leaf o) = []
 
--- the runs of the walk that begin with these choices
-unfoldable pub walk_at : ℕ → List ℕ → World → List Run
-walk_at n [] w = walk n w
-walk_at zero (c ∷ cs) w = []
-walk_at (suc n) (c ∷ cs) w = beginning (walk_at n) w c cs (decision w)
+-- The runs of the walk that begin with these choices, while some steps are asleep. With `false` nothing falls asleep.
+unfoldable pub walk_from : Bool → ℕ → List ℕ → List Step → World → List Run
+walk_from sleeps n [] asleep w = awake_walk sleeps n asleep w
+walk_from sleeps zero (c ∷ cs) asleep w = []
+walk_from sleeps (suc n) (c ∷ cs) asleep w = beginning sleeps (walk_from sleeps n) asleep w c cs (decision w)
+
+-- the same of the walk that is asked for
+abbrev pub walk_at : Limits → List ℕ → World → List Run
+walk_at l cs w = walk_from l.ends l.fuel cs [] w
 
 -- ---- whether some run begins so
 
@@ -86,11 +92,11 @@ Reaches (suc n) (c ∷ cs) w = BeginsSo (Reaches n) w c cs (decision w)
 
 -- what a report has of the runs that begin with these choices
 abbrev pub part : Limits → List ℕ → World → List leaf.Leaf
-part l cs w = listed l (map shown (walk_at l.fuel cs w))
+part l cs w = listed l (map shown (walk_at l cs w))
 
 -- whether there are others of these
 abbrev pub part_left : Limits → List ℕ → World → Bool
-part_left l cs w = left_out l (map shown (walk_at l.fuel cs w))
+part_left l cs w = left_out l (map shown (walk_at l cs w))
 
 -- a leaf of what is behind some choices, told from where these begin
 abbrev pub behind : List ℕ → leaf.Leaf → leaf.Leaf
@@ -103,4 +109,4 @@ split_report k l w = ended_by l.until_bad (flat_map (λ cs. part l cs w) (pieces
 -- whether some piece has more; where a list ends with the first bad leaf, whether the walk has
 abbrev pub split_more : ℕ → Limits → World → Bool
 split_more k l w =
-    if l.until_bad then nat_lt (length (split_report k l w)) (length (walk l.fuel w)) else list_any (λ cs. nat_lt l.runs (length (walk_at l.fuel cs w))) (pieces k l.fuel w)
+    if l.until_bad then nat_lt (length (split_report k l w)) (length (walk_of l w)) else list_any (λ cs. nat_lt l.runs (length (walk_at l cs w))) (pieces k l.fuel w)

@@ -1,18 +1,18 @@
 //! A report made piece by piece: what workers that explore pieces come to when their parts are joined in order.
 
-ghost use Rattle.std.specs.Prelude.{◌≡◌, ◌+◌, ◌<◌, ◌≤◌, ◌++◌, ◌||◌, ◌&&◌, nat_lt, map, IfOk, OnOk, IsErrOf, length, string_bytes};
+ghost use Rattle.std.specs.Prelude.{◌≡◌, ◌+◌, ◌<◌, ◌≤◌, ◌++◌, ◌||◌, ◌&&◌, nat_lt, false, map, drop, IfOk, OnOk, IsErrOf, length, string_bytes};
 ghost use Rattle.std.specs.List.{AllByRecursion};
 ghost use Rattle.mpd_model.specs.Trail.{kept, IsReached};
 ghost use Rattle.mpd_trail.specs.Views.{standing_of};
 ghost use Rattle.mpd_explore.specs.Report.{any_bad};
 ghost use Rattle.mpd_explore.specs.WitnessTexts.{witness_texts};
-ghost use Rattle.mpd_pieces.specs.Pieces.{Reaches, pieces, part, part_left, split_report, split_more};
-ghost use Rattle.mpd_pieces.specs.Along.{choices_of, report_of, more_of};
+ghost use Rattle.mpd_pieces.specs.Pieces.{Reaches, pieces, walk_at, part, part_left, split_report, split_more};
+ghost use Rattle.mpd_pieces.specs.Along.{choices_of, have_run, report_of, more_of};
 
 use crate::explore_at::explore_at;
 use crate::split::{PIECES_MAX, Piece, SplitFault, split};
 use mpd_explore::report::{Limits, Report};
-use mpd_explore::watch::Watch;
+use mpd_explore::watch::{Unwatched, Watch};
 use mpd_model::limits::STEPS_MAX;
 use mpd_policy::decide::decisions_can_be_followed;
 use mpd_trail::debugger::Debugger;
@@ -68,11 +68,101 @@ fn add_part<W: Watch>(
     Ok(is_last)
 }
 
-/// Whether there is more where a report ends behind so many of some pieces, of which one has more or none.
-pub fn is_more(more: bool, place: usize, count: usize) -> bool
-    ensures { result ≡ (more || nat_lt place count) }
+/// The limits of a search for one run alone.
+fn no_leaf(limits: Limits) -> Limits
+    ensures { result ≡ record { runs = 0; fuel = limits.fuel; witnesses = false; until_bad = false; ends = limits.ends } }
 {
-    more || place < count
+    Limits {
+        runs: 0,
+        fuel: limits.fuel,
+        witnesses: false,
+        until_bad: false,
+        ends: limits.ends,
+    }
+}
+
+/// Whether a piece has a run. The debugger is left as found.
+fn has_run(
+    alloc: Global,
+    debugger: &mut Debugger<'_>,
+    piece: &Piece,
+    limits: Limits,
+) -> Result<bool, AllocError>
+    requires clean { length debugger.old.trail.steps ≡ debugger.old.trail.depth }
+    requires fits { debugger.old.trail.depth + limits.fuel ≤ STEPS_MAX }
+    requires reaches { Reaches limits.fuel piece.now.choices debugger.old.world }
+    ensures run { IfOk result (λ b. b ≡ nat_lt 0 (length (walk_at limits piece.now.choices debugger.old.world))) }
+    ensures trail { debugger.new.trail ≡ debugger.old.trail }
+    ensures world { debugger.new.world ≡ debugger.old.world }
+    ensures reached { IsReached (standing_of debugger.new) }
+{
+    let found = explore_at(
+        alloc,
+        debugger,
+        &piece.choices.items,
+        no_leaf(limits),
+        &mut Unwatched,
+    )?;
+    Ok(found.more)
+}
+
+/// Whether one of some pieces has a run. The debugger is left as found.
+fn have_run(
+    alloc: Global,
+    debugger: &mut Debugger<'_>,
+    pieces: &[Piece],
+    limits: Limits,
+) -> Result<bool, AllocError>
+    requires clean { length debugger.old.trail.steps ≡ debugger.old.trail.depth }
+    requires fits { debugger.old.trail.depth + limits.fuel ≤ STEPS_MAX }
+    requires reaches { AllByRecursion (λ cs. Reaches limits.fuel cs debugger.old.world) (choices_of pieces.now) }
+    ensures run { IfOk result (λ b. b ≡ have_run limits debugger.old.world pieces.now) }
+    ensures trail { debugger.new.trail ≡ debugger.old.trail }
+    ensures world { debugger.new.world ≡ debugger.old.world }
+    ensures reached { IsReached (standing_of debugger.new) }
+{
+    let _ = debugger.core();
+    for place in 0..pieces.len() {
+        let is_run = has_run(alloc, debugger, &pieces[place], limits)?;
+        if is_run {
+            return Ok(true);
+        }
+    }
+    Ok(false)
+}
+
+/// Whether there is a run behind so many of some pieces, at which a report ends. Where not each end is looked for once, each piece has
+/// one. The debugger is left as found.
+pub fn is_left(
+    alloc: Global,
+    debugger: &mut Debugger<'_>,
+    pieces: &[Piece],
+    place: usize,
+    limits: Limits,
+) -> Result<bool, AllocError>
+    requires clean { length debugger.old.trail.steps ≡ debugger.old.trail.depth }
+    requires fits { debugger.old.trail.depth + limits.fuel ≤ STEPS_MAX }
+    requires reaches { AllByRecursion (λ cs. Reaches limits.fuel cs debugger.old.world) (choices_of pieces.now) }
+    requires within { place ≤ length pieces.now }
+    ensures left { IfOk result (λ b. b ≡ have_run limits debugger.old.world (drop place pieces.now)) }
+    ensures trail { debugger.new.trail ≡ debugger.old.trail }
+    ensures world { debugger.new.world ≡ debugger.old.world }
+    ensures reached { IsReached (standing_of debugger.new) }
+{
+    decisions_can_be_followed();
+    let _ = debugger.core();
+    if !limits.ends {
+        return Ok(place < pieces.len());
+    }
+    let (_, behind) = pieces.split_at(place);
+    have_run(alloc, debugger, behind, limits)
+}
+
+/// Whether there is more where a report ends: one of its pieces has more, or there is a run behind them.
+pub fn is_more(more: bool, left: bool) -> bool
+    ensures { result ≡ (more || left) }
+{
+    more || left
 }
 
 /// The report of some pieces: their parts joined in order, and whether there are others. The debugger is left as found.
@@ -103,7 +193,8 @@ fn explore_pieces<W: Watch>(
     for place in 0..pieces.len() {
         let is_last = add_part(alloc, debugger, &pieces[place], limits, watch, &mut report)?;
         if is_last {
-            report.more = is_more(report.more, place + 1, pieces.len());
+            let others = is_left(alloc, debugger, pieces, place + 1, limits)?;
+            report.more = is_more(report.more, others);
             return Ok(report);
         }
     }

@@ -1,6 +1,6 @@
 //! Exploring the runs that begin with some choices.
 
-ghost use Rattle.std.specs.Prelude.{◌≡◌, ◌+◌, ◌<◌, ◌≤◌, ◌⊎◌, map, IfOk, OnOk, OnErr, length, string_bytes};
+ghost use Rattle.std.specs.Prelude.{◌≡◌, ◌+◌, ◌<◌, ◌≤◌, ◌⊎◌, [], false, map, IfOk, OnOk, OnErr, length, string_bytes};
 ghost use Rattle.std.specs.List.{AllByRecursion};
 ghost use Rattle.mpd_model.specs.Trail.{kept, IsReached};
 ghost use Rattle.mpd_trail.specs.Views.{standing_of};
@@ -10,7 +10,8 @@ ghost use Rattle.mpd_pieces.specs.Pieces.{Reaches, part, part_left, behind};
 ghost use Rattle.mpd_pieces.specs.Along.{Beyond};
 
 use crate::follow::{follow, put_back};
-use mpd_explore::explore::explore;
+use crate::sleep::Sleep;
+use mpd_explore::explore::explore_asleep;
 use mpd_explore::report::{ChoiceList, Leaf, Limits, Report};
 use mpd_explore::watch::Watch;
 use mpd_model::limits::STEPS_MAX;
@@ -40,6 +41,19 @@ fn put_in_front(alloc: Global, leaves: &mut Vec<Leaf>, choices: &[usize]) -> Res
     Ok(())
 }
 
+/// The report of no runs.
+fn nothing_found(alloc: Global) -> Report
+    ensures leaves { result.leaves.items ≡ [] }
+    ensures more { result.more ≡ false }
+    ensures witnesses { result.witnesses.items ≡ [] }
+{
+    Report {
+        leaves: Vec::new(alloc),
+        more: false,
+        witnesses: Vec::new(alloc),
+    }
+}
+
 /// The first leaves of the runs that begin with some choices. The debugger is left anywhere behind where it stood.
 fn explore_behind<W: Watch>(
     alloc: Global,
@@ -59,15 +73,22 @@ fn explore_behind<W: Watch>(
 {
     let base = debugger.depth();
     let limit = base + limits.fuel;
-    follow(alloc, debugger, limit, choices)?;
+    let mut sleep = Sleep::none(alloc);
+    follow(alloc, debugger, limit, choices, limits.ends, &mut sleep)?;
     debugger.forget_undone();
+    if sleep.is_passed {
+        let report = nothing_found(alloc);
+        return Ok(report);
+    }
     let rest = Limits {
         runs: limits.runs,
         fuel: limit - debugger.depth(),
         witnesses: limits.witnesses,
         until_bad: limits.until_bad,
+        ends: limits.ends,
     };
-    let mut report = explore(alloc, debugger, rest, watch)?;
+    sleep.steps.reverse();
+    let mut report = explore_asleep(alloc, debugger, &sleep.steps, rest, watch)?;
     match put_in_front(alloc, &mut report.leaves, choices) {
         Ok(()) => Ok(report),
         Err(fault) => {

@@ -5,4 +5,5 @@ pub mod by_pieces;
 pub mod explore_at;
 mod follow;
 pub mod laws;
+mod sleep;
 pub mod split;

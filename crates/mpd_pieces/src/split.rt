@@ -9,6 +9,7 @@ ghost use Rattle.mpd_pieces.specs.Along.{Beyond, Looked, Adds, counted, longer, 
 ghost use Rattle.mpd_pieces.specs.Faults.{split_fault_number, split_fault_name};
 
 use crate::follow::{follow, put_back};
+use crate::sleep::Sleep;
 use mpd_explore::report::ChoiceList;
 use mpd_model::decision::Decision;
 use mpd_model::limits::STEPS_MAX;
@@ -117,7 +118,8 @@ fn look_behind(
     ensures longer { IfOk result (λ m. longer (limit - debugger.old.trail.depth) choices.now debugger.old.world ≡ map (λ cs. choices.now ++ cs) (counted m)) }
     ensures beyond { Beyond (standing_of debugger.old) (standing_of debugger.new) }
 {
-    follow(alloc, debugger, limit, choices)?;
+    let mut sleep = Sleep::none(alloc);
+    follow(alloc, debugger, limit, choices, false, &mut sleep)?;
     let count = look_ahead(alloc, debugger, limit)?;
     Ok(count)
 }

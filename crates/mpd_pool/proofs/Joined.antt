@@ -1,5 +1,5 @@
 -- The reports of pieces joined in order, and the report of all.
-use Rattle.std.proofs.Common.{◌≡◌, ℕ, zero, suc, ◌+◌, ◌<◌, ◌≤◌, Bool, true, false, ◌||◌, ◌&&◌, List, [], ◌∷◌, ◌++◌, length, take, map, string_bytes, get_or, nat_lt, refl, sym, subst, ap, arith, ◌∙◌}
+use Rattle.std.proofs.Common.{◌≡◌, ℕ, zero, suc, ◌+◌, ◌<◌, ◌≤◌, Bool, true, false, ◌||◌, ◌&&◌, List, [], ◌∷◌, ◌++◌, length, take, drop, map, string_bytes, get_or, refl, sym, subst, ap, arith, ◌∙◌}
 use Rattle.std.specs.List.{AllByRecursion}
 use Rattle.mpd_model.specs.Trail.{Standing, kept}
 use Rattle.mpd_explore.specs.declared.report.Limits.{Limits}
@@ -8,10 +8,9 @@ use Rattle.mpd_explore.specs.declared.report.Report.{Report}
 use Rattle.mpd_explore.specs.Report.{any_bad}
 use Rattle.mpd_explore.specs.Witness.{HasWitness}
 use Rattle.mpd_explore.specs.WitnessTexts.{witness_texts}
-use Rattle.mpd_explore.proofs.WitnessLemmas.{AllFollow}
 use Rattle.mpd_pieces.specs.declared.split.Piece.{Piece}
 use Rattle.mpd_pieces.specs.Pieces.{pieces, numbered, part, split_report, split_more}
-use Rattle.mpd_pieces.specs.Along.{parts, has_more}
+use Rattle.mpd_pieces.specs.Along.{parts, has_more, have_run}
 use Rattle.mpd_pieces.proofs.SplitLemmas.{level_reached}
 use Rattle.mpd_pieces.proofs.ReportLemmas.{parts_next, more_next, texts_next, texts_begun, good_next, all_parts, all_more, ends_parts, ends_more, parts_are, more_is}
 use Rattle.mpd_pool.specs.Parts.{IsPart, AtNumber, CanBegin, CanExplore, HaveWitnesses, HaveTexts, AreJoined, IsJoined, AreListed, IsReport, Added}
@@ -72,15 +71,15 @@ joined_on d l ps i old new r before now own last within at h texts_of leaves mor
     }
 
 -- it ends
-pub joined_last : (d : Standing) (l : Limits) (ps : List Piece) (i : ℕ) (old new r : Report) (before now own : List (List ℕ)) (last all : Bool) → AllFollow → CanExplore d l ps → i < length ps → AtNumber d l ps i r → AreJoined d l (take i ps) old.leaves.items old.more before
+pub joined_last : (d : Standing) (l : Limits) (ps : List Piece) (i : ℕ) (old new r : Report) (before now own : List (List ℕ)) (last left all : Bool) → i < length ps → AtNumber d l ps i r → AreJoined d l (take i ps) old.leaves.items old.more before
     → own ≡ witness_texts l.witnesses (kept d.trail) l.fuel d.world r.leaves.items → new.leaves.items ≡ old.leaves.items ++ r.leaves.items → new.more ≡ (old.more || r.more) → now ≡ before ++ own → last ≡ (l.until_bad && any_bad r.leaves.items) → last ≡ true
-    → all ≡ (new.more || nat_lt (i + 1) (length ps)) → AreListed d l ps new.leaves.items all now
-joined_last d l ps i old new r before now own last all law can within at h texts_of leaves more texts is on behind =
+    → left ≡ have_run l d.world (drop (i + 1) ps) → all ≡ (new.more || left) → AreListed d l ps new.leaves.items all now
+joined_last d l ps i old new r before now own last left all within at h texts_of leaves more texts is on some behind =
     let cs : List ℕ = (get_or ps i none).choices in
     let g : Grown d l ps (i + 1) cs old.leaves.items new.leaves.items last new.more now = grown d l ps i old new r before now own last within at h texts_of leaves more texts is in
     record {
       leaves = ends_parts l d.world ps (i + 1) cs old.leaves.items new.leaves.items last g.leaves g.added h.good g.is_last on;
-      more_is = ends_more l d.world ps (i + 1) cs old.leaves.items new.leaves.items last new.more all law can.1 g.leaves g.added h.good g.is_last on g.more_is behind;
+      more_is = ends_more l d.world ps (i + 1) cs old.leaves.items new.leaves.items last new.more left all g.leaves g.added h.good g.is_last on g.more_is some behind;
       witnesses = g.witnesses;
       texts_are = g.texts_are;
     }
@@ -134,3 +133,10 @@ others_are d l k ps r is h = h.more_is ∙ more_is k l d.world ps is
 
 pub can_explore : (d e : Standing) (l : Limits) (k : ℕ) (ps : List Piece) → CanBegin d l → e ≡ d → ps ≡ numbered 0 (pieces k l.fuel d.world) → CanExplore e l ps
 can_explore d e l k ps can same is = subst (λ (x : Standing). CanExplore x l ps) (sym same) (can, level_reached l.fuel k d.world ps is)
+
+-- the same of one that was left as found
+pub can_same : (d e : Standing) (l : Limits) (ps : List Piece) → e ≡ d → CanExplore d l ps → CanExplore e l ps
+can_same d e l ps same can = subst (λ (x : Standing). CanExplore x l ps) (sym same) can
+
+pub standing_same : (d e : Standing) → e.trail ≡ d.trail → e.world ≡ d.world → e ≡ d
+standing_same d e trail world = λ i. record { trail = trail i; world = world i }

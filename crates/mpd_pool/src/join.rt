@@ -9,7 +9,7 @@ ghost use Rattle.mpd_pool.specs.Parts.{AtNumber, CanExplore, Filled, IsJoined, I
 use crate::gate::Gate;
 use crate::work::{compute, ends_with};
 use mpd_explore::report::{Limits, Report};
-use mpd_pieces::by_pieces::is_more;
+use mpd_pieces::by_pieces::{is_left, is_more};
 use mpd_pieces::split::Piece;
 use mpd_policy::decide::decisions_can_be_followed;
 use mpd_trail::debugger::Debugger;
@@ -90,7 +90,8 @@ fn add_piece<G: Gate>(
     if !is_last {
         return Ok(false);
     }
-    all.more = is_more(all.more, number + 1, pieces.len());
+    let others = is_left(alloc, debugger, pieces, number + 1, limits)?;
+    all.more = is_more(all.more, others);
     Ok(true)
 }
 

@@ -1,9 +1,9 @@
-use Rattle.std.proofs.Common.{◌≡◌, ◌<◌, ◌+◌, ◌++◌, ◌||◌, ◌&&◌, length, take, map, string_bytes, refl, ap, ◌∙◌, arith}
+use Rattle.std.proofs.Common.{◌≡◌, ◌<◌, ◌+◌, ◌++◌, ◌||◌, ◌&&◌, length, take, drop, map, string_bytes, refl, ap, ◌∙◌, arith}
 use Rattle.mpd_model.specs.Trail.{kept}
 use Rattle.mpd_explore.specs.Report.{any_bad}
 use Rattle.mpd_explore.specs.WitnessTexts.{witness_texts}
 use Rattle.mpd_pieces.specs.Pieces.{part, part_left}
-use Rattle.mpd_pieces.specs.Along.{parts}
+use Rattle.mpd_pieces.specs.Along.{parts, have_run}
 use Rattle.mpd_pieces.proofs.SplitLemmas.{reached_at}
 use Rattle.mpd_pieces.proofs.ReportLemmas.{parts_next, more_next, texts_next, good_next, all_parts, all_more, ends_parts, ends_more, texts_begun}
 use Rattle.mpd_pieces.proofs.by_pieces.explore_pieces.Goals as goal
@@ -83,7 +83,9 @@ returns-then-is_last-clause-more g c =
     let more : new.more ≡ (old.more || part_left l p.choices d.world) = rw i.world at c.in_ok-is_last.ensures.more in
     let joined : new.leaves.items ≡ parts l d.world (take (n + 1) ps) = parts_next l d.world ps n p old.leaves.items new.leaves.items within c.index-pieces-place.is i.leaves leaves in
     let any = more_next l d.world ps n p old.more new.more within c.index-pieces-place.is i.more more in
-    ends_more l d.world ps (n + 1) p.choices old.leaves.items new.leaves.items c.in_ok-is_last.is_last new.more c.is_more.result c.decisions_can_be_followed.ensures.follow c.requires.reaches joined leaves i.good last c.if-is_last.true any c.is_more.ensures
+    let left : c.in_ok-others.others ≡ have_run l d.world (drop (n + 1) ps) =
+    c.in_ok-others.ensures.left ∙ ap (λ w. have_run l w (drop (n + 1) ps)) (c.in_ok-is_last.ensures.world ∙ i.world) in
+    ends_more l d.world ps (n + 1) p.choices old.leaves.items new.leaves.items c.in_ok-is_last.is_last new.more c.in_ok-others.others c.is_more.result joined leaves i.good last c.if-is_last.true any left c.is_more.ensures
 
 pub returns-then-is_last-clause-texts : goal.returns-then-is_last-clause-texts
 returns-then-is_last-clause-texts g c =

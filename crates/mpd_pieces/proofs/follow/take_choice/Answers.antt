@@ -6,6 +6,8 @@ use Rattle.mpd_model.specs.Trail.{Trail}
 use Rattle.mpd_trail.specs.Views.{standing_of}
 use Rattle.mpd_explore.proofs.RunLemmas.{enabled_at}
 use Rattle.mpd_explore.proofs.SearchLemmas.{Went}
+use Rattle.mpd_pieces.specs.Along.{sleeping_behind}
+use Rattle.mpd_pieces.specs.Slept.{asleep_there}
 use Rattle.mpd_pieces.proofs.AlongLemmas.{choice_within, some_room, going_chosen}
 use Rattle.mpd_pieces.proofs.follow.take_choice.Goals as goal
 
@@ -19,6 +21,16 @@ index-step-requires c =
     let long : length c.candidates.inside.items.items ≡ length c.args.candidates = ap length c.candidates.view_is in
     let inside : choice < length c.candidates.inside.items.items = omega arith in
     search (rules, inside)
+
+pub take-requires : goal.take-requires
+take-requires c =
+    let d = standing_of c.args.debugger.now in
+    let left : List ℕ = c.args.left.now in
+    let choice : ℕ = get_or left 0 0 in
+    let split : left ≡ choice ∷ drop 1 left = drop-cons left 0 0 c.requires.left in
+    let within : choice < length c.args.candidates = choice_within c.args.limit choice (drop 1 left) d c.args.candidates (rw split at c.requires.reaches) c.requires.choice in
+    let long : length c.deref.result.now ≡ length c.args.candidates = ap length (c.deref.ensures.value ∙ c.candidates.view_is) in
+    omega (arith, within, long)
 
 pub forward-requires-clause-enabled : goal.forward-requires-clause-enabled
 forward-requires-clause-enabled c =
@@ -48,4 +60,7 @@ returns-clause-going c =
     let read : slice_get c.args.candidates choice ≡ Some a = slice_get_read c.args.candidates (length c.args.candidates) choice a refl within held in
     let e = standing_of c.forward.new.self in
     let went : Went d a e = record { kept_is = c.in_ok-forward.ensures.steps; world = c.in_ok-forward.ensures.world; depth = ap (λ (t : Trail). t.depth) c.in_ok-forward.ensures.ok; program = c.in_ok-forward.ensures.program; mode = c.in_ok-forward.ensures.mode; reached = c.in_ok-forward.ensures.reached } in
-    rw split (going_chosen c.args.limit choice (drop 1 left) d e c.args.candidates a (rw split at c.requires.reaches) c.requires.choice read went)
+    let candidates : List Step = c.args.candidates in
+    let there : asleep_there c.take.new.self ≡ sleeping_behind c.args.ends candidates choice a (asleep_there c.args.sleep.now) =
+    c.in_ok-take.ensures.there ∙ ap (λ (xs : List Step). sleeping_behind c.args.ends xs choice a (asleep_there c.args.sleep.now)) (c.deref.ensures.value ∙ c.candidates.view_is) in
+    rw (split, there) (going_chosen c.args.ends (asleep_there c.args.sleep.now) c.args.limit choice (drop 1 left) d e c.args.candidates a (rw split at c.requires.reaches) c.requires.choice read went)
