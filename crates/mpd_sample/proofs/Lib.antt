@@ -1,0 +1,5 @@
+pub mod OrderLemmas
+pub mod HasLemmas
+pub mod KeepLemmas
+pub mod DrawLemmas
+pub mod SampleLemmas

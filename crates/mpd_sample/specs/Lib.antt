@@ -1,0 +1,4 @@
+pub mod Order
+pub mod Drawn
+pub mod Drawing
+pub mod SampleRows
