@@ -1,0 +1,37 @@
+-- Lists over ranges of numbers, one number at a time.
+use Rattle.std.proofs.Common.{◌≡◌, ℕ, suc, ◌<◌, ◌≤◌, ◌+◌, ◌-◌, Bool, true, false, cond, List, [], ◌∷◌, ◌++◌, map, Option, Some, None, refl, sym, ap, ◌∙◌, arith, append_assoc}
+use Rattle.std.specs.List.{filter, range_with_len}
+use Rattle.mpd_model.specs.Why.{first_in}
+
+pub mapped_more : {A : Type 0} (f : ℕ → A) (i n : ℕ) (so_far now total : List A) (x : A) → i < n → so_far ++ map f (range_with_len i (n - i)) ≡ total → now ≡ so_far ++ x ∷ [] → x ≡ f i
+    → now ++ map f (range_with_len (i + 1) (n - (i + 1))) ≡ total
+mapped_more f i n so_far now total x h e more is =
+    let k : n - i ≡ suc (n - (i + 1)) = omega arith in
+    let u : map f (range_with_len i (n - i)) ≡ f i ∷ map f (range_with_len (i + 1) (n - (i + 1))) = rw k refl in
+    ap (λ xs. xs ++ map f (range_with_len (i + 1) (n - (i + 1)))) (more ∙ ap (λ y. so_far ++ y ∷ []) is) ∙ append_assoc so_far (f i ∷ []) (map f (range_with_len (i + 1) (n - (i + 1)))) ∙ ap (λ xs. so_far ++ xs) (sym u) ∙ e
+
+-- ---- the first number behind i that passes, up to n
+
+module _ (t : ℕ → Bool) where
+  abbrev pub first_behind : ℕ → ℕ → Option ℕ
+  first_behind i n = first_in (filter t (range_with_len (i + 1) (n - i)))
+
+  first_by : (b : Bool) (i : ℕ) (rest : List ℕ) → b ≡ false → first_in (cond b (i ∷ rest) rest) ≡ first_in rest
+  first_by true i rest h = cc
+  first_by false i rest h = refl
+
+  this_by : (b : Bool) (i : ℕ) (rest : List ℕ) → b ≡ true → first_in (cond b (i ∷ rest) rest) ≡ Some i
+  this_by true i rest h = refl
+  this_by false i rest h = cc
+
+  first_next : (i n : ℕ) → i < n → first_behind i n ≡ first_in (cond (t (i + 1)) ((i + 1) ∷ filter t (range_with_len (i + 1 + 1) (n - (i + 1)))) (filter t (range_with_len (i + 1 + 1) (n - (i + 1)))))
+  first_next i n h = let k : n - i ≡ suc (n - (i + 1)) = omega arith in rw k refl
+
+  pub first_on : (i n : ℕ) (total : Option ℕ) → i < n → first_behind i n ≡ total → t (i + 1) ≡ false → first_behind (i + 1) n ≡ total
+  first_on i n total h e other = sym (first_by (t (i + 1)) (i + 1) (filter t (range_with_len (i + 1 + 1) (n - (i + 1)))) other) ∙ sym (first_next i n h) ∙ e
+
+  pub first_now : (i n : ℕ) (total : Option ℕ) → i < n → first_behind i n ≡ total → t (i + 1) ≡ true → Some (i + 1) ≡ total
+  first_now i n total h e here = sym (this_by (t (i + 1)) (i + 1) (filter t (range_with_len (i + 1 + 1) (n - (i + 1)))) here) ∙ sym (first_next i n h) ∙ e
+
+  pub first_none : (i n : ℕ) (total : Option ℕ) → n ≤ i → first_behind i n ≡ total → None ≡ total
+  first_none i n total h e = let k : n - i ≡ 0 = omega arith in sym (ap (λ m. first_in (filter t (range_with_len (i + 1) m))) k) ∙ e

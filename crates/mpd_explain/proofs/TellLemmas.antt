@@ -1,0 +1,88 @@
+-- What is told of calls and ranks, where they are and where they aren't.
+use Rattle.std.proofs.Common.{◌≡◌, ℕ, zero, suc, ◌<◌, ◌≤◌, min, Bool, false, ◌&&◌, List, [], ◌∷◌, ◌++◌, length, take, drop, Option, Some, None, slice_get, refl, sym, ap, ◌∙◌, arith, append-nil}
+use Rattle.std.specs.Option.{option_map, option_and_then}
+use Rattle.std.specs.List.{flat_map}
+use Rattle.std.proofs.lemmas.Option.{slice_get_past}
+use Rattle.mpd_model.specs.declared.call.Activity.TheVariants.{Blocked}
+use Rattle.mpd_model.specs.declared.call.Mode.{Mode}
+use Rattle.mpd_model.specs.declared.call.WaitanyCall.{WaitanyCall}
+use Rattle.mpd_model.specs.declared.step.CallId.{CallId}
+use Rattle.mpd_model.specs.declared.step.Step.{Step}
+use Rattle.mpd_model.specs.declared.outcome.Outcome.TheVariants.{Done, Leftovers, Deadlock, Trap}
+use Rattle.mpd_model.specs.Program.{Program}
+use Rattle.mpd_model.specs.World.{RankWorld, World, start}
+use Rattle.mpd_model.specs.Next.{next, fold, waits}
+use Rattle.mpd_explore.specs.declared.report.Ending.{Ending}
+use Rattle.mpd_explore.specs.declared.report.Ending.TheVariants.{Ended, Cut}
+use Rattle.mpd_explore.specs.Report.{is_bad}
+use Rattle.mpd_explain.specs.Requests.{call_of, request_handles}
+use Rattle.mpd_explain.specs.Explained.{rank_line, told_at, explanation}
+
+-- ---- a rank that isn't there
+
+pub no_line : (lines : List ℕ) (w : World) (p : ℕ) → length w.ranks ≤ p → 0 ≡ rank_line lines (slice_get w.ranks p)
+no_line lines w p h = ap (rank_line lines) (sym (slice_get_past w.ranks p h))
+
+pub no_handles : (a : WaitanyCall) (w : World) (p : ℕ) (calls : List CallId) → length w.ranks ≤ p → calls ≡ calls ++ flat_map (call_of p) (request_handles a (slice_get w.ranks p))
+no_handles a w p calls h = sym (ap (λ hs. calls ++ flat_map (call_of p) hs) (ap (request_handles a) (slice_get_past w.ranks p h)) ∙ append-nil calls)
+
+-- ---- a barrier
+
+pub at_barrier : (o : Option RankWorld) (b : Bool) → option_map (λ (r : RankWorld). r.activity) o ≡ Some Blocked → b ≡ (waits o && b)
+at_barrier None b e = cc
+at_barrier (Some r) b e = cc
+
+-- ---- handles
+
+-- so many of a list, or all where there are fewer
+take_few : (n k : ℕ) (xs : List (Option ℕ)) → k ≤ n → (k < n → length xs ≤ k) → take k xs ≡ take n xs
+take_few zero zero xs few all = refl
+take_few zero (suc k) xs few all = absurd (omega (arith, few))
+take_few (suc n) zero [] few all = refl
+take_few (suc n) zero (x ∷ xs) few all = absurd (omega (arith, all (omega arith)))
+take_few (suc n) (suc k) [] few all = refl
+take_few (suc n) (suc k) (x ∷ xs) few all = ap (λ ys. x ∷ ys) (take_few n k xs (omega (arith, few)) (λ h. omega (arith, all (omega (arith, h)))))
+
+drop_few : (n k : ℕ) (xs : List (Option ℕ)) → k ≤ n → (k < n → length xs ≤ k) → drop k xs ≡ drop n xs
+drop_few zero zero xs few all = refl
+drop_few zero (suc k) xs few all = absurd (omega (arith, few))
+drop_few (suc n) zero [] few all = refl
+drop_few (suc n) zero (x ∷ xs) few all = absurd (omega (arith, all (omega arith)))
+drop_few (suc n) (suc k) [] few all = refl
+drop_few (suc n) (suc k) (x ∷ xs) few all = drop_few n k xs (omega (arith, few)) (λ h. omega (arith, all (omega (arith, h))))
+
+pub taken_within : (n : ℕ) (xs : List (Option ℕ)) → take (min n (length xs)) xs ≡ take n xs
+taken_within n xs = take_few n (min n (length xs)) xs (omega arith) (λ h. omega (arith, h))
+
+pub dropped_within : (n : ℕ) (xs : List (Option ℕ)) → drop (min n (length xs)) xs ≡ drop n xs
+dropped_within n xs = drop_few n (min n (length xs)) xs (omega arith) (λ h. omega (arith, h))
+
+-- ---- the end of a run
+
+fold_by : (o : Option World) (xs ys : List Step) → ((v : World) → fold v (xs ++ ys) ≡ option_and_then (λ u. fold u ys) (fold v xs)) → option_and_then (λ v. fold v (xs ++ ys)) o ≡ option_and_then (λ v. fold v ys) (option_and_then (λ v. fold v xs) o)
+fold_by None xs ys each = refl
+fold_by (Some v) xs ys each = each v
+
+fold_append : (w : World) (xs ys : List Step) → fold w (xs ++ ys) ≡ option_and_then (λ v. fold v ys) (fold w xs)
+fold_append w [] ys = refl
+fold_append w (a ∷ xs) ys = fold_by (next w a) xs ys (λ v. fold_append v xs ys)
+
+-- behind the steps that lead to a state, those from there lead to the same end
+pub told_behind : (s : Program) (mode : Mode) (before steps : List Step) (w : World) (e : Ending) → fold (start s mode) before ≡ Some w → told_at s (fold w steps) e ≡ explanation s mode (before ++ steps) e
+told_behind s mode before steps w e leads = ap (λ o. told_at s o e) (sym (fold_append (start s mode) before steps ∙ ap (option_and_then (λ v. fold v steps)) leads))
+
+told_none : (s : Program) (o : Option World) (e : Ending) → is_bad e ≡ false → told_at s o e ≡ []
+told_none s None e good = refl
+told_none s (Some w) Cut good = refl
+told_none s (Some w) (Ended Done) good = refl
+told_none s (Some w) (Ended (Leftovers calls)) good = refl
+told_none s (Some w) (Ended (Deadlock blocked)) good = cc
+told_none s (Some w) (Ended (Trap ranks)) good = cc
+
+-- of what is no deadlock and no trap nothing is told
+pub untold : (s : Program) (mode : Mode) (steps : List Step) (e : Ending) → is_bad e ≡ false → explanation s mode steps e ≡ []
+untold s mode steps e good = told_none s (fold (start s mode) steps) e good
+
+pub ruleset telling = (no_line, no_handles, at_barrier)
+
+pub ruleset handling = (taken_within, dropped_within)

@@ -1,0 +1,146 @@
+-- What is told of a run that ends in a deadlock or a trap: a text of lines that begin with two spaces.
+use Rattle.std.specs.Prelude.{ℕ, if◌then◌else◌, List, [], ◌∷◌, ◌++◌, Option, Some, None, slice_get, slice_index_or, codes}
+use Rattle.std.specs.Fmt.{decimal}
+use Rattle.std.specs.List.{flat_map}
+use Rattle.mpd_model.specs.declared.step.CallId.{CallId}
+use Rattle.mpd_model.specs.declared.step.Step.{Step}
+use Rattle.mpd_model.specs.declared.call.Call.{Call}
+use Rattle.mpd_model.specs.declared.call.CallKind.{CallKind}
+use Rattle.mpd_model.specs.declared.call.CallKind.TheVariants.{Send, Recv, Wait, Waitany, Barrier}
+use Rattle.mpd_model.specs.declared.call.Mode.{Mode}
+use Rattle.mpd_model.specs.declared.call.SendCall.{SendCall}
+use Rattle.mpd_model.specs.declared.call.RecvCall.{RecvCall}
+use Rattle.mpd_model.specs.declared.outcome.TrappedRank.{TrappedRank}
+use Rattle.mpd_model.specs.declared.outcome.Outcome.TheVariants.{Done, Leftovers, Deadlock, Trap}
+use Rattle.mpd_model.specs.Program.{Program}
+use Rattle.mpd_model.specs.World.{RankWorld, World, Board, call_at, kind_at, is_barrier, rank_numbers, start}
+use Rattle.mpd_model.specs.Next.{fold, is_at_barrier}
+use Rattle.mpd_model.specs.Outcomes.{first_number, has_ended}
+use Rattle.mpd_model.specs.Texts.{line, id_text, kind_text, trap_name}
+use Rattle.mpd_explore.specs.declared.report.Ending.{Ending}
+use Rattle.mpd_explore.specs.declared.report.Ending.TheVariants.{Ended, Cut}
+use Rattle.mpd_explain.specs.declared.missed.Miss.{Miss}
+use Rattle.mpd_explain.specs.Requests.{requests}
+use Rattle.mpd_explain.specs.Missed.{nearest, miss_text, taken}
+use Rattle.mpd_explain.specs.Waits.{waits_line, cycle_lines}
+
+-- ---- lines of the script
+
+-- the line of a statement, 0 where there is none
+abbrev pub statement_line : List ℕ → Option ℕ → ℕ
+statement_line lines None = 0
+statement_line lines (Some number) = slice_index_or lines number 0
+
+-- the line of the statement that issued a call
+abbrev pub issue_line : List ℕ → Option Call → ℕ
+issue_line lines None = 0
+issue_line lines (Some c) = statement_line lines (Some c.statement)
+
+-- the line of the statement that a rank has not got past
+abbrev pub rank_line : List ℕ → Option RankWorld → ℕ
+rank_line lines None = 0
+rank_line lines (Some r) = statement_line lines (first_number r.rest)
+
+-- ---- calls
+
+abbrev pub kind_words : Option CallKind → List ℕ
+kind_words None = []
+kind_words (Some kind) = 32 ∷ kind_text kind
+
+-- `line 9, 0.1 recv from 1 tag 2`
+abbrev pub placed : Program → Board → CallId → List ℕ
+placed s b c = codes "line " ++ decimal (issue_line s.lines (call_at b c)) ++ codes ", " ++ id_text c ++ kind_words (kind_at b c)
+
+-- what a send and a receive wait for
+abbrev pub send_wish : ℕ → SendCall → List ℕ
+send_wish p s = codes "for a receive of rank " ++ decimal s.to ++ codes " from rank " ++ decimal p ++ codes " with tag " ++ decimal s.tag
+
+abbrev pub any_or : List ℕ → Option ℕ → List ℕ
+any_or name None = codes "any " ++ name
+any_or name (Some n) = name ++ 32 ∷ decimal n
+
+abbrev pub recv_wish : RecvCall → List ℕ
+recv_wish r = codes "for a send of " ++ any_or (codes "rank") r.from ++ codes " with " ++ any_or (codes "tag") r.tag
+
+-- what a call of rank p waits for
+abbrev pub wish : ℕ → Option CallKind → List ℕ
+wish p None = codes "for nothing"
+wish p (Some (Send s)) = send_wish p s
+wish p (Some (Recv r)) = recv_wish r
+wish p (Some (Wait t)) = codes "for this request"
+wish p (Some (Waitany a)) = codes "for one of these requests"
+wish p (Some Barrier) = codes "for all ranks at a barrier"
+
+-- ---- what a wait, a waitany and a barrier wait for
+
+-- `    line 7, 0.0 irecv from 1 tag 2: for a send of rank 1 with tag 2`
+abbrev pub request_line : Program → Board → CallId → List ℕ
+request_line s b c = line (codes "    " ++ placed s b c ++ codes ": " ++ wish c.rank (kind_at b c))
+
+-- `    nearest miss: line 12, 1.0 send to 0 tag 1 value 5: another tag`
+abbrev pub miss_line : Program → Board → Option (CallId × Miss) → List ℕ
+miss_line s b None = []
+miss_line s b (Some m) = line (codes "    nearest miss: " ++ placed s b m.0 ++ codes ": " ++ miss_text m.1)
+
+-- `    the last that fits is taken: line 13, 1.0 send to 0 tag 7 value 42, by line 8, 0.0 irecv from any tag any`
+abbrev pub taken_line : Program → Board → Option (CallId × CallId) → List ℕ
+taken_line s b None = []
+taken_line s b (Some t) = line (codes "    the last that fits is taken: " ++ placed s b t.0 ++ codes ", by " ++ placed s b t.1)
+
+-- what nearly fits a call, and what would have fitted it
+abbrev pub helps : Program → Board → CallId → List ℕ
+helps s b c = miss_line s b (nearest b c) ++ taken_line s b (taken b c)
+
+abbrev pub request_lines : Program → Board → CallId → List ℕ
+request_lines s b c = request_line s b c ++ helps s b c
+
+-- why a rank is not at a barrier
+abbrev pub absence : Option RankWorld → List ℕ
+absence None = codes "it is none"
+absence (Some r) = if has_ended r then codes "it has ended" else codes "it is at another call"
+
+-- `    rank 1 is not there: it has ended`
+abbrev pub absence_line : ℕ → List ℕ → List ℕ
+absence_line q why = line (codes "    rank " ++ decimal q ++ codes " is not there: " ++ why)
+
+-- that of a rank which is not at a barrier
+abbrev pub absent_line : World → ℕ → List ℕ
+absent_line w q = if is_at_barrier w q then [] else absence_line q (absence (slice_get w.ranks q))
+
+-- the lines behind that of a blocked call
+abbrev pub details : Program → World → CallId → Option CallKind → List ℕ
+details s w c kind = if is_barrier kind then flat_map (absent_line w) (rank_numbers w.board) else helps s w.board c ++ flat_map (request_lines s w.board) (requests w c.rank kind)
+
+-- ---- deadlocks and traps
+
+-- `  rank 0 waits at line 9, 0.1 recv from 1 tag 2: for a send of rank 1 with tag 2`
+abbrev pub blocked_line : Program → Board → CallId → List ℕ
+blocked_line s b c = line (codes "  rank " ++ decimal c.rank ++ codes " waits at " ++ placed s b c ++ codes ": " ++ wish c.rank (kind_at b c))
+
+abbrev pub blocked_lines : Program → World → CallId → List ℕ
+blocked_lines s w c = blocked_line s w.board c ++ details s w c (kind_at w.board c)
+
+-- what is told of a deadlock in which these calls are blocked: of each of them, whom their ranks wait for, and which ranks wait for one
+-- another
+abbrev pub deadlock_text : Program → World → List CallId → List ℕ
+deadlock_text s w blocked = flat_map (blocked_lines s w) blocked ++ flat_map (waits_line w) blocked ++ cycle_lines w
+
+-- `  rank 1, line 7: trap zero-divisor`
+abbrev pub trap_line : Program → World → TrappedRank → List ℕ
+trap_line s w t = line (codes "  rank " ++ decimal t.rank ++ codes ", line " ++ decimal (rank_line s.lines (slice_get w.ranks t.rank)) ++ codes ": trap " ++ trap_name t.trap)
+
+-- what is told of a run that ends so in a world
+abbrev pub told : Program → World → Ending → List ℕ
+told s w Cut = []
+told s w (Ended Done) = []
+told s w (Ended (Leftovers calls)) = []
+told s w (Ended (Deadlock blocked)) = deadlock_text s w blocked
+told s w (Ended (Trap ranks)) = flat_map (trap_line s w) ranks
+
+abbrev pub told_at : Program → Option World → Ending → List ℕ
+told_at s None e = []
+told_at s (Some w) e = told s w e
+
+-- The explanation of a run that has these steps from the start of the script, and ends so.
+abbrev pub explanation : Program → Mode → List Step → Ending → List ℕ
+explanation s mode steps e = told_at s (fold (start s mode) steps) e

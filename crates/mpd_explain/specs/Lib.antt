@@ -1,0 +1,10 @@
+pub mod Requests
+pub mod Missed
+pub mod Waits
+pub mod Explained
+pub mod Follow
+pub mod Explanations
+pub mod Told
+pub mod ExplainedRows
+pub mod KindRows
+pub mod CallLaws

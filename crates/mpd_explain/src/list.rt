@@ -1,0 +1,27 @@
+//! Lists that grow.
+
+ghost use Rattle.std.specs.Prelude.{◌≡◌, ◌++◌, [], ◌∷◌, if◌then◌else◌, OnOk, map, string_bytes};
+
+use std::alloc::AllocError;
+
+/// Adds a text.
+pub(crate) fn push_text(texts: &mut Vec<String>, text: String) -> Result<(), AllocError>
+    ensures { OnOk result (map string_bytes texts.new.items ≡ map string_bytes texts.old.items ++ string_bytes text ∷ []) }
+{
+    texts.push(text)?;
+    Ok(())
+}
+
+/// Adds a number, where it is chosen.
+pub(crate) fn push_if(
+    numbers: &mut Vec<usize>,
+    number: usize,
+    is_chosen: bool,
+) -> Result<(), AllocError>
+    ensures { OnOk result (numbers.new.items ≡ numbers.old.items ++ (if is_chosen then number ∷ [] else [])) }
+{
+    if is_chosen {
+        numbers.push(number)?;
+    }
+    Ok(())
+}
