@@ -1,0 +1,3 @@
+pub mod AlongLemmas
+pub mod ChoiceLemmas
+pub mod WriteLemmas
