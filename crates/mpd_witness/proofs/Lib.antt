@@ -1,0 +1,10 @@
+mod PieceLemmas
+mod TextLemmas
+mod FileLemmas
+mod VerdictLemmas
+mod ClearTexts
+mod RoundTrip
+mod ReportRead
+mod WholeReport
+mod ReportLemmas
+mod ReportFileLemmas

@@ -1,0 +1,265 @@
+-- What a report writes of a deadlock and of its witness is read as that witness.
+use Rattle.std.proofs.Common.{◌≡◌, ℕ, ◌^◌, ◌<◌, Bool, true, false, if◌then◌else◌, List, [], ◌∷◌, ◌++◌, length, length-append, map, Option, Some, Ok, refl, ap, sym, ◌∙◌, arith, append_assoc}
+use Rattle.std.specs.Prelude.{option_map, bytes_eq, codes}
+use Rattle.std.specs.Char.{is_ascii_digit}
+use Rattle.std.specs.Fmt.{decimal}
+use Rattle.std.specs.List.{flat_map, AllByRecursion}
+use Rattle.std.proofs.lemmas.Slice.Eq.{bytes_eq-Decides}
+use Rattle.mpd_model.specs.declared.step.CallId.{CallId}
+use Rattle.mpd_model.specs.declared.step.Step.{Step}
+use Rattle.mpd_model.specs.declared.step.Step.TheVariants.{Local, Match, Wake, WakeAny, Release}
+use Rattle.mpd_model.specs.Words.{number_of, both_of, call_with, call_of, step_in, step_of, pair_of}
+use Rattle.mpd_model.specs.Texts.{id_text, step_text, steps_text, spaced, line}
+use Rattle.mpd_explore.specs.declared.report.Witness.{Witness}
+use Rattle.mpd_explore.specs.ReportText.{choices_text}
+use Rattle.mpd_witness.specs.WitnessText.{parts_at, put_first, each_read, behind_word, some_read, blocked_of, behind_cut, steps_of, line_of, with_steps, with_blocked, witness_in, witness_of}
+use Rattle.mpd_witness.specs.WitnessLaws.{IsShortCall, IsShortStep, IsShort}
+use Rattle.mpd_witness.proofs.ClearTexts.{is_clear, clear_join, parts_next, parts_listed, cut_next, line_clear, words_next, words_last, decimal_clear, decimal_some, number_read}
+use Rattle.mpd_witness.proofs.TextLemmas.{call_is}
+
+-- ---- bytes that aren't in calls, steps and lines
+
+pub record IsApart (c : ℕ) : Type 0 where
+  pub digit : is_ascii_digit c ≡ false
+  pub dot : is_clear c (46 ∷ []) ≡ true
+  pub blank : is_clear c (32 ∷ []) ≡ true
+  pub runs : is_clear c (codes "local ") ≡ true
+  pub pairs : is_clear c (codes "match ") ≡ true
+  pub wakes : is_clear c (codes "wake ") ≡ true
+  pub chooses : is_clear c (codes "wakeany ") ≡ true
+  pub frees : is_clear c (codes "release") ≡ true
+
+pub record IsNoLine (c : ℕ) : Type 0 where
+  pub apart : IsApart c
+  pub comma : is_clear c (44 ∷ []) ≡ true
+  pub colon : is_clear c (58 ∷ []) ≡ true
+  pub leaf : is_clear c (codes "leaf ") ≡ true
+  pub opens : is_clear c (codes " [") ≡ true
+  pub closes : is_clear c (codes "] ") ≡ true
+  pub stuck : is_clear c (codes "deadlock") ≡ true
+  pub shows : is_clear c (codes "witness ") ≡ true
+
+comma_apart : IsApart 44
+comma_apart = record { digit = refl; dot = refl; blank = refl; runs = refl; pairs = refl; wakes = refl; chooses = refl; frees = refl }
+
+pub feed_apart : IsNoLine 10
+feed_apart = record {
+  apart = record { digit = refl; dot = refl; blank = refl; runs = refl; pairs = refl; wakes = refl; chooses = refl; frees = refl };
+  comma = refl;
+  colon = refl;
+  leaf = refl;
+  opens = refl;
+  closes = refl;
+  stuck = refl;
+  shows = refl;
+}
+
+pub return_apart : IsNoLine 13
+return_apart = record {
+  apart = record { digit = refl; dot = refl; blank = refl; runs = refl; pairs = refl; wakes = refl; chooses = refl; frees = refl };
+  comma = refl;
+  colon = refl;
+  leaf = refl;
+  opens = refl;
+  closes = refl;
+  stuck = refl;
+  shows = refl;
+}
+
+pub wide : (n : ℕ) → n < 1000000000 → n < 2 ^ 64
+wide n h = omega arith
+
+pub call_clear : (c : ℕ) → is_ascii_digit c ≡ false → is_clear c (46 ∷ []) ≡ true → (d : CallId) → IsShortCall d → is_clear c (id_text d) ≡ true
+call_clear c e p d h =
+    clear_join c (decimal d.rank) (46 ∷ decimal d.index) (decimal_clear c d.rank e (wide d.rank h.0)) (clear_join c (46 ∷ []) (decimal d.index) p (decimal_clear c d.index e (wide d.index h.1)))
+
+step_clear : (c : ℕ) → IsApart c → (a : Step) → IsShortStep a → is_clear c (step_text a) ≡ true
+step_clear c k (Local p) h = clear_join c (codes "local ") (decimal p) k.runs (decimal_clear c p k.digit (wide p h))
+step_clear c k (Match s r) h =
+    clear_join c (codes "match " ++ id_text s) (32 ∷ id_text r) (clear_join c (codes "match ") (id_text s) k.pairs (call_clear c k.digit k.dot s h.0))
+    (clear_join c (32 ∷ []) (id_text r) k.blank (call_clear c k.digit k.dot r h.1))
+step_clear c k (Wake p) h = clear_join c (codes "wake ") (decimal p) k.wakes (decimal_clear c p k.digit (wide p h))
+step_clear c k (WakeAny p i) h =
+    clear_join c (codes "wakeany " ++ decimal p) (32 ∷ decimal i) (clear_join c (codes "wakeany ") (decimal p) k.chooses (decimal_clear c p k.digit (wide p h.0)))
+    (clear_join c (32 ∷ []) (decimal i) k.blank (decimal_clear c i k.digit (wide i h.1)))
+step_clear c k Release h = k.frees
+
+pub each_so : {A : Type 0} (P Q : A → Type 0) → ((x : A) → P x → Q x) → (xs : List A) → AllByRecursion P xs → AllByRecursion Q xs
+each_so P Q f [] h = tt
+each_so P Q f (x ∷ xs) h = (f x h.0, each_so P Q f xs h.1)
+
+pub listed_clear : {A : Type 0} (c : ℕ) (f : A → List ℕ) (xs : List A) → AllByRecursion (λ x. is_clear c (f x) ≡ true) xs → is_clear c (flat_map f xs) ≡ true
+listed_clear c f [] h = refl
+listed_clear c f (x ∷ xs) h = clear_join c (f x) (flat_map f xs) h.0 (listed_clear c f xs h.1)
+
+-- ---- a call and a step are read
+
+call_read : (c : CallId) → IsShortCall c → call_of (id_text c) ≡ Some c
+call_read c h =
+    call_is (id_text c) (decimal c.rank) (decimal c.index) (cut_next 46 (decimal c.rank) (decimal c.index) (decimal_clear 46 c.rank refl (wide c.rank h.0)))
+    ∙ ap (λ o. call_with o (number_of (decimal c.index))) (number_read c.rank h.0) ∙ ap (call_with (Some c.rank)) (number_read c.index h.1)
+
+some_call : (c : CallId) → IsShortCall c → 0 < length (id_text c)
+some_call c h = let d : 0 < length (decimal c.rank) = decimal_some c.rank (wide c.rank h.0) in omega (arith, length-append (decimal c.rank) (46 ∷ decimal c.index), d)
+
+step_read : (a : Step) → IsShortStep a → step_of (step_text a) ≡ Some a
+step_read (Local p) h =
+    ap step_in (words_next (codes "local") (decimal p) (omega arith) refl refl
+    ∙ ap (λ ws. codes "local" ∷ ws) (words_last (decimal p) (decimal_some p (wide p h)) (decimal_clear 32 p refl (wide p h)) (decimal_clear 9 p refl (wide p h))))
+    ∙ ap (option_map Local) (number_read p h)
+step_read (Match s r) h =
+    ap (λ t. step_of t) (append_assoc (codes "match ") (id_text s) (32 ∷ id_text r))
+    ∙ ap step_in (words_next (codes "match") (id_text s ++ 32 ∷ id_text r) (omega arith) refl refl
+    ∙ ap (λ ws. codes "match" ∷ ws) (words_next (id_text s) (id_text r) (some_call s h.0) (call_clear 32 refl refl s h.0) (call_clear 9 refl refl s h.0)
+    ∙ ap (λ ws. id_text s ∷ ws) (words_last (id_text r) (some_call r h.1) (call_clear 32 refl refl r h.1) (call_clear 9 refl refl r h.1))))
+    ∙ ap (λ o. option_map (λ q. Match q.0 q.1) (pair_of o (call_of (id_text r)))) (call_read s h.0)
+    ∙ ap (λ o. option_map (λ q. Match q.0 q.1) (pair_of (Some s) o)) (call_read r h.1)
+step_read (Wake p) h =
+    ap step_in (words_next (codes "wake") (decimal p) (omega arith) refl refl
+    ∙ ap (λ ws. codes "wake" ∷ ws) (words_last (decimal p) (decimal_some p (wide p h)) (decimal_clear 32 p refl (wide p h)) (decimal_clear 9 p refl (wide p h))))
+    ∙ ap (option_map Wake) (number_read p h)
+step_read (WakeAny p i) h =
+    ap (λ t. step_of t) (append_assoc (codes "wakeany ") (decimal p) (32 ∷ decimal i))
+    ∙ ap step_in (words_next (codes "wakeany") (decimal p ++ 32 ∷ decimal i) (omega arith) refl refl
+    ∙ ap (λ ws. codes "wakeany" ∷ ws) (words_next (decimal p) (decimal i) (decimal_some p (wide p h.0)) (decimal_clear 32 p refl (wide p h.0)) (decimal_clear 9 p refl (wide p h.0))
+    ∙ ap (λ ws. decimal p ∷ ws) (words_last (decimal i) (decimal_some i (wide i h.1)) (decimal_clear 32 i refl (wide i h.1)) (decimal_clear 9 i refl (wide i h.1)))))
+    ∙ ap (λ o. option_map (λ q. WakeAny q.0 q.1) (both_of o (number_of (decimal i)))) (number_read p h.0)
+    ∙ ap (λ o. option_map (λ q. WakeAny q.0 q.1) (both_of (Some p) o)) (number_read i h.1)
+step_read Release h = refl
+
+all_read : {A : Type 0} (read : List ℕ → Option A) (f : A → List ℕ) (P : A → Type 0) → ((x : A) → P x → read (f x) ≡ Some x) → (xs : List A) → AllByRecursion P xs → each_read read (map f xs) ≡ Some xs
+all_read read f P r [] h = refl
+all_read {A} read f P r (x ∷ xs) h = ap (λ (o : Option A). put_first o (each_read read (map f xs))) (r x h.0) ∙ ap (put_first (Some x)) (all_read read f P r xs h.1)
+
+-- ---- the second line
+
+abbrev pub second_text : ℕ → List Step → List ℕ
+second_text m steps = codes "witness " ++ decimal m ++ 58 ∷ steps_text steps
+
+abbrev behind_space : Step → List ℕ
+behind_space a = 32 ∷ step_text a
+
+space_clear : (c : ℕ) → IsApart c → (a : Step) → IsShortStep a → is_clear c (behind_space a) ≡ true
+space_clear c k a h = clear_join c (32 ∷ []) (step_text a) k.blank (step_clear c k a h)
+
+steps_read : (a : Step) (steps : List Step) → IsShortStep a → AllByRecursion IsShortStep steps → each_read step_of (parts_at 44 (steps_text (a ∷ steps))) ≡ Some (a ∷ steps)
+steps_read a steps h k =
+    ap (each_read step_of) (parts_listed 44 behind_space (behind_space a) steps (space_clear 44 comma_apart a h)
+    (each_so IsShortStep (λ b. is_clear 44 (behind_space b) ≡ true) (space_clear 44 comma_apart) steps k))
+    ∙ all_read step_of behind_space IsShortStep step_read (a ∷ steps) (h, k)
+
+pub second_read_back : (m : ℕ) (steps : List Step) → m < 2 ^ 64 → AllByRecursion IsShortStep steps → 0 < length steps → steps_of (second_text m steps) ≡ Some steps
+second_read_back m [] big h some = absurd (omega arith)
+second_read_back m (a ∷ steps) big h some =
+    ap (λ o. each_read step_of (parts_at 44 (behind_cut (second_text m (a ∷ steps)) o)))
+    (cut_next 58 (codes "witness " ++ decimal m) (steps_text (a ∷ steps)) (clear_join 58 (codes "witness ") (decimal m) refl (decimal_clear 58 m refl big)))
+    ∙ steps_read a steps h.0 h.1
+
+steps_clear : (c : ℕ) → IsNoLine c → (steps : List Step) → AllByRecursion IsShortStep steps → is_clear c (steps_text steps) ≡ true
+steps_clear c k [] h = refl
+steps_clear c k (a ∷ steps) h =
+    clear_join c (behind_space a) (flat_map (λ b. 44 ∷ 32 ∷ step_text b) steps) (space_clear c k.apart a h.0)
+    (listed_clear c (λ b. 44 ∷ 32 ∷ step_text b) steps
+    (each_so IsShortStep (λ b. is_clear c (44 ∷ 32 ∷ step_text b) ≡ true) (λ b s. clear_join c (44 ∷ []) (behind_space b) k.comma (space_clear c k.apart b s)) steps h.1))
+
+pub second_clear : (c m : ℕ) → IsNoLine c → (steps : List Step) → m < 2 ^ 64 → AllByRecursion IsShortStep steps → is_clear c (second_text m steps) ≡ true
+second_clear c m k steps big h =
+    clear_join c (codes "witness " ++ decimal m) (58 ∷ steps_text steps) (clear_join c (codes "witness ") (decimal m) k.shows (decimal_clear c m k.apart.digit big))
+    (clear_join c (58 ∷ []) (steps_text steps) k.colon (steps_clear c k steps h))
+
+-- ---- the first line
+
+abbrev pub first_text : ℕ → List ℕ → List CallId → List ℕ
+first_text n choices calls = codes "leaf " ++ decimal n ++ codes " [" ++ choices_text choices ++ codes "] " ++ (codes "deadlock" ++ spaced id_text calls)
+
+abbrev word : List ℕ
+word = codes "deadlock"
+
+no_word : (a : List ℕ) → is_clear 100 a ≡ true → bytes_eq a word ≡ false
+no_word a e =
+    elim (bytes_eq a word) as (λ v. bytes_eq a word ≡ v → v ≡ false) [
+      | true ↦ λ k. absurd (let same : a ≡ word = (bytes_eq-Decides a word).0 k in let t : is_clear 100 word ≡ true = ap (is_clear 100) (sym same) ∙ e in let x : ⊥ = cc in x)
+      | false ↦ λ k. refl
+    ] refl
+
+skipped : (a z : List ℕ) → is_clear 32 a ≡ true → is_clear 100 a ≡ true → behind_word word (parts_at 32 (a ++ 32 ∷ z)) ≡ behind_word word (parts_at 32 z)
+skipped a z e h =
+    ap (behind_word word) (parts_next 32 a z e) ∙ ap (λ (v : Bool). if v then Some (parts_at 32 z) else behind_word word (parts_at 32 z)) (no_word a h)
+
+abbrev pub Fits : ℕ → Type 0
+Fits n = n < 2 ^ 64
+
+choices_skipped : (a : List ℕ) (cs : List ℕ) (z : List ℕ) → is_clear 32 a ≡ true → is_clear 100 a ≡ true → AllByRecursion Fits cs
+    → behind_word word (parts_at 32 (a ++ (flat_map (λ d. 32 ∷ decimal d) cs ++ 93 ∷ 32 ∷ z))) ≡ behind_word word (parts_at 32 z)
+choices_skipped a [] z e h k =
+    ap (λ t. behind_word word (parts_at 32 t)) (sym (append_assoc a (93 ∷ []) (32 ∷ z))) ∙ skipped (a ++ 93 ∷ []) z (clear_join 32 a (93 ∷ []) e refl) (clear_join 100 a (93 ∷ []) h refl)
+choices_skipped a (d ∷ ds) z e h k =
+    ap (λ t. behind_word word (parts_at 32 (a ++ 32 ∷ t))) (append_assoc (decimal d) (flat_map (λ x. 32 ∷ decimal x) ds) (93 ∷ 32 ∷ z))
+    ∙ skipped a (decimal d ++ (flat_map (λ x. 32 ∷ decimal x) ds ++ 93 ∷ 32 ∷ z)) e h
+    ∙ choices_skipped (decimal d) ds z (decimal_clear 32 d refl k.0) (decimal_clear 100 d refl k.0) k.1
+
+bracket_skipped : (cs z : List ℕ) → AllByRecursion Fits cs → behind_word word (parts_at 32 ((91 ∷ []) ++ (choices_text cs ++ 93 ∷ 32 ∷ z))) ≡ behind_word word (parts_at 32 z)
+bracket_skipped [] z k = skipped (91 ∷ 93 ∷ []) z refl refl
+bracket_skipped (c ∷ cs) z k =
+    ap (λ t. behind_word word (parts_at 32 (91 ∷ t))) (append_assoc (decimal c) (flat_map (λ d. 32 ∷ decimal d) cs) (93 ∷ 32 ∷ z))
+    ∙ choices_skipped (91 ∷ decimal c) cs z (clear_join 32 (91 ∷ []) (decimal c) refl (decimal_clear 32 c refl k.0)) (clear_join 100 (91 ∷ []) (decimal c) refl (decimal_clear 100 c refl k.0)) k.1
+
+-- the parts of the line, grouped to the right
+regrouped : (a b c d e z : List ℕ) → a ++ b ++ c ++ d ++ e ++ z ≡ a ++ (b ++ (c ++ (d ++ (e ++ z))))
+regrouped a b c d e z = simp append_assoc
+
+behind_deadlock : (n : ℕ) (cs : List ℕ) (calls : List CallId) → Fits n → AllByRecursion Fits cs → AllByRecursion IsShortCall calls
+    → behind_word word (parts_at 32 (first_text n cs calls)) ≡ Some (map id_text calls)
+behind_deadlock n cs calls f k h =
+    let z : List ℕ = codes "deadlock" ++ spaced id_text calls in
+    ap (λ t. behind_word word (parts_at 32 t)) (regrouped (codes "leaf ") (decimal n) (codes " [") (choices_text cs) (codes "] ") z)
+    ∙ skipped (codes "leaf") (decimal n ++ 32 ∷ ((91 ∷ []) ++ (choices_text cs ++ 93 ∷ 32 ∷ z))) refl refl
+    ∙ skipped (decimal n) ((91 ∷ []) ++ (choices_text cs ++ 93 ∷ 32 ∷ z)) (decimal_clear 32 n refl f) (decimal_clear 100 n refl f)
+    ∙ bracket_skipped cs z k
+    ∙ ap (behind_word word) (parts_listed 32 id_text (codes "deadlock") calls refl (each_so IsShortCall (λ c. is_clear 32 (id_text c) ≡ true) (call_clear 32 refl refl) calls h))
+
+some_calls : (calls : List CallId) → AllByRecursion IsShortCall calls → 0 < length calls → some_read call_of (Some (map id_text calls)) ≡ Some calls
+some_calls [] h l = absurd (omega arith)
+some_calls (c ∷ calls) h l = all_read call_of id_text IsShortCall call_read (c ∷ calls) h
+
+pub first_read_back : (n : ℕ) (cs : List ℕ) (calls : List CallId) → Fits n → AllByRecursion Fits cs → AllByRecursion IsShortCall calls → 0 < length calls → blocked_of (first_text n cs calls) ≡ Some calls
+first_read_back n cs calls f k h l = ap (some_read call_of) (behind_deadlock n cs calls f k h) ∙ some_calls calls h l
+
+pub choices_clear : (c : ℕ) → IsNoLine c → (cs : List ℕ) → AllByRecursion Fits cs → is_clear c (choices_text cs) ≡ true
+choices_clear c k [] h = refl
+choices_clear c k (d ∷ ds) h =
+    clear_join c (decimal d) (flat_map (λ x. 32 ∷ decimal x) ds) (decimal_clear c d k.apart.digit h.0)
+    (listed_clear c (λ x. 32 ∷ decimal x) ds (each_so Fits (λ x. is_clear c (32 ∷ decimal x) ≡ true) (λ x f. clear_join c (32 ∷ []) (decimal x) k.apart.blank (decimal_clear c x k.apart.digit f)) ds h.1))
+
+first_clear : (c n : ℕ) → IsNoLine c → (cs : List ℕ) (calls : List CallId) → Fits n → AllByRecursion Fits cs → AllByRecursion IsShortCall calls → is_clear c (first_text n cs calls) ≡ true
+first_clear c n k cs calls f g h =
+    let calls_clear : is_clear c (spaced id_text calls) ≡ true =
+    listed_clear c (λ x. 32 ∷ id_text x) calls
+    (each_so IsShortCall (λ x. is_clear c (32 ∷ id_text x) ≡ true) (λ x s. clear_join c (32 ∷ []) (id_text x) k.apart.blank (call_clear c k.apart.digit k.apart.dot x s)) calls h) in
+    let a = clear_join c (codes "leaf ") (decimal n) k.leaf (decimal_clear c n k.apart.digit f) in
+    let b = clear_join c (codes "leaf " ++ decimal n) (codes " [") a k.opens in
+    let d = clear_join c (codes "leaf " ++ decimal n ++ codes " [") (choices_text cs) b (choices_clear c k cs g) in
+    let e = clear_join c (codes "leaf " ++ decimal n ++ codes " [" ++ choices_text cs) (codes "] ") d k.closes in
+    clear_join c (codes "leaf " ++ decimal n ++ codes " [" ++ choices_text cs ++ codes "] ") (codes "deadlock" ++ spaced id_text calls) e (clear_join c (codes "deadlock") (spaced id_text calls) k.stuck calls_clear)
+
+-- ---- both
+
+two_lines : (a b : List ℕ) → is_clear 10 a ≡ true → is_clear 10 b ≡ true → parts_at 10 (line a ++ line b) ≡ a ∷ b ∷ [] ∷ []
+two_lines a b e h =
+    ap (parts_at 10) (append_assoc a (10 ∷ []) (line b)) ∙ parts_next 10 a (line b) e ∙ ap (λ ps. a ∷ ps) (parts_next 10 b [] h)
+
+lines_read : (a b : List ℕ) (calls : List CallId) (steps : List Step) → line_of a ≡ a → line_of b ≡ b → blocked_of a ≡ Some calls → steps_of b ≡ Some steps
+    → witness_in (a ∷ b ∷ [] ∷ []) ≡ Ok (record { steps = steps; blocked = calls })
+lines_read a b calls steps p q e h =
+    ap (λ x. with_blocked (blocked_of x) (b ∷ [] ∷ [])) p ∙ ap (λ o. with_blocked o (b ∷ [] ∷ [])) e
+    ∙ ap (λ x. with_steps calls (steps_of x) true) q ∙ ap (λ (o : Option (List Step)). with_steps calls o true) h
+
+pub written_is_read : (n m : ℕ) (cs : List ℕ) (x : Witness) → Fits n → Fits m → AllByRecursion Fits cs → IsShort x → witness_of (line (first_text n cs x.blocked) ++ line (second_text m x.steps)) ≡ Ok x
+written_is_read n m cs x f g k h =
+    let a : List ℕ = first_text n cs x.blocked in
+    let b : List ℕ = second_text m x.steps in
+    let a10 : is_clear 10 a ≡ true = first_clear 10 n feed_apart cs x.blocked f k h.calls in
+    let b10 : is_clear 10 b ≡ true = second_clear 10 m feed_apart x.steps g h.steps in
+    ap witness_in (two_lines a b a10 b10)
+    ∙ lines_read a b x.blocked x.steps (line_clear a a10 (first_clear 13 n return_apart cs x.blocked f k h.calls)) (line_clear b b10 (second_clear 13 m return_apart x.steps g h.steps))
+    (first_read_back n cs x.blocked f k h.calls h.some_call) (second_read_back m x.steps g h.steps h.some_step)

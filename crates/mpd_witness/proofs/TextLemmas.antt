@@ -1,0 +1,193 @@
+-- What is read of the pieces of a witness's text.
+use Rattle.std.proofs.Common.{◌≡◌, ℕ, Bool, true, false, ◌==◌, if◌then◌else◌, List, [], ◌∷◌, ◌++◌, length, Option, Some, None, Result, Ok, Err, refl, ap, sym, ◌∙◌, arith, append_assoc, append-nil, ◌<◌}
+use Rattle.std.proofs.lemmas.Slice.Eq.{bytes_eq-Decides}
+use Rattle.std.specs.Prelude.{option_map, bytes_eq, codes}
+use Rattle.mpd_model.specs.declared.step.CallId.{CallId}
+use Rattle.mpd_model.specs.declared.step.Step.{Step}
+use Rattle.mpd_model.specs.declared.words.Command.{Command}
+use Rattle.mpd_model.specs.declared.words.Command.TheVariants as command
+use Rattle.mpd_model.specs.Words.{cut_at_dot, number_of, call_with, call_of, words, only_number, alone, step_named, step_in, step_of, command_named, command_in, command_of}
+use Rattle.mpd_explore.specs.declared.report.Witness.{Witness}
+use Rattle.mpd_witness.specs.WitnessText.{parts_at, cut_at, put_first, each_read, some_read, blocked_of, steps_of, line_of, all_empty, with_steps, with_blocked, witness_in, witness_of, ReadsLine, ReadsText}
+use Rattle.mpd_witness.specs.declared.witness_text.WitnessTextFault.{WitnessTextFault}
+use Rattle.mpd_witness.specs.declared.witness_text.WitnessTextFault.TheVariants.{BadLine, Memory}
+
+-- ---- calls
+
+cut_dot : (z : List ℕ) → cut_at_dot z ≡ cut_at 46 z
+cut_dot [] = refl
+cut_dot (b ∷ z) = ap (λ (o : Option (List ℕ × List ℕ)). if b == 46 then Some ([], z) else option_map (λ q. (b ∷ q.0, q.1)) o) (cut_dot z)
+
+pub no_call : (z : List ℕ) → cut_at 46 z ≡ None → call_of z ≡ None
+no_call z e = rw (cut_dot z ∙ e) refl
+
+pub call_is : (z rank index : List ℕ) → cut_at 46 z ≡ Some (rank, index) → call_of z ≡ call_with (number_of rank) (number_of index)
+call_is z rank index e = rw (cut_dot z ∙ e) refl
+
+pub ruleset calling = (no_call, call_is)
+
+-- ---- steps
+
+abbrev as_step : Option Command → Option Step
+as_step None = None
+as_step (Some (command.Step a)) = Some a
+as_step (Some command.Back) = None
+as_step (Some command.Redo) = None
+as_step (Some (command.Goto n)) = None
+as_step (Some command.Enabled) = None
+as_step (Some command.Show) = None
+
+step_back : (o : Option Step) → as_step (option_map command.Step o) ≡ o
+step_back None = refl
+step_back (Some a) = refl
+
+no_alone : (c : Command) (rest : List (List ℕ)) → as_step (Some c) ≡ None → as_step (alone c rest) ≡ None
+no_alone c [] e = e
+no_alone c (a ∷ rest) e = refl
+
+no_goto : (o : Option ℕ) → as_step (option_map command.Goto o) ≡ None
+no_goto None = refl
+no_goto (Some n) = refl
+
+one_word : (v : Bool) (name word : List ℕ) (rest : List (List ℕ)) (c o : Option Command) → bytes_eq name word ≡ v → as_step c ≡ None → step_named word rest ≡ None
+    → as_step o ≡ step_named name rest → as_step (if v then c else o) ≡ step_named name rest
+one_word true name word rest c o e n s h = n ∙ sym (ap (λ x. step_named x rest) ((bytes_eq-Decides name word).0 e) ∙ s)
+one_word false name word rest c o e n s h = h
+
+named_step : (name : List ℕ) (rest : List (List ℕ)) → as_step (command_named name rest) ≡ step_named name rest
+named_step name rest =
+    one_word (bytes_eq name (codes "back")) name (codes "back") rest (alone command.Back rest) _ refl (no_alone command.Back rest refl) refl
+    (one_word (bytes_eq name (codes "redo")) name (codes "redo") rest (alone command.Redo rest) _ refl (no_alone command.Redo rest refl) refl
+    (one_word (bytes_eq name (codes "goto")) name (codes "goto") rest (option_map command.Goto (only_number rest)) _ refl (no_goto (only_number rest)) refl
+    (one_word (bytes_eq name (codes "enabled")) name (codes "enabled") rest (alone command.Enabled rest) _ refl (no_alone command.Enabled rest refl) refl
+    (one_word (bytes_eq name (codes "show")) name (codes "show") rest (alone command.Show rest) _ refl (no_alone command.Show rest refl) refl
+    (step_back (step_named name rest))))))
+
+words_step : (ws : List (List ℕ)) → as_step (command_in ws) ≡ step_in ws
+words_step [] = refl
+words_step (name ∷ rest) = named_step name rest
+
+-- a command is the step that it asks for, or the text is no step
+pub step_is : (z : List ℕ) (o : Option Command) → o ≡ command_of z → as_step o ≡ step_of z
+step_is z o e = ap as_step e ∙ words_step (words z)
+
+pub step_there : (z : List ℕ) (a : Step) (f : Command) (o : Option Command) → o ≡ Some f → f ≡ command.Step a → o ≡ command_of z → Some a ≡ step_of z
+step_there z a f o i s e = sym (ap as_step (i ∙ ap (λ (x : Command). Some x) s)) ∙ step_is z o e
+
+pub no_step : (z : List ℕ) (c f : Command) (o : Option Command) → o ≡ Some f → f ≡ c → as_step (Some c) ≡ None → o ≡ command_of z → None ≡ step_of z
+no_step z c f o i s n e = sym n ∙ sym (ap as_step (i ∙ ap (λ (x : Command). Some x) s)) ∙ step_is z o e
+
+pub no_command : (z : List ℕ) (o : Option Command) → o ≡ None → o ≡ command_of z → None ≡ step_of z
+no_command z o i e = sym (ap as_step i) ∙ step_is z o e
+
+pub ruleset stepping = (step_there, no_step, no_command)
+
+-- ---- pieces that are read one by one
+
+-- so many were read, and then what is read of the rest
+abbrev pub joined_to : {A : Type 0} → List A → Option (List A) → Option (List A)
+joined_to xs read = option_map (λ ys. xs ++ ys) read
+
+joined_none : {A : Type 0} (o : Option (List A)) → o ≡ joined_to [] o
+joined_none None = refl
+joined_none (Some ys) = refl
+
+pub read_none : {A : Type 0} (all : Option (List A)) (xs : List A) → xs ≡ [] → all ≡ joined_to xs all
+read_none {A} all xs e = joined_none all ∙ ap (λ (zs : List A). joined_to zs all) (sym e)
+
+joined_more : {A : Type 0} (xs : List A) (x : A) (o : Option (List A)) → joined_to xs (put_first (Some x) o) ≡ joined_to (xs ++ x ∷ []) o
+joined_more xs x None = refl
+joined_more {A} xs x (Some ys) = ap (λ (zs : List A). Some zs) (sym (append_assoc xs (x ∷ []) ys))
+
+pub read_more : {A : Type 0} (read : List ℕ → Option A) (all : Option (List A)) (xs items : List A) (x : A) (piece : List ℕ) (old new : List (List ℕ)) → all ≡ joined_to xs (each_read read old) → old ≡ piece ∷ new
+    → Some x ≡ read piece → items ≡ xs ++ x ∷ [] → all ≡ joined_to items (each_read read new)
+read_more {A} read all xs items x piece old new h o r i =
+    h ∙ ap (λ zs. joined_to xs (each_read read zs)) o ∙ ap (λ (q : Option A). joined_to xs (put_first q (each_read read new))) (sym r) ∙ joined_more xs x (each_read read new)
+    ∙ ap (λ (zs : List A). joined_to zs (each_read read new)) (sym i)
+
+pub read_wrong : {A : Type 0} (read : List ℕ → Option A) (all : Option (List A)) (xs : List A) (piece : List ℕ) (old new : List (List ℕ)) → all ≡ joined_to xs (each_read read old) → old ≡ piece ∷ new
+    → None ≡ read piece → all ≡ None
+read_wrong {A} read all xs piece old new h o r =
+    h ∙ ap (λ zs. joined_to xs (each_read read zs)) o ∙ ap (λ (q : Option A). joined_to xs (put_first q (each_read read new))) (sym r)
+
+pub read_over : {A : Type 0} (read : List ℕ → Option A) (all : Option (List A)) (xs : List A) (old : List (List ℕ)) → all ≡ joined_to xs (each_read read old) → old ≡ [] → all ≡ Some xs
+read_over {A} read all xs old h o = h ∙ ap (λ zs. joined_to xs (each_read read zs)) o ∙ ap (λ (zs : List A). Some zs) (append-nil xs)
+
+pub ruleset going = (read_none, read_more, read_wrong, read_over)
+
+-- ---- the first line
+
+pub blocked_refused : {A : Type 0} (read : List ℕ → Option A) (behind : Option (List (List ℕ))) (ps : List (List ℕ)) (e : WitnessTextFault) → behind ≡ Some ps → ReadsLine {A = List A} 1 (each_read read ps) (Err e)
+    → ReadsLine {A = List A} 1 (some_read read behind) (Err e)
+blocked_refused read behind ps Memory b r = tt
+blocked_refused read behind [] (BadLine k) b r = absurd (let e : _ = r.0 in let h : ⊥ = cc in h)
+blocked_refused {A} read behind (z ∷ zs) (BadLine k) b r = (ap (λ (o : Option (List (List ℕ))). some_read read o) b ∙ r.0, r.1)
+
+blocked_some : {A : Type 0} (read : List ℕ → Option A) (ps : List (List ℕ)) (xs : List A) → each_read read ps ≡ Some xs → 0 < length xs → some_read read (Some ps) ≡ Some xs
+blocked_some {A} read [] xs e l = absurd (let s : xs ≡ [] = cc in omega (arith, ap length s))
+blocked_some read (z ∷ zs) xs e l = e
+
+put_some : {A : Type 0} (o : Option A) (all : Option (List A)) (xs : List A) → put_first o all ≡ Some xs → length xs ≡ 0 → ⊥
+put_some None all xs e l = let h : ⊥ = cc in h
+put_some (Some x) None xs e l = let h : ⊥ = cc in h
+put_some (Some x) (Some ys) [] e l = let h : ⊥ = cc in h
+put_some (Some x) (Some ys) (y ∷ xs) e l = omega arith
+
+blocked_none : {A : Type 0} (read : List ℕ → Option A) (ps : List (List ℕ)) (xs : List A) → each_read read ps ≡ Some xs → length xs ≡ 0 → some_read read (Some ps) ≡ None
+blocked_none read [] xs e l = refl
+blocked_none read (z ∷ zs) xs e l = absurd (put_some (read z) (each_read read zs) xs e l)
+
+pub blocked_is : {A : Type 0} (read : List ℕ → Option A) (behind : Option (List (List ℕ))) (ps : List (List ℕ)) (xs : List A) → behind ≡ Some ps → each_read read ps ≡ Some xs → 0 < length xs → some_read read behind ≡ Some xs
+blocked_is read behind ps xs b e l = ap (λ o. some_read read o) b ∙ blocked_some read ps xs e l
+
+pub blocked_missing : {A : Type 0} (read : List ℕ → Option A) (behind : Option (List (List ℕ))) (ps : List (List ℕ)) (xs : List A) → behind ≡ Some ps → each_read read ps ≡ Some xs → length xs ≡ 0 → some_read read behind ≡ None
+blocked_missing read behind ps xs b e l = ap (λ o. some_read read o) b ∙ blocked_none read ps xs e l
+
+-- ---- the lines
+
+pub no_line : (z : List ℕ) (ls : List (List ℕ)) → ls ≡ parts_at 10 z → ls ≡ [] → witness_of z ≡ Err 1
+no_line z ls e n = ap witness_in (sym e ∙ n)
+
+first_line : (z l bytes : List ℕ) (ls ms : List (List ℕ)) → ls ≡ parts_at 10 z → ls ≡ l ∷ ms → bytes ≡ line_of l → witness_of z ≡ with_blocked (blocked_of bytes) ms
+first_line z l bytes ls ms e n b = ap witness_in (sym e ∙ n) ∙ ap (λ x. with_blocked (blocked_of x) ms) (sym b)
+
+pub first_refused : (z l bytes : List ℕ) (ls ms : List (List ℕ)) (e : WitnessTextFault) → ls ≡ parts_at 10 z → ls ≡ l ∷ ms → bytes ≡ line_of l → ReadsLine 1 (blocked_of bytes) (Err e)
+    → ReadsText (witness_of z) (Err e)
+first_refused z l bytes ls ms Memory p n b r = tt
+first_refused z l bytes ls ms (BadLine k) p n b r = first_line z l bytes ls ms p n b ∙ ap (λ o. with_blocked o ms) r.0 ∙ ap (λ (i : ℕ). let x : Result Witness ℕ = Err i in x) (sym r.1)
+
+first_read : (z l bytes : List ℕ) (ls ms : List (List ℕ)) (calls : List CallId) → ls ≡ parts_at 10 z → ls ≡ l ∷ ms → bytes ≡ line_of l → blocked_of bytes ≡ Some calls
+    → witness_of z ≡ with_blocked (Some calls) ms
+first_read z l bytes ls ms calls p n b r = first_line z l bytes ls ms p n b ∙ ap (λ o. with_blocked o ms) r
+
+pub second_missing : (z l bytes : List ℕ) (ls ms : List (List ℕ)) (calls : List CallId) → ls ≡ parts_at 10 z → ls ≡ l ∷ ms → bytes ≡ line_of l → blocked_of bytes ≡ Some calls → ms ≡ []
+    → witness_of z ≡ Err 2
+second_missing z l bytes ls ms calls p n b r o = first_read z l bytes ls ms calls p n b r ∙ ap (λ (ks : List (List ℕ)). with_blocked (Some calls) ks) o
+
+second_line : (z l bytes m second : List ℕ) (ls ms ks : List (List ℕ)) (calls : List CallId) → ls ≡ parts_at 10 z → ls ≡ l ∷ ms → bytes ≡ line_of l → blocked_of bytes ≡ Some calls → ms ≡ m ∷ ks → second ≡ line_of m
+    → witness_of z ≡ with_steps calls (steps_of second) (all_empty ks)
+second_line z l bytes m second ls ms ks calls p n b r o s =
+    first_read z l bytes ls ms calls p n b r ∙ ap (λ (js : List (List ℕ)). with_blocked (Some calls) js) o ∙ ap (λ x. with_steps calls (steps_of x) (all_empty ks)) (sym s)
+
+pub second_refused : (z l bytes m second : List ℕ) (ls ms ks : List (List ℕ)) (calls : List CallId) (e : WitnessTextFault) → ls ≡ parts_at 10 z → ls ≡ l ∷ ms → bytes ≡ line_of l → blocked_of bytes ≡ Some calls
+    → ms ≡ m ∷ ks → second ≡ line_of m → ReadsLine 2 (steps_of second) (Err e) → ReadsText (witness_of z) (Err e)
+second_refused z l bytes m second ls ms ks calls Memory p n b r o s q = tt
+second_refused z l bytes m second ls ms ks calls (BadLine k) p n b r o s q =
+    second_line z l bytes m second ls ms ks calls p n b r o s ∙ ap (λ (x : Option (List Step)). with_steps calls x (all_empty ks)) q.0 ∙ ap (λ (i : ℕ). let x : Result Witness ℕ = Err i in x) (sym q.1)
+
+second_read : (z l bytes m second : List ℕ) (ls ms ks : List (List ℕ)) (calls : List CallId) (steps : List Step) (over : Bool) → ls ≡ parts_at 10 z → ls ≡ l ∷ ms → bytes ≡ line_of l → blocked_of bytes ≡ Some calls
+    → ms ≡ m ∷ ks → second ≡ line_of m → steps_of second ≡ Some steps → over ≡ all_empty ks → witness_of z ≡ with_steps calls (Some steps) over
+second_read z l bytes m second ls ms ks calls steps over p n b r o s q v =
+    second_line z l bytes m second ls ms ks calls p n b r o s ∙ ap (λ (x : Option (List Step)). with_steps calls x (all_empty ks)) q ∙ ap (λ x. with_steps calls (Some steps) x) (sym v)
+
+pub more_behind : (z l bytes m second : List ℕ) (ls ms ks : List (List ℕ)) (calls : List CallId) (steps : List Step) (over : Bool) → ls ≡ parts_at 10 z → ls ≡ l ∷ ms → bytes ≡ line_of l → blocked_of bytes ≡ Some calls
+    → ms ≡ m ∷ ks → second ≡ line_of m → steps_of second ≡ Some steps → over ≡ all_empty ks → over ≡ false → witness_of z ≡ Err 2
+more_behind z l bytes m second ls ms ks calls steps over p n b r o s q v f = second_read z l bytes m second ls ms ks calls steps over p n b r o s q v ∙ ap (λ x. with_steps calls (Some steps) x) f
+
+pub both_read : (z l bytes m second : List ℕ) (ls ms ks : List (List ℕ)) (calls : List CallId) (steps : List Step) (over : Bool) → ls ≡ parts_at 10 z → ls ≡ l ∷ ms → bytes ≡ line_of l → blocked_of bytes ≡ Some calls
+    → ms ≡ m ∷ ks → second ≡ line_of m → steps_of second ≡ Some steps → over ≡ all_empty ks → over ≡ true → witness_of z ≡ Ok (record { steps = steps; blocked = calls })
+both_read z l bytes m second ls ms ks calls steps over p n b r o s q v f = second_read z l bytes m second ls ms ks calls steps over p n b r o s q v ∙ ap (λ x. with_steps calls (Some steps) x) f
+
+pub ruleset reading = (no_line, first_refused, second_missing, second_refused, more_behind, both_read)
+
+pub ruleset blocking = (blocked_refused, blocked_is, blocked_missing)

@@ -1,0 +1,78 @@
+-- What is answered to a witness.
+use Rattle.std.proofs.Common.{◌≡◌, ◌≢◌, ℕ, ◌+◌, ◌≤◌, Bool, true, false, List, [], ◌++◌, length, ◌∷◌, Some, Ok, Err, codes, sym, ap, subst, ◌∙◌, append_assoc, arith}
+use Rattle.std.specs.Io.KnownBytes.{Appends}
+use Rattle.mpd_model.specs.declared.call.Mode.{Mode}
+use Rattle.mpd_model.specs.declared.outcome.Outcome.TheVariants.{Deadlock}
+use Rattle.mpd_model.specs.Program.{Program}
+use Rattle.mpd_model.specs.World.{World}
+use Rattle.mpd_model.specs.Next.{fold}
+use Rattle.mpd_model.specs.Outcomes.{outcome}
+use Rattle.mpd_model.specs.Texts.{line}
+use Rattle.mpd_device.specs.Seen.{SinkSeen}
+use Rattle.mpd_explore.specs.declared.report.Witness.{Witness}
+use Rattle.mpd_explore.specs.declared.verify.WitnessFault.{WitnessFault}
+use Rattle.mpd_explore.specs.declared.verify.WitnessFault.TheVariants.{NoSuchStep, NotStuck, WrongBlocked, Memory}
+use Rattle.mpd_explore.specs.Witness.{IsWitnessFrom, HasFault}
+use Rattle.mpd_explore.specs.Faults.{witness_fault_name}
+use Rattle.mpd_lines.specs.declared.engine.EngineFault.TheVariants.{WriteFailed}
+use Rattle.mpd_lines.specs.Telling.{AppendsPart}
+use Rattle.mpd_witness.specs.Verdict.{accepted_line, refused_line, IsVerdict, IsVerdictFrom, Judged}
+
+-- ---- the line of a refusal
+
+pub name_short : (e : WitnessFault) → length (witness_fault_name e) ≤ 16
+name_short (NoSuchStep place) = omega arith
+name_short NotStuck = omega arith
+name_short WrongBlocked = omega arith
+name_short Memory = omega arith
+
+pub ruleset naming = (name_short)
+
+-- a line that is joined from its parts
+pub line_joined : (old new a b c d e number name part : List ℕ) → a ≡ old ++ codes "refused " → b ≡ a ++ number → c ≡ b ++ 32 ∷ [] → d ≡ c ++ name → e ≡ d ++ part → new ≡ e ++ 10 ∷ []
+    → new ≡ old ++ line (codes "refused " ++ number ++ 32 ∷ name ++ part)
+line_joined old new a b c d e number name part h i j k l m = rw (m, l, k, j, i, h) (simp append_assoc)
+
+-- ---- the verdict where the verifier has accepted, and where it has found this fault
+
+pub is_accepted : (w last : World) (x : Witness) (old new : List ℕ) (accepted : Bool) → (fold w x.steps ≡ Some last) × (outcome last ≡ Some (Deadlock x.blocked)) → old ≡ [] → new ≡ old ++ accepted_line → accepted ≡ true
+    → IsVerdictFrom w x new accepted
+is_accepted w last x old new true h e t is = (record { last = last; leads = h.0; stuck = h.1 }, t ∙ ap (λ (zs : List ℕ). zs ++ accepted_line) e)
+is_accepted w last x old new false h e t is = absurd (let h : ⊥ = cc in h)
+
+-- a fault of the witness itself
+abbrev pub IsOfWitness : WitnessFault → Type 0
+IsOfWitness (NoSuchStep place) = Unit {0}
+IsOfWitness NotStuck = Unit {0}
+IsOfWitness WrongBlocked = Unit {0}
+IsOfWitness Memory = ⊥
+
+no_memory : (e : WitnessFault) → IsOfWitness e → e ≡ Memory → ⊥
+no_memory (NoSuchStep place) i h = let x : ⊥ = cc in x
+no_memory NotStuck i h = let x : ⊥ = cc in x
+no_memory WrongBlocked i h = let x : ⊥ = cc in x
+no_memory Memory i h = i
+
+pub is_refused : (w : World) (x : Witness) (f e : WitnessFault) (old new : List ℕ) (accepted : Bool) → f ≡ e → IsOfWitness e → (f ≢ Memory → HasFault w 0 x.steps x.blocked f) → (IsWitnessFrom w x → f ≡ Memory)
+    → old ≡ [] → new ≡ old ++ refused_line e → accepted ≡ false → IsVerdictFrom w x new accepted
+is_refused w x f e old new true is i h n b t k = absurd (let h : ⊥ = cc in h)
+is_refused w x f e old new false is i h n b t k =
+    let not : f ≢ Memory = λ m. no_memory e i (sym is ∙ m) in
+    let P : WitnessFault → Type 0 = λ y. HasFault w 0 x.steps x.blocked y in
+    (e, subst P is (h not), (λ z. not (n z)), t ∙ ap (λ (zs : List ℕ). zs ++ refused_line e) b)
+
+-- ---- what is written
+
+pub was_told : (s : Program) (mode : Mode) (x : Witness) (old new : SinkSeen) (text bytes : List ℕ) (accepted : Bool) → IsVerdict s mode x text accepted → bytes ≡ text
+    → Appends old.contents new.contents bytes → new.failures ≡ old.failures → Judged s mode x old new (Ok accepted)
+was_told s mode x old new text bytes accepted v b a f =
+    let P : List ℕ → Type 0 = λ t. Appends old.contents new.contents t in
+    (text, v, subst P b a, f)
+
+pub was_cut : (s : Program) (mode : Mode) (x : Witness) (old new : SinkSeen) (text bytes : List ℕ) (accepted : Bool) → IsVerdict s mode x text accepted → bytes ≡ text
+    → AppendsPart old.contents new.contents bytes → new.failures ≡ old.failures + 1 → Judged s mode x old new (Err WriteFailed)
+was_cut s mode x old new text bytes accepted v b a f =
+    let P : List ℕ → Type 0 = λ t. AppendsPart old.contents new.contents t in
+    (text, accepted, v, subst P b a, f)
+
+pub ruleset judging = (is_accepted, is_refused, was_told, was_cut)

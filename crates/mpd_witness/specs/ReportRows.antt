@@ -1,0 +1,90 @@
+-- Texts of reports and what is read of them, worked by hand.
+use Rattle.std.specs.Prelude.{◌≡◌, ℕ, List, [], ◌∷◌, map, Some, None, Result, Ok, Err, codes, refl}
+use Rattle.mpd_model.specs.declared.step.CallId.{CallId}
+use Rattle.mpd_model.specs.declared.step.Step.{Step}
+use Rattle.mpd_model.specs.declared.step.Step.TheVariants.{Local, Wake}
+use Rattle.mpd_model.specs.World.{call_id}
+use Rattle.mpd_explore.specs.declared.report.Witness.{Witness}
+use Rattle.mpd_witness.specs.declared.report_text.ReportFault.{ReportFault}
+use Rattle.mpd_witness.specs.declared.report_text.ReportFault.TheVariants.{BadLine, NoWitness, SeveralWitnesses, NoSuchLeaf, NoDeadlock}
+use Rattle.mpd_witness.specs.declared.report_lines.LineKind.TheVariants.{Passed, OfLeaf, OfWitness, Wrong}
+use Rattle.mpd_witness.specs.ReadBack.{kind_of, witness_of_report}
+
+abbrev read : List Step → List CallId → Result Witness ReportFault
+read steps blocked = Ok (record { steps = steps; blocked = blocked })
+
+abbrev refused : ReportFault → Result Witness ReportFault
+refused fault = Err fault
+
+abbrev wrong : ℕ → Result Witness ReportFault
+wrong n = Err (BadLine n)
+
+-- ---- what a line is
+
+pub row_passed : map kind_of ([] ∷ codes "  rank 0, line 9, waits in 0.1 recv from 1 tag 2: for a send of rank 1 with tag 2" ∷ codes "  " ∷ codes "leaves 3 more no" ∷ codes "leaves 65536" ∷ []) ≡ Passed ∷ Passed ∷ Passed ∷ Passed ∷ Passed ∷ []
+row_passed = refl
+
+pub row_named : map kind_of (codes "leaf 0 [] done" ∷ codes "leaf 12 [0 2] deadlock 0.1" ∷ codes "witness 12: local 0, local 1" ∷ codes "witness 0:" ∷ codes "leaf 7" ∷ []) ≡ OfLeaf 0 ∷ OfLeaf 12 ∷ OfWitness 12 ∷ OfWitness 0 ∷ OfLeaf 7 ∷ []
+row_named = refl
+
+pub row_wrong : map kind_of (codes " " ∷ codes " leaf 0 [] done" ∷ codes "leaf" ∷ codes "leaf  0 [] done" ∷ codes "leaf x [] done" ∷ codes "leaf 0123456789 [] done" ∷ codes "witness 3" ∷ codes "witness: local 0" ∷ codes "deadlock 0.1" ∷ codes "local 0" ∷ codes "leaves" ∷ [])
+    ≡ Wrong ∷ Wrong ∷ Wrong ∷ Wrong ∷ Wrong ∷ Wrong ∷ Wrong ∷ Wrong ∷ Wrong ∷ Wrong ∷ Wrong ∷ []
+row_wrong = refl
+
+-- ---- two lines alone, as ever
+
+abbrev alone : List ℕ → Result Witness ReportFault
+alone z = witness_of_report None z
+
+pub row_two : map alone (
+    codes "leaf 1 [1] deadlock 0.1 1.0\nwitness 1: local 0, wake 1\n"
+    ∷ codes "deadlock 0.1\r\nlocal 0\r\n\n"
+    ∷ codes "leaf 7 [0 2 1] deadlock 0.1\nwitness 3: local 0"
+    ∷ []) ≡ read (Local 0 ∷ Wake 1 ∷ []) (call_id 0 1 ∷ call_id 1 0 ∷ []) ∷ read (Local 0 ∷ []) (call_id 0 1 ∷ []) ∷ read (Local 0 ∷ []) (call_id 0 1 ∷ []) ∷ []
+row_two = refl
+
+pub row_two_wrong : map alone ([] ∷ codes "done\nlocal 0\n" ∷ codes "\ndeadlock 0.1\nlocal 0\n" ∷ codes "leaf 0 [] done\nleaves 1 more no\n" ∷ codes "deadlock 0.1\n" ∷ codes "deadlock 0.1\n\nlocal 0\n" ∷ codes "deadlock 0.1\nback\n" ∷ [])
+    ≡ wrong 1 ∷ wrong 1 ∷ wrong 1 ∷ wrong 1 ∷ wrong 2 ∷ wrong 2 ∷ wrong 2 ∷ []
+row_two_wrong = refl
+
+-- ---- a report
+
+abbrev one : List ℕ
+one = codes "leaf 0 [0] done\nleaf 1 [1] deadlock 0.1 1.0\nwitness 1: local 0, wake 1\n  rank 0, line 2: waits\nleaf 2 [2] trap 1 overflow\n  rank 1, line 7: trap overflow\nleaves 3 more no\n"
+
+abbrev two : List ℕ
+two = codes "leaf 0 [0] deadlock 1.0\r\nwitness 0: local 1\r\nleaf 1 [1] deadlock 0.1\r\nwitness 1: local 0\r\nleaf 2 [2] deadlock 0.1\r\nleaves 3 more yes\r\n"
+
+abbrev first_of_two : Result Witness ReportFault
+first_of_two = read (Local 1 ∷ []) (call_id 1 0 ∷ [])
+
+abbrev second_of_two : Result Witness ReportFault
+second_of_two = read (Local 0 ∷ []) (call_id 0 1 ∷ [])
+
+pub row_one : map (λ leaf. witness_of_report leaf one) (None ∷ Some 1 ∷ Some 0 ∷ Some 2 ∷ Some 3 ∷ [])
+    ≡ read (Local 0 ∷ Wake 1 ∷ []) (call_id 0 1 ∷ call_id 1 0 ∷ []) ∷ read (Local 0 ∷ Wake 1 ∷ []) (call_id 0 1 ∷ call_id 1 0 ∷ []) ∷ refused NoDeadlock ∷ refused NoDeadlock ∷ refused NoSuchLeaf ∷ []
+row_one = refl
+
+-- the last deadlock has no witness
+pub row_several : map (λ leaf. witness_of_report leaf two) (None ∷ Some 0 ∷ Some 1 ∷ Some 2 ∷ Some 3 ∷ []) ≡ refused SeveralWitnesses ∷ first_of_two ∷ second_of_two ∷ refused NoWitness ∷ refused NoSuchLeaf ∷ []
+row_several = refl
+
+-- no witness; one that isn't right behind its leaf, or is of another; another line; and what is wrong with the lines of the witness itself
+pub row_none : map alone (
+    codes "leaf 0 [0] deadlock 0.1\nleaf 1 [1] done\nleaves 2 more no\n"
+    ∷ codes "leaf 0 [0] deadlock 0.1\n\nwitness 0: local 0\nleaves 1 more no\n"
+    ∷ codes "leaf 0 [0] deadlock 0.1\nwitness 1: local 0\nleaves 1 more no\n"
+    ∷ codes "leaf 0 [0] deadlock 0.1\nwitness 0: local 0\nwitness 0: local 0\n"
+    ∷ codes "witness 0: local 0\nleaf 0 [0] deadlock 0.1\nleaves 1 more no\n"
+    ∷ codes "leaf 0 [0] deadlock 0.1\nwitness 0: local 0\nleaves 1 more no\nx\n"
+    ∷ codes "leaf 0 [0] trap 0 overflow\nwitness 0: local 0\nleaves 1 more no\n"
+    ∷ codes "leaf 0 [0] deadlock 0.1\nwitness 0: back\nleaves 1 more no\n"
+    ∷ codes "deadlock 0.1\nlocal 0\nleaf 1 [1] done\n"
+    ∷ [])
+    ≡ refused NoWitness ∷ wrong 3 ∷ wrong 2 ∷ wrong 3 ∷ wrong 1 ∷ wrong 4 ∷ wrong 1 ∷ wrong 2 ∷ wrong 1 ∷ []
+row_none = refl
+
+-- with the number of a leaf, two lines alone are a report too
+pub row_asked : map (λ q. witness_of_report (Some 3) q) (codes "leaf 3 [0] deadlock 0.1\nwitness 3: local 0\n" ∷ codes "leaf 4 [0] deadlock 0.1\nwitness 4: local 0\n" ∷ codes "deadlock 0.1\nlocal 0\n" ∷ codes "leaf 3 [0] deadlock 0.1\nlocal 0\n" ∷ [] ∷ [])
+    ≡ read (Local 0 ∷ []) (call_id 0 1 ∷ []) ∷ refused NoSuchLeaf ∷ wrong 1 ∷ wrong 2 ∷ refused NoSuchLeaf ∷ []
+row_asked = refl

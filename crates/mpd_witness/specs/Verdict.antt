@@ -1,0 +1,50 @@
+-- What is answered to a witness.
+use Rattle.std.specs.Prelude.{◌≡◌, ℕ, ◌+◌, Bool, true, false, List, [], ◌∷◌, ◌++◌, Result, Ok, Err, codes}
+use Rattle.std.specs.Fmt.{decimal}
+use Rattle.std.specs.Io.KnownBytes.{Appends}
+use Rattle.mpd_model.specs.declared.call.Mode.{Mode}
+use Rattle.mpd_model.specs.Program.{Program}
+use Rattle.mpd_model.specs.World.{World, start}
+use Rattle.mpd_model.specs.Texts.{line}
+use Rattle.mpd_device.specs.Seen.{SinkSeen}
+use Rattle.mpd_explore.specs.declared.report.Witness.{Witness}
+use Rattle.mpd_explore.specs.declared.verify.WitnessFault.{WitnessFault}
+use Rattle.mpd_explore.specs.declared.verify.WitnessFault.TheVariants as fault
+use Rattle.mpd_explore.specs.Faults.{witness_fault_number, witness_fault_name}
+use Rattle.mpd_explore.specs.Witness.{IsWitnessFrom, HasFault}
+use Rattle.mpd_lines.specs.declared.engine.EngineFault.{EngineFault}
+use Rattle.mpd_lines.specs.declared.engine.EngineFault.TheVariants.{ReadFailed, WriteFailed, TooManyTurns, Memory}
+use Rattle.mpd_lines.specs.Telling.{AppendsPart}
+
+abbrev pub accepted_line : List ℕ
+accepted_line = line (codes "accepted")
+
+-- the place of a step that is not enabled
+abbrev pub place_part : WitnessFault → List ℕ
+place_part (fault.NoSuchStep place) = codes " at " ++ decimal place
+place_part fault.NotStuck = []
+place_part fault.WrongBlocked = []
+place_part fault.Memory = []
+
+-- `refused 32 no-such-step at 6`
+abbrev pub refused_line : WitnessFault → List ℕ
+refused_line e = line (codes "refused " ++ decimal (witness_fault_number e) ++ 32 ∷ witness_fault_name e ++ place_part e)
+
+-- a witness that is one from here is accepted, and one that is none is refused for its first fault
+abbrev pub IsVerdictFrom : World → Witness → List ℕ → Bool → Type 0
+IsVerdictFrom w x text true = IsWitnessFrom w x × (text ≡ accepted_line)
+IsVerdictFrom w x text false = (e : WitnessFault) × HasFault w 0 x.steps x.blocked e × (IsWitnessFrom w x → ⊥) × (text ≡ refused_line e)
+
+-- the same from the start of a script
+abbrev pub IsVerdict : Program → Mode → Witness → List ℕ → Bool → Type 0
+IsVerdict s mode x text accepted = IsVerdictFrom (start s mode) x text accepted
+
+-- The whole line was written; or a part of it until a write failed; or nothing, for want of memory.
+abbrev pub Judged : Program → Mode → Witness → SinkSeen → SinkSeen → Result Bool EngineFault → Type 0
+Judged s mode x old new (Ok accepted) =
+    (text : List ℕ) × IsVerdict s mode x text accepted × Appends old.contents new.contents text × (new.failures ≡ old.failures)
+Judged s mode x old new (Err WriteFailed) =
+    (text : List ℕ) × (accepted : Bool) × IsVerdict s mode x text accepted × AppendsPart old.contents new.contents text × (new.failures ≡ old.failures + 1)
+Judged s mode x old new (Err Memory) = new ≡ old
+Judged s mode x old new (Err ReadFailed) = ⊥
+Judged s mode x old new (Err TooManyTurns) = ⊥

@@ -1,0 +1,84 @@
+//! A text that is cut at each byte of one kind.
+
+ghost use Rattle.std.specs.Prelude.{◌≡◌, ◌≤◌, ◌==◌, ◌+◌, [], ◌∷◌, length, Some, None, MatchOption};
+ghost use Rattle.mpd_model.specs.Words.{stop_len};
+ghost use Rattle.mpd_witness.specs.WitnessText.{cut_at, parts_at};
+
+use std::marker::Model;
+
+/// How many bytes stand before the first such byte, or all.
+fn mark_len(text: &[u8], mark: u8) -> usize
+    ensures value { result ≡ stop_len (λ b. b == mark) text.now }
+    ensures bound { result ≤ length text.now }
+{
+    for (i, byte) in text.iter().enumerate() {
+        if *byte == mark {
+            return i;
+        }
+    }
+    text.len()
+}
+
+/// What stands before the first such byte, and what stands behind it.
+#[tactic(auto, using(crate::proofs::PieceLemmas::cutting))]
+pub(crate) fn cut(text: &[u8], mark: u8) -> Option<(&[u8], &[u8])>
+    ensures { MatchOption result (cut_at mark text.now ≡ None) (λ q. cut_at mark text.now ≡ Some (q.0.now, q.1.now)) }
+{
+    let (before, from) = text.split_at(mark_len(text, mark));
+    match from.split_first() {
+        None => None,
+        Some((_, behind)) => Some((before, behind)),
+    }
+}
+
+/// The pieces of a text before, between and behind the bytes of one kind; contracts see those that are still to come.
+#[derive(Drop)]
+pub(crate) struct Pieces<'a> {
+    rest: &'a [u8],
+    mark: u8,
+    over: bool,
+}
+
+impl<'a> Model for Pieces<'a> {
+    ghost use Rattle.std.specs.Prelude.{List, ℕ};
+    ghost use Rattle.mpd_witness.specs.Pieces.{parts_left};
+
+    ghost Value = { List (List ℕ) };
+
+    ghost view = { λ p. parts_left p.over p.mark p.rest.now };
+}
+
+impl<'a> Pieces<'a> {
+    /// All pieces of a text: one at least, and no more than there are bytes, and one.
+    #[tactic(auto, using(crate::proofs::PieceLemmas::limiting))]
+    pub(crate) fn new(text: &'a [u8], mark: u8) -> Pieces<'a>
+        ensures parts { result ≡ parts_at mark text.now }
+        ensures few { length result ≤ length text.now + 1 }
+    {
+        Pieces {
+            rest: text,
+            mark,
+            over: false,
+        }
+    }
+
+    /// The next piece.
+    #[tactic(auto, using(crate::proofs::PieceLemmas::taking))]
+    pub(crate) fn next(&mut self) -> Option<&'a [u8]>
+        ensures { MatchOption result (self.old ≡ []) (λ piece. self.old ≡ piece.now ∷ self.new) }
+    {
+        if self.over {
+            return None;
+        }
+        match cut(self.rest, self.mark) {
+            None => {
+                self.over = true;
+                Some(self.rest)
+            }
+            Some((piece, behind)) => {
+                self.rest = behind;
+                Some(piece)
+            }
+        }
+    }
+}

@@ -1,0 +1,32 @@
+//! A witness from the file of a report.
+
+ghost use Rattle.mpd_witness.specs.ReportFile.{IsFromReport};
+
+use crate::report_text::{ReportFault, read_report};
+use crate::witness_file::{WITNESS_MAX, read_bytes};
+use mpd_device::device::Source;
+use mpd_explore::report::Witness;
+use std::alloc::Global;
+
+/// Reads a witness of a source, which has the text of a report, or two lines alone (docs/FORMATS.md, "Witnesses"), in 1,000,000 reads at
+/// most: the only one there, or that of the leaf of this number. A text of more than 33,554,432 bytes is wrong in line 2, and is not read to
+/// its end.
+#[tactic(auto, using(crate::proofs::ReportFileLemmas::answering))]
+pub fn read_report_witness<S: Source>(
+    alloc: Global,
+    source: &mut S,
+    leaf: Option<usize>,
+) -> Result<Witness, ReportFault>
+    ensures { IsFromReport leaf (S.seen source.old) (S.seen source.new) result }
+{
+    let text = match read_bytes(alloc, source) {
+        Ok(text) => text,
+        Err(fault) => return Err(ReportFault::Engine(fault)),
+    };
+    if text.len() > WITNESS_MAX {
+        return Err(ReportFault::BadLine(2));
+    }
+    let read = read_report(alloc, &text, leaf);
+    drop(text);
+    read
+}

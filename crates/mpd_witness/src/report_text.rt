@@ -1,0 +1,199 @@
+//! A witness from the text of a whole report (docs/FORMATS.md, "Witnesses").
+
+ghost use Rattle.std.specs.Prelude.{◌≡◌, ◌≤◌, ◌<◌, ◌+◌, ◌^◌, Ok, Err, IfOk, drop, length};
+ghost use Rattle.mpd_witness.specs.WitnessText.{parts_at, line_of};
+ghost use Rattle.mpd_witness.specs.ReadBack.{unwitnessed, sole_leaf, named_leaf, leaf_wanted, witness_at, are_alone, as_two, witness_of_report, ReadsReport};
+ghost use Rattle.mpd_witness.specs.WitnessText.{witness_of, blocked_of, steps_of};
+ghost use Rattle.mpd_witness.specs.ReadBack.{with_both};
+
+use crate::pieces::Pieces;
+use crate::report_lines::{are_two, is_witness, next_leaf, next_witness, wrong_line};
+use crate::witness_text::{
+    WitnessTextFault, read_blocked, read_steps, read_witness, skip_to_blocked,
+};
+use mpd_explore::report::Witness;
+use mpd_lines::engine::EngineFault;
+use mpd_lines::line::without_return;
+use std::alloc::Global;
+use thiserror::Error;
+
+/// Why no witness is read of a report.
+#[derive(Clone, Copy, PartialEq, Eq, Debug, Error)]
+pub enum ReportFault {
+    /// This line, from 1, is the first that is wrong: 2 where the text is too long, whatever is in it.
+    #[error("line {0}")]
+    BadLine(usize),
+    /// There is none, or none behind the leaf that is asked for, which is a deadlock.
+    #[error("no-witness")]
+    NoWitness,
+    /// There are several, and no leaf is asked for.
+    #[error("several-witnesses")]
+    SeveralWitnesses,
+    /// No leaf has the number that is asked for.
+    #[error("no-such-leaf")]
+    NoSuchLeaf,
+    /// The leaf that is asked for is no deadlock.
+    #[error("no-deadlock")]
+    NoDeadlock,
+    /// A read failed, or 1,000,000 reads were made, or memory was refused.
+    #[error("{0}")]
+    Engine(EngineFault),
+}
+
+/// What is wrong with a leaf that has no witness.
+fn unwitnessed(line: &[u8]) -> ReportFault
+    ensures { result ≡ unwitnessed (line_of line.now) }
+{
+    let mut pieces = Pieces::new(without_return(line), b' ');
+    if skip_to_blocked(&mut pieces) {
+        ReportFault::NoWitness
+    } else {
+        ReportFault::NoDeadlock
+    }
+}
+
+/// The place of the leaf that the only witness is of.
+#[tactic(auto, using(crate::proofs::ReportLemmas::choosing))]
+fn sole_leaf(text: &[u8]) -> Result<usize, ReportFault>
+    ensures leaf { result ≡ sole_leaf (parts_at 10 text.now) }
+    ensures within { IfOk result (λ place. place < length (parts_at 10 text.now)) }
+{
+    let mut lines = Pieces::new(text, b'\n');
+    let Some(place) = next_witness(&mut lines, 0) else {
+        return Err(ReportFault::NoWitness);
+    };
+    if next_witness(&mut lines, place + 1).is_some() {
+        return Err(ReportFault::SeveralWitnesses);
+    }
+    Ok(place.saturating_sub(1))
+}
+
+/// The place of the leaf of a number, which has a witness.
+#[tactic(auto, using(crate::proofs::ReportLemmas::choosing))]
+fn named_leaf(text: &[u8], number: usize) -> Result<usize, ReportFault>
+    ensures leaf { result ≡ named_leaf number (parts_at 10 text.now) }
+    ensures within { IfOk result (λ place. place < length (parts_at 10 text.now)) }
+{
+    let mut lines = Pieces::new(text, b'\n');
+    let Some((place, line)) = next_leaf(&mut lines, number) else {
+        return Err(ReportFault::NoSuchLeaf);
+    };
+    let Some(behind) = lines.next() else {
+        return Err(unwitnessed(line));
+    };
+    if is_witness(behind) {
+        return Ok(place);
+    }
+    Err(unwitnessed(line))
+}
+
+/// The place of the leaf whose witness is wanted.
+fn leaf_wanted(text: &[u8], leaf: Option<usize>) -> Result<usize, ReportFault>
+    ensures leaf { result ≡ leaf_wanted leaf (parts_at 10 text.now) }
+    ensures within { IfOk result (λ place. place < length (parts_at 10 text.now)) }
+{
+    match leaf {
+        None => sole_leaf(text),
+        Some(number) => named_leaf(text, number),
+    }
+}
+
+/// Passes over so many lines.
+#[tactic(auto, using(crate::proofs::ReportLemmas::skipping))]
+fn skip(lines: &mut Pieces<'_>, count: usize)
+    requires { count ≤ length lines.old }
+    ensures { lines.new ≡ drop count lines.old }
+{
+    for turn in 0..count {
+        match lines.next() {
+            Some(_) => {}
+            None => unreachable!(),
+        }
+    }
+}
+
+/// Reads the line of a leaf, which has this place, and that of its witness.
+#[tactic(auto, using(crate::proofs::ReportLemmas::joining))]
+fn read_both(
+    alloc: Global,
+    place: usize,
+    leaf: &[u8],
+    witness: &[u8],
+) -> Result<Witness, ReportFault>
+    requires { place + 2 < 2 ^ 64 }
+    ensures { ReadsReport (with_both place (blocked_of (line_of leaf.now)) (steps_of (line_of witness.now))) result }
+{
+    let blocked = match read_blocked(alloc, without_return(leaf)) {
+        Ok(calls) => calls,
+        Err(WitnessTextFault::BadLine(_)) => return Err(ReportFault::BadLine(place + 1)),
+        Err(WitnessTextFault::Memory) => return Err(ReportFault::Engine(EngineFault::Memory)),
+    };
+    match read_steps(alloc, without_return(witness)) {
+        Ok(steps) => Ok(Witness { steps, blocked }),
+        Err(fault) => {
+            drop(blocked);
+            Err(match fault {
+                WitnessTextFault::BadLine(_) => ReportFault::BadLine(place + 2),
+                WitnessTextFault::Memory => ReportFault::Engine(EngineFault::Memory),
+            })
+        }
+    }
+}
+
+/// Reads the witness of the leaf that has a place.
+#[tactic(auto, using(crate::proofs::ReportLemmas::joining))]
+fn witness_at(alloc: Global, text: &[u8], place: usize) -> Result<Witness, ReportFault>
+    requires { place < length (parts_at 10 text.now) }
+    ensures { ReadsReport (witness_at place (drop place (parts_at 10 text.now))) result }
+{
+    let mut lines = Pieces::new(text, b'\n');
+    skip(&mut lines, place);
+    let Some(leaf) = lines.next() else {
+        return Err(ReportFault::NoSuchLeaf);
+    };
+    let Some(witness) = lines.next() else {
+        return Err(ReportFault::NoWitness);
+    };
+    read_both(alloc, place, leaf, witness)
+}
+
+/// Whether a text is read as two lines alone.
+fn are_alone(text: &[u8], leaf: Option<usize>) -> bool
+    ensures { result ≡ are_alone leaf (parts_at 10 text.now) }
+{
+    match leaf {
+        None => are_two(text),
+        Some(_) => false,
+    }
+}
+
+/// Reads a witness of two lines.
+#[tactic(auto, using(crate::proofs::ReportLemmas::reporting))]
+fn read_two(alloc: Global, text: &[u8]) -> Result<Witness, ReportFault>
+    ensures { ReadsReport (as_two (witness_of text.now)) result }
+{
+    match read_witness(alloc, text) {
+        Ok(witness) => Ok(witness),
+        Err(WitnessTextFault::BadLine(line)) => Err(ReportFault::BadLine(line)),
+        Err(WitnessTextFault::Memory) => Err(ReportFault::Engine(EngineFault::Memory)),
+    }
+}
+
+/// Reads a witness from the text of a report, as `check --witness` writes it, or of two lines alone (docs/FORMATS.md, "Witnesses"): the only
+/// one there, or that of the leaf of this number. `BadLine` tells the first line that is wrong; where none is, there is no witness, or no
+/// single one, or no such leaf, or it is no deadlock. `Memory` is that a growth was refused.
+#[tactic(auto, using(crate::proofs::ReportLemmas::reporting))]
+pub fn read_report(alloc: Global, text: &[u8], leaf: Option<usize>) -> Result<Witness, ReportFault>
+    ensures { ReadsReport (witness_of_report leaf text.now) result }
+{
+    if are_alone(text, leaf) {
+        return read_two(alloc, text);
+    }
+    if let Some(line) = wrong_line(text) {
+        return Err(ReportFault::BadLine(line));
+    }
+    match leaf_wanted(text, leaf) {
+        Ok(place) => witness_at(alloc, text, place),
+        Err(fault) => Err(fault),
+    }
+}
