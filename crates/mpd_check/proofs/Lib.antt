@@ -1,9 +1,3 @@
-mod PieceLemmas
-mod TextLemmas
 mod StatusLemmas
-mod FileLemmas
-mod VerdictLemmas
-mod ClearTexts
-mod RoundTrip
-mod ReportRead
 mod CheckLemmas
+pub mod ListingLemmas

@@ -99,31 +99,31 @@ abbrev pub ModeAnswered : Program → Mode → CheckPlan → ℕ → SinkSeen �
 ModeAnswered s mode plan workers old new result = AnsweredBy (mode_line mode (tally_of (leaves_of s mode plan) (more_of s mode plan))) s mode plan workers old new result
 
 -- The part of the report that the piece of a number has is told; or there are too many pieces, or so few.
-abbrev pub PartTold : Program → Mode → CheckPlan → ℕ → Result Told CheckFault → Type 0
-PartTold s mode plan number (Ok told) =
+abbrev pub PartTold : (List ℕ → List ℕ) → Program → Mode → CheckPlan → ℕ → Result Told CheckFault → Type 0
+PartTold text s mode plan number (Ok told) =
     (choices : List ℕ) × (slice_get (pieces_of s mode plan) number ≡ Some choices) × AreFew s mode plan
-    × (string_bytes told.text ≡ text_of s mode plan (leaves_at s mode plan choices) (more_at s mode plan choices)) × (told.tally ≡ tally_of (leaves_at s mode plan choices) (more_at s mode plan choices))
-PartTold s mode plan number (Err (Engine WriteFailed)) = ⊥
-PartTold s mode plan number (Err (Engine Memory)) = Unit {0}
-PartTold s mode plan number (Err (Engine ReadFailed)) = ⊥
-PartTold s mode plan number (Err (Engine TooManyTurns)) = ⊥
-PartTold s mode plan number (Err BadWorkers) = ⊥
-PartTold s mode plan number (Err TooManyPieces) = PIECES_MAX < length (pieces_of s mode plan)
-PartTold s mode plan number (Err (NoSuchPiece asked count)) = (asked ≡ number) × (count ≡ length (pieces_of s mode plan)) × (count ≤ number) × AreFew s mode plan
+    × (string_bytes told.text ≡ text choices) × (told.tally ≡ tally_of (leaves_at s mode plan choices) (more_at s mode plan choices))
+PartTold text s mode plan number (Err (Engine WriteFailed)) = ⊥
+PartTold text s mode plan number (Err (Engine Memory)) = Unit {0}
+PartTold text s mode plan number (Err (Engine ReadFailed)) = ⊥
+PartTold text s mode plan number (Err (Engine TooManyTurns)) = ⊥
+PartTold text s mode plan number (Err BadWorkers) = ⊥
+PartTold text s mode plan number (Err TooManyPieces) = PIECES_MAX < length (pieces_of s mode plan)
+PartTold text s mode plan number (Err (NoSuchPiece asked count)) = (asked ≡ number) × (count ≡ length (pieces_of s mode plan)) × (count ≤ number) × AreFew s mode plan
 
 -- The part of the report that the piece of a number has was written; or nothing: there are too many pieces, or so few.
-abbrev pub PartAnswered : Program → Mode → CheckPlan → ℕ → SinkSeen → SinkSeen → Result Tally CheckFault → Type 0
-PartAnswered s mode plan number old new (Ok tally) =
+abbrev pub PartAnswered : (List ℕ → List ℕ) → Program → Mode → CheckPlan → ℕ → SinkSeen → SinkSeen → Result Tally CheckFault → Type 0
+PartAnswered text s mode plan number old new (Ok tally) =
     (choices : List ℕ) × (slice_get (pieces_of s mode plan) number ≡ Some choices) × AreFew s mode plan
-    × Wrote (text_of s mode plan (leaves_at s mode plan choices) (more_at s mode plan choices)) old new × (tally ≡ tally_of (leaves_at s mode plan choices) (more_at s mode plan choices))
-PartAnswered s mode plan number old new (Err (Engine WriteFailed)) =
-    (choices : List ℕ) × (slice_get (pieces_of s mode plan) number ≡ Some choices) × AreFew s mode plan × WrotePart (text_of s mode plan (leaves_at s mode plan choices) (more_at s mode plan choices)) old new
-PartAnswered s mode plan number old new (Err (Engine Memory)) = new ≡ old
-PartAnswered s mode plan number old new (Err (Engine ReadFailed)) = ⊥
-PartAnswered s mode plan number old new (Err (Engine TooManyTurns)) = ⊥
-PartAnswered s mode plan number old new (Err BadWorkers) = ⊥
-PartAnswered s mode plan number old new (Err TooManyPieces) = (new ≡ old) × (PIECES_MAX < length (pieces_of s mode plan))
-PartAnswered s mode plan number old new (Err (NoSuchPiece asked count)) = (new ≡ old) × (asked ≡ number) × (count ≡ length (pieces_of s mode plan)) × (count ≤ number) × AreFew s mode plan
+    × Wrote (text choices) old new × (tally ≡ tally_of (leaves_at s mode plan choices) (more_at s mode plan choices))
+PartAnswered text s mode plan number old new (Err (Engine WriteFailed)) =
+    (choices : List ℕ) × (slice_get (pieces_of s mode plan) number ≡ Some choices) × AreFew s mode plan × WrotePart (text choices) old new
+PartAnswered text s mode plan number old new (Err (Engine Memory)) = new ≡ old
+PartAnswered text s mode plan number old new (Err (Engine ReadFailed)) = ⊥
+PartAnswered text s mode plan number old new (Err (Engine TooManyTurns)) = ⊥
+PartAnswered text s mode plan number old new (Err BadWorkers) = ⊥
+PartAnswered text s mode plan number old new (Err TooManyPieces) = (new ≡ old) × (PIECES_MAX < length (pieces_of s mode plan))
+PartAnswered text s mode plan number old new (Err (NoSuchPiece asked count)) = (new ≡ old) × (asked ≡ number) × (count ≡ length (pieces_of s mode plan)) × (count ≤ number) × AreFew s mode plan
 
 -- a text of how many pieces there are is written
 abbrev pub PutCount : List ℕ → SinkSeen → SinkSeen → Result Unit CheckFault → Type 0

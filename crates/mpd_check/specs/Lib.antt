@@ -2,9 +2,4 @@ pub mod Tally
 pub mod Refused
 pub mod ModeText
 pub mod Checked
-pub mod Pieces
-pub mod WitnessText
-pub mod WitnessRows
-pub mod WitnessLaws
-pub mod WitnessFile
-pub mod Verdict
+pub mod Listing

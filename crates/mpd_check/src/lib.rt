@@ -1,16 +1,11 @@
-//! Looks for deadlocks and traps: a script is explored from its start, and the report is written to a sink. Judges the witness of a
-//! deadlock by a run of its own.
+//! Looks for deadlocks and traps: a script is explored from its start, or runs of it are drawn, and the report is written to a sink.
 #![tactic(auto)]
 
 pub mod counts;
 pub mod fault;
-pub mod judge;
-pub mod laws;
+pub mod listing;
 pub mod modes;
 pub mod part;
-mod pieces;
-pub mod witness_file;
-pub mod witness_text;
 
 ghost use Rattle.std.specs.Prelude.{◌≡◌, ◌↔◌, ◌≤◌, ◌<◌, ◌⊎◌, true, IfOk, OnOk, IsErrOf, length, string_bytes};
 ghost use Rattle.mpd_check.specs.Checked.{pieces_of, leaves_of, more_of, text_of, AreFew, IsCrew, Answered, Put};

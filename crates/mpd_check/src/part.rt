@@ -4,17 +4,18 @@ ghost use Rattle.std.specs.Prelude.{◌≡◌, ◌≤◌, ◌<◌, IfOk, OnOk, I
 ghost use Rattle.mpd_model.specs.Trail.{first_standing};
 ghost use Rattle.mpd_trail.specs.Views.{standing_of};
 ghost use Rattle.mpd_pieces.specs.Pieces.{numbered, Reaches};
-ghost use Rattle.mpd_check.specs.Checked.{pieces_of, leaves_at, more_at, text_of, count_text, AreFew, Counted, PartAnswered, PartTold};
+ghost use Rattle.mpd_check.specs.Checked.{pieces_of, leaves_at, more_at, count_text, AreFew, Counted, PartAnswered, PartTold};
+ghost use Rattle.mpd_check.specs.Listing.{part_text, plain_part, IsPlain};
 ghost use Rattle.mpd_check.specs.Refused.{split_refused};
 ghost use Rattle.mpd_check.specs.Tally.{tally_of};
 
-use crate::counts::{Tally, tally_of};
+use crate::counts::Tally;
 use crate::fault::CheckFault;
+use crate::listing::{Telling, told_of};
 use crate::modes::put_text;
 use crate::{Told, put};
 use mpd_code::code::Code;
 use mpd_device::device::Sink;
-use mpd_explore::print::print_report;
 use mpd_explore::watch::Watch;
 use mpd_lines::engine::EngineFault;
 use mpd_model::call::Mode;
@@ -107,22 +108,19 @@ fn tell_at<P: Watch>(
     debugger: &mut Debugger<'_>,
     plan: CheckPlan,
     piece: &Piece,
+    telling: Telling,
     watch: &mut P,
 ) -> Result<Told, AllocError>
     requires fuel { plan.limits.fuel ≤ STEPS_MAX }
     requires standing { standing_of debugger.old ≡ first_standing debugger.old.trail.program debugger.old.trail.mode }
     requires reaches { Reaches plan.limits.fuel piece.now.choices debugger.old.world }
-    ensures text { IfOk result (λ told. string_bytes told.text ≡ text_of debugger.old.trail.program debugger.old.trail.mode plan (leaves_at debugger.old.trail.program debugger.old.trail.mode plan piece.now.choices) (more_at debugger.old.trail.program debugger.old.trail.mode plan piece.now.choices)) }
+    ensures text { IfOk result (λ told. string_bytes told.text ≡ part_text telling debugger.old.trail.program debugger.old.trail.mode plan piece.now.choices) }
     ensures tally { IfOk result (λ told. told.tally ≡ tally_of (leaves_at debugger.old.trail.program debugger.old.trail.mode plan piece.now.choices) (more_at debugger.old.trail.program debugger.old.trail.mode plan piece.now.choices)) }
 {
     let report = explore_at(alloc, debugger, &piece.choices.items, plan.limits, watch)?;
-    let printed = print_report(alloc, &report);
-    let tally = tally_of(&report);
+    let told = told_of(alloc, debugger, &report, plan.limits.fuel, telling);
     drop(report);
-    match printed {
-        Ok(text) => Ok(Told { text, tally }),
-        Err(fault) => Err(fault),
-    }
+    told
 }
 
 /// The same of the piece of a number, where there is one. The debugger is at the start of the script.
@@ -132,19 +130,20 @@ fn tell_number<P: Watch>(
     plan: CheckPlan,
     pieces: &[Piece],
     number: usize,
+    telling: Telling,
     watch: &mut P,
 ) -> Result<Told, CheckFault>
     requires fuel { plan.limits.fuel ≤ STEPS_MAX }
     requires standing { standing_of debugger.old ≡ first_standing debugger.old.trail.program debugger.old.trail.mode }
     requires pieces { pieces.now ≡ numbered 0 (pieces_of debugger.old.trail.program debugger.old.trail.mode plan) }
     requires few { AreFew debugger.old.trail.program debugger.old.trail.mode plan }
-    ensures { PartTold debugger.old.trail.program debugger.old.trail.mode plan number result }
+    ensures { PartTold (part_text telling debugger.old.trail.program debugger.old.trail.mode plan) debugger.old.trail.program debugger.old.trail.mode plan number result }
 {
     let count = pieces.len();
     if number >= count {
         return Err(CheckFault::NoSuchPiece { number, count });
     }
-    match tell_at(alloc, debugger, plan, &pieces[number], watch) {
+    match tell_at(alloc, debugger, plan, &pieces[number], telling, watch) {
         Ok(told) => Ok(told),
         Err(_) => Err(CheckFault::Engine(EngineFault::Memory)),
     }
@@ -157,10 +156,11 @@ fn tell_piece<P: Watch>(
     mode: Mode,
     plan: CheckPlan,
     number: usize,
+    telling: Telling,
     watch: &mut P,
 ) -> Result<Told, CheckFault>
     requires { plan.limits.fuel ≤ STEPS_MAX }
-    ensures { PartTold code.now.program mode plan number result }
+    ensures { PartTold (part_text telling code.now.program mode plan) code.now.program mode plan number result }
 {
     let begun = match begin(alloc, code, mode, plan) {
         Ok(begun) => begun,
@@ -170,30 +170,50 @@ fn tell_piece<P: Watch>(
         mut debugger,
         pieces,
     } = begun;
-    tell_number(alloc, &mut debugger, plan, &pieces, number, watch)
+    tell_number(alloc, &mut debugger, plan, &pieces, number, telling, watch)
+}
+
+/// Writes the part of the report that the piece of a number has.
+fn write_piece<W: Sink, P: Watch>(
+    alloc: Global,
+    code: &Code,
+    mode: Mode,
+    plan: CheckPlan,
+    number: usize,
+    telling: Telling,
+    sink: &mut W,
+    watch: &mut P,
+) -> Result<Tally, CheckFault>
+    requires { plan.limits.fuel ≤ STEPS_MAX }
+    ensures { PartAnswered (part_text telling code.now.program mode plan) code.now.program mode plan number (W.seen sink.old) (W.seen sink.new) result }
+{
+    let told = tell_piece(alloc, code, mode, plan, number, telling, watch);
+    watch.end();
+    match told {
+        Ok(told) => put(told, sink),
+        Err(fault) => Err(fault),
+    }
 }
 
 /// Explores the runs of a script that the piece of a number has, and writes its part of the report to a sink: its leaves numbered from
-/// 0, and whether it has more. The parts of all pieces joined in their order, with their leaves numbered through, are the report of
-/// `check`. It is refused where there are more than 1,024 pieces (31), or no piece has the number; `WriteFailed` (46) comes only where a
-/// write failed, and `Memory` only before anything is written. The fuel is at most 1,000,000 steps. `watch` is told of each leaf as it
-/// is found, and of the end before anything is written; nothing else depends on it.
+/// 0, with what is asked for beside them, and whether it has more. Where nothing is asked for beside them, the parts of all pieces joined
+/// in their order, with their leaves numbered through, are the report of `check`. It is refused where there are more than 1,024 pieces
+/// (31), or no piece has the number; `WriteFailed` (46) comes only where a write failed, and `Memory` only before anything is written.
+/// The fuel is at most 1,000,000 steps. `watch` is told of each leaf as it is found, and of the end before anything is written; nothing
+/// else depends on it.
 pub fn check_piece<W: Sink, P: Watch>(
     alloc: Global,
     code: &Code,
     mode: Mode,
     plan: CheckPlan,
     number: usize,
+    telling: Telling,
     sink: &mut W,
     watch: &mut P,
 ) -> Result<Tally, CheckFault>
     requires { plan.limits.fuel ≤ STEPS_MAX }
-    ensures { PartAnswered code.now.program mode plan number (W.seen sink.old) (W.seen sink.new) result }
+    ensures told { PartAnswered (part_text telling code.now.program mode plan) code.now.program mode plan number (W.seen sink.old) (W.seen sink.new) result }
+    ensures plain { IsPlain telling → PartAnswered (plain_part code.now.program mode plan) code.now.program mode plan number (W.seen sink.old) (W.seen sink.new) result }
 {
-    let told = tell_piece(alloc, code, mode, plan, number, watch);
-    watch.end();
-    match told {
-        Ok(told) => put(told, sink),
-        Err(fault) => Err(fault),
-    }
+    write_piece(alloc, code, mode, plan, number, telling, sink, watch)
 }

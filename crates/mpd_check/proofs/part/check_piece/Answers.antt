@@ -1,6 +1,6 @@
-use Rattle.mpd_check.proofs.CheckLemmas.{put_part}
+use Rattle.mpd_check.proofs.ListingLemmas.{plain_answered}
 use Rattle.mpd_check.proofs.part.check_piece.Goals as goal
 
-pub returns-in-Ok : goal.returns-in-Ok
-returns-in-Ok g c =
-    put_part c.args.code.now.program c.args.mode c.args.plan c.args.number (g.W.Sink.seen c.args.sink.now) (g.W.Sink.seen c.put.new.sink) c.in-Ok.told c.put.result c.in-Ok.ensures c.put.ensures
+pub returns-clause-plain : goal.returns-clause-plain
+returns-clause-plain g c = λ plain.
+    plain_answered c.args.telling c.args.code.now.program c.args.mode c.args.plan c.args.number (g.W.Sink.seen c.args.sink.now) (g.W.Sink.seen c.write_piece.new.sink) c.write_piece.result c.write_piece.ensures plain

@@ -1,0 +1,53 @@
+-- What is told of a sample is what is answered; and a part with nothing beside its leaves is the text of a report.
+use Rattle.std.proofs.Common.{◌≡◌, ℕ, Bool, List, [], Result, Ok, Err, refl, ap, ◌∙◌}
+use Rattle.mpd_model.specs.declared.call.Mode.{Mode}
+use Rattle.mpd_model.specs.Program.{Program}
+use Rattle.mpd_device.specs.Seen.{SinkSeen}
+use Rattle.mpd_explore.specs.declared.report.Limits.{Limits}
+use Rattle.mpd_model.specs.World.{start}
+use Rattle.mpd_model.specs.Trail.{first_standing}
+use Rattle.mpd_explore.specs.declared.report.Leaf.{Leaf}
+use Rattle.mpd_explore.specs.ReportText.{report_text}
+use Rattle.mpd_explore.specs.Printed.{told_text}
+use Rattle.mpd_explore.specs.WitnessTexts.{witness_texts}
+use Rattle.mpd_explore.proofs.PrintLemmas.{told_reports}
+use Rattle.mpd_explain.proofs.PrintLemmas.{plain_told}
+use Rattle.mpd_pool.specs.declared.check.CheckPlan.{CheckPlan}
+use Rattle.mpd_lines.specs.declared.engine.EngineFault.{EngineFault}
+use Rattle.mpd_lines.specs.declared.engine.EngineFault.TheVariants.{ReadFailed, WriteFailed, TooManyTurns, Memory}
+use Rattle.mpd_check.specs.declared.counts.Tally.{Tally}
+use Rattle.mpd_check.specs.Tally.{tally_of}
+use Rattle.mpd_check.specs.Checked.{leaves_at, more_at, PartAnswered}
+use Rattle.mpd_check.specs.declared.fault.CheckFault.{CheckFault}
+use Rattle.mpd_check.specs.declared.fault.CheckFault.TheVariants.{BadWorkers, TooManyPieces, NoSuchPiece, Engine}
+use Rattle.mpd_check.specs.declared.listing.Telling.{Telling}
+use Rattle.mpd_check.specs.Listing.{explained_at, listing_text, part_text, plain_part, IsPlain, sample_leaves, sample_more, PutSample, SampledBy}
+
+pub put_sampled : (want : List ℕ) (s : Program) (mode : Mode) (seed : ℕ) (l : Limits) (old new : SinkSeen) (text : List ℕ) (told : Tally) (r : Result Tally EngineFault) → text ≡ want → told ≡ tally_of (sample_leaves s mode seed l) (sample_more s mode seed l)
+    → PutSample text told old new r → SampledBy want s mode seed l old new r
+put_sampled want s mode seed l old new text told (Ok t) is tells h = (rw is at h.0, h.1 ∙ tells)
+put_sampled want s mode seed l old new text told (Err WriteFailed) is tells h = rw is at h
+put_sampled want s mode seed l old new text told (Err ReadFailed) is tells h = h
+put_sampled want s mode seed l old new text told (Err TooManyTurns) is tells h = h
+put_sampled want s mode seed l old new text told (Err Memory) is tells h = absurd h
+
+-- ---- nothing beside the leaves
+
+listing_plain : (t : Telling) (s : Program) (mode : Mode) (l : Limits) (leaves : List Leaf) (more : Bool) → IsPlain t → listing_text t s mode l leaves more ≡ report_text l.witnesses [] l.fuel (start s mode) leaves more
+listing_plain t s mode l leaves more plain =
+    let texts = witness_texts l.witnesses [] l.fuel (start s mode) leaves in
+    plain_told {A = Unit {0}} {E = Unit {0}} (Ok tt) (λ (u : Unit {0}). listing_text t s mode l leaves more) t.group texts (explained_at t.explain l.fuel (first_standing s mode) leaves) leaves more plain.1 (ap (λ (b : Bool). explained_at b l.fuel (first_standing s mode) leaves) plain.0) refl
+    ∙ told_reports {A = Unit {0}} {E = Unit {0}} (Ok tt) (λ (u : Unit {0}). told_text texts leaves more) l.witnesses [] l.fuel (start s mode) texts leaves more refl refl
+
+part_plain : (t : Telling) (s : Program) (mode : Mode) (plan : CheckPlan) (choices : List ℕ) → IsPlain t → part_text t s mode plan choices ≡ plain_part s mode plan choices
+part_plain t s mode plan choices plain = listing_plain t s mode plan.limits (leaves_at s mode plan choices) (more_at s mode plan choices) plain
+
+pub plain_answered : (t : Telling) (s : Program) (mode : Mode) (plan : CheckPlan) (number : ℕ) (old new : SinkSeen) (r : Result Tally CheckFault) → PartAnswered (part_text t s mode plan) s mode plan number old new r → IsPlain t → PartAnswered (plain_part s mode plan) s mode plan number old new r
+plain_answered t s mode plan number old new (Ok tally) h plain = (h.0, h.1, h.2, rw (part_plain t s mode plan h.0 plain) at h.3, h.4)
+plain_answered t s mode plan number old new (Err (Engine WriteFailed)) h plain = (h.0, h.1, h.2, rw (part_plain t s mode plan h.0 plain) at h.3)
+plain_answered t s mode plan number old new (Err (Engine ReadFailed)) h plain = h
+plain_answered t s mode plan number old new (Err (Engine TooManyTurns)) h plain = h
+plain_answered t s mode plan number old new (Err (Engine Memory)) h plain = h
+plain_answered t s mode plan number old new (Err BadWorkers) h plain = h
+plain_answered t s mode plan number old new (Err TooManyPieces) h plain = h
+plain_answered t s mode plan number old new (Err (NoSuchPiece n m)) h plain = h

@@ -1,4 +1,0 @@
-use Rattle.mpd_check.proofs.judge.verdict.Goals as goal
-
-pub returns : goal.returns
-returns c = rw c.in_ok-core.ensures.world at c.verdict_from.ensures.verdict

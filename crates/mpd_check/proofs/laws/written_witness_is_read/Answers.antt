@@ -1,5 +1,0 @@
-use Rattle.mpd_check.proofs.ReportRead.{report_is_read}
-use Rattle.mpd_check.proofs.laws.written_witness_is_read.Goals as goal
-
-pub returns : goal.returns
-returns c = report_is_read

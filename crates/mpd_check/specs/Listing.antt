@@ -1,0 +1,80 @@
+-- A report that is explained, or whose leaves are grouped by how they end; and what is written of a sample.
+use Rattle.std.specs.Prelude.{◌≡◌, ℕ, Bool, true, false, nat_lt, List, [], length, map, Result, Ok, Err}
+use Rattle.mpd_model.specs.declared.call.Mode.{Mode}
+use Rattle.mpd_model.specs.Program.{Program}
+use Rattle.mpd_model.specs.World.{start}
+use Rattle.mpd_model.specs.Trail.{Standing, first_standing, kept}
+use Rattle.mpd_device.specs.Seen.{SinkSeen}
+use Rattle.mpd_explore.specs.declared.report.Leaf.{Leaf}
+use Rattle.mpd_explore.specs.declared.report.Limits.{Limits}
+use Rattle.mpd_explore.specs.Walk.{walk}
+use Rattle.mpd_explore.specs.Report.{shown}
+use Rattle.mpd_explore.specs.WitnessTexts.{witness_texts}
+use Rattle.mpd_explain.specs.Explanations.{explanations}
+use Rattle.mpd_explain.specs.Told.{explained_text}
+use Rattle.mpd_sample.specs.Drawn.{seeded, draws, sampled}
+use Rattle.mpd_pool.specs.declared.check.CheckPlan.{CheckPlan}
+use Rattle.mpd_lines.specs.declared.engine.EngineFault.{EngineFault}
+use Rattle.mpd_lines.specs.declared.engine.EngineFault.TheVariants.{ReadFailed, WriteFailed, TooManyTurns, Memory}
+use Rattle.mpd_check.specs.declared.fault.CheckFault.{CheckFault}
+use Rattle.mpd_check.specs.declared.counts.Tally.{Tally}
+use Rattle.mpd_check.specs.declared.listing.Telling.{Telling}
+use Rattle.mpd_check.specs.Tally.{tally_of}
+use Rattle.mpd_check.specs.Checked.{leaves_of, more_of, leaves_at, more_at, text_of, Wrote, WrotePart, AnsweredBy}
+
+-- the explanations of leaves from where a debugger stands, where they are asked for
+abbrev pub explained_at : Bool → ℕ → Standing → List Leaf → List (List ℕ)
+explained_at false fuel d leaves = []
+explained_at true fuel d leaves = explanations d.trail.program d.trail.mode (kept d.trail) fuel d.world leaves
+
+-- the text of a report of these leaves, made where a debugger stands
+abbrev pub listing_at : Telling → Limits → Standing → List Leaf → Bool → List ℕ
+listing_at t l d leaves more = explained_text t.group (witness_texts l.witnesses (kept d.trail) l.fuel d.world leaves) (explained_at t.explain l.fuel d leaves) leaves more
+
+-- the same from the start of a script
+abbrev pub listing_text : Telling → Program → Mode → Limits → List Leaf → Bool → List ℕ
+listing_text t s mode l leaves more = listing_at t l (first_standing s mode) leaves more
+
+-- the whole report was written so
+abbrev pub ListingAnswered : Telling → Program → Mode → CheckPlan → ℕ → SinkSeen → SinkSeen → Result Tally CheckFault → Type 0
+ListingAnswered t s mode plan workers old new result = AnsweredBy (listing_text t s mode plan.limits (leaves_of s mode plan) (more_of s mode plan)) s mode plan workers old new result
+
+-- the same of the runs that begin with some choices, of which a part of a report tells
+abbrev pub part_text : Telling → Program → Mode → CheckPlan → List ℕ → List ℕ
+part_text t s mode plan choices = listing_text t s mode plan.limits (leaves_at s mode plan choices) (more_at s mode plan choices)
+
+-- nothing is asked for beside the leaves
+abbrev pub IsPlain : Telling → Type 0
+IsPlain t = (t.explain ≡ false) × (t.group ≡ false)
+
+-- the part is then the text of a report, as a whole one is
+abbrev pub plain_part : Program → Mode → CheckPlan → List ℕ → List ℕ
+plain_part s mode plan choices = text_of s mode plan (leaves_at s mode plan choices) (more_at s mode plan choices)
+
+-- ---- a sample
+
+-- the leaves of the runs that are drawn, each once, and whether the script has others
+abbrev pub sample_leaves : Program → Mode → ℕ → Limits → List Leaf
+sample_leaves s mode seed l = map shown (sampled (draws l.until_bad l.fuel l.runs (start s mode) (seeded seed)) l.fuel (start s mode))
+
+abbrev pub sample_more : Program → Mode → ℕ → Limits → Bool
+sample_more s mode seed l = nat_lt (length (sample_leaves s mode seed l)) (length (walk l.fuel (start s mode)))
+
+-- this text was written, or a part of it until a write failed
+abbrev pub PutSample : List ℕ → Tally → SinkSeen → SinkSeen → Result Tally EngineFault → Type 0
+PutSample text told old new (Ok tally) = Wrote text old new × (tally ≡ told)
+PutSample text told old new (Err WriteFailed) = WrotePart text old new
+PutSample text told old new (Err Memory) = ⊥
+PutSample text told old new (Err ReadFailed) = ⊥
+PutSample text told old new (Err TooManyTurns) = ⊥
+
+-- This text of a sample was written, or a part of it until a write failed; or nothing, where memory was refused.
+abbrev pub SampledBy : List ℕ → Program → Mode → ℕ → Limits → SinkSeen → SinkSeen → Result Tally EngineFault → Type 0
+SampledBy text s mode seed l old new (Ok tally) = Wrote text old new × (tally ≡ tally_of (sample_leaves s mode seed l) (sample_more s mode seed l))
+SampledBy text s mode seed l old new (Err WriteFailed) = WrotePart text old new
+SampledBy text s mode seed l old new (Err Memory) = new ≡ old
+SampledBy text s mode seed l old new (Err ReadFailed) = ⊥
+SampledBy text s mode seed l old new (Err TooManyTurns) = ⊥
+
+abbrev pub SampleAnswered : Telling → Program → Mode → ℕ → Limits → SinkSeen → SinkSeen → Result Tally EngineFault → Type 0
+SampleAnswered t s mode seed l old new result = SampledBy (listing_text t s mode l (sample_leaves s mode seed l) (sample_more s mode seed l)) s mode seed l old new result
