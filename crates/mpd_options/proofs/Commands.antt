@@ -11,7 +11,7 @@ use Rattle.clap.specs.Faults.{fault_of, walk_fault, settle_fault, turn_fault, st
 use Rattle.clap.specs.Simple.{names_of, subcommand_of, entered}
 use Rattle.clap.specs.Walk.{Held, Walk, Names, idle, Step, value, trailing, Outcome, plain, nothing_held, finished, settled, walk_from, walked, arg_by_long, arg_by_short, long_or_other, short_or_plain, after_flag, after_step, subcommand_or_other, bundle, bundle_met, subcommand_met}
 use Rattle.clap.proofs.OnLiterals.{clap_on_literals}
-use Rattle.mpd_options.specs.Asked.{Asked, Tool, behind, checker, found_of_command, meant, among_options, runner, server, tracer, verifier, wanted}
+use Rattle.mpd_options.specs.Asked.{Asked, Tool, behind, checker, found_of_command, meant, among_options, runner, server, teller, tracer, verifier, wanted}
 use Rattle.mpd_options.specs.Program.{Lies, mpdbg_app, only_deadlock}
 use Rattle.mpd_options.proofs.Ends.{Agrees, fails_first, fails_then}
 use Rattle.mpd_options.proofs.Items.{NamesNone, by_name, called, some_fault, tools}
@@ -73,6 +73,7 @@ behind_command runner words = stays words [] start (codes "run")
 behind_command server words = stays words [] start (codes "serve")
 behind_command checker words = stays words [] start (codes "check")
 behind_command verifier words = stays words [] start (codes "verify")
+behind_command teller words = stays words [] start (codes "words")
 
 command_walk : (t : Tool) (words : List Text) → walk_fault shape names start (called t ∷ words) ≡ []
 unfolding clap_on_literals
@@ -81,6 +82,7 @@ command_walk runner words = no_fault words [] start (codes "run")
 command_walk server words = no_fault words [] start (codes "serve")
 command_walk checker words = no_fault words [] start (codes "check")
 command_walk verifier words = no_fault words [] start (codes "verify")
+command_walk teller words = no_fault words [] start (codes "words")
 
 and_nothing : (ks : Kinds) → or_else ks [] ≡ ks
 and_nothing [] = refl
@@ -96,6 +98,7 @@ whole_command lie runner words = and_nothing (faults lie runner (walk_at at_firs
 whole_command lie server words = and_nothing (faults lie server (walk_at at_first) words)
 whole_command lie checker words = and_nothing (faults lie checker (walk_at at_first) words)
 whole_command lie verifier words = and_nothing (faults lie verifier (walk_at at_first) words)
+whole_command lie teller words = and_nothing (faults lie teller (walk_at at_first) words)
 
 command_fault : (lie : Lies) (t : Tool) (words : List Text) → fault_of (mpdbg_app (only_deadlock lie)) (called t ∷ words) ≡ faults lie t (walk_at at_first) words
 command_fault lie t words =
@@ -107,6 +110,7 @@ entered_at lie runner words = refl
 entered_at lie server words = refl
 entered_at lie checker words = refl
 entered_at lie verifier words = refl
+entered_at lie teller words = refl
 
 command_found : (lie : Lies) (t : Tool) (words : List Text) → subcommand_of (mpdbg_app (only_deadlock lie)) (called t ∷ words) ≡ Some (called t, rows_at lie t (walk_at at_first) words)
 command_found lie t words = ap (λ (w : Walk). entered (top lie) w.stopped) (behind_command t words) ∙ entered_at lie t words
@@ -118,6 +122,7 @@ lift runner (Some x) ks rows h = h
 lift server (Some x) ks rows h = h
 lift checker (Some x) ks rows h = h
 lift verifier (Some x) ks rows h = h
+lift teller (Some x) ks rows h = h
 
 command_law : (lie : Lies) (t : Tool) (words : List Text) → AgreesAll (wanted t words among_options []) (fault_of (mpdbg_app (only_deadlock lie)) (called t ∷ words)) (subcommand_of (mpdbg_app (only_deadlock lie)) (called t ∷ words))
 command_law lie t words =
@@ -189,7 +194,7 @@ top_letters (y ∷ ys) x xs e = rw e (top_letter x (drop (length (encode_utf8 x)
 abbrev IsOther : Text → Type 0
 IsOther word =
     (bytes_eq (codes "trace") word ≡ false) × (bytes_eq (codes "run") word ≡ false) × (bytes_eq (codes "serve") word ≡ false) × (bytes_eq (codes "check") word ≡ false) × (bytes_eq (codes "verify") word ≡ false)
-    × (bytes_eq (codes "help") word ≡ false)
+    × (bytes_eq (codes "words") word ≡ false) × (bytes_eq (codes "help") word ≡ false)
 
 -- the turn of a first word, by the command that it names
 abbrev met_turn : Option Text → Text → Kinds
@@ -198,7 +203,7 @@ met_turn met word =
     or_else (other_fault shape met word nothing_held) (step_fault shape 1 step.0 step.1)
 
 unmet : (word : Text) → IsOther word → subcommand_met names idle word ≡ None
-unmet word other = rw (other.0, other.1, other.2, other.3, other.4, other.5) refl
+unmet word other = rw (other.0, other.1, other.2, other.3, other.4, other.5, other.6) refl
 
 top_turns : (word : Text) → IsOther word → turn_fault shape names start word ≡ met_turn None word
 top_turns word other = ap (λ m. met_turn m word) (unmet word other)
@@ -297,6 +302,7 @@ other_word lie word words n = elim (bytes_eq (codes "help") word) as (λ b. byte
     turned_about (codes "serve") word n.1.1.0,
     turned_about (codes "check") word n.1.1.1.0,
     turned_about (codes "verify") word n.1.1.1.1.0,
+    turned_about (codes "words") word n.1.1.1.1.1.0,
     e,
   )
 ] refl

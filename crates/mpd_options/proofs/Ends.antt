@@ -14,10 +14,11 @@ use Rattle.clap.specs.declared.builder.value_parser.Reading.{Reading}
 use Rattle.clap.specs.declared.error.kind.ErrorKind.TheVariants as kind
 use Rattle.clap.specs.declared.parser.matches.ValueSource.TheVariants.{DefaultValue}
 use Rattle.clap.proofs.OnLiterals.{clap_on_literals}
-use Rattle.mpd_options.specs.Asked.{Asked, Item, Said, Tool, checker, default_of, fits, found, found_check, found_in, found_of_file, found_options, found_serve, found_verify, most_clients, most_fuel, most_modes, most_piece, most_port, most_runs, most_split, most_workers, name_of, number_if_given, options_of_items, or_default, said_of, text_in, text_of, the_clients, the_complete, the_file, the_fuel, the_mode, the_modes, the_piece, the_pieces, the_port, the_runs, the_split, the_until, the_witness, the_witness_file, the_workers, run, runner, server, trace, tracer, until_bad_in, verifier}
+use Rattle.mpd_options.specs.Asked.{Asked, Item, Said, Tool, checker, default_of, fits, found, found_check, found_in, found_of_file, found_options, found_serve, found_verify, found_words, most_clients, most_fuel, most_leaf, most_modes, most_piece, most_port, most_runs, most_sample, most_seed, most_split, most_workers, name_of, number_if_given, or_default, said_of, text_in, text_of, the_choices, the_clients, the_complete, the_ends, the_explain, the_file, the_fuel, the_group, the_leaf, the_mode, the_modes, the_piece, the_pieces, the_port, the_runs, the_sample, the_seed, the_split, the_until, the_witness, the_witness_file, the_workers, run, runner, server, teller, trace, tracer, until_bad_in, verifier}
 use Rattle.mpd_options.specs.Numbers.{flag_in, number_in}
 use Rattle.mpd_options.specs.declared.options.CheckOptions.{CheckOptions}
 use Rattle.mpd_options.specs.Program.{Lies}
+use Rattle.mpd_options.proofs.CheckItems.{all_there}
 use Rattle.mpd_options.proofs.Items.{Valid, arg, by_id, has_is, has_said, keeps, made, named_row, or_row, row_at, row_at_more, row_for, row_said, rows_for, rules, sub, used_once, used_well, values_at_end}
 
 -- ---- the defaults
@@ -115,11 +116,18 @@ checker_row lie the_runs = refl
 checker_row lie the_fuel = refl
 checker_row lie the_split = refl
 checker_row lie the_workers = refl
+checker_row lie the_ends = refl
+checker_row lie the_sample = refl
+checker_row lie the_seed = refl
+checker_row lie the_explain = refl
+checker_row lie the_group = refl
 checker_row lie the_until = refl
 checker_row lie the_witness = refl
 checker_row lie the_complete = refl
 checker_row lie the_piece = refl
 checker_row lie the_pieces = refl
+checker_row lie the_leaf = refl
+checker_row lie the_choices = refl
 
 verifier_file : (lie : Lies) → rules_row (name_of the_file) (rules lie verifier) ≡ default_row the_file
 unfolding clap_on_literals
@@ -132,6 +140,26 @@ verifier_witness lie = refl
 verifier_mode : (lie : Lies) → rules_row (name_of the_mode) (rules lie verifier) ≡ default_row the_mode
 unfolding clap_on_literals
 verifier_mode lie = refl
+
+verifier_leaf : (lie : Lies) → rules_row (name_of the_leaf) (rules lie verifier) ≡ default_row the_leaf
+unfolding clap_on_literals
+verifier_leaf lie = refl
+
+teller_file : (lie : Lies) → rules_row (name_of the_file) (rules lie teller) ≡ default_row the_file
+unfolding clap_on_literals
+teller_file lie = refl
+
+teller_choices : (lie : Lies) → rules_row (name_of the_choices) (rules lie teller) ≡ default_row the_choices
+unfolding clap_on_literals
+teller_choices lie = refl
+
+teller_mode : (lie : Lies) → rules_row (name_of the_mode) (rules lie teller) ≡ default_row the_mode
+unfolding clap_on_literals
+teller_mode lie = refl
+
+teller_fuel : (lie : Lies) → rules_row (name_of the_fuel) (rules lie teller) ≡ default_row the_fuel
+unfolding clap_on_literals
+teller_fuel lie = refl
 
 -- ---- what is found at last
 
@@ -176,14 +204,24 @@ text_ended lie the_runs said h = one_ended lie checker the_runs said (checker_ro
 text_ended lie the_fuel said h = one_ended lie checker the_fuel said (checker_row lie the_fuel) h
 text_ended lie the_split said h = one_ended lie checker the_split said (checker_row lie the_split) h
 text_ended lie the_workers said h = one_ended lie checker the_workers said (checker_row lie the_workers) h
+text_ended lie the_ends said h = one_ended lie checker the_ends said (checker_row lie the_ends) h
+text_ended lie the_sample said h = one_ended lie checker the_sample said (checker_row lie the_sample) h
+text_ended lie the_seed said h = one_ended lie checker the_seed said (checker_row lie the_seed) h
+text_ended lie the_explain said h = one_ended lie checker the_explain said (checker_row lie the_explain) h
+text_ended lie the_group said h = one_ended lie checker the_group said (checker_row lie the_group) h
 text_ended lie the_until said h = first_ended lie checker the_until said (checker_row lie the_until) h
 text_ended lie the_witness said h = one_ended lie checker the_witness said (checker_row lie the_witness) h
 text_ended lie the_complete said h = one_ended lie checker the_complete said (checker_row lie the_complete) h
 text_ended lie the_piece said h = one_ended lie checker the_piece said (checker_row lie the_piece) h
 text_ended lie the_pieces said h = one_ended lie checker the_pieces said (checker_row lie the_pieces) h
+text_ended lie the_leaf said h = one_ended lie checker the_leaf said (checker_row lie the_leaf) h
+text_ended lie the_choices said h = first_ended lie checker the_choices said (checker_row lie the_choices) h
 
-three_same : (f f' w w' m m' : Option Text) → f ≡ f' → w ≡ w' → m ≡ m' → found_verify f w m ≡ found_verify f' w' m'
-three_same f f' w w' m m' a b c = rw (a, b, c) refl
+verify_same : (f f' w w' m m' l l' : Option Text) → f ≡ f' → w ≡ w' → m ≡ m' → l ≡ l' → found_verify f w m (number_if_given 0 most_leaf l) ≡ found_verify f' w' m' (number_if_given 0 most_leaf l')
+verify_same f f' w w' m m' l l' a b c d = rw (a, b, c, d) refl
+
+words_same : (f f' c c' m m' n n' : Option Text) → f ≡ f' → c ≡ c' → m ≡ m' → n ≡ n' → found_words f c m (option_and_then (number_in 1 most_fuel) n) ≡ found_words f' c' m' (option_and_then (number_in 1 most_fuel) n')
+words_same f f' c c' m m' n n' a b d e = rw (a, b, d, e) refl
 
 pub found_ended : (lie : Lies) (t : Tool) (said : Said) → Valid said → found_in t (ended lie t said) ≡ found t (text_of said)
 found_ended lie tracer said h = ap₂ (found_of_file trace) (first_ended lie tracer the_file said (tracer_file lie) h) (first_ended lie tracer the_mode said (tracer_mode lie) h)
@@ -192,7 +230,11 @@ found_ended lie server said h =
     four_same _ _ _ _ _ _ _ _ (first_ended lie server the_file said (server_file lie) h) (first_ended lie server the_mode said (server_mode lie) h) (one_ended lie server the_port said (server_port lie) h) (one_ended lie server the_clients said (server_clients lie) h)
 found_ended lie checker said h = let texts : text_in (ended lie checker said) ≡ text_of said = λ j i. text_ended lie i said h j in ap (found checker) texts
 found_ended lie verifier said h =
-    three_same _ _ _ _ _ _ (first_ended lie verifier the_file said (verifier_file lie) h) (first_ended lie verifier the_witness_file said (verifier_witness lie) h) (first_ended lie verifier the_mode said (verifier_mode lie) h)
+    verify_same _ _ _ _ _ _ _ _ (first_ended lie verifier the_file said (verifier_file lie) h) (first_ended lie verifier the_witness_file said (verifier_witness lie) h) (first_ended lie verifier the_mode said (verifier_mode lie) h)
+    (one_ended lie verifier the_leaf said (verifier_leaf lie) h)
+found_ended lie teller said h =
+    words_same _ _ _ _ _ _ _ _ (first_ended lie teller the_file said (teller_file lie) h) (first_ended lie teller the_choices said (teller_choices lie) h) (first_ended lie teller the_mode said (teller_mode lie) h)
+    (one_ended lie teller the_fuel said (teller_fuel lie) h)
 
 -- ---- something is asked for where all was said that must be
 
@@ -208,9 +250,18 @@ item_named name =
     else (if bytes_eq name (codes "fuel") then Some the_fuel
     else (if bytes_eq name (codes "split") then Some the_split
     else (if bytes_eq name (codes "workers") then Some the_workers
+    else (if bytes_eq name (codes "ends") then Some the_ends
+    else (if bytes_eq name (codes "sample") then Some the_sample
+    else (if bytes_eq name (codes "seed") then Some the_seed
+    else (if bytes_eq name (codes "explain") then Some the_explain
+    else (if bytes_eq name (codes "group") then Some the_group
     else (if bytes_eq name (codes "until") then Some the_until
     else (if bytes_eq name (codes "witness") then Some the_witness
-    else (if bytes_eq name (codes "complete") then Some the_complete else (if bytes_eq name (codes "piece") then Some the_piece else (if bytes_eq name (codes "pieces") then Some the_pieces else None))))))))))))))
+    else (if bytes_eq name (codes "complete") then Some the_complete
+    else (if bytes_eq name (codes "piece") then Some the_piece
+    else (if bytes_eq name (codes "pieces") then Some the_pieces
+    else (if bytes_eq name (codes "leaf") then Some the_leaf
+    else (if bytes_eq name (codes "choices") then Some the_choices else None)))))))))))))))))))))
 
 named_is : (i : Item) → item_named (name_of i) ≡ Some i
 named_is the_file = refl
@@ -223,11 +274,18 @@ named_is the_runs = refl
 named_is the_fuel = refl
 named_is the_split = refl
 named_is the_workers = refl
+named_is the_ends = refl
+named_is the_sample = refl
+named_is the_seed = refl
+named_is the_explain = refl
+named_is the_group = refl
 named_is the_until = refl
 named_is the_witness = refl
 named_is the_complete = refl
 named_is the_piece = refl
 named_is the_pieces = refl
+named_is the_leaf = refl
+named_is the_choices = refl
 
 same_item : (i j : Item) → bytes_eq (name_of i) (name_of j) ≡ true → i ≡ j
 same_item i j e = (let same : Some i ≡ Some j = sym (named_is i) ∙ ap item_named ((bytes_eq-Decides (name_of i) (name_of j)).0 e) ∙ named_is j in cc)
@@ -264,21 +322,6 @@ is_serve (Some f) (Some m) d (Some p) None = refl
 is_serve (Some f) None d (Some p) (Some c) = refl
 is_serve (Some f) (Some m) d (Some p) (Some c) = refl
 
--- each of these is there
-all_there : (m : Option (Option ℕ)) (r n s k : Option ℕ) (u w x : Option Bool) (i : Option (Option ℕ)) (p : Option Bool) → is_some m ≡ true → is_some r ≡ true → is_some n ≡ true → is_some s ≡ true → is_some k ≡ true → is_some u ≡ true → is_some w ≡ true
-    → is_some x ≡ true → is_some i ≡ true → is_some p ≡ true → is_some (options_of_items m r n s k u w x i p) ≡ true
-all_there (Some m) (Some r) (Some n) (Some s) (Some k) (Some u) (Some w) (Some x) (Some i) (Some p) a b c d e f g h j l = refl
-all_there None r n s k u w x i p a b c d e f g h j l = cc
-all_there (Some m) None n s k u w x i p a b c d e f g h j l = cc
-all_there (Some m) (Some r) None s k u w x i p a b c d e f g h j l = cc
-all_there (Some m) (Some r) (Some n) None k u w x i p a b c d e f g h j l = cc
-all_there (Some m) (Some r) (Some n) (Some s) None u w x i p a b c d e f g h j l = cc
-all_there (Some m) (Some r) (Some n) (Some s) (Some k) None w x i p a b c d e f g h j l = cc
-all_there (Some m) (Some r) (Some n) (Some s) (Some k) (Some u) None x i p a b c d e f g h j l = cc
-all_there (Some m) (Some r) (Some n) (Some s) (Some k) (Some u) (Some w) None i p a b c d e f g h j l = cc
-all_there (Some m) (Some r) (Some n) (Some s) (Some k) (Some u) (Some w) (Some x) None p a b c d e f g h j l = cc
-all_there (Some m) (Some r) (Some n) (Some s) (Some k) (Some u) (Some w) (Some x) (Some i) None a b c d e f g h j l = cc
-
 -- a number that need not be there
 given_number : (low high : ℕ) (said : Option Text) → ((v : Text) → said ≡ Some v → is_some (number_in low high v) ≡ true) → is_some (number_if_given low high (or_default said None)) ≡ true
 given_number low high None h = refl
@@ -294,20 +337,23 @@ given_until None h = refl
 given_until (Some v) h = ap (λ b. is_some (if b then Some true else None)) (h v refl)
 
 options_there : (said : Said) → Valid said → is_some (found_options (text_of said)) ≡ true
-options_there said h =
-    all_there (number_if_given 0 most_modes (text_of said the_modes)) (option_and_then (number_in 1 most_runs) (text_of said the_runs)) (option_and_then (number_in 1 most_fuel) (text_of said the_fuel))
-    (option_and_then (number_in 0 most_split) (text_of said the_split)) (option_and_then (number_in 0 most_workers) (text_of said the_workers)) (until_bad_in (text_of said the_until))
-    (option_and_then flag_in (text_of said the_witness)) (option_and_then flag_in (text_of said the_complete)) (number_if_given 0 most_piece (text_of said the_piece)) (option_and_then flag_in (text_of said the_pieces))
-    (given_number 0 most_modes (said_of the_modes said) (λ v e. said_fits the_modes v said h e))
-    (read_said (number_in 1 most_runs) (codes "1000") (said_of the_runs said) refl (λ v e. said_fits the_runs v said h e))
-    (read_said (number_in 1 most_fuel) (codes "100000") (said_of the_fuel said) refl (λ v e. said_fits the_fuel v said h e))
-    (read_said (number_in 0 most_split) (codes "1") (said_of the_split said) refl (λ v e. said_fits the_split v said h e))
-    (read_said (number_in 0 most_workers) (codes "4") (said_of the_workers said) refl (λ v e. said_fits the_workers v said h e))
-    (given_until (said_of the_until said) (λ v e. said_fits the_until v said h e))
-    (read_said flag_in (codes "false") (said_of the_witness said) refl (λ v e. said_fits the_witness v said h e))
-    (read_said flag_in (codes "false") (said_of the_complete said) refl (λ v e. said_fits the_complete v said h e))
-    (given_number 0 most_piece (said_of the_piece said) (λ v e. said_fits the_piece v said h e))
-    (read_said flag_in (codes "false") (said_of the_pieces said) refl (λ v e. said_fits the_pieces v said h e))
+options_there said h = all_there _ _ _ _ _ _ _ _ _ _ _ _ _ _ _ (record {
+  modes = given_number 0 most_modes (said_of the_modes said) (λ v e. said_fits the_modes v said h e);
+  runs = given_number 1 most_runs (said_of the_runs said) (λ v e. said_fits the_runs v said h e);
+  fuel = read_said (number_in 1 most_fuel) (codes "100000") (said_of the_fuel said) refl (λ v e. said_fits the_fuel v said h e);
+  split = given_number 0 most_split (said_of the_split said) (λ v e. said_fits the_split v said h e);
+  workers = read_said (number_in 0 most_workers) (codes "4") (said_of the_workers said) refl (λ v e. said_fits the_workers v said h e);
+  ends = read_said flag_in (codes "false") (said_of the_ends said) refl (λ v e. said_fits the_ends v said h e);
+  sample = given_number 1 most_sample (said_of the_sample said) (λ v e. said_fits the_sample v said h e);
+  seed = given_number 0 most_seed (said_of the_seed said) (λ v e. said_fits the_seed v said h e);
+  explain = read_said flag_in (codes "false") (said_of the_explain said) refl (λ v e. said_fits the_explain v said h e);
+  group = read_said flag_in (codes "false") (said_of the_group said) refl (λ v e. said_fits the_group v said h e);
+  until = given_until (said_of the_until said) (λ v e. said_fits the_until v said h e);
+  witness = read_said flag_in (codes "false") (said_of the_witness said) refl (λ v e. said_fits the_witness v said h e);
+  complete = read_said flag_in (codes "false") (said_of the_complete said) refl (λ v e. said_fits the_complete v said h e);
+  piece = given_number 0 most_piece (said_of the_piece said) (λ v e. said_fits the_piece v said h e);
+  pieces = read_said flag_in (codes "false") (said_of the_pieces said) refl (λ v e. said_fits the_pieces v said h e);
+})
 
 is_check : (f m : Option Text) (d : Text) (o : Option CheckOptions) → is_some o ≡ true → is_some (found_check (or_default f None) (or_default m (Some d)) o) ≡ is_some f
 is_check None m d o e = refl
@@ -315,11 +361,19 @@ is_check (Some f) None d (Some o) e = refl
 is_check (Some f) (Some m) d (Some o) e = refl
 is_check (Some f) m d None e = cc
 
-is_verify : (f w m : Option Text) (d : Text) → is_some (found_verify (or_default f None) (or_default w None) (or_default m (Some d))) ≡ (is_some f && is_some w)
-is_verify None w m d = refl
-is_verify (Some f) None m d = refl
-is_verify (Some f) (Some w) None d = refl
-is_verify (Some f) (Some w) (Some m) d = refl
+is_verify : (f w m : Option Text) (d : Text) (l : Option (Option ℕ)) → is_some l ≡ true → is_some (found_verify (or_default f None) (or_default w None) (or_default m (Some d)) l) ≡ (is_some f && is_some w)
+is_verify None w m d l e = refl
+is_verify (Some f) None m d l e = refl
+is_verify (Some f) (Some w) None d (Some l) e = refl
+is_verify (Some f) (Some w) (Some m) d (Some l) e = refl
+is_verify (Some f) (Some w) m d None e = cc
+
+is_words : (f c m : Option Text) (d : Text) (n : Option ℕ) → is_some n ≡ true → is_some (found_words (or_default f None) (or_default c None) (or_default m (Some d)) n) ≡ (is_some f && is_some c)
+is_words None c m d n e = refl
+is_words (Some f) None m d n e = refl
+is_words (Some f) (Some c) None d (Some n) e = refl
+is_words (Some f) (Some c) (Some m) d (Some n) e = refl
+is_words (Some f) (Some c) m d None e = cc
 
 -- each item is there that must be: the files, and the options that have no default
 abbrev has_needed : Tool → (Item → Bool) → Bool
@@ -328,6 +382,7 @@ has_needed runner has = has the_file
 has_needed server has = has the_file && (has the_port && has the_clients)
 has_needed checker has = has the_file
 has_needed verifier has = has the_file && has the_witness_file
+has_needed teller has = has the_file && has the_choices
 
 -- whether something was said of an item
 abbrev is_said : Said → Item → Bool
@@ -341,7 +396,12 @@ asks_if_needed server said h =
     ∙ ap₂ (λ p c. is_said said the_file && (p && c)) (read_needed (number_in 1 most_port) (said_of the_port said) (λ v e. said_fits the_port v said h e))
     (read_needed (number_in 1 most_clients) (said_of the_clients said) (λ v e. said_fits the_clients v said h e))
 asks_if_needed checker said h = is_check (said_of the_file said) (said_of the_mode said) (codes "rendezvous") (found_options (text_of said)) (options_there said h)
-asks_if_needed verifier said h = is_verify (said_of the_file said) (said_of the_witness_file said) (said_of the_mode said) (codes "rendezvous")
+asks_if_needed verifier said h =
+    is_verify (said_of the_file said) (said_of the_witness_file said) (said_of the_mode said) (codes "rendezvous") (number_if_given 0 most_leaf (text_of said the_leaf))
+    (given_number 0 most_leaf (said_of the_leaf said) (λ v e. said_fits the_leaf v said h e))
+asks_if_needed teller said h =
+    is_words (said_of the_file said) (said_of the_choices said) (said_of the_mode said) (codes "rendezvous") (option_and_then (number_in 1 most_fuel) (text_of said the_fuel))
+    (read_said (number_in 1 most_fuel) (codes "100000") (said_of the_fuel said) refl (λ v e. said_fits the_fuel v said h e))
 
 -- ---- faults at the end
 
@@ -365,6 +425,7 @@ needed_given lie server said h =
     ap₂ (λ a b. a && b) (given_said lie server the_file said (server_file lie) refl h) (ap₂ (λ a b. a && b) (given_said lie server the_port said (server_port lie) refl h) (given_said lie server the_clients said (server_clients lie) refl h))
 needed_given lie checker said h = given_said lie checker the_file said (checker_row lie the_file) refl h
 needed_given lie verifier said h = ap₂ (λ a b. a && b) (given_said lie verifier the_file said (verifier_file lie) refl h) (given_said lie verifier the_witness_file said (verifier_witness lie) refl h)
+needed_given lie teller said h = ap₂ (λ a b. a && b) (given_said lie teller the_file said (teller_file lie) refl h) (given_said lie teller the_choices said (teller_choices lie) refl h)
 
 -- the fault of what is left out, by whether nothing is
 abbrev missing_by : Bool → Kinds
@@ -392,6 +453,7 @@ check_is lie runner rows = not_one (is_given (codes "FILE") rows)
 check_is lie server rows = not_all (is_given (codes "FILE") rows) (is_given (codes "port") rows) (is_given (codes "clients") rows)
 check_is lie checker rows = not_one (is_given (codes "FILE") rows)
 check_is lie verifier rows = not_both (is_given (codes "FILE") rows) (is_given (codes "WITNESS") rows)
+check_is lie teller rows = not_both (is_given (codes "FILE") rows) (is_given (codes "choices") rows)
 
 with_needed : (lie : Lies) (t : Tool) (rows : List Row) → has_needed t (is_given_in rows) ≡ true → check_fault (sub lie t) rows false ≡ []
 with_needed lie t rows e = check_is lie t rows ∙ ap missing_by e
@@ -419,8 +481,9 @@ unfolding clap_on_literals
 takes_defaults lie tracer = (refl, (refl, (refl, tt)))
 takes_defaults lie runner = (refl, (refl, (refl, tt)))
 takes_defaults lie server = (refl, (refl, (refl, (refl, (refl, tt)))))
-takes_defaults lie checker = (refl, (refl, (refl, (refl, (refl, (refl, (refl, (refl, (refl, (refl, (refl, (refl, (refl, tt)))))))))))))
-takes_defaults lie verifier = (refl, (refl, (refl, (refl, tt))))
+takes_defaults lie checker = (refl, (refl, (refl, (refl, (refl, (refl, (refl, (refl, (refl, (refl, (refl, (refl, (refl, (refl, (refl, (refl, (refl, (refl, tt))))))))))))))))))
+takes_defaults lie verifier = (refl, (refl, (refl, (refl, (refl, tt)))))
+takes_defaults lie teller = (refl, (refl, (refl, (refl, (refl, tt)))))
 
 -- ---- what is held is settled
 

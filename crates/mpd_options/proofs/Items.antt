@@ -16,7 +16,7 @@ use Rattle.clap.specs.declared.error.kind.ErrorKind.TheVariants as kind
 use Rattle.clap.specs.declared.parser.matches.ValueSource.{ValueSource}
 use Rattle.clap.specs.declared.parser.matches.ValueSource.TheVariants.{CommandLine}
 use Rattle.clap.proofs.OnLiterals.{clap_on_literals}
-use Rattle.mpd_options.specs.Asked.{Item, Said, Tool, checker, fits, most_clients, most_fuel, most_modes, most_piece, most_port, most_runs, most_split, most_workers, name_of, said_named, said_of, the_clients, the_complete, the_file, the_fuel, the_mode, the_modes, the_piece, the_pieces, the_port, the_runs, the_split, the_until, the_witness, the_witness_file, the_workers, runner, server, tracer, verifier}
+use Rattle.mpd_options.specs.Asked.{Item, Said, Tool, checker, fits, most_clients, most_fuel, most_leaf, most_modes, most_piece, most_port, most_runs, most_sample, most_seed, most_split, most_workers, name_of, said_named, said_of, the_choices, the_clients, the_complete, the_ends, the_explain, the_file, the_fuel, the_group, the_leaf, the_mode, the_modes, the_piece, the_pieces, the_port, the_runs, the_sample, the_seed, the_split, the_until, the_witness, the_witness_file, the_workers, runner, server, teller, tracer, verifier}
 use Rattle.mpd_options.specs.Program.{Lies, mpdbg_app, only_deadlock}
 use Rattle.mpd_options.proofs.NumberReads.{accepts_number}
 
@@ -26,6 +26,7 @@ called runner = codes "run"
 called server = codes "serve"
 called checker = codes "check"
 called verifier = codes "verify"
+called teller = codes "words"
 
 -- the first of these commands that a word names
 abbrev pub named_among : List Tool → Text → Option Tool
@@ -33,7 +34,7 @@ named_among [] word = None
 named_among (t ∷ tools) word = if bytes_eq word (called t) then Some t else named_among tools word
 
 abbrev pub tools : List Tool
-tools = tracer ∷ runner ∷ server ∷ checker ∷ verifier ∷ []
+tools = tracer ∷ runner ∷ server ∷ checker ∷ verifier ∷ teller ∷ []
 
 -- the word names none of these commands
 abbrev pub NamesNone : Text → List Tool → Type 0
@@ -54,6 +55,7 @@ sub lie runner = option_map_or (λ s. s) (find (λ s. answers_to (codes "run") (
 sub lie server = option_map_or (λ s. s) (find (λ s. answers_to (codes "serve") (label_of s)) (built (mpdbg_app (only_deadlock lie))).subs) (new_shape [])
 sub lie checker = option_map_or (λ s. s) (find (λ s. answers_to (codes "check") (label_of s)) (built (mpdbg_app (only_deadlock lie))).subs) (new_shape [])
 sub lie verifier = option_map_or (λ s. s) (find (λ s. answers_to (codes "verify") (label_of s)) (built (mpdbg_app (only_deadlock lie))).subs) (new_shape [])
+sub lie teller = option_map_or (λ s. s) (find (λ s. answers_to (codes "words") (label_of s)) (built (mpdbg_app (only_deadlock lie))).subs) (new_shape [])
 
 abbrev pub rules : Lies → Tool → List Rule
 rules lie t = (sub lie t).rules
@@ -84,10 +86,18 @@ asks checker the_runs = true
 asks checker the_fuel = true
 asks checker the_split = true
 asks checker the_workers = true
+asks checker the_sample = true
+asks checker the_seed = true
 asks checker the_until = true
 asks checker the_piece = true
 asks checker _ = false
-asks verifier i = is_mode i
+asks verifier the_mode = true
+asks verifier the_leaf = true
+asks verifier _ = false
+asks teller the_mode = true
+asks teller the_choices = true
+asks teller the_fuel = true
+asks teller _ = false
 
 -- the witness has a word of its own
 abbrev pub reads_witness : Tool → Bool
@@ -96,6 +106,7 @@ reads_witness runner = false
 reads_witness server = false
 reads_witness checker = false
 reads_witness verifier = true
+reads_witness teller = false
 
 -- and the files
 abbrev pub keeps : Tool → Item → Bool
@@ -109,95 +120,130 @@ keeps t the_runs = asks t the_runs
 keeps t the_fuel = asks t the_fuel
 keeps t the_split = asks t the_split
 keeps t the_workers = asks t the_workers
+keeps t the_sample = asks t the_sample
+keeps t the_seed = asks t the_seed
 keeps t the_until = asks t the_until
 keeps t the_piece = asks t the_piece
+keeps t the_leaf = asks t the_leaf
+keeps t the_choices = asks t the_choices
 keeps t _ = false
 
 mode_alone : (Q : Item → Type 0) → Q the_mode → (i : Item) → is_mode i ≡ true → Q i
 mode_alone Q m the_mode e = m
 mode_alone Q m _ e = cc
 
-pub each_asks : (P : Tool → Item → Type 0) → P tracer the_mode → P runner the_mode → P server the_mode → P server the_port → P server the_clients
-    → P checker the_mode → P checker the_modes → P checker the_runs → P checker the_fuel → P checker the_split → P checker the_workers → P checker the_until → P checker the_piece → P verifier the_mode
-    → (t : Tool) (i : Item) → asks t i ≡ true → P t i
-each_asks P a r s p k b l c d f w u n m tracer i e = mode_alone (P tracer) a i e
-each_asks P a r s p k b l c d f w u n m runner i e = mode_alone (P runner) r i e
-each_asks P a r s p k b l c d f w u n m server the_mode e = s
-each_asks P a r s p k b l c d f w u n m server the_port e = p
-each_asks P a r s p k b l c d f w u n m server the_clients e = k
-each_asks P a r s p k b l c d f w u n m server _ e = cc
-each_asks P a r s p k b l c d f w u n m checker the_mode e = b
-each_asks P a r s p k b l c d f w u n m checker the_modes e = l
-each_asks P a r s p k b l c d f w u n m checker the_runs e = c
-each_asks P a r s p k b l c d f w u n m checker the_fuel e = d
-each_asks P a r s p k b l c d f w u n m checker the_split e = f
-each_asks P a r s p k b l c d f w u n m checker the_workers e = w
-each_asks P a r s p k b l c d f w u n m checker the_until e = u
-each_asks P a r s p k b l c d f w u n m checker the_piece e = n
-each_asks P a r s p k b l c d f w u n m checker _ e = cc
-each_asks P a r s p k b l c d f w u n m verifier i e = mode_alone (P verifier) m i e
+-- each option that wants a value
+abbrev pub EachAsks : (P : Tool → Item → Type 0) → Tool → Type 0
+EachAsks P tracer = P tracer the_mode
+EachAsks P runner = P runner the_mode
+EachAsks P server = P server the_mode × P server the_port × P server the_clients
+EachAsks P checker = P checker the_mode × P checker the_modes × P checker the_runs × P checker the_fuel × P checker the_split × P checker the_workers × P checker the_sample × P checker the_seed × P checker the_until × P checker the_piece
+EachAsks P verifier = P verifier the_mode × P verifier the_leaf
+EachAsks P teller = P teller the_mode × P teller the_choices × P teller the_fuel
 
-pub each_keeps : (P : Tool → Item → Type 0) → P tracer the_file → P runner the_file → P server the_file → P checker the_file → P verifier the_file → P verifier the_witness_file
-    → P tracer the_mode → P runner the_mode → P server the_mode → P server the_port → P server the_clients
-    → P checker the_mode → P checker the_modes → P checker the_runs → P checker the_fuel → P checker the_split → P checker the_workers → P checker the_until → P checker the_piece → P verifier the_mode
-    → (t : Tool) (i : Item) → keeps t i ≡ true → P t i
-each_keeps P x q o g h y a r s p k b l c d f w u n m tracer the_file e = x
-each_keeps P x q o g h y a r s p k b l c d f w u n m tracer the_mode e = a
-each_keeps P x q o g h y a r s p k b l c d f w u n m tracer _ e = cc
-each_keeps P x q o g h y a r s p k b l c d f w u n m runner the_file e = q
-each_keeps P x q o g h y a r s p k b l c d f w u n m runner the_mode e = r
-each_keeps P x q o g h y a r s p k b l c d f w u n m runner _ e = cc
-each_keeps P x q o g h y a r s p k b l c d f w u n m server the_file e = o
-each_keeps P x q o g h y a r s p k b l c d f w u n m server the_mode e = s
-each_keeps P x q o g h y a r s p k b l c d f w u n m server the_port e = p
-each_keeps P x q o g h y a r s p k b l c d f w u n m server the_clients e = k
-each_keeps P x q o g h y a r s p k b l c d f w u n m server _ e = cc
-each_keeps P x q o g h y a r s p k b l c d f w u n m checker the_file e = g
-each_keeps P x q o g h y a r s p k b l c d f w u n m checker the_mode e = b
-each_keeps P x q o g h y a r s p k b l c d f w u n m checker the_modes e = l
-each_keeps P x q o g h y a r s p k b l c d f w u n m checker the_runs e = c
-each_keeps P x q o g h y a r s p k b l c d f w u n m checker the_fuel e = d
-each_keeps P x q o g h y a r s p k b l c d f w u n m checker the_split e = f
-each_keeps P x q o g h y a r s p k b l c d f w u n m checker the_workers e = w
-each_keeps P x q o g h y a r s p k b l c d f w u n m checker the_until e = u
-each_keeps P x q o g h y a r s p k b l c d f w u n m checker the_piece e = n
-each_keeps P x q o g h y a r s p k b l c d f w u n m checker _ e = cc
-each_keeps P x q o g h y a r s p k b l c d f w u n m verifier the_file e = h
-each_keeps P x q o g h y a r s p k b l c d f w u n m verifier the_witness_file e = y
-each_keeps P x q o g h y a r s p k b l c d f w u n m verifier the_mode e = m
-each_keeps P x q o g h y a r s p k b l c d f w u n m verifier _ e = cc
+pub each_asks : (P : Tool → Item → Type 0) → EachAsks P tracer → EachAsks P runner → EachAsks P server → EachAsks P checker → EachAsks P verifier → EachAsks P teller → (t : Tool) (i : Item) → asks t i ≡ true → P t i
+each_asks P a r s c v w tracer i e = mode_alone (P tracer) a i e
+each_asks P a r s c v w runner i e = mode_alone (P runner) r i e
+each_asks P a r s c v w server the_mode e = s.0
+each_asks P a r s c v w server the_port e = s.1
+each_asks P a r s c v w server the_clients e = s.2
+each_asks P a r s c v w server _ e = cc
+each_asks P a r s c v w checker the_mode e = c.0
+each_asks P a r s c v w checker the_modes e = c.1
+each_asks P a r s c v w checker the_runs e = c.2
+each_asks P a r s c v w checker the_fuel e = c.3
+each_asks P a r s c v w checker the_split e = c.4
+each_asks P a r s c v w checker the_workers e = c.5
+each_asks P a r s c v w checker the_sample e = c.6
+each_asks P a r s c v w checker the_seed e = c.7
+each_asks P a r s c v w checker the_until e = c.8
+each_asks P a r s c v w checker the_piece e = c.9
+each_asks P a r s c v w checker _ e = cc
+each_asks P a r s c v w verifier the_mode e = v.0
+each_asks P a r s c v w verifier the_leaf e = v.1
+each_asks P a r s c v w verifier _ e = cc
+each_asks P a r s c v w teller the_mode e = w.0
+each_asks P a r s c v w teller the_choices e = w.1
+each_asks P a r s c v w teller the_fuel e = w.2
+each_asks P a r s c v w teller _ e = cc
+
+-- each file
+abbrev pub EachFile : (P : Tool → Item → Type 0) → Type 0
+EachFile P = P tracer the_file × P runner the_file × P server the_file × P checker the_file × P verifier the_file × P verifier the_witness_file × P teller the_file
+
+pub each_keeps : (P : Tool → Item → Type 0) → EachFile P → EachAsks P tracer → EachAsks P runner → EachAsks P server → EachAsks P checker → EachAsks P verifier → EachAsks P teller → (t : Tool) (i : Item) → keeps t i ≡ true → P t i
+each_keeps P f a r s c v w tracer the_file e = f.0
+each_keeps P f a r s c v w tracer the_mode e = a
+each_keeps P f a r s c v w tracer _ e = cc
+each_keeps P f a r s c v w runner the_file e = f.1
+each_keeps P f a r s c v w runner the_mode e = r
+each_keeps P f a r s c v w runner _ e = cc
+each_keeps P f a r s c v w server the_file e = f.2
+each_keeps P f a r s c v w server the_mode e = s.0
+each_keeps P f a r s c v w server the_port e = s.1
+each_keeps P f a r s c v w server the_clients e = s.2
+each_keeps P f a r s c v w server _ e = cc
+each_keeps P f a r s c v w checker the_file e = f.3
+each_keeps P f a r s c v w checker the_mode e = c.0
+each_keeps P f a r s c v w checker the_modes e = c.1
+each_keeps P f a r s c v w checker the_runs e = c.2
+each_keeps P f a r s c v w checker the_fuel e = c.3
+each_keeps P f a r s c v w checker the_split e = c.4
+each_keeps P f a r s c v w checker the_workers e = c.5
+each_keeps P f a r s c v w checker the_sample e = c.6
+each_keeps P f a r s c v w checker the_seed e = c.7
+each_keeps P f a r s c v w checker the_until e = c.8
+each_keeps P f a r s c v w checker the_piece e = c.9
+each_keeps P f a r s c v w checker _ e = cc
+each_keeps P f a r s c v w verifier the_file e = f.4
+each_keeps P f a r s c v w verifier the_witness_file e = f.5
+each_keeps P f a r s c v w verifier the_mode e = v.0
+each_keeps P f a r s c v w verifier the_leaf e = v.1
+each_keeps P f a r s c v w verifier _ e = cc
+each_keeps P f a r s c v w teller the_file e = f.6
+each_keeps P f a r s c v w teller the_mode e = w.0
+each_keeps P f a r s c v w teller the_choices e = w.1
+each_keeps P f a r s c v w teller the_fuel e = w.2
+each_keeps P f a r s c v w teller _ e = cc
 
 pub asks_keeps : (t : Tool) (i : Item) → asks t i ≡ true → keeps t i ≡ true
-asks_keeps = each_asks (λ t i. keeps t i ≡ true) refl refl refl refl refl refl refl refl refl refl refl refl refl refl
+asks_keeps = each_asks (λ t i. keeps t i ≡ true) refl refl (refl, refl, refl) (refl, refl, refl, refl, refl, refl, refl, refl, refl, refl) (refl, refl) (refl, refl, refl)
 
 pub by_id : (lie : Lies) (t : Tool) (i : Item) → keeps t i ≡ true → arg_by_id (rules lie t) (name_of i) ≡ Some (arg lie t i)
 unfolding clap_on_literals
-by_id lie = each_keeps (λ t i. arg_by_id (rules lie t) (name_of i) ≡ Some (arg lie t i)) refl refl refl refl refl refl refl refl refl refl refl refl refl refl refl refl refl refl refl refl
+by_id lie = each_keeps (λ t i. arg_by_id (rules lie t) (name_of i) ≡ Some (arg lie t i)) (refl, refl, refl, refl, refl, refl, refl) refl refl (refl, refl, refl) (refl, refl, refl, refl, refl, refl, refl, refl, refl, refl) (refl, refl) (refl, refl, refl)
 
 pub by_long : (lie : Lies) (t : Tool) (i : Item) → asks t i ≡ true → arg_by_long (rules lie t) (name_of i) ≡ Some (arg lie t i)
 unfolding clap_on_literals
-by_long lie = each_asks (λ t i. arg_by_long (rules lie t) (name_of i) ≡ Some (arg lie t i)) refl refl refl refl refl refl refl refl refl refl refl refl refl refl
+by_long lie = each_asks (λ t i. arg_by_long (rules lie t) (name_of i) ≡ Some (arg lie t i)) refl refl (refl, refl, refl) (refl, refl, refl, refl, refl, refl, refl, refl, refl, refl) (refl, refl) (refl, refl, refl)
 
 -- the flags, which have no value
 abbrev pub flags : Tool → Item → Bool
+flags checker the_ends = true
+flags checker the_explain = true
+flags checker the_group = true
 flags checker the_witness = true
 flags checker the_complete = true
 flags checker the_pieces = true
 flags _ _ = false
 
-pub each_flag : (P : Tool → Item → Type 0) → P checker the_witness → P checker the_complete → P checker the_pieces → (t : Tool) (i : Item) → flags t i ≡ true → P t i
-each_flag P w x y checker the_witness e = w
-each_flag P w x y checker the_complete e = x
-each_flag P w x y checker the_pieces e = y
-each_flag P w x y checker _ e = cc
-each_flag P w x y tracer i e = cc
-each_flag P w x y runner i e = cc
-each_flag P w x y server i e = cc
-each_flag P w x y verifier i e = cc
+pub each_flag : (P : Tool → Item → Type 0) → P checker the_ends × P checker the_explain × P checker the_group × P checker the_witness × P checker the_complete × P checker the_pieces → (t : Tool) (i : Item) → flags t i ≡ true → P t i
+each_flag P f checker the_ends e = f.0
+each_flag P f checker the_explain e = f.1
+each_flag P f checker the_group e = f.2
+each_flag P f checker the_witness e = f.3
+each_flag P f checker the_complete e = f.4
+each_flag P f checker the_pieces e = f.5
+each_flag P f checker _ e = cc
+each_flag P f tracer i e = cc
+each_flag P f runner i e = cc
+each_flag P f server i e = cc
+each_flag P f verifier i e = cc
+each_flag P f teller i e = cc
 
 pub flag_by_long : (lie : Lies) (t : Tool) (i : Item) → flags t i ≡ true → arg_by_long (rules lie t) (name_of i) ≡ Some (arg lie t i)
 unfolding clap_on_literals
-flag_by_long lie = each_flag (λ t i. arg_by_long (rules lie t) (name_of i) ≡ Some (arg lie t i)) refl refl refl
+flag_by_long lie = each_flag (λ t i. arg_by_long (rules lie t) (name_of i) ≡ Some (arg lie t i)) (refl, refl, refl, refl, refl, refl)
 
 -- ---- a use of an item
 
@@ -212,8 +258,11 @@ accepted the_runs text = is_unsigned_in 1 most_runs text
 accepted the_fuel text = is_unsigned_in 1 most_fuel text
 accepted the_split text = is_unsigned_in 0 most_split text
 accepted the_workers text = is_unsigned_in 0 most_workers text
+accepted the_sample text = is_unsigned_in 1 most_sample text
+accepted the_seed text = is_unsigned_in 0 most_seed text
 accepted the_until text = bytes_eq (codes "deadlock") text || false
 accepted the_piece text = is_unsigned_in 0 most_piece text
+accepted the_leaf text = is_unsigned_in 0 most_leaf text
 accepted _ text = true
 
 same_either_way : (a b : Text) → bytes_eq a b ≡ bytes_eq b a
@@ -231,9 +280,18 @@ or_nothing false = refl
 
 accepted_fits : (t : Tool) (i : Item) (v : Text) → keeps t i ≡ true → accepted i v ≡ fits i v
 accepted_fits t i v k =
-    each_keeps (λ t i. accepted i v ≡ fits i v) refl refl refl refl refl refl refl refl refl (accepts_number 1 most_port v (omega arith)) (accepts_number 1 most_clients v (omega arith)) refl (accepts_number 0 most_modes v (omega arith))
-    (accepts_number 1 most_runs v (omega arith)) (accepts_number 1 most_fuel v (omega arith)) (accepts_number 0 most_split v (omega arith)) (accepts_number 0 most_workers v (omega arith))
-    (or_nothing (bytes_eq (codes "deadlock") v) ∙ same_either_way (codes "deadlock") v) (accepts_number 0 most_piece v (omega arith)) refl t i k
+    each_keeps (λ t i. accepted i v ≡ fits i v) (refl, refl, refl, refl, refl, refl, refl) refl refl (refl, accepts_number 1 most_port v (omega arith), accepts_number 1 most_clients v (omega arith)) (
+      refl,
+      accepts_number 0 most_modes v (omega arith),
+      accepts_number 1 most_runs v (omega arith),
+      accepts_number 1 most_fuel v (omega arith),
+      accepts_number 0 most_split v (omega arith),
+      accepts_number 0 most_workers v (omega arith),
+      accepts_number 1 most_sample v (omega arith),
+      accepts_number 0 most_seed v (omega arith),
+      or_nothing (bytes_eq (codes "deadlock") v) ∙ same_either_way (codes "deadlock") v,
+      accepts_number 0 most_piece v (omega arith),
+    ) (refl, accepts_number 0 most_leaf v (omega arith)) (refl, refl, accepts_number 1 most_fuel v (omega arith)) t i k
 
 -- the fault of a value, by whether it is taken
 abbrev value_fault : ErrorKind → Bool → Kinds
@@ -251,11 +309,11 @@ again_fault again = if again && not false then kind.ArgumentConflict ∷ [] else
 use_is : (lie : Lies) (v : Text) (rows : List Row) (t : Tool) (i : Item) → keeps t i ≡ true
     → use_fault false (arg lie t i) (v ∷ []) rows ≡ or_else (again_fault (has_row (name_of i) rows)) (value_fault (refused_as i) (accepted i v))
 unfolding clap_on_literals
-use_is lie v rows = each_keeps (λ t i. use_fault false (arg lie t i) (v ∷ []) rows ≡ or_else (again_fault (has_row (name_of i) rows)) (value_fault (refused_as i) (accepted i v))) refl refl refl refl refl refl refl refl refl refl refl refl refl refl refl refl refl refl refl refl
+use_is lie v rows = each_keeps (λ t i. use_fault false (arg lie t i) (v ∷ []) rows ≡ or_else (again_fault (has_row (name_of i) rows)) (value_fault (refused_as i) (accepted i v))) (refl, refl, refl, refl, refl, refl, refl) refl refl (refl, refl, refl) (refl, refl, refl, refl, refl, refl, refl, refl, refl, refl) (refl, refl) (refl, refl, refl)
 
 flag_use_is : (lie : Lies) (rows : List Row) (t : Tool) (i : Item) → flags t i ≡ true → use_fault false (arg lie t i) [] rows ≡ or_else (again_fault (has_row (name_of i) rows)) []
 unfolding clap_on_literals
-flag_use_is lie rows = each_flag (λ t i. use_fault false (arg lie t i) [] rows ≡ or_else (again_fault (has_row (name_of i) rows)) []) refl refl refl
+flag_use_is lie rows = each_flag (λ t i. use_fault false (arg lie t i) [] rows ≡ or_else (again_fault (has_row (name_of i) rows)) []) (refl, refl, refl, refl, refl, refl)
 
 abbrev fault_by : ErrorKind → Bool → Bool → Kinds
 fault_by k again taken = or_else (again_fault again) (value_fault k taken)
@@ -304,7 +362,7 @@ some_fault (k ∷ ks) e = λ z. cc
 -- an option that waits for its value still
 pub no_value : (lie : Lies) (rows : List Row) (t : Tool) (i : Item) → asks t i ≡ true → use_fault false (arg lie t i) [] rows ≢ []
 unfolding clap_on_literals
-no_value lie rows = each_asks (λ t i. use_fault false (arg lie t i) [] rows ≢ []) (some_fault _ refl) (some_fault _ refl) (some_fault _ refl) (some_fault _ refl) (some_fault _ refl) (some_fault _ refl) (some_fault _ refl) (some_fault _ refl) (some_fault _ refl) (some_fault _ refl) (some_fault _ refl) (some_fault _ refl) (some_fault _ refl) (some_fault _ refl)
+no_value lie rows = each_asks (λ t i. use_fault false (arg lie t i) [] rows ≢ []) (some_fault _ refl) (some_fault _ refl) (some_fault _ refl, some_fault _ refl, some_fault _ refl) (some_fault _ refl, some_fault _ refl, some_fault _ refl, some_fault _ refl, some_fault _ refl, some_fault _ refl, some_fault _ refl, some_fault _ refl, some_fault _ refl, some_fault _ refl) (some_fault _ refl, some_fault _ refl) (some_fault _ refl, some_fault _ refl, some_fault _ refl)
 
 -- ---- rows
 
@@ -335,7 +393,7 @@ values_at_end id how source values (r ∷ rs) h =
 
 used_is : (lie : Lies) (v : Text) (rows : List Row) (t : Tool) (i : Item) → keeps t i ≡ true → used (arg lie t i) (v ∷ []) rows ≡ with_values (name_of i) AsWritten CommandLine (v ∷ []) (without (name_of i) rows)
 unfolding clap_on_literals
-used_is lie v rows = each_keeps (λ t i. used (arg lie t i) (v ∷ []) rows ≡ with_values (name_of i) AsWritten CommandLine (v ∷ []) (without (name_of i) rows)) refl refl refl refl refl refl refl refl refl refl refl refl refl refl refl refl refl refl refl refl
+used_is lie v rows = each_keeps (λ t i. used (arg lie t i) (v ∷ []) rows ≡ with_values (name_of i) AsWritten CommandLine (v ∷ []) (without (name_of i) rows)) (refl, refl, refl, refl, refl, refl, refl) refl refl (refl, refl, refl) (refl, refl, refl, refl, refl, refl, refl, refl, refl, refl) (refl, refl) (refl, refl, refl)
 
 at_end_of : (i : Item) (v : Text) (rows : List Row) → has_row (name_of i) rows ≡ false → with_values (name_of i) AsWritten CommandLine (v ∷ []) (without (name_of i) rows) ≡ rows ++ row_for i v CommandLine ∷ []
 at_end_of i v rows h = ap (λ rs. with_values (name_of i) AsWritten CommandLine (v ∷ []) rs) (without_none (name_of i) rows h) ∙ values_at_end (name_of i) AsWritten CommandLine (v ∷ []) rows h
@@ -345,7 +403,7 @@ used_once lie t i v rows k h = used_is lie v rows t i k ∙ at_end_of i v rows h
 
 flag_used_is : (lie : Lies) (rows : List Row) (t : Tool) (i : Item) → flags t i ≡ true → used (arg lie t i) [] rows ≡ with_values (name_of i) AsWritten CommandLine (codes "true" ∷ []) (without (name_of i) rows)
 unfolding clap_on_literals
-flag_used_is lie rows = each_flag (λ t i. used (arg lie t i) [] rows ≡ with_values (name_of i) AsWritten CommandLine (codes "true" ∷ []) (without (name_of i) rows)) refl refl refl
+flag_used_is lie rows = each_flag (λ t i. used (arg lie t i) [] rows ≡ with_values (name_of i) AsWritten CommandLine (codes "true" ∷ []) (without (name_of i) rows)) (refl, refl, refl, refl, refl, refl)
 
 pub flag_used_once : (lie : Lies) (t : Tool) (i : Item) (rows : List Row) → flags t i ≡ true → has_row (name_of i) rows ≡ false → used (arg lie t i) [] rows ≡ rows ++ row_for i (codes "true") CommandLine ∷ []
 flag_used_once lie t i rows flag h = flag_used_is lie rows t i flag ∙ at_end_of i (codes "true") rows h

@@ -1,4 +1,5 @@
 pub mod NumberReads
+pub mod CheckItems
 pub mod Items
 pub mod Ends
 pub mod Turns

@@ -15,17 +15,18 @@ use Rattle.clap.specs.declared.parser.matches.ArgMatches.TheViews.{out-ArgMatche
 use Rattle.clap.specs.declared.parser.matches.Found.{Found}
 use Rattle.clap.proofs.OnLiterals.{clap_on_literals}
 use Rattle.clap.proofs.WalkLemmas.{first_value-rows, one_text-rows}
-use Rattle.mpd_options.specs.Asked.{AreInRange, Asked, IsFound, IsInRange, Item, Tool, asked, check, checker, found, found_by, found_check, found_in, found_of_command, found_of_file, found_options, found_serve, found_verify, meant, most_clients, most_fuel, most_modes, most_piece, most_port, most_runs, most_split, most_workers, number_if_given, options_of_items, text_in, the_clients, the_complete, the_file, the_fuel, the_mode, the_modes, the_piece, the_pieces, the_port, the_runs, the_split, the_until, the_witness, the_witness_file, the_workers, tool_named, run, runner, serve, server, trace, tracer, until_bad_in, verifier, verify}
-use Rattle.mpd_options.specs.Numbers.{flag_in, most_usize, number_in, without_plus}
+use Rattle.mpd_options.specs.Asked.{Asked, IsFound, IsInRange, AreInRange, Item, Tool, asked, check, checker, found, found_by, found_check, found_in, found_of_command, found_of_file, found_options, found_serve, found_verify, found_words, meant, most_clients, most_fuel, most_leaf, most_modes, most_piece, most_port, most_runs, most_sample, most_seed, most_split, most_workers, number_if_given, text_in, the_choices, the_clients, the_file, the_fuel, the_leaf, the_mode, the_modes, the_piece, the_port, the_runs, the_sample, the_seed, the_split, the_witness_file, the_workers, tell, teller, tool_named, run, runner, serve, server, trace, tracer, until_bad_in, verifier, verify}
+use Rattle.mpd_options.specs.Numbers.{flag_in, most_usize, number_in}
 use Rattle.mpd_options.specs.declared.options.CheckOptions.{CheckOptions}
 use Rattle.mpd_options.specs.declared.options.Options.{Options}
-use Rattle.mpd_options.specs.declared.options.Options.TheVariants.{Plain, Trace, Run, Serve, Check, Verify}
+use Rattle.mpd_options.specs.declared.options.Options.TheVariants.{Plain, Trace, Run, Serve, Check, Verify, Words}
 use Rattle.mpd_options.specs.Program.{Choices, Lies, mpdbg_app, only_deadlock}
 use Rattle.mpd_options.specs.Refused.{IsRefused, is_memory, usage_of}
 use Rattle.mpd_options.specs.declared.options.UsageFault.TheVariants.{Usage, Memory}
 use Rattle.mpd_options.proofs.Commands.{AgreesAll, meant_law, is_plain_app}
+use Rattle.mpd_options.proofs.CheckItems.{HasItems, OptionsRange, GivenWithin, Within, at_most, given_within, items_range, items_say, options_with, read_within, some_items}
 use Rattle.mpd_options.proofs.Items.{called}
-use Rattle.mpd_options.proofs.NumberReads.{in_wider, number_read, of_digits, same_number}
+use Rattle.mpd_options.proofs.NumberReads.{in_wider, number_read, same_number}
 
 pub some_words : {A : Type 0} (f : A → Text) (xs : List A) → 0 < length xs → 0 < length (map f xs)
 some_words f [] some = some
@@ -121,6 +122,7 @@ named_tool runner rows = refl
 named_tool server rows = refl
 named_tool checker rows = refl
 named_tool verifier rows = refl
+named_tool teller rows = refl
 
 pub command_is : (t : Tool) (m : ArgMatches) (rows : List Row) → subcommand_name_of m ≡ Some (called t) → option_map (λ (p : Text × List Row). p.1) (subcommand_rows_of m) ≡ Some rows
     → found_of_command (subcommand_rows_of m) ≡ found_in t rows
@@ -142,11 +144,31 @@ some_both asks None m e = cc
 some_both asks (Some f) None e = cc
 some_both asks (Some f) (Some m) e = (refl, refl)
 
-some_three : (f w m : Option Text) → is_some (found_verify f w m) ≡ true → (is_some f ≡ true) × (is_some w ≡ true) × (is_some m ≡ true)
-some_three None w m e = cc
-some_three (Some f) None m e = cc
-some_three (Some f) (Some w) None e = cc
-some_three (Some f) (Some w) (Some m) e = (refl, refl, refl)
+pub record HasVerified (f w m : Option Text) (l : Option (Option ℕ)) : Type 0 where
+  pub file : is_some f ≡ true
+  pub witness : is_some w ≡ true
+  pub mode : is_some m ≡ true
+  pub leaf : is_some l ≡ true
+
+some_verified : (f w m : Option Text) (l : Option (Option ℕ)) → is_some (found_verify f w m l) ≡ true → HasVerified f w m l
+some_verified None w m l e = cc
+some_verified (Some f) None m l e = cc
+some_verified (Some f) (Some w) None l e = cc
+some_verified (Some f) (Some w) (Some m) None e = cc
+some_verified (Some f) (Some w) (Some m) (Some l) e = record { file = refl; witness = refl; mode = refl; leaf = refl }
+
+pub record HasWords (f c m : Option Text) (n : Option ℕ) : Type 0 where
+  pub file : is_some f ≡ true
+  pub choices : is_some c ≡ true
+  pub mode : is_some m ≡ true
+  pub fuel : is_some n ≡ true
+
+some_words_found : (f c m : Option Text) (n : Option ℕ) → is_some (found_words f c m n) ≡ true → HasWords f c m n
+some_words_found None c m n e = cc
+some_words_found (Some f) None m n e = cc
+some_words_found (Some f) (Some c) None n e = cc
+some_words_found (Some f) (Some c) (Some m) None e = cc
+some_words_found (Some f) (Some c) (Some m) (Some n) e = record { file = refl; choices = refl; mode = refl; fuel = refl }
 
 pub record HasServed (f m : Option Text) (p c : Option ℕ) : Type 0 where
   pub file : is_some f ≡ true
@@ -167,52 +189,30 @@ some_check (Some f) None o e = cc
 some_check (Some f) (Some m) None e = cc
 some_check (Some f) (Some m) (Some o) e = (refl, refl, refl)
 
--- how deadlocks are looked for: each item says something, but those that need not be there
-pub record HasItems (m : Option (Option ℕ)) (r n s k : Option ℕ) (u w x : Option Bool) (i : Option (Option ℕ)) (p : Option Bool) : Type 0 where
-  pub modes : is_some m ≡ true
-  pub runs : is_some r ≡ true
-  pub fuel : is_some n ≡ true
-  pub split : is_some s ≡ true
-  pub workers : is_some k ≡ true
-  pub until : is_some u ≡ true
-  pub witness : is_some w ≡ true
-  pub complete : is_some x ≡ true
-  pub piece : is_some i ≡ true
-  pub pieces : is_some p ≡ true
-
-some_items : (m : Option (Option ℕ)) (r n s k : Option ℕ) (u w x : Option Bool) (i : Option (Option ℕ)) (p : Option Bool) → is_some (options_of_items m r n s k u w x i p) ≡ true → HasItems m r n s k u w x i p
-some_items None r n s k u w x i p e = cc
-some_items (Some m) None n s k u w x i p e = cc
-some_items (Some m) (Some r) None s k u w x i p e = cc
-some_items (Some m) (Some r) (Some n) None k u w x i p e = cc
-some_items (Some m) (Some r) (Some n) (Some s) None u w x i p e = cc
-some_items (Some m) (Some r) (Some n) (Some s) (Some k) None w x i p e = cc
-some_items (Some m) (Some r) (Some n) (Some s) (Some k) (Some u) None x i p e = cc
-some_items (Some m) (Some r) (Some n) (Some s) (Some k) (Some u) (Some w) None i p e = cc
-some_items (Some m) (Some r) (Some n) (Some s) (Some k) (Some u) (Some w) (Some x) None p e = cc
-some_items (Some m) (Some r) (Some n) (Some s) (Some k) (Some u) (Some w) (Some x) (Some i) None e = cc
-some_items (Some m) (Some r) (Some n) (Some s) (Some k) (Some u) (Some w) (Some x) (Some i) (Some p) e =
-    record { modes = refl; runs = refl; fuel = refl; split = refl; workers = refl; until = refl; witness = refl; complete = refl; piece = refl; pieces = refl }
-
 pub has_file : (t : Tool) (rows : List Row) → is_some (found_in t rows) ≡ true → is_some (first_of (codes "FILE") rows) ≡ true
 has_file tracer rows e = (some_both trace _ _ e).0
 has_file runner rows e = (some_both run _ _ e).0
 has_file server rows e = (some_served _ _ _ _ e).file
 has_file checker rows e = (some_check _ _ _ e).0
-has_file verifier rows e = (some_three _ _ _ e).0
+has_file verifier rows e = (some_verified _ _ _ _ e).file
+has_file teller rows e = (some_words_found _ _ _ _ e).file
 
 pub has_mode : (t : Tool) (rows : List Row) → is_some (found_in t rows) ≡ true → is_some (first_of (codes "mode") rows) ≡ true
 has_mode tracer rows e = (some_both trace _ _ e).1
 has_mode runner rows e = (some_both run _ _ e).1
 has_mode server rows e = (some_served _ _ _ _ e).mode
 has_mode checker rows e = (some_check _ _ _ e).1
-has_mode verifier rows e = (some_three _ _ _ e).2
+has_mode verifier rows e = (some_verified _ _ _ _ e).mode
+has_mode teller rows e = (some_words_found _ _ _ _ e).mode
 
 not_found : (r : Option (Bor Text)) (o : Option Text) → o ≡ text_at r → r ≡ None → is_some o ≡ true → ⊥
 not_found r o e none some = (let bad : false ≡ true = sym (ap is_some (e ∙ ap text_at none)) ∙ some in cc)
 
 pub has_witness : (rows : List Row) → is_some (found_in verifier rows) ≡ true → is_some (first_of (codes "WITNESS") rows) ≡ true
-has_witness rows e = (some_three _ _ _ e).1
+has_witness rows e = (some_verified _ _ _ _ e).witness
+
+pub has_choices : (rows : List Row) → is_some (found_in teller rows) ≡ true → is_some (first_of (codes "choices") rows) ≡ true
+has_choices rows e = (some_words_found _ _ _ _ e).choices
 
 pub no_word : (f : Found) (r : Option (Bor Text)) (id : Text) → text_at r ≡ first_value f id → r ≡ None → is_some (first_of id (rows_of f)) ≡ true → ⊥
 no_word f r id e none some = not_found r _ (value_is f r id e) none some
@@ -223,13 +223,20 @@ text_is f r id text e is = value_is f r id e ∙ ap text_at is
 pub both_found : {f m : Option Text} (asks : Text → Text → Asked) (file mode : Text) → f ≡ Some file → m ≡ Some mode → Some (asks file mode) ≡ found_of_file asks f m
 both_found asks file mode e h = sym (ap₂ (found_of_file asks) e h)
 
-pub three_found : {f w m : Option Text} (file witness mode : Text) → f ≡ Some file → w ≡ Some witness → m ≡ Some mode → Some (verify file witness mode) ≡ found_verify f w m
-three_found file witness mode e h k = rw (e, h, k) refl
+pub verify_found : {f w m : Option Text} {l : Option (Option ℕ)} (file witness mode : Text) (leaf : Option ℕ) → f ≡ Some file → w ≡ Some witness → m ≡ Some mode → l ≡ Some leaf
+    → Some (verify file witness mode leaf) ≡ found_verify f w m l
+verify_found file witness mode leaf a b c d = rw (a, b, c, d) refl
+
+pub words_found : {f c m : Option Text} {n : Option ℕ} (file choices mode : Text) (fuel : ℕ) → f ≡ Some file → c ≡ Some choices → m ≡ Some mode → n ≡ Some fuel → Some (tell file choices mode fuel) ≡ found_words f c m n
+words_found file choices mode fuel a b c d = rw (a, b, c, d) refl
 
 -- ---- numbers and the flag
 
 abbrev number_at : ℕ → ℕ → Text → Found → Option ℕ
 number_at low most id f = option_and_then (number_in low most) (one_of id (rows_of f))
+
+abbrev given_at : ℕ → ℕ → Text → Found → Option (Option ℕ)
+given_at low most id f = number_if_given low most (one_of id (rows_of f))
 
 read_some : {E : Type 0} (bits : ℕ) (G : List ℕ → Result ℕ E → Type 0) (low most : ℕ) (o : Option Text) (r : Option ℕ) → ((u : List ℕ) (x : Result ℕ E) → G u x → ParsesUnsigned bits 10 u x) → most < 2 ^ bits
     → ((t : Text) → o ≡ Some t → ReadsOne G t r) → is_some (option_and_then (number_in low most) o) ≡ true → r ≡ option_and_then (number_in low most) o
@@ -251,6 +258,22 @@ number_there low high (Some t) top some = in_wider low high most_usize t top som
 pub number_is : (low high : ℕ) (o : Option Text) (n : ℕ) → option_and_then (number_in 0 most_usize) o ≡ Some n → is_some (option_and_then (number_in low high) o) ≡ true → option_and_then (number_in low high) o ≡ Some n
 number_is low high None n e some = cc
 number_is low high (Some t) n e some = same_number low high 0 most_usize t n e some
+
+is_kept : (o : Option ℕ) → is_some (option_map Some o) ≡ is_some o
+is_kept None = refl
+is_kept (Some n) = refl
+
+-- and so it is of one that need not be there
+pub given_there : (low high : ℕ) (o : Option Text) → high ≤ most_usize → is_some (number_if_given low high o) ≡ true → is_some (number_if_given 0 most_usize o) ≡ true
+given_there low high None top some = refl
+given_there low high (Some t) top some = is_kept (number_in 0 most_usize t) ∙ in_wider low high most_usize t top (sym (is_kept (number_in low high t)) ∙ some)
+
+pub given_is : (low high : ℕ) (o : Option Text) (r : Option ℕ) → number_if_given 0 most_usize o ≡ Some r → is_some (number_if_given low high o) ≡ true → number_if_given low high o ≡ Some r
+given_is low high None r e some = e
+given_is low high (Some t) r e some = elim (number_in 0 most_usize t) as (λ x. number_in 0 most_usize t ≡ x → option_map Some x ≡ Some r → number_if_given low high (Some t) ≡ Some r) [
+  | None ↦ λ q h. cc
+  | Some n ↦ λ q h. ap (option_map Some) (same_number low high 0 most_usize t n q (sym (is_kept (number_in low high t)) ∙ some)) ∙ h
+] refl e
 
 -- a number that need not be there
 read_given : {E : Type 0} (bits : ℕ) (G : List ℕ → Result ℕ E → Type 0) (low most : ℕ) (o : Option Text) (r : Option ℕ) → ((u : List ℕ) (x : Result ℕ E) → G u x → ParsesUnsigned bits 10 u x) → most < 2 ^ bits
@@ -299,6 +322,12 @@ served_found f file mode port clients a b c d = sym (four a b c d)
     four : {f' m' : Option Text} {p' c' : Option ℕ} → f' ≡ Some file → m' ≡ Some mode → p' ≡ Some port → c' ≡ Some clients → found_serve f' m' p' c' ≡ Some (serve file mode port clients)
     four a b c d = rw (a, b, c, d) refl
 
+pub has_verified : (f : Found) → is_some (found_in verifier (rows_of f)) ≡ true → is_some (given_at 0 most_leaf (codes "leaf") f) ≡ true
+has_verified f e = (some_verified _ _ _ _ e).leaf
+
+pub has_fuel : (f : Found) → is_some (found_in teller (rows_of f)) ≡ true → is_some (number_at 1 most_fuel (codes "fuel") f) ≡ true
+has_fuel f e = (some_words_found _ _ _ _ e).fuel
+
 pub has_options : (f : Found) → is_some (found_in checker (rows_of f)) ≡ true → is_some (found_options (text_in (rows_of f))) ≡ true
 has_options f e = (some_check _ _ _ e).2
 
@@ -309,25 +338,31 @@ check_found f file mode options a b c = sym (all_three a b c)
     all_three : {f' m' : Option Text} {o' : Option CheckOptions} → f' ≡ Some file → m' ≡ Some mode → o' ≡ Some options → found_check f' m' o' ≡ Some (check file mode options)
     all_three a b c = rw (a, b, c) refl
 
-pub has_items : (f : Found) → is_some (found_options (text_in (rows_of f))) ≡ true
-    → HasItems (number_if_given 0 most_modes (one_of (codes "modes") (rows_of f))) (number_at 1 most_runs (codes "runs") f) (number_at 1 most_fuel (codes "fuel") f) (number_at 0 most_split (codes "split") f) (number_at 0 most_workers (codes "workers") f)
-    (until_bad_in (first_of (codes "until") (rows_of f))) (flag_at (codes "witness") f) (flag_at (codes "complete") f) (number_if_given 0 most_piece (one_of (codes "piece") (rows_of f))) (flag_at (codes "pieces") f)
-has_items f e = some_items _ _ _ _ _ _ _ _ _ _ e
+abbrev ItemsIn : Found → Type 0
+ItemsIn f =
+    HasItems (given_at 0 most_modes (codes "modes") f) (given_at 1 most_runs (codes "runs") f) (number_at 1 most_fuel (codes "fuel") f) (given_at 0 most_split (codes "split") f) (number_at 0 most_workers (codes "workers") f) (flag_at (codes "ends") f) (given_at 1 most_sample (codes "sample") f) (given_at 0 most_seed (codes "seed") f) (flag_at (codes "explain") f) (flag_at (codes "group") f) (until_bad_in (first_of (codes "until") (rows_of f))) (flag_at (codes "witness") f) (flag_at (codes "complete") f) (given_at 0 most_piece (codes "piece") f) (flag_at (codes "pieces") f)
 
-abbrev options_with : Option ℕ → ℕ → ℕ → ℕ → ℕ → Bool → Bool → Bool → Option ℕ → Bool → CheckOptions
-options_with modes runs fuel split workers until witness complete piece pieces =
-    record { modes = modes; runs = runs; fuel = fuel; split = split; workers = workers; until_bad = until; witness = witness; complete = complete; piece = piece; count_pieces = pieces }
+pub has_items : (f : Found) → is_some (found_options (text_in (rows_of f))) ≡ true → ItemsIn f
+has_items f e = some_items _ _ _ _ _ _ _ _ _ _ _ _ _ _ _ e
 
-pub items_found : (f : Found) (modes : Option ℕ) (runs fuel split workers : ℕ) (until witness complete : Bool) (piece : Option ℕ) (pieces : Bool) → number_if_given 0 most_modes (one_of (codes "modes") (rows_of f)) ≡ Some modes → number_at 1 most_runs (codes "runs") f ≡ Some runs → number_at 1 most_fuel (codes "fuel") f ≡ Some fuel
-    → number_at 0 most_split (codes "split") f ≡ Some split → number_at 0 most_workers (codes "workers") f ≡ Some workers → until_bad_in (first_of (codes "until") (rows_of f)) ≡ Some until
-    → flag_at (codes "witness") f ≡ Some witness → flag_at (codes "complete") f ≡ Some complete
-    → number_if_given 0 most_piece (one_of (codes "piece") (rows_of f)) ≡ Some piece → flag_at (codes "pieces") f ≡ Some pieces
-    → Some (options_with modes runs fuel split workers until witness complete piece pieces) ≡ found_options (text_in (rows_of f))
-items_found f modes runs fuel split workers until witness complete piece pieces o a b c d e g h k m = sym (all_ten o a b c d e g h k m)
-  where
-    all_ten : {j : Option (Option ℕ)} {r n s l : Option ℕ} {u w x : Option Bool} {i : Option (Option ℕ)} {p : Option Bool} → j ≡ Some modes → r ≡ Some runs → n ≡ Some fuel → s ≡ Some split → l ≡ Some workers → u ≡ Some until → w ≡ Some witness
-        → x ≡ Some complete → i ≡ Some piece → p ≡ Some pieces → options_of_items j r n s l u w x i p ≡ Some (options_with modes runs fuel split workers until witness complete piece pieces)
-    all_ten o a b c d e g h k m = rw (o, a, b, c, d, e, g, h, k, m) refl
+pub items_found : (f : Found) (modes runs : Option ℕ) (fuel : ℕ) (split : Option ℕ) (workers : ℕ) (ends : Bool) (sample seed : Option ℕ) (explain group until witness complete : Bool) (piece : Option ℕ) (pieces : Bool)
+    → given_at 0 most_modes (codes "modes") f ≡ Some modes
+    → given_at 1 most_runs (codes "runs") f ≡ Some runs
+    → number_at 1 most_fuel (codes "fuel") f ≡ Some fuel
+    → given_at 0 most_split (codes "split") f ≡ Some split
+    → number_at 0 most_workers (codes "workers") f ≡ Some workers
+    → flag_at (codes "ends") f ≡ Some ends
+    → given_at 1 most_sample (codes "sample") f ≡ Some sample
+    → given_at 0 most_seed (codes "seed") f ≡ Some seed
+    → flag_at (codes "explain") f ≡ Some explain
+    → flag_at (codes "group") f ≡ Some group
+    → until_bad_in (first_of (codes "until") (rows_of f)) ≡ Some until
+    → flag_at (codes "witness") f ≡ Some witness
+    → flag_at (codes "complete") f ≡ Some complete
+    → given_at 0 most_piece (codes "piece") f ≡ Some piece
+    → flag_at (codes "pieces") f ≡ Some pieces
+    → Some (options_with modes runs fuel split workers ends sample seed explain group until witness complete piece pieces) ≡ found_options (text_in (rows_of f))
+items_found f modes runs fuel split workers ends sample seed explain group until witness complete piece pieces a b c d e g h i j k l m n o p = sym (items_say modes runs fuel split workers ends sample seed explain group until witness complete piece pieces a b c d e g h i j k l m n o p)
 
 -- a word that was found is the one that there is
 until_taken : (t : Text) → is_some (until_bad_in (Some t)) ≡ true → until_bad_in (Some t) ≡ Some true
@@ -352,6 +387,8 @@ until_found f r e some = until_by (first_of (codes "until") (rows_of f)) r (valu
 abbrev HasRange : Asked → Type 0
 HasRange (serve file mode port clients) = (1 ≤ port) × (port ≤ most_port) × (1 ≤ clients) × (clients ≤ most_clients)
 HasRange (check file mode options) = AreInRange options
+HasRange (verify file witness mode leaf) = IfSome leaf (λ n. n ≤ most_leaf)
+HasRange (tell file choices mode fuel) = (1 ≤ fuel) × (fuel ≤ most_fuel)
 HasRange _ = Unit {0}
 
 range_asked : (options : Options) → HasRange (asked options) → IsInRange options
@@ -360,37 +397,12 @@ range_asked (Trace file mode) h = tt
 range_asked (Run file mode) h = tt
 range_asked (Serve file mode port clients) h = h
 range_asked (Check file mode options) h = h
-range_asked (Verify file witness mode) h = tt
+range_asked (Verify file witness mode leaf) h = h
+range_asked (Words file choices mode fuel) h = h
 
 abbrev RangeOf : Option Asked → Type 0
 RangeOf None = Unit {0}
 RangeOf (Some x) = HasRange x
-
--- a number that was found lies in its range
-abbrev Within : ℕ → ℕ → Option ℕ → Type 0
-Within low high None = Unit {0}
-Within low high (Some n) = (low ≤ n) × (n ≤ high)
-
-within : (low high : ℕ) (t : Text) (o : Option ℕ) → number_in low high t ≡ o → Within low high o
-within low high t None e = tt
-within low high t (Some n) e = (let facts = of_digits low high (without_plus t) n e in (facts.least, facts.most))
-
-read_within : (low high : ℕ) (t : Option Text) → Within low high (option_and_then (number_in low high) t)
-read_within low high None = tt
-read_within low high (Some t) = within low high t (number_in low high t) refl
-
--- and one that need not be there
-abbrev GivenWithin : ℕ → Option (Option ℕ) → Type 0
-GivenWithin high None = Unit {0}
-GivenWithin high (Some o) = IfSome o (λ n. n ≤ high)
-
-given_read : (high : ℕ) (t : Text) (o : Option ℕ) → number_in 0 high t ≡ o → GivenWithin high (option_map Some o)
-given_read high t None e = tt
-given_read high t (Some n) e = (let facts = of_digits 0 high (without_plus t) n e in facts.most)
-
-given_within : (high : ℕ) (t : Option Text) → GivenWithin high (number_if_given 0 high t)
-given_within high None = tt
-given_within high (Some t) = given_read high t (number_in 0 high t) refl
 
 file_range : (asks : Text → Text → Asked) (f m : Option Text) → ((f m : Text) → HasRange (asks f m)) → RangeOf (found_of_file asks f m)
 file_range asks None m h = tt
@@ -404,30 +416,10 @@ serve_range (Some f) (Some m) None c a b = tt
 serve_range (Some f) (Some m) (Some p) None a b = tt
 serve_range (Some f) (Some m) (Some p) (Some c) a b = (a.0, a.1, b.0, b.1)
 
-abbrev OptionsRange : Option CheckOptions → Type 0
-OptionsRange None = Unit {0}
-OptionsRange (Some o) = AreInRange o
-
-items_range : (m : Option (Option ℕ)) (r n s k : Option ℕ) (u w x : Option Bool) (i : Option (Option ℕ)) (p : Option Bool) → Within 1 most_runs r → Within 1 most_fuel n → Within 0 most_split s → Within 0 most_workers k → GivenWithin most_piece i → GivenWithin most_modes m
-    → OptionsRange (options_of_items m r n s k u w x i p)
-items_range None r n s k u w x i p a b c d e f = tt
-items_range (Some m) None n s k u w x i p a b c d e f = tt
-items_range (Some m) (Some r) None s k u w x i p a b c d e f = tt
-items_range (Some m) (Some r) (Some n) None k u w x i p a b c d e f = tt
-items_range (Some m) (Some r) (Some n) (Some s) None u w x i p a b c d e f = tt
-items_range (Some m) (Some r) (Some n) (Some s) (Some k) None w x i p a b c d e f = tt
-items_range (Some m) (Some r) (Some n) (Some s) (Some k) (Some u) None x i p a b c d e f = tt
-items_range (Some m) (Some r) (Some n) (Some s) (Some k) (Some u) (Some w) None i p a b c d e f = tt
-items_range (Some m) (Some r) (Some n) (Some s) (Some k) (Some u) (Some w) (Some x) None p a b c d e f = tt
-items_range (Some m) (Some r) (Some n) (Some s) (Some k) (Some u) (Some w) (Some x) (Some i) None a b c d e f = tt
-items_range (Some m) (Some r) (Some n) (Some s) (Some k) (Some u) (Some w) (Some x) (Some i) (Some p) a b c d e f = (a.0, a.1, b.0, b.1, c.1, d.1, e, f)
-
 options_range : (text : Item → Option Text) → OptionsRange (found_options text)
 options_range text =
-    items_range (number_if_given 0 most_modes (text the_modes)) (option_and_then (number_in 1 most_runs) (text the_runs)) (option_and_then (number_in 1 most_fuel) (text the_fuel))
-    (option_and_then (number_in 0 most_split) (text the_split)) (option_and_then (number_in 0 most_workers) (text the_workers)) (until_bad_in (text the_until))
-    (option_and_then flag_in (text the_witness)) (option_and_then flag_in (text the_complete)) (number_if_given 0 most_piece (text the_piece)) (option_and_then flag_in (text the_pieces))
-    (read_within 1 most_runs (text the_runs)) (read_within 1 most_fuel (text the_fuel)) (read_within 0 most_split (text the_split)) (read_within 0 most_workers (text the_workers)) (given_within most_piece (text the_piece)) (given_within most_modes (text the_modes))
+    items_range _ _ _ _ _ _ _ _ _ _ _ _ _ _ _ (given_within 0 most_modes (text the_modes)) (given_within 1 most_runs (text the_runs)) (read_within 1 most_fuel (text the_fuel)) (given_within 0 most_split (text the_split))
+    (read_within 0 most_workers (text the_workers)) (given_within 1 most_sample (text the_sample)) (given_within 0 most_seed (text the_seed)) (given_within 0 most_piece (text the_piece))
 
 check_range : (f m : Option Text) (o : Option CheckOptions) → OptionsRange o → RangeOf (found_check f m o)
 check_range None m o h = tt
@@ -435,11 +427,19 @@ check_range (Some f) None o h = tt
 check_range (Some f) (Some m) None h = tt
 check_range (Some f) (Some m) (Some o) h = h
 
-verify_range : (f w m : Option Text) → RangeOf (found_verify f w m)
-verify_range None w m = tt
-verify_range (Some f) None m = tt
-verify_range (Some f) (Some w) None = tt
-verify_range (Some f) (Some w) (Some m) = tt
+verify_range : (f w m : Option Text) (l : Option (Option ℕ)) → GivenWithin 0 most_leaf l → RangeOf (found_verify f w m l)
+verify_range None w m l a = tt
+verify_range (Some f) None m l a = tt
+verify_range (Some f) (Some w) None l a = tt
+verify_range (Some f) (Some w) (Some m) None a = tt
+verify_range (Some f) (Some w) (Some m) (Some l) a = at_most 0 most_leaf l a
+
+words_range : (f c m : Option Text) (n : Option ℕ) → Within 1 most_fuel n → RangeOf (found_words f c m n)
+words_range None c m n a = tt
+words_range (Some f) None m n a = tt
+words_range (Some f) (Some c) None n a = tt
+words_range (Some f) (Some c) (Some m) None a = tt
+words_range (Some f) (Some c) (Some m) (Some n) a = a
 
 found_range : (t : Tool) (text : Item → Option Text) → RangeOf (found t text)
 found_range tracer text = file_range trace (text the_file) (text the_mode) (λ f m. tt)
@@ -447,7 +447,8 @@ found_range runner text = file_range run (text the_file) (text the_mode) (λ f m
 found_range server text =
     serve_range (text the_file) (text the_mode) (option_and_then (number_in 1 most_port) (text the_port)) (option_and_then (number_in 1 most_clients) (text the_clients)) (read_within 1 most_port (text the_port)) (read_within 1 most_clients (text the_clients))
 found_range checker text = check_range (text the_file) (text the_mode) (found_options text) (options_range text)
-found_range verifier text = verify_range (text the_file) (text the_witness_file) (text the_mode)
+found_range verifier text = verify_range (text the_file) (text the_witness_file) (text the_mode) (number_if_given 0 most_leaf (text the_leaf)) (given_within 0 most_leaf (text the_leaf))
+found_range teller text = words_range (text the_file) (text the_choices) (text the_mode) (option_and_then (number_in 1 most_fuel) (text the_fuel)) (read_within 1 most_fuel (text the_fuel))
 
 range_by : (o : Option Tool) (rows : List Row) → RangeOf (found_by o rows)
 range_by None rows = tt

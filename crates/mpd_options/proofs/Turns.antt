@@ -11,10 +11,10 @@ use Rattle.clap.specs.Kinds.{Kinds, or_else}
 use Rattle.clap.specs.Faults.{settle_fault, turn_fault, step_fault, long_fault, bundle_fault, flags_fault, short_fault, flag_word_fault}
 use Rattle.clap.specs.Walk.{Held, Walk, Waiting, idle, option, Step, trailing, value, Outcome, plain, walked, settled, arg_by_long, arg_by_short, arg_by_index, is_pending, long_met, long_or_other, short_or_plain, plain_word, pushed, after_flag, after_step, to_positional, bundle, bundle_met}
 use Rattle.clap.proofs.OnLiterals.{clap_on_literals}
-use Rattle.mpd_options.specs.Asked.{Item, Place, Said, Tool, among_options, behind_dashes, behind_option, by_letters, checker, dashes, fits, long_or_short, name_of, named_so, no_option, files_of, option_among, options_of, other_option, said_of, short_option, the_file, the_witness_file, runner, server, tracer, unsaid, verifier, word_of}
+use Rattle.mpd_options.specs.Asked.{Item, Place, Said, Tool, among_options, behind_dashes, behind_option, by_letters, checker, dashes, fits, long_or_short, name_of, named_so, no_option, files_of, option_among, options_of, other_option, said_of, short_option, the_file, the_witness_file, runner, server, teller, tracer, unsaid, verifier, word_of}
 use Rattle.mpd_options.specs.Program.{Lies}
 use Rattle.mpd_options.proofs.Ends.{IsLast, fails_first, fails_then, held, held_for, settles, with_last}
-use Rattle.mpd_options.proofs.Items.{Valid, arg, asks, by_long, flags, flag_by_long, help_arg, keeps, reads_witness, rows_for, rules, some_fault, sub}
+use Rattle.mpd_options.proofs.Items.{EachFile, Valid, arg, asks, by_long, flags, flag_by_long, help_arg, keeps, reads_witness, rows_for, rules, some_fault, sub}
 
 -- ---- the options of a command
 
@@ -30,6 +30,8 @@ help_fails lie checker None h = fails_then (settle_fault (rules lie checker) fal
 help_fails lie checker (Some x) h = some_fault _ refl
 help_fails lie verifier None h = fails_then (settle_fault (rules lie verifier) false h) _ (some_fault _ refl)
 help_fails lie verifier (Some x) h = some_fault _ refl
+help_fails lie teller None h = fails_then (settle_fault (rules lie teller) false h) _ (some_fault _ refl)
+help_fails lie teller (Some x) h = some_fault _ refl
 
 -- none of these has the name
 abbrev pub NoneNamed : List Item → Text → Type 0
@@ -45,16 +47,18 @@ unfolding clap_on_literals
 find_help lie tracer name u h = rw (u.0, h) refl
 find_help lie runner name u h = rw (u.0, h) refl
 find_help lie server name u h = rw (u.0, u.1.0, u.1.1.0, h) refl
-find_help lie checker name u h = rw (u.0, u.1.0, u.1.1.0, u.1.1.1.0, u.1.1.1.1.0, u.1.1.1.1.1.0, u.1.1.1.1.1.1.0, u.1.1.1.1.1.1.1.0, u.1.1.1.1.1.1.1.1.0, u.1.1.1.1.1.1.1.1.1.0, u.1.1.1.1.1.1.1.1.1.1.0, h) refl
-find_help lie verifier name u h = rw (u.0, h) refl
+find_help lie checker name u h = rw (u.0, u.1.0, u.1.1.0, u.1.1.1.0, u.1.1.1.1.0, u.1.1.1.1.1.0, u.1.1.1.1.1.1.0, u.1.1.1.1.1.1.1.0, u.1.1.1.1.1.1.1.1.0, u.1.1.1.1.1.1.1.1.1.0, u.1.1.1.1.1.1.1.1.1.1.0, u.1.1.1.1.1.1.1.1.1.1.1.0, u.1.1.1.1.1.1.1.1.1.1.1.1.0, u.1.1.1.1.1.1.1.1.1.1.1.1.1.0, u.1.1.1.1.1.1.1.1.1.1.1.1.1.1.0, u.1.1.1.1.1.1.1.1.1.1.1.1.1.1.1.0, h) refl
+find_help lie verifier name u h = rw (u.0, u.1.0, h) refl
+find_help lie teller name u h = rw (u.0, u.1.0, u.1.1.0, h) refl
 
 find_none : (lie : Lies) (t : Tool) (name : Text) → Unnamed t name → bytes_eq (codes "help") name ≡ false → arg_by_long (rules lie t) name ≡ None
 unfolding clap_on_literals
 find_none lie tracer name u h = rw (u.0, h) refl
 find_none lie runner name u h = rw (u.0, h) refl
 find_none lie server name u h = rw (u.0, u.1.0, u.1.1.0, h) refl
-find_none lie checker name u h = rw (u.0, u.1.0, u.1.1.0, u.1.1.1.0, u.1.1.1.1.0, u.1.1.1.1.1.0, u.1.1.1.1.1.1.0, u.1.1.1.1.1.1.1.0, u.1.1.1.1.1.1.1.1.0, u.1.1.1.1.1.1.1.1.1.0, u.1.1.1.1.1.1.1.1.1.1.0, h) refl
-find_none lie verifier name u h = rw (u.0, h) refl
+find_none lie checker name u h = rw (u.0, u.1.0, u.1.1.0, u.1.1.1.0, u.1.1.1.1.0, u.1.1.1.1.1.0, u.1.1.1.1.1.1.0, u.1.1.1.1.1.1.1.0, u.1.1.1.1.1.1.1.1.0, u.1.1.1.1.1.1.1.1.1.0, u.1.1.1.1.1.1.1.1.1.1.0, u.1.1.1.1.1.1.1.1.1.1.1.0, u.1.1.1.1.1.1.1.1.1.1.1.1.0, u.1.1.1.1.1.1.1.1.1.1.1.1.1.0, u.1.1.1.1.1.1.1.1.1.1.1.1.1.1.0, u.1.1.1.1.1.1.1.1.1.1.1.1.1.1.1.0, h) refl
+find_none lie verifier name u h = rw (u.0, u.1.0, h) refl
+find_none lie teller name u h = rw (u.0, u.1.0, u.1.1.0, h) refl
 
 pub dead_long : (lie : Lies) (t : Tool) (name : Text) (v : Option Text) (h : Held) → Unnamed t name → long_fault (rules lie t) false (arg_by_long (rules lie t) name) v h ≢ []
 dead_long lie t name v h u =
@@ -82,8 +86,9 @@ own_options : (t : Tool) → AreOptions t (options_of t)
 own_options tracer = (inl refl, tt)
 own_options runner = (inl refl, tt)
 own_options server = (inl refl, (inl refl, (inl refl, tt)))
-own_options checker = (inl refl, (inl refl, (inl refl, (inl refl, (inl refl, (inl refl, (inl refl, (inr refl, (inr refl, (inl refl, (inr refl, tt)))))))))))
-own_options verifier = (inl refl, tt)
+own_options checker = (inl refl, (inl refl, (inl refl, (inl refl, (inl refl, (inl refl, (inr refl, (inl refl, (inl refl, (inr refl, (inr refl, (inl refl, (inr refl, (inr refl, (inl refl, (inr refl, tt))))))))))))))))
+own_options verifier = (inl refl, (inl refl, tt))
+own_options teller = (inl refl, (inl refl, (inl refl, tt)))
 
 -- the first of these that has the name, or that none has it
 data Sought (t : Tool) (items : List Item) (name : Text) : Type 0 where
@@ -135,6 +140,10 @@ letter_fails lie checker x rest h next = elim (104 == x) as (λ b. (104 == x) �
 ] refl
 letter_fails lie verifier x rest h next = elim (104 == x) as (λ b. (104 == x) ≡ b → short_fault (rules lie verifier) false (arg_by_short (rules lie verifier) x) rest h next ≢ []) [
   | true ↦ λ e. rw e (fails_first _ _ (fails_then (settle_fault (rules lie verifier) false h) _ (some_fault _ refl)))
+  | false ↦ λ e. rw e (some_fault _ refl)
+] refl
+letter_fails lie teller x rest h next = elim (104 == x) as (λ b. (104 == x) ≡ b → short_fault (rules lie teller) false (arg_by_short (rules lie teller) x) rest h next ≢ []) [
+  | true ↦ λ e. rw e (fails_first _ _ (fails_then (settle_fault (rules lie teller) false h) _ (some_fault _ refl)))
   | false ↦ λ e. rw e (some_fault _ refl)
 ] refl
 
@@ -290,6 +299,8 @@ turns lie checker None position word h = refl
 turns lie checker (Some id) position word h = refl
 turns lie verifier None position word h = refl
 turns lie verifier (Some id) position word h = refl
+turns lie teller None position word h = refl
+turns lie teller (Some id) position word h = refl
 
 turns_so : (lie : Lies) (t : Tool) (o : Option Text) (position : ℕ) (word : Text) (h : Held) (d : Bool) (l : Option (Text × Option Text)) → bytes_eq word dd ≡ d → long_of word ≡ l
     → turn lie t (waiting_for o) position word h ≡ turned lie t (waiting_for o) position word h d l
@@ -358,24 +369,26 @@ abbrev pub seat : Item → ℕ
 seat the_witness_file = 2
 seat _ = 1
 
-each_file : (P : Tool → Item → Type 0) → P tracer the_file → P runner the_file → P server the_file → P checker the_file → P verifier the_file → P verifier the_witness_file → (t : Tool) (i : Item) → is_file t i ≡ true → P t i
-each_file P a r s b c d tracer the_file e = a
-each_file P a r s b c d tracer _ e = cc
-each_file P a r s b c d runner the_file e = r
-each_file P a r s b c d runner _ e = cc
-each_file P a r s b c d server the_file e = s
-each_file P a r s b c d server _ e = cc
-each_file P a r s b c d checker the_file e = b
-each_file P a r s b c d checker _ e = cc
-each_file P a r s b c d verifier the_file e = c
-each_file P a r s b c d verifier the_witness_file e = d
-each_file P a r s b c d verifier _ e = cc
+each_file : (P : Tool → Item → Type 0) → EachFile P → (t : Tool) (i : Item) → is_file t i ≡ true → P t i
+each_file P f tracer the_file e = f.0
+each_file P f tracer _ e = cc
+each_file P f runner the_file e = f.1
+each_file P f runner _ e = cc
+each_file P f server the_file e = f.2
+each_file P f server _ e = cc
+each_file P f checker the_file e = f.3
+each_file P f checker _ e = cc
+each_file P f verifier the_file e = f.4
+each_file P f verifier the_witness_file e = f.5
+each_file P f verifier _ e = cc
+each_file P f teller the_file e = f.6
+each_file P f teller _ e = cc
 
 pub file_keeps : (t : Tool) (i : Item) → is_file t i ≡ true → keeps t i ≡ true
-file_keeps = each_file (λ t i. keeps t i ≡ true) refl refl refl refl refl refl
+file_keeps = each_file (λ t i. keeps t i ≡ true) (refl, refl, refl, refl, refl, refl, refl)
 
 pub file_fits : (word : Text) (t : Tool) (i : Item) → is_file t i ≡ true → fits i word ≡ true
-file_fits word = each_file (λ t i. fits i word ≡ true) refl refl refl refl refl refl
+file_fits word = each_file (λ t i. fits i word ≡ true) (refl, refl, refl, refl, refl, refl, refl)
 
 file_step_by : (b : Bool) (ks : Kinds) → (if b && false then [] else ks) ≡ ks
 file_step_by true ks = refl
@@ -388,13 +401,15 @@ file_held_by false h g = refl
 pub file_step : (lie : Lies) (h : Held) (t : Tool) (i : Item) → is_file t i ≡ true → step_fault (sub lie t) (seat i) h value ≡ settle_fault (rules lie t) false h
 unfolding clap_on_literals
 file_step lie h =
-    each_file (λ t i. step_fault (sub lie t) (seat i) h value ≡ settle_fault (rules lie t) false h)
-    (file_step_by (is_pending (arg lie tracer the_file) h.pending) (settle_fault (rules lie tracer) false h))
-    (file_step_by (is_pending (arg lie runner the_file) h.pending) (settle_fault (rules lie runner) false h))
-    (file_step_by (is_pending (arg lie server the_file) h.pending) (settle_fault (rules lie server) false h))
-    (file_step_by (is_pending (arg lie checker the_file) h.pending) (settle_fault (rules lie checker) false h))
-    (file_step_by (is_pending (arg lie verifier the_file) h.pending) (settle_fault (rules lie verifier) false h))
-    (file_step_by (is_pending (arg lie verifier the_witness_file) h.pending) (settle_fault (rules lie verifier) false h))
+    each_file (λ t i. step_fault (sub lie t) (seat i) h value ≡ settle_fault (rules lie t) false h) (
+      file_step_by (is_pending (arg lie tracer the_file) h.pending) (settle_fault (rules lie tracer) false h),
+      file_step_by (is_pending (arg lie runner the_file) h.pending) (settle_fault (rules lie runner) false h),
+      file_step_by (is_pending (arg lie server the_file) h.pending) (settle_fault (rules lie server) false h),
+      file_step_by (is_pending (arg lie checker the_file) h.pending) (settle_fault (rules lie checker) false h),
+      file_step_by (is_pending (arg lie verifier the_file) h.pending) (settle_fault (rules lie verifier) false h),
+      file_step_by (is_pending (arg lie verifier the_witness_file) h.pending) (settle_fault (rules lie verifier) false h),
+      file_step_by (is_pending (arg lie teller the_file) h.pending) (settle_fault (rules lie teller) false h),
+    )
 
 -- the walk behind such a word
 abbrev pub FileWalk : Lies → Waiting → Text → Held → Bool → Tool → Item → Type 0
@@ -404,21 +419,25 @@ FileWalk lie waiting word h b t i =
 file_walk : (lie : Lies) (waiting : Waiting) (word : Text) (h : Held) (b : Bool) (t : Tool) (i : Item) → is_file t i ≡ true → FileWalk lie waiting word h b t i
 unfolding clap_on_literals
 file_walk lie waiting word h true =
-    each_file (FileWalk lie waiting word h true)
-    (ap (λ g. walk_with (pushed (name_of the_file) word g) idle (suc (seat the_file)) true) (file_held_by (is_pending (arg lie tracer the_file) h.pending) h (settled (rules lie tracer) h)))
-    (ap (λ g. walk_with (pushed (name_of the_file) word g) idle (suc (seat the_file)) true) (file_held_by (is_pending (arg lie runner the_file) h.pending) h (settled (rules lie runner) h)))
-    (ap (λ g. walk_with (pushed (name_of the_file) word g) idle (suc (seat the_file)) true) (file_held_by (is_pending (arg lie server the_file) h.pending) h (settled (rules lie server) h)))
-    (ap (λ g. walk_with (pushed (name_of the_file) word g) idle (suc (seat the_file)) true) (file_held_by (is_pending (arg lie checker the_file) h.pending) h (settled (rules lie checker) h)))
-    (ap (λ g. walk_with (pushed (name_of the_file) word g) idle (suc (seat the_file)) true) (file_held_by (is_pending (arg lie verifier the_file) h.pending) h (settled (rules lie verifier) h)))
-    (ap (λ g. walk_with (pushed (name_of the_witness_file) word g) idle (suc (seat the_witness_file)) true) (file_held_by (is_pending (arg lie verifier the_witness_file) h.pending) h (settled (rules lie verifier) h)))
+    each_file (FileWalk lie waiting word h true) (
+      ap (λ g. walk_with (pushed (name_of the_file) word g) idle (suc (seat the_file)) true) (file_held_by (is_pending (arg lie tracer the_file) h.pending) h (settled (rules lie tracer) h)),
+      ap (λ g. walk_with (pushed (name_of the_file) word g) idle (suc (seat the_file)) true) (file_held_by (is_pending (arg lie runner the_file) h.pending) h (settled (rules lie runner) h)),
+      ap (λ g. walk_with (pushed (name_of the_file) word g) idle (suc (seat the_file)) true) (file_held_by (is_pending (arg lie server the_file) h.pending) h (settled (rules lie server) h)),
+      ap (λ g. walk_with (pushed (name_of the_file) word g) idle (suc (seat the_file)) true) (file_held_by (is_pending (arg lie checker the_file) h.pending) h (settled (rules lie checker) h)),
+      ap (λ g. walk_with (pushed (name_of the_file) word g) idle (suc (seat the_file)) true) (file_held_by (is_pending (arg lie verifier the_file) h.pending) h (settled (rules lie verifier) h)),
+      ap (λ g. walk_with (pushed (name_of the_witness_file) word g) idle (suc (seat the_witness_file)) true) (file_held_by (is_pending (arg lie verifier the_witness_file) h.pending) h (settled (rules lie verifier) h)),
+      ap (λ g. walk_with (pushed (name_of the_file) word g) idle (suc (seat the_file)) true) (file_held_by (is_pending (arg lie teller the_file) h.pending) h (settled (rules lie teller) h)),
+    )
 file_walk lie waiting word h false =
-    each_file (FileWalk lie waiting word h false)
-    (ap (λ g. walk_with (pushed (name_of the_file) word g) idle (suc (seat the_file)) false) (file_held_by (is_pending (arg lie tracer the_file) h.pending) h (settled (rules lie tracer) h)))
-    (ap (λ g. walk_with (pushed (name_of the_file) word g) idle (suc (seat the_file)) false) (file_held_by (is_pending (arg lie runner the_file) h.pending) h (settled (rules lie runner) h)))
-    (ap (λ g. walk_with (pushed (name_of the_file) word g) idle (suc (seat the_file)) false) (file_held_by (is_pending (arg lie server the_file) h.pending) h (settled (rules lie server) h)))
-    (ap (λ g. walk_with (pushed (name_of the_file) word g) idle (suc (seat the_file)) false) (file_held_by (is_pending (arg lie checker the_file) h.pending) h (settled (rules lie checker) h)))
-    (ap (λ g. walk_with (pushed (name_of the_file) word g) idle (suc (seat the_file)) false) (file_held_by (is_pending (arg lie verifier the_file) h.pending) h (settled (rules lie verifier) h)))
-    (ap (λ g. walk_with (pushed (name_of the_witness_file) word g) idle (suc (seat the_witness_file)) false) (file_held_by (is_pending (arg lie verifier the_witness_file) h.pending) h (settled (rules lie verifier) h)))
+    each_file (FileWalk lie waiting word h false) (
+      ap (λ g. walk_with (pushed (name_of the_file) word g) idle (suc (seat the_file)) false) (file_held_by (is_pending (arg lie tracer the_file) h.pending) h (settled (rules lie tracer) h)),
+      ap (λ g. walk_with (pushed (name_of the_file) word g) idle (suc (seat the_file)) false) (file_held_by (is_pending (arg lie runner the_file) h.pending) h (settled (rules lie runner) h)),
+      ap (λ g. walk_with (pushed (name_of the_file) word g) idle (suc (seat the_file)) false) (file_held_by (is_pending (arg lie server the_file) h.pending) h (settled (rules lie server) h)),
+      ap (λ g. walk_with (pushed (name_of the_file) word g) idle (suc (seat the_file)) false) (file_held_by (is_pending (arg lie checker the_file) h.pending) h (settled (rules lie checker) h)),
+      ap (λ g. walk_with (pushed (name_of the_file) word g) idle (suc (seat the_file)) false) (file_held_by (is_pending (arg lie verifier the_file) h.pending) h (settled (rules lie verifier) h)),
+      ap (λ g. walk_with (pushed (name_of the_witness_file) word g) idle (suc (seat the_witness_file)) false) (file_held_by (is_pending (arg lie verifier the_witness_file) h.pending) h (settled (rules lie verifier) h)),
+      ap (λ g. walk_with (pushed (name_of the_file) word g) idle (suc (seat the_file)) false) (file_held_by (is_pending (arg lie teller the_file) h.pending) h (settled (rules lie teller) h)),
+    )
 
 -- no word more is taken
 pub no_second : (lie : Lies) (t : Tool) (h : Held) → reads_witness t ≡ false → step_fault (sub lie t) 2 h value ≢ []
@@ -427,6 +446,7 @@ no_second lie tracer h e = some_fault _ refl
 no_second lie runner h e = some_fault _ refl
 no_second lie server h e = some_fault _ refl
 no_second lie checker h e = some_fault _ refl
+no_second lie teller h e = some_fault _ refl
 no_second lie verifier h e = absurd (true≢false e)
 
 pub no_third : (lie : Lies) (t : Tool) (h : Held) → step_fault (sub lie t) 3 h value ≢ []
@@ -436,6 +456,7 @@ no_third lie runner h = some_fault _ refl
 no_third lie server h = some_fault _ refl
 no_third lie checker h = some_fault _ refl
 no_third lie verifier h = some_fault _ refl
+no_third lie teller h = some_fault _ refl
 
 abbrev pub pair : Kinds → Walk → Turn
 pair ks w = (ks, w)
@@ -457,12 +478,14 @@ first_unsaid runner said e = rw e refl
 first_unsaid server said e = rw e refl
 first_unsaid checker said e = rw e refl
 first_unsaid verifier said e = rw e refl
+first_unsaid teller said e = rw e refl
 
 one_said : (t : Tool) (said : Said) (f : Text) → reads_witness t ≡ false → said_of the_file said ≡ Some f → unsaid (files_of t) said ≡ None
 one_said tracer said f only e = rw e refl
 one_said runner said f only e = rw e refl
 one_said server said f only e = rw e refl
 one_said checker said f only e = rw e refl
+one_said teller said f only e = rw e refl
 one_said verifier said f only e = cc
 
 -- behind the file's word
@@ -471,6 +494,7 @@ free_second lie tracer said f e both w = cc
 free_second lie runner said f e both w = cc
 free_second lie server said f e both w = cc
 free_second lie checker said f e both w = cc
+free_second lie teller said f e both w = cc
 free_second lie verifier said f e both w =
     free the_witness_file refl (rw (e, w) refl) w (ap₂ next_place e w) (λ word. ap (λ o. next_place o (Some word)) e) (λ word new. (let bad : Some f ≡ None = sym e ∙ new in cc))
 
@@ -487,6 +511,7 @@ full_third lie tracer said f x e both w = cc
 full_third lie runner said f x e both w = cc
 full_third lie server said f x e both w = cc
 full_third lie checker said f x e both w = cc
+full_third lie teller said f x e both w = cc
 full_third lie verifier said f x e both w = full (rw (e, w) refl) (subst (Ends lie verifier) (sym (ap₂ next_place e w)) (λ h. no_third lie verifier h))
 
 pub frees : (lie : Lies) (t : Tool) (said : Said) → InOrder said → Free lie t said

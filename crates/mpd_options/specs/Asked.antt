@@ -1,23 +1,25 @@
 -- What the words of a command line ask for.
 use Rattle.std.specs.Prelude.{◌≡◌, ◌≤◌, ⊤, IfSome, ℕ, Bool, true, false, not, if◌then◌else◌, List, [], ◌∷◌, Option, Some, None, find, is_some, option_and_then, option_map, codes}
+use Rattle.std.specs.Option.{unwrap_or}
 use Rattle.std.specs.Str.{bytes_eq, chars}
 use Rattle.clap.specs.Lexer.{long_of, short_of}
 use Rattle.clap.specs.Words.{Row, first_of, one_of}
 use Rattle.mpd_options.specs.Numbers.{flag_in, number_in}
 use Rattle.mpd_options.specs.declared.options.CheckOptions.{CheckOptions}
 use Rattle.mpd_options.specs.declared.options.Options.{Options}
-use Rattle.mpd_options.specs.declared.options.Options.TheVariants.{Plain, Trace, Run, Serve, Check, Verify}
+use Rattle.mpd_options.specs.declared.options.Options.TheVariants.{Plain, Trace, Run, Serve, Check, Verify, Words}
 
 -- what is asked for: a script and its trace on standard input, the trace of a file, answers to requests on one, of one or of several
--- clients, a look for deadlocks in one, or a check of a witness; with the words of files and mode, the port, how many clients, and how
--- deadlocks are looked for
+-- clients, a look for deadlocks in one, a check of a witness, or the trace words of a run; with the words of files, mode and choices, the
+-- port, how many clients, how deadlocks are looked for, the number of a leaf, and the fuel
 pub data Asked : Type 0 where
   plain : Asked
   trace : List ℕ → List ℕ → Asked
   run : List ℕ → List ℕ → Asked
   serve : List ℕ → List ℕ → ℕ → ℕ → Asked
   check : List ℕ → List ℕ → CheckOptions → Asked
-  verify : List ℕ → List ℕ → List ℕ → Asked
+  verify : List ℕ → List ℕ → List ℕ → Option ℕ → Asked
+  tell : List ℕ → List ℕ → List ℕ → ℕ → Asked
 
 abbrev pub asked : Options → Asked
 asked Plain = plain
@@ -25,7 +27,8 @@ asked (Trace file mode) = trace file.now mode.now
 asked (Run file mode) = run file.now mode.now
 asked (Serve file mode port clients) = serve file.now mode.now port clients
 asked (Check file mode options) = check file.now mode.now options
-asked (Verify file witness mode) = verify file.now witness.now mode.now
+asked (Verify file witness mode leaf) = verify file.now witness.now mode.now leaf
+asked (Words file choices mode fuel) = tell file.now choices.now mode.now fuel
 
 abbrev pub most_port : ℕ
 most_port = 65535
@@ -48,13 +51,31 @@ most_split = 8
 abbrev pub most_workers : ℕ
 most_workers = 1000
 
+abbrev pub most_sample : ℕ
+most_sample = 65536
+
+abbrev pub most_seed : ℕ
+most_seed = 18446744073709551615
+
 abbrev pub most_piece : ℕ
 most_piece = 1023
+
+abbrev pub most_leaf : ℕ
+most_leaf = 67108863
+
+-- how many runs of each piece are tried where that isn't said
+abbrev pub usual_runs : ℕ
+usual_runs = 1000
+
+-- by how many choices the runs are cut into pieces where that isn't said
+abbrev pub usual_split : ℕ
+usual_split = 1
 
 -- each number of a look for deadlocks lies in its range
 abbrev pub AreInRange : CheckOptions → Type 0
 AreInRange o =
     (1 ≤ o.runs) × (o.runs ≤ most_runs) × (1 ≤ o.fuel) × (o.fuel ≤ most_fuel) × (o.split ≤ most_split) × (o.workers ≤ most_workers) × IfSome o.piece (λ n. n ≤ most_piece) × IfSome o.modes (λ n. n ≤ most_modes)
+    × IfSome o.sample (λ n. (1 ≤ n) × (n ≤ most_sample)) × IfSome o.seed (λ n. n ≤ most_seed)
 
 -- each number lies in its range
 abbrev pub IsInRange : Options → Type 0
@@ -63,7 +84,8 @@ IsInRange (Trace file mode) = ⊤
 IsInRange (Run file mode) = ⊤
 IsInRange (Serve file mode port clients) = (1 ≤ port) × (port ≤ most_port) × (1 ≤ clients) × (clients ≤ most_clients)
 IsInRange (Check file mode options) = AreInRange options
-IsInRange (Verify file witness mode) = ⊤
+IsInRange (Verify file witness mode leaf) = IfSome leaf (λ n. n ≤ most_leaf)
+IsInRange (Words file choices mode fuel) = (1 ≤ fuel) × (fuel ≤ most_fuel)
 
 -- the commands
 pub data Tool : Type 0 where
@@ -72,13 +94,15 @@ pub data Tool : Type 0 where
   server : Tool
   checker : Tool
   verifier : Tool
+  teller : Tool
 
 -- the command that a word names
 abbrev pub tool_named : List ℕ → Option Tool
 tool_named word =
     if bytes_eq word (codes "trace") then Some tracer
     else (if bytes_eq word (codes "run") then Some runner
-    else (if bytes_eq word (codes "serve") then Some server else (if bytes_eq word (codes "check") then Some checker else (if bytes_eq word (codes "verify") then Some verifier else None))))
+    else (if bytes_eq word (codes "serve") then Some server
+    else (if bytes_eq word (codes "check") then Some checker else (if bytes_eq word (codes "verify") then Some verifier else (if bytes_eq word (codes "words") then Some teller else None)))))
 
 -- what words say something of: the words of files stand alone, and the others are options
 pub data Item : Type 0 where
@@ -92,11 +116,18 @@ pub data Item : Type 0 where
   the_fuel : Item
   the_split : Item
   the_workers : Item
+  the_ends : Item
+  the_sample : Item
+  the_seed : Item
+  the_explain : Item
+  the_group : Item
   the_until : Item
   the_witness : Item
   the_complete : Item
   the_piece : Item
   the_pieces : Item
+  the_leaf : Item
+  the_choices : Item
 
 abbrev pub name_of : Item → List ℕ
 name_of the_file = codes "FILE"
@@ -109,18 +140,27 @@ name_of the_runs = codes "runs"
 name_of the_fuel = codes "fuel"
 name_of the_split = codes "split"
 name_of the_workers = codes "workers"
+name_of the_ends = codes "ends"
+name_of the_sample = codes "sample"
+name_of the_seed = codes "seed"
+name_of the_explain = codes "explain"
+name_of the_group = codes "group"
 name_of the_until = codes "until"
 name_of the_witness = codes "witness"
 name_of the_complete = codes "complete"
 name_of the_piece = codes "piece"
 name_of the_pieces = codes "pieces"
+name_of the_leaf = codes "leaf"
+name_of the_choices = codes "choices"
 
 abbrev pub options_of : Tool → List Item
 options_of tracer = the_mode ∷ []
 options_of runner = the_mode ∷ []
 options_of server = the_mode ∷ the_port ∷ the_clients ∷ []
-options_of checker = the_mode ∷ the_modes ∷ the_runs ∷ the_fuel ∷ the_split ∷ the_workers ∷ the_until ∷ the_witness ∷ the_complete ∷ the_piece ∷ the_pieces ∷ []
-options_of verifier = the_mode ∷ []
+options_of checker =
+    the_mode ∷ the_modes ∷ the_runs ∷ the_fuel ∷ the_split ∷ the_workers ∷ the_ends ∷ the_sample ∷ the_seed ∷ the_explain ∷ the_group ∷ the_until ∷ the_witness ∷ the_complete ∷ the_piece ∷ the_pieces ∷ []
+options_of verifier = the_mode ∷ the_leaf ∷ []
+options_of teller = the_mode ∷ the_choices ∷ the_fuel ∷ []
 
 -- what the words that are no options name, in this order
 abbrev pub files_of : Tool → List Item
@@ -129,12 +169,16 @@ files_of runner = the_file ∷ []
 files_of server = the_file ∷ []
 files_of checker = the_file ∷ []
 files_of verifier = the_file ∷ the_witness_file ∷ []
+files_of teller = the_file ∷ []
 
 abbrev pub option_among : List Item → List ℕ → Option Item
 option_among items name = find (λ item. bytes_eq (name_of item) name) items
 
 -- a flag has no value in words
 abbrev pub is_flag : Item → Bool
+is_flag the_ends = true
+is_flag the_explain = true
+is_flag the_group = true
 is_flag the_witness = true
 is_flag the_complete = true
 is_flag the_pieces = true
@@ -152,13 +196,20 @@ fits the_runs text = is_some (number_in 1 most_runs text)
 fits the_fuel text = is_some (number_in 1 most_fuel text)
 fits the_split text = is_some (number_in 0 most_split text)
 fits the_workers text = is_some (number_in 0 most_workers text)
+fits the_ends text = is_some (flag_in text)
+fits the_sample text = is_some (number_in 1 most_sample text)
+fits the_seed text = is_some (number_in 0 most_seed text)
+fits the_explain text = is_some (flag_in text)
+fits the_group text = is_some (flag_in text)
 fits the_until text = bytes_eq text (codes "deadlock")
 fits the_witness text = is_some (flag_in text)
 fits the_complete text = is_some (flag_in text)
 fits the_piece text = is_some (number_in 0 most_piece text)
 fits the_pieces text = is_some (flag_in text)
+fits the_leaf text = is_some (number_in 0 most_leaf text)
+fits the_choices text = true
 
--- the value of an item of which nothing is said; where it has none, something must be said of it, but of how many modes are tried, of a piece and of where the report ends
+-- the value of an item of which nothing is said; where it has none, something must be said of the files, the port, how many clients and the choices, and need not of the others
 abbrev pub default_of : Item → Option (List ℕ)
 default_of the_file = None
 default_of the_witness_file = None
@@ -166,15 +217,22 @@ default_of the_mode = Some (codes "rendezvous")
 default_of the_modes = None
 default_of the_port = None
 default_of the_clients = None
-default_of the_runs = Some (codes "1000")
+default_of the_runs = None
 default_of the_fuel = Some (codes "100000")
-default_of the_split = Some (codes "1")
+default_of the_split = None
 default_of the_workers = Some (codes "4")
+default_of the_ends = Some (codes "false")
+default_of the_sample = None
+default_of the_seed = None
+default_of the_explain = Some (codes "false")
+default_of the_group = Some (codes "false")
 default_of the_until = None
 default_of the_witness = Some (codes "false")
 default_of the_complete = Some (codes "false")
 default_of the_piece = None
 default_of the_pieces = Some (codes "false")
+default_of the_leaf = None
+default_of the_choices = None
 
 -- what a word behind a command is: `--`, `--NAME` or `--NAME=V` of an option, another option, or none
 pub data Word : Type 0 where
@@ -290,32 +348,56 @@ until_bad_in None = Some false
 until_bad_in (Some text) = if bytes_eq text (codes "deadlock") then Some true else None
 
 -- how deadlocks are looked for, by what each item says
-abbrev pub options_of_items : Option (Option ℕ) → Option ℕ → Option ℕ → Option ℕ → Option ℕ → Option Bool → Option Bool → Option Bool → Option (Option ℕ) → Option Bool → Option CheckOptions
-options_of_items (Some modes) (Some runs) (Some fuel) (Some split) (Some workers) (Some until) (Some witness) (Some complete) (Some piece) (Some pieces) =
-    Some (record { modes = modes; runs = runs; fuel = fuel; split = split; workers = workers; until_bad = until; witness = witness; complete = complete; piece = piece; count_pieces = pieces })
-options_of_items _ _ _ _ _ _ _ _ _ _ = None
+abbrev pub options_of_items : Option (Option ℕ) → Option (Option ℕ) → Option ℕ → Option (Option ℕ) → Option ℕ → Option Bool → Option (Option ℕ) → Option (Option ℕ) → Option Bool → Option Bool → Option Bool → Option Bool → Option Bool → Option (Option ℕ) → Option Bool → Option CheckOptions
+options_of_items (Some modes) (Some runs) (Some fuel) (Some split) (Some workers) (Some ends) (Some sample) (Some seed) (Some explain) (Some group) (Some until) (Some witness) (Some complete) (Some piece) (Some pieces) =
+    Some (record {
+      modes = modes;
+      runs = unwrap_or runs usual_runs;
+      runs_given = is_some runs;
+      fuel = fuel;
+      split = unwrap_or split usual_split;
+      split_given = is_some split;
+      workers = workers;
+      ends = ends;
+      sample = sample;
+      seed = seed;
+      explain = explain;
+      group = group;
+      until_bad = until;
+      witness = witness;
+      complete = complete;
+      piece = piece;
+      count_pieces = pieces;
+    })
+options_of_items _ _ _ _ _ _ _ _ _ _ _ _ _ _ _ = None
 
 abbrev pub found_options : (Item → Option (List ℕ)) → Option CheckOptions
 found_options text =
-    options_of_items (number_if_given 0 most_modes (text the_modes)) (option_and_then (number_in 1 most_runs) (text the_runs)) (option_and_then (number_in 1 most_fuel) (text the_fuel))
-    (option_and_then (number_in 0 most_split) (text the_split)) (option_and_then (number_in 0 most_workers) (text the_workers)) (until_bad_in (text the_until))
+    options_of_items (number_if_given 0 most_modes (text the_modes)) (number_if_given 1 most_runs (text the_runs)) (option_and_then (number_in 1 most_fuel) (text the_fuel))
+    (number_if_given 0 most_split (text the_split)) (option_and_then (number_in 0 most_workers) (text the_workers)) (option_and_then flag_in (text the_ends)) (number_if_given 1 most_sample (text the_sample))
+    (number_if_given 0 most_seed (text the_seed)) (option_and_then flag_in (text the_explain)) (option_and_then flag_in (text the_group)) (until_bad_in (text the_until))
     (option_and_then flag_in (text the_witness)) (option_and_then flag_in (text the_complete)) (number_if_given 0 most_piece (text the_piece)) (option_and_then flag_in (text the_pieces))
 
 abbrev pub found_check : Option (List ℕ) → Option (List ℕ) → Option CheckOptions → Option Asked
 found_check (Some file) (Some mode) (Some options) = Some (check file mode options)
 found_check _ _ _ = None
 
-abbrev pub found_verify : Option (List ℕ) → Option (List ℕ) → Option (List ℕ) → Option Asked
-found_verify (Some file) (Some witness) (Some mode) = Some (verify file witness mode)
-found_verify _ _ _ = None
+abbrev pub found_verify : Option (List ℕ) → Option (List ℕ) → Option (List ℕ) → Option (Option ℕ) → Option Asked
+found_verify (Some file) (Some witness) (Some mode) (Some leaf) = Some (verify file witness mode leaf)
+found_verify _ _ _ _ = None
 
--- what a command asks for, by the text of each of its items: each must have one, but how many modes are tried, a piece and where the report ends, and each number lies in its range
+abbrev pub found_words : Option (List ℕ) → Option (List ℕ) → Option (List ℕ) → Option ℕ → Option Asked
+found_words (Some file) (Some choices) (Some mode) (Some fuel) = Some (tell file choices mode fuel)
+found_words _ _ _ _ = None
+
+-- what a command asks for, by the text of each of its items: each must have one, but those that need not be there, and each number lies in its range
 abbrev pub found : Tool → (Item → Option (List ℕ)) → Option Asked
 found tracer text = found_of_file trace (text the_file) (text the_mode)
 found runner text = found_of_file run (text the_file) (text the_mode)
 found server text = found_serve (text the_file) (text the_mode) (option_and_then (number_in 1 most_port) (text the_port)) (option_and_then (number_in 1 most_clients) (text the_clients))
 found checker text = found_check (text the_file) (text the_mode) (found_options text)
-found verifier text = found_verify (text the_file) (text the_witness_file) (text the_mode)
+found verifier text = found_verify (text the_file) (text the_witness_file) (text the_mode) (number_if_given 0 most_leaf (text the_leaf))
+found teller text = found_words (text the_file) (text the_choices) (text the_mode) (option_and_then (number_in 1 most_fuel) (text the_fuel))
 
 abbrev pub or_default : Option (List ℕ) → Option (List ℕ) → Option (List ℕ)
 or_default None value = value
@@ -356,11 +438,18 @@ text_in rows the_runs = one_of (name_of the_runs) rows
 text_in rows the_fuel = one_of (name_of the_fuel) rows
 text_in rows the_split = one_of (name_of the_split) rows
 text_in rows the_workers = one_of (name_of the_workers) rows
+text_in rows the_ends = one_of (name_of the_ends) rows
+text_in rows the_sample = one_of (name_of the_sample) rows
+text_in rows the_seed = one_of (name_of the_seed) rows
+text_in rows the_explain = one_of (name_of the_explain) rows
+text_in rows the_group = one_of (name_of the_group) rows
 text_in rows the_until = first_of (name_of the_until) rows
 text_in rows the_witness = one_of (name_of the_witness) rows
 text_in rows the_complete = one_of (name_of the_complete) rows
 text_in rows the_piece = one_of (name_of the_piece) rows
 text_in rows the_pieces = one_of (name_of the_pieces) rows
+text_in rows the_leaf = one_of (name_of the_leaf) rows
+text_in rows the_choices = first_of (name_of the_choices) rows
 
 abbrev pub found_in : Tool → List Row → Option Asked
 found_in t rows = found t (text_in rows)

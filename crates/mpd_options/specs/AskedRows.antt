@@ -1,7 +1,8 @@
 -- Worked rows of what words ask for.
-use Rattle.std.specs.Prelude.{◌≡◌, ℕ, Bool, true, false, List, [], ◌∷◌, map, Option, Some, None, codes, refl}
+use Rattle.std.specs.Prelude.{◌≡◌, ℕ, Bool, true, false, List, [], ◌∷◌, map, Option, Some, None, is_some, codes, refl}
+use Rattle.std.specs.Option.{unwrap_or}
 use Rattle.std.specs.Str.{chars}
-use Rattle.mpd_options.specs.Asked.{Asked, plain, trace, run, serve, check, verify, meant}
+use Rattle.mpd_options.specs.Asked.{Asked, plain, trace, run, serve, check, verify, tell, meant}
 use Rattle.mpd_options.specs.declared.options.CheckOptions.{CheckOptions}
 
 abbrev Row : Type 0
@@ -25,11 +26,30 @@ wastes words = (codes "serve" ∷ codes "a" ∷ words, None)
 
 -- how deadlocks are looked for where nothing is said of it
 abbrev by_default : CheckOptions
-by_default = record { modes = None; runs = 1000; fuel = 100000; split = 1; workers = 4; until_bad = false; witness = false; complete = false; piece = None; count_pieces = false }
+by_default =
+    record {
+      modes = None;
+      runs = 1000;
+      runs_given = false;
+      fuel = 100000;
+      split = 1;
+      split_given = false;
+      workers = 4;
+      ends = false;
+      sample = None;
+      seed = None;
+      explain = false;
+      group = false;
+      until_bad = false;
+      witness = false;
+      complete = false;
+      piece = None;
+      count_pieces = false;
+    }
 
--- words behind `check`, and what they ask for of the file `a`
-abbrev asks : List (List ℕ) → List ℕ → ℕ → ℕ → Bool → Row
-asks words mode runs fuel witness = (codes "check" ∷ words, Some (check (codes "a") mode (record by_default { runs = runs; fuel = fuel; witness = witness })))
+-- words behind `check`, and what they ask for of the file `a`, with how many runs they name
+abbrev asks : List (List ℕ) → List ℕ → Option ℕ → ℕ → Bool → Row
+asks words mode runs fuel witness = (codes "check" ∷ words, Some (check (codes "a") mode (record by_default { runs = unwrap_or runs 1000; runs_given = is_some runs; fuel = fuel; witness = witness })))
 
 -- words behind `check a` that make them ask for nothing
 abbrev spoils : List (List ℕ) → Row
@@ -37,11 +57,23 @@ spoils words = (codes "check" ∷ codes "a" ∷ words, None)
 
 -- words behind `verify`, and the files and the mode that they name
 abbrev verifies : List (List ℕ) → List ℕ → List ℕ → List ℕ → Row
-verifies words file witness mode = (codes "verify" ∷ words, Some (verify file witness mode))
+verifies words file witness mode = (codes "verify" ∷ words, Some (verify file witness mode None))
+
+-- words behind `verify a b`, and the leaf that they name
+abbrev picks : List (List ℕ) → ℕ → Row
+picks words leaf = (codes "verify" ∷ codes "a" ∷ codes "b" ∷ words, Some (verify (codes "a") (codes "b") (codes "rendezvous") (Some leaf)))
 
 -- words behind `verify a b` that make them ask for nothing
 abbrev undoes : List (List ℕ) → Row
 undoes words = (codes "verify" ∷ codes "a" ∷ codes "b" ∷ words, None)
+
+-- words behind `words`, and the choices, the mode and the fuel that they ask for, of the file `a`
+abbrev tells : List (List ℕ) → List ℕ → List ℕ → ℕ → Row
+tells words choices mode fuel = (codes "words" ∷ words, Some (tell (codes "a") choices mode fuel))
+
+-- words behind `words a` that make them ask for nothing
+abbrev loses : List (List ℕ) → Row
+loses words = (codes "words" ∷ codes "a" ∷ words, None)
 
 -- words that ask for nothing
 abbrev nothing : List (List ℕ) → Row
@@ -176,23 +208,23 @@ rows =
     ∷ nothing (codes "run" ∷ codes "a" ∷ codes "--port" ∷ codes "4000" ∷ codes "--clients" ∷ codes "2" ∷ [])
     ∷ nothing (codes "trace" ∷ codes "a" ∷ codes "--port" ∷ codes "4000" ∷ [])
     ∷ nothing (codes "check" ∷ codes "a" ∷ codes "--clients" ∷ codes "2" ∷ [])
-    ∷ asks (codes "a" ∷ []) (codes "rendezvous") 1000 100000 false
-    ∷ asks (codes "a" ∷ codes "--witness" ∷ []) (codes "rendezvous") 1000 100000 true
-    ∷ asks (codes "--witness" ∷ codes "a" ∷ []) (codes "rendezvous") 1000 100000 true
-    ∷ asks (codes "--mode" ∷ codes "b" ∷ codes "a" ∷ []) (codes "b") 1000 100000 false
-    ∷ asks (codes "a" ∷ codes "--runs" ∷ codes "1" ∷ []) (codes "rendezvous") 1 100000 false
-    ∷ asks (codes "a" ∷ codes "--runs=65536" ∷ []) (codes "rendezvous") 65536 100000 false
-    ∷ asks (codes "a" ∷ codes "--runs" ∷ codes "+5" ∷ []) (codes "rendezvous") 5 100000 false
-    ∷ asks (codes "a" ∷ codes "--runs=0007" ∷ []) (codes "rendezvous") 7 100000 false
-    ∷ asks (codes "a" ∷ codes "--runs=+00000000000000000000000012" ∷ []) (codes "rendezvous") 12 100000 false
-    ∷ asks (codes "a" ∷ codes "--fuel" ∷ codes "1" ∷ []) (codes "rendezvous") 1000 1 false
-    ∷ asks (codes "--fuel=1000000" ∷ codes "a" ∷ []) (codes "rendezvous") 1000 1000000 false
-    ∷ asks (codes "--fuel" ∷ codes "20" ∷ codes "--witness" ∷ codes "--runs" ∷ codes "30" ∷ codes "--mode=buffered" ∷ codes "--" ∷ codes "a" ∷ []) (codes "buffered") 30 20 true
+    ∷ asks (codes "a" ∷ []) (codes "rendezvous") None 100000 false
+    ∷ asks (codes "a" ∷ codes "--witness" ∷ []) (codes "rendezvous") None 100000 true
+    ∷ asks (codes "--witness" ∷ codes "a" ∷ []) (codes "rendezvous") None 100000 true
+    ∷ asks (codes "--mode" ∷ codes "b" ∷ codes "a" ∷ []) (codes "b") None 100000 false
+    ∷ asks (codes "a" ∷ codes "--runs" ∷ codes "1" ∷ []) (codes "rendezvous") (Some 1) 100000 false
+    ∷ asks (codes "a" ∷ codes "--runs=65536" ∷ []) (codes "rendezvous") (Some 65536) 100000 false
+    ∷ asks (codes "a" ∷ codes "--runs" ∷ codes "+5" ∷ []) (codes "rendezvous") (Some 5) 100000 false
+    ∷ asks (codes "a" ∷ codes "--runs=0007" ∷ []) (codes "rendezvous") (Some 7) 100000 false
+    ∷ asks (codes "a" ∷ codes "--runs=+00000000000000000000000012" ∷ []) (codes "rendezvous") (Some 12) 100000 false
+    ∷ asks (codes "a" ∷ codes "--fuel" ∷ codes "1" ∷ []) (codes "rendezvous") None 1 false
+    ∷ asks (codes "--fuel=1000000" ∷ codes "a" ∷ []) (codes "rendezvous") None 1000000 false
+    ∷ asks (codes "--fuel" ∷ codes "20" ∷ codes "--witness" ∷ codes "--runs" ∷ codes "30" ∷ codes "--mode=buffered" ∷ codes "--" ∷ codes "a" ∷ []) (codes "buffered") (Some 30) 20 true
     ∷ (codes "check" ∷ codes "--" ∷ codes "--witness" ∷ [], Some (check (codes "--witness") (codes "rendezvous") by_default))
     ∷ (codes "check" ∷ codes "check" ∷ [], Some (check (codes "check") (codes "rendezvous") by_default))
     ∷ (codes "check" ∷ codes "--mode" ∷ codes "trace" ∷ codes "trace" ∷ [], Some (check (codes "trace") (codes "trace") by_default))
     ∷ (codes "check" ∷ codes "a" ∷ codes "--complete" ∷ [], Some (check (codes "a") (codes "rendezvous") (record by_default { complete = true })))
-    ∷ (codes "check" ∷ codes "--complete" ∷ codes "--witness" ∷ codes "a" ∷ codes "--runs=5" ∷ [], Some (check (codes "a") (codes "rendezvous") (record by_default { runs = 5; witness = true; complete = true })))
+    ∷ (codes "check" ∷ codes "--complete" ∷ codes "--witness" ∷ codes "a" ∷ codes "--runs=5" ∷ [], Some (check (codes "a") (codes "rendezvous") (record by_default { runs = 5; runs_given = true; witness = true; complete = true })))
     ∷ names (codes "check" ∷ []) (codes "check") (codes "rendezvous")
     ∷ nothing (codes "check" ∷ [])
     ∷ nothing (codes "check" ∷ codes "--witness" ∷ [])
@@ -282,6 +314,93 @@ rows =
     ∷ undoes (codes "--help" ∷ [])
     ∷ undoes (codes "-h" ∷ [])
     ∷ names (codes "verify" ∷ []) (codes "verify") (codes "rendezvous")
+    ∷ picks (codes "--leaf" ∷ codes "0" ∷ []) 0
+    ∷ picks (codes "--leaf" ∷ codes "67108863" ∷ []) 67108863
+    ∷ picks (codes "--leaf=3" ∷ []) 3
+    ∷ picks (codes "--leaf=+0012" ∷ []) 12
+    ∷ picks (codes "--leaf" ∷ codes "5" ∷ codes "--" ∷ []) 5
+    ∷ (codes "verify" ∷ codes "--leaf" ∷ codes "4" ∷ codes "a" ∷ codes "b" ∷ [], Some (verify (codes "a") (codes "b") (codes "rendezvous") (Some 4)))
+    ∷ (codes "verify" ∷ codes "a" ∷ codes "--leaf=4" ∷ codes "--mode" ∷ codes "c" ∷ codes "--" ∷ codes "b" ∷ [], Some (verify (codes "a") (codes "b") (codes "c") (Some 4)))
+    ∷ (codes "verify" ∷ codes "a" ∷ codes "--" ∷ codes "--leaf" ∷ [], Some (verify (codes "a") (codes "--leaf") (codes "rendezvous") None))
+    ∷ undoes (codes "--leaf" ∷ [])
+    ∷ undoes (codes "--leaf=" ∷ [])
+    ∷ undoes (codes "--leaf" ∷ codes "67108864" ∷ [])
+    ∷ undoes (codes "--leaf=99999999999999999999" ∷ [])
+    ∷ undoes (codes "--leaf" ∷ codes "-1" ∷ [])
+    ∷ undoes (codes "--leaf=-1" ∷ [])
+    ∷ undoes (codes "--leaf" ∷ codes "one" ∷ [])
+    ∷ undoes (codes "--leaf=1.0" ∷ [])
+    ∷ undoes (codes "--leaf" ∷ codes "--mode" ∷ codes "c" ∷ [])
+    ∷ undoes (codes "--leaf" ∷ codes "1" ∷ codes "--leaf" ∷ codes "1" ∷ [])
+    ∷ undoes (codes "--leaf=1" ∷ codes "--leaf=2" ∷ [])
+    ∷ undoes (codes "--leafs" ∷ codes "1" ∷ [])
+    ∷ undoes (codes "--lea" ∷ codes "1" ∷ [])
+    ∷ undoes (codes "-l" ∷ codes "1" ∷ [])
+    ∷ nothing (codes "verify" ∷ codes "a" ∷ codes "--leaf" ∷ codes "1" ∷ [])
+    ∷ nothing (codes "verify" ∷ codes "--leaf" ∷ codes "a" ∷ codes "b" ∷ [])
+    ∷ nothing (codes "trace" ∷ codes "a" ∷ codes "--leaf" ∷ codes "1" ∷ [])
+    ∷ nothing (codes "run" ∷ codes "a" ∷ codes "--leaf=1" ∷ [])
+    ∷ nothing (codes "check" ∷ codes "a" ∷ codes "--leaf" ∷ codes "1" ∷ [])
+    ∷ nothing (codes "--leaf" ∷ codes "1" ∷ codes "verify" ∷ codes "a" ∷ codes "b" ∷ [])
+    ∷ tells (codes "a" ∷ codes "--choices" ∷ codes "0 1 0" ∷ []) (codes "0 1 0") (codes "rendezvous") 100000
+    ∷ tells (codes "a" ∷ codes "--choices" ∷ codes "" ∷ []) [] (codes "rendezvous") 100000
+    ∷ tells (codes "--choices" ∷ codes "3" ∷ codes "a" ∷ []) (codes "3") (codes "rendezvous") 100000
+    ∷ tells (codes "--choices=0 1" ∷ codes "a" ∷ []) (codes "0 1") (codes "rendezvous") 100000
+    ∷ tells (codes "a" ∷ codes "--choices=" ∷ []) [] (codes "rendezvous") 100000
+    ∷ tells (codes "a" ∷ codes "--choices=0=1" ∷ []) (codes "0=1") (codes "rendezvous") 100000
+    ∷ tells (codes "--choices" ∷ codes "two" ∷ codes "a" ∷ []) (codes "two") (codes "rendezvous") 100000
+    ∷ tells (codes "--choices" ∷ codes "words" ∷ codes "a" ∷ []) (codes "words") (codes "rendezvous") 100000
+    ∷ tells (codes "a" ∷ codes "--choices" ∷ codes "-" ∷ []) (codes "-") (codes "rendezvous") 100000
+    ∷ tells (codes "a" ∷ codes "--choices" ∷ codes "0" ∷ codes "--fuel" ∷ codes "1" ∷ []) (codes "0") (codes "rendezvous") 1
+    ∷ tells (codes "--fuel=1000000" ∷ codes "a" ∷ codes "--choices" ∷ codes "0" ∷ []) (codes "0") (codes "rendezvous") 1000000
+    ∷ tells (codes "--fuel" ∷ codes "+020" ∷ codes "--mode" ∷ codes "buffered" ∷ codes "--choices" ∷ codes "5" ∷ codes "--" ∷ codes "a" ∷ []) (codes "5") (codes "buffered") 20
+    ∷ tells (codes "--choices" ∷ codes "1" ∷ codes "--mode=" ∷ codes "a" ∷ codes "--" ∷ []) (codes "1") [] 100000
+    ∷ (codes "words" ∷ codes "--choices" ∷ codes "1" ∷ codes "--" ∷ codes "--choices" ∷ [], Some (tell (codes "--choices") (codes "1") (codes "rendezvous") 100000))
+    ∷ (codes "words" ∷ codes "words" ∷ codes "--choices" ∷ codes "words" ∷ [], Some (tell (codes "words") (codes "words") (codes "rendezvous") 100000))
+    ∷ (codes "words" ∷ codes "" ∷ codes "--choices=2" ∷ [], Some (tell [] (codes "2") (codes "rendezvous") 100000))
+    ∷ names (codes "words" ∷ []) (codes "words") (codes "rendezvous")
+    ∷ nothing (codes "words" ∷ [])
+    ∷ nothing (codes "words" ∷ codes "--choices" ∷ codes "0" ∷ [])
+    ∷ nothing (codes "words" ∷ codes "--choices" ∷ codes "a" ∷ [])
+    ∷ nothing (codes "words" ∷ codes "--choices" ∷ codes "0" ∷ codes "--" ∷ [])
+    ∷ loses ([])
+    ∷ loses (codes "--fuel" ∷ codes "5" ∷ [])
+    ∷ loses (codes "--mode" ∷ codes "buffered" ∷ [])
+    ∷ loses (codes "--choices" ∷ [])
+    ∷ loses (codes "--choices" ∷ codes "--" ∷ codes "0" ∷ [])
+    ∷ loses (codes "--choices" ∷ codes "-1" ∷ [])
+    ∷ loses (codes "--choices" ∷ codes "--fuel" ∷ codes "5" ∷ [])
+    ∷ loses (codes "--choices" ∷ codes "0" ∷ codes "b" ∷ [])
+    ∷ loses (codes "--choices" ∷ codes "0" ∷ codes "--" ∷ codes "b" ∷ [])
+    ∷ loses (codes "--choices" ∷ codes "0" ∷ codes "1" ∷ [])
+    ∷ loses (codes "--choices" ∷ codes "0" ∷ codes "--choices" ∷ codes "0" ∷ [])
+    ∷ loses (codes "--choices=0" ∷ codes "--choices=1" ∷ [])
+    ∷ loses (codes "--" ∷ codes "--choices" ∷ codes "0" ∷ [])
+    ∷ loses (codes "--choices" ∷ codes "0" ∷ codes "--fuel" ∷ codes "0" ∷ [])
+    ∷ loses (codes "--choices" ∷ codes "0" ∷ codes "--fuel" ∷ codes "1000001" ∷ [])
+    ∷ loses (codes "--choices" ∷ codes "0" ∷ codes "--fuel=ten" ∷ [])
+    ∷ loses (codes "--choices" ∷ codes "0" ∷ codes "--fuel=" ∷ [])
+    ∷ loses (codes "--choices" ∷ codes "0" ∷ codes "--fuel" ∷ [])
+    ∷ loses (codes "--choices" ∷ codes "0" ∷ codes "--fuel=5" ∷ codes "--fuel=5" ∷ [])
+    ∷ loses (codes "--choices" ∷ codes "0" ∷ codes "--mode=b" ∷ codes "--mode=b" ∷ [])
+    ∷ loses (codes "--choice" ∷ codes "0" ∷ [])
+    ∷ loses (codes "-c" ∷ codes "0" ∷ [])
+    ∷ loses (codes "--choices" ∷ codes "0" ∷ codes "--runs" ∷ codes "5" ∷ [])
+    ∷ loses (codes "--choices" ∷ codes "0" ∷ codes "--witness" ∷ [])
+    ∷ loses (codes "--choices" ∷ codes "0" ∷ codes "--seed" ∷ codes "5" ∷ [])
+    ∷ loses (codes "--choices" ∷ codes "0" ∷ codes "--leaf" ∷ codes "1" ∷ [])
+    ∷ loses (codes "--choices" ∷ codes "0" ∷ codes "--help" ∷ [])
+    ∷ nothing (codes "words" ∷ codes "-h" ∷ [])
+    ∷ nothing (codes "help" ∷ codes "words" ∷ [])
+    ∷ nothing (codes "word" ∷ codes "a" ∷ codes "--choices" ∷ codes "0" ∷ [])
+    ∷ nothing (codes "Words" ∷ codes "a" ∷ codes "--choices" ∷ codes "0" ∷ [])
+    ∷ nothing (codes "words=a" ∷ codes "--choices" ∷ codes "0" ∷ [])
+    ∷ nothing (codes "--choices" ∷ codes "0" ∷ codes "words" ∷ codes "a" ∷ [])
+    ∷ nothing (codes "--" ∷ codes "words" ∷ codes "a" ∷ codes "--choices" ∷ codes "0" ∷ [])
+    ∷ nothing (codes "trace" ∷ codes "a" ∷ codes "--choices" ∷ codes "0" ∷ [])
+    ∷ nothing (codes "run" ∷ codes "a" ∷ codes "--choices" ∷ codes "0" ∷ [])
+    ∷ nothing (codes "check" ∷ codes "a" ∷ codes "--choices" ∷ codes "0" ∷ [])
+    ∷ nothing (codes "verify" ∷ codes "a" ∷ codes "b" ∷ codes "--choices=0" ∷ [])
     ∷ []
 
 pub worked : map (λ (row : Row). meant row.0) rows ≡ map (λ (row : Row). row.1) rows

@@ -1,4 +1,5 @@
--- Worked rows of what the words behind `check` ask for, of the options that try several modes, that cut it into pieces and that end it, and of their faults.
+-- Worked rows of what the words behind `check` ask for, of the options that try several modes, that cut it into pieces, that choose which runs are listed and how they are
+-- told, and that end it, and of their faults.
 use Rattle.std.specs.Prelude.{◌≡◌, ℕ, true, false, List, [], ◌∷◌, map, Option, Some, None, codes, refl}
 use Rattle.std.specs.Char.{encode_utf8}
 use Rattle.std.specs.Str.{chars}
@@ -17,7 +18,26 @@ Row = List (List ℕ) × Option Asked
 
 -- how deadlocks are looked for where nothing is said of it
 abbrev by_default : CheckOptions
-by_default = record { modes = None; runs = 1000; fuel = 100000; split = 1; workers = 4; until_bad = false; witness = false; complete = false; piece = None; count_pieces = false }
+by_default =
+    record {
+      modes = None;
+      runs = 1000;
+      runs_given = false;
+      fuel = 100000;
+      split = 1;
+      split_given = false;
+      workers = 4;
+      ends = false;
+      sample = None;
+      seed = None;
+      explain = false;
+      group = false;
+      until_bad = false;
+      witness = false;
+      complete = false;
+      piece = None;
+      count_pieces = false;
+    }
 
 -- words behind `check a`, and how they ask for it to be looked for
 abbrev seeks : List (List ℕ) → CheckOptions → Row
@@ -33,10 +53,10 @@ nothing words = (words, None)
 
 abbrev rows : List Row
 rows =
-    seeks (codes "--split" ∷ codes "0" ∷ []) (record by_default { split = 0 })
-    ∷ seeks (codes "--split" ∷ codes "8" ∷ []) (record by_default { split = 8 })
-    ∷ seeks (codes "--split=1" ∷ []) (record by_default { split = 1 })
-    ∷ seeks (codes "--split=+03" ∷ []) (record by_default { split = 3 })
+    seeks (codes "--split" ∷ codes "0" ∷ []) (record by_default { split = 0; split_given = true })
+    ∷ seeks (codes "--split" ∷ codes "8" ∷ []) (record by_default { split = 8; split_given = true })
+    ∷ seeks (codes "--split=1" ∷ []) (record by_default { split = 1; split_given = true })
+    ∷ seeks (codes "--split=+03" ∷ []) (record by_default { split = 3; split_given = true })
     ∷ seeks (codes "--workers" ∷ codes "1" ∷ []) (record by_default { workers = 1 })
     ∷ seeks (codes "--workers=0" ∷ []) (record by_default { workers = 0 })
     ∷ seeks (codes "--workers" ∷ codes "17" ∷ []) (record by_default { workers = 17 })
@@ -49,10 +69,10 @@ rows =
     ∷ seeks (codes "--pieces" ∷ []) (record by_default { count_pieces = true })
     ∷ seeks (codes "--piece" ∷ codes "5" ∷ codes "--pieces" ∷ []) (record by_default { piece = Some 5; count_pieces = true })
     ∷ seeks (codes "--pieces" ∷ codes "--piece=5" ∷ []) (record by_default { piece = Some 5; count_pieces = true })
-    ∷ seeks (codes "--workers" ∷ codes "2" ∷ codes "--split" ∷ codes "3" ∷ codes "--fuel" ∷ codes "4" ∷ codes "--runs" ∷ codes "5" ∷ codes "--piece" ∷ codes "6" ∷ []) (record by_default { workers = 2; split = 3; fuel = 4; runs = 5; piece = Some 6 })
+    ∷ seeks (codes "--workers" ∷ codes "2" ∷ codes "--split" ∷ codes "3" ∷ codes "--fuel" ∷ codes "4" ∷ codes "--runs" ∷ codes "5" ∷ codes "--piece" ∷ codes "6" ∷ []) (record by_default { workers = 2; split = 3; split_given = true; fuel = 4; runs = 5; runs_given = true; piece = Some 6 })
     ∷ seeks (codes "--witness" ∷ codes "--pieces" ∷ codes "--complete" ∷ []) (record by_default { witness = true; count_pieces = true; complete = true })
-    ∷ seeks (codes "--split" ∷ codes "2" ∷ codes "--" ∷ []) (record by_default { split = 2 })
-    ∷ (codes "check" ∷ codes "--split" ∷ codes "2" ∷ codes "a" ∷ [], Some (check (codes "a") (codes "rendezvous") (record by_default { split = 2 })))
+    ∷ seeks (codes "--split" ∷ codes "2" ∷ codes "--" ∷ []) (record by_default { split = 2; split_given = true })
+    ∷ (codes "check" ∷ codes "--split" ∷ codes "2" ∷ codes "a" ∷ [], Some (check (codes "a") (codes "rendezvous") (record by_default { split = 2; split_given = true })))
     ∷ (codes "check" ∷ codes "--workers=2" ∷ codes "--mode=buffered" ∷ codes "--" ∷ codes "a" ∷ [], Some (check (codes "a") (codes "buffered") (record by_default { workers = 2 })))
     ∷ (codes "check" ∷ codes "--pieces" ∷ codes "--" ∷ codes "--pieces" ∷ [], Some (check (codes "--pieces") (codes "rendezvous") (record by_default { count_pieces = true })))
     ∷ (codes "check" ∷ codes "--piece" ∷ codes "1" ∷ codes "--" ∷ codes "--piece" ∷ [], Some (check (codes "--piece") (codes "rendezvous") (record by_default { piece = Some 1 })))
@@ -149,6 +169,79 @@ rows =
     ∷ nothing (codes "check" ∷ codes "--until" ∷ codes "deadlock" ∷ [])
     ∷ nothing (codes "trace" ∷ codes "a" ∷ codes "--until" ∷ codes "deadlock" ∷ [])
     ∷ nothing (codes "run" ∷ codes "a" ∷ codes "--until=deadlock" ∷ [])
+    ∷ seeks (codes "--ends" ∷ []) (record by_default { ends = true })
+    ∷ seeks (codes "--explain" ∷ []) (record by_default { explain = true })
+    ∷ seeks (codes "--group" ∷ []) (record by_default { group = true })
+    ∷ seeks (codes "--group" ∷ codes "--explain" ∷ codes "--witness" ∷ codes "--ends" ∷ []) (record by_default { ends = true; explain = true; group = true; witness = true })
+    ∷ seeks (codes "--ends" ∷ codes "--runs" ∷ codes "7" ∷ codes "--split" ∷ codes "2" ∷ []) (record by_default { ends = true; runs = 7; runs_given = true; split = 2; split_given = true })
+    ∷ seeks (codes "--runs" ∷ codes "1000" ∷ []) (record by_default { runs = 1000; runs_given = true })
+    ∷ seeks (codes "--sample" ∷ codes "1" ∷ []) (record by_default { sample = Some 1 })
+    ∷ seeks (codes "--sample" ∷ codes "65536" ∷ []) (record by_default { sample = Some 65536 })
+    ∷ seeks (codes "--sample=20" ∷ []) (record by_default { sample = Some 20 })
+    ∷ seeks (codes "--sample=+010" ∷ []) (record by_default { sample = Some 10 })
+    ∷ seeks (codes "--seed" ∷ codes "0" ∷ []) (record by_default { seed = Some 0 })
+    ∷ seeks (codes "--seed=18446744073709551615" ∷ []) (record by_default { seed = Some 18446744073709551615 })
+    ∷ seeks (codes "--seed=+007" ∷ []) (record by_default { seed = Some 7 })
+    ∷ seeks (codes "--sample" ∷ codes "20" ∷ codes "--seed" ∷ codes "3" ∷ []) (record by_default { sample = Some 20; seed = Some 3 })
+    ∷ seeks (codes "--seed=3" ∷ codes "--group" ∷ codes "--sample=20" ∷ []) (record by_default { sample = Some 20; seed = Some 3; group = true })
+    ∷ seeks (codes "--sample" ∷ codes "2" ∷ codes "--ends" ∷ codes "--runs" ∷ codes "3" ∷ codes "--split" ∷ codes "4" ∷ codes "--piece" ∷ codes "5" ∷ codes "--pieces" ∷ codes "--modes" ∷ codes "6" ∷ []) (record by_default { sample = Some 2; ends = true; runs = 3; runs_given = true; split = 4; split_given = true; piece = Some 5; count_pieces = true; modes = Some 6 })
+    ∷ (codes "check" ∷ codes "--sample" ∷ codes "2" ∷ codes "--mode=buffered" ∷ codes "a" ∷ [], Some (check (codes "a") (codes "buffered") (record by_default { sample = Some 2 })))
+    ∷ (codes "check" ∷ codes "--ends" ∷ codes "--" ∷ codes "--ends" ∷ [], Some (check (codes "--ends") (codes "rendezvous") (record by_default { ends = true })))
+    ∷ (codes "check" ∷ codes "--seed" ∷ codes "9" ∷ codes "--" ∷ codes "--sample" ∷ [], Some (check (codes "--sample") (codes "rendezvous") (record by_default { seed = Some 9 })))
+    ∷ spoils (codes "--ends=true" ∷ [])
+    ∷ spoils (codes "--ends=" ∷ [])
+    ∷ spoils (codes "--ends" ∷ codes "--ends" ∷ [])
+    ∷ spoils (codes "--ends" ∷ codes "1" ∷ [])
+    ∷ spoils (codes "--explain=true" ∷ [])
+    ∷ spoils (codes "--explain=" ∷ [])
+    ∷ spoils (codes "--explain" ∷ codes "--explain" ∷ [])
+    ∷ spoils (codes "--explain" ∷ codes "1" ∷ [])
+    ∷ spoils (codes "--group=true" ∷ [])
+    ∷ spoils (codes "--group=" ∷ [])
+    ∷ spoils (codes "--group" ∷ codes "--group" ∷ [])
+    ∷ spoils (codes "--group" ∷ codes "1" ∷ [])
+    ∷ spoils (codes "--end" ∷ [])
+    ∷ spoils (codes "--explains" ∷ [])
+    ∷ spoils (codes "--groups" ∷ [])
+    ∷ spoils (codes "-e" ∷ [])
+    ∷ spoils (codes "-g" ∷ [])
+    ∷ spoils (codes "--sample" ∷ [])
+    ∷ spoils (codes "--sample=" ∷ [])
+    ∷ spoils (codes "--sample" ∷ codes "65537" ∷ [])
+    ∷ spoils (codes "--sample" ∷ codes "-1" ∷ [])
+    ∷ spoils (codes "--sample=-1" ∷ [])
+    ∷ spoils (codes "--sample" ∷ codes "ten" ∷ [])
+    ∷ spoils (codes "--sample=1.0" ∷ [])
+    ∷ spoils (codes "--sample" ∷ codes "--ends" ∷ [])
+    ∷ spoils (codes "--sample" ∷ codes "5" ∷ codes "--sample" ∷ codes "5" ∷ [])
+    ∷ spoils (codes "--sample=5" ∷ codes "--sample=6" ∷ [])
+    ∷ spoils (codes "--sampl" ∷ codes "5" ∷ [])
+    ∷ spoils (codes "--seed" ∷ [])
+    ∷ spoils (codes "--seed=" ∷ [])
+    ∷ spoils (codes "--seed" ∷ codes "18446744073709551616" ∷ [])
+    ∷ spoils (codes "--seed" ∷ codes "-1" ∷ [])
+    ∷ spoils (codes "--seed=-1" ∷ [])
+    ∷ spoils (codes "--seed" ∷ codes "ten" ∷ [])
+    ∷ spoils (codes "--seed=1.0" ∷ [])
+    ∷ spoils (codes "--seed" ∷ codes "--ends" ∷ [])
+    ∷ spoils (codes "--seed" ∷ codes "5" ∷ codes "--seed" ∷ codes "5" ∷ [])
+    ∷ spoils (codes "--seed=5" ∷ codes "--seed=6" ∷ [])
+    ∷ spoils (codes "--see" ∷ codes "5" ∷ [])
+    ∷ spoils (codes "--sample" ∷ codes "0" ∷ [])
+    ∷ spoils (codes "--sample=99999999999999999999" ∷ [])
+    ∷ spoils (codes "--sample" ∷ codes "5" ∷ codes "--seed" ∷ [])
+    ∷ nothing (codes "check" ∷ codes "--ends" ∷ [])
+    ∷ nothing (codes "check" ∷ codes "--sample" ∷ codes "5" ∷ [])
+    ∷ nothing (codes "check" ∷ codes "--seed" ∷ codes "a" ∷ [])
+    ∷ nothing (codes "trace" ∷ codes "a" ∷ codes "--ends" ∷ [])
+    ∷ nothing (codes "run" ∷ codes "a" ∷ codes "--explain" ∷ [])
+    ∷ nothing (codes "serve" ∷ codes "a" ∷ codes "--port" ∷ codes "1" ∷ codes "--clients" ∷ codes "1" ∷ codes "--group" ∷ [])
+    ∷ nothing (codes "verify" ∷ codes "a" ∷ codes "b" ∷ codes "--sample" ∷ codes "5" ∷ [])
+    ∷ nothing (codes "verify" ∷ codes "a" ∷ codes "b" ∷ codes "--explain" ∷ [])
+    ∷ nothing (codes "words" ∷ codes "a" ∷ codes "--choices" ∷ codes "0" ∷ codes "--ends" ∷ [])
+    ∷ nothing (codes "trace" ∷ codes "a" ∷ codes "--seed=5" ∷ [])
+    ∷ nothing (codes "--ends" ∷ codes "check" ∷ codes "a" ∷ [])
+    ∷ nothing (codes "--sample" ∷ codes "5" ∷ codes "check" ∷ codes "a" ∷ [])
     ∷ []
 
 pub worked_checks : map (λ (row : Row). meant row.0) rows ≡ map (λ (row : Row). row.1) rows
@@ -237,6 +330,43 @@ fault_rows =
     ∷ wrong kind.InvalidValue (codes "check" ∷ codes "a" ∷ codes "--until" ∷ codes "x" ∷ codes "--help" ∷ [])
     ∷ wrong kind.ArgumentConflict (codes "check" ∷ codes "a" ∷ codes "--until" ∷ codes "deadlock" ∷ codes "--until" ∷ codes "deadlock" ∷ [])
     ∷ wrong kind.ArgumentConflict (codes "check" ∷ codes "a" ∷ codes "--until=deadlock" ∷ codes "--until=x" ∷ [])
+    ∷ help (codes "check" ∷ codes "a" ∷ codes "--ends" ∷ codes "--sample" ∷ codes "5" ∷ codes "--help" ∷ [])
+    ∷ help (codes "check" ∷ codes "--explain" ∷ codes "--group" ∷ codes "-h" ∷ [])
+    ∷ wrong kind.UnknownArgument (codes "trace" ∷ codes "a" ∷ codes "--ends" ∷ [])
+    ∷ wrong kind.UnknownArgument (codes "run" ∷ codes "a" ∷ codes "--explain" ∷ [])
+    ∷ wrong kind.UnknownArgument (codes "verify" ∷ codes "a" ∷ codes "b" ∷ codes "--group" ∷ [])
+    ∷ wrong kind.UnknownArgument (codes "words" ∷ codes "a" ∷ codes "--choices" ∷ codes "0" ∷ codes "--sample" ∷ codes "5" ∷ [])
+    ∷ wrong kind.UnknownArgument (codes "--seed" ∷ codes "5" ∷ codes "check" ∷ codes "a" ∷ [])
+    ∷ wrong kind.UnknownArgument (codes "check" ∷ codes "a" ∷ codes "--end" ∷ [])
+    ∷ wrong kind.UnknownArgument (codes "check" ∷ codes "a" ∷ codes "--samples" ∷ codes "5" ∷ [])
+    ∷ wrong kind.UnknownArgument (codes "check" ∷ codes "a" ∷ codes "--sample" ∷ codes "-1" ∷ [])
+    ∷ wrong kind.UnknownArgument (codes "check" ∷ codes "a" ∷ codes "--seed" ∷ codes "-1" ∷ [])
+    ∷ wrong kind.UnknownArgument (codes "check" ∷ codes "a" ∷ codes "--ends" ∷ codes "b" ∷ [])
+    ∷ wrong kind.UnknownArgument (codes "check" ∷ codes "a" ∷ codes "-e" ∷ [])
+    ∷ wrong kind.MissingRequiredArgument (codes "check" ∷ codes "--ends" ∷ [])
+    ∷ wrong kind.MissingRequiredArgument (codes "check" ∷ codes "--sample" ∷ codes "5" ∷ codes "--seed" ∷ codes "6" ∷ [])
+    ∷ wrong kind.MissingRequiredArgument (codes "check" ∷ codes "--group" ∷ codes "--explain" ∷ [])
+    ∷ wrong kind.InvalidValue (codes "check" ∷ codes "a" ∷ codes "--sample" ∷ [])
+    ∷ wrong kind.InvalidValue (codes "check" ∷ codes "a" ∷ codes "--seed" ∷ [])
+    ∷ wrong kind.InvalidValue (codes "check" ∷ codes "a" ∷ codes "--sample" ∷ codes "--seed" ∷ codes "5" ∷ [])
+    ∷ wrong kind.InvalidValue (codes "check" ∷ codes "a" ∷ codes "--seed" ∷ codes "--ends" ∷ [])
+    ∷ wrong kind.TooManyValues (codes "check" ∷ codes "a" ∷ codes "--ends=true" ∷ [])
+    ∷ wrong kind.TooManyValues (codes "check" ∷ codes "a" ∷ codes "--explain=1" ∷ [])
+    ∷ wrong kind.TooManyValues (codes "check" ∷ codes "a" ∷ codes "--group=true" ∷ [])
+    ∷ wrong kind.ValueValidation (codes "check" ∷ codes "a" ∷ codes "--sample" ∷ codes "0" ∷ [])
+    ∷ wrong kind.ValueValidation (codes "check" ∷ codes "a" ∷ codes "--sample=65537" ∷ [])
+    ∷ wrong kind.ValueValidation (codes "check" ∷ codes "a" ∷ codes "--sample=ten" ∷ [])
+    ∷ wrong kind.ValueValidation (codes "check" ∷ codes "a" ∷ codes "--sample=" ∷ [])
+    ∷ wrong kind.ValueValidation (codes "check" ∷ codes "--sample" ∷ codes "a" ∷ [])
+    ∷ wrong kind.ValueValidation (codes "check" ∷ codes "a" ∷ codes "--seed" ∷ codes "18446744073709551616" ∷ [])
+    ∷ wrong kind.ValueValidation (codes "check" ∷ codes "a" ∷ codes "--seed=-1" ∷ [])
+    ∷ wrong kind.ValueValidation (codes "check" ∷ codes "a" ∷ codes "--seed=" ∷ [])
+    ∷ wrong kind.ValueValidation (codes "check" ∷ codes "a" ∷ codes "--sample" ∷ codes "0" ∷ codes "--help" ∷ [])
+    ∷ wrong kind.ArgumentConflict (codes "check" ∷ codes "a" ∷ codes "--ends" ∷ codes "--ends" ∷ [])
+    ∷ wrong kind.ArgumentConflict (codes "check" ∷ codes "a" ∷ codes "--explain" ∷ codes "--explain" ∷ [])
+    ∷ wrong kind.ArgumentConflict (codes "check" ∷ codes "a" ∷ codes "--group" ∷ codes "--group" ∷ [])
+    ∷ wrong kind.ArgumentConflict (codes "check" ∷ codes "a" ∷ codes "--sample" ∷ codes "5" ∷ codes "--sample" ∷ codes "5" ∷ [])
+    ∷ wrong kind.ArgumentConflict (codes "check" ∷ codes "a" ∷ codes "--seed=5" ∷ codes "--seed=x" ∷ [])
     ∷ []
 
 pub worked_check_faults : (lie : Lies) → map (λ (row : FaultRow). fault_of (mpdbg_app (only_deadlock lie)) row.0) fault_rows ≡ map (λ (row : FaultRow). row.1) fault_rows

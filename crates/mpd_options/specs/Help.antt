@@ -1,8 +1,8 @@
 -- What help shows as an example.
 use Rattle.std.specs.Prelude.{ℕ, List}
-use Rattle.mpd_options.specs.declared.command.TheConstants.{EXAMPLE, TRACE_EXAMPLE, RUN_EXAMPLE, SERVE_EXAMPLE, CHECK_EXAMPLE, VERIFY_EXAMPLE}
+use Rattle.mpd_options.specs.declared.command.TheConstants.{EXAMPLE, TRACE_EXAMPLE, RUN_EXAMPLE, SERVE_EXAMPLE, CHECK_EXAMPLE, VERIFY_EXAMPLE, WORDS_EXAMPLE}
 use Rattle.mpd_options.specs.declared.command.Topic.{Topic}
-use Rattle.mpd_options.specs.declared.command.Topic.TheVariants.{Program, Trace, Run, Serve, Check, Verify}
+use Rattle.mpd_options.specs.declared.command.Topic.TheVariants.{Program, Trace, Run, Serve, Check, Verify, Words}
 
 -- the example of each; clauses tell it by its name, and the text itself is seen only where this is unfolded
 unfoldable pub example_of : Topic → List ℕ
@@ -12,3 +12,4 @@ example_of Run = RUN_EXAMPLE.now
 example_of Serve = SERVE_EXAMPLE.now
 example_of Check = CHECK_EXAMPLE.now
 example_of Verify = VERIFY_EXAMPLE.now
+example_of Words = WORDS_EXAMPLE.now

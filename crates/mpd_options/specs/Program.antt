@@ -5,7 +5,7 @@ use Rattle.clap.specs.Words.{App, Rule, new_app, new_rule, with_rule, with_subco
 use Rattle.clap.specs.declared.builder.action.ArgAction.TheVariants.{Set, SetTrue}
 use Rattle.clap.specs.declared.builder.value_parser.ValueParser.{ValueParser}
 use Rattle.clap.specs.declared.builder.value_parser.ValueParser.TheVariants.{Names, Unsigned}
-use Rattle.mpd_options.specs.Asked.{most_clients, most_fuel, most_modes, most_piece, most_port, most_runs, most_split, most_workers}
+use Rattle.mpd_options.specs.Asked.{most_clients, most_fuel, most_leaf, most_modes, most_piece, most_port, most_runs, most_sample, most_seed, most_split, most_workers}
 
 -- the word of a file, which must be there
 abbrev pub file_rule : List ℕ → Rule
@@ -38,16 +38,31 @@ abbrev pub modes_rule : Rule
 modes_rule = valued_rule (codes "modes") (Unsigned 0 most_modes)
 
 abbrev pub runs_rule : Rule
-runs_rule = number_rule (codes "runs") 1 most_runs (codes "1000")
+runs_rule = valued_rule (codes "runs") (Unsigned 1 most_runs)
 
 abbrev pub fuel_rule : Rule
 fuel_rule = number_rule (codes "fuel") 1 most_fuel (codes "100000")
 
 abbrev pub split_rule : Rule
-split_rule = number_rule (codes "split") 0 most_split (codes "1")
+split_rule = valued_rule (codes "split") (Unsigned 0 most_split)
 
 abbrev pub workers_rule : Rule
 workers_rule = number_rule (codes "workers") 0 most_workers (codes "4")
+
+abbrev pub ends_rule : Rule
+ends_rule = flag_rule (codes "ends")
+
+abbrev pub sample_rule : Rule
+sample_rule = valued_rule (codes "sample") (Unsigned 1 most_sample)
+
+abbrev pub seed_rule : Rule
+seed_rule = valued_rule (codes "seed") (Unsigned 0 most_seed)
+
+abbrev pub explain_rule : Rule
+explain_rule = flag_rule (codes "explain")
+
+abbrev pub group_rule : Rule
+group_rule = flag_rule (codes "group")
 
 -- words that an option takes
 abbrev pub Choices : Type 0
@@ -75,6 +90,13 @@ complete_rule = flag_rule (codes "complete")
 abbrev pub pieces_rule : Rule
 pieces_rule = flag_rule (codes "pieces")
 
+abbrev pub leaf_rule : Rule
+leaf_rule = valued_rule (codes "leaf") (Unsigned 0 most_leaf)
+
+-- the word of the choices, which must be there
+abbrev pub choices_rule : Rule
+choices_rule = record (new_rule (codes "choices")) { long = Some (codes "choices"); value_names = 1; required = true; action = Some Set }
+
 abbrev pub port_rule : Rule
 port_rule = required_number_rule (codes "port") most_port
 
@@ -100,12 +122,21 @@ numbers_app = with_rule (with_rule (with_rule (script_app (codes "check")) modes
 abbrev pub work_app : App
 work_app = with_rule (with_rule numbers_app split_rule) workers_rule
 
+abbrev pub chosen_app : App
+chosen_app = with_rule (with_rule (with_rule work_app ends_rule) sample_rule) seed_rule
+
+abbrev pub told_app : App
+told_app = with_rule (with_rule chosen_app explain_rule) group_rule
+
 -- by the words that `--until` takes
 abbrev pub check_app : Choices → App
-check_app words = with_rule (with_rule (with_rule (with_rule (with_rule work_app (until_rule words)) witness_rule) complete_rule) piece_rule) pieces_rule
+check_app words = with_rule (with_rule (with_rule (with_rule (with_rule told_app (until_rule words)) witness_rule) complete_rule) piece_rule) pieces_rule
 
 abbrev pub verify_app : App
-verify_app = with_rule (script_app (codes "verify")) (file_rule (codes "WITNESS"))
+verify_app = with_rule (with_rule (script_app (codes "verify")) (file_rule (codes "WITNESS"))) leaf_rule
+
+abbrev pub words_app : App
+words_app = with_rule (with_rule (script_app (codes "words")) choices_rule) fuel_rule
 
 abbrev pub named_app : App
 named_app = let app = new_app (codes "mpdbg") in record app { top = record app.top { has_version = true; no_binary_name = true; subcommand_required = true } }
@@ -113,4 +144,5 @@ named_app = let app = new_app (codes "mpdbg") in record app { top = record app.t
 -- `mpdbg` and its commands, by the words that `--until` takes
 abbrev pub mpdbg_app : Choices → App
 mpdbg_app words =
-    with_subcommand (with_subcommand (with_subcommand (with_subcommand (with_subcommand named_app trace_app.top) run_app.top) serve_app.top) (check_app words).top) verify_app.top
+    with_subcommand (with_subcommand (with_subcommand (with_subcommand (with_subcommand (with_subcommand named_app trace_app.top) run_app.top) serve_app.top) (check_app words).top) verify_app.top)
+    words_app.top

@@ -5,8 +5,8 @@ ghost use Rattle.std.specs.Borrow.{Bor};
 ghost use Rattle.clap.specs.Words.{app_of, rule_of};
 ghost use Rattle.clap.specs.declared.builder.command.Command.TheViews.{out-Command as fields_of};
 ghost use Rattle.mpd_options.specs.Help.{example_of};
-ghost use Rattle.mpd_options.specs.declared.command.Topic.TheVariants.{Check, Program, Run, Serve, Trace, Verify};
-ghost use Rattle.mpd_options.specs.Program.{check_app, clients_rule, complete_rule, file_rule, flag_rule, fuel_rule, mode_rule, modes_rule, mpdbg_app, named_app, number_rule, numbers_app, piece_rule, pieces_rule, port_rule, required_number_rule, run_app, runs_rule, script_app, serve_app, split_rule, trace_app, until_rule, valued_rule, verify_app, witness_rule, work_app, workers_rule};
+ghost use Rattle.mpd_options.specs.declared.command.Topic.TheVariants.{Check, Program, Run, Serve, Trace, Verify, Words};
+ghost use Rattle.mpd_options.specs.Program.{check_app, choices_rule, chosen_app, clients_rule, complete_rule, ends_rule, explain_rule, file_rule, flag_rule, fuel_rule, group_rule, leaf_rule, mode_rule, modes_rule, mpdbg_app, named_app, number_rule, numbers_app, piece_rule, pieces_rule, port_rule, required_number_rule, run_app, runs_rule, sample_rule, script_app, seed_rule, serve_app, split_rule, told_app, trace_app, until_rule, valued_rule, verify_app, witness_rule, words_app, work_app, workers_rule};
 
 use clap::builder::ValueParser;
 use clap::{Arg, ArgAction, Command};
@@ -39,6 +39,21 @@ pub(crate) const SPLIT: &str = "split";
 /// The option of how many workers make the report, without its hyphens.
 pub(crate) const WORKERS: &str = "workers";
 
+/// The flag that asks for the runs that differ in more than the order of choices, without its hyphens.
+pub(crate) const ENDS: &str = "ends";
+
+/// The option of how many runs are drawn at random, without its hyphens.
+pub(crate) const SAMPLE: &str = "sample";
+
+/// The option of what the draw begins with, without its hyphens.
+pub(crate) const SEED: &str = "seed";
+
+/// The flag that asks for explanations, without its hyphens.
+pub(crate) const EXPLAIN: &str = "explain";
+
+/// The flag that asks for the ends in place of the runs, without its hyphens.
+pub(crate) const GROUP: &str = "group";
+
 /// The option of where the report ends, without its hyphens.
 pub(crate) const UNTIL: &str = "until";
 
@@ -53,6 +68,12 @@ pub(crate) const PIECE: &str = "piece";
 
 /// The flag that asks how many pieces there are, without its hyphens.
 pub(crate) const PIECES: &str = "pieces";
+
+/// The option of the leaf whose witness is taken, without its hyphens.
+pub(crate) const LEAF: &str = "leaf";
+
+/// The option of the choices of a run, without its hyphens.
+pub(crate) const CHOICES: &str = "choices";
 
 /// The word of a witness's file.
 pub(crate) const WITNESS_FILE: &str = "WITNESS";
@@ -72,6 +93,9 @@ pub(crate) const CHECK: &str = "check";
 /// The word of the command that checks a witness.
 pub(crate) const VERIFY: &str = "verify";
 
+/// The word of the command that writes the trace words of a run.
+pub(crate) const WORDS: &str = "words";
+
 const MOST_PORT: u64 = 65_535;
 
 const MOST_CLIENTS: u64 = 16;
@@ -86,7 +110,19 @@ const MOST_SPLIT: u64 = 8;
 
 const MOST_WORKERS: u64 = 1_000;
 
+const MOST_SAMPLE: u64 = 65_536;
+
+const MOST_SEED: u64 = 18_446_744_073_709_551_615;
+
 const MOST_PIECE: u64 = 1_023;
+
+const MOST_LEAF: u64 = 67_108_863;
+
+/// How many runs of each piece are tried where that isn't said.
+pub(crate) const USUAL_RUNS: usize = 1_000;
+
+/// By how many choices the runs are cut into pieces where that isn't said.
+pub(crate) const USUAL_SPLIT: usize = 1;
 
 const ABOUT: &str = "A reversible debugger of small MPI rank scripts.
 
@@ -130,13 +166,23 @@ Example:
 const CHECK_ABOUT: &str =
     "Look for deadlocks: try the choices of wildcard receives one after another";
 
-const CHECK_EXAMPLE: &str = "Example:
-  ./mpdbg check examples/exchange.mpd --witness";
+const CHECK_EXAMPLE: &str = "Examples:
+  ./mpdbg check examples/exchange.mpd --witness --explain
+  ./mpdbg check examples/race.mpd --ends --group
+  ./mpdbg check examples/race.mpd --sample 100 --seed 7";
 
 const VERIFY_ABOUT: &str = "Check a witness that check has written";
 
 const VERIFY_EXAMPLE: &str = "Example:
-  ./mpdbg check examples/race.mpd --witness | grep -A 1 deadlock | head -2 | ./mpdbg verify examples/race.mpd /dev/stdin";
+  ./mpdbg check examples/race.mpd --witness | ./mpdbg verify examples/race.mpd /dev/stdin --leaf 0";
+
+const WORDS_ABOUT: &str = "Write the trace words of the run with these choices";
+
+const WORDS_EXAMPLE: &str =
+    "The choices are those of a leaf of `mpdbg check`: the run of `leaf 3 [0 1 0] ..` is that of --choices '0 1 0'.
+
+Example:
+  ./mpdbg words examples/race.mpd --choices '0' | ./mpdbg trace examples/race.mpd";
 
 /// What help speaks of: the program, or one of its commands.
 #[derive(Clone, Copy)]
@@ -153,6 +199,8 @@ pub enum Topic {
     Check,
     /// `mpdbg verify`.
     Verify,
+    /// `mpdbg words`.
+    Words,
 }
 
 /// What it does, in a few words.
@@ -164,6 +212,7 @@ fn about<'a>(topic: Topic) -> &'a str {
         Topic::Serve => SERVE_ABOUT,
         Topic::Check => CHECK_ABOUT,
         Topic::Verify => VERIFY_ABOUT,
+        Topic::Words => WORDS_ABOUT,
     }
 }
 
@@ -178,6 +227,7 @@ fn example<'a>(topic: Topic) -> &'a str
         Topic::Serve => SERVE_EXAMPLE,
         Topic::Check => CHECK_EXAMPLE,
         Topic::Verify => VERIFY_EXAMPLE,
+        Topic::Words => WORDS_EXAMPLE,
     }
 }
 
@@ -289,8 +339,9 @@ fn runs_option<'a>(alloc: Global) -> Arg<'a>
     ensures rule { rule_of result ≡ runs_rule }
     ensures own { result.global ≡ false }
 {
-    let help = "How many runs of each piece are tried at most, 1 to 65536";
-    number_option(alloc, RUNS, "N", 1, MOST_RUNS, "1000", help)
+    let numbers = ValueParser::unsigned(1, MOST_RUNS);
+    let help = "How many runs of each piece are tried at most, 1 to 65536 [default: 1000]";
+    valued_option(alloc, RUNS, "N", numbers, help)
 }
 
 /// `--fuel N`.
@@ -298,7 +349,7 @@ fn fuel_option<'a>(alloc: Global) -> Arg<'a>
     ensures rule { rule_of result ≡ fuel_rule }
     ensures own { result.global ≡ false }
 {
-    let help = "How many steps each run takes at most, 1 to 1000000";
+    let help = "How many steps a run takes at most, 1 to 1000000";
     number_option(alloc, FUEL, "N", 1, MOST_FUEL, "100000", help)
 }
 
@@ -307,8 +358,9 @@ fn split_option<'a>(alloc: Global) -> Arg<'a>
     ensures rule { rule_of result ≡ split_rule }
     ensures own { result.global ≡ false }
 {
-    let help = "By how many choices the runs are cut into pieces, 0 to 8";
-    number_option(alloc, SPLIT, "K", 0, MOST_SPLIT, "1", help)
+    let numbers = ValueParser::unsigned(0, MOST_SPLIT);
+    let help = "By how many choices the runs are cut into pieces, 0 to 8 [default: 1]";
+    valued_option(alloc, SPLIT, "K", numbers, help)
 }
 
 /// `--workers N`.
@@ -318,6 +370,26 @@ fn workers_option<'a>(alloc: Global) -> Arg<'a>
 {
     let help = "How many workers make the report, 1 to 16";
     number_option(alloc, WORKERS, "N", 0, MOST_WORKERS, "4", help)
+}
+
+/// `--sample N`.
+fn sample_option<'a>(alloc: Global) -> Arg<'a>
+    ensures rule { rule_of result ≡ sample_rule }
+    ensures own { result.global ≡ false }
+{
+    let numbers = ValueParser::unsigned(1, MOST_SAMPLE);
+    let help = "Draw the choices of N runs at random, 1 to 65536";
+    valued_option(alloc, SAMPLE, "N", numbers, help)
+}
+
+/// `--seed S`.
+fn seed_option<'a>(alloc: Global) -> Arg<'a>
+    ensures rule { rule_of result ≡ seed_rule }
+    ensures own { result.global ≡ false }
+{
+    let numbers = ValueParser::unsigned(0, MOST_SEED);
+    let help = "What --sample begins to draw with, 0 to 18446744073709551615 [default: 0]";
+    valued_option(alloc, SEED, "S", numbers, help)
 }
 
 /// The words that `--until` takes.
@@ -345,6 +417,33 @@ fn flag<'a>(alloc: Global, name: &'a str, help: &'a str) -> Arg<'a>
         .long(name)
         .action(ArgAction::SetTrue)
         .help(help)
+}
+
+/// `--ends`.
+fn ends_flag<'a>(alloc: Global) -> Arg<'a>
+    ensures rule { rule_of result ≡ ends_rule }
+    ensures own { result.global ≡ false }
+{
+    let help = "List one of runs that differ only in the order of choices that share no call";
+    flag(alloc, ENDS, help)
+}
+
+/// `--explain`.
+fn explain_flag<'a>(alloc: Global) -> Arg<'a>
+    ensures rule { rule_of result ≡ explain_rule }
+    ensures own { result.global ≡ false }
+{
+    let help = "Explain each deadlock and each trap: what waits, and for what";
+    flag(alloc, EXPLAIN, help)
+}
+
+/// `--group`.
+fn group_flag<'a>(alloc: Global) -> Arg<'a>
+    ensures rule { rule_of result ≡ group_rule }
+    ensures own { result.global ≡ false }
+{
+    let help = "List each different end once, with how many runs come to it";
+    flag(alloc, GROUP, help)
 }
 
 /// `--witness`.
@@ -382,6 +481,29 @@ fn pieces_flag<'a>(alloc: Global) -> Arg<'a>
 {
     let help = "Print how many pieces there are, and nothing else";
     flag(alloc, PIECES, help)
+}
+
+/// `--leaf N`.
+fn leaf_option<'a>(alloc: Global) -> Arg<'a>
+    ensures rule { rule_of result ≡ leaf_rule }
+    ensures own { result.global ≡ false }
+{
+    let numbers = ValueParser::unsigned(0, MOST_LEAF);
+    let help = "Take the witness of leaf N of a whole report, 0 to 67108863";
+    valued_option(alloc, LEAF, "N", numbers, help)
+}
+
+/// `--choices C`, which must be there.
+fn choices_option<'a>(alloc: Global) -> Arg<'a>
+    ensures rule { rule_of result ≡ choices_rule }
+    ensures own { result.global ≡ false }
+{
+    Arg::new(alloc, CHOICES)
+        .long(CHOICES)
+        .value_name("C")
+        .required(true)
+        .action(ArgAction::Set)
+        .help("The choices of the run, numbers from 0 with spaces between them")
 }
 
 /// The command with what help says of it, and its example.
@@ -456,13 +578,34 @@ fn work_command<'a>(alloc: Global) -> Result<Command<'a>, AllocError>
         .arg(workers_option(alloc))
 }
 
+/// The same, with the options of which runs are listed: `--ends --sample N --seed S`.
+fn chosen_command<'a>(alloc: Global) -> Result<Command<'a>, AllocError>
+    ensures app { IfOk result (λ c. app_of c ≡ chosen_app) }
+    ensures own { IfOk result (λ c. (fields_of c).has_globals ≡ false) }
+{
+    work_command(alloc)?
+        .arg(ends_flag(alloc))?
+        .arg(sample_option(alloc))?
+        .arg(seed_option(alloc))
+}
+
+/// The same, with the options of how they are told: `--explain --group`.
+fn told_command<'a>(alloc: Global) -> Result<Command<'a>, AllocError>
+    ensures app { IfOk result (λ c. app_of c ≡ told_app) }
+    ensures own { IfOk result (λ c. (fields_of c).has_globals ≡ false) }
+{
+    chosen_command(alloc)?
+        .arg(explain_flag(alloc))?
+        .arg(group_flag(alloc))
+}
+
 /// `mpdbg check FILE`, with all its options, by the words that `--until` takes.
 fn check_command<'a>(alloc: Global, until: &'a [&'a str]) -> Result<Command<'a>, AllocError>
     ensures app { IfOk result (λ c. app_of c ≡ check_app until.entry) }
     ensures own { IfOk result (λ c. (fields_of c).has_globals ≡ false) }
     ensures example { IfOk result (λ c. option_map (λ (t : Bor (List ℕ)). t.now) (fields_of c).after_help ≡ Some (example_of Check)) }
 {
-    let command = work_command(alloc)?
+    let command = told_command(alloc)?
         .arg(until_option(alloc, until))?
         .arg(witness_flag(alloc))?
         .arg(complete_flag(alloc))?
@@ -471,15 +614,29 @@ fn check_command<'a>(alloc: Global, until: &'a [&'a str]) -> Result<Command<'a>,
     Ok(with_help(command, Topic::Check))
 }
 
-/// `mpdbg verify FILE WITNESS --mode M`.
+/// `mpdbg verify FILE WITNESS --mode M --leaf N`.
 fn verify_command<'a>(alloc: Global) -> Result<Command<'a>, AllocError>
     ensures app { IfOk result (λ c. app_of c ≡ verify_app) }
     ensures own { IfOk result (λ c. (fields_of c).has_globals ≡ false) }
     ensures example { IfOk result (λ c. option_map (λ (t : Bor (List ℕ)). t.now) (fields_of c).after_help ≡ Some (example_of Verify)) }
 {
     let witness = file_word(alloc, WITNESS_FILE, "The file of the witness");
-    let command = script_command(alloc, VERIFY)?.arg(witness)?;
+    let command = script_command(alloc, VERIFY)?
+        .arg(witness)?
+        .arg(leaf_option(alloc))?;
     Ok(with_help(command, Topic::Verify))
+}
+
+/// `mpdbg words FILE --mode M --choices C --fuel N`.
+fn words_command<'a>(alloc: Global) -> Result<Command<'a>, AllocError>
+    ensures app { IfOk result (λ c. app_of c ≡ words_app) }
+    ensures own { IfOk result (λ c. (fields_of c).has_globals ≡ false) }
+    ensures example { IfOk result (λ c. option_map (λ (t : Bor (List ℕ)). t.now) (fields_of c).after_help ≡ Some (example_of Words)) }
+{
+    let command = script_command(alloc, WORDS)?
+        .arg(choices_option(alloc))?
+        .arg(fuel_option(alloc))?;
+    Ok(with_help(command, Topic::Words))
 }
 
 /// `mpdbg`, which wants a command.
@@ -503,6 +660,7 @@ pub(crate) fn program<'a>(alloc: Global, until: &'a [&'a str]) -> Result<Command
         .subcommand(run_command(alloc)?)?
         .subcommand(serve_command(alloc)?)?
         .subcommand(check_command(alloc, until)?)?
-        .subcommand(verify_command(alloc)?)?;
+        .subcommand(verify_command(alloc)?)?
+        .subcommand(words_command(alloc)?)?;
     Ok(with_help(command, Topic::Program))
 }

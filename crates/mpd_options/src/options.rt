@@ -1,13 +1,14 @@
 //! What the words of a command line ask for.
 ghost use Rattle.std.specs.Prelude.{◌≡◌, ◌<◌, IfOk, IfErr, Some, true, is_some, length, map, option_and_then};
 ghost use Rattle.clap.specs.Words.{first_of, found_of, one_of, rows_of, subcommand_rows_of};
-ghost use Rattle.mpd_options.specs.Asked.{IsFound, IsInRange, asked, checker, found_in, found_of_command, found_options, meant, most_modes, most_piece, number_if_given, runner, server, text_in, tracer, until_bad_in, verifier};
+ghost use Rattle.mpd_options.specs.Asked.{IsFound, IsInRange, asked, checker, found_in, found_of_command, found_options, meant, most_seed, number_if_given, runner, server, teller, text_in, tracer, until_bad_in, verifier};
 ghost use Rattle.mpd_options.specs.Numbers.{flag_in, most_usize, number_in};
 ghost use Rattle.mpd_options.specs.Refused.{IsRefused, is_answer, usage_of, usage_status, usage_text};
 
 use crate::command::{
-    CHECK, CLIENTS, COMPLETE, FILE, FUEL, MODE, MODES, PIECE, PIECES, PORT, RUN, RUNS, SERVE,
-    SPLIT, TRACE, UNTIL, VERIFY, WITNESS, WITNESS_FILE, WORKERS, only_deadlock, program,
+    CHECK, CHOICES, CLIENTS, COMPLETE, ENDS, EXPLAIN, FILE, FUEL, GROUP, LEAF, MODE, MODES, PIECE,
+    PIECES, PORT, RUN, RUNS, SAMPLE, SEED, SERVE, SPLIT, TRACE, UNTIL, USUAL_RUNS, USUAL_SPLIT,
+    VERIFY, WITNESS, WITNESS_FILE, WORDS, WORKERS, only_deadlock, program,
 };
 use clap::ArgMatches;
 use clap::error::ErrorKind;
@@ -25,14 +26,28 @@ pub struct CheckOptions {
     /// Up to how many slots each mode is tried, in place of one mode: `rendezvous`, `slots:1` to `slots:N`, `buffered`; none tries the
     /// one mode alone.
     pub modes: Option<usize>,
-    /// How many runs of each piece are tried at most.
+    /// How many runs of each piece are tried at most; 1,000 where that isn't said.
     pub runs: usize,
+    /// Whether it is said how many runs are tried.
+    pub runs_given: bool,
     /// How many steps each run takes at most.
     pub fuel: usize,
-    /// By how many choices the runs are cut into pieces.
+    /// By how many choices the runs are cut into pieces; 1 where that isn't said.
     pub split: usize,
+    /// Whether it is said by how many choices they are cut.
+    pub split_given: bool,
     /// How many workers make the report.
     pub workers: usize,
+    /// Whether one is listed of runs that differ only in the order of choices that share no call.
+    pub ends: bool,
+    /// How many runs are drawn at random, in place of all being tried.
+    pub sample: Option<usize>,
+    /// What the draw begins with.
+    pub seed: Option<u64>,
+    /// Whether each deadlock and each trap is explained.
+    pub explain: bool,
+    /// Whether each different end is listed once, in place of the runs.
+    pub group: bool,
     /// Whether the report ends behind the first run that ends in a deadlock or a trap.
     pub until_bad: bool,
     /// Whether the trace words of a run that comes to a deadlock are wanted.
@@ -92,6 +107,19 @@ pub enum Options<'a> {
         witness: &'a str,
         /// The mode's word, whatever it is; `rendezvous` where there is none.
         mode: &'a str,
+        /// The leaf whose witness is taken of a whole report.
+        leaf: Option<usize>,
+    },
+    /// Write the trace words of a run of the script of a file.
+    Words {
+        /// The file's word.
+        file: &'a str,
+        /// The word of the run's choices, whatever it is.
+        choices: &'a str,
+        /// The mode's word, whatever it is; `rendezvous` where there is none.
+        mode: &'a str,
+        /// How many steps the run takes at most.
+        fuel: usize,
     },
 }
 
@@ -247,20 +275,20 @@ fn until_bad_of<'a>(check: &ArgMatches<'a>) -> bool
     check.get_str(UNTIL).is_some()
 }
 
-/// Up to how many slots modes are tried, where that was given.
-fn modes_of<'a>(check: &ArgMatches<'a>) -> Option<usize>
-    requires { is_some (number_if_given 0 most_modes (one_of MODES.now (rows_of (found_of check.now)))) ≡ true }
-    ensures { number_if_given 0 most_modes (one_of MODES.now (rows_of (found_of check.now))) ≡ Some result }
+/// The number of this name, where one was given.
+fn given_of<'a>(matches: &ArgMatches<'a>, name: &str) -> Option<usize>
+    requires { is_some (number_if_given 0 most_usize (one_of name.now (rows_of (found_of matches.now)))) ≡ true }
+    ensures { number_if_given 0 most_usize (one_of name.now (rows_of (found_of matches.now))) ≡ Some result }
 {
-    check.get_one::<usize>(MODES)
+    matches.get_one::<usize>(name)
 }
 
-/// The number of a piece, where one was given.
-fn piece_of<'a>(check: &ArgMatches<'a>) -> Option<usize>
-    requires { is_some (number_if_given 0 most_piece (one_of PIECE.now (rows_of (found_of check.now)))) ≡ true }
-    ensures { number_if_given 0 most_piece (one_of PIECE.now (rows_of (found_of check.now))) ≡ Some result }
+/// What the draw begins with, where that was given.
+fn seed_of<'a>(check: &ArgMatches<'a>) -> Option<u64>
+    requires { is_some (number_if_given 0 most_seed (one_of SEED.now (rows_of (found_of check.now)))) ≡ true }
+    ensures { number_if_given 0 most_seed (one_of SEED.now (rows_of (found_of check.now))) ≡ Some result }
 {
-    check.get_one::<usize>(PIECE)
+    check.get_one::<u64>(SEED)
 }
 
 /// How the words behind `check` ask for deadlocks to be looked for.
@@ -268,22 +296,34 @@ fn check_options_in<'a>(check: &ArgMatches<'a>) -> CheckOptions
     requires { is_some (found_options (text_in (rows_of (found_of check.now)))) ≡ true }
     ensures { Some result ≡ found_options (text_in (rows_of (found_of check.now))) }
 {
-    let modes = modes_of(check);
-    let runs = number_of(check, RUNS);
+    let modes = given_of(check, MODES);
+    let runs = given_of(check, RUNS);
     let fuel = number_of(check, FUEL);
-    let split = number_of(check, SPLIT);
+    let split = given_of(check, SPLIT);
     let workers = number_of(check, WORKERS);
+    let ends = flag_of(check, ENDS);
+    let sample = given_of(check, SAMPLE);
+    let seed = seed_of(check);
+    let explain = flag_of(check, EXPLAIN);
+    let group = flag_of(check, GROUP);
     let ends_at_first = until_bad_of(check);
     let wants_witness = flag_of(check, WITNESS);
     let is_complete = flag_of(check, COMPLETE);
-    let piece = piece_of(check);
+    let piece = given_of(check, PIECE);
     let counts_pieces = flag_of(check, PIECES);
     CheckOptions {
         modes,
-        runs,
+        runs: runs.unwrap_or(USUAL_RUNS),
+        runs_given: runs.is_some(),
         fuel,
-        split,
+        split: split.unwrap_or(USUAL_SPLIT),
+        split_given: split.is_some(),
         workers,
+        ends,
+        sample,
+        seed,
+        explain,
+        group,
         until_bad: ends_at_first,
         witness: wants_witness,
         complete: is_complete,
@@ -315,10 +355,29 @@ fn verify_in<'a>(verify: &ArgMatches<'a>) -> Options<'a>
     let file = word_in(verify, FILE);
     let witness = word_in(verify, WITNESS_FILE);
     let mode = word_in(verify, MODE);
+    let leaf = given_of(verify, LEAF);
     Options::Verify {
         file,
         witness,
         mode,
+        leaf,
+    }
+}
+
+/// What the words behind `words` ask for.
+fn words_in<'a>(words: &ArgMatches<'a>) -> Options<'a>
+    requires { is_some (found_in teller (rows_of (found_of words.now))) ≡ true }
+    ensures { Some (asked result) ≡ found_in teller (rows_of (found_of words.now)) }
+{
+    let file = word_in(words, FILE);
+    let choices = word_in(words, CHOICES);
+    let mode = word_in(words, MODE);
+    let fuel = number_of(words, FUEL);
+    Options::Words {
+        file,
+        choices,
+        mode,
+        fuel,
     }
 }
 
@@ -339,10 +398,13 @@ fn options_in<'a>(matches: &ArgMatches<'a>) -> Options<'a>
     if let Some(check) = matches.subcommand_matches(CHECK) {
         return check_in(check);
     }
-    let Some(verify) = matches.subcommand_matches(VERIFY) else {
+    if let Some(verify) = matches.subcommand_matches(VERIFY) {
+        return verify_in(verify);
+    }
+    let Some(words) = matches.subcommand_matches(WORDS) else {
         unreachable!()
     };
-    verify_in(verify)
+    words_in(words)
 }
 
 /// What `clap` finds in words of which there are some.

@@ -25,3 +25,7 @@ returns-in-Check c = sym (ap example_of c.in-Check.is)
 pub returns-in-Verify : goal.returns-in-Verify
 unfolding example_of
 returns-in-Verify c = sym (ap example_of c.in-Verify.is)
+
+pub returns-in-Words : goal.returns-in-Words
+unfolding example_of
+returns-in-Words c = sym (ap example_of c.in-Words.is)

@@ -1,6 +1,6 @@
 use Rattle.std.proofs.Common.{ap, ap₂, ◌∙◌, ◌≡◌}
 use Rattle.clap.specs.Words.{App, app_of, with_subcommand}
-use Rattle.mpd_options.specs.Program.{check_app, named_app, run_app, serve_app, trace_app}
+use Rattle.mpd_options.specs.Program.{check_app, named_app, run_app, serve_app, trace_app, verify_app}
 use Rattle.mpd_options.proofs.command.program.Goals as goal
 
 pub returns-clause-app : goal.returns-clause-app
@@ -13,4 +13,6 @@ returns-clause-app c =
     c.in_ok-subcommand-3.ensures.shape c.in_ok-serve_command.ensures.own ∙ ap₂ with_subcommand runs (ap (λ (a : App). a.top) c.in_ok-serve_command.ensures.app) in
     let checks : app_of c.in_ok-subcommand-4.field-0 ≡ with_subcommand (with_subcommand (with_subcommand (with_subcommand named_app trace_app.top) run_app.top) serve_app.top) (check_app c.args.until).top =
     c.in_ok-subcommand-4.ensures.shape c.in_ok-check_command.ensures.own ∙ ap₂ with_subcommand serves (ap (λ (a : App). a.top) c.in_ok-check_command.ensures.app) in
-    c.with_help.ensures.app ∙ c.in_ok-command.ensures.shape c.in_ok-verify_command.ensures.own ∙ ap₂ with_subcommand checks (ap (λ (a : App). a.top) c.in_ok-verify_command.ensures.app)
+    let verifies : app_of c.in_ok-subcommand-5.field-0 ≡ with_subcommand (with_subcommand (with_subcommand (with_subcommand (with_subcommand named_app trace_app.top) run_app.top) serve_app.top) (check_app c.args.until).top) verify_app.top =
+    c.in_ok-subcommand-5.ensures.shape c.in_ok-verify_command.ensures.own ∙ ap₂ with_subcommand checks (ap (λ (a : App). a.top) c.in_ok-verify_command.ensures.app) in
+    c.with_help.ensures.app ∙ c.in_ok-command.ensures.shape c.in_ok-words_command.ensures.own ∙ ap₂ with_subcommand verifies (ap (λ (a : App). a.top) c.in_ok-words_command.ensures.app)

@@ -4,10 +4,13 @@ use Rattle.mpd_options.proofs.command.verify_command.Goals as goal
 
 pub returns-clause-app : goal.returns-clause-app
 returns-clause-app c =
-    c.with_help.ensures.app ∙ c.in_ok-command.ensures.shape c.file_word-witness.ensures.own ∙ ap₂ with_rule c.in_ok-script_command.ensures.app c.file_word-witness.ensures.rule
+    c.with_help.ensures.app ∙ c.in_ok-command.ensures.shape c.leaf_option.ensures.own
+    ∙ ap₂ with_rule (c.in_ok-arg.ensures.shape c.file_word-witness.ensures.own ∙ ap₂ with_rule c.in_ok-script_command.ensures.app c.file_word-witness.ensures.rule) c.leaf_option.ensures.rule
 
 pub returns-clause-own : goal.returns-clause-own
-returns-clause-own c = c.with_help.ensures.own ∙ c.in_ok-command.ensures.globals ∙ ap₂ (λ a b. a || b) c.in_ok-script_command.ensures.own c.file_word-witness.ensures.own
+returns-clause-own c =
+    c.with_help.ensures.own ∙ c.in_ok-command.ensures.globals
+    ∙ ap₂ (λ a b. a || b) (c.in_ok-arg.ensures.globals ∙ ap₂ (λ a b. a || b) c.in_ok-script_command.ensures.own c.file_word-witness.ensures.own) c.leaf_option.ensures.own
 
 pub returns-clause-example : goal.returns-clause-example
 returns-clause-example c = c.with_help.ensures.example
