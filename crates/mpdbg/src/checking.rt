@@ -3,10 +3,11 @@
 ghost use Rattle.std.specs.Prelude.{◌≡◌, ◌≤◌};
 
 use crate::progress::{OfPiece, Progress};
-use crate::summary::{say_least, say_part, say_tally};
+use crate::summary::{Limit, say_least, say_part, say_tally};
 use crate::tell::Fault;
 use mpd_check::counts::Tally;
 use mpd_check::fault::CheckFault;
+use mpd_check::listing::{Telling, check_listing, check_sample};
 use mpd_check::modes::{Tried, check_mode, put_least};
 use mpd_check::part::{check_piece, count_pieces};
 use mpd_check::{check, is_crew};
@@ -33,10 +34,16 @@ enum Part {
     Piece(usize),
     /// How many pieces there are, and no run.
     Count,
+    /// So many runs that are drawn.
+    Sample(usize),
 }
 
-/// What is looked at, by the words: several modes are asked for before how many pieces there are, and that before one of them.
+/// What is looked at, by the words: several modes are asked for before how many pieces there are, and that before one of them. What is
+/// drawn stands beside none of these.
 fn part_of(options: CheckOptions) -> Part {
+    if let Some(runs) = options.sample {
+        return Part::Sample(runs);
+    }
     match (options.modes, options.count_pieces, options.piece) {
         (Some(most), _, _) => Part::Modes(most),
         (None, true, _) => Part::Count,
@@ -56,8 +63,150 @@ fn plan_of(options: CheckOptions) -> CheckPlan
             fuel: options.fuel,
             witnesses: options.witness,
             until_bad: options.until_bad,
+            ends: options.ends,
         },
     }
+}
+
+/// What is asked of a sample of so many runs.
+fn limits_of(options: CheckOptions, runs: usize) -> Limits
+    ensures { result.fuel ≡ options.fuel }
+{
+    Limits {
+        runs,
+        fuel: options.fuel,
+        witnesses: options.witness,
+        until_bad: options.until_bad,
+        ends: false,
+    }
+}
+
+/// Which options leave runs out.
+fn limit_of(options: CheckOptions) -> Limit {
+    match (options.sample.is_some(), options.until_bad) {
+        (false, false) => Limit::Runs,
+        (false, true) => Limit::UntilBad,
+        (true, false) => Limit::Sample,
+        (true, true) => Limit::UntilBadSample,
+    }
+}
+
+/// The first option that can't stand beside `--sample`, where there is one.
+fn clash_of(options: CheckOptions) -> Option<&'static str> {
+    if options.ends {
+        return Some("--ends");
+    }
+    if options.runs_given {
+        return Some("--runs");
+    }
+    if options.split_given {
+        return Some("--split");
+    }
+    if options.piece.is_some() {
+        return Some("--piece");
+    }
+    if options.count_pieces {
+        return Some("--pieces");
+    }
+    if options.modes.is_some() {
+        return Some("--modes");
+    }
+    None
+}
+
+/// Refuses options that can't stand together.
+pub(crate) fn fit_together<'a>(options: CheckOptions) -> Result<(), Fault<'a>> {
+    if options.sample.is_none() {
+        return match options.seed {
+            Some(_) => Err(Fault::SeedAlone),
+            None => Ok(()),
+        };
+    }
+    match clash_of(options) {
+        Some(option) => Err(Fault::Clash(option)),
+        None => Ok(()),
+    }
+}
+
+/// Explores all pieces, and has the report written as it is asked for.
+fn check_told<R: Clock + Eprint + Threads + Wait + Sync + AllocGlobal, W: Sink>(
+    rt: &R,
+    script: &(Mode, Code),
+    options: CheckOptions,
+    sink: &mut W,
+    progress: &Progress<'_, R>,
+) -> Result<Tally, CheckFault>
+    requires { options.fuel ≤ STEPS_MAX }
+{
+    let (mode, code) = script;
+    let plan = plan_of(options);
+    if !options.explain && !options.group {
+        return check(
+            rt,
+            rt.alloc(),
+            code,
+            *mode,
+            plan,
+            options.workers,
+            sink,
+            progress,
+        );
+    }
+    check_listing(
+        rt,
+        rt.alloc(),
+        code,
+        *mode,
+        plan,
+        options.workers,
+        telling_of(options),
+        sink,
+        progress,
+    )
+}
+
+/// What a report has beside its leaves.
+fn telling_of(options: CheckOptions) -> Telling {
+    Telling {
+        explain: options.explain,
+        group: options.group,
+    }
+}
+
+/// Draws runs, and tells at a terminal how many there are so far and what came of it.
+fn check_drawn<R: Clock + Eprint + AllocGlobal, W: Sink>(
+    rt: &R,
+    script: &(Mode, Code),
+    options: CheckOptions,
+    runs: usize,
+    sink: &mut W,
+    is_terminal: bool,
+) -> Result<Tally, CheckFault>
+    requires { options.fuel ≤ STEPS_MAX }
+{
+    let progress = Progress::new(rt, is_terminal);
+    let mut watch = OfPiece {
+        progress: &progress,
+    };
+    let (mode, code) = script;
+    let drawn = check_sample(
+        rt.alloc(),
+        code,
+        *mode,
+        options.seed.unwrap_or(0),
+        limits_of(options, runs),
+        telling_of(options),
+        sink,
+        &mut watch,
+    );
+    let tally = match drawn {
+        Ok(tally) => tally,
+        Err(fault) => return Err(CheckFault::Engine(fault)),
+    };
+    if is_terminal {
+        let _unwritten = say_tally(rt, script, tally, limit_of(options));
+    }
+    Ok(tally)
 }
 
 /// Explores all pieces, and tells at a terminal how far that is and what came of it.
@@ -71,19 +220,9 @@ fn check_all<R: Clock + Eprint + Threads + Wait + Sync + AllocGlobal, W: Sink>(
     requires { options.fuel ≤ STEPS_MAX }
 {
     let progress = Progress::new(rt, is_terminal);
-    let (mode, code) = script;
-    let tally = check(
-        rt,
-        rt.alloc(),
-        code,
-        *mode,
-        plan_of(options),
-        options.workers,
-        sink,
-        &progress,
-    )?;
+    let tally = check_told(rt, script, options, sink, &progress)?;
     if is_terminal {
-        let _unwritten = say_tally(rt, script, tally, options.until_bad);
+        let _unwritten = say_tally(rt, script, tally, limit_of(options));
     }
     Ok(tally)
 }
@@ -105,9 +244,18 @@ fn check_one<R: Clock + Eprint + AllocGlobal, W: Sink>(
     };
     let (mode, code) = script;
     let plan = plan_of(options);
-    let tally = check_piece(rt.alloc(), code, *mode, plan, number, sink, &mut watch)?;
+    let tally = check_piece(
+        rt.alloc(),
+        code,
+        *mode,
+        plan,
+        number,
+        telling_of(options),
+        sink,
+        &mut watch,
+    )?;
     if is_terminal && !tally.tells_all(*mode, code) {
-        let _unwritten = say_part(rt, script, tally, options.until_bad);
+        let _unwritten = say_part(rt, script, tally, limit_of(options));
     }
     Ok(tally)
 }
@@ -201,6 +349,7 @@ fn status_of<R: Clock + Eprint + Threads + Wait + Sync + AllocGlobal, W: Sink>(
             let tried = check_modes(rt, code, most, options, sink, is_terminal)?;
             return Ok(tried.status());
         }
+        Part::Sample(runs) => check_drawn(rt, script, options, runs, sink, is_terminal)?,
         Part::Whole => check_all(rt, script, options, sink, is_terminal)?,
         Part::Piece(number) => check_one(rt, script, options, number, sink, is_terminal)?,
         Part::Count => {

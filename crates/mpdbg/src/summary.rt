@@ -6,6 +6,19 @@ use mpd_code::code::Code;
 use mpd_model::call::Mode;
 use std::io;
 
+/// Which options leave runs out of a report.
+#[derive(Clone, Copy)]
+pub(crate) enum Limit {
+    /// How many runs of each piece are listed.
+    Runs,
+    /// The same, and that the listing ends with the first deadlock or trap.
+    UntilBad,
+    /// How many runs are drawn.
+    Sample,
+    /// The same, and that the drawing ends with the first deadlock or trap.
+    UntilBadSample,
+}
+
 /// Says how many of something there are, and what it is.
 fn say_many<R: Eprint>(rt: &R, count: usize, what: &str) -> io::Result<()> {
     if count == 0 {
@@ -32,13 +45,14 @@ fn say_whole<R: Eprint>(rt: &R, tally: Tally) -> io::Result<()> {
 }
 
 /// Says that there are more runs than are listed, and how these are listed too.
-fn say_more<R: Eprint>(rt: &R, tally: Tally, until_bad: bool) -> io::Result<()> {
+fn say_more<R: Eprint>(rt: &R, tally: Tally, limit: Limit) -> io::Result<()> {
     let runs = tally.runs;
     let are = if runs == 1 { "run was" } else { "runs were" };
-    let option = if until_bad && tally.is_bad() {
-        "--until"
-    } else {
-        "--runs"
+    let option = match limit {
+        Limit::UntilBad if tally.is_bad() => "--until",
+        Limit::UntilBad | Limit::Runs => "--runs",
+        Limit::UntilBadSample if tally.is_bad() => "--until",
+        Limit::UntilBadSample | Limit::Sample => "--sample",
     };
     eprint!(rt; "{runs} {are} listed, and there are more ({option})")
 }
@@ -84,12 +98,12 @@ pub(crate) fn say_part<R: Eprint>(
     rt: &R,
     script: &(Mode, Code),
     tally: Tally,
-    until_bad: bool,
+    limit: Limit,
 ) -> io::Result<()> {
     let (mode, code) = script;
     eprint!(rt; "not everything was tried: ")?;
     if tally.more {
-        say_more(rt, tally, until_bad)?;
+        say_more(rt, tally, limit)?;
     }
     say_cut(rt, tally)?;
     say_order(rt, !code.has_no_waitany(), is_limited(*mode), tally)?;
@@ -102,13 +116,13 @@ pub(crate) fn say_tally<R: Eprint>(
     rt: &R,
     script: &(Mode, Code),
     tally: Tally,
-    until_bad: bool,
+    limit: Limit,
 ) -> io::Result<()> {
     let (mode, code) = script;
     if tally.tells_all(*mode, code) {
         say_whole(rt, tally)
     } else {
-        say_part(rt, script, tally, until_bad)
+        say_part(rt, script, tally, limit)
     }
 }
 

@@ -8,10 +8,11 @@ use mpd_pool::check::PoolFault;
 use mpd_trace::allowed::allowed;
 use mpd_trace::excerpt::excerpt;
 use mpd_trace::plain::PlainFault;
+use mpd_witness::report_text::ReportFault;
 use std::io;
 use std::io::{Error, ErrorKind};
 
-/// The status where the mode's word or the file of a witness is none.
+/// The status where a word that `clap` lets through or the file of a witness is none.
 const WRONG: u8 = 2;
 
 /// The status where a port can't be listened on, or where clients' receipts don't agree with their history.
@@ -24,8 +25,8 @@ pub(crate) enum Fault<'a> {
     Usage(UsageFault),
     /// The mode's word, which is none.
     BadMode(&'a str),
-    /// The file of a witness has none: this line, 1 or 2, is the first that is wrong.
-    BadWitness(usize),
+    /// The file of a witness has none, or not the one that is asked for.
+    BadWitness(ReportFault),
     /// A file of this name can't be opened or read.
     File(&'a str, Option<Error>),
     /// There are to be no workers, or more than 16.
@@ -34,6 +35,14 @@ pub(crate) enum Fault<'a> {
     Pieces,
     /// There is no piece of this number, but so many.
     Piece { number: usize, count: usize },
+    /// An option that can't stand beside `--sample`.
+    Clash(&'static str),
+    /// `--seed` without `--sample`.
+    SeedAlone,
+    /// The word of `--choices`, which isn't numbers.
+    NotChoices(&'a str),
+    /// No run has these choices: the one at this place, from 0, is none, or so many were given, and the run wants more.
+    BadChoices(usize),
     /// A script, standard input or output, or memory.
     Plain(PlainFault),
     /// A port can't be listened on, or no client accepted.
@@ -200,6 +209,28 @@ fn tell_mode<R: Eprint>(rt: &R, word: &str, is_terminal: bool) -> u8 {
     WRONG
 }
 
+/// Says that the file of a witness has none, or not the one that is asked for. Answers the status.
+fn tell_witness<R: Eprint>(rt: &R, fault: ReportFault, is_terminal: bool) -> u8 {
+    let _unwritten = eprintln!(rt; "mpdbg: bad witness {fault}");
+    if is_terminal {
+        if let ReportFault::SeveralWitnesses = fault {
+            let _unwritten = eprintln!(rt; "  --leaf N says of which leaf it is meant");
+        }
+    }
+    WRONG
+}
+
+/// Says that a word is no list of choices. Answers the status.
+fn tell_choices<R: Eprint>(rt: &R, word: &str, is_terminal: bool) -> u8 {
+    let _unwritten = eprintln!(rt; "mpdbg: bad choices");
+    if is_terminal {
+        let _unwritten = eprintln!(rt;
+            "  '{word}' isn't numbers with spaces between, as a leaf of check has them in its brackets"
+        );
+    }
+    WRONG
+}
+
 /// Says that so many workers, or so many pieces, there can't be. Answers the status.
 fn tell_refused<R: Eprint>(rt: &R, fault: PoolFault, hint: &str, is_terminal: bool) -> u8 {
     let _unwritten = eprintln!(rt; "mpdbg: refused {} {}", fault.number(), fault.name());
@@ -219,10 +250,7 @@ pub(crate) fn tell<R: Print + Eprint + AllocGlobal>(
     match fault {
         Fault::Usage(fault) => tell_usage(rt, fault, notes),
         Fault::BadMode(word) => tell_mode(rt, word, notes.is_terminal),
-        Fault::BadWitness(line) => {
-            let _unwritten = eprintln!(rt; "mpdbg: bad witness line {line}");
-            WRONG
-        }
+        Fault::BadWitness(fault) => tell_witness(rt, fault, notes.is_terminal),
         Fault::File(file, error) => tell_file(rt, file, error, notes.is_terminal),
         Fault::Workers => tell_refused(
             rt,
@@ -238,6 +266,19 @@ pub(crate) fn tell<R: Print + Eprint + AllocGlobal>(
         ),
         Fault::Piece { number, count } => {
             let _unwritten = eprintln!(rt; "mpdbg: no piece {number} of {count}");
+            WRONG
+        }
+        Fault::Clash(option) => {
+            let _unwritten = eprintln!(rt; "mpdbg: --sample and {option} can't stand together");
+            WRONG
+        }
+        Fault::SeedAlone => {
+            let _unwritten = eprintln!(rt; "mpdbg: --seed wants --sample");
+            WRONG
+        }
+        Fault::NotChoices(word) => tell_choices(rt, word, notes.is_terminal),
+        Fault::BadChoices(place) => {
+            let _unwritten = eprintln!(rt; "mpdbg: bad choices at {place}");
             WRONG
         }
         Fault::Plain(fault) => tell_plain(rt, fault, notes),
