@@ -15,7 +15,8 @@ LEFT_OUT = {
     'mpd_device': {'into_inner': 'of a device that fails', 'tick': 'a counter without bytes'},
     'mpd_queue': {'disjoint': 'a law'},
     'mpd_policy': {'decisions_can_be_followed': 'a law'}, 'mpd_model': {'lines_lose_nothing': 'a law'},
-    'mpd_check': {'written_witness_is_read': 'a law'},
+    'mpd_witness': dict.fromkeys(('written_witness_is_read', 'written_witness_of_a_leaf_is_read'), 'a law'),
+    'mpd_words': {'a_run_or_a_bad_choice': 'a law'}, 'mpd_explain': {'calls_name_their_statements': 'a law'},
     'mpd_pieces': dict.fromkeys(('pieces_join_to_the_walk', 'each_piece_is_reached', 'no_choice_is_the_whole', 'no_more_is_the_whole'), 'a law')}
 
 

@@ -1,93 +1,19 @@
 """What each public call of the crates must answer, told by the model: the answer, the state before the call and behind it, as texts.
 
-A row names a call, as the program of compare/probe/memory/ does, and what that is given. What isn't in the model stands in the row, as
-it was worked out by hand (call_rows.py).
+A row names a call, as the program of compare/probe/memory/ does, and what that is given (call_given.py). What isn't in the model stands in
+the row, as it was worked out by hand (call_rows.py, call_listings.py). What is told of calls that explore is in call_reports.py.
 """
 
-import sys
-from itertools import islice
-from typing import NamedTuple, Optional
-
-import complete
-import explorer
 import order
 import policy
 import session
-import witness
+from call_given import Wanted, by_hand, line, no_state, numbered, steps_line, trail_text, unchanged, walked, world_of
+from call_reports import REPORTS
 from canonical import canonical
-from debugger import (RENDEZVOUS, CallId, Debugger, enabled_steps, find_call, first_world, next_world, outcome, partner, pending, rank_state, slots_used,
-                      record_line, show, step_of, step_text)
-from explorer import Report, Run, pieces, report_text
+from debugger import (RENDEZVOUS, CallId, Debugger, enabled_steps, find_call, next_world, outcome, partner, pending, rank_state, record_line, show,
+                      slots_used, step_of, step_text)
+from explorer import has_waitany
 from language import FAULT_NAMES, Branch, Fault, While, read_script
-
-
-class Row(NamedTuple):
-    """A call, and what it is given: a script, lines that lead to where it is made (steps, words or requests), and an argument.
-
-    `by_hand` is what it answers where the model doesn't say it. Where `spares` is so the call takes no memory here; where `steady` is so
-    it may take some, and answers the same without. At most `most` of its requests are refused, spread over all; none where that is 0.
-    `what` is said of it in place of what it is given, where that is long. Where `is_deep` is so it has a small stack.
-    """
-    call: str
-    script: str = ''
-    lines: tuple = ()
-    argument: str = ''
-    mode: str = RENDEZVOUS
-    by_hand: Optional[object] = None
-    spares: bool = False
-    steady: bool = False
-    most: int = sys.maxsize
-    what: str = ''
-    is_deep: bool = False
-
-    @property
-    def name(self):
-        if self.what:
-            return f'{self.call} {self.what}'
-        behind = f'behind {len(self.lines)} lines, {self.lines[-1]},' if self.lines else ''
-        script = f"on '{' '.join(self.script.split())[7:60]}'" if self.script else ''
-        return ' '.join(f'{self.call} {self.argument[:60]} {behind} {script}'.split())
-
-    @property
-    def words(self):
-        return [self.call, self.mode, self.script, '\n'.join(self.lines), self.argument]
-
-    def read(self):
-        return read_script(self.script.encode())
-
-    def step(self):
-        return step_of(self.argument.encode().split())
-
-    def numbers(self):
-        """The numbers among the words of the argument."""
-        return [int(word) for word in self.argument.split() if word.isdigit()]
-
-    def call_id(self):
-        return CallId(*map(int, self.argument.split('.')))
-
-
-class Wanted(NamedTuple):
-    """What must be told of a call: the state before it, the answer, the state behind it, and what is told at the end, if anything is."""
-    before: str
-    answer: str
-    behind: str
-    end: Optional[str] = None
-
-
-def line(text):
-    return f'{text}\n'
-
-
-def no_state(answer, end=None):
-    return Wanted('', answer, '', end)
-
-
-def unchanged(state, answer):
-    return Wanted(state, answer, state)
-
-
-def by_hand(row):
-    return row.by_hand
 
 
 # ---- scripts
@@ -100,10 +26,6 @@ def statements_of(body):
             yield from statements_of([*statement.then, *statement.otherwise])
         elif isinstance(statement, While):
             yield from statements_of(statement.body)
-
-
-def numbered(word, numbers):
-    return line(' '.join([word, *map(str, numbers)]))
 
 
 def lines_text(script):
@@ -168,7 +90,7 @@ def lowered(row):
 def code_looks(row):
     script = row.read()
     count = len(list(statements_of(script.body)))
-    old = 'false' if explorer.has_waitany(script.body) else 'true'
+    old = 'false' if has_waitany(script.body) else 'true'
     told = [count, 0, script.ranks, script.cells, script.handles, count, script.body[0].line, len(script.names), 'true', old]
     return unchanged(code_text(script), line(' '.join(map(str, told))))
 
@@ -186,29 +108,8 @@ def code_read(row):
 
 # ---- states
 
-def walked(row):
-    """The model's debugger behind the words of the lines."""
-    found = Debugger(row.read(), row.mode)
-    for words in row.lines:
-        found.answer(words.encode())
-    return found
-
-
-def world_of(row):
-    """The world behind the steps of the lines."""
-    return walked(row).world
-
-
 def core_text(world):
     return line(show(world, 0, 0))
-
-
-def steps_line(word, steps):
-    return line(f'{word} {", ".join(map(step_text, steps))}'.rstrip())
-
-
-def trail_text(walked_to):
-    return line(show(walked_to.world, walked_to.depth, len(walked_to.steps))) + steps_line('steps', walked_to.steps)
 
 
 def core_started(row):
@@ -454,187 +355,6 @@ def run_by(go):
     return wanted
 
 
-# ---- reports
-
-def has(row, word):
-    return word in row.argument.split()
-
-
-def told_report(row, found):
-    return report_text(explorer.up_to_bad(found) if has(row, 'until') else found, has(row, 'witnesses'))
-
-
-def explored(row):
-    found = walked(row)
-    runs, fuel, *_ = row.numbers()
-    return unchanged(trail_text(found), told_report(row, explorer.explored(found, runs, fuel)))
-
-
-def ends_explored(row):
-    """The same along the walk that takes two matches which share no call in one order alone."""
-    found = walked(row)
-    runs, fuel, *_ = row.numbers()
-    leaves = list(islice(complete.asleep_walk(found.world, fuel), runs + 1))
-    before = tuple(found.steps[:found.depth])
-    listed_leaves = tuple(leaf._replace(steps=before + tuple(leaf.steps)) for leaf in leaves[:runs])
-    return unchanged(trail_text(found), told_report(row, explorer.Report(listed_leaves, len(leaves) > runs)))
-
-
-def report_printed(row):
-    return no_state(explored(row).answer + '\n')
-
-
-def report_by_workers(row):
-    """The argument has the number of workers in front."""
-    return row.by_hand or report_printed(row._replace(argument=row.argument.partition(' ')[2]))
-
-
-def leaves_pushed(row):
-    runs, fuel, *_ = row.numbers()
-    leaves = explorer.explored(walked(row), runs, fuel).leaves
-    return no_state(line(''.join(map(session.leaf_text, leaves))))
-
-
-def report_looks(row):
-    runs, fuel, *_ = row.numbers()
-    leaves = explorer.explored(walked(row), runs, fuel).leaves
-    told = [any(map(explorer.is_bad, leaves)), explorer.is_bad(leaves[0])]
-    return no_state(line(' '.join(str(it).lower() for it in told)))
-
-
-def witness_text(found):
-    return steps_line('witness', found.steps) + numbered('blocked', found.blocked)
-
-
-def witness_made(row):
-    found = walked(row)
-    runs, fuel, number = row.numbers()
-    made = explorer.witness(explorer.explored(found, runs, fuel).leaves[number])
-    return unchanged(trail_text(found), witness_text(made) if made else 'none\n')
-
-
-def verdict_text(row):
-    told = witness.read_witness(row.argument.encode())
-    return witness.told(explorer.verify(row.read(), row.mode, told.steps, told.blocked)).output.decode()
-
-
-def verified(row):
-    """The verdict without the words around it: `accepted`, or the number and the name of the fault."""
-    return no_state(line(verdict_text(row).strip().removeprefix('refused ').split(' at ')[0]))
-
-
-def judged(row):
-    text = verdict_text(row)
-    return no_state(line('true' if text.startswith('accepted') else 'false'), text)
-
-
-def witness_read(row):
-    try:
-        return no_state(witness_text(witness.read_witness(row.argument.encode())))
-    except witness.BadWitness as bad:
-        return no_state(line(f'line {bad.line}'))
-
-
-def cut(found, split, fuel):
-    """The pieces from where a debugger is, or None where there are too many."""
-    cut_here = list(islice(pieces(Run(found.world, fuel), split), explorer.MOST_PIECES + 1))
-    return cut_here if len(cut_here) <= explorer.MOST_PIECES else None
-
-
-def split(row):
-    found = walked(row)
-    parts = cut(found, *row.numbers())
-    if parts is None:
-        return unchanged(trail_text(found), '31 too-many-pieces\n')
-    return unchanged(trail_text(found), ''.join(numbered(f'{number}:', part.choices) for number, part in enumerate(parts)))
-
-
-def behind_steps(found, report):
-    """A report whose leaves have the steps that led here in front."""
-    before = tuple(found.steps[:found.depth])
-    return report._replace(leaves=tuple(leaf._replace(steps=before + leaf.steps) for leaf in report.leaves))
-
-
-def part_explored(row):
-    """The part of the piece with these choices."""
-    found = walked(row)
-    first, *_ = row.argument.split()
-    choices = () if first == '-' else tuple(map(int, first.split(',')))
-    runs, fuel = [int(word) for word in row.argument.split()[1:3]]
-    piece = next(it for it in cut(found, len(choices), fuel) if it.choices == choices)
-    return unchanged(trail_text(found), told_report(row, behind_steps(found, explorer.part(piece, runs))))
-
-
-def pieces_explored(row, split_by, runs, fuel):
-    """The report of all pieces from where the debugger is."""
-    found = walked(row)
-    parts = cut(found, split_by, fuel)
-    if parts is None:
-        return unchanged(trail_text(found), '31 too-many-pieces\n')
-    return unchanged(trail_text(found), told_report(row, behind_steps(found, explorer.joined([explorer.part(piece, runs) for piece in parts]))))
-
-
-def by_pieces(row):
-    return pieces_explored(row, *row.numbers()[:3])
-
-
-def by_workers(row):
-    workers, *plan = row.numbers()[:4]
-    if not 1 <= workers <= explorer.MOST_WORKERS:
-        return unchanged(trail_text(walked(row)), '35 bad-workers\n')
-    return pieces_explored(row, *plan)
-
-
-def asked_of(row, **more):
-    """The options of a check by the numbers of the argument behind the first."""
-    _, split_by, runs, fuel = row.numbers()[:4]
-    limits = {'runs': runs, 'fuel': fuel, 'witnesses': has(row, 'witnesses'), 'until': has(row, 'until')}
-    return explorer.USUAL._replace(mode=row.mode, split=split_by, **limits, **more)
-
-
-def tally_text(row, found):
-    script = row.read()
-    bad = [leaf.outcome.split()[0] for leaf in found.leaves]
-    counts = [f'{name} {bad.count(word)}' for name, word in (('deadlocks', 'deadlock'), ('traps', 'trap'), ('cut', 'cut'))]
-    more = 'true' if found.more else 'false'
-    tells_all = 'true' if explorer.is_whole(found) and explorer.tells_all(script, row.mode) else 'false'
-    return line(f'runs {len(bad)} {" ".join(counts)} more {more} all {tells_all} status {explorer.status_of(script, row.mode, found, True)}')
-
-
-def checked(row, **more):
-    """A check, or one piece of it, as it is written to a sink."""
-    asked = asked_of(row, **more)
-    told = explorer.checked(row.read(), asked)
-    if told.status == 2:
-        refused = told.errors.decode().removeprefix('mpdbg: ').strip()
-        return no_state(line(refused.split()[-1] if refused.startswith('refused') else refused), '')
-    parts = cut(Debugger(row.read(), row.mode), asked.split, asked.fuel)
-    return no_state(tally_text(row, explorer.reported(parts, asked)), told.output.decode())
-
-
-def check_written(row):
-    return checked(row, workers=row.numbers()[0])
-
-
-def piece_written(row):
-    return checked(row, piece=row.numbers()[0])
-
-
-def mode_written(row):
-    """A line of what a check in the mode of a row tells."""
-    told = checked(row, workers=row.numbers()[0])
-    parts = cut(Debugger(row.read(), row.mode), asked_of(row).split, asked_of(row).fuel)
-    if not told.end:
-        return told
-    text, _ = explorer.counted(explorer.reported(parts, asked_of(row)))
-    return told._replace(end=line(f'{row.mode} {text}'))
-
-
-def pieces_counted(row):
-    told = explorer.checked(row.read(), asked_of(row, pieces=True))
-    return no_state('too-many-pieces\n' if told.status == 2 else 'done\n', told.output.decode())
-
-
 # ---- sessions
 
 def replied(held, request):
@@ -774,11 +494,7 @@ MODELS = {
     'mpd_trail::follow': replayed, 'mpd_trail::replay': replayed, 'decide': decided, 'forced_step': forced,
     'mpd_policy::run': run_by(lambda found, row: policy.run(found, breaks_of(row), row.numbers()[0])),
     'run_back': run_by(lambda found, row: policy.run_back(found, breaks_of(row))), 'Breaks': by_hand,
-    'explore': explored, 'explore_ends': ends_explored, 'witness_of': witness_made, 'print_report': report_printed, 'push_leaf_text': leaves_pushed,
-    'push_leaves, push_total': report_printed, 'mpd_pool::print_report': report_by_workers,
-    'Report looks': report_looks, 'verify': verified, 'verify_from': verified, 'split': split, 'explore_at': part_explored,
-    'explore_by_pieces': by_pieces, 'mpd_pool::check': by_workers, 'mpd_check::check': check_written, 'check_piece': piece_written,
-    'count_pieces': pieces_counted, 'check_mode': mode_written, 'put_least': by_hand, 'judge': judged, 'read_witness': witness_read, 'read_witness_file': witness_read,
+    **REPORTS,
     'Session::start': session_started, 'Session::answer': session_answered, 'mpd_wire::parse': request_parsed,
     'mpd_wire::print': reply_printed, 'Reply::copy': reply_copied, 'same_request, same_reply': compared, 'Book::take': taken,
     'Book::new, len, audit': book_looks, 'Shared::new': shared_opened, 'Shared::call': shared_called, 'Shared::settle, code, SeatDesk': by_hand,

@@ -3,46 +3,16 @@
 What the model says of them is in call_models.py. What it doesn't say stands here, as it was worked out by hand.
 """
 
-from call_models import Row, Wanted, core_room, no_state
+from call_given import Row, Wanted, no_state
+from call_listings import listings
+from call_models import core_room
+from call_scripts import (BOTH_CAME, BOTH_SEND, CHANGES, CHOICE, ENDED, ENDLESS, FOUR_SETS, HELD, ISSUED, MANY, MATCHED, MEETING, MESSAGE, PAIRS,
+                          RACE, SENT, STUCK, TRAPS, TWO_LINES, TWO_RACES, WHICHEVER, WHOLE)
 from call_sizes import sizes
 from debugger import BUFFERED, RENDEZVOUS
 
-# A message; two sends for one receive of any source, after which another wants that of rank 2; a status in its value's cell; requests.
-MESSAGE = 'mpd 1;\nranks 2;\nvar x;\nif rank == 0 { send 7 to 1 tag 0; } else { recv x from 0 tag 0; print x; }'
-RACE = ('mpd 1; ranks 3; var x; var y;\nif rank == 0 { recv x from any tag any; recv y from 2 tag any; } else { send rank to 0 tag 0; }')
-CHANGES = 'mpd 1; ranks 2; var x;\nx = 9;\nif rank == 0 { send 7 to 1 tag 3; } else { recv x from any tag any status x x; }'
-HELD = ('mpd 1; ranks 2; var x; var y; req r[2];\nif rank == 0 { irecv r[0] x from any tag any; irecv r[1] y from 1 tag any; } '
-        'else { send 5 to 0 tag 0; }')
-PAIRS = 'mpd 1; ranks 4; var x;\nif rank % 2 == 0 { send 7 to rank + 1 tag 0; } else { recv x from rank - 1 tag 0; }'
-MEETING = 'mpd 1; ranks 2;\nbarrier;'
-WHICHEVER = ('mpd 2; ranks 3; var x; var i; req r[2];\n'
-             'if rank == 0 { irecv r[0] x from 1 tag 0; irecv r[1] x from 2 tag 0; waitany r to i; } else { send rank to 0 tag 0; }')
-BOTH_CAME = (*('local 0',) * 4, *('local 1', 'local 2') * 2, 'match 1.0 0.0', 'match 2.0 0.1')
-TWO_RACES = ('mpd 1; ranks 6; var x; var y;\nif rank < 2 { recv x from any tag any; recv y from any tag any; assert x < y; } '
-             'else { send rank to rank % 2 tag 0; }')
-ENDLESS = 'mpd 1; ranks 1;\nwhile 1 { }'
-TRAPS = 'mpd 1; ranks 2; var x;\nx = 1 / x;'
-BOTH_SEND = 'mpd 1; ranks 2; var x;\nsend rank to 1 - rank tag 5;\nrecv x from 1 - rank tag 5;'
-TO_ITSELF = 'mpd 1; ranks 1; var x; req r;\nisend r 1 to 0 tag 0; recv x from 0 tag 0; wait r; print x;'
-MANY = ('mpd 1; ranks 16; var x; var i;\n'
-        'while i < 3 { if rank == 0 { recv x from any tag any; } else { send i to 0 tag 0; } i = i + 1; }')
-WHOLE = ('mpd 1; ranks 3; var x; var a[3]; req r; req q[2];\nwhile x < 2 {\n  if x == 1 && !a[x] { a[x + 1] = -x % 3; } else { print a[0]; }\n'
-         '  x = x + 1;\n}\nassert x >= 2;\nsend x to 0 tag 1; ssend 1 to rank tag 2;\nisend r x * 2 to 1 tag 3; issend q[1] 4 to 2 tag 4;\n'
-         'recv x from any tag any status x a[1]; irecv q[0] a[2] from 1 - rank tag 5;\nwait q[0]; wait r; barrier;')
-
-# Steps that lead to these scripts' places: a message behind its match, a race at its choice, one that is stuck, and one at its barrier.
-SENT = ('local 0', 'local 0', 'local 1', 'local 1')
-MATCHED = (*SENT, 'match 0.0 1.0')
-ENDED = (*MATCHED, 'wake 0', 'wake 1', 'local 1')
-CHOICE = ('local 0', 'local 0', 'local 1', 'local 1', 'local 2', 'local 2')
-STUCK = (*CHOICE, 'match 2.0 0.0', 'wake 0', 'local 0', 'wake 2')
-ISSUED = ('local 0', 'local 0', 'local 0', 'local 1', 'local 1')
-# behind these there are four match sets, as many as the first room for them takes
-FOUR_SETS = (*(f'local {rank}' for rank in range(4) for _ in range(2)), 'match 0.0 1.0', 'match 2.0 3.0', 'wake 0', 'wake 1')
-
 # Nothing is known of a place whose line begins with `=`, since sections do.
 MISSING = 'mpd 1;\nranks 1;\nprint 1\nprint 2;\n'
-TWO_LINES = 'leaf 1 [1] deadlock 0.1 1.0\nwitness 1: ' + ', '.join(STUCK) + '\n'
 NO_STEP = TWO_LINES.replace('witness 1: local 0', 'witness 1: wake 0')
 NOT_STUCK = TWO_LINES.replace(', wake 2\n', '\n')
 OTHER_CALLS = TWO_LINES.replace('0.1 1.0', '0.1')
@@ -255,17 +225,25 @@ def reports():
     for script, mode in ((RACE, 'rendezvous'), (BOTH_SEND, 'rendezvous'), (BOTH_SEND, BUFFERED), (ENDLESS, 'rendezvous'), (TRAPS, BUFFERED)):
         for limits in ('10 100', '1 5', '10 100 witnesses', '10 100 until'):
             yield Row('explore', script, (), limits, mode)
-            yield Row('explore_ends', script, (), limits, mode)
+            yield Row('explore', script, (), f'{limits} ends', mode)
+        for limits in ('10 100 0', '1 5 3', '10 100 7 witnesses', '10 100 7 until'):
+            yield Row('sample', script, (), limits, mode)
         yield Row('print_report', script, (), '10 100 witnesses', mode)
         yield Row('push_leaves, push_total', script, (), '10 100 witnesses', mode)
         yield Row('mpd_pool::print_report', script, (), '2 10 100 witnesses', mode)
         yield Row('push_leaf_text', script, (), '10 100', mode)
         yield Row('Report looks', script, (), '10 100', mode, spares=True)
     yield Row('explore', RACE, (*CHOICE, 'match 1.0 0.0'), '10 100 witnesses')
-    yield Row('explore_ends', RACE, (*CHOICE, 'match 1.0 0.0'), '10 100 witnesses')
+    yield Row('explore', RACE, (*CHOICE, 'match 1.0 0.0'), '10 100 witnesses ends')
     # two races of two senders: 8 runs along the choices, of which 4 end in another way than those before
     for limits in ('20 200', '4 200', '3 200', '20 12', '2 200 until', '0 200'):
-        yield Row('explore_ends', TWO_RACES, (), limits, most=40)
+        yield Row('explore', TWO_RACES, (), f'{limits} ends', most=40)
+        yield Row('explore_asleep', TWO_RACES, (), f'{limits} ends asleep match 2.0 0.0', most=40)
+    # ten draws of the 8 runs, and a hundred, which have all; a seed of 64 bits; where each draw has other choices than those before
+    for limits in ('10 200 1', '100 200 2', '5 12 18446744073709551615', '20 200 4 until witnesses', '0 200 0'):
+        yield Row('sample', TWO_RACES, (), limits, most=40)
+    yield Row('sample', RACE, (*CHOICE, 'match 1.0 0.0'), '10 100 5 witnesses')
+    yield Row('sample', MANY, (), '30 1000 6', most=60)
     yield Row('witness_of', RACE, (), '10 100 1')
     yield Row('witness_of', RACE, CHOICE, '10 100 1')
     yield Row('witness_of', RACE, (), '10 100 0', spares=True)
@@ -379,6 +357,7 @@ def programs():
     yield Row('Divider looks', argument='ab\n---\nlocal 0\n', by_hand=no_state('7 3\n'), spares=True)
     for words, told in (('check a --runs 7 --workers 3', 'check a rendezvous 7 100000 1 3 false'), ('trace a --mode b', 'trace a b'),
                         ('serve a --port 80 --clients 2', 'serve a rendezvous 80 2'), ('verify a b', 'verify a b rendezvous'),
+                        ('verify a b --leaf 7', 'verify a b rendezvous 7'), ('words a --choices 3 --fuel 9', 'words a 3 rendezvous 9'),
                         ('run a', 'run a rendezvous'), ('check a --witness', 'check a rendezvous 1000 100000 1 4 true'),
                         ('check a --runs 0', 'usage false 2'), ('fly', 'usage false 2'), ('--help', 'usage true 0')):
         yield Row('read_options', argument=words, by_hand=no_state(told + '\n'))
@@ -391,5 +370,5 @@ def programs():
 
 def rows():
     """All of them."""
-    for part in (scripts, expressions, lists, boards, cores, trails, reports, sessions, programs, sizes):
+    for part in (scripts, expressions, lists, boards, cores, trails, reports, listings, sessions, programs, sizes):
         yield from part()

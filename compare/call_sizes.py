@@ -8,7 +8,7 @@ import glob
 import itertools
 import os
 
-from call_models import Row, no_state
+from call_given import Row, no_state
 from debugger import BUFFERED
 
 EXAMPLES = os.path.join(os.path.dirname(os.path.abspath(__file__)), '..', 'examples')

@@ -42,7 +42,7 @@ from language import read_up_to
 from modes import SLOTS_DRAWN, SLOTS_EVERY, has_slots, is_turn_of_slots, know_modes, slots_of
 from remembered import steps_remembered
 from runs import held, limit, run_at_once
-from witness import ACCEPTED
+from witness import ACCEPTED, agrees
 from witness_cases import random_verifications
 from worked_explorer import CHECKS, LONG_CHECKS, LONG_TOLD, MISTAKES, MISTAKES_OF_VERIFY, TOLD, wanted_result
 
@@ -241,7 +241,7 @@ def compare_script(chosen, number):
             result, wanted = run(chosen, case), case.wanted()
             met.update(met_in(case, wanted))
             count += 1
-            if result != wanted:
+            if not agrees(result, wanted):
                 found.append((case, first_different(result, wanted)))
             if isinstance(case, Case):
                 written.append((case, result.output))
@@ -298,7 +298,7 @@ def compare_random(chosen, pool):
 def row_problem(chosen, case, wanted):
     """What the program answers otherwise than a worked row wants; None where nothing is."""
     result = run(chosen, case)
-    return None if result == wanted else f'{str(case)[:500]}: {first_different(result, wanted)}'
+    return None if agrees(result, wanted) else f'{str(case)[:500]}: {first_different(result, wanted)}'
 
 
 def mistake_problem(chosen, words):
@@ -366,7 +366,7 @@ def is_noticed(chosen, place):
     for case in (case for number in range(chosen.count) for case in cases_of(chosen, number)):
         said = said_to(chosen, case)
         with mock.patch.object(fault.owner, fault.attribute, fault.replacement):
-            if said != case.wanted():
+            if not agrees(said, case.wanted()):
                 return True
     return False
 

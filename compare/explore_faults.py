@@ -34,6 +34,7 @@ SOUND = Sound(*(getattr(explorer, name) for name in Sound._fields))
 # What is not broken of the texts of witnesses.
 LINES_OF, READ, TOLD, TELL = witness.lines_of, witness.read_witness, witness.told, witness.verify
 LINES = witness.FIRST_LINE, witness.SECOND_LINE
+PASSED = witness.is_passed_over
 
 
 def choosing(change):
@@ -482,10 +483,12 @@ def pattern_faults():
         ('more commas than one', (b'(?:,', b'(?:[, ]*,')), ('one blank in a step', (b')[ \\t]+', b')[ \\t]')), ('no tabs', (b'[ \\t]', b'[ ]')),
         ('no blanks at the ends of a step', (b'[ \\t]*', b' ?')), ('ten digits', (b'{1,9}', b'{1,10}')), ('eight digits', (b'{1,9}', b'{1,8}')),
         ('large letters', (b'(?:local', b'(?:[Ll]ocal')), ('any blank', (b'[ \\t]', b'[ \\t\\r\\x0b\\x0c]')))
-    rest = (('line feeds alone', b'\\n*'), ('anything', b'(?s:.*)'), ('nothing', b''), ('one empty line', b'(?:\\r?\\n)?'), ('blanks', b'\\s*'))
+    rest = (('line feeds alone', b'\\n*'), ('nothing', b''), ('one empty line', b'(?:\\r?\\n)?'))
+    passed = (('anything', lambda line: True), ('blanks', lambda line: not line.strip() or PASSED(line)))
     return ([Breakage(f'{name}, first line', witness, 'FIRST_LINE', pattern(0, *changes)) for name, *changes in first]
             + [Breakage(f'{name}, second line', witness, 'SECOND_LINE', pattern(1, *changes)) for name, *changes in second]
-            + [Breakage(f'{name} behind the second line', witness, 'REST', re.compile(text)) for name, text in rest])
+            + [Breakage(f'{name} behind the second line', witness, 'REST', re.compile(text)) for name, text in rest]
+            + [Breakage(f'{name} behind the second line', witness, 'is_passed_over', replacement) for name, replacement in passed])
 
 
 def order_faults():

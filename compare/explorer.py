@@ -1,9 +1,11 @@
 """The explorer, in the model: the leaves that runs along decisions come to, the report of them, by pieces, and witnesses of deadlocks.
 
-    python3 compare/explorer.py FILE [--runs N] [--split K] ..    answers as `check` of the program does, with all its options
+    python3 compare/explorer.py FILE [--runs N] [--split K] ..    answers as `check` of the program does, with all its options but
+                                                                  `--sample` (sampled.py)
 
-compare/worked_explorer.py and compare/worked_pieces.py have rows of it, compare/explore_rules.py checks on random scripts what must
-hold of it, and compare/explore.py compares a program with it.
+compare/worked_explorer.py, compare/worked_pieces.py, compare/worked_ends.py and compare/worked_explained.py have rows of it,
+compare/explore_rules.py checks on random scripts what must hold of it, and compare/explore.py, compare/ends.py and compare/explained.py
+compare a program with it.
 """
 
 import argparse
@@ -11,6 +13,7 @@ import sys
 from itertools import islice
 from typing import NamedTuple, Optional
 
+import explaining
 import policy
 from debugger import (BAD_FILE, BAD_MODE, BUFFERED, RENDEZVOUS, Debugger, Result, blocked_calls, call_id_of, enabled_steps, file_content, first_world,
                       next_world, outcome, refusal, step_text)
@@ -29,23 +32,28 @@ NO_SUCH_STEP, NOT_STUCK, WRONG_BLOCKED = 32, 33, 34
 
 
 class Leaf(NamedTuple):
-    """Where a run ended: the numbers of the candidates that it took, its steps, and its outcome, or `cut`."""
+    """Where a run ended: the numbers of the candidates that it took, its steps, its outcome, or `cut`, and the lines that explain it."""
     choices: tuple
     steps: tuple
     outcome: str
+    explained: tuple = ()
 
 
 class Run(NamedTuple):
-    """A run on its way; its steps are None at the start, else (those before, the last one)."""
+    """A run on its way; its steps are None at the start, else (those before, the last one).
+
+    What is asleep are the matches that the walk of ends doesn't take behind it; it is None where the run has taken one of these itself.
+    """
     world: object
     fuel: int
     choices: tuple = ()
     steps: Optional[tuple] = None
+    asleep: Optional[tuple] = ()
 
 
 def taken(run, step, *choice):
     """The run behind a step, which has a number where it was chosen among candidates."""
-    return Run(next_world(run.world, step), run.fuel - 1, run.choices + choice, (run.steps, step))
+    return Run(next_world(run.world, step), run.fuel - 1, run.choices + choice, (run.steps, step), run.asleep)
 
 
 def listed(steps):
@@ -77,20 +85,57 @@ def ending(decided, fuel):
     return None if fuel else CUT
 
 
-def walk(world, fuel):
-    """The leaves of all runs from a world, of so many steps at most, by their choices; each is sought when it is asked for."""
-    ahead = [iter([Run(world, fuel)])]
+def leaves_behind(begun, behind):
+    """The leaves of the runs behind one, by their choices, each sought when it is asked for; `behind` gives the runs behind a choice."""
+    ahead = [iter([begun])]
     while ahead:
-        begun = next(ahead[-1], None)
-        if begun is None:
+        found = next(ahead[-1], None)
+        if found is None:
             ahead.pop()
             continue
-        run, decided = followed(begun)
+        run, decided = followed(found)
         ended = ending(decided, run.fuel)
         if ended is None:
-            ahead.append(candidates(run, decided.steps))
+            ahead.append(behind(run, decided.steps))
         else:
             yield Leaf(run.choices, listed(run.steps), ended)
+
+
+def walk(world, fuel):
+    """The leaves of all runs from a world, of so many steps at most."""
+    return leaves_behind(Run(world, fuel), candidates)
+
+
+# ---- the walk of ends, which takes two matches that share no call in one order alone
+
+
+def falls_asleep(step):
+    """Whether a candidate that was tried is not taken behind the later ones: a match isn't, and a wake by one of some handles is."""
+    return step.kind == 'match'
+
+
+def asleep_behind(asleep, steps):
+    """What is asleep behind each candidate of a choice: what was before it, and what was tried there; None where it sleeps itself."""
+    for step in steps:
+        yield None if asleep is None or step in asleep else asleep
+        if asleep is not None and falls_asleep(step):
+            asleep = (*asleep, step)
+
+
+def with_asleep(run, steps):
+    """The runs behind all candidates of a choice, each with what is asleep behind it."""
+    for chosen, asleep in zip(candidates(run, steps), asleep_behind(run.asleep, steps)):
+        yield chosen._replace(asleep=asleep)
+
+
+def awake(run, steps):
+    """The runs behind the candidates of a choice that aren't asleep."""
+    return (chosen for chosen in with_asleep(run, steps) if chosen.asleep is not None)
+
+
+def walk_of_ends(begun):
+    """The leaves of the runs behind one that take nothing that is asleep; none where that one has."""
+    return iter(()) if begun.asleep is None else leaves_behind(begun, awake)
 
 
 class Report(NamedTuple):
@@ -108,8 +153,14 @@ def pieces(begun, split):
     if ending(decided, run.fuel) is not None:
         yield run
         return
-    for chosen in candidates(run, decided.steps):
+    for chosen in with_asleep(run, decided.steps):
         yield from pieces(chosen, split - 1)
+
+
+def ends_part(piece, runs):
+    """What a report of ends has of a piece."""
+    found = list(islice(walk_of_ends(piece), runs + 1))
+    return Report(tuple(found[:runs]), len(found) > runs)
 
 
 def part(piece, runs):
@@ -178,10 +229,11 @@ def verify(script, mode, steps, blocked):
 
 
 def leaf_lines(number, leaf, witnesses):
-    """The line of a leaf, and that of its witness where there is one and it is asked for."""
+    """The line of a leaf, that of its witness where there is one and it is asked for, and those that explain it."""
     yield f'leaf {number} [{" ".join(map(str, leaf.choices))}] {leaf.outcome}'
     if witnesses and (found := witness(leaf)):
         yield f'witness {number}: {", ".join(map(step_text, found.steps))}'
+    yield from leaf.explained
 
 
 def report_text(found, witnesses):
@@ -189,6 +241,28 @@ def report_text(found, witnesses):
     lines = [line for number, leaf in enumerate(found.leaves) for line in leaf_lines(number, leaf, witnesses)]
     lines.append(f'leaves {len(found.leaves)} more {"yes" if found.more else "no"}')
     return ''.join(f'{line}\n' for line in lines)
+
+
+class End(NamedTuple):
+    """One of the different outcomes of a report: how many leaves end so, and the number of the first of these."""
+    outcome: str
+    leaves: int
+    first: int
+
+
+def ends_of(found):
+    """The different outcomes of a report, in the order in which it has them first."""
+    outcomes = [leaf.outcome for leaf in found.leaves]
+    return [End(outcome, outcomes.count(outcome), outcomes.index(outcome)) for outcome in dict.fromkeys(outcomes)]
+
+
+def group_text(found, witnesses):
+    """The text of a report with a line for each different outcome in the place of its leaves, and what stands below that of its first leaf."""
+    lines = []
+    for number, end in enumerate(ends_of(found)):
+        lines.append(f'end {number} leaves {end.leaves} first {end.first} {end.outcome}')
+        lines += list(leaf_lines(end.first, found.leaves[end.first], witnesses))[1:]
+    return ''.join(f'{line}\n' for line in lines) + report_text(found, False).splitlines(keepends=True)[-1]
 
 
 def is_bad(leaf):
@@ -228,7 +302,8 @@ def status_of(script, mode, found, complete):
 
 
 class Asked(NamedTuple):
-    """The options of a check; one that is None is left out. `until` is whether the first deadlock or trap is the last leaf."""
+    """The options of a check; one that is None is left out. `until` is whether the first deadlock or trap is the last leaf, `ends` whether
+    the walk of ends is listed, `explain` whether each deadlock and each trap is explained."""
     mode: Optional[str] = None
     runs: Optional[int] = None
     fuel: Optional[int] = None
@@ -240,6 +315,9 @@ class Asked(NamedTuple):
     piece: Optional[int] = None
     pieces: bool = False
     modes: Optional[int] = None
+    ends: bool = False
+    group: bool = False
+    explain: bool = False
 
 
 # What is meant where an option is left out.
@@ -254,8 +332,13 @@ def refused(line):
 def reported(cut, asked):
     """The report by the pieces that a script was cut into: of all of them, or of the one that is asked for."""
     chosen = cut if asked.piece is None else [cut[asked.piece]]
-    found = joined([part(piece, asked.runs) for piece in chosen])
+    found = joined([(ends_part if asked.ends else part)(piece, asked.runs) for piece in chosen])
     return up_to_bad(found) if asked.until else found
+
+
+def explained(script, mode, found):
+    """A report with what explains each of its leaves."""
+    return found._replace(leaves=tuple(leaf._replace(explained=explaining.explanation(script, mode, leaf)) for leaf in found.leaves))
 
 
 def counted(found):
@@ -280,6 +363,13 @@ def modes_tried(script, asked):
     return Result(''.join([*lines, f'least {least}\n']).encode(), b'', status)
 
 
+def told(script, asked, found):
+    """The result of a check of a script that comes to a report."""
+    found = explained(script, asked.mode, found) if asked.explain else found
+    text = (group_text if asked.group else report_text)(found, asked.witnesses)
+    return Result(text.encode(), b'', status_of(script, asked.mode, found, asked.complete))
+
+
 def checked(script, asked):
     """The result of a check of a script that was read: workers are tested first, then the number of pieces, and then that of the piece."""
     if not 1 <= asked.workers <= MOST_WORKERS:
@@ -293,8 +383,7 @@ def checked(script, asked):
         return Result(f'pieces {len(cut)}\n'.encode(), b'', 0)
     if asked.piece is not None and asked.piece >= len(cut):
         return refused(f'no piece {asked.piece} of {len(cut)}')
-    found = reported(cut, asked)
-    return Result(report_text(found, asked.witnesses).encode(), b'', status_of(script, asked.mode, found, asked.complete))
+    return told(script, asked, reported(cut, asked))
 
 
 def check(text, asked):
@@ -319,8 +408,9 @@ def option_words(asked):
     """The options as words of the command line."""
     numbers = [(name, getattr(asked, name)) for name in ('mode', 'runs', 'fuel', 'split', 'workers', 'piece', 'modes')]
     there = [(f'--{name}', str(value)) for name, value in numbers if value is not None]
-    flags = ['--witness'] * asked.witnesses + ['--complete'] * asked.complete + ['--pieces'] * asked.pieces
-    return [word for pair in there for word in pair] + flags + ['--until', 'deadlock'] * asked.until
+    flags = [('--witness', asked.witnesses), ('--complete', asked.complete), ('--pieces', asked.pieces), ('--ends', asked.ends),
+             ('--group', asked.group), ('--explain', asked.explain)]
+    return [word for pair in there for word in pair] + [flag for flag, is_there in flags if is_there] + ['--until', 'deadlock'] * asked.until
 
 
 def number_between(least, most):
@@ -342,8 +432,8 @@ def asked_by(words):
         parser.add_argument(f'--{name}', type=number_between(least, most), metavar='N')
     parser.add_argument('--until', choices=['deadlock'])
     parser.add_argument('--witness', dest='witnesses', action='store_true')
-    parser.add_argument('--complete', action='store_true')
-    parser.add_argument('--pieces', action='store_true')
+    for name in ('complete', 'pieces', 'ends', 'group', 'explain'):
+        parser.add_argument(f'--{name}', action='store_true')
     chosen = vars(parser.parse_args(words))
     file = chosen.pop('file')
     return file, Asked(**{**chosen, 'until': chosen['until'] is not None})

@@ -30,7 +30,8 @@ from typing import NamedTuple
 import refused_memory
 import session_memory
 from call_coverage import not_called
-from call_models import trail_text, wanted
+from call_given import trail_text
+from call_models import wanted
 from call_rows import rows
 from calls_program import Body, TOP, build
 from debugger import Debugger, Result, divided
@@ -44,7 +45,7 @@ SMALL_STACK = ('sh', '-c', 'ulimit -S -s 512 && exec "$0" "$@"')
 # Of these, which go on behind a refusal, each line is judged by itself.
 BY_LINES = ('mpd_trail::follow', 'trace', 'plain', 'plain_keeping', 'serve', 'run_script')
 # What threads ask for isn't the same each time, and what a worker is refused its caller does.
-BY_WORKERS = ('mpd_pool::check', 'mpd_check::check')
+BY_WORKERS = ('mpd_pool::check', 'mpd_check::check', 'check_listing')
 # Of the reports that the shim writes, each run has its own.
 NUMBERS = itertools.count()
 SECTION = re.compile(r'^= (state|answer|memory|end)\n', re.M)

@@ -132,7 +132,7 @@ def reports():
     yield 'a witness of other calls', Verification(DECIDED, text.replace(b' 0.1', b' 0.1 0.1', 1))
     yield 'a witness of other steps', Verification(DECIDED, text.replace(b', wake 0', b', wake 0, wake 0', 1))
     yield 'a witness in the other mode', Verification(DECIDED, text, BUFFERED)
-    yield 'a text that is no witness', Verification(DECIDED, text + b'x')
+    yield 'a text that is no witness', Verification(DECIDED, text.replace(b', wake 0', b', wake x', 1))
 
 
 def reports_by_workers():

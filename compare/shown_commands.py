@@ -37,7 +37,7 @@ RUN = ('./mpdbg', 'cat ', 'sed ', 'echo ', 'mkdir ', 'seq ', 'sbatch ', 'sh exam
 EXCERPTS = {
     'README.md': ('proving ', 'checked as it runs'),
     'docs/FORMATS.md': ('enabled local 3', 'handles 1', 'leaf N ', 'rendezvous leaves 2', 'witness N: ', 'leaf 1 [1] deadlock', 'deadlock 0.1', 'mpdbg: script refused', 'mpdbg: device',
-                        'every way it can end', 'JSON requests'),
+                        'every way it can end', 'JSON requests', 'end 0 leaves 3'),
     'docs/GATE.md': ('fn: ',)}
 # Files that a page names by a word: a script, words for it, and a witness of it, which is made.
 FILES = {'FILE': 'examples/race.mpd', 'WORDS': 'examples/race.words', 'WITNESS': 'made.witness', '--port P': '--port 7007', '--clients N': '--clients 2'}
@@ -55,10 +55,16 @@ for number in $(seq "${range%-*}" "${range#*-}"); do
   SLURM_ARRAY_TASK_ID=$number sh "$script" || exit 1
 done
 '''
-# What the examples of help answer.
-HELP = {'--help': 'first.stdout', 'trace --help': 'ok 1\n', 'verify --help': 'accepted\n',
-        'serve --help': 'listening 4000\nserved 0\n', 'run --help': '{"depth":6,"ok":true,"steps":6,"stop":"choice","version":1}\n',
-        'check --help': 'leaf 0 [] deadlock 0.0 1.0\nwitness 0: local 0, local 1\nleaves 1 more no\n'}
+# What the examples of help answer, each in its turn.
+STUCK = '  rank {0} waits at line 4, {0}.0 send to {1} tag 5 value {0}: for a receive of rank {1} from rank {0} with tag 5\n'
+HELP = {'--help': ['first.stdout'], 'trace --help': ['ok 1\n'], 'verify --help': ['accepted\n'],
+        'serve --help': ['listening 4000\nserved 0\n'], 'run --help': ['{"depth":6,"ok":true,"steps":6,"stop":"choice","version":1}\n'],
+        'words --help': [''.join(f'ok {depth}\n' for depth in range(1, 11))],
+        'check --help': [
+            'leaf 0 [] deadlock 0.0 1.0\nwitness 0: local 0, local 1\n' + STUCK.format(0, 1) + STUCK.format(1, 0)
+            + '  rank 0 waits for rank 1\n  rank 1 waits for rank 0\n  a cycle, where each waits for the next: rank 0, rank 1, rank 0\nleaves 1 more no\n',
+            'end 0 leaves 1 first 0 deadlock 0.1 2.0\nend 1 leaves 1 first 1 done\nleaves 2 more no\n',
+            'leaf 0 [0] deadlock 0.1 2.0\nleaf 1 [1] done\nleaves 2 more no\n']}
 
 
 class Shown(NamedTuple):
@@ -221,8 +227,11 @@ def help_commands(copy):
     """The commands that the texts of help show behind `Example:`, and what they answer."""
     for words, wanted in HELP.items():
         text = subprocess.run(['./mpdbg', *words.split()], cwd=copy, capture_output=True, text=True, check=True).stdout
-        example = text.partition('\nExample:\n')[2].strip()
-        yield Shown(words, example, read(f'{TOP}/examples/{wanted}') if wanted.endswith('.stdout') else wanted)
+        examples = re.split(r'\nExamples?:\n', text)[-1].strip().split('\n')
+        if len(examples) != len(wanted):
+            yield Shown(words, '')
+        for example, answer in zip(examples, wanted):
+            yield Shown(words, example.strip(), read(f'{TOP}/examples/{answer}') if answer.endswith('.stdout') else answer)
 
 
 def run(copy, command):
@@ -283,7 +292,7 @@ def answer_of_example(command):
 def problem_of(shown, result):
     """What is wrong with what a command gave; None where nothing is."""
     said = result.output.decode()
-    is_bad = re.search(r'^leaf .*\] (?:deadlock|trap) |^\S+ leaves \d+ (?:deadlocks [1-9]|deadlocks 0 traps [1-9])', said, re.M)
+    is_bad = re.search(r'^leaf .*\] (?:deadlock|trap) |^end .* first \d+ (?:deadlock|trap) |^\S+ leaves \d+ (?:deadlocks [1-9]|deadlocks 0 traps [1-9])', said, re.M)
     status = 1 if is_bad and '|' not in shown.command else 0
     if not shown.command or result.errors or result.status != status:
         return f'status {result.status}, {result.errors.decode()!r}'

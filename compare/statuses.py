@@ -31,7 +31,7 @@ from examples import EXAMPLES, checks, example_names, lessons, open_example, str
 from language import MOST_OPEN_BLOCKS, MOST_OPERATORS, read_script, read_up_to
 from modes import KNOWN, know_modes
 from part_statuses import ROWS as PART_ROWS
-from runs import file_of, run_in_packets
+from runs import file_of, held, run_in_packets
 from session_statuses import ROWS as SESSION_ROWS
 from shims import built
 from usage_texts import ANSWERS, BEFORE_A_MODE, MISTAKES, NO_MODE, NO_TEXT, known
@@ -489,6 +489,15 @@ SUMMED = (
     ('waitany', '--split 0 --runs 1 --fuel 21', 0, 'not everything was tried: 1 run was listed, and there are more (--runs), 1 run was cut (--fuel), '
      'what a waitany takes may depend on the order of steps'),
     ('waited_twice', '--until deadlock --complete', 1, 'not everything was tried: what a waitany takes may depend on the order of steps'),
+    # a report that lists ends, each once, tells as much as one that lists all runs
+    ('four_races', '--ends', 0, 'every way it can end is listed: it always ends, and never in a deadlock or trap'),
+    ('four_races', '--ends --complete', 0, 'every way it can end is listed: it always ends, and never in a deadlock or trap'),
+    ('four_races', '--ends --split 0 --runs 3', 0, 'not everything was tried: 3 runs were listed, and there are more (--runs)'),
+    ('one_in_seven', '--ends', 1, 'every way it can end is listed: it always ends, in 7 ways, 1 of them a deadlock'),
+    ('waitany', '--ends --complete', 4, 'not everything was tried: what a waitany takes may depend on the order of steps'),
+    # so does one of runs that are drawn, where all of them were
+    ('one_in_seven', '--sample 500 --complete', 1, 'every way it can end is listed: it always ends, in 7 ways, 1 of them a deadlock'),
+    ('first_message', '--sample 5 --complete', 0, 'every way it can end is listed: it always ends, and never in a deadlock or trap'),
     # a deadlock was found, so the status is not that of a report that isn't whole
     ('race', '--split 0 --runs 1 --complete', 1, 'not everything was tried: 1 run was listed, and there are more (--runs)'),
 )
@@ -528,6 +537,24 @@ def summed_rows(program):
         yield f'a terminal, check {name} {options}', (result.errors, result.status), (line.encode() + b'\n', status)
         quiet = Files(None).run(program, *words)
         yield f'no terminal, check {name} {options}', quiet, Result(result.output, b'', status)
+
+
+# Two ranks that send before they receive, a witness of that, and a mode; and what a terminal is told below the verdict.
+HINTED = ((None, b'accepted', b'', 0), ('buffered', b'refused 33 not-stuck', b'  accepted in mode rendezvous (--mode)', 1), ('slots:0', b'accepted', b'', 0),
+          ('slots:1', b'refused 33 not-stuck', b'  accepted in mode rendezvous (--mode)', 1))
+
+
+def hint_rows(program):
+    """At a terminal, and there alone, a line below a verdict says in which other mode the witness is one."""
+    script = os.path.join(EXAMPLES, 'head_to_head.mpd')
+    with tempfile.TemporaryDirectory() as folder:
+        for text in (b'deadlock 0.0 1.0\nlocal 0, local 1\n', b'leaf 0 [] deadlock 0.0 1.0\nwitness 0: local 0, local 1\nleaves 1 more no\n'):
+            witness = held(folder, 'witness.txt', text)
+            for mode, verdict, hint, status in HINTED:
+                words = ('verify', script, witness, *(() if mode is None else ('--mode', mode)))
+                told = Result(verdict + b'\n', hint + b'\n' if hint else b'', status)
+                yield f'a terminal, {words[3:]} of {text[:20]}', at_terminal(program, *words), told
+                yield f'no terminal, {words[3:]} of {text[:20]}', Files(None).run(program, *words), told._replace(errors=b'')
 
 
 def deepest(block, opening, closing, cost):
@@ -571,7 +598,7 @@ def much_rows(program):
     yield f'much to show with {MUCH_MIB} MiB', result, wanted
 
 
-ROWS = (ended_rows, example_rows, refused_rows, device_rows, usage_rows, trace_rows, terminal_rows, found_rows, why_rows, progress_rows, summed_rows,
+ROWS = (ended_rows, example_rows, refused_rows, device_rows, usage_rows, trace_rows, terminal_rows, found_rows, why_rows, progress_rows, summed_rows, hint_rows,
         interrupted_rows, talk_rows, stack_rows, much_rows, full_rows, turns_rows, lesson_rows, *WORKED_ROWS, *PART_ROWS, *SESSION_ROWS,
         *DEVICE_ROWS, *CONNECTION_ROWS)
 

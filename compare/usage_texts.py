@@ -25,6 +25,7 @@ Commands:
   serve   Answer JSON requests of several clients, on one session
   check   Look for deadlocks: try the choices of wildcard receives one after another
   verify  Check a witness that check has written
+  words   Write the trace words of the run with these choices
   help    Print this message or the help of the given subcommand(s)
 
 Options:
@@ -112,9 +113,14 @@ Options:
       --mode <M>     How standard sends behave: rendezvous, buffered, or slots:K with K from 0 to 65536 [default: rendezvous]
       --modes <N>    Try rendezvous, slots:1 to slots:N and buffered in place of one mode, 0 to 1000
       --runs <N>     How many runs of each piece are tried at most, 1 to 65536 [default: 1000]
-      --fuel <N>     How many steps each run takes at most, 1 to 1000000 [default: 100000]
+      --fuel <N>     How many steps a run takes at most, 1 to 1000000 [default: 100000]
       --split <K>    By how many choices the runs are cut into pieces, 0 to 8 [default: 1]
       --workers <N>  How many workers make the report, 1 to 16 [default: 4]
+      --ends         List one of runs that differ only in the order of choices that share no call
+      --sample <N>   Draw the choices of N runs at random, 1 to 65536
+      --seed <S>     What --sample begins to draw with, 0 to 18446744073709551615 [default: 0]
+      --explain      Explain each deadlock and each trap: what waits, and for what
+      --group        List each different end once, with how many runs come to it
       --until <END>  List the runs up to the first that ends in a deadlock or a trap [possible values: deadlock]
       --witness      Print the trace words of a run that comes to a deadlock
       --complete     End with status 4 where nothing was found and not all was tried
@@ -122,8 +128,10 @@ Options:
       --pieces       Print how many pieces there are, and nothing else
   -h, --help         Print help
 
-Example:
-  ./mpdbg check examples/exchange.mpd --witness
+Examples:
+  ./mpdbg check examples/exchange.mpd --witness --explain
+  ./mpdbg check examples/race.mpd --ends --group
+  ./mpdbg check examples/race.mpd --sample 100 --seed 7
 """
 
 VERIFY = """\
@@ -137,10 +145,31 @@ Arguments:
 
 Options:
       --mode <M>  How standard sends behave: rendezvous, buffered, or slots:K with K from 0 to 65536 [default: rendezvous]
+      --leaf <N>  Take the witness of leaf N of a whole report, 0 to 67108863
   -h, --help      Print help
 
 Example:
-  ./mpdbg check examples/race.mpd --witness | grep -A 1 deadlock | head -2 | ./mpdbg verify examples/race.mpd /dev/stdin
+  ./mpdbg check examples/race.mpd --witness | ./mpdbg verify examples/race.mpd /dev/stdin --leaf 0
+"""
+
+WORDS = """\
+Write the trace words of the run with these choices
+
+Usage: mpdbg words [OPTIONS] --choices <C> <FILE>
+
+Arguments:
+  <FILE>  The script
+
+Options:
+      --mode <M>     How standard sends behave: rendezvous, buffered, or slots:K with K from 0 to 65536 [default: rendezvous]
+      --choices <C>  The choices of the run, numbers from 0 with spaces between them
+      --fuel <N>     How many steps a run takes at most, 1 to 1000000 [default: 100000]
+  -h, --help         Print help
+
+The choices are those of a leaf of `mpdbg check`: the run of `leaf 3 [0 1 0] ..` is that of --choices '0 1 0'.
+
+Example:
+  ./mpdbg words examples/race.mpd --choices '0' | ./mpdbg trace examples/race.mpd
 """
 
 VERSION = 'mpdbg 0.1.0\n'
@@ -161,14 +190,19 @@ ANSWERS = (
     ('serve|--help', SERVE), ('serve|-h', SERVE), ('help|serve', SERVE), ('serve|no-such-file|--port|1|--mode|no-mode|--help', SERVE),
     ('check|--help', CHECK), ('check|-h', CHECK), ('help|check', CHECK), ('check|a|--runs|5|-h', CHECK),
     ('check|a|--until|deadlock|--split=8|--workers|0|--piece|1023|--pieces|--help', CHECK), ('check|a|--modes|1000|-h', CHECK),
-    ('verify|--help', VERIFY), ('verify|-h', VERIFY), ('help|verify', VERIFY), ('verify|a|b|--help', VERIFY))
+    ('check|a|--ends|--sample|65536|--seed=18446744073709551615|--explain|--group|-h', CHECK),
+    ('verify|--help', VERIFY), ('verify|-h', VERIFY), ('help|verify', VERIFY), ('verify|a|b|--help', VERIFY),
+    ('verify|a|b|--leaf|67108863|-h', VERIFY),
+    ('words|--help', WORDS), ('words|-h', WORDS), ('help|words', WORDS), ('words|no-such-file|--choices|x|--mode|no-mode|--help', WORDS))
 
 NO_COMMAND = 'mpdbg <COMMAND>'
-OF_TRACE, OF_RUN, OF_SERVE, OF_CHECK, OF_VERIFY = (
+OF_TRACE, OF_RUN, OF_SERVE, OF_CHECK, OF_VERIFY, OF_WORDS = (
     f'mpdbg {rest}' for rest in ('trace [OPTIONS] <FILE>', 'run [OPTIONS] <FILE>', 'serve [OPTIONS] --port <P> --clients <N> <FILE>', 'check [OPTIONS] <FILE>',
-                                 'verify [OPTIONS] <FILE> <WITNESS>'))
+                                 'verify [OPTIONS] <FILE> <WITNESS>', 'words [OPTIONS] --choices <C> <FILE>'))
 # What `serve` wants, where something that was given is named.
 WANTED_OF_SERVE = 'mpdbg serve --port <P> --clients <N> <FILE>'
+# And what `words` wants.
+WANTED_OF_WORDS = 'mpdbg words --choices <C> <FILE>'
 
 
 class Mistake(NamedTuple):
@@ -218,6 +252,8 @@ MISTAKES = (
     Mistake('Serve|a', "unrecognized subcommand 'Serve'", NO_COMMAND, "a similar subcommand exists: 'serve'"),
     Mistake('help|serve|x', "unrecognized subcommand 'x'", OF_SERVE),
     Mistake('verfy|a|b', "unrecognized subcommand 'verfy'", NO_COMMAND, "a similar subcommand exists: 'verify'"),
+    Mistake('word|a', "unrecognized subcommand 'word'", NO_COMMAND, "a similar subcommand exists: 'words'"),
+    Mistake('help|words|x', "unrecognized subcommand 'x'", OF_WORDS),
     Mistake('a.mpd', "unrecognized subcommand 'a.mpd'", NO_COMMAND),
     Mistake('', "unrecognized subcommand ''", NO_COMMAND),
     Mistake('help|trac', "unrecognized subcommand 'trac'", NO_COMMAND),
@@ -226,6 +262,7 @@ MISTAKES = (
     unknown('-x', '-x', NO_COMMAND),
     unknown('--mode|buffered|trace|a', '--mode', NO_COMMAND, "'trace --mode' exists"),
     unknown('--port|1|serve|a|--clients|1', '--port', NO_COMMAND, "'serve --port' exists"),
+    unknown('--choices|0|words|a', '--choices', NO_COMMAND, "'words --choices' exists"),
     unknown('--|trace|a', 'trace', NO_COMMAND, "subcommand 'trace' exists; to use it, remove the '--' before it"),
     # files, and options that must be there
     missing('trace', ['<FILE>'], 'mpdbg trace <FILE>'),
@@ -242,13 +279,23 @@ MISTAKES = (
     missing('check|--pieces', ['<FILE>'], 'mpdbg check --pieces <FILE>'),
     missing('check|--modes|4', ['<FILE>'], 'mpdbg check --modes <N> <FILE>'),
     missing('check|--until|deadlock', ['<FILE>'], 'mpdbg check --until <END> <FILE>'),
+    missing('check|--ends', ['<FILE>'], 'mpdbg check --ends <FILE>'),
+    missing('check|--sample|5|--seed|6', ['<FILE>'], 'mpdbg check --sample <N> --seed <S> <FILE>'),
+    missing('check|--explain|--group', ['<FILE>'], 'mpdbg check --explain --group <FILE>'),
     missing('verify', ['<FILE>', '<WITNESS>'], 'mpdbg verify <FILE> <WITNESS>'),
     missing('verify|a', ['<WITNESS>'], 'mpdbg verify <FILE> <WITNESS>'),
+    missing('verify|a|--leaf|1', ['<WITNESS>'], 'mpdbg verify --leaf <N> <FILE> <WITNESS>'),
+    missing('words', ['--choices <C>', '<FILE>'], WANTED_OF_WORDS),
+    missing('words|a', ['--choices <C>'], WANTED_OF_WORDS),
+    missing('words|--choices|0', ['<FILE>'], WANTED_OF_WORDS),
+    missing('words|a|--fuel|5', ['--choices <C>'], 'mpdbg words --choices <C> --fuel <N> <FILE>'),
     unknown('trace|a|b', 'b', OF_TRACE),
     unknown('run|a|b', 'b', OF_RUN),
     unknown('serve|a|b|--port|1|--clients|1', 'b', OF_SERVE),
     unknown('check|a|b', 'b', OF_CHECK),
     unknown('verify|a|b|c', 'c', OF_VERIFY),
+    unknown('words|a|b|--choices|0', 'b', OF_WORDS),
+    unknown('words|a|--choices|0|1', '1', OF_WORDS),
     # options
     unknown('trace|a|--mod|buffered', '--mod', 'mpdbg trace --mode <M> <FILE>', "a similar argument exists: '--mode'"),
     unknown('check|a|--witnes', '--witnes', 'mpdbg check --witness <FILE>', "a similar argument exists: '--witness'"),
@@ -257,6 +304,13 @@ MISTAKES = (
     unknown('check|a|--peice|2', '--peice', 'mpdbg check --piece <N> <FILE>', "a similar argument exists: '--piece'"),
     unknown('check|a|--mods|4', '--mods', 'mpdbg check --modes <N> <FILE>', "a similar argument exists: '--modes'"),
     unknown('check|a|--untill|deadlock', '--untill', 'mpdbg check --until <END> <FILE>', "a similar argument exists: '--until'"),
+    unknown('check|a|--end', '--end', 'mpdbg check --ends <FILE>', "a similar argument exists: '--ends'"),
+    unknown('check|a|--samples|5', '--samples', 'mpdbg check --sample <N> <FILE>', "a similar argument exists: '--sample'"),
+    unknown('check|a|--sed|5', '--sed', 'mpdbg check --seed <S> <FILE>', "a similar argument exists: '--seed'"),
+    unknown('check|a|--explian', '--explian', 'mpdbg check --explain <FILE>', "a similar argument exists: '--explain'"),
+    unknown('check|a|--groups', '--groups', 'mpdbg check --group <FILE>', "a similar argument exists: '--group'"),
+    unknown('verify|a|b|--leafs|1', '--leafs', 'mpdbg verify --leaf <N> <FILE> <WITNESS>', "a similar argument exists: '--leaf'"),
+    unknown('words|a|--choice|0', '--choice', WANTED_OF_WORDS, "a similar argument exists: '--choices'"),
     unknown('run|a|--mod|buffered', '--mod', 'mpdbg run --mode <M> <FILE>', "a similar argument exists: '--mode'"),
     hyphened('run|a|--witness', '--witness', 'mpdbg run <FILE>'),
     hyphened('run|a|--port|1', '--port', 'mpdbg run <FILE>'),
@@ -279,6 +333,13 @@ MISTAKES = (
     hyphened('check|a|--runs|-1', '-1', OF_CHECK),
     hyphened('check|a|--split|-1', '-1', OF_CHECK),
     hyphened('check|a|--modes|-1', '-1', OF_CHECK),
+    hyphened('check|a|--sample|-1', '-1', OF_CHECK),
+    hyphened('check|a|--seed|-1', '-1', OF_CHECK),
+    hyphened('verify|a|b|--leaf|-1', '-1', OF_VERIFY),
+    hyphened('words|a|--choices|-1', '-1', OF_WORDS),
+    hyphened('words|a|-c|0', '-c', OF_WORDS),
+    hyphened('words|a|--runs|5', '--runs', WANTED_OF_WORDS),
+    hyphened('trace|a|--ends', '--ends', 'mpdbg trace <FILE>'),
     Mistake('trace|a|--mode', "a value is required for '--mode <M>' but none was supplied"),
     Mistake('check|a|--fuel', "a value is required for '--fuel <N>' but none was supplied"),
     Mistake('trace|a|--mode|buffered|--mode=buffered', "the argument '--mode <M>' cannot be used multiple times", OF_TRACE),
@@ -293,10 +354,25 @@ MISTAKES = (
     Mistake('check|a|--split', "a value is required for '--split <K>' but none was supplied"),
     Mistake('check|a|--modes', "a value is required for '--modes <N>' but none was supplied"),
     Mistake('check|a|--piece|--pieces', "a value is required for '--piece <N>' but none was supplied"),
+    Mistake('check|a|--sample', "a value is required for '--sample <N>' but none was supplied"),
+    Mistake('check|a|--seed|--sample|5', "a value is required for '--seed <S>' but none was supplied"),
+    Mistake('verify|a|b|--leaf', "a value is required for '--leaf <N>' but none was supplied"),
+    Mistake('words|a|--choices', "a value is required for '--choices <C>' but none was supplied"),
+    Mistake('words|a|--choices|--fuel|5', "a value is required for '--choices <C>' but none was supplied"),
     Mistake('check|a|--workers|4|--workers=4', "the argument '--workers <N>' cannot be used multiple times", OF_CHECK),
     Mistake('check|a|--modes|4|--modes=4', "the argument '--modes <N>' cannot be used multiple times", OF_CHECK),
     Mistake('check|a|--piece=1|--piece=2', "the argument '--piece <N>' cannot be used multiple times", OF_CHECK),
     Mistake('check|a|--until=deadlock|--until=deadlock', "the argument '--until <END>' cannot be used multiple times", OF_CHECK),
+    Mistake('check|a|--sample=5|--sample=5', "the argument '--sample <N>' cannot be used multiple times", OF_CHECK),
+    Mistake('check|a|--seed|5|--seed=6', "the argument '--seed <S>' cannot be used multiple times", OF_CHECK),
+    Mistake('check|a|--ends|--ends', "the argument '--ends' cannot be used multiple times", OF_CHECK),
+    Mistake('check|a|--explain|--explain', "the argument '--explain' cannot be used multiple times", OF_CHECK),
+    Mistake('check|a|--group|--group', "the argument '--group' cannot be used multiple times", OF_CHECK),
+    Mistake('check|a|--ends=true', "unexpected value 'true' for '--ends' found; no more were expected", 'mpdbg check --ends <FILE>'),
+    Mistake('check|a|--explain=1', "unexpected value '1' for '--explain' found; no more were expected", 'mpdbg check --explain <FILE>'),
+    Mistake('check|a|--group=a', "unexpected value 'a' for '--group' found; no more were expected", 'mpdbg check --group <FILE>'),
+    Mistake('verify|a|b|--leaf|1|--leaf=1', "the argument '--leaf <N>' cannot be used multiple times", OF_VERIFY),
+    Mistake('words|a|--choices|0|--choices=0', "the argument '--choices <C>' cannot be used multiple times", OF_WORDS),
     Mistake('check|a|--pieces|--pieces', "the argument '--pieces' cannot be used multiple times", OF_CHECK),
     Mistake('check|a|--pieces=5', "unexpected value '5' for '--pieces' found; no more were expected", 'mpdbg check --pieces <FILE>'),
     Mistake('check|a|--witness|--witness', "the argument '--witness' cannot be used multiple times", OF_CHECK),
@@ -329,6 +405,16 @@ MISTAKES = (
     bad_number('check|a|--modes|x', 'x', 'modes', NO_DIGIT),
     bad_number('check|a|--piece|1024', '1024', 'piece', '1024 is not in 0..=1023'),
     bad_number('check|a|--piece=99999999999999999999', '99999999999999999999', 'piece', TOO_LARGE),
+    bad_number('check|a|--sample|0', '0', 'sample', '0 is not in 1..=65536'),
+    bad_number('check|a|--sample=65537', '65537', 'sample', '65537 is not in 1..=65536'),
+    bad_number('check|a|--sample|ten', 'ten', 'sample', NO_DIGIT),
+    bad_number('check|a|--seed|18446744073709551616', '18446744073709551616', 'seed', TOO_LARGE, 'S'),
+    bad_number('check|a|--seed=-1', '-1', 'seed', NO_DIGIT, 'S'),
+    bad_number('check|a|--seed=', '', 'seed', 'cannot parse integer from empty string', 'S'),
+    bad_number('verify|a|b|--leaf|67108864', '67108864', 'leaf', '67108864 is not in 0..=67108863'),
+    bad_number('verify|a|b|--leaf=one', 'one', 'leaf', NO_DIGIT),
+    bad_number('words|a|--choices|0|--fuel|0', '0', 'fuel', '0 is not in 1..=1000000'),
+    bad_number('words|a|--fuel=1000001', '1000001', 'fuel', '1000001 is not in 1..=1000000'),
     bad_number('check|a|--runs=', '', 'runs', 'cannot parse integer from empty string'),
     bad_number('check|a|--runs|99999999999999999999', '99999999999999999999', 'runs', TOO_LARGE))
 

@@ -6,7 +6,8 @@ They are of barriers, of synchronous sends, of both modes, of the words that go 
 some steps. Each row here is a script, a mode, and words with what each is answered; behind the words stands what `show` prints, in
 part. Traces whose every byte was worked out stand in compare/worked_traces.py, texts that print, trap or are refused in
 compare/worked_texts.py; compare/statuses.py has the built program answer all these too. Decisions, breakpoints and runs stand in
-compare/worked_runs.py, reports and witnesses in compare/worked_explorer.py, reports by pieces in compare/worked_pieces.py, dialogues of a
+compare/worked_runs.py, reports and witnesses in compare/worked_explorer.py, reports by pieces in compare/worked_pieces.py, those that list ends
+or group them, and runs by their choices, in compare/worked_ends.py, explanations in compare/worked_explained.py, dialogues of a
 session in compare/worked_sessions.py, rows of all these kinds for version 2 in compare/worked_waitany.py, and for the modes `slots:K` in
 compare/worked_slots.py. The lessons of docs/COURSE.md are rows too, with their answers in files. The status is 0 where the model answers
 all of them so.
@@ -17,6 +18,8 @@ from unittest import mock
 
 import debugger
 import explorer
+import worked_ends
+import worked_explained
 import worked_explorer
 import worked_pieces
 import worked_sessions
@@ -375,6 +378,8 @@ def main():
         problems += rows.problems()
         problems += worked_sessions.dialogue_problems(rows.DIALOGUES)
     problems += worked_pieces.problems()
+    problems += worked_ends.problems()
+    problems += list(worked_explained.problems())
     problems += worked_sessions.problems()
     problems += [(statement, refusal_problem(statement, fault, place)) for statement, fault, place in REFUSED]
     problems += [(f'{lesson.name} ({lesson.mode})', lesson_problem(lesson)) for lesson in lessons()]

@@ -173,7 +173,9 @@ MISTAKES = ('--runs 0', '--runs 65537', '--runs', '--runs -1', '--fuel 0', '--fu
             '--port 5', '--no-such-option', '--witness 1', '--split 9', '--split', '--split -1', '--split one', '--split 1 --split 1',
             '--workers 1001', '--workers', '--workers -1', '--workers 2.0', '--piece 1024', '--piece', '--piece -1', '--piece 0 --piece 0',
             '--pieces 1', '--pieces=yes', '--pieces --pieces', '--until', '--until trap', '--until cut', '--until=', '--until Deadlock',
-            '--until deadlock --until deadlock')
+            '--until deadlock --until deadlock', '--ends 1', '--ends=1', '--ends --ends', '--explain 1', '--explain=yes', '--explain --explain',
+            '--group 1', '--group=yes', '--group --group', '--sample 0', '--sample 65537', '--sample', '--sample -1', '--sample ten',
+            '--sample 1 --sample 1', '--seed', '--seed -1', '--seed 18446744073709551616', '--seed x', '--seed 1 --seed 1', '--leaf 1', '--choices 1')
 
 
 class PlaceRow(NamedTuple):
@@ -316,6 +318,8 @@ TOLD = (
     # one carriage return before a line feed, or at the end; empty lines behind
     *(told(f'{LEAF}{end}{STEPS}{rest}', 'accepted') for end, rest in (
         ('\r\n', ''), ('\n', '\r'), ('\n', '\r\n\r\n'), ('\r\n', '\n\r'), ('\n', '\n\n\r\n\n'))),
+    # a report that has one witness
+    told(f'{WITNESSED}\n'.replace('; ', '\n'), 'accepted'), told(f'{LEAF}\n{STEPS}\nleaves 2 more no\n', 'accepted'),
     # texts that are no witness by their first line
     *(bad(f'{line}\n{STEPS}\n', 1) for line in (
         '', 'deadlock', 'deadlock ', 'leaf 1 [1]', 'leaf 1 [1] deadlock', 'leaf 1 [1] done', 'leaf 1 [1] leftovers 0.1 1.0', 'leaf 1 [1] cut',
@@ -330,9 +334,9 @@ TOLD = (
         'local 0, ', 'local 0 0', 'local 0.0', 'local x', 'local -1', 'local 1000000000', 'match 0.0', 'match 0 0', 'match 0.0 1.0 2.0',
         'match 0.0, 1.0', 'wake', 'release 0', 'releases', 'back', 'redo', 'goto 0', 'show', 'enabled', 'Local 0', 'local 0.', 'local0',
         'witness 1 local 0', 'witness 1: 2: local 0', 'local 0: local', 'local 0\r\r', 'local 0\x00', 'local 0\x0b', 'local 0, fly', LEAF)),
-    bad(LEAF, 2), bad(f'{LEAF}\n', 2), bad(f'{LEAF}\n\n{STEPS}\n', 2), bad(f'{LEAF}\n{STEPS}\n ', 2), bad(f'{LEAF}\n{STEPS}\nlocal 0\n', 2),
-    bad(f'{LEAF}\n{STEPS}\n\r\r\n', 2), bad(f'{LEAF}\n{STEPS}\n\n\nx', 2), bad(f'{WITNESSED}\n'.replace('; ', '\n'), 1),
-    bad(f'{LEAF}\n{STEPS}\nleaves 2 more no\n', 2),
+    bad(LEAF, 2), bad(f'{LEAF}\n', 2), bad(f'{LEAF}\n\n{STEPS}\n', 2),
+    # or by a line behind these, so that it is no report either
+    *(ToldRow(THREE, f'{LEAF}\n{STEPS}\n{rest}', None, '', 2, 'mpdbg: bad witness') for rest in (' ', 'local 0\n', '\r\r\n', '\n\nx')),
     # the mode before the script's file, this before the script, the script before the witness's file, this before the witness
     ToldRow(None, None, 'fast', '', 2, 'mpdbg: bad mode'), ToldRow(THREE, 'x', 'Buffered', '', 2, 'mpdbg: bad mode'),
     ToldRow(BAD_SCRIPT, None, '', '', 2, 'mpdbg: bad mode'), ToldRow(None, 'x', None, '', 3, 'mpdbg: device'),
@@ -350,7 +354,9 @@ LONG_TOLD = (
 
 # Words of `verify` that are wrong, tested before the mode, which is wrong too; FILE and WITNESS are there.
 MISTAKES_OF_VERIFY = ('', '{FILE}', '{FILE} {WITNESS} {FILE}', '{FILE} {WITNESS} --witness', '{FILE} {WITNESS} --runs 1', '{FILE} {WITNESS} --fuel 1',
-                      '{FILE} {WITNESS} --mode', '{FILE} {WITNESS} --mode buffered', '{FILE} {WITNESS} --no-such-option', '{FILE} --witness {WITNESS}')
+                      '{FILE} {WITNESS} --mode', '{FILE} {WITNESS} --mode buffered', '{FILE} {WITNESS} --no-such-option', '{FILE} --witness {WITNESS}',
+                      '{FILE} --leaf 1', '{FILE} {WITNESS} --leaf', '{FILE} {WITNESS} --leaf 67108864', '{FILE} {WITNESS} --leaf -1',
+                      '{FILE} {WITNESS} --leaf one', '{FILE} {WITNESS} --leaf 1 --leaf 1', '{FILE} {WITNESS} --ends')
 
 
 def check_problem(row):
