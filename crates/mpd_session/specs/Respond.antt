@@ -3,7 +3,8 @@ use Rattle.std.specs.Prelude.{◌≡◌, ℕ, ◌+◌, ◌==◌, Bool, true, fal
 use Rattle.mpd_model.specs.declared.breakpoint.Break.{Break}
 use Rattle.mpd_model.specs.World.{World}
 use Rattle.mpd_model.specs.Decisions.{decision}
-use Rattle.mpd_model.specs.Trail.{Trail, world_of}
+use Rattle.mpd_model.specs.declared.step.Step.{Step}
+use Rattle.mpd_model.specs.Trail.{Trail, world_of, with_steps}
 use Rattle.mpd_wire.specs.declared.request.Command.{Command}
 use Rattle.mpd_wire.specs.declared.request.Command.TheVariants as command
 use Rattle.mpd_wire.specs.declared.request.Request.{Request}
@@ -105,6 +106,10 @@ respond s q = respond_at s (world_of s.trail) q
 -- the session held s when it was asked q, has replied r, and holds t now
 abbrev pub Responds : Held → Request → Reply → Held → Type 0
 Responds s q r t = (r ≡ (respond s q).0) × (t ≡ (respond s q).1)
+
+-- the same session with these steps, of which as many are not undone as were before: those behind lie ahead, and the version is raised
+abbrev pub laid : Held → List Step → Held
+laid s steps = record { trail = with_steps s.trail steps; breaks = s.breaks; version = raised s.version }
 
 -- a session by itself keeps no history, so it never says that this is full
 abbrev pub KeepsNoHistory : Held → Type 0

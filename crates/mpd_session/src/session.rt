@@ -1,16 +1,17 @@
 //! A session, which answers requests one at a time.
 
-ghost use Rattle.std.specs.Prelude.{◌≡◌, ℕ, IfOk, OnOk, OnErr, true};
-ghost use Rattle.mpd_model.specs.Trail.{IsReached};
+ghost use Rattle.std.specs.Prelude.{◌≡◌, ℕ, IfOk, OnOk, OnErr, true, take};
+ghost use Rattle.mpd_model.specs.Trail.{IsReached, IsRun, kept};
 ghost use Rattle.mpd_trail.specs.Views.{standing_of};
 ghost use Rattle.mpd_session.specs.Held.{opened};
-ghost use Rattle.mpd_session.specs.Respond.{carried, respond, reply_to, version_then, raised, is_current, may_want};
+ghost use Rattle.mpd_session.specs.Respond.{carried, respond, reply_to, version_then, raised, is_current, may_want, laid};
 
 use crate::effect::Effect;
 use crate::limits::VERSION_MAX;
 use crate::{breaks, looks, runs, steps};
 use mpd_code::code::Code;
 use mpd_model::call::Mode;
+use mpd_model::step::Step;
 use mpd_policy::breaks::Breaks;
 use mpd_trail::debugger::Debugger;
 use mpd_wire::desk::{Desk, DeskFault};
@@ -128,6 +129,31 @@ impl<'c> Session<'c> {
         ensures { result.now.program ≡ self.now.trail.program }
     {
         self.debugger.core().code()
+    }
+
+    /// Its debugger, to look at.
+    pub fn debugger(&self) -> &Debugger<'c>
+        ensures { result.now.trail ≡ self.now.trail }
+    {
+        &self.debugger
+    }
+
+    /// Its breakpoints, to look at.
+    pub fn breaks(&self) -> &Breaks
+        ensures { result.now ≡ self.now.breaks }
+    {
+        &self.breaks
+    }
+
+    /// Has these steps as the ones that are kept. They begin with those that are not undone, and lead on from there; those behind the
+    /// depth lie ahead then, as if they had been taken and taken back. It raises the version, and takes no memory.
+    pub fn lay(&mut self, steps: Vec<Step>)
+        requires begins { take self.old.trail.depth steps.items ≡ kept self.old.trail }
+        requires run { IsRun self.old.trail.program self.old.trail.mode steps.items }
+        ensures { self.new ≡ laid self.old steps.items }
+    {
+        self.debugger.put_steps(steps);
+        self.version = raised(self.version);
     }
 
     /// Answers a request (docs/SESSIONS.md, "Requests"). An `Err` is want of memory, and then nothing has changed.
