@@ -7,6 +7,6 @@ pub mod laws;
 mod list;
 mod missed;
 pub mod print;
-mod requests;
-mod told;
+pub mod requests;
+pub mod told;
 mod waits;

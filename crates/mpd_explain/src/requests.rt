@@ -84,7 +84,7 @@ fn push_requested(
 }
 
 /// The calls that a wait or a waitany of a rank is for; none of any other call.
-pub(crate) fn requests(
+pub fn requests(
     alloc: Global,
     core: &Core<'_>,
     rank: usize,

@@ -29,7 +29,7 @@ fn statement_line(lines: &[usize], number: Option<usize>) -> usize
 }
 
 /// The line of the statement that issued a call.
-fn issue_line(core: &Core<'_>, call: CallId) -> usize
+pub fn issue_line(core: &Core<'_>, call: CallId) -> usize
     ensures { result ≡ explained.issue_line core.now.program.lines (call_at core.now.world.board call) }
 {
     match core.board().call(call) {
@@ -40,7 +40,7 @@ fn issue_line(core: &Core<'_>, call: CallId) -> usize
 
 /// The line of the statement that a rank has not got past.
 #[tactic(auto, using(crate::proofs::TellLemmas::telling))]
-fn rank_line(core: &Core<'_>, rank: usize) -> usize
+pub fn rank_line(core: &Core<'_>, rank: usize) -> usize
     ensures { result ≡ explained.rank_line core.now.program.lines (slice_get core.now.world.ranks rank) }
 {
     if rank >= core.rank_count() {
@@ -50,7 +50,7 @@ fn rank_line(core: &Core<'_>, rank: usize) -> usize
 }
 
 /// Adds where a call was issued, and what it is.
-fn push_placed(core: &Core<'_>, out: &mut String, call: CallId) -> Result<(), AllocError>
+pub fn push_placed(core: &Core<'_>, out: &mut String, call: CallId) -> Result<(), AllocError>
     ensures { OnOk result (string_bytes out.new ≡ string_bytes out.old ++ explained.placed core.now.program core.now.world.board call) }
 {
     let line = issue_line(core, call);
@@ -107,7 +107,7 @@ fn push_recv_wish(out: &mut String, recv: RecvCall) -> Result<(), AllocError>
 }
 
 /// Adds what a call of a rank waits for.
-fn push_wish(out: &mut String, rank: usize, kind: Option<CallKind>) -> Result<(), AllocError>
+pub fn push_wish(out: &mut String, rank: usize, kind: Option<CallKind>) -> Result<(), AllocError>
     ensures { OnOk result (string_bytes out.new ≡ string_bytes out.old ++ explained.wish rank kind) }
 {
     match kind {
@@ -169,7 +169,7 @@ fn push_taken(
 }
 
 /// Adds what nearly fits a call, and what would have fitted it.
-fn push_helps(
+pub fn push_helps(
     alloc: Global,
     core: &Core<'_>,
     out: &mut String,
@@ -247,7 +247,7 @@ fn push_absent(core: &Core<'_>, out: &mut String, rank: usize) -> Result<(), All
 }
 
 /// Adds a line for each rank that is not at a barrier.
-fn push_all_absent(core: &Core<'_>, out: &mut String) -> Result<(), AllocError>
+pub fn push_all_absent(core: &Core<'_>, out: &mut String) -> Result<(), AllocError>
     ensures { OnOk result (string_bytes out.new ≡ string_bytes out.old ++ flat_map (explained.absent_line core.now.world) (rank_numbers core.now.world.board)) }
 {
     let count = core.rank_count();
@@ -365,7 +365,7 @@ fn push_traps(core: &Core<'_>, out: &mut String, traps: &[TrappedRank]) -> Resul
 }
 
 /// Adds what is told of a run that ends so in this state.
-fn push_told(
+pub fn push_told(
     alloc: Global,
     core: &Core<'_>,
     out: &mut String,
