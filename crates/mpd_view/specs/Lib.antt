@@ -1,0 +1,5 @@
+pub mod Steps
+pub mod Standing
+pub mod Shown
+pub mod Whys
+pub mod Past

@@ -1,0 +1,91 @@
+-- Where it stands: what is told behind each word that moves (docs/CONSOLE.md, "Where it stands").
+use Rattle.std.specs.Prelude.{ℕ, suc, ◌+◌, ◌-◌, Bool, false, if◌then◌else◌, List, [], ◌∷◌, ◌++◌, length, slice_get, Option, Some, None, codes}
+use Rattle.std.specs.Fmt.{decimal}
+use Rattle.std.specs.List.{list_all}
+use Rattle.mpd_model.specs.declared.step.CallId.{CallId}
+use Rattle.mpd_model.specs.declared.step.Step.{Step}
+use Rattle.mpd_model.specs.declared.step.Step.TheVariants.{Match, WakeAny}
+use Rattle.mpd_model.specs.declared.decision.Decision.{Decision}
+use Rattle.mpd_model.specs.declared.decision.Decision.TheVariants.{Forced, Choice, Leaf}
+use Rattle.mpd_model.specs.declared.outcome.Outcome.{Outcome}
+use Rattle.mpd_model.specs.Program.{Program}
+use Rattle.mpd_model.specs.World.{World, Board, last_call, id_eq}
+use Rattle.mpd_model.specs.Decisions.{decision}
+use Rattle.mpd_model.specs.Texts.{line, outcome_text}
+use Rattle.mpd_model.specs.Trail.{Trail}
+use Rattle.mpd_explore.specs.declared.report.Ending.TheVariants.{Ended}
+use Rattle.mpd_explain.specs.Explained.{told}
+use Rattle.mpd_view.specs.Steps.{issued, step_words}
+
+-- ---- steps that are undone
+
+-- `3 ahead: local 1: line 5`, how many there are, and the first of them
+abbrev pub ahead_line : Program → World → ℕ → Option Step → List ℕ
+ahead_line s w count None = []
+ahead_line s w count (Some a) = line (decimal count ++ codes " ahead: " ++ step_words s w a)
+
+-- ---- a choice
+
+-- the call that a candidate is chosen for: the receive of a match, and the call that a waitany's rank waits in
+abbrev pub chooser : Board → Step → Option CallId
+chooser b (Match c d) = Some d
+chooser b (WakeAny p i) = Some (last_call b p)
+chooser b a = None
+
+abbrev pub is_call : Option CallId → CallId → Bool
+is_call None c = false
+is_call (Some d) c = id_eq d c
+
+abbrev pub chooses_all : Board → List Step → Option CallId → Option CallId
+chooses_all b steps None = None
+chooses_all b steps (Some c) = if list_all (λ a. is_call (chooser b a) c) steps then Some c else None
+
+-- the one call that all candidates are for, where there is one
+abbrev pub one_chooser : Board → List Step → Option CallId
+one_chooser b [] = None
+one_chooser b (a ∷ steps) = chooses_all b steps (chooser b a)
+
+-- `stopped at a choice of rank 1, line 7:`
+abbrev pub choice_head : Program → Board → Option CallId → List ℕ
+choice_head s b None = line (codes "stopped at a choice:")
+choice_head s b (Some c) = line (codes "stopped at a choice" ++ issued s b c ++ codes ":")
+
+-- `  1 match 0.0 1.0: ..`, where so many candidates stand before it
+abbrev pub candidate_line : Program → World → ℕ → Step → List ℕ
+candidate_line s w place a = line (codes "  " ++ decimal (place + 1) ++ codes " " ++ step_words s w a)
+
+abbrev pub candidate_lines : Program → World → ℕ → List Step → List ℕ
+candidate_lines s w place [] = []
+candidate_lines s w place (a ∷ steps) = candidate_line s w place a ++ candidate_lines s w (suc place) steps
+
+abbrev pub choice_text : Program → World → List Step → List ℕ
+choice_text s w steps = choice_head s w.board (one_chooser w.board steps) ++ candidate_lines s w 0 steps
+
+-- ---- the end, and the step that comes next
+
+-- `ended: deadlock 0.0 1.0`
+abbrev pub outcome_line : Outcome → List ℕ
+outcome_line o = line (codes "ended: " ++ outcome_text o)
+
+-- that, and what is told of it
+abbrev pub ended_text : Program → World → Outcome → List ℕ
+ended_text s w o = outcome_line o ++ told s w (Ended o)
+
+-- `next: local 1: line 5`, where no step is undone
+abbrev pub next_line : Program → World → Step → Option Step → List ℕ
+next_line s w a None = line (codes "next: " ++ step_words s w a)
+next_line s w a (Some b) = []
+
+abbrev pub decided_text : Program → World → Option Step → Decision → List ℕ
+decided_text s w first (Forced a) = next_line s w a first
+decided_text s w first (Choice steps) = choice_text s w steps
+decided_text s w first (Leaf o) = ended_text s w o
+
+-- ---- the whole
+
+abbrev pub standing_by : Program → World → ℕ → Option Step → List ℕ
+standing_by s w count first = ahead_line s w count first ++ decided_text s w first (decision w)
+
+-- all that is told of where a trail stands that leads to a world
+abbrev pub standing_text : Trail → World → List ℕ
+standing_text t w = standing_by t.program w (length t.steps - t.depth) (slice_get t.steps t.depth)

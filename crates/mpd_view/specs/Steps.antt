@@ -1,0 +1,40 @@
+-- Steps in words: the trace word of a step, and the lines that it is about, on the state before it (docs/CONSOLE.md, "Steps in words").
+use Rattle.std.specs.Prelude.{ℕ, List, ◌++◌, slice_get, codes}
+use Rattle.std.specs.Fmt.{decimal}
+use Rattle.mpd_model.specs.declared.step.CallId.{CallId}
+use Rattle.mpd_model.specs.declared.step.Step.{Step}
+use Rattle.mpd_model.specs.declared.step.Step.TheVariants.{Local, Match, Wake, WakeAny, Release}
+use Rattle.mpd_model.specs.Program.{Program}
+use Rattle.mpd_model.specs.World.{World, Board, call_at, last_call}
+use Rattle.mpd_model.specs.Texts.{line, step_text}
+use Rattle.mpd_explain.specs.Explained.{issue_line, rank_line}
+
+-- the line that a rank stands at, and that of the call which it issued last
+abbrev pub line_of : Program → World → ℕ → ℕ
+line_of s w p = rank_line s.lines (slice_get w.ranks p)
+
+abbrev pub call_line_of : Program → Board → CallId → ℕ
+call_line_of s b c = issue_line s.lines (call_at b c)
+
+-- `local 1: line 5`
+abbrev pub at_line : Step → ℕ → List ℕ
+at_line a number = step_text a ++ codes ": line " ++ decimal number
+
+-- ` of rank 1, line 5`
+abbrev pub issued : Program → Board → CallId → List ℕ
+issued s b c = codes " of rank " ++ decimal c.rank ++ codes ", line " ++ decimal (call_line_of s b c)
+
+-- `match 0.0 1.0: the send of rank 0, line 4, to the receive of rank 1, line 7`
+abbrev pub match_words : Program → Board → CallId → CallId → List ℕ
+match_words s b c d = step_text (Match c d) ++ codes ": the send" ++ issued s b c ++ codes ", to the receive" ++ issued s b d
+
+abbrev pub step_words : Program → World → Step → List ℕ
+step_words s w (Local p) = at_line (Local p) (line_of s w p)
+step_words s w (Match c d) = match_words s w.board c d
+step_words s w (Wake p) = at_line (Wake p) (call_line_of s w.board (last_call w.board p))
+step_words s w (WakeAny p i) = at_line (WakeAny p i) (call_line_of s w.board (last_call w.board p))
+step_words s w Release = codes "release: all ranks leave the barrier"
+
+-- a step in words, on a line of its own
+abbrev pub step_line : Program → World → Step → List ℕ
+step_line s w a = line (step_words s w a)

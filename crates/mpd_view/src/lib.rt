@@ -1,0 +1,9 @@
+//! What people are shown of a state: steps in words, where it stands, ranks, calls, free calls, why a call isn't matched, and the last
+//! steps (docs/CONSOLE.md).
+#![tactic(auto)]
+
+pub mod past;
+pub mod shown;
+pub mod standing;
+pub mod steps;
+pub mod whys;
