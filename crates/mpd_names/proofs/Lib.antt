@@ -1,0 +1,5 @@
+pub mod CellLemmas
+pub mod HeldLemmas
+pub mod StandLemmas
+pub mod LineLemmas
+pub mod ListLemmas

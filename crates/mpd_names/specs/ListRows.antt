@@ -1,0 +1,67 @@
+-- Worked rows of what ranks hold, and of a list. What is wanted was worked out by hand.
+use Rattle.std.specs.Prelude.{◌≡◌, ℕ, ℤ, pos, Bool, true, false, map, List, [], ◌∷◌, ◌++◌, Option, Some, None, codes, refl}
+use Rattle.std.specs.Fmt.{digits}
+use Rattle.std.specs.List.{flat_map}
+use Rattle.mpd_model.specs.declared.call.Activity.{Activity}
+use Rattle.mpd_model.specs.declared.call.Activity.TheVariants.{Running, Blocked, Trapped}
+use Rattle.mpd_model.specs.declared.call.Call.{Call}
+use Rattle.mpd_model.specs.declared.call.CallKind.TheVariants.{Recv}
+use Rattle.mpd_model.specs.declared.call.Mode.TheVariants.{Rendezvous}
+use Rattle.mpd_model.specs.declared.call.Trap.TheVariants.{ZeroDivisor}
+use Rattle.mpd_model.specs.declared.stmt.Simple.TheVariants as st
+use Rattle.mpd_model.specs.Tree.{Tree, simple}
+use Rattle.mpd_model.specs.Program.{Program}
+use Rattle.mpd_model.specs.World.{RankWorld, World}
+use Rattle.mpd_model.specs.Texts.{line}
+use Rattle.mpd_names.specs.NameRows.{five}
+use Rattle.mpd_names.specs.Held.{variables_text}
+use Rattle.mpd_names.specs.Listed.{is_shown, list_text, about_text}
+
+-- ---- what ranks hold, and where they stand
+
+-- a barrier on line 2, and one on line 3
+abbrev script : Program
+script = record { version = 1; ranks = 4; decls = five; body = simple st.Barrier ∷ simple st.Barrier ∷ []; lines = 2 ∷ 3 ∷ [] }
+
+abbrev rank : List (ℕ × Tree) → List ℤ → List (Option ℕ) → List ℤ → Activity → RankWorld
+rank rest vars handles out activity = record { rest = rest; vars = vars; handles = handles; out = out; activity = activity }
+
+abbrev second : List (ℕ × Tree)
+second = (1, simple st.Barrier) ∷ []
+
+abbrev irecv : Call
+irecv = record { statement = 0; kind = Recv (record { from = None; tag = Some 7; cell = 0; status = None; blocks = false }) }
+
+-- rank 0 runs, with line 3 before it, rank 1 is blocked on line 2, rank 2 has ended, and rank 3 is trapped on line 3
+abbrev here : World
+here = record {
+  ranks =
+      rank second (pos 5 ∷ pos 1 ∷ pos 2 ∷ []) (Some 0 ∷ []) (pos 5 ∷ pos 7 ∷ []) Running ∷ rank second (pos 0 ∷ pos 0 ∷ pos 0 ∷ []) (None ∷ []) [] Blocked
+      ∷ rank [] (pos 0 ∷ pos 0 ∷ pos 0 ∷ []) (None ∷ []) [] Running ∷ rank second (pos 0 ∷ pos 0 ∷ pos 0 ∷ []) (None ∷ []) [] (Trapped ZeroDivisor) ∷ [];
+  board = record { mode = Rendezvous; calls = (irecv ∷ []) ∷ (irecv ∷ []) ∷ [] ∷ [] ∷ []; sets = [] };
+}
+
+pub row_variables : map {B = List ℕ} (variables_text script here) (0 ∷ 2 ∷ 4 ∷ [])
+    ≡ flat_map line (codes "rank 0: x = 5" ∷ codes "rank 0: r = line 2, 0.0 irecv from any tag 7" ∷ codes "rank 0: a[0] = 1, a[1] = 2" ∷ codes "rank 0: q has no cell" ∷ codes "rank 0: b has no cell" ∷ codes "rank 0 has printed 5 7" ∷ [])
+    ∷ flat_map line (codes "rank 2: x = 0" ∷ codes "rank 2: r = no request" ∷ codes "rank 2: a[0] = 0, a[1] = 0" ∷ codes "rank 2: q has no cell" ∷ codes "rank 2: b has no cell" ∷ [])
+    ∷ [] ∷ []
+unfolding digits
+row_variables = refl
+
+-- a line with a carriage return, and a line feed at the end
+abbrev text : List ℕ
+text = codes "a" ++ 13 ∷ 10 ∷ codes "b" ++ 10 ∷ codes "c" ++ 10 ∷ []
+
+abbrev three : List ℕ
+three = flat_map line (codes "    1  a" ∷ codes "    2  b  <- rank 1 blocked" ∷ codes "    3  c  <- rank 0, rank 3 trapped" ∷ [])
+
+pub row_list : list_text script here text ≡ three ++ line (codes "ended: rank 2")
+unfolding digits
+row_list = refl
+
+pub row_about : map {B = List ℕ} (about_text script here text) (1 ∷ 2 ∷ 4 ∷ []) ≡ three ∷ line (codes "rank 2 has ended") ∷ [] ∷ []
+unfolding digits
+row_about = refl
+
+pub row_shown : map {B = Bool} (is_shown (Some 9)) (4 ∷ 5 ∷ 9 ∷ 13 ∷ 14 ∷ []) ≡ false ∷ true ∷ true ∷ true ∷ false ∷ []
+row_shown = refl

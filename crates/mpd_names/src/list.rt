@@ -1,0 +1,250 @@
+//! The script, and which ranks stand at its lines.
+
+ghost use Rattle.std.specs.Prelude.{◌≡◌, ◌<◌, ◌++◌, ℕ, List, IfOk, OnOk, map, string_bytes};
+ghost use Rattle.std.specs.List.{list_any};
+ghost use Rattle.mpd_model.specs.World.{rank_numbers};
+ghost use Rattle.mpd_model.specs.Breakpoints.{is_number as same_number};
+ghost use Rattle.mpd_model.specs.Lines.{lines_of};
+ghost use Rattle.mpd_names.specs.Held.{begun};
+ghost use Rattle.mpd_names.specs.Stand.{rank_ended};
+ghost use Rattle.mpd_names.specs.Listed as listed;
+
+use crate::lines::{bare, cut};
+use crate::stand::{has_ended, stand};
+use mpd_core::state::Core;
+use mpd_model::call::Activity;
+use std::alloc::AllocError;
+
+/// Whether it is this number.
+fn is_number(number: Option<usize>, wanted: usize) -> bool
+    ensures { result ≡ same_number number wanted }
+{
+    match number {
+        None => false,
+        Some(number) => number == wanted,
+    }
+}
+
+/// What is said of a rank that doesn't run.
+fn mark(activity: Option<Activity>) -> &'static str
+    ensures { result.now ≡ listed.mark activity }
+{
+    match activity {
+        None => "",
+        Some(Activity::Running) => "",
+        Some(Activity::Blocked) => " blocked",
+        Some(Activity::Trapped(_)) => " trapped",
+    }
+}
+
+/// Adds a rank, and whether it runs, behind this.
+fn push_standing(
+    core: &Core<'_>,
+    out: &mut String,
+    before: &str,
+    rank: usize,
+) -> Result<(), AllocError>
+    ensures { OnOk result (string_bytes out.new ≡ string_bytes out.old ++ (before.now ++ listed.standing_words core.now.world rank)) }
+{
+    out.push_str(before)?;
+    let mark = mark(core.activity(rank));
+    write!(out, "rank {rank}{mark}")
+}
+
+/// Adds a rank that stands at a line, behind this, and nothing where it doesn't. It answers what stands before the next.
+#[tactic(auto, using(crate::proofs::ListLemmas::beginning))]
+fn push_standing_at(
+    core: &Core<'_>,
+    out: &mut String,
+    before: &'static str,
+    line: usize,
+    rank: usize,
+) -> Result<&'static str, AllocError>
+    ensures { IfOk result (λ next. (ts : List (List ℕ)) → string_bytes out.new ++ begun next.now ts ≡ string_bytes out.old ++ begun before.now (listed.standing_at core.now.program core.now.world line rank ++ ts)) }
+{
+    if !is_number(stand(core, rank), line) {
+        return Ok(before);
+    }
+    push_standing(core, out, before, rank)?;
+    Ok(", ")
+}
+
+/// Adds the ranks that stand at a line.
+fn push_all_standing(core: &Core<'_>, out: &mut String, line: usize) -> Result<(), AllocError>
+    ensures { OnOk result (string_bytes out.new ≡ string_bytes out.old ++ listed.standing_text core.now.program core.now.world line) }
+{
+    let mut before = "  <- ";
+    let count = core.rank_count();
+    for rank in 0..count {
+        before = push_standing_at(core, out, before, line, rank)?;
+    }
+    Ok(())
+}
+
+/// How a byte of a script is shown.
+fn shown(byte: u8) -> u8
+    ensures value { result ≡ listed.shown byte }
+    ensures ascii { result < 128 }
+{
+    if byte < 128 { byte } else { b'?' }
+}
+
+/// Adds the bytes of a line.
+fn push_shown(out: &mut String, line: &[u8]) -> Result<(), AllocError>
+    ensures { OnOk result (string_bytes out.new ≡ string_bytes out.old ++ map listed.shown line.now) }
+{
+    for byte in line {
+        out.push(shown(*byte) as char)?;
+    }
+    Ok(())
+}
+
+/// Adds a number, to the right in five columns.
+fn push_column(out: &mut String, number: usize) -> Result<(), AllocError>
+    ensures { OnOk result (string_bytes out.new ≡ string_bytes out.old ++ listed.column number) }
+{
+    write!(out, "{number:>5}")
+}
+
+/// Adds a line of the script, which has this number, with the ranks that stand there.
+fn push_line(
+    core: &Core<'_>,
+    out: &mut String,
+    number: usize,
+    line: &[u8],
+) -> Result<(), AllocError>
+    ensures { OnOk result (string_bytes out.new ≡ string_bytes out.old ++ listed.list_line core.now.program core.now.world number line.now) }
+{
+    push_column(out, number)?;
+    out.push_str("  ")?;
+    push_shown(out, line)?;
+    push_all_standing(core, out, number)?;
+    out.push('\n')
+}
+
+/// Whether a line is shown: each, or those about one.
+fn is_shown(about: Option<usize>, number: usize) -> bool
+    ensures { result ≡ listed.is_shown about number }
+{
+    match about {
+        None => true,
+        Some(about) => about.saturating_sub(number) + number.saturating_sub(about) <= 4,
+    }
+}
+
+/// Adds a line of the script, where it is shown.
+fn push_line_if(
+    core: &Core<'_>,
+    out: &mut String,
+    about: Option<usize>,
+    number: usize,
+    line: &[u8],
+) -> Result<(), AllocError>
+    ensures { OnOk result (string_bytes out.new ≡ string_bytes out.old ++ listed.list_line_if core.now.program core.now.world about number line.now) }
+{
+    if is_shown(about, number) {
+        push_line(core, out, number, line)
+    } else {
+        Ok(())
+    }
+}
+
+/// Adds the lines of a text, all or those about one.
+#[tactic(auto, using(crate::proofs::ListLemmas::listing))]
+fn push_lines(
+    core: &Core<'_>,
+    out: &mut String,
+    about: Option<usize>,
+    text: &[u8],
+) -> Result<(), AllocError>
+    ensures { OnOk result (string_bytes out.new ≡ string_bytes out.old ++ listed.list_lines core.now.program core.now.world about 0 (lines_of text.now)) }
+{
+    let mut rest = text;
+    let mut above = 0;
+    while let Some((line, behind)) = cut(rest) {
+        push_line_if(core, out, about, above + 1, bare(line))?;
+        above += 1;
+        rest = behind;
+    }
+    Ok(())
+}
+
+/// Adds a rank that has ended, behind this, and nothing where it hasn't. It answers what stands before the next.
+#[tactic(auto, using(crate::proofs::ListLemmas::beginning))]
+fn push_ended_at(
+    core: &Core<'_>,
+    out: &mut String,
+    before: &'static str,
+    rank: usize,
+) -> Result<&'static str, AllocError>
+    ensures { IfOk result (λ next. (ts : List (List ℕ)) → string_bytes out.new ++ begun next.now ts ≡ string_bytes out.old ++ begun before.now (listed.ended_at core.now.world rank ++ ts)) }
+{
+    if !has_ended(core, rank) {
+        return Ok(before);
+    }
+    write!(out, "{before}rank {rank}")?;
+    Ok(", ")
+}
+
+/// Adds the ranks that have ended.
+fn push_all_ended(core: &Core<'_>, out: &mut String) -> Result<(), AllocError>
+    ensures { OnOk result (string_bytes out.new ≡ string_bytes out.old ++ listed.ended_text core.now.world) }
+{
+    let mut before = "ended: ";
+    let count = core.rank_count();
+    for rank in 0..count {
+        before = push_ended_at(core, out, before, rank)?;
+    }
+    Ok(())
+}
+
+/// Whether some rank has ended.
+#[tactic(auto, using(crate::proofs::ListLemmas::seeking))]
+fn some_ended(core: &Core<'_>) -> bool
+    ensures { result ≡ list_any (rank_ended core.now.world) (rank_numbers core.now.world.board) }
+{
+    let count = core.rank_count();
+    for rank in 0..count {
+        if has_ended(core, rank) {
+            return true;
+        }
+    }
+    false
+}
+
+/// Adds the line of the ranks that have ended, where some have.
+fn push_ended(core: &Core<'_>, out: &mut String) -> Result<(), AllocError>
+    ensures { OnOk result (string_bytes out.new ≡ string_bytes out.old ++ listed.ended_line core.now.world) }
+{
+    if !some_ended(core) {
+        return Ok(());
+    }
+    push_all_ended(core, out)?;
+    out.push('\n')
+}
+
+/// Adds the text of a script line by line, with the ranks that stand at each, and below it those that have ended.
+pub fn push_list(core: &Core<'_>, out: &mut String, text: &[u8]) -> Result<(), AllocError>
+    ensures { OnOk result (string_bytes out.new ≡ string_bytes out.old ++ listed.list_text core.now.program core.now.world text.now) }
+{
+    push_lines(core, out, None, text)?;
+    push_ended(core, out)
+}
+
+/// Adds the lines of a script about the one where a rank stands, or that it has ended, and nothing where there is no such rank.
+pub fn push_list_about(
+    core: &Core<'_>,
+    out: &mut String,
+    text: &[u8],
+    rank: usize,
+) -> Result<(), AllocError>
+    ensures { OnOk result (string_bytes out.new ≡ string_bytes out.old ++ listed.about_text core.now.program core.now.world text.now rank) }
+{
+    if rank >= core.rank_count() {
+        return Ok(());
+    }
+    match stand(core, rank) {
+        None => write!(out, "rank {rank} has ended\n"),
+        Some(line) => push_lines(core, out, Some(line), text),
+    }
+}

@@ -1,0 +1,54 @@
+//! Cells and breakpoints by their names.
+
+ghost use Rattle.std.specs.Prelude.{◌≡◌, ◌++◌, OnOk, string_bytes};
+ghost use Rattle.mpd_names.specs.Called as called;
+
+use crate::cells::kind_cells;
+use mpd_model::breakpoint::Break;
+use mpd_model::place::{Decl, DeclKind};
+use std::alloc::AllocError;
+
+/// Adds the name of a cell of a declaration, with its index where it is an array.
+fn push_element_name(out: &mut String, decl: &Decl, index: usize) -> Result<(), AllocError>
+    ensures { OnOk result (string_bytes out.new ≡ string_bytes out.old ++ called.element_name decl.now.name decl.now.size index) }
+{
+    out.push_str(&decl.name)?;
+    match decl.size {
+        None => Ok(()),
+        Some(_) => write!(out, "[{index}]"),
+    }
+}
+
+/// Adds the name of a cell among those of a kind, and nothing where there is no such cell.
+pub fn push_cell_name(
+    out: &mut String,
+    decls: &[Decl],
+    kind: DeclKind,
+    cell: usize,
+) -> Result<(), AllocError>
+    ensures { OnOk result (string_bytes out.new ≡ string_bytes out.old ++ called.cell_name decls.now kind cell) }
+{
+    let mut left = cell;
+    for decl in decls {
+        let cells = kind_cells(decl, kind);
+        if left < cells {
+            return push_element_name(out, decl, left);
+        }
+        left -= cells;
+    }
+    Ok(())
+}
+
+/// Adds a breakpoint, as it was set.
+pub fn push_break(out: &mut String, decls: &[Decl], stop: Break) -> Result<(), AllocError>
+    ensures { OnOk result (string_bytes out.new ≡ string_bytes out.old ++ called.break_text decls.now stop) }
+{
+    match stop {
+        Break::Line(line) => write!(out, "line {line}"),
+        Break::Match(line) => write!(out, "match {line}"),
+        Break::Change { rank, cell } => {
+            write!(out, "change {rank} ")?;
+            push_cell_name(out, decls, DeclKind::Variable, cell)
+        }
+    }
+}
