@@ -1,0 +1,71 @@
+-- What is told of a line that asks for nothing that can be done, and help.
+use Rattle.std.specs.Prelude.{ℕ, zero, suc, ◌-◌, ◌||◌, nat_lt, if◌then◌else◌, List, [], ◌∷◌, ◌++◌, length, map, replicate, Option, Some, None, codes}
+use Rattle.std.specs.List.{flat_map}
+use Rattle.mpd_model.specs.Words.{words}
+use Rattle.mpd_model.specs.Texts.{line}
+use Rattle.mpd_vocabulary.specs.declared.topic.Topic.{Topic}
+use Rattle.mpd_vocabulary.specs.declared.word.WordFault.{WordFault}
+use Rattle.mpd_vocabulary.specs.declared.word.WordFault.TheVariants.{Unknown, Usage, NoName, NoVariable, NoSuchNumber}
+use Rattle.mpd_vocabulary.specs.Topics.{topics, nearest, usage_of, forms_of, purpose_of, details_of}
+
+abbrev pub word_at : List (List ℕ) → ℕ → List ℕ
+word_at [] n = []
+word_at (a ∷ more) zero = a
+word_at (a ∷ more) (suc n) = word_at more n
+
+-- what no script may have is shown as a question mark
+abbrev pub shown_byte : ℕ → ℕ
+shown_byte b = if nat_lt b 32 || nat_lt 126 b then 63 else b
+
+abbrev pub hint : List ℕ → List ℕ
+hint [] = line (codes "': help lists all")
+hint (b ∷ name) = line (codes "': perhaps " ++ b ∷ name)
+
+abbrev pub unknown_line : List ℕ → List ℕ
+unknown_line w = codes "unknown word '" ++ map shown_byte w ++ hint (nearest w)
+
+abbrev pub missing_line : List ℕ → List ℕ → List ℕ
+missing_line begun name = begun ++ map shown_byte name ++ line (codes "'")
+
+unfoldable pub no_name_line : List ℕ → List ℕ
+no_name_line name = missing_line (codes "no variable or request is called '") name
+
+unfoldable pub no_variable_line : List ℕ → List ℕ
+no_variable_line name = missing_line (codes "no variable is called '") name
+
+unfoldable pub no_number_line : List ℕ
+no_number_line = line (codes "refused: no such number")
+
+abbrev pub usage_line : Topic → List ℕ
+usage_line t = line (codes "usage: " ++ usage_of t)
+
+-- what is told of a line that has a fault
+abbrev pub fault_text : List ℕ → WordFault → List ℕ
+fault_text z (Unknown n) = unknown_line (word_at (words z) n)
+fault_text z (Usage t) = usage_line t
+fault_text z (NoName n) = no_name_line (word_at (words z) n)
+fault_text z (NoVariable n) = no_variable_line (word_at (words z) n)
+fault_text z NoSuchNumber = no_number_line
+
+-- ---- help
+
+abbrev pub spaces : ℕ → List ℕ
+spaces n = replicate n 32
+
+-- the forms of a word, at least 35 columns wide, and what it does
+abbrev pub columns : List ℕ → List ℕ → List ℕ
+columns forms purpose = forms ++ spaces (35 - length forms) ++ line (codes " " ++ purpose)
+
+abbrev pub whole : List ℕ → List ℕ → List ℕ → List ℕ
+whole forms purpose details = forms ++ codes ": " ++ purpose ++ line details
+
+-- `next [N]                            takes the step that comes next`
+abbrev pub help_line : Topic → List ℕ
+help_line t = columns (forms_of t) (purpose_of t)
+
+abbrev pub help_of : Topic → List ℕ
+help_of t = whole (forms_of t) (purpose_of t) (details_of t)
+
+abbrev pub help_text : Option Topic → List ℕ
+help_text None = flat_map help_line topics
+help_text (Some t) = help_of t

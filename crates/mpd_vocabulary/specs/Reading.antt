@@ -1,0 +1,190 @@
+-- What a line of the console asks for (docs/CONSOLE.md, "Words").
+use Rattle.std.specs.Prelude.{ℕ, ◌==◌, Bool, false, bytes_eq, if◌then◌else◌, List, [], ◌∷◌, Option, Some, None, option_map, Result, Ok, Err, codes}
+use Rattle.mpd_model.specs.declared.limits.TheConstants.{STEPS_MAX}
+use Rattle.mpd_model.specs.declared.breakpoint.Break.TheVariants as on
+use Rattle.mpd_model.specs.declared.place.DeclKind.{DeclKind}
+use Rattle.mpd_model.specs.declared.place.DeclKind.TheVariants.{Variable, Handle}
+use Rattle.mpd_model.specs.declared.words.Command.{Command}
+use Rattle.mpd_model.specs.declared.words.Command.TheVariants as command
+use Rattle.mpd_model.specs.declared.step.CallId.{CallId}
+use Rattle.mpd_model.specs.Declaration.{Declared}
+use Rattle.mpd_model.specs.Words.{words, number_of, call_of, command_of}
+use Rattle.mpd_names.specs.declared.name.Named.{Named}
+use Rattle.mpd_names.specs.declared.name.NameFault.{NameFault}
+use Rattle.mpd_names.specs.declared.name.NameFault.TheVariants as name
+use Rattle.mpd_names.specs.Names.{named}
+use Rattle.mpd_vocabulary.specs.declared.topic.Topic.{Topic}
+use Rattle.mpd_vocabulary.specs.declared.topic.Topic.TheVariants as topic
+use Rattle.mpd_vocabulary.specs.declared.word.Word.{Word}
+use Rattle.mpd_vocabulary.specs.declared.word.Word.TheVariants as word
+use Rattle.mpd_vocabulary.specs.declared.word.WordFault.{WordFault}
+use Rattle.mpd_vocabulary.specs.declared.word.WordFault.TheVariants.{Unknown, Usage, NoName, NoVariable, NoSuchNumber}
+use Rattle.mpd_vocabulary.specs.declared.read.Line.{Line}
+use Rattle.mpd_vocabulary.specs.declared.read.Line.TheVariants.{Blank, Comment, Says, Wrong}
+use Rattle.mpd_vocabulary.specs.Topics.{topic_of}
+
+-- ---- what stands behind a word: some words
+
+abbrev pub only_word : List (List ℕ) → Option (List ℕ)
+only_word [] = None
+only_word (a ∷ []) = Some a
+only_word (a ∷ b ∷ more) = None
+
+abbrev pub number_in : Option (List ℕ) → Option ℕ
+number_in None = None
+number_in (Some a) = number_of a
+
+abbrev pub only_number : List (List ℕ) → Option ℕ
+only_number rest = number_in (only_word rest)
+
+-- a number, or nothing
+abbrev pub optional_number : List (List ℕ) → Option (Option ℕ)
+optional_number [] = Some None
+optional_number (a ∷ more) = option_map Some (only_number (a ∷ more))
+
+abbrev pub or_usual : ℕ → Option ℕ → ℕ
+or_usual usual None = usual
+or_usual usual (Some n) = n
+
+abbrev pub number_or : ℕ → List (List ℕ) → Option ℕ
+number_or usual rest = option_map (or_usual usual) (optional_number rest)
+
+abbrev pub alone : Word → List (List ℕ) → Option Word
+alone w [] = Some w
+alone w (a ∷ more) = None
+
+abbrev pub fitting : Topic → Option Word → Result Word WordFault
+fitting t None = Err (Usage t)
+fitting t (Some w) = Ok w
+
+-- ---- steps
+
+abbrev pub step_by : Option Command → Option Word
+step_by (Some (command.Step a)) = Some (word.Step a)
+step_by c = None
+
+-- the step that a whole line is, as a trace word
+abbrev pub step_in : List ℕ → Option Word
+step_in z = step_by (command_of z)
+
+-- ---- breakpoints
+
+abbrev pub change_by : ℕ → DeclKind → Named → Result Word WordFault
+change_by p Handle n = Err (NoVariable 3)
+change_by p Variable n = if n.cells == 1 then Ok (word.Break (on.Change p n.first)) else Err NoSuchNumber
+
+abbrev pub change_of : ℕ → Result Named NameFault → Result Word WordFault
+change_of p (Ok n) = change_by p n.kind n
+change_of p (Err name.Unknown) = Err (NoVariable 3)
+change_of p (Err name.NoSuchCell) = Err NoSuchNumber
+
+abbrev pub change_at : Option ℕ → Result Named NameFault → Result Word WordFault
+change_at None n = Err (Usage topic.Break)
+change_at (Some p) n = change_of p n
+
+-- a rank, and one of its variables
+abbrev pub change_in : List Declared → List (List ℕ) → Result Word WordFault
+change_in ds [] = Err (Usage topic.Break)
+change_in ds (a ∷ []) = Err (Usage topic.Break)
+change_in ds (a ∷ b ∷ []) = change_at (number_of a) (named ds b)
+change_in ds (a ∷ b ∷ c ∷ more) = Err (Usage topic.Break)
+
+abbrev pub break_in : List Declared → List (List ℕ) → Result Word WordFault
+break_in ds [] = Err (Usage topic.Break)
+break_in ds (kind ∷ rest) =
+    if bytes_eq kind (codes "line") then fitting topic.Break (option_map (λ n. word.Break (on.Line n)) (only_number rest))
+    else (if bytes_eq kind (codes "match") then fitting topic.Break (option_map (λ n. word.Break (on.Match n)) (only_number rest))
+    else (if bytes_eq kind (codes "change") then change_in ds rest else fitting topic.Break (option_map (λ n. word.Break (on.Line n)) (only_number (kind ∷ rest)))))
+
+-- ---- names, calls and words
+
+abbrev pub print_of : Result Named NameFault → Option ℕ → Result Word WordFault
+print_of (Ok n) rank = Ok (word.Print n rank)
+print_of (Err name.Unknown) rank = Err (NoName 1)
+print_of (Err name.NoSuchCell) rank = Err NoSuchNumber
+
+abbrev pub print_at : Result Named NameFault → Option (Option ℕ) → Result Word WordFault
+print_at n None = Err (Usage topic.Print)
+print_at n (Some rank) = print_of n rank
+
+abbrev pub print_in : List Declared → List (List ℕ) → Result Word WordFault
+print_in ds [] = Err (Usage topic.Print)
+print_in ds (a ∷ rest) = print_at (named ds a) (optional_number rest)
+
+abbrev pub why_by : List ℕ → Option CallId → Option Word
+why_by a (Some c) = Some (word.WhyCall c)
+why_by a None = option_map word.WhyRank (number_of a)
+
+abbrev pub why_at : Option (List ℕ) → Option Word
+why_at None = None
+why_at (Some a) = why_by a (call_of a)
+
+abbrev pub why_in : List (List ℕ) → Option Word
+why_in rest = why_at (only_word rest)
+
+abbrev pub help_of : Option Topic → Result Word WordFault
+help_of None = Err (Unknown 1)
+help_of (Some t) = Ok (word.Help (Some t))
+
+abbrev pub help_in : List (List ℕ) → Result Word WordFault
+help_in [] = Ok (word.Help None)
+help_in (a ∷ []) = help_of (topic_of a)
+help_in (a ∷ b ∷ more) = Err (Usage topic.Help)
+
+-- ---- a word by its name, the line that it stands in, and what stands behind it
+
+abbrev pub word_with : List Declared → Topic → List ℕ → List (List ℕ) → Result Word WordFault
+word_with ds topic.Break z rest = break_in ds rest
+word_with ds topic.Print z rest = print_in ds rest
+word_with ds topic.Help z rest = help_in rest
+word_with ds topic.Next z rest = fitting topic.Next (option_map word.Next (optional_number rest))
+word_with ds topic.Run z rest = fitting topic.Run (option_map word.Run (number_or STEPS_MAX rest))
+word_with ds topic.Back z rest = fitting topic.Back (option_map word.Back (number_or 1 rest))
+word_with ds topic.RunBack z rest = fitting topic.RunBack (alone word.RunBack rest)
+word_with ds topic.Goto z rest = fitting topic.Goto (option_map word.Goto (only_number rest))
+word_with ds topic.Redo z rest = fitting topic.Redo (option_map word.Redo (number_or 1 rest))
+word_with ds topic.Local z rest = fitting topic.Local (step_in z)
+word_with ds topic.Match z rest = fitting topic.Match (step_in z)
+word_with ds topic.Wake z rest = fitting topic.Wake (step_in z)
+word_with ds topic.WakeAny z rest = fitting topic.WakeAny (step_in z)
+word_with ds topic.Release z rest = fitting topic.Release (step_in z)
+word_with ds topic.Delete z rest = fitting topic.Delete (option_map word.Delete (only_number rest))
+word_with ds topic.Breaks z rest = fitting topic.Breaks (alone word.Breaks rest)
+word_with ds topic.List z rest = fitting topic.List (option_map word.List (optional_number rest))
+word_with ds topic.Vars z rest = fitting topic.Vars (option_map word.Vars (optional_number rest))
+word_with ds topic.Ranks z rest = fitting topic.Ranks (alone word.Ranks rest)
+word_with ds topic.Calls z rest = fitting topic.Calls (option_map word.Calls (optional_number rest))
+word_with ds topic.Queues z rest = fitting topic.Queues (alone word.Queues rest)
+word_with ds topic.Why z rest = fitting topic.Why (why_in rest)
+word_with ds topic.History z rest = fitting topic.History (option_map word.History (number_or 10 rest))
+word_with ds topic.Check z rest = fitting topic.Check (option_map word.Check (number_or 1000 rest))
+word_with ds topic.Deadlock z rest = fitting topic.Deadlock (alone word.Deadlock rest)
+word_with ds topic.Words z rest = fitting topic.Words (alone word.Words rest)
+word_with ds topic.Enabled z rest = fitting topic.Enabled (alone word.Enabled rest)
+word_with ds topic.Show z rest = fitting topic.Show (alone word.Show rest)
+word_with ds topic.Quit z rest = fitting topic.Quit (alone word.Quit rest)
+
+abbrev pub word_by : List Declared → Option Topic → List ℕ → List (List ℕ) → Result Word WordFault
+word_by ds None z rest = Err (Unknown 0)
+word_by ds (Some t) z rest = word_with ds t z rest
+
+abbrev pub word_named : List Declared → List ℕ → List ℕ → List (List ℕ) → Result Word WordFault
+word_named ds z a rest = word_by ds (topic_of a) z rest
+
+-- ---- lines
+
+abbrev pub says : Result Word WordFault → Line
+says (Ok w) = Says w
+says (Err f) = Wrong f
+
+-- a word that begins with `#` begins a comment
+abbrev pub begins_comment : List ℕ → Bool
+begins_comment [] = false
+begins_comment (b ∷ a) = b == 35
+
+abbrev pub line_by : List Declared → List ℕ → List (List ℕ) → Line
+line_by ds z [] = Blank
+line_by ds z (a ∷ rest) = if begins_comment a then Comment else says (word_named ds z a rest)
+
+abbrev pub line_of : List Declared → List ℕ → Line
+line_of ds z = line_by ds z (words z)

@@ -1,0 +1,116 @@
+-- The words of the console, by their names.
+use Rattle.std.specs.Prelude.{ℕ, suc, ◌==◌, bytes_eq, nat_lt, if◌then◌else◌, List, [], ◌∷◌, map, Option, Some, None, codes}
+use Rattle.mpd_vocabulary.specs.declared.topic.Topic.{Topic}
+use Rattle.mpd_vocabulary.specs.declared.topic.Topic.TheVariants as topic
+use Rattle.mpd_vocabulary.specs.declared.topic.TheConstants.{NAMES, TOPICS}
+
+-- what the words are called, each whole name before its short forms
+abbrev pub names : List (List ℕ × Topic)
+names = map (λ k. (k.0.now, k.1)) NAMES
+
+abbrev pub topic_in : List (List ℕ × Topic) → List ℕ → Option Topic
+topic_in [] w = None
+topic_in (k ∷ ks) w = if bytes_eq k.0 w then Some k.1 else topic_in ks w
+
+unfoldable pub topic_of : List ℕ → Option Topic
+topic_of w = topic_in names w
+
+-- how many bytes two words begin with in common
+abbrev pub shared : List ℕ → List ℕ → ℕ
+shared [] w = 0
+shared (a ∷ z) [] = 0
+shared (a ∷ z) (b ∷ w) = if a == b then suc (shared z w) else 0
+
+-- the first name that begins most like a word, where it has more in common with it than the best so far
+abbrev pub nearer : List ℕ → List (List ℕ × Topic) → ℕ → List ℕ → List ℕ
+nearer w [] most best = best
+nearer w (k ∷ ks) most best = if nat_lt most (shared k.0 w) then nearer w ks (shared k.0 w) k.0 else nearer w ks most best
+
+unfoldable pub nearest : List ℕ → List ℕ
+nearest w = nearer w names 0 []
+
+-- a word of each line of help, in the order of the table
+abbrev pub topics : List Topic
+topics = TOPICS
+
+-- how a word is written, with what may follow it
+abbrev pub usage_of : Topic → List ℕ
+usage_of topic.Next = codes "next [N]"
+usage_of topic.Run = codes "run [N]"
+usage_of topic.Back = codes "back [N]"
+usage_of topic.RunBack = codes "run-back"
+usage_of topic.Goto = codes "goto N"
+usage_of topic.Redo = codes "redo [N]"
+usage_of topic.Local = codes "local P"
+usage_of topic.Match = codes "match S R"
+usage_of topic.Wake = codes "wake P"
+usage_of topic.WakeAny = codes "wakeany P I"
+usage_of topic.Release = codes "release"
+usage_of topic.Break = codes "break LINE, break match LINE, break change P NAME"
+usage_of topic.Delete = codes "delete N"
+usage_of topic.Breaks = codes "breaks"
+usage_of topic.List = codes "list [P]"
+usage_of topic.Print = codes "print NAME [P]"
+usage_of topic.Vars = codes "vars [P]"
+usage_of topic.Ranks = codes "ranks"
+usage_of topic.Calls = codes "calls [P]"
+usage_of topic.Queues = codes "queues"
+usage_of topic.Why = codes "why CALL, why P"
+usage_of topic.History = codes "history [N]"
+usage_of topic.Check = codes "check [N]"
+usage_of topic.Deadlock = codes "deadlock"
+usage_of topic.Words = codes "words"
+usage_of topic.Enabled = codes "enabled"
+usage_of topic.Show = codes "show"
+usage_of topic.Help = codes "help [WORD]"
+usage_of topic.Quit = codes "quit"
+
+-- what stands in the first column of the word's line of help: steps by hand have one line
+abbrev pub step_forms : List ℕ
+step_forms = codes "local P, match S R, wake P, wakeany P I, release"
+
+abbrev pub forms_of : Topic → List ℕ
+forms_of topic.Local = step_forms
+forms_of topic.Match = step_forms
+forms_of topic.Wake = step_forms
+forms_of topic.WakeAny = step_forms
+forms_of topic.Release = step_forms
+forms_of other = usage_of other
+
+-- what a word does, in short
+abbrev pub purpose_of : Topic → List ℕ
+purpose_of topic.Next = codes "takes the step that comes next"
+purpose_of topic.Run = codes "goes on to the next breakpoint, choice or end, or so many steps at most"
+purpose_of topic.Back = codes "takes a step back, or so many"
+purpose_of topic.RunBack = codes "goes back to a breakpoint, or to the start"
+purpose_of topic.Goto = codes "goes back, or along the steps ahead, until so many steps are taken"
+purpose_of topic.Redo = codes "takes the step again that was undone last, or so many, or all"
+purpose_of topic.Local = codes "takes this step"
+purpose_of topic.Match = codes "takes this step"
+purpose_of topic.Wake = codes "takes this step"
+purpose_of topic.WakeAny = codes "takes this step"
+purpose_of topic.Release = codes "takes this step"
+purpose_of topic.Break = codes "sets a breakpoint: behind a step by which a rank comes to that line, behind a match of a call of that line, behind a change of that variable of rank P"
+purpose_of topic.Delete = codes "removes a breakpoint"
+purpose_of topic.Breaks = codes "lists the breakpoints"
+purpose_of topic.List = codes "shows the script, and at each line which ranks stand there"
+purpose_of topic.Print = codes "shows a variable or a request of all ranks, or of rank P"
+purpose_of topic.Vars = codes "shows all variables and requests, and what was printed"
+purpose_of topic.Ranks = codes "shows what each rank is doing"
+purpose_of topic.Calls = codes "lists the calls of all ranks, or of rank P"
+purpose_of topic.Queues = codes "lists the sends and the receives that are free"
+purpose_of topic.Why = codes "says why a call, or the call that rank P waits for, isn't matched"
+purpose_of topic.History = codes "lists the last 10 steps, or the last N"
+purpose_of topic.Check = codes "tries the choices from here, and lists how the runs end, 1,000 or N of them at most"
+purpose_of topic.Deadlock = codes "looks for the first deadlock from here, and lays its steps ahead, so that redo and run go there"
+purpose_of topic.Words = codes "lists the steps taken as trace words, to be kept in a file"
+purpose_of topic.Enabled = codes "lists the steps that are enabled"
+purpose_of topic.Show = codes "shows the whole state, as a trace does (docs/FORMATS.md, \"Text of show\")"
+purpose_of topic.Help = codes "lists the words, or tells of one"
+purpose_of topic.Quit = codes "ends"
+
+-- what more is to be said of it, behind that
+abbrev pub details_of : Topic → List ℕ
+details_of topic.Next = codes "; at a choice it lists the candidates, and next N takes one, from 1"
+details_of topic.List = codes "; or the lines about rank P"
+details_of other = []

@@ -1,0 +1,369 @@
+//! Reads a line of the console (docs/CONSOLE.md, "Words").
+
+ghost use Rattle.std.specs.Prelude.{◌≡◌, ◌≤◌, ◌∷◌, [], length, MatchOption};
+ghost use Rattle.mpd_model.specs.Words.{words, stop_len, is_blank, is_no_blank, is_dot, number_of, call_of};
+ghost use Rattle.mpd_vocabulary.specs.Reading as spec;
+
+use crate::topic::{Topic, topic_of};
+use crate::word::{Word, WordFault};
+use mpd_code::code::Code;
+use mpd_model::breakpoint::Break;
+use mpd_model::limits::STEPS_MAX;
+use mpd_model::place::DeclKind;
+use mpd_model::step::CallId;
+use mpd_model::words::{Command, command_of, has_word};
+use mpd_names::find::named;
+use mpd_names::name::{NameFault, Named};
+
+/// How many blanks a text begins with.
+fn blank_len(text: &[u8]) -> usize
+    ensures value { result ≡ stop_len is_no_blank text.now }
+    ensures bound { result ≤ length text.now }
+{
+    for (i, byte) in text.iter().enumerate() {
+        if *byte != b' ' && *byte != b'\t' {
+            return i;
+        }
+    }
+    text.len()
+}
+
+/// How many bytes stand before the first blank, or all.
+fn word_len(text: &[u8]) -> usize
+    ensures value { result ≡ stop_len is_blank text.now }
+    ensures bound { result ≤ length text.now }
+{
+    for (i, byte) in text.iter().enumerate() {
+        if *byte == b' ' || *byte == b'\t' {
+            return i;
+        }
+    }
+    text.len()
+}
+
+/// The first word, and what stands behind it.
+#[tactic(auto, using(mpd_model::proofs::WordLemmas::cutting))]
+pub(crate) fn next_word(text: &[u8]) -> Option<(&[u8], &[u8])>
+    ensures { MatchOption result (words text.now ≡ []) (λ q. words text.now ≡ q.0.now ∷ words q.1.now) }
+{
+    let (_, start) = text.split_at(blank_len(text));
+    if start.is_empty() {
+        return None;
+    }
+    Some(start.split_at(word_len(start)))
+}
+
+/// How many bytes stand before the first `.`, or all.
+fn dot_len(text: &[u8]) -> usize
+    ensures value { result ≡ stop_len is_dot text.now }
+    ensures bound { result ≤ length text.now }
+{
+    for (i, byte) in text.iter().enumerate() {
+        if *byte == b'.' {
+            return i;
+        }
+    }
+    text.len()
+}
+
+/// A number of 1 to 9 digits.
+fn number_of(word: &[u8]) -> Option<usize>
+    ensures { result ≡ number_of word.now }
+{
+    if word.is_empty() || word.len() > 9 {
+        return None;
+    }
+    let mut value = 0;
+    for byte in word {
+        if !byte.is_ascii_digit() {
+            return None;
+        }
+        value = value * 10 + (*byte - b'0') as usize;
+    }
+    Some(value)
+}
+
+/// A call: two numbers with one `.` between them.
+#[tactic(auto, using(mpd_model::proofs::WordLemmas::cutting))]
+fn call_of(word: &[u8]) -> Option<CallId>
+    ensures { result ≡ call_of word.now }
+{
+    let dot = dot_len(word);
+    if dot == word.len() {
+        return None;
+    }
+    let (rank, behind) = word.split_at(dot);
+    let (_, index) = behind.split_at(1);
+    Some(CallId {
+        rank: number_of(rank)?,
+        index: number_of(index)?,
+    })
+}
+
+/// The only word left.
+fn only_word(rest: &[u8]) -> Option<&[u8]>
+    ensures { MatchOption result (spec.only_word (words rest.now) ≡ None) (λ w. spec.only_word (words rest.now) ≡ Some w.now) }
+{
+    let (word, behind) = next_word(rest)?;
+    if has_word(behind) {
+        return None;
+    }
+    Some(word)
+}
+
+/// The number that is the only word left.
+fn only_number(rest: &[u8]) -> Option<usize>
+    ensures { result ≡ spec.only_number (words rest.now) }
+{
+    number_of(only_word(rest)?)
+}
+
+/// The number that is the only word left, or none where no word is.
+fn optional_number(rest: &[u8]) -> Option<Option<usize>>
+    ensures { result ≡ spec.optional_number (words rest.now) }
+{
+    if !has_word(rest) {
+        return Some(None);
+    }
+    match only_number(rest) {
+        None => None,
+        Some(number) => Some(Some(number)),
+    }
+}
+
+/// The number that is the only word left, or the usual one where no word is.
+fn number_or(usual: usize, rest: &[u8]) -> Option<usize>
+    ensures { result ≡ spec.number_or usual (words rest.now) }
+{
+    match optional_number(rest) {
+        None => None,
+        Some(number) => Some(number.unwrap_or(usual)),
+    }
+}
+
+/// The word, where no other is left.
+fn alone(word: Word, rest: &[u8]) -> Option<Word>
+    ensures { result ≡ spec.alone word (words rest.now) }
+{
+    if has_word(rest) {
+        return None;
+    }
+    Some(word)
+}
+
+/// A word that something fits; where nothing does, its forms are told.
+fn fitting(topic: Topic, word: Option<Word>) -> Result<Word, WordFault>
+    ensures { result ≡ spec.fitting topic word }
+{
+    match word {
+        None => Err(WordFault::Usage(topic)),
+        Some(word) => Ok(word),
+    }
+}
+
+/// The step of a line.
+fn step_in(line: &[u8]) -> Option<Word>
+    ensures { result ≡ spec.step_in line.now }
+{
+    match command_of(line) {
+        Some(Command::Step(step)) => Some(Word::Step(step)),
+        _ => None,
+    }
+}
+
+/// The breakpoint on a cell of a variable.
+fn change_of(rank: usize, cell: Result<Named, NameFault>) -> Result<Word, WordFault>
+    ensures { result ≡ spec.change_of rank cell }
+{
+    match cell {
+        Ok(named) => match named.kind {
+            DeclKind::Handle => Err(WordFault::NoVariable(3)),
+            DeclKind::Variable if named.cells == 1 => Ok(Word::Break(Break::Change {
+                rank,
+                cell: named.first,
+            })),
+            DeclKind::Variable => Err(WordFault::NoSuchNumber),
+        },
+        Err(NameFault::Unknown) => Err(WordFault::NoVariable(3)),
+        Err(NameFault::NoSuchCell) => Err(WordFault::NoSuchNumber),
+    }
+}
+
+/// The breakpoint on a variable of a rank, which are two words.
+fn change_in(code: &Code, rest: &[u8]) -> Result<Word, WordFault>
+    ensures { result ≡ spec.change_in code.now.program.decls (words rest.now) }
+{
+    let Some((rank, behind)) = next_word(rest) else {
+        return Err(WordFault::Usage(Topic::Break));
+    };
+    let Some(name) = only_word(behind) else {
+        return Err(WordFault::Usage(Topic::Break));
+    };
+    match number_of(rank) {
+        None => Err(WordFault::Usage(Topic::Break)),
+        Some(rank) => change_of(rank, named(code, name)),
+    }
+}
+
+/// The breakpoint that some words tell.
+fn break_in(code: &Code, rest: &[u8]) -> Result<Word, WordFault>
+    ensures { result ≡ spec.break_in code.now.program.decls (words rest.now) }
+{
+    let Some((kind, behind)) = next_word(rest) else {
+        return Err(WordFault::Usage(Topic::Break));
+    };
+    if kind == b"line".as_slice() {
+        return fitting(
+            Topic::Break,
+            only_number(behind).map(|line| Word::Break(Break::Line(line))),
+        );
+    }
+    if kind == b"match".as_slice() {
+        return fitting(
+            Topic::Break,
+            only_number(behind).map(|line| Word::Break(Break::Match(line))),
+        );
+    }
+    if kind == b"change".as_slice() {
+        return change_in(code, behind);
+    }
+    fitting(
+        Topic::Break,
+        only_number(rest).map(|line| Word::Break(Break::Line(line))),
+    )
+}
+
+/// What a name stands for, of all ranks or of one.
+fn print_of(cells: Result<Named, NameFault>, rank: Option<usize>) -> Result<Word, WordFault>
+    ensures { result ≡ spec.print_of cells rank }
+{
+    match cells {
+        Ok(named) => Ok(Word::Print(named, rank)),
+        Err(NameFault::Unknown) => Err(WordFault::NoName(1)),
+        Err(NameFault::NoSuchCell) => Err(WordFault::NoSuchNumber),
+    }
+}
+
+/// A name, and a rank where one is given.
+fn print_in(code: &Code, rest: &[u8]) -> Result<Word, WordFault>
+    ensures { result ≡ spec.print_in code.now.program.decls (words rest.now) }
+{
+    let Some((name, behind)) = next_word(rest) else {
+        return Err(WordFault::Usage(Topic::Print));
+    };
+    match optional_number(behind) {
+        None => Err(WordFault::Usage(Topic::Print)),
+        Some(rank) => print_of(named(code, name), rank),
+    }
+}
+
+/// A call, or a rank.
+fn why_in(rest: &[u8]) -> Option<Word>
+    ensures { result ≡ spec.why_in (words rest.now) }
+{
+    let word = only_word(rest)?;
+    match call_of(word) {
+        Some(call) => Some(Word::WhyCall(call)),
+        None => number_of(word).map(Word::WhyRank),
+    }
+}
+
+/// A word of the console, or all of them.
+fn help_in(rest: &[u8]) -> Result<Word, WordFault>
+    ensures { result ≡ spec.help_in (words rest.now) }
+{
+    let Some((name, behind)) = next_word(rest) else {
+        return Ok(Word::Help(None));
+    };
+    if has_word(behind) {
+        return Err(WordFault::Usage(Topic::Help));
+    }
+    match topic_of(name) {
+        None => Err(WordFault::Unknown(1)),
+        Some(topic) => Ok(Word::Help(Some(topic))),
+    }
+}
+
+/// A word by its name, the line that it stands in, and what stands behind it.
+fn word_with(code: &Code, topic: Topic, line: &[u8], rest: &[u8]) -> Result<Word, WordFault>
+    ensures { result ≡ spec.word_with code.now.program.decls topic line.now (words rest.now) }
+{
+    match topic {
+        Topic::Break => break_in(code, rest),
+        Topic::Print => print_in(code, rest),
+        Topic::Help => help_in(rest),
+        Topic::Next => fitting(topic, optional_number(rest).map(Word::Next)),
+        Topic::Run => fitting(topic, number_or(STEPS_MAX, rest).map(Word::Run)),
+        Topic::Back => fitting(topic, number_or(1, rest).map(Word::Back)),
+        Topic::RunBack => fitting(topic, alone(Word::RunBack, rest)),
+        Topic::Goto => fitting(topic, only_number(rest).map(Word::Goto)),
+        Topic::Redo => fitting(topic, number_or(1, rest).map(Word::Redo)),
+        Topic::Local | Topic::Match | Topic::Wake | Topic::WakeAny | Topic::Release => {
+            fitting(topic, step_in(line))
+        }
+        Topic::Delete => fitting(topic, only_number(rest).map(Word::Delete)),
+        Topic::Breaks => fitting(topic, alone(Word::Breaks, rest)),
+        Topic::List => fitting(topic, optional_number(rest).map(Word::List)),
+        Topic::Vars => fitting(topic, optional_number(rest).map(Word::Vars)),
+        Topic::Ranks => fitting(topic, alone(Word::Ranks, rest)),
+        Topic::Calls => fitting(topic, optional_number(rest).map(Word::Calls)),
+        Topic::Queues => fitting(topic, alone(Word::Queues, rest)),
+        Topic::Why => fitting(topic, why_in(rest)),
+        Topic::History => fitting(topic, number_or(10, rest).map(Word::History)),
+        Topic::Check => fitting(topic, number_or(1_000, rest).map(Word::Check)),
+        Topic::Deadlock => fitting(topic, alone(Word::Deadlock, rest)),
+        Topic::Words => fitting(topic, alone(Word::Words, rest)),
+        Topic::Enabled => fitting(topic, alone(Word::Enabled, rest)),
+        Topic::Show => fitting(topic, alone(Word::Show, rest)),
+        Topic::Quit => fitting(topic, alone(Word::Quit, rest)),
+    }
+}
+
+/// Reads a line that has a word.
+fn word_of(code: &Code, line: &[u8], name: &[u8], rest: &[u8]) -> Result<Word, WordFault>
+    ensures { result ≡ spec.word_named code.now.program.decls line.now name.now (words rest.now) }
+{
+    match topic_of(name) {
+        None => Err(WordFault::Unknown(0)),
+        Some(topic) => word_with(code, topic, line, rest),
+    }
+}
+
+/// Whether a line whose first word this is is a comment.
+fn begins_comment(name: &[u8]) -> bool
+    ensures { result ≡ spec.begins_comment name.now }
+{
+    match name.split_first() {
+        None => false,
+        Some((first, _)) => *first == b'#',
+    }
+}
+
+/// What a line is.
+#[derive(Clone, Copy)]
+pub enum Line {
+    /// No word: the last word once more.
+    Blank,
+    /// A comment.
+    Comment,
+    /// A word.
+    Says(Word),
+    /// Nothing that can be done.
+    Wrong(WordFault),
+}
+
+/// Reads a line without its end.
+pub fn line_of(code: &Code, line: &[u8]) -> Line
+    ensures { result ≡ spec.line_of code.now.program.decls line.now }
+{
+    let Some((name, rest)) = next_word(line) else {
+        return Line::Blank;
+    };
+    if begins_comment(name) {
+        return Line::Comment;
+    }
+    match word_of(code, line, name, rest) {
+        Ok(word) => Line::Says(word),
+        Err(fault) => Line::Wrong(fault),
+    }
+}

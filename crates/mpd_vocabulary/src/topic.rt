@@ -1,0 +1,276 @@
+//! The words of the console: what they are called, their forms, and what they do (docs/CONSOLE.md, "Words").
+
+ghost use Rattle.std.specs.Prelude.{◌≡◌, ◌≤◌, [], length, map};
+ghost use Rattle.mpd_vocabulary.specs.Topics as spec;
+
+/// A word of the console.
+#[derive(Clone, Copy)]
+pub enum Topic {
+    Next,
+    Run,
+    Back,
+    RunBack,
+    Goto,
+    Redo,
+    Local,
+    Match,
+    Wake,
+    WakeAny,
+    Release,
+    Break,
+    Delete,
+    Breaks,
+    List,
+    Print,
+    Vars,
+    Ranks,
+    Calls,
+    Queues,
+    Why,
+    History,
+    Check,
+    Deadlock,
+    Words,
+    Enabled,
+    Show,
+    Help,
+    Quit,
+}
+
+/// What the words are called, in the order of the table, the whole name of each before its short forms.
+pub const NAMES: [(&str, Topic); 45] = [
+    ("next", Topic::Next),
+    ("n", Topic::Next),
+    ("run", Topic::Run),
+    ("r", Topic::Run),
+    ("continue", Topic::Run),
+    ("c", Topic::Run),
+    ("back", Topic::Back),
+    ("b", Topic::Back),
+    ("reverse-next", Topic::Back),
+    ("run-back", Topic::RunBack),
+    ("rc", Topic::RunBack),
+    ("reverse-continue", Topic::RunBack),
+    ("goto", Topic::Goto),
+    ("g", Topic::Goto),
+    ("redo", Topic::Redo),
+    ("local", Topic::Local),
+    ("match", Topic::Match),
+    ("wake", Topic::Wake),
+    ("wakeany", Topic::WakeAny),
+    ("release", Topic::Release),
+    ("break", Topic::Break),
+    ("delete", Topic::Delete),
+    ("d", Topic::Delete),
+    ("breaks", Topic::Breaks),
+    ("list", Topic::List),
+    ("l", Topic::List),
+    ("print", Topic::Print),
+    ("p", Topic::Print),
+    ("vars", Topic::Vars),
+    ("ranks", Topic::Ranks),
+    ("calls", Topic::Calls),
+    ("queues", Topic::Queues),
+    ("why", Topic::Why),
+    ("w", Topic::Why),
+    ("history", Topic::History),
+    ("h", Topic::History),
+    ("check", Topic::Check),
+    ("deadlock", Topic::Deadlock),
+    ("words", Topic::Words),
+    ("enabled", Topic::Enabled),
+    ("show", Topic::Show),
+    ("help", Topic::Help),
+    ("?", Topic::Help),
+    ("quit", Topic::Quit),
+    ("q", Topic::Quit),
+];
+
+/// A word of each line of help, in the order of the table.
+pub const TOPICS: [Topic; 25] = [
+    Topic::Next,
+    Topic::Run,
+    Topic::Back,
+    Topic::RunBack,
+    Topic::Goto,
+    Topic::Redo,
+    Topic::Local,
+    Topic::Break,
+    Topic::Delete,
+    Topic::Breaks,
+    Topic::List,
+    Topic::Print,
+    Topic::Vars,
+    Topic::Ranks,
+    Topic::Calls,
+    Topic::Queues,
+    Topic::Why,
+    Topic::History,
+    Topic::Check,
+    Topic::Deadlock,
+    Topic::Words,
+    Topic::Enabled,
+    Topic::Show,
+    Topic::Help,
+    Topic::Quit,
+];
+
+/// The word of a name, among some names.
+fn topic_in(mut names: &[(&str, Topic)], word: &[u8]) -> Option<Topic>
+    ensures { result ≡ spec.topic_in (map (λ k. (k.0.now, k.1)) names.entry.now) word.now }
+{
+    while let [name, rest @ ..] = names {
+        if name.0.as_bytes() == word {
+            return Some(name.1);
+        }
+        names = rest;
+    }
+    None
+}
+
+/// The word of a name, whole or short.
+#[tactic(auto, unfolding(crate::specs::Topics::topic_of))]
+pub(crate) fn topic_of(word: &[u8]) -> Option<Topic>
+    ensures { result ≡ spec.topic_of word.now }
+{
+    topic_in(&NAMES, word)
+}
+
+/// How many bytes two words begin with in common.
+#[tactic(auto, using(crate::proofs::FaultLemmas::sharing))]
+fn shared(one: &[u8], other: &[u8]) -> usize
+    ensures value { result ≡ spec.shared one.now other.now }
+    ensures bound { result ≤ length one.now }
+{
+    let mut rest = other;
+    for (i, byte) in one.iter().enumerate() {
+        match rest.split_first() {
+            None => return i,
+            Some((first, _)) if *byte != *first => return i,
+            Some((_, behind)) => rest = behind,
+        }
+    }
+    one.len()
+}
+
+/// The first of some names that begins most like a word, where one begins with more bytes of it than so many; else the best so far.
+fn nearer(mut names: &[(&'static str, Topic)], word: &[u8]) -> &'static str
+    ensures { result.now ≡ spec.nearer word.now (map (λ k. (k.0.now, k.1)) names.entry.now) 0 [] }
+{
+    let mut most = 0;
+    let mut best = "";
+    while let [name, rest @ ..] = names {
+        let count = shared(name.0.as_bytes(), word);
+        if most < count {
+            most = count;
+            best = name.0;
+        }
+        names = rest;
+    }
+    best
+}
+
+/// The name that begins most like a word, the first of several; empty where none begins with its first byte.
+#[tactic(auto, unfolding(crate::specs::Topics::nearest))]
+pub(crate) fn nearest(word: &[u8]) -> &'static str
+    ensures { result.now ≡ spec.nearest word.now }
+{
+    nearer(&NAMES, word)
+}
+
+/// How a word is written, with what may follow it.
+pub(crate) fn usage_of(topic: Topic) -> &'static str
+    ensures { result.now ≡ spec.usage_of topic }
+{
+    match topic {
+        Topic::Next => "next [N]",
+        Topic::Run => "run [N]",
+        Topic::Back => "back [N]",
+        Topic::RunBack => "run-back",
+        Topic::Goto => "goto N",
+        Topic::Redo => "redo [N]",
+        Topic::Local => "local P",
+        Topic::Match => "match S R",
+        Topic::Wake => "wake P",
+        Topic::WakeAny => "wakeany P I",
+        Topic::Release => "release",
+        Topic::Break => "break LINE, break match LINE, break change P NAME",
+        Topic::Delete => "delete N",
+        Topic::Breaks => "breaks",
+        Topic::List => "list [P]",
+        Topic::Print => "print NAME [P]",
+        Topic::Vars => "vars [P]",
+        Topic::Ranks => "ranks",
+        Topic::Calls => "calls [P]",
+        Topic::Queues => "queues",
+        Topic::Why => "why CALL, why P",
+        Topic::History => "history [N]",
+        Topic::Check => "check [N]",
+        Topic::Deadlock => "deadlock",
+        Topic::Words => "words",
+        Topic::Enabled => "enabled",
+        Topic::Show => "show",
+        Topic::Help => "help [WORD]",
+        Topic::Quit => "quit",
+    }
+}
+
+/// What stands in the first column of the word's line of help.
+pub(crate) fn forms_of(topic: Topic) -> &'static str
+    ensures { result.now ≡ spec.forms_of topic }
+{
+    match topic {
+        Topic::Local | Topic::Match | Topic::Wake | Topic::WakeAny | Topic::Release => {
+            "local P, match S R, wake P, wakeany P I, release"
+        }
+        _ => usage_of(topic),
+    }
+}
+
+/// What a word does, in short.
+pub(crate) fn purpose_of(topic: Topic) -> &'static str
+    ensures { result.now ≡ spec.purpose_of topic }
+{
+    match topic {
+        Topic::Next => "takes the step that comes next",
+        Topic::Run => "goes on to the next breakpoint, choice or end, or so many steps at most",
+        Topic::Back => "takes a step back, or so many",
+        Topic::RunBack => "goes back to a breakpoint, or to the start",
+        Topic::Goto => "goes back, or along the steps ahead, until so many steps are taken",
+        Topic::Redo => "takes the step again that was undone last, or so many, or all",
+        Topic::Local | Topic::Match | Topic::Wake | Topic::WakeAny | Topic::Release =>
+            "takes this step",
+        Topic::Break =>
+            "sets a breakpoint: behind a step by which a rank comes to that line, behind a match of a call of that line, behind a change of that variable of rank P",
+        Topic::Delete => "removes a breakpoint",
+        Topic::Breaks => "lists the breakpoints",
+        Topic::List => "shows the script, and at each line which ranks stand there",
+        Topic::Print => "shows a variable or a request of all ranks, or of rank P",
+        Topic::Vars => "shows all variables and requests, and what was printed",
+        Topic::Ranks => "shows what each rank is doing",
+        Topic::Calls => "lists the calls of all ranks, or of rank P",
+        Topic::Queues => "lists the sends and the receives that are free",
+        Topic::Why => "says why a call, or the call that rank P waits for, isn't matched",
+        Topic::History => "lists the last 10 steps, or the last N",
+        Topic::Check =>
+            "tries the choices from here, and lists how the runs end, 1,000 or N of them at most",
+        Topic::Deadlock =>
+            "looks for the first deadlock from here, and lays its steps ahead, so that redo and run go there",
+        Topic::Words => "lists the steps taken as trace words, to be kept in a file",
+        Topic::Enabled => "lists the steps that are enabled",
+        Topic::Show => "shows the whole state, as a trace does (docs/FORMATS.md, \"Text of show\")",
+        Topic::Help => "lists the words, or tells of one",
+        Topic::Quit => "ends",
+    }
+}
+
+/// What more is to be said of it, behind that.
+pub(crate) fn details_of(topic: Topic) -> &'static str
+    ensures { result.now ≡ spec.details_of topic }
+{
+    match topic {
+        Topic::Next => "; at a choice it lists the candidates, and next N takes one, from 1",
+        Topic::List => "; or the lines about rank P",
+        _ => "",
+    }
+}

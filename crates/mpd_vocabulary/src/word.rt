@@ -1,0 +1,79 @@
+//! What a line of the console asks for.
+
+use crate::topic::Topic;
+use mpd_model::breakpoint::Break;
+use mpd_model::step::{CallId, Step};
+use mpd_names::name::Named;
+
+/// A word with what follows it. Numbers are as they were given, whatever the script has; where one may be left out and is, its usual
+/// one stands.
+#[derive(Clone, Copy)]
+pub enum Word {
+    /// Take the step that comes next: at a choice the candidate of this number, from 1.
+    Next(Option<usize>),
+    /// Go on to a breakpoint, a choice or the end, by so many steps at most.
+    Run(usize),
+    /// Take so many steps back.
+    Back(usize),
+    /// Go back to a breakpoint, or to the start.
+    RunBack,
+    /// Go back until so many steps are left.
+    Goto(usize),
+    /// Take so many undone steps again.
+    Redo(usize),
+    /// Take this step.
+    Step(Step),
+    /// Set this breakpoint.
+    Break(Break),
+    /// Remove the breakpoint of this number.
+    Delete(usize),
+    /// List the breakpoints.
+    Breaks,
+    /// Show the script, or the lines about this rank.
+    List(Option<usize>),
+    /// Show what a name stands for, of all ranks or of this one.
+    Print(Named, Option<usize>),
+    /// Show all variables and requests, of all ranks or of this one.
+    Vars(Option<usize>),
+    /// Show what each rank is doing.
+    Ranks,
+    /// List the calls, of all ranks or of this one.
+    Calls(Option<usize>),
+    /// List the sends and receives that are free.
+    Queues,
+    /// Say why this call isn't matched.
+    WhyCall(CallId),
+    /// Say why the call that this rank waits for isn't matched.
+    WhyRank(usize),
+    /// List so many of the last steps.
+    History(usize),
+    /// Try the choices from here, so many runs at most.
+    Check(usize),
+    /// Lay the steps to the first deadlock ahead.
+    Deadlock,
+    /// List the steps taken as trace words.
+    Words,
+    /// List the steps that are enabled.
+    Enabled,
+    /// Show the whole state.
+    Show,
+    /// List the words, or tell of this one.
+    Help(Option<Topic>),
+    /// End.
+    Quit,
+}
+
+/// Why a line asks for nothing that can be done. A word of the line is told by its number, from 0.
+#[derive(Clone, Copy)]
+pub enum WordFault {
+    /// This word of the line is none of the console.
+    Unknown(usize),
+    /// What follows this word doesn't fit it.
+    Usage(Topic),
+    /// This word of the line is no name of a variable or a request.
+    NoName(usize),
+    /// This word of the line is no name of a variable.
+    NoVariable(usize),
+    /// An index is none of its array.
+    NoSuchNumber,
+}
