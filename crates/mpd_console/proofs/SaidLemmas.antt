@@ -1,0 +1,203 @@
+-- What a line is answered, put together from what is told of its parts.
+use Rattle.std.proofs.Common.{◌≡◌, ℕ, ◌-◌, ◌<◌, ◌≤◌, Bool, true, false, List, [], ◌++◌, length, take, nat_lt, Option, Some, None, refl, ap, sym, ◌∙◌, arith, subst, inl, inr}
+use Rattle.std.proofs.lemmas.Bool.Decides.{nat_tests}
+use Rattle.std.specs.Prelude.{option_and_then, IfSome}
+use Rattle.mpd_model.specs.declared.breakpoint.Break.{Break}
+use Rattle.mpd_model.specs.declared.step.CallId.{CallId}
+use Rattle.mpd_model.specs.World.{World}
+use Rattle.mpd_model.specs.Trail.{Trail, IsReached, IsRun, kept, world_of}
+use Rattle.mpd_trail.specs.Views.{DebuggerView, standing_of}
+use Rattle.mpd_explore.specs.declared.report.Leaf.{Leaf}
+use Rattle.mpd_explore.specs.declared.report.Witness.{Witness}
+use Rattle.mpd_wire.specs.declared.request.Command.{Command}
+use Rattle.mpd_wire.specs.declared.reply.Reply.{Reply}
+use Rattle.mpd_view.specs.Standing.{standing_text}
+use Rattle.mpd_session.specs.Held.{Held}
+use Rattle.mpd_session.specs.Respond.{respond, laid}
+use Rattle.mpd_console.specs.declared.moves.Doing.{Doing}
+use Rattle.mpd_console.specs.declared.moves.Doing.TheVariants.{Asks, Seeks, Looks}
+use Rattle.mpd_vocabulary.specs.declared.word.Word.{Word}
+use Rattle.mpd_vocabulary.specs.declared.word.WordFault.{WordFault}
+use Rattle.mpd_vocabulary.specs.declared.read.Line.{Line}
+use Rattle.mpd_vocabulary.specs.declared.read.Line.TheVariants.{Blank, Comment, Says, Wrong}
+use Rattle.mpd_console.specs.Moves.{doing_of, lead_text, reply_text}
+use Rattle.mpd_console.specs.Looks.{look_text}
+use Rattle.mpd_vocabulary.specs.Reading.{line_of}
+use Rattle.mpd_console.specs.Search.{sought_leaves, sought_more, sought_witness, fuel_at, found_line, not_found_line, LiesAhead}
+use Rattle.mpd_console.specs.Says.{memory_line, unprinted_line, too_long_line, at_world, prompt, lead_said, reply_said, look_said, found_said, not_found_said, none_said, prompts_behind, fault_said, Told, Looked, asking, Carried, witness_from, LaidBy, doing_at, doing_in, AnsweredBy, Answered, Console, WordSays, RepeatSays, LineSays, SaysBy, ConsoleSays, Adds, OrElse}
+
+-- ---- texts on the world of a trail
+
+world_at : (s : Held) (d : DebuggerView) → IsReached (standing_of d) → d.trail ≡ s.trail → world_of s.trail ≡ Some d.world
+world_at s d r e = ap world_of (sym e) ∙ r.world
+
+-- a text that is told of a trail and its world
+told_at : (tell : Trail → World → List ℕ) (s : Held) (d : DebuggerView) → IsReached (standing_of d) → d.trail ≡ s.trail → tell d.trail d.world ≡ at_world (tell s.trail) (world_of s.trail)
+told_at tell s d r e = ap (λ t. tell t d.world) e ∙ sym (ap (at_world (tell s.trail)) (world_at s d r e))
+
+pub replied : (p : Bool) (s : Held) (d : DebuggerView) (places : List (Option Break)) (x : Word) (lead begun one text : List ℕ) (r : Reply) → IsReached (standing_of d) → d.trail ≡ s.trail → places ≡ s.breaks
+    → begun ≡ [] → one ≡ begun ++ reply_text d.trail d.world places x lead r → text ≡ one ++ prompt p s → text ≡ reply_said p s x lead r
+replied p s d places x lead begun one text r reached e pl b h k =
+    let u : one ≡ reply_text d.trail d.world s.breaks x lead r = h ∙ ap (λ z. z ++ reply_text d.trail d.world places x lead r) b ∙ ap (λ z. reply_text d.trail d.world z x lead r) pl in
+    k ∙ ap (λ z. z ++ prompt p s) (u ∙ told_at (λ t w. reply_text t w s.breaks x lead r) s d reached e)
+
+pub led : (s : Held) (d : DebuggerView) (x : Word) (text : List ℕ) → IsReached (standing_of d) → d.trail ≡ s.trail → text ≡ lead_text d.trail d.world x → text ≡ lead_said s x
+led s d x text reached e h = h ∙ told_at (λ t w. lead_text t w x) s d reached e
+
+pub looked : (p q : Bool) (script : List ℕ) (s : Held) (d : DebuggerView) (places : List (Option Break)) (x : Word) (begun one text : List ℕ) → IsReached (standing_of d) → d.trail ≡ s.trail → places ≡ s.breaks
+    → q ≡ prompts_behind p x → begun ≡ [] → one ≡ begun ++ look_text d.trail d.world places script x → text ≡ one ++ prompt q s → text ≡ look_said p script s x
+looked p q script s d places x begun one text reached e pl is b h k =
+    let u : one ≡ look_text d.trail d.world s.breaks script x = h ∙ ap (λ z. z ++ look_text d.trail d.world places script x) b ∙ ap (λ z. look_text d.trail d.world z script x) pl in
+    k ∙ ap (λ z. z ++ prompt q s) (u ∙ told_at (λ t w. look_text t w s.breaks script x) s d reached e) ∙ ap (λ z. at_world (λ w. look_text s.trail w s.breaks script x) (world_of s.trail) ++ prompt z s) is
+
+pub found : (p : Bool) (s : Held) (d : DebuggerView) (blocked : List CallId) (ahead : ℕ) (begun one two text : List ℕ) → IsReached (standing_of d) → d.trail ≡ s.trail
+    → begun ≡ [] → one ≡ begun ++ found_line blocked ahead → two ≡ one ++ standing_text d.trail d.world → text ≡ two ++ prompt p s → text ≡ found_said p s blocked ahead
+found p s d blocked ahead begun one two text reached e b h k m =
+    let u : one ≡ found_line blocked ahead = h ∙ ap (λ z. z ++ found_line blocked ahead) b in
+    let v : two ≡ found_line blocked ahead ++ at_world (standing_text s.trail) (world_of s.trail) = k ∙ ap (λ z. z ++ standing_text d.trail d.world) u ∙ ap (λ z. found_line blocked ahead ++ z) (told_at standing_text s d reached e) in
+    m ∙ ap (λ z. z ++ prompt p s) v
+
+pub ruleset replying = (replied, led)
+
+pub done_at : (s : Held) (d : DebuggerView) (x : Word) (z : Doing) → IsReached (standing_of d) → d.trail ≡ s.trail → z ≡ doing_of d.trail d.world x → z ≡ doing_in s x
+done_at s d x z r e h = h ∙ ap (λ t. doing_of t d.world x) e ∙ sym (ap (doing_at s.trail x) (world_at s d r e))
+
+pub ruleset doing = (done_at, led)
+
+pub ruleset leading = (led, done_at)
+
+pub ruleset looking = (looked, led)
+
+pub ruleset finding = (found, led)
+
+-- ---- what is added
+
+pub added_whole : (whole otherwise before after : List ℕ) → after ≡ before ++ whole → Adds (OrElse whole otherwise) before after
+added_whole whole otherwise before after e = (whole, e, inl refl)
+
+pub added_other : (whole otherwise before after : List ℕ) → after ≡ before ++ otherwise → Adds (OrElse whole otherwise) before after
+added_other whole otherwise before after e = (otherwise, e, inr refl)
+
+pub ruleset adding = (added_whole, added_other)
+
+pub told_whole : (whole text before after : List ℕ) → text ≡ whole → Adds (OrElse text unprinted_line) before after → Adds (Told whole) before after
+told_whole whole text before after e (z, h, inl k) = (z, h, inl (k ∙ e))
+told_whole whole text before after e (z, h, inr k) = (z, h, inr k)
+
+pub told_not : (whole before after : List ℕ) → after ≡ before ++ unprinted_line → Adds (Told whole) before after
+told_not whole before after e = (unprinted_line, e, inr refl)
+
+pub looked_whole : (whole text before after : List ℕ) → text ≡ whole → Adds (OrElse text memory_line) before after → Adds (Looked whole) before after
+looked_whole whole text before after e (z, h, inl k) = (z, h, inl (k ∙ e))
+looked_whole whole text before after e (z, h, inr k) = (z, h, inr k)
+
+pub looked_not : (whole before after : List ℕ) → after ≡ before ++ memory_line → Adds (Looked whole) before after
+looked_not whole before after e = (memory_line, e, inr refl)
+
+pub ruleset telling = (told_whole, told_not, looked_whole, looked_not)
+
+-- ---- what a word does
+
+pub carried : (p : Bool) (s t : Held) (x : Word) (c : Command) (lead before after : List ℕ) (r : Reply) → lead ≡ lead_said s x → r ≡ (respond s (asking c)).0 → t ≡ (respond s (asking c)).1
+    → Adds (Told (reply_said p t x lead r)) before after → Adds (Carried p s x c t) before after
+carried p s t x c lead before after r is e k (z, h, told) =
+    (z, h, inl (k, subst (λ y. Told (reply_said p t x y (respond s (asking c)).0) z) is (subst (λ y. Told (reply_said p t x lead y) z) e told)))
+
+pub not_carried : (p : Bool) (s t : Held) (x : Word) (c : Command) (before after : List ℕ) → t ≡ s → after ≡ before ++ memory_line → Adds (Carried p s x c t) before after
+not_carried p s t x c before after e h = (memory_line, h, inr (e, refl))
+
+pub ruleset carrying = (carried, not_carried)
+
+-- ---- a deadlock
+
+pub lies_begins : (t : Trail) (x : Witness) → LiesAhead t x → take t.depth x.steps ≡ kept t
+lies_begins t x h = h.begins
+
+pub lies_runs : (t : Trail) (x : Witness) → LiesAhead t x → IsRun t.program t.mode x.steps
+lies_runs t x h = h.run
+
+pub witness_at : (s : Held) (d : DebuggerView) (o : Option Witness) → IsReached (standing_of d) → d.trail ≡ s.trail → o ≡ sought_witness d.trail d.world → o ≡ witness_from s
+witness_at s d o r e h = h ∙ ap (λ t. sought_witness t d.world) e ∙ sym (ap (λ (w : Option World). option_and_then (λ v. sought_witness s.trail v) w) (world_at s d r e))
+
+pub none_at_is : (p : Bool) (s : Held) (d : DebuggerView) (leaves : List Leaf) (more : Bool) → IsReached (standing_of d) → d.trail ≡ s.trail → leaves ≡ sought_leaves (fuel_at d.trail.depth) d.world
+    → more ≡ sought_more (fuel_at d.trail.depth) d.world → not_found_said p s leaves more ≡ none_said p s
+none_at_is p s d leaves more r e h k =
+    ap (λ z. not_found_line z more ++ prompt p s) h ∙ ap (λ z. not_found_line (sought_leaves (fuel_at d.trail.depth) d.world) z ++ prompt p s) k
+    ∙ ap (λ z. z ++ prompt p s) (told_at (λ t w. not_found_line (sought_leaves (fuel_at t.depth) w) (sought_more (fuel_at t.depth) w)) s d r e)
+
+pub lies_at : (s : Held) (d : DebuggerView) (o : Option Witness) → d.trail ≡ s.trail → IfSome o (LiesAhead d.trail) → IfSome o (LiesAhead s.trail)
+lies_at s d o e h = subst (λ t. IfSome o (LiesAhead t)) e h
+
+pub ruleset seeking = (witness_at, none_at_is, lies_at)
+
+pub laid_told : (p : Bool) (s t : Held) (x : Witness) (before after : List ℕ) → Some x ≡ witness_from s → LiesAhead s.trail x → t ≡ laid s x.steps
+    → Adds (Told (found_said p t x.blocked (length x.steps - s.trail.depth))) before after → Adds (LaidBy p s (witness_from s) t) before after
+laid_told p s t x before after is lies e (z, h, told) = (z, h, subst (λ o. LaidBy p s o t z) is (inl (lies.is, e, told)))
+
+pub none_told : (p : Bool) (s t : Held) (leaves : List Leaf) (more : Bool) (before after : List ℕ) → None ≡ witness_from s → t ≡ s → not_found_said p s leaves more ≡ none_said p s
+    → Adds (Looked (not_found_said p s leaves more)) before after → Adds (LaidBy p s (witness_from s) t) before after
+none_told p s t leaves more before after is e same (z, h, told) = (z, h, subst (λ o. LaidBy p s o t z) is (e, subst (λ y. Looked y z) same told))
+
+not_laid : (p : Bool) (s t : Held) (o : Option Witness) → t ≡ s → LaidBy p s o t memory_line
+not_laid p s t None e = (e, inr refl)
+not_laid p s t (Some x) e = inr (e, refl)
+
+pub not_sought : (p : Bool) (s t : Held) (before after : List ℕ) → t ≡ s → after ≡ before ++ memory_line → Adds (LaidBy p s (witness_from s) t) before after
+not_sought p s t before after e h = (memory_line, h, not_laid p s t (witness_from s) e)
+
+pub ruleset laying = (lies_begins, lies_runs, laid_told, none_told, not_sought)
+
+-- ---- words
+
+pub answered_asks : (p : Bool) (script : List ℕ) (s t : Held) (x : Word) (c : Command) (before after : List ℕ) → Asks c ≡ doing_in s x → Adds (Carried p s x c t) before after → Adds (Answered p script s x t) before after
+answered_asks p script s t x c before after is h = subst (λ d. Adds (AnsweredBy p script s x d t) before after) is h
+
+pub answered_seeks : (p : Bool) (script : List ℕ) (s t : Held) (x : Word) (before after : List ℕ) → Seeks ≡ doing_in s x → Adds (LaidBy p s (witness_from s) t) before after → Adds (Answered p script s x t) before after
+answered_seeks p script s t x before after is h = subst (λ d. Adds (AnsweredBy p script s x d t) before after) is h
+
+looks_alone : (p : Bool) (script : List ℕ) (s t : Held) (x : Word) (before after : List ℕ) → t ≡ s → Adds (Looked (look_said p script s x)) before after → Adds (AnsweredBy p script s x Looks t) before after
+looks_alone p script s t x before after e (z, h, told) = (z, h, (e, told))
+
+pub answered_looks : (p : Bool) (script : List ℕ) (s t : Held) (x : Word) (before after : List ℕ) → Looks ≡ doing_in s x → t ≡ s → Adds (Looked (look_said p script s x)) before after → Adds (Answered p script s x t) before after
+answered_looks p script s t x before after is e h = subst (λ d. Adds (AnsweredBy p script s x d t) before after) is (looks_alone p script s t x before after e h)
+
+pub ruleset answering = (answered_asks, answered_seeks, answered_looks)
+
+-- ---- lines
+
+pub word_said : (d e : Console) (x : Word) (before after : List ℕ) → e.script ≡ d.script → e.last ≡ d.last → e.prompts ≡ d.prompts → Adds (Answered d.prompts d.script d.session x e.session) before after
+    → Adds (λ text. WordSays d x text e) before after
+word_said d e x before after a b c (z, h, told) = (z, h, (a, b, c, told))
+
+pub repeated_none : (d e : Console) (before after : List ℕ) → d.last ≡ None → e ≡ d → Adds (Looked (prompt d.prompts d.session)) before after → Adds (λ text. RepeatSays d d.last text e) before after
+repeated_none d e before after is same (z, h, told) = (z, h, subst (λ o. RepeatSays d o z e) (sym is) (same, told))
+
+pub repeated_some : (d e : Console) (x : Word) (before after : List ℕ) → d.last ≡ Some x → Adds (λ text. WordSays d x text e) before after → Adds (λ text. RepeatSays d d.last text e) before after
+repeated_some d e x before after is (z, h, told) = (z, h, subst (λ o. RepeatSays d o z e) (sym is) told)
+
+pub line_blank : (d e : Console) (l : Line) (line before after : List ℕ) → l ≡ Blank → Adds (λ text. RepeatSays d d.last text e) before after → Adds (λ text. LineSays d l line text e) before after
+line_blank d e l line before after is (z, h, told) = (z, h, subst (λ k. LineSays d k line z e) (sym is) told)
+
+pub line_comment : (d e : Console) (l : Line) (line before after : List ℕ) → l ≡ Comment → e ≡ d → Adds (Looked (prompt d.prompts d.session)) before after → Adds (λ text. LineSays d l line text e) before after
+line_comment d e l line before after is same (z, h, told) = (z, h, subst (λ k. LineSays d k line z e) (sym is) (same, told))
+
+pub line_wrong : (d e : Console) (l : Line) (f : WordFault) (line before after : List ℕ) → l ≡ Wrong f → e ≡ d → Adds (Looked (fault_said d.prompts d.session line f)) before after → Adds (λ text. LineSays d l line text e) before after
+line_wrong d e l f line before after is same (z, h, told) = (z, h, subst (λ k. LineSays d k line z e) (sym is) (same, told))
+
+pub line_says : (d c e : Console) (l : Line) (x : Word) (line before after : List ℕ) → l ≡ Says x → c ≡ record d { last = Some x } → Adds (λ text. WordSays c x text e) before after → Adds (λ text. LineSays d l line text e) before after
+line_says d c e l x line before after is same (z, h, told) = (z, h, subst (λ k. LineSays d k line z e) (sym is) (subst (λ k. WordSays k x z e) same told))
+
+short : (n : ℕ) → n ≤ 4096 → nat_lt 4096 n ≡ false
+short n h = grind (arith, nat_tests)
+
+long : (n : ℕ) → 4096 < n → nat_lt 4096 n ≡ true
+long n h = grind (arith, nat_tests)
+
+pub line_said : (d e : Console) (line before after : List ℕ) → length line ≤ 4096 → Adds (λ text. LineSays d (line_of d.session.trail.program.decls line) line text e) before after
+    → (text : List ℕ) × (after ≡ before ++ text) × ConsoleSays d line text e
+line_said d e line before after few (z, h, told) = (z, h, subst (λ b. SaysBy b d line z e) (sym (short (length line) few)) told)
+
+pub long_said : (d e : Console) (before after : List ℕ) → e ≡ d → after ≡ before ++ (too_long_line ++ prompt d.prompts d.session) → (text : List ℕ) × (after ≡ before ++ text) × ((line : List ℕ) → 4096 < length line → ConsoleSays d line text e)
+long_said d e before after same h = (too_long_line ++ prompt d.prompts d.session, h, λ line l. subst (λ b. SaysBy b d line (too_long_line ++ prompt d.prompts d.session) e) (sym (long (length line) l)) (same, refl))
+
+pub ruleset speaking = (word_said, repeated_none, repeated_some, line_blank, line_comment, line_wrong, line_says, line_said, long_said)

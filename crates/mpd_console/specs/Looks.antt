@@ -1,0 +1,91 @@
+-- What words are answered that change nothing.
+use Rattle.std.specs.Prelude.{ℕ, nat_lt, if◌then◌else◌, List, [], ◌∷◌, length, Option, Some, None, is_some, codes}
+use Rattle.std.specs.List.{flat_map, range_with_len}
+use Rattle.mpd_model.specs.declared.limits.TheConstants.{BREAKS_MAX}
+use Rattle.mpd_model.specs.declared.step.CallId.{CallId}
+use Rattle.mpd_model.specs.declared.breakpoint.Break.{Break}
+use Rattle.mpd_model.specs.Declaration.{Declared}
+use Rattle.mpd_model.specs.Program.{Program}
+use Rattle.mpd_model.specs.World.{World, rank_numbers, call_at}
+use Rattle.mpd_model.specs.Trail.{Trail}
+use Rattle.mpd_model.specs.Texts.{line, show_text}
+use Rattle.mpd_model.specs.Breakpoints.{break_at}
+use Rattle.mpd_names.specs.declared.name.Named.{Named}
+use Rattle.mpd_names.specs.Held.{named_line, variables_text}
+use Rattle.mpd_names.specs.Listed.{list_text, about_text}
+use Rattle.mpd_view.specs.Shown as shown
+use Rattle.mpd_view.specs.Whys.{why_text, why_rank_text}
+use Rattle.mpd_view.specs.Past.{history_text, words_text}
+use Rattle.mpd_vocabulary.specs.declared.word.Word.{Word}
+use Rattle.mpd_vocabulary.specs.declared.word.Word.TheVariants as word
+use Rattle.mpd_console.specs.Moves.{break_line_of}
+use Rattle.mpd_console.specs.Search.{check_text}
+use Rattle.mpd_vocabulary.specs.Faults.{help_text}
+
+abbrev pub no_such_number : List ℕ
+no_such_number = line (codes "refused: no such number")
+
+-- ---- breakpoints
+
+abbrev pub break_line_at : List Declared → List (Option Break) → ℕ → List ℕ
+break_line_at ds places n = break_line_of ds n (break_at places n)
+
+abbrev pub or_none : List ℕ → List ℕ
+or_none [] = line (codes "no breakpoint")
+or_none (b ∷ lines) = b ∷ lines
+
+abbrev pub breaks_text : List Declared → List (Option Break) → List ℕ
+breaks_text ds places = or_none (flat_map (break_line_at ds places) (range_with_len 0 BREAKS_MAX))
+
+-- ---- of all ranks, or of one
+
+-- the text of a rank, where there is such a rank
+abbrev pub of_rank : World → ℕ → List ℕ → List ℕ
+of_rank w p text = if nat_lt p (length w.ranks) then text else no_such_number
+
+abbrev pub of_ranks : World → Option ℕ → (ℕ → List ℕ) → List ℕ → List ℕ
+of_ranks w None one all = all
+of_ranks w (Some p) one all = of_rank w p (one p)
+
+abbrev pub script_text : Program → World → List ℕ → Option ℕ → List ℕ
+script_text s w text rank = of_ranks w rank (about_text s w text) (list_text s w text)
+
+abbrev pub print_text : Program → World → Named → Option ℕ → List ℕ
+print_text s w n rank = of_ranks w rank (λ p. named_line s w p n) (flat_map (λ p. named_line s w p n) (rank_numbers w.board))
+
+abbrev pub vars_text : Program → World → Option ℕ → List ℕ
+vars_text s w rank = of_ranks w rank (variables_text s w) (flat_map (variables_text s w) (rank_numbers w.board))
+
+abbrev pub calls_text : Program → World → Option ℕ → List ℕ
+calls_text s w rank = of_ranks w rank (λ p. shown.calls_text s w.board (Some p)) (shown.calls_text s w.board None)
+
+-- ---- why
+
+abbrev pub why_call_text : Program → World → CallId → List ℕ
+why_call_text s w c = if is_some (call_at w.board c) then why_text s w c else no_such_number
+
+abbrev pub why_of_text : Program → World → ℕ → List ℕ
+why_of_text s w p = of_rank w p (why_rank_text s w p)
+
+abbrev pub whole_text : Trail → World → List ℕ
+whole_text t w = show_text t.program w t.depth (length t.steps)
+
+-- ---- all of them, given the text of the script
+
+abbrev pub look_text : Trail → World → List (Option Break) → List ℕ → Word → List ℕ
+look_text t w places text word.Breaks = breaks_text t.program.decls places
+look_text t w places text (word.List rank) = script_text t.program w text rank
+look_text t w places text (word.Print n rank) = print_text t.program w n rank
+look_text t w places text (word.Vars rank) = vars_text t.program w rank
+look_text t w places text word.Ranks = shown.ranks_text t.program w
+look_text t w places text (word.Calls rank) = calls_text t.program w rank
+look_text t w places text word.Queues = shown.queues_text t.program w.board
+look_text t w places text (word.WhyCall c) = why_call_text t.program w c
+look_text t w places text (word.WhyRank p) = why_of_text t.program w p
+look_text t w places text (word.History n) = history_text t n
+look_text t w places text (word.Check n) = check_text t w n
+look_text t w places text word.Words = words_text t
+look_text t w places text word.Enabled = shown.enabled_text t.program w
+look_text t w places text word.Show = whole_text t w
+look_text t w places text (word.Help topic) = help_text topic
+look_text t w places text other = []

@@ -1,0 +1,204 @@
+-- Words that ask the session for something that changes it: what they ask, and what is told of the reply.
+use Rattle.std.specs.Prelude.{ℕ, ◌-◌, ◌==◌, Bool, true, false, ◌&&◌, nat_lt, nat_le, is_some, is_none, if◌then◌else◌, List, [], ◌∷◌, ◌++◌, length, slice_get, Option, Some, None, codes}
+use Rattle.std.specs.Option.{option_map}
+use Rattle.std.specs.Fmt.{decimal}
+use Rattle.mpd_model.specs.declared.step.Step.{Step}
+use Rattle.mpd_model.specs.declared.decision.Decision.{Decision}
+use Rattle.mpd_model.specs.declared.decision.Decision.TheVariants.{Forced, Choice, Leaf}
+use Rattle.mpd_model.specs.declared.breakpoint.Break.{Break}
+use Rattle.mpd_model.specs.declared.breakpoint.Cause.{Cause}
+use Rattle.mpd_model.specs.declared.breakpoint.Cause.TheVariants as for
+use Rattle.mpd_model.specs.declared.breakpoint.Stop.{Stop}
+use Rattle.mpd_model.specs.Declaration.{Declared}
+use Rattle.mpd_model.specs.Program.{Program}
+use Rattle.mpd_model.specs.World.{World}
+use Rattle.mpd_model.specs.Decisions.{decision, forced_step}
+use Rattle.mpd_model.specs.Trail.{Trail}
+use Rattle.mpd_model.specs.Texts.{line}
+use Rattle.mpd_model.specs.Breakpoints.{break_at}
+use Rattle.mpd_wire.specs.declared.request.Command.{Command}
+use Rattle.mpd_wire.specs.declared.request.Command.TheVariants as command
+use Rattle.mpd_wire.specs.declared.reply.Answer.{Answer}
+use Rattle.mpd_wire.specs.declared.reply.Answer.TheVariants as answer
+use Rattle.mpd_wire.specs.declared.reply.Refusal.{Refusal}
+use Rattle.mpd_wire.specs.declared.reply.Refusal.TheVariants as refusal
+use Rattle.mpd_wire.specs.declared.reply.Reply.{Reply}
+use Rattle.mpd_wire.specs.declared.reply.Reply.TheVariants as reply
+use Rattle.mpd_names.specs.Called.{break_text}
+use Rattle.mpd_view.specs.Steps.{step_words}
+use Rattle.mpd_view.specs.Standing.{standing_text}
+use Rattle.mpd_console.specs.declared.moves.TheConstants.{NO_CANDIDATE}
+use Rattle.mpd_console.specs.declared.moves.Doing.{Doing}
+use Rattle.mpd_console.specs.declared.moves.Doing.TheVariants.{Asks, Seeks, Looks}
+use Rattle.mpd_vocabulary.specs.declared.word.Word.{Word}
+use Rattle.mpd_vocabulary.specs.declared.word.Word.TheVariants as word
+
+-- ---- what a word asks for
+
+-- People count candidates from 1; there is none of number 0.
+abbrev pub from_one : ℕ → ℕ
+from_one n = if n == 0 then NO_CANDIDATE else n - 1
+
+abbrev pub candidate_of : Option ℕ → Option ℕ
+candidate_of n = option_map from_one n
+
+-- how many steps are undone
+abbrev pub ahead_of : Trail → ℕ
+ahead_of t = length t.steps - t.depth
+
+-- A run would stop here, at a choice, though the step that is taken there lies ahead: where a step can be taken and none is forced, there is
+-- a choice to make.
+abbrev pub is_alone : Option Step → Option Step → Bool
+is_alone one other = is_some one && is_none other
+
+abbrev pub goes_along : Trail → World → Bool
+goes_along t w = is_alone (slice_get t.steps t.depth) (forced_step w)
+
+-- `run` goes along: at a choice it takes the step that lies ahead
+abbrev pub run_command : Trail → World → ℕ → Command
+run_command t w n = if nat_lt 0 n && goes_along t w then command.Redo 1 else command.Run n
+
+-- `redo` takes no more steps than lie ahead, where one does
+abbrev pub redo_command : Trail → ℕ → Command
+redo_command t n = if nat_lt 0 (ahead_of t) && nat_lt (ahead_of t) n then command.Redo (ahead_of t) else command.Redo n
+
+-- `goto` goes back, or along the steps that lie ahead
+abbrev pub goto_command : Trail → ℕ → Command
+goto_command t n = if nat_lt t.depth n && nat_le (n - t.depth) (ahead_of t) then command.Redo (n - t.depth) else command.Goto n
+
+-- what a word does with a session: it asks for something that changes it, or looks for a deadlock, or changes nothing
+abbrev pub doing_of : Trail → World → Word → Doing
+doing_of t w (word.Next n) = Asks (command.Next (candidate_of n))
+doing_of t w (word.Run n) = Asks (run_command t w n)
+doing_of t w (word.Back n) = Asks (command.Back n)
+doing_of t w word.RunBack = Asks command.RunBack
+doing_of t w (word.Goto n) = Asks (goto_command t n)
+doing_of t w (word.Redo n) = Asks (redo_command t n)
+doing_of t w (word.Step a) = Asks (command.Step a)
+doing_of t w (word.Break b) = Asks (command.Break b)
+doing_of t w (word.Delete n) = Asks (command.Unbreak n)
+doing_of t w word.Deadlock = Seeks
+doing_of t w other = Looks
+
+-- ---- the step that a word takes, told before it is taken
+
+-- the step that is taken next, by the candidate of this number at a choice
+abbrev pub picked : Option ℕ → Decision → Option Step
+picked choice (Forced a) = Some a
+picked None (Choice steps) = None
+picked (Some i) (Choice steps) = slice_get steps i
+picked choice (Leaf o) = None
+
+-- the step that is taken again by a request for one
+abbrev pub redone_step : Trail → Command → Option Step
+redone_step t (command.Redo n) = if n == 1 then slice_get t.steps t.depth else None
+redone_step t other = None
+
+-- of a step by hand, `next`, and where one step is taken again by `redo` or `run`
+abbrev pub step_for : Trail → World → Word → Option Step
+step_for t w (word.Next n) = picked (candidate_of n) (decision w)
+step_for t w (word.Run n) = redone_step t (run_command t w n)
+step_for t w (word.Redo n) = redone_step t (redo_command t n)
+step_for t w (word.Step a) = Some a
+step_for t w other = None
+
+abbrev pub words_of : Program → World → Option Step → List ℕ
+words_of s w None = []
+words_of s w (Some a) = step_words s w a
+
+abbrev pub lead_text : Trail → World → Word → List ℕ
+lead_text t w x = words_of t.program w (step_for t w x)
+
+-- ---- what is told of a move
+
+abbrev pub count_words : ℕ → List ℕ
+count_words n = if n == 1 then codes "1 step" else decimal n ++ codes " steps"
+
+-- the step that was taken, with the depth behind it; or the depth alone
+abbrev pub moved_line : ℕ → List ℕ → List ℕ
+moved_line depth [] = line (codes "depth " ++ decimal depth)
+moved_line depth (b ∷ lead) = line (decimal depth ++ 32 ∷ b ∷ lead)
+
+abbrev pub move_text : Trail → World → ℕ → List ℕ → List ℕ
+move_text t w depth lead = moved_line depth lead ++ standing_text t w
+
+-- ---- what is told of a run
+
+abbrev pub break_parts : List Declared → ℕ → Break → List ℕ
+break_parts ds n b = decimal n ++ codes ": " ++ line (break_text ds b)
+
+abbrev pub break_line : List Declared → ℕ → Break → List ℕ
+break_line ds n b = codes "breakpoint " ++ break_parts ds n b
+
+abbrev pub break_line_of : List Declared → ℕ → Option Break → List ℕ
+break_line_of ds n None = []
+break_line_of ds n (Some b) = break_line ds n b
+
+-- why a run stopped, where that isn't told by where it stands
+abbrev pub cause_line : List Declared → List (Option Break) → Cause → List ℕ
+cause_line ds places for.Leaf = []
+cause_line ds places for.Choice = []
+cause_line ds places for.Max = line (codes "stopped: as many steps as were asked for")
+cause_line ds places for.Full = line (codes "stopped: no more than 1000000 steps are kept")
+cause_line ds places for.Start = line (codes "at the start")
+cause_line ds places (for.Break n) = break_line_of ds n (break_at places n)
+
+abbrev pub back_words : Word → List ℕ
+back_words word.RunBack = codes " back"
+back_words other = []
+
+abbrev pub ran_line : Word → ℕ → ℕ → List ℕ
+ran_line x depth count = line (count_words count ++ back_words x ++ codes ", depth " ++ decimal depth)
+
+abbrev pub run_text : Trail → World → List (Option Break) → Word → ℕ → Stop → List ℕ
+run_text t w places x depth stop = ran_line x depth stop.steps ++ cause_line t.program.decls places stop.cause ++ standing_text t w
+
+-- ---- breakpoints
+
+abbrev pub added_line : List Declared → Word → ℕ → List ℕ
+added_line ds (word.Break b) n = break_line ds n b
+added_line ds other n = []
+
+abbrev pub removed_line : Word → List ℕ
+removed_line (word.Delete n) = line (codes "deleted " ++ decimal n)
+removed_line other = []
+
+-- ---- refusals
+
+abbrev pub is_next : Word → Bool
+is_next (word.Next n) = true
+is_next other = false
+
+-- `next` is answered with where it stands, and says why only where that doesn't tell
+abbrev pub refusal_line : Bool → Refusal → List ℕ
+refusal_line next refusal.NotEnabled = if next then [] else line (codes "refused: this step is not enabled")
+refusal_line next refusal.Full = line (codes "refused: no more than 1000000 steps are kept")
+refusal_line next refusal.AtStart = line (codes "refused: fewer steps are taken")
+refusal_line next refusal.NotBefore = line (codes "refused: fewer steps are taken")
+refusal_line next refusal.NoRedo = line (codes "refused: fewer steps are ahead")
+refusal_line next refusal.NoSuchBreak = line (codes "refused: no breakpoint has this number")
+refusal_line next refusal.BreaksFull = line (codes "refused: 64 breakpoints are set")
+refusal_line next refusal.BadNumber = if next then line (codes "refused: there is no such candidate") else line (codes "refused: no such number")
+refusal_line next other = []
+
+-- where it stands follows, but where no more steps are kept
+abbrev pub stands_behind : Bool → Refusal → Bool
+stands_behind next refusal.Full = false
+stands_behind next other = next
+
+abbrev pub refused_text : Trail → World → Word → Refusal → List ℕ
+refused_text t w x r = refusal_line (is_next x) r ++ (if stands_behind (is_next x) r then standing_text t w else [])
+
+-- ---- what is told of a reply, behind the request
+
+abbrev pub answer_text : Trail → World → List (Option Break) → Word → List ℕ → Answer → List ℕ
+answer_text t w places x lead (answer.Depth depth) = move_text t w depth lead
+answer_text t w places x lead (answer.Stepped depth a) = move_text t w depth lead
+answer_text t w places x lead (answer.Ran depth stop) = run_text t w places x depth stop
+answer_text t w places x lead (answer.Added n) = added_line t.program.decls x n
+answer_text t w places x lead answer.Removed = removed_line x
+answer_text t w places x lead other = []
+
+abbrev pub reply_text : Trail → World → List (Option Break) → Word → List ℕ → Reply → List ℕ
+reply_text t w places x lead (reply.Refused r) = refused_text t w x r
+reply_text t w places x lead (reply.Done v a) = answer_text t w places x lead a

@@ -1,0 +1,173 @@
+-- What a line of the console is answered, and where that leaves the session.
+use Rattle.std.specs.Prelude.{◌≡◌, ℕ, ◌-◌, ◌⊎◌, Bool, true, false, nat_lt, List, [], ◌++◌, length, Option, Some, None, option_and_then, codes, refl}
+use Rattle.std.specs.Coded.{Coded, code_by, coded×, coded_ℕ, coded_bool, coded_list, coded_option}
+use Rattle.std.specs.Fmt.{decimal}
+use Rattle.mpd_model.specs.declared.limits.TheConstants.{LINE_MAX}
+use Rattle.mpd_model.specs.declared.step.CallId.{CallId}
+use Rattle.mpd_model.specs.World.{World}
+use Rattle.mpd_model.specs.Trail.{Trail, world_of}
+use Rattle.mpd_model.specs.Texts.{line}
+use Rattle.mpd_explore.specs.declared.report.Leaf.{Leaf}
+use Rattle.mpd_explore.specs.declared.report.Witness.{Witness}
+use Rattle.mpd_wire.specs.declared.request.Command.{Command}
+use Rattle.mpd_wire.specs.declared.request.Request.{Request}
+use Rattle.mpd_wire.specs.declared.reply.Reply.{Reply}
+use Rattle.mpd_explore.specs.Witness.{IsWitness}
+use Rattle.mpd_vocabulary.specs.contracts.word.Word as word_row
+use Rattle.mpd_view.specs.Standing.{standing_text}
+use Rattle.mpd_session.specs.Held.{Held, held_code}
+use Rattle.mpd_session.specs.Respond.{respond, laid}
+use Rattle.mpd_vocabulary.specs.declared.word.Word.{Word}
+use Rattle.mpd_vocabulary.specs.declared.word.Word.TheVariants as word
+use Rattle.mpd_vocabulary.specs.declared.word.WordFault.{WordFault}
+use Rattle.mpd_vocabulary.specs.declared.read.Line.{Line}
+use Rattle.mpd_vocabulary.specs.declared.read.Line.TheVariants.{Blank, Comment, Says, Wrong}
+use Rattle.mpd_vocabulary.specs.Reading.{line_of}
+use Rattle.mpd_console.specs.declared.moves.Doing.{Doing}
+use Rattle.mpd_console.specs.declared.moves.Doing.TheVariants.{Asks, Seeks, Looks}
+use Rattle.mpd_console.specs.Moves.{doing_of, lead_text, reply_text}
+use Rattle.mpd_console.specs.Looks.{look_text}
+use Rattle.mpd_console.specs.Search.{sought_leaves, sought_more, sought_witness, fuel_at, found_line, not_found_line}
+use Rattle.mpd_vocabulary.specs.Faults.{fault_text}
+
+-- the lines that stand in the place of an answer: where memory is refused before anything was done, and behind that
+abbrev pub memory_line : List ℕ
+memory_line = line (codes "refused: memory")
+
+abbrev pub unprinted_line : List ℕ
+unprinted_line = line (codes "done, but memory for the answer was refused")
+
+abbrev pub too_long_line : List ℕ
+too_long_line = line (codes "refused: this line is too long")
+
+-- what is told of the world of a trail; no session holds a trail that leads nowhere
+abbrev pub at_world : (World → List ℕ) → Option World → List ℕ
+at_world tell None = []
+at_world tell (Some w) = tell w
+
+-- ---- answers, each with the prompt behind it
+
+abbrev pub prompt : Bool → Held → List ℕ
+prompt false s = []
+prompt true s = codes "(" ++ decimal s.trail.depth ++ codes ") "
+
+abbrev pub lead_said : Held → Word → List ℕ
+lead_said s x = at_world (λ w. lead_text s.trail w x) (world_of s.trail)
+
+abbrev pub reply_said : Bool → Held → Word → List ℕ → Reply → List ℕ
+reply_said p s x lead r = at_world (λ w. reply_text s.trail w s.breaks x lead r) (world_of s.trail) ++ prompt p s
+
+-- behind `quit` no prompt stands
+abbrev pub prompts_behind : Bool → Word → Bool
+prompts_behind p word.Quit = false
+prompts_behind p other = p
+
+abbrev pub look_said : Bool → List ℕ → Held → Word → List ℕ
+look_said p script s x = at_world (λ w. look_text s.trail w s.breaks script x) (world_of s.trail) ++ prompt (prompts_behind p x) s
+
+abbrev pub found_said : Bool → Held → List CallId → ℕ → List ℕ
+found_said p s blocked ahead = found_line blocked ahead ++ at_world (λ w. standing_text s.trail w) (world_of s.trail) ++ prompt p s
+
+abbrev pub not_found_said : Bool → Held → List Leaf → Bool → List ℕ
+not_found_said p s leaves more = not_found_line leaves more ++ prompt p s
+
+abbrev pub fault_said : Bool → Held → List ℕ → WordFault → List ℕ
+fault_said p s z f = fault_text z f ++ prompt p s
+
+abbrev pub none_at : Held → World → List ℕ
+none_at s w = not_found_line (sought_leaves (fuel_at s.trail.depth) w) (sought_more (fuel_at s.trail.depth) w)
+
+abbrev pub none_said : Bool → Held → List ℕ
+none_said p s = at_world (none_at s) (world_of s.trail) ++ prompt p s
+
+-- ---- what a word does to the session
+
+-- the whole text, or the line that says that it is done
+abbrev pub Told : List ℕ → List ℕ → Type 0
+Told whole text = (text ≡ whole) ⊎ (text ≡ unprinted_line)
+
+-- the whole text, or the line that says that memory was refused
+abbrev pub Looked : List ℕ → List ℕ → Type 0
+Looked whole text = (text ≡ whole) ⊎ (text ≡ memory_line)
+
+abbrev pub asking : Command → Request
+asking c = record { command = c; at = None }
+
+-- A word that asks the session: the session behind it is the one behind that request, and its reply is told; or memory was refused, and
+-- the session is as before.
+abbrev pub Carried : Bool → Held → Word → Command → Held → List ℕ → Type 0
+Carried p s x c t text =
+    ((t ≡ (respond s (asking c)).1) × Told (reply_said p t x (lead_said s x) (respond s (asking c)).0) text) ⊎ ((t ≡ s) × (text ≡ memory_line))
+
+-- the witness of the first deadlock from where a session stands
+abbrev pub witness_from : Held → Option Witness
+witness_from s = option_and_then (λ w. sought_witness s.trail w) (world_of s.trail)
+
+-- A deadlock that was found lies ahead: the steps of its witness are those that are kept. Where none was found, or memory was refused,
+-- the session is as before.
+abbrev pub LaidBy : Bool → Held → Option Witness → Held → List ℕ → Type 0
+LaidBy p s None t text = (t ≡ s) × Looked (none_said p s) text
+LaidBy p s (Some x) t text =
+    (IsWitness s.trail.program s.trail.mode x × (t ≡ laid s x.steps) × Told (found_said p t x.blocked (length x.steps - s.trail.depth)) text)
+    ⊎ ((t ≡ s) × (text ≡ memory_line))
+
+abbrev pub AnsweredBy : Bool → List ℕ → Held → Word → Doing → Held → List ℕ → Type 0
+AnsweredBy p script s x (Asks c) t text = Carried p s x c t text
+AnsweredBy p script s x Seeks t text = LaidBy p s (witness_from s) t text
+AnsweredBy p script s x Looks t text = (t ≡ s) × Looked (look_said p script s x) text
+
+-- what a word does with a session; no session holds a trail that leads nowhere
+abbrev pub doing_at : Trail → Word → Option World → Doing
+doing_at t x None = Looks
+doing_at t x (Some w) = doing_of t w x
+
+abbrev pub doing_in : Held → Word → Doing
+doing_in s x = doing_at s.trail x (world_of s.trail)
+
+-- A word is answered, given the text of the script and whether prompts are wanted.
+abbrev pub Answered : Bool → List ℕ → Held → Word → Held → List ℕ → Type 0
+Answered p script s x t text = AnsweredBy p script s x (doing_in s x) t text
+
+-- ---- lines
+
+-- what a console holds: a session, the text of its script, the word that an empty line repeats, and whether prompts are wanted
+pub record Console : Type 0 where
+  pub session : Held
+  pub script : List ℕ
+  pub last : Option Word
+  pub prompts : Bool
+
+abbrev pub console_code : Coded Console
+console_code =
+    code_by (Held × (List ℕ × (Option Word × Bool))) (coded× held_code (coded× (coded_list coded_ℕ) (coded× (coded_option word_row.the_row.coded) coded_bool)))
+    (λ d. (d.session, (d.script, (d.last, d.prompts)))) (λ q. record { session = q.0; script = q.1.0; last = q.1.1.0; prompts = q.1.1.1 }) (λ _. refl)
+
+abbrev pub WordSays : Console → Word → List ℕ → Console → Type 0
+WordSays d x text e = (e.script ≡ d.script) × (e.last ≡ d.last) × (e.prompts ≡ d.prompts) × Answered d.prompts d.script d.session x e.session text
+
+abbrev pub RepeatSays : Console → Option Word → List ℕ → Console → Type 0
+RepeatSays d None text e = (e ≡ d) × Looked (prompt d.prompts d.session) text
+RepeatSays d (Some x) text e = WordSays d x text e
+
+abbrev pub LineSays : Console → Line → List ℕ → List ℕ → Console → Type 0
+LineSays d Blank z text e = RepeatSays d d.last text e
+LineSays d Comment z text e = (e ≡ d) × Looked (prompt d.prompts d.session) text
+LineSays d (Says x) z text e = WordSays (record d { last = Some x }) x text e
+LineSays d (Wrong f) z text e = (e ≡ d) × Looked (fault_said d.prompts d.session z f) text
+
+abbrev pub SaysBy : Bool → Console → List ℕ → List ℕ → Console → Type 0
+SaysBy true d z text e = (e ≡ d) × (text ≡ too_long_line ++ prompt d.prompts d.session)
+SaysBy false d z text e = LineSays d (line_of d.session.trail.program.decls z) z text e
+
+-- A console d answers a line by this text, and is e then.
+abbrev pub ConsoleSays : Console → List ℕ → List ℕ → Console → Type 0
+ConsoleSays d z text e = SaysBy (nat_lt LINE_MAX (length z)) d z text e
+
+-- ---- the same, of what is added to a text
+
+abbrev pub Adds : (List ℕ → Type 0) → List ℕ → List ℕ → Type 0
+Adds P before after = (text : List ℕ) × (after ≡ before ++ text) × P text
+
+-- a text, or the line in its place
+abbrev pub OrElse : List ℕ → List ℕ → List ℕ → Type 0
+OrElse whole otherwise text = (text ≡ whole) ⊎ (text ≡ otherwise)

@@ -1,0 +1,539 @@
+//! What answers the lines of the console: a desk with a session.
+
+ghost use Rattle.std.specs.Prelude.{◌≡◌, ◌+◌, ◌-◌, ◌≤◌, ◌++◌, ℕ, Bool, List, None, IfOk, IfSome, OnOk, length, string_bytes, vec_len, vec_capacity};
+ghost use Rattle.mpd_session.specs.Respond.{laid};
+ghost use Rattle.mpd_console.specs.Search.{LiesAhead};
+ghost use Rattle.mpd_vocabulary.specs.Reading.{line_of};
+ghost use Rattle.mpd_console.specs.Says as spec;
+ghost use Rattle.mpd_console.specs.Says.{Adds, OrElse, Told, Carried, LaidBy, Answered, Looked, RepeatSays};
+
+use crate::looks::push_look;
+use crate::moves::{Doing, doing_of, lead, push_reply};
+use crate::search::{Sought, push_found, push_not_found, seek_deadlock};
+use itoa::Buffer;
+use mpd_explore::report::{Report, Witness};
+use mpd_lines::desk::{LineDesk, ROOM};
+use mpd_lines::kept::push_all;
+use mpd_model::limits::LINE_MAX;
+use mpd_model::step::CallId;
+use mpd_session::session::Session;
+use mpd_view::standing::push_standing;
+use mpd_vocabulary::read::{Line, line_of};
+use mpd_vocabulary::told::push_fault;
+use mpd_vocabulary::word::{Word, WordFault};
+use mpd_wire::reply::Reply;
+use mpd_wire::request::{Command, Request};
+use std::alloc::{AllocError, Global};
+use std::marker::Model;
+
+/// What stands in the place of an answer where memory is refused before anything was done.
+const MEMORY: &[u8] = b"refused: memory\n";
+
+/// What stands in the place of an answer whose text is refused memory: what the word does is done.
+const UNPRINTED: &[u8] = b"done, but memory for the answer was refused\n";
+
+/// What answers a line that is too long.
+const TOO_LONG: &[u8] = b"refused: this line is too long\n";
+
+/// Adds a text, or the line that stands in its place where that is refused memory.
+#[tactic(auto, using(crate::proofs::SaidLemmas::adding))]
+fn add(text: &str, otherwise: &[u8], out: &mut Vec<u8>)
+    requires short { length otherwise.now ≤ ROOM }
+    requires room { vec_len out.old + ROOM ≤ vec_capacity out.old }
+    ensures added { Adds (OrElse text.now otherwise.now) out.old.items out.new.items }
+    ensures capacity { vec_capacity out.old ≤ vec_capacity out.new }
+{
+    match out.extend_from_slice(text.as_bytes()) {
+        Ok(()) => {}
+        Err(_) => push_all(out, otherwise),
+    }
+}
+
+/// Adds the prompt, where one is wanted: how many steps are not undone.
+fn push_prompt(
+    session: &Session<'_>,
+    out: &mut String,
+    is_prompting: bool,
+) -> Result<(), AllocError>
+    ensures { OnOk result (string_bytes out.new ≡ string_bytes out.old ++ spec.prompt is_prompting session.now) }
+{
+    if !is_prompting {
+        return Ok(());
+    }
+    let depth = session.debugger().depth();
+    write!(out, "({depth}) ")
+}
+
+/// The answer to a word by the reply of the session, behind it.
+#[tactic(auto, using(crate::proofs::SaidLemmas::replying))]
+fn reply_text(
+    alloc: Global,
+    session: &Session<'_>,
+    is_prompting: bool,
+    word: Word,
+    lead: &str,
+    reply: &Reply,
+) -> Result<String, AllocError>
+    ensures { IfOk result (λ t. string_bytes t ≡ spec.reply_said is_prompting session.now word lead.now reply.now) }
+{
+    let mut out = String::new(alloc);
+    let debugger = session.debugger();
+    let _ = debugger.core();
+    push_reply(
+        alloc,
+        debugger,
+        session.breaks(),
+        &mut out,
+        word,
+        lead,
+        reply,
+    )?;
+    push_prompt(session, &mut out, is_prompting)?;
+    Ok(out)
+}
+
+/// Adds the answer to a word by the reply of the session, behind it.
+#[tactic(auto, using(crate::proofs::SaidLemmas::telling))]
+fn tell_reply(
+    alloc: Global,
+    session: &Session<'_>,
+    is_prompting: bool,
+    word: Word,
+    lead: &str,
+    reply: &Reply,
+    out: &mut Vec<u8>,
+)
+    requires room { vec_len out.old + ROOM ≤ vec_capacity out.old }
+    ensures told { Adds (Told (spec.reply_said is_prompting session.now word lead.now reply.now)) out.old.items out.new.items }
+    ensures capacity { vec_capacity out.old ≤ vec_capacity out.new }
+{
+    let Ok(text) = reply_text(alloc, session, is_prompting, word, lead, reply) else {
+        return push_all(out, UNPRINTED);
+    };
+    add(&text, UNPRINTED, out)
+}
+
+/// The step that a word takes, in words, before it is taken.
+#[tactic(auto, using(crate::proofs::SaidLemmas::leading))]
+fn lead_text(alloc: Global, session: &Session<'_>, word: Word) -> Result<String, AllocError>
+    ensures { IfOk result (λ t. string_bytes t ≡ spec.lead_said session.now word) }
+{
+    let debugger = session.debugger();
+    let _ = debugger.core();
+    lead(alloc, debugger, word)
+}
+
+/// Asks the session, and adds what is told of its reply.
+#[tactic(auto, using(crate::proofs::SaidLemmas::carrying))]
+fn carry_out(
+    alloc: Global,
+    session: &mut Session<'_>,
+    is_prompting: bool,
+    word: Word,
+    command: Command,
+    out: &mut Vec<u8>,
+)
+    requires room { vec_len out.old + ROOM ≤ vec_capacity out.old }
+    ensures carried { Adds (Carried is_prompting session.old word command session.new) out.old.items out.new.items }
+    ensures capacity { vec_capacity out.old ≤ vec_capacity out.new }
+{
+    let Ok(lead) = lead_text(alloc, session, word) else {
+        return push_all(out, MEMORY);
+    };
+    let request = Request { command, at: None };
+    match session.answer(alloc, &request) {
+        Ok(reply) => tell_reply(alloc, session, is_prompting, word, &lead, &reply, out),
+        Err(_) => push_all(out, MEMORY),
+    }
+}
+
+/// Whether a prompt stands behind the answer to a word that changes nothing.
+fn prompts_behind(is_prompting: bool, word: Word) -> bool
+    ensures { result ≡ spec.prompts_behind is_prompting word }
+{
+    match word {
+        Word::Quit => false,
+        _ => is_prompting,
+    }
+}
+
+/// The answer to a word that changes nothing.
+#[tactic(auto, using(crate::proofs::SaidLemmas::looking))]
+fn look_text(
+    alloc: Global,
+    session: &Session<'_>,
+    is_prompting: bool,
+    script: &[u8],
+    word: Word,
+) -> Result<String, AllocError>
+    ensures { IfOk result (λ t. string_bytes t ≡ spec.look_said is_prompting script.now session.now word) }
+{
+    let mut out = String::new(alloc);
+    let debugger = session.debugger();
+    let _ = debugger.core();
+    push_look(alloc, debugger, session.breaks(), script, &mut out, word)?;
+    push_prompt(session, &mut out, prompts_behind(is_prompting, word))?;
+    Ok(out)
+}
+
+/// What is told of a deadlock that lies ahead.
+#[tactic(auto, using(crate::proofs::SaidLemmas::finding))]
+pub(crate) fn found_text(
+    alloc: Global,
+    session: &Session<'_>,
+    is_prompting: bool,
+    blocked: &[CallId],
+    ahead: usize,
+) -> Result<String, AllocError>
+    ensures { IfOk result (λ t. string_bytes t ≡ spec.found_said is_prompting session.now blocked.now ahead) }
+{
+    let mut out = String::new(alloc);
+    let debugger = session.debugger();
+    let _ = debugger.core();
+    push_found(&mut out, blocked, ahead)?;
+    push_standing(alloc, debugger, &mut out)?;
+    push_prompt(session, &mut out, is_prompting)?;
+    Ok(out)
+}
+
+/// What is told where no deadlock was found.
+fn not_found_text(
+    alloc: Global,
+    session: &Session<'_>,
+    is_prompting: bool,
+    report: &Report,
+) -> Result<String, AllocError>
+    ensures { IfOk result (λ t. string_bytes t ≡ spec.not_found_said is_prompting session.now report.now.leaves.items report.now.more) }
+{
+    let mut out = String::new(alloc);
+    push_not_found(&mut out, report)?;
+    push_prompt(session, &mut out, is_prompting)?;
+    Ok(out)
+}
+
+/// Tells of a deadlock that lies ahead.
+#[tactic(auto, using(crate::proofs::SaidLemmas::telling))]
+fn tell_found(
+    alloc: Global,
+    session: &Session<'_>,
+    is_prompting: bool,
+    blocked: &[CallId],
+    ahead: usize,
+    out: &mut Vec<u8>,
+)
+    requires room { vec_len out.old + ROOM ≤ vec_capacity out.old }
+    ensures told { Adds (Told (spec.found_said is_prompting session.now blocked.now ahead)) out.old.items out.new.items }
+    ensures capacity { vec_capacity out.old ≤ vec_capacity out.new }
+{
+    let Ok(text) = found_text(alloc, session, is_prompting, blocked, ahead) else {
+        return push_all(out, UNPRINTED);
+    };
+    add(&text, UNPRINTED, out)
+}
+
+/// Has the steps of a witness lie ahead, and tells so.
+#[tactic(auto, using(crate::proofs::SaidLemmas::laying))]
+fn lay(
+    alloc: Global,
+    session: &mut Session<'_>,
+    is_prompting: bool,
+    witness: Witness,
+    out: &mut Vec<u8>,
+)
+    requires lies { LiesAhead session.old.trail witness }
+    requires room { vec_len out.old + ROOM ≤ vec_capacity out.old }
+    ensures session { session.new ≡ laid session.old witness.steps }
+    ensures told { Adds (Told (spec.found_said is_prompting session.new witness.blocked (length witness.steps - session.old.trail.depth))) out.old.items out.new.items }
+    ensures capacity { vec_capacity out.old ≤ vec_capacity out.new }
+{
+    let depth = session.debugger().depth();
+    let ahead = witness.steps.items.len().saturating_sub(depth);
+    let blocked = witness.blocked.items;
+    session.lay(witness.steps.items);
+    tell_found(alloc, session, is_prompting, &blocked, ahead, out)
+}
+
+/// Tells that there is no deadlock.
+#[tactic(auto, using(crate::proofs::SaidLemmas::telling))]
+fn tell_none(
+    alloc: Global,
+    session: &Session<'_>,
+    is_prompting: bool,
+    report: &Report,
+    out: &mut Vec<u8>,
+)
+    requires room { vec_len out.old + ROOM ≤ vec_capacity out.old }
+    ensures told { Adds (Looked (spec.not_found_said is_prompting session.now report.now.leaves.items report.now.more)) out.old.items out.new.items }
+    ensures capacity { vec_capacity out.old ≤ vec_capacity out.new }
+{
+    let Ok(text) = not_found_text(alloc, session, is_prompting, report) else {
+        return push_all(out, MEMORY);
+    };
+    add(&text, MEMORY, out)
+}
+
+/// The search from where a session stands.
+#[tactic(auto, using(crate::proofs::SaidLemmas::seeking))]
+fn sought_from(alloc: Global, session: &Session<'_>) -> Result<Sought, AllocError>
+    ensures witness { IfOk result (λ s. s.witness ≡ spec.witness_from session.now) }
+    ensures none { (p : Bool) → IfOk result (λ s. spec.not_found_said p session.now s.report.leaves.items s.report.more ≡ spec.none_said p session.now) }
+    ensures lies { IfOk result (λ s. IfSome s.witness (LiesAhead session.now.trail)) }
+{
+    let debugger = session.debugger();
+    let _ = debugger.core();
+    seek_deadlock(alloc, debugger)
+}
+
+/// Looks for a deadlock, has its steps lie ahead, and tells so.
+#[tactic(auto, using(crate::proofs::SaidLemmas::laying))]
+fn seek(alloc: Global, session: &mut Session<'_>, is_prompting: bool, out: &mut Vec<u8>)
+    requires room { vec_len out.old + ROOM ≤ vec_capacity out.old }
+    ensures laid { Adds (LaidBy is_prompting session.old (spec.witness_from session.old) session.new) out.old.items out.new.items }
+    ensures capacity { vec_capacity out.old ≤ vec_capacity out.new }
+{
+    let Ok(sought) = sought_from(alloc, session) else {
+        return push_all(out, MEMORY);
+    };
+    let Sought { report, witness } = sought;
+    match witness {
+        Some(witness) => lay(alloc, session, is_prompting, witness, out),
+        None => tell_none(alloc, session, is_prompting, &report, out),
+    }
+}
+
+/// Looks, and tells what is seen.
+#[tactic(auto, using(crate::proofs::SaidLemmas::telling))]
+fn look(
+    alloc: Global,
+    session: &Session<'_>,
+    is_prompting: bool,
+    script: &[u8],
+    word: Word,
+    out: &mut Vec<u8>,
+)
+    requires room { vec_len out.old + ROOM ≤ vec_capacity out.old }
+    ensures looked { Adds (Looked (spec.look_said is_prompting script.now session.now word)) out.old.items out.new.items }
+    ensures capacity { vec_capacity out.old ≤ vec_capacity out.new }
+{
+    let Ok(text) = look_text(alloc, session, is_prompting, script, word) else {
+        return push_all(out, MEMORY);
+    };
+    add(&text, MEMORY, out)
+}
+
+/// What a word does with a session.
+#[tactic(auto, using(crate::proofs::SaidLemmas::doing))]
+fn doing_in(session: &Session<'_>, word: Word) -> Doing
+    ensures { result ≡ spec.doing_in session.now word }
+{
+    let debugger = session.debugger();
+    let _ = debugger.core();
+    doing_of(debugger, word)
+}
+
+/// Answers a word.
+#[tactic(auto, using(crate::proofs::SaidLemmas::answering))]
+fn answer_word(
+    alloc: Global,
+    session: &mut Session<'_>,
+    is_prompting: bool,
+    script: &[u8],
+    word: Word,
+    out: &mut Vec<u8>,
+)
+    requires room { vec_len out.old + ROOM ≤ vec_capacity out.old }
+    ensures answered { Adds (Answered is_prompting script.now session.old word session.new) out.old.items out.new.items }
+    ensures capacity { vec_capacity out.old ≤ vec_capacity out.new }
+{
+    match doing_in(session, word) {
+        Doing::Asks(command) => carry_out(alloc, session, is_prompting, word, command, out),
+        Doing::Seeks => seek(alloc, session, is_prompting, out),
+        Doing::Looks => look(alloc, session, is_prompting, script, word, out),
+    }
+}
+
+/// What is told where nothing is done.
+pub(crate) fn idle_text(
+    alloc: Global,
+    session: &Session<'_>,
+    is_prompting: bool,
+) -> Result<String, AllocError>
+    ensures { IfOk result (λ t. string_bytes t ≡ spec.prompt is_prompting session.now) }
+{
+    let mut out = String::new(alloc);
+    push_prompt(session, &mut out, is_prompting)?;
+    Ok(out)
+}
+
+/// What is told of a line that asks for nothing that can be done.
+fn fault_text(
+    alloc: Global,
+    session: &Session<'_>,
+    is_prompting: bool,
+    line: &[u8],
+    fault: WordFault,
+) -> Result<String, AllocError>
+    ensures { IfOk result (λ t. string_bytes t ≡ spec.fault_said is_prompting session.now line.now fault) }
+{
+    let mut out = String::new(alloc);
+    push_fault(&mut out, line, fault)?;
+    push_prompt(session, &mut out, is_prompting)?;
+    Ok(out)
+}
+
+/// Adds the prompt, which takes no memory, where one is wanted.
+fn push_short_prompt(session: &Session<'_>, is_prompting: bool, out: &mut Vec<u8>)
+    requires room { vec_len out.old + 32 ≤ vec_capacity out.old }
+    ensures text { out.new.items ≡ out.old.items ++ spec.prompt is_prompting session.now }
+    ensures capacity { vec_capacity out.old ≤ vec_capacity out.new }
+{
+    if !is_prompting {
+        return;
+    }
+    let mut digits = Buffer::new();
+    push_all(out, b"(");
+    push_all(out, digits.format(session.debugger().depth()).as_bytes());
+    push_all(out, b") ");
+}
+
+/// Adds what is told of a line that is too long, which takes no memory.
+fn refuse_long(session: &Session<'_>, is_prompting: bool, out: &mut Vec<u8>)
+    requires room { vec_len out.old + ROOM ≤ vec_capacity out.old }
+    ensures text { out.new.items ≡ out.old.items ++ (spec.too_long_line ++ spec.prompt is_prompting session.now) }
+    ensures capacity { vec_capacity out.old ≤ vec_capacity out.new }
+{
+    push_all(out, TOO_LONG);
+    push_short_prompt(session, is_prompting, out)
+}
+
+/// A console at the start of a script (docs/CONSOLE.md): a session, the text of its script, the word that an empty line repeats, and
+/// whether prompts are wanted.
+#[derive(Drop)]
+pub struct ConsoleDesk<'c, 't> {
+    session: Session<'c>,
+    script: &'t [u8],
+    last: Option<Word>,
+    is_prompting: bool,
+}
+
+impl<'c, 't> Model for ConsoleDesk<'c, 't> {
+    ghost use Rattle.mpd_console.specs.Says.{Console, console_code};
+
+    ghost Value = { Console };
+
+    ghost coded = { console_code };
+
+    ghost view = { λ d. record { session = d.session; script = d.script.now; last = d.last; prompts = d.is_prompting } };
+}
+
+impl<'c, 't> ConsoleDesk<'c, 't> {
+    /// A console over a session, given the text of its script.
+    pub fn new(session: Session<'c>, script: &'t [u8], is_prompting: bool) -> ConsoleDesk<'c, 't>
+        ensures { result ≡ record { session = session.entry; script = script.entry.now; last = None; prompts = is_prompting } }
+    {
+        ConsoleDesk {
+            session,
+            script,
+            last: None,
+            is_prompting,
+        }
+    }
+
+    /// Answers a word.
+    #[tactic(auto, using(crate::proofs::SaidLemmas::speaking))]
+    fn say(&mut self, alloc: Global, word: Word, out: &mut Vec<u8>)
+        requires room { vec_len out.old + ROOM ≤ vec_capacity out.old }
+        ensures said { Adds (λ text. spec.WordSays self.old word text self.new) out.old.items out.new.items }
+        ensures capacity { vec_capacity out.old ≤ vec_capacity out.new }
+    {
+        answer_word(
+            alloc,
+            &mut self.session,
+            self.is_prompting,
+            self.script,
+            word,
+            out,
+        )
+    }
+
+    /// Answers a line that says nothing.
+    #[tactic(auto, using(crate::proofs::SaidLemmas::telling))]
+    fn say_nothing(&self, alloc: Global, out: &mut Vec<u8>)
+        requires room { vec_len out.old + ROOM ≤ vec_capacity out.old }
+        ensures said { Adds (Looked (spec.prompt self.now.prompts self.now.session)) out.old.items out.new.items }
+        ensures capacity { vec_capacity out.old ≤ vec_capacity out.new }
+    {
+        let Ok(text) = idle_text(alloc, &self.session, self.is_prompting) else {
+            return push_all(out, MEMORY);
+        };
+        add(&text, MEMORY, out)
+    }
+
+    /// Answers an empty line: by the last word once more, where there was one.
+    #[tactic(auto, using(crate::proofs::SaidLemmas::speaking))]
+    fn repeat(&mut self, alloc: Global, out: &mut Vec<u8>)
+        requires room { vec_len out.old + ROOM ≤ vec_capacity out.old }
+        ensures said { Adds (λ text. RepeatSays self.old self.old.last text self.new) out.old.items out.new.items }
+        ensures capacity { vec_capacity out.old ≤ vec_capacity out.new }
+    {
+        match self.last {
+            None => self.say_nothing(alloc, out),
+            Some(word) => self.say(alloc, word, out),
+        }
+    }
+
+    /// Answers a line that asks for nothing that can be done.
+    #[tactic(auto, using(crate::proofs::SaidLemmas::telling))]
+    fn refuse(&self, alloc: Global, line: &[u8], fault: WordFault, out: &mut Vec<u8>)
+        requires room { vec_len out.old + ROOM ≤ vec_capacity out.old }
+        ensures said { Adds (Looked (spec.fault_said self.now.prompts self.now.session line.now fault)) out.old.items out.new.items }
+        ensures capacity { vec_capacity out.old ≤ vec_capacity out.new }
+    {
+        let Ok(text) = fault_text(alloc, &self.session, self.is_prompting, line, fault) else {
+            return push_all(out, MEMORY);
+        };
+        add(&text, MEMORY, out)
+    }
+
+    /// Answers a line that is not too long.
+    #[tactic(auto, using(crate::proofs::SaidLemmas::speaking))]
+    fn answer_line(&mut self, alloc: Global, line: &[u8], out: &mut Vec<u8>)
+        requires room { vec_len out.old + ROOM ≤ vec_capacity out.old }
+        ensures said { Adds (λ text. spec.LineSays self.old (line_of self.old.session.trail.program.decls line.now) line.now text self.new) out.old.items out.new.items }
+        ensures capacity { vec_capacity out.old ≤ vec_capacity out.new }
+    {
+        match line_of(self.session.code(), line) {
+            Line::Blank => self.repeat(alloc, out),
+            Line::Comment => self.say_nothing(alloc, out),
+            Line::Wrong(fault) => self.refuse(alloc, line, fault, out),
+            Line::Says(word) => {
+                self.last = Some(word);
+                self.say(alloc, word, out)
+            }
+        }
+    }
+}
+
+impl<'c, 't> LineDesk for ConsoleDesk<'c, 't> {
+    ghost use Rattle.std.specs.Prelude.{false};
+    ghost use Rattle.mpd_console.specs.Says.{ConsoleSays};
+
+    // a person waits for each answer
+    ghost gathers = { false };
+
+    ghost says = { ConsoleSays };
+
+    fn is_gathering(&self) -> bool {
+        false
+    }
+
+    #[tactic(auto, using(crate::proofs::SaidLemmas::speaking))]
+    fn answer(&mut self, line: &[u8], out: &mut Vec<u8>) {
+        self.answer_line(*out.allocator(), line, out)
+    }
+
+    #[tactic(auto, using(crate::proofs::SaidLemmas::speaking))]
+    fn refuse_long(&mut self, out: &mut Vec<u8>) {
+        refuse_long(&self.session, self.is_prompting, out)
+    }
+}

@@ -1,0 +1,229 @@
+//! Words that change nothing (docs/CONSOLE.md, "Looks").
+
+ghost use Rattle.std.specs.Prelude.{◌≡◌, ◌++◌, OnOk, string_bytes};
+ghost use Rattle.std.specs.List.{flat_map, range_with_len};
+ghost use Rattle.mpd_model.specs.World.{rank_numbers};
+ghost use Rattle.mpd_names.specs.Held.{named_line, variables_text};
+ghost use Rattle.mpd_console.specs.Looks as spec;
+
+use crate::moves::push_break_line;
+use crate::search::push_runs;
+use mpd_core::state::Core;
+use mpd_model::limits::BREAKS_MAX;
+use mpd_model::place::Decl;
+use mpd_model::step::CallId;
+use mpd_names::held::{push_named, push_variables};
+use mpd_names::list::{push_list, push_list_about};
+use mpd_names::name::Named;
+use mpd_policy::breaks::Breaks;
+use mpd_trace::show::show;
+use mpd_trail::debugger::Debugger;
+use mpd_view::past::{push_history, push_words};
+use mpd_view::shown::{push_calls, push_enabled, push_queues, push_ranks};
+use mpd_view::whys::{push_why, push_why_rank};
+use mpd_vocabulary::told::push_help;
+use mpd_vocabulary::word::Word;
+use std::alloc::{AllocError, Global};
+
+/// What is answered to a number of something that isn't there.
+const NO_SUCH_NUMBER: &str = "refused: no such number\n";
+
+/// Adds the line of the breakpoint of a number, where there is one.
+fn push_break_at(
+    out: &mut String,
+    decls: &[Decl],
+    breaks: &Breaks,
+    number: usize,
+) -> Result<(), AllocError>
+    ensures { OnOk result (string_bytes out.new ≡ string_bytes out.old ++ spec.break_line_at decls.now breaks.now number) }
+{
+    match breaks.get(number) {
+        None => Ok(()),
+        Some(stop) => push_break_line(out, decls, number, stop),
+    }
+}
+
+/// Adds the lines of all breakpoints.
+fn push_all_breaks(out: &mut String, decls: &[Decl], breaks: &Breaks) -> Result<(), AllocError>
+    ensures { OnOk result (string_bytes out.new ≡ string_bytes out.old ++ flat_map (spec.break_line_at decls.now breaks.now) (range_with_len 0 BREAKS_MAX)) }
+{
+    for number in 0..BREAKS_MAX {
+        push_break_at(out, decls, breaks, number)?;
+    }
+    Ok(())
+}
+
+/// Adds the lines, or that there is no breakpoint where there are none.
+fn push_or_none(out: &mut String, lines: &str) -> Result<(), AllocError>
+    ensures { OnOk result (string_bytes out.new ≡ string_bytes out.old ++ spec.or_none lines.now) }
+{
+    if lines.is_empty() {
+        return out.push_str("no breakpoint\n");
+    }
+    out.push_str(lines)
+}
+
+/// Adds the breakpoints.
+fn push_breaks(out: &mut String, decls: &[Decl], breaks: &Breaks) -> Result<(), AllocError>
+    ensures { OnOk result (string_bytes out.new ≡ string_bytes out.old ++ spec.breaks_text decls.now breaks.now) }
+{
+    let mut lines = String::new(*out.allocator());
+    push_all_breaks(&mut lines, decls, breaks)?;
+    push_or_none(out, &lines)
+}
+
+/// Adds the script, or the lines about a rank.
+fn push_script(
+    core: &Core<'_>,
+    out: &mut String,
+    text: &[u8],
+    rank: Option<usize>,
+) -> Result<(), AllocError>
+    ensures { OnOk result (string_bytes out.new ≡ string_bytes out.old ++ spec.script_text core.now.program core.now.world text.now rank) }
+{
+    match rank {
+        None => push_list(core, out, text),
+        Some(rank) if rank >= core.rank_count() => out.push_str(NO_SUCH_NUMBER),
+        Some(rank) => push_list_about(core, out, text, rank),
+    }
+}
+
+/// Adds what a name stands for, of all ranks.
+fn push_named_of_all(core: &Core<'_>, out: &mut String, named: Named) -> Result<(), AllocError>
+    ensures { OnOk result (string_bytes out.new ≡ string_bytes out.old ++ flat_map (λ p. named_line core.now.program core.now.world p named) (rank_numbers core.now.world.board)) }
+{
+    let count = core.rank_count();
+    for rank in 0..count {
+        push_named(core, out, rank, named)?;
+    }
+    Ok(())
+}
+
+/// Adds what a name stands for.
+fn push_print(
+    core: &Core<'_>,
+    out: &mut String,
+    named: Named,
+    rank: Option<usize>,
+) -> Result<(), AllocError>
+    ensures { OnOk result (string_bytes out.new ≡ string_bytes out.old ++ spec.print_text core.now.program core.now.world named rank) }
+{
+    match rank {
+        None => push_named_of_all(core, out, named),
+        Some(rank) if rank >= core.rank_count() => out.push_str(NO_SUCH_NUMBER),
+        Some(rank) => push_named(core, out, rank, named),
+    }
+}
+
+/// Adds the variables and requests of all ranks.
+fn push_all_variables(core: &Core<'_>, out: &mut String) -> Result<(), AllocError>
+    ensures { OnOk result (string_bytes out.new ≡ string_bytes out.old ++ flat_map (variables_text core.now.program core.now.world) (rank_numbers core.now.world.board)) }
+{
+    let count = core.rank_count();
+    for rank in 0..count {
+        push_variables(core, out, rank)?;
+    }
+    Ok(())
+}
+
+/// Adds the variables and requests of all ranks, or of one.
+fn push_vars(core: &Core<'_>, out: &mut String, rank: Option<usize>) -> Result<(), AllocError>
+    ensures { OnOk result (string_bytes out.new ≡ string_bytes out.old ++ spec.vars_text core.now.program core.now.world rank) }
+{
+    match rank {
+        None => push_all_variables(core, out),
+        Some(rank) if rank >= core.rank_count() => out.push_str(NO_SUCH_NUMBER),
+        Some(rank) => push_variables(core, out, rank),
+    }
+}
+
+/// Adds the calls of all ranks, or of one.
+fn push_some_calls(core: &Core<'_>, out: &mut String, rank: Option<usize>) -> Result<(), AllocError>
+    ensures { OnOk result (string_bytes out.new ≡ string_bytes out.old ++ spec.calls_text core.now.program core.now.world rank) }
+{
+    match rank {
+        Some(rank) if rank >= core.rank_count() => out.push_str(NO_SUCH_NUMBER),
+        _ => push_calls(core, out, rank),
+    }
+}
+
+/// Adds why a call isn't matched.
+fn push_why_call(
+    alloc: Global,
+    core: &Core<'_>,
+    out: &mut String,
+    call: CallId,
+) -> Result<(), AllocError>
+    ensures { OnOk result (string_bytes out.new ≡ string_bytes out.old ++ spec.why_call_text core.now.program core.now.world call) }
+{
+    if core.board().call(call).is_none() {
+        return out.push_str(NO_SUCH_NUMBER);
+    }
+    push_why(alloc, core, out, call)
+}
+
+/// Adds why the call that a rank waits for isn't matched.
+fn push_why_of(
+    alloc: Global,
+    core: &Core<'_>,
+    out: &mut String,
+    rank: usize,
+) -> Result<(), AllocError>
+    ensures { OnOk result (string_bytes out.new ≡ string_bytes out.old ++ spec.why_of_text core.now.program core.now.world rank) }
+{
+    if rank >= core.rank_count() {
+        return out.push_str(NO_SUCH_NUMBER);
+    }
+    push_why_rank(alloc, core, out, rank)
+}
+
+/// Adds the whole state.
+fn push_show(alloc: Global, debugger: &Debugger<'_>, out: &mut String) -> Result<(), AllocError>
+    ensures { OnOk result (string_bytes out.new ≡ string_bytes out.old ++ spec.whole_text debugger.now.trail debugger.now.world) }
+{
+    let kept = debugger.steps().len();
+    let text = show(alloc, debugger.core(), debugger.depth(), kept)?;
+    out.push_str(&text)
+}
+
+/// Adds the answer to a word that changes nothing; none to another. An `Err` is want of memory.
+pub(crate) fn push_look(
+    alloc: Global,
+    debugger: &Debugger<'_>,
+    breaks: &Breaks,
+    text: &[u8],
+    out: &mut String,
+    word: Word,
+) -> Result<(), AllocError>
+    ensures { OnOk result (string_bytes out.new ≡ string_bytes out.old ++ spec.look_text debugger.now.trail debugger.now.world breaks.now text.now word) }
+{
+    let core = debugger.core();
+    match word {
+        Word::Breaks => push_breaks(out, core.code().decls(), breaks),
+        Word::List(rank) => push_script(core, out, text, rank),
+        Word::Print(named, rank) => push_print(core, out, named, rank),
+        Word::Vars(rank) => push_vars(core, out, rank),
+        Word::Ranks => push_ranks(core, out),
+        Word::Calls(rank) => push_some_calls(core, out, rank),
+        Word::Queues => push_queues(core, out),
+        Word::WhyCall(call) => push_why_call(alloc, core, out, call),
+        Word::WhyRank(rank) => push_why_of(alloc, core, out, rank),
+        Word::History(count) => push_history(debugger, out, count),
+        Word::Check(runs) => push_runs(alloc, debugger, out, runs),
+        Word::Words => push_words(debugger, out),
+        Word::Enabled => push_enabled(alloc, core, out),
+        Word::Show => push_show(alloc, debugger, out),
+        Word::Help(topic) => push_help(out, topic),
+        Word::Next(_)
+        | Word::Run(_)
+        | Word::Back(_)
+        | Word::RunBack
+        | Word::Goto(_)
+        | Word::Redo(_)
+        | Word::Step(_)
+        | Word::Break(_)
+        | Word::Delete(_)
+        | Word::Deadlock
+        | Word::Quit => Ok(()),
+    }
+}
