@@ -11,7 +11,7 @@ use Rattle.clap.specs.Faults.{fault_of, walk_fault, settle_fault, turn_fault, st
 use Rattle.clap.specs.Simple.{names_of, subcommand_of, entered}
 use Rattle.clap.specs.Walk.{Held, Walk, Names, idle, Step, value, trailing, Outcome, plain, nothing_held, finished, settled, walk_from, walked, arg_by_long, arg_by_short, long_or_other, short_or_plain, after_flag, after_step, subcommand_or_other, bundle, bundle_met, subcommand_met}
 use Rattle.clap.proofs.OnLiterals.{clap_on_literals}
-use Rattle.mpd_options.specs.Asked.{Asked, Tool, behind, checker, found_of_command, meant, among_options, runner, server, teller, tracer, verifier, wanted}
+use Rattle.mpd_options.specs.Asked.{Asked, Tool, behind, checker, debugger, found_of_command, meant, among_options, runner, server, teller, tracer, verifier, wanted}
 use Rattle.mpd_options.specs.Program.{Lies, mpdbg_app, only_deadlock}
 use Rattle.mpd_options.proofs.Ends.{Agrees, fails_first, fails_then}
 use Rattle.mpd_options.proofs.Items.{NamesNone, by_name, called, some_fault, tools}
@@ -69,6 +69,7 @@ AgreesAll (Some x) ks command = (ks ≡ []) × (found_of_command command ≡ Som
 behind_command : (t : Tool) (words : List Text) → walk_over (called t ∷ words) ≡ stopped_at start (called t) words
 unfolding clap_on_literals
 behind_command tracer words = stays words [] start (codes "trace")
+behind_command debugger words = stays words [] start (codes "debug")
 behind_command runner words = stays words [] start (codes "run")
 behind_command server words = stays words [] start (codes "serve")
 behind_command checker words = stays words [] start (codes "check")
@@ -78,6 +79,7 @@ behind_command teller words = stays words [] start (codes "words")
 command_walk : (t : Tool) (words : List Text) → walk_fault shape names start (called t ∷ words) ≡ []
 unfolding clap_on_literals
 command_walk tracer words = no_fault words [] start (codes "trace")
+command_walk debugger words = no_fault words [] start (codes "debug")
 command_walk runner words = no_fault words [] start (codes "run")
 command_walk server words = no_fault words [] start (codes "serve")
 command_walk checker words = no_fault words [] start (codes "check")
@@ -94,6 +96,7 @@ at_first = ready [] None false
 whole_command : (lie : Lies) (t : Tool) (words : List Text) → whole_fault lie [] (stopped_at start (called t) words) ≡ faults lie t (walk_at at_first) words
 unfolding clap_on_literals
 whole_command lie tracer words = and_nothing (faults lie tracer (walk_at at_first) words)
+whole_command lie debugger words = and_nothing (faults lie debugger (walk_at at_first) words)
 whole_command lie runner words = and_nothing (faults lie runner (walk_at at_first) words)
 whole_command lie server words = and_nothing (faults lie server (walk_at at_first) words)
 whole_command lie checker words = and_nothing (faults lie checker (walk_at at_first) words)
@@ -106,6 +109,7 @@ command_fault lie t words =
 
 entered_at : (lie : Lies) (t : Tool) (words : List Text) → entered (top lie) (Some (called t, words)) ≡ Some (called t, rows_at lie t (walk_at at_first) words)
 entered_at lie tracer words = refl
+entered_at lie debugger words = refl
 entered_at lie runner words = refl
 entered_at lie server words = refl
 entered_at lie checker words = refl
@@ -118,6 +122,7 @@ command_found lie t words = ap (λ (w : Walk). entered (top lie) w.stopped) (beh
 lift : (t : Tool) (o : Option Asked) (ks : Kinds) (rows : List Row) → Agrees t o ks rows → AgreesAll o ks (Some (called t, rows))
 lift t None ks rows h = h
 lift tracer (Some x) ks rows h = h
+lift debugger (Some x) ks rows h = h
 lift runner (Some x) ks rows h = h
 lift server (Some x) ks rows h = h
 lift checker (Some x) ks rows h = h
@@ -193,8 +198,8 @@ top_letters (y ∷ ys) x xs e = rw e (top_letter x (drop (length (encode_utf8 x)
 -- the word names no command
 abbrev IsOther : Text → Type 0
 IsOther word =
-    (bytes_eq (codes "trace") word ≡ false) × (bytes_eq (codes "run") word ≡ false) × (bytes_eq (codes "serve") word ≡ false) × (bytes_eq (codes "check") word ≡ false) × (bytes_eq (codes "verify") word ≡ false)
-    × (bytes_eq (codes "words") word ≡ false) × (bytes_eq (codes "help") word ≡ false)
+    (bytes_eq (codes "trace") word ≡ false) × (bytes_eq (codes "debug") word ≡ false) × (bytes_eq (codes "run") word ≡ false) × (bytes_eq (codes "serve") word ≡ false) × (bytes_eq (codes "check") word ≡ false)
+    × (bytes_eq (codes "verify") word ≡ false) × (bytes_eq (codes "words") word ≡ false) × (bytes_eq (codes "help") word ≡ false)
 
 -- the turn of a first word, by the command that it names
 abbrev met_turn : Option Text → Text → Kinds
@@ -203,7 +208,7 @@ met_turn met word =
     or_else (other_fault shape met word nothing_held) (step_fault shape 1 step.0 step.1)
 
 unmet : (word : Text) → IsOther word → subcommand_met names idle word ≡ None
-unmet word other = rw (other.0, other.1, other.2, other.3, other.4, other.5, other.6) refl
+unmet word other = rw (other.0, other.1, other.2, other.3, other.4, other.5, other.6, other.7) refl
 
 top_turns : (word : Text) → IsOther word → turn_fault shape names start word ≡ met_turn None word
 top_turns word other = ap (λ m. met_turn m word) (unmet word other)
@@ -298,11 +303,12 @@ other_word lie word words n = elim (bytes_eq (codes "help") word) as (λ b. byte
   | true ↦ λ e. let P : Text → Type 0 = λ w. fault_of (mpdbg_app (only_deadlock lie)) (w ∷ words) ≢ [] in subst P ((bytes_eq-Decides (codes "help") word).0 e) (help_word lie words)
   | false ↦ λ e. first_word lie word words (
     turned_about (codes "trace") word n.0,
-    turned_about (codes "run") word n.1.0,
-    turned_about (codes "serve") word n.1.1.0,
-    turned_about (codes "check") word n.1.1.1.0,
-    turned_about (codes "verify") word n.1.1.1.1.0,
-    turned_about (codes "words") word n.1.1.1.1.1.0,
+    turned_about (codes "debug") word n.1.0,
+    turned_about (codes "run") word n.1.1.0,
+    turned_about (codes "serve") word n.1.1.1.0,
+    turned_about (codes "check") word n.1.1.1.1.0,
+    turned_about (codes "verify") word n.1.1.1.1.1.0,
+    turned_about (codes "words") word n.1.1.1.1.1.1.0,
     e,
   )
 ] refl

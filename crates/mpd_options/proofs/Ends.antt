@@ -14,7 +14,7 @@ use Rattle.clap.specs.declared.builder.value_parser.Reading.{Reading}
 use Rattle.clap.specs.declared.error.kind.ErrorKind.TheVariants as kind
 use Rattle.clap.specs.declared.parser.matches.ValueSource.TheVariants.{DefaultValue}
 use Rattle.clap.proofs.OnLiterals.{clap_on_literals}
-use Rattle.mpd_options.specs.Asked.{Asked, Item, Said, Tool, checker, default_of, fits, found, found_check, found_in, found_of_file, found_options, found_serve, found_verify, found_words, most_clients, most_fuel, most_leaf, most_modes, most_piece, most_port, most_runs, most_sample, most_seed, most_split, most_workers, name_of, number_if_given, or_default, said_of, text_in, text_of, the_choices, the_clients, the_complete, the_ends, the_explain, the_file, the_fuel, the_group, the_leaf, the_mode, the_modes, the_piece, the_pieces, the_port, the_runs, the_sample, the_seed, the_split, the_until, the_witness, the_witness_file, the_workers, run, runner, server, teller, trace, tracer, until_bad_in, verifier}
+use Rattle.mpd_options.specs.Asked.{Asked, Item, Said, Tool, checker, debug, debugger, default_of, fits, found, found_check, found_in, found_of_file, found_options, found_serve, found_verify, found_words, most_clients, most_fuel, most_leaf, most_modes, most_piece, most_port, most_runs, most_sample, most_seed, most_split, most_workers, name_of, number_if_given, or_default, said_of, text_in, text_of, the_choices, the_clients, the_complete, the_ends, the_explain, the_file, the_fuel, the_group, the_laid_witness, the_leaf, the_mode, the_modes, the_piece, the_pieces, the_port, the_runs, the_sample, the_seed, the_split, the_until, the_witness, the_witness_file, the_workers, run, runner, server, teller, trace, tracer, until_bad_in, verifier}
 use Rattle.mpd_options.specs.Numbers.{flag_in, number_in}
 use Rattle.mpd_options.specs.declared.options.CheckOptions.{CheckOptions}
 use Rattle.mpd_options.specs.Program.{Lies}
@@ -80,6 +80,18 @@ tracer_mode : (lie : Lies) → rules_row (name_of the_mode) (rules lie tracer) �
 unfolding clap_on_literals
 tracer_mode lie = refl
 
+debugger_file : (lie : Lies) → rules_row (name_of the_file) (rules lie debugger) ≡ default_row the_file
+unfolding clap_on_literals
+debugger_file lie = refl
+
+debugger_mode : (lie : Lies) → rules_row (name_of the_mode) (rules lie debugger) ≡ default_row the_mode
+unfolding clap_on_literals
+debugger_mode lie = refl
+
+debugger_witness : (lie : Lies) → rules_row (name_of the_laid_witness) (rules lie debugger) ≡ default_row the_laid_witness
+unfolding clap_on_literals
+debugger_witness lie = refl
+
 runner_file : (lie : Lies) → rules_row (name_of the_file) (rules lie runner) ≡ default_row the_file
 unfolding clap_on_literals
 runner_file lie = refl
@@ -128,6 +140,7 @@ checker_row lie the_piece = refl
 checker_row lie the_pieces = refl
 checker_row lie the_leaf = refl
 checker_row lie the_choices = refl
+checker_row lie the_laid_witness = refl
 
 verifier_file : (lie : Lies) → rules_row (name_of the_file) (rules lie verifier) ≡ default_row the_file
 unfolding clap_on_literals
@@ -216,6 +229,7 @@ text_ended lie the_piece said h = one_ended lie checker the_piece said (checker_
 text_ended lie the_pieces said h = one_ended lie checker the_pieces said (checker_row lie the_pieces) h
 text_ended lie the_leaf said h = one_ended lie checker the_leaf said (checker_row lie the_leaf) h
 text_ended lie the_choices said h = first_ended lie checker the_choices said (checker_row lie the_choices) h
+text_ended lie the_laid_witness said h = first_ended lie checker the_laid_witness said (checker_row lie the_laid_witness) h
 
 verify_same : (f f' w w' m m' l l' : Option Text) → f ≡ f' → w ≡ w' → m ≡ m' → l ≡ l' → found_verify f w m (number_if_given 0 most_leaf l) ≡ found_verify f' w' m' (number_if_given 0 most_leaf l')
 verify_same f f' w w' m m' l l' a b c d = rw (a, b, c, d) refl
@@ -223,8 +237,13 @@ verify_same f f' w w' m m' l l' a b c d = rw (a, b, c, d) refl
 words_same : (f f' c c' m m' n n' : Option Text) → f ≡ f' → c ≡ c' → m ≡ m' → n ≡ n' → found_words f c m (option_and_then (number_in 1 most_fuel) n) ≡ found_words f' c' m' (option_and_then (number_in 1 most_fuel) n')
 words_same f f' c c' m m' n n' a b d e = rw (a, b, d, e) refl
 
+debug_same : (f f' m m' w w' : Option Text) → f ≡ f' → m ≡ m' → w ≡ w' → found_of_file (λ file mode. debug file mode w) f m ≡ found_of_file (λ file mode. debug file mode w') f' m'
+debug_same f f' m m' w w' a b c = rw (a, b, c) refl
+
 pub found_ended : (lie : Lies) (t : Tool) (said : Said) → Valid said → found_in t (ended lie t said) ≡ found t (text_of said)
 found_ended lie tracer said h = ap₂ (found_of_file trace) (first_ended lie tracer the_file said (tracer_file lie) h) (first_ended lie tracer the_mode said (tracer_mode lie) h)
+found_ended lie debugger said h =
+    debug_same _ _ _ _ _ _ (first_ended lie debugger the_file said (debugger_file lie) h) (first_ended lie debugger the_mode said (debugger_mode lie) h) (first_ended lie debugger the_laid_witness said (debugger_witness lie) h)
 found_ended lie runner said h = ap₂ (found_of_file run) (first_ended lie runner the_file said (runner_file lie) h) (first_ended lie runner the_mode said (runner_mode lie) h)
 found_ended lie server said h =
     four_same _ _ _ _ _ _ _ _ (first_ended lie server the_file said (server_file lie) h) (first_ended lie server the_mode said (server_mode lie) h) (one_ended lie server the_port said (server_port lie) h) (one_ended lie server the_clients said (server_clients lie) h)
@@ -261,7 +280,8 @@ item_named name =
     else (if bytes_eq name (codes "piece") then Some the_piece
     else (if bytes_eq name (codes "pieces") then Some the_pieces
     else (if bytes_eq name (codes "leaf") then Some the_leaf
-    else (if bytes_eq name (codes "choices") then Some the_choices else None)))))))))))))))))))))
+    else (if bytes_eq name (codes "choices") then Some the_choices
+    else (if bytes_eq name (codes "laid_witness") then Some the_laid_witness else None))))))))))))))))))))))
 
 named_is : (i : Item) → item_named (name_of i) ≡ Some i
 named_is the_file = refl
@@ -286,6 +306,7 @@ named_is the_piece = refl
 named_is the_pieces = refl
 named_is the_leaf = refl
 named_is the_choices = refl
+named_is the_laid_witness = refl
 
 same_item : (i j : Item) → bytes_eq (name_of i) (name_of j) ≡ true → i ≡ j
 same_item i j e = (let same : Some i ≡ Some j = sym (named_is i) ∙ ap item_named ((bytes_eq-Decides (name_of i) (name_of j)).0 e) ∙ named_is j in cc)
@@ -378,6 +399,7 @@ is_words (Some f) (Some c) m d None e = cc
 -- each item is there that must be: the files, and the options that have no default
 abbrev has_needed : Tool → (Item → Bool) → Bool
 has_needed tracer has = has the_file
+has_needed debugger has = has the_file
 has_needed runner has = has the_file
 has_needed server has = has the_file && (has the_port && has the_clients)
 has_needed checker has = has the_file
@@ -390,6 +412,7 @@ is_said said i = is_some (said_of i said)
 
 asks_if_needed : (t : Tool) (said : Said) → Valid said → is_some (found t (text_of said)) ≡ has_needed t (is_said said)
 asks_if_needed tracer said h = is_of_file trace (said_of the_file said) (said_of the_mode said) (codes "rendezvous")
+asks_if_needed debugger said h = is_of_file (λ file mode. debug file mode (text_of said the_laid_witness)) (said_of the_file said) (said_of the_mode said) (codes "rendezvous")
 asks_if_needed runner said h = is_of_file run (said_of the_file said) (said_of the_mode said) (codes "rendezvous")
 asks_if_needed server said h =
     is_serve (said_of the_file said) (said_of the_mode said) (codes "rendezvous") (option_and_then (number_in 1 most_port) (text_of said the_port)) (option_and_then (number_in 1 most_clients) (text_of said the_clients))
@@ -420,6 +443,7 @@ given_said lie t i said own needed h =
 
 needed_given : (lie : Lies) (t : Tool) (said : Said) → Valid said → has_needed t (is_given_in (ended lie t said)) ≡ has_needed t (is_said said)
 needed_given lie tracer said h = given_said lie tracer the_file said (tracer_file lie) refl h
+needed_given lie debugger said h = given_said lie debugger the_file said (debugger_file lie) refl h
 needed_given lie runner said h = given_said lie runner the_file said (runner_file lie) refl h
 needed_given lie server said h =
     ap₂ (λ a b. a && b) (given_said lie server the_file said (server_file lie) refl h) (ap₂ (λ a b. a && b) (given_said lie server the_port said (server_port lie) refl h) (given_said lie server the_clients said (server_clients lie) refl h))
@@ -449,6 +473,7 @@ not_one false = refl
 check_is : (lie : Lies) (t : Tool) (rows : List Row) → check_fault (sub lie t) rows false ≡ missing_by (has_needed t (is_given_in rows))
 unfolding clap_on_literals
 check_is lie tracer rows = not_one (is_given (codes "FILE") rows)
+check_is lie debugger rows = not_one (is_given (codes "FILE") rows)
 check_is lie runner rows = not_one (is_given (codes "FILE") rows)
 check_is lie server rows = not_all (is_given (codes "FILE") rows) (is_given (codes "port") rows) (is_given (codes "clients") rows)
 check_is lie checker rows = not_one (is_given (codes "FILE") rows)
@@ -479,6 +504,7 @@ no_defaults_fault (a ∷ rest) rows h = ap (λ ks. or_else ks (defaults_fault (w
 pub takes_defaults : (lie : Lies) (t : Tool) → Takes (rules lie t)
 unfolding clap_on_literals
 takes_defaults lie tracer = (refl, (refl, (refl, tt)))
+takes_defaults lie debugger = (refl, (refl, (refl, (refl, tt))))
 takes_defaults lie runner = (refl, (refl, (refl, tt)))
 takes_defaults lie server = (refl, (refl, (refl, (refl, (refl, tt)))))
 takes_defaults lie checker = (refl, (refl, (refl, (refl, (refl, (refl, (refl, (refl, (refl, (refl, (refl, (refl, (refl, (refl, (refl, (refl, (refl, (refl, tt))))))))))))))))))

@@ -16,12 +16,13 @@ use Rattle.clap.specs.declared.error.kind.ErrorKind.TheVariants as kind
 use Rattle.clap.specs.declared.parser.matches.ValueSource.{ValueSource}
 use Rattle.clap.specs.declared.parser.matches.ValueSource.TheVariants.{CommandLine}
 use Rattle.clap.proofs.OnLiterals.{clap_on_literals}
-use Rattle.mpd_options.specs.Asked.{Item, Said, Tool, checker, fits, most_clients, most_fuel, most_leaf, most_modes, most_piece, most_port, most_runs, most_sample, most_seed, most_split, most_workers, name_of, said_named, said_of, the_choices, the_clients, the_complete, the_ends, the_explain, the_file, the_fuel, the_group, the_leaf, the_mode, the_modes, the_piece, the_pieces, the_port, the_runs, the_sample, the_seed, the_split, the_until, the_witness, the_witness_file, the_workers, runner, server, teller, tracer, verifier}
+use Rattle.mpd_options.specs.Asked.{Item, Said, Tool, checker, debugger, fits, most_clients, most_fuel, most_leaf, most_modes, most_piece, most_port, most_runs, most_sample, most_seed, most_split, most_workers, name_of, said_named, said_of, spelling_of, the_choices, the_clients, the_complete, the_ends, the_explain, the_file, the_fuel, the_group, the_laid_witness, the_leaf, the_mode, the_modes, the_piece, the_pieces, the_port, the_runs, the_sample, the_seed, the_split, the_until, the_witness, the_witness_file, the_workers, runner, server, teller, tracer, verifier}
 use Rattle.mpd_options.specs.Program.{Lies, mpdbg_app, only_deadlock}
 use Rattle.mpd_options.proofs.NumberReads.{accepts_number}
 
 abbrev pub called : Tool → Text
 called tracer = codes "trace"
+called debugger = codes "debug"
 called runner = codes "run"
 called server = codes "serve"
 called checker = codes "check"
@@ -34,7 +35,7 @@ named_among [] word = None
 named_among (t ∷ tools) word = if bytes_eq word (called t) then Some t else named_among tools word
 
 abbrev pub tools : List Tool
-tools = tracer ∷ runner ∷ server ∷ checker ∷ verifier ∷ teller ∷ []
+tools = tracer ∷ debugger ∷ runner ∷ server ∷ checker ∷ verifier ∷ teller ∷ []
 
 -- the word names none of these commands
 abbrev pub NamesNone : Text → List Tool → Type 0
@@ -51,6 +52,7 @@ by_name P word (t ∷ rest) some other = elim (bytes_eq word (called t)) as (λ 
 
 abbrev pub sub : Lies → Tool → Shape
 sub lie tracer = option_map_or (λ s. s) (find (λ s. answers_to (codes "trace") (label_of s)) (built (mpdbg_app (only_deadlock lie))).subs) (new_shape [])
+sub lie debugger = option_map_or (λ s. s) (find (λ s. answers_to (codes "debug") (label_of s)) (built (mpdbg_app (only_deadlock lie))).subs) (new_shape [])
 sub lie runner = option_map_or (λ s. s) (find (λ s. answers_to (codes "run") (label_of s)) (built (mpdbg_app (only_deadlock lie))).subs) (new_shape [])
 sub lie server = option_map_or (λ s. s) (find (λ s. answers_to (codes "serve") (label_of s)) (built (mpdbg_app (only_deadlock lie))).subs) (new_shape [])
 sub lie checker = option_map_or (λ s. s) (find (λ s. answers_to (codes "check") (label_of s)) (built (mpdbg_app (only_deadlock lie))).subs) (new_shape [])
@@ -75,6 +77,9 @@ is_mode _ = false
 -- options that want a value
 abbrev pub asks : Tool → Item → Bool
 asks tracer i = is_mode i
+asks debugger the_mode = true
+asks debugger the_laid_witness = true
+asks debugger _ = false
 asks runner i = is_mode i
 asks server the_mode = true
 asks server the_port = true
@@ -102,6 +107,7 @@ asks teller _ = false
 -- the witness has a word of its own
 abbrev pub reads_witness : Tool → Bool
 reads_witness tracer = false
+reads_witness debugger = false
 reads_witness runner = false
 reads_witness server = false
 reads_witness checker = false
@@ -126,6 +132,7 @@ keeps t the_until = asks t the_until
 keeps t the_piece = asks t the_piece
 keeps t the_leaf = asks t the_leaf
 keeps t the_choices = asks t the_choices
+keeps t the_laid_witness = asks t the_laid_witness
 keeps t _ = false
 
 mode_alone : (Q : Item → Type 0) → Q the_mode → (i : Item) → is_mode i ≡ true → Q i
@@ -135,87 +142,95 @@ mode_alone Q m _ e = cc
 -- each option that wants a value
 abbrev pub EachAsks : (P : Tool → Item → Type 0) → Tool → Type 0
 EachAsks P tracer = P tracer the_mode
+EachAsks P debugger = P debugger the_mode × P debugger the_laid_witness
 EachAsks P runner = P runner the_mode
 EachAsks P server = P server the_mode × P server the_port × P server the_clients
 EachAsks P checker = P checker the_mode × P checker the_modes × P checker the_runs × P checker the_fuel × P checker the_split × P checker the_workers × P checker the_sample × P checker the_seed × P checker the_until × P checker the_piece
 EachAsks P verifier = P verifier the_mode × P verifier the_leaf
 EachAsks P teller = P teller the_mode × P teller the_choices × P teller the_fuel
 
-pub each_asks : (P : Tool → Item → Type 0) → EachAsks P tracer → EachAsks P runner → EachAsks P server → EachAsks P checker → EachAsks P verifier → EachAsks P teller → (t : Tool) (i : Item) → asks t i ≡ true → P t i
-each_asks P a r s c v w tracer i e = mode_alone (P tracer) a i e
-each_asks P a r s c v w runner i e = mode_alone (P runner) r i e
-each_asks P a r s c v w server the_mode e = s.0
-each_asks P a r s c v w server the_port e = s.1
-each_asks P a r s c v w server the_clients e = s.2
-each_asks P a r s c v w server _ e = cc
-each_asks P a r s c v w checker the_mode e = c.0
-each_asks P a r s c v w checker the_modes e = c.1
-each_asks P a r s c v w checker the_runs e = c.2
-each_asks P a r s c v w checker the_fuel e = c.3
-each_asks P a r s c v w checker the_split e = c.4
-each_asks P a r s c v w checker the_workers e = c.5
-each_asks P a r s c v w checker the_sample e = c.6
-each_asks P a r s c v w checker the_seed e = c.7
-each_asks P a r s c v w checker the_until e = c.8
-each_asks P a r s c v w checker the_piece e = c.9
-each_asks P a r s c v w checker _ e = cc
-each_asks P a r s c v w verifier the_mode e = v.0
-each_asks P a r s c v w verifier the_leaf e = v.1
-each_asks P a r s c v w verifier _ e = cc
-each_asks P a r s c v w teller the_mode e = w.0
-each_asks P a r s c v w teller the_choices e = w.1
-each_asks P a r s c v w teller the_fuel e = w.2
-each_asks P a r s c v w teller _ e = cc
+pub each_asks : (P : Tool → Item → Type 0) → EachAsks P tracer → EachAsks P debugger → EachAsks P runner → EachAsks P server → EachAsks P checker → EachAsks P verifier → EachAsks P teller → (t : Tool) (i : Item) → asks t i ≡ true → P t i
+each_asks P a d r s c v w tracer i e = mode_alone (P tracer) a i e
+each_asks P a d r s c v w debugger the_mode e = d.0
+each_asks P a d r s c v w debugger the_laid_witness e = d.1
+each_asks P a d r s c v w debugger _ e = cc
+each_asks P a d r s c v w runner i e = mode_alone (P runner) r i e
+each_asks P a d r s c v w server the_mode e = s.0
+each_asks P a d r s c v w server the_port e = s.1
+each_asks P a d r s c v w server the_clients e = s.2
+each_asks P a d r s c v w server _ e = cc
+each_asks P a d r s c v w checker the_mode e = c.0
+each_asks P a d r s c v w checker the_modes e = c.1
+each_asks P a d r s c v w checker the_runs e = c.2
+each_asks P a d r s c v w checker the_fuel e = c.3
+each_asks P a d r s c v w checker the_split e = c.4
+each_asks P a d r s c v w checker the_workers e = c.5
+each_asks P a d r s c v w checker the_sample e = c.6
+each_asks P a d r s c v w checker the_seed e = c.7
+each_asks P a d r s c v w checker the_until e = c.8
+each_asks P a d r s c v w checker the_piece e = c.9
+each_asks P a d r s c v w checker _ e = cc
+each_asks P a d r s c v w verifier the_mode e = v.0
+each_asks P a d r s c v w verifier the_leaf e = v.1
+each_asks P a d r s c v w verifier _ e = cc
+each_asks P a d r s c v w teller the_mode e = w.0
+each_asks P a d r s c v w teller the_choices e = w.1
+each_asks P a d r s c v w teller the_fuel e = w.2
+each_asks P a d r s c v w teller _ e = cc
 
 -- each file
 abbrev pub EachFile : (P : Tool → Item → Type 0) → Type 0
-EachFile P = P tracer the_file × P runner the_file × P server the_file × P checker the_file × P verifier the_file × P verifier the_witness_file × P teller the_file
+EachFile P = P tracer the_file × P debugger the_file × P runner the_file × P server the_file × P checker the_file × P verifier the_file × P verifier the_witness_file × P teller the_file
 
-pub each_keeps : (P : Tool → Item → Type 0) → EachFile P → EachAsks P tracer → EachAsks P runner → EachAsks P server → EachAsks P checker → EachAsks P verifier → EachAsks P teller → (t : Tool) (i : Item) → keeps t i ≡ true → P t i
-each_keeps P f a r s c v w tracer the_file e = f.0
-each_keeps P f a r s c v w tracer the_mode e = a
-each_keeps P f a r s c v w tracer _ e = cc
-each_keeps P f a r s c v w runner the_file e = f.1
-each_keeps P f a r s c v w runner the_mode e = r
-each_keeps P f a r s c v w runner _ e = cc
-each_keeps P f a r s c v w server the_file e = f.2
-each_keeps P f a r s c v w server the_mode e = s.0
-each_keeps P f a r s c v w server the_port e = s.1
-each_keeps P f a r s c v w server the_clients e = s.2
-each_keeps P f a r s c v w server _ e = cc
-each_keeps P f a r s c v w checker the_file e = f.3
-each_keeps P f a r s c v w checker the_mode e = c.0
-each_keeps P f a r s c v w checker the_modes e = c.1
-each_keeps P f a r s c v w checker the_runs e = c.2
-each_keeps P f a r s c v w checker the_fuel e = c.3
-each_keeps P f a r s c v w checker the_split e = c.4
-each_keeps P f a r s c v w checker the_workers e = c.5
-each_keeps P f a r s c v w checker the_sample e = c.6
-each_keeps P f a r s c v w checker the_seed e = c.7
-each_keeps P f a r s c v w checker the_until e = c.8
-each_keeps P f a r s c v w checker the_piece e = c.9
-each_keeps P f a r s c v w checker _ e = cc
-each_keeps P f a r s c v w verifier the_file e = f.4
-each_keeps P f a r s c v w verifier the_witness_file e = f.5
-each_keeps P f a r s c v w verifier the_mode e = v.0
-each_keeps P f a r s c v w verifier the_leaf e = v.1
-each_keeps P f a r s c v w verifier _ e = cc
-each_keeps P f a r s c v w teller the_file e = f.6
-each_keeps P f a r s c v w teller the_mode e = w.0
-each_keeps P f a r s c v w teller the_choices e = w.1
-each_keeps P f a r s c v w teller the_fuel e = w.2
-each_keeps P f a r s c v w teller _ e = cc
+pub each_keeps : (P : Tool → Item → Type 0) → EachFile P → EachAsks P tracer → EachAsks P debugger → EachAsks P runner → EachAsks P server → EachAsks P checker → EachAsks P verifier → EachAsks P teller → (t : Tool) (i : Item) → keeps t i ≡ true → P t i
+each_keeps P f a d r s c v w tracer the_file e = f.0
+each_keeps P f a d r s c v w tracer the_mode e = a
+each_keeps P f a d r s c v w tracer _ e = cc
+each_keeps P f a d r s c v w debugger the_file e = f.1
+each_keeps P f a d r s c v w debugger the_mode e = d.0
+each_keeps P f a d r s c v w debugger the_laid_witness e = d.1
+each_keeps P f a d r s c v w debugger _ e = cc
+each_keeps P f a d r s c v w runner the_file e = f.2
+each_keeps P f a d r s c v w runner the_mode e = r
+each_keeps P f a d r s c v w runner _ e = cc
+each_keeps P f a d r s c v w server the_file e = f.3
+each_keeps P f a d r s c v w server the_mode e = s.0
+each_keeps P f a d r s c v w server the_port e = s.1
+each_keeps P f a d r s c v w server the_clients e = s.2
+each_keeps P f a d r s c v w server _ e = cc
+each_keeps P f a d r s c v w checker the_file e = f.4
+each_keeps P f a d r s c v w checker the_mode e = c.0
+each_keeps P f a d r s c v w checker the_modes e = c.1
+each_keeps P f a d r s c v w checker the_runs e = c.2
+each_keeps P f a d r s c v w checker the_fuel e = c.3
+each_keeps P f a d r s c v w checker the_split e = c.4
+each_keeps P f a d r s c v w checker the_workers e = c.5
+each_keeps P f a d r s c v w checker the_sample e = c.6
+each_keeps P f a d r s c v w checker the_seed e = c.7
+each_keeps P f a d r s c v w checker the_until e = c.8
+each_keeps P f a d r s c v w checker the_piece e = c.9
+each_keeps P f a d r s c v w checker _ e = cc
+each_keeps P f a d r s c v w verifier the_file e = f.5
+each_keeps P f a d r s c v w verifier the_witness_file e = f.6
+each_keeps P f a d r s c v w verifier the_mode e = v.0
+each_keeps P f a d r s c v w verifier the_leaf e = v.1
+each_keeps P f a d r s c v w verifier _ e = cc
+each_keeps P f a d r s c v w teller the_file e = f.7
+each_keeps P f a d r s c v w teller the_mode e = w.0
+each_keeps P f a d r s c v w teller the_choices e = w.1
+each_keeps P f a d r s c v w teller the_fuel e = w.2
+each_keeps P f a d r s c v w teller _ e = cc
 
 pub asks_keeps : (t : Tool) (i : Item) → asks t i ≡ true → keeps t i ≡ true
-asks_keeps = each_asks (λ t i. keeps t i ≡ true) refl refl (refl, refl, refl) (refl, refl, refl, refl, refl, refl, refl, refl, refl, refl) (refl, refl) (refl, refl, refl)
+asks_keeps = each_asks (λ t i. keeps t i ≡ true) refl (refl, refl) refl (refl, refl, refl) (refl, refl, refl, refl, refl, refl, refl, refl, refl, refl) (refl, refl) (refl, refl, refl)
 
 pub by_id : (lie : Lies) (t : Tool) (i : Item) → keeps t i ≡ true → arg_by_id (rules lie t) (name_of i) ≡ Some (arg lie t i)
 unfolding clap_on_literals
-by_id lie = each_keeps (λ t i. arg_by_id (rules lie t) (name_of i) ≡ Some (arg lie t i)) (refl, refl, refl, refl, refl, refl, refl) refl refl (refl, refl, refl) (refl, refl, refl, refl, refl, refl, refl, refl, refl, refl) (refl, refl) (refl, refl, refl)
+by_id lie = each_keeps (λ t i. arg_by_id (rules lie t) (name_of i) ≡ Some (arg lie t i)) (refl, refl, refl, refl, refl, refl, refl, refl) refl (refl, refl) refl (refl, refl, refl) (refl, refl, refl, refl, refl, refl, refl, refl, refl, refl) (refl, refl) (refl, refl, refl)
 
-pub by_long : (lie : Lies) (t : Tool) (i : Item) → asks t i ≡ true → arg_by_long (rules lie t) (name_of i) ≡ Some (arg lie t i)
+pub by_long : (lie : Lies) (t : Tool) (i : Item) → asks t i ≡ true → arg_by_long (rules lie t) (spelling_of i) ≡ Some (arg lie t i)
 unfolding clap_on_literals
-by_long lie = each_asks (λ t i. arg_by_long (rules lie t) (name_of i) ≡ Some (arg lie t i)) refl refl (refl, refl, refl) (refl, refl, refl, refl, refl, refl, refl, refl, refl, refl) (refl, refl) (refl, refl, refl)
+by_long lie = each_asks (λ t i. arg_by_long (rules lie t) (spelling_of i) ≡ Some (arg lie t i)) refl (refl, refl) refl (refl, refl, refl) (refl, refl, refl, refl, refl, refl, refl, refl, refl, refl) (refl, refl) (refl, refl, refl)
 
 -- the flags, which have no value
 abbrev pub flags : Tool → Item → Bool
@@ -236,14 +251,15 @@ each_flag P f checker the_complete e = f.4
 each_flag P f checker the_pieces e = f.5
 each_flag P f checker _ e = cc
 each_flag P f tracer i e = cc
+each_flag P f debugger i e = cc
 each_flag P f runner i e = cc
 each_flag P f server i e = cc
 each_flag P f verifier i e = cc
 each_flag P f teller i e = cc
 
-pub flag_by_long : (lie : Lies) (t : Tool) (i : Item) → flags t i ≡ true → arg_by_long (rules lie t) (name_of i) ≡ Some (arg lie t i)
+pub flag_by_long : (lie : Lies) (t : Tool) (i : Item) → flags t i ≡ true → arg_by_long (rules lie t) (spelling_of i) ≡ Some (arg lie t i)
 unfolding clap_on_literals
-flag_by_long lie = each_flag (λ t i. arg_by_long (rules lie t) (name_of i) ≡ Some (arg lie t i)) (refl, refl, refl, refl, refl, refl)
+flag_by_long lie = each_flag (λ t i. arg_by_long (rules lie t) (spelling_of i) ≡ Some (arg lie t i)) (refl, refl, refl, refl, refl, refl)
 
 -- ---- a use of an item
 
@@ -280,7 +296,7 @@ or_nothing false = refl
 
 accepted_fits : (t : Tool) (i : Item) (v : Text) → keeps t i ≡ true → accepted i v ≡ fits i v
 accepted_fits t i v k =
-    each_keeps (λ t i. accepted i v ≡ fits i v) (refl, refl, refl, refl, refl, refl, refl) refl refl (refl, accepts_number 1 most_port v (omega arith), accepts_number 1 most_clients v (omega arith)) (
+    each_keeps (λ t i. accepted i v ≡ fits i v) (refl, refl, refl, refl, refl, refl, refl, refl) refl (refl, refl) refl (refl, accepts_number 1 most_port v (omega arith), accepts_number 1 most_clients v (omega arith)) (
       refl,
       accepts_number 0 most_modes v (omega arith),
       accepts_number 1 most_runs v (omega arith),
@@ -309,7 +325,7 @@ again_fault again = if again && not false then kind.ArgumentConflict ∷ [] else
 use_is : (lie : Lies) (v : Text) (rows : List Row) (t : Tool) (i : Item) → keeps t i ≡ true
     → use_fault false (arg lie t i) (v ∷ []) rows ≡ or_else (again_fault (has_row (name_of i) rows)) (value_fault (refused_as i) (accepted i v))
 unfolding clap_on_literals
-use_is lie v rows = each_keeps (λ t i. use_fault false (arg lie t i) (v ∷ []) rows ≡ or_else (again_fault (has_row (name_of i) rows)) (value_fault (refused_as i) (accepted i v))) (refl, refl, refl, refl, refl, refl, refl) refl refl (refl, refl, refl) (refl, refl, refl, refl, refl, refl, refl, refl, refl, refl) (refl, refl) (refl, refl, refl)
+use_is lie v rows = each_keeps (λ t i. use_fault false (arg lie t i) (v ∷ []) rows ≡ or_else (again_fault (has_row (name_of i) rows)) (value_fault (refused_as i) (accepted i v))) (refl, refl, refl, refl, refl, refl, refl, refl) refl (refl, refl) refl (refl, refl, refl) (refl, refl, refl, refl, refl, refl, refl, refl, refl, refl) (refl, refl) (refl, refl, refl)
 
 flag_use_is : (lie : Lies) (rows : List Row) (t : Tool) (i : Item) → flags t i ≡ true → use_fault false (arg lie t i) [] rows ≡ or_else (again_fault (has_row (name_of i) rows)) []
 unfolding clap_on_literals
@@ -362,7 +378,7 @@ some_fault (k ∷ ks) e = λ z. cc
 -- an option that waits for its value still
 pub no_value : (lie : Lies) (rows : List Row) (t : Tool) (i : Item) → asks t i ≡ true → use_fault false (arg lie t i) [] rows ≢ []
 unfolding clap_on_literals
-no_value lie rows = each_asks (λ t i. use_fault false (arg lie t i) [] rows ≢ []) (some_fault _ refl) (some_fault _ refl) (some_fault _ refl, some_fault _ refl, some_fault _ refl) (some_fault _ refl, some_fault _ refl, some_fault _ refl, some_fault _ refl, some_fault _ refl, some_fault _ refl, some_fault _ refl, some_fault _ refl, some_fault _ refl, some_fault _ refl) (some_fault _ refl, some_fault _ refl) (some_fault _ refl, some_fault _ refl, some_fault _ refl)
+no_value lie rows = each_asks (λ t i. use_fault false (arg lie t i) [] rows ≢ []) (some_fault _ refl) (some_fault _ refl, some_fault _ refl) (some_fault _ refl) (some_fault _ refl, some_fault _ refl, some_fault _ refl) (some_fault _ refl, some_fault _ refl, some_fault _ refl, some_fault _ refl, some_fault _ refl, some_fault _ refl, some_fault _ refl, some_fault _ refl, some_fault _ refl, some_fault _ refl) (some_fault _ refl, some_fault _ refl) (some_fault _ refl, some_fault _ refl, some_fault _ refl)
 
 -- ---- rows
 
@@ -393,7 +409,7 @@ values_at_end id how source values (r ∷ rs) h =
 
 used_is : (lie : Lies) (v : Text) (rows : List Row) (t : Tool) (i : Item) → keeps t i ≡ true → used (arg lie t i) (v ∷ []) rows ≡ with_values (name_of i) AsWritten CommandLine (v ∷ []) (without (name_of i) rows)
 unfolding clap_on_literals
-used_is lie v rows = each_keeps (λ t i. used (arg lie t i) (v ∷ []) rows ≡ with_values (name_of i) AsWritten CommandLine (v ∷ []) (without (name_of i) rows)) (refl, refl, refl, refl, refl, refl, refl) refl refl (refl, refl, refl) (refl, refl, refl, refl, refl, refl, refl, refl, refl, refl) (refl, refl) (refl, refl, refl)
+used_is lie v rows = each_keeps (λ t i. used (arg lie t i) (v ∷ []) rows ≡ with_values (name_of i) AsWritten CommandLine (v ∷ []) (without (name_of i) rows)) (refl, refl, refl, refl, refl, refl, refl, refl) refl (refl, refl) refl (refl, refl, refl) (refl, refl, refl, refl, refl, refl, refl, refl, refl, refl) (refl, refl) (refl, refl, refl)
 
 at_end_of : (i : Item) (v : Text) (rows : List Row) → has_row (name_of i) rows ≡ false → with_values (name_of i) AsWritten CommandLine (v ∷ []) (without (name_of i) rows) ≡ rows ++ row_for i v CommandLine ∷ []
 at_end_of i v rows h = ap (λ rs. with_values (name_of i) AsWritten CommandLine (v ∷ []) rs) (without_none (name_of i) rows h) ∙ values_at_end (name_of i) AsWritten CommandLine (v ∷ []) rows h

@@ -15,11 +15,11 @@ use Rattle.clap.specs.declared.parser.matches.ArgMatches.TheViews.{out-ArgMatche
 use Rattle.clap.specs.declared.parser.matches.Found.{Found}
 use Rattle.clap.proofs.OnLiterals.{clap_on_literals}
 use Rattle.clap.proofs.WalkLemmas.{first_value-rows, one_text-rows}
-use Rattle.mpd_options.specs.Asked.{Asked, IsFound, IsInRange, AreInRange, Item, Tool, asked, check, checker, found, found_by, found_check, found_in, found_of_command, found_of_file, found_options, found_serve, found_verify, found_words, meant, most_clients, most_fuel, most_leaf, most_modes, most_piece, most_port, most_runs, most_sample, most_seed, most_split, most_workers, number_if_given, text_in, the_choices, the_clients, the_file, the_fuel, the_leaf, the_mode, the_modes, the_piece, the_port, the_runs, the_sample, the_seed, the_split, the_witness_file, the_workers, tell, teller, tool_named, run, runner, serve, server, trace, tracer, until_bad_in, verifier, verify}
+use Rattle.mpd_options.specs.Asked.{Asked, IsFound, IsInRange, AreInRange, Item, Tool, asked, check, checker, debug, debugger, found, found_by, found_check, found_in, found_of_command, found_of_file, found_options, found_serve, found_verify, found_words, meant, most_clients, most_fuel, most_leaf, most_modes, most_piece, most_port, most_runs, most_sample, most_seed, most_split, most_workers, number_if_given, text_in, the_choices, the_clients, the_file, the_fuel, the_laid_witness, the_leaf, the_mode, the_modes, the_piece, the_port, the_runs, the_sample, the_seed, the_split, the_witness_file, the_workers, tell, teller, tool_named, run, runner, serve, server, trace, tracer, until_bad_in, verifier, verify}
 use Rattle.mpd_options.specs.Numbers.{flag_in, most_usize, number_in}
 use Rattle.mpd_options.specs.declared.options.CheckOptions.{CheckOptions}
 use Rattle.mpd_options.specs.declared.options.Options.{Options}
-use Rattle.mpd_options.specs.declared.options.Options.TheVariants.{Plain, Trace, Run, Serve, Check, Verify, Words}
+use Rattle.mpd_options.specs.declared.options.Options.TheVariants.{Plain, Trace, Debug, Run, Serve, Check, Verify, Words}
 use Rattle.mpd_options.specs.Program.{Choices, Lies, mpdbg_app, only_deadlock}
 use Rattle.mpd_options.specs.Refused.{IsRefused, is_memory, usage_of}
 use Rattle.mpd_options.specs.declared.options.UsageFault.TheVariants.{Usage, Memory}
@@ -118,6 +118,7 @@ named n r (Some b) t rows name is = (let e : n b ≡ t = cc in let f : r b ≡ r
 -- the command that was found
 named_tool : (t : Tool) (rows : List Row) → found_of_command (Some (called t, rows)) ≡ found_in t rows
 named_tool tracer rows = refl
+named_tool debugger rows = refl
 named_tool runner rows = refl
 named_tool server rows = refl
 named_tool checker rows = refl
@@ -191,6 +192,7 @@ some_check (Some f) (Some m) (Some o) e = (refl, refl, refl)
 
 pub has_file : (t : Tool) (rows : List Row) → is_some (found_in t rows) ≡ true → is_some (first_of (codes "FILE") rows) ≡ true
 has_file tracer rows e = (some_both trace _ _ e).0
+has_file debugger rows e = (some_both (λ file mode. debug file mode (text_in rows the_laid_witness)) _ _ e).0
 has_file runner rows e = (some_both run _ _ e).0
 has_file server rows e = (some_served _ _ _ _ e).file
 has_file checker rows e = (some_check _ _ _ e).0
@@ -199,6 +201,7 @@ has_file teller rows e = (some_words_found _ _ _ _ e).file
 
 pub has_mode : (t : Tool) (rows : List Row) → is_some (found_in t rows) ≡ true → is_some (first_of (codes "mode") rows) ≡ true
 has_mode tracer rows e = (some_both trace _ _ e).1
+has_mode debugger rows e = (some_both (λ file mode. debug file mode (text_in rows the_laid_witness)) _ _ e).1
 has_mode runner rows e = (some_both run _ _ e).1
 has_mode server rows e = (some_served _ _ _ _ e).mode
 has_mode checker rows e = (some_check _ _ _ e).1
@@ -222,6 +225,13 @@ text_is f r id text e is = value_is f r id e ∙ ap text_at is
 
 pub both_found : {f m : Option Text} (asks : Text → Text → Asked) (file mode : Text) → f ≡ Some file → m ≡ Some mode → Some (asks file mode) ≡ found_of_file asks f m
 both_found asks file mode e h = sym (ap₂ (found_of_file asks) e h)
+
+-- with the word of a witness's file, where there is one
+pub debug_found : (f : Found) (file mode : Text) (r : Option (Bor Text)) → first_of (codes "FILE") (rows_of f) ≡ Some file → first_of (codes "mode") (rows_of f) ≡ Some mode
+    → text_at r ≡ first_value f (codes "laid_witness") → Some (debug file mode (text_at r)) ≡ found_in debugger (rows_of f)
+debug_found f file mode r e h w =
+    let there : Option Text = first_of (codes "laid_witness") (rows_of f) in
+    ap (λ o. Some (debug file mode o)) (sym (value_is f r (codes "laid_witness") w)) ∙ both_found (λ file mode. debug file mode there) file mode e h
 
 pub verify_found : {f w m : Option Text} {l : Option (Option ℕ)} (file witness mode : Text) (leaf : Option ℕ) → f ≡ Some file → w ≡ Some witness → m ≡ Some mode → l ≡ Some leaf
     → Some (verify file witness mode leaf) ≡ found_verify f w m l
@@ -394,6 +404,7 @@ HasRange _ = Unit {0}
 range_asked : (options : Options) → HasRange (asked options) → IsInRange options
 range_asked Plain h = tt
 range_asked (Trace file mode) h = tt
+range_asked (Debug file mode witness) h = tt
 range_asked (Run file mode) h = tt
 range_asked (Serve file mode port clients) h = h
 range_asked (Check file mode options) h = h
@@ -443,6 +454,7 @@ words_range (Some f) (Some c) (Some m) (Some n) a = a
 
 found_range : (t : Tool) (text : Item → Option Text) → RangeOf (found t text)
 found_range tracer text = file_range trace (text the_file) (text the_mode) (λ f m. tt)
+found_range debugger text = file_range (λ file mode. debug file mode (text the_laid_witness)) (text the_file) (text the_mode) (λ f m. tt)
 found_range runner text = file_range run (text the_file) (text the_mode) (λ f m. tt)
 found_range server text =
     serve_range (text the_file) (text the_mode) (option_and_then (number_in 1 most_port) (text the_port)) (option_and_then (number_in 1 most_clients) (text the_clients)) (read_within 1 most_port (text the_port)) (read_within 1 most_clients (text the_clients))

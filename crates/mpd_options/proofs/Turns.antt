@@ -11,7 +11,7 @@ use Rattle.clap.specs.Kinds.{Kinds, or_else}
 use Rattle.clap.specs.Faults.{settle_fault, turn_fault, step_fault, long_fault, bundle_fault, flags_fault, short_fault, flag_word_fault}
 use Rattle.clap.specs.Walk.{Held, Walk, Waiting, idle, option, Step, trailing, value, Outcome, plain, walked, settled, arg_by_long, arg_by_short, arg_by_index, is_pending, long_met, long_or_other, short_or_plain, plain_word, pushed, after_flag, after_step, to_positional, bundle, bundle_met}
 use Rattle.clap.proofs.OnLiterals.{clap_on_literals}
-use Rattle.mpd_options.specs.Asked.{Item, Place, Said, Tool, among_options, behind_dashes, behind_option, by_letters, checker, dashes, fits, long_or_short, name_of, named_so, no_option, files_of, option_among, options_of, other_option, said_of, short_option, the_file, the_witness_file, runner, server, teller, tracer, unsaid, verifier, word_of}
+use Rattle.mpd_options.specs.Asked.{Item, Place, Said, Tool, among_options, behind_dashes, behind_option, by_letters, checker, dashes, debugger, fits, long_or_short, name_of, named_so, no_option, files_of, option_among, options_of, other_option, said_of, short_option, spelling_of, the_file, the_witness_file, runner, server, teller, tracer, unsaid, verifier, word_of}
 use Rattle.mpd_options.specs.Program.{Lies}
 use Rattle.mpd_options.proofs.Ends.{IsLast, fails_first, fails_then, held, held_for, settles, with_last}
 use Rattle.mpd_options.proofs.Items.{EachFile, Valid, arg, asks, by_long, flags, flag_by_long, help_arg, keeps, reads_witness, rows_for, rules, some_fault, sub}
@@ -22,6 +22,8 @@ help_fails : (lie : Lies) (t : Tool) (v : Option Text) (h : Held) → long_fault
 unfolding clap_on_literals
 help_fails lie tracer None h = fails_then (settle_fault (rules lie tracer) false h) _ (some_fault _ refl)
 help_fails lie tracer (Some x) h = some_fault _ refl
+help_fails lie debugger None h = fails_then (settle_fault (rules lie debugger) false h) _ (some_fault _ refl)
+help_fails lie debugger (Some x) h = some_fault _ refl
 help_fails lie runner None h = fails_then (settle_fault (rules lie runner) false h) _ (some_fault _ refl)
 help_fails lie runner (Some x) h = some_fault _ refl
 help_fails lie server None h = fails_then (settle_fault (rules lie server) false h) _ (some_fault _ refl)
@@ -36,7 +38,7 @@ help_fails lie teller (Some x) h = some_fault _ refl
 -- none of these has the name
 abbrev pub NoneNamed : List Item → Text → Type 0
 NoneNamed [] name = Unit {0}
-NoneNamed (i ∷ items) name = (bytes_eq (name_of i) name ≡ false) × NoneNamed items name
+NoneNamed (i ∷ items) name = (bytes_eq (spelling_of i) name ≡ false) × NoneNamed items name
 
 -- no option of the command has the name
 abbrev pub Unnamed : Tool → Text → Type 0
@@ -45,6 +47,7 @@ Unnamed t name = NoneNamed (options_of t) name
 find_help : (lie : Lies) (t : Tool) (name : Text) → Unnamed t name → bytes_eq (codes "help") name ≡ true → arg_by_long (rules lie t) name ≡ Some (help_arg lie t)
 unfolding clap_on_literals
 find_help lie tracer name u h = rw (u.0, h) refl
+find_help lie debugger name u h = rw (u.0, u.1.0, h) refl
 find_help lie runner name u h = rw (u.0, h) refl
 find_help lie server name u h = rw (u.0, u.1.0, u.1.1.0, h) refl
 find_help lie checker name u h = rw (u.0, u.1.0, u.1.1.0, u.1.1.1.0, u.1.1.1.1.0, u.1.1.1.1.1.0, u.1.1.1.1.1.1.0, u.1.1.1.1.1.1.1.0, u.1.1.1.1.1.1.1.1.0, u.1.1.1.1.1.1.1.1.1.0, u.1.1.1.1.1.1.1.1.1.1.0, u.1.1.1.1.1.1.1.1.1.1.1.0, u.1.1.1.1.1.1.1.1.1.1.1.1.0, u.1.1.1.1.1.1.1.1.1.1.1.1.1.0, u.1.1.1.1.1.1.1.1.1.1.1.1.1.1.0, u.1.1.1.1.1.1.1.1.1.1.1.1.1.1.1.0, h) refl
@@ -54,6 +57,7 @@ find_help lie teller name u h = rw (u.0, u.1.0, u.1.1.0, h) refl
 find_none : (lie : Lies) (t : Tool) (name : Text) → Unnamed t name → bytes_eq (codes "help") name ≡ false → arg_by_long (rules lie t) name ≡ None
 unfolding clap_on_literals
 find_none lie tracer name u h = rw (u.0, h) refl
+find_none lie debugger name u h = rw (u.0, u.1.0, h) refl
 find_none lie runner name u h = rw (u.0, h) refl
 find_none lie server name u h = rw (u.0, u.1.0, u.1.1.0, h) refl
 find_none lie checker name u h = rw (u.0, u.1.0, u.1.1.0, u.1.1.1.0, u.1.1.1.1.0, u.1.1.1.1.1.0, u.1.1.1.1.1.1.0, u.1.1.1.1.1.1.1.0, u.1.1.1.1.1.1.1.1.0, u.1.1.1.1.1.1.1.1.1.0, u.1.1.1.1.1.1.1.1.1.1.0, u.1.1.1.1.1.1.1.1.1.1.1.0, u.1.1.1.1.1.1.1.1.1.1.1.1.0, u.1.1.1.1.1.1.1.1.1.1.1.1.1.0, u.1.1.1.1.1.1.1.1.1.1.1.1.1.1.0, u.1.1.1.1.1.1.1.1.1.1.1.1.1.1.1.0, h) refl
@@ -74,8 +78,8 @@ pub data Names (lie : Lies) (t : Tool) (name : Text) : Type 0 where
   names_flag : (i : Item) → flags t i ≡ true → option_among (options_of t) name ≡ Some i → arg_by_long (rules lie t) name ≡ Some (arg lie t i) → Names lie t name
   names_none : Unnamed t name → option_among (options_of t) name ≡ None → Names lie t name
 
-long_named : (lie : Lies) (t : Tool) (i : Item) (name : Text) → bytes_eq (name_of i) name ≡ true → arg_by_long (rules lie t) (name_of i) ≡ Some (arg lie t i) → arg_by_long (rules lie t) name ≡ Some (arg lie t i)
-long_named lie t i name e l = subst (λ n. arg_by_long (rules lie t) n ≡ Some (arg lie t i)) ((bytes_eq-Decides (name_of i) name).0 e) l
+long_named : (lie : Lies) (t : Tool) (i : Item) (name : Text) → bytes_eq (spelling_of i) name ≡ true → arg_by_long (rules lie t) (spelling_of i) ≡ Some (arg lie t i) → arg_by_long (rules lie t) name ≡ Some (arg lie t i)
+long_named lie t i name e l = subst (λ n. arg_by_long (rules lie t) n ≡ Some (arg lie t i)) ((bytes_eq-Decides (spelling_of i) name).0 e) l
 
 -- each of these is an option of the command that wants a value, or a flag
 abbrev AreOptions : Tool → List Item → Type 0
@@ -84,6 +88,7 @@ AreOptions t (i ∷ items) = ((asks t i ≡ true) ⊎ (flags t i ≡ true)) × A
 
 own_options : (t : Tool) → AreOptions t (options_of t)
 own_options tracer = (inl refl, tt)
+own_options debugger = (inl refl, (inl refl, tt))
 own_options runner = (inl refl, tt)
 own_options server = (inl refl, (inl refl, (inl refl, tt)))
 own_options checker = (inl refl, (inl refl, (inl refl, (inl refl, (inl refl, (inl refl, (inr refl, (inl refl, (inl refl, (inr refl, (inr refl, (inl refl, (inr refl, (inr refl, (inl refl, (inr refl, tt))))))))))))))))
@@ -92,22 +97,22 @@ own_options teller = (inl refl, (inl refl, (inl refl, tt)))
 
 -- the first of these that has the name, or that none has it
 data Sought (t : Tool) (items : List Item) (name : Text) : Type 0 where
-  sought : (i : Item) → (asks t i ≡ true) ⊎ (flags t i ≡ true) → option_among items name ≡ Some i → bytes_eq (name_of i) name ≡ true → Sought t items name
+  sought : (i : Item) → (asks t i ≡ true) ⊎ (flags t i ≡ true) → option_among items name ≡ Some i → bytes_eq (spelling_of i) name ≡ true → Sought t items name
   not_there : NoneNamed items name → option_among items name ≡ None → Sought t items name
 
 -- behind one that hasn't the name
-sought_behind : (t : Tool) (i : Item) (items : List Item) (name : Text) → bytes_eq (name_of i) name ≡ false → Sought t items name → Sought t (i ∷ items) name
+sought_behind : (t : Tool) (i : Item) (items : List Item) (name : Text) → bytes_eq (spelling_of i) name ≡ false → Sought t items name → Sought t (i ∷ items) name
 sought_behind t i items name e (sought j kind there is) = sought j kind (ap (λ b. cond b (Some i) (option_among items name)) e ∙ there) is
 sought_behind t i items name e (not_there unnamed there) = not_there (e, unnamed) (ap (λ b. cond b (Some i) (option_among items name)) e ∙ there)
 
 seek : (t : Tool) (items : List Item) (name : Text) → AreOptions t items → Sought t items name
 seek t [] name own = not_there tt refl
-seek t (i ∷ items) name own = elim (bytes_eq (name_of i) name) as (λ b. bytes_eq (name_of i) name ≡ b → Sought t (i ∷ items) name) [
+seek t (i ∷ items) name own = elim (bytes_eq (spelling_of i) name) as (λ b. bytes_eq (spelling_of i) name ≡ b → Sought t (i ∷ items) name) [
   | true ↦ λ e. sought i own.0 (ap (λ b. cond b (Some i) (option_among items name)) e) e
   | false ↦ λ e. sought_behind t i items name e (seek t items name own.1)
 ] refl
 
-named_by_kind : (lie : Lies) (t : Tool) (i : Item) (name : Text) → (asks t i ≡ true) ⊎ (flags t i ≡ true) → option_among (options_of t) name ≡ Some i → bytes_eq (name_of i) name ≡ true → Names lie t name
+named_by_kind : (lie : Lies) (t : Tool) (i : Item) (name : Text) → (asks t i ≡ true) ⊎ (flags t i ≡ true) → option_among (options_of t) name ≡ Some i → bytes_eq (spelling_of i) name ≡ true → Names lie t name
 named_by_kind lie t i name (inl asking) there e = names_option i asking there (long_named lie t i name e (by_long lie t i asking))
 named_by_kind lie t i name (inr flag) there e = names_flag i flag there (long_named lie t i name e (flag_by_long lie t i flag))
 
@@ -124,6 +129,10 @@ letter_fails : (lie : Lies) (t : Tool) (x : ℕ) (rest : Text) (h : Held) (next 
 unfolding clap_on_literals
 letter_fails lie tracer x rest h next = elim (104 == x) as (λ b. (104 == x) ≡ b → short_fault (rules lie tracer) false (arg_by_short (rules lie tracer) x) rest h next ≢ []) [
   | true ↦ λ e. rw e (fails_first _ _ (fails_then (settle_fault (rules lie tracer) false h) _ (some_fault _ refl)))
+  | false ↦ λ e. rw e (some_fault _ refl)
+] refl
+letter_fails lie debugger x rest h next = elim (104 == x) as (λ b. (104 == x) ≡ b → short_fault (rules lie debugger) false (arg_by_short (rules lie debugger) x) rest h next ≢ []) [
+  | true ↦ λ e. rw e (fails_first _ _ (fails_then (settle_fault (rules lie debugger) false h) _ (some_fault _ refl)))
   | false ↦ λ e. rw e (some_fault _ refl)
 ] refl
 letter_fails lie runner x rest h next = elim (104 == x) as (λ b. (104 == x) ≡ b → short_fault (rules lie runner) false (arg_by_short (rules lie runner) x) rest h next ≢ []) [
@@ -291,6 +300,8 @@ turns : (lie : Lies) (t : Tool) (o : Option Text) (position : ℕ) (word : Text)
 unfolding walked
 turns lie tracer None position word h = refl
 turns lie tracer (Some id) position word h = refl
+turns lie debugger None position word h = refl
+turns lie debugger (Some id) position word h = refl
 turns lie runner None position word h = refl
 turns lie runner (Some id) position word h = refl
 turns lie server None position word h = refl
@@ -372,23 +383,25 @@ seat _ = 1
 each_file : (P : Tool → Item → Type 0) → EachFile P → (t : Tool) (i : Item) → is_file t i ≡ true → P t i
 each_file P f tracer the_file e = f.0
 each_file P f tracer _ e = cc
-each_file P f runner the_file e = f.1
+each_file P f debugger the_file e = f.1
+each_file P f debugger _ e = cc
+each_file P f runner the_file e = f.2
 each_file P f runner _ e = cc
-each_file P f server the_file e = f.2
+each_file P f server the_file e = f.3
 each_file P f server _ e = cc
-each_file P f checker the_file e = f.3
+each_file P f checker the_file e = f.4
 each_file P f checker _ e = cc
-each_file P f verifier the_file e = f.4
-each_file P f verifier the_witness_file e = f.5
+each_file P f verifier the_file e = f.5
+each_file P f verifier the_witness_file e = f.6
 each_file P f verifier _ e = cc
-each_file P f teller the_file e = f.6
+each_file P f teller the_file e = f.7
 each_file P f teller _ e = cc
 
 pub file_keeps : (t : Tool) (i : Item) → is_file t i ≡ true → keeps t i ≡ true
-file_keeps = each_file (λ t i. keeps t i ≡ true) (refl, refl, refl, refl, refl, refl, refl)
+file_keeps = each_file (λ t i. keeps t i ≡ true) (refl, refl, refl, refl, refl, refl, refl, refl)
 
 pub file_fits : (word : Text) (t : Tool) (i : Item) → is_file t i ≡ true → fits i word ≡ true
-file_fits word = each_file (λ t i. fits i word ≡ true) (refl, refl, refl, refl, refl, refl, refl)
+file_fits word = each_file (λ t i. fits i word ≡ true) (refl, refl, refl, refl, refl, refl, refl, refl)
 
 file_step_by : (b : Bool) (ks : Kinds) → (if b && false then [] else ks) ≡ ks
 file_step_by true ks = refl
@@ -403,6 +416,7 @@ unfolding clap_on_literals
 file_step lie h =
     each_file (λ t i. step_fault (sub lie t) (seat i) h value ≡ settle_fault (rules lie t) false h) (
       file_step_by (is_pending (arg lie tracer the_file) h.pending) (settle_fault (rules lie tracer) false h),
+      file_step_by (is_pending (arg lie debugger the_file) h.pending) (settle_fault (rules lie debugger) false h),
       file_step_by (is_pending (arg lie runner the_file) h.pending) (settle_fault (rules lie runner) false h),
       file_step_by (is_pending (arg lie server the_file) h.pending) (settle_fault (rules lie server) false h),
       file_step_by (is_pending (arg lie checker the_file) h.pending) (settle_fault (rules lie checker) false h),
@@ -421,6 +435,7 @@ unfolding clap_on_literals
 file_walk lie waiting word h true =
     each_file (FileWalk lie waiting word h true) (
       ap (λ g. walk_with (pushed (name_of the_file) word g) idle (suc (seat the_file)) true) (file_held_by (is_pending (arg lie tracer the_file) h.pending) h (settled (rules lie tracer) h)),
+      ap (λ g. walk_with (pushed (name_of the_file) word g) idle (suc (seat the_file)) true) (file_held_by (is_pending (arg lie debugger the_file) h.pending) h (settled (rules lie debugger) h)),
       ap (λ g. walk_with (pushed (name_of the_file) word g) idle (suc (seat the_file)) true) (file_held_by (is_pending (arg lie runner the_file) h.pending) h (settled (rules lie runner) h)),
       ap (λ g. walk_with (pushed (name_of the_file) word g) idle (suc (seat the_file)) true) (file_held_by (is_pending (arg lie server the_file) h.pending) h (settled (rules lie server) h)),
       ap (λ g. walk_with (pushed (name_of the_file) word g) idle (suc (seat the_file)) true) (file_held_by (is_pending (arg lie checker the_file) h.pending) h (settled (rules lie checker) h)),
@@ -431,6 +446,7 @@ file_walk lie waiting word h true =
 file_walk lie waiting word h false =
     each_file (FileWalk lie waiting word h false) (
       ap (λ g. walk_with (pushed (name_of the_file) word g) idle (suc (seat the_file)) false) (file_held_by (is_pending (arg lie tracer the_file) h.pending) h (settled (rules lie tracer) h)),
+      ap (λ g. walk_with (pushed (name_of the_file) word g) idle (suc (seat the_file)) false) (file_held_by (is_pending (arg lie debugger the_file) h.pending) h (settled (rules lie debugger) h)),
       ap (λ g. walk_with (pushed (name_of the_file) word g) idle (suc (seat the_file)) false) (file_held_by (is_pending (arg lie runner the_file) h.pending) h (settled (rules lie runner) h)),
       ap (λ g. walk_with (pushed (name_of the_file) word g) idle (suc (seat the_file)) false) (file_held_by (is_pending (arg lie server the_file) h.pending) h (settled (rules lie server) h)),
       ap (λ g. walk_with (pushed (name_of the_file) word g) idle (suc (seat the_file)) false) (file_held_by (is_pending (arg lie checker the_file) h.pending) h (settled (rules lie checker) h)),
@@ -443,6 +459,7 @@ file_walk lie waiting word h false =
 pub no_second : (lie : Lies) (t : Tool) (h : Held) → reads_witness t ≡ false → step_fault (sub lie t) 2 h value ≢ []
 unfolding clap_on_literals
 no_second lie tracer h e = some_fault _ refl
+no_second lie debugger h e = some_fault _ refl
 no_second lie runner h e = some_fault _ refl
 no_second lie server h e = some_fault _ refl
 no_second lie checker h e = some_fault _ refl
@@ -452,6 +469,7 @@ no_second lie verifier h e = absurd (true≢false e)
 pub no_third : (lie : Lies) (t : Tool) (h : Held) → step_fault (sub lie t) 3 h value ≢ []
 unfolding clap_on_literals
 no_third lie tracer h = some_fault _ refl
+no_third lie debugger h = some_fault _ refl
 no_third lie runner h = some_fault _ refl
 no_third lie server h = some_fault _ refl
 no_third lie checker h = some_fault _ refl
@@ -474,6 +492,7 @@ pub data Free (lie : Lies) (t : Tool) (said : Said) : Type 0 where
 
 first_unsaid : (t : Tool) (said : Said) → said_of the_file said ≡ None → unsaid (files_of t) said ≡ Some the_file
 first_unsaid tracer said e = rw e refl
+first_unsaid debugger said e = rw e refl
 first_unsaid runner said e = rw e refl
 first_unsaid server said e = rw e refl
 first_unsaid checker said e = rw e refl
@@ -482,6 +501,7 @@ first_unsaid teller said e = rw e refl
 
 one_said : (t : Tool) (said : Said) (f : Text) → reads_witness t ≡ false → said_of the_file said ≡ Some f → unsaid (files_of t) said ≡ None
 one_said tracer said f only e = rw e refl
+one_said debugger said f only e = rw e refl
 one_said runner said f only e = rw e refl
 one_said server said f only e = rw e refl
 one_said checker said f only e = rw e refl
@@ -491,6 +511,7 @@ one_said verifier said f only e = cc
 -- behind the file's word
 free_second : (lie : Lies) (t : Tool) (said : Said) (f : Text) → said_of the_file said ≡ Some f → reads_witness t ≡ true → said_of the_witness_file said ≡ None → Free lie t said
 free_second lie tracer said f e both w = cc
+free_second lie debugger said f e both w = cc
 free_second lie runner said f e both w = cc
 free_second lie server said f e both w = cc
 free_second lie checker said f e both w = cc
@@ -508,6 +529,7 @@ full_second lie t said f (Some x) e only w = full (one_said t said f only e) (su
 
 full_third : (lie : Lies) (t : Tool) (said : Said) (f x : Text) → said_of the_file said ≡ Some f → reads_witness t ≡ true → said_of the_witness_file said ≡ Some x → Free lie t said
 full_third lie tracer said f x e both w = cc
+full_third lie debugger said f x e both w = cc
 full_third lie runner said f x e both w = cc
 full_third lie server said f x e both w = cc
 full_third lie checker said f x e both w = cc

@@ -1,5 +1,6 @@
 -- What the words of a command line ask for.
 use Rattle.std.specs.Prelude.{◌≡◌, ◌≤◌, ⊤, IfSome, ℕ, Bool, true, false, not, if◌then◌else◌, List, [], ◌∷◌, Option, Some, None, find, is_some, option_and_then, option_map, codes}
+use Rattle.std.specs.Borrow.{Bor}
 use Rattle.std.specs.Option.{unwrap_or}
 use Rattle.std.specs.Str.{bytes_eq, chars}
 use Rattle.clap.specs.Lexer.{long_of, short_of}
@@ -7,14 +8,15 @@ use Rattle.clap.specs.Words.{Row, first_of, one_of}
 use Rattle.mpd_options.specs.Numbers.{flag_in, number_in}
 use Rattle.mpd_options.specs.declared.options.CheckOptions.{CheckOptions}
 use Rattle.mpd_options.specs.declared.options.Options.{Options}
-use Rattle.mpd_options.specs.declared.options.Options.TheVariants.{Plain, Trace, Run, Serve, Check, Verify, Words}
+use Rattle.mpd_options.specs.declared.options.Options.TheVariants.{Plain, Trace, Debug, Run, Serve, Check, Verify, Words}
 
--- what is asked for: a script and its trace on standard input, the trace of a file, answers to requests on one, of one or of several
--- clients, a look for deadlocks in one, a check of a witness, or the trace words of a run; with the words of files, mode and choices, the
--- port, how many clients, how deadlocks are looked for, the number of a leaf, and the fuel
+-- what is asked for: a script and its trace on standard input, the trace of a file, a console on one, with a witness or none, answers to
+-- requests on one, of one or of several clients, a look for deadlocks in one, a check of a witness, or the trace words of a run; with the
+-- words of files, mode and choices, the port, how many clients, how deadlocks are looked for, the number of a leaf, and the fuel
 pub data Asked : Type 0 where
   plain : Asked
   trace : List ℕ → List ℕ → Asked
+  debug : List ℕ → List ℕ → Option (List ℕ) → Asked
   run : List ℕ → List ℕ → Asked
   serve : List ℕ → List ℕ → ℕ → ℕ → Asked
   check : List ℕ → List ℕ → CheckOptions → Asked
@@ -24,6 +26,7 @@ pub data Asked : Type 0 where
 abbrev pub asked : Options → Asked
 asked Plain = plain
 asked (Trace file mode) = trace file.now mode.now
+asked (Debug file mode witness) = debug file.now mode.now (option_map (λ (text : Bor (List ℕ)). text.now) witness)
 asked (Run file mode) = run file.now mode.now
 asked (Serve file mode port clients) = serve file.now mode.now port clients
 asked (Check file mode options) = check file.now mode.now options
@@ -81,6 +84,7 @@ AreInRange o =
 abbrev pub IsInRange : Options → Type 0
 IsInRange Plain = ⊤
 IsInRange (Trace file mode) = ⊤
+IsInRange (Debug file mode witness) = ⊤
 IsInRange (Run file mode) = ⊤
 IsInRange (Serve file mode port clients) = (1 ≤ port) × (port ≤ most_port) × (1 ≤ clients) × (clients ≤ most_clients)
 IsInRange (Check file mode options) = AreInRange options
@@ -90,6 +94,7 @@ IsInRange (Words file choices mode fuel) = (1 ≤ fuel) × (fuel ≤ most_fuel)
 -- the commands
 pub data Tool : Type 0 where
   tracer : Tool
+  debugger : Tool
   runner : Tool
   server : Tool
   checker : Tool
@@ -100,9 +105,10 @@ pub data Tool : Type 0 where
 abbrev pub tool_named : List ℕ → Option Tool
 tool_named word =
     if bytes_eq word (codes "trace") then Some tracer
+    else (if bytes_eq word (codes "debug") then Some debugger
     else (if bytes_eq word (codes "run") then Some runner
     else (if bytes_eq word (codes "serve") then Some server
-    else (if bytes_eq word (codes "check") then Some checker else (if bytes_eq word (codes "verify") then Some verifier else (if bytes_eq word (codes "words") then Some teller else None)))))
+    else (if bytes_eq word (codes "check") then Some checker else (if bytes_eq word (codes "verify") then Some verifier else (if bytes_eq word (codes "words") then Some teller else None))))))
 
 -- what words say something of: the words of files stand alone, and the others are options
 pub data Item : Type 0 where
@@ -128,6 +134,7 @@ pub data Item : Type 0 where
   the_pieces : Item
   the_leaf : Item
   the_choices : Item
+  the_laid_witness : Item
 
 abbrev pub name_of : Item → List ℕ
 name_of the_file = codes "FILE"
@@ -152,9 +159,16 @@ name_of the_piece = codes "piece"
 name_of the_pieces = codes "pieces"
 name_of the_leaf = codes "leaf"
 name_of the_choices = codes "choices"
+name_of the_laid_witness = codes "laid_witness"
+
+-- how an option is spelled behind its hyphens: as it is named, but that of a witness's file is spelled as the flag of `check` is
+abbrev pub spelling_of : Item → List ℕ
+spelling_of the_laid_witness = codes "witness"
+spelling_of item = name_of item
 
 abbrev pub options_of : Tool → List Item
 options_of tracer = the_mode ∷ []
+options_of debugger = the_mode ∷ the_laid_witness ∷ []
 options_of runner = the_mode ∷ []
 options_of server = the_mode ∷ the_port ∷ the_clients ∷ []
 options_of checker =
@@ -165,6 +179,7 @@ options_of teller = the_mode ∷ the_choices ∷ the_fuel ∷ []
 -- what the words that are no options name, in this order
 abbrev pub files_of : Tool → List Item
 files_of tracer = the_file ∷ []
+files_of debugger = the_file ∷ []
 files_of runner = the_file ∷ []
 files_of server = the_file ∷ []
 files_of checker = the_file ∷ []
@@ -172,7 +187,7 @@ files_of verifier = the_file ∷ the_witness_file ∷ []
 files_of teller = the_file ∷ []
 
 abbrev pub option_among : List Item → List ℕ → Option Item
-option_among items name = find (λ item. bytes_eq (name_of item) name) items
+option_among items name = find (λ item. bytes_eq (spelling_of item) name) items
 
 -- a flag has no value in words
 abbrev pub is_flag : Item → Bool
@@ -208,6 +223,7 @@ fits the_piece text = is_some (number_in 0 most_piece text)
 fits the_pieces text = is_some (flag_in text)
 fits the_leaf text = is_some (number_in 0 most_leaf text)
 fits the_choices text = true
+fits the_laid_witness text = true
 
 -- the value of an item of which nothing is said; where it has none, something must be said of the files, the port, how many clients and the choices, and need not of the others
 abbrev pub default_of : Item → Option (List ℕ)
@@ -233,6 +249,7 @@ default_of the_piece = None
 default_of the_pieces = Some (codes "false")
 default_of the_leaf = None
 default_of the_choices = None
+default_of the_laid_witness = None
 
 -- what a word behind a command is: `--`, `--NAME` or `--NAME=V` of an option, another option, or none
 pub data Word : Type 0 where
@@ -393,6 +410,7 @@ found_words _ _ _ _ = None
 -- what a command asks for, by the text of each of its items: each must have one, but those that need not be there, and each number lies in its range
 abbrev pub found : Tool → (Item → Option (List ℕ)) → Option Asked
 found tracer text = found_of_file trace (text the_file) (text the_mode)
+found debugger text = found_of_file (λ file mode. debug file mode (text the_laid_witness)) (text the_file) (text the_mode)
 found runner text = found_of_file run (text the_file) (text the_mode)
 found server text = found_serve (text the_file) (text the_mode) (option_and_then (number_in 1 most_port) (text the_port)) (option_and_then (number_in 1 most_clients) (text the_clients))
 found checker text = found_check (text the_file) (text the_mode) (found_options text)
@@ -450,6 +468,7 @@ text_in rows the_piece = one_of (name_of the_piece) rows
 text_in rows the_pieces = one_of (name_of the_pieces) rows
 text_in rows the_leaf = one_of (name_of the_leaf) rows
 text_in rows the_choices = first_of (name_of the_choices) rows
+text_in rows the_laid_witness = first_of (name_of the_laid_witness) rows
 
 abbrev pub found_in : Tool → List Row → Option Asked
 found_in t rows = found t (text_in rows)

@@ -2,7 +2,7 @@
 use Rattle.std.specs.Prelude.{◌≡◌, ℕ, Bool, true, false, List, [], ◌∷◌, map, Option, Some, None, is_some, codes, refl}
 use Rattle.std.specs.Option.{unwrap_or}
 use Rattle.std.specs.Str.{chars}
-use Rattle.mpd_options.specs.Asked.{Asked, plain, trace, run, serve, check, verify, tell, meant}
+use Rattle.mpd_options.specs.Asked.{Asked, plain, trace, debug, run, serve, check, verify, tell, meant}
 use Rattle.mpd_options.specs.declared.options.CheckOptions.{CheckOptions}
 
 abbrev Row : Type 0
@@ -11,6 +11,14 @@ Row = List (List ℕ) × Option Asked
 -- words behind `trace`, and the file and the mode that they name
 abbrev names : List (List ℕ) → List ℕ → List ℕ → Row
 names words file mode = (codes "trace" ∷ words, Some (trace file mode))
+
+-- words behind `debug`, and the file, the mode and the witness that they name
+abbrev debugs : List (List ℕ) → List ℕ → List ℕ → Option (List ℕ) → Row
+debugs words file mode witness = (codes "debug" ∷ words, Some (debug file mode witness))
+
+-- words behind `debug a` that make them ask for nothing
+abbrev strays : List (List ℕ) → Row
+strays words = (codes "debug" ∷ codes "a" ∷ words, None)
 
 -- words behind `run`, and the file and the mode that they name
 abbrev runs : List (List ℕ) → List ℕ → List ℕ → Row
@@ -401,6 +409,82 @@ rows =
     ∷ nothing (codes "run" ∷ codes "a" ∷ codes "--choices" ∷ codes "0" ∷ [])
     ∷ nothing (codes "check" ∷ codes "a" ∷ codes "--choices" ∷ codes "0" ∷ [])
     ∷ nothing (codes "verify" ∷ codes "a" ∷ codes "b" ∷ codes "--choices=0" ∷ [])
+    ∷ debugs (codes "a" ∷ []) (codes "a") (codes "rendezvous") None
+    ∷ debugs (codes "" ∷ []) [] (codes "rendezvous") None
+    ∷ debugs (codes "-" ∷ []) (codes "-") (codes "rendezvous") None
+    ∷ debugs (codes "debug" ∷ []) (codes "debug") (codes "rendezvous") None
+    ∷ debugs (codes "a" ∷ codes "--mode" ∷ codes "buffered" ∷ []) (codes "a") (codes "buffered") None
+    ∷ debugs (codes "--mode=b" ∷ codes "a" ∷ []) (codes "a") (codes "b") None
+    ∷ debugs (codes "--mode=" ∷ codes "a" ∷ []) (codes "a") [] None
+    ∷ debugs (codes "a" ∷ codes "--witness" ∷ codes "w" ∷ []) (codes "a") (codes "rendezvous") (Some (codes "w"))
+    ∷ debugs (codes "--witness" ∷ codes "w" ∷ codes "a" ∷ []) (codes "a") (codes "rendezvous") (Some (codes "w"))
+    ∷ debugs (codes "--witness=w" ∷ codes "a" ∷ []) (codes "a") (codes "rendezvous") (Some (codes "w"))
+    ∷ debugs (codes "a" ∷ codes "--witness=" ∷ []) (codes "a") (codes "rendezvous") (Some [])
+    ∷ debugs (codes "a" ∷ codes "--witness" ∷ codes "" ∷ []) (codes "a") (codes "rendezvous") (Some [])
+    ∷ debugs (codes "a" ∷ codes "--witness=b=c" ∷ []) (codes "a") (codes "rendezvous") (Some (codes "b=c"))
+    ∷ debugs (codes "--witness" ∷ codes "-" ∷ codes "a" ∷ []) (codes "a") (codes "rendezvous") (Some (codes "-"))
+    ∷ debugs (codes "--witness" ∷ codes "a" ∷ codes "a" ∷ []) (codes "a") (codes "rendezvous") (Some (codes "a"))
+    ∷ debugs (codes "--witness" ∷ codes "true" ∷ codes "a" ∷ []) (codes "a") (codes "rendezvous") (Some (codes "true"))
+    ∷ debugs (codes "--witness" ∷ codes "debug" ∷ codes "debug" ∷ []) (codes "debug") (codes "rendezvous") (Some (codes "debug"))
+    ∷ debugs (codes "a" ∷ codes "--witness" ∷ codes "w" ∷ codes "--mode" ∷ codes "buffered" ∷ []) (codes "a") (codes "buffered") (Some (codes "w"))
+    ∷ debugs (codes "--mode" ∷ codes "b" ∷ codes "--witness=w" ∷ codes "a" ∷ []) (codes "a") (codes "b") (Some (codes "w"))
+    ∷ debugs (codes "--mode" ∷ codes "b" ∷ codes "--witness" ∷ codes "w" ∷ codes "--" ∷ codes "-x" ∷ []) (codes "-x") (codes "b") (Some (codes "w"))
+    ∷ debugs (codes "--" ∷ codes "--witness" ∷ []) (codes "--witness") (codes "rendezvous") None
+    ∷ debugs (codes "--witness=w" ∷ codes "--" ∷ codes "--witness" ∷ []) (codes "--witness") (codes "rendezvous") (Some (codes "w"))
+    ∷ debugs (codes "a" ∷ codes "--witness=w" ∷ codes "--" ∷ []) (codes "a") (codes "rendezvous") (Some (codes "w"))
+    ∷ names (codes "debug" ∷ []) (codes "debug") (codes "rendezvous")
+    ∷ runs (codes "debug" ∷ []) (codes "debug") (codes "rendezvous")
+    ∷ nothing (codes "debug" ∷ [])
+    ∷ nothing (codes "debug" ∷ codes "--" ∷ [])
+    ∷ nothing (codes "debug" ∷ codes "--witness" ∷ codes "w" ∷ [])
+    ∷ nothing (codes "debug" ∷ codes "--witness" ∷ codes "a" ∷ [])
+    ∷ nothing (codes "debug" ∷ codes "--witness=w" ∷ codes "--" ∷ [])
+    ∷ nothing (codes "debug" ∷ codes "--mode" ∷ codes "b" ∷ codes "--witness" ∷ codes "w" ∷ [])
+    ∷ nothing (codes "debug" ∷ codes "--witness" ∷ codes "--" ∷ codes "a" ∷ [])
+    ∷ strays (codes "b" ∷ [])
+    ∷ strays (codes "--" ∷ codes "b" ∷ [])
+    ∷ strays (codes "--witness" ∷ [])
+    ∷ strays (codes "--witness" ∷ codes "--" ∷ [])
+    ∷ strays (codes "--witness" ∷ codes "--" ∷ codes "w" ∷ [])
+    ∷ strays (codes "--witness" ∷ codes "--mode" ∷ codes "b" ∷ [])
+    ∷ strays (codes "--witness" ∷ codes "-w" ∷ [])
+    ∷ strays (codes "--witness" ∷ codes "--witness" ∷ codes "w" ∷ [])
+    ∷ strays (codes "--witness" ∷ codes "w" ∷ codes "--witness" ∷ codes "w" ∷ [])
+    ∷ strays (codes "--witness=w" ∷ codes "--witness=v" ∷ [])
+    ∷ strays (codes "--witness" ∷ codes "w" ∷ codes "--witness=" ∷ [])
+    ∷ strays (codes "--witness" ∷ codes "w" ∷ codes "b" ∷ [])
+    ∷ strays (codes "--witness=w" ∷ codes "--" ∷ codes "b" ∷ [])
+    ∷ strays (codes "--mode" ∷ [])
+    ∷ strays (codes "--mode=b" ∷ codes "--mode=b" ∷ [])
+    ∷ strays (codes "--witnes" ∷ codes "w" ∷ [])
+    ∷ strays (codes "--WITNESS" ∷ codes "w" ∷ [])
+    ∷ strays (codes "--laid_witness" ∷ codes "w" ∷ [])
+    ∷ strays (codes "--laid_witness=w" ∷ [])
+    ∷ strays (codes "-w" ∷ codes "w" ∷ [])
+    ∷ strays (codes "--runs" ∷ codes "5" ∷ [])
+    ∷ strays (codes "--fuel=5" ∷ [])
+    ∷ strays (codes "--leaf" ∷ codes "1" ∷ [])
+    ∷ strays (codes "--choices" ∷ codes "0" ∷ [])
+    ∷ strays (codes "--complete" ∷ [])
+    ∷ strays (codes "--explain" ∷ [])
+    ∷ strays (codes "--help" ∷ [])
+    ∷ nothing (codes "debug" ∷ codes "-h" ∷ [])
+    ∷ nothing (codes "help" ∷ codes "debug" ∷ [])
+    ∷ nothing (codes "debugs" ∷ codes "a" ∷ [])
+    ∷ nothing (codes "debu" ∷ codes "a" ∷ [])
+    ∷ nothing (codes "Debug" ∷ codes "a" ∷ [])
+    ∷ nothing (codes "debug=a" ∷ [])
+    ∷ nothing (codes "--witness" ∷ codes "w" ∷ codes "debug" ∷ codes "a" ∷ [])
+    ∷ nothing (codes "--mode" ∷ codes "b" ∷ codes "debug" ∷ codes "a" ∷ [])
+    ∷ nothing (codes "--" ∷ codes "debug" ∷ codes "a" ∷ [])
+    ∷ nothing (codes "trace" ∷ codes "a" ∷ codes "--witness" ∷ codes "w" ∷ [])
+    ∷ nothing (codes "run" ∷ codes "a" ∷ codes "--witness=w" ∷ [])
+    ∷ nothing (codes "verify" ∷ codes "a" ∷ codes "b" ∷ codes "--witness" ∷ codes "w" ∷ [])
+    ∷ nothing (codes "words" ∷ codes "a" ∷ codes "--choices" ∷ codes "0" ∷ codes "--witness" ∷ codes "w" ∷ [])
+    ∷ nothing (codes "check" ∷ codes "a" ∷ codes "--witness" ∷ codes "w" ∷ [])
+    ∷ nothing (codes "check" ∷ codes "a" ∷ codes "--witness=w" ∷ [])
+    ∷ nothing (codes "check" ∷ codes "a" ∷ codes "--laid_witness" ∷ codes "w" ∷ [])
+    ∷ nothing (codes "verify" ∷ codes "a" ∷ codes "b" ∷ codes "--laid_witness=w" ∷ [])
     ∷ []
 
 pub worked : map (λ (row : Row). meant row.0) rows ≡ map (λ (row : Row). row.1) rows

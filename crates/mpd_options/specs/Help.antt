@@ -1,13 +1,14 @@
 -- What help shows as an example.
 use Rattle.std.specs.Prelude.{ℕ, List}
-use Rattle.mpd_options.specs.declared.command.TheConstants.{EXAMPLE, TRACE_EXAMPLE, RUN_EXAMPLE, SERVE_EXAMPLE, CHECK_EXAMPLE, VERIFY_EXAMPLE, WORDS_EXAMPLE}
+use Rattle.mpd_options.specs.declared.command.TheConstants.{EXAMPLE, TRACE_EXAMPLE, DEBUG_EXAMPLE, RUN_EXAMPLE, SERVE_EXAMPLE, CHECK_EXAMPLE, VERIFY_EXAMPLE, WORDS_EXAMPLE}
 use Rattle.mpd_options.specs.declared.command.Topic.{Topic}
-use Rattle.mpd_options.specs.declared.command.Topic.TheVariants.{Program, Trace, Run, Serve, Check, Verify, Words}
+use Rattle.mpd_options.specs.declared.command.Topic.TheVariants.{Program, Trace, Debug, Run, Serve, Check, Verify, Words}
 
 -- the example of each; clauses tell it by its name, and the text itself is seen only where this is unfolded
 unfoldable pub example_of : Topic → List ℕ
 example_of Program = EXAMPLE.now
 example_of Trace = TRACE_EXAMPLE.now
+example_of Debug = DEBUG_EXAMPLE.now
 example_of Run = RUN_EXAMPLE.now
 example_of Serve = SERVE_EXAMPLE.now
 example_of Check = CHECK_EXAMPLE.now

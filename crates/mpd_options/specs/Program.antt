@@ -93,6 +93,10 @@ pieces_rule = flag_rule (codes "pieces")
 abbrev pub leaf_rule : Rule
 leaf_rule = valued_rule (codes "leaf") (Unsigned 0 most_leaf)
 
+-- the word of a witness's file, which may be left out; its option is spelled as the flag of `check` is
+abbrev pub laid_witness_rule : Rule
+laid_witness_rule = record (new_rule (codes "laid_witness")) { long = Some (codes "witness"); value_names = 1; action = Some Set }
+
 -- the word of the choices, which must be there
 abbrev pub choices_rule : Rule
 choices_rule = record (new_rule (codes "choices")) { long = Some (codes "choices"); value_names = 1; required = true; action = Some Set }
@@ -109,6 +113,9 @@ script_app name = with_rule (with_rule (new_app name) (file_rule (codes "FILE"))
 
 abbrev pub trace_app : App
 trace_app = script_app (codes "trace")
+
+abbrev pub debug_app : App
+debug_app = with_rule (script_app (codes "debug")) laid_witness_rule
 
 abbrev pub run_app : App
 run_app = script_app (codes "run")
@@ -144,5 +151,6 @@ named_app = let app = new_app (codes "mpdbg") in record app { top = record app.t
 -- `mpdbg` and its commands, by the words that `--until` takes
 abbrev pub mpdbg_app : Choices → App
 mpdbg_app words =
-    with_subcommand (with_subcommand (with_subcommand (with_subcommand (with_subcommand (with_subcommand named_app trace_app.top) run_app.top) serve_app.top) (check_app words).top) verify_app.top)
+    with_subcommand (with_subcommand (with_subcommand (with_subcommand (with_subcommand (with_subcommand (with_subcommand named_app trace_app.top) debug_app.top) run_app.top) serve_app.top) (check_app words).top)
+    verify_app.top)
     words_app.top

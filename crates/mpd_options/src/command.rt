@@ -5,8 +5,8 @@ ghost use Rattle.std.specs.Borrow.{Bor};
 ghost use Rattle.clap.specs.Words.{app_of, rule_of};
 ghost use Rattle.clap.specs.declared.builder.command.Command.TheViews.{out-Command as fields_of};
 ghost use Rattle.mpd_options.specs.Help.{example_of};
-ghost use Rattle.mpd_options.specs.declared.command.Topic.TheVariants.{Check, Program, Run, Serve, Trace, Verify, Words};
-ghost use Rattle.mpd_options.specs.Program.{check_app, choices_rule, chosen_app, clients_rule, complete_rule, ends_rule, explain_rule, file_rule, flag_rule, fuel_rule, group_rule, leaf_rule, mode_rule, modes_rule, mpdbg_app, named_app, number_rule, numbers_app, piece_rule, pieces_rule, port_rule, required_number_rule, run_app, runs_rule, sample_rule, script_app, seed_rule, serve_app, split_rule, told_app, trace_app, until_rule, valued_rule, verify_app, witness_rule, words_app, work_app, workers_rule};
+ghost use Rattle.mpd_options.specs.declared.command.Topic.TheVariants.{Check, Debug, Program, Run, Serve, Trace, Verify, Words};
+ghost use Rattle.mpd_options.specs.Program.{check_app, choices_rule, chosen_app, clients_rule, complete_rule, debug_app, ends_rule, explain_rule, file_rule, flag_rule, fuel_rule, group_rule, laid_witness_rule, leaf_rule, mode_rule, modes_rule, mpdbg_app, named_app, number_rule, numbers_app, piece_rule, pieces_rule, port_rule, required_number_rule, run_app, runs_rule, sample_rule, script_app, seed_rule, serve_app, split_rule, told_app, trace_app, until_rule, valued_rule, verify_app, witness_rule, words_app, work_app, workers_rule};
 
 use clap::builder::ValueParser;
 use clap::{Arg, ArgAction, Command};
@@ -78,8 +78,14 @@ pub(crate) const CHOICES: &str = "choices";
 /// The word of a witness's file.
 pub(crate) const WITNESS_FILE: &str = "WITNESS";
 
+/// What `clap` knows the option of a witness's file by, whose word is that of the flag.
+pub(crate) const LAID_WITNESS: &str = "laid_witness";
+
 /// The word of the command that traces a script.
 pub(crate) const TRACE: &str = "trace";
+
+/// The word of the command that debugs a script.
+pub(crate) const DEBUG: &str = "debug";
 
 /// The word of the command that answers requests.
 pub(crate) const RUN: &str = "run";
@@ -142,6 +148,16 @@ const TRACE_EXAMPLE: &str = "Trace words stand on standard input, one a line:
 Example:
   echo 'local 0' | ./mpdbg trace examples/exchange.mpd --mode buffered";
 
+const DEBUG_ABOUT: &str = "Debug the script of a file, at a prompt";
+
+const DEBUG_EXAMPLE: &str = "Words stand on standard input, one line each; help lists them all:
+  next, run, back, run-back, goto N, redo   go forward and back
+  list, ranks, vars, calls, why P           look
+  check, deadlock                           try the choices from here, go to a deadlock
+
+Example:
+  echo run | ./mpdbg debug examples/race.mpd";
+
 const RUN_ABOUT: &str = "Answer JSON requests on the script of a file";
 
 const RUN_EXAMPLE: &str =
@@ -191,6 +207,8 @@ pub enum Topic {
     Program,
     /// `mpdbg trace`.
     Trace,
+    /// `mpdbg debug`.
+    Debug,
     /// `mpdbg run`.
     Run,
     /// `mpdbg serve`.
@@ -208,6 +226,7 @@ fn about<'a>(topic: Topic) -> &'a str {
     match topic {
         Topic::Program => ABOUT,
         Topic::Trace => TRACE_ABOUT,
+        Topic::Debug => DEBUG_ABOUT,
         Topic::Run => RUN_ABOUT,
         Topic::Serve => SERVE_ABOUT,
         Topic::Check => CHECK_ABOUT,
@@ -223,6 +242,7 @@ fn example<'a>(topic: Topic) -> &'a str
     match topic {
         Topic::Program => EXAMPLE,
         Topic::Trace => TRACE_EXAMPLE,
+        Topic::Debug => DEBUG_EXAMPLE,
         Topic::Run => RUN_EXAMPLE,
         Topic::Serve => SERVE_EXAMPLE,
         Topic::Check => CHECK_EXAMPLE,
@@ -506,6 +526,18 @@ fn choices_option<'a>(alloc: Global) -> Arg<'a>
         .help("The choices of the run, numbers from 0 with spaces between them")
 }
 
+/// `--witness WITNESS`.
+fn laid_witness_option<'a>(alloc: Global) -> Arg<'a>
+    ensures rule { rule_of result ≡ laid_witness_rule }
+    ensures own { result.global ≡ false }
+{
+    Arg::new(alloc, LAID_WITNESS)
+        .long(WITNESS)
+        .value_name(WITNESS_FILE)
+        .action(ArgAction::Set)
+        .help("A witness or a report, whose deadlock is laid ahead")
+}
+
 /// The command with what help says of it, and its example.
 fn with_help<'a>(command: Command<'a>, topic: Topic) -> Command<'a>
     ensures app { app_of result ≡ app_of command.entry }
@@ -533,6 +565,16 @@ fn trace_command<'a>(alloc: Global) -> Result<Command<'a>, AllocError>
 {
     let command = script_command(alloc, TRACE)?;
     Ok(with_help(command, Topic::Trace))
+}
+
+/// `mpdbg debug FILE --mode M --witness WITNESS`.
+fn debug_command<'a>(alloc: Global) -> Result<Command<'a>, AllocError>
+    ensures app { IfOk result (λ c. app_of c ≡ debug_app) }
+    ensures own { IfOk result (λ c. (fields_of c).has_globals ≡ false) }
+    ensures example { IfOk result (λ c. option_map (λ (t : Bor (List ℕ)). t.now) (fields_of c).after_help ≡ Some (example_of Debug)) }
+{
+    let command = script_command(alloc, DEBUG)?.arg(laid_witness_option(alloc))?;
+    Ok(with_help(command, Topic::Debug))
 }
 
 /// `mpdbg run FILE --mode M`.
@@ -657,6 +699,7 @@ pub(crate) fn program<'a>(alloc: Global, until: &'a [&'a str]) -> Result<Command
 {
     let command = named_program(alloc)?
         .subcommand(trace_command(alloc)?)?
+        .subcommand(debug_command(alloc)?)?
         .subcommand(run_command(alloc)?)?
         .subcommand(serve_command(alloc)?)?
         .subcommand(check_command(alloc, until)?)?

@@ -1,14 +1,14 @@
 //! What the words of a command line ask for.
 ghost use Rattle.std.specs.Prelude.{◌≡◌, ◌<◌, IfOk, IfErr, Some, true, is_some, length, map, option_and_then};
 ghost use Rattle.clap.specs.Words.{first_of, found_of, one_of, rows_of, subcommand_rows_of};
-ghost use Rattle.mpd_options.specs.Asked.{IsFound, IsInRange, asked, checker, found_in, found_of_command, found_options, meant, most_seed, number_if_given, runner, server, teller, text_in, tracer, until_bad_in, verifier};
+ghost use Rattle.mpd_options.specs.Asked.{IsFound, IsInRange, asked, checker, debugger, found_in, found_of_command, found_options, meant, most_seed, number_if_given, runner, server, teller, text_in, tracer, until_bad_in, verifier};
 ghost use Rattle.mpd_options.specs.Numbers.{flag_in, most_usize, number_in};
 ghost use Rattle.mpd_options.specs.Refused.{IsRefused, is_answer, usage_of, usage_status, usage_text};
 
 use crate::command::{
-    CHECK, CHOICES, CLIENTS, COMPLETE, ENDS, EXPLAIN, FILE, FUEL, GROUP, LEAF, MODE, MODES, PIECE,
-    PIECES, PORT, RUN, RUNS, SAMPLE, SEED, SERVE, SPLIT, TRACE, UNTIL, USUAL_RUNS, USUAL_SPLIT,
-    VERIFY, WITNESS, WITNESS_FILE, WORDS, WORKERS, only_deadlock, program,
+    CHECK, CHOICES, CLIENTS, COMPLETE, DEBUG, ENDS, EXPLAIN, FILE, FUEL, GROUP, LAID_WITNESS, LEAF,
+    MODE, MODES, PIECE, PIECES, PORT, RUN, RUNS, SAMPLE, SEED, SERVE, SPLIT, TRACE, UNTIL,
+    USUAL_RUNS, USUAL_SPLIT, VERIFY, WITNESS, WITNESS_FILE, WORDS, WORKERS, only_deadlock, program,
 };
 use clap::ArgMatches;
 use clap::error::ErrorKind;
@@ -71,6 +71,15 @@ pub enum Options<'a> {
         file: &'a str,
         /// The mode's word, whatever it is; `rendezvous` where there is none.
         mode: &'a str,
+    },
+    /// Debug the script of a file, by words on standard input.
+    Debug {
+        /// The file's word.
+        file: &'a str,
+        /// The mode's word, whatever it is; `rendezvous` where there is none.
+        mode: &'a str,
+        /// The file of a witness or a report, whose deadlock is laid ahead; there need be none.
+        witness: Option<&'a str>,
     },
     /// Answer requests on the script of a file, which stand on standard input.
     Run {
@@ -215,6 +224,21 @@ fn trace_in<'a>(trace: &ArgMatches<'a>) -> Options<'a>
     let file = word_in(trace, FILE);
     let mode = word_in(trace, MODE);
     Options::Trace { file, mode }
+}
+
+/// What the words behind `debug` ask for.
+fn debug_in<'a>(debug: &ArgMatches<'a>) -> Options<'a>
+    requires { is_some (found_in debugger (rows_of (found_of debug.now))) ≡ true }
+    ensures { Some (asked result) ≡ found_in debugger (rows_of (found_of debug.now)) }
+{
+    let file = word_in(debug, FILE);
+    let mode = word_in(debug, MODE);
+    let laid_witness = debug.get_str(LAID_WITNESS);
+    Options::Debug {
+        file,
+        mode,
+        witness: laid_witness,
+    }
 }
 
 /// What the words behind `run` ask for.
@@ -388,6 +412,9 @@ fn options_in<'a>(matches: &ArgMatches<'a>) -> Options<'a>
 {
     if let Some(trace) = matches.subcommand_matches(TRACE) {
         return trace_in(trace);
+    }
+    if let Some(debug) = matches.subcommand_matches(DEBUG) {
+        return debug_in(debug);
     }
     if let Some(run) = matches.subcommand_matches(RUN) {
         return run_in(run);

@@ -10,6 +10,10 @@ pub returns-in-Trace : goal.returns-in-Trace
 unfolding example_of
 returns-in-Trace c = sym (ap example_of c.in-Trace.is)
 
+pub returns-in-Debug : goal.returns-in-Debug
+unfolding example_of
+returns-in-Debug c = sym (ap example_of c.in-Debug.is)
+
 pub returns-in-Run : goal.returns-in-Run
 unfolding example_of
 returns-in-Run c = sym (ap example_of c.in-Run.is)

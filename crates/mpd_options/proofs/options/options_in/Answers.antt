@@ -6,10 +6,10 @@ use Rattle.mpd_options.proofs.options.options_in.Goals as goal
 
 pub check_in-requires : goal.check_in-requires
 check_in-requires c =
-    let found = c.in-Some-subcommand_matches-3.ensures in
-    sym (ap is_some (command_is checker c.args.matches.now (rows_of (found_of c.in-Some-subcommand_matches-3.check.now)) (found.found.0 refl) found.rows)) ∙ c.requires
+    let found = c.in-Some-subcommand_matches-4.ensures in
+    sym (ap is_some (command_is checker c.args.matches.now (rows_of (found_of c.in-Some-subcommand_matches-4.check.now)) (found.found.0 refl) found.rows)) ∙ c.requires
 
-pub returns-in-Some-subcommand_matches-3 : goal.returns-in-Some-subcommand_matches-3
-returns-in-Some-subcommand_matches-3 c =
-    let found = c.in-Some-subcommand_matches-3.ensures in
-    c.check_in.ensures ∙ sym (command_is checker c.args.matches.now (rows_of (found_of c.in-Some-subcommand_matches-3.check.now)) (found.found.0 refl) found.rows)
+pub returns-in-Some-subcommand_matches-4 : goal.returns-in-Some-subcommand_matches-4
+returns-in-Some-subcommand_matches-4 c =
+    let found = c.in-Some-subcommand_matches-4.ensures in
+    c.check_in.ensures ∙ sym (command_is checker c.args.matches.now (rows_of (found_of c.in-Some-subcommand_matches-4.check.now)) (found.found.0 refl) found.rows)
