@@ -1,5 +1,6 @@
 //! Why the program ends before its input does, and what a person is told of it (docs/FORMATS.md, "Faults and statuses").
 
+use mpd_explore::verify::WitnessFault;
 use mpd_lines::engine::EngineFault;
 use mpd_model::limits::SLOTS_MAX;
 use mpd_model::read_fault::{FaultCode, ReadFault};
@@ -27,6 +28,10 @@ pub(crate) enum Fault<'a> {
     BadMode(&'a str),
     /// The file of a witness has none, or not the one that is asked for.
     BadWitness(ReportFault),
+    /// A witness that is to lie ahead is refused.
+    Witness(WitnessFault),
+    /// It has more than 1,000,000 steps.
+    LongWitness,
     /// A file of this name can't be opened or read.
     File(&'a str, Option<Error>),
     /// There are to be no workers, or more than 16.
@@ -220,6 +225,18 @@ fn tell_witness<R: Eprint>(rt: &R, fault: ReportFault, is_terminal: bool) -> u8 
     WRONG
 }
 
+/// Says that a witness is refused that is to lie ahead. Answers the status.
+fn tell_refused_witness<R: Eprint>(rt: &R, fault: WitnessFault) -> u8 {
+    let (number, name) = (fault.number(), fault.name());
+    let _unwritten = match fault {
+        WitnessFault::NoSuchStep(place) => {
+            eprintln!(rt; "mpdbg: witness refused {number} {name} at {place}")
+        }
+        _ => eprintln!(rt; "mpdbg: witness refused {number} {name}"),
+    };
+    WRONG
+}
+
 /// Says that a word is no list of choices. Answers the status.
 fn tell_choices<R: Eprint>(rt: &R, word: &str, is_terminal: bool) -> u8 {
     let _unwritten = eprintln!(rt; "mpdbg: bad choices");
@@ -251,6 +268,11 @@ pub(crate) fn tell<R: Print + Eprint + AllocGlobal>(
         Fault::Usage(fault) => tell_usage(rt, fault, notes),
         Fault::BadMode(word) => tell_mode(rt, word, notes.is_terminal),
         Fault::BadWitness(fault) => tell_witness(rt, fault, notes.is_terminal),
+        Fault::Witness(fault) => tell_refused_witness(rt, fault),
+        Fault::LongWitness => {
+            let _unwritten = eprintln!(rt; "mpdbg: witness of more than 1000000 steps");
+            WRONG
+        }
         Fault::File(file, error) => tell_file(rt, file, error, notes.is_terminal),
         Fault::Workers => tell_refused(
             rt,

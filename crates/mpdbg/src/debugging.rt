@@ -1,0 +1,72 @@
+//! `mpdbg debug`: a console for a person, or for a file of words (docs/CONSOLE.md).
+
+use crate::tell::Fault;
+use mpd_code::code::Code;
+use mpd_console::open::{OpenFault, Opened, open, open_with};
+use mpd_console::quitting::UntilQuit;
+use mpd_console::run::run_console;
+use mpd_device::device::{Sink, Source};
+use mpd_explore::report::Witness;
+use mpd_lines::engine::EngineFault;
+use mpd_lines::outbox::write_all;
+use mpd_model::call::Mode;
+use std::alloc::Global;
+
+/// Where a person sits.
+#[derive(Clone, Copy)]
+pub(crate) struct Terminals {
+    /// Whether standard input and output are a terminal: there prompts are written.
+    pub(crate) is_prompting: bool,
+    /// Whether standard error is one.
+    pub(crate) is_terminal: bool,
+}
+
+/// A console at the start of a script, with the steps of a witness ahead where there is one.
+fn console_of<'c, 't, 'a>(
+    alloc: Global,
+    script: &'c (Mode, Code),
+    text: &'t [u8],
+    witness: Option<Witness>,
+    is_prompting: bool,
+) -> Result<Opened<'c, 't>, Fault<'a>> {
+    let (mode, code) = script;
+    let opened = match witness {
+        None => open(alloc, code, *mode, text, is_prompting),
+        Some(witness) => open_with(alloc, code, *mode, text, is_prompting, witness),
+    };
+    match opened {
+        Ok(opened) => Ok(opened),
+        Err(OpenFault::Refused(fault)) => Err(Fault::Witness(fault)),
+        Err(OpenFault::TooLong) => Err(Fault::LongWitness),
+        Err(OpenFault::Memory) => Err(Fault::from(EngineFault::Memory)),
+    }
+}
+
+/// Answers the words of a source on a script, up to `quit` or its end. At a terminal it says first how to go on.
+pub(crate) fn debug_script<'a, R: Eprint + AllocGlobal, S: Source, W: Sink>(
+    rt: &R,
+    script: &(Mode, Code),
+    text: &[u8],
+    witness: Option<Witness>,
+    terminals: Terminals,
+    source: &mut S,
+    sink: &mut W,
+) -> Result<(), Fault<'a>> {
+    let alloc = rt.alloc();
+    let Opened { mut desk, said } = console_of(
+        alloc,
+        script,
+        text,
+        witness,
+        terminals.is_prompting,
+    )?;
+    if terminals.is_terminal {
+        let _unwritten = eprintln!(rt; "help lists the words, quit ends; docs/CONSOLE.md");
+    }
+    if write_all(sink, said.as_bytes()).is_err() {
+        return Err(Fault::from(EngineFault::WriteFailed));
+    }
+    let mut source = UntilQuit::new(source);
+    run_console(alloc, &mut desk, &mut source, sink)?;
+    Ok(())
+}
