@@ -8,6 +8,7 @@ from calls_program import SOURCES, TOP
 
 # Crates without code of their own, and programs and tests.
 NO_CALLS = ('mpd_laws', 'mpd_meaning', 'mpd_complete', 'mpd_rows', 'mpd_tests', 'mpd_bench', 'mpdbg')
+BY_WORDS = 'called by the words of the console'
 LEFT_OUT = {
     'mpd_lines': {'run_behind': 'called by trace, plain and serve', 'push_all': 'of room that is kept, called by them'},
     'mpd_trace': {'finish': 'called by plain'},
@@ -16,7 +17,14 @@ LEFT_OUT = {
     'mpd_queue': {'disjoint': 'a law'},
     'mpd_policy': {'decisions_can_be_followed': 'a law'}, 'mpd_model': {'lines_lose_nothing': 'a law'},
     'mpd_witness': dict.fromkeys(('written_witness_is_read', 'written_witness_of_a_leaf_is_read'), 'a law'),
-    'mpd_words': {'a_run_or_a_bad_choice': 'a law'}, 'mpd_explain': {'calls_name_their_statements': 'a law'},
+    'mpd_words': {'a_run_or_a_bad_choice': 'a law'}, 'mpd_explain': {
+        'calls_name_their_statements': 'a law',
+        **dict.fromkeys(('issue_line', 'rank_line', 'push_placed', 'push_wish', 'push_helps', 'push_all_absent', 'push_told', 'requests'), BY_WORDS)},
+    'mpd_session': dict.fromkeys(('debugger', 'breaks', 'lay'), BY_WORDS),
+    'mpd_view': dict.fromkeys(('push_calls', 'push_enabled', 'push_history', 'push_queues', 'push_ranks', 'push_standing', 'push_step', 'push_step_line',
+                               'push_why', 'push_why_rank', 'push_words'), BY_WORDS),
+    'mpd_vocabulary': dict.fromkeys(('line_of', 'push_fault', 'push_help'), BY_WORDS),
+    'mpd_names': dict.fromkeys(('named', 'push_break', 'push_cell_name', 'push_list', 'push_list_about', 'push_named', 'push_variables'), BY_WORDS),
     'mpd_pieces': dict.fromkeys(('pieces_join_to_the_walk', 'each_piece_is_reached', 'no_choice_is_the_whole', 'no_more_is_the_whole'), 'a law')}
 
 

@@ -3,6 +3,7 @@
 What the model says of them is in call_models.py. What it doesn't say stands here, as it was worked out by hand.
 """
 
+from call_consoles import consoles
 from call_given import Row, Wanted, no_state
 from call_listings import listings
 from call_models import core_room
@@ -356,6 +357,7 @@ def programs():
     # the line ends behind byte 8, and three bytes of a script stand before it
     yield Row('Divider looks', argument='ab\n---\nlocal 0\n', by_hand=no_state('7 3\n'), spares=True)
     for words, told in (('check a --runs 7 --workers 3', 'check a rendezvous 7 100000 1 3 false'), ('trace a --mode b', 'trace a b'),
+                        ('debug a', 'debug a rendezvous'), ('debug a --mode b --witness c', 'debug a b c'),
                         ('serve a --port 80 --clients 2', 'serve a rendezvous 80 2'), ('verify a b', 'verify a b rendezvous'),
                         ('verify a b --leaf 7', 'verify a b rendezvous 7'), ('words a --choices 3 --fuel 9', 'words a 3 rendezvous 9'),
                         ('run a', 'run a rendezvous'), ('check a --witness', 'check a rendezvous 1000 100000 1 4 true'),
@@ -370,5 +372,5 @@ def programs():
 
 def rows():
     """All of them."""
-    for part in (scripts, expressions, lists, boards, cores, trails, reports, listings, sessions, programs, sizes):
+    for part in (scripts, expressions, lists, boards, cores, trails, reports, listings, sessions, programs, consoles, sizes):
         yield from part()

@@ -4,7 +4,7 @@
 
 A crate of a few lines has a fault for each kind of check, and words that meet it or don't; each must end as its check has it. Then the
 examples, the lessons, the worked rows of the command line and each fault of a script are run as compare/statuses.py runs them, and the
-worked dialogues of a session (session_statuses.py), on PROGRAM; where none is named it is built, which takes one to two minutes. The
+worked dialogues of a session (session_statuses.py) and of a console (console_statuses.py), on PROGRAM; where none is named it is built, which takes one to two minutes. The
 status is 0 where every run ended as it must.
 
 The other comparisons take a checked program too. Where they limit its addresses it can't start: `--memory 100000000` lifts that of
@@ -18,6 +18,7 @@ import subprocess
 import sys
 import tempfile
 
+from console_statuses import DIALOGUE_ROWS as CONSOLE_ROWS
 from runs import run_at_once
 from session_statuses import DIALOGUE_ROWS
 from statuses import Result, example_rows, lesson_rows, refused_rows, shortened, usage_rows
@@ -120,7 +121,7 @@ def main():
     with tempfile.TemporaryDirectory() as folder:
         found = list(fault_rows(folder))
         program = os.path.abspath(sys.argv[1]) if len(sys.argv) == 2 else build(TOP, 'mpdbg', f'{folder}/mpdbg')
-        for rows in (example_rows, lesson_rows, refused_rows, usage_rows, DIALOGUE_ROWS):
+        for rows in (example_rows, lesson_rows, refused_rows, usage_rows, DIALOGUE_ROWS, CONSOLE_ROWS):
             found += rows(program)
         for name, result, wanted in found:
             count += 1

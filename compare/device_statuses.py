@@ -1,4 +1,4 @@
-"""What the built program does where its devices fail, of a trace, a session, checks and a witness: each read and each write in turn, of files
+"""What the built program does where its devices fail, of a trace, a session, a dialogue, checks and a witness: each read and each write in turn, of files
 and of standard input and output; reads and writes of one byte; interrupted ones; output that is full, closed, or whose reader stalls or
 leaves; and a file system that is full. compare/statuses.py runs these rows, and those of connections (connection_statuses.py).
 
@@ -14,6 +14,7 @@ import termios
 import time
 from typing import NamedTuple
 
+from console_statuses import ANSWERS as ANSWERED_LINES, FIRST as TALKED_OF, LINES as TYPED_LINES
 from debugger import Result
 from devices import SECONDS, Files, device, full, refused, unread_pipe
 from examples import EXAMPLES
@@ -74,15 +75,16 @@ def size_of(*paths):
 
 
 def answering(folder):
-    """A trace and a session: they answer line by line."""
-    first, status = held(folder, 'first', FIRST), held(folder, 'status', RUNS.script.encode())
+    """A trace, a session and a dialogue: they answer line by line."""
+    first, status, talked = held(folder, 'first', FIRST), held(folder, 'status', RUNS.script.encode()), held(folder, 'talked', TALKED_OF)
     replies = [f'{reply}\n'.encode() for _, reply in RUNS.turns]
     yield Case('a trace', ('trace', first), b''.join(f'{word}\n'.encode() for word in WORDS), TOLD, size_of(first), 0)
     yield Case('a session', ('run', status), RUNS.asked(), replies, size_of(status), 0)
+    yield Case('a dialogue', ('debug', talked), b''.join(TYPED_LINES), ANSWERED_LINES, size_of(talked), 0)
 
 
 def telling(folder):
-    """Checks and verdicts, each of which is one text."""
+    """Checks, verdicts, and what is told first of a witness that lies ahead: each of them is one text."""
     good, cut = held(folder, 'good', WITNESS), held(folder, 'cut', WITNESS.replace(b', wake 1', b''))
     checks = (('a check', ('--witness',), REPORT, 1), ('a piece', ('--piece', '1'), b'leaf 0 [1] done\nleaves 1 more no\n', 0),
               ('pieces', ('--pieces',), b'pieces 2\n', 0))
@@ -91,6 +93,8 @@ def telling(folder):
     verdicts = (('a witness', good, b'accepted\n', 0), ('no witness', cut, b'refused 33 not-stuck\n', 1))
     for name, path, text, status in verdicts:
         yield Case(name, ('verify', RACE, path), b'', [text], size_of(RACE, path), status)
+    yield Case('a witness ahead', ('debug', RACE, '--witness', good), b'', [b'deadlock 0.1 2.0 is 10 steps ahead\n10 ahead: local 0: line 7\n'],
+               size_of(RACE, good), 0)
 
 
 def cases(folder):
@@ -106,8 +110,8 @@ def write_rows(program):
             for most in range(len(text) + 2):
                 wanted = device(text[:most]) if most < len(text) else case.wanted
                 yield f'{case.what}, {most} bytes are written', case.fails(program, shim, OUTPUT, 'BYTES', most), wanted
-            # one read brings all lines: a trace gathers what they are answered, and a session writes each reply by itself
-            writes = case.answers if case.words[0] == 'run' else [text]
+            # one read brings all lines: a trace gathers what they are answered, a session and a console write each answer by itself
+            writes = case.answers if case.words[0] in ('run', 'debug') else [text]
             for most in range(len(writes) + 1):
                 wanted = device(b''.join(writes[:most])) if most < len(writes) else case.wanted
                 yield f'{case.what}, {most} writes', case.fails(program, shim, OUTPUT, 'CALLS', most), wanted
@@ -180,6 +184,8 @@ def much(folder):
     cells, messages = held(folder, 'cells', SHOW_CELLS), held(folder, 'messages', MESSAGES)
     yield Case('a trace', ('trace', cells), b'show\n' * MANY, [CELLS_SHOWN] * MANY, 0, 0)
     yield Case('a session', ('run', cells), f'{STATE}\n'.encode() * MANY, [START] * MANY, 0, 0)
+    cells_named = f'rank 0: {", ".join(f"a[{place}] = 0" for place in range(40))}\n'.encode()
+    yield Case('a dialogue', ('debug', cells), b'print a\n' * MANY, [cells_named] * MANY, 0, 0)
     yield Case('a check', ('check', messages, '--runs', '65536'), b'', [all_orders()], 0, 0)
 
 

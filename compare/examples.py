@@ -2,9 +2,10 @@
 reports at its end), whose script and words are files of their own.
 
 NAME.trace is answered by NAME.stdout. NAME.mpd with NAME.words is answered by NAME.stdout, and in the mode `buffered` by
-NAME.buffered.stdout, in `slots:1` by NAME.slots1.stdout, where that is there. Each line of NAME.checks is the status and the options of a check of NAME.mpd; NAME.reports has
-what these write, one behind the other. The lines of NAME.requests are the requests of a session on NAME.mpd, and NAME.replies has its
-replies. client.py drives a session by itself; docs/SESSIONS.md shows what it writes. NAME.dialogue is a session on NAME.mpd that clients
+NAME.buffered.stdout, in `slots:1` by NAME.slots1.stdout, where that is there. NAME.console has words for the console on NAME.mpd, and
+NAME.console.stdout its answers; NAME.buffered.console, and NAME.slots1.console, are the same in these modes. Each line of
+NAME.checks is the status and the options of a check of NAME.mpd; NAME.reports has what these write, one behind the other. The lines of
+NAME.requests are the requests of a session on NAME.mpd, and NAME.replies has its replies. client.py drives a session by itself; docs/SESSIONS.md shows what it writes. NAME.dialogue is a session on NAME.mpd that clients
 share: `0 > LINE` is what client 0 sends, `0 < LINE` what it is replied, one behind the other, and the last line is what `serve` says when
 all have left. socket_client.py is such a client. join_parts.sh and piece.slurm are those of docs/CLUSTER.md.
 """
@@ -52,6 +53,39 @@ def lessons():
             if os.path.exists(os.path.join(EXAMPLES, answers := f'{name}.{ending}.stdout')):
                 found.append(Lesson(name, mode, answers))
     return found
+
+
+class Typed(NamedTuple):
+    """What is typed at the console on a script in a mode, by the beginning of the names of its files."""
+    name: str
+    mode: str
+    beginning: str
+
+    @property
+    def script(self):
+        """The path of the script."""
+        return os.path.join(EXAMPLES, f'{self.name}.mpd')
+
+    @property
+    def answers(self):
+        """The file of its answers."""
+        return f'{self.beginning}.console.stdout'
+
+    @property
+    def data(self):
+        """What is typed."""
+        return open_example(f'{self.beginning}.console')
+
+    def wanted(self):
+        """What it must be answered."""
+        return Result(open_example(self.answers), b'', 0)
+
+
+def consoles():
+    """All dialogues of the console, each in its mode."""
+    modes = {'': RENDEZVOUS, **{ending: mode for mode, ending in OTHER_MODES}}
+    parts = [(name, *name.partition('.')[::2]) for name in example_names('.console')]
+    return [Typed(script, modes[ending], name) for name, script, ending in parts]
 
 
 class Checked(NamedTuple):
@@ -117,5 +151,5 @@ def shared_dialogues():
 def strays():
     """Files of answers that nothing asks for."""
     asked = {f'{name}.stdout' for name in example_names('.trace')} | {lesson.answers for lesson in lessons()}
-    asked |= {f'{name}.replies' for name in dialogues()}
+    asked |= {f'{name}.replies' for name in dialogues()} | {typed.answers for typed in consoles()}
     return sorted({f'{name}{ending}' for ending in ('.stdout', '.replies') for name in example_names(ending)} - asked)

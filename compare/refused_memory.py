@@ -7,8 +7,8 @@ place of an answer that can be refused: then the state stands, and all answers b
 one on are refused it is the same. The sessions have their scripts on standard input, one also in a file, and one in a file alone,
 in the mode `buffered`. What `check` and `verify` answer, words of the command line that ask for help, and those that are wrong, are
 answered as ever, or by `mpdbg: memory`, status 3, with nothing written. Of several workers of a check, who ask for memory at the same
-time, it is another request each time that is refused. A session of `run` has two lines of its own for this (session_memory.py). The
-status is 0 where every run did one of these. The allocations are refused by a shared object, which is built from bench/malloc_shim.c
+time, it is another request each time that is refused. A session of `run` has two lines of its own for this (session_memory.py), and so has a
+dialogue of `debug` (console_memory.py). The status is 0 where every run did one of these. The allocations are refused by a shared object, which is built from bench/malloc_shim.c
 where none is named.
 """
 
@@ -20,13 +20,15 @@ import tempfile
 from collections import Counter
 from typing import NamedTuple
 
+import console
+import console_memory
 import session
 import session_memory
 from debugger import BUFFERED, RENDEZVOUS, Debugger, Result, divided, enabled_steps, next_world, step_of, step_text
 from explore_cases import Case
 from explorer import Asked
 from language import read_script
-from runs import run_at_once
+from runs import held, run_at_once
 from shims import built
 from witness import Verification
 
@@ -35,7 +37,7 @@ SHIM = os.path.join(HERE, '..', 'bench', 'malloc_shim.c')
 EXAMPLES = os.path.join(HERE, '..', 'examples')
 SECONDS = 20
 REFUSED = b'refused memory\n'
-# How sessions of `run` must have gone on, in one run or another.
+# How sessions of `run`, and dialogues of `debug`, must have gone on, in one run or another.
 MET_IN_SESSIONS = ('ended', 'memory', 'unprinted')
 
 # A state with much to show: pending and posted calls, an array, requests, some of them lost, and a deadlock.
@@ -261,6 +263,22 @@ def try_session(program, asked, shim):
         return refuse_each(asked.name, run, lambda *seen: session_memory.problem(asked, *seen), session_memory.kind_of, MET_IN_SESSIONS)
 
 
+def try_dialogue(program, typed, shim):
+    """A dialogue of `debug`, which is answered rightly where nothing is refused."""
+    with tempfile.TemporaryDirectory() as folder:
+        words = ('debug', held(folder, 'script', typed.script), '--mode', typed.mode)
+        if typed.witness is not None:
+            words += ('--witness', held(folder, 'witness', typed.witness))
+
+        def run(**refused):
+            return shim.run(program, typed.data, words, **refused)
+
+        if run()[0] != console.debug(typed.script, typed.data, typed.mode, typed.witness):
+            print(f'{typed.name}: not what the model answers')
+            return 1
+        return refuse_each(typed.name, run, lambda *seen: console_memory.problem(typed, *seen), console_memory.kind_of, MET_IN_SESSIONS)
+
+
 def try_whole(program, name, words, shim, is_same=True):
     """Words that are answered by the same text and status or, with nothing written, not at all."""
     right = shim.run(program, b'', words)[0]
@@ -293,6 +311,7 @@ def main():
         wrong += [try_file(program, *sessions[0], shim)]
         wrong += [try_file(program, 'head to head, buffered', walked(HEAD_TO_HEAD, BUFFERED), shim, BUFFERED)]
         wrong += [try_session(program, asked, shim) for asked in session_memory.sessions()]
+        wrong += [try_dialogue(program, typed, shim) for typed in console_memory.dialogues()]
         wrong += [try_report(program, name, case, shim) for name, case in reports()]
         wrong += [try_report(program, name, case, shim, is_same=False) for name, case in reports_by_workers()]
         wrong += [try_whole(program, f'words {words}', words.split(), shim) for words in ANSWERED]

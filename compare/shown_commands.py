@@ -6,7 +6,8 @@ The commands run at the top of a copy of the repository in which `./mpdbg` is th
 indented by four spaces, and in code within a line; what stands behind two spaces is said of a command. Where a block stands right
 below a command, with nothing said between, it is what the command answers, whole. Blocks of words with their answers, tables of
 these, requests with their replies, dialogues, states, and scripts, are compared with the examples that they are taken from, and the
-requests of each example are answered by the program. Where `serve` is shown, as many clients come as it waits for, and leave; where a
+requests of each example are answered by the program. A dialogue with prompts is typed at a terminal, to the command that stands above
+it, and all that is answered is compared. Where `serve` is shown, as many clients come as it waits for, and leave; where a
 client is, it has a server. Where `sbatch` is, a script of a few lines stands for Slurm, and runs the tasks of an array one behind the
 other; where GNU parallel is, and none is on the path, the rest of the block is skipped, which is said. What is no command of the program
 is named in NOT_RUN, and a block that is none of all that in EXCERPTS: a block or a command that is new to this list is wrong here. The
@@ -16,13 +17,16 @@ status is 0 where each command ended as it must.
 import glob
 import os
 import re
+import shlex
 import shutil
 import socket
 import subprocess
 import sys
 import tempfile
+import tty
 from typing import NamedTuple, Optional
 
+from console_terminal import read as read_terminal, wrong_end
 from debugger import Result
 from examples import dialogues
 
@@ -38,10 +42,13 @@ EXCERPTS = {
     'README.md': ('proving ', 'checked as it runs'),
     'docs/FORMATS.md': ('enabled local 3', 'handles 1', 'leaf N ', 'rendezvous leaves 2', 'witness N: ', 'leaf 1 [1] deadlock', 'deadlock 0.1', 'mpdbg: script refused', 'mpdbg: device',
                         'every way it can end', 'JSON requests', 'end 0 leaves 3'),
+    'docs/CONSOLE.md': ('help lists ',),
     'docs/GATE.md': ('fn: ',)}
 # Files that a page names by a word: a script, words for it, and a witness of it, which is made.
 FILES = {'FILE': 'examples/race.mpd', 'WORDS': 'examples/race.words', 'WITNESS': 'made.witness', '--port P': '--port 7007', '--clients N': '--clients 2'}
 MAKING = './mpdbg check examples/race.mpd --witness | grep -A 1 deadlock | head -2 > made.witness'
+# A word that is typed behind a prompt, and what stands before it.
+TYPED_TURN = re.compile(r'(.*?^\(\d+\) )([^\n]*)\n', re.M | re.S)
 # What is typed behind a script that is read from standard input with it.
 TYPED = {'cat examples/first_message.mpd - | ./mpdbg': '---\n'}
 # A command that wants GNU parallel, at its beginning or behind a pipe; without that the rest of its block is skipped.
@@ -57,8 +64,10 @@ done
 '''
 # What the examples of help answer, each in its turn.
 STUCK = '  rank {0} waits at line 4, {0}.0 send to {1} tag 5 value {0}: for a receive of rank {1} from rank {0} with tag 5\n'
+CANDIDATE = '  {0} match {0}.0 0.0: the send of rank {0}, line 7, to the receive of rank 0, line 7\n'
 HELP = {'--help': ['first.stdout'], 'trace --help': ['ok 1\n'], 'verify --help': ['accepted\n'],
         'serve --help': ['listening 4000\nserved 0\n'], 'run --help': ['{"depth":6,"ok":true,"steps":6,"stop":"choice","version":1}\n'],
+        'debug --help': ['6 steps, depth 6\nstopped at a choice of rank 0, line 7:\n' + CANDIDATE.format(1) + CANDIDATE.format(2)],
         'words --help': [''.join(f'ok {depth}\n' for depth in range(1, 11))],
         'check --help': [
             'leaf 0 [] deadlock 0.0 1.0\nwitness 0: local 0, local 1\n' + STUCK.format(0, 1) + STUCK.format(1, 0)
@@ -68,11 +77,13 @@ HELP = {'--help': ['first.stdout'], 'trace --help': ['ok 1\n'], 'verify --help':
 
 
 class Shown(NamedTuple):
-    """A command of a page, what stands below it as its answer, if that does, and whether it wants GNU parallel."""
+    """A command of a page, what stands below it as its answer, if that does, whether it wants GNU parallel, and what stands below it as a
+    dialogue at a terminal."""
     where: str
     command: str
     answer: Optional[str] = None
     wants_parallel: bool = False
+    talk: Optional[str] = None
 
 
 class Block(NamedTuple):
@@ -162,6 +173,8 @@ class Page:
                     self.commands.append(Shown(f'{self.page}, line {number}', command_of(line), None, wants_parallel))
         elif re.match(r'\d [<>] ', first):
             self.dialogue(block)
+        elif block.follows and self.commands and TYPED_TURN.match(block.text):
+            self.commands[-1] = self.commands[-1]._replace(talk=block.text)
         elif block.follows and self.commands:
             self.commands[-1] = self.commands[-1]._replace(answer=block.text)
         elif all(re.search(r'\S {2,}\S', line) for line in block.lines) and not first.startswith(EXCERPTS.get(self.page, ())):
@@ -276,13 +289,16 @@ def with_server(copy, command, port):
 
 
 def answer_of_example(command):
-    """What the examples have as the answer of a trace with its words, or of a session with its requests, if the command is one."""
+    """What the examples have as the answer of a trace or a console with its words, or of a session with its requests, if the command is
+    one."""
     if command == './mpdbg < examples/first.trace':
         return read(f'{TOP}/examples/first.stdout')
     if served := re.search(r'^\./mpdbg serve .* --port (\d+) ', with_files(command)):
         return f'listening {served[1]}\nserved 0\n'
     if asked := re.fullmatch(r'\./mpdbg run examples/(\w+)\.mpd < examples/\1\.requests', command):
         return read(f'{TOP}/examples/{asked[1]}.replies')
+    if typed := re.fullmatch(r'\./mpdbg debug examples/(\w+)\.mpd < examples/\1\.console', with_files(command)):
+        return read(f'{TOP}/examples/{typed[1]}.console.stdout')
     traced = re.fullmatch(r'\./mpdbg trace examples/(\w+)\.mpd(?: --mode (\w+))? < examples/\1\.words', with_files(command))
     if traced is None:
         return None
@@ -300,6 +316,26 @@ def problem_of(shown, result):
         return f'a witness that is not accepted: {said}'
     wanted = answer_of_example(shown.command) if shown.answer is None else shown.answer
     return None if wanted is None or said == wanted else f'answered {said!r}, wanted {wanted!r}'
+
+
+def wrong_talk(copy, shown):
+    """What is otherwise where the words of a dialogue are typed at a terminal, each behind its prompt; None where nothing is."""
+    if not shown.talk.endswith(') quit\n') or TYPED_TURN.sub('', shown.talk):
+        return 'the dialogue has no end'
+    ours, theirs = os.openpty()
+    tty.setraw(theirs)
+    process = subprocess.Popen(shlex.split(shown.command), cwd=copy, stdin=theirs, stdout=theirs, stderr=theirs)
+    os.close(theirs)
+    try:
+        for due, typed in TYPED_TURN.findall(shown.talk):
+            if (told := read_terminal(ours, len(due), SECONDS)) != due.encode():
+                return f'{told.decode()!r} and not {due!r} before {typed}'
+            os.write(ours, f'{typed}\n'.encode())
+        return wrong_end(process, ours, SECONDS)
+    finally:
+        process.kill()
+        process.wait()
+        os.close(ours)
 
 
 def make_copy(copy, program):
@@ -326,7 +362,8 @@ def main():
         skipped = [] if has_parallel() else [shown for shown in commands if shown.wants_parallel]
         commands = [shown for shown in commands if shown not in skipped]
         for shown in commands:
-            if problem := problem_of(shown, run(copy, shown.command)):
+            problem = wrong_talk(copy, shown) if shown.talk else problem_of(shown, run(copy, shown.command))
+            if problem:
                 problems.append(f'{shown.where}: {shown.command}: {problem}')
     for problem in problems:
         print(problem)

@@ -7,7 +7,7 @@
 The examples, and the worked rows of compare/worked_program.py; devices that are full, closed, broken off, too short or interrupted;
 each fault of a script; the words of the command line, and the order in which they are tested; a script from a file; a refused
 script and a long check at a terminal; as many steps and reads as there may be; the deepest scripts on a small stack; more answers than memory;
-answers that come before the next read; parts of a check that are joined (part_statuses.py); all that of `run` (session_statuses.py);
+answers that come before the next read; parts of a check that are joined (part_statuses.py); all that of `run` (session_statuses.py) and of `debug` (console_statuses.py);
 each device that fails at each place (device_statuses.py), and each connection (connection_statuses.py). The status is 0 where every
 run ended as it must.
 """
@@ -24,10 +24,11 @@ import time
 
 from call_sizes import nested
 from connection_statuses import ROWS as CONNECTION_ROWS
+from console_statuses import ROWS as CONSOLE_ROWS
 from debugger import MOST_READS, MOST_STEPS, RENDEZVOUS, Debugger, Result, Step, answer, answer_packets
 from device_statuses import ROWS as DEVICE_ROWS
 from devices import SECONDS, Files, at_terminal, broken_off, device, file_of_any_size, full, refused, soft_limit, unread_pipe
-from examples import EXAMPLES, checks, example_names, lessons, open_example, strays
+from examples import EXAMPLES, checks, consoles, example_names, lessons, open_example, strays
 from language import MOST_OPEN_BLOCKS, MOST_OPERATORS, read_script, read_up_to
 from modes import KNOWN, know_modes
 from part_statuses import ROWS as PART_ROWS
@@ -80,11 +81,15 @@ def example_rows(program):
 
 
 def lesson_rows(program):
-    """Status 0 for each lesson of docs/COURSE.md, in each mode that it shows, and the status of each check."""
+    """Status 0 for each lesson of docs/COURSE.md, in each mode that it shows, traced and at the console, and the status of each check."""
     for lesson in lessons():
         mode = () if lesson.mode == RENDEZVOUS else ('--mode', lesson.mode)
         result = Files(file_of(open_example(f'{lesson.name}.words'))).run(program, 'trace', lesson.script, *mode)
         yield f'the lesson {lesson.name}, {lesson.mode}', result, Result(open_example(lesson.answers), b'', 0)
+    for typed in consoles():
+        mode = () if typed.mode == RENDEZVOUS else ('--mode', typed.mode)
+        result = Files(file_of(typed.data)).run(program, 'debug', typed.script, *mode)
+        yield f'the lesson {typed.beginning}, console', result, typed.wanted()
     for checked in checks():
         result = Files(None).run(program, 'check', checked.script, *checked.options)
         yield f'the lesson {checked.name}, check {" ".join(checked.options)}', result, checked.wanted
@@ -382,7 +387,8 @@ def why_rows(program):
         reasons = ((missing, 'no such file'), (folder, 'is a directory'), (denied, 'permission denied'), ('', 'no such file'),
                    (os.path.join(script, 'x'), 'Not a directory (os error 20)'), ('/proc/self/mem', 'Input/output error (os error 5)'))
         for name, reason in reasons:
-            for words in (('trace', name), ('check', name, '--witness'), ('verify', name, script), ('verify', script, name)):
+            for words in (('trace', name), ('check', name, '--witness'), ('verify', name, script), ('verify', script, name), ('debug', name),
+                          ('debug', script, '--witness', name)):
                 yield f'a terminal, {words}', at_terminal(program, *words, LD_PRELOAD=shim), why(f"'{name}': {reason}")
         for word in ('none', '', 'Buffered', 'slots:', 'slots:65537'):
             wanted = BAD_MODE._replace(errors=BAD_MODE.errors + f'  {known(NO_MODE).format(word)}\n'.encode())
@@ -600,7 +606,7 @@ def much_rows(program):
 
 ROWS = (ended_rows, example_rows, refused_rows, device_rows, usage_rows, trace_rows, terminal_rows, found_rows, why_rows, progress_rows, summed_rows, hint_rows,
         interrupted_rows, talk_rows, stack_rows, much_rows, full_rows, turns_rows, lesson_rows, *WORKED_ROWS, *PART_ROWS, *SESSION_ROWS,
-        *DEVICE_ROWS, *CONNECTION_ROWS)
+        *CONSOLE_ROWS, *DEVICE_ROWS, *CONNECTION_ROWS)
 
 
 def main():

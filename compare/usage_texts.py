@@ -21,6 +21,7 @@ Usage: mpdbg <COMMAND>
 
 Commands:
   trace   Trace the script of a file
+  debug   Debug the script of a file, at a prompt
   run     Answer JSON requests on the script of a file
   serve   Answer JSON requests of several clients, on one session
   check   Look for deadlocks: try the choices of wildcard receives one after another
@@ -56,6 +57,28 @@ Trace words stand on standard input, one a line:
 
 Example:
   echo 'local 0' | ./mpdbg trace examples/exchange.mpd --mode buffered
+"""
+
+DEBUG = """\
+Debug the script of a file, at a prompt
+
+Usage: mpdbg debug [OPTIONS] <FILE>
+
+Arguments:
+  <FILE>  The script
+
+Options:
+      --mode <M>           How standard sends behave: rendezvous, buffered, or slots:K with K from 0 to 65536 [default: rendezvous]
+      --witness <WITNESS>  A witness or a report, whose deadlock is laid ahead
+  -h, --help               Print help
+
+Words stand on standard input, one line each; help lists them all:
+  next, run, back, run-back, goto N, redo   go forward and back
+  list, ranks, vars, calls, why P           look
+  check, deadlock                           try the choices from here, go to a deadlock
+
+Example:
+  echo run | ./mpdbg debug examples/race.mpd
 """
 
 RUN = """\
@@ -186,6 +209,8 @@ def known(text):
 ANSWERS = (
     ('--help', PROGRAM), ('-h', PROGRAM), ('help', PROGRAM), ('--version', VERSION), ('-V', VERSION),
     ('trace|--help', TRACE), ('trace|-h', TRACE), ('help|trace', TRACE), ('trace|no-such-file|--mode|no-mode|--help', TRACE),
+    ('debug|--help', DEBUG), ('debug|-h', DEBUG), ('help|debug', DEBUG), ('debug|no-such-file|--witness|no-such-file|--mode|no-mode|--help', DEBUG),
+    ('debug|--witness=|-h', DEBUG),
     ('run|--help', RUN), ('run|-h', RUN), ('help|run', RUN), ('run|no-such-file|--mode|no-mode|--help', RUN),
     ('serve|--help', SERVE), ('serve|-h', SERVE), ('help|serve', SERVE), ('serve|no-such-file|--port|1|--mode|no-mode|--help', SERVE),
     ('check|--help', CHECK), ('check|-h', CHECK), ('help|check', CHECK), ('check|a|--runs|5|-h', CHECK),
@@ -196,8 +221,9 @@ ANSWERS = (
     ('words|--help', WORDS), ('words|-h', WORDS), ('help|words', WORDS), ('words|no-such-file|--choices|x|--mode|no-mode|--help', WORDS))
 
 NO_COMMAND = 'mpdbg <COMMAND>'
-OF_TRACE, OF_RUN, OF_SERVE, OF_CHECK, OF_VERIFY, OF_WORDS = (
-    f'mpdbg {rest}' for rest in ('trace [OPTIONS] <FILE>', 'run [OPTIONS] <FILE>', 'serve [OPTIONS] --port <P> --clients <N> <FILE>', 'check [OPTIONS] <FILE>',
+OF_TRACE, OF_DEBUG, OF_RUN, OF_SERVE, OF_CHECK, OF_VERIFY, OF_WORDS = (
+    f'mpdbg {rest}' for rest in ('trace [OPTIONS] <FILE>', 'debug [OPTIONS] <FILE>', 'run [OPTIONS] <FILE>',
+                                 'serve [OPTIONS] --port <P> --clients <N> <FILE>', 'check [OPTIONS] <FILE>',
                                  'verify [OPTIONS] <FILE> <WITNESS>', 'words [OPTIONS] --choices <C> <FILE>'))
 # What `serve` wants, where something that was given is named.
 WANTED_OF_SERVE = 'mpdbg serve --port <P> --clients <N> <FILE>'
@@ -245,6 +271,9 @@ NO_DIGIT, TOO_LARGE = 'invalid digit found in string', 'number too large to fit 
 MISTAKES = (
     # commands
     Mistake('trac', "unrecognized subcommand 'trac'", NO_COMMAND, "a similar subcommand exists: 'trace'"),
+    Mistake('debgu|a', "unrecognized subcommand 'debgu'", NO_COMMAND, "a similar subcommand exists: 'debug'"),
+    Mistake('Debug|a', "unrecognized subcommand 'Debug'", NO_COMMAND, "a similar subcommand exists: 'debug'"),
+    Mistake('help|debug|x', "unrecognized subcommand 'x'", OF_DEBUG),
     Mistake('rum|a', "unrecognized subcommand 'rum'", NO_COMMAND, "a similar subcommand exists: 'run'"),
     Mistake('Run|a', "unrecognized subcommand 'Run'", NO_COMMAND, "a similar subcommand exists: 'run'"),
     Mistake('help|run|x', "unrecognized subcommand 'x'", OF_RUN),
@@ -261,11 +290,15 @@ MISTAKES = (
     unknown('--fly', '--fly', NO_COMMAND),
     unknown('-x', '-x', NO_COMMAND),
     unknown('--mode|buffered|trace|a', '--mode', NO_COMMAND, "'trace --mode' exists"),
+    unknown('--witness|w|debug|a', '--witness', NO_COMMAND, "'debug --witness' exists"),
     unknown('--port|1|serve|a|--clients|1', '--port', NO_COMMAND, "'serve --port' exists"),
     unknown('--choices|0|words|a', '--choices', NO_COMMAND, "'words --choices' exists"),
     unknown('--|trace|a', 'trace', NO_COMMAND, "subcommand 'trace' exists; to use it, remove the '--' before it"),
     # files, and options that must be there
     missing('trace', ['<FILE>'], 'mpdbg trace <FILE>'),
+    missing('debug', ['<FILE>'], 'mpdbg debug <FILE>'),
+    missing('debug|--witness|w', ['<FILE>'], 'mpdbg debug --witness <WITNESS> <FILE>'),
+    missing('debug|--mode|buffered|--witness=w', ['<FILE>'], 'mpdbg debug --mode <M> --witness <WITNESS> <FILE>'),
     missing('run', ['<FILE>'], 'mpdbg run <FILE>'),
     missing('run|--mode|buffered', ['<FILE>'], 'mpdbg run --mode <M> <FILE>'),
     missing('serve', ['--port <P>', '--clients <N>', '<FILE>'], WANTED_OF_SERVE),
@@ -290,6 +323,8 @@ MISTAKES = (
     missing('words|--choices|0', ['<FILE>'], WANTED_OF_WORDS),
     missing('words|a|--fuel|5', ['--choices <C>'], 'mpdbg words --choices <C> --fuel <N> <FILE>'),
     unknown('trace|a|b', 'b', OF_TRACE),
+    unknown('debug|a|b', 'b', OF_DEBUG),
+    unknown('debug|a|--witness|--|b', 'b', OF_DEBUG),
     unknown('run|a|b', 'b', OF_RUN),
     unknown('serve|a|b|--port|1|--clients|1', 'b', OF_SERVE),
     unknown('check|a|b', 'b', OF_CHECK),
@@ -298,6 +333,9 @@ MISTAKES = (
     unknown('words|a|--choices|0|1', '1', OF_WORDS),
     # options
     unknown('trace|a|--mod|buffered', '--mod', 'mpdbg trace --mode <M> <FILE>', "a similar argument exists: '--mode'"),
+    unknown('debug|a|--witnes|w', '--witnes', 'mpdbg debug --witness <WITNESS> <FILE>', "a similar argument exists: '--witness'"),
+    unknown('debug|a|--laid_witness|w', '--laid_witness', 'mpdbg debug --witness <WITNESS> <FILE>', "a similar argument exists: '--witness'"),
+    unknown('debug|--witness|w|a|--mod|buffered', '--mod', 'mpdbg debug --witness <WITNESS> --mode <M> <FILE>', "a similar argument exists: '--mode'"),
     unknown('check|a|--witnes', '--witnes', 'mpdbg check --witness <FILE>', "a similar argument exists: '--witness'"),
     unknown('check|a|--splits|2', '--splits', 'mpdbg check --split <K> <FILE>', "a similar argument exists: '--split'"),
     unknown('check|a|--worker|2', '--worker', 'mpdbg check --workers <N> <FILE>', "a similar argument exists: '--workers'"),
@@ -312,6 +350,10 @@ MISTAKES = (
     unknown('verify|a|b|--leafs|1', '--leafs', 'mpdbg verify --leaf <N> <FILE> <WITNESS>', "a similar argument exists: '--leaf'"),
     unknown('words|a|--choice|0', '--choice', WANTED_OF_WORDS, "a similar argument exists: '--choices'"),
     unknown('run|a|--mod|buffered', '--mod', 'mpdbg run --mode <M> <FILE>', "a similar argument exists: '--mode'"),
+    hyphened('debug|a|--runs|5', '--runs', 'mpdbg debug <FILE>'),
+    hyphened('debug|a|--laid=w', '--laid', 'mpdbg debug <FILE>'),
+    hyphened('debug|a|-w|w', '-w', OF_DEBUG),
+    hyphened('debug|a|--witness|-1', '-1', OF_DEBUG),
     hyphened('run|a|--witness', '--witness', 'mpdbg run <FILE>'),
     hyphened('run|a|--port|1', '--port', 'mpdbg run <FILE>'),
     hyphened('run|a|-m', '-m', OF_RUN),
@@ -343,6 +385,12 @@ MISTAKES = (
     Mistake('trace|a|--mode', "a value is required for '--mode <M>' but none was supplied"),
     Mistake('check|a|--fuel', "a value is required for '--fuel <N>' but none was supplied"),
     Mistake('trace|a|--mode|buffered|--mode=buffered', "the argument '--mode <M>' cannot be used multiple times", OF_TRACE),
+    Mistake('debug|a|--mode', "a value is required for '--mode <M>' but none was supplied"),
+    Mistake('debug|a|--witness', "a value is required for '--witness <WITNESS>' but none was supplied"),
+    Mistake('debug|a|--witness|--mode|buffered', "a value is required for '--witness <WITNESS>' but none was supplied"),
+    Mistake('debug|--witness|--|a', "a value is required for '--witness <WITNESS>' but none was supplied"),
+    Mistake('debug|a|--witness|w|--witness=', "the argument '--witness <WITNESS>' cannot be used multiple times", OF_DEBUG),
+    Mistake('debug|a|--mode=b|--mode|b', "the argument '--mode <M>' cannot be used multiple times", OF_DEBUG),
     Mistake('run|a|--mode', "a value is required for '--mode <M>' but none was supplied"),
     Mistake('run|a|--mode=b|--mode|b', "the argument '--mode <M>' cannot be used multiple times", OF_RUN),
     Mistake('serve|a|--clients|2|--port', "a value is required for '--port <P>' but none was supplied"),

@@ -9,13 +9,15 @@ compare/worked_texts.py; compare/statuses.py has the built program answer all th
 compare/worked_runs.py, reports and witnesses in compare/worked_explorer.py, reports by pieces in compare/worked_pieces.py, those that list ends
 or group them, and runs by their choices, in compare/worked_ends.py, explanations in compare/worked_explained.py, dialogues of a
 session in compare/worked_sessions.py, rows of all these kinds for version 2 in compare/worked_waitany.py, and for the modes `slots:K` in
-compare/worked_slots.py. The lessons of docs/COURSE.md are rows too, with their answers in files. The status is 0 where the model answers
-all of them so.
+compare/worked_slots.py. Dialogues of the console stand in compare/console_worked.py. The lessons of docs/COURSE.md are rows too, with their
+answers in files. The status is 0 where the model answers all of them so.
 """
 
 import sys
 from unittest import mock
 
+import console
+import console_worked
 import debugger
 import explorer
 import worked_ends
@@ -26,7 +28,7 @@ import worked_sessions
 import worked_slots
 import worked_waitany
 from debugger import BUFFERED, RENDEZVOUS, Result, answer, answer_file
-from examples import checks, lessons, open_example
+from examples import checks, consoles, lessons, open_example
 from language import read_script
 from policy_words import Driven
 from worked_runs import RUNS
@@ -361,6 +363,11 @@ def lesson_problem(lesson):
     return None if (result.output, result.status) == (open_example(lesson.answers), 0) else f'{result}'
 
 
+def typed_problem(typed):
+    result = console.debug(open_example(f'{typed.name}.mpd'), typed.data, typed.mode)
+    return None if result == typed.wanted() else f'{result}'
+
+
 def check_problem(checked):
     _, asked = explorer.asked_by([checked.script, *checked.options])
     result = explorer.answer(open_example(f'{checked.name}.mpd'), asked)
@@ -381,8 +388,10 @@ def main():
     problems += worked_ends.problems()
     problems += list(worked_explained.problems())
     problems += worked_sessions.problems()
+    problems += console_worked.problems()
     problems += [(statement, refusal_problem(statement, fault, place)) for statement, fault, place in REFUSED]
     problems += [(f'{lesson.name} ({lesson.mode})', lesson_problem(lesson)) for lesson in lessons()]
+    problems += [(f'{typed.beginning}, console', typed_problem(typed)) for typed in consoles()]
     problems += [(f'{checked.name}, check {" ".join(checked.options)}', check_problem(checked)) for checked in checks()]
     wrong = [(name, problem) for name, problem in problems if problem]
     for name, problem in wrong:
