@@ -3,7 +3,7 @@
 
     python3 bench/long_lists.py [BENCH [RUNS]]    (3 runs of crates/mpd_bench/out/mpd_bench, where nothing else is named)
 
-Contracts count writes, and whoever reads a few lines sees that a tick stands beside each (README.md, "What is trusted"). This run
+Contracts count writes, and whoever reads a few lines sees that a tick stands beside each (docs/CLAIMS.md, "What is trusted"). This run
 needs neither: of each kind of step in KINDS it compares the least times of all runs at the shortest lists and at the longest, which
 are at least as many times as long as WORTH says. A walk along such a list takes hundreds of times as long, so that it is noticed
 in an hour in which the machine is slow, too: FACTOR times are let through. What judges is first tried on times that grow.

@@ -36,7 +36,7 @@ SHOWN = ('depth 8 of 8; rank 0 ended; vars 0; handles; out; call 0.0 send to 1 t
 TOLD = [f'ok {depth}\n'.encode() for depth in range(1, 9)] + [as_lines(SHOWN)]
 RUNS = next(row for row in DIALOGUES if row.what == 'a breakpoint on a cell, there and back')
 
-# The race of README.md, its report, and the witness in that.
+# The race of docs/TOUR.md, its report, and the witness in that.
 RACE = os.path.join(EXAMPLES, 'race.mpd')
 LEAF = 'leaf 0 [0] deadlock 0.1 2.0\n'
 STEPS = 'witness 0: local 0, local 0, local 1, local 1, local 2, local 2, match 1.0 0.0, wake 0, local 0, wake 1\n'

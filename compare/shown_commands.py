@@ -39,9 +39,9 @@ NOT_RUN = ('.ci/', 'GATE_', 'rt ', 'python3 compare/', 'python3 bench/', 'git ',
 RUN = ('./mpdbg', 'cat ', 'sed ', 'echo ', 'mkdir ', 'seq ', 'sbatch ', 'sh examples/', 'python3 examples/')
 # How a block begins that shows neither commands nor what one of the commands answers: a line of another command, or a form.
 EXCERPTS = {
-    'README.md': ('proving ', 'checked as it runs'),
+    'README.md': ('checked as it runs',),
     'docs/FORMATS.md': ('enabled local 3', 'handles 1', 'leaf N ', 'rendezvous leaves 2', 'witness N: ', 'leaf 1 [1] deadlock', 'deadlock 0.1', 'mpdbg: script refused', 'mpdbg: device',
-                        'every way it can end', 'JSON requests', 'end 0 leaves 3'),
+                        'every way it can end', 'JSON requests', 'end 0 leaves 3', 'proving '),
     'docs/CONSOLE.md': ('help lists ',),
     'docs/GATE.md': ('fn: ',)}
 # Files that a page names by a word: a script, words for it, and a witness of it, which is made.
