@@ -2,8 +2,9 @@
 """Tries the must-fail edits of the crates (docs/GATE.md, "Edits"), as many in one check as can be.
 
     .ci/edits.py [--jobs N] [--only EDIT].. [--controls] [--log FOLDER] [CRATE..]    at the top of the repository
-    .ci/edits.py --record                        all edits of all crates; where all are refused, .ci/refused.txt is written
-    .ci/edits.py --due                           those that .ci/refused.txt doesn't answer for, and a twentieth of the rest
+    .ci/edits.py --record [CRATE..]              all edits of these crates, or of all; .ci/refused.txt has those that were wholly refused
+    .ci/edits.py --due                           those that .ci/refused.txt doesn't answer for, and a twentieth of the rest; where the
+                                                 former were wholly refused, it has them
 
 What an edit's file says is in .ci/edit_files.py, how edits are put into rounds in .ci/rounds.py, when one counts as refused in
 .ci/told.py, and what is remembered of an earlier run in .ci/record.py.
@@ -86,9 +87,9 @@ class Outcome:
         self.failed += [it.edit.name for it in verdicts if not it.is_refused]
 
 
-def try_all(crates, jobs, proofs, log):
+def try_all(crates, jobs, proofs, log, ended):
     """Tries the edits of all crates, so many at a time, those of rt ci among them while it goes on: a crate's edits are begun
-    where a processor has been free for a while."""
+    where a processor has been free for a while. What came of a crate is told to `ended`."""
     left, running, outcome, free_since = list(crates), set(), Outcome(), time.time()
 
     def tried(crate):
@@ -117,6 +118,7 @@ def try_all(crates, jobs, proofs, log):
                 crate, verdicts, took = run.result()
                 outcome.take(verdicts)
                 print(f'{crate.name}: {len(verdicts)} edits, {crate.rounds} checks, {took:.0f} s, of a processor {crate.seconds:.0f} s', flush=True)
+                ended(crate, verdicts)
     return outcome
 
 
@@ -131,10 +133,10 @@ def arguments():
     words.add_argument('--log', metavar='FOLDER', help='keep what each check said there, and how long its stages took')
     how = words.add_mutually_exclusive_group()
     how.add_argument('--due', action='store_true', help='the edits of crates that the record does not answer for, and a twentieth of the rest')
-    how.add_argument('--record', action='store_true', help='all edits of all crates; the record is written where all are refused')
+    how.add_argument('--record', action='store_true', help='all edits of these crates, or of all; the record has a crate where all of its edits are refused')
     given = words.parse_args()
-    if given.record and (given.crates or given.only):
-        words.error('--record is of all edits of all crates')
+    if given.record and given.only:
+        words.error('--record is of all edits of a crate')
     return given
 
 
@@ -144,26 +146,33 @@ def main():
     unknown = [it for it in given.crates if it not in repository.uses]
     if unknown:
         sys.exit(f'crates.txt names no {unknown[0]}')
+    # (before an edit is read, so that one which changes meanwhile is seen to)
+    digests = {it: record.digest(repository, it) for it in repository.uses} if given.record or given.due else {}
     crates = [Crate(repository, it, given.only, given.controls) for it in given.crates or repository.uses]
     crates = [it for it in crates if it.edits or it.bad]
     found = {os.path.basename(it.name).removesuffix('.edit') for crate in crates for it in [*crate.edits, *(bad.edit for bad in crate.bad)]}
     lacking = [it for it in given.only if it.removesuffix('.edit') not in found]
     if lacking:
         sys.exit(f'there is no such edit: {" ".join(lacking)}')
-    digests = {it.name: record.digest(repository, it.name) for it in crates}
-    drawn = record.take_due(repository, crates, digests) if given.due else set()
+    whole, drawn = {it.name for it in crates if given.record}, set()
+    if given.due:
+        whole, drawn = record.take_due(repository, crates, digests)
     crates = record.longest_first(record.read(repository), [it for it in crates if it.edits or it.bad])
     if given.log:
         os.makedirs(given.log, exist_ok=True)
     if not given.built:
         build_below(repository, [it.name for it in crates])
-    outcome = try_all(crates, given.jobs, Proofs(*given.beside or ()), given.log)
+
+    def ended(crate, verdicts):
+        failed = {it.edit.name for it in verdicts if not it.is_refused}
+        if crate.name in whole or failed & drawn:
+            print(record.remember(repository, crate, verdicts, digests), flush=True)
+
+    outcome = try_all(crates, given.jobs, Proofs(*given.beside or ()), given.log, ended)
     for name in sorted(drawn & set(outcome.failed)):
         print(f'{name}: {record.FILE} says of its crate that all edits are refused, and that is wrong')
     if not outcome.refused + len(outcome.failed):
         print('there is no such edit')
-    elif given.record:
-        print(record.write(repository, crates, digests) if not outcome.failed else f'{record.FILE} is left as it was')
     print(f'{outcome.refused} refused, {len(outcome.failed)} not')
     return 1 if outcome.failed or not outcome.refused else 0
 

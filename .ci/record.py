@@ -1,10 +1,11 @@
 """What is remembered of earlier runs of the gate (docs/GATE.md, "What is remembered").
 
 `.ci/refused.txt` has a line for each crate and kit: the crate's name, how many edits it has, how many processor seconds they took, a
-digest of all that tells whether they are refused, the kit among it, and the kit's name. `.ci/edits.py --record` writes the lines of the
-kit at hand, where all edits of all crates were refused, and leaves those of other kits: machines have one or another, and what one of
-them remembers is not lost by a run on the other. An edit of a crate whose digest is the same is remembered; a twentieth of these are
-tried nevertheless, so that a wrong record is found. The seconds tell nothing of the edits, but which crate is begun first.
+digest of all that tells whether they are refused, the kit among it, and the kit's name. A crate's line is written as its edits end,
+where each of them was tried and refused, and what the digest is of is as it was at the start. Lines of the kit at hand that answer for
+nothing any more go; those of other kits stay: machines have one or another, and what one of them remembers is not lost by a run on the
+other. An edit of a crate whose digest is the same is remembered; a twentieth of these are tried nevertheless, so that a wrong record is
+found. The seconds tell nothing of the edits, but which crate is begun first.
 """
 import hashlib
 import os
@@ -28,7 +29,7 @@ SHARE = 20
 # A name of what a proof file of a crate has.
 OF_PROOFS = re.compile(rb'\bRattle\.(\w+)\.proofs\b')
 
-HEAD = '# Written by .ci/edits.py --record, where all edits of all crates were refused, and never by hand: crate, edits, seconds, digest, kit.\n'
+HEAD = '# Written by .ci/edits.py, of each crate all of whose edits were tried and refused, and never by hand: crate, edits, seconds, digest, kit.\n'
 
 # A line of the record.
 LINE = re.compile(r'(\w+) (\d+) (\d+) ([0-9a-f]{64}) (\S+)')
@@ -127,17 +128,39 @@ def longest_first(kept, crates):
     return sorted(crates, key=likely, reverse=True)
 
 
-def write(repository, crates, digests):
-    """Writes the record of these crates, all of whose edits were refused, unless the tree isn't what it was at the start."""
-    changed = [it.name for it in crates if digest(repository, it.name) != digests[it.name]]
-    if changed:
-        return f'{FILE} is not written: files that tell of {" ".join(changed)} were changed since the run began'
+def edits_of(root, crate):
+    """The names of the files of a crate's edits."""
+    return {f'{crate}/{os.path.basename(it)}' for it in files_below(f'{root}/crates/{crate}/must-fail')}
+
+
+def remember(repository, crate, verdicts, digests):
+    """Writes the line of a crate whose edits have ended with these verdicts, by the digests of all crates at the start of the run, and
+    answers what became of it. It has one where each edit that is there was tried and refused, and nothing has changed meanwhile. What
+    was not refused is remembered no more."""
+    not_refused = sorted(it.edit.name for it in verdicts if not it.is_refused)
+    lacking = sorted(edits_of(repository.root, crate.name) - {it.edit.name for it in verdicts})
+    if not_refused:
+        why = f'{not_refused[0]} was not refused'
+    elif lacking:
+        why = f'{lacking[0]} was not tried'
+    elif digest(repository, crate.name) != digests[crate.name]:
+        why = 'files that tell of it were changed since the run began'
+    else:
+        rewrite(repository, crate.name, digests, f'{crate.name} {len(verdicts)} {crate.seconds:.0f} {digests[crate.name]} {name_of_kit(repository)}')
+        return f'{crate.name}: {FILE} has its {len(verdicts)} edits'
+    if not_refused:
+        rewrite(repository, crate.name, digests)
+    return f'{crate.name}: {FILE} has none of its edits: {why}'
+
+
+def rewrite(repository, crate, digests, line=None):
+    """Writes the record with this line of a crate in place of its own of the kit at hand, or without it, and without those lines of the
+    kit whose crate is gone, or has another digest."""
     kit = name_of_kit(repository)
-    lines = [f'{it.name} {len(it.edits)} {it.seconds:.0f} {digests[it.name]} {kit}' for it in crates]
-    others = [it[0] for it in lines_of(repository.root) if it[5] != kit]
-    with open(f'{repository.root}/{FILE}', 'w', encoding='utf-8') as it:
-        it.write(HEAD + ''.join(f'{line}\n' for line in sorted(lines + others)))
-    return f'{FILE} is written: {len(lines)} crates, {sum(len(it.edits) for it in crates)} edits'
+    kept = [it[0] for it in lines_of(repository.root) if it[5] != kit or it[1] != crate and it[4] == digests.get(it[1])]
+    with open(f'{repository.root}/{FILE}.new', 'w', encoding='utf-8') as it:
+        it.write(HEAD + ''.join(f'{at}\n' for at in sorted(kept + [line] * bool(line))))
+    os.replace(f'{repository.root}/{FILE}.new', f'{repository.root}/{FILE}')
 
 
 def draw(names, seed):
@@ -163,7 +186,7 @@ def seed_of(root, digests):
 
 def take_due(repository, crates, digests):
     """Leaves each of these crates the edits that are due: all where the record doesn't answer for it, and else those that are drawn.
-    Says which, and answers the names of those that are drawn."""
+    Says which, and answers the names of the crates that are tried whole, and those of the edits that are drawn."""
     kept = read(repository)
     remembered = [it for it in crates if it.name in kept and kept[it.name][:2] == (len(it.edits), digests[it.name]) and not it.bad]
     drawn = draw([edit.name for it in remembered for edit in it.edits], seed_of(repository.root, digests))
@@ -172,4 +195,4 @@ def take_due(repository, crates, digests):
     print(f'edits of the others: {sum(len(it.edits) for it in remembered)}, of which these {len(drawn)} are drawn: {" ".join(sorted(drawn)) or "none"}', flush=True)
     for crate in remembered:
         crate.edits = [it for it in crate.edits if it.name in drawn]
-    return drawn
+    return {it.name for it in changed}, drawn

@@ -1,14 +1,12 @@
 #!/usr/bin/env python3
 """Tests of the harness of the gate, on small sources: that an edit counts as refused rests on how .ci/ reads sources and checks.
+Those of what is remembered of a run are in .ci/test_record.py, and run with these.
 
     .ci/test_harness.py    at the top of the repository
 """
 import os
 import re
-import shutil
-import subprocess
 import sys
-import tempfile
 import types
 import unittest
 
@@ -20,11 +18,13 @@ import copies
 import edit_files
 import growing
 import read_lines
-import landing
 import processes
 import record
 import rounds
 import told
+# (their tests are run with those of this file)
+from test_record import AsTheyEnd, Landing, Remembered
+from with_folder import WithFolder
 
 SOURCE = """//! A module.
 
@@ -123,24 +123,6 @@ def head(name, text=SOURCE):
 def place(piece, text=SOURCE):
     begin = text.index(piece)
     return begin, begin + len(piece)
-
-
-class WithFolder(unittest.TestCase):
-    """A test with a folder of its own, and files there."""
-
-    def setUp(self):
-        room = tempfile.TemporaryDirectory()
-        self.addCleanup(room.cleanup)
-        self.folder = room.name
-
-    def write(self, file, text):
-        os.makedirs(os.path.dirname(f'{self.folder}/{file}'), exist_ok=True)
-        with open(f'{self.folder}/{file}', 'w', encoding='utf-8') as it:
-            it.write(text)
-
-    def read(self, file):
-        with open(f'{self.folder}/{file}', encoding='utf-8') as it:
-            return it.read()
 
 
 class Heads(unittest.TestCase):
@@ -482,225 +464,6 @@ class Edits(WithFolder):
         regions = {'src/list.rt': [(10, 20, 'x')]}
         for file, begin, end, wanted in (('src/list.rt', 20, 22, True), ('src/list.rt', 5, 10, True), ('src/list.rt', 21, 22, False), ('src/lib.rt', 12, 15, False)):
             self.assertEqual(edit_files.touches(regions, {file: (begin, end, 'y')}), wanted)
-
-
-class Remembered(WithFolder):
-    """What is remembered of earlier runs."""
-
-    def setUp(self):
-        super().setUp()
-        self.write('crates.txt', '# libraries\nlow: std\nside: std\nhigh: low std   # above\n')
-        self.write('KIT-ID', 'kit 1')
-        for judge in record.JUDGES:
-            self.write(f'.ci/{judge}', judge)
-        for crate in ('low', 'side', 'high'):
-            for file in ('src/lib.rt', 'specs/Lib.antt', 'proofs/Lib.antt', 'must-fail/a.b.edit', 'must-fail/README.md'):
-                self.write(f'crates/{crate}/{file}', f'{crate} {file}')
-
-    def repository(self):
-        found = rounds.Repository(self.folder)
-        found.kit = self.folder
-        return found
-
-    def digests(self):
-        return {it: record.digest(self.repository(), it) for it in ('low', 'side', 'high')}
-
-    def changed_by(self, file, text):
-        before = self.digests()
-        self.write(file, text)
-        after = self.digests()
-        return {it for it in before if before[it] != after[it]}
-
-    def test_what_a_digest_depends_on(self):
-        for file, crates in (
-            ('crates/low/src/lib.rt', {'low', 'high'}),
-            ('crates/low/src/new.rt', {'low', 'high'}),
-            ('crates/low/specs/Lib.antt', {'low', 'high'}),
-            ('crates/low/proofs/Lib.antt', {'low'}),
-            ('crates/low/must-fail/a.b.edit', {'low'}),
-            ('crates/low/must-fail/c.d.edit', {'low'}),
-            ('crates/high/proofs/new/Lib.antt', {'high'}),
-            ('crates/side/src/lib.rt', {'side'}),
-            ('crates/low/must-fail/README.md', set()),
-            ('crates/low/out/rlib', set()),
-            ('crates/low/stdin', set()),
-            ('docs/GATE.md', set()),
-            ('.ci/copies.py', {'low', 'side', 'high'}),
-            ('.ci/run', set()),
-            ('KIT-ID', {'low', 'side', 'high'}),
-        ):
-            self.assertEqual(self.changed_by(file, f'changed {file}'), crates, file)
-
-    def test_bodies_are_of_their_own_crate(self):
-        self.write('crates/low/src/lib.rt', 'pub fn one() -> u64\n    ensures { result ≡ 1 }\n{\n    1\n}\n')
-        for text, crates in (('{\n    2 - 1\n}\n', {'low'}), ('{\n    // one\n    1\n}\n', {'low'}), ('{\n    1\n}\nfn two() {\n}\n', {'low', 'high'})):
-            changed = 'pub fn one() -> u64\n    ensures { result ≡ 1 }\n' + text
-            self.assertEqual(self.changed_by('crates/low/src/lib.rt', changed), crates, text)
-            self.write('crates/low/src/lib.rt', 'pub fn one() -> u64\n    ensures { result ≡ 1 }\n{\n    1\n}\n')
-        self.assertEqual(self.changed_by('crates/low/src/lib.rt', 'pub fn one() -> u64\n    ensures { result ≡ 2 }\n{\n    1\n}\n'), {'low', 'high'})
-
-    def test_a_file_that_is_gone_changes_it(self):
-        before = self.digests()
-        os.remove(f'{self.folder}/crates/low/must-fail/a.b.edit')
-        self.assertNotEqual(before['low'], self.digests()['low'])
-
-    def test_a_file_that_moves_changes_it(self):
-        before = self.digests()
-        os.rename(f'{self.folder}/crates/low/src/lib.rt', f'{self.folder}/crates/low/src/main.rt')
-        self.assertNotEqual(before['low'], self.digests()['low'])
-
-    def test_proof_files_that_are_named_above(self):
-        self.write('crates/high/proofs/Lib.antt', 'use Rattle.low.proofs.Lib.{lemma}')
-        self.assertEqual(self.changed_by('crates/low/proofs/Lib.antt', 'another'), {'low', 'high'})
-
-    def test_lines_of_crates_txt(self):
-        self.assertEqual(self.changed_by('crates.txt', 'low: std\nhigh: low std\nside: std\n'), set())
-        self.assertEqual(self.changed_by('crates.txt', 'low: std thiserror\nside: std\nhigh: low std\n'), {'low', 'high'})
-
-    def test_pieces_do_not_run_into_one_another(self):
-        self.assertNotEqual(record.digest_of([('a', b'bc')]), record.digest_of([('ab', b'c')]))
-        self.assertNotEqual(record.digest_of([('a', b'1'), ('b', b'')]), record.digest_of([('a', b''), ('b', b'1')]))
-
-    def test_the_draw(self):
-        names = [f'crate/{it:03}.edit' for it in range(200)]
-        counts = [len(record.draw(names[:many], 'seed')) for many in (0, 1, 20, 21, 200)]
-        self.assertEqual(counts, [0, 1, 1, 2, 10])
-        self.assertEqual(record.draw(names[::-1], 'seed'), record.draw(names, 'seed'))
-        drawn = [record.draw(names, f'commit {it}') for it in range(400)]
-        self.assertEqual(set().union(*drawn), set(names))
-        self.assertLess(max(sum(name in it for it in drawn) for name in names), 60)
-
-    def crates(self):
-        # (each a file of the crate's edits, as .ci/rounds.py reads them)
-        return [types.SimpleNamespace(name=it, edits=[types.SimpleNamespace(name=f'{it}/{at}.edit') for at in range(count)], bad=[], seconds=took) for it, count, took in (('high', 30, 29.6), ('low', 25, 200), ('side', 5, 100))]
-
-    def due(self, crates):
-        keep, sys.stdout = sys.stdout, open(os.devnull, 'w', encoding='utf-8')
-        try:
-            return record.take_due(self.repository(), crates, self.digests())
-        finally:
-            sys.stdout.close()
-            sys.stdout = keep
-
-    def test_what_is_due(self):
-        crates = self.crates()
-        self.assertEqual(self.due(crates), set())
-        self.assertEqual([len(it.edits) for it in crates], [30, 25, 5])
-        record.write(self.repository(), self.crates(), self.digests())
-        crates = self.crates()
-        drawn = self.due(crates)
-        self.assertEqual(len(drawn), 3)
-        self.assertEqual({edit.name for it in crates for edit in it.edits}, drawn)
-        self.write('crates/low/src/lib.rt', 'changed')
-        crates = self.crates()
-        drawn = self.due(crates)
-        self.assertEqual(len(crates[0].edits) + len(crates[1].edits), 55)
-        self.assertEqual({edit.name for edit in crates[2].edits}, drawn)
-        self.assertEqual(len(drawn), 1)
-
-    def test_a_crate_with_another_count_or_a_bad_edit_is_due(self):
-        record.write(self.repository(), self.crates(), self.digests())
-        crates = self.crates()
-        crates[0].edits.pop()
-        crates[2].bad.append('a bad edit')
-        self.due(crates)
-        self.assertEqual([len(crates[0].edits), len(crates[2].edits)], [29, 5])
-
-    def test_the_record(self):
-        self.assertEqual(record.read(self.repository()), {})
-        digests = self.digests()
-        record.write(self.repository(), self.crates(), digests)
-        self.assertEqual(record.read(self.repository()), {it: (count, digests[it], took) for it, count, took in (('high', 30, 30), ('low', 25, 200), ('side', 5, 100))})
-
-    def test_each_kit_has_lines_of_its_own(self):
-        of_first, first = self.digests(), record.write(self.repository(), self.crates(), self.digests())
-        self.write('KIT-ID', 'other 1')
-        self.assertEqual(record.read(self.repository()), {})
-        self.assertEqual(record.write(self.repository(), self.crates(), self.digests()), first)
-        self.assertNotEqual(record.read(self.repository())['low'].digest, of_first['low'])
-        self.write('KIT-ID', 'kit 1')
-        self.assertEqual({it: kept.digest for it, kept in record.read(self.repository()).items()}, of_first)
-        self.assertEqual(len(record.lines_of(self.folder)), 6)
-
-    def test_which_crate_is_begun_first(self):
-        def order(crates):
-            return [it.name for it in record.longest_first(record.read(self.repository()), crates)]
-
-        self.assertEqual(order(self.crates()), ['high', 'low', 'side'])
-        record.write(self.repository(), self.crates(), self.digests())
-        self.assertEqual(order(self.crates()), ['low', 'side', 'high'])
-        self.write('crates/low/src/lib.rt', 'changed')
-        crates = self.crates()
-        del crates[1].edits[10:]
-        self.assertEqual(order(crates), ['side', 'low', 'high'])
-
-    def test_nothing_is_recorded_of_a_tree_that_has_changed(self):
-        digests = self.digests()
-        self.write('crates/side/src/lib.rt', 'changed')
-        self.assertIn('is not written', record.write(self.repository(), self.crates(), digests))
-        self.assertEqual(record.read(self.repository()), {})
-
-    def test_the_seed_of_a_tree_without_a_repository(self):
-        self.assertEqual(record.seed_of(self.folder, {'b': '2', 'a': '1'}), '1 2')
-
-
-@unittest.skipUnless(shutil.which('git'), 'there is no git')
-class Landing(WithFolder):
-    """What differs from a commit."""
-
-    def setUp(self):
-        super().setUp()
-        for file in ('README.md', 'crates/low/src/lib.rt', '.gitignore'):
-            self.write(file, 'out/\n')
-        self.git('init', '-q')
-        self.commit()
-
-    def git(self, *words):
-        # (a hook of git's says in the environment which repository is meant)
-        apart = {name: value for name, value in os.environ.items() if not name.startswith('GIT_')}
-        subprocess.run(['git', '-C', self.folder, '-c', 'user.name=a', '-c', 'user.email=a@b', *words], check=True, env=apart)
-
-    def commit(self):
-        self.git('add', '-A')
-        self.git('commit', '-q', '-m', 'as it is')
-
-    def test_docs_alone(self):
-        self.assertTrue(landing.is_of_docs(self.folder, 'HEAD'))
-        for file in ('README.md', 'docs/new.md', 'crates/low/out/kept'):
-            self.write(file, 'changed')
-            self.assertTrue(landing.is_of_docs(self.folder, 'HEAD'), file)
-
-    def test_another_file(self):
-        for file in ('crates/low/src/lib.rt', 'crates/low/src/new.rt', '.gitignore', '.ci/refused.txt', 'docs/new.md.py'):
-            self.write(file, 'changed')
-            self.assertEqual(landing.changed(self.folder, 'HEAD'), [file])
-            self.assertFalse(landing.is_of_docs(self.folder, 'HEAD'), file)
-            self.git('clean', '-qfd')
-            self.git('checkout', '-q', '.')
-
-    def test_a_file_that_is_gone_or_renamed(self):
-        os.rename(f'{self.folder}/crates/low/src/lib.rt', f'{self.folder}/lib.md')
-        self.assertFalse(landing.is_of_docs(self.folder, 'HEAD'))
-        self.git('add', '-A')
-        self.assertFalse(landing.is_of_docs(self.folder, 'HEAD'))
-
-    def test_what_is_committed_behind_it(self):
-        self.write('crates/low/src/lib.rt', 'changed')
-        self.commit()
-        self.assertFalse(landing.is_of_docs(self.folder, 'HEAD~1'))
-        self.assertTrue(landing.is_of_docs(self.folder, 'HEAD'))
-
-    def test_the_seed_of_a_draw_is_the_commit(self):
-        first = record.seed_of(self.folder, {'a': '1'})
-        self.assertRegex(first, '^[0-9a-f]{40,64}$')
-        self.write('README.md', 'changed')
-        self.commit()
-        self.assertNotEqual(record.seed_of(self.folder, {'a': '1'}), first)
-        self.assertEqual(record.seed_of(f'{self.folder}/crates', {'a': '1'}), '1')
-
-    def test_what_cannot_be_told(self):
-        for commit in ('nowhere', '', '--help'):
-            self.assertFalse(landing.is_of_docs(self.folder, commit), commit)
 
 
 class Growing(WithFolder):
