@@ -1,11 +1,11 @@
 """What is remembered of earlier runs of the gate (docs/GATE.md, "What is remembered").
 
 `.ci/refused.txt` has a line for each crate and kit: the crate's name, how many edits it has, how many processor seconds they took, a
-digest of all that tells whether they are refused, the kit among it, and the kit's name. A crate's line is written as its edits end,
-where each of them was tried and refused, and what the digest is of is as it was at the start. Lines of the kit at hand that answer for
-nothing any more go; those of other kits stay: machines have one or another, and what one of them remembers is not lost by a run on the
-other. An edit of a crate whose digest is the same is remembered; a twentieth of these are tried nevertheless, so that a wrong record is
-found. The seconds tell nothing of the edits, but which crate is begun first.
+digest of all that tells whether they are refused, the kit's logic among it, and the kit's name. A crate's line is written as its edits
+end, where each of them was tried and refused, and what the digest is of is as it was at the start. Lines that answer for nothing any more
+go; those of other kits stay: machines have one or another, and what one of them remembers is not lost by a run on the other. An edit of a
+crate whose digest is the same is remembered; a twentieth of these are tried nevertheless, so that a wrong record is found, and a fifth
+where only another kit of the same logic remembers them. The seconds tell nothing of the edits, but which crate is begun first.
 """
 import hashlib
 import os
@@ -23,8 +23,8 @@ JUDGES = ('assumed.py', 'copies.py', 'edit_files.py', 'edits.py', 'record.py', '
 # The folders of a crate that its own checks read, its edits among them, and those of which checks of crates above it read something.
 OWN, SEEN_ABOVE = ('must-fail', 'proofs', 'specs', 'src'), ('specs', 'src')
 
-# Of the edits that are remembered, one of so many is tried.
-SHARE = 20
+# Of the edits that are remembered, one of so many is tried: of this kit's, and of those that another kit of the same logic alone has.
+SHARE, SHARE_ELSEWHERE = 20, 5
 
 # A name of what a proof file of a crate has.
 OF_PROOFS = re.compile(rb'\bRattle\.(\w+)\.proofs\b')
@@ -84,11 +84,16 @@ def kit_of(repository):
     return bytes_of(f'{repository.kit}/KIT-ID')
 
 
+def logic_of(repository):
+    """What a kit says of its logic, behind its name: kits that differ in the name alone prove by the same rules."""
+    return b' '.join(kit_of(repository).split()[1:])
+
+
 def pieces(repository, crate):
     """All that tells whether the edits of a crate are refused: its own files, what is read of the crates below it, their lines of
-    crates.txt, what judges edits, and the kit."""
+    crates.txt, what judges edits, and the kit's logic."""
     root, below = repository.root, repository.below(crate)
-    found = [('kit', kit_of(repository))]
+    found = [('logic', logic_of(repository))]
     found += [(f'.ci/{it}', bytes_of(f'{root}/.ci/{it}')) for it in JUDGES]
     found += [(f'uses of {it}', ' '.join(repository.uses[it]).encode()) for it in [crate, *sorted(below)]]
     named = {name for it in [crate, *below] for name in names_proofs_of(root, it)}
@@ -114,10 +119,10 @@ def lines_of(root):
     return [it for it in found if it]
 
 
-def read(repository):
-    """What is remembered of each crate under the kit at hand."""
+def read(repository, is_here=True):
+    """What is remembered of each crate under the kit at hand; or, where that is asked for, under any other."""
     kit = name_of_kit(repository)
-    return {it[1]: Kept(int(it[2]), it[4], int(it[3])) for it in lines_of(repository.root) if it[5] == kit}
+    return {it[1]: Kept(int(it[2]), it[4], int(it[3])) for it in lines_of(repository.root) if (it[5] == kit) == is_here}
 
 
 def longest_first(kept, crates):
@@ -154,23 +159,23 @@ def remember(repository, crate, verdicts, digests):
 
 
 def rewrite(repository, crate, digests, line=None):
-    """Writes the record with this line of a crate in place of its own of the kit at hand, or without it, and without those lines of the
-    kit whose crate is gone, or has another digest."""
+    """Writes the record with this line of a crate in place of its own of the kit at hand, or without it, and without the lines whose
+    crate is gone, or has another digest."""
     kit = name_of_kit(repository)
-    kept = [it[0] for it in lines_of(repository.root) if it[5] != kit or it[1] != crate and it[4] == digests.get(it[1])]
+    kept = [it[0] for it in lines_of(repository.root) if it[4] == digests.get(it[1]) and (it[1], it[5]) != (crate, kit)]
     with open(f'{repository.root}/{FILE}.new', 'w', encoding='utf-8') as it:
         it.write(HEAD + ''.join(f'{at}\n' for at in sorted(kept + [line] * bool(line))))
     os.replace(f'{repository.root}/{FILE}.new', f'{repository.root}/{FILE}')
 
 
-def draw(names, seed):
-    """A twentieth of these names, one at least where there are any: side by side in their order, from a place that the seed tells,
+def draw(names, seed, share=SHARE):
+    """One of so many of these names, one at least where there are any: side by side in their order, from a place that the seed tells,
     so that each has the same chance, and few crates are begun."""
     names = sorted(names)
     if not names:
         return set()
     begin = int(hashlib.sha256(seed.encode()).hexdigest(), 16) % len(names)
-    return {names[(begin + it) % len(names)] for it in range(-(-len(names) // SHARE))}
+    return {names[(begin + it) % len(names)] for it in range(-(-len(names) // share))}
 
 
 def seed_of(root, digests):
@@ -184,15 +189,24 @@ def seed_of(root, digests):
     return commit if top and os.path.samefile(top, root) else ' '.join(digests[it] for it in sorted(digests))
 
 
+def answered_for(kept, crates, digests):
+    """Those of these crates for which what is remembered answers."""
+    return [it for it in crates if it.name in kept and kept[it.name][:2] == (len(it.edits), digests[it.name]) and not it.bad]
+
+
 def take_due(repository, crates, digests):
     """Leaves each of these crates the edits that are due: all where the record doesn't answer for it, and else those that are drawn.
     Says which, and answers the names of the crates that are tried whole, and those of the edits that are drawn."""
-    kept = read(repository)
-    remembered = [it for it in crates if it.name in kept and kept[it.name][:2] == (len(it.edits), digests[it.name]) and not it.bad]
-    drawn = draw([edit.name for it in remembered for edit in it.edits], seed_of(repository.root, digests))
-    changed = [it for it in crates if it not in remembered]
+    seed = seed_of(repository.root, digests)
+    here = answered_for(read(repository), crates, digests)
+    elsewhere = answered_for(read(repository, is_here=False), [it for it in crates if it not in here], digests)
+    changed = [it for it in crates if it not in here and it not in elsewhere]
     print(f'edits of crates that {FILE} does not answer for: {sum(len(it.edits) + len(it.bad) for it in changed)} ({" ".join(it.name for it in changed) or "no crate"})')
-    print(f'edits of the others: {sum(len(it.edits) for it in remembered)}, of which these {len(drawn)} are drawn: {" ".join(sorted(drawn)) or "none"}', flush=True)
-    for crate in remembered:
+    drawn = set()
+    for remembered, share, what in ((here, SHARE, 'the others'), (elsewhere, SHARE_ELSEWHERE, 'those that another kit has refused')):
+        names = draw([edit.name for it in remembered for edit in it.edits], seed, share)
+        print(f'edits of {what}: {sum(len(it.edits) for it in remembered)}, of which these {len(names)} are drawn: {" ".join(sorted(names)) or "none"}', flush=True)
+        drawn |= names
+    for crate in here + elsewhere:
         crate.edits = [it for it in crate.edits if it.name in drawn]
     return {it.name for it in changed}, drawn

@@ -210,12 +210,30 @@ class Remembered(WithFolder):
         self.write('KIT-ID', 'other 1')
         self.assertEqual(record.read(self.repository()), {})
         self.assertEqual(self.remember(), first)
-        self.assertNotEqual(record.read(self.repository())['low'].digest, of_first['low'])
+        self.assertEqual(record.read(self.repository())['low'].digest, of_first['low'])
+        self.assertEqual(len(record.lines_of(self.folder)), 6)
         self.write('crates/side/src/lib.rt', 'changed')
         self.remember('low')
         self.write('KIT-ID', 'kit 1')
-        self.assertEqual({it: kept.digest for it, kept in record.read(self.repository()).items()}, of_first)
-        self.assertEqual(len(record.lines_of(self.folder)), 5)
+        self.assertEqual({it: kept.digest for it, kept in record.read(self.repository()).items()}, {it: of_first[it] for it in ('high', 'low')})
+        self.assertEqual(len(record.lines_of(self.folder)), 4)
+
+    def test_of_what_another_kit_remembers_more_is_tried(self):
+        self.remember()
+        self.write('KIT-ID', 'other 1')
+        crates = self.crates()
+        whole, drawn = self.due(crates)
+        self.assertEqual((whole, len(drawn)), (set(), 12))
+        self.assertEqual({edit.name for it in crates for edit in it.edits}, drawn)
+        self.remember('low')
+        crates = self.crates()
+        whole, drawn = self.due(crates)
+        self.assertEqual(whole, set())
+        self.assertEqual([sum(it.startswith(f'{name}/') for it in drawn) for name in ('low', 'high')], [len(crates[1].edits), len(crates[0].edits)])
+        self.assertEqual((len(crates[1].edits), len(drawn)), (2, 9))
+        # (a kit of another logic)
+        self.write('KIT-ID', 'third 2')
+        self.assertEqual(self.due(self.crates()), ({'high', 'low', 'side'}, set()))
 
     def test_which_crate_is_begun_first(self):
         def order(crates):
