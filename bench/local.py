@@ -1,18 +1,18 @@
 #!/usr/bin/env python3
 """What a local step with its undo takes, beside the same in plain C (docs/SPEED.md).
 
-    python3 bench/local.py [RUNS [BENCH]]   (20 runs of crates/mpd_bench/out/mpd_bench, where nothing else is named)
+    python3 bench/local.py [RUNS [BENCH]]   (20 runs of a bench that is built for it, where nothing else is named)
 
 It is no part of the gate. `bench/plain.c` and the program go forward and back through `while 1 { i = i + 1; }` in turn, so that an
 hour in which the machine is slow is slow for both; each run tells the mean of ten million steps. For each length of the trail it
-tells the least of all runs, the middle one, and how many times as long the program took in these. Where the program isn't built, a
-line says so, and the status is 2.
-"""
+tells the least of all runs, the middle one, and how many times as long the program took in these. """
 import os
 import re
 import subprocess
 import sys
 import tempfile
+
+from bench_program import named_or_built
 
 TOP = os.path.dirname(os.path.dirname(os.path.abspath(__file__)))
 PLAIN = re.compile(r'^(\d+) local steps: ([\d.]+) ns', re.M)
@@ -35,11 +35,8 @@ def times(program, line):
 
 def main():
     runs = int(sys.argv[1]) if len(sys.argv) > 1 else 20
-    bench = sys.argv[2] if len(sys.argv) > 2 else f'{TOP}/crates/mpd_bench/out/mpd_bench'
-    if not os.access(bench, os.X_OK):
-        print(f'{bench} is not built: (cd crates/mpd_bench && rt run)')
-        sys.exit(2)
     with tempfile.TemporaryDirectory() as folder:
+        bench = named_or_built(sys.argv[2] if len(sys.argv) > 2 else None, folder)
         subprocess.run([os.environ.get('CC', 'cc'), '-O2', '-o', f'{folder}/plain', f'{TOP}/bench/plain.c'], check=True)
         told = [(times(f'{folder}/plain', PLAIN), times(bench, OURS)) for _ in range(runs)]
     for length in sorted(told[0][0]):

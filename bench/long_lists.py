@@ -1,21 +1,23 @@
 #!/usr/bin/env python3
 """Shows that a step behind long lists takes no longer than one behind short ones (docs/SPEED.md).
 
-    python3 bench/long_lists.py [BENCH [RUNS]]    (3 runs of crates/mpd_bench/out/mpd_bench, where nothing else is named)
+    python3 bench/long_lists.py [BENCH [RUNS]]    (3 runs of one that is built for it, where nothing else is named)
 
 Contracts count writes, and whoever reads a few lines sees that a tick stands beside each (docs/CLAIMS.md, "What is trusted"). This run
 needs neither: of each kind of step in KINDS it compares the least times of all runs at the shortest lists and at the longest, which
 are at least as many times as long as WORTH says. A walk along such a list takes hundreds of times as long, so that it is noticed
 in an hour in which the machine is slow, too: FACTOR times are let through. What judges is first tried on times that grow.
 Status 1 where one of them takes longer, or isn't told, or a run, which takes some four seconds, doesn't end in so many as LIMIT
-says; 2 where the program isn't built.
+says.
 """
-import os
 import re
 import subprocess
 import sys
+import tempfile
 
-# Kinds of steps that mpd_bench measures, each behind more and more of what it names.
+from bench_program import named_or_built
+
+# Kinds of steps that the bench measures, each behind more and more of what it names.
 KINDS = (
     'a local step and its undo, on a trail of',
     'a message, 5 steps and their undos, behind',
@@ -30,7 +32,6 @@ FACTOR = 5
 WORTH = 100
 LIMIT = 120
 SAID = re.compile(r'^(.+) (\d+): ([\d.]+) ns$', re.M)
-TOP = os.path.dirname(os.path.dirname(os.path.abspath(__file__)))
 
 
 def told(text):
@@ -69,17 +70,15 @@ def tries_itself():
 
 
 def main():
-    bench = sys.argv[1] if len(sys.argv) > 1 else f'{TOP}/crates/mpd_bench/out/mpd_bench'
     count = int(sys.argv[2]) if len(sys.argv) > 2 else 3
     tries_itself()
-    if not os.access(bench, os.X_OK):
-        print(f'{bench} is not built: (cd crates/mpd_bench && rt run)', file=sys.stderr)
-        return 2
-    try:
-        runs = [told(subprocess.run([bench], capture_output=True, check=True, text=True, timeout=LIMIT).stderr) for _ in range(count)]
-    except subprocess.TimeoutExpired:
-        print(f'a run did not end in {LIMIT} seconds')
-        return 1
+    with tempfile.TemporaryDirectory() as folder:
+        bench = named_or_built(sys.argv[1] if len(sys.argv) > 1 else None, folder)
+        try:
+            runs = [told(subprocess.run([bench], capture_output=True, check=True, text=True, timeout=LIMIT).stderr) for _ in range(count)]
+        except subprocess.TimeoutExpired:
+            print(f'a run did not end in {LIMIT} seconds')
+            return 1
     lines, well = judged(runs)
     print('\n'.join(lines))
     return 0 if well else 1

@@ -1,7 +1,7 @@
 #!/usr/bin/env python3
 """Shows that steps and their undos ask for no memory once their room is kept, as docs/SPEED.md tells it ("Memory").
 
-    python3 bench/memory.py [BENCH..]    (crates/mpd_bench/out/mpd_bench, where none is named)
+    python3 bench/memory.py [BENCH..]    (one that is built for it, where none is named)
 
 Each program is run under bench/malloc_shim.c, which counts what it asks for between its two marks, 10,000 steps of every kind
 and as many undos, and then refuses all of that; it must end the same. It says how many steps of each kind it took: some of every
@@ -14,6 +14,8 @@ import shutil
 import subprocess
 import sys
 import tempfile
+
+from bench_program import named_or_built
 
 # The kinds of steps.
 KINDS = 'local', 'match', 'wake', 'wakeany', 'release'
@@ -75,8 +77,8 @@ def is_well(program, shim, folder):
 
 
 def main():
-    programs = [os.path.abspath(it) for it in sys.argv[1:] or ['crates/mpd_bench/out/mpd_bench']]
     with tempfile.TemporaryDirectory() as folder:
+        programs = [named_or_built(it, folder) for it in sys.argv[1:] or [None]]
         shim = built(folder)
         return 0 if all([is_well(it, shim, folder) for it in programs]) else 1
 

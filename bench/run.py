@@ -1,7 +1,7 @@
 #!/usr/bin/env python3
 """How long the built programs take, as docs/SPEED.md tells it.
 
-    python3 bench/run.py [PROGRAM [BENCH]]  (crates/mpdbg/out/mpdbg and crates/mpd_bench/out/mpd_bench, where none is named)
+    python3 bench/run.py [PROGRAM [BENCH]]  (crates/mpdbg/out/mpdbg and a bench that is built for it, where none is named)
 
 It is no part of the gate. Each figure of the first program is the best of 20 runs, less the best of 20 runs of the same
 script with no words, or with those before what is measured. The second program measures steps and their undos itself, with no text in what is measured: local ones,
@@ -14,22 +14,25 @@ import re
 import shutil
 import subprocess
 import sys
+import tempfile
 import time
+
+from bench_program import named_or_built
 
 RUNS = 20
 # How often a list of enabled steps is asked for, and a match is taken and undone, in one run.
 GATHERED = 2_000
 TOP = os.path.dirname(os.path.dirname(os.path.abspath(__file__)))
-# How the programs are built, at the top of the repository.
-PROGRAMS = {'mpdbg': '(cd crates/mpdbg && rt run < ../../examples/first.trace)', 'mpd_bench': '(cd crates/mpd_bench && rt run)'}
+# How the program is built, at the top of the repository.
+HOW = '(cd crates/mpdbg && rt run < ../../examples/first.trace)'
 
 
-def built(place, name):
-    """The path of a program: that of the command line at this place, else where it is built."""
-    path = sys.argv[place] if len(sys.argv) > place else os.path.join(TOP, 'crates', name, 'out', name)
+def built():
+    """The path of the program: that of the command line, else where it is built."""
+    path = sys.argv[1] if len(sys.argv) > 1 else os.path.join(TOP, 'crates', 'mpdbg', 'out', 'mpdbg')
     if os.path.isfile(path) and os.access(path, os.X_OK):
         return os.path.abspath(path)
-    print(f'{path} is no program: build it with {PROGRAMS[name]}', file=sys.stderr)
+    print(f'{path} is no program: build it with {HOW}', file=sys.stderr)
     sys.exit(2)
 
 
@@ -141,13 +144,14 @@ def inside(program):
 
 
 def main():
-    program, bench = built(1, 'mpdbg'), built(2, 'mpd_bench')
+    program = built()
     empty = best(program, b'mpd 1;\nranks 1;\n')
     reading(program, empty)
     local_steps(program, empty)
     messages(program)
     gather(program)
-    inside(bench)
+    with tempfile.TemporaryDirectory() as folder:
+        inside(named_or_built(sys.argv[2] if len(sys.argv) > 2 else None, folder))
 
 
 if __name__ == '__main__':

@@ -1,4 +1,4 @@
-"""Builds the program of calls: a crate of compare/probe/memory/, in a copy of the repository, compiled with no proof.
+"""Builds the program of calls: a crate of compare/probe/memory/ and direct/, in a copy of the repository, compiled with no proof.
 
 It keeps the checks of `rt try`'s compiled run but for AddressSanitizer, so that a library which refuses memory can be preloaded to it
 (bench/unproved.py, `--checked`).
@@ -20,6 +20,8 @@ from planted import plant
 
 CRATE = 'mpd_calls'
 SOURCES = f'{TOP}/compare/probe/memory'
+# Rows of calls that were worked out by hand, which the program has too.
+DIRECT = f'{TOP}/compare/probe/direct'
 # What the calls are of, and what these stand on.
 USED = ('atomic_blocks', 'crossbeam_deque', 'mpd_device', 'mpd_model', 'mpd_queue', 'mpd_match', 'mpd_script', 'mpd_code', 'mpd_rank', 'mpd_core',
         'mpd_trail', 'mpd_policy', 'mpd_explore', 'mpd_pieces', 'mpd_pool', 'mpd_lines', 'mpd_wire', 'mpd_session', 'mpd_shared', 'mpd_witness', 'mpd_check',
@@ -54,7 +56,7 @@ def add_crate(room):
     """Adds the crate of calls to a copy of the repository."""
     folder = f'{room}/crates/{CRATE}/src'
     os.makedirs(folder)
-    for path in glob.glob(f'{SOURCES}/*.rattle'):
+    for path in glob.glob(f'{SOURCES}/*.rattle') + glob.glob(f'{DIRECT}/*.rattle'):
         shutil.copy(path, f'{folder}/{os.path.basename(path).removesuffix(".rattle")}.rt')
     with open(f'{room}/crates.txt', 'a', encoding='utf-8') as file:
         file.write(f'{CRATE}: {" ".join(USED)}\n')

@@ -13,10 +13,12 @@ says so in place of an answer. A row of a call that takes no memory has made no 
 
 A call of which no row was answered want of memory fails, and so does a check by workers in which nothing that a worker was refused was
 made good by its caller. Each public function of the crates is named by some call of the program, or left out for a reason
-(call_coverage.py). The status is 0 where every row did one of these, and every call was met.
+(call_coverage.py). Rows of calls that were worked out by hand, whose answers the model has not (compare/probe/direct/), are asserted in the
+program itself, with nothing refused. The status is 0 where every row did one of these, and every call was met.
 """
 
 import argparse
+import glob
 import itertools
 import os
 import re
@@ -30,11 +32,11 @@ from typing import NamedTuple
 import call_consoles
 import refused_memory
 import session_memory
-from call_coverage import not_called
+from call_coverage import not_called, text_of
 from call_given import trail_text
 from call_models import wanted
 from call_rows import rows
-from calls_program import Body, TOP, build
+from calls_program import Body, DIRECT, TOP, build
 from debugger import Debugger, Result, divided
 from shims import built
 
@@ -240,6 +242,21 @@ def unmet(program, outcomes):
     yield from (f'{name}: never answered want of memory' for name in sorted(may_be - refused))
 
 
+def fails_directly(program, name):
+    """What is wrong with rows that the program asserts by itself."""
+    ended = subprocess.run([program, 'direct', name], stdin=subprocess.DEVNULL, capture_output=True, text=True, errors='replace', timeout=SECONDS)
+    return None if ended.returncode == 0 else f'direct {name}: status {ended.returncode}: {ended.stderr.strip()[:300]}'
+
+
+def direct_rows(program, jobs):
+    """What is wrong with rows of direct calls, those that stand in a file and aren't listed among it; and how many there are."""
+    names = subprocess.run([program, 'direct'], capture_output=True, text=True, check=True).stdout.split()
+    stand = {name for path in glob.glob(f'{DIRECT}/*_rows.rattle') for name in re.findall(r'(?m)^pub\(crate\) fn (\w+)', text_of(path))}
+    with ThreadPoolExecutor(jobs) as pool:
+        wrong = [it for it in pool.map(lambda name: fails_directly(program, name), names) if it]
+    return [*wrong, *(f'direct {name}: it is not tried' for name in sorted(stand - set(names)))], len(names)
+
+
 def summary(outcomes):
     """The counts of the table in docs/TRIED.md."""
     kinds = sum((it.kinds for it in outcomes), Counter())
@@ -249,12 +266,13 @@ def summary(outcomes):
     return f'{calls} calls in {len(outcomes) - spared} rows, {kinds.total()} refusals: {answers}; {spared} rows that take no memory'
 
 
-def report(program, outcomes):
+def report(program, outcomes, jobs):
     """Says what is wrong; answers whether nothing is."""
-    wrong = [f'{it.row.name}: {what}' for it in outcomes for what in it.wrong[:3]] + [*unmet(program, outcomes), *not_called()]
+    failed, direct = direct_rows(program, jobs)
+    wrong = [f'{it.row.name}: {what}' for it in outcomes for what in it.wrong[:3]] + [*unmet(program, outcomes), *not_called(), *failed]
     for text in wrong:
         print(text)
-    print(f'{summary(outcomes)}; {len(wrong)} wrong', flush=True)
+    print(f'{summary(outcomes)}; {direct} tests of direct calls; {len(wrong)} wrong', flush=True)
     return not wrong
 
 
@@ -275,6 +293,8 @@ def planted(folder, jobs):
     for body in bodies:
         chosen = [row for row in all_rows if row.name == body.row]
         said = [what for it in tried(program, chosen, jobs) for what in it.wrong]
+        if body.row.startswith('direct '):
+            said, chosen = [fails_directly(program, body.row.removeprefix('direct ')) or 'it holds'], [body.row]
         if not any(body.said in what for what in said):
             left += 1
             print(f'{body.name}: not noticed by {len(chosen)} rows; said was {said[:2]}')
@@ -295,7 +315,7 @@ def main():
         if not chosen.program:
             build(program)
         outcomes = tried(program, [row for row in rows() if chosen.call in (None, row.call)], chosen.jobs)
-        is_well = report(program, outcomes) if chosen.call is None else report_rows(outcomes)
+        is_well = report(program, outcomes, chosen.jobs) if chosen.call is None else report_rows(outcomes)
         if chosen.planted:
             is_well = planted(folder, chosen.jobs) and is_well
     return 0 if is_well else 1
