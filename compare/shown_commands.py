@@ -183,11 +183,16 @@ class Page:
             self.wrong(block.number, f'a block of a kind that is not known: {first}')
 
     def fenced(self, block):
-        """A script is that of an example, where it says what it shows, and else it is one; a state is one that its example answers."""
+        """A script is that of an example, where it says what it shows, and else it is one; a state is one that its example answers; a
+        function in Rattle stands in the program of direct calls (compare/probe/direct/)."""
         if block.lines[0].startswith('#'):
             self.compared += 1
             if block.text not in [read(path) for ending in ('mpd', 'sh', 'slurm') for path in glob.glob(f'{TOP}/examples/*.{ending}')]:
                 self.wrong(block.number, f'no example is this script: {block.lines[0]}')
+        elif block.lines[0].startswith('fn '):
+            self.compared += 1
+            if not any(f'\n{block.text}' in read(path) for path in glob.glob(f'{TOP}/compare/probe/direct/*.rattle')):
+                self.wrong(block.number, f'no program of calls has this function: {block.lines[0]}')
         elif block.lines[0] == 'mpd 1;':
             self.commands.append(Shown(f'{self.page}, line {block.number}', f"./mpdbg <<'---'\n{block.text}---", ''))
         elif block.lines[0].startswith('depth '):
