@@ -14,9 +14,9 @@ from ends_of_runs import ENDED, HUNG, TRAPPED, End
 HERE = os.path.dirname(os.path.abspath(__file__))
 # What a teacher would ask of a program: it compiles without a warning.
 STRICT = ('-std=c11', '-Wall', '-Wextra', '-pedantic', '-O1')
-# How long, in seconds, all ranks may take to begin, and how long nothing more may be written in a run that is taken for one that hangs,
-# and in one that must not hang.
-BEGINNING, SOON, LATE = 60, 1.0, 15.0
+# How long, in seconds, all ranks may take to begin, and how long nothing more is written in a run that is taken for one that hangs, where
+# it may.
+BEGINNING, SOON = 60, 1.0
 # How long the starter of a run that is over may take to end.
 CLEANING = 20
 # So often a run is tried again whose trap was not told: a starter that ends all ranks may drop what was written last.

@@ -4,7 +4,7 @@
     python3 compare/mpi.py PROGRAM --count 20    fewer of them, whose ends are told by `check`, `words` and `trace` of a program
     python3 compare/mpi.py --broken              faults of the text in C (mpi_faults.py), each of which must be noticed, alone
 
-Each script is written in C (c_text.py), compiled without a warning, and run under MPICH and under Open MPI: with the standard sends of the
+Each script is written in C (c_script.py), compiled without a warning, and run under MPICH and under Open MPI: with the standard sends of the
 library, with synchronous ones in their place, and with either by chance (mpi_shim.c, which also has each call wait a moment). A run ends with
 what each rank printed, traps with its rank, its trap and its line, or hangs with what was printed and which ranks had ended.
 
@@ -27,11 +27,11 @@ from random import Random
 from typing import NamedTuple
 
 import mpi_faults
-from c_text import c_text
+from c_script import c_text
 from ends_of_runs import HUNG, MODES_OF, NotWhole, is_of, is_told, listed, searched
 from explore_cases import KINDS, KINDS_OF_2, kind_of, script_of
 from language import Fault, Script, read_script
-from library_runs import LATE, LIBRARIES, SOON, NotCompiled, Odd, compiled, run
+from library_runs import LIBRARIES, SOON, NotCompiled, Odd, compiled, run
 from worked_mpi import ROWS
 
 TOP = os.path.join(os.path.dirname(os.path.abspath(__file__)), '..')
@@ -109,36 +109,39 @@ def is_allowed(case, sends, seen, met):
     return beyond
 
 
-def ran(case, library, program, sends, seed, folder, met):
+def ran(case, library, program, sends, seed, late, folder, met):
     """How a run ended; where it seems to hang, and may not, it is run again with more patience."""
     seen = run(library, program, case.script.ranks, sends, seed, SOON, folder)
     if seen.kind == HUNG and not is_allowed(case, sends, seen, Counter()):
         met['run again with more patience'] += 1
-        seen = run(library, program, case.script.ranks, sends, seed, LATE, folder)
+        seen = run(library, program, case.script.ranks, sends, seed, late, folder)
     return seen
 
 
-def runs_of(case, library, chosen, seed, folder, text=None):
-    """What is wrong with the runs of a case under a library, and what was met; a text stands in the place of its own, where one is given."""
+def runs_of(case, library, program, chosen, seed, folder, met):
+    """How the runs of a case end: with which sends, how, and what is wrong with it, or None; each is begun when it is asked for."""
+    for number in range(chosen.runs):
+        for sends in MODES_OF:
+            try:
+                seen = ran(case, library, program, sends, seed * 100 + number, chosen.late, folder, met)
+            except Odd as why:
+                yield None, f'{sends}: {why}'
+                continue
+            met.update(['runs', f'{seen.kind}, {library.name}'] + [f'one of several, {library.name}'] * (len(case.ends[sends]) > 1))
+            yield seen, None if is_allowed(case, sends, seen, met) else f'{sends}: {seen}'
+
+
+def compare_case(case, library, chosen, seed, folder):
+    """What is wrong with how a case ends under a library, and what was met."""
     met, wrong, seen_ends = Counter(), [], set()
     with tempfile.TemporaryDirectory(prefix='case-', dir=folder) as place:
         try:
-            program = compiled(library, place, c_text(case.script) if text is None else text)
+            program = compiled(library, place, c_text(case.script))
         except NotCompiled as why:
             return [f'{case.name}, {library.name}: not compiled: {why}'], met
-        for number in range(chosen.runs):
-            for sends in MODES_OF:
-                try:
-                    seen = ran(case, library, program, sends, seed * 100 + number, place, met)
-                except Odd as why:
-                    wrong.append(f'{case.name}, {library.name}, {sends}: {why}')
-                    continue
-                met['runs'] += 1
-                met[f'{seen.kind}, {library.name}'] += 1
-                met[f'one of several, {library.name}'] += len(case.ends[sends]) > 1
-                seen_ends |= {end for end in case.ends['plain'] if is_of(seen, end)}
-                if not is_allowed(case, sends, seen, met):
-                    wrong.append(f'{case.name}, {library.name}, {sends}: {seen}')
+        for seen, problem in runs_of(case, library, program, chosen, seed, place, met):
+            wrong += [] if problem is None else [f'{case.name}, {library.name}, {problem}']
+            seen_ends |= {end for end in case.ends['plain'] if seen is not None and is_of(seen, end)}
     met[f'ends seen, {library.name}'] += len(seen_ends)
     met[f'ends listed, {library.name}'] += len(case.ends['plain'])
     return wrong, met
@@ -159,7 +162,7 @@ def compare(chosen, libraries, folder):
 
     def of_number(number):
         case = cases[number] if number < len(cases) else random_case(chosen.seed, number - len(cases), chosen.program)
-        return case, [runs_of(case, library, chosen, number + 1, folder) for library in libraries]
+        return case, [compare_case(case, library, chosen, number + 1, folder) for library in libraries]
 
     with ThreadPoolExecutor(chosen.jobs) as pool:
         for case, parts in pool.map(of_number, range(len(cases) + chosen.count)):
@@ -179,9 +182,11 @@ def compare(chosen, libraries, folder):
 # ---- faults
 
 def is_noticed(fault, library, chosen, folder):
-    """Whether the runs of its row show a fault of the text in C."""
+    """Whether a run of its row shows a fault of the text in C."""
     case = row_case(next(row for row in ROWS if row.name == fault.row))
-    return bool(runs_of(case, library, chosen, 1, folder, fault.change(c_text(case.script)))[0])
+    with tempfile.TemporaryDirectory(prefix='fault-', dir=folder) as place:
+        program = compiled(library, place, fault.change(c_text(case.script)), ())
+        return any(problem is not None for _, problem in runs_of(case, library, program, chosen, 1, place, Counter()))
 
 
 def not_noticed(chosen, library, folder):
@@ -202,6 +207,7 @@ def main():
     parser.add_argument('--runs', type=int, default=1, help='how many runs of each script, with each kind of sends, under each library (1)')
     parser.add_argument('--seed', type=int, default=1)
     parser.add_argument('--jobs', type=int, default=1, help='how many scripts are run at a time, each by as many processes as it has ranks (1)')
+    parser.add_argument('--late', type=float, default=15.0, help='how many seconds a run that must not hang may write nothing (15)')
     parser.add_argument('--broken', action='store_true', help='faults of the text in C, each of which its row must show')
     chosen = parser.parse_args()
     libraries = [library for library in LIBRARIES if library.is_there()]

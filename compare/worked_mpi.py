@@ -69,7 +69,9 @@ ROWS = (
         if rank { send 8 to 0 tag 3; send 8 to 0 tag 4; }
         else { recv x from any tag any status x x; print x; irecv r x from 1 tag any status x x; wait r; print x; }''', ended((3, 4), ())),
     row('a synchronous send to oneself', 'mpd 1; ranks 1; print 1; ssend 1 to 0 tag 0; print 2;', hung((), (1,))),
-    row('a synchronous send that nobody receives', 'mpd 1; ranks 1; req r; issend r 1 to 0 tag 0; print 1; wait r; print 2;', hung((), (1,))),
+    row('a synchronous send that nobody receives', 'mpd 1; ranks 2; if rank == 0 { print 1; ssend 1 to 1 tag 0; print 2; }', hung((1,), (1,), ())),
+    row('a wait for a synchronous send that nobody receives', '''mpd 1; ranks 2; req r;
+        if rank { issend r 1 to 0 tag 0; print 1; wait r; print 2; }''', hung((0,), (), (1,))),
     row('sends head to head', '''mpd 1; ranks 2; var x;
         send rank + 10 to 1 - rank tag 0; recv x from 1 - rank tag 0; print x;''', ended((11,), (10,)), hung((), (), ()), synchronous=[hung((), (), ())]),
     row('arithmetic', '''mpd 1; ranks 1; var x; var y; x = 7; y = 10;
