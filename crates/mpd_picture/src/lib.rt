@@ -1,0 +1,7 @@
+//! P.
+#![tactic(auto)]
+
+mod mark;
+mod marks;
+mod shape;
+mod shapes;
