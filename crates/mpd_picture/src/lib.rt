@@ -1,6 +1,7 @@
 //! P.
 #![tactic(auto)]
 
+pub mod laws;
 mod mark;
 mod marks;
 mod shape;
