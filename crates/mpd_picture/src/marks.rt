@@ -63,11 +63,7 @@ fn push_went_on(
 }
 
 /// Adds that all ranks went on behind their last calls.
-fn push_all_went_on(
-    core: &Core<'_>,
-    marks: &mut Vec<Mark>,
-    row: usize,
-) -> Result<(), AllocError>
+fn push_all_went_on(core: &Core<'_>, marks: &mut Vec<Mark>, row: usize) -> Result<(), AllocError>
     ensures { OnOk result (marks.new.items ≡ marks.old.items ++ flat_map (spec.went_on core.now.world.board row) (rank_numbers core.now.world.board)) }
 {
     let count = core.rank_count();
@@ -109,18 +105,24 @@ fn push_step_marks(
 {
     match step {
         Step::Local(rank) => push_issued(core, marks, before, row, rank),
-        Step::Match(send, receive) => add(marks, Mark {
-            row,
-            event: Event::Paired(send, receive),
-        }),
+        Step::Match(send, receive) => add(
+            marks,
+            Mark {
+                row,
+                event: Event::Paired(send, receive),
+            },
+        ),
         Step::Wake(rank) | Step::WakeAny { rank, index: _ } => {
             push_went_on(core, marks, row.saturating_sub(1), rank)
         }
         Step::Release => {
-            add(marks, Mark {
-                row,
-                event: Event::Released,
-            })?;
+            add(
+                marks,
+                Mark {
+                    row,
+                    event: Event::Released,
+                },
+            )?;
             push_all_went_on(core, marks, row)
         }
     }
@@ -171,10 +173,7 @@ fn take_all(debugger: &mut Debugger<'_>, marks: &mut Vec<Mark>) -> Result<(), Al
 
 /// What the steps show of a debugger that keeps no undone step; it goes back, and takes them again.
 #[tactic(auto, using(crate::proofs::MarkLemmas::going_back))]
-fn marks_again(
-    alloc: Global,
-    debugger: &mut Debugger<'_>,
-) -> Result<Vec<Mark>, AllocError>
+fn marks_again(alloc: Global, debugger: &mut Debugger<'_>) -> Result<Vec<Mark>, AllocError>
     requires { length debugger.old.trail.steps ≡ debugger.old.trail.depth }
     ensures { IfOk result (λ marks. marks.items ≡ spec.marks_of debugger.old.trail.program debugger.old.trail.mode (kept debugger.old.trail)) }
 {

@@ -79,11 +79,14 @@ fn push_free(
     match core.board().kind(call) {
         Some(CallKind::Send(_)) => add(shapes, Shape::Stub { call, row }),
         Some(CallKind::Recv(_)) => {
-            add(shapes, Shape::Posted {
-                rank: call.rank,
-                from: row,
-                to: rows,
-            })?;
+            add(
+                shapes,
+                Shape::Posted {
+                    rank: call.rank,
+                    from: row,
+                    to: rows,
+                },
+            )?;
             add(shapes, Shape::Stub { call, row })
         }
         None | Some(CallKind::Wait(_)) | Some(CallKind::Waitany(_)) | Some(CallKind::Barrier) => {
@@ -118,17 +121,23 @@ fn push_pair(
 ) -> Result<(), AllocError>
     ensures { OnOk result (shapes.new.items ≡ shapes.old.items ++ spec.pair_shapes marks.now send receive row) }
 {
-    add(shapes, Shape::Posted {
-        rank: receive.rank,
-        from: row_of(marks, receive),
-        to: row,
-    })?;
-    add(shapes, Shape::Arrow {
-        send,
-        from: row_of(marks, send),
-        receive,
-        to: row,
-    })
+    add(
+        shapes,
+        Shape::Posted {
+            rank: receive.rank,
+            from: row_of(marks, receive),
+            to: row,
+        },
+    )?;
+    add(
+        shapes,
+        Shape::Arrow {
+            send,
+            from: row_of(marks, send),
+            receive,
+            to: row,
+        },
+    )
 }
 
 /// Adds the shapes of what a step shows.
@@ -145,11 +154,14 @@ fn push_mark(
     match mark.event {
         Event::Issued(call) => push_call(core, shapes, rows, call, row),
         Event::Paired(send, receive) => push_pair(marks, shapes, send, receive, row),
-        Event::WentOn(call) => add(shapes, Shape::Waiting {
-            rank: call.rank,
-            from: row_of(marks, call),
-            to: row,
-        }),
+        Event::WentOn(call) => add(
+            shapes,
+            Shape::Waiting {
+                rank: call.rank,
+                from: row_of(marks, call),
+                to: row,
+            },
+        ),
         Event::Released => add(shapes, Shape::Bar { row }),
     }
 }
@@ -177,11 +189,7 @@ fn push_lane(shapes: &mut Vec<Shape>, rank: usize, rows: usize) -> Result<(), Al
 }
 
 /// Adds the lanes.
-fn push_lanes(
-    core: &Core<'_>,
-    shapes: &mut Vec<Shape>,
-    rows: usize,
-) -> Result<(), AllocError>
+fn push_lanes(core: &Core<'_>, shapes: &mut Vec<Shape>, rows: usize) -> Result<(), AllocError>
     ensures { OnOk result (shapes.new.items ≡ shapes.old.items ++ flat_map (spec.lane_shapes rows) (rank_numbers core.now.world.board)) }
 {
     let count = core.rank_count();
@@ -212,11 +220,14 @@ fn push_end(
     ensures { OnOk result (shapes.new.items ≡ shapes.old.items ++ spec.end_shapes core.now.world marks.now rows rank) }
 {
     if waits(core, rank) {
-        add(shapes, Shape::Waiting {
-            rank,
-            from: row_of(marks, core.board().last_call(rank)),
-            to: rows,
-        })?;
+        add(
+            shapes,
+            Shape::Waiting {
+                rank,
+                from: row_of(marks, core.board().last_call(rank)),
+                to: rows,
+            },
+        )?;
     }
     add(shapes, Shape::End { rank, row: rows })
 }
