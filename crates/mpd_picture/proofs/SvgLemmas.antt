@@ -33,6 +33,6 @@ finish_running None f h k = cc
 finish_running (Some r) f h k = k ∙ sym (ap (finish_by r) (inside r.activity Running h))
 
 pub not_there : (w : World) (p : ℕ) (f : Finish) → length w.ranks ≤ p → IfSome (slice_get w.ranks p) (λ r. f ≡ finish_by r Running)
-not_there w p f h = subst (λ (o : Option RankWorld). IfSome o (λ r. f ≡ finish_by r Running)) (sym (slice_get_past w.ranks p h)) refl
+not_there w p f h = subst (λ (o : Option RankWorld). IfSome o (λ r. f ≡ finish_by r Running)) (sym (slice_get_past w.ranks p h)) tt
 
 pub ruleset finishing = (finish_none, finish_blocked, finish_trapped, finish_running, not_there)

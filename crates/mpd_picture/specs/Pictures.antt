@@ -40,8 +40,11 @@ title_of b depth o = decimal (length b.calls) ++ codes " ranks, " ++ mode_word b
 unfoldable pub size_attributes : ℕ → ℕ → List ℕ
 size_attributes width height = attribute (codes " width=\"") width ++ attribute (codes " height=\"") height
 
+unfoldable pub box_begun : List ℕ
+box_begun = codes " viewBox=\"0 0 "
+
 unfoldable pub box_attribute : ℕ → ℕ → List ℕ
-box_attribute width height = codes " viewBox=\"0 0 " ++ decimal width ++ codes " " ++ decimal height ++ codes "\">\n"
+box_attribute width height = box_begun ++ decimal width ++ codes " " ++ decimal height ++ codes "\">\n"
 
 unfoldable pub title_element : List ℕ → List ℕ
 title_element title = codes "<title>" ++ title ++ codes "</title>\n"

@@ -34,9 +34,11 @@ pub enum DrawFault {
 }
 
 impl From<AllocError> for DrawFault {
-    ghost from_gives = { λ fault e. e ≡ DrawFault.Memory };
+    ghost use Rattle.mpd_picture.specs.declared.draw.DrawFault.TheVariants.{Memory};
 
-    fn from(_fault: AllocError) -> DrawFault {
+    ghost from_gives = { λ _ e. e ≡ Memory };
+
+    fn from(_: AllocError) -> DrawFault {
         DrawFault::Memory
     }
 }
@@ -90,12 +92,22 @@ fn push_size(out: &mut String, width: usize, height: usize) -> Result<(), AllocE
     push_attribute(out, " height=\"", height)
 }
 
+/// Adds the beginning of the box that is seen.
+#[tactic(auto, unfolding(crate::specs::Pictures::box_begun))]
+fn push_box_begun(out: &mut String) -> Result<(), AllocError>
+    ensures { OnOk result (string_bytes out.new ≡ string_bytes out.old ++ spec.box_begun) }
+{
+    out.push_str(" viewBox=\"0 0 ")
+}
+
 /// Adds the box that is seen.
 #[tactic(auto, unfolding(crate::specs::Pictures::box_attribute))]
 fn push_box(out: &mut String, width: usize, height: usize) -> Result<(), AllocError>
     ensures { OnOk result (string_bytes out.new ≡ string_bytes out.old ++ spec.box_attribute width height) }
 {
-    write!(out, " viewBox=\"0 0 {width} {height}\">\n")
+    push_box_begun(out)?;
+    write!(out, "{width} {height}")?;
+    out.push_str("\">\n")
 }
 
 /// Adds the title.
