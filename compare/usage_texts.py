@@ -20,14 +20,16 @@ Without words it reads a script from standard input, up to a line ---, and answe
 Usage: mpdbg <COMMAND>
 
 Commands:
-  trace   Trace the script of a file
-  debug   Debug the script of a file, at a prompt
-  run     Answer JSON requests on the script of a file
-  serve   Answer JSON requests of several clients, on one session
-  check   Look for deadlocks: try the choices of wildcard receives one after another
-  verify  Check a witness that check has written
-  words   Write the trace words of the run with these choices
-  help    Print this message or the help of the given subcommand(s)
+  trace    Trace the script of a file
+  debug    Debug the script of a file, at a prompt
+  run      Answer JSON requests on the script of a file
+  serve    Answer JSON requests of several clients, on one session
+  check    Look for deadlocks: try the choices of wildcard receives one after another
+  verify   Check a witness that check has written
+  words    Write the trace words of the run with these choices
+  c        Write the script of a file as a C program with MPI calls
+  picture  Draw a run of the script of a file, as SVG
+  help     Print this message or the help of the given subcommand(s)
 
 Options:
   -h, --help     Print help
@@ -195,6 +197,46 @@ Example:
   ./mpdbg words examples/race.mpd --choices '0' | ./mpdbg trace examples/race.mpd
 """
 
+C = """\
+Write the script of a file as a C program with MPI calls
+
+Usage: mpdbg c <FILE>
+
+Arguments:
+  <FILE>  The script
+
+Options:
+  -h, --help  Print help
+
+It is one file of C11, for as many processes as the script has ranks.
+
+Example:
+  ./mpdbg c examples/race.mpd > race.c
+"""
+
+PICTURE = """\
+Draw a run of the script of a file, as SVG
+
+Usage: mpdbg picture [OPTIONS] <FILE>
+
+Arguments:
+  <FILE>  The script
+
+Options:
+      --mode <M>           How standard sends behave: rendezvous, buffered, or slots:K with K from 0 to 65536 [default: rendezvous]
+      --choices <C>        Draw the run with these choices, numbers from 0 with spaces between them
+      --witness <WITNESS>  Draw the run of a witness or a report
+      --words <WORDS>      Draw the run of a file of trace words, one a line
+      --fuel <N>           How many steps a run takes at most, 1 to 1000000 [default: 100000]
+  -h, --help               Print help
+
+One of --choices, --witness and --words says which run is drawn. Without them it is the run of the
+first candidates. --fuel is for a run of choices or of first candidates.
+
+Example:
+  ./mpdbg picture examples/race.mpd --choices '1' > race.svg
+"""
+
 VERSION = 'mpdbg 0.1.0\n'
 
 # What is told of a word that names no mode, at a terminal.
@@ -218,13 +260,16 @@ ANSWERS = (
     ('check|a|--ends|--sample|65536|--seed=18446744073709551615|--explain|--group|-h', CHECK),
     ('verify|--help', VERIFY), ('verify|-h', VERIFY), ('help|verify', VERIFY), ('verify|a|b|--help', VERIFY),
     ('verify|a|b|--leaf|67108863|-h', VERIFY),
-    ('words|--help', WORDS), ('words|-h', WORDS), ('help|words', WORDS), ('words|no-such-file|--choices|x|--mode|no-mode|--help', WORDS))
+    ('words|--help', WORDS), ('words|-h', WORDS), ('help|words', WORDS), ('words|no-such-file|--choices|x|--mode|no-mode|--help', WORDS),
+    ('c|--help', C), ('c|-h', C), ('help|c', C), ('c|no-such-file|--help', C),
+    ('picture|--help', PICTURE), ('picture|-h', PICTURE), ('help|picture', PICTURE),
+    ('picture|no-such-file|--choices|x|--words=w|--witness|w|--fuel|7|--mode|no-mode|--help', PICTURE))
 
 NO_COMMAND = 'mpdbg <COMMAND>'
-OF_TRACE, OF_DEBUG, OF_RUN, OF_SERVE, OF_CHECK, OF_VERIFY, OF_WORDS = (
+OF_TRACE, OF_DEBUG, OF_RUN, OF_SERVE, OF_CHECK, OF_VERIFY, OF_WORDS, OF_C, OF_PICTURE = (
     f'mpdbg {rest}' for rest in ('trace [OPTIONS] <FILE>', 'debug [OPTIONS] <FILE>', 'run [OPTIONS] <FILE>',
                                  'serve [OPTIONS] --port <P> --clients <N> <FILE>', 'check [OPTIONS] <FILE>',
-                                 'verify [OPTIONS] <FILE> <WITNESS>', 'words [OPTIONS] --choices <C> <FILE>'))
+                                 'verify [OPTIONS] <FILE> <WITNESS>', 'words [OPTIONS] --choices <C> <FILE>', 'c <FILE>', 'picture [OPTIONS] <FILE>'))
 # What `serve` wants, where something that was given is named.
 WANTED_OF_SERVE = 'mpdbg serve --port <P> --clients <N> <FILE>'
 # And what `words` wants.
@@ -283,6 +328,10 @@ MISTAKES = (
     Mistake('verfy|a|b', "unrecognized subcommand 'verfy'", NO_COMMAND, "a similar subcommand exists: 'verify'"),
     Mistake('word|a', "unrecognized subcommand 'word'", NO_COMMAND, "a similar subcommand exists: 'words'"),
     Mistake('help|words|x', "unrecognized subcommand 'x'", OF_WORDS),
+    Mistake('C|a', "unrecognized subcommand 'C'", NO_COMMAND),
+    Mistake('help|c|x', "unrecognized subcommand 'x'", OF_C),
+    Mistake('pictur|a', "unrecognized subcommand 'pictur'", NO_COMMAND, "a similar subcommand exists: 'picture'"),
+    Mistake('help|picture|x', "unrecognized subcommand 'x'", OF_PICTURE),
     Mistake('a.mpd', "unrecognized subcommand 'a.mpd'", NO_COMMAND),
     Mistake('', "unrecognized subcommand ''", NO_COMMAND),
     Mistake('help|trac', "unrecognized subcommand 'trac'", NO_COMMAND),
@@ -293,6 +342,7 @@ MISTAKES = (
     unknown('--witness|w|debug|a', '--witness', NO_COMMAND, "'debug --witness' exists"),
     unknown('--port|1|serve|a|--clients|1', '--port', NO_COMMAND, "'serve --port' exists"),
     unknown('--choices|0|words|a', '--choices', NO_COMMAND, "'words --choices' exists"),
+    unknown('--words|w|picture|a', '--words', NO_COMMAND, "'picture --words' exists"),
     unknown('--|trace|a', 'trace', NO_COMMAND, "subcommand 'trace' exists; to use it, remove the '--' before it"),
     # files, and options that must be there
     missing('trace', ['<FILE>'], 'mpdbg trace <FILE>'),
@@ -322,6 +372,10 @@ MISTAKES = (
     missing('words|a', ['--choices <C>'], WANTED_OF_WORDS),
     missing('words|--choices|0', ['<FILE>'], WANTED_OF_WORDS),
     missing('words|a|--fuel|5', ['--choices <C>'], 'mpdbg words --choices <C> --fuel <N> <FILE>'),
+    missing('c', ['<FILE>'], OF_C),
+    missing('picture', ['<FILE>'], 'mpdbg picture <FILE>'),
+    missing('picture|--words|w', ['<FILE>'], 'mpdbg picture --words <WORDS> <FILE>'),
+    missing('picture|--choices|0|--fuel|5', ['<FILE>'], 'mpdbg picture --choices <C> --fuel <N> <FILE>'),
     unknown('trace|a|b', 'b', OF_TRACE),
     unknown('debug|a|b', 'b', OF_DEBUG),
     unknown('debug|a|--witness|--|b', 'b', OF_DEBUG),
@@ -331,6 +385,8 @@ MISTAKES = (
     unknown('verify|a|b|c', 'c', OF_VERIFY),
     unknown('words|a|b|--choices|0', 'b', OF_WORDS),
     unknown('words|a|--choices|0|1', '1', OF_WORDS),
+    unknown('c|a|b', 'b', OF_C),
+    unknown('picture|a|b', 'b', OF_PICTURE),
     # options
     unknown('trace|a|--mod|buffered', '--mod', 'mpdbg trace --mode <M> <FILE>', "a similar argument exists: '--mode'"),
     unknown('debug|a|--witnes|w', '--witnes', 'mpdbg debug --witness <WITNESS> <FILE>', "a similar argument exists: '--witness'"),
@@ -381,6 +437,12 @@ MISTAKES = (
     hyphened('words|a|--choices|-1', '-1', OF_WORDS),
     hyphened('words|a|-c|0', '-c', OF_WORDS),
     hyphened('words|a|--runs|5', '--runs', WANTED_OF_WORDS),
+    hyphened('c|a|--mode|buffered', '--mode', OF_C),
+    hyphened('c|a|-c', '-c', OF_C),
+    unknown('picture|a|--word|w', '--word', 'mpdbg picture --words <WORDS> <FILE>', "a similar argument exists: '--words'"),
+    unknown('picture|a|--laid_witness|w', '--laid_witness', 'mpdbg picture --witness <WITNESS> <FILE>', "a similar argument exists: '--witness'"),
+    hyphened('picture|a|--runs|5', '--runs', 'mpdbg picture <FILE>'),
+    hyphened('picture|a|-c|0', '-c', OF_PICTURE),
     hyphened('trace|a|--ends', '--ends', 'mpdbg trace <FILE>'),
     Mistake('trace|a|--mode', "a value is required for '--mode <M>' but none was supplied"),
     Mistake('check|a|--fuel', "a value is required for '--fuel <N>' but none was supplied"),
@@ -421,6 +483,10 @@ MISTAKES = (
     Mistake('check|a|--group=a', "unexpected value 'a' for '--group' found; no more were expected", 'mpdbg check --group <FILE>'),
     Mistake('verify|a|b|--leaf|1|--leaf=1', "the argument '--leaf <N>' cannot be used multiple times", OF_VERIFY),
     Mistake('words|a|--choices|0|--choices=0', "the argument '--choices <C>' cannot be used multiple times", OF_WORDS),
+    Mistake('picture|a|--words', "a value is required for '--words <WORDS>' but none was supplied"),
+    Mistake('picture|a|--witness|--words|w', "a value is required for '--witness <WITNESS>' but none was supplied"),
+    Mistake('picture|a|--choices|0|--choices=1', "the argument '--choices <C>' cannot be used multiple times", OF_PICTURE),
+    Mistake('picture|a|--words=w|--words=w', "the argument '--words <WORDS>' cannot be used multiple times", OF_PICTURE),
     Mistake('check|a|--pieces|--pieces', "the argument '--pieces' cannot be used multiple times", OF_CHECK),
     Mistake('check|a|--pieces=5', "unexpected value '5' for '--pieces' found; no more were expected", 'mpdbg check --pieces <FILE>'),
     Mistake('check|a|--witness|--witness', "the argument '--witness' cannot be used multiple times", OF_CHECK),
@@ -463,6 +529,8 @@ MISTAKES = (
     bad_number('verify|a|b|--leaf=one', 'one', 'leaf', NO_DIGIT),
     bad_number('words|a|--choices|0|--fuel|0', '0', 'fuel', '0 is not in 1..=1000000'),
     bad_number('words|a|--fuel=1000001', '1000001', 'fuel', '1000001 is not in 1..=1000000'),
+    bad_number('picture|a|--fuel|0', '0', 'fuel', '0 is not in 1..=1000000'),
+    bad_number('picture|a|--fuel=1000001', '1000001', 'fuel', '1000001 is not in 1..=1000000'),
     bad_number('check|a|--runs=', '', 'runs', 'cannot parse integer from empty string'),
     bad_number('check|a|--runs|99999999999999999999', '99999999999999999999', 'runs', TOO_LARGE))
 

@@ -14,7 +14,7 @@ use Rattle.clap.specs.declared.builder.value_parser.Reading.{Reading}
 use Rattle.clap.specs.declared.error.kind.ErrorKind.TheVariants as kind
 use Rattle.clap.specs.declared.parser.matches.ValueSource.TheVariants.{DefaultValue}
 use Rattle.clap.proofs.OnLiterals.{clap_on_literals}
-use Rattle.mpd_options.specs.Asked.{Asked, Item, Said, Tool, checker, debug, debugger, default_of, fits, found, found_check, found_in, found_of_file, found_options, found_serve, found_verify, found_words, most_clients, most_fuel, most_leaf, most_modes, most_piece, most_port, most_runs, most_sample, most_seed, most_split, most_workers, name_of, number_if_given, or_default, said_of, text_in, text_of, the_choices, the_clients, the_complete, the_ends, the_explain, the_file, the_fuel, the_group, the_laid_witness, the_leaf, the_mode, the_modes, the_piece, the_pieces, the_port, the_runs, the_sample, the_seed, the_split, the_until, the_witness, the_witness_file, the_workers, run, runner, server, teller, trace, tracer, until_bad_in, verifier}
+use Rattle.mpd_options.specs.Asked.{Asked, Item, Said, Tool, checker, debug, debugger, default_of, fits, found, found_check, found_in, found_of_file, found_options, found_picture, found_serve, found_verify, found_words, most_clients, most_fuel, most_leaf, most_modes, most_piece, most_port, most_runs, most_sample, most_seed, most_split, most_workers, name_of, number_if_given, or_default, painter, said_of, text_in, text_of, the_choices, the_clients, the_complete, the_ends, the_explain, the_file, the_fuel, the_group, the_laid_witness, the_leaf, the_mode, the_modes, the_piece, the_pieces, the_port, the_runs, the_sample, the_seed, the_split, the_until, the_witness, the_witness_file, the_words, the_workers, run, runner, server, teller, trace, tracer, translate, translator, until_bad_in, verifier}
 use Rattle.mpd_options.specs.Numbers.{flag_in, number_in}
 use Rattle.mpd_options.specs.declared.options.CheckOptions.{CheckOptions}
 use Rattle.mpd_options.specs.Program.{Lies}
@@ -141,6 +141,7 @@ checker_row lie the_pieces = refl
 checker_row lie the_leaf = refl
 checker_row lie the_choices = refl
 checker_row lie the_laid_witness = refl
+checker_row lie the_words = refl
 
 verifier_file : (lie : Lies) → rules_row (name_of the_file) (rules lie verifier) ≡ default_row the_file
 unfolding clap_on_literals
@@ -173,6 +174,34 @@ teller_mode lie = refl
 teller_fuel : (lie : Lies) → rules_row (name_of the_fuel) (rules lie teller) ≡ default_row the_fuel
 unfolding clap_on_literals
 teller_fuel lie = refl
+
+translator_file : (lie : Lies) → rules_row (name_of the_file) (rules lie translator) ≡ default_row the_file
+unfolding clap_on_literals
+translator_file lie = refl
+
+painter_file : (lie : Lies) → rules_row (name_of the_file) (rules lie painter) ≡ default_row the_file
+unfolding clap_on_literals
+painter_file lie = refl
+
+painter_mode : (lie : Lies) → rules_row (name_of the_mode) (rules lie painter) ≡ default_row the_mode
+unfolding clap_on_literals
+painter_mode lie = refl
+
+painter_choices : (lie : Lies) → rules_row (name_of the_choices) (rules lie painter) ≡ default_row the_choices
+unfolding clap_on_literals
+painter_choices lie = refl
+
+painter_witness : (lie : Lies) → rules_row (name_of the_laid_witness) (rules lie painter) ≡ default_row the_laid_witness
+unfolding clap_on_literals
+painter_witness lie = refl
+
+painter_words : (lie : Lies) → rules_row (name_of the_words) (rules lie painter) ≡ default_row the_words
+unfolding clap_on_literals
+painter_words lie = refl
+
+painter_fuel : (lie : Lies) → rules_row (name_of the_fuel) (rules lie painter) ≡ default_row the_fuel
+unfolding clap_on_literals
+painter_fuel lie = refl
 
 -- ---- what is found at last
 
@@ -230,6 +259,7 @@ text_ended lie the_pieces said h = one_ended lie checker the_pieces said (checke
 text_ended lie the_leaf said h = one_ended lie checker the_leaf said (checker_row lie the_leaf) h
 text_ended lie the_choices said h = first_ended lie checker the_choices said (checker_row lie the_choices) h
 text_ended lie the_laid_witness said h = first_ended lie checker the_laid_witness said (checker_row lie the_laid_witness) h
+text_ended lie the_words said h = first_ended lie checker the_words said (checker_row lie the_words) h
 
 verify_same : (f f' w w' m m' l l' : Option Text) → f ≡ f' → w ≡ w' → m ≡ m' → l ≡ l' → found_verify f w m (number_if_given 0 most_leaf l) ≡ found_verify f' w' m' (number_if_given 0 most_leaf l')
 verify_same f f' w w' m m' l l' a b c d = rw (a, b, c, d) refl
@@ -239,6 +269,10 @@ words_same f f' c c' m m' n n' a b d e = rw (a, b, d, e) refl
 
 debug_same : (f f' m m' w w' : Option Text) → f ≡ f' → m ≡ m' → w ≡ w' → found_of_file (λ file mode. debug file mode w) f m ≡ found_of_file (λ file mode. debug file mode w') f' m'
 debug_same f f' m m' w w' a b c = rw (a, b, c) refl
+
+picture_same : (f f' m m' n n' c c' w w' x x' : Option Text) → f ≡ f' → m ≡ m' → n ≡ n' → c ≡ c' → w ≡ w' → x ≡ x'
+    → found_picture f m (option_and_then (number_in 1 most_fuel) n) c w x ≡ found_picture f' m' (option_and_then (number_in 1 most_fuel) n') c' w' x'
+picture_same f f' m m' n n' c c' w w' x x' a b d e g h = rw (a, b, d, e, g, h) refl
 
 pub found_ended : (lie : Lies) (t : Tool) (said : Said) → Valid said → found_in t (ended lie t said) ≡ found t (text_of said)
 found_ended lie tracer said h = ap₂ (found_of_file trace) (first_ended lie tracer the_file said (tracer_file lie) h) (first_ended lie tracer the_mode said (tracer_mode lie) h)
@@ -254,6 +288,10 @@ found_ended lie verifier said h =
 found_ended lie teller said h =
     words_same _ _ _ _ _ _ _ _ (first_ended lie teller the_file said (teller_file lie) h) (first_ended lie teller the_choices said (teller_choices lie) h) (first_ended lie teller the_mode said (teller_mode lie) h)
     (one_ended lie teller the_fuel said (teller_fuel lie) h)
+found_ended lie translator said h = ap (option_map translate) (first_ended lie translator the_file said (translator_file lie) h)
+found_ended lie painter said h =
+    picture_same _ _ _ _ _ _ _ _ _ _ _ _ (first_ended lie painter the_file said (painter_file lie) h) (first_ended lie painter the_mode said (painter_mode lie) h) (one_ended lie painter the_fuel said (painter_fuel lie) h)
+    (first_ended lie painter the_choices said (painter_choices lie) h) (first_ended lie painter the_laid_witness said (painter_witness lie) h) (first_ended lie painter the_words said (painter_words lie) h)
 
 -- ---- something is asked for where all was said that must be
 
@@ -281,7 +319,7 @@ item_named name =
     else (if bytes_eq name (codes "pieces") then Some the_pieces
     else (if bytes_eq name (codes "leaf") then Some the_leaf
     else (if bytes_eq name (codes "choices") then Some the_choices
-    else (if bytes_eq name (codes "laid_witness") then Some the_laid_witness else None))))))))))))))))))))))
+    else (if bytes_eq name (codes "laid_witness") then Some the_laid_witness else (if bytes_eq name (codes "words") then Some the_words else None)))))))))))))))))))))))
 
 named_is : (i : Item) → item_named (name_of i) ≡ Some i
 named_is the_file = refl
@@ -307,6 +345,7 @@ named_is the_pieces = refl
 named_is the_leaf = refl
 named_is the_choices = refl
 named_is the_laid_witness = refl
+named_is the_words = refl
 
 same_item : (i j : Item) → bytes_eq (name_of i) (name_of j) ≡ true → i ≡ j
 same_item i j e = (let same : Some i ≡ Some j = sym (named_is i) ∙ ap item_named ((bytes_eq-Decides (name_of i) (name_of j)).0 e) ∙ named_is j in cc)
@@ -396,7 +435,17 @@ is_words (Some f) (Some c) None d (Some n) e = refl
 is_words (Some f) (Some c) (Some m) d (Some n) e = refl
 is_words (Some f) (Some c) m d None e = cc
 
--- each item is there that must be: the files, and the options that have no default
+is_translate : (f : Option Text) → is_some (option_map translate (or_default f None)) ≡ is_some f
+is_translate None = refl
+is_translate (Some f) = refl
+
+is_picture : (f m : Option Text) (d : Text) (n : Option ℕ) (c w x : Option Text) → is_some n ≡ true → is_some (found_picture (or_default f None) (or_default m (Some d)) n c w x) ≡ is_some f
+is_picture None m d n c w x e = refl
+is_picture (Some f) None d (Some n) c w x e = refl
+is_picture (Some f) (Some m) d (Some n) c w x e = refl
+is_picture (Some f) m d None c w x e = cc
+
+-- each item is there that must be: the files, and the options that have no default, where the command wants them
 abbrev has_needed : Tool → (Item → Bool) → Bool
 has_needed tracer has = has the_file
 has_needed debugger has = has the_file
@@ -405,6 +454,8 @@ has_needed server has = has the_file && (has the_port && has the_clients)
 has_needed checker has = has the_file
 has_needed verifier has = has the_file && has the_witness_file
 has_needed teller has = has the_file && has the_choices
+has_needed translator has = has the_file
+has_needed painter has = has the_file
 
 -- whether something was said of an item
 abbrev is_said : Said → Item → Bool
@@ -424,6 +475,10 @@ asks_if_needed verifier said h =
     (given_number 0 most_leaf (said_of the_leaf said) (λ v e. said_fits the_leaf v said h e))
 asks_if_needed teller said h =
     is_words (said_of the_file said) (said_of the_choices said) (said_of the_mode said) (codes "rendezvous") (option_and_then (number_in 1 most_fuel) (text_of said the_fuel))
+    (read_said (number_in 1 most_fuel) (codes "100000") (said_of the_fuel said) refl (λ v e. said_fits the_fuel v said h e))
+asks_if_needed translator said h = is_translate (said_of the_file said)
+asks_if_needed painter said h =
+    is_picture (said_of the_file said) (said_of the_mode said) (codes "rendezvous") (option_and_then (number_in 1 most_fuel) (text_of said the_fuel)) (text_of said the_choices) (text_of said the_laid_witness) (text_of said the_words)
     (read_said (number_in 1 most_fuel) (codes "100000") (said_of the_fuel said) refl (λ v e. said_fits the_fuel v said h e))
 
 -- ---- faults at the end
@@ -450,6 +505,8 @@ needed_given lie server said h =
 needed_given lie checker said h = given_said lie checker the_file said (checker_row lie the_file) refl h
 needed_given lie verifier said h = ap₂ (λ a b. a && b) (given_said lie verifier the_file said (verifier_file lie) refl h) (given_said lie verifier the_witness_file said (verifier_witness lie) refl h)
 needed_given lie teller said h = ap₂ (λ a b. a && b) (given_said lie teller the_file said (teller_file lie) refl h) (given_said lie teller the_choices said (teller_choices lie) refl h)
+needed_given lie translator said h = given_said lie translator the_file said (translator_file lie) refl h
+needed_given lie painter said h = given_said lie painter the_file said (painter_file lie) refl h
 
 -- the fault of what is left out, by whether nothing is
 abbrev missing_by : Bool → Kinds
@@ -479,6 +536,8 @@ check_is lie server rows = not_all (is_given (codes "FILE") rows) (is_given (cod
 check_is lie checker rows = not_one (is_given (codes "FILE") rows)
 check_is lie verifier rows = not_both (is_given (codes "FILE") rows) (is_given (codes "WITNESS") rows)
 check_is lie teller rows = not_both (is_given (codes "FILE") rows) (is_given (codes "choices") rows)
+check_is lie translator rows = not_one (is_given (codes "FILE") rows)
+check_is lie painter rows = not_one (is_given (codes "FILE") rows)
 
 with_needed : (lie : Lies) (t : Tool) (rows : List Row) → has_needed t (is_given_in rows) ≡ true → check_fault (sub lie t) rows false ≡ []
 with_needed lie t rows e = check_is lie t rows ∙ ap missing_by e
@@ -510,6 +569,8 @@ takes_defaults lie server = (refl, (refl, (refl, (refl, (refl, tt)))))
 takes_defaults lie checker = (refl, (refl, (refl, (refl, (refl, (refl, (refl, (refl, (refl, (refl, (refl, (refl, (refl, (refl, (refl, (refl, (refl, (refl, tt))))))))))))))))))
 takes_defaults lie verifier = (refl, (refl, (refl, (refl, (refl, tt)))))
 takes_defaults lie teller = (refl, (refl, (refl, (refl, (refl, tt)))))
+takes_defaults lie translator = (refl, (refl, tt))
+takes_defaults lie painter = (refl, (refl, (refl, (refl, (refl, (refl, (refl, tt)))))))
 
 -- ---- what is held is settled
 

@@ -16,7 +16,7 @@ use Rattle.clap.specs.declared.error.kind.ErrorKind.TheVariants as kind
 use Rattle.clap.specs.declared.parser.matches.ValueSource.{ValueSource}
 use Rattle.clap.specs.declared.parser.matches.ValueSource.TheVariants.{CommandLine}
 use Rattle.clap.proofs.OnLiterals.{clap_on_literals}
-use Rattle.mpd_options.specs.Asked.{Item, Said, Tool, checker, debugger, fits, most_clients, most_fuel, most_leaf, most_modes, most_piece, most_port, most_runs, most_sample, most_seed, most_split, most_workers, name_of, said_named, said_of, spelling_of, the_choices, the_clients, the_complete, the_ends, the_explain, the_file, the_fuel, the_group, the_laid_witness, the_leaf, the_mode, the_modes, the_piece, the_pieces, the_port, the_runs, the_sample, the_seed, the_split, the_until, the_witness, the_witness_file, the_workers, runner, server, teller, tracer, verifier}
+use Rattle.mpd_options.specs.Asked.{Item, Said, Tool, checker, debugger, fits, most_clients, most_fuel, most_leaf, most_modes, most_piece, most_port, most_runs, most_sample, most_seed, most_split, most_workers, name_of, painter, said_named, said_of, spelling_of, the_choices, the_clients, the_complete, the_ends, the_explain, the_file, the_fuel, the_group, the_laid_witness, the_leaf, the_mode, the_modes, the_piece, the_pieces, the_port, the_runs, the_sample, the_seed, the_split, the_until, the_witness, the_witness_file, the_words, the_workers, runner, server, teller, tracer, translator, verifier}
 use Rattle.mpd_options.specs.Program.{Lies, mpdbg_app, only_deadlock}
 use Rattle.mpd_options.proofs.NumberReads.{accepts_number}
 
@@ -28,6 +28,8 @@ called server = codes "serve"
 called checker = codes "check"
 called verifier = codes "verify"
 called teller = codes "words"
+called translator = codes "c"
+called painter = codes "picture"
 
 -- the first of these commands that a word names
 abbrev pub named_among : List Tool → Text → Option Tool
@@ -35,7 +37,7 @@ named_among [] word = None
 named_among (t ∷ tools) word = if bytes_eq word (called t) then Some t else named_among tools word
 
 abbrev pub tools : List Tool
-tools = tracer ∷ debugger ∷ runner ∷ server ∷ checker ∷ verifier ∷ teller ∷ []
+tools = tracer ∷ debugger ∷ runner ∷ server ∷ checker ∷ verifier ∷ teller ∷ translator ∷ painter ∷ []
 
 -- the word names none of these commands
 abbrev pub NamesNone : Text → List Tool → Type 0
@@ -58,6 +60,8 @@ sub lie server = option_map_or (λ s. s) (find (λ s. answers_to (codes "serve")
 sub lie checker = option_map_or (λ s. s) (find (λ s. answers_to (codes "check") (label_of s)) (built (mpdbg_app (only_deadlock lie))).subs) (new_shape [])
 sub lie verifier = option_map_or (λ s. s) (find (λ s. answers_to (codes "verify") (label_of s)) (built (mpdbg_app (only_deadlock lie))).subs) (new_shape [])
 sub lie teller = option_map_or (λ s. s) (find (λ s. answers_to (codes "words") (label_of s)) (built (mpdbg_app (only_deadlock lie))).subs) (new_shape [])
+sub lie translator = option_map_or (λ s. s) (find (λ s. answers_to (codes "c") (label_of s)) (built (mpdbg_app (only_deadlock lie))).subs) (new_shape [])
+sub lie painter = option_map_or (λ s. s) (find (λ s. answers_to (codes "picture") (label_of s)) (built (mpdbg_app (only_deadlock lie))).subs) (new_shape [])
 
 abbrev pub rules : Lies → Tool → List Rule
 rules lie t = (sub lie t).rules
@@ -103,6 +107,13 @@ asks teller the_mode = true
 asks teller the_choices = true
 asks teller the_fuel = true
 asks teller _ = false
+asks translator _ = false
+asks painter the_mode = true
+asks painter the_choices = true
+asks painter the_laid_witness = true
+asks painter the_words = true
+asks painter the_fuel = true
+asks painter _ = false
 
 -- the witness has a word of its own
 abbrev pub reads_witness : Tool → Bool
@@ -113,6 +124,8 @@ reads_witness server = false
 reads_witness checker = false
 reads_witness verifier = true
 reads_witness teller = false
+reads_witness translator = false
+reads_witness painter = false
 
 -- and the files
 abbrev pub keeps : Tool → Item → Bool
@@ -133,6 +146,7 @@ keeps t the_piece = asks t the_piece
 keeps t the_leaf = asks t the_leaf
 keeps t the_choices = asks t the_choices
 keeps t the_laid_witness = asks t the_laid_witness
+keeps t the_words = asks t the_words
 keeps t _ = false
 
 mode_alone : (Q : Item → Type 0) → Q the_mode → (i : Item) → is_mode i ≡ true → Q i
@@ -148,89 +162,107 @@ EachAsks P server = P server the_mode × P server the_port × P server the_clien
 EachAsks P checker = P checker the_mode × P checker the_modes × P checker the_runs × P checker the_fuel × P checker the_split × P checker the_workers × P checker the_sample × P checker the_seed × P checker the_until × P checker the_piece
 EachAsks P verifier = P verifier the_mode × P verifier the_leaf
 EachAsks P teller = P teller the_mode × P teller the_choices × P teller the_fuel
+EachAsks P translator = Unit {0}
+EachAsks P painter = P painter the_mode × P painter the_choices × P painter the_laid_witness × P painter the_words × P painter the_fuel
 
-pub each_asks : (P : Tool → Item → Type 0) → EachAsks P tracer → EachAsks P debugger → EachAsks P runner → EachAsks P server → EachAsks P checker → EachAsks P verifier → EachAsks P teller → (t : Tool) (i : Item) → asks t i ≡ true → P t i
-each_asks P a d r s c v w tracer i e = mode_alone (P tracer) a i e
-each_asks P a d r s c v w debugger the_mode e = d.0
-each_asks P a d r s c v w debugger the_laid_witness e = d.1
-each_asks P a d r s c v w debugger _ e = cc
-each_asks P a d r s c v w runner i e = mode_alone (P runner) r i e
-each_asks P a d r s c v w server the_mode e = s.0
-each_asks P a d r s c v w server the_port e = s.1
-each_asks P a d r s c v w server the_clients e = s.2
-each_asks P a d r s c v w server _ e = cc
-each_asks P a d r s c v w checker the_mode e = c.0
-each_asks P a d r s c v w checker the_modes e = c.1
-each_asks P a d r s c v w checker the_runs e = c.2
-each_asks P a d r s c v w checker the_fuel e = c.3
-each_asks P a d r s c v w checker the_split e = c.4
-each_asks P a d r s c v w checker the_workers e = c.5
-each_asks P a d r s c v w checker the_sample e = c.6
-each_asks P a d r s c v w checker the_seed e = c.7
-each_asks P a d r s c v w checker the_until e = c.8
-each_asks P a d r s c v w checker the_piece e = c.9
-each_asks P a d r s c v w checker _ e = cc
-each_asks P a d r s c v w verifier the_mode e = v.0
-each_asks P a d r s c v w verifier the_leaf e = v.1
-each_asks P a d r s c v w verifier _ e = cc
-each_asks P a d r s c v w teller the_mode e = w.0
-each_asks P a d r s c v w teller the_choices e = w.1
-each_asks P a d r s c v w teller the_fuel e = w.2
-each_asks P a d r s c v w teller _ e = cc
+pub each_asks : (P : Tool → Item → Type 0) → EachAsks P tracer → EachAsks P debugger → EachAsks P runner → EachAsks P server → EachAsks P checker → EachAsks P verifier → EachAsks P teller → EachAsks P painter → (t : Tool) (i : Item) → asks t i ≡ true → P t i
+each_asks P a d r s c v w q tracer i e = mode_alone (P tracer) a i e
+each_asks P a d r s c v w q debugger the_mode e = d.0
+each_asks P a d r s c v w q debugger the_laid_witness e = d.1
+each_asks P a d r s c v w q debugger _ e = cc
+each_asks P a d r s c v w q runner i e = mode_alone (P runner) r i e
+each_asks P a d r s c v w q server the_mode e = s.0
+each_asks P a d r s c v w q server the_port e = s.1
+each_asks P a d r s c v w q server the_clients e = s.2
+each_asks P a d r s c v w q server _ e = cc
+each_asks P a d r s c v w q checker the_mode e = c.0
+each_asks P a d r s c v w q checker the_modes e = c.1
+each_asks P a d r s c v w q checker the_runs e = c.2
+each_asks P a d r s c v w q checker the_fuel e = c.3
+each_asks P a d r s c v w q checker the_split e = c.4
+each_asks P a d r s c v w q checker the_workers e = c.5
+each_asks P a d r s c v w q checker the_sample e = c.6
+each_asks P a d r s c v w q checker the_seed e = c.7
+each_asks P a d r s c v w q checker the_until e = c.8
+each_asks P a d r s c v w q checker the_piece e = c.9
+each_asks P a d r s c v w q checker _ e = cc
+each_asks P a d r s c v w q verifier the_mode e = v.0
+each_asks P a d r s c v w q verifier the_leaf e = v.1
+each_asks P a d r s c v w q verifier _ e = cc
+each_asks P a d r s c v w q teller the_mode e = w.0
+each_asks P a d r s c v w q teller the_choices e = w.1
+each_asks P a d r s c v w q teller the_fuel e = w.2
+each_asks P a d r s c v w q teller _ e = cc
+each_asks P a d r s c v w q translator i e = cc
+each_asks P a d r s c v w q painter the_mode e = q.0
+each_asks P a d r s c v w q painter the_choices e = q.1
+each_asks P a d r s c v w q painter the_laid_witness e = q.2
+each_asks P a d r s c v w q painter the_words e = q.3
+each_asks P a d r s c v w q painter the_fuel e = q.4
+each_asks P a d r s c v w q painter _ e = cc
 
 -- each file
 abbrev pub EachFile : (P : Tool → Item → Type 0) → Type 0
-EachFile P = P tracer the_file × P debugger the_file × P runner the_file × P server the_file × P checker the_file × P verifier the_file × P verifier the_witness_file × P teller the_file
+EachFile P = P tracer the_file × P debugger the_file × P runner the_file × P server the_file × P checker the_file × P verifier the_file × P verifier the_witness_file × P teller the_file × P translator the_file × P painter the_file
 
-pub each_keeps : (P : Tool → Item → Type 0) → EachFile P → EachAsks P tracer → EachAsks P debugger → EachAsks P runner → EachAsks P server → EachAsks P checker → EachAsks P verifier → EachAsks P teller → (t : Tool) (i : Item) → keeps t i ≡ true → P t i
-each_keeps P f a d r s c v w tracer the_file e = f.0
-each_keeps P f a d r s c v w tracer the_mode e = a
-each_keeps P f a d r s c v w tracer _ e = cc
-each_keeps P f a d r s c v w debugger the_file e = f.1
-each_keeps P f a d r s c v w debugger the_mode e = d.0
-each_keeps P f a d r s c v w debugger the_laid_witness e = d.1
-each_keeps P f a d r s c v w debugger _ e = cc
-each_keeps P f a d r s c v w runner the_file e = f.2
-each_keeps P f a d r s c v w runner the_mode e = r
-each_keeps P f a d r s c v w runner _ e = cc
-each_keeps P f a d r s c v w server the_file e = f.3
-each_keeps P f a d r s c v w server the_mode e = s.0
-each_keeps P f a d r s c v w server the_port e = s.1
-each_keeps P f a d r s c v w server the_clients e = s.2
-each_keeps P f a d r s c v w server _ e = cc
-each_keeps P f a d r s c v w checker the_file e = f.4
-each_keeps P f a d r s c v w checker the_mode e = c.0
-each_keeps P f a d r s c v w checker the_modes e = c.1
-each_keeps P f a d r s c v w checker the_runs e = c.2
-each_keeps P f a d r s c v w checker the_fuel e = c.3
-each_keeps P f a d r s c v w checker the_split e = c.4
-each_keeps P f a d r s c v w checker the_workers e = c.5
-each_keeps P f a d r s c v w checker the_sample e = c.6
-each_keeps P f a d r s c v w checker the_seed e = c.7
-each_keeps P f a d r s c v w checker the_until e = c.8
-each_keeps P f a d r s c v w checker the_piece e = c.9
-each_keeps P f a d r s c v w checker _ e = cc
-each_keeps P f a d r s c v w verifier the_file e = f.5
-each_keeps P f a d r s c v w verifier the_witness_file e = f.6
-each_keeps P f a d r s c v w verifier the_mode e = v.0
-each_keeps P f a d r s c v w verifier the_leaf e = v.1
-each_keeps P f a d r s c v w verifier _ e = cc
-each_keeps P f a d r s c v w teller the_file e = f.7
-each_keeps P f a d r s c v w teller the_mode e = w.0
-each_keeps P f a d r s c v w teller the_choices e = w.1
-each_keeps P f a d r s c v w teller the_fuel e = w.2
-each_keeps P f a d r s c v w teller _ e = cc
+pub each_keeps : (P : Tool → Item → Type 0) → EachFile P → EachAsks P tracer → EachAsks P debugger → EachAsks P runner → EachAsks P server → EachAsks P checker → EachAsks P verifier → EachAsks P teller → EachAsks P painter → (t : Tool) (i : Item) → keeps t i ≡ true → P t i
+each_keeps P f a d r s c v w q tracer the_file e = f.0
+each_keeps P f a d r s c v w q tracer the_mode e = a
+each_keeps P f a d r s c v w q tracer _ e = cc
+each_keeps P f a d r s c v w q debugger the_file e = f.1
+each_keeps P f a d r s c v w q debugger the_mode e = d.0
+each_keeps P f a d r s c v w q debugger the_laid_witness e = d.1
+each_keeps P f a d r s c v w q debugger _ e = cc
+each_keeps P f a d r s c v w q runner the_file e = f.2
+each_keeps P f a d r s c v w q runner the_mode e = r
+each_keeps P f a d r s c v w q runner _ e = cc
+each_keeps P f a d r s c v w q server the_file e = f.3
+each_keeps P f a d r s c v w q server the_mode e = s.0
+each_keeps P f a d r s c v w q server the_port e = s.1
+each_keeps P f a d r s c v w q server the_clients e = s.2
+each_keeps P f a d r s c v w q server _ e = cc
+each_keeps P f a d r s c v w q checker the_file e = f.4
+each_keeps P f a d r s c v w q checker the_mode e = c.0
+each_keeps P f a d r s c v w q checker the_modes e = c.1
+each_keeps P f a d r s c v w q checker the_runs e = c.2
+each_keeps P f a d r s c v w q checker the_fuel e = c.3
+each_keeps P f a d r s c v w q checker the_split e = c.4
+each_keeps P f a d r s c v w q checker the_workers e = c.5
+each_keeps P f a d r s c v w q checker the_sample e = c.6
+each_keeps P f a d r s c v w q checker the_seed e = c.7
+each_keeps P f a d r s c v w q checker the_until e = c.8
+each_keeps P f a d r s c v w q checker the_piece e = c.9
+each_keeps P f a d r s c v w q checker _ e = cc
+each_keeps P f a d r s c v w q verifier the_file e = f.5
+each_keeps P f a d r s c v w q verifier the_witness_file e = f.6
+each_keeps P f a d r s c v w q verifier the_mode e = v.0
+each_keeps P f a d r s c v w q verifier the_leaf e = v.1
+each_keeps P f a d r s c v w q verifier _ e = cc
+each_keeps P f a d r s c v w q teller the_file e = f.7
+each_keeps P f a d r s c v w q teller the_mode e = w.0
+each_keeps P f a d r s c v w q teller the_choices e = w.1
+each_keeps P f a d r s c v w q teller the_fuel e = w.2
+each_keeps P f a d r s c v w q teller _ e = cc
+each_keeps P f a d r s c v w q translator the_file e = f.8
+each_keeps P f a d r s c v w q translator _ e = cc
+each_keeps P f a d r s c v w q painter the_file e = f.9
+each_keeps P f a d r s c v w q painter the_mode e = q.0
+each_keeps P f a d r s c v w q painter the_choices e = q.1
+each_keeps P f a d r s c v w q painter the_laid_witness e = q.2
+each_keeps P f a d r s c v w q painter the_words e = q.3
+each_keeps P f a d r s c v w q painter the_fuel e = q.4
+each_keeps P f a d r s c v w q painter _ e = cc
 
 pub asks_keeps : (t : Tool) (i : Item) → asks t i ≡ true → keeps t i ≡ true
-asks_keeps = each_asks (λ t i. keeps t i ≡ true) refl (refl, refl) refl (refl, refl, refl) (refl, refl, refl, refl, refl, refl, refl, refl, refl, refl) (refl, refl) (refl, refl, refl)
+asks_keeps = each_asks (λ t i. keeps t i ≡ true) refl (refl, refl) refl (refl, refl, refl) (refl, refl, refl, refl, refl, refl, refl, refl, refl, refl) (refl, refl) (refl, refl, refl) (refl, refl, refl, refl, refl)
 
 pub by_id : (lie : Lies) (t : Tool) (i : Item) → keeps t i ≡ true → arg_by_id (rules lie t) (name_of i) ≡ Some (arg lie t i)
 unfolding clap_on_literals
-by_id lie = each_keeps (λ t i. arg_by_id (rules lie t) (name_of i) ≡ Some (arg lie t i)) (refl, refl, refl, refl, refl, refl, refl, refl) refl (refl, refl) refl (refl, refl, refl) (refl, refl, refl, refl, refl, refl, refl, refl, refl, refl) (refl, refl) (refl, refl, refl)
+by_id lie = each_keeps (λ t i. arg_by_id (rules lie t) (name_of i) ≡ Some (arg lie t i)) (refl, refl, refl, refl, refl, refl, refl, refl, refl, refl) refl (refl, refl) refl (refl, refl, refl) (refl, refl, refl, refl, refl, refl, refl, refl, refl, refl) (refl, refl) (refl, refl, refl) (refl, refl, refl, refl, refl)
 
 pub by_long : (lie : Lies) (t : Tool) (i : Item) → asks t i ≡ true → arg_by_long (rules lie t) (spelling_of i) ≡ Some (arg lie t i)
 unfolding clap_on_literals
-by_long lie = each_asks (λ t i. arg_by_long (rules lie t) (spelling_of i) ≡ Some (arg lie t i)) refl (refl, refl) refl (refl, refl, refl) (refl, refl, refl, refl, refl, refl, refl, refl, refl, refl) (refl, refl) (refl, refl, refl)
+by_long lie = each_asks (λ t i. arg_by_long (rules lie t) (spelling_of i) ≡ Some (arg lie t i)) refl (refl, refl) refl (refl, refl, refl) (refl, refl, refl, refl, refl, refl, refl, refl, refl, refl) (refl, refl) (refl, refl, refl) (refl, refl, refl, refl, refl)
 
 -- the flags, which have no value
 abbrev pub flags : Tool → Item → Bool
@@ -256,6 +288,8 @@ each_flag P f runner i e = cc
 each_flag P f server i e = cc
 each_flag P f verifier i e = cc
 each_flag P f teller i e = cc
+each_flag P f translator i e = cc
+each_flag P f painter i e = cc
 
 pub flag_by_long : (lie : Lies) (t : Tool) (i : Item) → flags t i ≡ true → arg_by_long (rules lie t) (spelling_of i) ≡ Some (arg lie t i)
 unfolding clap_on_literals
@@ -296,7 +330,7 @@ or_nothing false = refl
 
 accepted_fits : (t : Tool) (i : Item) (v : Text) → keeps t i ≡ true → accepted i v ≡ fits i v
 accepted_fits t i v k =
-    each_keeps (λ t i. accepted i v ≡ fits i v) (refl, refl, refl, refl, refl, refl, refl, refl) refl (refl, refl) refl (refl, accepts_number 1 most_port v (omega arith), accepts_number 1 most_clients v (omega arith)) (
+    each_keeps (λ t i. accepted i v ≡ fits i v) (refl, refl, refl, refl, refl, refl, refl, refl, refl, refl) refl (refl, refl) refl (refl, accepts_number 1 most_port v (omega arith), accepts_number 1 most_clients v (omega arith)) (
       refl,
       accepts_number 0 most_modes v (omega arith),
       accepts_number 1 most_runs v (omega arith),
@@ -307,7 +341,7 @@ accepted_fits t i v k =
       accepts_number 0 most_seed v (omega arith),
       or_nothing (bytes_eq (codes "deadlock") v) ∙ same_either_way (codes "deadlock") v,
       accepts_number 0 most_piece v (omega arith),
-    ) (refl, accepts_number 0 most_leaf v (omega arith)) (refl, refl, accepts_number 1 most_fuel v (omega arith)) t i k
+    ) (refl, accepts_number 0 most_leaf v (omega arith)) (refl, refl, accepts_number 1 most_fuel v (omega arith)) (refl, refl, refl, refl, accepts_number 1 most_fuel v (omega arith)) t i k
 
 -- the fault of a value, by whether it is taken
 abbrev value_fault : ErrorKind → Bool → Kinds
@@ -325,7 +359,7 @@ again_fault again = if again && not false then kind.ArgumentConflict ∷ [] else
 use_is : (lie : Lies) (v : Text) (rows : List Row) (t : Tool) (i : Item) → keeps t i ≡ true
     → use_fault false (arg lie t i) (v ∷ []) rows ≡ or_else (again_fault (has_row (name_of i) rows)) (value_fault (refused_as i) (accepted i v))
 unfolding clap_on_literals
-use_is lie v rows = each_keeps (λ t i. use_fault false (arg lie t i) (v ∷ []) rows ≡ or_else (again_fault (has_row (name_of i) rows)) (value_fault (refused_as i) (accepted i v))) (refl, refl, refl, refl, refl, refl, refl, refl) refl (refl, refl) refl (refl, refl, refl) (refl, refl, refl, refl, refl, refl, refl, refl, refl, refl) (refl, refl) (refl, refl, refl)
+use_is lie v rows = each_keeps (λ t i. use_fault false (arg lie t i) (v ∷ []) rows ≡ or_else (again_fault (has_row (name_of i) rows)) (value_fault (refused_as i) (accepted i v))) (refl, refl, refl, refl, refl, refl, refl, refl, refl, refl) refl (refl, refl) refl (refl, refl, refl) (refl, refl, refl, refl, refl, refl, refl, refl, refl, refl) (refl, refl) (refl, refl, refl) (refl, refl, refl, refl, refl)
 
 flag_use_is : (lie : Lies) (rows : List Row) (t : Tool) (i : Item) → flags t i ≡ true → use_fault false (arg lie t i) [] rows ≡ or_else (again_fault (has_row (name_of i) rows)) []
 unfolding clap_on_literals
@@ -378,7 +412,7 @@ some_fault (k ∷ ks) e = λ z. cc
 -- an option that waits for its value still
 pub no_value : (lie : Lies) (rows : List Row) (t : Tool) (i : Item) → asks t i ≡ true → use_fault false (arg lie t i) [] rows ≢ []
 unfolding clap_on_literals
-no_value lie rows = each_asks (λ t i. use_fault false (arg lie t i) [] rows ≢ []) (some_fault _ refl) (some_fault _ refl, some_fault _ refl) (some_fault _ refl) (some_fault _ refl, some_fault _ refl, some_fault _ refl) (some_fault _ refl, some_fault _ refl, some_fault _ refl, some_fault _ refl, some_fault _ refl, some_fault _ refl, some_fault _ refl, some_fault _ refl, some_fault _ refl, some_fault _ refl) (some_fault _ refl, some_fault _ refl) (some_fault _ refl, some_fault _ refl, some_fault _ refl)
+no_value lie rows = each_asks (λ t i. use_fault false (arg lie t i) [] rows ≢ []) (some_fault _ refl) (some_fault _ refl, some_fault _ refl) (some_fault _ refl) (some_fault _ refl, some_fault _ refl, some_fault _ refl) (some_fault _ refl, some_fault _ refl, some_fault _ refl, some_fault _ refl, some_fault _ refl, some_fault _ refl, some_fault _ refl, some_fault _ refl, some_fault _ refl, some_fault _ refl) (some_fault _ refl, some_fault _ refl) (some_fault _ refl, some_fault _ refl, some_fault _ refl) (some_fault _ refl, some_fault _ refl, some_fault _ refl, some_fault _ refl, some_fault _ refl)
 
 -- ---- rows
 
@@ -409,7 +443,7 @@ values_at_end id how source values (r ∷ rs) h =
 
 used_is : (lie : Lies) (v : Text) (rows : List Row) (t : Tool) (i : Item) → keeps t i ≡ true → used (arg lie t i) (v ∷ []) rows ≡ with_values (name_of i) AsWritten CommandLine (v ∷ []) (without (name_of i) rows)
 unfolding clap_on_literals
-used_is lie v rows = each_keeps (λ t i. used (arg lie t i) (v ∷ []) rows ≡ with_values (name_of i) AsWritten CommandLine (v ∷ []) (without (name_of i) rows)) (refl, refl, refl, refl, refl, refl, refl, refl) refl (refl, refl) refl (refl, refl, refl) (refl, refl, refl, refl, refl, refl, refl, refl, refl, refl) (refl, refl) (refl, refl, refl)
+used_is lie v rows = each_keeps (λ t i. used (arg lie t i) (v ∷ []) rows ≡ with_values (name_of i) AsWritten CommandLine (v ∷ []) (without (name_of i) rows)) (refl, refl, refl, refl, refl, refl, refl, refl, refl, refl) refl (refl, refl) refl (refl, refl, refl) (refl, refl, refl, refl, refl, refl, refl, refl, refl, refl) (refl, refl) (refl, refl, refl) (refl, refl, refl, refl, refl)
 
 at_end_of : (i : Item) (v : Text) (rows : List Row) → has_row (name_of i) rows ≡ false → with_values (name_of i) AsWritten CommandLine (v ∷ []) (without (name_of i) rows) ≡ rows ++ row_for i v CommandLine ∷ []
 at_end_of i v rows h = ap (λ rs. with_values (name_of i) AsWritten CommandLine (v ∷ []) rs) (without_none (name_of i) rows h) ∙ values_at_end (name_of i) AsWritten CommandLine (v ∷ []) rows h

@@ -15,17 +15,17 @@ use Rattle.clap.specs.declared.parser.matches.ArgMatches.TheViews.{out-ArgMatche
 use Rattle.clap.specs.declared.parser.matches.Found.{Found}
 use Rattle.clap.proofs.OnLiterals.{clap_on_literals}
 use Rattle.clap.proofs.WalkLemmas.{first_value-rows, one_text-rows}
-use Rattle.mpd_options.specs.Asked.{Asked, IsFound, IsInRange, AreInRange, Item, Tool, asked, check, checker, debug, debugger, found, found_by, found_check, found_in, found_of_command, found_of_file, found_options, found_serve, found_verify, found_words, meant, most_clients, most_fuel, most_leaf, most_modes, most_piece, most_port, most_runs, most_sample, most_seed, most_split, most_workers, number_if_given, text_in, the_choices, the_clients, the_file, the_fuel, the_laid_witness, the_leaf, the_mode, the_modes, the_piece, the_port, the_runs, the_sample, the_seed, the_split, the_witness_file, the_workers, tell, teller, tool_named, run, runner, serve, server, trace, tracer, until_bad_in, verifier, verify}
+use Rattle.mpd_options.specs.Asked.{Asked, IsFound, IsInRange, AreInRange, Item, Tool, asked, check, checker, debug, debugger, found, found_by, found_check, found_in, found_of_command, found_of_file, found_options, found_picture, found_serve, found_verify, found_words, given_word, meant, most_clients, most_fuel, most_leaf, most_modes, most_piece, most_port, most_runs, most_sample, most_seed, most_split, most_workers, number_if_given, paint, painter, text_in, the_choices, the_clients, the_file, the_fuel, the_laid_witness, the_leaf, the_mode, the_modes, the_piece, the_port, the_runs, the_sample, the_seed, the_split, the_witness_file, the_words, the_workers, tell, teller, tool_named, run, runner, serve, server, trace, tracer, translate, translator, until_bad_in, verifier, verify}
 use Rattle.mpd_options.specs.Numbers.{flag_in, most_usize, number_in}
 use Rattle.mpd_options.specs.declared.options.CheckOptions.{CheckOptions}
 use Rattle.mpd_options.specs.declared.options.Options.{Options}
-use Rattle.mpd_options.specs.declared.options.Options.TheVariants.{Plain, Trace, Debug, Run, Serve, Check, Verify, Words}
+use Rattle.mpd_options.specs.declared.options.Options.TheVariants.{Plain, Trace, Debug, Run, Serve, Check, Verify, Words, Translate, Picture}
 use Rattle.mpd_options.specs.Program.{Choices, Lies, mpdbg_app, only_deadlock}
 use Rattle.mpd_options.specs.Refused.{IsRefused, is_memory, usage_of}
 use Rattle.mpd_options.specs.declared.options.UsageFault.TheVariants.{Usage, Memory}
 use Rattle.mpd_options.proofs.Commands.{AgreesAll, meant_law, is_plain_app}
 use Rattle.mpd_options.proofs.CheckItems.{HasItems, OptionsRange, GivenWithin, Within, at_most, given_within, items_range, items_say, options_with, read_within, some_items}
-use Rattle.mpd_options.proofs.Items.{called}
+use Rattle.mpd_options.proofs.Items.{asks, called}
 use Rattle.mpd_options.proofs.NumberReads.{in_wider, number_read, same_number}
 
 pub some_words : {A : Type 0} (f : A → Text) (xs : List A) → 0 < length xs → 0 < length (map f xs)
@@ -124,6 +124,8 @@ named_tool server rows = refl
 named_tool checker rows = refl
 named_tool verifier rows = refl
 named_tool teller rows = refl
+named_tool translator rows = refl
+named_tool painter rows = refl
 
 pub command_is : (t : Tool) (m : ArgMatches) (rows : List Row) → subcommand_name_of m ≡ Some (called t) → option_map (λ (p : Text × List Row). p.1) (subcommand_rows_of m) ≡ Some rows
     → found_of_command (subcommand_rows_of m) ≡ found_in t rows
@@ -135,7 +137,7 @@ command_is t m rows name is =
 
 -- a value that was found
 abbrev text_at : Option (Bor Text) → Option Text
-text_at = option_map (λ (s : Bor Text). s.now)
+text_at = given_word
 
 pub value_is : (f : Found) (r : Option (Bor Text)) (id : Text) → text_at r ≡ first_value f id → first_of id (rows_of f) ≡ text_at r
 value_is f r id e = sym (e ∙ first_value-rows f id)
@@ -190,6 +192,21 @@ some_check (Some f) None o e = cc
 some_check (Some f) (Some m) None e = cc
 some_check (Some f) (Some m) (Some o) e = (refl, refl, refl)
 
+some_translated : (f : Option Text) → is_some (option_map translate f) ≡ true → is_some f ≡ true
+some_translated None e = cc
+some_translated (Some f) e = refl
+
+pub record HasPicture (f m : Option Text) (n : Option ℕ) : Type 0 where
+  pub file : is_some f ≡ true
+  pub mode : is_some m ≡ true
+  pub fuel : is_some n ≡ true
+
+some_picture : (f m : Option Text) (n : Option ℕ) (c w x : Option Text) → is_some (found_picture f m n c w x) ≡ true → HasPicture f m n
+some_picture None m n c w x e = cc
+some_picture (Some f) None n c w x e = cc
+some_picture (Some f) (Some m) None c w x e = cc
+some_picture (Some f) (Some m) (Some n) c w x e = record { file = refl; mode = refl; fuel = refl }
+
 pub has_file : (t : Tool) (rows : List Row) → is_some (found_in t rows) ≡ true → is_some (first_of (codes "FILE") rows) ≡ true
 has_file tracer rows e = (some_both trace _ _ e).0
 has_file debugger rows e = (some_both (λ file mode. debug file mode (text_in rows the_laid_witness)) _ _ e).0
@@ -198,15 +215,19 @@ has_file server rows e = (some_served _ _ _ _ e).file
 has_file checker rows e = (some_check _ _ _ e).0
 has_file verifier rows e = (some_verified _ _ _ _ e).file
 has_file teller rows e = (some_words_found _ _ _ _ e).file
+has_file translator rows e = some_translated _ e
+has_file painter rows e = (some_picture _ _ _ _ _ _ e).file
 
-pub has_mode : (t : Tool) (rows : List Row) → is_some (found_in t rows) ≡ true → is_some (first_of (codes "mode") rows) ≡ true
-has_mode tracer rows e = (some_both trace _ _ e).1
-has_mode debugger rows e = (some_both (λ file mode. debug file mode (text_in rows the_laid_witness)) _ _ e).1
-has_mode runner rows e = (some_both run _ _ e).1
-has_mode server rows e = (some_served _ _ _ _ e).mode
-has_mode checker rows e = (some_check _ _ _ e).1
-has_mode verifier rows e = (some_verified _ _ _ _ e).mode
-has_mode teller rows e = (some_words_found _ _ _ _ e).mode
+pub has_mode : (t : Tool) (rows : List Row) → asks t the_mode ≡ true → is_some (found_in t rows) ≡ true → is_some (first_of (codes "mode") rows) ≡ true
+has_mode tracer rows has e = (some_both trace _ _ e).1
+has_mode debugger rows has e = (some_both (λ file mode. debug file mode (text_in rows the_laid_witness)) _ _ e).1
+has_mode runner rows has e = (some_both run _ _ e).1
+has_mode server rows has e = (some_served _ _ _ _ e).mode
+has_mode checker rows has e = (some_check _ _ _ e).1
+has_mode verifier rows has e = (some_verified _ _ _ _ e).mode
+has_mode teller rows has e = (some_words_found _ _ _ _ e).mode
+has_mode translator rows has e = cc
+has_mode painter rows has e = (some_picture _ _ _ _ _ _ e).mode
 
 not_found : (r : Option (Bor Text)) (o : Option Text) → o ≡ text_at r → r ≡ None → is_some o ≡ true → ⊥
 not_found r o e none some = (let bad : false ≡ true = sym (ap is_some (e ∙ ap text_at none)) ∙ some in cc)
@@ -239,6 +260,20 @@ verify_found file witness mode leaf a b c d = rw (a, b, c, d) refl
 
 pub words_found : {f c m : Option Text} {n : Option ℕ} (file choices mode : Text) (fuel : ℕ) → f ≡ Some file → c ≡ Some choices → m ≡ Some mode → n ≡ Some fuel → Some (tell file choices mode fuel) ≡ found_words f c m n
 words_found file choices mode fuel a b c d = rw (a, b, c, d) refl
+
+pub translate_found : {f : Option Text} (file : Text) → f ≡ Some file → Some (translate file) ≡ option_map translate f
+translate_found file a = rw a refl
+
+picture_of : {f m : Option Text} {n : Option ℕ} {c w x : Option Text} (file mode : Text) (fuel : ℕ) (choices witness words : Option Text) → f ≡ Some file → m ≡ Some mode → n ≡ Some fuel → c ≡ choices → w ≡ witness → x ≡ words
+    → Some (paint file mode choices witness words fuel) ≡ found_picture f m n c w x
+picture_of file mode fuel choices witness words a b d e g h = rw (a, b, d, e, g, h) refl
+
+-- with the words of choices, a witness's file and a file of trace words, where there are such
+pub picture_found : (f : Found) (file mode : Text) (fuel : ℕ) (c w x : Option (Bor Text)) → first_of (codes "FILE") (rows_of f) ≡ Some file → first_of (codes "mode") (rows_of f) ≡ Some mode
+    → option_and_then (number_in 1 most_fuel) (one_of (codes "fuel") (rows_of f)) ≡ Some fuel → text_at c ≡ first_value f (codes "choices") → text_at w ≡ first_value f (codes "laid_witness") → text_at x ≡ first_value f (codes "words")
+    → Some (paint file mode (text_at c) (text_at w) (text_at x) fuel) ≡ found_in painter (rows_of f)
+picture_found f file mode fuel c w x a b d e g h =
+    picture_of file mode fuel (text_at c) (text_at w) (text_at x) a b d (value_is f c (codes "choices") e) (value_is f w (codes "laid_witness") g) (value_is f x (codes "words") h)
 
 -- ---- numbers and the flag
 
@@ -338,6 +373,9 @@ has_verified f e = (some_verified _ _ _ _ e).leaf
 pub has_fuel : (f : Found) → is_some (found_in teller (rows_of f)) ≡ true → is_some (number_at 1 most_fuel (codes "fuel") f) ≡ true
 has_fuel f e = (some_words_found _ _ _ _ e).fuel
 
+pub has_picture_fuel : (f : Found) → is_some (found_in painter (rows_of f)) ≡ true → is_some (number_at 1 most_fuel (codes "fuel") f) ≡ true
+has_picture_fuel f e = (some_picture _ _ _ _ _ _ e).fuel
+
 pub has_options : (f : Found) → is_some (found_in checker (rows_of f)) ≡ true → is_some (found_options (text_in (rows_of f))) ≡ true
 has_options f e = (some_check _ _ _ e).2
 
@@ -399,6 +437,7 @@ HasRange (serve file mode port clients) = (1 ≤ port) × (port ≤ most_port) �
 HasRange (check file mode options) = AreInRange options
 HasRange (verify file witness mode leaf) = IfSome leaf (λ n. n ≤ most_leaf)
 HasRange (tell file choices mode fuel) = (1 ≤ fuel) × (fuel ≤ most_fuel)
+HasRange (paint file mode choices witness words fuel) = (1 ≤ fuel) × (fuel ≤ most_fuel)
 HasRange _ = Unit {0}
 
 range_asked : (options : Options) → HasRange (asked options) → IsInRange options
@@ -410,6 +449,8 @@ range_asked (Serve file mode port clients) h = h
 range_asked (Check file mode options) h = h
 range_asked (Verify file witness mode leaf) h = h
 range_asked (Words file choices mode fuel) h = h
+range_asked (Translate file) h = tt
+range_asked (Picture file mode choices witness words fuel) h = h
 
 abbrev RangeOf : Option Asked → Type 0
 RangeOf None = Unit {0}
@@ -452,6 +493,16 @@ words_range (Some f) (Some c) None n a = tt
 words_range (Some f) (Some c) (Some m) None a = tt
 words_range (Some f) (Some c) (Some m) (Some n) a = a
 
+translate_range : (f : Option Text) → RangeOf (option_map translate f)
+translate_range None = tt
+translate_range (Some f) = tt
+
+picture_range : (f m : Option Text) (n : Option ℕ) (c w x : Option Text) → Within 1 most_fuel n → RangeOf (found_picture f m n c w x)
+picture_range None m n c w x a = tt
+picture_range (Some f) None n c w x a = tt
+picture_range (Some f) (Some m) None c w x a = tt
+picture_range (Some f) (Some m) (Some n) c w x a = a
+
 found_range : (t : Tool) (text : Item → Option Text) → RangeOf (found t text)
 found_range tracer text = file_range trace (text the_file) (text the_mode) (λ f m. tt)
 found_range debugger text = file_range (λ file mode. debug file mode (text the_laid_witness)) (text the_file) (text the_mode) (λ f m. tt)
@@ -461,6 +512,9 @@ found_range server text =
 found_range checker text = check_range (text the_file) (text the_mode) (found_options text) (options_range text)
 found_range verifier text = verify_range (text the_file) (text the_witness_file) (text the_mode) (number_if_given 0 most_leaf (text the_leaf)) (given_within 0 most_leaf (text the_leaf))
 found_range teller text = words_range (text the_file) (text the_choices) (text the_mode) (option_and_then (number_in 1 most_fuel) (text the_fuel)) (read_within 1 most_fuel (text the_fuel))
+found_range translator text = translate_range (text the_file)
+found_range painter text =
+    picture_range (text the_file) (text the_mode) (option_and_then (number_in 1 most_fuel) (text the_fuel)) (text the_choices) (text the_laid_witness) (text the_words) (read_within 1 most_fuel (text the_fuel))
 
 range_by : (o : Option Tool) (rows : List Row) → RangeOf (found_by o rows)
 range_by None rows = tt

@@ -9,7 +9,7 @@ use Rattle.clap.specs.Walk.{Held, Walk, Waiting, idle, option, value, walked, fi
 use Rattle.clap.specs.declared.parser.matches.ValueSource.TheVariants.{CommandLine}
 use Rattle.clap.proofs.OnLiterals.{clap_on_literals}
 use Rattle.mpd_options.specs.Asked as a
-use Rattle.mpd_options.specs.Asked.{Asked, Item, Place, Said, Tool, Word, alone, among_options, behind_dashes, behind_option, by_letters, checker, dashes, debugger, fits, if_fits, if_new, is_flag, joined, long_option, long_or_short, name_of, named, named_so, no_option, once, files_of, for_file, option_among, options_of, other_option, said_named, said_of, short_option, the_file, the_fuel, the_mode, the_runs, the_witness, the_complete, the_witness_file, runner, server, teller, tracer, unsaid, verifier, wanted, with_option, with_word, word_of}
+use Rattle.mpd_options.specs.Asked.{Asked, Item, Place, Said, Tool, Word, alone, among_options, behind_dashes, behind_option, by_letters, checker, dashes, debugger, fits, if_fits, if_new, is_flag, joined, long_option, long_or_short, name_of, named, named_so, no_option, once, files_of, for_file, option_among, options_of, other_option, painter, said_named, said_of, short_option, the_file, the_fuel, the_mode, the_runs, the_witness, the_complete, the_witness_file, runner, server, teller, tracer, translator, unsaid, verifier, wanted, with_option, with_word, word_of}
 use Rattle.mpd_options.specs.Program.{Lies}
 use Rattle.mpd_options.proofs.Ends.{Agrees, at_end, end_fault, fails_first, held, held_for, pending_for, settles, settles_by, with_last}
 use Rattle.mpd_options.proofs.Items.{Valid, arg, asks, asks_keeps, each_asks, row_for, each_flag, flags, flag_used_again, flag_used_once, flag_used_well, has_said, no_value, rows_for, rules, some_fault, sub, used_again, used_badly, used_once, used_well}
@@ -97,6 +97,8 @@ stray lie runner h (Some f) None fails = no_second lie runner h refl
 stray lie server h (Some f) None fails = no_second lie server h refl
 stray lie checker h (Some f) None fails = no_second lie checker h refl
 stray lie teller h (Some f) None fails = no_second lie teller h refl
+stray lie translator h (Some f) None fails = no_second lie translator h refl
+stray lie painter h (Some f) None fails = no_second lie painter h refl
 stray lie verifier h (Some f) None fails = let P : Kinds → Type 0 = λ ks. ks ≢ [] in subst P (sym (file_step lie h verifier the_witness_file refl)) fails
 stray lie t h (Some f) (Some x) fails = no_third lie t h
 
@@ -126,6 +128,8 @@ trailing_turn lie server h waiting position word = refl
 trailing_turn lie checker h waiting position word = refl
 trailing_turn lie verifier h waiting position word = refl
 trailing_turn lie teller h waiting position word = refl
+trailing_turn lie translator h waiting position word = refl
+trailing_turn lie painter h waiting position word = refl
 
 fails_trailing : (lie : Lies) (t : Tool) (words : List Text) (h : Held) (waiting : Waiting) (f x : Option Text) → settle_fault (rules lie t) false h ≢ [] → faults lie t (walk_with h waiting (next_place f x) true) words ≢ []
 unfolding walk_fault
@@ -134,10 +138,10 @@ fails_trailing lie t (word ∷ words) h waiting f x fails = fails_now lie t (wal
 
 option_unsettled : (lie : Lies) (v : Option Text) (h : Held) (t : Tool) (i : Item) → asks t i ≡ true → settle_fault (rules lie t) false h ≢ [] → long_fault (rules lie t) false (Some (arg lie t i)) v h ≢ []
 unfolding clap_on_literals
-option_unsettled lie None h = each_asks (λ t i. settle_fault (rules lie t) false h ≢ [] → long_fault (rules lie t) false (Some (arg lie t i)) None h ≢ []) (λ e. e) ((λ e. e), (λ e. e)) (λ e. e) ((λ e. e), (λ e. e), (λ e. e)) ((λ e. e), (λ e. e), (λ e. e), (λ e. e), (λ e. e), (λ e. e), (λ e. e), (λ e. e), (λ e. e), (λ e. e)) ((λ e. e), (λ e. e)) ((λ e. e), (λ e. e), (λ e. e))
+option_unsettled lie None h = each_asks (λ t i. settle_fault (rules lie t) false h ≢ [] → long_fault (rules lie t) false (Some (arg lie t i)) None h ≢ []) (λ e. e) ((λ e. e), (λ e. e)) (λ e. e) ((λ e. e), (λ e. e), (λ e. e)) ((λ e. e), (λ e. e), (λ e. e), (λ e. e), (λ e. e), (λ e. e), (λ e. e), (λ e. e), (λ e. e), (λ e. e)) ((λ e. e), (λ e. e)) ((λ e. e), (λ e. e), (λ e. e)) ((λ e. e), (λ e. e), (λ e. e), (λ e. e), (λ e. e))
 option_unsettled lie (Some v) h =
     each_asks (λ t i. settle_fault (rules lie t) false h ≢ [] → long_fault (rules lie t) false (Some (arg lie t i)) (Some v) h ≢ [])
-    (λ e. fails_first _ _ e) ((λ e. fails_first _ _ e), (λ e. fails_first _ _ e)) (λ e. fails_first _ _ e) ((λ e. fails_first _ _ e), (λ e. fails_first _ _ e), (λ e. fails_first _ _ e)) ((λ e. fails_first _ _ e), (λ e. fails_first _ _ e), (λ e. fails_first _ _ e), (λ e. fails_first _ _ e), (λ e. fails_first _ _ e), (λ e. fails_first _ _ e), (λ e. fails_first _ _ e), (λ e. fails_first _ _ e), (λ e. fails_first _ _ e), (λ e. fails_first _ _ e)) ((λ e. fails_first _ _ e), (λ e. fails_first _ _ e)) ((λ e. fails_first _ _ e), (λ e. fails_first _ _ e), (λ e. fails_first _ _ e))
+    (λ e. fails_first _ _ e) ((λ e. fails_first _ _ e), (λ e. fails_first _ _ e)) (λ e. fails_first _ _ e) ((λ e. fails_first _ _ e), (λ e. fails_first _ _ e), (λ e. fails_first _ _ e)) ((λ e. fails_first _ _ e), (λ e. fails_first _ _ e), (λ e. fails_first _ _ e), (λ e. fails_first _ _ e), (λ e. fails_first _ _ e), (λ e. fails_first _ _ e), (λ e. fails_first _ _ e), (λ e. fails_first _ _ e), (λ e. fails_first _ _ e), (λ e. fails_first _ _ e)) ((λ e. fails_first _ _ e), (λ e. fails_first _ _ e)) ((λ e. fails_first _ _ e), (λ e. fails_first _ _ e), (λ e. fails_first _ _ e)) ((λ e. fails_first _ _ e), (λ e. fails_first _ _ e), (λ e. fails_first _ _ e), (λ e. fails_first _ _ e), (λ e. fails_first _ _ e))
 
 flag_unsettled : (lie : Lies) (v : Option Text) (h : Held) (t : Tool) (i : Item) → flags t i ≡ true → settle_fault (rules lie t) false h ≢ [] → long_fault (rules lie t) false (Some (arg lie t i)) v h ≢ []
 unfolding clap_on_literals
@@ -178,7 +182,7 @@ given_at rows i v f x = walk_with (held rows (Some (name_of i, v ∷ []))) idle 
 takes_value : (lie : Lies) (rows : List Row) (position : ℕ) (word : Text) (t : Tool) (i : Item) → asks t i ≡ true
     → plain_turn lie t (option (name_of i)) position word (held rows (Some (name_of i, []))) ≡ pair [] (walk_with (held rows (Some (name_of i, word ∷ []))) idle position false)
 unfolding clap_on_literals
-takes_value lie rows position word = each_asks (λ t i. plain_turn lie t (option (name_of i)) position word (held rows (Some (name_of i, []))) ≡ pair [] (walk_with (held rows (Some (name_of i, word ∷ []))) idle position false)) refl (refl, refl) refl (refl, refl, refl) (refl, refl, refl, refl, refl, refl, refl, refl, refl, refl) (refl, refl) (refl, refl, refl)
+takes_value lie rows position word = each_asks (λ t i. plain_turn lie t (option (name_of i)) position word (held rows (Some (name_of i, []))) ≡ pair [] (walk_with (held rows (Some (name_of i, word ∷ []))) idle position false)) refl (refl, refl) refl (refl, refl, refl) (refl, refl, refl, refl, refl, refl, refl, refl, refl, refl) (refl, refl) (refl, refl, refl) (refl, refl, refl, refl, refl)
 
 stuck_empty : (lie : Lies) (t : Tool) (rows : List Row) (i : Item) → asks t i ≡ true → Stuck lie t rows i []
 stuck_empty lie t rows i asking = let P : Kinds → Type 0 = λ ks. ks ≢ [] in subst P (sym (settles_by lie t rows i [] (asks_keeps t i asking))) (no_value lie rows t i asking)
@@ -249,10 +253,10 @@ asks_turn : (lie : Lies) (rows : List Row) (p : Option (Text × List Text)) (pos
     → long_turn lie t idle position word (held rows p) (Some (arg lie t i)) None ≡ pair (or_else (settle_fault (rules lie t) false (held rows p)) []) (pending_walk (settled (rules lie t) (held rows p)) i position)
 unfolding clap_on_literals
 asks_turn lie rows p position word =
-    each_asks (λ t i. long_turn lie t idle position word (held rows p) (Some (arg lie t i)) None ≡ pair (or_else (settle_fault (rules lie t) false (held rows p)) []) (pending_walk (settled (rules lie t) (held rows p)) i position)) refl (refl, refl) refl (refl, refl, refl) (refl, refl, refl, refl, refl, refl, refl, refl, refl, refl) (refl, refl) (refl, refl, refl)
+    each_asks (λ t i. long_turn lie t idle position word (held rows p) (Some (arg lie t i)) None ≡ pair (or_else (settle_fault (rules lie t) false (held rows p)) []) (pending_walk (settled (rules lie t) (held rows p)) i position)) refl (refl, refl) refl (refl, refl, refl) (refl, refl, refl, refl, refl, refl, refl, refl, refl, refl) (refl, refl) (refl, refl, refl) (refl, refl, refl, refl, refl)
 
 not_flag : (t : Tool) (i : Item) → asks t i ≡ true → is_flag i ≡ false
-not_flag = each_asks (λ t i. is_flag i ≡ false) refl (refl, refl) refl (refl, refl, refl) (refl, refl, refl, refl, refl, refl, refl, refl, refl, refl) (refl, refl) (refl, refl, refl)
+not_flag = each_asks (λ t i. is_flag i ≡ false) refl (refl, refl) refl (refl, refl, refl) (refl, refl, refl, refl, refl, refl, refl, refl, refl, refl) (refl, refl) (refl, refl, refl) (refl, refl, refl, refl, refl)
 
 asks_option : (lie : Lies) (t : Tool) (said : Said) (last : Option (Item × Text)) (i : Item) (word : Text) (words : List Text) → asks t i ≡ true → Sound t (ready said last false)
     → turn lie t idle (place_of (with_last said last)) word (held_for said last) ≡ long_turn lie t idle (place_of (with_last said last)) word (held_for said last) (Some (arg lie t i)) None
@@ -313,11 +317,11 @@ gives_turn : (lie : Lies) (rows : List Row) (p : Option (Text × List Text)) (po
     → long_turn lie t idle position word (held rows p) (Some (arg lie t i)) (Some v) ≡ given_turn lie t i (v ∷ []) (settle_fault (rules lie t) false (held rows p)) (settled (rules lie t) (held rows p)) position
 unfolding clap_on_literals
 gives_turn lie rows p position word v =
-    each_asks (λ t i. long_turn lie t idle position word (held rows p) (Some (arg lie t i)) (Some v) ≡ given_turn lie t i (v ∷ []) (settle_fault (rules lie t) false (held rows p)) (settled (rules lie t) (held rows p)) position) refl (refl, refl) refl (refl, refl, refl) (refl, refl, refl, refl, refl, refl, refl, refl, refl, refl) (refl, refl) (refl, refl, refl)
+    each_asks (λ t i. long_turn lie t idle position word (held rows p) (Some (arg lie t i)) (Some v) ≡ given_turn lie t i (v ∷ []) (settle_fault (rules lie t) false (held rows p)) (settled (rules lie t) (held rows p)) position) refl (refl, refl) refl (refl, refl, refl) (refl, refl, refl, refl, refl, refl, refl, refl, refl, refl) (refl, refl) (refl, refl, refl) (refl, refl, refl, refl, refl)
 
 same_place : (v : Text) (said : Said) (t : Tool) (i : Item) → asks t i ≡ true → SamePlace i v said
 same_place v said =
-    each_asks (λ t i. SamePlace i v said) (refl, (λ o. o)) ((refl, (λ o. o)), (refl, (λ o. o))) (refl, (λ o. o)) ((refl, (λ o. o)), (refl, (λ o. o)), (refl, (λ o. o))) ((refl, (λ o. o)), (refl, (λ o. o)), (refl, (λ o. o)), (refl, (λ o. o)), (refl, (λ o. o)), (refl, (λ o. o)), (refl, (λ o. o)), (refl, (λ o. o)), (refl, (λ o. o)), (refl, (λ o. o))) ((refl, (λ o. o)), (refl, (λ o. o))) ((refl, (λ o. o)), (refl, (λ o. o)), (refl, (λ o. o)))
+    each_asks (λ t i. SamePlace i v said) (refl, (λ o. o)) ((refl, (λ o. o)), (refl, (λ o. o))) (refl, (λ o. o)) ((refl, (λ o. o)), (refl, (λ o. o)), (refl, (λ o. o))) ((refl, (λ o. o)), (refl, (λ o. o)), (refl, (λ o. o)), (refl, (λ o. o)), (refl, (λ o. o)), (refl, (λ o. o)), (refl, (λ o. o)), (refl, (λ o. o)), (refl, (λ o. o)), (refl, (λ o. o))) ((refl, (λ o. o)), (refl, (λ o. o))) ((refl, (λ o. o)), (refl, (λ o. o)), (refl, (λ o. o))) ((refl, (λ o. o)), (refl, (λ o. o)), (refl, (λ o. o)), (refl, (λ o. o)), (refl, (λ o. o)))
 
 gives_option : (lie : Lies) (t : Tool) (said : Said) (last : Option (Item × Text)) (i : Item) (v word : Text) (words : List Text) → asks t i ≡ true → Sound t (ready said last false)
     → turn lie t idle (place_of (with_last said last)) word (held_for said last) ≡ long_turn lie t idle (place_of (with_last said last)) word (held_for said last) (Some (arg lie t i)) (Some v)

@@ -8,11 +8,12 @@ use Rattle.clap.specs.Words.{Row, first_of, one_of}
 use Rattle.mpd_options.specs.Numbers.{flag_in, number_in}
 use Rattle.mpd_options.specs.declared.options.CheckOptions.{CheckOptions}
 use Rattle.mpd_options.specs.declared.options.Options.{Options}
-use Rattle.mpd_options.specs.declared.options.Options.TheVariants.{Plain, Trace, Debug, Run, Serve, Check, Verify, Words}
+use Rattle.mpd_options.specs.declared.options.Options.TheVariants.{Plain, Trace, Debug, Run, Serve, Check, Verify, Words, Translate, Picture}
 
 -- what is asked for: a script and its trace on standard input, the trace of a file, a console on one, with a witness or none, answers to
--- requests on one, of one or of several clients, a look for deadlocks in one, a check of a witness, or the trace words of a run; with the
--- words of files, mode and choices, the port, how many clients, how deadlocks are looked for, the number of a leaf, and the fuel
+-- requests on one, of one or of several clients, a look for deadlocks in one, a check of a witness, the trace words of a run, a script in C,
+-- or a picture of a run, by its choices, a witness, or trace words, each given or not; with the words of files, mode and choices, the port,
+-- how many clients, how deadlocks are looked for, the number of a leaf, and the fuel
 pub data Asked : Type 0 where
   plain : Asked
   trace : List ℕ → List ℕ → Asked
@@ -22,16 +23,24 @@ pub data Asked : Type 0 where
   check : List ℕ → List ℕ → CheckOptions → Asked
   verify : List ℕ → List ℕ → List ℕ → Option ℕ → Asked
   tell : List ℕ → List ℕ → List ℕ → ℕ → Asked
+  translate : List ℕ → Asked
+  paint : List ℕ → List ℕ → Option (List ℕ) → Option (List ℕ) → Option (List ℕ) → ℕ → Asked
+
+-- a word that need not be there
+abbrev pub given_word : Option (Bor (List ℕ)) → Option (List ℕ)
+given_word = option_map (λ (text : Bor (List ℕ)). text.now)
 
 abbrev pub asked : Options → Asked
 asked Plain = plain
 asked (Trace file mode) = trace file.now mode.now
-asked (Debug file mode witness) = debug file.now mode.now (option_map (λ (text : Bor (List ℕ)). text.now) witness)
+asked (Debug file mode witness) = debug file.now mode.now (given_word witness)
 asked (Run file mode) = run file.now mode.now
 asked (Serve file mode port clients) = serve file.now mode.now port clients
 asked (Check file mode options) = check file.now mode.now options
 asked (Verify file witness mode leaf) = verify file.now witness.now mode.now leaf
 asked (Words file choices mode fuel) = tell file.now choices.now mode.now fuel
+asked (Translate file) = translate file.now
+asked (Picture file mode choices witness words fuel) = paint file.now mode.now (given_word choices) (given_word witness) (given_word words) fuel
 
 abbrev pub most_port : ℕ
 most_port = 65535
@@ -90,6 +99,8 @@ IsInRange (Serve file mode port clients) = (1 ≤ port) × (port ≤ most_port) 
 IsInRange (Check file mode options) = AreInRange options
 IsInRange (Verify file witness mode leaf) = IfSome leaf (λ n. n ≤ most_leaf)
 IsInRange (Words file choices mode fuel) = (1 ≤ fuel) × (fuel ≤ most_fuel)
+IsInRange (Translate file) = ⊤
+IsInRange (Picture file mode choices witness words fuel) = (1 ≤ fuel) × (fuel ≤ most_fuel)
 
 -- the commands
 pub data Tool : Type 0 where
@@ -100,6 +111,8 @@ pub data Tool : Type 0 where
   checker : Tool
   verifier : Tool
   teller : Tool
+  translator : Tool
+  painter : Tool
 
 -- the command that a word names
 abbrev pub tool_named : List ℕ → Option Tool
@@ -108,7 +121,10 @@ tool_named word =
     else (if bytes_eq word (codes "debug") then Some debugger
     else (if bytes_eq word (codes "run") then Some runner
     else (if bytes_eq word (codes "serve") then Some server
-    else (if bytes_eq word (codes "check") then Some checker else (if bytes_eq word (codes "verify") then Some verifier else (if bytes_eq word (codes "words") then Some teller else None))))))
+    else (if bytes_eq word (codes "check") then Some checker
+    else (if bytes_eq word (codes "verify") then Some verifier
+    else (if bytes_eq word (codes "words") then Some teller
+    else (if bytes_eq word (codes "c") then Some translator else (if bytes_eq word (codes "picture") then Some painter else None))))))))
 
 -- what words say something of: the words of files stand alone, and the others are options
 pub data Item : Type 0 where
@@ -135,6 +151,7 @@ pub data Item : Type 0 where
   the_leaf : Item
   the_choices : Item
   the_laid_witness : Item
+  the_words : Item
 
 abbrev pub name_of : Item → List ℕ
 name_of the_file = codes "FILE"
@@ -160,6 +177,7 @@ name_of the_pieces = codes "pieces"
 name_of the_leaf = codes "leaf"
 name_of the_choices = codes "choices"
 name_of the_laid_witness = codes "laid_witness"
+name_of the_words = codes "words"
 
 -- how an option is spelled behind its hyphens: as it is named, but that of a witness's file is spelled as the flag of `check` is
 abbrev pub spelling_of : Item → List ℕ
@@ -175,6 +193,8 @@ options_of checker =
     the_mode ∷ the_modes ∷ the_runs ∷ the_fuel ∷ the_split ∷ the_workers ∷ the_ends ∷ the_sample ∷ the_seed ∷ the_explain ∷ the_group ∷ the_until ∷ the_witness ∷ the_complete ∷ the_piece ∷ the_pieces ∷ []
 options_of verifier = the_mode ∷ the_leaf ∷ []
 options_of teller = the_mode ∷ the_choices ∷ the_fuel ∷ []
+options_of translator = []
+options_of painter = the_mode ∷ the_choices ∷ the_laid_witness ∷ the_words ∷ the_fuel ∷ []
 
 -- what the words that are no options name, in this order
 abbrev pub files_of : Tool → List Item
@@ -185,6 +205,8 @@ files_of server = the_file ∷ []
 files_of checker = the_file ∷ []
 files_of verifier = the_file ∷ the_witness_file ∷ []
 files_of teller = the_file ∷ []
+files_of translator = the_file ∷ []
+files_of painter = the_file ∷ []
 
 abbrev pub option_among : List Item → List ℕ → Option Item
 option_among items name = find (λ item. bytes_eq (spelling_of item) name) items
@@ -224,8 +246,9 @@ fits the_pieces text = is_some (flag_in text)
 fits the_leaf text = is_some (number_in 0 most_leaf text)
 fits the_choices text = true
 fits the_laid_witness text = true
+fits the_words text = true
 
--- the value of an item of which nothing is said; where it has none, something must be said of the files, the port, how many clients and the choices, and need not of the others
+-- the value of an item of which nothing is said; where it has none, something must be said of the files, the port, how many clients and the choices of `words`, and need not of the others
 abbrev pub default_of : Item → Option (List ℕ)
 default_of the_file = None
 default_of the_witness_file = None
@@ -250,6 +273,7 @@ default_of the_pieces = Some (codes "false")
 default_of the_leaf = None
 default_of the_choices = None
 default_of the_laid_witness = None
+default_of the_words = None
 
 -- what a word behind a command is: `--`, `--NAME` or `--NAME=V` of an option, another option, or none
 pub data Word : Type 0 where
@@ -407,6 +431,10 @@ abbrev pub found_words : Option (List ℕ) → Option (List ℕ) → Option (Lis
 found_words (Some file) (Some choices) (Some mode) (Some fuel) = Some (tell file choices mode fuel)
 found_words _ _ _ _ = None
 
+abbrev pub found_picture : Option (List ℕ) → Option (List ℕ) → Option ℕ → Option (List ℕ) → Option (List ℕ) → Option (List ℕ) → Option Asked
+found_picture (Some file) (Some mode) (Some fuel) choices witness words = Some (paint file mode choices witness words fuel)
+found_picture _ _ _ _ _ _ = None
+
 -- what a command asks for, by the text of each of its items: each must have one, but those that need not be there, and each number lies in its range
 abbrev pub found : Tool → (Item → Option (List ℕ)) → Option Asked
 found tracer text = found_of_file trace (text the_file) (text the_mode)
@@ -416,6 +444,8 @@ found server text = found_serve (text the_file) (text the_mode) (option_and_then
 found checker text = found_check (text the_file) (text the_mode) (found_options text)
 found verifier text = found_verify (text the_file) (text the_witness_file) (text the_mode) (number_if_given 0 most_leaf (text the_leaf))
 found teller text = found_words (text the_file) (text the_choices) (text the_mode) (option_and_then (number_in 1 most_fuel) (text the_fuel))
+found translator text = option_map translate (text the_file)
+found painter text = found_picture (text the_file) (text the_mode) (option_and_then (number_in 1 most_fuel) (text the_fuel)) (text the_choices) (text the_laid_witness) (text the_words)
 
 abbrev pub or_default : Option (List ℕ) → Option (List ℕ) → Option (List ℕ)
 or_default None value = value
@@ -469,6 +499,7 @@ text_in rows the_pieces = one_of (name_of the_pieces) rows
 text_in rows the_leaf = one_of (name_of the_leaf) rows
 text_in rows the_choices = first_of (name_of the_choices) rows
 text_in rows the_laid_witness = first_of (name_of the_laid_witness) rows
+text_in rows the_words = first_of (name_of the_words) rows
 
 abbrev pub found_in : Tool → List Row → Option Asked
 found_in t rows = found t (text_in rows)

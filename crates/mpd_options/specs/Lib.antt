@@ -4,5 +4,6 @@ pub mod CheckRows
 pub mod FaultRows
 pub mod Help
 pub mod Numbers
+pub mod PictureRows
 pub mod Program
 pub mod Refused

@@ -93,13 +93,17 @@ pieces_rule = flag_rule (codes "pieces")
 abbrev pub leaf_rule : Rule
 leaf_rule = valued_rule (codes "leaf") (Unsigned 0 most_leaf)
 
+-- an option whose value is a word, which may be left out
+abbrev pub word_rule : List ℕ → Rule
+word_rule name = record (new_rule name) { long = Some name; value_names = 1; action = Some Set }
+
 -- the word of a witness's file, which may be left out; its option is spelled as the flag of `check` is
 abbrev pub laid_witness_rule : Rule
 laid_witness_rule = record (new_rule (codes "laid_witness")) { long = Some (codes "witness"); value_names = 1; action = Some Set }
 
 -- the word of the choices, which must be there
 abbrev pub choices_rule : Rule
-choices_rule = record (new_rule (codes "choices")) { long = Some (codes "choices"); value_names = 1; required = true; action = Some Set }
+choices_rule = record (word_rule (codes "choices")) { required = true }
 
 abbrev pub port_rule : Rule
 port_rule = required_number_rule (codes "port") most_port
@@ -107,9 +111,13 @@ port_rule = required_number_rule (codes "port") most_port
 abbrev pub clients_rule : Rule
 clients_rule = required_number_rule (codes "clients") most_clients
 
--- a command on the script of a file, in a mode
+-- a command on the script of a file
+abbrev pub file_app : List ℕ → App
+file_app name = with_rule (new_app name) (file_rule (codes "FILE"))
+
+-- and in a mode
 abbrev pub script_app : List ℕ → App
-script_app name = with_rule (with_rule (new_app name) (file_rule (codes "FILE"))) mode_rule
+script_app name = with_rule (file_app name) mode_rule
 
 abbrev pub trace_app : App
 trace_app = script_app (codes "trace")
@@ -145,12 +153,21 @@ verify_app = with_rule (with_rule (script_app (codes "verify")) (file_rule (code
 abbrev pub words_app : App
 words_app = with_rule (with_rule (script_app (codes "words")) choices_rule) fuel_rule
 
+abbrev pub translate_app : App
+translate_app = file_app (codes "c")
+
+abbrev pub picture_app : App
+picture_app = with_rule (with_rule (with_rule (with_rule (script_app (codes "picture")) (word_rule (codes "choices"))) laid_witness_rule) (word_rule (codes "words"))) fuel_rule
+
 abbrev pub named_app : App
 named_app = let app = new_app (codes "mpdbg") in record app { top = record app.top { has_version = true; no_binary_name = true; subcommand_required = true } }
 
 -- `mpdbg` and its commands, by the words that `--until` takes
 abbrev pub mpdbg_app : Choices → App
 mpdbg_app words =
-    with_subcommand (with_subcommand (with_subcommand (with_subcommand (with_subcommand (with_subcommand (with_subcommand named_app trace_app.top) debug_app.top) run_app.top) serve_app.top) (check_app words).top)
+    with_subcommand (with_subcommand (with_subcommand (with_subcommand (with_subcommand (with_subcommand (with_subcommand (with_subcommand (with_subcommand named_app trace_app.top) debug_app.top) run_app.top) serve_app.top)
+    (check_app words).top)
     verify_app.top)
-    words_app.top
+    words_app.top)
+    translate_app.top)
+    picture_app.top

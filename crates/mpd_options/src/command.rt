@@ -5,8 +5,8 @@ ghost use Rattle.std.specs.Borrow.{Bor};
 ghost use Rattle.clap.specs.Words.{app_of, rule_of};
 ghost use Rattle.clap.specs.declared.builder.command.Command.TheViews.{out-Command as fields_of};
 ghost use Rattle.mpd_options.specs.Help.{example_of};
-ghost use Rattle.mpd_options.specs.declared.command.Topic.TheVariants.{Check, Debug, Program, Run, Serve, Trace, Verify, Words};
-ghost use Rattle.mpd_options.specs.Program.{check_app, choices_rule, chosen_app, clients_rule, complete_rule, debug_app, ends_rule, explain_rule, file_rule, flag_rule, fuel_rule, group_rule, laid_witness_rule, leaf_rule, mode_rule, modes_rule, mpdbg_app, named_app, number_rule, numbers_app, piece_rule, pieces_rule, port_rule, required_number_rule, run_app, runs_rule, sample_rule, script_app, seed_rule, serve_app, split_rule, told_app, trace_app, until_rule, valued_rule, verify_app, witness_rule, words_app, work_app, workers_rule};
+ghost use Rattle.mpd_options.specs.declared.command.Topic.TheVariants.{Check, Debug, Picture, Program, Run, Serve, Trace, Translate, Verify, Words};
+ghost use Rattle.mpd_options.specs.Program.{check_app, choices_rule, chosen_app, clients_rule, complete_rule, debug_app, ends_rule, explain_rule, file_app, file_rule, flag_rule, fuel_rule, group_rule, laid_witness_rule, leaf_rule, mode_rule, modes_rule, mpdbg_app, named_app, number_rule, numbers_app, picture_app, piece_rule, pieces_rule, port_rule, required_number_rule, run_app, runs_rule, sample_rule, script_app, seed_rule, serve_app, split_rule, told_app, trace_app, translate_app, until_rule, valued_rule, verify_app, witness_rule, word_rule, words_app, work_app, workers_rule};
 
 use clap::builder::ValueParser;
 use clap::{Arg, ArgAction, Command};
@@ -101,6 +101,15 @@ pub(crate) const VERIFY: &str = "verify";
 
 /// The word of the command that writes the trace words of a run.
 pub(crate) const WORDS: &str = "words";
+
+/// The word of the command that writes a script in C.
+pub(crate) const TRANSLATE: &str = "c";
+
+/// The word of the command that draws a run.
+pub(crate) const PICTURE: &str = "picture";
+
+/// The option of a file of trace words, without its hyphens.
+pub(crate) const WORDS_FILE: &str = "words";
 
 const MOST_PORT: u64 = 65_535;
 
@@ -200,6 +209,23 @@ const WORDS_EXAMPLE: &str =
 Example:
   ./mpdbg words examples/race.mpd --choices '0' | ./mpdbg trace examples/race.mpd";
 
+const TRANSLATE_ABOUT: &str = "Write the script of a file as a C program with MPI calls";
+
+const TRANSLATE_EXAMPLE: &str =
+    "It is one file of C11, for as many processes as the script has ranks.
+
+Example:
+  ./mpdbg c examples/race.mpd > race.c";
+
+const PICTURE_ABOUT: &str = "Draw a run of the script of a file, as SVG";
+
+const PICTURE_EXAMPLE: &str =
+    "One of --choices, --witness and --words says which run is drawn. Without them it is the run of the
+first candidates. --fuel is for a run of choices or of first candidates.
+
+Example:
+  ./mpdbg picture examples/race.mpd --choices '1' > race.svg";
+
 /// What help speaks of: the program, or one of its commands.
 #[derive(Clone, Copy)]
 pub enum Topic {
@@ -219,6 +245,10 @@ pub enum Topic {
     Verify,
     /// `mpdbg words`.
     Words,
+    /// `mpdbg c`.
+    Translate,
+    /// `mpdbg picture`.
+    Picture,
 }
 
 /// What it does, in a few words.
@@ -232,6 +262,8 @@ fn about<'a>(topic: Topic) -> &'a str {
         Topic::Check => CHECK_ABOUT,
         Topic::Verify => VERIFY_ABOUT,
         Topic::Words => WORDS_ABOUT,
+        Topic::Translate => TRANSLATE_ABOUT,
+        Topic::Picture => PICTURE_ABOUT,
     }
 }
 
@@ -248,6 +280,8 @@ fn example<'a>(topic: Topic) -> &'a str
         Topic::Check => CHECK_EXAMPLE,
         Topic::Verify => VERIFY_EXAMPLE,
         Topic::Words => WORDS_EXAMPLE,
+        Topic::Translate => TRANSLATE_EXAMPLE,
+        Topic::Picture => PICTURE_EXAMPLE,
     }
 }
 
@@ -527,7 +561,7 @@ fn choices_option<'a>(alloc: Global) -> Arg<'a>
 }
 
 /// `--witness WITNESS`.
-fn laid_witness_option<'a>(alloc: Global) -> Arg<'a>
+fn laid_witness_option<'a>(alloc: Global, help: &'a str) -> Arg<'a>
     ensures rule { rule_of result ≡ laid_witness_rule }
     ensures own { result.global ≡ false }
 {
@@ -535,7 +569,19 @@ fn laid_witness_option<'a>(alloc: Global) -> Arg<'a>
         .long(WITNESS)
         .value_name(WITNESS_FILE)
         .action(ArgAction::Set)
-        .help("A witness or a report, whose deadlock is laid ahead")
+        .help(help)
+}
+
+/// An option whose value is a word, which may be left out.
+fn word_option<'a>(alloc: Global, name: &'a str, value_name: &'a str, help: &'a str) -> Arg<'a>
+    ensures rule { rule_of result ≡ word_rule name.entry.now }
+    ensures own { result.global ≡ false }
+{
+    Arg::new(alloc, name)
+        .long(name)
+        .value_name(value_name)
+        .action(ArgAction::Set)
+        .help(help)
 }
 
 /// The command with what help says of it, and its example.
@@ -547,14 +593,20 @@ fn with_help<'a>(command: Command<'a>, topic: Topic) -> Command<'a>
     command.about(about(topic)).after_help(example(topic))
 }
 
-/// A command on the script of a file: `NAME FILE --mode M`.
+/// A command on the script of a file: `NAME FILE`.
+fn file_command<'a>(alloc: Global, name: &'a str) -> Result<Command<'a>, AllocError>
+    ensures app { IfOk result (λ c. app_of c ≡ file_app name.entry.now) }
+    ensures own { IfOk result (λ c. (fields_of c).has_globals ≡ false) }
+{
+    Command::new(alloc, name).arg(file_word(alloc, FILE, "The script"))
+}
+
+/// A command on the script of a file, in a mode: `NAME FILE --mode M`.
 fn script_command<'a>(alloc: Global, name: &'a str) -> Result<Command<'a>, AllocError>
     ensures app { IfOk result (λ c. app_of c ≡ script_app name.entry.now) }
     ensures own { IfOk result (λ c. (fields_of c).has_globals ≡ false) }
 {
-    Command::new(alloc, name)
-        .arg(file_word(alloc, FILE, "The script"))?
-        .arg(mode_option(alloc))
+    file_command(alloc, name)?.arg(mode_option(alloc))
 }
 
 /// `mpdbg trace FILE --mode M`.
@@ -573,7 +625,8 @@ fn debug_command<'a>(alloc: Global) -> Result<Command<'a>, AllocError>
     ensures own { IfOk result (λ c. (fields_of c).has_globals ≡ false) }
     ensures example { IfOk result (λ c. option_map (λ (t : Bor (List ℕ)). t.now) (fields_of c).after_help ≡ Some (example_of Debug)) }
 {
-    let command = script_command(alloc, DEBUG)?.arg(laid_witness_option(alloc))?;
+    let help = "A witness or a report, whose deadlock is laid ahead";
+    let command = script_command(alloc, DEBUG)?.arg(laid_witness_option(alloc, help))?;
     Ok(with_help(command, Topic::Debug))
 }
 
@@ -681,6 +734,33 @@ fn words_command<'a>(alloc: Global) -> Result<Command<'a>, AllocError>
     Ok(with_help(command, Topic::Words))
 }
 
+/// `mpdbg c FILE`.
+fn translate_command<'a>(alloc: Global) -> Result<Command<'a>, AllocError>
+    ensures app { IfOk result (λ c. app_of c ≡ translate_app) }
+    ensures own { IfOk result (λ c. (fields_of c).has_globals ≡ false) }
+    ensures example { IfOk result (λ c. option_map (λ (t : Bor (List ℕ)). t.now) (fields_of c).after_help ≡ Some (example_of Translate)) }
+{
+    let command = file_command(alloc, TRANSLATE)?;
+    Ok(with_help(command, Topic::Translate))
+}
+
+/// `mpdbg picture FILE --mode M --choices C --witness WITNESS --words WORDS --fuel N`.
+fn picture_command<'a>(alloc: Global) -> Result<Command<'a>, AllocError>
+    ensures app { IfOk result (λ c. app_of c ≡ picture_app) }
+    ensures own { IfOk result (λ c. (fields_of c).has_globals ≡ false) }
+    ensures example { IfOk result (λ c. option_map (λ (t : Bor (List ℕ)). t.now) (fields_of c).after_help ≡ Some (example_of Picture)) }
+{
+    let choices = "Draw the run with these choices, numbers from 0 with spaces between them";
+    let witness = "Draw the run of a witness or a report";
+    let words = "Draw the run of a file of trace words, one a line";
+    let command = script_command(alloc, PICTURE)?
+        .arg(word_option(alloc, CHOICES, "C", choices))?
+        .arg(laid_witness_option(alloc, witness))?
+        .arg(word_option(alloc, WORDS_FILE, "WORDS", words))?
+        .arg(fuel_option(alloc))?;
+    Ok(with_help(command, Topic::Picture))
+}
+
 /// `mpdbg`, which wants a command.
 fn named_program<'a>(alloc: Global) -> Result<Command<'a>, AllocError>
     ensures { IfOk result (λ c. app_of c ≡ named_app) }
@@ -704,6 +784,8 @@ pub(crate) fn program<'a>(alloc: Global, until: &'a [&'a str]) -> Result<Command
         .subcommand(serve_command(alloc)?)?
         .subcommand(check_command(alloc, until)?)?
         .subcommand(verify_command(alloc)?)?
-        .subcommand(words_command(alloc)?)?;
+        .subcommand(words_command(alloc)?)?
+        .subcommand(translate_command(alloc)?)?
+        .subcommand(picture_command(alloc)?)?;
     Ok(with_help(command, Topic::Program))
 }

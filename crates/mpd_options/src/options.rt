@@ -1,14 +1,15 @@
 //! What the words of a command line ask for.
 ghost use Rattle.std.specs.Prelude.{◌≡◌, ◌<◌, IfOk, IfErr, Some, true, is_some, length, map, option_and_then};
 ghost use Rattle.clap.specs.Words.{first_of, found_of, one_of, rows_of, subcommand_rows_of};
-ghost use Rattle.mpd_options.specs.Asked.{IsFound, IsInRange, asked, checker, debugger, found_in, found_of_command, found_options, meant, most_seed, number_if_given, runner, server, teller, text_in, tracer, until_bad_in, verifier};
+ghost use Rattle.mpd_options.specs.Asked.{IsFound, IsInRange, asked, checker, debugger, found_in, found_of_command, found_options, meant, most_seed, number_if_given, painter, runner, server, teller, text_in, tracer, translator, until_bad_in, verifier};
 ghost use Rattle.mpd_options.specs.Numbers.{flag_in, most_usize, number_in};
 ghost use Rattle.mpd_options.specs.Refused.{IsRefused, is_answer, usage_of, usage_status, usage_text};
 
 use crate::command::{
     CHECK, CHOICES, CLIENTS, COMPLETE, DEBUG, ENDS, EXPLAIN, FILE, FUEL, GROUP, LAID_WITNESS, LEAF,
-    MODE, MODES, PIECE, PIECES, PORT, RUN, RUNS, SAMPLE, SEED, SERVE, SPLIT, TRACE, UNTIL,
-    USUAL_RUNS, USUAL_SPLIT, VERIFY, WITNESS, WITNESS_FILE, WORDS, WORKERS, only_deadlock, program,
+    MODE, MODES, PICTURE, PIECE, PIECES, PORT, RUN, RUNS, SAMPLE, SEED, SERVE, SPLIT, TRACE,
+    TRANSLATE, UNTIL, USUAL_RUNS, USUAL_SPLIT, VERIFY, WITNESS, WITNESS_FILE, WORDS, WORDS_FILE,
+    WORKERS, only_deadlock, program,
 };
 use clap::ArgMatches;
 use clap::error::ErrorKind;
@@ -128,6 +129,26 @@ pub enum Options<'a> {
         /// The mode's word, whatever it is; `rendezvous` where there is none.
         mode: &'a str,
         /// How many steps the run takes at most.
+        fuel: usize,
+    },
+    /// Write the script of a file as a C program.
+    Translate {
+        /// The file's word.
+        file: &'a str,
+    },
+    /// Draw a run of the script of a file.
+    Picture {
+        /// The file's word.
+        file: &'a str,
+        /// The mode's word, whatever it is; `rendezvous` where there is none.
+        mode: &'a str,
+        /// The word of the run's choices, whatever it is; there need be none.
+        choices: Option<&'a str>,
+        /// The file of a witness or a report, whose run is drawn; there need be none.
+        witness: Option<&'a str>,
+        /// The file of the run's trace words; there need be none.
+        words: Option<&'a str>,
+        /// How many steps the run takes at most, where it is told by choices or by nothing.
         fuel: usize,
     },
 }
@@ -405,6 +426,36 @@ fn words_in<'a>(words: &ArgMatches<'a>) -> Options<'a>
     }
 }
 
+/// What the words behind `c` ask for.
+fn translate_in<'a>(translate: &ArgMatches<'a>) -> Options<'a>
+    requires { is_some (found_in translator (rows_of (found_of translate.now))) ≡ true }
+    ensures { Some (asked result) ≡ found_in translator (rows_of (found_of translate.now)) }
+{
+    let file = word_in(translate, FILE);
+    Options::Translate { file }
+}
+
+/// What the words behind `picture` ask for.
+fn picture_in<'a>(picture: &ArgMatches<'a>) -> Options<'a>
+    requires { is_some (found_in painter (rows_of (found_of picture.now))) ≡ true }
+    ensures { Some (asked result) ≡ found_in painter (rows_of (found_of picture.now)) }
+{
+    let file = word_in(picture, FILE);
+    let mode = word_in(picture, MODE);
+    let choices_word = picture.get_str(CHOICES);
+    let witness_file = picture.get_str(LAID_WITNESS);
+    let words_file = picture.get_str(WORDS_FILE);
+    let fuel = number_of(picture, FUEL);
+    Options::Picture {
+        file,
+        mode,
+        choices: choices_word,
+        witness: witness_file,
+        words: words_file,
+        fuel,
+    }
+}
+
 /// What the command that was found asks for.
 fn options_in<'a>(matches: &ArgMatches<'a>) -> Options<'a>
     requires { is_some (found_of_command (subcommand_rows_of matches.now)) ≡ true }
@@ -428,10 +479,16 @@ fn options_in<'a>(matches: &ArgMatches<'a>) -> Options<'a>
     if let Some(verify) = matches.subcommand_matches(VERIFY) {
         return verify_in(verify);
     }
-    let Some(words) = matches.subcommand_matches(WORDS) else {
+    if let Some(words) = matches.subcommand_matches(WORDS) {
+        return words_in(words);
+    }
+    if let Some(translate) = matches.subcommand_matches(TRANSLATE) {
+        return translate_in(translate);
+    }
+    let Some(picture) = matches.subcommand_matches(PICTURE) else {
         unreachable!()
     };
-    words_in(words)
+    picture_in(picture)
 }
 
 /// What `clap` finds in words of which there are some.

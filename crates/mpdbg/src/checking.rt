@@ -123,7 +123,7 @@ pub(crate) fn fit_together<'a>(options: CheckOptions) -> Result<(), Fault<'a>> {
         };
     }
     match clash_of(options) {
-        Some(option) => Err(Fault::Clash(option)),
+        Some(option) => Err(Fault::Clash("--sample", option)),
         None => Ok(()),
     }
 }

@@ -40,8 +40,10 @@ pub(crate) enum Fault<'a> {
     Pieces,
     /// There is no piece of this number, but so many.
     Piece { number: usize, count: usize },
-    /// An option that can't stand beside `--sample`.
-    Clash(&'static str),
+    /// Two options that can't stand together.
+    Clash(&'static str, &'static str),
+    /// A command that can't be carried out yet.
+    NotYet(&'static str),
     /// `--seed` without `--sample`.
     SeedAlone,
     /// The word of `--choices`, which isn't numbers.
@@ -290,8 +292,12 @@ pub(crate) fn tell<R: Print + Eprint + AllocGlobal>(
             let _unwritten = eprintln!(rt; "mpdbg: no piece {number} of {count}");
             WRONG
         }
-        Fault::Clash(option) => {
-            let _unwritten = eprintln!(rt; "mpdbg: --sample and {option} can't stand together");
+        Fault::Clash(one, other) => {
+            let _unwritten = eprintln!(rt; "mpdbg: {one} and {other} can't stand together");
+            WRONG
+        }
+        Fault::NotYet(command) => {
+            let _unwritten = eprintln!(rt; "mpdbg: {command} can't be carried out yet");
             WRONG
         }
         Fault::SeedAlone => {

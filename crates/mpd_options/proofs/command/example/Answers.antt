@@ -33,3 +33,11 @@ returns-in-Verify c = sym (ap example_of c.in-Verify.is)
 pub returns-in-Words : goal.returns-in-Words
 unfolding example_of
 returns-in-Words c = sym (ap example_of c.in-Words.is)
+
+pub returns-in-Translate : goal.returns-in-Translate
+unfolding example_of
+returns-in-Translate c = sym (ap example_of c.in-Translate.is)
+
+pub returns-in-Picture : goal.returns-in-Picture
+unfolding example_of
+returns-in-Picture c = sym (ap example_of c.in-Picture.is)

@@ -1,6 +1,6 @@
 use Rattle.std.proofs.Common.{ap, is_some, refl, sym, ◌∙◌}
 use Rattle.clap.specs.Words.{found_of, rows_of}
-use Rattle.mpd_options.specs.Asked.{checker}
+use Rattle.mpd_options.specs.Asked.{checker, painter}
 use Rattle.mpd_options.proofs.Reading.{command_is}
 use Rattle.mpd_options.proofs.options.options_in.Goals as goal
 
@@ -13,3 +13,8 @@ pub returns-in-Some-subcommand_matches-4 : goal.returns-in-Some-subcommand_match
 returns-in-Some-subcommand_matches-4 c =
     let found = c.in-Some-subcommand_matches-4.ensures in
     c.check_in.ensures ∙ sym (command_is checker c.args.matches.now (rows_of (found_of c.in-Some-subcommand_matches-4.check.now)) (found.found.0 refl) found.rows)
+
+pub returns : goal.returns
+returns c =
+    let found = c.in-Some-subcommand_matches-8.ensures in
+    c.picture_in.ensures ∙ sym (command_is painter c.args.matches.now (rows_of (found_of c.in-Some-subcommand_matches-8.picture.now)) (found.found.0 refl) found.rows)

@@ -1,4 +1,4 @@
-use Rattle.std.proofs.Common.{arith, codes, sym, ◌∙◌}
+use Rattle.std.proofs.Common.{arith, codes, sym, ◌∙◌, refl}
 use Rattle.std.specs.Str.Parse.{ExplainsUnsignedError, HasUnsignedDigitsIfOk, ParsesUnsigned}
 use Rattle.clap.specs.Words.{found_of, rows_of}
 use Rattle.mpd_options.specs.Asked.{most_clients, most_port, server}
@@ -9,7 +9,7 @@ pub word_in-file-requires : goal.word_in-file-requires
 word_in-file-requires c = has_file server (rows_of (found_of c.args.serve.now)) c.requires
 
 pub word_in-mode-requires : goal.word_in-mode-requires
-word_in-mode-requires c = has_mode server (rows_of (found_of c.args.serve.now)) c.requires
+word_in-mode-requires c = has_mode server (rows_of (found_of c.args.serve.now)) refl c.requires
 
 pub unreachable-requires : goal.unreachable-requires
 unreachable-requires c =

@@ -1,4 +1,4 @@
-use Rattle.std.proofs.Common.{arith, codes}
+use Rattle.std.proofs.Common.{arith, codes, refl}
 use Rattle.clap.specs.Words.{found_of, one_of, rows_of}
 use Rattle.mpd_options.specs.Asked.{most_leaf, verifier}
 use Rattle.mpd_options.proofs.Reading.{given_is, given_there, has_file, has_mode, has_verified, has_witness, verify_found}
@@ -11,7 +11,7 @@ pub word_in-witness-requires : goal.word_in-witness-requires
 word_in-witness-requires c = has_witness (rows_of (found_of c.args.verify.now)) c.requires
 
 pub word_in-mode-requires : goal.word_in-mode-requires
-word_in-mode-requires c = has_mode verifier (rows_of (found_of c.args.verify.now)) c.requires
+word_in-mode-requires c = has_mode verifier (rows_of (found_of c.args.verify.now)) refl c.requires
 
 pub given_of-leaf-requires : goal.given_of-leaf-requires
 given_of-leaf-requires c = let f = found_of c.args.verify.now in given_there 0 most_leaf (one_of (codes "leaf") (rows_of f)) (omega arith) (has_verified f c.requires)

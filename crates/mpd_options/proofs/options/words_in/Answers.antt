@@ -1,4 +1,4 @@
-use Rattle.std.proofs.Common.{arith, codes}
+use Rattle.std.proofs.Common.{arith, codes, refl}
 use Rattle.clap.specs.Words.{found_of, one_of, rows_of}
 use Rattle.mpd_options.specs.Asked.{most_fuel, teller}
 use Rattle.mpd_options.proofs.Reading.{has_choices, has_file, has_fuel, has_mode, number_is, number_there, words_found}
@@ -11,7 +11,7 @@ pub word_in-choices-requires : goal.word_in-choices-requires
 word_in-choices-requires c = has_choices (rows_of (found_of c.args.words.now)) c.requires
 
 pub word_in-mode-requires : goal.word_in-mode-requires
-word_in-mode-requires c = has_mode teller (rows_of (found_of c.args.words.now)) c.requires
+word_in-mode-requires c = has_mode teller (rows_of (found_of c.args.words.now)) refl c.requires
 
 pub number_of-fuel-requires : goal.number_of-fuel-requires
 number_of-fuel-requires c = let f = found_of c.args.words.now in number_there 1 most_fuel (one_of (codes "fuel") (rows_of f)) (omega arith) (has_fuel f c.requires)

@@ -1,0 +1,18 @@
+use Rattle.std.proofs.Common.{◌+◌, ◌<◌, length, ap, ◌∙◌, arith}
+use Rattle.mpd_model.specs.Trail.{Trail}
+use Rattle.mpd_picture.proofs.MarkLemmas.{marks_more}
+use Rattle.mpd_picture.proofs.marks.take_all.Goals as goal
+
+pub loop-place-preserved : goal.loop-place-preserved
+loop-place-preserved c =
+    let t : Trail = c.args.debugger.now.trail in
+    let place = c.loop-place.place in
+    let kept = c.loop-place.invariant in
+    let told = c.in_ok-row.ensures in
+    let within : place < length t.steps = omega (arith, c.loop-place-test.true, ap length c.steps-count.ensures) in
+    record {
+      steps = ap (λ (u : Trail). u.steps) told.trail ∙ kept.steps;
+      depth = ap (λ (u : Trail). u.depth) told.trail ∙ ap (λ k. k + 1) kept.depth;
+      few = omega (arith, told.few, kept.few);
+      marks = marks_more t.steps place c.loop-place.row _ c.loop-place.debugger.trail c.loop-place.debugger.world c.take_next.new.debugger.world c.loop-place.marks.items c.take_next.new.marks.items _ within kept.steps kept.depth kept.marks told.marks told.row told.leads;
+    }

@@ -1,0 +1,6 @@
+pub mod Marks
+pub mod Shapes
+pub mod Svg
+pub mod Rows
+pub mod Pictures
+pub mod PictureLaws

@@ -1,0 +1,91 @@
+-- A picture of a run, as SVG and as text (docs/PICTURES.md).
+use Rattle.std.specs.Prelude.{ℕ, ◌+◌, nat_le, Bool, if◌then◌else◌, List, [], ◌∷◌, ◌++◌, length, Option, Some, None, codes}
+use Rattle.std.specs.Fmt.{decimal}
+use Rattle.std.specs.List.{flat_map}
+use Rattle.mpd_model.specs.declared.call.Mode.{Mode}
+use Rattle.mpd_model.specs.declared.call.Mode.TheVariants.{Rendezvous, Buffered, Slots}
+use Rattle.mpd_model.specs.declared.outcome.Outcome.{Outcome}
+use Rattle.mpd_model.specs.Modes.{rendezvous_word, buffered_word, slots_word}
+use Rattle.mpd_model.specs.Program.{Program}
+use Rattle.mpd_model.specs.World.{World, Board}
+use Rattle.mpd_model.specs.Outcomes.{outcome}
+use Rattle.mpd_model.specs.Texts.{line, outcome_text}
+use Rattle.mpd_model.specs.Trail.{Trail, kept}
+use Rattle.mpd_picture.specs.declared.mark.Mark.{Mark}
+use Rattle.mpd_picture.specs.declared.shape.Shape.{Shape}
+use Rattle.mpd_picture.specs.declared.style.TheConstants.{OPENED, STYLE, LEGEND}
+use Rattle.mpd_picture.specs.declared.draw.TheConstants.{MARKS_MAX}
+use Rattle.mpd_picture.specs.Marks.{marks_of}
+use Rattle.mpd_picture.specs.Shapes.{rows_of, shapes_of}
+use Rattle.mpd_picture.specs.Svg.{column_x, row_y, attribute, text_element, opened, shape_elements}
+use Rattle.mpd_picture.specs.Rows.{rows_text}
+
+-- ---- the title
+
+abbrev pub mode_word : Mode → List ℕ
+mode_word Rendezvous = rendezvous_word
+mode_word Buffered = buffered_word
+mode_word (Slots count) = slots_word ++ decimal count
+
+unfoldable pub how_text : Option Outcome → List ℕ
+how_text None = codes "can go on"
+how_text (Some o) = outcome_text o
+
+-- `2 ranks, rendezvous, 21 steps: deadlock 0.1 1.0`
+unfoldable pub title_of : Board → ℕ → Option Outcome → List ℕ
+title_of b depth o = decimal (length b.calls) ++ codes " ranks, " ++ mode_word b.mode ++ codes ", " ++ decimal depth ++ codes " steps: " ++ how_text o
+
+-- ---- the drawing
+
+unfoldable pub size_attributes : ℕ → ℕ → List ℕ
+size_attributes width height = attribute (codes " width=\"") width ++ attribute (codes " height=\"") height
+
+unfoldable pub box_begun : List ℕ
+box_begun = codes " viewBox=\"0 0 "
+
+unfoldable pub box_attribute : ℕ → ℕ → List ℕ
+box_attribute width height = box_begun ++ decimal width ++ codes " " ++ decimal height ++ codes "\">\n"
+
+unfoldable pub title_element : List ℕ → List ℕ
+title_element title = codes "<title>" ++ title ++ codes "</title>\n"
+
+unfoldable pub paper_element : ℕ → ℕ → List ℕ
+paper_element width height = opened (codes "<rect class=\"") (codes "paper") ++ size_attributes width height ++ codes "/>\n"
+
+unfoldable pub opened_text : List ℕ
+opened_text = OPENED.now
+
+unfoldable pub style_text : List ℕ
+style_text = STYLE.now
+
+unfoldable pub legend_text : List ℕ
+legend_text = LEGEND.now
+
+-- how a drawing of that size begins
+unfoldable pub head_elements : ℕ → ℕ → List ℕ → List ℕ
+head_elements width height title = opened_text ++ size_attributes width height ++ box_attribute width height ++ title_element title ++ style_text ++ paper_element width height ++ text_element (codes "head") 12 24 title
+
+-- the legend stands below all rows
+unfoldable pub legend_elements : ℕ → List ℕ
+legend_elements y = codes "<g transform=\"translate(12 " ++ decimal y ++ codes ")\">\n" ++ legend_text
+
+unfoldable pub svg_by : Program → World → ℕ → ℕ → List Shape → List ℕ
+svg_by s w rows depth shapes =
+    head_elements (column_x w.board + 460) (row_y rows + 190) (title_of w.board depth (outcome w)) ++ flat_map (shape_elements s w) shapes ++ legend_elements (row_y rows + 76)
+
+abbrev pub svg_of : Program → World → ℕ → List Mark → List ℕ
+svg_of s w depth marks = svg_by s w (rows_of marks) depth (shapes_of w marks)
+
+abbrev pub few : List Mark → Bool
+few marks = nat_le (length marks) MARKS_MAX
+
+abbrev pub trail_marks : Trail → List Mark
+trail_marks t = marks_of t.program t.mode (kept t)
+
+-- The picture of the steps of a trail that are not undone, which lead to this world; none where they show too much.
+abbrev pub picture_svg : Trail → World → Option (List ℕ)
+picture_svg t w = if few (trail_marks t) then Some (svg_of t.program w t.depth (trail_marks t)) else None
+
+-- the same as text
+abbrev pub picture_text : Trail → World → List ℕ
+picture_text t w = if few (trail_marks t) then rows_text t.program w (shapes_of w (trail_marks t)) else line (codes "refused: this run has too many calls to be drawn")

@@ -1,0 +1,237 @@
+-- The text of a drawing: its elements, and those of each shape (docs/PICTURES.md, "Elements"). All that is written is numbers and the words
+-- of these definitions, so there is no `<` or `&` but those of the elements here, each of which is closed where it is opened.
+use Rattle.std.specs.Prelude.{ℕ, ℤ, ◌+◌, ◌-◌, ◌*◌, min, Bool, true, false, ◌==◌, nat_lt, if◌then◌else◌, List, [], ◌∷◌, ◌++◌, length, slice_get, Option, Some, None, codes}
+use Rattle.std.specs.Option.{option_map}
+use Rattle.std.specs.Fmt.{decimal, signed_decimal}
+use Rattle.std.specs.List.{flat_map}
+use Rattle.mpd_model.specs.declared.step.CallId.{CallId}
+use Rattle.mpd_model.specs.declared.call.CallKind.{CallKind}
+use Rattle.mpd_model.specs.declared.call.CallKind.TheVariants.{Send, Recv, Wait, Waitany, Barrier}
+use Rattle.mpd_model.specs.declared.call.Activity.{Activity}
+use Rattle.mpd_model.specs.declared.call.Activity.TheVariants.{Running, Blocked, Trapped}
+use Rattle.mpd_model.specs.Program.{Program}
+use Rattle.mpd_model.specs.World.{RankWorld, World, Board, call_at, kind_at}
+use Rattle.mpd_model.specs.Outcomes.{has_ended}
+use Rattle.mpd_model.specs.Texts.{id_text, send_word, recv_word, call_text, trap_name}
+use Rattle.mpd_explain.specs.Explained.{issue_line, rank_line}
+use Rattle.mpd_picture.specs.declared.shape.Shape.{Shape}
+use Rattle.mpd_picture.specs.declared.shape.Shape.TheVariants.{Lane, Waiting, Posted, Arrow, Bar, Stub, End}
+use Rattle.mpd_picture.specs.declared.shape.Shape.TheVariants as shape
+use Rattle.mpd_picture.specs.declared.svg.Finish.{Finish}
+use Rattle.mpd_picture.specs.declared.svg.Finish.TheVariants as finish
+
+-- ---- places
+
+-- the lane of a rank, and the middle of a row: no run has more ranks or rows
+abbrev pub lane_x : ℕ → ℕ
+lane_x p = 96 + 90 * min p 16
+
+abbrev pub row_y : ℕ → ℕ
+row_y row = 80 + 20 * min row 1000000
+
+-- where the texts of rows begin
+abbrev pub column_x : Board → ℕ
+column_x b = lane_x (length b.calls)
+
+-- ---- elements
+
+unfoldable pub attribute : List ℕ → ℕ → List ℕ
+attribute name value = name ++ decimal value ++ codes "\""
+
+unfoldable pub opened : List ℕ → List ℕ → List ℕ
+opened element class = element ++ class ++ codes "\""
+
+unfoldable pub closed : List ℕ
+closed = codes "/>\n"
+
+-- `<line class="lane" x1="96" y1="60" x2="96" y2="120"/>`
+unfoldable pub line_element : List ℕ → ℕ → ℕ → ℕ → ℕ → List ℕ
+line_element class x1 y1 x2 y2 = opened (codes "<line class=\"") class ++ attribute (codes " x1=\"") x1 ++ attribute (codes " y1=\"") y1 ++ attribute (codes " x2=\"") x2 ++ attribute (codes " y2=\"") y2 ++ closed
+
+-- `<path class="send" d="M96 80m-5 0.."/>`: a path from a place on
+unfoldable pub path_at : ℕ → ℕ → List ℕ → List ℕ
+path_at x y path = codes " d=\"M" ++ decimal x ++ codes " " ++ decimal y ++ path ++ codes "\""
+
+unfoldable pub path_element : List ℕ → ℕ → ℕ → List ℕ → List ℕ
+path_element class x y path = opened (codes "<path class=\"") class ++ path_at x y path ++ closed
+
+-- `<text class="name" x="96" y="50">rank 0</text>`
+unfoldable pub inside : List ℕ → List ℕ
+inside text = codes ">" ++ text ++ codes "</text>\n"
+
+unfoldable pub text_element : List ℕ → ℕ → ℕ → List ℕ → List ℕ
+text_element class x y text = opened (codes "<text class=\"") class ++ attribute (codes " x=\"") x ++ attribute (codes " y=\"") y ++ inside text
+
+-- a group begins with its title
+unfoldable pub group_begun : List ℕ → List ℕ
+group_begun title = codes "<g><title>" ++ title ++ codes "</title>\n"
+
+unfoldable pub group_ended : List ℕ
+group_ended = codes "</g>\n"
+
+-- ---- what shapes of calls look like
+
+abbrev pub word_of : Option CallKind → List ℕ
+word_of None = codes "none"
+word_of (Some (Send s)) = send_word s.synchronous s.blocks
+word_of (Some (Recv r)) = recv_word r.blocks
+word_of (Some (Wait t)) = codes "wait"
+word_of (Some (Waitany a)) = codes "waitany"
+word_of (Some Barrier) = codes "barrier"
+
+abbrev pub class_of : Option CallKind → List ℕ
+class_of None = codes "none"
+class_of (Some (Send s)) = codes "send"
+class_of (Some (Recv r)) = codes "recv"
+class_of (Some (Wait t)) = codes "wait"
+class_of (Some (Waitany a)) = codes "waitany"
+class_of (Some Barrier) = codes "barrier"
+
+abbrev pub disc : List ℕ
+disc = codes "m-5 0a5 5 0 1 0 10 0a5 5 0 1 0 -10 0z"
+
+abbrev pub square : List ℕ
+square = codes "m-5 -5h10v10h-10z"
+
+abbrev pub path_of : Option CallKind → List ℕ
+path_of None = square
+path_of (Some (Send s)) = disc
+path_of (Some (Recv r)) = disc
+path_of (Some (Wait t)) = square
+path_of (Some (Waitany a)) = square
+path_of (Some Barrier) = codes "m-8 -3h16v6h-16z"
+
+-- A free send has a stub towards its receiver, to the right where that is its own rank, and a free receive one at its left.
+abbrev pub stub_path : CallId → Option CallKind → List ℕ
+stub_path c (Some (Recv r)) = codes "l-18 0m-3 0a3 3 0 1 0 6 0a3 3 0 1 0 -6 0"
+stub_path c (Some (Send s)) = if nat_lt s.to c.rank then codes "l-12 16m-3 0a3 3 0 1 0 6 0a3 3 0 1 0 -6 0" else codes "l12 16m-3 0a3 3 0 1 0 6 0a3 3 0 1 0 -6 0"
+stub_path c kind = codes "l12 16m-3 0a3 3 0 1 0 6 0a3 3 0 1 0 -6 0"
+
+-- the label of a send to a higher rank stands at the left, out of the way of its arrow
+abbrev pub goes_right : CallId → Option CallKind → Bool
+goes_right c (Some (Send s)) = nat_lt c.rank s.to
+goes_right c kind = false
+
+-- ---- texts
+
+unfoldable pub rank_name : ℕ → List ℕ
+rank_name p = codes "rank " ++ decimal p
+
+-- `line 4, 0.0 send to 1 tag 7 value 5 with 1.0`
+unfoldable pub call_told : Program → Board → CallId → List ℕ
+call_told s b c = codes "line " ++ decimal (issue_line s.lines (call_at b c)) ++ codes ", " ++ id_text c ++ codes " " ++ call_text b c
+
+-- `4 send`
+unfoldable pub call_label : Program → Board → CallId → List ℕ
+call_label s b c = decimal (issue_line s.lines (call_at b c)) ++ codes " " ++ word_of (kind_at b c)
+
+-- `5 tag 7`
+unfoldable pub message_label : Option CallKind → List ℕ
+message_label (Some (Send s)) = signed_decimal s.value ++ codes " tag " ++ decimal s.tag
+message_label kind = []
+
+-- `0.0 to 1.0: value 5 tag 7`
+unfoldable pub arrow_told : Board → CallId → CallId → List ℕ
+arrow_told b s r = id_text s ++ codes " to " ++ id_text r ++ codes ": value " ++ message_label (kind_at b s)
+
+-- ---- shapes
+
+-- what stands beside the lane, and behind a guide what is told of the row
+unfoldable pub side_element : Bool → ℕ → ℕ → List ℕ → List ℕ
+side_element is_left x y label = if is_left then text_element (codes "left") (x - 12) (y + 4) label else text_element (codes "right") (x + 12) (y + 4) label
+
+unfoldable pub row_elements : Board → Bool → ℕ → ℕ → List ℕ → List ℕ → List ℕ
+row_elements b is_left x y label told = side_element is_left x y label ++ line_element (codes "guide") (x + 80) y (column_x b - 6) y ++ text_element (codes "row") (column_x b) (y + 4) told
+
+unfoldable pub lane_elements : ℕ → ℕ → List ℕ
+lane_elements p row = line_element (codes "lane") (lane_x p) 60 (lane_x p) (row_y row) ++ text_element (codes "name") (lane_x p) 52 (rank_name p)
+
+unfoldable pub waiting_element : ℕ → ℕ → ℕ → List ℕ
+waiting_element p from to = line_element (codes "waiting") (lane_x p) (row_y from + 5) (lane_x p) (row_y to + 5)
+
+unfoldable pub posted_element : ℕ → ℕ → ℕ → List ℕ
+posted_element p from to = line_element (codes "posted") (lane_x p - 5) (row_y from) (lane_x p - 5) (row_y to)
+
+unfoldable pub stub_element : Board → CallId → ℕ → List ℕ
+stub_element b c row = path_element (codes "stub") (lane_x c.rank) (row_y row) (stub_path c (kind_at b c))
+
+unfoldable pub call_elements : Program → Board → CallId → ℕ → List ℕ
+call_elements s b c row =
+    group_begun (call_told s b c) ++ path_element (class_of (kind_at b c)) (lane_x c.rank) (row_y row) (path_of (kind_at b c))
+    ++ row_elements b (goes_right c (kind_at b c)) (lane_x c.rank) (row_y row) (call_label s b c) (call_told s b c) ++ group_ended
+
+-- a straight line, or where a rank sends to itself a bow at the left of its lane
+unfoldable pub bow : ℕ → ℕ → ℕ → List ℕ
+bow x y1 y2 = codes "C" ++ decimal (x - 40) ++ codes " " ++ decimal y1 ++ codes " " ++ decimal (x - 40) ++ codes " " ++ decimal y2 ++ codes " " ++ decimal x ++ codes " " ++ decimal y2
+
+unfoldable pub straight : ℕ → ℕ → List ℕ
+straight x y = codes "L" ++ decimal x ++ codes " " ++ decimal y
+
+unfoldable pub arrow_path : ℕ → ℕ → ℕ → ℕ → List ℕ
+arrow_path p from q to = if p == q then bow (lane_x q) (row_y from) (row_y to) else straight (lane_x q) (row_y to)
+
+unfoldable pub arrow_elements : Board → CallId → ℕ → CallId → ℕ → List ℕ
+arrow_elements b s from r to =
+    group_begun (arrow_told b s r) ++ path_element (codes "arrow") (lane_x s.rank) (row_y from) (arrow_path s.rank from r.rank to)
+    ++ row_elements b (nat_lt r.rank s.rank) (lane_x r.rank) (row_y to) (message_label (kind_at b s)) (arrow_told b s r) ++ group_ended
+
+unfoldable pub bar_elements : Board → ℕ → List ℕ
+bar_elements b row =
+    group_begun (codes "release: all ranks leave the barrier") ++ line_element (codes "bar") (lane_x 0 - 14) (row_y row) (lane_x (length b.calls - 1) + 14) (row_y row)
+    ++ text_element (codes "row") (column_x b) (row_y row + 4) (codes "release") ++ group_ended
+
+-- ---- how a rank is at the end
+
+abbrev pub finish_by : RankWorld → Activity → Finish
+finish_by r Running = if has_ended r then finish.Ended else finish.Running
+finish_by r Blocked = finish.Blocked
+finish_by r (Trapped t) = finish.Trapped t
+
+abbrev pub finish_of : Option RankWorld → Finish
+finish_of None = finish.Ended
+finish_of (Some r) = finish_by r r.activity
+
+abbrev pub finish_class : Finish → List ℕ
+finish_class finish.Ended = codes "ended"
+finish_class finish.Running = codes "running"
+finish_class finish.Blocked = codes "blocked"
+finish_class (finish.Trapped t) = codes "trapped"
+
+abbrev pub finish_path : Finish → List ℕ
+finish_path finish.Ended = codes "m-9 0h18"
+finish_path finish.Running = codes "m-6 -5h12l-6 10z"
+finish_path finish.Blocked = codes "m-3 -7h6l5 5v5l-5 5h-6l-5 -5v-5z"
+finish_path (finish.Trapped t) = codes "m-6 -6l12 12m0 -12l-12 12"
+
+unfoldable pub finish_told : Program → Option RankWorld → Finish → List ℕ
+finish_told s r finish.Ended = codes "ended"
+finish_told s r finish.Running = codes "at line " ++ decimal (rank_line s.lines r)
+finish_told s r finish.Blocked = codes "blocked"
+finish_told s r (finish.Trapped t) = trap_name t
+
+-- a finish at a lane, with its words
+unfoldable pub end_title : List ℕ → List ℕ → List ℕ
+end_title name told = name ++ codes ": " ++ told
+
+unfoldable pub end_told : ℕ → ℕ → Finish → List ℕ → List ℕ
+end_told p row f told =
+    group_begun (end_title (rank_name p) told) ++ path_element (finish_class f) (lane_x p) (row_y row) (finish_path f)
+    ++ text_element (codes "name") (lane_x p) (row_y row + 24) (rank_name p) ++ text_element (codes "name") (lane_x p) (row_y row + 38) told ++ group_ended
+
+unfoldable pub end_by : Program → Option RankWorld → ℕ → ℕ → Finish → List ℕ
+end_by s r p row f = end_told p row f (finish_told s r f)
+
+unfoldable pub end_elements : Program → World → ℕ → ℕ → List ℕ
+end_elements s w p row = end_by s (slice_get w.ranks p) p row (finish_of (slice_get w.ranks p))
+
+-- ---- any shape
+
+abbrev pub shape_elements : Program → World → Shape → List ℕ
+shape_elements s w (Lane p row) = lane_elements p row
+shape_elements s w (Waiting p from to) = waiting_element p from to
+shape_elements s w (Posted p from to) = posted_element p from to
+shape_elements s w (shape.Call c row) = call_elements s w.board c row
+shape_elements s w (Stub c row) = stub_element w.board c row
+shape_elements s w (Arrow c from d to) = arrow_elements w.board c from d to
+shape_elements s w (Bar row) = bar_elements w.board row
+shape_elements s w (End p row) = end_elements s w p row

@@ -1,0 +1,23 @@
+//! What the steps of a run show (docs/PICTURES.md, "Rows").
+
+use mpd_model::step::CallId;
+
+/// What is shown.
+#[derive(Clone, Copy)]
+pub(crate) enum Event {
+    /// A rank issued a call.
+    Issued(CallId),
+    /// A send, the first, was matched with a receive.
+    Paired(CallId, CallId),
+    /// The rank of a call went on behind it.
+    WentOn(CallId),
+    /// All ranks left their barriers.
+    Released,
+}
+
+/// What a step shows, and at which row, from 0.
+#[derive(Clone, Copy)]
+pub(crate) struct Mark {
+    pub(crate) row: usize,
+    pub(crate) event: Event,
+}

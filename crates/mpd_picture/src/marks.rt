@@ -1,0 +1,199 @@
+//! What the steps of a run show, found by a copy of the debugger that goes back and takes them again.
+
+ghost use Rattle.std.specs.Prelude.{◌≡◌, ◌++◌, ◌<◌, ◌≤◌, ◌+◌, ◌∷◌, [], IfOk, OnOk, Some, length, drop, slice_get};
+ghost use Rattle.std.specs.List.{flat_map};
+ghost use Rattle.mpd_model.specs.Next.{next};
+ghost use Rattle.mpd_model.specs.World.{rank_numbers, start};
+ghost use Rattle.mpd_model.specs.Trail.{kept, redone};
+ghost use Rattle.mpd_picture.specs.Marks as spec;
+
+use crate::mark::{Event, Mark};
+use mpd_core::state::Core;
+use mpd_model::step::{CallId, Step};
+use mpd_trail::debugger::Debugger;
+use std::alloc::{AllocError, Global};
+
+/// Adds what is shown.
+fn add(marks: &mut Vec<Mark>, mark: Mark) -> Result<(), AllocError>
+    ensures { OnOk result (marks.new.items ≡ marks.old.items ++ mark ∷ []) }
+{
+    marks.push(mark)?;
+    Ok(())
+}
+
+/// How many calls the rank of a local step has issued.
+fn calls_before(core: &Core<'_>, step: Step) -> usize
+    ensures { result ≡ spec.calls_before core.now.world step }
+{
+    match step {
+        Step::Local(rank) => core.board().call_count(rank),
+        Step::Match(_, _) | Step::Wake(_) | Step::WakeAny { .. } | Step::Release => 0,
+    }
+}
+
+/// Whether a step has issued a call, of a rank that had so many before.
+fn issues(core: &Core<'_>, before: usize, rank: usize) -> bool
+    ensures { result ≡ spec.issues before core.now.world.board rank }
+{
+    before != core.board().call_count(rank)
+}
+
+/// Whether a step takes a row, on the state behind it.
+fn takes_row(core: &Core<'_>, before: usize, step: Step) -> bool
+    ensures { result ≡ spec.takes_row before core.now.world.board step }
+{
+    match step {
+        Step::Local(rank) => issues(core, before, rank),
+        Step::Match(_, _) | Step::Release => true,
+        Step::Wake(_) | Step::WakeAny { .. } => false,
+    }
+}
+
+/// Adds that a rank went on behind its last call.
+fn push_went_on(
+    core: &Core<'_>,
+    marks: &mut Vec<Mark>,
+    row: usize,
+    rank: usize,
+) -> Result<(), AllocError>
+    ensures { OnOk result (marks.new.items ≡ marks.old.items ++ spec.went_on core.now.world.board row rank) }
+{
+    let event = Event::WentOn(core.board().last_call(rank));
+    add(marks, Mark { row, event })
+}
+
+/// Adds that all ranks went on behind their last calls.
+fn push_all_went_on(core: &Core<'_>, marks: &mut Vec<Mark>, row: usize) -> Result<(), AllocError>
+    ensures { OnOk result (marks.new.items ≡ marks.old.items ++ flat_map (spec.went_on core.now.world.board row) (rank_numbers core.now.world.board)) }
+{
+    let count = core.rank_count();
+    for rank in 0..count {
+        push_went_on(core, marks, row, rank)?;
+    }
+    Ok(())
+}
+
+/// Adds the call that a local step has issued, where it has.
+fn push_issued(
+    core: &Core<'_>,
+    marks: &mut Vec<Mark>,
+    before: usize,
+    row: usize,
+    rank: usize,
+) -> Result<(), AllocError>
+    ensures { OnOk result (marks.new.items ≡ marks.old.items ++ spec.step_marks before core.now.world.board row (Step.Local rank)) }
+{
+    if !issues(core, before, rank) {
+        return Ok(());
+    }
+    let event = Event::Issued(CallId {
+        rank,
+        index: before,
+    });
+    add(marks, Mark { row, event })
+}
+
+/// Adds what a step shows, on the state behind it.
+fn push_step_marks(
+    core: &Core<'_>,
+    marks: &mut Vec<Mark>,
+    before: usize,
+    row: usize,
+    step: Step,
+) -> Result<(), AllocError>
+    ensures { OnOk result (marks.new.items ≡ marks.old.items ++ spec.step_marks before core.now.world.board row step) }
+{
+    match step {
+        Step::Local(rank) => push_issued(core, marks, before, row, rank),
+        Step::Match(send, receive) => add(
+            marks,
+            Mark {
+                row,
+                event: Event::Paired(send, receive),
+            },
+        ),
+        Step::Wake(rank) | Step::WakeAny { rank, index: _ } => {
+            push_went_on(core, marks, row.saturating_sub(1), rank)
+        }
+        Step::Release => {
+            add(
+                marks,
+                Mark {
+                    row,
+                    event: Event::Released,
+                },
+            )?;
+            push_all_went_on(core, marks, row)
+        }
+    }
+}
+
+/// Takes the first step that is undone, adds what it shows, and answers the next row.
+fn take_next(
+    debugger: &mut Debugger<'_>,
+    marks: &mut Vec<Mark>,
+    row: usize,
+) -> Result<usize, AllocError>
+    requires ahead { debugger.old.trail.depth < length debugger.old.trail.steps }
+    requires few { row < 9223372036854775808 }
+    ensures marks { OnOk result ((step : Step) → slice_get debugger.old.trail.steps debugger.old.trail.depth ≡ Some step → marks.new.items ≡ marks.old.items ++ spec.step_marks (spec.calls_before debugger.old.world step) debugger.new.world.board row step) }
+    ensures row { IfOk result (λ behind. (step : Step) → slice_get debugger.old.trail.steps debugger.old.trail.depth ≡ Some step → behind ≡ spec.row_behind (spec.calls_before debugger.old.world step) debugger.new.world.board row step) }
+    ensures few { IfOk result (λ behind. behind ≤ row + 1) }
+    ensures leads { OnOk result ((step : Step) → slice_get debugger.old.trail.steps debugger.old.trail.depth ≡ Some step → next debugger.old.world step ≡ Some debugger.new.world) }
+    ensures trail { OnOk result (debugger.new.trail ≡ redone debugger.old.trail) }
+{
+    let Some(step) = debugger.next_undone() else {
+        unreachable!();
+    };
+    let before = calls_before(debugger.core(), step);
+    if debugger.redo().is_err() {
+        return Err(AllocError);
+    }
+    push_step_marks(debugger.core(), marks, before, row, step)?;
+    if takes_row(debugger.core(), before, step) {
+        Ok(row + 1)
+    } else {
+        Ok(row)
+    }
+}
+
+/// Takes all steps that are undone, and adds what they show.
+fn take_all(debugger: &mut Debugger<'_>, marks: &mut Vec<Mark>) -> Result<(), AllocError>
+    requires { debugger.old.trail.depth ≡ 0 }
+    ensures { OnOk result (marks.new.items ≡ marks.old.items ++ spec.marks_behind debugger.old.world 0 debugger.old.trail.steps) }
+{
+    let _ = debugger.core();
+    let mut row = 0;
+    let count = debugger.steps().len();
+    for place in 0..count {
+        row = take_next(debugger, marks, row)?;
+    }
+    Ok(())
+}
+
+/// What the steps show of a debugger that keeps no undone step; it goes back, and takes them again.
+#[tactic(auto, using(crate::proofs::MarkLemmas::going_back))]
+fn marks_again(alloc: Global, debugger: &mut Debugger<'_>) -> Result<Vec<Mark>, AllocError>
+    requires { length debugger.old.trail.steps ≡ debugger.old.trail.depth }
+    ensures { IfOk result (λ marks. marks.items ≡ spec.marks_of debugger.old.trail.program debugger.old.trail.mode (kept debugger.old.trail)) }
+{
+    let mut marks = Vec::new(alloc);
+    let _ = debugger.undo_to(0);
+    take_all(debugger, &mut marks)?;
+    Ok(marks)
+}
+
+/// What the steps show that are not undone. An `Err` is want of memory.
+#[tactic(auto, using(crate::proofs::MarkLemmas::going_back))]
+pub(crate) fn marks_of(alloc: Global, debugger: &Debugger<'_>) -> Result<Vec<Mark>, AllocError>
+    ensures { IfOk result (λ marks. marks.items ≡ spec.marks_of debugger.now.trail.program debugger.now.trail.mode (kept debugger.now.trail)) }
+{
+    match debugger.copy() {
+        Err(_) => Err(AllocError),
+        Ok(mut copy) => {
+            let marks = marks_again(alloc, &mut copy);
+            drop(copy);
+            marks
+        }
+    }
+}

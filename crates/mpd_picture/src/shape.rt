@@ -1,0 +1,51 @@
+//! The shapes of a picture, by ranks and rows (docs/PICTURES.md, "Shapes").
+
+use mpd_model::step::CallId;
+
+/// A shape. Ranks are lanes from left to right, and rows count from 0 downwards.
+#[derive(Clone, Copy)]
+pub(crate) enum Shape {
+    /// The lane of a rank, down to a row.
+    Lane {
+        rank: usize,
+        row: usize,
+    },
+    /// A rank waits in a call, from one row to another.
+    Waiting {
+        rank: usize,
+        from: usize,
+        to: usize,
+    },
+    /// A receive of a rank is posted, from one row to another.
+    Posted {
+        rank: usize,
+        from: usize,
+        to: usize,
+    },
+    /// A call at the row in which it is issued.
+    Call {
+        call: CallId,
+        row: usize,
+    },
+    /// A send or a receive that stays free, at that row.
+    Stub {
+        call: CallId,
+        row: usize,
+    },
+    /// A message, from the row of its send to that in which it is matched with the receive.
+    Arrow {
+        send: CallId,
+        from: usize,
+        receive: CallId,
+        to: usize,
+    },
+    /// All ranks leave their barriers.
+    Bar {
+        row: usize,
+    },
+    /// How a rank is at the end.
+    End {
+        rank: usize,
+        row: usize,
+    },
+}

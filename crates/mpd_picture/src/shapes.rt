@@ -1,0 +1,265 @@
+//! The shapes of a picture, from what the steps show and where they lead.
+
+ghost use Rattle.std.specs.Prelude.{◌≡◌, ◌++◌, ◌∷◌, [], if◌then◌else◌, IfOk, OnOk, slice_get};
+ghost use Rattle.std.specs.List.{flat_map};
+ghost use Rattle.mpd_model.specs.World.{kind_at, rank_numbers};
+ghost use Rattle.mpd_model.specs.Next.{waits as waits_in};
+ghost use Rattle.mpd_picture.specs.Shapes as spec;
+
+use crate::mark::{Event, Mark};
+use crate::shape::Shape;
+use mpd_core::state::Core;
+use mpd_model::call::{Activity, CallKind};
+use mpd_model::step::CallId;
+use std::alloc::{AllocError, Global};
+
+/// Adds a shape.
+fn add(shapes: &mut Vec<Shape>, shape: Shape) -> Result<(), AllocError>
+    ensures { OnOk result (shapes.new.items ≡ shapes.old.items ++ shape ∷ []) }
+{
+    shapes.push(shape)?;
+    Ok(())
+}
+
+/// Whether it takes a row.
+fn is_row(event: Event) -> bool
+    ensures { result ≡ spec.is_row event }
+{
+    match event {
+        Event::WentOn(_) => false,
+        Event::Issued(_) | Event::Paired(_, _) | Event::Released => true,
+    }
+}
+
+/// How many rows there are.
+pub(crate) fn rows_of(marks: &[Mark]) -> usize
+    ensures { result ≡ spec.rows_of marks.now }
+{
+    let mut rows = 0;
+    for mark in marks {
+        if is_row(mark.event) {
+            rows += 1;
+        }
+    }
+    rows
+}
+
+/// Whether a call is issued there.
+fn is_issue(event: Event, call: CallId) -> bool
+    ensures { result ≡ spec.is_issue event call }
+{
+    match event {
+        Event::Issued(issued) => issued == call,
+        Event::Paired(_, _) | Event::WentOn(_) | Event::Released => false,
+    }
+}
+
+/// The row in which a call is issued, 0 where it isn't.
+fn row_of(marks: &[Mark], call: CallId) -> usize
+    ensures { result ≡ spec.row_of marks.now call }
+{
+    for mark in marks {
+        if is_issue(mark.event, call) {
+            return mark.row;
+        }
+    }
+    0
+}
+
+/// Adds what is shown of a call that stays free.
+fn push_free(
+    core: &Core<'_>,
+    shapes: &mut Vec<Shape>,
+    rows: usize,
+    call: CallId,
+    row: usize,
+) -> Result<(), AllocError>
+    ensures { OnOk result (shapes.new.items ≡ shapes.old.items ++ spec.free_shapes call row rows (kind_at core.now.world.board call)) }
+{
+    match core.board().kind(call) {
+        Some(CallKind::Send(_)) => add(shapes, Shape::Stub { call, row }),
+        Some(CallKind::Recv(_)) => {
+            add(
+                shapes,
+                Shape::Posted {
+                    rank: call.rank,
+                    from: row,
+                    to: rows,
+                },
+            )?;
+            add(shapes, Shape::Stub { call, row })
+        }
+        None | Some(CallKind::Wait(_)) | Some(CallKind::Waitany(_)) | Some(CallKind::Barrier) => {
+            Ok(())
+        }
+    }
+}
+
+/// Adds what is shown of a call.
+fn push_call(
+    core: &Core<'_>,
+    shapes: &mut Vec<Shape>,
+    rows: usize,
+    call: CallId,
+    row: usize,
+) -> Result<(), AllocError>
+    ensures { OnOk result (shapes.new.items ≡ shapes.old.items ++ spec.call_shapes core.now.world.board rows call row) }
+{
+    if core.board().is_free(call) {
+        push_free(core, shapes, rows, call, row)?;
+    }
+    add(shapes, Shape::Call { call, row })
+}
+
+/// Adds what is shown of a match.
+fn push_pair(
+    marks: &[Mark],
+    shapes: &mut Vec<Shape>,
+    send: CallId,
+    receive: CallId,
+    row: usize,
+) -> Result<(), AllocError>
+    ensures { OnOk result (shapes.new.items ≡ shapes.old.items ++ spec.pair_shapes marks.now send receive row) }
+{
+    add(
+        shapes,
+        Shape::Posted {
+            rank: receive.rank,
+            from: row_of(marks, receive),
+            to: row,
+        },
+    )?;
+    add(
+        shapes,
+        Shape::Arrow {
+            send,
+            from: row_of(marks, send),
+            receive,
+            to: row,
+        },
+    )
+}
+
+/// Adds the shapes of what a step shows.
+fn push_mark(
+    core: &Core<'_>,
+    marks: &[Mark],
+    shapes: &mut Vec<Shape>,
+    rows: usize,
+    mark: Mark,
+) -> Result<(), AllocError>
+    ensures { OnOk result (shapes.new.items ≡ shapes.old.items ++ spec.mark_shapes core.now.world.board marks.now rows mark) }
+{
+    let row = mark.row;
+    match mark.event {
+        Event::Issued(call) => push_call(core, shapes, rows, call, row),
+        Event::Paired(send, receive) => push_pair(marks, shapes, send, receive, row),
+        Event::WentOn(call) => add(
+            shapes,
+            Shape::Waiting {
+                rank: call.rank,
+                from: row_of(marks, call),
+                to: row,
+            },
+        ),
+        Event::Released => add(shapes, Shape::Bar { row }),
+    }
+}
+
+/// Adds the shapes of all that the steps show.
+fn push_marks(
+    core: &Core<'_>,
+    marks: &[Mark],
+    shapes: &mut Vec<Shape>,
+    rows: usize,
+) -> Result<(), AllocError>
+    ensures { OnOk result (shapes.new.items ≡ shapes.old.items ++ flat_map (spec.mark_shapes core.now.world.board marks.now rows) marks.now) }
+{
+    for mark in marks {
+        push_mark(core, marks, shapes, rows, *mark)?;
+    }
+    Ok(())
+}
+
+/// Adds a lane.
+fn push_lane(shapes: &mut Vec<Shape>, rank: usize, rows: usize) -> Result<(), AllocError>
+    ensures { OnOk result (shapes.new.items ≡ shapes.old.items ++ spec.lane_shapes rows rank) }
+{
+    add(shapes, Shape::Lane { rank, row: rows })
+}
+
+/// Adds the lanes.
+fn push_lanes(core: &Core<'_>, shapes: &mut Vec<Shape>, rows: usize) -> Result<(), AllocError>
+    ensures { OnOk result (shapes.new.items ≡ shapes.old.items ++ flat_map (spec.lane_shapes rows) (rank_numbers core.now.world.board)) }
+{
+    let count = core.rank_count();
+    for rank in 0..count {
+        push_lane(shapes, rank, rows)?;
+    }
+    Ok(())
+}
+
+/// Whether a rank is blocked.
+fn waits(core: &Core<'_>, rank: usize) -> bool
+    ensures { result ≡ waits_in (slice_get core.now.world.ranks rank) }
+{
+    match core.activity(rank) {
+        Some(Activity::Blocked) => true,
+        None | Some(Activity::Running) | Some(Activity::Trapped(_)) => false,
+    }
+}
+
+/// Adds how a rank is at the end.
+fn push_end(
+    core: &Core<'_>,
+    marks: &[Mark],
+    shapes: &mut Vec<Shape>,
+    rows: usize,
+    rank: usize,
+) -> Result<(), AllocError>
+    ensures { OnOk result (shapes.new.items ≡ shapes.old.items ++ spec.end_shapes core.now.world marks.now rows rank) }
+{
+    if waits(core, rank) {
+        add(
+            shapes,
+            Shape::Waiting {
+                rank,
+                from: row_of(marks, core.board().last_call(rank)),
+                to: rows,
+            },
+        )?;
+    }
+    add(shapes, Shape::End { rank, row: rows })
+}
+
+/// Adds how all ranks are at the end.
+fn push_ends(
+    core: &Core<'_>,
+    marks: &[Mark],
+    shapes: &mut Vec<Shape>,
+    rows: usize,
+) -> Result<(), AllocError>
+    ensures { OnOk result (shapes.new.items ≡ shapes.old.items ++ flat_map (spec.end_shapes core.now.world marks.now rows) (rank_numbers core.now.world.board)) }
+{
+    let count = core.rank_count();
+    for rank in 0..count {
+        push_end(core, marks, shapes, rows, rank)?;
+    }
+    Ok(())
+}
+
+/// The shapes of a run that shows this, in the state where it leads. An `Err` is want of memory.
+pub(crate) fn shapes_of(
+    alloc: Global,
+    core: &Core<'_>,
+    marks: &[Mark],
+) -> Result<Vec<Shape>, AllocError>
+    ensures { IfOk result (λ shapes. shapes.items ≡ spec.shapes_of core.now.world marks.now) }
+{
+    let rows = rows_of(marks);
+    let mut shapes = Vec::new(alloc);
+    push_lanes(core, &mut shapes, rows)?;
+    push_marks(core, marks, &mut shapes, rows)?;
+    push_ends(core, marks, &mut shapes, rows)?;
+    Ok(shapes)
+}

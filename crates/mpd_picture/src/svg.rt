@@ -1,0 +1,558 @@
+//! The text of each shape of a drawing.
+
+ghost use Rattle.std.specs.Prelude.{◌≡◌, ◌++◌, ◌≤◌, OnOk, IfOk, IfSome, slice_get, string_bytes};
+ghost use Rattle.std.specs.List.{flat_map};
+ghost use Rattle.mpd_model.specs.World.{kind_at};
+ghost use Rattle.mpd_model.specs.Texts.{send_word, recv_word};
+ghost use Rattle.mpd_picture.specs.Svg as spec;
+
+use crate::elements::{push_group, push_group_end, push_line, push_path, push_text};
+use crate::places::{column_x, lane_x, row_y};
+use crate::shape::Shape;
+use mpd_core::state::Core;
+use mpd_explain::told::{issue_line, rank_line};
+use mpd_model::call::{Activity, CallKind, Trap};
+use mpd_model::step::CallId;
+use std::alloc::{AllocError, Global};
+
+/// How a rank is at the end of a run.
+#[derive(Clone, Copy)]
+pub(crate) enum Finish {
+    Ended,
+    Running,
+    Blocked,
+    Trapped(Trap),
+}
+
+// ---- what shapes of calls look like
+
+/// The word of a send.
+fn word_of_send(synchronous: bool, blocks: bool) -> &'static str
+    ensures { result.now ≡ send_word synchronous blocks }
+{
+    match (synchronous, blocks) {
+        (false, true) => "send",
+        (false, false) => "isend",
+        (true, true) => "ssend",
+        (true, false) => "issend",
+    }
+}
+
+/// The word of a receive.
+fn word_of_recv(blocks: bool) -> &'static str
+    ensures { result.now ≡ recv_word blocks }
+{
+    if blocks { "recv" } else { "irecv" }
+}
+
+/// The word of a call.
+pub(crate) fn word_of(kind: Option<CallKind>) -> &'static str
+    ensures { result.now ≡ spec.word_of kind }
+{
+    match kind {
+        None => "none",
+        Some(CallKind::Send(send)) => word_of_send(send.synchronous, send.blocks),
+        Some(CallKind::Recv(recv)) => word_of_recv(recv.blocks),
+        Some(CallKind::Wait(_)) => "wait",
+        Some(CallKind::Waitany(_)) => "waitany",
+        Some(CallKind::Barrier) => "barrier",
+    }
+}
+
+/// The class of a call's shape.
+fn class_of(kind: Option<CallKind>) -> &'static str
+    ensures { result.now ≡ spec.class_of kind }
+{
+    match kind {
+        None => "none",
+        Some(CallKind::Send(_)) => "send",
+        Some(CallKind::Recv(_)) => "recv",
+        Some(CallKind::Wait(_)) => "wait",
+        Some(CallKind::Waitany(_)) => "waitany",
+        Some(CallKind::Barrier) => "barrier",
+    }
+}
+
+/// The path of a call's shape.
+fn path_of(kind: Option<CallKind>) -> &'static str
+    ensures { result.now ≡ spec.path_of kind }
+{
+    match kind {
+        Some(CallKind::Send(_)) | Some(CallKind::Recv(_)) => {
+            "m-5 0a5 5 0 1 0 10 0a5 5 0 1 0 -10 0z"
+        }
+        None | Some(CallKind::Wait(_)) | Some(CallKind::Waitany(_)) => "m-5 -5h10v10h-10z",
+        Some(CallKind::Barrier) => "m-8 -3h16v6h-16z",
+    }
+}
+
+/// The path of the stub of a free call.
+fn stub_path(call: CallId, kind: Option<CallKind>) -> &'static str
+    ensures { result.now ≡ spec.stub_path call kind }
+{
+    match kind {
+        Some(CallKind::Recv(_)) => "l-18 0m-3 0a3 3 0 1 0 6 0a3 3 0 1 0 -6 0",
+        Some(CallKind::Send(send)) => {
+            if send.to < call.rank {
+                "l-12 16m-3 0a3 3 0 1 0 6 0a3 3 0 1 0 -6 0"
+            } else {
+                "l12 16m-3 0a3 3 0 1 0 6 0a3 3 0 1 0 -6 0"
+            }
+        }
+        None | Some(CallKind::Wait(_)) | Some(CallKind::Waitany(_)) | Some(CallKind::Barrier) => {
+            "l12 16m-3 0a3 3 0 1 0 6 0a3 3 0 1 0 -6 0"
+        }
+    }
+}
+
+/// Whether a call is a send to a higher rank.
+fn goes_right(call: CallId, kind: Option<CallKind>) -> bool
+    ensures { result ≡ spec.goes_right call kind }
+{
+    match kind {
+        Some(CallKind::Send(send)) => call.rank < send.to,
+        None
+        | Some(CallKind::Recv(_))
+        | Some(CallKind::Wait(_))
+        | Some(CallKind::Waitany(_))
+        | Some(CallKind::Barrier) => false,
+    }
+}
+
+// ---- texts
+
+/// The name of a rank.
+#[tactic(auto, unfolding(crate::specs::Svg::rank_name))]
+fn rank_name(alloc: Global, rank: usize) -> Result<String, AllocError>
+    ensures { IfOk result (λ t. string_bytes t ≡ spec.rank_name rank) }
+{
+    let mut name = String::new(alloc);
+    write!(name, "rank {rank}")?;
+    Ok(name)
+}
+
+/// What is told of a call.
+#[tactic(auto, unfolding(crate::specs::Svg::call_told))]
+fn call_told(alloc: Global, core: &Core<'_>, call: CallId) -> Result<String, AllocError>
+    ensures { IfOk result (λ t. string_bytes t ≡ spec.call_told core.now.program core.now.world.board call) }
+{
+    let mut told = String::new(alloc);
+    let line = issue_line(core, call);
+    write!(told, "line {line}, {call} ")?;
+    core.push_call(&mut told, call)?;
+    Ok(told)
+}
+
+/// The label of a call.
+#[tactic(auto, unfolding(crate::specs::Svg::call_label))]
+fn call_label(alloc: Global, core: &Core<'_>, call: CallId) -> Result<String, AllocError>
+    ensures { IfOk result (λ t. string_bytes t ≡ spec.call_label core.now.program core.now.world.board call) }
+{
+    let mut label = String::new(alloc);
+    let line = issue_line(core, call);
+    let word = word_of(core.board().kind(call));
+    write!(label, "{line} ")?;
+    label.push_str(word)?;
+    Ok(label)
+}
+
+/// Adds the value and the tag of a message.
+#[tactic(auto, unfolding(crate::specs::Svg::message_label))]
+fn push_message(out: &mut String, kind: Option<CallKind>) -> Result<(), AllocError>
+    ensures { OnOk result (string_bytes out.new ≡ string_bytes out.old ++ spec.message_label kind) }
+{
+    match kind {
+        Some(CallKind::Send(send)) => {
+            let value = send.value;
+            let tag = send.tag;
+            write!(out, "{value} tag {tag}")
+        }
+        None
+        | Some(CallKind::Recv(_))
+        | Some(CallKind::Wait(_))
+        | Some(CallKind::Waitany(_))
+        | Some(CallKind::Barrier) => Ok(()),
+    }
+}
+
+/// The label of a message.
+fn message_label(alloc: Global, kind: Option<CallKind>) -> Result<String, AllocError>
+    ensures { IfOk result (λ t. string_bytes t ≡ spec.message_label kind) }
+{
+    let mut label = String::new(alloc);
+    push_message(&mut label, kind)?;
+    Ok(label)
+}
+
+/// What is told of a message.
+#[tactic(auto, unfolding(crate::specs::Svg::arrow_told))]
+fn arrow_told(
+    alloc: Global,
+    core: &Core<'_>,
+    send: CallId,
+    receive: CallId,
+) -> Result<String, AllocError>
+    ensures { IfOk result (λ t. string_bytes t ≡ spec.arrow_told core.now.world.board send receive) }
+{
+    let mut told = String::new(alloc);
+    write!(told, "{send} to {receive}: value ")?;
+    push_message(&mut told, core.board().kind(send))?;
+    Ok(told)
+}
+
+// ---- shapes
+
+/// Adds what stands beside a lane.
+#[tactic(auto, unfolding(crate::specs::Svg::side_element))]
+fn push_side(
+    out: &mut String,
+    is_left: bool,
+    x: usize,
+    y: usize,
+    label: &str,
+) -> Result<(), AllocError>
+    requires x { x ≤ 2000 }
+    requires y { y ≤ 30000000 }
+    ensures { OnOk result (string_bytes out.new ≡ string_bytes out.old ++ spec.side_element is_left x y label.now) }
+{
+    if is_left {
+        push_text(out, "left", x.saturating_sub(12), y + 4, label)
+    } else {
+        push_text(out, "right", x + 12, y + 4, label)
+    }
+}
+
+/// Adds what stands beside a lane, and what is told of the row.
+#[tactic(auto, unfolding(crate::specs::Svg::row_elements))]
+fn push_row(
+    core: &Core<'_>,
+    out: &mut String,
+    is_left: bool,
+    x: usize,
+    y: usize,
+    label: &str,
+    told: &str,
+) -> Result<(), AllocError>
+    requires x { x ≤ 2000 }
+    requires y { y ≤ 30000000 }
+    ensures { OnOk result (string_bytes out.new ≡ string_bytes out.old ++ spec.row_elements core.now.world.board is_left x y label.now told.now) }
+{
+    let column = column_x(core);
+    push_side(out, is_left, x, y, label)?;
+    push_line(out, "guide", x + 80, y, column - 6, y)?;
+    push_text(out, "row", column, y + 4, told)
+}
+
+/// Adds a lane.
+#[tactic(auto, unfolding(crate::specs::Svg::lane_elements))]
+fn push_lane(alloc: Global, out: &mut String, rank: usize, row: usize) -> Result<(), AllocError>
+    ensures { OnOk result (string_bytes out.new ≡ string_bytes out.old ++ spec.lane_elements rank row) }
+{
+    let x = lane_x(rank);
+    let name = rank_name(alloc, rank)?;
+    push_line(out, "lane", x, 60, x, row_y(row))?;
+    push_text(out, "name", x, 52, &name)
+}
+
+/// Adds that a rank waits.
+#[tactic(auto, unfolding(crate::specs::Svg::waiting_element))]
+fn push_waiting(out: &mut String, rank: usize, from: usize, to: usize) -> Result<(), AllocError>
+    ensures { OnOk result (string_bytes out.new ≡ string_bytes out.old ++ spec.waiting_element rank from to) }
+{
+    let x = lane_x(rank);
+    push_line(out, "waiting", x, row_y(from) + 5, x, row_y(to) + 5)
+}
+
+/// Adds that a receive is posted.
+#[tactic(auto, unfolding(crate::specs::Svg::posted_element))]
+fn push_posted(out: &mut String, rank: usize, from: usize, to: usize) -> Result<(), AllocError>
+    ensures { OnOk result (string_bytes out.new ≡ string_bytes out.old ++ spec.posted_element rank from to) }
+{
+    let x = lane_x(rank) - 5;
+    push_line(out, "posted", x, row_y(from), x, row_y(to))
+}
+
+/// Adds the stub of a free call.
+#[tactic(auto, unfolding(crate::specs::Svg::stub_element))]
+fn push_stub(core: &Core<'_>, out: &mut String, call: CallId, row: usize) -> Result<(), AllocError>
+    ensures { OnOk result (string_bytes out.new ≡ string_bytes out.old ++ spec.stub_element core.now.world.board call row) }
+{
+    let path = stub_path(call, core.board().kind(call));
+    push_path(out, "stub", lane_x(call.rank), row_y(row), path)
+}
+
+/// Adds a call.
+#[tactic(auto, unfolding(crate::specs::Svg::call_elements))]
+fn push_call(
+    alloc: Global,
+    core: &Core<'_>,
+    out: &mut String,
+    call: CallId,
+    row: usize,
+) -> Result<(), AllocError>
+    ensures { OnOk result (string_bytes out.new ≡ string_bytes out.old ++ spec.call_elements core.now.program core.now.world.board call row) }
+{
+    let kind = core.board().kind(call);
+    let label = call_label(alloc, core, call)?;
+    let told = call_told(alloc, core, call)?;
+    let x = lane_x(call.rank);
+    let y = row_y(row);
+    push_group(out, &told)?;
+    push_path(out, class_of(kind), x, y, path_of(kind))?;
+    push_row(core, out, goes_right(call, kind), x, y, &label, &told)?;
+    push_group_end(out)
+}
+
+/// Adds a bow at the left of a lane.
+#[tactic(auto, unfolding(crate::specs::Svg::bow))]
+fn push_bow(out: &mut String, x: usize, from: usize, to: usize) -> Result<(), AllocError>
+    ensures { OnOk result (string_bytes out.new ≡ string_bytes out.old ++ spec.bow x from to) }
+{
+    let left = x.saturating_sub(40);
+    write!(out, "C{left} {from} {left} ")?;
+    write!(out, "{to} {x} {to}")
+}
+
+/// Adds a straight line.
+#[tactic(auto, unfolding(crate::specs::Svg::straight))]
+fn push_straight(out: &mut String, x: usize, y: usize) -> Result<(), AllocError>
+    ensures { OnOk result (string_bytes out.new ≡ string_bytes out.old ++ spec.straight x y) }
+{
+    write!(out, "L{x} {y}")
+}
+
+/// The path of an arrow.
+#[tactic(auto, unfolding(crate::specs::Svg::arrow_path))]
+fn arrow_path(
+    alloc: Global,
+    sender: usize,
+    from: usize,
+    receiver: usize,
+    to: usize,
+) -> Result<String, AllocError>
+    ensures { IfOk result (λ t. string_bytes t ≡ spec.arrow_path sender from receiver to) }
+{
+    let mut path = String::new(alloc);
+    let x = lane_x(receiver);
+    if sender == receiver {
+        push_bow(&mut path, x, row_y(from), row_y(to))?;
+    } else {
+        push_straight(&mut path, x, row_y(to))?;
+    }
+    Ok(path)
+}
+
+/// Adds the arrow of a message.
+#[tactic(auto, unfolding(crate::specs::Svg::arrow_elements))]
+fn push_arrow(
+    alloc: Global,
+    core: &Core<'_>,
+    out: &mut String,
+    send: CallId,
+    from: usize,
+    receive: CallId,
+    to: usize,
+) -> Result<(), AllocError>
+    ensures { OnOk result (string_bytes out.new ≡ string_bytes out.old ++ spec.arrow_elements core.now.world.board send from receive to) }
+{
+    let label = message_label(alloc, core.board().kind(send))?;
+    let told = arrow_told(alloc, core, send, receive)?;
+    let path = arrow_path(alloc, send.rank, from, receive.rank, to)?;
+    let is_left = receive.rank < send.rank;
+    push_group(out, &told)?;
+    push_path(out, "arrow", lane_x(send.rank), row_y(from), &path)?;
+    push_row(
+        core,
+        out,
+        is_left,
+        lane_x(receive.rank),
+        row_y(to),
+        &label,
+        &told,
+    )?;
+    push_group_end(out)
+}
+
+/// Adds the bar of a release.
+#[tactic(auto, unfolding(crate::specs::Svg::bar_elements))]
+fn push_bar(core: &Core<'_>, out: &mut String, row: usize) -> Result<(), AllocError>
+    ensures { OnOk result (string_bytes out.new ≡ string_bytes out.old ++ spec.bar_elements core.now.world.board row) }
+{
+    let y = row_y(row);
+    let last = lane_x(core.rank_count().saturating_sub(1));
+    push_group(out, "release: all ranks leave the barrier")?;
+    push_line(out, "bar", lane_x(0) - 14, y, last + 14, y)?;
+    push_text(out, "row", column_x(core), y + 4, "release")?;
+    push_group_end(out)
+}
+
+// ---- how a rank is at the end
+
+/// How a rank is.
+#[tactic(auto, using(crate::proofs::SvgLemmas::finishing))]
+pub(crate) fn finish_of(core: &Core<'_>, rank: usize) -> Finish
+    ensures { result ≡ spec.finish_of (slice_get core.now.world.ranks rank) }
+{
+    match core.activity(rank) {
+        None => Finish::Ended,
+        Some(Activity::Running) => running_finish(core, rank),
+        Some(Activity::Blocked) => Finish::Blocked,
+        Some(Activity::Trapped(trap)) => Finish::Trapped(trap),
+    }
+}
+
+/// How a rank is that neither waits nor is trapped.
+#[tactic(auto, using(crate::proofs::SvgLemmas::finishing))]
+fn running_finish(core: &Core<'_>, rank: usize) -> Finish
+    ensures { IfSome (slice_get core.now.world.ranks rank) (λ r. result ≡ spec.finish_by r Activity.Running) }
+{
+    if rank >= core.rank_count() {
+        return Finish::Ended;
+    }
+    if core.rank(rank).has_ended(core.code()) {
+        Finish::Ended
+    } else {
+        Finish::Running
+    }
+}
+
+/// The class of its shape.
+fn finish_class(finish: Finish) -> &'static str
+    ensures { result.now ≡ spec.finish_class finish }
+{
+    match finish {
+        Finish::Ended => "ended",
+        Finish::Running => "running",
+        Finish::Blocked => "blocked",
+        Finish::Trapped(_) => "trapped",
+    }
+}
+
+/// The path of its shape.
+fn finish_path(finish: Finish) -> &'static str
+    ensures { result.now ≡ spec.finish_path finish }
+{
+    match finish {
+        Finish::Ended => "m-9 0h18",
+        Finish::Running => "m-6 -5h12l-6 10z",
+        Finish::Blocked => "m-3 -7h6l5 5v5l-5 5h-6l-5 -5v-5z",
+        Finish::Trapped(_) => "m-6 -6l12 12m0 -12l-12 12",
+    }
+}
+
+/// Its words.
+#[tactic(auto, unfolding(crate::specs::Svg::finish_told))]
+fn finish_told(
+    alloc: Global,
+    core: &Core<'_>,
+    rank: usize,
+    finish: Finish,
+) -> Result<String, AllocError>
+    ensures { IfOk result (λ t. string_bytes t ≡ spec.finish_told core.now.program (slice_get core.now.world.ranks rank) finish) }
+{
+    let mut told = String::new(alloc);
+    match finish {
+        Finish::Ended => told.push_str("ended")?,
+        Finish::Running => {
+            let line = rank_line(core, rank);
+            write!(told, "at line {line}")?;
+        }
+        Finish::Blocked => told.push_str("blocked")?,
+        Finish::Trapped(trap) => told.push_str(trap.name())?,
+    }
+    Ok(told)
+}
+
+/// The title of how a rank is at the end.
+#[tactic(auto, unfolding(crate::specs::Svg::end_title))]
+fn end_title(alloc: Global, name: &str, told: &str) -> Result<String, AllocError>
+    ensures { IfOk result (λ t. string_bytes t ≡ spec.end_title name.now told.now) }
+{
+    let mut title = String::new(alloc);
+    title.push_str(name)?;
+    title.push_str(": ")?;
+    title.push_str(told)?;
+    Ok(title)
+}
+
+/// Adds how a rank is at the end, with its words.
+#[tactic(auto, unfolding(crate::specs::Svg::end_told))]
+fn push_finish(
+    alloc: Global,
+    out: &mut String,
+    rank: usize,
+    row: usize,
+    finish: Finish,
+    told: &str,
+) -> Result<(), AllocError>
+    ensures { OnOk result (string_bytes out.new ≡ string_bytes out.old ++ spec.end_told rank row finish told.now) }
+{
+    let name = rank_name(alloc, rank)?;
+    let x = lane_x(rank);
+    let y = row_y(row);
+    let title = end_title(alloc, &name, told)?;
+    push_group(out, &title)?;
+    push_path(out, finish_class(finish), x, y, finish_path(finish))?;
+    push_text(out, "name", x, y + 24, &name)?;
+    push_text(out, "name", x, y + 38, told)?;
+    push_group_end(out)
+}
+
+/// Adds how a rank is at the end.
+#[tactic(auto, unfolding(crate::specs::Svg::end_elements, crate::specs::Svg::end_by))]
+fn push_end(
+    alloc: Global,
+    core: &Core<'_>,
+    out: &mut String,
+    rank: usize,
+    row: usize,
+) -> Result<(), AllocError>
+    ensures { OnOk result (string_bytes out.new ≡ string_bytes out.old ++ spec.end_elements core.now.program core.now.world rank row) }
+{
+    let finish = finish_of(core, rank);
+    let told = finish_told(alloc, core, rank, finish)?;
+    push_finish(alloc, out, rank, row, finish, &told)
+}
+
+// ---- any shape
+
+/// Adds the elements of a shape.
+fn push_shape(
+    alloc: Global,
+    core: &Core<'_>,
+    out: &mut String,
+    shape: Shape,
+) -> Result<(), AllocError>
+    ensures { OnOk result (string_bytes out.new ≡ string_bytes out.old ++ spec.shape_elements core.now.program core.now.world shape) }
+{
+    match shape {
+        Shape::Lane { rank, row } => push_lane(alloc, out, rank, row),
+        Shape::Waiting { rank, from, to } => push_waiting(out, rank, from, to),
+        Shape::Posted { rank, from, to } => push_posted(out, rank, from, to),
+        Shape::Call { call, row } => push_call(alloc, core, out, call, row),
+        Shape::Stub { call, row } => push_stub(core, out, call, row),
+        Shape::Arrow {
+            send,
+            from,
+            receive,
+            to,
+        } => push_arrow(alloc, core, out, send, from, receive, to),
+        Shape::Bar { row } => push_bar(core, out, row),
+        Shape::End { rank, row } => push_end(alloc, core, out, rank, row),
+    }
+}
+
+/// Adds the elements of all shapes. An `Err` is want of memory.
+pub(crate) fn push_shapes(
+    alloc: Global,
+    core: &Core<'_>,
+    out: &mut String,
+    shapes: &[Shape],
+) -> Result<(), AllocError>
+    ensures { OnOk result (string_bytes out.new ≡ string_bytes out.old ++ flat_map (spec.shape_elements core.now.program core.now.world) shapes.now) }
+{
+    for shape in shapes {
+        push_shape(alloc, core, out, *shape)?;
+    }
+    Ok(())
+}
