@@ -1,0 +1,4 @@
+pub mod CText
+pub mod Expressions
+pub mod Pieces
+pub mod Statements
