@@ -94,7 +94,7 @@ def row_wrong(chosen, case, wanted):
 def compare_rows(chosen, pool):
     """How many worked rows are answered otherwise than they must be."""
     cases = list(worked_cases(chosen))
-    typed = [row for row in DIALOGUES if row.is_usual and row.turns[-1][0] in (b'quit', b'q')] if chosen.program else []
+    typed = [row for row in DIALOGUES if row.is_usual] if chosen.program else []
     found = [*pool.map(row_wrong, [chosen] * len(cases), *zip(*cases)), *pool.map(terminal_wrong, [chosen] * len(typed), typed)]
     wrong = [how for how in found if how is not None]
     for how in wrong:
