@@ -32,6 +32,7 @@ from ends_of_runs import HUNG, MODES_OF, NotWhole, is_of, is_told, listed, searc
 from explore_cases import KINDS, KINDS_OF_2, kind_of, script_of
 from language import Fault, Script, read_script
 from library_runs import LIBRARIES, SOON, NotCompiled, Odd, compiled, run
+from mpi_programs import compare_programs
 from worked_mpi import ROWS
 
 TOP = os.path.join(os.path.dirname(os.path.abspath(__file__)), '..')
@@ -219,7 +220,7 @@ def main():
     with tempfile.TemporaryDirectory(prefix='mpi-') as folder:
         if chosen.broken:
             return 1 if sum(not_noticed(chosen, library, folder) for library in libraries[:1]) else 0
-        return 1 if compare(chosen, libraries, folder) else 0
+        return 1 if compare_programs(libraries, folder) + compare(chosen, libraries, folder) else 0
 
 
 if __name__ == '__main__':
