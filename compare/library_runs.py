@@ -54,12 +54,12 @@ class NotCompiled(Exception):
     """A text that a compiler refuses, or warns of."""
 
 
-def compiled(library, folder, text, options=STRICT):
-    """The path of the program that a text in C is compiled to, with the shim."""
+def compiled(library, folder, text, options=STRICT, more=()):
+    """The path of the program that a text in C is compiled to, with the shim; raises what the compiler says."""
     source, program = os.path.join(folder, 'program.c'), os.path.join(folder, f'program.{library.name}')
     with open(source, 'wb') as file:
         file.write(text)
-    ran = subprocess.run([library.compiler, *options, source, shim_of(library, os.path.dirname(folder)), '-o', program],
+    ran = subprocess.run([library.compiler, *options, *more, source, shim_of(library, os.path.dirname(folder)), '-o', program],
                          capture_output=True, check=False)
     if ran.returncode or ran.stderr:
         raise NotCompiled(ran.stderr.decode(errors='replace'))
