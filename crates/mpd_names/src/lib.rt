@@ -5,7 +5,7 @@ mod bytes;
 mod cells;
 pub mod find;
 pub mod held;
-mod lines;
+pub mod lines;
 pub mod list;
 pub mod name;
 mod stand;

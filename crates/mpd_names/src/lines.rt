@@ -19,7 +19,7 @@ fn line_len(text: &[u8]) -> usize
 
 /// The first line of a text, with its line feed, and what stands behind it, where there is a line.
 #[tactic(auto, using(crate::proofs::LineLemmas::cutting))]
-pub(crate) fn cut(text: &[u8]) -> Option<(&[u8], &[u8])>
+pub fn cut(text: &[u8]) -> Option<(&[u8], &[u8])>
     ensures parts { MatchOption result (raw_lines text.now ≡ []) (λ q. raw_lines text.now ≡ q.0.now ∷ raw_lines q.1.now) }
     ensures shorter { IfSome result (λ q. length q.1.now < length text.now) }
 {
@@ -44,7 +44,7 @@ fn without_return(line: &[u8]) -> &[u8]
 
 /// A line without its line feed, and without one carriage return right before that.
 #[tactic(auto, using(crate::proofs::LineLemmas::baring))]
-pub(crate) fn bare(line: &[u8]) -> &[u8]
+pub fn bare(line: &[u8]) -> &[u8]
     ensures { result.now ≡ bare line.now }
 {
     if let Some((last, shorter)) = line.split_last() {

@@ -1,0 +1,3 @@
+pub mod FirstLemmas
+pub mod GivenLemmas
+pub mod ReadLemmas
