@@ -1,454 +1,216 @@
-"""The text of a script in C, in the model: what `mpdbg c FILE` writes (docs/FORMATS.md, "A script in C").
+"""Compares what `mpdbg c` writes of scripts with the model (c_script.py), byte for byte.
 
-    python3 compare/c_text.py --print FILE      the C text of a script
+    python3 compare/c_text.py PROGRAM                 worked rows (worked_c_text.py), the examples, and 500 random scripts of both versions, some
+                                                      of which are refused; the same ones for the same seed and count
+    python3 compare/c_text.py PROGRAM --count 3000    more of them
+    python3 compare/c_text.py --broken                faults of the model (c_text_faults.py), each of which must be noticed; with PROGRAM, beside it
+    python3 compare/c_text.py --print FILE            the text of a script in C
+
+Without a program the model is compared with the rows alone. The status is 0 where nothing differed, and all was met that must be.
 """
 
 import argparse
+import glob
+import os
 import sys
-
-from language import (COMPARISONS, Assert, Assign, Barrier, Branch, Number, OwnRank, Place, Print, RankCount, Receive, Send, Unary, Wait,
-                      WaitAny, While, read_script)
-
-INDENTATION = '    '
-
-HEAD = '''\
-/* A script of mpdbg as a program in C with MPI. Compile it with mpicc, and run it as {ranks}: mpiexec -n {number}. */
-#include <inttypes.h>
-#include <mpi.h>
-#include <stdint.h>
-#include <stdio.h>
-#include <stdlib.h>
-
-static int64_t rank, size;
-
-/* The line of the script that runs. It is volatile, so that no compiler leaves out a loop that does nothing. */
-static volatile int line;
-
-/* Ends all processes, since this one can't go on. */
-_Noreturn static inline void trap(const char *name)
-{
-    fprintf(stderr, "rank %" PRId64 " traps at line %d: %s\\n", rank, line, name);
-    MPI_Abort(MPI_COMM_WORLD, 3);
-    exit(3);
-}
-
-/* Operators. A script evaluates the left operand first, and C leaves that open: so it is held while the right one is evaluated. */
-static int64_t held[64];
-static int held_count;
-
-static inline void hold(int64_t left)
-{
-    held[held_count++] = left;
-}
-
-static inline int64_t left_operand(void)
-{
-    return held[--held_count];
-}
-
-static inline int64_t held_add(int64_t right)
-{
-    int64_t result;
-    if (__builtin_add_overflow(left_operand(), right, &result)) {
-        trap("overflow");
-    }
-    return result;
-}
-
-static inline int64_t held_subtract(int64_t right)
-{
-    int64_t result;
-    if (__builtin_sub_overflow(left_operand(), right, &result)) {
-        trap("overflow");
-    }
-    return result;
-}
-
-static inline int64_t held_multiply(int64_t right)
-{
-    int64_t result;
-    if (__builtin_mul_overflow(left_operand(), right, &result)) {
-        trap("overflow");
-    }
-    return result;
-}
-
-static inline void check_division(int64_t left, int64_t right)
-{
-    if (right == 0) {
-        trap("zero-divisor");
-    }
-    if (left == INT64_MIN && right == -1) {
-        trap("overflow");
-    }
-}
-
-static inline int64_t held_divide(int64_t right)
-{
-    const int64_t left = left_operand();
-    check_division(left, right);
-    return left / right;
-}
-
-static inline int64_t held_remainder(int64_t right)
-{
-    const int64_t left = left_operand();
-    check_division(left, right);
-    return left % right;
-}
-
-static inline int64_t negate(int64_t value)
-{
-    if (value == INT64_MIN) {
-        trap("overflow");
-    }
-    return -value;
-}
-
-static inline int64_t held_equal(int64_t right) { return left_operand() == right; }
-static inline int64_t held_differ(int64_t right) { return left_operand() != right; }
-static inline int64_t held_less(int64_t right) { return left_operand() < right; }
-static inline int64_t held_at_most(int64_t right) { return left_operand() <= right; }
-static inline int64_t held_greater(int64_t right) { return left_operand() > right; }
-static inline int64_t held_at_least(int64_t right) { return left_operand() >= right; }
-
-#define ADD(left, right) (hold(left), held_add(right))
-#define SUBTRACT(left, right) (hold(left), held_subtract(right))
-#define MULTIPLY(left, right) (hold(left), held_multiply(right))
-#define DIVIDE(left, right) (hold(left), held_divide(right))
-#define REMAINDER(left, right) (hold(left), held_remainder(right))
-#define EQUAL(left, right) (hold(left), held_equal(right))
-#define DIFFER(left, right) (hold(left), held_differ(right))
-#define LESS(left, right) (hold(left), held_less(right))
-#define AT_MOST(left, right) (hold(left), held_at_most(right))
-#define GREATER(left, right) (hold(left), held_greater(right))
-#define AT_LEAST(left, right) (hold(left), held_at_least(right))
-
-/* What a script checks: the index of an array of so many elements, a rank, a tag, and what is asserted. */
-static inline int64_t within(int64_t index, int64_t elements)
-{
-    if (index < 0 || index >= elements) {
-        trap("bad-index");
-    }
-    return index;
-}
-
-static inline int as_rank(int64_t value)
-{
-    if (value < 0 || value >= size) {
-        trap("bad-rank");
-    }
-    return (int)value;
-}
-
-static inline int as_tag(int64_t value)
-{
-    if (value < 0 || value > 32767) {
-        trap("bad-tag");
-    }
-    return (int)value;
-}
-
-static inline void must_hold(int64_t condition)
-{
-    if (condition == 0) {
-        trap("assert");
-    }
-}
-
-static inline void print(int64_t value)
-{
-    printf("rank %" PRId64 " prints %" PRId64 "\\n", rank, value);
-    fflush(stdout);
-}
-'''
-
-REQUESTS = '''
-/* A call that doesn't block: its request, the buffer of its message, and where a receive puts the value, the source and the tag. */
-struct call {
-    MPI_Request request;
-    int64_t value;
-    int64_t *place, *source_place, *tag_place;
-};
-
-/* A new call. Its buffer stays until a wait has ended it: for ever, where its handle gets another call before. */
-static inline struct call *new_call(void)
-{
-    struct call *const call = calloc(1, sizeof *call);
-    if (call == NULL) {
-        fprintf(stderr, "rank %" PRId64 " has no memory at line %d\\n", rank, line);
-        MPI_Abort(MPI_COMM_WORLD, 4);
-        exit(4);
-    }
-    return call;
-}
-
-/* Puts what a complete call has received to its places, and leaves its handle without a call. */
-static inline void end_call(struct call **handle, const MPI_Status *status)
-{
-    struct call *const call = *handle;
-    if (call->place != NULL) {
-        *call->place = call->value;
-    }
-    if (call->source_place != NULL) {
-        *call->source_place = status->MPI_SOURCE;
-        *call->tag_place = status->MPI_TAG;
-    }
-    free(call);
-    *handle = NULL;
-}
-
-static inline void wait_for(struct call **handle)
-{
-    MPI_Status status;
-    if (*handle != NULL) {
-        MPI_Wait(&(*handle)->request, &status);
-        end_call(handle, &status);
-    }
-}
-
-/* Waits for any call of so many handles, at most 256, and tells which; -1 where none of them has a call. */
-static inline int64_t wait_for_any(struct call **handles, int count)
-{
-    MPI_Request requests[256];
-    MPI_Status status;
-    int index;
-    for (index = 0; index < count; index++) {
-        requests[index] = handles[index] == NULL ? MPI_REQUEST_NULL : handles[index]->request;
-    }
-    MPI_Waitany(count, requests, &index, &status);
-    if (index == MPI_UNDEFINED) {
-        return -1;
-    }
-    end_call(&handles[index], &status);
-    return index;
-}
-'''
-
-NAMES = '/* The names of the script, each behind my_. Every rank has its own. */'
-
-MAIN = '''
-int main(int argc, char **argv)
-{
-    int own_rank, all_ranks;
-    MPI_Init(&argc, &argv);
-    MPI_Comm_rank(MPI_COMM_WORLD, &own_rank);
-    MPI_Comm_size(MPI_COMM_WORLD, &all_ranks);
-    rank = own_rank;
-    size = all_ranks;
-    if (size != {number}) {
-        if (rank == 0) {
-            fprintf(stderr, "this program is for {ranks}: mpiexec -n {number}\\n");
-        }
-        MPI_Finalize();
-        return 2;
-    }
-'''
-
-TAIL = '''\
-    printf("rank %" PRId64 " ends\\n", rank);
-    fflush(stdout);
-    MPI_Finalize();
-    return 0;
-}
-'''
-
-# Operators that are written as the call of a macro.
-MACROS = {'+': 'ADD', '-': 'SUBTRACT', '*': 'MULTIPLY', '/': 'DIVIDE', '%': 'REMAINDER', '==': 'EQUAL', '!=': 'DIFFER', '<': 'LESS',
-          '<=': 'AT_MOST', '>': 'GREATER', '>=': 'AT_LEAST'}
-
-
-def name_text(name):
-    """A name of the script as one of C, which is no word of C and none of the text's own."""
-    return f'my_{name}'
-
-
-# ---- expressions
-
-def is_scalar(expression):
-    return isinstance(expression, (OwnRank, RankCount)) or isinstance(expression, Place) and expression.size is None
-
-
-def stands_between(expression):
-    """Whether an expression is written with an operator of C between two operands: `&&` and `||`, and a comparison of `rank`, `size` or a
-    variable without an index with a number. These can be evaluated in the order of C."""
-    if not hasattr(expression, 'right'):
-        return False
-    return expression.sign in ('&&', '||') or (expression.sign in COMPARISONS and is_scalar(expression.left)
-                                               and isinstance(expression.right, Number))
-
-
-def operand_text(expression):
-    """An operand of an operator of C."""
-    text = expression_text(expression)
-    return f'({text})' if stands_between(expression) else text
-
-
-def expression_text(expression):
-    if isinstance(expression, Number):
-        return str(expression.value)
-    if isinstance(expression, (OwnRank, RankCount)):
-        return 'rank' if isinstance(expression, OwnRank) else 'size'
-    if isinstance(expression, Place):
-        return place_text(expression)
-    if isinstance(expression, Unary):
-        return f'negate({expression_text(expression.operand)})' if expression.sign == '-' else f'!{operand_text(expression.operand)}'
-    if stands_between(expression):
-        return f'{operand_text(expression.left)} {expression.sign} {operand_text(expression.right)}'
-    return f'{MACROS[expression.sign]}({expression_text(expression.left)}, {expression_text(expression.right)})'
-
-
-def place_text(place):
-    if place.size is None:
-        return name_text(place.name)
-    return f'{name_text(place.name)}[within({expression_text(place.index)}, {place.size})]'
-
-
-# ---- statements
-
-def source_text(expression):
-    return 'MPI_ANY_SOURCE' if expression is None else f'as_rank({expression_text(expression)})'
-
-
-def tag_text(expression):
-    return 'MPI_ANY_TAG' if expression is None else f'as_tag({expression_text(expression)})'
-
-
-def send_lines(statement):
-    """What is written of a send, in a block of its own."""
-    word = 'ssend' if statement.synchronous else 'send'
-    to_and_tag = (f'const int to = {source_text(statement.to)};', f'const int tag = {tag_text(statement.tag)};')
-    if statement.handle is None:
-        return (f'const int64_t value = {expression_text(statement.value)};', *to_and_tag,
-                f'MPI_{word.capitalize()}(&value, 1, MPI_INT64_T, to, tag, MPI_COMM_WORLD);')
-    return (*call_lines(statement.handle), f'call->value = {expression_text(statement.value)};', *to_and_tag,
-            f'MPI_I{word}(&call->value, 1, MPI_INT64_T, to, tag, MPI_COMM_WORLD, &call->request);', '*handle = call;')
-
-
-def call_lines(handle):
-    return f'struct call **const handle = &{place_text(handle)};', 'struct call *const call = new_call();'
-
-
-def receive_lines(statement):
-    """What is written of a receive, in a block of its own."""
-    place = f'&{place_text(statement.place)};'
-    source_and_tag = (f'const int source = {source_text(statement.source)};', f'const int tag = {tag_text(statement.tag)};')
-    places = () if statement.status is None else tuple(f'&{place_text(place)};' for place in statement.status)
-    if statement.handle is not None:
-        return (*call_lines(statement.handle), f'call->place = {place}', *source_and_tag,
-                *(f'call->{name} = {text}' for name, text in zip(('source_place', 'tag_place'), places)),
-                'MPI_Irecv(&call->value, 1, MPI_INT64_T, source, tag, MPI_COMM_WORLD, &call->request);', '*handle = call;')
-    received = 'MPI_Recv(place, 1, MPI_INT64_T, source, tag, MPI_COMM_WORLD, '
-    if not places:
-        return (f'int64_t *const place = {place}', *source_and_tag, f'{received}MPI_STATUS_IGNORE);')
-    return (f'int64_t *const place = {place}', *source_and_tag,
-            *(f'int64_t *const {name} = {text}' for name, text in zip(('source_place', 'tag_place'), places)),
-            'MPI_Status status;', f'{received}&status);', '*source_place = status.MPI_SOURCE;', '*tag_place = status.MPI_TAG;')
-
-
-def assign_lines(statement):
-    return f'int64_t *const place = &{place_text(statement.place)};', f'*place = {expression_text(statement.value)};'
-
-
-def waitany_lines(statement, sizes):
-    name = name_text(statement.name)
-    handles = f'&{name}' if sizes[statement.name].size is None else name
-    return f'int64_t *const place = &{place_text(statement.place)};', f'*place = wait_for_any({handles}, {statement.count});'
-
-
-def block_of(statement, names):
-    """The lines of a statement that is written as a block; None of one that is a line."""
-    if isinstance(statement, Send):
-        return send_lines(statement)
-    if isinstance(statement, Receive):
-        return receive_lines(statement)
-    if isinstance(statement, WaitAny):
-        return waitany_lines(statement, names)
-    return assign_lines(statement) if isinstance(statement, Assign) and statement.place.size is not None else None
-
-
-def line_of(statement):
-    """A statement that is written as one line."""
-    if isinstance(statement, Assign):
-        return f'{place_text(statement.place)} = {expression_text(statement.value)};'
-    if isinstance(statement, Print):
-        return f'print({expression_text(statement.value)});'
-    if isinstance(statement, Assert):
-        return f'must_hold({expression_text(statement.condition)});'
-    if isinstance(statement, Wait):
-        return f'wait_for(&{place_text(statement.handle)});'
-    assert isinstance(statement, Barrier)
-    return 'MPI_Barrier(MPI_COMM_WORLD);'
-
-
-def statement_lines(statement, names):
-    """The lines of a statement behind the one that tells its line."""
-    if isinstance(statement, Branch):
-        yield f'if ({expression_text(statement.condition)}) {{'
-        yield from inner_lines(statement.then, names)
-        if statement.otherwise:
-            yield '} else {'
-            yield from inner_lines(statement.otherwise, names)
-        yield '}'
-    elif block := block_of(statement, names):
-        yield '{'
-        yield from (INDENTATION + line for line in block)
-        yield '}'
-    else:
-        yield line_of(statement)
-
-
-def lines_of(statements, names):
-    for statement in statements:
-        if isinstance(statement, While):
-            yield f'while (line = {statement.line}, {expression_text(statement.condition)}) {{'
-            yield from inner_lines(statement.body, names)
-            yield '}'
-        else:
-            yield f'line = {statement.line};'
-            yield from statement_lines(statement, names)
-
-
-def inner_lines(statements, names):
-    yield from (INDENTATION + line for line in lines_of(statements, names))
-
-
-# ---- the whole text
-
-def declaration_text(name, declared):
-    """The declaration of a name; an array without elements has one in C, which isn't used."""
-    kind = 'int64_t ' if declared.kind == 'var' else 'struct call *'
-    size = '' if declared.size is None else f'[{declared.size or 1}]'
-    return f'{kind}{name_text(name)}{size};\n'
-
-
-def c_text(script):
-    """The text of a script in C, in bytes."""
-    number = str(script.ranks)
-    ranks = f'{number} process{"" if script.ranks == 1 else "es"}'
-
-    def filled(text):
-        return text.replace('{ranks}', ranks).replace('{number}', number)
-
-    parts = [filled(HEAD)]
-    if any(declared.kind == 'req' for declared in script.names.values()):
-        parts.append(REQUESTS)
-    if script.names:
-        parts.append(f'\n{NAMES}\n')
-        parts += [declaration_text(name, declared) for name, declared in script.names.items()]
-    parts.append(filled(MAIN))
-    parts += [f'{line}\n' for line in inner_lines(script.body, script.names)]
-    parts.append(TAIL)
-    return ''.join(parts).encode('ascii')
+import tempfile
+from collections import Counter
+from concurrent.futures import ProcessPoolExecutor
+from itertools import chain
+from random import Random
+from typing import NamedTuple
+from unittest import mock
+
+import c_script
+import c_text_faults
+from canonical import now_and_then_canonical
+from debugger import BAD_FILE, Result, refusal
+from explore import first_different
+from explore_cases import KINDS, KINDS_OF_2, kind_of, script_of
+from language import Fault, read_script
+from limit_cases import limits_case
+from runs import held, run_at_once
+from scripts import Writer, rendered
+from witness import agrees
+from worked_c_text import ROWS
+
+TOP = os.path.join(os.path.dirname(os.path.abspath(__file__)), '..')
+CHUNK = 25
+# So many scripts meet all that must be met.
+MANY = 200
+MUST_MEET = ('rows', 'examples', 'written', 'refused', 'version 2', 'no file', *(f'`{text}`' for text in (
+    'MPI_Send(', 'MPI_Ssend(', 'MPI_Isend(', 'MPI_Issend(', 'MPI_Recv(', '&status);', 'MPI_Irecv(', 'call->tag_place = ', 'wait_for(&my', 'wait_for_any(',
+    'wait_for_any(&', 'MPI_Barrier(MPI_COMM_WORLD)', 'MPI_ANY_SOURCE', 'MPI_ANY_TAG', 'while (', '} else {', 'must_hold(', 'print(', 'within(', 'negate(', '!(', ' && ',
+    ' || ', ' == ', 'EQUAL(', 'ADD(', '[1];')))
+
+
+class Asked(NamedTuple):
+    """A text of which C is asked; None where there is no such file."""
+    name: str
+    text: bytes
+
+    def wanted(self):
+        """What must be answered."""
+        if self.text is None:
+            return BAD_FILE
+        try:
+            return Result(c_script.c_text(read_script(self.text)), b'', 0)
+        except Fault as fault:
+            return refusal(self.text, fault)
+
+
+def asked(seed, number):
+    """A random text, the same each time."""
+    random = Random(f'c/{seed}/{number}')
+    draw = random.random()
+    if draw < 0.02:
+        return Asked('no file', None)
+    if draw < 0.4:
+        writer = Writer(random, random.choice([1, 2, 3, 16]), version=random.choice([1, 2]))
+        return Asked(f'any-{seed}-{number}', now_and_then_canonical(random, rendered(random, writer.script())))
+    if draw < 0.45:
+        return Asked(f'limits-{seed}-{number}', limits_case(random).partition(b'\n---\n')[0])
+    kinds = KINDS_OF_2 if random.random() < 0.4 else KINDS
+    name = kind_of(random, kinds)
+    return Asked(f'{name}-{seed}-{number}', script_of(random, kinds[name]))
+
+
+def examples():
+    for path in sorted(glob.glob(f'{TOP}/examples/*.mpd')):
+        with open(path, 'rb') as file:
+            yield Asked(os.path.basename(path), file.read())
+
+
+def said(chosen, question):
+    """What the program says to a question, or else the model."""
+    if not chosen.program:
+        return question.wanted()
+    with tempfile.TemporaryDirectory(prefix='c-text-') as folder:
+        return run_at_once(chosen.program, b'', chosen.seconds, words=('c', held(folder, 'script.mpd', question.text)))
+
+
+def met_in(question, wanted):
+    """What of a text a program may write wrongly."""
+    if wanted.status:
+        yield 'no file' if question.text is None else 'refused'
+        return
+    yield 'written'
+    if read_script(question.text).version == 2:
+        yield 'version 2'
+    own = wanted.output.decode().split('\nint main(')
+    for text in MUST_MEET:
+        if text.startswith('`') and text.strip('`') in own[1] + (own[0].rpartition('*/')[2] if text == '`[1];`' else ''):
+            yield text
+
+
+def problem_of(chosen, question):
+    """How a question is answered otherwise than it must be, or None; and what was met."""
+    result, wanted = said(chosen, question), question.wanted()
+    return None if agrees(result, wanted) else first_different(result, wanted), Counter(met_in(question, wanted))
+
+
+def row_problem(chosen, row):
+    """What is written of a row otherwise than was worked out; None where nothing is."""
+    result = said(chosen, Asked('row', row.text()))
+    wanted = Result(row.wanted(), b'', 0)
+    return None if result == wanted else f'{row.script!r}: {first_different(result, wanted)}'
+
+
+def compare_chunk(chosen, numbers):
+    """What differs of some random scripts, and what was met."""
+    found, met = [], Counter()
+    for number in numbers:
+        question = asked(chosen.seed, number)
+        problem, there = problem_of(chosen, question)
+        met += there
+        found += [] if problem is None else [(question, problem)]
+    return found, met
+
+
+def kept(question):
+    """The path of a file that keeps a text."""
+    if question.text is None:
+        return question.name
+    with tempfile.NamedTemporaryFile(prefix='c-text-', suffix='.mpd', delete=False) as file:
+        file.write(question.text)
+    return file.name
+
+
+def compare_rows(chosen):
+    """How many of the rows are written otherwise than was worked out."""
+    wrong = [problem for problem in (row_problem(chosen, row) for row in ROWS) if problem is not None]
+    for problem in wrong:
+        print(problem)
+    print(f'{len(ROWS)} rows, {len(wrong)} wrong')
+    return len(wrong)
+
+
+def compare(chosen, pool):
+    """Compares what is written of the examples and of so many scripts; gives how much differed, or was not met that must be."""
+    met, found = Counter(rows=len(ROWS)), []
+    for question in examples():
+        problem, there = problem_of(chosen, question)
+        met += there + Counter(examples=1)
+        found += [] if problem is None else [(question, problem)]
+    chunks = [range(first, min(first + CHUNK, chosen.count)) for first in range(0, chosen.count, CHUNK)]
+    for problems, there in pool.map(compare_chunk, [chosen] * len(chunks), chunks):
+        found += problems
+        met += there
+    for question, problem in found:
+        print(f'{kept(question)}: {question.name}: {problem}')
+    print('; '.join(f'{name} {met[name]}' for name in MUST_MEET))
+    missed = [name for name in MUST_MEET if not met[name]] if chosen.count >= MANY else []
+    for name in missed:
+        print(f'{name} was not met')
+    print(f'{met["written"] + met["refused"] + met["no file"]} texts, {len(found)} different')
+    return len(found) + len(missed)
+
+
+def shows(fault, question, answer):
+    """Whether the model with a fault says otherwise to a question than the program, or else the sound model."""
+    with mock.patch.object(fault.owner, fault.attribute, fault.replacement):
+        return not agrees(answer, question.wanted())
+
+
+def not_noticed(chosen):
+    """The faults that no answer shows."""
+    left = c_text_faults.FAULTS
+    for question in chain((Asked('row', row.text()) for row in ROWS), (asked(chosen.seed, number) for number in range(chosen.count))):
+        if not left:
+            break
+        answer = said(chosen, question)
+        left = [fault for fault in left if not shows(fault, question, answer)]
+    return [fault.name for fault in left]
 
 
 def main():
     parser = argparse.ArgumentParser(description=__doc__, formatter_class=argparse.RawDescriptionHelpFormatter)
-    parser.add_argument('--print', metavar='FILE', help='print the C text of a script')
+    parser.add_argument('program', nargs='?', type=os.path.abspath)
+    parser.add_argument('--count', type=int, default=500, help='how many random texts (500)')
+    parser.add_argument('--seed', type=int, default=1)
+    parser.add_argument('--seconds', type=int, default=60, help='how long one run may take (60)')
+    parser.add_argument('--jobs', type=int, default=os.cpu_count())
+    parser.add_argument('--broken', action='store_true', help='faults of the model, which must be noticed')
+    parser.add_argument('--print', metavar='FILE', help='print the text of a script in C')
     chosen = parser.parse_args()
-    with open(chosen.print, 'rb') as file:
-        sys.stdout.buffer.write(c_text(read_script(file.read())))
+    if chosen.print:
+        with open(chosen.print, 'rb') as file:
+            sys.stdout.buffer.write(c_script.c_text(read_script(file.read())))
+        return 0
+    failed = 0
+    if chosen.program or not chosen.broken:
+        failed += compare_rows(chosen)
+    if chosen.program:
+        with ProcessPoolExecutor(chosen.jobs) as pool:
+            failed += compare(chosen, pool)
+    if chosen.broken:
+        left = not_noticed(chosen)
+        for name in left:
+            print(f'not noticed: {name}')
+        print(f'{len(c_text_faults.FAULTS)} faults, {len(left)} not noticed')
+        failed += len(left)
+    return 1 if failed else 0
 
 
 if __name__ == '__main__':
-    main()
+    sys.exit(main())

@@ -34,7 +34,7 @@ TOP = os.path.join(os.path.dirname(os.path.abspath(__file__)), '..')
 SECONDS = 60
 
 # What begins a command that is not run here, since it is none of the program.
-NOT_RUN = ('.ci/', 'GATE_', 'rt ', 'python3 compare/', 'python3 bench/', 'git ', './mpdbg --prove')
+NOT_RUN = ('.ci/', 'GATE_', 'rt ', 'python3 compare/', 'python3 bench/', 'git ', 'mpicc ', 'mpiexec ', './mpdbg --prove')
 # What begins a command that is run.
 RUN = ('./mpdbg', 'cat ', 'sed ', 'echo ', 'mkdir ', 'seq ', 'sbatch ', 'sh examples/', 'python3 examples/')
 # How a block begins that shows neither commands nor what one of the commands answers: a line of another command, or a form.
@@ -183,10 +183,11 @@ class Page:
             self.wrong(block.number, f'a block of a kind that is not known: {first}')
 
     def fenced(self, block):
-        """A script is that of an example, where it says what it shows, and else it is one; a state is one that its example answers."""
+        """A script is that of an example, where it says what it shows, and else it is one, and so is a program in C that begins with what it
+        includes; a state is one that its example answers."""
         if block.lines[0].startswith('#'):
             self.compared += 1
-            if block.text not in [read(path) for ending in ('mpd', 'sh', 'slurm') for path in glob.glob(f'{TOP}/examples/*.{ending}')]:
+            if block.text not in [read(path) for ending in ('mpd', 'c', 'sh', 'slurm') for path in glob.glob(f'{TOP}/examples/*.{ending}')]:
                 self.wrong(block.number, f'no example is this script: {block.lines[0]}')
         elif block.lines[0] == 'mpd 1;':
             self.commands.append(Shown(f'{self.page}, line {block.number}', f"./mpdbg <<'---'\n{block.text}---", ''))
