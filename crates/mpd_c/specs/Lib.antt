@@ -2,3 +2,4 @@ pub mod CText
 pub mod Expressions
 pub mod Pieces
 pub mod Statements
+pub mod Written

@@ -250,7 +250,9 @@ piece_text piece.Main =
     codes "int main(int argc, char **argv)" ∷
     codes "{" ∷
     codes "    int own_rank, all_ranks;" ∷
+    codes "    MPI_Comm at_the_end;" ∷
     codes "    MPI_Init(&argc, &argv);" ∷
+    codes "    MPI_Comm_dup(MPI_COMM_WORLD, &at_the_end);" ∷
     codes "    MPI_Comm_rank(MPI_COMM_WORLD, &own_rank);" ∷
     codes "    MPI_Comm_size(MPI_COMM_WORLD, &all_ranks);" ∷
     codes "    rank = own_rank;" ∷
@@ -273,6 +275,8 @@ piece_text piece.End =
     fed (
     codes "    printf(\"rank %\" PRId64 \" ends\\n\", rank);" ∷
     codes "    fflush(stdout);" ∷
+    codes "    /* A call that no wait has ended may still be matched, until all ranks have ended. */" ∷
+    codes "    MPI_Barrier(at_the_end);" ∷
     codes "    MPI_Finalize();" ∷
     codes "    return 0;" ∷
     codes "}" ∷

@@ -6,5 +6,7 @@ mod piece;
 mod script;
 mod simple;
 mod stmt;
+mod write;
 
 pub use script::print_c;
+pub use write::write_c;

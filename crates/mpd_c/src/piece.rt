@@ -235,7 +235,9 @@ const MAIN: &str = r#"
 int main(int argc, char **argv)
 {
     int own_rank, all_ranks;
+    MPI_Comm at_the_end;
     MPI_Init(&argc, &argv);
+    MPI_Comm_dup(MPI_COMM_WORLD, &at_the_end);
     MPI_Comm_rank(MPI_COMM_WORLD, &own_rank);
     MPI_Comm_size(MPI_COMM_WORLD, &all_ranks);
     rank = own_rank;
@@ -255,6 +257,8 @@ const REFUSED: &str = r#"\n");
 
 const END: &str = r#"    printf("rank %" PRId64 " ends\n", rank);
     fflush(stdout);
+    /* A call that no wait has ended may still be matched, until all ranks have ended. */
+    MPI_Barrier(at_the_end);
     MPI_Finalize();
     return 0;
 }

@@ -49,7 +49,7 @@ IsRefusedText s t text fault line =
 abbrev pub IsScriptOf : SourceSeen → SourceSeen → List ℕ → Program → Type 0
 IsScriptOf s t text program = IsRead s t text × (t.ends ≡ s.ends + 1) × (reading text ≡ Ok program)
 
--- why there is no code: the text that was read is refused, a read failed, or memory was refused
+-- why there is no script, or no code: the text that was read is refused, a read failed, or memory was refused
 abbrev pub IsNoCode : SourceSeen → SourceSeen → List ℕ → PlainFault → Type 0
 IsNoCode s t text (Script fault line) = IsRead s t text × (fault.code ≢ code.Memory) × IsRefusedText s t text fault line
 IsNoCode s t text (Engine ReadFailed) = IsUnread s t ReadFailed

@@ -9,6 +9,7 @@ use mpd_device::device::Source;
 use mpd_lines::engine::{EngineFault, READ_MAX};
 use mpd_lines::kept::push_all;
 use mpd_model::limits::SCRIPT_MAX;
+use mpd_model::script::Script;
 use mpd_script::read;
 use std::alloc::Global;
 use std::cmp;
@@ -42,8 +43,27 @@ pub fn read_text<S: Source>(alloc: Global, source: &mut S) -> Result<Vec<u8>, En
     unreachable!()
 }
 
-/// Reads the script of a source and lowers it. `text` becomes what was read, also where the script is refused.
+/// Reads the script of a source. `text` becomes what was read, also where the script is refused.
 #[tactic(auto, using(crate::proofs::FileLaws::refusing_texts))]
+pub fn read_script<S: Source>(
+    alloc: Global,
+    source: &mut S,
+    text: &mut Vec<u8>,
+) -> Result<Script, PlainFault>
+    ensures ok { IfOk result (λ script. IsScriptOf (S.seen source.old) (S.seen source.new) text.new.items script) }
+    ensures err { IfErr result (λ fault. IsNoCode (S.seen source.old) (S.seen source.new) text.new.items fault) }
+{
+    match read_text(alloc, source) {
+        Ok(bytes) => *text = bytes,
+        Err(fault) => return Err(PlainFault::Engine(fault)),
+    }
+    match read(alloc, text) {
+        Ok(script) => Ok(script),
+        Err(fault) => Err(refusal(text, fault)),
+    }
+}
+
+/// Reads the script of a source and lowers it. `text` becomes what was read, also where the script is refused.
 pub fn read_code<S: Source>(
     alloc: Global,
     source: &mut S,
@@ -52,13 +72,9 @@ pub fn read_code<S: Source>(
     ensures ok { IfOk result (λ code. IsScriptOf (S.seen source.old) (S.seen source.new) text.new.items code.program) }
     ensures err { IfErr result (λ fault. IsNoCode (S.seen source.old) (S.seen source.new) text.new.items fault) }
 {
-    match read_text(alloc, source) {
-        Ok(bytes) => *text = bytes,
-        Err(fault) => return Err(PlainFault::Engine(fault)),
-    }
-    let script = match read(alloc, text) {
+    let script = match read_script(alloc, source, text) {
         Ok(script) => script,
-        Err(fault) => return Err(refusal(text, fault)),
+        Err(fault) => return Err(fault),
     };
     match lower(alloc, script) {
         Ok(code) => Ok(code),

@@ -1,7 +1,0 @@
-use Rattle.mpd_trace.proofs.FileLaws.{script_of}
-use Rattle.mpd_trace.proofs.file.read_code.Goals as goal
-
-pub returns-in-Ok-lower-clause-ok : goal.returns-in-Ok-lower-clause-ok
-returns-in-Ok-lower-clause-ok g c =
-    script_of (g.S.Source.seen c.args.source.now) (g.S.Source.seen c.read_text.new.source) c.in-Ok.bytes.items c.deref.result.now c.in-Ok-read.script c.in-Ok-lower.code.program
-    c.in-Ok.ensures.ok c.deref.ensures.value c.in-Ok-read.ensures.ok c.in-Ok-lower.ensures
