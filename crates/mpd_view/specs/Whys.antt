@@ -12,7 +12,7 @@ use Rattle.mpd_model.specs.Texts.{line}
 use Rattle.mpd_model.specs.Why.{why}
 use Rattle.mpd_explain.specs.Explained.{placed, wish, helps, absent_line}
 use Rattle.mpd_explain.specs.Requests.{requests}
-use Rattle.mpd_view.specs.Shown.{call_line}
+use Rattle.mpd_view.specs.Shown.{call_line, or_none}
 
 -- ---- a send and a receive
 
@@ -85,3 +85,15 @@ no_call_line p = line (codes "rank " ++ decimal p ++ codes " waits for no call")
 -- of the call that a rank waits for
 abbrev pub why_rank_text : Program → World → ℕ → List ℕ
 why_rank_text s w p = if waits (slice_get w.ranks p) then why_text s w (last_call w.board p) else no_call_line p
+
+-- ---- of all ranks
+
+-- that of the call that a rank waits for, where it waits for one
+abbrev pub waiting_text : Program → World → ℕ → List ℕ
+waiting_text s w p = if waits (slice_get w.ranks p) then why_text s w (last_call w.board p) else []
+
+abbrev pub waiting_lines : Program → World → List ℕ
+waiting_lines s w = flat_map (waiting_text s w) (rank_numbers w.board)
+
+abbrev pub why_ranks_text : Program → World → List ℕ
+why_ranks_text s w = or_none (codes "no rank waits for a call") (waiting_lines s w)

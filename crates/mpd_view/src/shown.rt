@@ -15,7 +15,7 @@ use std::alloc::{AllocError, Global};
 
 /// Adds lines, or one that says that there are none.
 #[tactic(auto, using(crate::proofs::ShownLemmas::telling))]
-fn push_or_none(out: &mut String, none: &str, lines: &str) -> Result<(), AllocError>
+pub(crate) fn push_or_none(out: &mut String, none: &str, lines: &str) -> Result<(), AllocError>
     ensures { OnOk result (string_bytes out.new ≡ string_bytes out.old ++ shown.or_none none.now lines.now) }
 {
     if lines.is_empty() {

@@ -1,10 +1,12 @@
 //! Steps in words (docs/CONSOLE.md, "Steps in words").
 
-ghost use Rattle.std.specs.Prelude.{◌≡◌, ◌++◌, OnOk, string_bytes};
+ghost use Rattle.std.specs.Prelude.{◌≡◌, ◌<◌, ◌≤◌, ◌++◌, OnOk, IfSome, IfNone, Some, string_bytes};
+ghost use Rattle.mpd_model.specs.Next.{any_call, request_handle as handle_of};
 ghost use Rattle.mpd_view.specs.Steps as words;
 
 use mpd_core::state::Core;
-use mpd_explain::told::{issue_line, rank_line};
+use mpd_explain::told::{issue_line, push_placed, rank_line};
+use mpd_model::call::CallKind;
 use mpd_model::step::{CallId, Step};
 use std::alloc::AllocError;
 
@@ -40,6 +42,61 @@ fn push_match(
     push_issued(core, out, recv)
 }
 
+/// The handle of the request of an index, where it is one of so many handles.
+fn request_handle(kind: Option<CallKind>, index: usize, handles: usize) -> Option<usize>
+    ensures some { IfSome result (λ handle. handle_of kind index ≡ Some handle) }
+    ensures within { IfSome result (λ handle. handle < handles) }
+    ensures none { IfNone result (IfSome (handle_of kind index) (λ handle. handles ≤ handle)) }
+{
+    let Some(CallKind::Waitany(wait)) = kind else {
+        return None;
+    };
+    if index >= wait.count || index >= handles || wait.first >= handles - index {
+        return None;
+    }
+    Some(wait.first + index)
+}
+
+/// The call of the request of an index, of the waitany that a rank has issued last, where its handle has one.
+#[tactic(auto, using(mpd_core::proofs::RankLemmas::reading, mpd_core::proofs::AnyLemmas::requesting))]
+fn request_call(core: &Core<'_>, rank: usize, index: usize) -> Option<CallId>
+    ensures { result ≡ any_call core.now.world rank index }
+{
+    if rank >= core.rank_count() {
+        return None;
+    }
+    let state = core.rank(rank);
+    let kind = core.board().kind(core.board().last_call(rank));
+    let handle = request_handle(kind, index, state.handle_count())?;
+    let call = state.held_call(handle)?;
+    Some(CallId { rank, index: call })
+}
+
+/// Adds the request that a rank goes on by, where it has a call.
+fn push_by(core: &Core<'_>, out: &mut String, call: Option<CallId>) -> Result<(), AllocError>
+    ensures { OnOk result (string_bytes out.new ≡ string_bytes out.old ++ words.by_words core.now.program core.now.world.board call) }
+{
+    let Some(call) = call else {
+        return Ok(());
+    };
+    out.push_str(", by ")?;
+    push_placed(core, out, call)
+}
+
+/// Adds the wake from a waitany in words.
+fn push_wake_any(
+    core: &Core<'_>,
+    out: &mut String,
+    rank: usize,
+    index: usize,
+) -> Result<(), AllocError>
+    ensures { OnOk result (string_bytes out.new ≡ string_bytes out.old ++ words.any_words core.now.program core.now.world rank index) }
+{
+    let line = issue_line(core, core.board().last_call(rank));
+    push_at_line(out, Step::WakeAny { rank, index }, line)?;
+    push_by(core, out, request_call(core, rank, index))
+}
+
 /// Adds a step in words, on the state before it. An `Err` is want of memory.
 pub fn push_step(core: &Core<'_>, out: &mut String, step: Step) -> Result<(), AllocError>
     ensures { OnOk result (string_bytes out.new ≡ string_bytes out.old ++ words.step_words core.now.program core.now.world step) }
@@ -47,9 +104,10 @@ pub fn push_step(core: &Core<'_>, out: &mut String, step: Step) -> Result<(), Al
     match step {
         Step::Local(rank) => push_at_line(out, step, rank_line(core, rank)),
         Step::Match(send, recv) => push_match(core, out, send, recv),
-        Step::Wake(rank) | Step::WakeAny { rank, index: _ } => {
+        Step::Wake(rank) => {
             push_at_line(out, step, issue_line(core, core.board().last_call(rank)))
         }
+        Step::WakeAny { rank, index } => push_wake_any(core, out, rank, index),
         Step::Release => out.push_str("release: all ranks leave the barrier"),
     }
 }

@@ -5,7 +5,7 @@ ghost use Rattle.std.specs.List.{flat_map};
 ghost use Rattle.mpd_model.specs.Next.{waits};
 ghost use Rattle.mpd_view.specs.Whys as whys;
 
-use crate::shown::push_call;
+use crate::shown::{push_call, push_or_none};
 use mpd_core::state::Core;
 use mpd_explain::requests::requests;
 use mpd_explain::told::{push_all_absent, push_helps, push_placed, push_wish};
@@ -260,4 +260,39 @@ pub fn push_why_rank(
     } else {
         push_no_call(out, rank)
     }
+}
+
+/// Adds why the call that a rank waits for isn't matched, where it waits for one.
+fn push_waiting(
+    alloc: Global,
+    core: &Core<'_>,
+    out: &mut String,
+    rank: usize,
+) -> Result<(), AllocError>
+    ensures { OnOk result (string_bytes out.new ≡ string_bytes out.old ++ whys.waiting_text core.now.program core.now.world rank) }
+{
+    if !is_blocked(core, rank) {
+        return Ok(());
+    }
+    push_why(alloc, core, out, core.board().last_call(rank))
+}
+
+/// Adds that of all ranks.
+fn push_all_waiting(alloc: Global, core: &Core<'_>, out: &mut String) -> Result<(), AllocError>
+    ensures { OnOk result (string_bytes out.new ≡ string_bytes out.old ++ whys.waiting_lines core.now.program core.now.world) }
+{
+    let count = core.rank_count();
+    for rank in 0..count {
+        push_waiting(alloc, core, out, rank)?;
+    }
+    Ok(())
+}
+
+/// Adds why the calls that ranks wait for aren't matched, by rank, or that no rank waits for one. An `Err` is want of memory.
+pub fn push_why_ranks(alloc: Global, core: &Core<'_>, out: &mut String) -> Result<(), AllocError>
+    ensures { OnOk result (string_bytes out.new ≡ string_bytes out.old ++ whys.why_ranks_text core.now.program core.now.world) }
+{
+    let mut lines = String::new(alloc);
+    push_all_waiting(alloc, core, &mut lines)?;
+    push_or_none(out, "no rank waits for a call", &lines)
 }

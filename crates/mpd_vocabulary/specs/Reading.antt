@@ -111,16 +111,21 @@ abbrev pub print_in : List Declared → List (List ℕ) → Result Word WordFaul
 print_in ds [] = Err (Usage topic.Print)
 print_in ds (a ∷ rest) = print_at (named ds a) (optional_number rest)
 
+abbrev pub why_rank : List ℕ → Option Word
+why_rank a = option_map (λ p. word.WhyRank (Some p)) (number_of a)
+
 abbrev pub why_by : List ℕ → Option CallId → Option Word
 why_by a (Some c) = Some (word.WhyCall c)
-why_by a None = option_map word.WhyRank (number_of a)
+why_by a None = why_rank a
 
 abbrev pub why_at : Option (List ℕ) → Option Word
 why_at None = None
 why_at (Some a) = why_by a (call_of a)
 
+-- a call, or a rank, or nothing
 abbrev pub why_in : List (List ℕ) → Option Word
-why_in rest = why_at (only_word rest)
+why_in [] = Some (word.WhyRank None)
+why_in (a ∷ more) = why_at (only_word (a ∷ more))
 
 abbrev pub help_of : Option Topic → Result Word WordFault
 help_of None = Err (Unknown 1)
@@ -141,6 +146,7 @@ word_with ds topic.Next z rest = fitting topic.Next (option_map word.Next (optio
 word_with ds topic.Run z rest = fitting topic.Run (option_map word.Run (number_or STEPS_MAX rest))
 word_with ds topic.Back z rest = fitting topic.Back (option_map word.Back (number_or 1 rest))
 word_with ds topic.RunBack z rest = fitting topic.RunBack (alone word.RunBack rest)
+word_with ds topic.UndoChoice z rest = fitting topic.UndoChoice (alone word.UndoChoice rest)
 word_with ds topic.Goto z rest = fitting topic.Goto (option_map word.Goto (only_number rest))
 word_with ds topic.Redo z rest = fitting topic.Redo (option_map word.Redo (number_or 1 rest))
 word_with ds topic.Local z rest = fitting topic.Local (step_in z)
@@ -158,7 +164,9 @@ word_with ds topic.Queues z rest = fitting topic.Queues (alone word.Queues rest)
 word_with ds topic.Why z rest = fitting topic.Why (why_in rest)
 word_with ds topic.History z rest = fitting topic.History (option_map word.History (number_or 10 rest))
 word_with ds topic.Check z rest = fitting topic.Check (option_map word.Check (number_or 1000 rest))
+word_with ds topic.Follow z rest = fitting topic.Follow (option_map word.Follow (only_number rest))
 word_with ds topic.Deadlock z rest = fitting topic.Deadlock (alone word.Deadlock rest)
+word_with ds topic.Trap z rest = fitting topic.Trap (alone word.Trap rest)
 word_with ds topic.Words z rest = fitting topic.Words (alone word.Words rest)
 word_with ds topic.Enabled z rest = fitting topic.Enabled (alone word.Enabled rest)
 word_with ds topic.Show z rest = fitting topic.Show (alone word.Show rest)

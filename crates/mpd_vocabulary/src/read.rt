@@ -257,14 +257,27 @@ fn print_in(code: &Code, rest: &[u8]) -> Result<Word, WordFault>
     }
 }
 
-/// A call, or a rank.
+/// A rank.
+fn why_rank(word: &[u8]) -> Option<Word>
+    ensures { result ≡ spec.why_rank word.now }
+{
+    match number_of(word) {
+        None => None,
+        Some(rank) => Some(Word::WhyRank(Some(rank))),
+    }
+}
+
+/// A call, or a rank, or nothing.
 fn why_in(rest: &[u8]) -> Option<Word>
     ensures { result ≡ spec.why_in (words rest.now) }
 {
+    if !has_word(rest) {
+        return Some(Word::WhyRank(None));
+    }
     let word = only_word(rest)?;
     match call_of(word) {
         Some(call) => Some(Word::WhyCall(call)),
-        None => number_of(word).map(Word::WhyRank),
+        None => why_rank(word),
     }
 }
 
@@ -296,6 +309,7 @@ fn word_with(code: &Code, topic: Topic, line: &[u8], rest: &[u8]) -> Result<Word
         Topic::Run => fitting(topic, number_or(STEPS_MAX, rest).map(Word::Run)),
         Topic::Back => fitting(topic, number_or(1, rest).map(Word::Back)),
         Topic::RunBack => fitting(topic, alone(Word::RunBack, rest)),
+        Topic::UndoChoice => fitting(topic, alone(Word::UndoChoice, rest)),
         Topic::Goto => fitting(topic, only_number(rest).map(Word::Goto)),
         Topic::Redo => fitting(topic, number_or(1, rest).map(Word::Redo)),
         Topic::Local | Topic::Match | Topic::Wake | Topic::WakeAny | Topic::Release => {
@@ -311,7 +325,9 @@ fn word_with(code: &Code, topic: Topic, line: &[u8], rest: &[u8]) -> Result<Word
         Topic::Why => fitting(topic, why_in(rest)),
         Topic::History => fitting(topic, number_or(10, rest).map(Word::History)),
         Topic::Check => fitting(topic, number_or(1_000, rest).map(Word::Check)),
+        Topic::Follow => fitting(topic, only_number(rest).map(Word::Follow)),
         Topic::Deadlock => fitting(topic, alone(Word::Deadlock, rest)),
+        Topic::Trap => fitting(topic, alone(Word::Trap, rest)),
         Topic::Words => fitting(topic, alone(Word::Words, rest)),
         Topic::Enabled => fitting(topic, alone(Word::Enabled, rest)),
         Topic::Show => fitting(topic, alone(Word::Show, rest)),

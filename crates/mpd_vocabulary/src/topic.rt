@@ -10,6 +10,7 @@ pub enum Topic {
     Run,
     Back,
     RunBack,
+    UndoChoice,
     Goto,
     Redo,
     Local,
@@ -29,7 +30,9 @@ pub enum Topic {
     Why,
     History,
     Check,
+    Follow,
     Deadlock,
+    Trap,
     Words,
     Enabled,
     Show,
@@ -38,7 +41,7 @@ pub enum Topic {
 }
 
 /// What the words are called, in the order of the table, the whole name of each before its short forms.
-pub const NAMES: [(&str, Topic); 45] = [
+pub const NAMES: [(&str, Topic); 50] = [
     ("next", Topic::Next),
     ("n", Topic::Next),
     ("run", Topic::Run),
@@ -51,6 +54,8 @@ pub const NAMES: [(&str, Topic); 45] = [
     ("run-back", Topic::RunBack),
     ("rc", Topic::RunBack),
     ("reverse-continue", Topic::RunBack),
+    ("undo-choice", Topic::UndoChoice),
+    ("u", Topic::UndoChoice),
     ("goto", Topic::Goto),
     ("g", Topic::Goto),
     ("redo", Topic::Redo),
@@ -76,7 +81,10 @@ pub const NAMES: [(&str, Topic); 45] = [
     ("history", Topic::History),
     ("h", Topic::History),
     ("check", Topic::Check),
+    ("follow", Topic::Follow),
+    ("f", Topic::Follow),
     ("deadlock", Topic::Deadlock),
+    ("trap", Topic::Trap),
     ("words", Topic::Words),
     ("enabled", Topic::Enabled),
     ("show", Topic::Show),
@@ -87,11 +95,12 @@ pub const NAMES: [(&str, Topic); 45] = [
 ];
 
 /// A word of each line of help, in the order of the table.
-pub const TOPICS: [Topic; 25] = [
+pub const TOPICS: [Topic; 28] = [
     Topic::Next,
     Topic::Run,
     Topic::Back,
     Topic::RunBack,
+    Topic::UndoChoice,
     Topic::Goto,
     Topic::Redo,
     Topic::Local,
@@ -107,7 +116,9 @@ pub const TOPICS: [Topic; 25] = [
     Topic::Why,
     Topic::History,
     Topic::Check,
+    Topic::Follow,
     Topic::Deadlock,
+    Topic::Trap,
     Topic::Words,
     Topic::Enabled,
     Topic::Show,
@@ -187,6 +198,7 @@ pub(crate) fn usage_of(topic: Topic) -> &'static str
         Topic::Run => "run [N]",
         Topic::Back => "back [N]",
         Topic::RunBack => "run-back",
+        Topic::UndoChoice => "undo-choice",
         Topic::Goto => "goto N",
         Topic::Redo => "redo [N]",
         Topic::Local => "local P",
@@ -203,10 +215,12 @@ pub(crate) fn usage_of(topic: Topic) -> &'static str
         Topic::Ranks => "ranks",
         Topic::Calls => "calls [P]",
         Topic::Queues => "queues",
-        Topic::Why => "why CALL, why P",
+        Topic::Why => "why [P], why CALL",
         Topic::History => "history [N]",
         Topic::Check => "check [N]",
+        Topic::Follow => "follow N",
         Topic::Deadlock => "deadlock",
+        Topic::Trap => "trap",
         Topic::Words => "words",
         Topic::Enabled => "enabled",
         Topic::Show => "show",
@@ -236,6 +250,7 @@ pub(crate) fn purpose_of(topic: Topic) -> &'static str
         Topic::Run => "goes on to the next breakpoint, choice or end, or so many steps at most",
         Topic::Back => "takes a step back, or so many",
         Topic::RunBack => "goes back to a breakpoint, or to the start",
+        Topic::UndoChoice => "goes back to the last choice, so that another candidate can be taken",
         Topic::Goto => "goes back, or along the steps ahead, until so many steps are taken",
         Topic::Redo => "takes the step again that was undone last, or so many, or all",
         Topic::Local | Topic::Match | Topic::Wake | Topic::WakeAny | Topic::Release =>
@@ -250,12 +265,14 @@ pub(crate) fn purpose_of(topic: Topic) -> &'static str
         Topic::Ranks => "shows what each rank is doing",
         Topic::Calls => "lists the calls of all ranks, or of rank P",
         Topic::Queues => "lists the sends and the receives that are free",
-        Topic::Why => "says why a call, or the call that rank P waits for, isn't matched",
+        Topic::Why => "says why the calls that ranks wait for aren't matched",
         Topic::History => "lists the last 10 steps, or the last N",
         Topic::Check =>
             "tries the choices from here, and lists how the runs end, 1,000 or N of them at most",
+        Topic::Follow => "lays the steps of a run ahead",
         Topic::Deadlock =>
             "looks for the first deadlock from here, and lays its steps ahead, so that redo and run go there",
+        Topic::Trap => "looks for the first trap from here, and lays its steps ahead",
         Topic::Words => "lists the steps taken as trace words, to be kept in a file",
         Topic::Enabled => "lists the steps that are enabled",
         Topic::Show => "shows the whole state, as a trace does (docs/FORMATS.md, \"Text of show\")",
@@ -269,8 +286,11 @@ pub(crate) fn details_of(topic: Topic) -> &'static str
     ensures { result.now ≡ spec.details_of topic }
 {
     match topic {
-        Topic::Next => "; at a choice it lists the candidates, and next N takes one, from 1",
+        Topic::Next =>
+            "; at a choice it lists the candidates, and next N takes one, from 1; elsewhere next N is run N",
         Topic::List => "; or the lines about rank P",
+        Topic::Why => "; or that of rank P, or a call",
+        Topic::Follow => "; N is its number in check",
         _ => "",
     }
 }

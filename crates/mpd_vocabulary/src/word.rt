@@ -9,7 +9,7 @@ use mpd_names::name::Named;
 /// one stands.
 #[derive(Clone, Copy)]
 pub enum Word {
-    /// Take the step that comes next: at a choice the candidate of this number, from 1.
+    /// Take the step that comes next: at a choice the candidate of this number, from 1; elsewhere so many steps at most.
     Next(Option<usize>),
     /// Go on to a breakpoint, a choice or the end, by so many steps at most.
     Run(usize),
@@ -17,6 +17,8 @@ pub enum Word {
     Back(usize),
     /// Go back to a breakpoint, or to the start.
     RunBack,
+    /// Go back to the last choice.
+    UndoChoice,
     /// Go back until so many steps are left.
     Goto(usize),
     /// Take so many undone steps again.
@@ -43,14 +45,18 @@ pub enum Word {
     Queues,
     /// Say why this call isn't matched.
     WhyCall(CallId),
-    /// Say why the call that this rank waits for isn't matched.
-    WhyRank(usize),
+    /// Say why the calls that all ranks wait for, or this one, aren't matched.
+    WhyRank(Option<usize>),
     /// List so many of the last steps.
     History(usize),
     /// Try the choices from here, so many runs at most.
     Check(usize),
+    /// Lay the steps of the run of this number ahead, from 1.
+    Follow(usize),
     /// Lay the steps to the first deadlock ahead.
     Deadlock,
+    /// Lay the steps to the first trap ahead.
+    Trap,
     /// List the steps taken as trace words.
     Words,
     /// List the steps that are enabled.

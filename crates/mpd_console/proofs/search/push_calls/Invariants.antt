@@ -1,6 +1,0 @@
-use Rattle.std.proofs.Common.{◌≡◌, ◌++◌, drop, string_bytes}
-use Rattle.mpd_model.specs.Texts.{id_text, spaced}
-use Rattle.mpd_console.proofs.search.push_calls.Given as goal
-
-abbrev pub invariant-loop-call : goal.invariant-loop-call
-invariant-loop-call l = string_bytes l.out ++ spaced id_text (drop l.call-index l.calls) ≡ string_bytes l.fn.out ++ spaced id_text l.calls

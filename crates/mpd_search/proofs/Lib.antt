@@ -1,0 +1,4 @@
+pub mod ChoiceLemmas
+pub mod EndLemmas
+pub mod LookLemmas
+pub mod SeekLemmas

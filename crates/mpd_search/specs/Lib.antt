@@ -1,0 +1,4 @@
+pub mod Ways
+pub mod Runs
+pub mod Seek
+pub mod Choices
