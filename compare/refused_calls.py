@@ -244,7 +244,10 @@ def unmet(program, outcomes):
 
 def fails_directly(program, name):
     """What is wrong with rows that the program asserts by itself."""
-    ended = subprocess.run([program, 'direct', name], stdin=subprocess.DEVNULL, capture_output=True, text=True, errors='replace', timeout=SECONDS)
+    try:
+        ended = subprocess.run([program, 'direct', name], stdin=subprocess.DEVNULL, capture_output=True, text=True, errors='replace', timeout=SECONDS)
+    except subprocess.TimeoutExpired:
+        return f'direct {name}: it has not ended after {SECONDS} seconds'
     return None if ended.returncode == 0 else f'direct {name}: status {ended.returncode}: {ended.stderr.strip()[:300]}'
 
 
