@@ -97,10 +97,9 @@ def met_in(question, wanted):
     yield 'written'
     if read_script(question.text).version == 2:
         yield 'version 2'
-    own = wanted.output.decode().split('\nint main(')
-    for text in MUST_MEET:
-        if text.startswith('`') and text.strip('`') in own[1] + (own[0].rpartition('*/')[2] if text == '`[1];`' else ''):
-            yield text
+    before, _, statements = wanted.output.decode().partition('        return 2;\n    }\n')
+    declared = before.rpartition('*/')[2]
+    yield from (text for text in MUST_MEET if text.startswith('`') and text.strip('`') in (declared if text == '`[1];`' else statements))
 
 
 def problem_of(chosen, question):
