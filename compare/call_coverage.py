@@ -17,6 +17,7 @@ LEFT_OUT = {
     'mpd_queue': {'disjoint': 'a law'},
     'mpd_policy': {'decisions_can_be_followed': 'a law'}, 'mpd_model': {'lines_lose_nothing': 'a law'},
     'mpd_witness': dict.fromkeys(('written_witness_is_read', 'written_witness_of_a_leaf_is_read'), 'a law'),
+    'mpd_c': {'text_ends_its_last_line': 'a law'},
     'mpd_words': {'a_run_or_a_bad_choice': 'a law'}, 'mpd_explain': {
         'calls_name_their_statements': 'a law',
         **dict.fromkeys(('issue_line', 'rank_line', 'push_placed', 'push_wish', 'push_helps', 'push_all_absent', 'push_told', 'requests'), BY_WORDS)},

@@ -10,6 +10,7 @@ import session
 from call_consoles import CONSOLES
 from call_given import Wanted, by_hand, line, no_state, numbered, steps_line, trail_text, unchanged, walked, world_of
 from call_reports import REPORTS
+from c_script import c_text
 from canonical import canonical
 from debugger import (RENDEZVOUS, CallId, Debugger, enabled_steps, find_call, next_world, outcome, partner, pending, rank_state, record_line, show,
                       slots_used, step_of, step_text)
@@ -66,6 +67,15 @@ def printed(row):
     return unchanged(script_text(script), canonical(script).decode() + '\n')
 
 
+def printed_in_c(row):
+    script = row.read()
+    return unchanged(script_text(script), c_text(script).decode() + '\n')
+
+
+def written_in_c(row):
+    return no_state('ended\n', c_text(row.read()).decode())
+
+
 def following(body, behind, number_of):
     """For each statement in text order the number of the one that follows it."""
     for statement, after in zip(body, [*map(number_of, body[1:]), behind]):
@@ -100,9 +110,17 @@ def text_read(row):
     return no_state(line(row.script[:65537]))
 
 
+def script_read(row):
+    return told_read(row, script_text)
+
+
 def code_read(row):
+    return told_read(row, code_text)
+
+
+def told_read(row, told):
     try:
-        return no_state(code_text(row.read()))
+        return no_state(told(row.read()))
     except Fault as fault:
         return no_state(fault_text(fault) + line(f'line {1 + row.script.count(chr(10), 0, fault.place)}'))
 
@@ -466,6 +484,7 @@ def requests_served(row):
 
 MODELS = {
     'mpd_script::read': read, 'mpd_script::read of all beginnings': prefixes, 'mpd_script::print': printed, 'mpd_code::lower': lowered,
+    'mpd_c::print_c': printed_in_c, 'write_c': written_in_c, 'mpd_trace::read_script': script_read,
     'mpd_code looks': code_looks, 'eval': by_hand, 'Expr::unary, element, binary': by_hand, 'numbers and names': by_hand,
     'mpd_trace::read_text': text_read, 'mpd_trace::read_code': code_read, 'mpd_trace::excerpt': by_hand, 'mpd_trace::allowed': by_hand,
     'Tape::filled': by_hand, 'Tape::keep_room': by_hand, 'Tape::copy': by_hand, 'Tape changes': by_hand,

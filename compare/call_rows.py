@@ -22,9 +22,12 @@ OTHER_CALLS = TWO_LINES.replace('0.1 1.0', '0.1')
 def scripts():
     for script in (MESSAGE, RACE, WHOLE, 'mpd 1; ranks 1;', MISSING, 'mpd 1; ranks 1;\nprint y;', 'mpd 3;', 'mpd 1;ranks 1;var x;var x;'):
         yield Row('mpd_script::read', script)
+        yield Row('mpd_trace::read_script', script)
         yield Row('mpd_trace::read_code', script)
     for script in (MESSAGE, RACE, WHOLE, 'mpd 1; ranks 1;'):
         yield Row('mpd_script::print', script)
+        yield Row('mpd_c::print_c', script)
+        yield Row('write_c', script)
         yield Row('mpd_code::lower', script)
     for script in (MESSAGE, WHOLE):
         yield Row('mpd_code looks', script, spares=True)
@@ -360,6 +363,8 @@ def programs():
                         ('debug a', 'debug a rendezvous'), ('debug a --mode b --witness c', 'debug a b c'),
                         ('serve a --port 80 --clients 2', 'serve a rendezvous 80 2'), ('verify a b', 'verify a b rendezvous'),
                         ('verify a b --leaf 7', 'verify a b rendezvous 7'), ('words a --choices 3 --fuel 9', 'words a 3 rendezvous 9'),
+                        ('c a', 'c a'), ('picture a', 'picture a rendezvous - - - 100000'),
+                        ('picture a --choices 1 --witness 2 --words 3 --fuel 4 --mode 5', 'picture a 5 1 2 3 4'),
                         ('run a', 'run a rendezvous'), ('check a --witness', 'check a rendezvous 1000 100000 1 4 true'),
                         ('check a --runs 0', 'usage false 2'), ('fly', 'usage false 2'), ('--help', 'usage true 0')):
         yield Row('read_options', argument=words, by_hand=no_state(told + '\n'))

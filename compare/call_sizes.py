@@ -55,10 +55,10 @@ def scripts():
     for what, (statement, count) in STATEMENTS.items():
         text = filled(statement, count)
         assert len(text) == BYTES
-        for call in ('mpd_script::read', 'mpd_script::print', 'mpd_code::lower', 'mpd_trace::read_code'):
+        for call in ('mpd_script::read', 'mpd_script::print', 'mpd_c::print_c', 'mpd_code::lower', 'mpd_trace::read_script', 'mpd_trace::read_code'):
             yield Row(call, text, most=2, what=f'65,536 bytes of {what}')
     deepest = nested(64, 64)
-    for call in ('mpd_script::read', 'mpd_script::print', 'mpd_code::lower'):
+    for call in ('mpd_script::read', 'mpd_script::print', 'mpd_c::print_c', 'mpd_code::lower'):
         yield Row(call, deepest, what='64 loops and 64 brackets', is_deep=True)
     yield Row('mpd_policy::run', deepest, (), '100', is_deep=True)
     yield Row('mpd_trace::read_text', ' ' * BYTES, most=FEW, what='65,536 bytes')

@@ -220,6 +220,12 @@ def usage_rows(program):
     for mistake in MISTAKES:
         yield f'mistaken {mistake.words}', no_input(program, *mistake.words.split('|')), wrong_words(mistake)
     yield 'no text', no_input(program, 'trace', b'\xff'), wrong_words(NO_TEXT)
+    for first, second in (('--choices', '--witness'), ('--choices', '--words'), ('--witness', '--words')):
+        told = Result(b'', f"mpdbg: {first} and {second} can't stand together\n".encode(), 2)
+        for words in ((first, '0', second, '1'), (f'{second}=1', f'{first}=', '--mode', 'no-mode')):
+            yield f'a run told twice, {words}', no_input(program, 'picture', 'no-such-file', *words), told
+    full_c = Files(file_of(b''), full()).run(program, 'c', os.path.join(EXAMPLES, 'race.mpd'))
+    yield 'a script in C, output full', full_c, device()
     full_help = Files(file_of(b''), full()).run(program, '--help')
     yield 'help, output full', full_help, device()
 

@@ -2,6 +2,7 @@
 #![tactic(auto)]
 
 mod expr;
+pub mod laws;
 mod piece;
 mod script;
 mod simple;
