@@ -23,7 +23,9 @@ LEFT_OUT = {
         **dict.fromkeys(('issue_line', 'rank_line', 'push_placed', 'push_wish', 'push_helps', 'push_all_absent', 'push_told', 'requests'), BY_WORDS)},
     'mpd_session': dict.fromkeys(('debugger', 'breaks', 'lay'), BY_WORDS),
     'mpd_view': dict.fromkeys(('push_calls', 'push_enabled', 'push_history', 'push_queues', 'push_ranks', 'push_standing', 'push_step', 'push_step_line',
-                               'push_why', 'push_why_rank', 'push_words'), BY_WORDS),
+                               'push_why', 'push_why_rank', 'push_why_ranks', 'push_words'), BY_WORDS),
+    'mpd_search': dict.fromkeys(('seek', 'numbered_run', 'last_choice', 'name', 'push_runs', 'push_none', 'push_ahead', 'push_count', 'push_not_followed',
+                                 'push_no_choice'), BY_WORDS),
     'mpd_vocabulary': dict.fromkeys(('line_of', 'push_fault', 'push_help'), BY_WORDS),
     'mpd_names': dict.fromkeys(('named', 'push_break', 'push_cell_name', 'push_list', 'push_list_about', 'push_named', 'push_variables'), BY_WORDS),
     'mpd_pieces': dict.fromkeys(('pieces_join_to_the_walk', 'each_piece_is_reached', 'no_choice_is_the_whole', 'no_more_is_the_whole'), 'a law')}

@@ -3,19 +3,19 @@ use Rattle.std.proofs.Common.{◌≡◌, ℕ, ◌-◌, ◌<◌, ◌≤◌, Bool,
 use Rattle.std.proofs.lemmas.Bool.Decides.{nat_tests}
 use Rattle.std.specs.Prelude.{option_and_then, IfSome}
 use Rattle.mpd_model.specs.declared.breakpoint.Break.{Break}
-use Rattle.mpd_model.specs.declared.step.CallId.{CallId}
 use Rattle.mpd_model.specs.World.{World}
 use Rattle.mpd_model.specs.Trail.{Trail, IsReached, IsRun, kept, world_of}
 use Rattle.mpd_trail.specs.Views.{DebuggerView, standing_of}
 use Rattle.mpd_explore.specs.declared.report.Leaf.{Leaf}
-use Rattle.mpd_explore.specs.declared.report.Witness.{Witness}
+use Rattle.mpd_explore.specs.declared.report.Ending.{Ending}
 use Rattle.mpd_wire.specs.declared.request.Command.{Command}
+use Rattle.mpd_wire.specs.declared.request.Command.TheVariants as command
 use Rattle.mpd_wire.specs.declared.reply.Reply.{Reply}
 use Rattle.mpd_view.specs.Standing.{standing_text}
 use Rattle.mpd_session.specs.Held.{Held}
 use Rattle.mpd_session.specs.Respond.{respond, laid}
 use Rattle.mpd_console.specs.declared.moves.Doing.{Doing}
-use Rattle.mpd_console.specs.declared.moves.Doing.TheVariants.{Asks, Seeks, Looks}
+use Rattle.mpd_console.specs.declared.moves.Doing.TheVariants.{Asks, Undoes, Seeks, Follows, Looks}
 use Rattle.mpd_vocabulary.specs.declared.word.Word.{Word}
 use Rattle.mpd_vocabulary.specs.declared.word.WordFault.{WordFault}
 use Rattle.mpd_vocabulary.specs.declared.read.Line.{Line}
@@ -23,8 +23,12 @@ use Rattle.mpd_vocabulary.specs.declared.read.Line.TheVariants.{Blank, Comment, 
 use Rattle.mpd_console.specs.Moves.{doing_of, lead_text, reply_text}
 use Rattle.mpd_console.specs.Looks.{look_text}
 use Rattle.mpd_vocabulary.specs.Reading.{line_of}
-use Rattle.mpd_console.specs.Search.{sought_leaves, sought_more, sought_witness, fuel_at, found_line, not_found_line, LiesAhead}
-use Rattle.mpd_console.specs.Says.{memory_line, unprinted_line, too_long_line, at_world, prompt, lead_said, reply_said, look_said, found_said, not_found_said, none_said, prompts_behind, fault_said, Told, Looked, asking, Carried, witness_from, LaidBy, doing_at, doing_in, AnsweredBy, Answered, Console, WordSays, RepeatSays, LineSays, SaysBy, ConsoleSays, Adds, OrElse}
+use Rattle.mpd_search.specs.declared.seek.WholeRun.{WholeRun}
+use Rattle.mpd_search.specs.declared.way.Way.{Way}
+use Rattle.mpd_search.specs.Runs.{none_line}
+use Rattle.mpd_search.specs.Seek.{found_run, numbered_run, nothing_line, LiesAhead, ahead_line, not_followed_line}
+use Rattle.mpd_search.specs.Choices.{last_choice, no_choice_line}
+use Rattle.mpd_console.specs.Says.{memory_line, unprinted_line, too_long_line, at_world, prompt, lead_said, reply_said, look_said, laid_said, not_found_said, refused_said, none_said, prompts_behind, fault_said, Told, Looked, asking, Carried, Refused, UndoneBy, LaidBy, found_from, numbered_from, SoughtBy, FollowedBy, doing_at, doing_in, AnsweredBy, Answered, Console, WordSays, RepeatSays, LineSays, SaysBy, ConsoleSays, Adds, OrElse}
 
 -- ---- texts on the world of a trail
 
@@ -50,11 +54,11 @@ looked p q script s d places x begun one text reached e pl is b h k =
     let u : one ≡ look_text d.trail d.world s.breaks script x = h ∙ ap (λ z. z ++ look_text d.trail d.world places script x) b ∙ ap (λ z. look_text d.trail d.world z script x) pl in
     k ∙ ap (λ z. z ++ prompt q s) (u ∙ told_at (λ t w. look_text t w s.breaks script x) s d reached e) ∙ ap (λ z. at_world (λ w. look_text s.trail w s.breaks script x) (world_of s.trail) ++ prompt z s) is
 
-pub found : (p : Bool) (s : Held) (d : DebuggerView) (blocked : List CallId) (ahead : ℕ) (begun one two text : List ℕ) → IsReached (standing_of d) → d.trail ≡ s.trail
-    → begun ≡ [] → one ≡ begun ++ found_line blocked ahead → two ≡ one ++ standing_text d.trail d.world → text ≡ two ++ prompt p s → text ≡ found_said p s blocked ahead
-found p s d blocked ahead begun one two text reached e b h k m =
-    let u : one ≡ found_line blocked ahead = h ∙ ap (λ z. z ++ found_line blocked ahead) b in
-    let v : two ≡ found_line blocked ahead ++ at_world (standing_text s.trail) (world_of s.trail) = k ∙ ap (λ z. z ++ standing_text d.trail d.world) u ∙ ap (λ z. found_line blocked ahead ++ z) (told_at standing_text s d reached e) in
+pub found : (p : Bool) (s : Held) (d : DebuggerView) (number : Option ℕ) (e : Ending) (ahead : ℕ) (begun one two text : List ℕ) → IsReached (standing_of d) → d.trail ≡ s.trail
+    → begun ≡ [] → one ≡ begun ++ ahead_line number e ahead → two ≡ one ++ standing_text d.trail d.world → text ≡ two ++ prompt p s → text ≡ laid_said p s number e ahead
+found p s d number e ahead begun one two text reached at b h k m =
+    let u : one ≡ ahead_line number e ahead = h ∙ ap (λ z. z ++ ahead_line number e ahead) b in
+    let v : two ≡ ahead_line number e ahead ++ at_world (standing_text s.trail) (world_of s.trail) = k ∙ ap (λ z. z ++ standing_text d.trail d.world) u ∙ ap (λ z. ahead_line number e ahead ++ z) (told_at standing_text s d reached at) in
     m ∙ ap (λ z. z ++ prompt p s) v
 
 pub ruleset replying = (replied, led)
@@ -108,52 +112,96 @@ not_carried p s t x c before after e h = (memory_line, h, inr (e, refl))
 
 pub ruleset carrying = (carried, not_carried)
 
--- ---- a deadlock
+-- ---- runs that lie ahead
 
-pub lies_begins : (t : Trail) (x : Witness) → LiesAhead t x → take t.depth x.steps ≡ kept t
-lies_begins t x h = h.begins
+pub lies_begins : (t : Trail) (r : WholeRun) → LiesAhead t r → take t.depth r.steps ≡ kept t
+lies_begins t r h = h.begins
 
-pub lies_runs : (t : Trail) (x : Witness) → LiesAhead t x → IsRun t.program t.mode x.steps
-lies_runs t x h = h.run
+pub lies_runs : (t : Trail) (r : WholeRun) → LiesAhead t r → IsRun t.program t.mode r.steps
+lies_runs t r h = h.run
 
-pub witness_at : (s : Held) (d : DebuggerView) (o : Option Witness) → IsReached (standing_of d) → d.trail ≡ s.trail → o ≡ sought_witness d.trail d.world → o ≡ witness_from s
-witness_at s d o r e h = h ∙ ap (λ t. sought_witness t d.world) e ∙ sym (ap (λ (w : Option World). option_and_then (λ v. sought_witness s.trail v) w) (world_at s d r e))
+pub found_at : (s : Held) (d : DebuggerView) (x : Way) (o : Option WholeRun) → IsReached (standing_of d) → d.trail ≡ s.trail → o ≡ found_run x d.trail d.world → o ≡ found_from s x
+found_at s d x o r e h = h ∙ ap (λ t. found_run x t d.world) e ∙ sym (ap (λ (w : Option World). option_and_then (λ v. found_run x s.trail v) w) (world_at s d r e))
 
-pub none_at_is : (p : Bool) (s : Held) (d : DebuggerView) (leaves : List Leaf) (more : Bool) → IsReached (standing_of d) → d.trail ≡ s.trail → leaves ≡ sought_leaves (fuel_at d.trail.depth) d.world
-    → more ≡ sought_more (fuel_at d.trail.depth) d.world → not_found_said p s leaves more ≡ none_said p s
-none_at_is p s d leaves more r e h k =
-    ap (λ z. not_found_line z more ++ prompt p s) h ∙ ap (λ z. not_found_line (sought_leaves (fuel_at d.trail.depth) d.world) z ++ prompt p s) k
-    ∙ ap (λ z. z ++ prompt p s) (told_at (λ t w. not_found_line (sought_leaves (fuel_at t.depth) w) (sought_more (fuel_at t.depth) w)) s d r e)
+pub numbered_at : (s : Held) (d : DebuggerView) (n : ℕ) (o : Option WholeRun) → IsReached (standing_of d) → d.trail ≡ s.trail → o ≡ numbered_run n d.trail d.world → o ≡ numbered_from s n
+numbered_at s d n o r e h = h ∙ ap (λ t. numbered_run n t d.world) e ∙ sym (ap (λ (w : Option World). option_and_then (λ v. numbered_run n s.trail v) w) (world_at s d r e))
 
-pub lies_at : (s : Held) (d : DebuggerView) (o : Option Witness) → d.trail ≡ s.trail → IfSome o (LiesAhead d.trail) → IfSome o (LiesAhead s.trail)
+pub none_at_is : (p : Bool) (s : Held) (d : DebuggerView) (x : Way) (leaves : List Leaf) (more : Bool) → IsReached (standing_of d) → d.trail ≡ s.trail → none_line x leaves more ≡ nothing_line x d.trail d.world
+    → not_found_said p s x leaves more ≡ none_said p s x
+none_at_is p s d x leaves more r e h = ap (λ z. z ++ prompt p s) (h ∙ told_at (nothing_line x) s d r e)
+
+pub lies_at : (s : Held) (d : DebuggerView) (o : Option WholeRun) → d.trail ≡ s.trail → IfSome o (LiesAhead d.trail) → IfSome o (LiesAhead s.trail)
 lies_at s d o e h = subst (λ t. IfSome o (LiesAhead t)) e h
 
-pub ruleset seeking = (witness_at, none_at_is, lies_at)
+pub ruleset seeking = (found_at, numbered_at, none_at_is, lies_at)
 
-pub laid_told : (p : Bool) (s t : Held) (x : Witness) (before after : List ℕ) → Some x ≡ witness_from s → LiesAhead s.trail x → t ≡ laid s x.steps
-    → Adds (Told (found_said p t x.blocked (length x.steps - s.trail.depth))) before after → Adds (LaidBy p s (witness_from s) t) before after
-laid_told p s t x before after is lies e (z, h, told) = (z, h, subst (λ o. LaidBy p s o t z) is (inl (lies.is, e, told)))
+laid_by : (p : Bool) (s t : Held) (number : Option ℕ) (r : WholeRun) (text : List ℕ) → LiesAhead s.trail r → t ≡ laid s r.steps → Told (laid_said p t number r.ending (length r.steps - s.trail.depth)) text → LaidBy p s number r t text
+laid_by p s t number r text lies e told = inl (lies, e, told)
 
-pub none_told : (p : Bool) (s t : Held) (leaves : List Leaf) (more : Bool) (before after : List ℕ) → None ≡ witness_from s → t ≡ s → not_found_said p s leaves more ≡ none_said p s
-    → Adds (Looked (not_found_said p s leaves more)) before after → Adds (LaidBy p s (witness_from s) t) before after
-none_told p s t leaves more before after is e same (z, h, told) = (z, h, subst (λ o. LaidBy p s o t z) is (e, subst (λ y. Looked y z) same told))
+pub sought_told : (p : Bool) (s t : Held) (x : Way) (r : WholeRun) (before after : List ℕ) → Some r ≡ found_from s x → LiesAhead s.trail r → t ≡ laid s r.steps
+    → Adds (Told (laid_said p t None r.ending (length r.steps - s.trail.depth))) before after → Adds (SoughtBy p s x (found_from s x) t) before after
+sought_told p s t x r before after is lies e (z, h, told) = (z, h, subst (λ o. SoughtBy p s x o t z) is (laid_by p s t None r z lies e told))
 
-not_laid : (p : Bool) (s t : Held) (o : Option Witness) → t ≡ s → LaidBy p s o t memory_line
-not_laid p s t None e = (e, inr refl)
-not_laid p s t (Some x) e = inr (e, refl)
+pub none_told : (p : Bool) (s t : Held) (x : Way) (leaves : List Leaf) (more : Bool) (before after : List ℕ) → None ≡ found_from s x → t ≡ s → not_found_said p s x leaves more ≡ none_said p s x
+    → Adds (Looked (not_found_said p s x leaves more)) before after → Adds (SoughtBy p s x (found_from s x) t) before after
+none_told p s t x leaves more before after is e same (z, h, told) = (z, h, subst (λ o. SoughtBy p s x o t z) is (e, subst (λ y. Looked y z) same told))
 
-pub not_sought : (p : Bool) (s t : Held) (before after : List ℕ) → t ≡ s → after ≡ before ++ memory_line → Adds (LaidBy p s (witness_from s) t) before after
-not_sought p s t before after e h = (memory_line, h, not_laid p s t (witness_from s) e)
+not_laid : (p : Bool) (s t : Held) (x : Way) (o : Option WholeRun) → t ≡ s → SoughtBy p s x o t memory_line
+not_laid p s t x None e = (e, inr refl)
+not_laid p s t x (Some r) e = inr (e, refl)
 
-pub ruleset laying = (lies_begins, lies_runs, laid_told, none_told, not_sought)
+pub not_sought : (p : Bool) (s t : Held) (x : Way) (before after : List ℕ) → t ≡ s → after ≡ before ++ memory_line → Adds (SoughtBy p s x (found_from s x) t) before after
+not_sought p s t x before after e h = (memory_line, h, not_laid p s t x (found_from s x) e)
+
+pub followed_told : (p : Bool) (s t : Held) (n : ℕ) (r : WholeRun) (before after : List ℕ) → Some r ≡ numbered_from s n → LiesAhead s.trail r → t ≡ laid s r.steps
+    → Adds (Told (laid_said p t (Some n) r.ending (length r.steps - s.trail.depth))) before after → Adds (FollowedBy p s n (numbered_from s n) t) before after
+followed_told p s t n r before after is lies e (z, h, told) = (z, h, subst (λ o. FollowedBy p s n o t z) is (laid_by p s t (Some n) r z lies e told))
+
+pub no_run_told : (p : Bool) (s t : Held) (n : ℕ) (before after : List ℕ) → None ≡ numbered_from s n → t ≡ s → Adds (Told (refused_said p s (not_followed_line n))) before after → Adds (FollowedBy p s n (numbered_from s n) t) before after
+no_run_told p s t n before after is e (z, h, told) = (z, h, subst (λ o. FollowedBy p s n o t z) is (e, inl told))
+
+not_numbered : (p : Bool) (s t : Held) (n : ℕ) (o : Option WholeRun) → t ≡ s → FollowedBy p s n o t memory_line
+not_numbered p s t n None e = (e, inr refl)
+not_numbered p s t n (Some r) e = inr (e, refl)
+
+pub not_followed : (p : Bool) (s t : Held) (n : ℕ) (before after : List ℕ) → t ≡ s → after ≡ before ++ memory_line → Adds (FollowedBy p s n (numbered_from s n) t) before after
+not_followed p s t n before after e h = (memory_line, h, not_numbered p s t n (numbered_from s n) e)
+
+pub ruleset laying = (lies_begins, lies_runs, sought_told, none_told, not_sought, followed_told, no_run_told, not_followed)
+
+-- ---- the last choice
+
+pub choice_in : (s : Held) (t : Trail) (o : Option ℕ) → t ≡ s.trail → o ≡ last_choice t → o ≡ last_choice s.trail
+choice_in s t o e h = h ∙ ap last_choice e
+
+pub choice_told : (p : Bool) (s t : Held) (x : Word) (n : ℕ) (before after : List ℕ) → Some n ≡ last_choice s.trail → Adds (Carried p s x (command.Goto n) t) before after → Adds (UndoneBy p s x (last_choice s.trail) t) before after
+choice_told p s t x n before after is (z, h, told) = (z, h, subst (λ o. UndoneBy p s x o t z) is told)
+
+pub no_choice_told : (p : Bool) (s t : Held) (x : Word) (before after : List ℕ) → None ≡ last_choice s.trail → t ≡ s → Adds (Told (refused_said p s no_choice_line)) before after → Adds (UndoneBy p s x (last_choice s.trail) t) before after
+no_choice_told p s t x before after is e (z, h, told) = (z, h, subst (λ o. UndoneBy p s x o t z) is (e, inl told))
+
+not_gone : (p : Bool) (s t : Held) (x : Word) (o : Option ℕ) → t ≡ s → UndoneBy p s x o t memory_line
+not_gone p s t x None e = (e, inr refl)
+not_gone p s t x (Some n) e = inr (e, refl)
+
+pub not_undone : (p : Bool) (s t : Held) (x : Word) (before after : List ℕ) → t ≡ s → after ≡ before ++ memory_line → Adds (UndoneBy p s x (last_choice s.trail) t) before after
+not_undone p s t x before after e h = (memory_line, h, not_gone p s t x (last_choice s.trail) e)
+
+pub ruleset undoing = (choice_in, choice_told, no_choice_told, not_undone)
 
 -- ---- words
 
 pub answered_asks : (p : Bool) (script : List ℕ) (s t : Held) (x : Word) (c : Command) (before after : List ℕ) → Asks c ≡ doing_in s x → Adds (Carried p s x c t) before after → Adds (Answered p script s x t) before after
 answered_asks p script s t x c before after is h = subst (λ d. Adds (AnsweredBy p script s x d t) before after) is h
 
-pub answered_seeks : (p : Bool) (script : List ℕ) (s t : Held) (x : Word) (before after : List ℕ) → Seeks ≡ doing_in s x → Adds (LaidBy p s (witness_from s) t) before after → Adds (Answered p script s x t) before after
-answered_seeks p script s t x before after is h = subst (λ d. Adds (AnsweredBy p script s x d t) before after) is h
+pub answered_undoes : (p : Bool) (script : List ℕ) (s t : Held) (x : Word) (before after : List ℕ) → Undoes ≡ doing_in s x → Adds (UndoneBy p s x (last_choice s.trail) t) before after → Adds (Answered p script s x t) before after
+answered_undoes p script s t x before after is h = subst (λ d. Adds (AnsweredBy p script s x d t) before after) is h
+
+pub answered_seeks : (p : Bool) (script : List ℕ) (s t : Held) (x : Word) (way : Way) (before after : List ℕ) → Seeks way ≡ doing_in s x → Adds (SoughtBy p s way (found_from s way) t) before after → Adds (Answered p script s x t) before after
+answered_seeks p script s t x way before after is h = subst (λ d. Adds (AnsweredBy p script s x d t) before after) is h
+
+pub answered_follows : (p : Bool) (script : List ℕ) (s t : Held) (x : Word) (n : ℕ) (before after : List ℕ) → Follows n ≡ doing_in s x → Adds (FollowedBy p s n (numbered_from s n) t) before after → Adds (Answered p script s x t) before after
+answered_follows p script s t x n before after is h = subst (λ d. Adds (AnsweredBy p script s x d t) before after) is h
 
 looks_alone : (p : Bool) (script : List ℕ) (s t : Held) (x : Word) (before after : List ℕ) → t ≡ s → Adds (Looked (look_said p script s x)) before after → Adds (AnsweredBy p script s x Looks t) before after
 looks_alone p script s t x before after e (z, h, told) = (z, h, (e, told))
@@ -161,7 +209,7 @@ looks_alone p script s t x before after e (z, h, told) = (z, h, (e, told))
 pub answered_looks : (p : Bool) (script : List ℕ) (s t : Held) (x : Word) (before after : List ℕ) → Looks ≡ doing_in s x → t ≡ s → Adds (Looked (look_said p script s x)) before after → Adds (Answered p script s x t) before after
 answered_looks p script s t x before after is e h = subst (λ d. Adds (AnsweredBy p script s x d t) before after) is (looks_alone p script s t x before after e h)
 
-pub ruleset answering = (answered_asks, answered_seeks, answered_looks)
+pub ruleset answering = (answered_asks, answered_undoes, answered_seeks, answered_follows, answered_looks)
 
 -- ---- lines
 

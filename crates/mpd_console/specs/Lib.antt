@@ -1,5 +1,4 @@
 pub mod Moves
-pub mod Search
 pub mod Looks
 pub mod Says
 pub mod Quitting

@@ -14,12 +14,12 @@ use Rattle.mpd_names.specs.declared.name.Named.{Named}
 use Rattle.mpd_names.specs.Held.{named_line, variables_text}
 use Rattle.mpd_names.specs.Listed.{list_text, about_text}
 use Rattle.mpd_view.specs.Shown as shown
-use Rattle.mpd_view.specs.Whys.{why_text, why_rank_text}
+use Rattle.mpd_view.specs.Whys.{why_text, why_rank_text, why_ranks_text}
 use Rattle.mpd_view.specs.Past.{history_text, words_text}
 use Rattle.mpd_vocabulary.specs.declared.word.Word.{Word}
 use Rattle.mpd_vocabulary.specs.declared.word.Word.TheVariants as word
 use Rattle.mpd_console.specs.Moves.{break_line_of}
-use Rattle.mpd_console.specs.Search.{check_text}
+use Rattle.mpd_search.specs.Runs.{check_text}
 use Rattle.mpd_vocabulary.specs.Faults.{help_text}
 
 abbrev pub no_such_number : List ℕ
@@ -64,8 +64,8 @@ calls_text s w rank = of_ranks w rank (λ p. shown.calls_text s w.board (Some p)
 abbrev pub why_call_text : Program → World → CallId → List ℕ
 why_call_text s w c = if is_some (call_at w.board c) then why_text s w c else no_such_number
 
-abbrev pub why_of_text : Program → World → ℕ → List ℕ
-why_of_text s w p = of_rank w p (why_rank_text s w p)
+abbrev pub why_of_text : Program → World → Option ℕ → List ℕ
+why_of_text s w rank = of_ranks w rank (why_rank_text s w) (why_ranks_text s w)
 
 abbrev pub whole_text : Trail → World → List ℕ
 whole_text t w = show_text t.program w t.depth (length t.steps)

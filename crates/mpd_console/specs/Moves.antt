@@ -1,6 +1,5 @@
 -- Words that ask the session for something that changes it: what they ask, and what is told of the reply.
 use Rattle.std.specs.Prelude.{ℕ, ◌-◌, ◌==◌, Bool, true, false, ◌&&◌, nat_lt, nat_le, is_some, is_none, if◌then◌else◌, List, [], ◌∷◌, ◌++◌, length, slice_get, Option, Some, None, codes}
-use Rattle.std.specs.Option.{option_map}
 use Rattle.std.specs.Fmt.{decimal}
 use Rattle.mpd_model.specs.declared.step.Step.{Step}
 use Rattle.mpd_model.specs.declared.decision.Decision.{Decision}
@@ -29,7 +28,9 @@ use Rattle.mpd_view.specs.Steps.{step_words}
 use Rattle.mpd_view.specs.Standing.{standing_text}
 use Rattle.mpd_console.specs.declared.moves.TheConstants.{NO_CANDIDATE}
 use Rattle.mpd_console.specs.declared.moves.Doing.{Doing}
-use Rattle.mpd_console.specs.declared.moves.Doing.TheVariants.{Asks, Seeks, Looks}
+use Rattle.mpd_console.specs.declared.moves.Doing.TheVariants.{Asks, Undoes, Seeks, Follows, Looks}
+use Rattle.mpd_search.specs.declared.way.Way.TheVariants as way
+use Rattle.mpd_search.specs.Seek.{count_words}
 use Rattle.mpd_vocabulary.specs.declared.word.Word.{Word}
 use Rattle.mpd_vocabulary.specs.declared.word.Word.TheVariants as word
 
@@ -39,8 +40,18 @@ use Rattle.mpd_vocabulary.specs.declared.word.Word.TheVariants as word
 abbrev pub from_one : ℕ → ℕ
 from_one n = if n == 0 then NO_CANDIDATE else n - 1
 
-abbrev pub candidate_of : Option ℕ → Option ℕ
-candidate_of n = option_map from_one n
+-- whether `next` asks for the step that comes next: a number where a step is forced asks for so many
+abbrev pub asks_next : World → Word → Bool
+asks_next w (word.Next None) = true
+asks_next w (word.Next (Some n)) = is_none (forced_step w)
+asks_next w other = false
+
+abbrev pub numbered_command : World → ℕ → Command
+numbered_command w n = if is_some (forced_step w) then command.Run n else command.Next (Some (from_one n))
+
+abbrev pub next_command : World → Option ℕ → Command
+next_command w None = command.Next None
+next_command w (Some n) = numbered_command w n
 
 -- how many steps are undone
 abbrev pub ahead_of : Trail → ℕ
@@ -66,27 +77,32 @@ redo_command t n = if nat_lt 0 (ahead_of t) && nat_lt (ahead_of t) n then comman
 abbrev pub goto_command : Trail → ℕ → Command
 goto_command t n = if nat_lt t.depth n && nat_le (n - t.depth) (ahead_of t) then command.Redo (n - t.depth) else command.Goto n
 
--- what a word does with a session: it asks for something that changes it, or looks for a deadlock, or changes nothing
+-- what a word does with a session: it asks for something that changes it, goes back to the last choice, lays a run ahead, the first that
+-- ends so or that of a number, or changes nothing
 abbrev pub doing_of : Trail → World → Word → Doing
-doing_of t w (word.Next n) = Asks (command.Next (candidate_of n))
+doing_of t w (word.Next n) = Asks (next_command w n)
 doing_of t w (word.Run n) = Asks (run_command t w n)
 doing_of t w (word.Back n) = Asks (command.Back n)
 doing_of t w word.RunBack = Asks command.RunBack
+doing_of t w word.UndoChoice = Undoes
 doing_of t w (word.Goto n) = Asks (goto_command t n)
 doing_of t w (word.Redo n) = Asks (redo_command t n)
 doing_of t w (word.Step a) = Asks (command.Step a)
 doing_of t w (word.Break b) = Asks (command.Break b)
 doing_of t w (word.Delete n) = Asks (command.Unbreak n)
-doing_of t w word.Deadlock = Seeks
+doing_of t w (word.Follow n) = Follows n
+doing_of t w word.Deadlock = Seeks way.Deadlock
+doing_of t w word.Trap = Seeks way.Trap
 doing_of t w other = Looks
 
 -- ---- the step that a word takes, told before it is taken
 
--- the step that is taken next, by the candidate of this number at a choice
+-- the step that is taken next, by the candidate of this number, from 1, at a choice; a number where a step is forced is one of steps
 abbrev pub picked : Option ℕ → Decision → Option Step
-picked choice (Forced a) = Some a
+picked None (Forced a) = Some a
+picked (Some n) (Forced a) = None
 picked None (Choice steps) = None
-picked (Some i) (Choice steps) = slice_get steps i
+picked (Some n) (Choice steps) = slice_get steps (from_one n)
 picked choice (Leaf o) = None
 
 -- the step that is taken again by a request for one
@@ -96,7 +112,7 @@ redone_step t other = None
 
 -- of a step by hand, `next`, and where one step is taken again by `redo` or `run`
 abbrev pub step_for : Trail → World → Word → Option Step
-step_for t w (word.Next n) = picked (candidate_of n) (decision w)
+step_for t w (word.Next n) = picked n (decision w)
 step_for t w (word.Run n) = redone_step t (run_command t w n)
 step_for t w (word.Redo n) = redone_step t (redo_command t n)
 step_for t w (word.Step a) = Some a
@@ -110,9 +126,6 @@ abbrev pub lead_text : Trail → World → Word → List ℕ
 lead_text t w x = words_of t.program w (step_for t w x)
 
 -- ---- what is told of a move
-
-abbrev pub count_words : ℕ → List ℕ
-count_words n = if n == 1 then codes "1 step" else decimal n ++ codes " steps"
 
 -- the step that was taken, with the depth behind it; or the depth alone
 abbrev pub moved_line : ℕ → List ℕ → List ℕ
@@ -134,24 +147,33 @@ abbrev pub break_line_of : List Declared → ℕ → Option Break → List ℕ
 break_line_of ds n None = []
 break_line_of ds n (Some b) = break_line ds n b
 
--- why a run stopped, where that isn't told by where it stands
-abbrev pub cause_line : List Declared → List (Option Break) → Cause → List ℕ
-cause_line ds places for.Leaf = []
-cause_line ds places for.Choice = []
-cause_line ds places for.Max = line (codes "stopped: as many steps as were asked for")
-cause_line ds places for.Full = line (codes "stopped: no more than 1000000 steps are kept")
-cause_line ds places for.Start = line (codes "at the start")
-cause_line ds places (for.Break n) = break_line_of ds n (break_at places n)
-
 abbrev pub back_words : Word → List ℕ
 back_words word.RunBack = codes " back"
 back_words other = []
+
+-- a run back stops before the step that a breakpoint marks, and a run behind it
+abbrev pub before_words : Word → List ℕ
+before_words word.RunBack = codes "before "
+before_words other = []
+
+abbrev pub break_cause : List Declared → Word → ℕ → Option Break → List ℕ
+break_cause ds x n None = []
+break_cause ds x n (Some b) = before_words x ++ break_line ds n b
+
+-- why a run stopped, where that isn't told by where it stands
+abbrev pub cause_line : List Declared → List (Option Break) → Word → Cause → List ℕ
+cause_line ds places x for.Leaf = []
+cause_line ds places x for.Choice = []
+cause_line ds places x for.Max = line (codes "stopped: as many steps as were asked for")
+cause_line ds places x for.Full = line (codes "stopped: no more than 1000000 steps are kept")
+cause_line ds places x for.Start = line (codes "at the start")
+cause_line ds places x (for.Break n) = break_cause ds x n (break_at places n)
 
 abbrev pub ran_line : Word → ℕ → ℕ → List ℕ
 ran_line x depth count = line (count_words count ++ back_words x ++ codes ", depth " ++ decimal depth)
 
 abbrev pub run_text : Trail → World → List (Option Break) → Word → ℕ → Stop → List ℕ
-run_text t w places x depth stop = ran_line x depth stop.steps ++ cause_line t.program.decls places stop.cause ++ standing_text t w
+run_text t w places x depth stop = ran_line x depth stop.steps ++ cause_line t.program.decls places x stop.cause ++ standing_text t w
 
 -- ---- breakpoints
 
@@ -164,10 +186,6 @@ removed_line (word.Delete n) = line (codes "deleted " ++ decimal n)
 removed_line other = []
 
 -- ---- refusals
-
-abbrev pub is_next : Word → Bool
-is_next (word.Next n) = true
-is_next other = false
 
 -- `next` is answered with where it stands, and says why only where that doesn't tell
 abbrev pub refusal_line : Bool → Refusal → List ℕ
@@ -187,7 +205,7 @@ stands_behind next refusal.Full = false
 stands_behind next other = next
 
 abbrev pub refused_text : Trail → World → Word → Refusal → List ℕ
-refused_text t w x r = refusal_line (is_next x) r ++ (if stands_behind (is_next x) r then standing_text t w else [])
+refused_text t w x r = refusal_line (asks_next w x) r ++ (if stands_behind (asks_next w x) r then standing_text t w else [])
 
 -- ---- what is told of a reply, behind the request
 

@@ -43,6 +43,10 @@ is_quit_by Other n = false
 abbrev pub is_quit : Begun → Bool
 is_quit s = is_quit_by s.seen s.length
 
+-- it was a line, or what was read of the last one is the word
+abbrev pub has_quit : Bool → Begun → Bool
+has_quit is_over s = is_over || is_quit s
+
 -- how many bytes there are up to the end of the first line that is the word
 abbrev pub quit_len : Begun → List ℕ → Option ℕ
 quit_len s [] = None

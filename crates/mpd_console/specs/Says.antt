@@ -3,16 +3,15 @@ use Rattle.std.specs.Prelude.{◌≡◌, ℕ, ◌-◌, ◌⊎◌, Bool, true, fa
 use Rattle.std.specs.Coded.{Coded, code_by, coded×, coded_ℕ, coded_bool, coded_list, coded_option}
 use Rattle.std.specs.Fmt.{decimal}
 use Rattle.mpd_model.specs.declared.limits.TheConstants.{LINE_MAX}
-use Rattle.mpd_model.specs.declared.step.CallId.{CallId}
 use Rattle.mpd_model.specs.World.{World}
 use Rattle.mpd_model.specs.Trail.{Trail, world_of}
 use Rattle.mpd_model.specs.Texts.{line}
 use Rattle.mpd_explore.specs.declared.report.Leaf.{Leaf}
-use Rattle.mpd_explore.specs.declared.report.Witness.{Witness}
+use Rattle.mpd_explore.specs.declared.report.Ending.{Ending}
 use Rattle.mpd_wire.specs.declared.request.Command.{Command}
+use Rattle.mpd_wire.specs.declared.request.Command.TheVariants as command
 use Rattle.mpd_wire.specs.declared.request.Request.{Request}
 use Rattle.mpd_wire.specs.declared.reply.Reply.{Reply}
-use Rattle.mpd_explore.specs.Witness.{IsWitness}
 use Rattle.mpd_vocabulary.specs.contracts.word.Word as word_row
 use Rattle.mpd_view.specs.Standing.{standing_text}
 use Rattle.mpd_session.specs.Held.{Held, held_code}
@@ -24,10 +23,14 @@ use Rattle.mpd_vocabulary.specs.declared.read.Line.{Line}
 use Rattle.mpd_vocabulary.specs.declared.read.Line.TheVariants.{Blank, Comment, Says, Wrong}
 use Rattle.mpd_vocabulary.specs.Reading.{line_of}
 use Rattle.mpd_console.specs.declared.moves.Doing.{Doing}
-use Rattle.mpd_console.specs.declared.moves.Doing.TheVariants.{Asks, Seeks, Looks}
+use Rattle.mpd_console.specs.declared.moves.Doing.TheVariants.{Asks, Undoes, Seeks, Follows, Looks}
 use Rattle.mpd_console.specs.Moves.{doing_of, lead_text, reply_text}
 use Rattle.mpd_console.specs.Looks.{look_text}
-use Rattle.mpd_console.specs.Search.{sought_leaves, sought_more, sought_witness, fuel_at, found_line, not_found_line}
+use Rattle.mpd_search.specs.declared.seek.WholeRun.{WholeRun}
+use Rattle.mpd_search.specs.declared.way.Way.{Way}
+use Rattle.mpd_search.specs.Runs.{none_line}
+use Rattle.mpd_search.specs.Seek.{found_run, numbered_run, nothing_line, LiesAhead, ahead_line, not_followed_line}
+use Rattle.mpd_search.specs.Choices.{last_choice, no_choice_line}
 use Rattle.mpd_vocabulary.specs.Faults.{fault_text}
 
 -- the lines that stand in the place of an answer: where memory is refused before anything was done, and behind that
@@ -65,20 +68,21 @@ prompts_behind p other = p
 abbrev pub look_said : Bool → List ℕ → Held → Word → List ℕ
 look_said p script s x = at_world (λ w. look_text s.trail w s.breaks script x) (world_of s.trail) ++ prompt (prompts_behind p x) s
 
-abbrev pub found_said : Bool → Held → List CallId → ℕ → List ℕ
-found_said p s blocked ahead = found_line blocked ahead ++ at_world (λ w. standing_text s.trail w) (world_of s.trail) ++ prompt p s
+-- of a run that lies ahead, which ends so and has so many steps more than are taken; of the run of a number this, too
+abbrev pub laid_said : Bool → Held → Option ℕ → Ending → ℕ → List ℕ
+laid_said p s number e ahead = ahead_line number e ahead ++ at_world (λ w. standing_text s.trail w) (world_of s.trail) ++ prompt p s
 
-abbrev pub not_found_said : Bool → Held → List Leaf → Bool → List ℕ
-not_found_said p s leaves more = not_found_line leaves more ++ prompt p s
+abbrev pub not_found_said : Bool → Held → Way → List Leaf → Bool → List ℕ
+not_found_said p s x leaves more = none_line x leaves more ++ prompt p s
+
+abbrev pub refused_said : Bool → Held → List ℕ → List ℕ
+refused_said p s told = told ++ prompt p s
 
 abbrev pub fault_said : Bool → Held → List ℕ → WordFault → List ℕ
 fault_said p s z f = fault_text z f ++ prompt p s
 
-abbrev pub none_at : Held → World → List ℕ
-none_at s w = not_found_line (sought_leaves (fuel_at s.trail.depth) w) (sought_more (fuel_at s.trail.depth) w)
-
-abbrev pub none_said : Bool → Held → List ℕ
-none_said p s = at_world (none_at s) (world_of s.trail) ++ prompt p s
+abbrev pub none_said : Bool → Held → Way → List ℕ
+none_said p s x = at_world (λ w. nothing_line x s.trail w) (world_of s.trail) ++ prompt p s
 
 -- ---- what a word does to the session
 
@@ -99,21 +103,41 @@ abbrev pub Carried : Bool → Held → Word → Command → Held → List ℕ �
 Carried p s x c t text =
     ((t ≡ (respond s (asking c)).1) × Told (reply_said p t x (lead_said s x) (respond s (asking c)).0) text) ⊎ ((t ≡ s) × (text ≡ memory_line))
 
--- the witness of the first deadlock from where a session stands
-abbrev pub witness_from : Held → Option Witness
-witness_from s = option_and_then (λ w. sought_witness s.trail w) (world_of s.trail)
+-- A word that is refused by its own: the session is as before.
+abbrev pub Refused : Bool → Held → List ℕ → Held → List ℕ → Type 0
+Refused p s told t text = (t ≡ s) × (Told (refused_said p s told) text ⊎ (text ≡ memory_line))
 
--- A deadlock that was found lies ahead: the steps of its witness are those that are kept. Where none was found, or memory was refused,
--- the session is as before.
-abbrev pub LaidBy : Bool → Held → Option Witness → Held → List ℕ → Type 0
-LaidBy p s None t text = (t ≡ s) × Looked (none_said p s) text
-LaidBy p s (Some x) t text =
-    (IsWitness s.trail.program s.trail.mode x × (t ≡ laid s x.steps) × Told (found_said p t x.blocked (length x.steps - s.trail.depth)) text)
-    ⊎ ((t ≡ s) × (text ≡ memory_line))
+-- The last choice is gone back to, by a request for it, or none was made.
+abbrev pub UndoneBy : Bool → Held → Word → Option ℕ → Held → List ℕ → Type 0
+UndoneBy p s x None t text = Refused p s no_choice_line t text
+UndoneBy p s x (Some n) t text = Carried p s x (command.Goto n) t text
+
+-- A run lies ahead: its steps are those that are kept, of which as many are not undone as were before; or memory was refused, and the
+-- session is as before.
+abbrev pub LaidBy : Bool → Held → Option ℕ → WholeRun → Held → List ℕ → Type 0
+LaidBy p s number r t text =
+    (LiesAhead s.trail r × (t ≡ laid s r.steps) × Told (laid_said p t number r.ending (length r.steps - s.trail.depth)) text) ⊎ ((t ≡ s) × (text ≡ memory_line))
+
+-- the first run from where a session stands that ends so, and the run of a number
+abbrev pub found_from : Held → Way → Option WholeRun
+found_from s x = option_and_then (λ w. found_run x s.trail w) (world_of s.trail)
+
+abbrev pub numbered_from : Held → ℕ → Option WholeRun
+numbered_from s n = option_and_then (λ w. numbered_run n s.trail w) (world_of s.trail)
+
+abbrev pub SoughtBy : Bool → Held → Way → Option WholeRun → Held → List ℕ → Type 0
+SoughtBy p s x None t text = (t ≡ s) × Looked (none_said p s x) text
+SoughtBy p s x (Some r) t text = LaidBy p s None r t text
+
+abbrev pub FollowedBy : Bool → Held → ℕ → Option WholeRun → Held → List ℕ → Type 0
+FollowedBy p s n None t text = Refused p s (not_followed_line n) t text
+FollowedBy p s n (Some r) t text = LaidBy p s (Some n) r t text
 
 abbrev pub AnsweredBy : Bool → List ℕ → Held → Word → Doing → Held → List ℕ → Type 0
 AnsweredBy p script s x (Asks c) t text = Carried p s x c t text
-AnsweredBy p script s x Seeks t text = LaidBy p s (witness_from s) t text
+AnsweredBy p script s x Undoes t text = UndoneBy p s x (last_choice s.trail) t text
+AnsweredBy p script s x (Seeks way) t text = SoughtBy p s way (found_from s way) t text
+AnsweredBy p script s x (Follows n) t text = FollowedBy p s n (numbered_from s n) t text
 AnsweredBy p script s x Looks t text = (t ≡ s) × Looked (look_said p script s x) text
 
 -- what a word does with a session; no session holds a trail that leads nowhere

@@ -2,20 +2,25 @@
 
 ghost use Rattle.std.specs.Prelude.{◌≡◌, ◌+◌, ◌-◌, ◌≤◌, ◌++◌, ℕ, Bool, List, None, IfOk, IfSome, OnOk, length, string_bytes, vec_len, vec_capacity};
 ghost use Rattle.mpd_session.specs.Respond.{laid};
-ghost use Rattle.mpd_console.specs.Search.{LiesAhead};
+ghost use Rattle.mpd_search.specs.Seek.{LiesAhead, not_followed_line};
+ghost use Rattle.mpd_search.specs.Choices.{last_choice as last_choice_of, no_choice_line};
 ghost use Rattle.mpd_vocabulary.specs.Reading.{line_of};
 ghost use Rattle.mpd_console.specs.Says as spec;
-ghost use Rattle.mpd_console.specs.Says.{Adds, OrElse, Told, Carried, LaidBy, Answered, Looked, RepeatSays};
+ghost use Rattle.mpd_console.specs.Says.{Adds, OrElse, Told, Carried, UndoneBy, SoughtBy, FollowedBy, Answered, Looked, RepeatSays};
 
 use crate::looks::push_look;
 use crate::moves::{Doing, doing_of, lead, push_reply};
-use crate::search::{Sought, push_found, push_not_found, seek_deadlock};
 use itoa::Buffer;
-use mpd_explore::report::{Report, Witness};
+use mpd_explore::report::{Ending, Report};
 use mpd_lines::desk::{LineDesk, ROOM};
 use mpd_lines::kept::push_all;
 use mpd_model::limits::LINE_MAX;
-use mpd_model::step::CallId;
+use mpd_search::choice::{last_choice, push_no_choice};
+use mpd_search::runs::push_none;
+use mpd_search::seek::{
+    Search, WholeRun, numbered_run, push_ahead, push_not_followed, seek as seek_run,
+};
+use mpd_search::way::Way;
 use mpd_session::session::Session;
 use mpd_view::standing::push_standing;
 use mpd_vocabulary::read::{Line, line_of};
@@ -176,97 +181,102 @@ fn look_text(
     Ok(out)
 }
 
-/// What is told of a deadlock that lies ahead.
+/// What is told of a run that lies ahead; of the run of a number this number, too.
 #[tactic(auto, using(crate::proofs::SaidLemmas::finding))]
-pub(crate) fn found_text(
+pub(crate) fn laid_text(
     alloc: Global,
     session: &Session<'_>,
     is_prompting: bool,
-    blocked: &[CallId],
+    number: Option<usize>,
+    ending: &Ending,
     ahead: usize,
 ) -> Result<String, AllocError>
-    ensures { IfOk result (λ t. string_bytes t ≡ spec.found_said is_prompting session.now blocked.now ahead) }
+    ensures { IfOk result (λ t. string_bytes t ≡ spec.laid_said is_prompting session.now number ending.now ahead) }
 {
     let mut out = String::new(alloc);
     let debugger = session.debugger();
     let _ = debugger.core();
-    push_found(&mut out, blocked, ahead)?;
+    push_ahead(alloc, &mut out, number, ending, ahead)?;
     push_standing(alloc, debugger, &mut out)?;
     push_prompt(session, &mut out, is_prompting)?;
     Ok(out)
 }
 
-/// What is told where no deadlock was found.
+/// What is told where no run ends so.
 fn not_found_text(
     alloc: Global,
     session: &Session<'_>,
     is_prompting: bool,
+    way: Way,
     report: &Report,
 ) -> Result<String, AllocError>
-    ensures { IfOk result (λ t. string_bytes t ≡ spec.not_found_said is_prompting session.now report.now.leaves.items report.now.more) }
+    ensures { IfOk result (λ t. string_bytes t ≡ spec.not_found_said is_prompting session.now way report.now.leaves.items report.now.more) }
 {
     let mut out = String::new(alloc);
-    push_not_found(&mut out, report)?;
+    push_none(&mut out, way, report)?;
     push_prompt(session, &mut out, is_prompting)?;
     Ok(out)
 }
 
-/// Tells of a deadlock that lies ahead.
+/// Tells of a run that lies ahead.
 #[tactic(auto, using(crate::proofs::SaidLemmas::telling))]
-fn tell_found(
+fn tell_laid(
     alloc: Global,
     session: &Session<'_>,
     is_prompting: bool,
-    blocked: &[CallId],
+    number: Option<usize>,
+    ending: &Ending,
     ahead: usize,
     out: &mut Vec<u8>,
 )
     requires room { vec_len out.old + ROOM ≤ vec_capacity out.old }
-    ensures told { Adds (Told (spec.found_said is_prompting session.now blocked.now ahead)) out.old.items out.new.items }
+    ensures told { Adds (Told (spec.laid_said is_prompting session.now number ending.now ahead)) out.old.items out.new.items }
     ensures capacity { vec_capacity out.old ≤ vec_capacity out.new }
 {
-    let Ok(text) = found_text(alloc, session, is_prompting, blocked, ahead) else {
+    let Ok(text) = laid_text(alloc, session, is_prompting, number, ending, ahead) else {
         return push_all(out, UNPRINTED);
     };
     add(&text, UNPRINTED, out)
 }
 
-/// Has the steps of a witness lie ahead, and tells so.
+/// Has the steps of a run lie ahead, and tells so.
 #[tactic(auto, using(crate::proofs::SaidLemmas::laying))]
 fn lay(
     alloc: Global,
     session: &mut Session<'_>,
     is_prompting: bool,
-    witness: Witness,
+    number: Option<usize>,
+    run: WholeRun,
     out: &mut Vec<u8>,
 )
-    requires lies { LiesAhead session.old.trail witness }
+    requires lies { LiesAhead session.old.trail run }
     requires room { vec_len out.old + ROOM ≤ vec_capacity out.old }
-    ensures session { session.new ≡ laid session.old witness.steps }
-    ensures told { Adds (Told (spec.found_said is_prompting session.new witness.blocked (length witness.steps - session.old.trail.depth))) out.old.items out.new.items }
+    ensures session { session.new ≡ laid session.old run.steps }
+    ensures told { Adds (Told (spec.laid_said is_prompting session.new number run.ending (length run.steps - session.old.trail.depth))) out.old.items out.new.items }
     ensures capacity { vec_capacity out.old ≤ vec_capacity out.new }
 {
     let depth = session.debugger().depth();
-    let ahead = witness.steps.items.len().saturating_sub(depth);
-    let blocked = witness.blocked.items;
-    session.lay(witness.steps.items);
-    tell_found(alloc, session, is_prompting, &blocked, ahead, out)
+    let ahead = run.steps.items.len().saturating_sub(depth);
+    let ending = run.ending;
+    session.lay(run.steps.items);
+    tell_laid(alloc, session, is_prompting, number, &ending, ahead, out)
 }
 
-/// Tells that there is no deadlock.
+/// Tells that no run ends so.
 #[tactic(auto, using(crate::proofs::SaidLemmas::telling))]
 fn tell_none(
     alloc: Global,
     session: &Session<'_>,
     is_prompting: bool,
+    way: Way,
     report: &Report,
     out: &mut Vec<u8>,
 )
     requires room { vec_len out.old + ROOM ≤ vec_capacity out.old }
-    ensures told { Adds (Looked (spec.not_found_said is_prompting session.now report.now.leaves.items report.now.more)) out.old.items out.new.items }
+    ensures told { Adds (Looked (spec.not_found_said is_prompting session.now way report.now.leaves.items report.now.more)) out.old.items out.new.items }
     ensures capacity { vec_capacity out.old ≤ vec_capacity out.new }
 {
-    let Ok(text) = not_found_text(alloc, session, is_prompting, report) else {
+    let Ok(text) = not_found_text(alloc, session, is_prompting, way, report) else {
         return push_all(out, MEMORY);
     };
     add(&text, MEMORY, out)
@@ -274,30 +284,167 @@ fn tell_none(
 
 /// The search from where a session stands.
 #[tactic(auto, using(crate::proofs::SaidLemmas::seeking))]
-fn sought_from(alloc: Global, session: &Session<'_>) -> Result<Sought, AllocError>
-    ensures witness { IfOk result (λ s. s.witness ≡ spec.witness_from session.now) }
-    ensures none { (p : Bool) → IfOk result (λ s. spec.not_found_said p session.now s.report.leaves.items s.report.more ≡ spec.none_said p session.now) }
-    ensures lies { IfOk result (λ s. IfSome s.witness (LiesAhead session.now.trail)) }
+fn sought_from(alloc: Global, session: &Session<'_>, way: Way) -> Result<Search, AllocError>
+    ensures found { IfOk result (λ s. s.found ≡ spec.found_from session.now way) }
+    ensures none { (p : Bool) → IfOk result (λ s. s.found ≡ None → spec.not_found_said p session.now way s.report.leaves.items s.report.more ≡ spec.none_said p session.now way) }
+    ensures lies { IfOk result (λ s. IfSome s.found (LiesAhead session.now.trail)) }
 {
     let debugger = session.debugger();
     let _ = debugger.core();
-    seek_deadlock(alloc, debugger)
+    seek_run(alloc, debugger, way)
 }
 
-/// Looks for a deadlock, has its steps lie ahead, and tells so.
+/// Looks for the first run that ends so, has its steps lie ahead, and tells so.
 #[tactic(auto, using(crate::proofs::SaidLemmas::laying))]
-fn seek(alloc: Global, session: &mut Session<'_>, is_prompting: bool, out: &mut Vec<u8>)
+fn seek(alloc: Global, session: &mut Session<'_>, is_prompting: bool, way: Way, out: &mut Vec<u8>)
     requires room { vec_len out.old + ROOM ≤ vec_capacity out.old }
-    ensures laid { Adds (LaidBy is_prompting session.old (spec.witness_from session.old) session.new) out.old.items out.new.items }
+    ensures sought { Adds (SoughtBy is_prompting session.old way (spec.found_from session.old way) session.new) out.old.items out.new.items }
     ensures capacity { vec_capacity out.old ≤ vec_capacity out.new }
 {
-    let Ok(sought) = sought_from(alloc, session) else {
+    let Ok(sought) = sought_from(alloc, session, way) else {
         return push_all(out, MEMORY);
     };
-    let Sought { report, witness } = sought;
-    match witness {
-        Some(witness) => lay(alloc, session, is_prompting, witness, out),
-        None => tell_none(alloc, session, is_prompting, &report, out),
+    let Search { report, found } = sought;
+    match found {
+        Some(run) => lay(alloc, session, is_prompting, None, run, out),
+        None => tell_none(alloc, session, is_prompting, way, &report, out),
+    }
+}
+
+/// The run of a number from where a session stands.
+#[tactic(auto, using(crate::proofs::SaidLemmas::seeking))]
+fn numbered_from(
+    alloc: Global,
+    session: &Session<'_>,
+    number: usize,
+) -> Result<Option<WholeRun>, AllocError>
+    ensures found { IfOk result (λ o. o ≡ spec.numbered_from session.now number) }
+    ensures lies { IfOk result (λ o. IfSome o (LiesAhead session.now.trail)) }
+{
+    let debugger = session.debugger();
+    let _ = debugger.core();
+    numbered_run(alloc, debugger, number)
+}
+
+/// What is told of a number that no run has.
+fn not_followed_text(
+    alloc: Global,
+    session: &Session<'_>,
+    is_prompting: bool,
+    number: usize,
+) -> Result<String, AllocError>
+    ensures { IfOk result (λ t. string_bytes t ≡ spec.refused_said is_prompting session.now (not_followed_line number)) }
+{
+    let mut out = String::new(alloc);
+    push_not_followed(&mut out, number)?;
+    push_prompt(session, &mut out, is_prompting)?;
+    Ok(out)
+}
+
+/// Tells of a number that no run has.
+#[tactic(auto, using(crate::proofs::SaidLemmas::telling))]
+fn tell_not_followed(
+    alloc: Global,
+    session: &Session<'_>,
+    is_prompting: bool,
+    number: usize,
+    out: &mut Vec<u8>,
+)
+    requires room { vec_len out.old + ROOM ≤ vec_capacity out.old }
+    ensures told { Adds (Told (spec.refused_said is_prompting session.now (not_followed_line number))) out.old.items out.new.items }
+    ensures capacity { vec_capacity out.old ≤ vec_capacity out.new }
+{
+    let Ok(text) = not_followed_text(alloc, session, is_prompting, number) else {
+        return push_all(out, UNPRINTED);
+    };
+    add(&text, UNPRINTED, out)
+}
+
+/// Has the steps of the run of a number lie ahead, and tells so.
+#[tactic(auto, using(crate::proofs::SaidLemmas::laying))]
+fn follow(
+    alloc: Global,
+    session: &mut Session<'_>,
+    is_prompting: bool,
+    number: usize,
+    out: &mut Vec<u8>,
+)
+    requires room { vec_len out.old + ROOM ≤ vec_capacity out.old }
+    ensures followed { Adds (FollowedBy is_prompting session.old number (spec.numbered_from session.old number) session.new) out.old.items out.new.items }
+    ensures capacity { vec_capacity out.old ≤ vec_capacity out.new }
+{
+    let Ok(found) = numbered_from(alloc, session, number) else {
+        return push_all(out, MEMORY);
+    };
+    match found {
+        Some(run) => lay(alloc, session, is_prompting, Some(number), run, out),
+        None => tell_not_followed(alloc, session, is_prompting, number, out),
+    }
+}
+
+/// The last choice that was made in a session, by the steps before it.
+#[tactic(auto, using(crate::proofs::SaidLemmas::undoing))]
+fn last_choice_in(alloc: Global, session: &Session<'_>) -> Result<Option<usize>, AllocError>
+    ensures { IfOk result (λ o. o ≡ last_choice_of session.now.trail) }
+{
+    last_choice(alloc, session.debugger())
+}
+
+/// What is told where no choice was made.
+fn no_choice_text(
+    alloc: Global,
+    session: &Session<'_>,
+    is_prompting: bool,
+) -> Result<String, AllocError>
+    ensures { IfOk result (λ t. string_bytes t ≡ spec.refused_said is_prompting session.now no_choice_line) }
+{
+    let mut out = String::new(alloc);
+    push_no_choice(&mut out)?;
+    push_prompt(session, &mut out, is_prompting)?;
+    Ok(out)
+}
+
+/// Tells that no choice was made.
+#[tactic(auto, using(crate::proofs::SaidLemmas::telling))]
+fn tell_no_choice(alloc: Global, session: &Session<'_>, is_prompting: bool, out: &mut Vec<u8>)
+    requires room { vec_len out.old + ROOM ≤ vec_capacity out.old }
+    ensures told { Adds (Told (spec.refused_said is_prompting session.now no_choice_line)) out.old.items out.new.items }
+    ensures capacity { vec_capacity out.old ≤ vec_capacity out.new }
+{
+    let Ok(text) = no_choice_text(alloc, session, is_prompting) else {
+        return push_all(out, UNPRINTED);
+    };
+    add(&text, UNPRINTED, out)
+}
+
+/// Goes back to the last choice, and tells so.
+#[tactic(auto, using(crate::proofs::SaidLemmas::undoing))]
+fn undo_choice(
+    alloc: Global,
+    session: &mut Session<'_>,
+    is_prompting: bool,
+    word: Word,
+    out: &mut Vec<u8>,
+)
+    requires room { vec_len out.old + ROOM ≤ vec_capacity out.old }
+    ensures undone { Adds (UndoneBy is_prompting session.old word (last_choice_of session.old.trail) session.new) out.old.items out.new.items }
+    ensures capacity { vec_capacity out.old ≤ vec_capacity out.new }
+{
+    let Ok(found) = last_choice_in(alloc, session) else {
+        return push_all(out, MEMORY);
+    };
+    match found {
+        Some(depth) => {
+            carry_out(
+                alloc,
+                session,
+                is_prompting,
+                word,
+                Command::Goto(depth),
+                out,
+            )
+        }
+        None => tell_no_choice(alloc, session, is_prompting, out),
     }
 }
 
@@ -347,7 +494,9 @@ fn answer_word(
 {
     match doing_in(session, word) {
         Doing::Asks(command) => carry_out(alloc, session, is_prompting, word, command, out),
-        Doing::Seeks => seek(alloc, session, is_prompting, out),
+        Doing::Undoes => undo_choice(alloc, session, is_prompting, word, out),
+        Doing::Seeks(way) => seek(alloc, session, is_prompting, way, out),
+        Doing::Follows(number) => follow(alloc, session, is_prompting, number, out),
         Doing::Looks => look(alloc, session, is_prompting, script, word, out),
     }
 }

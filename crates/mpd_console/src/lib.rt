@@ -7,4 +7,3 @@ mod moves;
 pub mod open;
 pub mod quitting;
 pub mod run;
-mod search;

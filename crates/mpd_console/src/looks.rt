@@ -7,7 +7,6 @@ ghost use Rattle.mpd_names.specs.Held.{named_line, variables_text};
 ghost use Rattle.mpd_console.specs.Looks as spec;
 
 use crate::moves::push_break_line;
-use crate::search::push_runs;
 use mpd_core::state::Core;
 use mpd_model::limits::BREAKS_MAX;
 use mpd_model::place::Decl;
@@ -16,11 +15,12 @@ use mpd_names::held::{push_named, push_variables};
 use mpd_names::list::{push_list, push_list_about};
 use mpd_names::name::Named;
 use mpd_policy::breaks::Breaks;
+use mpd_search::runs::push_runs;
 use mpd_trace::show::show;
 use mpd_trail::debugger::Debugger;
 use mpd_view::past::{push_history, push_words};
 use mpd_view::shown::{push_calls, push_enabled, push_queues, push_ranks};
-use mpd_view::whys::{push_why, push_why_rank};
+use mpd_view::whys::{push_why, push_why_rank, push_why_ranks};
 use mpd_vocabulary::told::push_help;
 use mpd_vocabulary::word::Word;
 use std::alloc::{AllocError, Global};
@@ -162,19 +162,20 @@ fn push_why_call(
     push_why(alloc, core, out, call)
 }
 
-/// Adds why the call that a rank waits for isn't matched.
+/// Adds why the calls that all ranks wait for, or one, aren't matched.
 fn push_why_of(
     alloc: Global,
     core: &Core<'_>,
     out: &mut String,
-    rank: usize,
+    rank: Option<usize>,
 ) -> Result<(), AllocError>
     ensures { OnOk result (string_bytes out.new ≡ string_bytes out.old ++ spec.why_of_text core.now.program core.now.world rank) }
 {
-    if rank >= core.rank_count() {
-        return out.push_str(NO_SUCH_NUMBER);
+    match rank {
+        None => push_why_ranks(alloc, core, out),
+        Some(rank) if rank >= core.rank_count() => out.push_str(NO_SUCH_NUMBER),
+        Some(rank) => push_why_rank(alloc, core, out, rank),
     }
-    push_why_rank(alloc, core, out, rank)
 }
 
 /// Adds the whole state.
@@ -218,12 +219,15 @@ pub(crate) fn push_look(
         | Word::Run(_)
         | Word::Back(_)
         | Word::RunBack
+        | Word::UndoChoice
         | Word::Goto(_)
         | Word::Redo(_)
         | Word::Step(_)
         | Word::Break(_)
         | Word::Delete(_)
+        | Word::Follow(_)
         | Word::Deadlock
+        | Word::Trap
         | Word::Quit => Ok(()),
     }
 }

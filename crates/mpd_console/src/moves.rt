@@ -1,7 +1,6 @@
 //! Words that ask the session for something that changes it: what they ask, and what is told of the reply (docs/CONSOLE.md, "Answers").
 
-ghost use Rattle.std.specs.Prelude.{◌≡◌, ◌++◌, IfOk, OnOk, slice_get, string_bytes};
-ghost use Rattle.std.specs.Option.{option_map};
+ghost use Rattle.std.specs.Prelude.{◌≡◌, ◌++◌, IfOk, OnOk, None, Some, slice_get, string_bytes};
 ghost use Rattle.mpd_model.specs.Decisions.{decision};
 ghost use Rattle.mpd_names.specs.Called.{break_text};
 ghost use Rattle.mpd_view.specs.Steps.{step_words};
@@ -16,6 +15,8 @@ use mpd_model::step::Step;
 use mpd_names::text::push_break;
 use mpd_policy::breaks::Breaks;
 use mpd_policy::decide::{decide, forced_step};
+use mpd_search::seek::push_count;
+use mpd_search::way::Way;
 use mpd_trail::debugger::Debugger;
 use mpd_view::standing::push_standing;
 use mpd_view::steps::push_step;
@@ -28,13 +29,13 @@ use std::alloc::{AllocError, Global};
 pub const NO_CANDIDATE: usize = 1_000_000_000;
 
 /// The number of a candidate from 0, of one from 1.
-fn candidate_of(number: Option<usize>) -> Option<usize>
-    ensures { result ≡ spec.candidate_of number }
+fn from_one(number: usize) -> usize
+    ensures { result ≡ spec.from_one number }
 {
-    match number {
-        None => None,
-        Some(0) => Some(NO_CANDIDATE),
-        Some(number) => Some(number - 1),
+    if number == 0 {
+        NO_CANDIDATE
+    } else {
+        number - 1
     }
 }
 
@@ -43,8 +44,12 @@ fn candidate_of(number: Option<usize>) -> Option<usize>
 pub enum Doing {
     /// It asks for this, which changes something.
     Asks(Command),
-    /// It looks for a deadlock, and lays the steps there ahead.
-    Seeks,
+    /// It goes back to the last choice.
+    Undoes,
+    /// It looks for the first run that ends so, and lays its steps ahead.
+    Seeks(Way),
+    /// It lays the steps of the run of this number ahead.
+    Follows(usize),
     /// It changes nothing.
     Looks,
 }
@@ -68,6 +73,26 @@ fn goes_along(debugger: &Debugger<'_>) -> bool
     ensures { result ≡ spec.goes_along debugger.now.trail debugger.now.world }
 {
     is_alone(debugger.next_undone(), forced_step(debugger.core()))
+}
+
+/// What `next` asks for, with a number: where a step is forced so many steps, else a candidate.
+fn numbered_command(core: &Core<'_>, number: usize) -> Command
+    ensures { result ≡ spec.numbered_command core.now.world number }
+{
+    if forced_step(core).is_some() {
+        return Command::Run(number);
+    }
+    Command::Next(Some(from_one(number)))
+}
+
+/// What `next` asks for.
+fn next_command(core: &Core<'_>, number: Option<usize>) -> Command
+    ensures { result ≡ spec.next_command core.now.world number }
+{
+    match number {
+        None => Command::Next(None),
+        Some(number) => numbered_command(core, number),
+    }
 }
 
 /// What `run` asks for: at a choice the step that lies ahead, where one does.
@@ -107,16 +132,19 @@ pub(crate) fn doing_of(debugger: &Debugger<'_>, word: Word) -> Doing
     ensures { result ≡ spec.doing_of debugger.now.trail debugger.now.world word }
 {
     match word {
-        Word::Next(number) => Doing::Asks(Command::Next(candidate_of(number))),
+        Word::Next(number) => Doing::Asks(next_command(debugger.core(), number)),
         Word::Run(max) => Doing::Asks(run_command(debugger, max)),
         Word::Back(count) => Doing::Asks(Command::Back(count)),
         Word::RunBack => Doing::Asks(Command::RunBack),
+        Word::UndoChoice => Doing::Undoes,
         Word::Goto(depth) => Doing::Asks(goto_command(debugger, depth)),
         Word::Redo(count) => Doing::Asks(redo_command(debugger, count)),
         Word::Step(step) => Doing::Asks(Command::Step(step)),
         Word::Break(stop) => Doing::Asks(Command::Break(stop)),
         Word::Delete(number) => Doing::Asks(Command::Unbreak(number)),
-        Word::Deadlock => Doing::Seeks,
+        Word::Follow(number) => Doing::Follows(number),
+        Word::Deadlock => Doing::Seeks(Way::Deadlock),
+        Word::Trap => Doing::Seeks(Way::Trap),
         Word::Breaks
         | Word::List(_)
         | Word::Print(_, _)
@@ -136,14 +164,33 @@ pub(crate) fn doing_of(debugger: &Debugger<'_>, word: Word) -> Doing
     }
 }
 
-/// The step that is taken next, by the candidate of this number at a choice, where there is one.
-fn picked(decision: &Decision, choice: Option<usize>) -> Option<Step>
-    ensures { result ≡ spec.picked choice decision.now }
+/// The step that is taken next without a number: one that is forced.
+fn forced_in(decision: &Decision) -> Option<Step>
+    ensures { result ≡ spec.picked None decision.now }
 {
     match decision {
         Decision::Forced(step) => Some(*step),
-        Decision::Choice(steps) => steps.items.get(choice?).copied(),
-        Decision::Leaf(_) => None,
+        Decision::Choice(_) | Decision::Leaf(_) => None,
+    }
+}
+
+/// The candidate of a number, from 1, at a choice, where there is one.
+fn candidate_in(decision: &Decision, number: usize) -> Option<Step>
+    ensures { result ≡ spec.picked (Some number) decision.now }
+{
+    match decision {
+        Decision::Choice(steps) => steps.items.get(from_one(number)).copied(),
+        Decision::Forced(_) | Decision::Leaf(_) => None,
+    }
+}
+
+/// The step that is taken next, by the candidate of this number, from 1, at a choice.
+fn picked(decision: &Decision, number: Option<usize>) -> Option<Step>
+    ensures { result ≡ spec.picked number decision.now }
+{
+    match number {
+        None => forced_in(decision),
+        Some(number) => candidate_in(decision, number),
     }
 }
 
@@ -153,10 +200,10 @@ fn next_step(
     core: &Core<'_>,
     number: Option<usize>,
 ) -> Result<Option<Step>, AllocError>
-    ensures { IfOk result (λ step. step ≡ spec.picked (spec.candidate_of number) (decision core.now.world)) }
+    ensures { IfOk result (λ step. step ≡ spec.picked number (decision core.now.world)) }
 {
     let decision = decide(alloc, core)?;
-    Ok(picked(&decision, candidate_of(number)))
+    Ok(picked(&decision, number))
 }
 
 /// The step that is taken again by a request for one.
@@ -191,16 +238,6 @@ pub(crate) fn lead(alloc: Global, debugger: &Debugger<'_>, word: Word) -> Result
         push_step(debugger.core(), &mut out, step)?;
     }
     Ok(out)
-}
-
-/// Adds how many steps, in words.
-pub(crate) fn push_count(out: &mut String, count: usize) -> Result<(), AllocError>
-    ensures { OnOk result (string_bytes out.new ≡ string_bytes out.old ++ spec.count_words count) }
-{
-    if count == 1 {
-        return out.push_str("1 step");
-    }
-    write!(out, "{count} steps")
 }
 
 /// Adds the line of a move: the step that was taken, or the depth alone.
@@ -243,24 +280,49 @@ pub(crate) fn push_break_line(
     push_break_parts(out, "breakpoint ", decls, number, stop)
 }
 
+/// Adds that it is before a breakpoint where a run stopped, of a run back.
+fn push_before(out: &mut String, word: Word) -> Result<(), AllocError>
+    ensures { OnOk result (string_bytes out.new ≡ string_bytes out.old ++ spec.before_words word) }
+{
+    match word {
+        Word::RunBack => out.push_str("before "),
+        _ => Ok(()),
+    }
+}
+
+/// Adds the breakpoint that a run stopped for.
+fn push_break_cause(
+    out: &mut String,
+    decls: &[Decl],
+    word: Word,
+    number: usize,
+    stop: Option<Break>,
+) -> Result<(), AllocError>
+    ensures { OnOk result (string_bytes out.new ≡ string_bytes out.old ++ spec.break_cause decls.now word number stop) }
+{
+    let Some(stop) = stop else {
+        return Ok(());
+    };
+    push_before(out, word)?;
+    push_break_line(out, decls, number, stop)
+}
+
 /// Adds why a run stopped, where that isn't told by where it stands.
 fn push_cause(
     out: &mut String,
     decls: &[Decl],
     breaks: &Breaks,
+    word: Word,
     cause: Cause,
 ) -> Result<(), AllocError>
-    ensures { OnOk result (string_bytes out.new ≡ string_bytes out.old ++ spec.cause_line decls.now breaks.now cause) }
+    ensures { OnOk result (string_bytes out.new ≡ string_bytes out.old ++ spec.cause_line decls.now breaks.now word cause) }
 {
     match cause {
         Cause::Leaf | Cause::Choice => Ok(()),
         Cause::Max => out.push_str("stopped: as many steps as were asked for\n"),
         Cause::Full => out.push_str("stopped: no more than 1000000 steps are kept\n"),
         Cause::Start => out.push_str("at the start\n"),
-        Cause::Break(number) => match breaks.get(number) {
-            None => Ok(()),
-            Some(stop) => push_break_line(out, decls, number, stop),
-        },
+        Cause::Break(number) => push_break_cause(out, decls, word, number, breaks.get(number)),
     }
 }
 
@@ -296,38 +358,39 @@ fn push_removed(out: &mut String, word: Word) -> Result<(), AllocError>
 }
 
 /// Whether a word asks for the step that comes next.
-fn is_next(word: Word) -> bool
-    ensures { result ≡ spec.is_next word }
+fn asks_next(core: &Core<'_>, word: Word) -> bool
+    ensures { result ≡ spec.asks_next core.now.world word }
 {
     match word {
-        Word::Next(_) => true,
+        Word::Next(None) => true,
+        Word::Next(Some(_)) => forced_step(core).is_none(),
         _ => false,
     }
 }
 
 /// Whether a refusal of a word is answered with where it stands.
-fn stands_behind(word: Word, refusal: Refusal) -> bool
-    ensures { result ≡ spec.stands_behind (spec.is_next word) refusal }
+fn stands_behind(is_next: bool, refusal: Refusal) -> bool
+    ensures { result ≡ spec.stands_behind is_next refusal }
 {
     match refusal {
         Refusal::Full => false,
-        _ => is_next(word),
+        _ => is_next,
     }
 }
 
 /// The line of a refusal.
-fn refusal_line(word: Word, refusal: Refusal) -> &'static str
-    ensures { result.now ≡ spec.refusal_line (spec.is_next word) refusal }
+fn refusal_line(is_next: bool, refusal: Refusal) -> &'static str
+    ensures { result.now ≡ spec.refusal_line is_next refusal }
 {
     match refusal {
-        Refusal::NotEnabled if is_next(word) => "",
+        Refusal::NotEnabled if is_next => "",
         Refusal::NotEnabled => "refused: this step is not enabled\n",
         Refusal::Full => "refused: no more than 1000000 steps are kept\n",
         Refusal::AtStart | Refusal::NotBefore => "refused: fewer steps are taken\n",
         Refusal::NoRedo => "refused: fewer steps are ahead\n",
         Refusal::NoSuchBreak => "refused: no breakpoint has this number\n",
         Refusal::BreaksFull => "refused: 64 breakpoints are set\n",
-        Refusal::BadNumber if is_next(word) => "refused: there is no such candidate\n",
+        Refusal::BadNumber if is_next => "refused: there is no such candidate\n",
         Refusal::BadNumber => "refused: no such number\n",
         Refusal::NeedsChoice { .. }
         | Refusal::LineTooLong
@@ -349,8 +412,9 @@ fn push_refused(
 ) -> Result<(), AllocError>
     ensures { OnOk result (string_bytes out.new ≡ string_bytes out.old ++ spec.refused_text debugger.now.trail debugger.now.world word refusal) }
 {
-    out.push_str(refusal_line(word, refusal))?;
-    if stands_behind(word, refusal) {
+    let is_next = asks_next(debugger.core(), word);
+    out.push_str(refusal_line(is_next, refusal))?;
+    if stands_behind(is_next, refusal) {
         push_standing(alloc, debugger, out)?;
     }
     Ok(())
@@ -369,7 +433,13 @@ fn push_run(
     ensures { OnOk result (string_bytes out.new ≡ string_bytes out.old ++ spec.run_text debugger.now.trail debugger.now.world breaks.now word depth stop) }
 {
     push_ran(out, word, depth, stop.steps)?;
-    push_cause(out, debugger.core().code().decls(), breaks, stop.cause)?;
+    push_cause(
+        out,
+        debugger.core().code().decls(),
+        breaks,
+        word,
+        stop.cause,
+    )?;
     push_standing(alloc, debugger, out)
 }
 

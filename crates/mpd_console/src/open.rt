@@ -5,14 +5,17 @@ ghost use Rattle.mpd_model.specs.Trail.{IsRun};
 ghost use Rattle.mpd_explore.specs.Witness.{IsWitness};
 ghost use Rattle.mpd_session.specs.Held.{opened};
 ghost use Rattle.mpd_session.specs.Respond.{laid};
-ghost use Rattle.mpd_console.specs.Says.{prompt, found_said};
+ghost use Rattle.mpd_model.specs.declared.outcome.Outcome.TheVariants.{Deadlock};
+ghost use Rattle.mpd_explore.specs.declared.report.Ending.TheVariants.{Ended};
+ghost use Rattle.mpd_console.specs.Says.{prompt, laid_said};
 
-use crate::desk::{ConsoleDesk, found_text, idle_text};
+use crate::desk::{ConsoleDesk, idle_text, laid_text};
 use mpd_code::code::Code;
-use mpd_explore::report::Witness;
+use mpd_explore::report::{Ending, Witness};
 use mpd_explore::verify::{WitnessFault, verify};
 use mpd_model::call::Mode;
 use mpd_model::limits::STEPS_MAX;
+use mpd_model::outcome::Outcome;
 use mpd_session::session::Session;
 use std::alloc::Global;
 
@@ -67,7 +70,7 @@ pub fn open_with<'c, 't>(
 ) -> Result<Opened<'c, 't>, OpenFault>
     ensures is { IfOk result (λ _. IsWitness code.now.program mode witness) }
     ensures desk { IfOk result (λ o. o.desk ≡ record { session = laid (opened code.now.program mode) witness.steps; script = script.entry.now; last = None; prompts = is_prompting }) }
-    ensures said { IfOk result (λ o. string_bytes o.said ≡ found_said is_prompting (laid (opened code.now.program mode) witness.steps) witness.blocked (length witness.steps)) }
+    ensures said { IfOk result (λ o. string_bytes o.said ≡ laid_said is_prompting (laid (opened code.now.program mode) witness.steps) None (Ended (Deadlock witness.blocked)) (length witness.steps)) }
 {
     if witness.steps.items.len() > STEPS_MAX {
         return Err(OpenFault::TooLong);
@@ -81,9 +84,9 @@ pub fn open_with<'c, 't>(
         return Err(OpenFault::Memory);
     };
     let ahead = witness.steps.items.len();
-    let blocked = witness.blocked.items;
+    let ending = Ending::Ended(Outcome::Deadlock(witness.blocked));
     session.lay(witness.steps.items);
-    let Ok(said) = found_text(alloc, &session, is_prompting, &blocked, ahead) else {
+    let Ok(said) = laid_text(alloc, &session, is_prompting, None, &ending, ahead) else {
         return Err(OpenFault::Memory);
     };
     let desk = ConsoleDesk::new(session, script, is_prompting);

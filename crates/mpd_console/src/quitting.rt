@@ -158,6 +158,13 @@ impl<'s, S: Source> UntilQuit<'s, S> {
         }
     }
 
+    /// Whether the word was read, with or without a line feed behind it.
+    pub fn has_quit(&self) -> bool
+        ensures { result ≡ spec.has_quit self.now.is_over self.now.begun }
+    {
+        self.is_over || is_quit(self.begun)
+    }
+
     /// How many of so many bytes that were read are given.
     fn given(&mut self, piece: &[u8]) -> usize
         ensures bound { result ≤ length piece.now }

@@ -42,6 +42,21 @@ fn console_of<'c, 't, 'a>(
     }
 }
 
+/// Ends the line of the last prompt, where the input has ended behind it.
+fn end_prompt<'a, W: Sink>(
+    is_prompting: bool,
+    has_quit: bool,
+    sink: &mut W,
+) -> Result<(), Fault<'a>> {
+    if !is_prompting || has_quit {
+        return Ok(());
+    }
+    if write_all(sink, b"\n").is_err() {
+        return Err(Fault::from(EngineFault::WriteFailed));
+    }
+    Ok(())
+}
+
 /// Answers the words of a source on a script, up to `quit` or its end. At a terminal it says first how to go on.
 pub(crate) fn debug_script<'a, R: Eprint + AllocGlobal, S: Source, W: Sink>(
     rt: &R,
@@ -68,5 +83,5 @@ pub(crate) fn debug_script<'a, R: Eprint + AllocGlobal, S: Source, W: Sink>(
     }
     let mut source = UntilQuit::new(source);
     run_console(alloc, &mut desk, &mut source, sink)?;
-    Ok(())
+    end_prompt(terminals.is_prompting, source.has_quit(), sink)
 }
