@@ -50,6 +50,10 @@ pub(crate) enum Fault<'a> {
     NotChoices(&'a str),
     /// No run has these choices: the one at this place, from 0, is none, or so many were given, and the run wants more.
     BadChoices(usize),
+    /// This line of the file of `--words` is no step, or one that isn't enabled.
+    Words(usize),
+    /// The run shows too much to be drawn.
+    LongPicture,
     /// A script, standard input or output, or memory.
     Plain(PlainFault),
     /// A port can't be listened on, or no client accepted.
@@ -307,6 +311,14 @@ pub(crate) fn tell<R: Print + Eprint + AllocGlobal>(
         Fault::NotChoices(word) => tell_choices(rt, word, notes.is_terminal),
         Fault::BadChoices(place) => {
             let _unwritten = eprintln!(rt; "mpdbg: bad choices at {place}");
+            WRONG
+        }
+        Fault::Words(line) => {
+            let _unwritten = eprintln!(rt; "mpdbg: words refused at line {line}");
+            WRONG
+        }
+        Fault::LongPicture => {
+            let _unwritten = eprintln!(rt; "mpdbg: picture of more than 20000 marks");
             WRONG
         }
         Fault::Plain(fault) => tell_plain(rt, fault, notes),
