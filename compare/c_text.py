@@ -39,9 +39,9 @@ CHUNK = 25
 # So many scripts meet all that must be met.
 MANY = 200
 MUST_MEET = ('rows', 'examples', 'written', 'refused', 'version 2', 'no file', *(f'`{text}`' for text in (
-    'MPI_Send(', 'MPI_Ssend(', 'MPI_Isend(', 'MPI_Issend(', 'MPI_Recv(', '&status);', 'MPI_Irecv(', 'call->tag_place = ', 'wait_for(&my', 'wait_for_any(',
-    'wait_for_any(&', 'MPI_Barrier(MPI_COMM_WORLD)', 'MPI_ANY_SOURCE', 'MPI_ANY_TAG', 'while (', '} else {', 'must_hold(', 'print(', 'within(', 'negate(', '!(', ' && ',
-    ' || ', ' == ', 'EQUAL(', 'ADD(', '[1];')))
+    'MPI_Send(', 'MPI_Ssend(', 'MPI_Isend(', 'MPI_Issend(', 'MPI_Recv(', '&status);', 'MPI_Irecv(', 'call->tag_place = ', 'wait_for(&my',
+    'wait_for_any(', 'wait_for_any(&', 'MPI_Barrier(MPI_COMM_WORLD)', 'MPI_ANY_SOURCE', 'MPI_ANY_TAG', 'while (', '} else {', 'must_hold(',
+    'print(', 'within(', 'negate(', '!(', ' && ', ' || ', ' == ', 'EQUAL(', 'ADD(', '[1];')))
 
 
 class Asked(NamedTuple):
@@ -97,10 +97,9 @@ def met_in(question, wanted):
     yield 'written'
     if read_script(question.text).version == 2:
         yield 'version 2'
-    own = wanted.output.decode().split('\nint main(')
-    for text in MUST_MEET:
-        if text.startswith('`') and text.strip('`') in own[1] + (own[0].rpartition('*/')[2] if text == '`[1];`' else ''):
-            yield text
+    before, _, statements = wanted.output.decode().partition('        return 2;\n    }\n')
+    declared = before.rpartition('*/')[2]
+    yield from (text for text in MUST_MEET if text.startswith('`') and text.strip('`') in (declared if text == '`[1];`' else statements))
 
 
 def problem_of(chosen, question):

@@ -6,8 +6,8 @@ from language import Number, OwnRank, Place, RankCount, Unary
 from policy_faults import Breakage
 
 SOUND = {name: getattr(c_script, name) for name in (
-    'c_text', 'expression_text', 'operand_text', 'place_text', 'stands_between', 'source_text', 'tag_text', 'send_lines', 'receive_lines', 'waitany_lines',
-    'statement_lines', 'lines_of', 'line_of', 'block_of', 'declaration_text', 'call_lines')}
+    'c_text', 'expression_text', 'operand_text', 'place_text', 'stands_between', 'source_text', 'tag_text', 'send_lines', 'receive_lines',
+    'waitany_lines', 'statement_lines', 'lines_of', 'line_of', 'block_of', 'declaration_text', 'call_lines')}
 
 
 def put(name, attribute, replacement):
@@ -147,7 +147,8 @@ FAULTS = [
     put('a status is evaluated before the tag', 'receive_lines', turned('const int tag', 'call->source_place')),
     put('the destination is evaluated before the value', 'send_lines', lambda statement: (
         *SOUND['send_lines'](statement)[1::-1], *SOUND['send_lines'](statement)[2:])),
-    put('a value and a destination are turned', 'send_lines', lambda statement: SOUND['send_lines'](statement._replace(value=statement.to, to=statement.value))),
+    put('a value and a destination are turned', 'send_lines', lambda statement: SOUND['send_lines'](
+        statement._replace(value=statement.to, to=statement.value))),
     put('a call is made before its handle is known', 'call_lines', lambda handle: SOUND['call_lines'](handle)[::-1]),
     lines('a wait is left out', 'line_of', 'wait_for(', '(void)('),
     lines('a barrier is left out', 'line_of', 'MPI_Barrier(MPI_COMM_WORLD);', ';'),
@@ -158,14 +159,16 @@ FAULTS = [
     put('one line more is written of an array alone', 'block_of', lambda statement, names: c_script.assign_lines(statement)
         if isinstance(statement, c_script.Assign) else SOUND['block_of'](statement, names)),
     lines('a wait for any is for one less', 'waitany_lines', ', 2);', ', 1);'),
-    put('a wait for any of none is for one', 'waitany_lines', lambda statement, sizes: SOUND['waitany_lines'](statement._replace(count=statement.count or 1), sizes)),
+    put('a wait for any of none is for one', 'waitany_lines', lambda statement, sizes: SOUND['waitany_lines'](
+        statement._replace(count=statement.count or 1), sizes)),
     lines('a wait for any of one handle takes that for an array', 'waitany_lines', '(&my_h', '(my_h'),
     lines('the index of a wait for any is written first', 'waitany_lines', '*place = ', ''),
     put('an `else` is left out', 'statement_lines', lambda statement, names: SOUND['statement_lines'](
         statement._replace(otherwise=[]) if hasattr(statement, 'otherwise') else statement, names)),
     put('an empty `else` is written', 'statement_lines', else_always),
     put('the blocks of an `if` are turned', 'statement_lines', lambda statement, names: SOUND['statement_lines'](
-        statement._replace(then=statement.otherwise, otherwise=statement.then) if hasattr(statement, 'otherwise') and statement.otherwise else statement, names)),
+        statement._replace(then=statement.otherwise, otherwise=statement.then)
+        if hasattr(statement, 'otherwise') and statement.otherwise else statement, names)),
     put('a loop tells no line', 'lines_of', of_the_last_line),
     put('a line is told one too high', 'lines_of', same_line(lambda line: line + 1)),
     put('lines are counted in steps of two', 'lines_of', same_line(lambda line: line - line % 2)),
@@ -177,12 +180,14 @@ FAULTS = [
     put('a name is its own', 'name_text', lambda name: name),
     put('a name has something behind it', 'name_text', lambda name: f'{name}_'),
     put('a name is written in small letters', 'name_text', lambda name: f'my_{name.lower()}'),
-    put('an array of no size is none', 'declaration_text', lambda name, declared: '' if declared.size == 0 else SOUND['declaration_text'](name, declared)),
+    put('an array of no size is none', 'declaration_text', lambda name, declared: '' if declared.size == 0
+        else SOUND['declaration_text'](name, declared)),
     put('an array of no size has size 0', 'declaration_text', lambda name, declared: SOUND['declaration_text'](name, declared).replace('[1]', '[0]')
         if declared.size == 0 else SOUND['declaration_text'](name, declared)),
     put('an array has one more', 'declaration_text', lambda name, declared: SOUND['declaration_text'](
         name, declared if not declared.size else declared._replace(size=declared.size + 1))),
-    put('a handle is a request', 'declaration_text', lambda name, declared: SOUND['declaration_text'](name, declared).replace('struct call *', 'MPI_Request ')),
+    put('a handle is a request', 'declaration_text', lambda name, declared: SOUND['declaration_text'](name, declared).replace(
+        'struct call *', 'MPI_Request ')),
     put('every script has requests', 'c_text', always_requests),
     put('requests come with the calls that have them', 'c_text', requests_by_use),
     put('there are names where nothing is declared', 'c_text', names_always),
@@ -206,7 +211,9 @@ FAULTS = [
         ('+', '-'), ('-', '+'), ('*', '+'), ('/', '%'), ('%', '/'), ('==', '!='), ('!=', '=='), ('<', '<='), ('<=', '<'), ('>', '>='), ('>=', '>'))),
     texts('one process is many', ' 1 process:', ' 1 processes:'), texts('many processes are one', ' processes', ' process'),
     texts('the number of ranks isn\'t told', 'if (size != 2) {', 'if (size < 2) {'),
-    texts('the last line feed is missing', '    return 0;\n}\n', '    return 0;\n}'), texts('all ranks end for themselves', '    MPI_Barrier(at_the_end);\n', ''),
+    texts('the last line feed is missing', '    return 0;\n}\n', '    return 0;\n}'),
+    texts('all ranks end for themselves', '    MPI_Barrier(at_the_end);\n', ''),
     texts('a trap ends with status 1', 'MPI_Abort(MPI_COMM_WORLD, 3);', 'MPI_Abort(MPI_COMM_WORLD, 1);'),
-    texts('what is printed is kept back', '    fflush(stdout);\n', ''), texts('a sum wraps around', '__builtin_add_overflow', '__builtin_sub_overflow'),
+    texts('what is printed is kept back', '    fflush(stdout);\n', ''),
+    texts('a sum wraps around', '__builtin_add_overflow', '__builtin_sub_overflow'),
 ]

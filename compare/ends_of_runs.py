@@ -97,7 +97,7 @@ def listed_by(program, text, mode):
 def end_of_show(text):
     """The end that a state is, as `show` tells it."""
     states = re.findall(r'^rank \d+ (.*)$', text, re.M)
-    printed = tuple(tuple(map(int, values.split())) for values in re.findall(r'^out(.*)$', text, re.M))
+    printed = tuple(tuple(map(int, values.split())) for values in re.findall(r'^out((?: -?\d+)*)$', text, re.M))
     traps = tuple((number, state.split()[1], None) for number, state in enumerate(states) if state.startswith('trapped'))
     kind = TRAPPED if traps else HUNG if any(state.startswith('blocked') for state in states) else ENDED
     return End(kind, printed, tuple(number for number, state in enumerate(states) if state == 'ended'), traps)

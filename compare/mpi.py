@@ -2,7 +2,8 @@
 
     python3 compare/mpi.py                       rows worked by hand (worked_mpi.py), the examples, and 200 random scripts, by the model
     python3 compare/mpi.py PROGRAM --count 20    fewer of them, whose ends are told by `check`, `words` and `trace` of a program
-    python3 compare/mpi.py --broken              faults of the text in C (mpi_faults.py), each of which must be noticed, alone
+    python3 compare/mpi.py --short --count 0     one run of each script, under one library, with one kind of sends
+    python3 compare/mpi.py --broken --late 3     faults of the text in C (mpi_faults.py), each of which must be noticed, alone
 
 Each script is written in C (c_script.py), compiled without a warning, and run under MPICH and under Open MPI: with the standard sends of the
 library, with synchronous ones in their place, and with either by chance (mpi_shim.c, which also has each call wait a moment). A run ends with
@@ -11,8 +12,9 @@ what each rank printed, traps with its rank, its trap and its line, or hangs wit
 Which sends a library buffers is its own affair, so with its own sends an end may be any that a report has in `rendezvous`, `buffered`,
 `slots:1` or `slots:2`; with synchronous ones it must be one of `rendezvous`. A script with a report that isn't whole is left out. Reports don't
 tell all ends of a script with a wait for any, and where each send is buffered or not by chance there may be more ends than in any mode: an end
-that no report has must then be one of all interleavings (ends_of_runs.py), and such ends are counted apart. A library that is not on the path is
-skipped, which is said. The status is 0 where no end was another.
+that no report has must then be one of all interleavings (ends_of_runs.py), and such ends are counted apart. The programs of docs/FROM_MPI.md are
+run beside (mpi_programs.py). A library that is not on the path, or starts no program here, is skipped, which is said. The status is 0 where no
+end was another.
 """
 
 import argparse
@@ -119,10 +121,16 @@ def ran(case, library, program, sends, seed, late, folder, met):
     return seen
 
 
+def kinds_of_sends(chosen, seed):
+    """The kinds of sends that the runs of a case have."""
+    kinds = list(MODES_OF)
+    return [kinds[seed // len(LIBRARIES) % len(kinds)]] if chosen.short else kinds
+
+
 def runs_of(case, library, program, chosen, seed, folder, met):
-    """How the runs of a case end: with which sends, how, and what is wrong with it, or None; each is begun when it is asked for."""
+    """How the runs of a case end, and what is wrong with it, or None; each is begun when it is asked for."""
     for number in range(chosen.runs):
-        for sends in MODES_OF:
+        for sends in kinds_of_sends(chosen, seed):
             try:
                 seen = ran(case, library, program, sends, seed * 100 + number, chosen.late, folder, met)
             except Odd as why:
@@ -163,7 +171,8 @@ def compare(chosen, libraries, folder):
 
     def of_number(number):
         case = cases[number] if number < len(cases) else random_case(chosen.seed, number - len(cases), chosen.program)
-        return case, [compare_case(case, library, chosen, number + 1, folder) for library in libraries]
+        under = [libraries[number % len(libraries)]] if chosen.short else libraries
+        return case, [compare_case(case, library, chosen, number + 1, folder) for library in under]
 
     with ThreadPoolExecutor(chosen.jobs) as pool:
         for case, parts in pool.map(of_number, range(len(cases) + chosen.count)):
@@ -176,7 +185,8 @@ def compare(chosen, libraries, folder):
     missed = [name for name in MUST_MEET if chosen.count >= MANY and not met[name] and name.endswith(tuple(one.name for one in libraries))]
     for name in missed:
         print(f'{name} was not met')
-    print(f'{len(cases) + chosen.count} scripts, {left} examples left out, {met["runs"]} runs in {time.monotonic() - began:.0f} seconds, {wrong} wrong')
+    seconds = time.monotonic() - began
+    print(f'{len(cases) + chosen.count} scripts, {left} examples left out, {met["runs"]} runs in {seconds:.0f} seconds, {wrong} wrong')
     return wrong + len(missed) + (not met['runs'])
 
 
@@ -194,11 +204,25 @@ def not_noticed(chosen, library, folder):
     """How many faults no row shows."""
     with ThreadPoolExecutor(chosen.jobs) as pool:
         faults = mpi_faults.FAULTS
-        left = [fault.name for fault, noticed in zip(faults, pool.map(lambda fault: is_noticed(fault, library, chosen, folder), faults)) if not noticed]
+        noticed = pool.map(lambda fault: is_noticed(fault, library, chosen, folder), faults)
+        left = [fault.name for fault, is_seen in zip(faults, noticed) if not is_seen]
     for name in left:
         print(f'not noticed under {library.name}: {name}')
     print(f'{len(faults)} faults under {library.name}, {len(left)} not noticed')
     return len(left) + (not faults)
+
+
+def why_skipped(library, folder):
+    """Why nothing is run under a library; None where it runs a script that prints one number."""
+    if not library.is_there():
+        return f'there is no {library.compiler} and {library.starter}'
+    text = c_text(read_script(b'mpd 1; ranks 1; print 1;'))
+    try:
+        with tempfile.TemporaryDirectory(prefix='first-', dir=folder) as place:
+            run(library, compiled(library, place, text), 1, 'plain', 1, SOON, place)
+    except (Odd, NotCompiled) as why:
+        return f'{library.name} starts no program here: {why}'
+    return None
 
 
 def main():
@@ -209,18 +233,19 @@ def main():
     parser.add_argument('--seed', type=int, default=1)
     parser.add_argument('--jobs', type=int, default=1, help='how many scripts are run at a time, each by as many processes as it has ranks (1)')
     parser.add_argument('--late', type=float, default=15.0, help='how many seconds a run that must not hang may write nothing (15)')
+    parser.add_argument('--short', action='store_true', help='one run of each script')
     parser.add_argument('--broken', action='store_true', help='faults of the text in C, each of which its row must show')
     chosen = parser.parse_args()
-    libraries = [library for library in LIBRARIES if library.is_there()]
-    for library in LIBRARIES:
-        if library not in libraries:
-            print(f'skipped: there is no {library.compiler} and {library.starter}')
-    if not libraries:
-        return 0
     with tempfile.TemporaryDirectory(prefix='mpi-') as folder:
+        skipped = {library: why_skipped(library, folder) for library in LIBRARIES}
+        for why in filter(None, skipped.values()):
+            print(f'skipped: {why}')
+        libraries = [library for library, why in skipped.items() if why is None]
+        if not libraries:
+            return 0
         if chosen.broken:
-            return 1 if sum(not_noticed(chosen, library, folder) for library in libraries[:1]) else 0
-        return 1 if compare_programs(libraries, folder) + compare(chosen, libraries, folder) else 0
+            return 1 if not_noticed(chosen, libraries[0], folder) else 0
+        return 1 if compare_programs(libraries[:1] if chosen.short else libraries, folder) + compare(chosen, libraries, folder) else 0
 
 
 if __name__ == '__main__':
