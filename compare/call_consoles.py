@@ -19,15 +19,16 @@ TO_CHOICE = ('run',)
 TO_HANG = ('run', 'next 2', 'run')
 # Words, each behind the words that lead to where it is said.
 WORDS = (
-    (RACE, (), ('next', 'run', 'run 3', 'local 1', 'local 9', 'break 2', 'break match 2', 'break change 0 x', 'deadlock', 'check', 'help', 'help next',
-                'list', 'list 0', 'ranks', 'vars', 'print x', 'enabled', 'calls', 'queues', 'history', 'breaks', 'show', 'brake', 'print z', 'next x',
+    (RACE, (), ('next', 'next 3', 'run', 'run 3', 'follow 2', 'follow 9', 'trap', 'undo-choice', 'why', 'local 1', 'local 9', 'break 2', 'break match 2',
+                'break change 0 x', 'deadlock', 'check', 'help', 'help next', 'list', 'list 0', 'ranks', 'vars', 'print x', 'enabled', 'calls', 'queues',
+                'history', 'breaks', 'show', 'brake', 'print z', 'next x',
                 'break change 0 z', 'goto 1', 'back', 'redo', 'run-back', 'delete 0', 'why 0', 'words')),
     (RACE, TO_CHOICE, ('next', 'next 2', 'next 9', 'run', 'match 2.0 0.0', 'check', 'deadlock', 'why 0', 'why 1.0', 'ranks', 'list', 'list 0', 'calls',
-                       'calls 0', 'queues', 'enabled', 'history', 'history 2', 'words', 'show', 'run-back', 'back 2', 'goto 1')),
+                       'calls 0', 'queues', 'enabled', 'history', 'history 2', 'words', 'show', 'run-back', 'back 2', 'goto 1', 'why', 'follow 1')),
     (RACE, (*TO_HANG, 'goto 7'), ('redo', 'redo 2', 'run', 'deadlock', 'next', 'wake 2', 'break 2')),
     (RACE, ('break 2', 'break change 0 x', *TO_CHOICE), ('breaks', 'delete 1', 'delete 7', 'run-back', 'next 1\nrun')),
-    (RACE, TO_HANG, ('next', 'run', 'why 0', 'why 1', 'check', 'deadlock', 'back', 'enabled', 'list 2')),
-    (TRAPS, (), ('run',)), (TRAPS, TO_CHOICE, ('next', 'ranks', 'list', 'list 0')),
+    (RACE, TO_HANG, ('next', 'run', 'undo-choice', 'trap', 'follow 1', 'why', 'why 0', 'why 1', 'check', 'deadlock', 'back', 'enabled', 'list 2')),
+    (TRAPS, (), ('run', 'trap', 'deadlock')), (TRAPS, TO_CHOICE, ('next', 'ranks', 'list', 'list 0')),
     (ALL_HANG, (), ('run',)), (ALL_HANG, TO_CHOICE, ('why 0', 'why 1', 'why 2', 'ranks', 'print r', 'vars 0')),
     (HELD, ISSUED, ('why 0.0', 'why 0.1', 'print r', 'print r[1] 0', 'print y 0', 'vars 1', 'queues')),
     (WHICHEVER, BOTH_CAME, ('next', 'next 2', 'wakeany 0 1', 'why 0', 'enabled')),

@@ -10,6 +10,7 @@ has rows of it, and compare/consoles.py compares a program with it.
 import argparse
 import re
 import sys
+from collections import Counter
 from itertools import islice
 from typing import NamedTuple
 
@@ -33,6 +34,9 @@ from worlds import Step
 
 TOO_LONG = 'refused: this line is too long'
 NO_CANDIDATE = 'refused: there is no such candidate'
+NO_RUN = 'refused: there is no such run'
+NO_CHOICE = 'refused: no choice was made'
+NO_WAIT = 'no rank waits for a call'
 REFUSALS = {
     session.NOT_ENABLED: 'refused: this step is not enabled', session.FULL: 'refused: no more than 1000000 steps are kept',
     session.AT_START: 'refused: fewer steps are taken', session.NOT_BEFORE: 'refused: fewer steps are taken',
@@ -41,6 +45,8 @@ REFUSALS = {
 # Why a run stopped, where it isn't told by where it stands.
 STOPS = {MAX: 'stopped: as many steps as were asked for', FULL: 'stopped: no more than 1000000 steps are kept', START: 'at the start'}
 LISTED, TRIED, MOST_FUEL = 10, 1000, 100000
+# How a run ends, by the first word of its outcome, in the order in which the last line of `check` has them.
+WAYS = 'done', 'leftovers', 'deadlock', 'trap', explorer.CUT
 # What may stand behind the first `[` of a name.
 INDEX = re.compile(rb'([0-9]+)\]')
 # What a terminal is told first, on standard error.
@@ -59,16 +65,22 @@ def is_comment(line):
     return line.lstrip(b' \t').startswith(b'#')
 
 
+def way(leaf):
+    """How a run ends, without the calls and ranks of that."""
+    return leaf.outcome.split()[0]
+
+
 def counted(leaves, more):
-    """How many runs there were, and whether there are more."""
-    cut = sum(leaf.outcome == explorer.CUT for leaf in leaves)
-    return f'{plural(len(leaves), "run")}{f", {cut} of them cut" if cut else ""}, and {"there are more" if more else "no more"}'
+    """How many runs there were, whether there are more, and how many end in each way that occurs."""
+    ended = Counter(map(way, leaves))
+    ways = ', '.join(f'{ended[name]} {name}' for name in WAYS if ended[name])
+    return f'{plural(len(leaves), "run")}, and {"there are more" if more else "no more"} ({ways})'
 
 
-def run_line(leaf):
-    """A run by its choices, and how it ends."""
+def run_line(number, leaf):
+    """A run by its number and its choices, and how it ends."""
     choices = ' '.join(str(choice + 1) for choice in leaf.choices)
-    return f'{f"choices {choices}" if choices else "no choice"}: {leaf.outcome}'
+    return f'{number} {f"choices {choices}" if choices else "no choice"}: {leaf.outcome}'
 
 
 def text_of(lines):
@@ -100,7 +112,7 @@ class Console:
         self.script = read_script(text)
         self.session = Session(self.script, mode)
         self.last, self.is_over = None, False
-        self.first = '' if witness is None else text_of(self.laid_ahead(leaf_of(witness)))
+        self.first = '' if witness is None else text_of(self.found(leaf_of(witness)))
 
     @property
     def debugger(self):
@@ -202,7 +214,7 @@ class Console:
     def next(self, number=None):
         decided = policy.decision(self.world)
         if isinstance(decided, Forced):
-            return self.take(decided.step)
+            return self.take(decided.step) if number is None else self.run(number)
         if isinstance(decided, policy.Leaf) or number is None:
             return self.where()
         if not 1 <= number <= len(decided.steps):
@@ -220,7 +232,7 @@ class Console:
         """What is told behind a run."""
         lines = [f'{plural(stop.steps, "step")}{back}, depth {self.debugger.depth}']
         if stop.cause == BREAK:
-            lines.append(self.break_line(stop.number))
+            lines.append(f'{"before " if back else ""}{self.break_line(stop.number)}')
         elif stop.cause in STOPS:
             lines.append(STOPS[stop.cause])
         return lines + self.where()
@@ -236,6 +248,14 @@ class Console:
 
     def run_back(self):
         return self.stopped(policy.run_back(self.debugger, self.session.breaks), ' back')
+
+    def undo_choice(self):
+        """Goes back to the last state before this one in which a choice is open."""
+        for depth in reversed(range(self.debugger.depth)):
+            if isinstance(policy.decision(self.debugger.worlds[depth]), Choice):
+                self.session.goto(depth)
+                return self.depth_lines()
+        return [NO_CHOICE]
 
     def goto(self, depth):
         """Goes back, or along the steps ahead."""
@@ -350,8 +370,11 @@ class Console:
         at = self.at
         return [step_words(at, step) for step in enabled_steps(self.world)] or ['no step is enabled']
 
-    def why(self, asked):
-        """Why a call, or the one that a rank waits for, isn't matched."""
+    def why(self, asked=None):
+        """Why a call, or the one that a rank waits for, or all that ranks wait for, aren't matched."""
+        if asked is None:
+            at = self.at
+            return [line for call_id in console_lines.waiting(self.world) for line in console_lines.why_lines(at, call_id)] or [NO_WAIT]
         if isinstance(asked, int):
             if self.session.rank(asked).mode != 'blocked':
                 return [f'rank {asked} waits for no call']
@@ -380,21 +403,46 @@ class Console:
     def check(self, runs=TRIED):
         must_be(1 <= runs <= explorer.MOST_RUNS, session.BAD_NUMBER)
         found = explorer.explored(self.debugger, runs, self.fuel())
-        return [*map(run_line, found.leaves), counted(found.leaves, found.more)]
+        lines = [run_line(number, leaf) for number, leaf in enumerate(found.leaves, 1)]
+        return [*lines, counted(found.leaves, found.more)]
+
+    def follow(self, number):
+        """Lays the steps of the run of a number ahead."""
+        must_be(1 <= number <= explorer.MOST_RUNS, session.BAD_NUMBER)
+        leaf = next(islice(explorer.walk(self.world, self.fuel()), number - 1, None), None)
+        return [NO_RUN] if leaf is None else self.laid_ahead(f'run {number}, {leaf.outcome},', leaf)
 
     def deadlock(self):
-        """Lays the steps to the first deadlock ahead, in the place of those that are undone; each end is looked at once."""
-        walk = explorer.walk_of_ends(explorer.Run(self.world, self.fuel()))
-        looked = []
-        for leaf in islice(walk, explorer.MOST_RUNS):
-            if leaf.outcome.startswith('deadlock'):
-                return self.laid_ahead(leaf)
-            looked.append(leaf)
-        return [f'no deadlock: {counted(looked, next(walk, None) is not None)}']
+        return self.seek('deadlock')
 
-    def laid_ahead(self, leaf):
+    def trap(self):
+        return self.seek('trap')
+
+    def seek(self, sought):
+        """Lays the steps to the first run ahead that ends in a way."""
+        for walk in self.walks():
+            looked = []
+            for leaf in islice(walk, explorer.MOST_RUNS):
+                if way(leaf) == sought:
+                    return self.found(leaf)
+                looked.append(leaf._replace(steps=()))
+            more = next(walk, None) is not None
+            if not more:
+                break
+        return [f'no {sought}: {counted(looked, more)}']
+
+    def walks(self):
+        """The runs that are looked at, and those that are where none of the first ones is sought: each end once."""
+        yield explorer.walk(self.world, self.fuel())
+        yield explorer.walk_of_ends(explorer.Run(self.world, self.fuel()))
+
+    def found(self, leaf):
+        return self.laid_ahead(leaf.outcome, leaf)
+
+    def laid_ahead(self, called, leaf):
+        """Lays the steps of a run ahead, in the place of those that are undone; tells what it is called."""
         self.debugger.steps[self.debugger.depth:] = leaf.steps
-        return [f'{leaf.outcome} is {plural(len(leaf.steps), "step")} ahead', *self.where()]
+        return [f'{called} is {plural(len(leaf.steps), "step")} ahead', *self.where()]
 
     # ---- the rest
 
@@ -407,7 +455,7 @@ class Console:
 
 
 # What answers a word whose name is another than the word.
-METHODS = {'break': 'set_break', 'vars': 'variables', 'run-back': 'run_back'}
+METHODS = {'break': 'set_break', 'vars': 'variables', 'run-back': 'run_back', 'undo-choice': 'undo_choice'}
 
 
 def answers(console, data):
@@ -471,10 +519,13 @@ def talk(console):
     """Asks for lines and answers them at a terminal, up to `quit` or to the end of the input."""
     print(GREETING, file=sys.stderr)
     print(console.first, end='')
+    line = b'\n'
     while not console.is_over:
         print(console.prompt(), end='', flush=True)
-        line = sys.stdin.buffer.readline()
+        # (a terminal would gather another line behind the end)
+        line = sys.stdin.buffer.readline() if line.endswith(b'\n') else b''
         if not line:
+            print()
             break
         for part in lines_of(line):
             print(console.answer(part), end='', flush=True)

@@ -14,25 +14,28 @@ import explained_cases
 import explorer
 import policy
 import session_cases
-from console import NO_FILE, Console, debug, is_blank
-from console_words import TABLE, NotAsked, full_name, names_of
+from console import NO_FILE, Console, debug, is_blank, way
+from console_words import TABLE, Asked, NotAsked, full_name, names_of
 from debugger import RENDEZVOUS, Debugger, enabled_steps, lines_of, step_text
 from explore_cases import Beside
-from explorer import CUT, Run, leaf_lines, walk, walk_of_ends
+from explorer import CUT, leaf_lines, walk
 from language import Fault, read_script
 from modes import MODES, by_turns
-from policy import Choice
+from policy import Choice, Forced
 from runs import held
 from session_cases import is_short
 from walks import random_step, respaced, step_line
 
 # What takes the model more steps or runs than these isn't asked for.
 LONGEST_RUN, MOST_RUNS, MOST_FUEL = 200, 60, 250
+# Words that look for a run that ends so.
+SOUGHT = 'deadlock', 'trap'
 EDGES = ('0', '1', '2', '15', '16', '63', '64', '65', '65536', '65537', '65538', '1000000', '1000001', '999999999', '000000001')
 NO_NUMBERS = ('-1', '+1', '1.0', '1.', '.1', '0x1', '1234567890', '0000000001', 'x', '1e3', '1,0', '\xb2', 'all', '1;', "'1'")
 NO_NAMES = ('5', 'x[', 'x]', 'x[]', 'x[i]', 'x[-1]', 'x[0', '[0]', 'x[0]]', 'x.0', 'x+1', '*', 'a[0000000000]', '\xe9', 'x[0][0]', 'a [0]')
 OTHER_NAMES = ('foo', 'rank', 'size', 'send', '_', 'X', 'x0', 'y_', 'any', 'a' * 65)
-NO_WORDS = ('zap', 'step', 'finish', 'quitt', 'un do', 'NEXT', 'Next', 'brake', 'reverse', 'reverse-', 'brea', 'breakss', 'loc', 'wakean', 'matches',
+NO_WORDS = ('zap', 'step', 'finish', 'quitt', 'un do', 'undo', 'undo-', 'undo_choice', 'choice', 'followed', 'fo', 'traps', 'tr', 'ux', 'fx',
+            'NEXT', 'Next', 'brake', 'reverse', 'reverse-', 'brea', 'breakss', 'loc', 'wakean', 'matches',
             'nexts', '?help', '-', '--', '.', '0', '7', '\xff', '\xc3\xa9', 'next\xe9', 'n\x01', '\x7f', '~', 'run\x0b', '\x0c', 'x\x00y', 'h\xa0',
             'nex\xb2')
 BEHIND = ('', '', ' 0', ' 1', ' x', ' 0 0', ' 1.0', ' # why', ' 0.0 1.0', ' \xff')
@@ -57,21 +60,23 @@ def shares(usual=2, **named):
     return {word: named.get(word.replace('-', '_'), usual) for word in words}
 
 
-MOVING = Habits(shares(1, next=16, run=12, back=5, run_back=4, goto=4, redo=8, local=10, deadlock=5, history=2, words=1), (25, 40, 60))
-STOPPING = Habits(shares(1, next=6, run=16, back=4, run_back=12, redo=5, goto=2, **{'break': 12}, delete=4, breaks=4), (30, 50))
-LOOKING = Habits(shares(3, next=12, run=12, why=14, print=8, vars=4, list=4, calls=4, queues=4, ranks=4, enabled=4, check=6), (30, 45))
-ENDING = Habits(shares(1, next=10, run=22, back=3, redo=10, deadlock=10, check=8, why=6, history=3, goto=4), (25, 40))
+MOVING = Habits(shares(1, next=16, run=12, back=5, run_back=4, undo_choice=6, goto=4, redo=8, local=10, deadlock=3, trap=3, follow=4, history=2),
+                (25, 40, 60))
+STOPPING = Habits(shares(1, next=8, run=16, back=4, run_back=12, redo=5, goto=2, **{'break': 12}, delete=4, breaks=4), (30, 50))
+LOOKING = Habits(shares(3, next=12, run=12, why=16, print=8, vars=4, list=4, calls=4, queues=4, ranks=4, enabled=4, check=6), (30, 45))
+ENDING = Habits(shares(1, next=10, run=22, back=3, undo_choice=8, redo=10, deadlock=8, trap=6, follow=8, check=8, why=6, history=3, goto=4), (25, 40))
 FILLING = Habits(shares(0, **{'break': 60}, delete=3, breaks=1, run=2, run_back=2), (90, 110), spoiled=0.01)
 SPOILED = Habits(shares(3, next=8, run=4), (40, 60), spoiled=0.6, empty=0.15)
 ALL_HABITS = (MOVING, MOVING, MOVING, STOPPING, STOPPING, LOOKING, LOOKING, LOOKING, ENDING, ENDING, ENDING, SPOILED, SPOILED, FILLING)
 
 
-def is_tried_soon(walked, runs, found):
-    """Whether the first runs from here, or the first up to one that is looked for, end within few steps, and are few."""
-    for count, leaf in enumerate(found(Run(walked.world, MOST_FUEL))):
+def is_tried_soon(walked, is_last):
+    """Whether the runs from here, up to the first that is the last one by how many stand before it and by itself, end within few steps, and
+    are few."""
+    for count, leaf in enumerate(walk(walked.world, MOST_FUEL)):
         if leaf.outcome == CUT or count > MOST_RUNS:
             return False
-        if count == runs or runs is None and leaf.outcome.startswith('deadlock'):
+        if is_last(count, leaf):
             return True
     return True
 
@@ -139,7 +144,7 @@ class Talk:
         if isinstance(decided, Choice):
             count = len(decided.steps)
             return ['next', *([str(self.random.randint(1, count))] if self.chance(0.7) else self.maybe(lambda: self.edge(0, count, count + 1), 0.5))]
-        return ['next', *self.maybe(lambda: self.edge(0, 1), 0.05)]
+        return ['next', *self.maybe(lambda: self.edge(0, 1, 2, 3, 5, 10, 30), 0.2)]
 
     def run(self):
         most = self.edge(1, 2, 3, 5, 10, 30, 100) if self.chance(0.35) else None
@@ -186,6 +191,8 @@ class Talk:
 
     def why(self):
         blocked = [str(number) for number, rank in enumerate(self.world.ranks) if rank.mode == 'blocked']
+        if self.chance(0.2):
+            return ['why']
         if blocked and self.chance(0.4):
             return ['why', self.random.choice(blocked)]
         return ['why', self.rank() if self.chance(0.15) else self.call()]
@@ -196,6 +203,9 @@ class Talk:
     def check(self):
         return ['check', *self.maybe(lambda: self.edge(1, 1, 2, 3, 10), 0.5)]
 
+    def follow(self):
+        return ['follow', self.edge(1, 1, 2, 2, 3, 5)]
+
     def help(self):
         names = [name for row in TABLE for name in names_of(row)]
         return ['help', *self.maybe(lambda: self.random.choice([*names, *names, *NO_WORDS]), 0.8)]
@@ -205,7 +215,8 @@ class Talk:
         if word in ('list', 'vars', 'calls'):
             return self.of_rank(word)
         drawing = {'break': self.break_, **{name: getattr(self, name) for name in (
-            'next', 'run', 'back', 'goto', 'redo', 'local', 'delete', 'print', 'why', 'history', 'check', 'help')}}.get(word)
+            'next', 'run', 'back', 'goto', 'redo', 'local', 'delete', 'print', 'why', 'history', 'check', 'follow',
+            'help')}}.get(word)
         return [word] if drawing is None else drawing()
 
     # ---- lines
@@ -266,12 +277,14 @@ class Talk:
         if asked is None or len(line) > debugger.LONGEST_LINE:
             return False
         number = asked.given[0] if asked.given else None
-        if asked.word == 'run':
+        if asked.word == 'run' or asked.word == 'next' and number is not None and isinstance(policy.decision(self.world), Forced):
             is_within = number is not None and (number <= LONGEST_RUN or number > debugger.MOST_STEPS)
             return not is_within and not is_short(self.walked, self.console.session.breaks)
         if asked.word == 'check' and (number is None or 1 <= number <= explorer.MOST_RUNS):
-            return not is_tried_soon(self.walked, 1000 if number is None else number, lambda run: walk(run.world, run.fuel))
-        return asked.word == 'deadlock' and not is_tried_soon(self.walked, None, walk_of_ends)
+            return not is_tried_soon(self.walked, lambda count, _: count == (1000 if number is None else number))
+        if asked.word == 'follow' and 1 <= number <= explorer.MOST_RUNS:
+            return not is_tried_soon(self.walked, lambda count, _: count + 1 == number)
+        return asked.word in SOUGHT and not is_tried_soon(self.walked, lambda _, leaf: way(leaf) == asked.word)
 
     def lines(self, count):
         """So many lines with their ends; each is answered before the next is drawn."""
@@ -292,7 +305,7 @@ class Talk:
             asked = self.console.asked(line)
         except NotAsked:
             return False
-        return asked is not None and asked.word in ('run', 'check', 'deadlock')
+        return asked is not None and asked.word in ('next', 'run', 'check', 'follow', *SOUGHT)
 
     def note(self, line):
         """Counts what is asked."""
@@ -301,7 +314,6 @@ class Talk:
         first = line.split()[:1]
         self.note_ahead(line)
         self.met['a short name'] += any(full_name(word.decode('latin-1')) not in (None, word.decode('latin-1')) for word in first)
-
 
     def note_ahead(self, line):
         """Counts what goes along the steps ahead, and breakpoints of the word `line`."""
@@ -317,6 +329,18 @@ class Talk:
         self.met['all that are ahead, and more were asked for'] += asked.word == 'redo' and 0 < undone < number
         self.met['a depth that is ahead'] += asked.word == 'goto' and depth < number <= depth + undone
         self.met['a breakpoint of the word line'] += asked.word == 'break' and number == 'line'
+        self.note_choices(asked)
+
+    def note_choices(self, asked):
+        """Counts where a choice is undone, and what goes so many steps or tells of all that wait."""
+        worlds = self.walked.worlds[:-1]
+        is_undone = asked.word == 'undo-choice' and any(isinstance(policy.decision(world), Choice) for world in worlds)
+        is_left = is_undone and isinstance(policy.decision(worlds[-1]), Forced)
+        self.met['a choice undone, and forced steps'] += is_left
+        self.met['a choice undone, and steps that were undone'] += is_undone and bool(self.console.ahead)
+        self.met['so many steps by next'] += asked.word == 'next' and asked.given > (1,) and isinstance(policy.decision(self.world), Forced)
+        self.met['why of several ranks'] += asked == Asked('why') and sum(rank.mode == 'blocked' for rank in self.world.ranks) > 1
+        self.met['a run laid ahead in the place of others'] += asked.word in ('follow', *SOUGHT) and bool(self.console.ahead)
 
 
 # ---- scripts and witnesses

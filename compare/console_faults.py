@@ -9,20 +9,20 @@ from inspect import isfunction
 import console
 import console_lines
 import debugger
-import explorer
 import policy
 import session
 from console import Console
 from console_faults_of_lines import line_faults
+from console_faults_of_runs import run_faults
 from console_faults_of_words import word_faults
 from console_words import NotAsked
 from debugger import Result
 from policy import Forced
 from policy_faults import Breakage
 from session import must_be
+from worlds import CallId
 
 SOUND = {name: value for name, value in vars(Console).items() if isfunction(value)}
-SOUND_COUNTED, SOUND_RUN_LINE = console.counted, console.run_line
 SOUND_NONE_CALLED, SOUND_REFUSED_WITNESS, NO_SUCH_NUMBER = console.none_called, console.refused_witness, console.REFUSALS[session.BAD_NUMBER]
 # Refusals that are told as others.
 REFUSED_OTHERWISE = (
@@ -195,11 +195,20 @@ def number_looked_at(self, number=None):
     return SOUND['next'](self, number)
 
 
-def next_so_often(self, number=None):
-    """What takes as many steps as the number says."""
-    if number is not None and isinstance(policy.decision(self.world), Forced):
-        return self.run(number)
-    return SOUND['next'](self, number)
+def one_whatever(self, number=None):
+    """What takes one step where there is nothing to choose, whatever the number is."""
+    return SOUND['next'](self, None if isinstance(policy.decision(self.world), Forced) else number)
+
+
+def one_as_taken(self, number=None):
+    """What tells a step as it is taken, where one is asked for, and not as a run."""
+    return SOUND['next'](self, None if number == 1 and isinstance(policy.decision(self.world), Forced) else number)
+
+
+def number_at_end(self, number=None):
+    """What refuses a number at an end as a run does."""
+    is_end = number is not None and isinstance(policy.decision(self.world), policy.Leaf)
+    return self.run(number) if is_end else SOUND['next'](self, number)
 
 
 def next_is_redo(self, number=None):
@@ -355,7 +364,9 @@ def move_faults():
             'not where it stands': changed('take', lambda lines, self: lines[:1])}),
         *named('next', {
             'a number where there is no choice': number_looked_at,
-            'so many steps': next_so_often,
+            'one step whatever the number': one_whatever,
+            'one step as it is taken': one_as_taken,
+            'the number at an end too': number_at_end,
             'the step ahead': next_is_redo,
             'refused at an end': refused_at_end,
             'the first candidate where none is said': lambda self, number=1: SOUND['next'](self, number),
@@ -381,6 +392,9 @@ def move_faults():
             'no reason': without_reason,
             'no depth': lambda self, stop, back: [line.partition(', depth')[0] for line in SOUND['stopped'](self, stop, back)],
             'back is not told': lambda self, stop, back: SOUND['stopped'](self, stop, ''),
+            'a run is before a breakpoint, too': lambda self, stop, back: [line.replace('breakpoint', 'before breakpoint') if not back else line
+                                                                           for line in SOUND['stopped'](self, stop, back)],
+            'a run back is at a breakpoint': lambda self, stop, back: [line.removeprefix('before ') for line in SOUND['stopped'](self, stop, back)],
             'an end that is told': with_end}),
         *named('depth_lines', {
             'not where it stands': lambda self: SOUND['depth_lines'](self)[:1],
@@ -549,11 +563,23 @@ def break_faults():
 
 # ---- looks, and runs from here
 
-def last_call_of(self, asked):
+def last_call_of(self, asked=None):
     """What tells the last call of a rank that waits for none."""
     if isinstance(asked, int) and asked < len(self.world.ranks) and self.world.ranks[asked].calls:
         asked = debugger.last_call(self.world, asked)
     return SOUND['why'](self, asked)
+
+
+def why_of(ranks):
+    """What tells of other ranks where none is said, by the world."""
+    def why(self, *given):
+        numbers = ranks(self.world)
+        return SOUND['why'](self, *given) if given or not numbers else [line for number in numbers for line in SOUND['why'](self, number)]
+    return why
+
+
+def blocked(world):
+    return [number for number, rank in enumerate(world.ranks) if rank.mode == 'blocked']
 
 
 def all_steps(self, count=console.LISTED):
@@ -561,53 +587,10 @@ def all_steps(self, count=console.LISTED):
     return [line for line in SOUND['history'](self, self.debugger.depth or 1)][:count]
 
 
-def by_all_runs(self):
-    """What looks for a deadlock among all runs, those that differ in the order of choices alone too."""
-    found = list(console.islice(explorer.walk(self.world, self.fuel()), 200))
-    if len(found) == 200 or any(leaf.outcome.startswith('deadlock') for leaf in found):
-        return SOUND['deadlock'](self)
-    return [f'no deadlock: {console.counted(found, False)}']
-
-
-def by_ends(self, runs=console.TRIED):
-    """What tries of runs that differ only in the order of choices one."""
-    must_be(1 <= runs <= explorer.MOST_RUNS, session.BAD_NUMBER)
-    found = explorer.ends_part(explorer.Run(self.world, self.fuel()), runs)
-    return [*map(console.run_line, found.leaves), console.counted(found.leaves, found.more)]
-
-
-def traps_too(self):
-    """What takes a trap for a deadlock."""
-    walk = explorer.walk_of_ends(explorer.Run(self.world, self.fuel()))
-    found = next((leaf for leaf in console.islice(walk, 50) if leaf.outcome.startswith(('deadlock', 'trap'))), None)
-    return SOUND['deadlock'](self) if found is None else self.laid_ahead(found)
-
-
-def last_deadlock(self):
-    """What takes the last deadlock of some."""
-    found = [leaf for leaf in console.islice(explorer.walk_of_ends(explorer.Run(self.world, self.fuel())), 50) if leaf.outcome.startswith('deadlock')]
-    return self.laid_ahead(found[-1]) if found else SOUND['deadlock'](self)
-
-
-def laid_behind(self, leaf):
-    """What keeps what was ahead behind the steps to a deadlock."""
-    before = self.debugger.steps[self.debugger.depth:]
-    told = SOUND['laid_ahead'](self, leaf)
-    self.debugger.steps.extend(before)
-    return told
-
-
-def taken_at_once(self, leaf):
-    """What goes to the deadlock at once."""
-    told = SOUND['laid_ahead'](self, leaf)
-    for _ in leaf.steps:
-        self.debugger.redo()
-    return told
-
-
-def no_call(self, asked):
+def no_call(self, asked=None):
     """What says that there is no call where there is no such one."""
-    return SOUND['why'](self, asked) if isinstance(asked, int) or debugger.find_call(self.world, asked) else ['no call']
+    is_none = isinstance(asked, CallId) and debugger.find_call(self.world, asked) is None
+    return ['no call'] if is_none else SOUND['why'](self, asked)
 
 
 def from_0(self, *given):
@@ -625,7 +608,11 @@ def look_faults():
     return [
         *named('why', {
             'the last call of a rank that waits for none': last_call_of,
-            'no call is no such number': no_call}),
+            'no call is no such number': no_call,
+            'all ranks, those too that wait for none': why_of(lambda world: range(len(world.ranks))),
+            'the first rank that waits alone': why_of(lambda world: blocked(world)[:1]),
+            'the last rank that waits first': why_of(lambda world: blocked(world)[::-1]),
+            'nothing where no rank waits': lambda self, *given: [line for line in SOUND['why'](self, *given) if line != console.NO_WAIT]}),
         *named('history', {
             'of five': usual('history', 5),
             'the first steps': all_steps,
@@ -657,63 +644,10 @@ def look_faults():
             'no rank is refused': whole_where_no_rank})]
 
 
-def dropped_where_none(self):
-    """What drops the steps ahead where there is no deadlock."""
-    told = SOUND['deadlock'](self)
-    return cleared(self, told) if told[0].startswith('no') else told
-
-
-def from_start(self, leaf):
-    """What counts the steps that are taken as ahead."""
-    lines = SOUND['laid_ahead'](self, leaf)
-    return [f'{leaf.outcome} is {console.plural(len(self.debugger.steps), "step")} ahead', *lines[1:]]
-
-
-def runs_of_one(leaves, more):
-    """What says `1 runs`."""
-    return SOUND_COUNTED(leaves, more).replace('1 run', '1 runs', 1) if len(leaves) == 1 else SOUND_COUNTED(leaves, more)
-
-
-def run_faults():
-    return [
-        *named('fuel', {
-            'one step less': lambda self: min(console.MOST_FUEL - 1, debugger.MOST_STEPS - self.debugger.depth),
-            'whatever is kept': lambda self: console.MOST_FUEL,
-            'one step more': lambda self: min(console.MOST_FUEL + 1, debugger.MOST_STEPS - self.debugger.depth),
-            'what is left of all': lambda self: max(0, min(console.MOST_FUEL, debugger.MOST_STEPS) - self.debugger.depth)}),
-        *named('check', {
-            'by ends': by_ends,
-            'one run': usual('check', 1),
-            '999 runs': usual('check', 999),
-            '1,001 runs': usual('check', 1001),
-            'no last line': changed('check', lambda lines, self: lines[:-1]),
-            'what is ahead is dropped': lambda self, *given: cleared(self, SOUND['check'](self, *given))}),
-        *named('deadlock', {
-            'by all runs': by_all_runs,
-            'traps too': traps_too,
-            'the last one': last_deadlock,
-            'what is ahead is dropped where there is none': dropped_where_none}),
-        *named('laid_ahead', {
-            'what was ahead stays behind it': laid_behind,
-            'taken at once': taken_at_once,
-            'not where it stands': lambda self, leaf: SOUND['laid_ahead'](self, leaf)[:1],
-            'all steps from the start': from_start}),
-        *named('run_line', {
-            'candidates from 0': lambda leaf: SOUND_RUN_LINE(leaf._replace(choices=tuple(choice - 1 for choice in leaf.choices))),
-            'no choice left out': lambda leaf: f'choices {" ".join(str(choice + 1) for choice in leaf.choices)}: {leaf.outcome}',
-            'no outcome': lambda leaf: f'{"choices" if leaf.choices else "no choice"}: {leaf.outcome.split()[0]}'}, owner=console),
-        *named('counted', {
-            'none is cut': lambda leaves, more: f'{console.plural(len(leaves), "run")}, and {"there are more" if more else "no more"}',
-            'runs of one': runs_of_one,
-            'there are no more': lambda leaves, more: SOUND_COUNTED(leaves, False)}, owner=console),
-        *[Breakage(f'a refusal told as another: {name}', console, 'REFUSALS', {**console.REFUSALS, number: console.REFUSALS[other]})
-          for name, number, other in REFUSED_OTHERWISE]]
-
-
-def cleared(self, told):
-    """What is told; the steps ahead are dropped."""
-    del self.debugger.steps[self.debugger.depth:]
-    return told
+def refusal_faults():
+    """Refusals that are told as others."""
+    return [Breakage(f'a refusal told as another: {name}', console, 'REFUSALS', {**console.REFUSALS, number: console.REFUSALS[other]})
+            for name, number, other in REFUSED_OTHERWISE]
 
 
 # ---- a witness
@@ -761,5 +695,5 @@ def witness_faults():
 
 def breakages():
     """All faults."""
-    return [*line_of_words_faults(), *where_faults(), *move_faults(), *break_faults(), *look_faults(), *run_faults(), *witness_faults(),
-            *line_faults(), *word_faults()]
+    return [*line_of_words_faults(), *where_faults(), *move_faults(), *break_faults(), *look_faults(), *refusal_faults(), *run_faults(),
+            *witness_faults(), *line_faults(), *word_faults()]

@@ -38,6 +38,28 @@ def line_behind(text, at, step):
     return re.sub(r'line \d+', f'line {rank.rest[0].line if rank.rest else 0}', text)
 
 
+def wake_behind(text, at, step):
+    """A wake by a handle at the line where its rank goes on, and its call as it is."""
+    head, by, call = text.partition(', by ')
+    return line_behind(head, at, step) + by + call
+
+
+def with_marks(text, at, step):
+    """A wake by a handle whose call has its marks."""
+    return f'{text.partition(", by ")[0]}, by {SOUND["marked_text"](at, SOUND["request_of"](at.world, step))}'
+
+
+def call_of_place(world, step):
+    """The call of a rank that has the number of the place."""
+    return CallId(step.first, step.second)
+
+
+def handle_of_place(world, step):
+    """What the handle of a rank holds that has the number of the place, else what is sought."""
+    held = world.ranks[step.first].handles[step.second]
+    return SOUND['request_of'](world, step) if held is None else CallId(step.first, held)
+
+
 def swapped(text, at, step):
     """A match with its lines the other way round."""
     first, second = re.findall(r'line (\d+)', text)
@@ -68,9 +90,15 @@ def step_faults():
             'the lines of a match swapped': told_otherwise('match', swapped),
             'the ranks of a match alone': told_otherwise('match', lambda text, *_: text.partition(':')[0]),
             'a wake at the line behind': told_otherwise('wake', line_behind),
-            'a wake by a handle at the line behind': told_otherwise('wakeany', line_behind),
+            'a wake by a handle at the line behind': told_otherwise('wakeany', wake_behind),
+            'a wake by a handle without its call': told_otherwise('wakeany', lambda text, *_: text.partition(', by ')[0]),
+            'a wake by a handle and its call with marks': told_otherwise('wakeany', with_marks),
+            'the line of a wake by a handle left out': told_otherwise('wakeany', lambda text, *_: re.sub(r': line \d+, by', ': by', text)),
             'a release as its word': told_otherwise('release', lambda text, *_: text.partition(':')[0]),
             'a local step without its line': told_otherwise('local', lambda text, *_: text.partition(':')[0])}),
+        *named('request_of', {
+            'the call of the number of the place': call_of_place,
+            'the handle of the number of the place': handle_of_place}),
         *named('reached', {
             'lines of messages alone': lines_changed(sends_and_receives_alone),
             "the line of the rank's first call": lines_changed(of_first_call),

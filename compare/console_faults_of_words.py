@@ -95,7 +95,8 @@ FOLLOWING_OTHERWISE = {
     'proper names alone': {'print': ((proper_name,), (proper_name, NUMBER))},
     'indexes of nine digits': {'print': ((short_index,), (short_index, NUMBER))},
     'no rank behind a name': {'print': ((console_words.NAME,),)}, 'calls by their ranks': {'match': ((call_or_number, call_or_number),)},
-    'why of a rank alone': {'why': ((NUMBER,),)}, 'why of a call alone': {'why': ((CALL,),)},
+    'why of a rank alone': {'why': ((), (NUMBER,))}, 'why of a call alone': {'why': ((), (CALL,))},
+    'why of something alone': {'why': ((NUMBER,), (CALL,))},
     'no breakpoint of the word line': {'break': FOLLOWING['break'][:1] + FOLLOWING['break'][2:]},
     'a breakpoint of the letter l': {'break': (*FOLLOWING['break'], (console_words.literal('l'), NUMBER))},
     'history without a number': {'history': ((),)}, 'check with a number alone': {'check': ((NUMBER,),)}}

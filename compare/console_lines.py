@@ -44,7 +44,14 @@ def step_words(at, step):
                 f'line {line_of(at, receive)}')
     if step.kind == 'local':
         return f'{text}: line {next_line(at.world.ranks[step.first])}'
-    return f'{text}: line {line_of(at, last_call(at.world, step.first))}'
+    waiting = f'{text}: line {line_of(at, last_call(at.world, step.first))}'
+    return f'{waiting}, by {call_text(at, request_of(at.world, step))}' if step.kind == 'wakeany' else waiting
+
+
+def request_of(world, step):
+    """The call that a wake by one of some handles is of: what its handle holds."""
+    wait = find_call(world, last_call(world, step.first))
+    return CallId(step.first, world.ranks[step.first].handles[wait.first + step.second])
 
 
 def chosen_for(at, step):
@@ -205,6 +212,11 @@ def requests(world, call_id):
     if call.kind == 'wait':
         return [] if call.target is None else [CallId(call_id.rank, call.target)]
     return explaining.requests(world, call_id.rank) if call.kind == 'waitany' and is_waited_at(world, call_id) else []
+
+
+def waiting(world):
+    """The calls that ranks wait for, by rank."""
+    return [last_call(world, number) for number, rank in enumerate(world.ranks) if rank.mode == 'blocked']
 
 
 def why_lines(at, call_id):

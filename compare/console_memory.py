@@ -16,7 +16,7 @@ from session_memory import HEAD_TO_HEAD, SCRIPT
 
 REFUSED, UNPRINTED = b'refused: memory\n', b'done, but memory for the answer was refused\n'
 # Words that may change something, and what is looked at behind each.
-CHANGING = {**dict.fromkeys(('next', 'run', 'back', 'run-back', 'goto', 'redo', 'deadlock', *STEPS), b'show'),
+CHANGING = {**dict.fromkeys(('next', 'run', 'back', 'run-back', 'undo-choice', 'goto', 'redo', 'follow', 'deadlock', 'trap', *STEPS), b'show'),
             **dict.fromkeys(('break', 'delete'), b'breaks')}
 
 
@@ -75,9 +75,12 @@ queues
 why 0
 why 1.0
 why 0.0
+why
 enabled
 check
 check 1
+follow 1
+follow 9
 next
 next 9
 next 1
@@ -85,6 +88,8 @@ run 2
 run
 run-back
 redo
+undo-choice
+trap
 history
 history 2
 words
@@ -123,16 +128,21 @@ deadlock
 run
 run
 run
+why
 why 0
 why 2
 print x
 enabled
 queues
 calls
-back
+undo-choice
+undo-choice
+trap
+follow 2
 deadlock
 goto 3
 history
+next 2
 run 1
 goto 6
 redo 9

@@ -3,9 +3,14 @@
 import os
 import select
 import subprocess
+import termios
 import tty
 
 from console import GREETING, begun
+from console_words import full_name
+
+# What ends the input at a terminal that gathers lines.
+CTRL_D = b'\x04'
 
 
 def read(number, length, seconds):
@@ -23,10 +28,24 @@ def read(number, length, seconds):
     return told
 
 
+def ends_by_word(row):
+    """Whether the last line of a dialogue is the word that ends it."""
+    return full_name(row.turns[-1][0].decode('latin-1')) == 'quit'
+
+
+def gather_lines(terminal):
+    """Has a terminal that passes each byte as it is gather lines, and end the input behind CTRL_D."""
+    *flags, local, inward, outward, letters = termios.tcgetattr(terminal)
+    letters = [CTRL_D if place == termios.VEOF else b'\x00' for place in range(len(letters))]
+    termios.tcsetattr(terminal, termios.TCSANOW, [*flags, local | termios.ICANON, inward, outward, letters])
+
+
 def wrong_at_terminal(program, words, row, seconds):
     """What is otherwise than it must be where the lines of a worked dialogue are typed, each behind its prompt; None where nothing is."""
     ours, theirs = os.openpty()
     tty.setraw(theirs)
+    if not ends_by_word(row):
+        gather_lines(theirs)
     process = subprocess.Popen([program, *words], stdin=theirs, stdout=theirs, stderr=theirs)
     os.close(theirs)
     try:
@@ -38,19 +57,23 @@ def wrong_at_terminal(program, words, row, seconds):
 
 
 def wrong_in_talk(terminal, row, seconds):
-    """The same of the prompts and answers alone."""
+    """The same of the prompts and answers, up to the end of the input; where no word ends it, a line feed is written last. Of every second
+    dialogue the last line has no end then."""
     console = begun(row.text, row.mode, row.witness_text)
     due = f'{GREETING}\n{row.first}{console.prompt()}'.encode()
-    for typed, wanted in row.turns:
+    for number, (typed, wanted) in enumerate(row.turns, 1):
         if (told := read(terminal, len(due), seconds)) != due:
             return f'{told} and not {due} before {typed}'
-        os.write(terminal, typed + b'\n')
+        is_cut = number == len(row.turns) and number % 2 == 1 and typed and not ends_by_word(row)
+        os.write(terminal, typed + (CTRL_D if is_cut else b'\n'))
         if (said := console.answer(typed)) != wanted:
             return f'the model answers {said} to {typed}'
         if console.is_over:
             return None
         due = (wanted + console.prompt()).encode()
-    return 'the dialogue has no end'
+    os.write(terminal, CTRL_D)
+    told = read(terminal, len(due) + 1, seconds)
+    return None if told == due + b'\n' else f'{told} and not {due} and a line feed at the end'
 
 
 def wrong_end(process, terminal, seconds):

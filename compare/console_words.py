@@ -24,10 +24,12 @@ class Row(NamedTuple):
 
 
 TABLE = (
-    Row(('next [N]',), ('n',), 'takes the step that comes next; at a choice it lists the candidates, and next N takes one, from 1'),
+    Row(('next [N]',), ('n',),
+        'takes the step that comes next; at a choice it lists the candidates, and next N takes one, from 1; elsewhere next N is run N'),
     Row(('run [N]',), ('r', 'continue', 'c'), 'goes on to the next breakpoint, choice or end, or so many steps at most'),
     Row(('back [N]',), ('b', 'reverse-next'), 'takes a step back, or so many'),
     Row(('run-back',), ('rc', 'reverse-continue'), 'goes back to a breakpoint, or to the start'),
+    Row(('undo-choice',), ('u',), 'goes back to the last choice, so that another candidate can be taken'),
     Row(('goto N',), ('g',), 'goes back, or along the steps ahead, until so many steps are taken'),
     Row(('redo [N]',), (), 'takes the step again that was undone last, or so many, or all'),
     Row(('local P', 'match S R', 'wake P', 'wakeany P I', 'release'), (), 'takes this step'),
@@ -42,10 +44,12 @@ TABLE = (
     Row(('ranks',), (), 'shows what each rank is doing'),
     Row(('calls [P]',), (), 'lists the calls of all ranks, or of rank P'),
     Row(('queues',), (), 'lists the sends and the receives that are free'),
-    Row(('why CALL', 'why P'), ('w',), "says why a call, or the call that rank P waits for, isn't matched"),
+    Row(('why [P]', 'why CALL'), ('w',), "says why the calls that ranks wait for aren't matched; or that of rank P, or a call"),
     Row(('history [N]',), ('h',), 'lists the last 10 steps, or the last N'),
     Row(('check [N]',), (), 'tries the choices from here, and lists how the runs end, 1,000 or N of them at most'),
+    Row(('follow N',), ('f',), 'lays the steps of a run ahead; N is its number in check'),
     Row(('deadlock',), (), 'looks for the first deadlock from here, and lays its steps ahead, so that redo and run go there'),
+    Row(('trap',), (), 'looks for the first trap from here, and lays its steps ahead'),
     Row(('words',), (), 'lists the steps taken as trace words, to be kept in a file'),
     Row(('enabled',), (), 'lists the steps that are enabled'),
     Row(('show',), (), 'shows the whole state, as a trace does (docs/FORMATS.md, "Text of show")'),
@@ -68,12 +72,13 @@ NUMBER, CALL, STEPS = number_of, call_id_of, ('local', 'match', 'wake', 'wakeany
 MAYBE_NUMBER = (), (NUMBER,)
 # What may follow each word: lists of what reads the words behind it, one of which must fit.
 FOLLOWING = {
-    'next': MAYBE_NUMBER, 'run': MAYBE_NUMBER, 'back': MAYBE_NUMBER, 'run-back': ((),), 'goto': ((NUMBER,),), 'redo': MAYBE_NUMBER,
+    'next': MAYBE_NUMBER, 'run': MAYBE_NUMBER, 'back': MAYBE_NUMBER, 'run-back': ((),), 'undo-choice': ((),), 'goto': ((NUMBER,),),
+    'redo': MAYBE_NUMBER,
     'local': ((NUMBER,),), 'match': ((CALL, CALL),), 'wake': ((NUMBER,),), 'wakeany': ((NUMBER, NUMBER),), 'release': ((),),
     'break': ((NUMBER,), (literal('line'), NUMBER), (literal('match'), NUMBER), (literal('change'), NUMBER, NAME)), 'delete': ((NUMBER,),),
     'breaks': ((),), 'list': MAYBE_NUMBER, 'print': ((NAME,), (NAME, NUMBER)), 'vars': MAYBE_NUMBER, 'ranks': ((),), 'calls': MAYBE_NUMBER,
-    'queues': ((),), 'why': ((CALL,), (NUMBER,)), 'history': MAYBE_NUMBER, 'check': MAYBE_NUMBER, 'deadlock': ((),), 'words': ((),), 'enabled': ((),),
-    'show': ((),), 'help': ((), (any_word,)), 'quit': ((),)}
+    'queues': ((),), 'why': ((), (NUMBER,), (CALL,)), 'history': MAYBE_NUMBER, 'check': MAYBE_NUMBER, 'follow': ((NUMBER,),), 'deadlock': ((),),
+    'trap': ((),), 'words': ((),), 'enabled': ((),), 'show': ((),), 'help': ((), (any_word,)), 'quit': ((),)}
 
 
 class Asked(NamedTuple):

@@ -12,31 +12,50 @@ from unittest import mock
 
 import console
 import debugger
+import explorer
 from console_starts import STARTS, start_problem
 from console_words import TABLE, full_name
 from examples import EXAMPLES
+from worked_console_choices import ALL_RUNS, CHOICES, MANY_RUNS
 from worked_console_looks import LOOKS
-from worked_console_moves import MOVES, SLOW
+from worked_console_moves import FIRST_RUNS, MOVES
 from worked_console_scripts import LOOP, Dialogue
 from worked_console_texts import TEXTS
 
 PAGE = os.path.join(os.path.dirname(EXAMPLES), 'docs', 'CONSOLE.md')
-DIALOGUES = MOVES + LOOKS + TEXTS
+DIALOGUES = MOVES + LOOKS + TEXTS + CHOICES
+SLOW = ALL_RUNS + FIRST_RUNS
 # What takes the model long: runs of 100,000 steps, and of one more.
 CUT = (
     Dialogue('a run of one step too many, and the same from its second step on',
              'mpd 1; ranks 1; var x;\nwhile x < 49999 { x = x + 1; }\nprint 1;\nprint 2;', '''
 > check
-no choice: cut
-1 run, 1 of them cut, and no more
+1 no choice: cut
+1 run, and no more (1 cut)
 > next
 1 local 0: line 2
 next: local 0: line 2
 > deadlock
-no deadlock: 1 run, and no more
+no deadlock: 1 run, and no more (1 done)
+> follow 1
+run 1, done, is 100000 steps ahead
+100000 ahead: local 0: line 2
+> back
+depth 0
+100001 ahead: local 0: line 2
+> trap
+no trap: 1 run, and no more (1 cut)
+> follow 1
+run 1, cut, is 100000 steps ahead
+100000 ahead: local 0: line 2
+> goto 100000
+depth 100000
+next: local 0: line 4
+> undo-choice
+refused: no choice was made
 '''),)
-# What the model isn't asked: a million steps.
-LONG = (
+# What the model isn't asked: more than 65,536 runs, and a million steps.
+LONG = MANY_RUNS + (
     Dialogue('a million steps', LOOP, '''
 > run
 1000000 steps, depth 1000000
@@ -47,8 +66,13 @@ refused: no more than 1000000 steps are kept
 > local 0
 refused: no more than 1000000 steps are kept
 > check
-no choice: cut
-1 run, 1 of them cut, and no more
+1 no choice: cut
+1 run, and no more (1 cut)
+> follow 1
+run 1, cut, is 0 steps ahead
+next: local 0: line 2
+> undo-choice
+refused: no choice was made
 > back 1000000
 depth 0
 1000000 ahead: local 0: line 2
@@ -117,7 +141,9 @@ def dialogue_problem(row):
     """What the model answers otherwise than a dialogue wants; None where nothing is."""
     limit = debugger.MOST_STEPS if row.limit is None else row.limit
     fuel = console.MOST_FUEL if row.fuel is None else row.fuel
-    with mock.patch.object(debugger, 'MOST_STEPS', limit), mock.patch.object(console, 'MOST_FUEL', fuel):
+    runs = explorer.MOST_RUNS if row.runs is None else row.runs
+    with (mock.patch.object(debugger, 'MOST_STEPS', limit), mock.patch.object(console, 'MOST_FUEL', fuel),
+          mock.patch.object(explorer, 'MOST_RUNS', runs)):
         talked = console.begun(row.text, row.mode, row.witness_text)
         if talked.first != row.first:
             return f'{talked.first} was told first, and not {row.first}'

@@ -11,19 +11,15 @@ Each dialogue is a script in a file, of either version, in some mode, now and th
 The status is 0 where dialogues were compared, none differed, and all was met that must be, which fewer than 300 needn't do.
 """
 
-import argparse
-import os
 import shlex
 import sys
 import tempfile
-import time
 from collections import Counter
-from concurrent.futures import ProcessPoolExecutor
 from functools import cache
 from typing import NamedTuple, Optional
-from unittest import mock
 
 import console_faults
+import driving
 from console_cases import Case, random_case
 from console_met import MUST_MEET, met_in
 from console_starts import LONG_STARTS, STARTS, TYPED, start_problem
@@ -31,7 +27,7 @@ from console_terminal import wrong_at_terminal
 from console_worked import CUT, DIALOGUES, ENDINGS, LONG, SLOW, dialogue_problem, ending_problem
 from debugger import Result
 from explore import first_different
-from runs import held, limit, run_at_once
+from runs import held
 from witness import agrees
 from worked_console_scripts import LOOP
 
@@ -40,15 +36,9 @@ CHUNK = 10
 MANY, FEW = 300, 2
 
 
-def run(chosen, case):
-    """What the program gives for a dialogue."""
-    with tempfile.TemporaryDirectory(prefix='consoles-') as folder:
-        return run_at_once(chosen.program, case.data, chosen.seconds, words=case.words(folder))
-
-
 def said(chosen, case):
     """What the program answers, or else the model."""
-    return run(chosen, case) if chosen.program else case.wanted()
+    return driving.said_by_program(chosen, 'consoles-', case.words, case.data) if chosen.program else case.wanted()
 
 
 # ---- comparing
@@ -94,7 +84,7 @@ def row_wrong(chosen, case, wanted):
 def compare_rows(chosen, pool):
     """How many worked rows are answered otherwise than they must be."""
     cases = list(worked_cases(chosen))
-    typed = [row for row in DIALOGUES if row.is_usual and row.turns[-1][0] in (b'quit', b'q')] if chosen.program else []
+    typed = [row for row in DIALOGUES if row.is_usual] if chosen.program else []
     found = [*pool.map(row_wrong, [chosen] * len(cases), *zip(*cases)), *pool.map(terminal_wrong, [chosen] * len(typed), typed)]
     wrong = [how for how in found if how is not None]
     for how in wrong:
@@ -103,31 +93,25 @@ def compare_rows(chosen, pool):
     return len(wrong)
 
 
-def kept(folder, case):
-    """Keeps the files of a dialogue in a temporary folder, which is made for the first one; says how to ask it again."""
-    if not folder:
-        folder.append(tempfile.mkdtemp(prefix='consoles-'))
-    path = os.path.join(folder[0], case.name)
-    os.makedirs(path)
+def kept(files, case):
+    """Keeps the files of a dialogue; says how to ask it again."""
+    path = files.folder(case.name)
     return f'{shlex.join(case.words(path))} < {held(path, "typed", case.data)}'
 
 
 def compare(chosen, pool):
     """Compares so many random dialogues; gives how many differ, and how much was not met that must be."""
-    chunks = [range(first, min(first + CHUNK, chosen.count)) for first in range(0, chosen.count, CHUNK)]
-    differing, met, compared, folder = 0, Counter(), 0, []
-    for count, found, met_there in pool.map(compare_chunk, [chosen] * len(chunks), chunks):
+    differing, met, compared, files = 0, Counter(), 0, driving.Kept('consoles-')
+    for count, found, met_there in driving.by_chunks(pool, compare_chunk, chosen, CHUNK):
         met += met_there
         compared += count
         for case, how in found:
             differing += 1
-            print(f'{kept(folder, case)}: {how}', flush=True)
-    print('; '.join(f'{name} {met[name]}' for name in MUST_MEET))
-    missed = [name for name in MUST_MEET if not met[name]] if chosen.count >= MANY else []
-    for name in missed:
-        print(f'{name} was not met')
+            print(f'{kept(files, case)}: {how}', flush=True)
+    print(driving.met_line(MUST_MEET, met))
+    missed = driving.tell(driving.not_met(MUST_MEET, met, chosen.count >= MANY))
     print(f'{compared} lines in {chosen.count} dialogues, {differing} different')
-    return differing + len(missed) + (not compared)
+    return differing + missed + (not compared)
 
 
 # ---- faults of the model
@@ -139,20 +123,15 @@ def heard(chosen, number):
     return case, said(chosen, case)
 
 
-def broken(fault):
-    """Has the model a fault, as long as that is asked for."""
-    return mock.patch.object(fault.owner, fault.attribute, fault.replacement)
-
-
 def is_row_wrong_with(fault):
     """Whether a worked row shows a fault, those that take the model long left out."""
-    with broken(fault):
+    with driving.broken(fault):
         return any(map(dialogue_problem, DIALOGUES)) or any(map(ending_problem, ENDINGS)) or any(map(start_problem, STARTS))
 
 
 def is_slow_wrong_with(fault):
     """The same of those, without those of 100,000 steps."""
-    with broken(fault):
+    with driving.broken(fault):
         return any(map(dialogue_problem, SLOW))
 
 
@@ -160,7 +139,7 @@ def is_dialogue_wrong_with(fault, chosen, count):
     """Whether the model with a fault answers otherwise in one of so many random dialogues."""
     for number in range(count):
         case, result = heard(chosen, number)
-        with broken(fault):
+        with driving.broken(fault):
             if not agrees(result, case.wanted()):
                 return True
     return False
@@ -178,16 +157,14 @@ def compare_broken(chosen, pool):
     faults = console_faults.breakages()
     found = list(pool.map(noticed, [chosen] * len(faults), range(len(faults))))
     left = [fault.name for fault, by in zip(faults, found) if not any(by)]
-    for name in left:
-        print(f'{name}: NOT NOTICED', flush=True)
+    driving.tell_not_noticed(left)
     by_dialogues, by_rows = (sum(by) for by in zip(*found))
     print(f'{len(faults)} broken models, {len(faults) - len(left)} noticed, {by_dialogues} by random dialogues and {by_rows} by worked rows')
     return len(left) + (not faults)
 
 
-def prepare(chosen):
-    """Readies a process for its part of a run."""
-    limit(chosen.memory, chosen.output)
+def compare_all(chosen, pool):
+    return compare_rows(chosen, pool) + compare(chosen, pool)
 
 
 class Chosen(NamedTuple):
@@ -203,33 +180,10 @@ class Chosen(NamedTuple):
     output: int
 
 
-def arguments():
-    parser = argparse.ArgumentParser(description=__doc__, formatter_class=argparse.RawDescriptionHelpFormatter)
-    parser.add_argument('program', nargs='?', metavar='PROGRAM')
-    parser.add_argument('--count', type=int, default=300, help='how many random dialogues (300)')
-    parser.add_argument('--seed', type=int, default=1, help='another seed gives other dialogues (1)')
-    parser.add_argument('--broken', action='store_true', help='break the model on purpose; each fault must be noticed')
-    parser.add_argument('--short', action='store_true', help='leave out the rows of 100,000 steps and more')
-    parser.add_argument('--jobs', type=int, default=2, help='how many processes (2)')
-    parser.add_argument('--seconds', type=float, default=20, help='how long one dialogue may take (20)')
-    parser.add_argument('--memory', type=int, default=4096, help='how much memory the program may take, in MiB (4096)')
-    parser.add_argument('--output', type=int, default=256, help='how much the program may write, in MiB (256)')
-    chosen = Chosen(**vars(parser.parse_args()))
-    if chosen.program:
-        chosen = chosen._replace(program=os.path.abspath(chosen.program))
-        if not os.access(chosen.program, os.X_OK) or os.path.isdir(chosen.program):
-            parser.error(f'{chosen.program} is no program')
-    return chosen
-
-
 def main():
-    chosen = arguments()
-    began = time.monotonic()
-    with ProcessPoolExecutor(chosen.jobs, initializer=prepare, initargs=(chosen,)) as pool:
-        wrong = compare_rows(chosen, pool) + compare(chosen, pool)
-        wrong += compare_broken(chosen, pool) if chosen.broken else 0
-    print(f'{time.monotonic() - began:.1f} seconds')
-    return 1 if wrong else 0
+    short = '--short', 'leave out the rows of 100,000 steps and more'
+    parser = driving.parser_of(__doc__, 'random dialogues (300)', 300, 'dialogue', others='dialogues', flags=(short,))
+    return driving.driven(Chosen(**vars(driving.chosen_by(parser))), compare_all, compare_broken)
 
 
 if __name__ == '__main__':

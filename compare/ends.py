@@ -13,17 +13,12 @@ walk). Each leaf must be the run of its choices. With `--explain` a report must 
 met that must be.
 """
 
-import argparse
-import os
 import shlex
 import sys
-import tempfile
-import time
 from collections import Counter
-from concurrent.futures import ProcessPoolExecutor
 from itertools import chain
-from unittest import mock
 
+import driving
 import ends_cases
 import ends_faults
 import every_end
@@ -34,10 +29,9 @@ from explore import first_different
 from explore_cases import Case
 from explorer import CUT
 from remembered import steps_remembered
-from runs import held, limit, run_at_once
+from runs import held
 from worked_explorer import wanted_result
 
-CHUNK = 20
 # So many scripts meet all that must be met.
 MANY = 300
 MUST_MEET = (
@@ -52,8 +46,7 @@ MUST_MEET_OF_EVERY_END = ('small scripts', 'rendezvous', 'buffered', 'one end', 
 
 def run(chosen, words_in):
     """What the program gives, by what has its words in a folder."""
-    with tempfile.TemporaryDirectory(prefix='ends-') as folder:
-        return run_at_once(chosen.program, b'', chosen.seconds, words=words_in(folder))
+    return driving.said_by_program(chosen, 'ends-', words_in)
 
 
 def said(chosen, case):
@@ -188,47 +181,42 @@ def compare_chunk(chosen, numbers):
     return found, met, met_of_every
 
 
-def kept(folder, case):
-    """Keeps the file of a case in a temporary folder, which is made for the first one; says what words ask the program of it."""
-    if not folder:
-        folder.append(tempfile.mkdtemp(prefix='ends-'))
-    path = os.path.join(folder[0], case.name)
-    os.makedirs(path, exist_ok=True)
+def kept(files, case):
+    """Keeps the file of a case; says what words ask the program of it."""
+    path = files.folder(case.name)
     held(path, 'script.mpd', case.script)
     return shlex.join(case.words(path))
 
 
 def compare(chosen, pool):
     """Compares so many scripts; gives how much differed, or was not met that must be."""
-    chunks = [range(first, min(first + CHUNK, chosen.count)) for first in range(0, chosen.count, CHUNK)]
     rows = rows_wrong(chosen, pool)
-    differing, met, met_of_every, folder = len(rows), Counter(), Counter(), []
+    differing, met, met_of_every, files = len(rows), Counter(), Counter(), driving.Kept('ends-')
     for how in rows:
         print(how, flush=True)
-    for found, there, there_of_every in pool.map(compare_chunk, [chosen] * len(chunks), chunks):
+    for found, there, there_of_every in driving.by_chunks(pool, compare_chunk, chosen):
         met += there
         met_of_every += there_of_every
         for case, how in found:
             differing += 1
-            print(f'{kept(folder, case)}: {how}', flush=True)
-    print('; '.join(f'{name} {met[name]}' for name in MUST_MEET))
-    print('; '.join(f'{name} {met_of_every[name]}' for name in MUST_MEET_OF_EVERY_END))
-    missed = [name for name in MUST_MEET if not met[name]] + [name for name in MUST_MEET_OF_EVERY_END if not met_of_every[name]]
-    for name in missed if chosen.count >= MANY else []:
-        print(f'{name} was not met')
+            print(f'{kept(files, case)}: {how}', flush=True)
+    print(driving.met_line(MUST_MEET, met))
+    print(driving.met_line(MUST_MEET_OF_EVERY_END, met_of_every))
+    is_enough = chosen.count >= MANY
+    missed = driving.tell(driving.not_met(MUST_MEET, met, is_enough) + driving.not_met(MUST_MEET_OF_EVERY_END, met_of_every, is_enough))
     print(f'{met["reports"]} reports of {chosen.count} scripts, {met_of_every["small scripts"]} beside all interleavings, {differing} different')
-    return differing + (len(missed) if chosen.count >= MANY else 0) + (not met['reports'])
+    return differing + missed + (not met['reports'])
 
 
 def shows(fault, case, answer):
     """Whether the model with a fault says otherwise to a case than the program, or else the sound model."""
-    with mock.patch.object(fault.owner, fault.attribute, fault.replacement):
+    with driving.broken(fault):
         return case.wanted() != answer
 
 
 def is_wrong_with(fault, small):
     """Whether all interleavings of a script show a fault of its report."""
-    with mock.patch.object(fault.owner, fault.attribute, fault.replacement):
+    with driving.broken(fault):
         result = case_of(small).wanted()
     return every_end.told_of(small, result) is not None
 
@@ -263,44 +251,12 @@ def compare_broken(chosen, pool):
     """How many faults of the model are not noticed."""
     tasks = [pool.submit(noticing, chosen) for noticing in (not_noticed, not_noticed_by_every_end, not_noticed_explained)]
     left = [name for task in tasks for name in task.result()]
-    for name in left:
-        print(f'{name}: NOT NOTICED', flush=True)
-    count = len(ends_faults.breakages()) + len(ends_faults.every_end_faults()) + len(explained_lines.FAULTS)
-    print(f'{count} broken models, {count - len(left)} noticed')
-    return len(left) + (not count)
-
-
-def prepare(chosen):
-    """Readies a process for its part of a run."""
-    limit(chosen.memory, chosen.output)
-
-
-def arguments():
-    parser = argparse.ArgumentParser(description=__doc__, formatter_class=argparse.RawDescriptionHelpFormatter)
-    parser.add_argument('program', nargs='?', metavar='PROGRAM')
-    parser.add_argument('--count', type=int, default=500, help='how many scripts of each kind (500)')
-    parser.add_argument('--seed', type=int, default=1, help='another seed gives other scripts (1)')
-    parser.add_argument('--broken', action='store_true', help='break the model on purpose; each fault must be noticed')
-    parser.add_argument('--jobs', type=int, default=2, help='how many processes (2)')
-    parser.add_argument('--seconds', type=float, default=20, help='how long one check may take (20)')
-    parser.add_argument('--memory', type=int, default=4096, help='how much memory the program may take, in MiB (4096)')
-    parser.add_argument('--output', type=int, default=256, help='how much the program may write, in MiB (256)')
-    chosen = parser.parse_args()
-    if chosen.program:
-        chosen.program = os.path.abspath(chosen.program)
-        if not os.access(chosen.program, os.X_OK) or os.path.isdir(chosen.program):
-            parser.error(f'{chosen.program} is no program')
-    return chosen
+    return driving.count_left(left, len(ends_faults.breakages()) + len(ends_faults.every_end_faults()) + len(explained_lines.FAULTS))
 
 
 def main():
-    chosen = arguments()
-    began = time.monotonic()
-    with ProcessPoolExecutor(chosen.jobs, initializer=prepare, initargs=(chosen,)) as pool:
-        wrong = compare(chosen, pool)
-        wrong += compare_broken(chosen, pool) if chosen.broken else 0
-    print(f'{time.monotonic() - began:.1f} seconds')
-    return 1 if wrong else 0
+    chosen = driving.chosen_by(driving.parser_of(__doc__, 'scripts of each kind (500)', 500))
+    return driving.driven(chosen, compare, compare_broken)
 
 
 if __name__ == '__main__':

@@ -11,27 +11,21 @@ first deadlock, by their ends, and by runs that are drawn. The status is 0 where
 must be.
 """
 
-import argparse
-import os
 import re
 import shlex
 import sys
-import tempfile
-import time
 from collections import Counter
-from concurrent.futures import ProcessPoolExecutor
 from itertools import takewhile
-from unittest import mock
 
+import driving
 import explained_cases
 import explained_faults
 import worked_explained
 from explaining import CYCLE, DIFFERENCES, NEAREST, TAKEN
 from explore import first_different
 from remembered import steps_remembered
-from runs import held, limit, run_at_once
+from runs import held
 
-CHUNK = 20
 # So many scripts meet all that must be met.
 MANY = 150
 CALL = r'line \d+, \d+\.\d+ '
@@ -62,10 +56,7 @@ BEGINS = re.compile(r'(leaf|end) \d+ (\[.*?\]|leaves (\d+) first \d+) (.*)')
 
 def said(chosen, case):
     """What the program says to a case, or else the model."""
-    if not chosen.program:
-        return case.wanted()
-    with tempfile.TemporaryDirectory(prefix='explained-') as folder:
-        return run_at_once(chosen.program, b'', chosen.seconds, words=case.words(folder))
+    return driving.said_by_program(chosen, 'explained-', case.words) if chosen.program else case.wanted()
 
 
 # ---- what is met
@@ -154,38 +145,32 @@ def rows_wrong(chosen):
             yield row.case()._replace(name=f'row-{place}'), first_different(result, wanted)
 
 
-def kept(folder, case):
-    """Keeps the file of a case in a temporary folder, which is made for the first one; says what words ask the program of it."""
-    if not folder:
-        folder.append(tempfile.mkdtemp(prefix='explained-'))
-    path = os.path.join(folder[0], case.name)
-    os.makedirs(path, exist_ok=True)
+def kept(files, case):
+    """Keeps the file of a case; says what words ask the program of it."""
+    path = files.folder(case.name)
     held(path, 'script.mpd', case.script)
     return shlex.join(case.words(path))
 
 
 def compare(chosen, pool):
     """Compares so many scripts; gives how much differed, or was not met that must be."""
-    chunks = [range(first, min(first + CHUNK, chosen.count)) for first in range(0, chosen.count, CHUNK)]
-    differing, met, folder = 0, Counter(), []
-    for found, there in [(list(rows_wrong(chosen)), Counter()), *pool.map(compare_chunk, [chosen] * len(chunks), chunks)]:
+    differing, met, files = 0, Counter(), driving.Kept('explained-')
+    for found, there in [(list(rows_wrong(chosen)), Counter()), *driving.by_chunks(pool, compare_chunk, chosen)]:
         met += there
         for case, how in found:
             differing += 1
-            print(f'{kept(folder, case)}: {how}', flush=True)
-    print('; '.join(f'{name} {met[name]}' for name in MUST_MEET))
-    missed = [name for name in MUST_MEET if not met[name]] if chosen.count >= MANY else []
-    for name in missed:
-        print(f'{name} was not met')
+            print(f'{kept(files, case)}: {how}', flush=True)
+    print(driving.met_line(MUST_MEET, met))
+    missed = driving.tell(driving.not_met(MUST_MEET, met, chosen.count >= MANY))
     print(f'{met["reports"]} reports of {chosen.count} scripts, {len(worked_explained.ROWS)} worked rows, {differing} different')
-    return differing + len(missed) + (not met['reports'])
+    return differing + missed + (not met['reports'])
 
 
 # ---- faults of the model
 
 def shows(fault, case, answer):
     """Whether the model with a fault says otherwise to a case than the program, or else the sound model."""
-    with mock.patch.object(fault.owner, fault.attribute, fault.replacement):
+    with driving.broken(fault):
         return case.wanted() != answer
 
 
@@ -213,44 +198,15 @@ def compare_broken(chosen):
     by_scripts = not_noticed(faults, answered(chosen, drawn))
     by_rows = not_noticed(faults, answered(chosen, (row.case() for row in worked_explained.ROWS)))
     left = [fault for fault in by_scripts if fault in by_rows]
-    for fault in left:
-        print(f'{fault.name}: NOT NOTICED', flush=True)
+    driving.tell_not_noticed(fault.name for fault in left)
     counts = (len(faults) - len(some) for some in (left, by_scripts, by_rows))
     print('{} broken models, {} noticed, {} by random scripts and {} by worked rows'.format(len(faults), *counts))
     return len(left) + (not faults)
 
 
-def prepare(chosen):
-    """Readies a process for its part of a run."""
-    limit(chosen.memory, chosen.output)
-
-
-def arguments():
-    parser = argparse.ArgumentParser(description=__doc__, formatter_class=argparse.RawDescriptionHelpFormatter)
-    parser.add_argument('program', nargs='?', metavar='PROGRAM')
-    parser.add_argument('--count', type=int, default=1000, help='how many scripts (1000)')
-    parser.add_argument('--seed', type=int, default=1, help='another seed gives other scripts (1)')
-    parser.add_argument('--broken', action='store_true', help='break the model on purpose; each fault must be noticed')
-    parser.add_argument('--jobs', type=int, default=1, help='how many processes (1)')
-    parser.add_argument('--seconds', type=float, default=20, help='how long one check may take (20)')
-    parser.add_argument('--memory', type=int, default=4096, help='how much memory the program may take, in MiB (4096)')
-    parser.add_argument('--output', type=int, default=256, help='how much the program may write, in MiB (256)')
-    chosen = parser.parse_args()
-    if chosen.program:
-        chosen.program = os.path.abspath(chosen.program)
-        if not os.access(chosen.program, os.X_OK) or os.path.isdir(chosen.program):
-            parser.error(f'{chosen.program} is no program')
-    return chosen
-
-
 def main():
-    chosen = arguments()
-    began = time.monotonic()
-    with ProcessPoolExecutor(chosen.jobs, initializer=prepare, initargs=(chosen,)) as pool:
-        wrong = compare(chosen, pool)
-        wrong += pool.submit(compare_broken, chosen).result() if chosen.broken else 0
-    print(f'{time.monotonic() - began:.1f} seconds')
-    return 1 if wrong else 0
+    chosen = driving.chosen_by(driving.parser_of(__doc__, 'scripts (1000)', 1000, jobs=1))
+    return driving.driven(chosen, compare, lambda _, pool: pool.submit(compare_broken, chosen).result())
 
 
 if __name__ == '__main__':

@@ -12,18 +12,13 @@ witness of the whole report by the number of its leaf, and say what is wrong wit
 the line on standard error begins is compared. The status is 0 where reports were read, none differed, and all was met that must be.
 """
 
-import argparse
-import os
 import shlex
 import sys
-import tempfile
-import time
 from collections import Counter
-from concurrent.futures import ProcessPoolExecutor
 from itertools import chain
-from unittest import mock
 
 import debugger
+import driving
 import reread_faults
 from debugger import BUFFERED, RENDEZVOUS, Result, step_text
 from explore import first_different
@@ -33,11 +28,10 @@ from remembered import steps_remembered
 from report_lines import NoReport, read_report
 from reread_cases import OF_LEAF, questions, report_asked
 from run_words import WRONG_WORDS, Words
-from runs import held, limit, run_at_once
+from runs import held
 from witness import agrees
 from worked_ends import LEAVES, LONG_LEAVES, LONG_WORDS, MISTAKES, MISTAKES_OF_VERIFY, WORDS
 
-CHUNK = 20
 # So many scripts meet all that must be met.
 MANY = 200
 MUST_MEET = (
@@ -50,8 +44,7 @@ MUST_MEET = (
 
 def run(chosen, words_in, data=b''):
     """What the program gives, by what has its words in a folder."""
-    with tempfile.TemporaryDirectory(prefix='reread-') as folder:
-        return run_at_once(chosen.program, data, chosen.seconds, words=words_in(folder))
+    return driving.said_by_program(chosen, 'reread-', words_in, data)
 
 
 def said(chosen, question):
@@ -218,36 +211,24 @@ def compare_chunk(chosen, numbers):
     return sum((found for found, _, _ in parts), []), sum((met for _, met, _ in parts), Counter()), sum(count for _, _, count in parts)
 
 
-def kept(folder, number, question):
-    """Keeps the files of a question in a temporary folder, which is made for the first one; says what words ask the program of it."""
-    if not folder:
-        folder.append(tempfile.mkdtemp(prefix='reread-'))
-    path = os.path.join(folder[0], str(number))
-    os.makedirs(path)
-    return shlex.join(question.words(path))
-
-
 def compare(chosen, pool):
     """Compares what is said of so many reports; gives how much differed, or was not met that must be."""
-    chunks = [range(first, min(first + CHUNK, chosen.count)) for first in range(0, chosen.count, CHUNK)]
-    differing, met, asked, folder = 0, Counter(), 0, []
-    for found, met_there, count in pool.map(compare_chunk, [chosen] * len(chunks), chunks):
+    differing, met, asked, files = 0, Counter(), 0, driving.Kept('reread-')
+    for found, met_there, count in driving.by_chunks(pool, compare_chunk, chosen):
         for question, how in found:
             differing += 1
-            print(f'{kept(folder, differing, question)}: {how}', flush=True)
+            print(f'{shlex.join(question.words(files.folder(differing)))}: {how}', flush=True)
         met += met_there
         asked += count
-    print('; '.join(f'{name} {met[name]}' for name in MUST_MEET))
-    missed = [name for name in MUST_MEET if not met[name]] if chosen.count >= MANY else []
-    for name in missed:
-        print(f'{name} was not met')
+    print(driving.met_line(MUST_MEET, met))
+    missed = driving.tell(driving.not_met(MUST_MEET, met, chosen.count >= MANY))
     print(f'{asked} questions to {met["reports"]} reports, {differing} different')
-    return differing + len(missed) + (not asked)
+    return differing + missed + (not asked)
 
 
 def shows(fault, question, answer):
     """Whether the model with a fault says otherwise to a question than the program, or else the sound model."""
-    with mock.patch.object(fault.owner, fault.attribute, fault.replacement):
+    with driving.broken(fault):
         return not is_told(answer, question.wanted())
 
 
@@ -263,44 +244,16 @@ def not_noticed(chosen):
 
 def compare_broken(chosen, pool):
     """How many faults of the model are not noticed."""
-    left, count = pool.submit(not_noticed, chosen).result(), len(reread_faults.breakages())
-    for name in left:
-        print(f'{name}: NOT NOTICED', flush=True)
-    print(f'{count} broken models, {count - len(left)} noticed')
-    return len(left) + (not count)
+    return driving.count_left(pool.submit(not_noticed, chosen).result(), len(reread_faults.breakages()))
 
 
-def prepare(chosen):
-    """Readies a process for its part of a run."""
-    limit(chosen.memory, chosen.output)
-
-
-def arguments():
-    parser = argparse.ArgumentParser(description=__doc__, formatter_class=argparse.RawDescriptionHelpFormatter)
-    parser.add_argument('program', nargs='?', metavar='PROGRAM')
-    parser.add_argument('--count', type=int, default=300, help='how many scripts (300)')
-    parser.add_argument('--seed', type=int, default=1, help='another seed gives other scripts (1)')
-    parser.add_argument('--broken', action='store_true', help='break the model on purpose; each fault must be noticed')
-    parser.add_argument('--jobs', type=int, default=2, help='how many processes (2)')
-    parser.add_argument('--seconds', type=float, default=20, help='how long one answer may take (20)')
-    parser.add_argument('--memory', type=int, default=4096, help='how much memory the program may take, in MiB (4096)')
-    parser.add_argument('--output', type=int, default=256, help='how much the program may write, in MiB (256)')
-    chosen = parser.parse_args()
-    if chosen.program:
-        chosen.program = os.path.abspath(chosen.program)
-        if not os.access(chosen.program, os.X_OK) or os.path.isdir(chosen.program):
-            parser.error(f'{chosen.program} is no program')
-    return chosen
+def compare_all(chosen, pool):
+    return compare_rows(chosen, pool) + compare(chosen, pool)
 
 
 def main():
-    chosen = arguments()
-    began = time.monotonic()
-    with ProcessPoolExecutor(chosen.jobs, initializer=prepare, initargs=(chosen,)) as pool:
-        wrong = compare_rows(chosen, pool) + compare(chosen, pool)
-        wrong += compare_broken(chosen, pool) if chosen.broken else 0
-    print(f'{time.monotonic() - began:.1f} seconds')
-    return 1 if wrong else 0
+    chosen = driving.chosen_by(driving.parser_of(__doc__, 'scripts (300)', 300, 'answer'))
+    return driving.driven(chosen, compare_all, compare_broken)
 
 
 if __name__ == '__main__':

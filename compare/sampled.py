@@ -11,29 +11,24 @@ in seven to eleven runs must be found by a hundred. Over many seeds each run mus
 The status is 0 where scripts were checked, nothing was wrong, and all was met that must be.
 """
 
-import argparse
 import math
-import os
 import shlex
 import sys
 import tempfile
-import time
 from collections import Counter
-from concurrent.futures import ProcessPoolExecutor
 from random import Random
-from unittest import mock
 
+import driving
 import samples
 import samples_faults
 from explorer import is_bad
 from remembered import steps_remembered
 from report_lines import NoReport, read_report
-from runs import held, limit, run_at_once
+from runs import held, run_at_once
 from samples import MOST_SEED, Sampling, leaves_of, told_in, wrong_of
 from samples_cases import (BITS, CHANGED_SEEDS, DRAWN, LEAST_DIFFERENT, MANY_SEEDS, MOST_DEVIATIONS, MOST_DIFFERENT, SEVERAL_SEEDS, SPREADS,
                            hang_sampling, random_sampling)
 
-CHUNK = 20
 # So many scripts meet all that must be met; so many hangs must be found.
 MANY, HANGS = 300, 9
 # Behind so many scripts it is looked at how runs are drawn that haven't shown a fault.
@@ -55,11 +50,7 @@ def asker(chosen):
     """What has the program, or what stands for it, answer a check."""
     if chosen.program is None:
         return samples.answer
-
-    def said(asked):
-        with tempfile.TemporaryDirectory(prefix='sampled-') as folder:
-            return run_at_once(chosen.program, b'', chosen.seconds, words=asked.words(folder))
-    return said
+    return lambda asked: driving.said_by_program(chosen, 'sampled-', asked.words)
 
 
 def met_in(asked, told, other):
@@ -193,37 +184,26 @@ BY_FIRST_SCRIPT = SPREADS[0].script.encode()
 
 # ---- all of it
 
-def kept(folder, asked):
-    """Keeps the script of a check in a temporary folder, which is made for the first one; says what words ask the program of it."""
-    if not folder:
-        folder.append(tempfile.mkdtemp(prefix='sampled-'))
-    path = os.path.join(folder[0], asked.name)
-    os.makedirs(path, exist_ok=True)
-    return shlex.join(asked.words(path))
-
-
 def compare(chosen, pool):
     """Checks all of it; gives how much was wrong, or was not met that must be."""
-    chunks = [range(first, min(first + CHUNK, chosen.count)) for first in range(0, chosen.count, CHUNK)]
-    met, found, folder = Counter(), [], []
-    for there, met_there in pool.map(check_chunk, [chosen] * len(chunks), chunks):
+    met, found, files = Counter(), [], driving.Kept('sampled-')
+    for there, met_there in driving.by_chunks(pool, check_chunk, chosen):
         found += there
         met += met_there
     found += [(asked, wrong) for asked, wrong in pool.map(check_hang, [chosen] * HANGS, range(HANGS)) if wrong is not None]
     for asked, wrong in found:
-        print(f'{kept(folder, asked)}: {wrong}', flush=True)
+        print(f'{shlex.join(asked.words(files.folder(asked.name)))}: {wrong}', flush=True)
     others = drawing_wrong(asker(chosen)) + (words_wrong(chosen) if chosen.program else [])
-    others += [f'{name} was not met' for name in MUST_MEET if not met[name]] if chosen.count >= MANY else []
-    for wrong in others:
-        print(wrong)
-    print('; '.join(f'{name} {met[name]}' for name in MUST_MEET))
+    others += driving.not_met(MUST_MEET, met, chosen.count >= MANY)
+    driving.tell(others)
+    print(driving.met_line(MUST_MEET, met))
     print(f'{met["checks"]} checks by runs that are drawn, {HANGS} hangs, {len(found) + len(others)} wrong')
     return len(found) + len(others) + (not met['checks'])
 
 
 def shows(fault, wrong):
     """Whether something is wrong where what stands for a program has a fault."""
-    with mock.patch.object(fault.owner, fault.attribute, fault.replacement):
+    with driving.broken(fault):
         return bool(wrong())
 
 
@@ -242,44 +222,12 @@ def not_noticed(chosen):
 
 def compare_broken(chosen, pool):
     """How many faults are not noticed."""
-    left, count = pool.submit(not_noticed, chosen).result(), len(samples_faults.breakages())
-    for name in left:
-        print(f'{name}: NOT NOTICED', flush=True)
-    print(f'{count} broken models, {count - len(left)} noticed')
-    return len(left) + (not count)
-
-
-def prepare(chosen):
-    """Readies a process for its part of a run."""
-    limit(chosen.memory, chosen.output)
-
-
-def arguments():
-    parser = argparse.ArgumentParser(description=__doc__, formatter_class=argparse.RawDescriptionHelpFormatter)
-    parser.add_argument('program', nargs='?', metavar='PROGRAM')
-    parser.add_argument('--count', type=int, default=500, help='how many scripts (500)')
-    parser.add_argument('--seed', type=int, default=1, help='another seed gives other scripts (1)')
-    parser.add_argument('--broken', action='store_true', help='break the model on purpose; each fault must be noticed')
-    parser.add_argument('--jobs', type=int, default=2, help='how many processes (2)')
-    parser.add_argument('--seconds', type=float, default=20, help='how long one check may take (20)')
-    parser.add_argument('--memory', type=int, default=4096, help='how much memory the program may take, in MiB (4096)')
-    parser.add_argument('--output', type=int, default=256, help='how much the program may write, in MiB (256)')
-    chosen = parser.parse_args()
-    if chosen.program:
-        chosen.program = os.path.abspath(chosen.program)
-        if not os.access(chosen.program, os.X_OK) or os.path.isdir(chosen.program):
-            parser.error(f'{chosen.program} is no program')
-    return chosen
+    return driving.count_left(pool.submit(not_noticed, chosen).result(), len(samples_faults.breakages()))
 
 
 def main():
-    chosen = arguments()
-    began = time.monotonic()
-    with ProcessPoolExecutor(chosen.jobs, initializer=prepare, initargs=(chosen,)) as pool:
-        wrong = compare(chosen, pool)
-        wrong += compare_broken(chosen, pool) if chosen.broken else 0
-    print(f'{time.monotonic() - began:.1f} seconds')
-    return 1 if wrong else 0
+    chosen = driving.chosen_by(driving.parser_of(__doc__, 'scripts (500)', 500))
+    return driving.driven(chosen, compare, compare_broken)
 
 
 if __name__ == '__main__':

@@ -10,19 +10,15 @@ alone has, behind the value of each standard send; and but for the status of a r
 for that: in a mode of slots none does. The status is 0 where scripts were compared, none differed, and all was met that must be.
 """
 
-import argparse
 import os
 import re
 import sys
-import tempfile
-import time
 from collections import Counter
-from concurrent.futures import ProcessPoolExecutor
 from random import Random
 from typing import NamedTuple
-from unittest import mock
 
 import debugger
+import driving
 import explorer
 import session
 import session_cases
@@ -34,9 +30,8 @@ from explore_cases import FUELS, KINDS, KINDS_OF_2, KINDS_OF_SLOTS, RUNS, kind_o
 from explorer import Asked, NOT_WHOLE, option_words
 from language import Fault
 from modes import BUFFERED, RENDEZVOUS
-from runs import held, limit, run_at_once
+from runs import held
 
-CHUNK = 20
 OF_MODEL, OF_PROGRAM = 500, 5000
 # So many scripts meet all that must be met.
 MANY = 300
@@ -93,8 +88,7 @@ def said(chosen, question, mode):
     """What the program answers, or else the model."""
     if chosen.program is None:
         return question.said_by_model(mode)
-    with tempfile.TemporaryDirectory(prefix='slots-') as folder:
-        return run_at_once(chosen.program, question.data, chosen.seconds, words=question.words(folder, mode))
+    return driving.said_by_program(chosen, 'slots-', lambda folder: question.words(folder, mode), question.data)
 
 
 def wanted(question, pair, plain):
@@ -189,32 +183,25 @@ def compare_chunk(chosen, numbers):
     return sum((found for found, _ in parts), []), sum((met for _, met in parts), Counter())
 
 
-def kept(folder, number, differing):
-    """Keeps a script and an input in a temporary folder, which is made for the first one; says what to ask a program, in either mode."""
-    if not folder:
-        folder.append(tempfile.mkdtemp(prefix='slots-'))
-    path = os.path.join(folder[0], str(number))
-    os.makedirs(path)
+def kept(path, differing):
+    """Keeps a script and an input in a folder; says what to ask a program, in either mode."""
     data = held(path, 'input', differing.question.data)
     return f'{" ".join(differing.question.words(path, differing.pair.slots))} < {data}, beside {differing.pair.plain}: {differing.how}'
 
 
 def compare(chosen, pool):
     """Compares so many scripts; gives how much differed, or was not met that must be."""
-    chunks = [range(first, min(first + CHUNK, chosen.count)) for first in range(0, chosen.count, CHUNK)]
-    differing, met, folder = 0, Counter(), []
-    for found, met_there in pool.map(compare_chunk, [chosen] * len(chunks), chunks):
+    differing, met, files = 0, Counter(), driving.Kept('slots-')
+    for found, met_there in driving.by_chunks(pool, compare_chunk, chosen):
         for one in found:
             differing += 1
-            print(kept(folder, differing, one), flush=True)
+            print(kept(files.folder(differing), one), flush=True)
         met += met_there
-    print('; '.join(f'{name} {met[name]}' for name in MUST_MEET))
-    missed = [name for name in MUST_MEET if not met[name]] if chosen.count >= MANY else []
-    for name in missed:
-        print(f'{name} was not met')
+    print(driving.met_line(MUST_MEET, met))
+    missed = driving.tell(driving.not_met(MUST_MEET, met, chosen.count >= MANY))
     asked = sum(met[name] for name in ('check', 'trace', 'run'))
     print(f'{asked} answers in modes of slots, of {chosen.count} scripts, {differing} different')
-    return differing + len(missed) + (not asked)
+    return differing + missed + (not asked)
 
 
 def is_noticed(chosen, place):
@@ -222,7 +209,7 @@ def is_noticed(chosen, place):
     fault = slots_faults.pair_faults(session)[place]
     for number in range(chosen.count):
         asked = questions(chosen.seed, number)
-        with mock.patch.object(fault.owner, fault.attribute, fault.replacement):
+        with driving.broken(fault):
             if any(question.said_by_model(pair.slots) != wanted(question, pair, question.said_by_model(pair.plain))
                    for question in asked for pair in PAIRS):
                 return True
@@ -239,39 +226,13 @@ def compare_broken(chosen, pool):
     return noticed.count(False) + (not faults)
 
 
-def prepare(chosen):
-    """Readies a process for its part of a run."""
-    limit(chosen.memory, chosen.output)
-
-
-def arguments():
-    parser = argparse.ArgumentParser(description=__doc__, formatter_class=argparse.RawDescriptionHelpFormatter)
-    parser.add_argument('program', nargs='?', metavar='PROGRAM')
-    parser.add_argument('--count', type=int, help=f'how many scripts ({OF_PROGRAM}, or {OF_MODEL} where the model stands for a program)')
-    parser.add_argument('--seed', type=int, default=1, help='another seed gives other scripts (1)')
-    parser.add_argument('--broken', action='store_true', help='break the model on purpose; each fault must be noticed')
-    parser.add_argument('--jobs', type=int, default=len(os.sched_getaffinity(0)), help='how many processes (one for each core)')
-    parser.add_argument('--seconds', type=float, default=20, help='how long one answer may take (20)')
-    parser.add_argument('--memory', type=int, default=4096, help='how much memory the program may take, in MiB (4096)')
-    parser.add_argument('--output', type=int, default=256, help='how much the program may write, in MiB (256)')
-    chosen = parser.parse_args()
-    if chosen.program:
-        chosen.program = os.path.abspath(chosen.program)
-        if not os.access(chosen.program, os.X_OK) or os.path.isdir(chosen.program):
-            parser.error(f'{chosen.program} is no program')
+def main():
+    told = f'scripts ({OF_PROGRAM}, or {OF_MODEL} where the model stands for a program)'
+    cores = len(os.sched_getaffinity(0))
+    chosen = driving.chosen_by(driving.parser_of(__doc__, told, None, 'answer', cores, 'one for each core'))
     if chosen.count is None:
         chosen.count = OF_PROGRAM if chosen.program else OF_MODEL
-    return chosen
-
-
-def main():
-    chosen = arguments()
-    began = time.monotonic()
-    with ProcessPoolExecutor(chosen.jobs, initializer=prepare, initargs=(chosen,)) as pool:
-        wrong = compare(chosen, pool)
-        wrong += compare_broken(chosen, pool) if chosen.broken else 0
-    print(f'{time.monotonic() - began:.1f} seconds')
-    return 1 if wrong else 0
+    return driving.driven(chosen, compare, compare_broken)
 
 
 if __name__ == '__main__':

@@ -107,15 +107,15 @@ next: match 1.0 0.0: the send of rank 1, line 17, to the receive of rank 0, line
 > run
 4 steps, depth 13
 stopped at a choice of rank 0, line 12:
-  1 wakeany 0 0: line 12
-  2 wakeany 0 1: line 12
+  1 wakeany 0 0: line 12, by line 9, 0.0 irecv from 1 tag 0
+  2 wakeany 0 1: line 12, by line 10, 0.1 irecv from 2 tag 0
 > enabled
-wakeany 0 0: line 12
-wakeany 0 1: line 12
+wakeany 0 0: line 12, by line 9, 0.0 irecv from 1 tag 0
+wakeany 0 1: line 12, by line 10, 0.1 irecv from 2 tag 0
 > check
-choices 1 1: done
-choices 2 1: done
-2 runs, and no more
+1 choices 1 1: done
+2 choices 2 1: done
+2 runs, and no more (2 done)
 > why 0
 line 12, 0.2 waitany 0 2
 line 9, 0.0 irecv from 1 tag 0 with 1.0 value 10
@@ -124,7 +124,7 @@ line 10, 0.1 irecv from 2 tag 0 with 2.0 value 20
 depth 12
 1 ahead: wake 2: line 17
 > wakeany 0 0
-13 wakeany 0 0: line 12
+13 wakeany 0 0: line 12, by line 9, 0.0 irecv from 1 tag 0
 next: local 0: line 13
 > why 0.2
 line 12, 0.2 waitany 0 2
@@ -133,9 +133,9 @@ refused: this step is not enabled
 > run
 5 steps, depth 18
 stopped at a choice of rank 0, line 12:
-  1 wakeany 0 1: line 12
+  1 wakeany 0 1: line 12, by line 10, 0.1 irecv from 2 tag 0
 > next 1
-19 wakeany 0 1: line 12
+19 wakeany 0 1: line 12, by line 10, 0.1 irecv from 2 tag 0
 next: local 0: line 13
 > run
 3 steps, depth 22
@@ -225,7 +225,7 @@ end
 depth 0
 9 ahead: local 0: line 5
 > deadlock
-no deadlock: 1 run, and no more
+no deadlock: 1 run, and no more (1 trap)
 '''),
     Dialogue('arrays and requests, those of no cell among them', CELLS, '''
 > vars 0
@@ -358,7 +358,7 @@ refused: no breakpoint has this number
 breakpoint 1: change 1 a[2]
 > run-back
 3 steps back, depth 0
-breakpoint 0: change 0 a[1]
+before breakpoint 0: change 0 a[1]
 3 ahead: local 0: line 3
 > back
 refused: fewer steps are taken
@@ -423,7 +423,7 @@ next: local 0: line 6
 > calls 0
 line 5, 0.0 send to 1 tag 5 value 10 free
 > deadlock
-no deadlock: 1 run, and no more
+no deadlock: 1 run, and no more (1 done)
 ''', BUFFERED),
     Dialogue('a wait for no request, and one for a request that is free', APART, '''
 > run 3

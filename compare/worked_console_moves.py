@@ -20,8 +20,9 @@ rank 1 is at line 8
 > next
 4 local 1: line 8
 next: match 0.0 1.0: the send of rank 0, line 6, to the receive of rank 1, line 8
-> next 5
-5 match 0.0 1.0: the send of rank 0, line 6, to the receive of rank 1, line 8
+> next 1
+1 step, depth 5
+stopped: as many steps as were asked for
 next: wake 0: line 6
 > run 1
 1 step, depth 6
@@ -175,16 +176,16 @@ rank 2: r = no request
    12  }} else {{
    13    if rank == 1 {{ send 42 to 0 tag 7; }} else {{ send 5 to 0 tag 1; }}  <- rank 1 blocked, rank 2 blocked
 > check
-choices 1: deadlock 0.1 2.0
-choices 2: done
-2 runs, and no more
+1 choices 1: deadlock 0.1 2.0
+2 choices 2: done
+2 runs, and no more (1 done, 1 deadlock)
 > check 1
-choices 1: deadlock 0.1 2.0
-1 run, and there are more
+1 choices 1: deadlock 0.1 2.0
+1 run, and there are more (1 deadlock)
 > check 2
-choices 1: deadlock 0.1 2.0
-choices 2: done
-2 runs, and no more
+1 choices 1: deadlock 0.1 2.0
+2 choices 2: done
+2 runs, and no more (1 done, 1 deadlock)
 > next
 {STOLEN_CHOICE}
 > next 0
@@ -211,11 +212,11 @@ line 13, 1.0 send to 0 tag 7 value 42 with 0.0
 > enabled
 no step is enabled
 > check
-no choice: deadlock 0.1 2.0
-1 run, and no more
+1 no choice: deadlock 0.1 2.0
+1 run, and no more (1 deadlock)
 > run-back
 2 steps back, depth 9
-breakpoint 0: match 8
+before breakpoint 0: match 8
 2 ahead: match 1.0 0.0: the send of rank 1, line 13, to the receive of rank 0, line 8
 {STOLEN_CHOICE}
 > next 2
@@ -317,7 +318,7 @@ next: wake 0: line 9
 depth 11
 1 ahead: match 1.0 0.1: the send of rank 1, line 13, to the receive of rank 0, line 9
 > deadlock
-no deadlock: 1 run, and no more
+no deadlock: 1 run, and no more (1 done)
 > redo
 12 match 1.0 0.1: the send of rank 1, line 13, to the receive of rank 0, line 9
 next: wake 0: line 9
@@ -365,11 +366,11 @@ stopped at a choice:
   1 match 2.0 0.0: the send of rank 2, line 5, to the receive of rank 0, line 3
   2 match 3.0 1.0: the send of rank 3, line 5, to the receive of rank 1, line 3
 > check
-choices 1 1: done
-choices 2 1: done
-2 runs, and no more
+1 choices 1 1: done
+2 choices 2 1: done
+2 runs, and no more (2 done)
 > deadlock
-no deadlock: 1 run, and no more
+no deadlock: 2 runs, and no more (2 done)
 > next 2
 9 match 3.0 1.0: the send of rank 3, line 5, to the receive of rank 1, line 3
 next: wake 1: line 3
@@ -498,7 +499,7 @@ refused: fewer steps are taken
 0 steps, depth 9
 {ANY_OF_ONE}
 > next 1
-10 wakeany 0 0: line 6
+10 wakeany 0 0: line 6, by line 4, 0.0 irecv from 1 tag 1
 ended: done
 > back 2
 depth 8
@@ -506,17 +507,17 @@ depth 8
 {ANY_OF_ONE}
 > run
 9 match 1.1 0.1: the send of rank 1, line 9, to the receive of rank 0, line 5
-1 ahead: wakeany 0 0: line 6
+1 ahead: wakeany 0 0: line 6, by line 4, 0.0 irecv from 1 tag 1
 {ANY_OF_ONE}
 >
-10 wakeany 0 0: line 6
+10 wakeany 0 0: line 6, by line 4, 0.0 irecv from 1 tag 1
 ended: done
 > goto 9
 depth 9
-1 ahead: wakeany 0 0: line 6
+1 ahead: wakeany 0 0: line 6, by line 4, 0.0 irecv from 1 tag 1
 {ANY_OF_ONE}
 > redo 2
-10 wakeany 0 0: line 6
+10 wakeany 0 0: line 6, by line 4, 0.0 irecv from 1 tag 1
 ended: done
 '''),
     Dialogue('a barrier that all leave', 'skipped_barrier.mpd', '''
@@ -541,7 +542,7 @@ breakpoint 0: line 9
 next: local 0: line 9
 > run-back
 1 step back, depth 8
-breakpoint 0: line 9
+before breakpoint 0: line 9
 1 ahead: local 0: line 8
 > run
 1 step, depth 9
@@ -558,7 +559,7 @@ deleted 0
 breakpoint 0: line 7
 > run-back
 3 steps back, depth 6
-breakpoint 0: line 7
+before breakpoint 0: line 7
 3 ahead: release: all ranks leave the barrier
 > delete 0
 deleted 0
@@ -600,11 +601,11 @@ deleted 0
 deleted 1
 > run-back
 1 step back, depth 6
-breakpoint 2: change 1 x
+before breakpoint 2: change 1 x
 1 ahead: wake 1: line 8
 > run-back
 2 steps back, depth 4
-breakpoint 3: match 8
+before breakpoint 3: match 8
 3 ahead: match 0.0 1.0: the send of rank 0, line 6, to the receive of rank 1, line 8
 > run
 1 step, depth 5
@@ -627,10 +628,10 @@ refused: no more than 1000000 steps are kept
 > local 1
 refused: this step is not enabled
 > check
-no choice: cut
-1 run, 1 of them cut, and no more
+1 no choice: cut
+1 run, and no more (1 cut)
 > deadlock
-no deadlock: 1 run, 1 of them cut, and no more
+no deadlock: 1 run, and no more (1 cut)
 > run 1
 0 steps, depth 3
 stopped: no more than 1000000 steps are kept
@@ -643,8 +644,8 @@ depth 1
 stopped: as many steps as were asked for
 1 ahead: local 0: line 2
 > check
-no choice: cut
-1 run, 1 of them cut, and no more
+1 no choice: cut
+1 run, and no more (1 cut)
 > run 1
 1 step, depth 3
 stopped: no more than 1000000 steps are kept
@@ -652,15 +653,15 @@ next: local 0: line 2
 ''', limit=3),
     Dialogue('what is left of the steps that are kept', 'loop.mpd', '''
 > check
-no choice: cut
-1 run, 1 of them cut, and no more
+1 no choice: cut
+1 run, and no more (1 cut)
 > run 4
 4 steps, depth 4
 stopped: as many steps as were asked for
 next: local 0: line 7
 > check
-no choice: cut
-1 run, 1 of them cut, and no more
+1 no choice: cut
+1 run, and no more (1 cut)
 ''', limit=10),
     Dialogue('and where all are kept', 'loop.mpd', '''
 > run 3
@@ -668,26 +669,26 @@ no choice: cut
 stopped: as many steps as were asked for
 next: local 0: line 6
 > check
-no choice: done
-1 run, and no more
+1 no choice: done
+1 run, and no more (1 done)
 > deadlock
-no deadlock: 1 run, and no more
+no deadlock: 1 run, and no more (1 done)
 ''', limit=11),
     Dialogue('a run of one step too many, and the same from its second step on, where few may be tried',
              'mpd 1; ranks 1; var x;\nwhile x < 4 { x = x + 1; }\nprint 1;\nprint 2;', '''
 > check
-no choice: cut
-1 run, 1 of them cut, and no more
+1 no choice: cut
+1 run, and no more (1 cut)
 > deadlock
-no deadlock: 1 run, 1 of them cut, and no more
+no deadlock: 1 run, and no more (1 cut)
 > next
 1 local 0: line 2
 next: local 0: line 2
 > check
-no choice: done
-1 run, and no more
+1 no choice: done
+1 run, and no more (1 done)
 > deadlock
-no deadlock: 1 run, and no more
+no deadlock: 1 run, and no more (1 done)
 ''', fuel=10),
     Dialogue('steps ahead that are not those that come next', 'first_message.mpd', '''
 > next
@@ -708,8 +709,8 @@ local 0
 local 0: line 6
 local 1: line 5
 > check
-no choice: done
-1 run, and no more
+1 no choice: done
+1 run, and no more (1 done)
 > redo
 2 local 1: line 5
 1 ahead: local 1: line 8
@@ -740,6 +741,7 @@ stopped at a choice of rank 0, line 9:
   2 match 2.0 0.0: the send of rank 2, line 15, to the receive of rank 0, line 9
 '''))
 # What takes the model some seconds.
-SLOW = (
+FIRST_RUNS = (
     Dialogue('more runs than are listed where no number is said', SEVEN_SENDERS,
-             f'> check\n{first_orders(1000)}\n1000 runs, and there are more\n> check 1001\n{first_orders(1001)}\n1001 runs, and there are more\n'),)
+             f'> check\n{first_orders(1000)}\n1000 runs, and there are more (1000 done)\n> check 1001\n{first_orders(1001)}\n'
+             '1001 runs, and there are more (1001 done)\n'),)

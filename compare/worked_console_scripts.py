@@ -10,7 +10,7 @@ from examples import open_example
 
 class Dialogue(NamedTuple):
     """What it is of, a script, what is spoken, from what is told first on, the mode, the text of a witness that lies ahead, and how many steps
-    are kept, and how many a run may have that is tried, where that is less than usual."""
+    are kept, how many a run may have that is tried, and how many runs are looked at, where that is less than usual."""
     what: str
     script: str
     spoken: str
@@ -18,11 +18,12 @@ class Dialogue(NamedTuple):
     witness: Optional[str] = None
     limit: Optional[int] = None
     fuel: Optional[int] = None
+    runs: Optional[int] = None
 
     @property
     def is_usual(self):
         """Whether a program can be asked it."""
-        return self.limit is None and self.fuel is None
+        return self.limit is None and self.fuel is None and self.runs is None
 
     @property
     def text(self):
@@ -155,6 +156,37 @@ if rank == 0 {
   while i < 7 { recv x from any tag 0; i = i + 1; }
 } else { send 1 to 0 tag 0; }
 '''
+# By the message that comes first the first run traps, and the second is a deadlock, or the other way round.
+TRAP_THEN_HANG = '''mpd 1; ranks 3; var x;
+if rank == 0 {
+  recv x from any tag 0;
+  print 1 / (x - 1);
+  recv x from 2 tag 0;
+} else { send rank to 0 tag 0; }
+'''
+HANG_THEN_TRAP = TRAP_THEN_HANG.replace('x - 1', 'x - 2').replace('from 2', 'from 1')
+# The message of rank 1 must be the first of three.
+THIRD_TRAPS = '''mpd 1; ranks 4; var x;
+if rank == 0 { recv x from any tag 0; assert x == 1; recv x from 2 tag 0; recv x from 3 tag 0; }
+else { send rank to 0 tag 0; }
+'''
+# A race that is a deadlock where rank 2 is the first, beside two pairs of ranks whose four messages come in any order, which changes nothing:
+# of 60 runs the first six differ in that order alone, and the seventh is a deadlock.
+RARE = '''mpd 1; ranks 7; var x; var i;
+if rank < 3 {
+  if rank == 0 { recv x from any tag 0; recv x from 2 tag 0; } else { send rank to 0 tag 0; }
+} else {
+  while i < 2 {
+    if rank < 5 { recv x from any tag 0; } else { send rank to rank - 2 tag 0; }
+    i = i + 1;
+  }
+}
+'''
+# The same with a trap, and with five pairs: the ten messages come in 113,400 orders.
+RARE_TRAP = RARE.replace('recv x from 2', 'print 1 / (2 - x); recv x from 2')
+RARER = RARE.replace('ranks 7', 'ranks 13').replace('rank < 5', 'rank < 8').replace('rank - 2', 'rank - 5')
+# Nine messages to one rank, which come in 362,880 orders; each of them is an end of its own.
+MANY_ENDS = SEVEN_SENDERS.replace('ranks 8', 'ranks 10').replace('i < 7', 'i < 9')
 LOOP = 'mpd 1; ranks 1;\nwhile 1 { }\n'
 # Line ends of both kinds, an empty line, a tab, and blanks in the last line, which has no end.
 PRINTS = 'mpd 1; ranks 1; print -7;\r\n\nprint 2;\t# 2\n#\r\r\n '
@@ -191,10 +223,10 @@ BOTH_RACES = '''stopped at a choice:
 ONE_RACE = '''stopped at a choice of rank 0, line 3:
   1 match 2.0 0.0: the send of rank 2, line 5, to the receive of rank 0, line 3'''
 ANY_OF_ONE = '''stopped at a choice of rank 0, line 6:
-  1 wakeany 0 0: line 6'''
+  1 wakeany 0 0: line 6, by line 4, 0.0 irecv from 1 tag 1'''
 
 
 def first_orders(count):
     """So many of the first runs of the seven messages, a line each: the last of the candidates moves first."""
     orders = islice(product(*(range(1, left + 1) for left in range(7, 0, -1))), count)
-    return '\n'.join(f'choices {" ".join(map(str, choices))}: done' for choices in orders)
+    return '\n'.join(f'{number} choices {" ".join(map(str, choices))}: done' for number, choices in enumerate(orders, 1))

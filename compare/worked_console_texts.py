@@ -29,10 +29,24 @@ refused: no such number
 > check 65537
 refused: no such number
 > check 65536
-no choice: done
-1 run, and no more
+1 no choice: done
+1 run, and no more (1 done)
+> follow 0
+refused: no such number
+> follow 65537
+refused: no such number
+> follow 65536
+refused: there is no such run
 > deadlock
-no deadlock: 1 run, and no more
+no deadlock: 1 run, and no more (1 done)
+> trap
+no trap: 1 run, and no more (1 done)
+> undo-choice
+refused: no choice was made
+> next 0
+refused: no such number
+> next 1000001
+refused: no such number
 > goto 1
 refused: fewer steps are taken
 > goto 0
@@ -157,7 +171,15 @@ unknown word 'breaksome': perhaps breaks
 > breakpoint
 unknown word 'breakpoint': perhaps break
 > undo
-unknown word 'undo': help lists all
+unknown word 'undo': perhaps undo-choice
+> undochoice
+unknown word 'undochoice': perhaps undo-choice
+> f1
+unknown word 'f1': perhaps follow
+> tarp
+unknown word 'tarp': perhaps trap
+> jump
+unknown word 'jump': help lists all
 > wakeal
 unknown word 'wakeal': perhaps wakeany
 > lost
@@ -169,7 +191,7 @@ unknown word 'dump': perhaps delete
 > cont
 unknown word 'cont': perhaps continue
 > finish
-unknown word 'finish': help lists all
+unknown word 'finish': perhaps follow
 > step
 unknown word 'step': perhaps show
 > ?next
@@ -200,6 +222,10 @@ usage: run [N]
 usage: back [N]
 > run-back 1
 usage: run-back
+> undo-choice 1
+usage: undo-choice
+> u 0
+usage: undo-choice
 > goto
 usage: goto N
 > goto 0000000000
@@ -260,18 +286,28 @@ usage: ranks
 usage: calls [P]
 > queues 0
 usage: queues
-> why
-usage: why CALL, why P
+> why all
+usage: why [P], why CALL
 > why 0.0 0
-usage: why CALL, why P
+usage: why [P], why CALL
 > w 0.0.0
-usage: why CALL, why P
+usage: why [P], why CALL
 > history x
 usage: history [N]
 > check all
 usage: check [N]
+> follow
+usage: follow N
+> f 1.0
+usage: follow N
+> follow 1 2
+usage: follow N
+> follow 1234567890
+usage: follow N
 > deadlock 1
 usage: deadlock
+> trap 1
+usage: trap
 > words 1
 usage: words
 > enabled 1
@@ -420,6 +456,7 @@ next [N]                            takes the step that comes next
 run [N]                             goes on to the next breakpoint, choice or end, or so many steps at most
 back [N]                            takes a step back, or so many
 run-back                            goes back to a breakpoint, or to the start
+undo-choice                         goes back to the last choice, so that another candidate can be taken
 goto N                              goes back, or along the steps ahead, until so many steps are taken
 redo [N]                            takes the step again that was undone last, or so many, or all
 local P, match S R, wake P, wakeany P I, release takes this step
@@ -433,17 +470,27 @@ vars [P]                            shows all variables and requests, and what w
 ranks                               shows what each rank is doing
 calls [P]                           lists the calls of all ranks, or of rank P
 queues                              lists the sends and the receives that are free
-why CALL, why P                     says why a call, or the call that rank P waits for, isn't matched
+why [P], why CALL                   says why the calls that ranks wait for aren't matched
 history [N]                         lists the last 10 steps, or the last N
 check [N]                           tries the choices from here, and lists how the runs end, 1,000 or N of them at most
+follow N                            lays the steps of a run ahead
 deadlock                            looks for the first deadlock from here, and lays its steps ahead, so that redo and run go there
+trap                                looks for the first trap from here, and lays its steps ahead
 words                               lists the steps taken as trace words, to be kept in a file
 enabled                             lists the steps that are enabled
 show                                shows the whole state, as a trace does (docs/FORMATS.md, "Text of show")
 help [WORD]                         lists the words, or tells of one
 quit                                ends
 > help next
-next [N]: takes the step that comes next; at a choice it lists the candidates, and next N takes one, from 1
+next [N]: takes the step that comes next; at a choice it lists the candidates, and next N takes one, from 1; elsewhere next N is run N
+> help w
+why [P], why CALL: says why the calls that ranks wait for aren't matched; or that of rank P, or a call
+> help u
+undo-choice: goes back to the last choice, so that another candidate can be taken
+> help f
+follow N: lays the steps of a run ahead; N is its number in check
+> help trap
+trap: looks for the first trap from here, and lays its steps ahead
 > help b
 back [N]: takes a step back, or so many
 > ? wakeany
