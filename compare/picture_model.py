@@ -16,6 +16,7 @@ from debugger import RENDEZVOUS, Debugger, call_word, enabled_steps, file_conten
 from explaining import next_line, plain_text
 from explorer import USUAL, Run
 from language import read_script
+from modes import slots_of
 from run_words import run_by
 from worlds import CallId
 
@@ -247,7 +248,9 @@ def end_of(rank):
 
 def title_of(picture):
     how = 'can go on' if enabled_steps(picture.world) else outcome(picture.world)
-    return f'{len(picture.ranks)} ranks, {picture.world.mode}, {picture.walked.depth} steps: {how}'
+    slots = slots_of(picture.world.mode)
+    mode = picture.world.mode if slots is None else f'slots:{slots}'
+    return f'{len(picture.ranks)} ranks, {mode}, {picture.walked.depth} steps: {how}'
 
 
 # ---- the picture as text

@@ -105,7 +105,7 @@ def lines(steps):
 
 def witness_text(steps, ended):
     """A deadlock as a witness of a report."""
-    return f'{ended}\nwitness {", ".join(map(step_text, steps))}\n'.encode()
+    return f'leaf 0 [] {ended}\nwitness 0: {", ".join(map(step_text, steps))}\n'.encode()
 
 
 def questions(seed, number):
@@ -125,7 +125,9 @@ def questions(seed, number):
     yield Asked(case.script, mode, 'words', lines(walked), fuel, walked)
     yield Asked(case.script, mode, 'words', lines(walked) + random.choice([b'next\n', b'\n', b'local\n', b'back\n']), fuel, None,
                 b'words refused at line %d' % (len(walked) + 1))
-    yield Asked(case.script, mode, 'words', lines(walked) + b'match 15.9 15.9\nx\n', fuel, None, b'words refused at line %d' % (len(walked) + 1))
+    wrong = lines(walked) + b'match 15.9 15.9\n'
+    yield Asked(case.script, mode, 'words', wrong, fuel, None, b'words refused at line %d' % (len(walked) + 1))
+    yield Asked(case.script, mode, 'words', wrong + b'x\n', fuel, None, b'words refused at line %d' % (len(walked) + 2))
 
 
 # ---- what is said
@@ -187,7 +189,7 @@ def met(asked, world, marks):
 def refusal_met(asked):
     yield {'choices': 'no such choices', 'words': 'no such words'}[asked.kind]
     if asked.kind == 'words':
-        yield 'no step' if asked.told.endswith(b'x\n') else 'bad words'
+        yield 'no step' if asked.told.endswith(b'15.9\n') else 'bad words'
 
 
 def with_witness(asked):
