@@ -28,7 +28,7 @@ use Rattle.mpd_search.specs.declared.way.Way.{Way}
 use Rattle.mpd_search.specs.Runs.{none_line}
 use Rattle.mpd_search.specs.Seek.{found_run, numbered_run, nothing_line, LiesAhead, ahead_line, not_followed_line}
 use Rattle.mpd_search.specs.Choices.{last_choice, no_choice_line}
-use Rattle.mpd_console.specs.Says.{memory_line, unprinted_line, too_long_line, at_world, prompt, lead_said, reply_said, look_said, laid_said, not_found_said, refused_said, none_said, prompts_behind, fault_said, Told, Looked, asking, Carried, Refused, UndoneBy, LaidBy, found_from, numbered_from, SoughtBy, FollowedBy, doing_at, doing_in, AnsweredBy, Answered, Console, WordSays, RepeatSays, LineSays, SaysBy, ConsoleSays, Adds, OrElse}
+use Rattle.mpd_console.specs.Says.{memory_line, unprinted_line, too_long_line, at_world, prompt, lead_said, reply_said, look_said, laid_said, not_found_said, refused_said, none_said, prompts_behind, fault_said, Told, Looked, asking, Carried, UndoneBy, LaidBy, found_from, numbered_from, SoughtBy, FollowedBy, doing_at, doing_in, AnsweredBy, Answered, Console, WordSays, RepeatSays, LineSays, SaysBy, ConsoleSays, Adds, OrElse}
 
 -- ---- texts on the world of a trail
 

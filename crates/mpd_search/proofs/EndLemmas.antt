@@ -1,14 +1,13 @@
 -- Where the steps of a run lead, and how many there are.
-use Rattle.std.proofs.Common.{◌≡◌, ℕ, zero, suc, ◌+◌, ◌≤◌, Bool, true, false, List, [], ◌∷◌, ◌++◌, length, if◌then◌else◌, Option, Some, None, IsSome, refl, ap, sym, ◌∙◌, arith, subst}
+use Rattle.std.proofs.Common.{◌≡◌, ℕ, zero, suc, ◌≤◌, Bool, true, false, List, [], ◌∷◌, length, if◌then◌else◌, Option, Some, None, refl, ap, sym, ◌∙◌, arith, subst}
 use Rattle.std.specs.Prelude.{option_map, option_and_then, slice_get, ◌||◌}
 use Rattle.std.specs.List.{filter, list_any}
 use Rattle.mpd_model.specs.declared.step.Step.{Step}
 use Rattle.mpd_model.specs.declared.decision.Decision.{Decision}
 use Rattle.mpd_model.specs.declared.decision.Decision.TheVariants.{Forced, Choice, Leaf}
-use Rattle.mpd_model.specs.declared.outcome.Outcome.{Outcome}
 use Rattle.mpd_model.specs.World.{World}
 use Rattle.mpd_model.specs.Next.{next, fold, is_enabled, steps_of, enabled}
-use Rattle.mpd_model.specs.Outcomes.{ending, is_stuck, outcome}
+use Rattle.mpd_model.specs.Outcomes.{ending, outcome}
 use Rattle.mpd_model.specs.Decisions.{decision, CanFollow}
 use Rattle.mpd_explore.specs.declared.report.Ending.{Ending}
 use Rattle.mpd_explore.specs.declared.report.Ending.TheVariants.{Ended, Cut}

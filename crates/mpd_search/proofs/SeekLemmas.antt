@@ -12,11 +12,10 @@ use Rattle.mpd_model.specs.Next.{fold, enabled}
 use Rattle.mpd_model.specs.Outcomes.{ending}
 use Rattle.mpd_model.specs.Decisions.{decision, CanFollow}
 use Rattle.mpd_model.specs.Trail.{Trail, kept, forgotten, IsReached}
-use Rattle.mpd_trail.specs.Views.{DebuggerView, standing_of}
 use Rattle.mpd_trail.proofs.KeptLemmas.{fold-append}
 use Rattle.mpd_explore.specs.declared.report.Ending.{Ending}
 use Rattle.mpd_explore.specs.declared.report.Leaf as leaf
-use Rattle.mpd_explore.specs.Walk.{Run, run_at, steps_by}
+use Rattle.mpd_explore.specs.Walk.{run_at, steps_by}
 use Rattle.mpd_explore.specs.Witness.{WitnessBy, HasWitness}
 use Rattle.mpd_words.specs.declared.fault.WordsFault.{WordsFault}
 use Rattle.mpd_words.specs.Led.{Led}
@@ -24,7 +23,7 @@ use Rattle.mpd_search.specs.declared.seek.WholeRun.{WholeRun}
 use Rattle.mpd_search.specs.declared.way.Way.{Way}
 use Rattle.mpd_search.specs.Ways.{ends_in, first_in}
 use Rattle.mpd_explore.specs.Report.{ended_by}
-use Rattle.mpd_search.specs.Runs.{fuel_at, all_runs, first_runs, are_more, is_number, none_line}
+use Rattle.mpd_search.specs.Runs.{fuel_at, all_runs, first_runs, is_number, none_line}
 use Rattle.mpd_search.specs.Seek.{LeadsTo, LiesAhead, Looked, whole_run, found_run, numbered_run, last_runs, last_more, looks_twice, nothing_line}
 use Rattle.mpd_search.proofs.EndLemmas.{few_steps, run_leads}
 

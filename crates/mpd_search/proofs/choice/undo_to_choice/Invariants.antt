@@ -1,5 +1,4 @@
 use Rattle.mpd_trail.specs.Views.{standing_of}
-use Rattle.mpd_model.specs.Trail.{IsReached}
 use Rattle.mpd_search.proofs.ChoiceLemmas.{Undoing}
 use Rattle.mpd_search.proofs.choice.undo_to_choice.Given as goal
 
