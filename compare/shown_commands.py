@@ -43,7 +43,8 @@ EXCERPTS = {
     'docs/FORMATS.md': ('enabled local 3', 'handles 1', 'leaf N ', 'rendezvous leaves 2', 'witness N: ', 'leaf 1 [1] deadlock', 'deadlock 0.1', 'mpdbg: script refused', 'mpdbg: device',
                         'every way it can end', 'JSON requests', 'end 0 leaves 3', 'proving '),
     'docs/CONSOLE.md': ('help lists ',),
-    'docs/GATE.md': ('fn: ',)}
+    'docs/GATE.md': ('fn: ',),
+    'docs/PICTURES.md': ('<line class', '0 1 2')}
 # Files that a page names by a word: a script, words for it, and a witness of it, which is made.
 FILES = {'FILE': 'examples/race.mpd', 'WORDS': 'examples/race.words', 'WITNESS': 'made.witness', '--port P': '--port 7007', '--clients N': '--clients 2'}
 MAKING = './mpdbg check examples/race.mpd --witness | grep -A 1 deadlock | head -2 > made.witness'
