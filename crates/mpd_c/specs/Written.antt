@@ -1,5 +1,5 @@
 -- What is written of a script in C.
-use Rattle.std.specs.Prelude.{◌≡◌, ◌+◌, ℕ, Result, Ok, Err}
+use Rattle.std.specs.Prelude.{◌≡◌, ◌+◌, Result, Ok, Err}
 use Rattle.std.specs.Io.KnownBytes.{Appends}
 use Rattle.mpd_device.specs.Seen.{SinkSeen}
 use Rattle.mpd_lines.specs.declared.engine.EngineFault.{EngineFault}

@@ -1,8 +1,6 @@
-use Rattle.std.proofs.Common.{◌+◌, [], ◌∷◌, codes}
-use Rattle.mpd_c.specs.Pieces.{piece_text}
+use Rattle.std.proofs.Common.{◌+◌, [], ◌∷◌}
 use Rattle.mpd_c.specs.Statements as spec
-use Rattle.mpd_c.specs.declared.piece.Piece.TheVariants as piece
-use Rattle.mpd_c.proofs.PrintLemmas.{in_braces, line_more, lines_more, one_line}
+use Rattle.mpd_c.proofs.PrintLemmas.{in_braces, lines_more, one_line}
 use Rattle.mpd_c.proofs.simple.push_recv.Goals as goal
 
 pub returns : goal.returns
