@@ -42,8 +42,6 @@ pub(crate) enum Fault<'a> {
     Piece { number: usize, count: usize },
     /// Two options that can't stand together.
     Clash(&'static str, &'static str),
-    /// A command that can't be carried out yet.
-    NotYet(&'static str),
     /// `--seed` without `--sample`.
     SeedAlone,
     /// The word of `--choices`, which isn't numbers.
@@ -298,10 +296,6 @@ pub(crate) fn tell<R: Print + Eprint + AllocGlobal>(
         }
         Fault::Clash(one, other) => {
             let _unwritten = eprintln!(rt; "mpdbg: {one} and {other} can't stand together");
-            WRONG
-        }
-        Fault::NotYet(command) => {
-            let _unwritten = eprintln!(rt; "mpdbg: {command} can't be carried out yet");
             WRONG
         }
         Fault::SeedAlone => {
