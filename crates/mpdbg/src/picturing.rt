@@ -59,8 +59,10 @@ fn steps_of_choices<'a>(
         Err(ChoicesFault::NotANumber) => return Err(Fault::NotChoices(word)),
         Err(ChoicesFault::Memory) => return Err(Fault::from(EngineFault::Memory)),
     };
-    let mut debugger = started(alloc, script)?;
-    debugger.forget_undone();
+    let (mode, code) = script;
+    let Ok(mut debugger) = Debugger::start(alloc, code, *mode) else {
+        return Err(Fault::from(EngineFault::Memory));
+    };
     let found = steps_by_choices(alloc, &mut debugger, &choices.items, fuel);
     drop(debugger);
     match found {
