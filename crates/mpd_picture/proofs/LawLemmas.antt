@@ -20,7 +20,7 @@ use Rattle.mpd_picture.specs.declared.mark.Event.{Event}
 use Rattle.mpd_picture.specs.declared.mark.Event.TheVariants.{Issued, Paired, WentOn, Released}
 use Rattle.mpd_picture.specs.declared.shape.Shape.{Shape}
 use Rattle.mpd_picture.specs.Marks.{mark, issues, calls_before, step_marks, row_behind, led, marks_behind, marks_of, went_on}
-use Rattle.mpd_picture.specs.Shapes.{row_of, rows_of, free_shapes, call_shapes, event_shapes, mark_shapes, lane_shapes, end_shapes, shapes_of}
+use Rattle.mpd_picture.specs.Shapes.{rows_of, free_shapes, event_shapes, mark_shapes, lane_shapes, end_shapes, shapes_of}
 use Rattle.mpd_picture.specs.PictureLaws.{set_of_shape, is_drawn, ArrowsArePairs}
 
 -- ---- lists whose parts give nothing

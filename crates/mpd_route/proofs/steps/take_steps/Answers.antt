@@ -1,4 +1,4 @@
-use Rattle.std.proofs.Common.{◌≡◌, ◌+◌, ◌<◌, length, refl, ap, ◌∙◌, arith}
+use Rattle.std.proofs.Common.{◌+◌, ◌<◌, length, refl, ap, ◌∙◌, arith}
 use Rattle.mpd_model.specs.Trail.{kept}
 use Rattle.mpd_route.proofs.GivenLemmas.{given_on, given_stops, given_kept}
 use Rattle.mpd_route.proofs.steps.take_steps.Goals as goal
