@@ -19,6 +19,7 @@ import console_words
 import debugger
 import explaining
 import explorer
+import picture_model
 import policy
 import session
 from console_lines import plural, step_words
@@ -387,6 +388,10 @@ class Console:
         steps = enumerate(zip(self.debugger.worlds, self.debugger.steps[:depth]), 1)
         found = [f'{number} {step_words(explaining.Reached(world, lines), step)}' for number, (world, step) in steps]
         return found[max(0, depth - count):] or ['no step is taken'] * (depth == 0)
+
+    def picture(self):
+        """The steps that are not undone, drawn (docs/PICTURES.md, "As text")."""
+        return picture_model.text_of(self.debugger).splitlines()
 
     def words(self):
         return [step_text(step) for step in self.debugger.steps[:self.debugger.depth]]

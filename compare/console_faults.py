@@ -620,6 +620,9 @@ def look_faults():
             'none is none': changed('history', without('no step is taken')),
             'no step is taken where none is asked for': changed('history', lambda lines, self: lines or ['no step is taken']),
             'numbers from 0': from_0}),
+        *named('picture', {
+            'no row at the end': changed('picture', without('at the end')),
+            'what the letters are is untold': changed('picture', lambda lines, self: lines[:-2])}),
         *named('words', {
             'those ahead too': lambda self: [debugger.step_text(step) for step in self.debugger.steps],
             'in words': lambda self: [line.partition(' ')[2] for line in SOUND['history'](self, self.debugger.depth or 1)]}),

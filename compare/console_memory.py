@@ -92,6 +92,7 @@ undo-choice
 trap
 history
 history 2
+picture
 words
 back 2
 redo 2

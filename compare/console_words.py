@@ -46,6 +46,7 @@ TABLE = (
     Row(('queues',), (), 'lists the sends and the receives that are free'),
     Row(('why [P]', 'why CALL'), ('w',), "says why the calls that ranks wait for aren't matched; or that of rank P, or a call"),
     Row(('history [N]',), ('h',), 'lists the last 10 steps, or the last N'),
+    Row(('picture',), (), 'draws the run so far'),
     Row(('check [N]',), (), 'tries the choices from here, and lists how the runs end, 1,000 or N of them at most'),
     Row(('follow N',), ('f',), 'lays the steps of a run ahead; N is its number in check'),
     Row(('deadlock',), (), 'looks for the first deadlock from here, and lays its steps ahead, so that redo and run go there'),
@@ -77,7 +78,7 @@ FOLLOWING = {
     'local': ((NUMBER,),), 'match': ((CALL, CALL),), 'wake': ((NUMBER,),), 'wakeany': ((NUMBER, NUMBER),), 'release': ((),),
     'break': ((NUMBER,), (literal('line'), NUMBER), (literal('match'), NUMBER), (literal('change'), NUMBER, NAME)), 'delete': ((NUMBER,),),
     'breaks': ((),), 'list': MAYBE_NUMBER, 'print': ((NAME,), (NAME, NUMBER)), 'vars': MAYBE_NUMBER, 'ranks': ((),), 'calls': MAYBE_NUMBER,
-    'queues': ((),), 'why': ((), (NUMBER,), (CALL,)), 'history': MAYBE_NUMBER, 'check': MAYBE_NUMBER, 'follow': ((NUMBER,),), 'deadlock': ((),),
+    'queues': ((),), 'why': ((), (NUMBER,), (CALL,)), 'history': MAYBE_NUMBER, 'picture': ((),), 'check': MAYBE_NUMBER, 'follow': ((NUMBER,),), 'deadlock': ((),),
     'trap': ((),), 'words': ((),), 'enabled': ((),), 'show': ((),), 'help': ((), (any_word,)), 'quit': ((),)}
 
 

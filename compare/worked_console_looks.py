@@ -425,6 +425,62 @@ line 5, 0.0 send to 1 tag 5 value 10 free
 > deadlock
 no deadlock: 1 run, and no more (1 done)
 ''', BUFFERED),
+    Dialogue('pictures of a race, behind steps that are undone too', 'race.mpd', '''
+> picture
+0 1 2  line: call
+V V V  at the end
+S send, R receive, W wait, A wait for any, B barrier, o-> match, == release
+at the end: E ended, ! blocked, X trapped, V can go on
+> run
+6 steps, depth 6
+stopped at a choice of rank 0, line 7:
+  1 match 1.0 0.0: the send of rank 1, line 7, to the receive of rank 0, line 7
+  2 match 2.0 0.0: the send of rank 2, line 7, to the receive of rank 0, line 7
+> picture
+0 1 2  line: call
+R | |  7: 0.0 recv from any tag any free
+| S |  7: 1.0 send to 0 tag 0 free
+| | S  7: 2.0 send to 0 tag 0 free
+! ! !  at the end
+S send, R receive, W wait, A wait for any, B barrier, o-> match, == release
+at the end: E ended, ! blocked, X trapped, V can go on
+> next 1
+7 match 1.0 0.0: the send of rank 1, line 7, to the receive of rank 0, line 7
+next: wake 0: line 7
+> run 3
+3 steps, depth 10
+ended: deadlock 0.1 2.0
+  rank 0 waits at line 7, 0.1 recv from 1 tag any: for a send of rank 1 with any tag
+    nearest miss: line 7, 2.0 send to 0 tag 0 value 2: another source
+    the last that fits is taken: line 7, 1.0 send to 0 tag 0 value 1, by line 7, 0.0 recv from any tag any
+  rank 2 waits at line 7, 2.0 send to 0 tag 0 value 2: for a receive of rank 0 from rank 2 with tag 0
+    nearest miss: line 7, 0.1 recv from 1 tag any: another source
+    the last that fits is taken: line 7, 0.0 recv from any tag any, by line 7, 1.0 send to 0 tag 0 value 1
+  rank 0 waits for rank 1 (ended)
+  rank 2 waits for rank 0
+> picture
+0 1 2  line: call
+R | |  7: 0.0 recv from any tag any
+| S |  7: 1.0 send to 0 tag 0
+| | S  7: 2.0 send to 0 tag 0 free
+<-o |  1.0 to 0.0: 1
+R | |  7: 0.1 recv from 1 tag any free
+! E !  at the end
+S send, R receive, W wait, A wait for any, B barrier, o-> match, == release
+at the end: E ended, ! blocked, X trapped, V can go on
+> goto 0
+depth 0
+10 ahead: local 0: line 7
+> picture
+0 1 2  line: call
+V V V  at the end
+S send, R receive, W wait, A wait for any, B barrier, o-> match, == release
+at the end: E ended, ! blocked, X trapped, V can go on
+> picture 1
+usage: picture
+> help picture
+picture: draws the run so far
+'''),
     Dialogue('a wait for no request, and one for a request that is free', APART, '''
 > run 3
 3 steps, depth 3

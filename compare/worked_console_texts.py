@@ -472,6 +472,7 @@ calls [P]                           lists the calls of all ranks, or of rank P
 queues                              lists the sends and the receives that are free
 why [P], why CALL                   says why the calls that ranks wait for aren't matched
 history [N]                         lists the last 10 steps, or the last N
+picture                             draws the run so far
 check [N]                           tries the choices from here, and lists how the runs end, 1,000 or N of them at most
 follow N                            lays the steps of a run ahead
 deadlock                            looks for the first deadlock from here, and lays its steps ahead, so that redo and run go there

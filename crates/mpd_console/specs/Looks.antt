@@ -16,6 +16,7 @@ use Rattle.mpd_names.specs.Listed.{list_text, about_text}
 use Rattle.mpd_view.specs.Shown as shown
 use Rattle.mpd_view.specs.Whys.{why_text, why_rank_text, why_ranks_text}
 use Rattle.mpd_view.specs.Past.{history_text, words_text}
+use Rattle.mpd_picture.specs.Pictures.{picture_text}
 use Rattle.mpd_vocabulary.specs.declared.word.Word.{Word}
 use Rattle.mpd_vocabulary.specs.declared.word.Word.TheVariants as word
 use Rattle.mpd_console.specs.Moves.{break_line_of}
@@ -83,6 +84,7 @@ look_text t w places text word.Queues = shown.queues_text t.program w.board
 look_text t w places text (word.WhyCall c) = why_call_text t.program w c
 look_text t w places text (word.WhyRank p) = why_of_text t.program w p
 look_text t w places text (word.History n) = history_text t n
+look_text t w places text word.Picture = picture_text t w
 look_text t w places text (word.Check n) = check_text t w n
 look_text t w places text word.Words = words_text t
 look_text t w places text word.Enabled = shown.enabled_text t.program w

@@ -14,6 +14,7 @@ use mpd_model::step::CallId;
 use mpd_names::held::{push_named, push_variables};
 use mpd_names::list::{push_list, push_list_about};
 use mpd_names::name::Named;
+use mpd_picture::draw::push_picture;
 use mpd_policy::breaks::Breaks;
 use mpd_search::runs::push_runs;
 use mpd_trace::show::show;
@@ -210,6 +211,7 @@ pub(crate) fn push_look(
         Word::WhyCall(call) => push_why_call(alloc, core, out, call),
         Word::WhyRank(rank) => push_why_of(alloc, core, out, rank),
         Word::History(count) => push_history(debugger, out, count),
+        Word::Picture => push_picture(debugger, out),
         Word::Check(runs) => push_runs(alloc, debugger, out, runs),
         Word::Words => push_words(debugger, out),
         Word::Enabled => push_enabled(alloc, core, out),

@@ -155,6 +155,7 @@ pub(crate) fn doing_of(debugger: &Debugger<'_>, word: Word) -> Doing
         | Word::WhyCall(_)
         | Word::WhyRank(_)
         | Word::History(_)
+        | Word::Picture
         | Word::Check(_)
         | Word::Words
         | Word::Enabled

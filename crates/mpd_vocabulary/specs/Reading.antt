@@ -163,6 +163,7 @@ word_with ds topic.Calls z rest = fitting topic.Calls (option_map word.Calls (op
 word_with ds topic.Queues z rest = fitting topic.Queues (alone word.Queues rest)
 word_with ds topic.Why z rest = fitting topic.Why (why_in rest)
 word_with ds topic.History z rest = fitting topic.History (option_map word.History (number_or 10 rest))
+word_with ds topic.Picture z rest = fitting topic.Picture (alone word.Picture rest)
 word_with ds topic.Check z rest = fitting topic.Check (option_map word.Check (number_or 1000 rest))
 word_with ds topic.Follow z rest = fitting topic.Follow (option_map word.Follow (only_number rest))
 word_with ds topic.Deadlock z rest = fitting topic.Deadlock (alone word.Deadlock rest)

@@ -324,6 +324,7 @@ fn word_with(code: &Code, topic: Topic, line: &[u8], rest: &[u8]) -> Result<Word
         Topic::Queues => fitting(topic, alone(Word::Queues, rest)),
         Topic::Why => fitting(topic, why_in(rest)),
         Topic::History => fitting(topic, number_or(10, rest).map(Word::History)),
+        Topic::Picture => fitting(topic, alone(Word::Picture, rest)),
         Topic::Check => fitting(topic, number_or(1_000, rest).map(Word::Check)),
         Topic::Follow => fitting(topic, only_number(rest).map(Word::Follow)),
         Topic::Deadlock => fitting(topic, alone(Word::Deadlock, rest)),

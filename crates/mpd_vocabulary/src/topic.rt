@@ -29,6 +29,7 @@ pub enum Topic {
     Queues,
     Why,
     History,
+    Picture,
     Check,
     Follow,
     Deadlock,
@@ -41,7 +42,7 @@ pub enum Topic {
 }
 
 /// What the words are called, in the order of the table, the whole name of each before its short forms.
-pub const NAMES: [(&str, Topic); 50] = [
+pub const NAMES: [(&str, Topic); 51] = [
     ("next", Topic::Next),
     ("n", Topic::Next),
     ("run", Topic::Run),
@@ -80,6 +81,7 @@ pub const NAMES: [(&str, Topic); 50] = [
     ("w", Topic::Why),
     ("history", Topic::History),
     ("h", Topic::History),
+    ("picture", Topic::Picture),
     ("check", Topic::Check),
     ("follow", Topic::Follow),
     ("f", Topic::Follow),
@@ -95,7 +97,7 @@ pub const NAMES: [(&str, Topic); 50] = [
 ];
 
 /// A word of each line of help, in the order of the table.
-pub const TOPICS: [Topic; 28] = [
+pub const TOPICS: [Topic; 29] = [
     Topic::Next,
     Topic::Run,
     Topic::Back,
@@ -115,6 +117,7 @@ pub const TOPICS: [Topic; 28] = [
     Topic::Queues,
     Topic::Why,
     Topic::History,
+    Topic::Picture,
     Topic::Check,
     Topic::Follow,
     Topic::Deadlock,
@@ -217,6 +220,7 @@ pub(crate) fn usage_of(topic: Topic) -> &'static str
         Topic::Queues => "queues",
         Topic::Why => "why [P], why CALL",
         Topic::History => "history [N]",
+        Topic::Picture => "picture",
         Topic::Check => "check [N]",
         Topic::Follow => "follow N",
         Topic::Deadlock => "deadlock",
@@ -267,6 +271,7 @@ pub(crate) fn purpose_of(topic: Topic) -> &'static str
         Topic::Queues => "lists the sends and the receives that are free",
         Topic::Why => "says why the calls that ranks wait for aren't matched",
         Topic::History => "lists the last 10 steps, or the last N",
+        Topic::Picture => "draws the run so far",
         Topic::Check =>
             "tries the choices from here, and lists how the runs end, 1,000 or N of them at most",
         Topic::Follow => "lays the steps of a run ahead",

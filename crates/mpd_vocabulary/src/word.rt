@@ -49,6 +49,8 @@ pub enum Word {
     WhyRank(Option<usize>),
     /// List so many of the last steps.
     History(usize),
+    /// Draw the steps that are not undone.
+    Picture,
     /// Try the choices from here, so many runs at most.
     Check(usize),
     /// Lay the steps of the run of this number ahead, from 1.
