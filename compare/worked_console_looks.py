@@ -1,7 +1,7 @@
 """Worked dialogues of the console that look: why calls are not matched, where ranks stand, variables and requests (console_worked.py)."""
 
 from debugger import BUFFERED
-from worked_console_scripts import ANY_OF_TWO, APART, AT_A_BARRIER, CELLS, NEARLY, ONE_CELL, ONE_OF_TWO, WAITS, Dialogue
+from worked_console_scripts import ANY_OF_TWO, APART, AT_A_BARRIER, BEHIND_ANOTHER, CELLS, NEARLY, ONE_CELL, ONE_OF_TWO, WAITS, Dialogue
 
 LOOKS = (
     Dialogue('requests that are waited for, and near misses', WAITS, '''
@@ -480,6 +480,16 @@ at the end: E ended, ! blocked, X trapped, V can go on
 usage: picture
 > help picture
 picture: draws the run so far
+'''),
+    Dialogue('a choice of requests whose handles stand behind another', BEHIND_ANOTHER, '''
+> run
+5 steps, depth 5
+stopped at a choice of rank 0, line 6:
+  1 wakeany 0 0: line 6, by line 4, 0.1 irecv from 0 tag 1
+  2 wakeany 0 1: line 6, by line 5, 0.2 isend to 0 tag 1 value 7
+> next 2
+6 wakeany 0 1: line 6, by line 5, 0.2 isend to 0 tag 1 value 7
+ended: leftovers 0.0
 '''),
     Dialogue('a wait for no request, and one for a request that is free', APART, '''
 > run 3

@@ -87,6 +87,14 @@ if rank == 0 {
 }
 if rank == 1 { recv x from 0 tag 0; }
 '''
+# A wait for any of two requests, whose handles stand behind another that holds a call.
+BEHIND_ANOTHER = '''mpd 2; ranks 1;
+var x; var i; req h; req r[2];
+isend h 5 to 0 tag 9;
+irecv r[0] x from 0 tag 1;
+isend r[1] 7 to 0 tag 1;
+waitany r to i;
+'''
 # A rank at a barrier, one at a send, and one that has ended.
 AT_A_BARRIER = '''mpd 1; ranks 3;
 if rank == 0 { barrier; }
