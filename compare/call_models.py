@@ -9,6 +9,7 @@ import policy
 import session
 from call_consoles import CONSOLES
 from call_given import Wanted, by_hand, line, no_state, numbered, steps_line, trail_text, unchanged, walked, world_of
+from call_pictures import PICTURES
 from call_reports import REPORTS
 from c_script import c_text
 from canonical import canonical
@@ -514,7 +515,7 @@ MODELS = {
     'mpd_trail::follow': replayed, 'mpd_trail::replay': replayed, 'decide': decided, 'forced_step': forced,
     'mpd_policy::run': run_by(lambda found, row: policy.run(found, breaks_of(row), row.numbers()[0])),
     'run_back': run_by(lambda found, row: policy.run_back(found, breaks_of(row))), 'Breaks': by_hand,
-    **REPORTS, **CONSOLES,
+    **REPORTS, **CONSOLES, **PICTURES,
     'Session::start': session_started, 'Session::answer': session_answered, 'mpd_wire::parse': request_parsed,
     'mpd_wire::print': reply_printed, 'Reply::copy': reply_copied, 'same_request, same_reply': compared, 'Book::take': taken,
     'Book::new, len, audit': book_looks, 'Shared::new': shared_opened, 'Shared::call': shared_called, 'Shared::settle, code, SeatDesk': by_hand,

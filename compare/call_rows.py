@@ -7,6 +7,7 @@ from call_consoles import consoles
 from call_given import Row, Wanted, no_state
 from call_listings import listings
 from call_models import core_room
+from call_pictures import pictures
 from call_scripts import (BOTH_CAME, BOTH_SEND, CHANGES, CHOICE, ENDED, ENDLESS, FOUR_SETS, HELD, ISSUED, MANY, MATCHED, MEETING, MESSAGE, PAIRS,
                           RACE, SENT, STUCK, TRAPS, TWO_LINES, TWO_RACES, WHICHEVER, WHOLE)
 from call_sizes import sizes
@@ -377,5 +378,5 @@ def programs():
 
 def rows():
     """All of them."""
-    for part in (scripts, expressions, lists, boards, cores, trails, reports, listings, sessions, programs, consoles, sizes):
+    for part in (scripts, expressions, lists, boards, cores, trails, reports, listings, pictures, sessions, programs, consoles, sizes):
         yield from part()
