@@ -42,7 +42,9 @@ EXAMPLES = Path(__file__).resolve().parent.parent / 'examples'
 # The scripts of docs/COURSE.md whose pictures stand in examples/, each with its mode and the choices of the run, or None for the first.
 DRAWN = (('race', RENDEZVOUS, None), ('first_message', RENDEZVOUS, None), ('head_to_head', RENDEZVOUS, None), ('kept_order', RENDEZVOUS, None),
          ('skipped_barrier', RENDEZVOUS, None), ('lost_request', RENDEZVOUS, None), ('swapped_tags', RENDEZVOUS, None),
-         ('stolen_message', RENDEZVOUS, None), ('overtaking', RENDEZVOUS, None), ('trap', RENDEZVOUS, None), ('waitany', RENDEZVOUS, None))
+         ('stolen_message', RENDEZVOUS, None), ('overtaking', RENDEZVOUS, None), ('trap', RENDEZVOUS, None), ('waitany', RENDEZVOUS, None),
+         ('loop', RENDEZVOUS, None), ('missing_sender', RENDEZVOUS, None),
+         ('one_in_seven', RENDEZVOUS, None), ('two_receives', RENDEZVOUS, None), ('waited_twice', RENDEZVOUS, None), ('wrong_handle', RENDEZVOUS, None))
 CHUNK, MOST_FUEL, MANY = 10, 400, 200
 MUST_MEET = ('first candidates', 'choices', 'words', 'witness', 'done', 'deadlock', 'trap', 'leftovers', 'cut', 'buffered', 'slots', 'a release',
              'to oneself', 'to the left', 'a free send', 'a free receive', 'a waitany', 'no such choices', 'no such words', 'no step', 'bad words')
