@@ -35,13 +35,11 @@ HERE = os.path.dirname(os.path.abspath(__file__))
 sys.path[:0] = [HERE, f'{os.path.dirname(HERE)}/compare']
 sys.dont_write_bytecode = True
 
-import explorer
-import session
-import witness
-from debugger import RENDEZVOUS, answer
+from cases.explore_cases import Case
 from edit_files import BadEdit, Edit, merged, touches
-from explore_cases import Case
-from runs import held
+from model import explorer, session, witness
+from model.debugger import RENDEZVOUS, answer
+from started.programs import held
 
 FOLDER = 'compare/broken'
 # What the words of a command line have in place of paths.

@@ -471,14 +471,14 @@ class Growing(WithFolder):
 
     def setUp(self):
         super().setUp()
-        for file in ('crates/low/src/lib.rt', 'crates/low/specs/Lines.antt', 'crates/low/out/kept.rt', 'crates/high/src/main.rt', 'compare/run.py'):
+        for file in ('crates/low/src/lib.rt', 'crates/low/specs/Lines.antt', 'crates/low/out/kept.rt', 'crates/high/src/main.rt', 'compare/runs/run.py'):
             self.write(file, '')
 
     def gone(self, text):
         return growing.missing(text, growing.listed(self.folder))
 
     def test_what_is_there(self):
-        for text in ('`low/src/lib.rt`', '`low/specs/Lines`', '`low/specs/`', '`compare/run.py`', '`crates/high/src`'):
+        for text in ('`low/src/lib.rt`', '`low/specs/Lines`', '`low/specs/`', '`compare/runs/run.py`', '`crates/high/src`'):
             self.assertEqual(self.gone(text), [], text)
 
     def test_what_is_not(self):

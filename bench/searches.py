@@ -5,7 +5,7 @@
 
 It is no part of the gate. The first table has races that share nothing, and one race: how many leaves a report lists of all runs, 65,536 at
 most, and how many with `--ends`, and the best of N whole runs of both by the clock (5, where it isn't said). The second table has hangs
-that one run in seven or eleven comes to (compare/rare_cases.py): whether the first 1,000 runs of each piece find one, as `check` lists
+that one run in seven or eleven comes to (compare/cases/rare_cases.py): whether the first 1,000 runs of each piece find one, as `check` lists
 them without an option, and with `--ends`; and of how many seeds of 20 a report by 100 runs that are drawn finds one, and how long one takes, the
 middle of them. The status is 1 where the ends of races are not as many as they must be, or a hang is not found by each seed.
 """
@@ -22,7 +22,7 @@ from typing import NamedTuple
 TOP = os.path.dirname(os.path.dirname(os.path.abspath(__file__)))
 sys.path.insert(0, f'{TOP}/compare')
 
-from rare_cases import Hang, Races  # noqa: E402  pylint: disable=wrong-import-position
+from cases.rare_cases import Hang, Races  # noqa: E402  pylint: disable=wrong-import-position
 
 MOST_RUNS, SEEDS, DRAWN = 65536, 20, 100
 RACES = (*(Races(count) for count in range(1, 6)), *(Races(count, 3, 3) for count in (1, 2, 3)), Races(1, 7, 7))

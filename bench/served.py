@@ -21,8 +21,8 @@ import time
 TOP = os.path.dirname(os.path.dirname(os.path.abspath(__file__)))
 sys.path.insert(0, f'{TOP}/compare')
 
-from served_clients import HERE
-from served_program import Serving, Tried, free_port
+from served.served_clients import HERE
+from served.served_program import Serving, Tried, free_port
 
 SCRIPT = b'mpd 1; ranks 1; var i; while 1 { i = i + 1; }\n'
 LINE = b'{"cmd":"step","step":"local 0"}\n'

@@ -1,0 +1,430 @@
+"""Random dialogues of the console: a script, a mode, and lines of words that are drawn with the model's console at hand.
+
+Most lines fit the script where the console stands then: its ranks, names, lines, calls and candidates. Others are shortened, have blanks about
+them, are no word, don't fit it, have numbers that are out of range, are comments, empty, too long, or have bytes that are no text.
+"""
+
+from collections import Counter
+from itertools import islice
+from random import Random
+from typing import NamedTuple, Optional, Union
+
+from cases import explained_cases, session_cases
+from cases.explore_cases import Beside
+from cases.session_cases import is_short
+from cases.walks import random_step, respaced, step_line
+from model import debugger, explorer, policy
+from model.console import NO_FILE, Console, debug, is_blank, way
+from model.console_words import TABLE, Asked, NotAsked, full_name, names_of
+from model.debugger import RENDEZVOUS, Debugger, enabled_steps, lines_of, step_text
+from model.explorer import CUT, leaf_lines, walk
+from model.language import Fault, read_script
+from model.modes import MODES, by_turns
+from model.policy import Choice, Forced
+from started.programs import held
+
+# What takes the model more steps or runs than these isn't asked for.
+LONGEST_RUN, MOST_RUNS, MOST_FUEL = 200, 60, 250
+# Words that look for a run that ends so.
+SOUGHT = 'deadlock', 'trap'
+EDGES = ('0', '1', '2', '15', '16', '63', '64', '65', '65536', '65537', '65538', '1000000', '1000001', '999999999', '000000001')
+NO_NUMBERS = ('-1', '+1', '1.0', '1.', '.1', '0x1', '1234567890', '0000000001', 'x', '1e3', '1,0', '\xb2', 'all', '1;', "'1'")
+NO_NAMES = ('5', 'x[', 'x]', 'x[]', 'x[i]', 'x[-1]', 'x[0', '[0]', 'x[0]]', 'x.0', 'x+1', '*', 'a[0000000000]', '\xe9', 'x[0][0]', 'a [0]')
+OTHER_NAMES = ('foo', 'rank', 'size', 'send', '_', 'X', 'x0', 'y_', 'any', 'a' * 65)
+NO_WORDS = ('zap', 'step', 'finish', 'quitt', 'un do', 'undo', 'undo-', 'undo_choice', 'choice', 'followed', 'fo', 'traps', 'tr', 'ux', 'fx',
+            'NEXT', 'Next', 'brake', 'reverse', 'reverse-', 'brea', 'breakss', 'loc', 'wakean', 'matches',
+            'nexts', '?help', '-', '--', '.', '0', '7', '\xff', '\xc3\xa9', 'next\xe9', 'n\x01', '\x7f', '~', 'run\x0b', '\x0c', 'x\x00y', 'h\xa0',
+            'nex\xb2')
+BEHIND = ('', '', ' 0', ' 1', ' x', ' 0 0', ' 1.0', ' # why', ' 0.0 1.0', ' \xff')
+COMMENTS = ('#', '# so', '#next', '  # next', '\t#', '# \xff', '## run')
+STEPS_AND_QUIT = 'quit', 'q', 'release', 'wake', 'wakeany', 'local'
+LAST_LINES = b'next\r', b'#', b'\r', b'x' * 4097, b'show' + b' ' * 4093, b'show' + b' ' * 4092
+ENDS = session_cases.ENDS
+MODES_DRAWN = (*MODES, *MODES, 'slots:1', 'slots:2')
+
+
+class Habits(NamedTuple):
+    """How often each word is drawn, how many lines there are, and how often a line is spoiled or empty."""
+    words: dict
+    lines: tuple
+    spoiled: float = 0.06
+    empty: float = 0.05
+
+
+def shares(usual=2, **named):
+    """A share for each word."""
+    words = [word for row in TABLE for word in row.words if word not in ('match', 'wake', 'wakeany', 'release', 'quit')]
+    return {word: named.get(word.replace('-', '_'), usual) for word in words}
+
+
+MOVING = Habits(shares(1, next=16, run=12, back=5, run_back=4, undo_choice=6, goto=4, redo=8, local=10, deadlock=3, trap=3, follow=4, history=2),
+                (25, 40, 60))
+STOPPING = Habits(shares(1, next=8, run=16, back=4, run_back=12, redo=5, goto=2, **{'break': 12}, delete=4, breaks=4), (30, 50))
+LOOKING = Habits(shares(3, next=12, run=12, why=16, print=8, vars=4, list=4, calls=4, queues=4, ranks=4, enabled=4, check=6), (30, 45))
+ENDING = Habits(shares(1, next=10, run=22, back=3, undo_choice=8, redo=10, deadlock=8, trap=6, follow=8, check=8, why=6, history=3, goto=4), (25, 40))
+FILLING = Habits(shares(0, **{'break': 60}, delete=3, breaks=1, run=2, run_back=2), (90, 110), spoiled=0.01)
+SPOILED = Habits(shares(3, next=8, run=4), (40, 60), spoiled=0.6, empty=0.15)
+ALL_HABITS = (MOVING, MOVING, MOVING, STOPPING, STOPPING, LOOKING, LOOKING, LOOKING, ENDING, ENDING, ENDING, SPOILED, SPOILED, FILLING)
+
+
+def is_tried_soon(walked, is_last):
+    """Whether the runs from here, up to the first that is the last one by how many stand before it and by itself, end within few steps, and
+    are few."""
+    for count, leaf in enumerate(walk(walked.world, MOST_FUEL)):
+        if leaf.outcome == CUT or count > MOST_RUNS:
+            return False
+        if is_last(count, leaf):
+            return True
+    return True
+
+
+class Talk:
+    """Lines for one console, each drawn where it stands then; what was drawn is counted in `met`."""
+
+    def __init__(self, random, script, mode, habits, witness=None):
+        self.random, self.habits = random, habits
+        self.console = Console(script, mode, witness)
+        self.source_lines = script.count(b'\n') + 1
+        self.met = Counter()
+
+    @property
+    def walked(self):
+        return self.console.debugger
+
+    @property
+    def world(self):
+        return self.console.world
+
+    def chance(self, share):
+        return self.random.random() < share
+
+    # ---- what may follow a word
+
+    def edge(self, *numbers):
+        """One of some numbers, or one next to it, now and then one at an edge."""
+        if self.chance(0.08):
+            return self.random.choice(EDGES)
+        number = max(0, self.random.choice(numbers) + self.random.choice([0, 0, 0, 0, -1, 1]))
+        return str(number).zfill(self.random.choice([0, 0, 0, 0, 0, 0, 0, 9]))
+
+    def rank(self):
+        ranks = len(self.world.ranks)
+        return str(self.random.randrange(ranks)) if self.chance(0.93) else self.random.choice([str(ranks), *EDGES])
+
+    def maybe(self, drawn, share):
+        """What is drawn, or nothing."""
+        return [drawn()] if self.chance(share) else []
+
+    def name(self):
+        """A name, mostly one that is declared, with an index where it is an array."""
+        names = self.console.script.names
+        if not names or self.chance(0.08):
+            return self.random.choice(OTHER_NAMES) + self.random.choice(['', '', '[0]'])
+        name, declared = self.random.choice(list(names.items()))
+        is_indexed = self.chance(0.6 if declared.size is not None else 0.04)
+        return f'{name}[{self.edge(0, declared.size or 0, self.random.randint(0, declared.size or 1))}]' if is_indexed else name
+
+    def call(self):
+        """A call, mostly one that is there."""
+        free = [(number, call) for number, rank in enumerate(self.world.ranks) for call in rank.free]
+        if free and self.chance(0.5):
+            rank, call = self.random.choice(free)
+            return f'{rank}.{call}'
+        rank = int(self.rank())
+        calls = len(self.world.ranks[rank].calls) if rank < len(self.world.ranks) else 0
+        return f'{rank}.{self.random.randrange(calls) if calls and self.chance(0.9) else calls}'
+
+    # ---- each word with what follows it
+
+    def next(self):
+        decided = policy.decision(self.world)
+        if isinstance(decided, Choice):
+            count = len(decided.steps)
+            return ['next', *([str(self.random.randint(1, count))] if self.chance(0.7) else self.maybe(lambda: self.edge(0, count, count + 1), 0.5))]
+        return ['next', *self.maybe(lambda: self.edge(0, 1, 2, 3, 5, 10, 30), 0.2)]
+
+    def run(self):
+        most = self.edge(1, 2, 3, 5, 10, 30, 100) if self.chance(0.35) else None
+        return ['run', *([] if most is None else [most])]
+
+    def back(self):
+        return ['back', *self.maybe(lambda: self.edge(1, 2, self.walked.depth, self.random.randint(0, self.walked.depth)), 0.5)]
+
+    def goto(self):
+        depth, kept = self.walked.depth, len(self.walked.steps)
+        return ['goto', self.edge(0, depth, kept, self.random.randint(0, depth), self.random.randint(depth, kept))]
+
+    def redo(self):
+        undone = self.console.session.undone()
+        return ['redo', *self.maybe(lambda: self.edge(1, 2, undone, undone, undone + 2, self.random.randint(0, undone)), 0.5)]
+
+    def local(self):
+        """A step of any kind, by hand."""
+        steps, undone = enabled_steps(self.world), self.walked.steps[self.walked.depth:]
+        if self.chance(0.15) or not steps:
+            step = random_step(self.random, self.world, self.console.script.version)
+        elif undone and self.chance(0.4):
+            step = undone[0]
+        else:
+            step = self.random.choice(steps)
+        return step_line(self.random, step).split()
+
+    def break_(self):
+        kind = self.random.choice(['line', 'line', 'match', 'change', 'change'])
+        if kind == 'change':
+            return ['break', 'change', self.rank(), self.name()]
+        lines = [self.random.randint(1, self.source_lines) for _ in range(2)]
+        return ['break', *(['line'] if kind == 'line' and self.chance(0.3) else ['match'] * (kind == 'match')), self.edge(1, *lines)]
+
+    def delete(self):
+        taken = [number for number, stop in enumerate(self.console.session.breaks.places) if stop is not None]
+        return ['delete', str(self.random.choice(taken)) if taken and self.chance(0.8) else self.edge(0, 63)]
+
+    def of_rank(self, word):
+        return [word, *self.maybe(self.rank, 0.5)]
+
+    def print(self):
+        return ['print', self.name(), *self.maybe(self.rank, 0.4)]
+
+    def why(self):
+        blocked = [str(number) for number, rank in enumerate(self.world.ranks) if rank.mode == 'blocked']
+        if self.chance(0.2):
+            return ['why']
+        if blocked and self.chance(0.4):
+            return ['why', self.random.choice(blocked)]
+        return ['why', self.rank() if self.chance(0.15) else self.call()]
+
+    def history(self):
+        return ['history', *self.maybe(lambda: self.edge(0, 1, 3, 10, self.walked.depth), 0.6)]
+
+    def check(self):
+        return ['check', *self.maybe(lambda: self.edge(1, 1, 2, 3, 10), 0.5)]
+
+    def follow(self):
+        return ['follow', self.edge(1, 1, 2, 2, 3, 5)]
+
+    def help(self):
+        names = [name for row in TABLE for name in names_of(row)]
+        return ['help', *self.maybe(lambda: self.random.choice([*names, *names, *NO_WORDS]), 0.8)]
+
+    def parts(self, word):
+        """A word with what follows it."""
+        if word in ('list', 'vars', 'calls'):
+            return self.of_rank(word)
+        drawing = {'break': self.break_, **{name: getattr(self, name) for name in (
+            'next', 'run', 'back', 'goto', 'redo', 'local', 'delete', 'print', 'why', 'history', 'check', 'follow',
+            'help')}}.get(word)
+        return [word] if drawing is None else drawing()
+
+    # ---- lines
+
+    def shortened(self, word):
+        """A word by one of its names."""
+        row = next((row for row in TABLE if word == row.words[0]), None)
+        return word if row is None or self.chance(0.5) else self.random.choice([word, *row.short])
+
+    def spoiled(self, parts):
+        """A line that is no word, or nearly none."""
+        kind = self.random.choice(['word', 'word', 'more', 'less', 'number', 'name', 'byte', 'nearly', 'long', 'comment', 'none'])
+        if kind == 'none':
+            return self.random.choice(STEPS_AND_QUIT) + self.random.choice([' x', ' 0.0', ' 0 0 0', ' #', ' quit'])
+        if kind == 'word':
+            return self.random.choice(NO_WORDS) + self.random.choice(BEHIND)
+        if kind == 'comment':
+            return self.random.choice(COMMENTS)
+        if kind == 'long':
+            return ' '.join(parts).ljust(self.random.choice([4095, 4096, 4097, 4098, 8192]), self.random.choice(' \tx#'))
+        if kind == 'nearly':
+            word = parts[0]
+            place = self.random.randint(0, len(word))
+            more = word[:place] + self.random.choice('aelrstx-?') + word[place:]
+            changed = self.random.choice([word[:place], word + word[-1:], more, word[1:], word.upper()])
+            return ' '.join([changed, *parts[1:]])
+        if kind == 'byte':
+            text = ' '.join(parts)
+            place = self.random.randint(0, len(text))
+            return text[:place] + chr(self.random.choice([0, 1, 11, 12, 13, 27, 31, 35, 46, 91, 127, 128, 160, 195, 255])) + text[place:]
+        changed = list(parts)
+        if kind == 'less' and len(parts) > 1:
+            changed.pop(self.random.randrange(1, len(parts)))
+        elif kind in ('number', 'name') and len(parts) > 1:
+            changed[self.random.randrange(1, len(parts))] = self.random.choice(NO_NUMBERS if kind == 'number' else NO_NAMES)
+        else:
+            changed.insert(self.random.randint(1, len(parts)), self.random.choice(['0', '1', 'x', '1.0', 'match', 'change', '#']))
+        return ' '.join(changed)
+
+    def line(self):
+        """The next line, without its end."""
+        is_along = self.console.last is not None and self.console.last.word == 'run' and bool(self.console.ahead)
+        if self.chance(0.3 if is_along else self.habits.empty):
+            return self.random.choice([b'', b'', b' ', b'\t', b' \t '])
+        words = self.habits.words
+        parts = self.parts(self.random.choices(list(words), list(words.values()))[0])
+        parts[0] = self.shortened(parts[0])
+        if self.chance(self.habits.spoiled):
+            return self.spoiled(parts).encode('latin-1')
+        return respaced(self.random, ' '.join(parts)).encode('latin-1')
+
+    def is_long(self, line):
+        """Whether a line asks for more than the model should do."""
+        try:
+            asked = self.console.asked(line)
+        except NotAsked:
+            return False
+        if asked is None or len(line) > debugger.LONGEST_LINE:
+            return False
+        number = asked.given[0] if asked.given else None
+        if asked.word == 'run' or asked.word == 'next' and number is not None and isinstance(policy.decision(self.world), Forced):
+            is_within = number is not None and (number <= LONGEST_RUN or number > debugger.MOST_STEPS)
+            return not is_within and not is_short(self.walked, self.console.session.breaks)
+        if asked.word == 'check' and (number is None or 1 <= number <= explorer.MOST_RUNS):
+            return not is_tried_soon(self.walked, lambda count, _: count == (1000 if number is None else number))
+        if asked.word == 'follow' and 1 <= number <= explorer.MOST_RUNS:
+            return not is_tried_soon(self.walked, lambda count, _: count + 1 == number)
+        return asked.word in SOUGHT and not is_tried_soon(self.walked, lambda _, leaf: way(leaf) == asked.word)
+
+    def lines(self, count):
+        """So many lines with their ends; each is answered before the next is drawn."""
+        for _ in range(count):
+            line = self.line()
+            end = self.random.choice(ENDS)
+            if self.is_long(line) or end.count(b'\n') > 1 and (self.is_long(b'') or self.is_long_then(line)):
+                line, end = b'enabled', b'\n'
+            data = line + end
+            for part in lines_of(data):
+                self.note(part)
+                self.console.answer(part)
+            yield data
+
+    def is_long_then(self, line):
+        """Whether what a line asks is too long the second time, as far as that is known: a run, and what tries runs."""
+        try:
+            asked = self.console.asked(line)
+        except NotAsked:
+            return False
+        return asked is not None and asked.word in ('next', 'run', 'check', 'follow', *SOUGHT)
+
+    def note(self, line):
+        """Counts what is asked."""
+        is_again = is_blank(line) and self.console.last is not None and len(line) <= debugger.LONGEST_LINE
+        self.met['an empty line that does the last word again'] += is_again
+        first = line.split()[:1]
+        self.note_ahead(line)
+        self.met['a short name'] += any(full_name(word.decode('latin-1')) not in (None, word.decode('latin-1')) for word in first)
+
+    def note_ahead(self, line):
+        """Counts what goes along the steps ahead, and breakpoints of the word `line`."""
+        try:
+            asked = self.console.asked(line)
+        except NotAsked:
+            return
+        if asked is None or len(line) > debugger.LONGEST_LINE:
+            return
+        number, depth, undone = asked.given[0] if asked.given else 1, self.walked.depth, self.console.session.undone()
+        self.met['a run that chooses again'] += asked.word == 'run' and self.console.can_choose_again and number != 0
+        self.met['a run that chooses again by an empty line'] += asked.word == 'run' and is_blank(line) and self.console.can_choose_again
+        self.met['all that are ahead, and more were asked for'] += asked.word == 'redo' and 0 < undone < number
+        self.met['a depth that is ahead'] += asked.word == 'goto' and depth < number <= depth + undone
+        self.met['a breakpoint of the word line'] += asked.word == 'break' and number == 'line'
+        self.note_choices(asked)
+
+    def note_choices(self, asked):
+        """Counts where a choice is undone, and what goes so many steps or tells of all that wait."""
+        worlds = self.walked.worlds[:-1]
+        is_undone = asked.word == 'undo-choice' and any(isinstance(policy.decision(world), Choice) for world in worlds)
+        is_left = is_undone and isinstance(policy.decision(worlds[-1]), Forced)
+        self.met['a choice undone, and forced steps'] += is_left
+        self.met['a choice undone, and steps that were undone'] += is_undone and bool(self.console.ahead)
+        self.met['so many steps by next'] += asked.word == 'next' and asked.given > (1,) and isinstance(policy.decision(self.world), Forced)
+        self.met['why of several ranks'] += asked == Asked('why') and sum(rank.mode == 'blocked' for rank in self.world.ranks) > 1
+        self.met['a run laid ahead in the place of others'] += asked.word in ('follow', *SOUGHT) and bool(self.console.ahead)
+
+
+# ---- scripts and witnesses
+
+def with_carriage_returns(random, script):
+    """The script, whose lines now and then end with a carriage return, or whose last one doesn't end."""
+    draw = random.random()
+    if draw < 0.08:
+        return script.replace(b'\n', b'\r\n')
+    return script.rstrip(b'\n') if draw < 0.16 else script
+
+
+def script_for(seed, random, number, mode):
+    """A script of either version: one that is explored or traced elsewhere, or one whose ranks nearly meet."""
+    if number % 5 < 2:
+        return explained_cases.nearly_script(random, 1 + random.randrange(2))
+    script = session_cases.script_by(Beside(seed) if number % 5 == 2 else seed, random, mode)
+    return script if len(script) < 2500 else explained_cases.nearly_script(random, 1)
+
+
+def witness_for(random, script, mode):
+    """The witness of a deadlock, and a text that has it; None where none is found soon."""
+    walked = Debugger(read_script(script), mode)
+    for leaf in islice(walk(walked.world, MOST_FUEL), MOST_RUNS):
+        if leaf.outcome.startswith('deadlock'):
+            first, second = leaf_lines(0, leaf, True)
+            short = f'{leaf.outcome}\n{", ".join(map(step_text, leaf.steps))}'
+            text = random.choice([f'{first}\n{second}\n', short, f'{first}\n{second}\nleaves 1 more yes\n'])
+            return explorer.witness(leaf), text.encode()
+    return None
+
+
+def spoiled_witness(random, text):
+    """A witness without its last step, with another call or step, or with what is none, so that mostly it is refused."""
+    kind = random.choice(['less', 'call', 'step', 'rank', 'none', 'none'])
+    if kind == 'less':
+        head, _, tail = text.rpartition(b', ')
+        return head + tail[len(tail.splitlines()[0]):] if head else text
+    if kind == 'none':
+        return random.choice([text.partition(b'\n')[0], text.replace(b'local', b'loca', 1), text.replace(b'deadlock', b'deadlok'), b'', b'\xff'])
+    old, new = {'call': (b'deadlock ', b'deadlock 0.9 '), 'step': (b'local 0', b'wake 0'), 'rank': (b'local 0', b'local 1')}[kind]
+    return text.replace(old, new, 1)
+
+
+class Case(NamedTuple):
+    """A script in a mode (None: not said), what is typed, the text of a witness, NO_FILE or None, and what was met as it was drawn."""
+    name: str
+    script: Optional[bytes]
+    mode: Optional[str]
+    data: bytes
+    witness: Union[bytes, str, None] = None
+    met: Counter = Counter()
+
+    def words(self, folder):
+        """The words that have a program answer it, with its files in a folder."""
+        mode = () if self.mode is None else ('--mode', self.mode)
+        text = None if self.witness == NO_FILE else self.witness
+        witness = () if self.witness is None else ('--witness', held(folder, 'witness.txt', text))
+        return ('debug', held(folder, 'script.mpd', self.script), *mode, *witness)
+
+    def wanted(self):
+        """What must be answered."""
+        return debug(self.script, self.data, RENDEZVOUS if self.mode is None else self.mode, self.witness)
+
+
+def ended(random, data, talk):
+    """What is typed, of which the last line may have no line feed, be cut, or stand behind the end."""
+    draw = random.random()
+    if draw < 0.2:
+        return data.rstrip(b'\n')
+    if draw < 0.3:
+        return data + random.choice(LAST_LINES if talk.is_long(b' ') else (*LAST_LINES, b' '))
+    return data + random.choice([b'quit\n', b'q\nnext\nshow\n', b' q \r\nshow\n', b'quit']) if draw < 0.45 else data
+
+
+def random_case(seed, number):
+    """One dialogue, the same each time."""
+    random = Random(f'consoles/{seed}/{number}')
+    mode = by_turns(random.choice(MODES_DRAWN), number)
+    script, habits = with_carriage_returns(random, script_for(seed, random, number, mode)), random.choice(ALL_HABITS)
+    found = None
+    try:
+        found = witness_for(random, script, mode) if random.random() < 0.25 else None
+        talk = Talk(random, script, mode, habits, None if found is None else found[0])
+    except Fault:
+        return Case(f'console-{seed}-{number}', script, mode, b'next\n')
+    data = ended(random, b''.join(talk.lines(random.choice(habits.lines))), talk)
+    mode = None if mode == RENDEZVOUS and random.random() < 0.3 else mode
+    text = None if found is None else spoiled_witness(random, found[1]) if random.random() < 0.3 else found[1]
+    return Case(f'console-{seed}-{number}', script, mode, data, text, talk.met)

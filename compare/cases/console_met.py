@@ -1,0 +1,83 @@
+"""What is met in dialogues of the console: what each line of an answer tells, by its form, and of what kind a dialogue is (consoles.py)."""
+
+import re
+
+from model.console_words import TABLE
+from runs.explained import TOLD_BY as EXPLAINED
+
+STEP = r'(local|match|wake|wakeany|release)\b.*'
+CALL = r'line \d+, \d+\.\d+ '
+# What a line of an answer tells, by its form.
+TOLD_BY = {
+    **{f'a step {word}': rf'\d+ {word}\b.*: .*' for word in ('local', 'match', 'wake', 'wakeany', 'release')},
+    'steps ahead': rf'\d+ ahead: {STEP}', 'next': rf'next: {STEP}', 'a choice of one call': r'stopped at a choice of rank \d+, line \d+:',
+    'a choice of several calls': r'stopped at a choice:', 'a candidate that is a match': r'  \d+ match .*',
+    'a candidate that is a wake': rf'  \d+ wakeany .*: line \d+, by {CALL}.*',
+    **{f'ended {word}': rf'ended: {word}\b.*' for word in ('done', 'leftovers', 'deadlock', 'trap')},
+    'a run': r'\d+ steps, depth \d+', 'a run of one step': r'1 step, depth \d+', 'a run back': r'\d+ steps back, depth \d+',
+    'a run back of one step': r'1 step back, depth \d+', 'at the start': r'at the start',
+    'before a breakpoint': r'before breakpoint \d+: .*', 'stopped by a number': r'stopped: as many steps .*',
+    'a depth': r'depth \d+', 'a deadlock ahead': r'deadlock .* is \d+ steps? ahead', 'no deadlock': r'no deadlock: .*',
+    'a trap ahead': r'trap .* is \d+ steps? ahead', 'no trap': r'no trap: .*',
+    **{f'a run that is {way} ahead': rf'run \d+, {way}.*, is \d+ steps? ahead' for way in ('done', 'leftovers', 'deadlock', 'trap')},
+    'more runs': r'\d+ runs?, and there are more \(.*\)', 'no more runs': r'\d+ runs?, and no more \(.*\)', 'one run': r'1 run, .*',
+    **{f'runs that are {way}': rf'.*runs?, and .*[(,] ?\d+ {way}\b.*' for way in ('done', 'leftovers', 'deadlock', 'trap')},
+    'runs that end in several ways': r'\d+ runs, and .*\(.*, .*\)',
+    'a run with choices': r'\d+ choices \d+( \d+)*: .*', 'a run without a choice': r'1 no choice: .*',
+    **{f'a breakpoint {kind}': rf'breakpoint \d+: {kind} .*' for kind in ('line', 'match', 'change')},
+    'a breakpoint of a cell of an array': r'breakpoint \d+: change \d+ \w+\[\d+\]', 'no breakpoint': r'no breakpoint', 'deleted': r'deleted \d+',
+    'a line with ranks': r' +\d+  .*  <- rank \d+.*', 'a line with several ranks': r' +\d+  .*  <- rank \d+.*, rank .*',
+    'a line with one that is blocked': r' +\d+  .*  <- .*rank \d+ blocked.*',
+    'a line with one that is trapped': r' +\d+  .*  <- .*rank \d+ trapped.*',
+    'ranks below the script': r'ended: rank .*', 'a rank that has ended': r'rank \d+ has ended', 'a rank that waits': rf'rank \d+ waits at {CALL}.*',
+    'a rank at a line': r'rank \d+ is at line \d+', 'a rank that is trapped': r'rank \d+ is trapped at line \d+: .*',
+    'no call waited for': r'rank \d+ waits for no call', 'no rank that waits': r'no rank waits for a call',
+    'a variable': r'rank \d+: \w+ = -?\d+', 'an array': r'rank \d+: \w+\[0\] = -?\d+, .*', 'a request': rf'rank \d+: \w+ = {CALL}.*',
+    'no request': r'rank \d+: \w+ = no request',
+    'an array of requests': rf'rank \d+: \w+\[0\] = .*{CALL}.*', 'no cell': r'rank \d+: \w+ has no cell', 'printed': r'rank \d+ has printed .*',
+    'a call': rf'{CALL}.*', 'a call that is buffered': rf'{CALL}.* buffered (free|with .*)', 'no call': r'no call',
+    'a pending send': rf'pending \d+ to \d+: {CALL}.*', 'a posted receive': rf'posted \d+: {CALL}.*', 'no free call': r'no free call',
+    'no step enabled': r'no step is enabled', 'can be matched': rf'  can be matched with {CALL}.*',
+    'held back': rf'  could be matched with {CALL}.*, but for {CALL}.*', 'no partner': r'  has no partner yet: for a .*',
+    'no step taken': r'no step is taken',
+    'a trace word': r'(local|wake) \d+', 'a state': r'depth \d+ of \d+',
+    'help of one word': r'.*: (takes|goes|sets|removes|lists|shows|says|tries|looks|lays|ends).*',
+    'an unknown word, with one that is near': r"unknown word '.*': perhaps .*", 'an unknown word': r"unknown word '.*': help lists all",
+    'an unknown word with other bytes': r"unknown word '.*\?.*': .*", 'an unknown name': r"no variable or request is called '\w+'",
+    'no variable': r"no variable is called '\w+'", 'a name that is none': r"no variable or request is called '.*[^\w'].*'",
+    'no variable by a name that is none': r"no variable is called '.*[^\w'].*'",
+    **{f'refused: {why}': f'refused: {why}' for why in (
+        'this step is not enabled', 'there is no such candidate', 'there is no such run', 'no choice was made',
+        'fewer steps are taken', 'fewer steps are ahead', 'no such number',
+        'no breakpoint has this number', '64 breakpoints are set', 'this line is too long')},
+    **{f'usage of {word}': rf'usage: .*\b{word}\b.*' for row in TABLE for word in row.words}}
+TOLD_BY = {name: re.compile(form) for name, form in TOLD_BY.items()}
+# Of explanations, which explained.py compares, these must be met here.
+OF_EXPLANATIONS = ('a rank at recv', 'a rank at send', 'a rank at wait', 'a rank at waitany', 'a rank at barrier', 'another tag', 'another source',
+                   'a send was taken', 'a receive was taken', 'not at a barrier, ended', 'not at a barrier, elsewhere', 'a cycle of 2', 'trap assert')
+# What may be told on standard error.
+OF_ERRORS = {'a witness that is refused': rb'mpdbg: witness refused .*', 'a witness of no such step': rb'mpdbg: witness refused 32 .* at \d+',
+             'a witness that is none': rb'mpdbg: bad witness.*'}
+OF_DIALOGUES = ('slots', 'buffered', 'rendezvous', 'no mode', 'version 2', 'a witness', 'a last line without an end', 'words behind the end',
+                'a script with carriage returns', 'a script whose last line does not end', 'an empty line that does the last word again',
+                'a short name', 'a run that chooses again', 'a run that chooses again by an empty line',
+                'all that are ahead, and more were asked for', 'a depth that is ahead', 'a breakpoint of the word line',
+                'a choice undone, and forced steps', 'a choice undone, and steps that were undone', 'so many steps by next', 'why of several ranks',
+                'a run laid ahead in the place of others')
+MUST_MEET = (*TOLD_BY, *OF_EXPLANATIONS, *OF_ERRORS, *OF_DIALOGUES)
+
+
+def met_in(case, wanted):
+    """What a program may answer wrongly."""
+    lines = set(wanted.output.decode().split('\n'))
+    yield from [name for name, form in TOLD_BY.items() if any(map(form.fullmatch, lines))]
+    yield from [name for name in OF_EXPLANATIONS if any(map(EXPLAINED[name].match, lines))]
+    yield from [name for name, form in OF_ERRORS.items() if re.match(form, wanted.errors)]
+    mode = case.mode or 'no mode'
+    yield 'slots' if mode.startswith('slots') else mode
+    yield from ['version 2'] * case.script.startswith(b'mpd 2') + ['a witness'] * (case.witness is not None)
+    yield from ['a last line without an end'] * (not case.data.endswith(b'\n'))
+    yield from ['words behind the end'] * (re.search(rb'\n *q *\r?\n.', case.data) is not None)
+    yield from ['a script with carriage returns'] * (b'\r\n' in case.script)
+    yield from ['a script whose last line does not end'] * (not case.script.endswith(b'\n'))
+    yield from [name for name, count in case.met.items() if count]

@@ -1,0 +1,698 @@
+"""Faults that are put into the console of the model on purpose: consoles.py must notice each.
+
+Steps told behind them, candidates from 0, lines of other statements, ranks beside other lines, words that are repeated and others that aren't,
+choices that are run through, deadlocks by another walk, near misses that are left out, and other names for words that are none.
+"""
+
+from inspect import isfunction
+
+from faults.console_faults_of_lines import line_faults
+from faults.console_faults_of_runs import run_faults
+from faults.console_faults_of_words import word_faults
+from faults.policy_faults import Breakage
+from model import console, console_lines, debugger, policy, session
+from model.console import Console
+from model.console_words import NotAsked
+from model.debugger import Result
+from model.policy import Forced
+from model.session import must_be
+from model.worlds import CallId
+
+SOUND = {name: value for name, value in vars(Console).items() if isfunction(value)}
+SOUND_NONE_CALLED, SOUND_REFUSED_WITNESS, NO_SUCH_NUMBER = console.none_called, console.refused_witness, console.REFUSALS[session.BAD_NUMBER]
+# Refusals that are told as others.
+REFUSED_OTHERWISE = (
+    ('goto', session.NOT_BEFORE, session.NO_REDO), ('redo', session.NO_REDO, session.AT_START), ('back', session.AT_START, session.BAD_NUMBER),
+    ('delete', session.NO_SUCH_BREAK, session.BAD_NUMBER), ('full', session.FULL, session.NOT_ENABLED),
+    ('breaks', session.BREAKS_FULL, session.BAD_NUMBER))
+
+
+def named(name, faults, owner=Console):
+    """Faults that stand in the place of a method, each by what it is called."""
+    return [Breakage(f'{name}: {what}', owner, name, replacement) for what, replacement in faults.items()]
+
+
+def changed(name, change):
+    """What answers otherwise, by the lines of the sound answer, and the console."""
+    return lambda self, *given: change(SOUND[name](self, *given), self)
+
+
+def without(*begins):
+    """What leaves out lines that begin so."""
+    return lambda lines, self: [line for line in lines if not line.startswith(begins)]
+
+
+def instead(old, new):
+    """What writes something else in all lines."""
+    return lambda lines, self: [line.replace(old, new) for line in lines]
+
+
+# ---- lines
+
+def remembering(remembers):
+    """What remembers a line for an empty one by another rule: by the console, the line, and what is asked, None where that is nothing."""
+    def lines(self, line):
+        before = self.last
+        told = SOUND['lines'](self, line)
+        self.last = remembers(self, line, before)
+        return told
+    return lines
+
+
+def is_none(line, talked):
+    """Whether a line isn't understood."""
+    if console.is_blank(line) or console.is_comment(line):
+        return False
+    try:
+        return talked.asked(line) is None
+    except NotAsked:
+        return True
+
+
+def forgetting(forgets):
+    """What forgets the last word behind some lines, by the line and the console."""
+    return remembering(lambda self, line, before: None if forgets(line, self) else self.last)
+
+
+def longest(length):
+    """What takes lines of another length as too long."""
+    def lines(self, line):
+        if console.LONGEST_LINE >= len(line) > length:
+            return [console.TOO_LONG]
+        return SOUND['lines'](self, line[:console.LONGEST_LINE] if len(line) <= length else line)
+    return lines
+
+
+def long_comments(self, line):
+    return [] if console.is_comment(line) else SOUND['lines'](self, line)
+
+
+def told_again(*begins):
+    """What tells once more, behind an empty line, what isn't understood and is answered by a line that begins so."""
+    def lines(self, line):
+        if getattr(self, 'last_told', None) and console.is_blank(line) and len(line) <= console.LONGEST_LINE:
+            return self.last_told
+        told = SOUND['lines'](self, line)
+        if not console.is_comment(line) and not console.is_blank(line) and len(line) <= console.LONGEST_LINE:
+            self.last_told = told if is_none(line, self) and told[0].startswith(begins) else None
+        return told
+    return lines
+
+
+def line_of_words_faults():
+    return [
+        *named('lines', {
+            '4,095 bytes at most': longest(4095),
+            '4,097 bytes at most': longest(4097),
+            'no comment is too long': long_comments,
+            'a comment forgets the last word': forgetting(lambda line, _: console.is_comment(line)),
+            'a word that is none forgets the last one': forgetting(is_none),
+            'a line that is too long forgets the last word': forgetting(lambda line, _: len(line) > console.LONGEST_LINE),
+            'an empty line forgets the last word': forgetting(lambda line, _: console.is_blank(line)),
+            'a name that is none is remembered': told_again('no variable'),
+            'an index that is none is remembered': told_again('refused'),
+            'a word that is none is remembered': told_again('unknown'),
+            'a form that does not fit is remembered': told_again('usage'),
+            'a refusal is not remembered': lambda self, line: refused_forgotten(self, line)}),
+        *named('asked', {
+            'blanks do nothing': lambda self, line: None if line and console.is_blank(line) else SOUND['asked'](self, line)}),
+        *named('is_blank', {
+            'a carriage return is a blank': lambda line: not line.strip(b' \t\r')}, owner=console),
+        *named('is_comment', {
+            'not behind blanks': lambda line: line.startswith(b'#'),
+            'anywhere': lambda line: b'#' in line}, owner=console),
+        *named('quit', {
+            'it goes on': lambda self: [],
+            'it says so': lambda self: [*SOUND['quit'](self), 'bye']})]
+
+
+def refused_forgotten(self, line):
+    before = self.last
+    told = SOUND['lines'](self, line)
+    if told and told[0].startswith('refused'):
+        self.last = before
+    return told
+
+
+# ---- where it stands
+
+def ahead_last(self):
+    """What tells the last step ahead for the first."""
+    texts = list(map(debugger.step_text, self.debugger.steps[self.debugger.depth:]))
+    return [line.replace(texts[0], texts[-1], 1) if ' ahead: ' in line else line for line in SOUND['where'](self)]
+
+
+def all_ahead(self):
+    """What says that all steps are ahead, those that are taken too."""
+    count = len(self.debugger.steps)
+    return [f'{count} ahead{line.partition(" ahead")[2]}' if ' ahead: ' in line else line for line in SOUND['where'](self)]
+
+
+def next_too(self):
+    """What tells the next step where steps are ahead, too."""
+    decided = policy.decision(self.world)
+    is_ahead = self.debugger.depth < len(self.debugger.steps)
+    told = [f'next: {console_lines.step_words(self.at, decided.step)}'] if isinstance(decided, Forced) and is_ahead else []
+    return SOUND['where'](self) + told
+
+
+def where_faults():
+    return [
+        *named('where', {
+            'nothing ahead': changed('where', lambda lines, self: [line for line in lines if ' ahead: ' not in line]),
+            'all steps are ahead': all_ahead,
+            'the last step ahead': ahead_last,
+            'the next step too': next_too,
+            'what is ahead comes last': changed('where', lambda lines, self: sorted(lines, key=lambda line: ' ahead: ' in line)),
+            'no next step': changed('where', without('next: ')),
+            'no candidates': changed('where', lambda lines, self: [line for line in lines if not line.startswith('  ')]),
+            'no end': changed('where', without('ended: '))}),
+        *named('explanation', {
+            'none': lambda self, ended: (),
+            'none of a trap': lambda self, ended: () if ended.startswith('trap') else SOUND['explanation'](self, ended),
+            'none of a deadlock': lambda self, ended: () if ended.startswith('deadlock') else SOUND['explanation'](self, ended),
+            'four spaces': lambda self, ended: [f'  {line}' for line in SOUND['explanation'](self, ended)]})]
+
+
+# ---- words that move
+
+def told_behind(self, step):
+    """What tells a step on the state behind it."""
+    lines = SOUND['take'](self, step)
+    if step.kind == 'local' and debugger.can_run(self.world.ranks[step.first]):
+        lines[0] = f'{self.debugger.depth} {console_lines.step_words(self.at, step)}'
+    return lines
+
+
+def number_looked_at(self, number=None):
+    """What looks at the number where there is nothing to choose."""
+    if number not in (None, 1) and isinstance(policy.decision(self.world), Forced):
+        return [console.NO_CANDIDATE, *self.where()]
+    return SOUND['next'](self, number)
+
+
+def one_whatever(self, number=None):
+    """What takes one step where there is nothing to choose, whatever the number is."""
+    return SOUND['next'](self, None if isinstance(policy.decision(self.world), Forced) else number)
+
+
+def one_as_taken(self, number=None):
+    """What tells a step as it is taken, where one is asked for, and not as a run."""
+    return SOUND['next'](self, None if number == 1 and isinstance(policy.decision(self.world), Forced) else number)
+
+
+def number_at_end(self, number=None):
+    """What refuses a number at an end as a run does."""
+    is_end = number is not None and isinstance(policy.decision(self.world), policy.Leaf)
+    return self.run(number) if is_end else SOUND['next'](self, number)
+
+
+def next_is_redo(self, number=None):
+    """What takes the step ahead, where there is one."""
+    return self.redo() if number is None and self.debugger.depth < len(self.debugger.steps) else SOUND['next'](self, number)
+
+
+def refused_at_end(self, number=None):
+    return [console.REFUSALS[session.NOT_ENABLED]] if isinstance(policy.decision(self.world), policy.Leaf) else SOUND['next'](self, number)
+
+
+def through_choices(self, most=session.MOST_COUNT):
+    """What runs through choices that it comes to, where the step ahead is a candidate."""
+    if self.can_choose_again:
+        return SOUND['run'](self, most)
+    stop = policy.run(self.debugger, self.session.breaks, most) if 1 <= most <= session.MOST_COUNT else None
+    made = 0 if stop is None else stop.steps
+    while stop is not None and stop.cause == policy.CHOICE and self.debugger.depth < len(self.debugger.steps):
+        self.debugger.redo()
+        stop = policy.run(self.debugger, self.session.breaks, session.MOST_COUNT)
+        made += 1 + stop.steps
+    return SOUND['run'](self, most) if stop is None else self.stopped(stop._replace(steps=made), '')
+
+
+def dropping(name):
+    """What drops the steps ahead."""
+    def answer(self, *given):
+        told = SOUND[name](self, *given)
+        del self.debugger.steps[self.debugger.depth:]
+        return told[:1] + self.where() if name != 'deadlock' else told
+    return answer
+
+
+def usual(name, number):
+    """What takes another number where none is said."""
+    return lambda self, *given: SOUND[name](self, *(given or (number,)))
+
+
+def choosing_again(change):
+    """What runs otherwise from a choice where steps are ahead, by the console and the number."""
+    def run(self, *given):
+        return change(self, *given) if self.can_choose_again and given != (0,) else SOUND['run'](self, *given)
+    return run
+
+
+def stays(self, *_):
+    """What stays at the choice."""
+    return self.stopped(policy.run(self.debugger, self.session.breaks, 1), '')
+
+
+def drops(self, *_):
+    """What drops the other steps that are ahead."""
+    told = self.redo()
+    del self.debugger.steps[self.debugger.depth:]
+    return [told[0], *self.where()]
+
+
+def runs_on(self, *_):
+    """What runs on behind the choice."""
+    told = self.redo()
+    return [told[0], *self.stopped(policy.run(self.debugger, self.session.breaks, 100), '')[1:]]
+
+
+def refused_at_choice(self, *given):
+    """What looks at the number there, too."""
+    must_be(given == () or given[0] <= session.MOST_COUNT, session.BAD_NUMBER)
+    return self.redo()
+
+
+def always_ahead(self, *given):
+    """What takes the step ahead wherever one is, and not at choices alone."""
+    return self.redo() if self.ahead and given != (0,) else SOUND['run'](self, *given)
+
+
+def forward(change):
+    """What goes otherwise to a depth that isn't reached, by the console and the depth."""
+    return lambda self, depth: change(self, depth) if depth > self.debugger.depth else SOUND['goto'](self, depth)
+
+
+def to_choice(self, depth):
+    """What stops at a choice on the way forward."""
+    must_be(depth <= len(self.debugger.steps), session.NOT_BEFORE)
+    self.session.redo(1)
+    while self.debugger.depth < depth and not self.can_choose_again:
+        self.session.redo(1)
+    return self.depth_lines()
+
+
+def forward_as_redo(self, depth):
+    """What tells one step forward as it is told of that."""
+    return self.redo() if depth == self.debugger.depth + 1 and self.ahead else SOUND['goto'](self, depth)
+
+
+def too_many(change):
+    """What answers otherwise where more steps are to be taken again than are ahead, and some are; by the console and the number."""
+    def redo(self, count=1):
+        return change(self, count) if 0 < len(self.ahead) < count else SOUND['redo'](self, count)
+    return redo
+
+
+def refused_where_too_many(self, *_):
+    return [console.REFUSALS[session.NO_REDO]]
+
+
+def highest_looked_at(self, count=1):
+    """What refuses numbers above 1,000,000 where steps are ahead, too."""
+    must_be(count <= session.MOST_COUNT, session.BAD_NUMBER)
+    return SOUND['redo'](self, count)
+
+
+def number_not_looked_at(self, count=1):
+    """What refuses any number but 0 where no step is ahead as it refuses 1."""
+    return SOUND['redo'](self, count if self.ahead else min(count, 1))
+
+
+def all_as_several(self, count=1):
+    """What tells a depth where more were asked for than the one step that was ahead."""
+    lines = SOUND['redo'](self, count)
+    return [f'depth {self.debugger.depth}', *lines[1:]]
+
+
+def as_far_as_it_goes(name, most):
+    """What takes as many steps as there are where more are asked for."""
+    def answer(self, count=1):
+        there = most(self)
+        return SOUND[name](self, min(count, there) if there else count)
+    return answer
+
+
+def without_reason(self, stop, back):
+    """What doesn't say why a run stopped."""
+    return [line for line in SOUND['stopped'](self, stop, back) if not line.startswith(('breakpoint', *console.STOPS.values()))]
+
+
+def with_end(self, stop, back):
+    """What says that a run stopped at an end."""
+    first, *others = SOUND['stopped'](self, stop, back)
+    return [first, *['stopped: end'] * (stop.cause == policy.LEAF), *others]
+
+
+def one_as_several(self, count=1):
+    """What tells a depth where one step is taken again."""
+    lines = SOUND['redo'](self, count)
+    return [f'depth {self.debugger.depth}', *lines[1:]]
+
+
+def move_faults():
+    return [
+        *named('take', {
+            'told behind the step': told_behind,
+            'the depth before': changed('take', lambda lines, self: [f'{self.debugger.depth - 1} {lines[0].partition(" ")[2]}', *lines[1:]]),
+            'no depth': changed('take', lambda lines, self: [lines[0].partition(' ')[2], *lines[1:]]),
+            'not where it stands': changed('take', lambda lines, self: lines[:1])}),
+        *named('next', {
+            'a number where there is no choice': number_looked_at,
+            'one step whatever the number': one_whatever,
+            'one step as it is taken': one_as_taken,
+            'the number at an end too': number_at_end,
+            'the step ahead': next_is_redo,
+            'refused at an end': refused_at_end,
+            'the first candidate where none is said': lambda self, number=1: SOUND['next'](self, number),
+            'candidates from 0': lambda self, number=None: SOUND['next'](self, None if number is None else number + 1),
+            'no such candidate alone': changed('next', lambda lines, self: lines[:1] if lines[0] == console.NO_CANDIDATE else lines)}),
+        *named('run', {
+            'through choices that are ahead': through_choices,
+            'it stays at a choice': choosing_again(stays),
+            'what is ahead is dropped at a choice': choosing_again(drops),
+            'a choice told as a run': choosing_again(lambda self, *_: [f'1 step, depth {self.debugger.depth + 1}', *self.redo()[1:]]),
+            'on behind a choice': choosing_again(runs_on),
+            'the first candidate': choosing_again(lambda self, *_: self.take(policy.decision(self.world).steps[0])),
+            'the step ahead where it is a candidate': choosing_again(
+                lambda self, *_: self.redo() if self.ahead[0] in policy.decision(self.world).steps else stays(self)),
+            'at a choice without a number alone': choosing_again(lambda self, *given: stays(self) if given else self.redo()),
+            'so many steps behind a choice': choosing_again(lambda self, most=1: self.redo(most)),
+            'a number of steps at a choice that is looked at': choosing_again(refused_at_choice),
+            '0 at a choice, too': lambda self, *given: self.redo() if self.can_choose_again else SOUND['run'](self, *given),
+            'the step ahead everywhere': always_ahead,
+            'ten steps': usual('run', 10),
+            'one step': usual('run', 1)}),
+        *named('stopped', {
+            'no reason': without_reason,
+            'no depth': lambda self, stop, back: [line.partition(', depth')[0] for line in SOUND['stopped'](self, stop, back)],
+            'back is not told': lambda self, stop, back: SOUND['stopped'](self, stop, ''),
+            'a run is before a breakpoint, too': lambda self, stop, back: [line.replace('breakpoint', 'before breakpoint') if not back else line
+                                                                           for line in SOUND['stopped'](self, stop, back)],
+            'a run back is at a breakpoint': lambda self, stop, back: [line.removeprefix('before ') for line in SOUND['stopped'](self, stop, back)],
+            'an end that is told': with_end}),
+        *named('depth_lines', {
+            'not where it stands': lambda self: SOUND['depth_lines'](self)[:1],
+            'no depth': lambda self: SOUND['depth_lines'](self)[1:]}),
+        *named('back', {
+            'two steps': usual('back', 2),
+            'as many as there are': as_far_as_it_goes('back', lambda self: self.debugger.depth),
+            'what is ahead is dropped': dropping('back')}),
+        *named('goto', {
+            'forward is refused': forward(lambda self, depth: [console.REFUSALS[session.NOT_BEFORE]]),
+            'forward to the end': forward(lambda self, depth: SOUND['goto'](self, min(depth, len(self.debugger.steps)) if self.ahead else depth)),
+            'one too few forward': forward(lambda self, depth: SOUND['goto'](self, depth if depth > len(self.debugger.steps) else depth - 1)),
+            'to a choice on the way forward': forward(to_choice),
+            'one step forward as redo tells it': forward(forward_as_redo),
+            'forward is refused otherwise': forward(lambda self, depth: SOUND['redo'](self, depth - self.debugger.depth)
+                                                    if depth > len(self.debugger.steps) and not self.ahead else SOUND['goto'](self, depth)),
+            'one too far': lambda self, depth: SOUND['goto'](self, max(0, depth - 1) if depth <= self.debugger.depth else depth),
+            'what is ahead is dropped': dropping('goto')}),
+        *named('redo', {
+            'of one as of several': one_as_several,
+            'of several as of one': lambda self, count=1: of_one(self, count),
+            'all that are ahead': lambda self, count=None: SOUND['redo'](self, count or max(1, self.session.undone())),
+            'more than are ahead are refused': too_many(refused_where_too_many),
+            'one too few of more than are ahead': too_many(lambda self, count: SOUND['redo'](self, max(1, len(self.ahead) - 1))),
+            'one of more than are ahead': too_many(lambda self, count: SOUND['redo'](self)),
+            'all that is one as several': too_many(all_as_several),
+            'numbers above 1,000,000 are refused': highest_looked_at,
+            'the number is not looked at where none is ahead': number_not_looked_at}),
+        *named('run_back', {
+            'one step at most': lambda self: SOUND['back'](self) if self.debugger.depth else SOUND['run_back'](self),
+            'what is ahead is dropped': dropping('run_back')})]
+
+
+def of_one(self, count):
+    """What tells the first step of several."""
+    ahead = self.debugger.steps[self.debugger.depth:]
+    told = console_lines.step_words(self.at, ahead[0]) if ahead else None
+    lines = SOUND['redo'](self, count)
+    return [f'{self.debugger.depth} {told}', *lines[1:]]
+
+
+# ---- breakpoints and names
+
+def rank_first(self, asked):
+    """What looks at the rank before the name."""
+    ranks = asked.given[1:2] if asked.word == 'print' or asked.word == 'break' and asked.given[0] == 'change' else ()
+    if ranks and ranks[0] >= len(self.world.ranks):
+        raise NotAsked(NO_SUCH_NUMBER)
+    return SOUND['understood'](self, asked)
+
+
+def full_first(self, *given):
+    """What tests first whether there is a place."""
+    must_be(None in self.session.breaks.places, session.BREAKS_FULL)
+    return SOUND['set_break'](self, *given)
+
+
+def first_cell(self, word):
+    """What takes the first cell of an array where no index is said."""
+    declared = self.script.names.get(word.decode('latin-1'))
+    is_array = declared is not None and declared.kind == 'var' and declared.size
+    return declared.first if is_array else SOUND['cell'](self, word)
+
+
+def array_of_none(self, word):
+    """What takes no array without an index, one of one cell neither."""
+    declared = self.script.names.get(word.decode('latin-1'))
+    if declared is not None and declared.kind == 'var' and declared.size is not None:
+        raise NotAsked(NO_SUCH_NUMBER)
+    return SOUND['cell'](self, word)
+
+
+def kind_first(self, word):
+    """What tells that a request is no variable before its index is looked at."""
+    declared = self.script.names.get(word.partition(b'[')[0].decode('latin-1'))
+    if declared is not None and declared.kind == 'req':
+        raise NotAsked(console.none_called('variable', word))
+    return SOUND['cell'](self, word)
+
+
+def handle_as_cell(self, word):
+    """What takes a request for the variable whose cell has its number."""
+    meant = self.meant(word, 'variable')
+    if meant.declared.kind == 'req' and len(meant.places) == 1 and meant.declared.first + meant.places[0] < self.script.cells:
+        return meant.declared.first + meant.places[0]
+    return SOUND['cell'](self, word)
+
+
+def ends_anyhow(self, word, kind):
+    """What doesn't want a bracket behind an index."""
+    return SOUND['meant'](self, word + b']' if b'[' in word and not word.endswith(b']') else word, kind)
+
+
+def trimmed(self, word, kind):
+    """What passes over what stands behind an index."""
+    head, bracket, _ = word.partition(b']')
+    return SOUND['meant'](self, head + bracket, kind)
+
+
+def index_of_any(self, declared, digits):
+    """What takes an index of 0 of what is no array."""
+    return [0] if declared.size is None else SOUND['place'](self, declared, digits)
+
+
+def all_where_none(self, declared, digits):
+    """What takes an index that isn't there for all places."""
+    try:
+        return SOUND['place'](self, declared, digits)
+    except NotAsked:
+        return console_lines.all_places(declared)
+
+
+def any_digits(self, declared, digits):
+    """What takes an index of any number of digits."""
+    return SOUND['place'](self, declared, digits.lstrip(b'0') or b'0')
+
+
+def rank_where_none(self, number=None):
+    return SOUND['ranks_of'](self, None if number is None or number >= len(self.world.ranks) else number)
+
+
+def with_cell(self, stop):
+    """What names the number of a cell."""
+    return f'change {stop.rank} {stop.cell}' if isinstance(stop, policy.ChangeBreak) else SOUND['break_text'](self, stop)
+
+
+def break_faults():
+    return [
+        *named('break_text', {
+            'no index': lambda self, stop: SOUND['break_text'](self, stop).partition('[')[0],
+            'a match as a line': lambda self, stop: SOUND['break_text'](self, stop).replace('match', 'line'),
+            'the number of the cell': with_cell}),
+        *named('break_line', {
+            'numbers from 1': lambda self, number: SOUND['break_line'](self, number).replace(f'breakpoint {number}', f'breakpoint {number + 1}')}),
+        *named('understood', {
+            'the rank before the name': rank_first}),
+        *named('set_break', {
+            'places before numbers': full_first,
+            'the word line is match': lambda self, kind, *given: SOUND['set_break'](self, 'match' if kind == 'line' else kind, *given)}),
+        *named('delete', {
+            'no number': lambda self, number: [SOUND['delete'](self, number)[0].partition(' ')[0]],
+            'one more': lambda self, number: SOUND['delete'](self, number + 1)}),
+        *named('breaks', {
+            'nothing where there is none': changed('breaks', without('no breakpoint')),
+            'the last one first': changed('breaks', lambda lines, self: lines[::-1])}),
+        *named('none_called', {
+            'other quotes': lambda kind, word: SOUND_NONE_CALLED(kind, word).replace("'", '"'),
+            'always a variable': lambda kind, word: SOUND_NONE_CALLED('variable', word),
+            'the name alone': lambda kind, word: SOUND_NONE_CALLED(kind, word.partition(b'[')[0]),
+            'all bytes': lambda kind, word: f"no {kind} is called '{word.decode('latin-1')}'"}, owner=console),
+        *named('meant', {
+            'no bracket at the end': ends_anyhow,
+            'more behind an index': trimmed}),
+        *named('cell', {
+            'the first where no index is said': first_cell,
+            'none of an array of one': array_of_none,
+            'a request before its index': kind_first,
+            'requests are variables': handle_as_cell}),
+        *named('place', {
+            'an index of what is no array': index_of_any,
+            'all where there is no such index': all_where_none,
+            'any number of digits': any_digits}),
+        *named('ranks_of', {
+            'all where there is no such rank': rank_where_none})]
+
+
+# ---- looks, and runs from here
+
+def last_call_of(self, asked=None):
+    """What tells the last call of a rank that waits for none."""
+    if isinstance(asked, int) and asked < len(self.world.ranks) and self.world.ranks[asked].calls:
+        asked = debugger.last_call(self.world, asked)
+    return SOUND['why'](self, asked)
+
+
+def why_of(ranks):
+    """What tells of other ranks where none is said, by the world."""
+    def why(self, *given):
+        numbers = ranks(self.world)
+        return SOUND['why'](self, *given) if given or not numbers else [line for number in numbers for line in SOUND['why'](self, number)]
+    return why
+
+
+def blocked(world):
+    return [number for number, rank in enumerate(world.ranks) if rank.mode == 'blocked']
+
+
+def all_steps(self, count=console.LISTED):
+    """What lists as many of the first steps."""
+    return [line for line in SOUND['history'](self, self.debugger.depth or 1)][:count]
+
+
+def no_call(self, asked=None):
+    """What says that there is no call where there is no such one."""
+    is_none = isinstance(asked, CallId) and debugger.find_call(self.world, asked) is None
+    return ['no call'] if is_none else SOUND['why'](self, asked)
+
+
+def from_0(self, *given):
+    """What numbers steps from 0."""
+    lines = SOUND['history'](self, *given)
+    return [line if line.startswith('no') else f'{int(line.split()[0]) - 1} {line.partition(" ")[2]}' for line in lines]
+
+
+def whole_where_no_rank(self, number=None):
+    """What lists the whole script where there is no such rank."""
+    return SOUND['list'](self, None if number is None or number >= len(self.world.ranks) else number)
+
+
+def look_faults():
+    return [
+        *named('why', {
+            'the last call of a rank that waits for none': last_call_of,
+            'no call is no such number': no_call,
+            'all ranks, those too that wait for none': why_of(lambda world: range(len(world.ranks))),
+            'the first rank that waits alone': why_of(lambda world: blocked(world)[:1]),
+            'the last rank that waits first': why_of(lambda world: blocked(world)[::-1]),
+            'nothing where no rank waits': lambda self, *given: [line for line in SOUND['why'](self, *given) if line != console.NO_WAIT]}),
+        *named('history', {
+            'of five': usual('history', 5),
+            'the first steps': all_steps,
+            'the last step first': changed('history', lambda lines, self: lines[::-1]),
+            'none is none': changed('history', without('no step is taken')),
+            'no step is taken where none is asked for': changed('history', lambda lines, self: lines or ['no step is taken']),
+            'numbers from 0': from_0}),
+        *named('picture', {
+            'no row at the end': changed('picture', without('at the end')),
+            'what the letters are is untold': changed('picture', lambda lines, self: lines[:-2])}),
+        *named('words', {
+            'those ahead too': lambda self: [debugger.step_text(step) for step in self.debugger.steps],
+            'in words': lambda self: [line.partition(' ')[2] for line in SOUND['history'](self, self.debugger.depth or 1)]}),
+        *named('show', {
+            'no last line': lambda self: SOUND['show'](self)[:-1],
+            'what is kept is what is taken': lambda self: [f'depth {self.debugger.depth} of {self.debugger.depth}', *SOUND['show'](self)[1:]]}),
+        *named('enabled', {
+            'nothing where there is none': changed('enabled', without('no step')),
+            'as trace words': changed('enabled', lambda lines, self: [line.partition(':')[0] for line in lines]),
+            'matches first': changed('enabled', lambda lines, self: sorted(lines, key=lambda line: not line.startswith('match')))}),
+        *named('calls', {
+            'nothing where there is none': changed('calls', without('no call')),
+            'those of all ranks': lambda self, number=None: SOUND['calls'](self)}),
+        *named('queues', {
+            'nothing where there is none': changed('queues', without('no free'))}),
+        *named('print', {
+            'all ranks': lambda self, name, number=None: SOUND['print'](self, name),
+            'from the last rank on': lambda self, *given: SOUND['print'](self, *given)[::-1]}),
+        *named('variables', {
+            'no output': changed('variables', lambda lines, self: [line for line in lines if 'has printed' not in line])}),
+        *named('list', {
+            'no rank is refused': whole_where_no_rank})]
+
+
+def refusal_faults():
+    """Refusals that are told as others."""
+    return [Breakage(f'a refusal told as another: {name}', console, 'REFUSALS', {**console.REFUSALS, number: console.REFUSALS[other]})
+            for name, number, other in REFUSED_OTHERWISE]
+
+
+# ---- a witness
+
+def numbered(change):
+    """What tells otherwise why a witness is refused."""
+    def refused_witness(script, mode, witness):
+        refused = SOUND_REFUSED_WITNESS(script, mode, witness)
+        return refused and refused._replace(errors=change(refused.errors))
+    return refused_witness
+
+
+def steps_alone(script, mode, witness):
+    """What looks at the steps of a witness, and not at where they lead."""
+    refused = SOUND_REFUSED_WITNESS(script, mode, witness)
+    return refused if refused and b' 32 ' in refused.errors else None
+
+
+def witness_first(text, mode, witness):
+    """What looks at the witness before the script."""
+    return debugger.BAD_FILE if witness == console.NO_FILE else SOUND_BEGUN(text, mode, witness)
+
+
+SOUND_BEGUN, SOUND_BEGUN_WITH = console.begun, console.begun_with
+
+
+def witness_faults():
+    return [
+        *named('refused_witness', {
+            'by its steps alone': steps_alone,
+            'no place': numbered(lambda text: text.partition(b' at ')[0].rstrip(b'\n') + b'\n'),
+            'as verify tells it': numbered(lambda text: text.replace(b'mpdbg: witness ', b'')),
+            'another status': lambda script, mode, witness: (found := SOUND_REFUSED_WITNESS(script, mode, witness)) and found._replace(status=1),
+            'without buffers': lambda script, mode, witness: SOUND_REFUSED_WITNESS(script, debugger.RENDEZVOUS, witness)}, owner=console),
+        *named('answered', {
+            'nothing first': lambda talked, data: Result(console.answers(talked, data), b'', 0),
+            'not where it stands first': lambda talked, data: Result(talked.first.partition('\n')[0].encode() + b'\n' * bool(talked.first)
+                                                                     + console.answers(talked, data), b'', 0)}, owner=console),
+        *named('begun', {
+            'the witness before the script': witness_first}, owner=console),
+        *named('begun_with', {
+            'no file is no witness': lambda text, mode, witness: SOUND_BEGUN_WITH(text, mode, b'' if witness == console.NO_FILE else witness)},
+               owner=console)]
+
+
+def breakages():
+    """All faults."""
+    return [*line_of_words_faults(), *where_faults(), *move_faults(), *break_faults(), *look_faults(), *refusal_faults(), *run_faults(),
+            *witness_faults(), *line_faults(), *word_faults()]

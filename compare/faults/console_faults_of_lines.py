@@ -1,0 +1,323 @@
+"""Faults of the lines of the console's model: steps in words, calls, the script, variables, and why a call isn't matched (console_faults.py)."""
+
+import re
+from inspect import isfunction
+
+from faults.policy_faults import Breakage
+from model import console, console_lines, debugger, explaining
+from model.debugger import call_line, find_call, last_call
+from model.worlds import CallId
+
+SOUND = {name: value for name, value in vars(console_lines).items() if isfunction(value)}
+# The functions that the console has by their names.
+ALSO_IN_CONSOLE = ('step_words', 'plural')
+
+
+def named(name, faults):
+    """Faults that stand in the place of a function, each by what it is called; of one that the console has by its name, there."""
+    owner = console if name in ALSO_IN_CONSOLE else console_lines
+    return [Breakage(f'{name}: {what}', owner, name, replacement) for what, replacement in faults.items()]
+
+
+def changed(name, change):
+    """What gives something else, by what the sound function gives, and what it is given."""
+    return lambda *given: change(SOUND[name](*given), *given)
+
+
+def told_otherwise(kind, change):
+    """What tells the steps of a kind otherwise, by the sound words, the world and the step."""
+    return lambda at, step: change(SOUND['step_words'](at, step), at, step) if step.kind == kind else SOUND['step_words'](at, step)
+
+
+def line_behind(text, at, step):
+    """A step at the line where its rank goes on."""
+    rank = at.world.ranks[step.first]
+    return re.sub(r'line \d+', f'line {rank.rest[0].line if rank.rest else 0}', text)
+
+
+def wake_behind(text, at, step):
+    """A wake by a handle at the line where its rank goes on, and its call as it is."""
+    head, by, call = text.partition(', by ')
+    return line_behind(head, at, step) + by + call
+
+
+def with_marks(text, at, step):
+    """A wake by a handle whose call has its marks."""
+    return f'{text.partition(", by ")[0]}, by {SOUND["marked_text"](at, SOUND["request_of"](at.world, step))}'
+
+
+def call_of_place(world, step):
+    """The call of a rank that has the number of the place."""
+    return CallId(step.first, step.second)
+
+
+def handle_of_place(world, step):
+    """What the handle of a rank holds that has the number of the place, else what is sought."""
+    held = world.ranks[step.first].handles[step.second]
+    return SOUND['request_of'](world, step) if held is None else CallId(step.first, held)
+
+
+def swapped(text, at, step):
+    """A match with its lines the other way round."""
+    first, second = re.findall(r'line (\d+)', text)
+    return text.replace(f'line {first}, to', f'line {second}, to')[:-len(second)] + first
+
+
+def lines_changed(change):
+    """What gives calls other lines."""
+    return changed('reached', lambda at, walked: at._replace(lines=change(at.lines, at.world)))
+
+
+def sends_and_receives_alone(lines, world):
+    return {call_id: line for call_id, line in lines.items() if find_call(world, call_id).kind in ('send', 'recv')}
+
+
+def of_first_call(lines, world):
+    return {call_id: lines[CallId(call_id.rank, 0)] for call_id in lines}
+
+
+def candidates_from_0(lines, *_):
+    return [re.sub(r'^  (\d+)', lambda found: f'  {int(found[1]) - 1}', line) for line in lines]
+
+
+def step_faults():
+    return [
+        *named('step_words', {
+            'a match without lines': told_otherwise('match', lambda text, *_: re.sub(r', line \d+', '', text)),
+            'the lines of a match swapped': told_otherwise('match', swapped),
+            'the ranks of a match alone': told_otherwise('match', lambda text, *_: text.partition(':')[0]),
+            'a wake at the line behind': told_otherwise('wake', line_behind),
+            'a wake by a handle at the line behind': told_otherwise('wakeany', wake_behind),
+            'a wake by a handle without its call': told_otherwise('wakeany', lambda text, *_: text.partition(', by ')[0]),
+            'a wake by a handle and its call with marks': told_otherwise('wakeany', with_marks),
+            'the line of a wake by a handle left out': told_otherwise('wakeany', lambda text, *_: re.sub(r': line \d+, by', ': by', text)),
+            'a release as its word': told_otherwise('release', lambda text, *_: text.partition(':')[0]),
+            'a local step without its line': told_otherwise('local', lambda text, *_: text.partition(':')[0])}),
+        *named('request_of', {
+            'the call of the number of the place': call_of_place,
+            'the handle of the number of the place': handle_of_place}),
+        *named('reached', {
+            'lines of messages alone': lines_changed(sends_and_receives_alone),
+            "the line of the rank's first call": lines_changed(of_first_call),
+            'one line more': lines_changed(lambda lines, world: {call_id: line + 1 for call_id, line in lines.items()})}),
+        *named('plural', {
+            'never one': lambda count, word: f'{count} {word}s',
+            'none is one': lambda count, word: f'{count} {word}' if count < 2 else f'{count} {word}s'}),
+        *named('chosen_for', {
+            'the send of a match': lambda at, step: step.first if step.kind == 'match' else SOUND['chosen_for'](at, step)}),
+        *named('choice_lines', {
+            'candidates from 0': changed('choice_lines', candidates_from_0),
+            'no spaces in front': changed('choice_lines', lambda lines, *_: [line.strip() for line in lines]),
+            'no rank': changed('choice_lines', lambda lines, *_: ['stopped at a choice:', *lines[1:]]),
+            'always a rank': lambda at, steps: [*SOUND['choice_lines'](at, steps[:1])[:1], *SOUND['choice_lines'](at, steps)[1:]],
+            'no colon': changed('choice_lines', lambda lines, *_: [lines[0].rstrip(':'), *lines[1:]])})]
+
+
+# ---- the script
+
+def next_statement(at, number):
+    """What has a blocked rank at its next statement."""
+    rank = at.world.ranks[number]
+    return SOUND['stands_at'](at, number) if rank.rest is None else rank.rest[0].line
+
+
+def nowhere(mode):
+    """What has a rank nowhere that is of a mode."""
+    return lambda at, number: None if at.world.ranks[number].mode == mode else SOUND['stands_at'](at, number)
+
+
+def about(number):
+    """What lists so many lines about a rank's."""
+    def list_about(at, text, rank):
+        line = SOUND['stands_at'](at, rank)
+        return SOUND['list_about'](at, text, rank) if line is None else list(console_lines.listed(at, text, range(line - number, line + number + 1)))
+    return list_about
+
+
+def with_ended(at, text, number):
+    """What tells below some lines, too, which ranks have ended."""
+    whole = SOUND['whole_list'](at, text)
+    return SOUND['list_about'](at, text, number) + [line for line in whole[-1:] if line.startswith('ended: ')]
+
+
+def each_line(change):
+    """What lists each line otherwise."""
+    return lambda at, text, lines: map(change, SOUND['listed'](at, text, lines))
+
+
+def list_faults():
+    return [
+        *named('source_lines', {
+            'one behind the last line feed': lambda text: [line.removesuffix('\r') for line in text.decode().split('\n')],
+            'carriage returns': lambda text: text.decode().removesuffix('\n').split('\n'),
+            'all carriage returns dropped': changed('source_lines', lambda lines, _: [line.rstrip('\r') for line in lines]),
+            'no blanks at the end': changed('source_lines', lambda lines, _: [line.rstrip() for line in lines]),
+            'no empty lines at the end': lambda text: SOUND['source_lines'](text.rstrip()),
+            'tabs as spaces': changed('source_lines', lambda lines, _: [line.replace('\t', ' ') for line in lines])}),
+        *named('stands_at', {
+            'a blocked rank at its next statement': next_statement,
+            'a trapped rank nowhere': nowhere('trapped'),
+            'a blocked rank nowhere': nowhere('blocked')}),
+        *named('standing', {
+            'blocked not told': changed('standing', lambda text, *_: text.removesuffix(' blocked')),
+            'trapped not told': changed('standing', lambda text, *_: text.removesuffix(' trapped'))}),
+        *named('listed', {
+            'four columns': each_line(lambda line: line[1:]),
+            'a colon': each_line(lambda line: f'{line[:5]}:{line[6:]}'),
+            'one space before ranks': each_line(lambda line: line.replace('  <- ', ' <- ')),
+            'ranks by a blank': each_line(lambda line: re.sub(r'(<- .*)', lambda found: found[1].replace(',', ''), line))}),
+        *named('whole_list', {
+            'without those that have ended': changed('whole_list', lambda lines, *_: [line for line in lines if not line.startswith('ended')])}),
+        *named('list_about', {
+            'three lines': about(3),
+            'five lines': about(5),
+            'who has ended, too': with_ended})]
+
+
+# ---- variables, calls, and why
+
+def variables_first(at, names, number):
+    """What has variables before requests."""
+    by_kind = dict(sorted(names.items(), key=lambda item: item[1].kind == 'req'))
+    return SOUND['variable_lines'](at, by_kind, number)
+
+
+def requests_left_out(at, names, number):
+    return SOUND['variable_lines'](at, {name: declared for name, declared in names.items() if declared.kind == 'var'}, number)
+
+
+def printed_first(at, names, number):
+    lines = SOUND['variable_lines'](at, names, number)
+    return sorted(lines, key=lambda line: ' has printed ' not in line)
+
+
+def always_printed(at, names, number):
+    lines = SOUND['variable_lines'](at, names, number)
+    return lines if at.world.ranks[number].printed else [*lines, f'rank {number} has printed']
+
+
+def marked_request(at, number, handle):
+    held = at.world.ranks[number].handles[handle]
+    return SOUND['request_text'](at, number, handle) if held is None else SOUND['marked_text'](at, CallId(number, held))
+
+
+def variable_faults():
+    return [
+        *named('request_text', {
+            'a sign where there is none': changed('request_text', lambda text, *_: text.replace('no request', '-')),
+            'with its marks': marked_request,
+            'its number alone': lambda at, number, handle: str(at.world.ranks[number].handles[handle])}),
+        *named('value_line', {
+            'no cell left out': changed('value_line', lambda text, *_: text.replace('has no cell', '')),
+            'no rank': changed('value_line', lambda text, *_: text.partition(': ')[2])}),
+        *named('place_name', {
+            'no index': lambda name, declared, place: name,
+            'indexes from 1': lambda name, declared, place: SOUND['place_name'](name, declared, place + 1)}),
+        *named('variable_lines', {
+            'variables before requests': variables_first,
+            'no requests': requests_left_out,
+            'output first': printed_first,
+            'output that is none': always_printed}),
+        *named('rank_line', {
+            'no name of a trap': changed('rank_line', lambda text, *_: text.partition(': ')[0] if 'trapped' in text else text),
+            'no call': changed('rank_line', lambda text, *_: text.partition(',')[0]),
+            'no line of a trap': changed('rank_line', lambda text, *_: re.sub(r'trapped at line \d+', 'trapped', text))}),
+        *named('marked_text', {
+            'without marks': lambda at, call_id: explaining.call_text(at, call_id),
+            'without its line': lambda at, call_id: call_line(at.world, call_id).removeprefix('call '),
+            'without buffered': changed('marked_text', lambda text, *_: text.replace(' buffered', ''))})]
+
+
+def sends_of(at):
+    return [line for line in SOUND['queue_lines'](at) if line.startswith('pending')]
+
+
+def by_receiver(at):
+    """What has free sends by receiver, and those of one by sender."""
+    sends = sends_of(at)
+    return sorted(sends, key=lambda line: line.split(':')[0].split()[::-2]) + SOUND['queue_lines'](at)[len(sends):]
+
+
+def queue_faults():
+    return [
+        *named('queue_lines', {
+            'receives first': changed('queue_lines', lambda lines, _: sorted(lines, key=lambda line: line.startswith('pending'))),
+            'sends alone': sends_of,
+            'by receiver first': by_receiver,
+            'no line': changed('queue_lines', lambda lines, _: [re.sub(r'line \d+, ', '', line) for line in lines])})]
+
+
+def waits_behind(world, call_id):
+    """What has the requests of a wait as long as its rank waits alone."""
+    return SOUND['requests'](world, call_id) if SOUND['is_waited_at'](world, call_id) else []
+
+
+def requests_now(world, call_id):
+    """What has what the handles of a wait for any hold now."""
+    call = find_call(world, call_id)
+    if call.kind != 'waitany':
+        return SOUND['requests'](world, call_id)
+    return [CallId(call_id.rank, handle) for handle in world.ranks[call_id.rank].handles[call.first:call.first + call.count] if handle is not None]
+
+
+def all_chances(at, call_id):
+    """What tells near misses also of a call that could be matched."""
+    lines = SOUND['message_lines'](at, call_id)
+    more = [f'    {line}' for line in explaining.chances(at, call_id)]
+    return lines if len(lines) == 1 or lines[1].startswith('  has no') else lines + more
+
+
+def no_partner_of_paired(at, call_id):
+    lines = SOUND['message_lines'](at, call_id)
+    return lines if len(lines) > 1 else [*lines, '  is matched']
+
+
+def last_waited(at, call_id):
+    """What tells of a wait without the wait itself."""
+    lines = SOUND['why_lines'](at, call_id)
+    return lines[1:] if find_call(at.world, call_id).kind == 'wait' and len(lines) > 1 else lines
+
+
+def first_partner(at, call_id):
+    """What tells the first partner alone."""
+    lines = SOUND['message_lines'](at, call_id)
+    return lines[:2] if len(lines) > 1 and 'matched with' in lines[1] else lines
+
+
+def barrier_lines(change):
+    """What tells of a barrier otherwise."""
+    def why_lines(at, call_id):
+        lines = SOUND['why_lines'](at, call_id)
+        return change(lines) if find_call(at.world, call_id).kind == 'barrier' else lines
+    return why_lines
+
+
+def why_faults():
+    return [
+        *named('partner_line', {
+            'all can be matched': lambda at, other, held: SOUND['partner_line'](at, other, None),
+            'what holds it back is itself': lambda at, other, held: SOUND['partner_line'](at, other, held and other),
+            'no spaces': changed('partner_line', lambda text, *_: text.strip())}),
+        *named('message_lines', {
+            'no near misses': changed('message_lines', lambda lines, *_: [line for line in lines if not line.startswith('    ')]),
+            'near misses by two spaces': changed('message_lines', lambda lines, *_: [line.replace('    ', '  ', 1) for line in lines]),
+            'near misses always': all_chances,
+            'a pair told': no_partner_of_paired,
+            'no wish': changed('message_lines', lambda lines, *_: [line.partition(': for')[0] for line in lines]),
+            'the first partner alone': first_partner}),
+        *named('requests', {
+            'none of a wait that is behind': waits_behind,
+            'what handles hold now': requests_now,
+            'the first alone': changed('requests', lambda found, *_: found[:1])}),
+        *named('why_lines', {
+            'barriers by two spaces': barrier_lines(lambda lines: [line.replace('    ', '  ', 1) for line in lines]),
+            'no ranks at a barrier': barrier_lines(lambda lines: lines[:1]),
+            'a wait without itself': last_waited}),
+        *named('is_waited_at', {
+            'any call of a blocked rank': lambda world, call_id: world.ranks[call_id.rank].mode == 'blocked',
+            'the last call': lambda world, call_id: last_call(world, call_id.rank) == call_id,
+            'always': lambda world, call_id: debugger.find_call(world, call_id) is not None})]
+
+
+def line_faults():
+    return [*step_faults(), *list_faults(), *variable_faults(), *queue_faults(), *why_faults()]

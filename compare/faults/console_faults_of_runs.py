@@ -1,0 +1,295 @@
+"""Faults of the runs that the console's model tries, lays ahead and undoes (console_faults.py): runs by number, ends that are counted, deadlocks
+and traps that are sought, and choices."""
+
+from inspect import isfunction
+from itertools import islice
+
+from faults.policy_faults import Breakage
+from model import console, explorer, policy, session
+from model.console import Console
+from model.debugger import enabled_steps
+from model.policy import Choice
+from model.session import must_be
+
+SOUND = {name: value for name, value in vars(Console).items() if isfunction(value)}
+SOUND_COUNTED, SOUND_RUN_LINE, NO_SUCH_NUMBER = console.counted, console.run_line, console.REFUSALS[session.BAD_NUMBER]
+# How many runs a fault looks at.
+SOME = 200
+
+
+def named(name, faults, owner=Console):
+    """Faults that stand in the place of a method, each by what it is called."""
+    return [Breakage(f'{name}: {what}', owner, name, replacement) for what, replacement in faults.items()]
+
+
+def cleared(self, told):
+    """What is told; the steps ahead are dropped."""
+    del self.debugger.steps[self.debugger.depth:]
+    return told
+
+
+# ---- runs by number
+
+def by_ends(self, runs=console.TRIED):
+    """What tries of runs that differ only in the order of choices one."""
+    must_be(1 <= runs <= explorer.MOST_RUNS, session.BAD_NUMBER)
+    found = explorer.ends_part(explorer.Run(self.world, self.fuel()), runs)
+    return [*(console.run_line(number, leaf) for number, leaf in enumerate(found.leaves, 1)), console.counted(found.leaves, found.more)]
+
+
+def numbered_run(number, leaf):
+    """What tells the candidates of a run from 0."""
+    return SOUND_RUN_LINE(number, leaf._replace(choices=tuple(choice - 1 for choice in leaf.choices)))
+
+
+def first_word(number, leaf):
+    """What tells how a run ends without its calls."""
+    return SOUND_RUN_LINE(number, leaf._replace(outcome=console.way(leaf)))
+
+
+def ways_by(key):
+    """What tells the ways in which runs end in another order."""
+    def counted(leaves, more):
+        head, _, ways = SOUND_COUNTED(leaves, more).removesuffix(')').partition(' (')
+        return f'{head} ({", ".join(sorted(ways.split(", "), key=key))})'
+    return counted
+
+
+def all_ways(leaves, more):
+    """What counts the ways too in which no run ends."""
+    ways = ', '.join(f'{sum(console.way(leaf) == name for leaf in leaves)} {name}' for name in console.WAYS)
+    return f'{SOUND_COUNTED(leaves, more).partition(" (")[0]} ({ways})'
+
+
+def runs_of_one(leaves, more):
+    """What says `1 runs`."""
+    return SOUND_COUNTED(leaves, more).replace('1 run', '1 runs', 1) if len(leaves) == 1 else SOUND_COUNTED(leaves, more)
+
+
+def leaf_by(walk, number):
+    return next(islice(walk, number, None), None)
+
+
+def run_by_ends(self, number):
+    """What follows the run of a number where those that differ only in the order of choices count once."""
+    found = leaf_by(explorer.walk_of_ends(explorer.Run(self.world, self.fuel())), number - 1) if number else None
+    return SOUND['follow'](self, number) if found is None else self.laid_ahead(f'run {number}, {found.outcome},', found)
+
+
+def last_where_none(self, number):
+    """What follows the last run where there are fewer."""
+    must_be(1 <= number <= explorer.MOST_RUNS, session.BAD_NUMBER)
+    found = list(islice(explorer.walk(self.world, self.fuel()), min(number, SOME)))
+    return self.laid_ahead(f'run {number}, {found[-1].outcome},', found[-1])
+
+
+def no_such_run(self, number):
+    """What says of 0 that there is no such run."""
+    return [console.NO_RUN] if number == 0 else SOUND['follow'](self, number)
+
+
+def no_bound(self, number):
+    """What doesn't know how many runs can be asked for."""
+    return [console.NO_RUN] if number > explorer.MOST_RUNS else SOUND['follow'](self, number)
+
+
+def dropped_where_no_run(self, number):
+    """What drops the steps ahead where there is no such run."""
+    told = SOUND['follow'](self, number)
+    return cleared(self, told) if told == [console.NO_RUN] else told
+
+
+def as_sought(self, number):
+    """What tells a run by number as one that was sought."""
+    return [line.removeprefix(f'run {number}, ').replace(', is ', ' is ') for line in SOUND['follow'](self, number)]
+
+
+def number_faults():
+    return [
+        *named('check', {
+            'by ends': by_ends,
+            'one run': lambda self, runs=1: SOUND['check'](self, runs),
+            '999 runs': lambda self, runs=999: SOUND['check'](self, runs),
+            '1,001 runs': lambda self, runs=1001: SOUND['check'](self, runs),
+            'no last line': lambda self, *given: SOUND['check'](self, *given)[:-1],
+            'what is ahead is dropped': lambda self, *given: cleared(self, SOUND['check'](self, *given))}),
+        *named('run_line', {
+            'candidates from 0': numbered_run,
+            'runs from 0': lambda number, leaf: SOUND_RUN_LINE(number - 1, leaf),
+            'no number': lambda number, leaf: SOUND_RUN_LINE(number, leaf).partition(' ')[2],
+            'no choice left out': lambda number, leaf: SOUND_RUN_LINE(number, leaf).replace('no choice', 'choices '),
+            'the first word of an outcome': first_word}, owner=console),
+        *named('counted', {
+            'no ways': lambda leaves, more: SOUND_COUNTED(leaves, more).partition(' (')[0],
+            'all ways': all_ways,
+            'ways by the alphabet': ways_by(lambda text: text.split()[1]),
+            'the most runs first': ways_by(lambda text: -int(text.split()[0])),
+            'a cut run is none': lambda leaves, more: SOUND_COUNTED([leaf for leaf in leaves if leaf.outcome != explorer.CUT], more),
+            'runs of one': runs_of_one,
+            'there are no more': lambda leaves, more: SOUND_COUNTED(leaves, False)}, owner=console),
+        *named('follow', {
+            'from 0': lambda self, number: SOUND['follow'](self, number + 1),
+            'by ends': run_by_ends,
+            'the last one where there is none': last_where_none,
+            'no such run for 0': no_such_run,
+            'no such run for more than 65,536': no_bound,
+            'what is ahead is dropped where there is none': dropped_where_no_run,
+            'told as what was sought': as_sought}),
+        Breakage('follow: no such number for no such run', console, 'NO_RUN', NO_SUCH_NUMBER)]
+
+
+# ---- deadlocks and traps that are sought
+
+def looking(*walks):
+    """What looks at runs by other walks."""
+    found = {'all': lambda self: explorer.walk(self.world, self.fuel()),
+             'ends': lambda self: explorer.walk_of_ends(explorer.Run(self.world, self.fuel()))}
+    return lambda self: (found[walk](self) for walk in walks)
+
+
+def bad_too(self, sought):
+    """What takes the first deadlock or trap for what is sought."""
+    found = next((leaf for leaf in islice(explorer.walk(self.world, self.fuel()), SOME) if explorer.is_bad(leaf)), None)
+    return SOUND['seek'](self, sought) if found is None else self.found(found)
+
+
+def ends_at_bad(self, sought):
+    """What looks no further than to the first deadlock or trap."""
+    found = explorer.up_to_bad(explorer.part(explorer.Run(self.world, self.fuel()), SOME))
+    bad = found.leaves[-1]
+    return [f'no {sought}: {console.counted(found.leaves, found.more)}'] if console.way(bad) not in (sought, 'done') else SOUND['seek'](self, sought)
+
+
+def last_one(self, sought):
+    """What takes the last of some runs that end so."""
+    found = [leaf for leaf in islice(explorer.walk(self.world, self.fuel()), SOME) if console.way(leaf) == sought]
+    return self.found(found[-1]) if found else SOUND['seek'](self, sought)
+
+
+def told_of_first(self, sought):
+    """What tells of the runs that were looked at first where there is none."""
+    told = SOUND['seek'](self, sought)
+    found = explorer.part(explorer.Run(self.world, self.fuel()), explorer.MOST_RUNS)
+    return [f'no {sought}: {console.counted(found.leaves, found.more)}'] if told[0].startswith('no ') else told
+
+
+def dropped_where_none(self, sought):
+    """What drops the steps ahead where there is none."""
+    told = SOUND['seek'](self, sought)
+    return cleared(self, told) if told[0].startswith('no ') else told
+
+
+def laid_behind(self, called, leaf):
+    """What keeps what was ahead behind the steps of a run."""
+    before = self.debugger.steps[self.debugger.depth:]
+    told = SOUND['laid_ahead'](self, called, leaf)
+    self.debugger.steps.extend(before)
+    return told
+
+
+def taken_at_once(self, called, leaf):
+    """What goes to the end of the run at once."""
+    told = SOUND['laid_ahead'](self, called, leaf)
+    for _ in leaf.steps:
+        self.debugger.redo()
+    return told
+
+
+def from_start(self, called, leaf):
+    """What counts the steps that are taken as ahead."""
+    lines = SOUND['laid_ahead'](self, called, leaf)
+    return [f'{called} is {console.plural(len(self.debugger.steps), "step")} ahead', *lines[1:]]
+
+
+def seek_faults():
+    return [
+        *named('fuel', {
+            'one step less': lambda self: min(console.MOST_FUEL - 1, console.debugger.MOST_STEPS - self.debugger.depth),
+            'whatever is kept': lambda self: console.MOST_FUEL,
+            'one step more': lambda self: min(console.MOST_FUEL + 1, console.debugger.MOST_STEPS - self.debugger.depth),
+            'what is left of all': lambda self: max(0, min(console.MOST_FUEL, console.debugger.MOST_STEPS) - self.debugger.depth)}),
+        *named('walks', {
+            'no second look': looking('all'),
+            'the second look alone': looking('ends'),
+            'the second look first': looking('ends', 'all'),
+            'all runs in both looks': looking('all', 'all')}),
+        *named('seek', {
+            'what is bad in any way': bad_too,
+            'up to what is bad in any way': ends_at_bad,
+            'the last one': last_one,
+            'told of the first look': told_of_first,
+            'what is ahead is dropped where there is none': dropped_where_none}),
+        *named('trap', {
+            'a deadlock': lambda self: self.seek('deadlock')}),
+        *named('laid_ahead', {
+            'what was ahead stays behind it': laid_behind,
+            'taken at once': taken_at_once,
+            'not where it stands': lambda self, called, leaf: SOUND['laid_ahead'](self, called, leaf)[:1],
+            'all steps from the start': from_start})]
+
+
+# ---- choices that are undone
+
+def last_where(is_there):
+    """What goes back to the last state before this one of which something is so, by the world and the step that was taken there."""
+    def undo_choice(self):
+        taken = list(zip(self.debugger.worlds, self.debugger.steps))[:self.debugger.depth]
+        depths = [depth for depth, (world, step) in enumerate(taken) if is_there(world, step)]
+        return [console.NO_CHOICE] if not depths else self.goto(depths[-1])
+    return undo_choice
+
+
+def is_choice(world):
+    return isinstance(policy.decision(world), Choice)
+
+
+def is_candidate(world, step):
+    """Whether a step was one of those to choose among."""
+    return is_choice(world) and step in policy.decision(world).steps
+
+
+def first_choice(self):
+    """What goes back to the first choice."""
+    depths = [depth for depth, world in enumerate(self.debugger.worlds[:-1]) if is_choice(world)]
+    return self.goto(depths[0]) if depths else SOUND['undo_choice'](self)
+
+
+def stays_at_choice(self):
+    """What stays where a choice is open."""
+    return self.depth_lines() if is_choice(self.world) else SOUND['undo_choice'](self)
+
+
+def to_start(self):
+    """What goes to the start where there was no choice."""
+    told = SOUND['undo_choice'](self)
+    return self.goto(0) if told == [console.NO_CHOICE] else told
+
+
+def without_steps(self):
+    return cleared(self, SOUND['undo_choice'](self))[:1] + self.where()
+
+
+def counting_back(self):
+    """What tells how many steps are taken back."""
+    depth = self.debugger.depth
+    told = SOUND['undo_choice'](self)
+    return told if told == [console.NO_CHOICE] else [f'{console.plural(depth - self.debugger.depth, "step")} back, {told[0]}', *told[1:]]
+
+
+def choice_faults():
+    return [
+        *named('undo_choice', {
+            'where several steps were enabled': last_where(lambda world, step: len(enabled_steps(world)) > 1),
+            'a match, forced or not': last_where(lambda world, step: step.kind in ('match', 'wakeany')),
+            'where a candidate was taken': last_where(is_candidate),
+            'where there were several candidates': last_where(lambda world, step: is_choice(world) and len(policy.decision(world).steps) > 1),
+            'the first choice': first_choice,
+            'it stays at a choice': stays_at_choice,
+            'the start where there was none': to_start,
+            'what is ahead is dropped': without_steps,
+            'steps back are told': counting_back}),
+        Breakage('undo_choice: fewer steps are taken', console, 'NO_CHOICE', console.REFUSALS[session.AT_START])]
+
+
+def run_faults():
+    return [*number_faults(), *seek_faults(), *choice_faults()]

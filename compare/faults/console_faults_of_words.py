@@ -1,0 +1,152 @@
+"""Faults of the words of the console's model: names, what may follow them, words that are none, and help (console_faults.py)."""
+
+import re
+from inspect import isfunction
+
+from faults.policy_faults import Breakage
+from model import console_words
+from model.console_words import FOLLOWING, TABLE, names_of, row_of, shared
+from model.debugger import call_id_of
+
+SOUND = {name: value for name, value in vars(console_words).items() if isfunction(value)}
+ALL_NAMES = [name for row in TABLE for name in names_of(row)]
+ALL_WORDS = [word for row in TABLE for word in row.words]
+
+
+def named(name, faults):
+    """Faults that stand in the place of a function, each by what it is called."""
+    return [Breakage(f'{name}: {what}', console_words, name, replacement) for what, replacement in faults.items()]
+
+
+def best(names, key):
+    """The first name by which a key is greatest; None where that is 0."""
+    found = max(names, key=key)
+    return found if key(found) else None
+
+
+def nearest_among(names):
+    """What seeks the nearest among some names."""
+    return lambda word: best(names, lambda name: shared(name.encode(), word))
+
+
+def same_places(word):
+    """What counts all bytes that are the same at the same places."""
+    return best(ALL_NAMES, lambda name: sum(one == other for one, other in zip(name.encode(), word)))
+
+
+def nearest_of_two(word):
+    """What wants two bytes in common."""
+    found = SOUND['nearest'](word)
+    return found if found is not None and shared(found.encode(), word) > 1 else None
+
+
+def full_nearest(word):
+    """What names a word in the place of a short form."""
+    found = SOUND['nearest'](word)
+    return found and SOUND['full_name'](found)
+
+
+def any_beginning(name):
+    """What takes a beginning of a word for the word, where it is one of no other."""
+    found = [other for other in ALL_NAMES if other.startswith(name)]
+    return SOUND['full_name'](name) or (SOUND['full_name'](found[0]) if len(found) == 1 else None)
+
+
+def signed(word):
+    """A number, with a sign or without."""
+    return console_words.number_of(word.removeprefix(b'+'))
+
+
+def ten_digits(word):
+    return int(word) if len(word) <= 10 and word.isdigit() else None
+
+
+def proper_name(word):
+    """A word that is a name, with an index or without."""
+    return word if re.fullmatch(rb'[A-Za-z_][A-Za-z0-9_]*(\[[0-9]+\])?', word) else None
+
+
+def short_index(word):
+    """A word with an index of nine digits at most."""
+    return None if re.search(rb'[0-9]{10}', word) else word
+
+
+def more_words(word, behind):
+    """What passes over words behind those that fit."""
+    fitting = (SOUND['given_by'](word, behind[:count]) for count in range(len(behind), -1, -1))
+    return next((given for given in fitting if given is not None), None)
+
+
+def call_or_number(word):
+    return call_id_of(word) or call_id_of(word + b'.0')
+
+
+def help_of_form(word=None):
+    """What tells the forms of a word alone, and not those of its row."""
+    found = None if word is None else SOUND['full_name'](word.decode('latin-1'))
+    return SOUND['help_of'](word) if found is None else [f'{SOUND["usage"](found).removeprefix("usage: ")}: {row_of(found).what}']
+
+
+NUMBER, CALL = console_words.NUMBER, console_words.CALL
+FOLLOWING_OTHERWISE = {
+    'a sign before a number': {'next': ((), (signed,)), 'redo': ((), (signed,))},
+    'ten digits': {'back': ((), (ten_digits,)), 'goto': ((ten_digits,),)},
+    'redo with a number alone': {'redo': ((NUMBER,),)},
+    'proper names alone': {'print': ((proper_name,), (proper_name, NUMBER))},
+    'indexes of nine digits': {'print': ((short_index,), (short_index, NUMBER))},
+    'no rank behind a name': {'print': ((console_words.NAME,),)}, 'calls by their ranks': {'match': ((call_or_number, call_or_number),)},
+    'why of a rank alone': {'why': ((), (NUMBER,))}, 'why of a call alone': {'why': ((), (CALL,))},
+    'why of something alone': {'why': ((NUMBER,), (CALL,))},
+    'no breakpoint of the word line': {'break': FOLLOWING['break'][:1] + FOLLOWING['break'][2:]},
+    'a breakpoint of the letter l': {'break': (*FOLLOWING['break'], (console_words.literal('l'), NUMBER))},
+    'history without a number': {'history': ((),)}, 'check with a number alone': {'check': ((NUMBER,),)}}
+
+
+def word_faults():
+    return [
+        *named('nearest', {
+            'the last of several': nearest_among(ALL_NAMES[::-1]),
+            'no short names': nearest_among(ALL_WORDS),
+            'short names after all others': nearest_among([*ALL_WORDS, *ALL_NAMES]),
+            'bytes at their places': same_places,
+            'two bytes at least': nearest_of_two,
+            'a word for a short form': full_nearest,
+            'none': lambda word: None,
+            'by the alphabet': nearest_among(sorted(ALL_NAMES)),
+            'small and large letters alike': lambda word: SOUND['nearest'](word.lower()),
+            'the first word where none is near': lambda word: SOUND['nearest'](word) or 'next'}),
+        *named('shown', {
+            'as Latin-1': lambda word: word.decode('latin-1'),
+            'letters alone': lambda word: ''.join(chr(byte) if chr(byte).isalnum() and byte < 128 else '?' for byte in word),
+            'a tilde is none': lambda word: SOUND['shown'](word).replace('~', '?'),
+            'delete is one': lambda word: ''.join(chr(byte) if 32 <= byte <= 127 else '?' for byte in word),
+            'other bytes left out': lambda word: ''.join(chr(byte) for byte in word if 32 <= byte <= 126),
+            '64 bytes': lambda word: SOUND['shown'](word)[:64]}),
+        *named('unknown', {
+            'no quotes': lambda word: SOUND['unknown'](word).replace("'", '')}),
+        *named('full_name', {
+            'beginnings of words': any_beginning,
+            'small and large letters alike': lambda name: SOUND['full_name'](name.lower()),
+            'no short names': lambda name: name if any(name in row.words for row in TABLE) else None}),
+        *named('usage', {
+            'all forms of the row': lambda word: f'usage: {", ".join(row_of(word).forms)}',
+            'the first form': lambda word: SOUND['usage'](word).partition(',')[0],
+            'the word too': lambda word: SOUND['usage'](word).replace('usage', f'{word}: usage'),
+            'the word line too': lambda word: SOUND['usage'](word).replace('break LINE,', 'break LINE, break line LINE,')}),
+        *named('words_of', {
+            'all blanks that there are': lambda line: line.split() or [line],
+            'no tabs': lambda line: [word for word in line.split(b' ') if word]}),
+        *named('given_by', {
+            'more words': more_words}),
+        *[Breakage(f'what may follow: {what}', console_words, 'FOLLOWING', {**FOLLOWING, **readers})
+          for what, readers in FOLLOWING_OTHERWISE.items()],
+        *named('in_short', {
+            'all that it does': lambda row: f'{", ".join(row.forms).ljust(console_words.COLUMNS - 1)} {row.what}',
+            'the first form': lambda row: SOUND['in_short'](row._replace(forms=row.forms[:1])),
+            'no space behind long forms': lambda row: f'{", ".join(row.forms).ljust(console_words.COLUMNS)}{row.what.partition(";")[0]}'}),
+        Breakage('help: 35 columns', console_words, 'COLUMNS', 35),
+        Breakage('help: 37 columns', console_words, 'COLUMNS', 37),
+        *named('help_of', {
+            'up to the semicolon': lambda word=None: [line.partition(';')[0] for line in SOUND['help_of'](word)],
+            'the form of the word alone': help_of_form,
+            'no word': lambda word=None: SOUND['help_of']()})]

@@ -1,0 +1,370 @@
+"""Faults that are put into decisions, breakpoints and runs of the model on purpose: the walks of follow.py must notice each."""
+
+from typing import NamedTuple
+
+from model import debugger, policy
+from model.debugger import enabled_steps, next_world, outcome
+from model.policy import BREAK, CHOICE, FULL, LEAF, MAX, START, Choice, Forced, Leaf, Stop
+
+
+class Breakage(NamedTuple):
+    """A fault put into the model on purpose: what stands in the place of something of a module or a class."""
+    name: str
+    owner: object
+    attribute: str
+    replacement: object
+
+
+def deciding(kinds, of_kind=lambda steps: steps[0], pick=lambda steps: steps[0], choose=tuple):
+    """What decides by kinds of steps in another order, or takes another of a kind, another match or other candidates."""
+    def decided(world):
+        steps = enabled_steps(world)
+        groups = {kind: [step for step in steps if step.kind == kind] for kind in ('local', 'release', 'wake')}
+        matches = [step for step in steps if step.kind == 'match']
+        groups['match'] = [step for step in matches if policy.names_source(world, step)]
+        for kind in kinds:
+            if groups[kind]:
+                return Forced((pick if kind == 'match' else of_kind)(groups[kind]))
+        wakes = [step for step in steps if step.kind == 'wakeany']
+        if wakes:
+            return Choice(tuple(step for step in wakes if step.first == wakes[0].first))
+        return Choice(choose(matches)) if matches else Leaf(outcome(world))
+    return decided
+
+
+USUAL = 'local', 'release', 'wake', 'match'
+
+
+def last(steps):
+    return steps[-1]
+
+
+def without_forced_match(world):
+    """What offers a choice where a receive names its source."""
+    return deciding(USUAL[:3])(world)
+
+
+def any_source_first(world):
+    """What offers a choice as soon as a receive of any source has a match, those that name theirs left out."""
+    steps = [step for step in enabled_steps(world) if step.kind == 'match']
+    free = [step for step in steps if not policy.names_source(world, step)]
+    decided = deciding(USUAL)(world)
+    return Choice(tuple(free)) if free and isinstance(decided, Forced) and decided.step.kind == 'match' else decided
+
+
+def one_is_forced(world):
+    decided = deciding(USUAL)(world)
+    return Forced(decided.steps[0]) if isinstance(decided, Choice) and len(decided.steps) == 1 else decided
+
+
+def no_choice(world):
+    decided = deciding(USUAL)(world)
+    return Leaf('done') if isinstance(decided, Choice) else decided
+
+
+def always_done(world):
+    decided = deciding(USUAL)(world)
+    return Leaf('done') if isinstance(decided, Leaf) else decided
+
+
+def tested_in(order, more=0):
+    """What tests the causes of a stop in another order, or lets a run make more steps."""
+    def standstill(walked, decided, made, most):
+        there = {LEAF: isinstance(decided, Leaf), CHOICE: isinstance(decided, Choice), FULL: walked.depth >= debugger.MOST_STEPS,
+                 MAX: made >= most + more}
+        return next((cause for cause in order if there[cause]), None)
+    return standstill
+
+
+def full_early(standstill):
+    """What is full one step before the last depth."""
+    def tested(walked, decided, made, most):
+        cause = standstill(walked, decided, made, most)
+        return FULL if cause in (None, MAX) and walked.depth + 1 == debugger.MOST_STEPS else cause
+    return tested
+
+
+def bounded(run):
+    """What tells a stop at a breakpoint as one by the number of steps, where that was the last."""
+    def ran(walked, breaks, most):
+        stop = run(walked, breaks, most)
+        return Stop(stop.steps, MAX) if stop.cause == BREAK and stop.steps == most else stop
+    return ran
+
+
+def past_leaf(run):
+    """What goes past a breakpoint where a leaf or a choice stands behind it."""
+    def ran(walked, breaks, most):
+        stop = run(walked, breaks, most)
+        decided = policy.decision(walked.world)
+        if stop.cause != BREAK or isinstance(decided, Forced):
+            return stop
+        return Stop(stop.steps, LEAF if isinstance(decided, Leaf) else CHOICE)
+    return ran
+
+
+def in_front(run):
+    """What stops before the marked step."""
+    def ran(walked, breaks, most):
+        stop = run(walked, breaks, most)
+        if stop.cause == BREAK:
+            walked.back()
+            return stop._replace(steps=stop.steps - 1)
+        return stop
+    return ran
+
+
+def forgetful(run):
+    """What drops the undone steps first."""
+    def ran(walked, breaks, *most):
+        del walked.steps[walked.depth:]
+        return run(walked, breaks, *most)
+    return ran
+
+
+def forgetting_behind(run_back):
+    """What drops what it took back."""
+    def ran(walked, breaks):
+        stop = run_back(walked, breaks)
+        del walked.steps[walked.depth:]
+        return stop
+    return ran
+
+
+def keeping_rest(run):
+    """What keeps undone steps that a run dropped."""
+    def ran(walked, breaks, most):
+        rest = walked.steps[walked.depth:]
+        stop = run(walked, breaks, most)
+        if walked.depth == len(walked.steps) and len(rest) > stop.steps:
+            walked.steps += rest[stop.steps:]
+        return stop
+    return ran
+
+
+def one_too_far(run_back):
+    def ran(walked, breaks):
+        stop = run_back(walked, breaks)
+        if stop.cause == BREAK and walked.depth:
+            walked.back()
+            return stop._replace(steps=stop.steps + 1)
+        return stop
+    return ran
+
+
+def one_too_short(run_back):
+    """What stops behind the marked step."""
+    def ran(walked, breaks):
+        stop = run_back(walked, breaks)
+        if stop.cause == BREAK:
+            walked.redo()
+            return stop._replace(steps=stop.steps - 1)
+        return stop
+    return ran
+
+
+def past_last(run_back):
+    """What passes a marked step that it begins at."""
+    def ran(walked, breaks):
+        stop = run_back(walked, breaks)
+        if stop != (1, BREAK, stop.number):
+            return stop
+        behind = run_back(walked, breaks)
+        return behind._replace(steps=behind.steps + 1)
+    return ran
+
+
+def start_told(run_back):
+    """What tells the start where a marked step is the first."""
+    def ran(walked, breaks):
+        stop = run_back(walked, breaks)
+        return stop if walked.depth else Stop(stop.steps, START)
+    return ran
+
+
+def moved(world, step):
+    """The ranks that a step moves, or all."""
+    return world.ranks if step.kind == 'release' else [world.ranks[step.first]]
+
+
+def of_lines(test):
+    """What marks by another test of a line: of the world before, the one behind, and the step."""
+    def marked(stop, world, step):
+        if not isinstance(stop, policy.LineBreak):
+            return SOUND.marked(stop, world, step)
+        return test(world, next_world(world, step), step, stop.line)
+    return marked
+
+
+def of_changes(test):
+    def marked(stop, world, step):
+        if not isinstance(stop, policy.ChangeBreak):
+            return SOUND.marked(stop, world, step)
+        return test(world, next_world(world, step), step, stop)
+    return marked
+
+
+def of_matches(test):
+    def marked(stop, world, step):
+        if not isinstance(stop, policy.MatchBreak) or step.kind != 'match':
+            return SOUND.marked(stop, world, step)
+        return test(debugger.find_call(world, step.first).line, debugger.find_call(world, step.second).line, stop.line)
+    return marked
+
+
+class Sound(NamedTuple):
+    """What is not broken."""
+    marked: object
+    add: object
+    remove: object
+
+
+SOUND = Sound(policy.marked, policy.Breaks.add, policy.Breaks.remove)
+
+
+def at(rank, line):
+    return rank.rest is not None and rank.rest[0].line == line
+
+
+def came(world, after, step, line):
+    return SOUND.marked(policy.LineBreak(line), world, step)
+
+
+def second_free(breaks, stop):
+    """The second free place, where there are two."""
+    free = [number for number, there in enumerate(breaks.places) if there is None][:2]
+    if free:
+        breaks.places[free[-1]] = stop
+    return free[-1] if free else None
+
+
+def behind_all(breaks, stop):
+    """The place behind the last one that is taken, where there is one, else the lowest free one."""
+    taken = [number for number, there in enumerate(breaks.places) if there is not None]
+    place = taken[-1] + 1 if taken else 0
+    if place >= len(breaks.places):
+        return SOUND.add(breaks, stop)
+    breaks.places[place] = stop
+    return place
+
+
+def highest(breaks, world, step):
+    found = [number for number, stop in enumerate(breaks.places) if stop is not None and policy.marked(stop, world, step)]
+    return found[-1] if found else None
+
+
+def always_removed(breaks, number):
+    SOUND.remove(breaks, number)
+    return True
+
+
+def kept_in_place(breaks, number):
+    return breaks.get(number) is not None
+
+
+def decision_faults():
+    names = (
+        ('a match before a wake', deciding(('local', 'release', 'match', 'wake'))),
+        ('a match before a release', deciding(('local', 'wake', 'match', 'release'))),
+        ('a wake before a local step', deciding(('wake', 'local', 'release', 'match'))),
+        ('a match before a local step', deciding(('match', 'local', 'release', 'wake'))),
+        ('the step of the highest rank', deciding(USUAL, of_kind=last)),
+        ('the wake of the second of two ranks', lambda world: deciding(USUAL, of_kind=lambda steps: (
+            steps[min(1, len(steps) - 1)] if steps[0].kind == 'wake' else steps[0]))(world)),
+        ('the last match that names its source', deciding(USUAL, pick=last)),
+        ('a choice where the receive names its source', without_forced_match),
+        ('a choice before a match that names its source', any_source_first),
+        ('a forced step where one candidate is left', one_is_forced),
+        ('a leaf in the place of a choice', no_choice),
+        ('an outcome that is always done', always_done),
+        ('a choice without its last candidate', deciding(USUAL, choose=lambda steps: tuple(steps[:-1] or steps))),
+        ('a choice of one receive alone', deciding(USUAL, choose=lambda steps: tuple(
+            step for step in steps if step.second == steps[0].second))),
+        ('candidates by sender', deciding(USUAL, choose=lambda steps: tuple(sorted(steps, key=lambda step: step.first)))),
+        ('candidates of the last receiver first', deciding(USUAL, choose=lambda steps: tuple(reversed(steps)))),
+    )
+    return [Breakage(name, policy, 'decision', replacement) for name, replacement in names]
+
+
+def stop_faults():
+    standstill, run, run_back = policy.standstill, policy.run, policy.run_back
+    return [
+        Breakage('the number of steps before a leaf', policy, 'standstill', tested_in((MAX, LEAF, CHOICE, FULL))),
+        Breakage('the number of steps before a choice', policy, 'standstill', tested_in((LEAF, MAX, CHOICE, FULL))),
+        Breakage('the number of steps before the last depth', policy, 'standstill', tested_in((LEAF, CHOICE, MAX, FULL))),
+        Breakage('the last depth before a leaf', policy, 'standstill', tested_in((FULL, LEAF, CHOICE, MAX))),
+        Breakage('the last depth before a choice', policy, 'standstill', tested_in((LEAF, FULL, CHOICE, MAX))),
+        Breakage('one step more', policy, 'standstill', tested_in((LEAF, CHOICE, FULL, MAX), 1)),
+        Breakage('full one step early', policy, 'standstill', full_early(standstill)),
+        Breakage('a breakpoint at the last step told as its number', policy, 'run', bounded(run)),
+        Breakage('a leaf or a choice before a breakpoint', policy, 'run', past_leaf(run)),
+        Breakage('a stop before the marked step', policy, 'run', in_front(run)),
+        Breakage('a run that drops undone steps', policy, 'run', forgetful(run)),
+        Breakage('a run that keeps undone steps', policy, 'run', keeping_rest(run)),
+        Breakage('a run back that drops undone steps', policy, 'run_back', forgetful(run_back)),
+        Breakage('a run back that drops what it took back', policy, 'run_back', forgetting_behind(run_back)),
+        Breakage('a run back one step too far', policy, 'run_back', one_too_far(run_back)),
+        Breakage('a run back one step too short', policy, 'run_back', one_too_short(run_back)),
+        Breakage('a run back past the step that it begins at', policy, 'run_back', past_last(run_back)),
+        Breakage('the start told in the place of a breakpoint', policy, 'run_back', start_told(run_back)),
+    ]
+
+
+def mark_faults():
+    lines = (
+        ('the line before the step', lambda world, after, step, line: step.kind != 'match' and any(
+            policy.is_at_line(rank, line) for rank in moved(world, step))),
+        ('a line that its rank was on before left out', lambda world, after, step, line: came(world, after, step, line) and not any(
+            policy.is_at_line(rank, line) for rank in moved(world, step))),
+        ('a line of any rank', lambda world, after, step, line: step.kind != 'match' and any(
+            policy.is_at_line(rank, line) for rank in after.ranks)),
+        ('a line by a match', lambda world, after, step, line: came(world, after, step, line) or (step.kind == 'match' and any(
+            policy.is_at_line(after.ranks[call.rank], line) for call in step[1:]))),
+        ('no line by a wake', lambda world, after, step, line: step.kind != 'wake' and came(world, after, step, line)),
+        ('no line by a release', lambda world, after, step, line: step.kind != 'release' and came(world, after, step, line)),
+        ('a release by which all come to the line', lambda world, after, step, line: came(world, after, step, line) and (
+            step.kind != 'release' or all(policy.is_at_line(rank, line) for rank in after.ranks))),
+        ('a release by which the first rank comes to the line', lambda world, after, step, line: came(world, after, step, line) and (
+            step.kind != 'release' or policy.is_at_line(after.ranks[0], line))),
+        ('the line of a rank that is blocked or trapped', lambda world, after, step, line: step.kind != 'match' and any(
+            at(rank, line) for rank in moved(after, step))),
+        ('the line of the statement that was run', lambda world, after, step, line: step.kind == 'local' and at(
+            world.ranks[step.first], line) or step.kind in ('wake', 'release') and came(world, after, step, line)),
+    )
+    changes = (
+        ('a change of any rank', lambda world, after, step, stop: any(
+            policy.cell_in(world, rank, stop.cell) != policy.cell_in(after, rank, stop.cell) for rank in range(len(world.ranks)))),
+        ('a change of any cell', lambda world, after, step, stop: stop.rank < len(world.ranks)
+            and stop.cell < len(world.ranks[stop.rank].cells) and world.ranks[stop.rank].cells != after.ranks[stop.rank].cells),
+        ('no change by a wake', lambda world, after, step, stop: step.kind != 'wake' and SOUND.marked(stop, world, step)),
+        ('a change by an assignment left out', lambda world, after, step, stop: step.kind == 'wake' and SOUND.marked(stop, world, step)),
+        ('a change from zero alone', lambda world, after, step, stop: SOUND.marked(stop, world, step)
+            and policy.cell_in(world, stop.rank, stop.cell) == 0),
+    )
+    matches = (
+        ('the line of the send alone', lambda send, receive, line: send == line),
+        ('the line of the receive alone', lambda send, receive, line: receive == line),
+        ('the lines of both', lambda send, receive, line: send == receive == line),
+        ('every match', lambda send, receive, line: True),
+    )
+    return ([Breakage(name, policy, 'marked', of_lines(test)) for name, test in lines]
+            + [Breakage(name, policy, 'marked', of_changes(test)) for name, test in changes]
+            + [Breakage(name, policy, 'marked', of_matches(test)) for name, test in matches])
+
+
+def break_faults():
+    breaks = policy.Breaks
+    return [
+        Breakage('the second free place', breaks, 'add', second_free),
+        Breakage('a place behind all others', breaks, 'add', behind_all),
+        Breakage('one place less', policy, 'MOST_BREAKS', policy.MOST_BREAKS - 1),
+        Breakage('one place more', policy, 'MOST_BREAKS', policy.MOST_BREAKS + 1),
+        Breakage('a free place that is removed', breaks, 'remove', always_removed),
+        Breakage('a breakpoint that stays', breaks, 'remove', kept_in_place),
+        Breakage('the highest number', breaks, 'marking', highest),
+    ]
+
+
+def breakages():
+    """All of them."""
+    return [*decision_faults(), *stop_faults(), *mark_faults(), *break_faults()]

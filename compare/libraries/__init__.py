@@ -1,0 +1,1 @@
+"""Runs of programs in C under MPI libraries, for runs/mpi.py."""

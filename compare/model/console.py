@@ -1,0 +1,558 @@
+"""The console for people, in the model: a line that is typed, and what it is answered.
+
+    python3 compare/model/console.py FILE --mode M --witness WITNESS    answers as `debug` of the program does, at a terminal and without one
+
+It was written from docs/CONSOLE.md, over the session, the runs, the explorer and the explanations of the model. The words, and what may
+follow them, are those of console_words.py; texts of steps, calls and variables are those of console_lines.py. compare/rows/console_worked.py
+has rows of it, and compare/runs/consoles.py compares a program with it.
+"""
+
+import argparse
+import re
+import sys
+from collections import Counter
+from itertools import islice
+from typing import NamedTuple
+
+from model import console_lines, console_words, debugger, explaining, explorer, picture_model, policy, session
+from model.console_lines import plural, step_words
+from model.console_words import Asked, NotAsked, read_line, shown
+from model.debugger import (BAD_FILE, BAD_MODE, LONGEST_LINE, RENDEZVOUS, Result, enabled_steps, file_content, find_call, lines_of, number_of, refusal, show,
+                            step_text)
+from model.language import Declared, Fault, read_script
+from model.modes import is_mode
+from model.policy import BREAK, FULL, MAX, START, ChangeBreak, Choice, Forced, LineBreak
+from model.session import Refused, Session, must_be
+from model.witness import BAD_REPORT, REFUSAL_NAMES, BadWitness, witness_of
+from model.worlds import Step
+
+TOO_LONG = 'refused: this line is too long'
+NO_CANDIDATE = 'refused: there is no such candidate'
+NO_RUN = 'refused: there is no such run'
+NO_CHOICE = 'refused: no choice was made'
+NO_WAIT = 'no rank waits for a call'
+REFUSALS = {
+    session.NOT_ENABLED: 'refused: this step is not enabled', session.FULL: 'refused: no more than 1000000 steps are kept',
+    session.AT_START: 'refused: fewer steps are taken', session.NOT_BEFORE: 'refused: fewer steps are taken',
+    session.NO_REDO: 'refused: fewer steps are ahead', session.BAD_NUMBER: 'refused: no such number',
+    session.NO_SUCH_BREAK: 'refused: no breakpoint has this number', session.BREAKS_FULL: 'refused: 64 breakpoints are set'}
+# Why a run stopped, where it isn't told by where it stands.
+STOPS = {MAX: 'stopped: as many steps as were asked for', FULL: 'stopped: no more than 1000000 steps are kept', START: 'at the start'}
+LISTED, TRIED, MOST_FUEL = 10, 1000, 100000
+# How a run ends, by the first word of its outcome, in the order in which the last line of `check` has them.
+WAYS = 'done', 'leftovers', 'deadlock', 'trap', explorer.CUT
+# What may stand behind the first `[` of a name.
+INDEX = re.compile(rb'([0-9]+)\]')
+# What a terminal is told first, on standard error.
+GREETING = 'help lists the words, quit ends; docs/CONSOLE.md'
+LONG_WITNESS = Result(b'', b'mpdbg: witness of more than 1000000 steps\n', 2)
+# In the place of the text of a witness: its file can't be read.
+NO_FILE = 'no file'
+
+
+def is_blank(line):
+    """Whether a line has no word."""
+    return not line.strip(b' \t')
+
+
+def is_comment(line):
+    return line.lstrip(b' \t').startswith(b'#')
+
+
+def way(leaf):
+    """How a run ends, without the calls and ranks of that."""
+    return leaf.outcome.split()[0]
+
+
+def counted(leaves, more):
+    """How many runs there were, whether there are more, and how many end in each way that occurs."""
+    ended = Counter(map(way, leaves))
+    ways = ', '.join(f'{ended[name]} {name}' for name in WAYS if ended[name])
+    return f'{plural(len(leaves), "run")}, and {"there are more" if more else "no more"} ({ways})'
+
+
+def run_line(number, leaf):
+    """A run by its number and its choices, and how it ends."""
+    choices = ' '.join(str(choice + 1) for choice in leaf.choices)
+    return f'{number} {f"choices {choices}" if choices else "no choice"}: {leaf.outcome}'
+
+
+def text_of(lines):
+    return ''.join(f'{line}\n' for line in lines)
+
+
+class Meant(NamedTuple):
+    """What a word means: a name, what was declared by it, and the places of that which are meant."""
+    name: str
+    declared: Declared
+    places: tuple
+
+
+def none_called(kind, word):
+    """What is told of a word that no variable, or no variable or request, is called by."""
+    return f"no {kind} is called '{shown(word)}'"
+
+
+def leaf_of(witness):
+    """The run that a witness tells, without its choices."""
+    return explorer.Leaf((), witness.steps, f'deadlock {" ".join(map(str, witness.blocked))}')
+
+
+class Console:
+    """A session that is asked by words, what is told before the first of them, and the word that an empty line does once more."""
+
+    def __init__(self, text, mode=RENDEZVOUS, witness=None):
+        self.text, self.mode = text, mode
+        self.script = read_script(text)
+        self.session = Session(self.script, mode)
+        self.last, self.is_over = None, False
+        self.first = '' if witness is None else text_of(self.found(leaf_of(witness)))
+
+    @property
+    def debugger(self):
+        return self.session.debugger
+
+    @property
+    def world(self):
+        return self.session.world
+
+    @property
+    def at(self):
+        """The world, and the line of each call."""
+        return console_lines.reached(self.debugger)
+
+    @property
+    def ahead(self):
+        """The steps that are undone."""
+        return self.debugger.steps[self.debugger.depth:]
+
+    @property
+    def can_choose_again(self):
+        """Whether it stands at a choice, and a step is undone."""
+        return bool(self.ahead) and isinstance(policy.decision(self.world), Choice)
+
+    def prompt(self):
+        return f'({self.debugger.depth}) '
+
+    def answer(self, line):
+        """The lines that a line without its end is answered, each with a line feed."""
+        return text_of(self.lines(line))
+
+    def lines(self, line):
+        if len(line) > LONGEST_LINE:
+            return [TOO_LONG]
+        try:
+            asked = self.asked(line)
+        except NotAsked as not_asked:
+            return [not_asked.told]
+        if asked is None:
+            return []
+        self.last = asked
+        return self.told(asked)
+
+    def asked(self, line):
+        """What a line asks for: an empty one what was asked last, and a comment nothing."""
+        if is_blank(line):
+            return self.last
+        return None if is_comment(line) else self.understood(read_line(line))
+
+    def understood(self, asked):
+        """What is asked, with what its name means."""
+        if asked.word == 'print':
+            name, *rank = asked.given
+            return Asked(asked.word, (self.meant(name, 'variable or request'), *rank))
+        if asked.word == 'break' and asked.given[0] == 'change':
+            kind, rank, name = asked.given
+            return Asked(asked.word, (kind, rank, self.cell(name)))
+        return asked
+
+    def told(self, asked):
+        """The answer to what is asked; a refusal changes nothing."""
+        try:
+            return self.done(asked)
+        except Refused as refused:
+            return [REFUSALS[refused.number]]
+
+    def done(self, asked):
+        """Does what is asked; the lines of the answer."""
+        if asked.word in console_words.STEPS:
+            return self.take(Step(asked.word, *asked.given))
+        return getattr(self, METHODS.get(asked.word, asked.word))(*asked.given)
+
+    # ---- where it stands
+
+    def where(self):
+        """Where it stands, behind each word that moves."""
+        at, decided = self.at, policy.decision(self.world)
+        ahead = self.ahead
+        lines = [f'{len(ahead)} ahead: {step_words(at, ahead[0])}'] if ahead else []
+        if isinstance(decided, Choice):
+            return lines + console_lines.choice_lines(at, decided.steps)
+        if isinstance(decided, Forced):
+            return lines or [f'next: {step_words(at, decided.step)}']
+        return lines + [f'ended: {decided.outcome}', *self.explanation(decided.outcome)]
+
+    def explanation(self, ended):
+        """What is told of a deadlock or a trap."""
+        steps = tuple(self.debugger.steps[:self.debugger.depth])
+        return explaining.explanation(self.script, self.mode, explorer.Leaf((), steps, ended))
+
+    # ---- forward
+
+    def take(self, step):
+        """Takes a step that somebody asks for, or that is decided."""
+        told = step_words(self.at, step) if debugger.next_world(self.world, step) else None
+        self.session.take(step)
+        return [f'{self.debugger.depth} {told}', *self.where()]
+
+    def next(self, number=None):
+        decided = policy.decision(self.world)
+        if isinstance(decided, Forced):
+            return self.take(decided.step) if number is None else self.run(number)
+        if isinstance(decided, policy.Leaf) or number is None:
+            return self.where()
+        if not 1 <= number <= len(decided.steps):
+            return [NO_CANDIDATE, *self.where()]
+        return self.take(decided.steps[number - 1])
+
+    def run(self, most=session.MOST_COUNT):
+        """Runs on; at a choice that was made before, and undone, it is made again, whatever the number is but 0."""
+        if most and self.can_choose_again:
+            return self.redo()
+        must_be(1 <= most <= session.MOST_COUNT, session.BAD_NUMBER)
+        return self.stopped(policy.run(self.debugger, self.session.breaks, most), '')
+
+    def stopped(self, stop, back):
+        """What is told behind a run."""
+        lines = [f'{plural(stop.steps, "step")}{back}, depth {self.debugger.depth}']
+        if stop.cause == BREAK:
+            lines.append(f'{"before " if back else ""}{self.break_line(stop.number)}')
+        elif stop.cause in STOPS:
+            lines.append(STOPS[stop.cause])
+        return lines + self.where()
+
+    # ---- back, and forward again
+
+    def depth_lines(self):
+        return [f'depth {self.debugger.depth}', *self.where()]
+
+    def back(self, count=1):
+        self.session.back(count)
+        return self.depth_lines()
+
+    def run_back(self):
+        return self.stopped(policy.run_back(self.debugger, self.session.breaks), ' back')
+
+    def undo_choice(self):
+        """Goes back to the last state before this one in which a choice is open."""
+        for depth in reversed(range(self.debugger.depth)):
+            if isinstance(policy.decision(self.debugger.worlds[depth]), Choice):
+                self.session.goto(depth)
+                return self.depth_lines()
+        return [NO_CHOICE]
+
+    def goto(self, depth):
+        """Goes back, or along the steps ahead."""
+        more = depth - self.debugger.depth
+        if 0 < more <= self.session.undone():
+            self.session.redo(more)
+        else:
+            self.session.goto(depth)
+        return self.depth_lines()
+
+    def redo(self, count=1):
+        """Takes so many steps again, or all that are ahead where these are fewer; where none is, the number is looked at."""
+        ahead = self.ahead
+        told = step_words(self.at, ahead[0]) if ahead else None
+        count = min(count, len(ahead)) if ahead else count
+        self.session.redo(count)
+        return [f'{self.debugger.depth} {told}', *self.where()] if count == 1 else self.depth_lines()
+
+    # ---- breakpoints
+
+    def break_text(self, stop):
+        """A breakpoint as it was set."""
+        if isinstance(stop, ChangeBreak):
+            return f'change {stop.rank} {self.cell_name(stop.cell)}'
+        return f'{"line" if isinstance(stop, LineBreak) else "match"} {stop.line}'
+
+    def cell_name(self, cell):
+        names = {declared.first + place: console_lines.place_name(name, declared, place)
+                 for name, declared in self.script.names.items() if declared.kind == 'var' for place in console_lines.all_places(declared)}
+        return names[cell]
+
+    def break_line(self, number):
+        return f'breakpoint {number}: {self.break_text(self.session.breaks.get(number))}'
+
+    def set_break(self, *given):
+        """A breakpoint of a line, of `match` and a line, or of `change`, a rank and a cell."""
+        if given[0] == 'change':
+            _, rank, cell = given
+            there = self.session.set_break('change', rank=rank, cell=cell)
+        else:
+            there = self.session.set_break('match' if given[0] == 'match' else 'line', line=given[-1])
+        return [self.break_line(there['break'])]
+
+    def delete(self, number):
+        self.session.unset_break(number)
+        return [f'deleted {number}']
+
+    def breaks(self):
+        found = [self.break_line(number) for number, stop in enumerate(self.session.breaks.places) if stop is not None]
+        return found or ['no breakpoint']
+
+    # ---- names
+
+    def meant(self, word, kind):
+        """What a word means, of which what stands before its first `[` is the name; where that is none, no such kind of thing is called so."""
+        name, bracket, index = word.partition(b'[')
+        declared = self.script.names.get(name.decode('latin-1'))
+        if declared is None or bracket and not INDEX.fullmatch(index):
+            raise NotAsked(none_called(kind, word))
+        places = self.place(declared, index.removesuffix(b']')) if bracket else console_lines.all_places(declared)
+        return Meant(name.decode(), declared, tuple(places))
+
+    def place(self, declared, digits):
+        """The place of an index; what has no size has none."""
+        index = number_of(digits)
+        if declared.size is None or index is None or index >= declared.size:
+            raise NotAsked(REFUSALS[session.BAD_NUMBER])
+        return [index]
+
+    def cell(self, word):
+        """The one cell that a word means; an array of several, or of none, has none without an index."""
+        meant = self.meant(word, 'variable')
+        if meant.declared.kind != 'var':
+            raise NotAsked(none_called('variable', word))
+        if len(meant.places) != 1:
+            raise NotAsked(REFUSALS[session.BAD_NUMBER])
+        return meant.declared.first + meant.places[0]
+
+    def ranks_of(self, number=None):
+        """All ranks, or the one of a number."""
+        if number is None:
+            return range(len(self.world.ranks))
+        self.session.rank(number)
+        return [number]
+
+    # ---- looks
+
+    def list(self, number=None):
+        if number is None:
+            return console_lines.whole_list(self.at, self.text)
+        self.session.rank(number)
+        return console_lines.list_about(self.at, self.text, number)
+
+    def print(self, meant, number=None):
+        return [console_lines.value_line(self.at, rank, *meant) for rank in self.ranks_of(number)]
+
+    def variables(self, number=None):
+        at = self.at
+        return [line for rank in self.ranks_of(number) for line in console_lines.variable_lines(at, self.script.names, rank)]
+
+    def ranks(self):
+        at = self.at
+        return [console_lines.rank_line(at, number) for number in self.ranks_of()]
+
+    def calls(self, number=None):
+        return console_lines.call_lines(self.at, self.ranks_of(number)) or ['no call']
+
+    def queues(self):
+        return console_lines.queue_lines(self.at) or ['no free call']
+
+    def enabled(self):
+        at = self.at
+        return [step_words(at, step) for step in enabled_steps(self.world)] or ['no step is enabled']
+
+    def why(self, asked=None):
+        """Why a call, or the one that a rank waits for, or all that ranks wait for, aren't matched."""
+        if asked is None:
+            at = self.at
+            return [line for call_id in console_lines.waiting(self.world) for line in console_lines.why_lines(at, call_id)] or [NO_WAIT]
+        if isinstance(asked, int):
+            if self.session.rank(asked).mode != 'blocked':
+                return [f'rank {asked} waits for no call']
+            asked = debugger.last_call(self.world, asked)
+        must_be(find_call(self.world, asked) is not None, session.BAD_NUMBER)
+        return console_lines.why_lines(self.at, asked)
+
+    def history(self, count=LISTED):
+        lines, depth = self.at.lines, self.debugger.depth
+        steps = enumerate(zip(self.debugger.worlds, self.debugger.steps[:depth]), 1)
+        found = [f'{number} {step_words(explaining.Reached(world, lines), step)}' for number, (world, step) in steps]
+        return found[max(0, depth - count):] or ['no step is taken'] * (depth == 0)
+
+    def picture(self):
+        """The steps that are not undone, drawn (docs/PICTURES.md, "As text")."""
+        return picture_model.text_of(self.debugger).splitlines()
+
+    def words(self):
+        return [step_text(step) for step in self.debugger.steps[:self.debugger.depth]]
+
+    def show(self):
+        return show(self.world, self.debugger.depth, len(self.debugger.steps)).split('\n')
+
+    # ---- runs from here
+
+    def fuel(self):
+        """How many steps a run from here may have."""
+        return min(MOST_FUEL, debugger.MOST_STEPS - self.debugger.depth)
+
+    def check(self, runs=TRIED):
+        must_be(1 <= runs <= explorer.MOST_RUNS, session.BAD_NUMBER)
+        found = explorer.explored(self.debugger, runs, self.fuel())
+        lines = [run_line(number, leaf) for number, leaf in enumerate(found.leaves, 1)]
+        return [*lines, counted(found.leaves, found.more)]
+
+    def follow(self, number):
+        """Lays the steps of the run of a number ahead."""
+        must_be(1 <= number <= explorer.MOST_RUNS, session.BAD_NUMBER)
+        leaf = next(islice(explorer.walk(self.world, self.fuel()), number - 1, None), None)
+        return [NO_RUN] if leaf is None else self.laid_ahead(f'run {number}, {leaf.outcome},', leaf)
+
+    def deadlock(self):
+        return self.seek('deadlock')
+
+    def trap(self):
+        return self.seek('trap')
+
+    def seek(self, sought):
+        """Lays the steps to the first run ahead that ends in a way."""
+        for walk in self.walks():
+            looked = []
+            for leaf in islice(walk, explorer.MOST_RUNS):
+                if way(leaf) == sought:
+                    return self.found(leaf)
+                looked.append(leaf._replace(steps=()))
+            more = next(walk, None) is not None
+            if not more:
+                break
+        return [f'no {sought}: {counted(looked, more)}']
+
+    def walks(self):
+        """The runs that are looked at, and those that are where none of the first ones is sought: each end once."""
+        yield explorer.walk(self.world, self.fuel())
+        yield explorer.walk_of_ends(explorer.Run(self.world, self.fuel()))
+
+    def found(self, leaf):
+        return self.laid_ahead(leaf.outcome, leaf)
+
+    def laid_ahead(self, called, leaf):
+        """Lays the steps of a run ahead, in the place of those that are undone; tells what it is called."""
+        self.debugger.steps[self.debugger.depth:] = leaf.steps
+        return [f'{called} is {plural(len(leaf.steps), "step")} ahead', *self.where()]
+
+    # ---- the rest
+
+    def help(self, word=None):
+        return console_words.help_of(word)
+
+    def quit(self):
+        self.is_over = True
+        return []
+
+
+# What answers a word whose name is another than the word.
+METHODS = {'break': 'set_break', 'vars': 'variables', 'run-back': 'run_back', 'undo-choice': 'undo_choice'}
+
+
+def answers(console, data):
+    """The answers to an input, up to `quit` or to its end."""
+    told = []
+    for line in lines_of(data):
+        told.append(console.answer(line))
+        if console.is_over:
+            break
+    return ''.join(told).encode()
+
+
+def refused_witness(script, mode, witness):
+    """The result where a witness is refused that is to lie ahead; None where it isn't."""
+    if len(witness.steps) > debugger.MOST_STEPS:
+        return LONG_WITNESS
+    refused = explorer.verify(script, mode, *witness)
+    if refused is None:
+        return None
+    place = '' if refused.place is None else f' at {refused.place}'
+    return Result(b'', f'mpdbg: witness refused {refused.number} {REFUSAL_NAMES[refused.number]}{place}\n'.encode(), 2)
+
+
+def begun_with(text, mode, witness):
+    """The console with a witness ahead, by the text of that; a result where there is none."""
+    script = read_script(text)
+    if witness == NO_FILE:
+        return BAD_FILE
+    try:
+        found = witness_of(witness, None)
+    except BadWitness as bad:
+        return Result(b'', BAD_REPORT if bad.line is None else b'mpdbg: bad witness line %d\n' % bad.line, 2)
+    return refused_witness(script, mode, found) or Console(text, mode, found)
+
+
+def begun(text, mode, witness):
+    """The console for the text of a script, which is None where its file can't be read, and the text of a witness, as `verify` reads it, or
+    None where there is to be none; a result where there is none."""
+    if not is_mode(mode):
+        return BAD_MODE
+    if text is None:
+        return BAD_FILE
+    try:
+        return Console(text, mode) if witness is None else begun_with(text, mode, witness)
+    except Fault as fault:
+        return refusal(text, fault)
+
+
+def answered(console, data):
+    """The result for an input, with what is told first."""
+    return Result(console.first.encode() + answers(console, data), b'', 0)
+
+
+def debug(text, data, mode=RENDEZVOUS, witness=None):
+    """The result for a script and an input of words, without a terminal."""
+    console = begun(text, mode, witness)
+    return answered(console, data) if isinstance(console, Console) else console
+
+
+def talk(console):
+    """Asks for lines and answers them at a terminal, up to `quit` or to the end of the input."""
+    print(GREETING, file=sys.stderr)
+    print(console.first, end='')
+    line = b'\n'
+    while not console.is_over:
+        print(console.prompt(), end='', flush=True)
+        # (a terminal would gather another line behind the end)
+        line = sys.stdin.buffer.readline() if line.endswith(b'\n') else b''
+        if not line:
+            print()
+            break
+        for part in lines_of(line):
+            print(console.answer(part), end='', flush=True)
+
+
+def witness_text(path):
+    """The text of the witness in a file, None where there is to be none."""
+    if path is None:
+        return None
+    text = file_content(path)
+    return NO_FILE if text is None else text
+
+
+def main():
+    parser = argparse.ArgumentParser(description=__doc__, formatter_class=argparse.RawDescriptionHelpFormatter)
+    parser.add_argument('file', metavar='FILE')
+    parser.add_argument('--mode', default=RENDEZVOUS, metavar='M')
+    parser.add_argument('--witness', metavar='WITNESS')
+    chosen = parser.parse_args()
+    console = begun(file_content(chosen.file), chosen.mode, witness_text(chosen.witness))
+    if isinstance(console, Console) and sys.stdin.isatty():
+        talk(console)
+        return
+    result = answered(console, sys.stdin.buffer.read()) if isinstance(console, Console) else console
+    sys.stdout.buffer.write(result.output)
+    sys.stdout.buffer.flush()
+    sys.stderr.buffer.write(result.errors)
+    sys.exit(result.status)
+
+
+if __name__ == '__main__':
+    main()

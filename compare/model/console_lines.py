@@ -1,0 +1,230 @@
+"""The lines of the console, in the model: steps in words, calls, lists of the script, variables, and why a call isn't matched.
+
+What they are told of is `at`: a world, and the line of each call that was issued up to it (explaining.py).
+"""
+
+from model import explaining
+from model.debugger import call_line, find_call, last_call, partner, pending, posted, step_text
+from model.explaining import Reached, call_text, next_line, wish
+from model.worlds import CallId
+from runs import order
+
+ABOUT = 4
+MESSAGES = 'send', 'recv'
+
+
+def reached(walked):
+    """Where a debugger is: its world, and the line of each call, which is that of the statement that its rank was at."""
+    lines = {}
+    for step, before, behind in zip(walked.steps, walked.worlds, walked.worlds[1:]):
+        if step.kind == 'local' and len(behind.ranks[step.first].calls) > len(before.ranks[step.first].calls):
+            lines[last_call(behind, step.first)] = next_line(before.ranks[step.first])
+    return Reached(walked.world, lines)
+
+
+def line_of(at, call_id):
+    """The line of a call; 0 where there is none."""
+    return at.lines.get(call_id, 0)
+
+
+def plural(count, word):
+    return f'{count} {word}' if count == 1 else f'{count} {word}s'
+
+
+# ---- steps
+
+def step_words(at, step):
+    """A step in words, on the state before it."""
+    text = step_text(step)
+    if step.kind == 'release':
+        return f'{text}: all ranks leave the barrier'
+    if step.kind == 'match':
+        send, receive = step.first, step.second
+        return (f'{text}: the send of rank {send.rank}, line {line_of(at, send)}, to the receive of rank {receive.rank}, '
+                f'line {line_of(at, receive)}')
+    if step.kind == 'local':
+        return f'{text}: line {next_line(at.world.ranks[step.first])}'
+    waiting = f'{text}: line {line_of(at, last_call(at.world, step.first))}'
+    return f'{waiting}, by {call_text(at, request_of(at.world, step))}' if step.kind == 'wakeany' else waiting
+
+
+def request_of(world, step):
+    """The call that a wake by one of some handles is of: what its handle holds."""
+    wait = find_call(world, last_call(world, step.first))
+    return CallId(step.first, world.ranks[step.first].handles[wait.first + step.second])
+
+
+def chosen_for(at, step):
+    """The call that a candidate is of: the receive of a match, or the wait for any of a wake."""
+    return step.second if step.kind == 'match' else last_call(at.world, step.first)
+
+
+def choice_lines(at, steps):
+    """What is told of a choice."""
+    calls = {chosen_for(at, step) for step in steps}
+    where = [f' of rank {call_id.rank}, line {line_of(at, call_id)}' for call_id in calls] if len(calls) == 1 else ['']
+    return [f'stopped at a choice{where[0]}:', *(f'  {number} {step_words(at, step)}' for number, step in enumerate(steps, 1))]
+
+
+# ---- the script
+
+def source_lines(text):
+    """The lines of a script, each without its end."""
+    lines = text.decode().split('\n')
+    return [line.removesuffix('\r') for line in (lines[:-1] if lines[-1] == '' else lines)]
+
+
+def has_ended(rank):
+    return rank.mode == 'running' and rank.rest is None
+
+
+def stands_at(at, number):
+    """The line that a rank stands at; None where it has ended."""
+    rank = at.world.ranks[number]
+    if has_ended(rank):
+        return None
+    return line_of(at, last_call(at.world, number)) if rank.mode == 'blocked' else next_line(rank)
+
+
+def standing(at, number):
+    """A rank as it is told beside its line."""
+    mode = at.world.ranks[number].mode
+    return f'rank {number}' if mode == 'running' else f'rank {number} {mode}'
+
+
+def listed(at, text, lines):
+    """Those lines of a script of the numbers that are asked for, with the ranks that stand at each."""
+    for number, line in enumerate(source_lines(text), 1):
+        ranks = [standing(at, rank) for rank in range(len(at.world.ranks)) if stands_at(at, rank) == number]
+        if number in lines:
+            yield f'{number:5}  {line}' + (f'  <- {", ".join(ranks)}' if ranks else '')
+
+
+def whole_list(at, text):
+    """The script, and the ranks that have ended."""
+    ended = [f'rank {number}' for number, rank in enumerate(at.world.ranks) if has_ended(rank)]
+    return [*listed(at, text, range(1, len(text) + 2)), *([f'ended: {", ".join(ended)}'] if ended else [])]
+
+
+def list_about(at, text, number):
+    """The lines about a rank."""
+    line = stands_at(at, number)
+    return [f'rank {number} has ended'] if line is None else list(listed(at, text, range(line - ABOUT, line + ABOUT + 1)))
+
+
+# ---- variables and requests
+
+def request_text(at, number, handle):
+    """What a handle of a rank holds."""
+    held = at.world.ranks[number].handles[handle]
+    return 'no request' if held is None else call_text(at, CallId(number, held))
+
+
+def value_text(at, number, declared, place):
+    """What stands at a place of what was declared, of a rank."""
+    cell = declared.first + place
+    return str(at.world.ranks[number].cells[cell]) if declared.kind == 'var' else request_text(at, number, cell)
+
+
+def place_name(name, declared, place):
+    return name if declared.size is None else f'{name}[{place}]'
+
+
+def value_line(at, number, name, declared, places):
+    """The line of a name of a rank, with these places of it."""
+    values = [f'{place_name(name, declared, place)} = {value_text(at, number, declared, place)}' for place in places]
+    return f'rank {number}: {", ".join(values) or f"{name} has no cell"}'
+
+
+def all_places(declared):
+    return range(1 if declared.size is None else declared.size)
+
+
+def variable_lines(at, names, number):
+    """All names of a rank, and what it has printed."""
+    lines = [value_line(at, number, name, declared, all_places(declared)) for name, declared in names.items()]
+    printed = at.world.ranks[number].printed
+    return lines + ([f'rank {number} has printed {" ".join(map(str, printed))}'] if printed else [])
+
+
+# ---- ranks and calls
+
+def rank_line(at, number):
+    """What a rank is doing."""
+    rank = at.world.ranks[number]
+    if rank.mode == 'blocked':
+        return f'rank {number} waits at {call_text(at, last_call(at.world, number))}'
+    if rank.mode == 'trapped':
+        return f'rank {number} is trapped at line {next_line(rank)}: {rank.trap}'
+    return f'rank {number} has ended' if has_ended(rank) else f'rank {number} is at line {next_line(rank)}'
+
+
+def marked_text(at, call_id):
+    """A call with its marks."""
+    return f'line {line_of(at, call_id)}, {call_line(at.world, call_id).removeprefix("call ")}'
+
+
+def call_lines(at, numbers):
+    """The calls of some ranks."""
+    return [marked_text(at, CallId(number, place)) for number in numbers for place in range(len(at.world.ranks[number].calls))]
+
+
+def queue_lines(at):
+    """The free sends of each two ranks, and behind them the free receives of each."""
+    ranks = range(len(at.world.ranks))
+    sends = [(f'pending {source} to {other}', call_id) for source in ranks for other in ranks for call_id in pending(at.world, source, other)]
+    receives = [(f'posted {number}', call_id) for number in ranks for call_id in posted(at.world, number)]
+    return [f'{where}: {call_text(at, call_id)}' for where, call_id in sends + receives]
+
+
+# ---- why
+
+def partner_line(at, other, held):
+    """A call that another one could be matched with, and what holds that back."""
+    if held is None:
+        return f'  can be matched with {call_text(at, other)}'
+    return f'  could be matched with {call_text(at, other)}, but for {call_text(at, held)}'
+
+
+def is_free(world, call_id):
+    return find_call(world, call_id).kind in MESSAGES and partner(world, call_id) is None
+
+
+def message_lines(at, call_id):
+    """A send or a receive, and what it could be matched with."""
+    lines = [marked_text(at, call_id)]
+    if not is_free(at.world, call_id):
+        return lines
+    partners = [partner_line(at, other, held) for other, held in order.why(at.world, call_id)]
+    if partners:
+        return lines + partners
+    return [*lines, f'  has no partner yet: {wish(at, call_id)}', *(f'    {line}' for line in explaining.chances(at, call_id))]
+
+
+def is_waited_at(world, call_id):
+    """Whether a call is the one that its rank waits for."""
+    return world.ranks[call_id.rank].mode == 'blocked' and last_call(world, call_id.rank) == call_id
+
+
+def requests(world, call_id):
+    """The requests of a wait; a wait for any has some only as long as its rank waits."""
+    call = find_call(world, call_id)
+    if call.kind == 'wait':
+        return [] if call.target is None else [CallId(call_id.rank, call.target)]
+    return explaining.requests(world, call_id.rank) if call.kind == 'waitany' and is_waited_at(world, call_id) else []
+
+
+def waiting(world):
+    """The calls that ranks wait for, by rank."""
+    return [last_call(world, number) for number, rank in enumerate(world.ranks) if rank.mode == 'blocked']
+
+
+def why_lines(at, call_id):
+    """Why a call isn't matched."""
+    kind = find_call(at.world, call_id).kind
+    if kind in MESSAGES:
+        return message_lines(at, call_id)
+    lines = [marked_text(at, call_id)]
+    if kind == 'barrier':
+        return lines + ([f'    {line}' for line in explaining.behind(at, call_id)] if is_waited_at(at.world, call_id) else [])
+    return lines + [line for request in requests(at.world, call_id) for line in message_lines(at, request)]

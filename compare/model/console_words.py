@@ -1,0 +1,189 @@
+"""The words of the console, in the model: the table of them (docs/CONSOLE.md, "Words"), what may follow each, and the texts of help.
+
+The table was written down by hand from that page; compare/rows/console_worked.py compares the two.
+"""
+
+from typing import NamedTuple
+
+from model.debugger import call_id_of, number_of
+
+# How wide the forms of a word are in the list of all words, at least.
+COLUMNS = 36
+
+
+class Row(NamedTuple):
+    """A row of the table: the forms of its word, or of its words, the short names, and what it does."""
+    forms: tuple
+    short: tuple
+    what: str
+
+    @property
+    def words(self):
+        """The names of its words."""
+        return tuple(dict.fromkeys(form.split()[0] for form in self.forms))
+
+
+TABLE = (
+    Row(('next [N]',), ('n',),
+        'takes the step that comes next; at a choice it lists the candidates, and next N takes one, from 1; elsewhere next N is run N'),
+    Row(('run [N]',), ('r', 'continue', 'c'), 'goes on to the next breakpoint, choice or end, or so many steps at most'),
+    Row(('back [N]',), ('b', 'reverse-next'), 'takes a step back, or so many'),
+    Row(('run-back',), ('rc', 'reverse-continue'), 'goes back to a breakpoint, or to the start'),
+    Row(('undo-choice',), ('u',), 'goes back to the last choice, so that another candidate can be taken'),
+    Row(('goto N',), ('g',), 'goes back, or along the steps ahead, until so many steps are taken'),
+    Row(('redo [N]',), (), 'takes the step again that was undone last, or so many, or all'),
+    Row(('local P', 'match S R', 'wake P', 'wakeany P I', 'release'), (), 'takes this step'),
+    Row(('break LINE', 'break match LINE', 'break change P NAME'), (),
+        'sets a breakpoint: behind a step by which a rank comes to that line, behind a match of a call of that line, behind a change of that '
+        'variable of rank P'),
+    Row(('delete N',), ('d',), 'removes a breakpoint'),
+    Row(('breaks',), (), 'lists the breakpoints'),
+    Row(('list [P]',), ('l',), 'shows the script, and at each line which ranks stand there; or the lines about rank P'),
+    Row(('print NAME [P]',), ('p',), 'shows a variable or a request of all ranks, or of rank P'),
+    Row(('vars [P]',), (), 'shows all variables and requests, and what was printed'),
+    Row(('ranks',), (), 'shows what each rank is doing'),
+    Row(('calls [P]',), (), 'lists the calls of all ranks, or of rank P'),
+    Row(('queues',), (), 'lists the sends and the receives that are free'),
+    Row(('why [P]', 'why CALL'), ('w',), "says why the calls that ranks wait for aren't matched; or that of rank P, or a call"),
+    Row(('history [N]',), ('h',), 'lists the last 10 steps, or the last N'),
+    Row(('picture',), (), 'draws the run so far'),
+    Row(('check [N]',), (), 'tries the choices from here, and lists how the runs end, 1,000 or N of them at most'),
+    Row(('follow N',), ('f',), 'lays the steps of a run ahead; N is its number in check'),
+    Row(('deadlock',), (), 'looks for the first deadlock from here, and lays its steps ahead, so that redo and run go there'),
+    Row(('trap',), (), 'looks for the first trap from here, and lays its steps ahead'),
+    Row(('words',), (), 'lists the steps taken as trace words, to be kept in a file'),
+    Row(('enabled',), (), 'lists the steps that are enabled'),
+    Row(('show',), (), 'shows the whole state, as a trace does (docs/FORMATS.md, "Text of show")'),
+    Row(('help [WORD]',), ('?',), 'lists the words, or tells of one'),
+    Row(('quit',), ('q',), 'ends'))
+
+
+def literal(text):
+    """What reads a word that must be this one."""
+    return lambda word: text if word == text.encode() else None
+
+
+def any_word(word):
+    return word
+
+
+# What a name means is known by the script alone (console.py).
+NAME = any_word
+NUMBER, CALL, STEPS = number_of, call_id_of, ('local', 'match', 'wake', 'wakeany', 'release')
+MAYBE_NUMBER = (), (NUMBER,)
+# What may follow each word: lists of what reads the words behind it, one of which must fit.
+FOLLOWING = {
+    'next': MAYBE_NUMBER, 'run': MAYBE_NUMBER, 'back': MAYBE_NUMBER, 'run-back': ((),), 'undo-choice': ((),), 'goto': ((NUMBER,),),
+    'redo': MAYBE_NUMBER,
+    'local': ((NUMBER,),), 'match': ((CALL, CALL),), 'wake': ((NUMBER,),), 'wakeany': ((NUMBER, NUMBER),), 'release': ((),),
+    'break': ((NUMBER,), (literal('line'), NUMBER), (literal('match'), NUMBER), (literal('change'), NUMBER, NAME)), 'delete': ((NUMBER,),),
+    'breaks': ((),), 'list': MAYBE_NUMBER, 'print': ((NAME,), (NAME, NUMBER)), 'vars': MAYBE_NUMBER, 'ranks': ((),), 'calls': MAYBE_NUMBER,
+    'queues': ((),), 'why': ((), (NUMBER,), (CALL,)), 'history': MAYBE_NUMBER, 'picture': ((),), 'check': MAYBE_NUMBER, 'follow': ((NUMBER,),), 'deadlock': ((),),
+    'trap': ((),), 'words': ((),), 'enabled': ((),), 'show': ((),), 'help': ((), (any_word,)), 'quit': ((),)}
+
+
+class Asked(NamedTuple):
+    """What a line asks for: a word by its name, and what follows it."""
+    word: str
+    given: tuple = ()
+
+
+class NotAsked(Exception):
+    """A line asks for nothing: `told` is what it is answered."""
+
+    def __init__(self, told):
+        super().__init__(told)
+        self.told = told
+
+
+def names_of(row):
+    """The names in a row, short ones too, as they stand in the table."""
+    return (*row.words, *row.short)
+
+
+def row_of(name):
+    """The row that has a name; None where none has."""
+    return next((row for row in TABLE if name in names_of(row)), None)
+
+
+def full_name(name):
+    """The word that a name stands for; None where it is none."""
+    row = row_of(name)
+    if row is None:
+        return None
+    return name if name in row.words else row.words[0]
+
+
+# ---- words that are none, and those that don't fit
+
+def shared(one, other):
+    """How many bytes two words have in common at their beginnings."""
+    count = 0
+    while count < min(len(one), len(other)) and one[count] == other[count]:
+        count += 1
+    return count
+
+
+def nearest(word):
+    """The name that shares the longest beginning with a word, of several the first in the table; None where none has its first byte."""
+    names = [name for row in TABLE for name in names_of(row)]
+    found = max(names, key=lambda name: shared(name.encode(), word))
+    return found if shared(found.encode(), word) else None
+
+
+def shown(word):
+    """A word as it is told: what is no printable ASCII as a question mark."""
+    return ''.join(chr(byte) if 32 <= byte <= 126 else '?' for byte in word)
+
+
+def unknown(word):
+    """What is told of a word that is none."""
+    name = nearest(word)
+    return f"unknown word '{shown(word)}': {'help lists all' if name is None else f'perhaps {name}'}"
+
+
+def usage(word):
+    """What is told where something else stands behind a word than may: its forms."""
+    return f'usage: {", ".join(form for form in row_of(word).forms if form.split()[0] == word)}'
+
+
+def words_of(line):
+    return [word for word in line.replace(b'\t', b' ').split(b' ') if word]
+
+
+def given_by(word, behind):
+    """What follows a word, as one of the lists of what may follow it reads it; None where none does."""
+    for readers in FOLLOWING[word]:
+        given = tuple(reader(part) for reader, part in zip(readers, behind))
+        if len(readers) == len(behind) and None not in given:
+            return given
+    return None
+
+
+def read_line(line):
+    """What a line that has a word asks for; what its names mean isn't looked at."""
+    first, *behind = words_of(line)
+    word = full_name(first.decode('latin-1'))
+    if word is None:
+        raise NotAsked(unknown(first))
+    given = given_by(word, behind)
+    if given is None:
+        raise NotAsked(usage(word))
+    if word == 'help' and given and row_of(given[0].decode('latin-1')) is None:
+        raise NotAsked(unknown(given[0]))
+    return Asked(word, given)
+
+
+# ---- help
+
+def in_short(row):
+    """A row in the list of all words: its forms, and what it does, up to the first semicolon."""
+    return f'{", ".join(row.forms).ljust(COLUMNS - 1)} {row.what.partition(";")[0]}'
+
+
+def help_of(word=None):
+    """The lines of help: of all words, or of one that there is."""
+    if word is None:
+        return list(map(in_short, TABLE))
+    row = row_of(word.decode('latin-1'))
+    return [f'{", ".join(row.forms)}: {row.what}']

@@ -1,0 +1,248 @@
+"""Explanations of deadlocks and traps, in the model: what `check --explain` tells below the line of a leaf.
+
+compare/rows/worked_explained.py has rows of it, and compare/runs/explained.py compares a program with it.
+"""
+
+from typing import NamedTuple
+
+from model import debugger
+from model.debugger import call_word, find_call, first_world, free_calls, is_at_barrier, last_call, next_world
+from model.worlds import CallId, Pair
+
+NEAREST, TAKEN, CYCLE = 'nearest miss', 'the last that fits is taken', 'a cycle, where each waits for the next'
+# What may differ of a send and a receive, that which is nearest first.
+DIFFERENCES = TAG, SOURCE, DESTINATION = 'tag', 'source', 'destination'
+
+
+class Reached(NamedTuple):
+    """The world where steps lead, and the line of each call that was issued on the way."""
+    world: object
+    lines: dict
+
+
+def next_line(rank):
+    """The line of the statement that a rank is at."""
+    return rank.rest[0].line
+
+
+def reached(script, mode, steps):
+    """Where steps lead from the start; a call has the line of the statement that its rank was at."""
+    world, lines = first_world(script, mode), {}
+    for step in steps:
+        behind = next_world(world, step)
+        if step.kind == 'local' and len(behind.ranks[step.first].calls) > len(world.ranks[step.first].calls):
+            lines[last_call(behind, step.first)] = next_line(world.ranks[step.first])
+        world = behind
+    return Reached(world, lines)
+
+
+# ---- texts of calls
+
+def or_any(part):
+    return 'any' if part is None else part
+
+
+def plain_text(call):
+    """What is shown of a call, without its marks."""
+    if call.kind == 'send':
+        return f'{call_word(call)} to {call.other} tag {call.tag} value {call.value}'
+    if call.kind == 'recv':
+        return f'{call_word(call)} from {or_any(call.other)} tag {or_any(call.tag)}'
+    if call.kind == 'wait':
+        return f'wait {"none" if call.target is None else call.target}'
+    if call.kind == 'waitany':
+        return f'waitany {call.first} {call.count}{"" if call.active else " none"}'
+    return 'barrier'
+
+
+def call_text(at, call_id):
+    """A call, with its line and its name."""
+    return f'line {at.lines[call_id]}, {call_id} {plain_text(find_call(at.world, call_id))}'
+
+
+def wish(at, call_id):
+    """What a blocked call waits for, or a call that is waited for."""
+    call = find_call(at.world, call_id)
+    if call.kind == 'send':
+        return f'for a receive of rank {call.other} from rank {call_id.rank} with tag {call.tag}'
+    if call.kind == 'recv':
+        source = 'any rank' if call.other is None else f'rank {call.other}'
+        return f'for a send of {source} with {"any tag" if call.tag is None else f"tag {call.tag}"}'
+    return {'wait': 'for this request', 'waitany': 'for one of these requests', 'barrier': 'for all ranks at a barrier'}[call.kind]
+
+
+def wishing(at, call_id):
+    return f'{call_text(at, call_id)}: {wish(at, call_id)}'
+
+
+# ---- what could have ended a wait
+
+def sorted_pair(world, one, other):
+    """A send and a receive in this order, of two calls in any order; None where they are none."""
+    kinds = find_call(world, one).kind, find_call(world, other).kind
+    return {('send', 'recv'): (one, other), ('recv', 'send'): (other, one)}.get(kinds)
+
+
+def differences(world, send_id, receive_id):
+    """What a receive asks of a send that isn't so, or the send of the receive."""
+    send, receive = find_call(world, send_id), find_call(world, receive_id)
+    same = {TAG: receive.tag in (None, send.tag), SOURCE: receive.other in (None, send_id.rank), DESTINATION: send.other == receive_id.rank}
+    return [part for part in DIFFERENCES if not same[part]]
+
+
+def all_free(world):
+    """The names of all free calls, by rank and number."""
+    return [call_id for rank in range(len(world.ranks)) for call_id, _ in free_calls(world, rank)]
+
+
+def near_misses(world, call_id):
+    """The free calls that fit a call but for one thing, each with that, by rank and number."""
+    for other in all_free(world):
+        if (pair := sorted_pair(world, call_id, other)) is not None and len(differs := differences(world, *pair)) == 1:
+            yield other, differs[0]
+
+
+def nearest_miss(world, call_id):
+    """The first free call that differs in its tag alone, else in the source, else in the destination; None where there is none."""
+    return min(near_misses(world, call_id), key=lambda found: DIFFERENCES.index(found[1]), default=None)
+
+
+def pairs_taken(world, call_id):
+    """The calls that fit a call and were paired with another, each with that one, in the order of the pairs."""
+    is_send = find_call(world, call_id).kind == 'send'
+    for pair in (record for record in world.records if isinstance(record, Pair)):
+        fitting, other = (pair.receive, pair.send) if is_send else (pair.send, pair.receive)
+        if not differences(world, *sorted_pair(world, call_id, fitting)):
+            yield fitting, other
+
+
+def last_taken(world, call_id):
+    """The last pair of which a call fits; None where there is none."""
+    return next(iter(reversed(list(pairs_taken(world, call_id)))), None)
+
+
+def chances(at, call_id):
+    """The lines of what could have been matched with a send or a receive."""
+    if (miss := nearest_miss(at.world, call_id)) is not None:
+        yield f'{NEAREST}: {call_text(at, miss[0])}: another {miss[1]}'
+    if (taken := last_taken(at.world, call_id)) is not None:
+        yield f'{TAKEN}: {call_text(at, taken[0])}, by {call_text(at, taken[1])}'
+
+
+def requests(world, number):
+    """The calls that the wait of a blocked rank is for, in the order of its handles; none where it is no wait."""
+    rank = world.ranks[number]
+    call = rank.calls[-1]
+    if call.kind == 'wait':
+        return [CallId(number, call.target)]
+    if call.kind == 'waitany':
+        held = rank.handles[call.first:call.first + call.count]
+        return [CallId(number, handle) for handle in held if handle is not None]
+    return []
+
+
+def has_ended(rank):
+    return rank.mode == 'running' and rank.rest is None
+
+
+def not_there(world):
+    """The ranks that are at no barrier."""
+    return [number for number, rank in enumerate(world.ranks) if not is_at_barrier(rank)]
+
+
+def why_not_there(rank):
+    return 'it has ended' if has_ended(rank) else 'it is at another call'
+
+
+def behind(at, call_id):
+    """The lines behind that of a blocked call."""
+    kind = find_call(at.world, call_id).kind
+    if kind == 'barrier':
+        return [f'rank {number} is not there: {why_not_there(at.world.ranks[number])}' for number in not_there(at.world)]
+    if kind in ('send', 'recv'):
+        return list(chances(at, call_id))
+    return [line for request in requests(at.world, call_id.rank) for line in (wishing(at, request), *chances(at, request))]
+
+
+def blocked_lines(at, call_id):
+    """What is told of a blocked call."""
+    return [f'  rank {call_id.rank} waits at {wishing(at, call_id)}', *(f'    {line}' for line in behind(at, call_id))]
+
+
+# ---- whom a rank waits for
+
+def partners_of(world, call_id):
+    """The ranks that a send or a receive may be matched with."""
+    call = find_call(world, call_id)
+    if call.other is not None:
+        return {call.other}
+    return set(range(len(world.ranks))) - {call_id.rank}
+
+
+def waited_for(world, number):
+    """The ranks that a blocked rank waits for, by number."""
+    call_id = last_call(world, number)
+    kind = find_call(world, call_id).kind
+    if kind == 'barrier':
+        return not_there(world)
+    calls = [call_id] if kind in ('send', 'recv') else requests(world, number)
+    return sorted(set().union(*(partners_of(world, call) for call in calls)))
+
+
+def rank_text(world, number):
+    return f'rank {number} (ended)' if has_ended(world.ranks[number]) else f'rank {number}'
+
+
+def whom_line(world, number):
+    ranks = [rank_text(world, other) for other in waited_for(world, number)]
+    return f'  rank {number} waits for {", ".join(ranks) or "nobody"}'
+
+
+# ---- cycles
+
+def next_of(world):
+    """The one rank that a rank waits for, of each blocked rank that waits for no other."""
+    blocked = [number for number, rank in enumerate(world.ranks) if rank.mode == 'blocked']
+    waiting = {number: waited_for(world, number) for number in blocked}
+    return {number: ranks[0] for number, ranks in waiting.items() if len(ranks) == 1}
+
+
+def cycle_from(nexts, first):
+    """The ranks from one on, up to that one again; None where they don't come to it."""
+    ranks = [first]
+    while (following := nexts.get(ranks[-1])) is not None:
+        if following in ranks:
+            return [*ranks, following] if following == first else None
+        ranks.append(following)
+    return None
+
+
+def cycles(world):
+    """The cycles of ranks that each wait for the next alone, each from its lowest rank to that again, by the lowest ranks."""
+    nexts = next_of(world)
+    found = [cycle_from(nexts, first) for first in sorted(nexts)]
+    return [cycle for cycle in found if cycle is not None and cycle[0] == min(cycle)]
+
+
+def cycle_line(cycle):
+    return f'  {CYCLE}: {", ".join(f"rank {number}" for number in cycle)}'
+
+
+# ---- explanations
+
+def deadlock_lines(at):
+    blocked = debugger.blocked_calls(at.world)
+    lines = [line for call_id in blocked for line in blocked_lines(at, call_id)]
+    lines += [whom_line(at.world, call_id.rank) for call_id in blocked]
+    return lines + [cycle_line(cycle) for cycle in cycles(at.world)]
+
+
+def trap_lines(at):
+    trapped = [(number, rank) for number, rank in enumerate(at.world.ranks) if rank.mode == 'trapped']
+    return [f'  rank {number}, line {next_line(rank)}: trap {rank.trap}' for number, rank in trapped]
+
+
+def explanation(script, mode, leaf):
+    """The lines that explain a leaf: none where it is no deadlock and no trap."""
+    tell = {'deadlock': deadlock_lines, 'trap': trap_lines}.get(leaf.outcome.split()[0])
+    return () if tell is None else tuple(tell(reached(script, mode, leaf.steps)))

@@ -1,0 +1,451 @@
+"""The explorer, in the model: the leaves that runs along decisions come to, the report of them, by pieces, and witnesses of deadlocks.
+
+    python3 compare/model/explorer.py FILE [--runs N] [--split K] ..    answers as `check` of the program does, with all its options but
+                                                                        `--sample` (sampled.py)
+
+compare/rows/worked_explorer.py, compare/rows/worked_pieces.py, compare/rows/worked_ends.py and compare/rows/worked_explained.py have rows of it,
+compare/runs/explore_rules.py checks on random scripts what must hold of it, and compare/runs/explore.py, compare/runs/ends.py and compare/runs/explained.py
+compare a program with it.
+"""
+
+import argparse
+import sys
+from itertools import islice
+from typing import NamedTuple, Optional
+
+from model import explaining, policy
+from model.debugger import (BAD_FILE, BAD_MODE, BUFFERED, RENDEZVOUS, Debugger, Result, blocked_calls, call_id_of, enabled_steps, file_content, first_world,
+                            next_world, outcome, refusal, step_text)
+from model.language import Branch, Fault, WaitAny, While, read_script
+from model.modes import is_mode, slots_of
+from model.policy import Forced, decision
+
+MOST_RUNS, MOST_FUEL = 65536, 1000000
+# Up to how many slots modes are tried one after another.
+MOST_MODES = 1000
+# Of pieces, choices that cut them, and workers; and how many workers can be asked for, though no more than 16 are there.
+MOST_PIECES, MOST_SPLIT, MOST_WORKERS, MOST_WORKERS_ASKED = 1024, 8, 16, 1000
+CUT = 'cut'
+NOT_WHOLE = 4
+NO_SUCH_STEP, NOT_STUCK, WRONG_BLOCKED = 32, 33, 34
+
+
+class Leaf(NamedTuple):
+    """Where a run ended: the numbers of the candidates that it took, its steps, its outcome, or `cut`, and the lines that explain it."""
+    choices: tuple
+    steps: tuple
+    outcome: str
+    explained: tuple = ()
+
+
+class Run(NamedTuple):
+    """A run on its way; its steps are None at the start, else (those before, the last one).
+
+    What is asleep are the matches that the walk of ends doesn't take behind it; it is None where the run has taken one of these itself.
+    """
+    world: object
+    fuel: int
+    choices: tuple = ()
+    steps: Optional[tuple] = None
+    asleep: Optional[tuple] = ()
+
+
+def taken(run, step, *choice):
+    """The run behind a step, which has a number where it was chosen among candidates."""
+    return Run(next_world(run.world, step), run.fuel - 1, run.choices + choice, (run.steps, step), run.asleep)
+
+
+def listed(steps):
+    """The steps of a run, the first one first."""
+    found = []
+    while steps is not None:
+        steps, step = steps
+        found.append(step)
+    return tuple(reversed(found))
+
+
+def followed(run):
+    """A run as far as its steps are forced and its fuel lasts, and what is decided there."""
+    while isinstance(decided := decision(run.world), Forced) and run.fuel:
+        run = taken(run, decided.step)
+    return run, decided
+
+
+def candidates(run, steps):
+    """The runs behind a choice, one after the other; each is begun when it is asked for."""
+    for number, step in enumerate(steps):
+        yield taken(run, step, number)
+
+
+def ending(decided, fuel):
+    """How a run ends where this is decided and so much fuel is left; None where it goes on."""
+    if isinstance(decided, policy.Leaf):
+        return decided.outcome
+    return None if fuel else CUT
+
+
+def leaves_behind(begun, behind):
+    """The leaves of the runs behind one, by their choices, each sought when it is asked for; `behind` gives the runs behind a choice."""
+    ahead = [iter([begun])]
+    while ahead:
+        found = next(ahead[-1], None)
+        if found is None:
+            ahead.pop()
+            continue
+        run, decided = followed(found)
+        ended = ending(decided, run.fuel)
+        if ended is None:
+            ahead.append(behind(run, decided.steps))
+        else:
+            yield Leaf(run.choices, listed(run.steps), ended)
+
+
+def walk(world, fuel):
+    """The leaves of all runs from a world, of so many steps at most."""
+    return leaves_behind(Run(world, fuel), candidates)
+
+
+# ---- the walk of ends, which takes two matches that share no call in one order alone
+
+
+def falls_asleep(step):
+    """Whether a candidate that was tried is not taken behind the later ones: a match isn't, and a wake by one of some handles is."""
+    return step.kind == 'match'
+
+
+def asleep_behind(asleep, steps):
+    """What is asleep behind each candidate of a choice: what was before it, and what was tried there; None where it sleeps itself."""
+    for step in steps:
+        yield None if asleep is None or step in asleep else asleep
+        if asleep is not None and falls_asleep(step):
+            asleep = (*asleep, step)
+
+
+def with_asleep(run, steps):
+    """The runs behind all candidates of a choice, each with what is asleep behind it."""
+    for chosen, asleep in zip(candidates(run, steps), asleep_behind(run.asleep, steps)):
+        yield chosen._replace(asleep=asleep)
+
+
+def awake(run, steps):
+    """The runs behind the candidates of a choice that aren't asleep."""
+    return (chosen for chosen in with_asleep(run, steps) if chosen.asleep is not None)
+
+
+def walk_of_ends(begun):
+    """The leaves of the runs behind one that take nothing that is asleep; none where that one has."""
+    return iter(()) if begun.asleep is None else leaves_behind(begun, awake)
+
+
+class Report(NamedTuple):
+    """The first leaves of a walk, and whether it has more."""
+    leaves: tuple
+    more: bool
+
+
+def pieces(begun, split):
+    """The runs behind one, each stopped right behind so many choices more, or at its leaf where that comes sooner, in order."""
+    if not split:
+        yield begun
+        return
+    run, decided = followed(begun)
+    if ending(decided, run.fuel) is not None:
+        yield run
+        return
+    for chosen in with_asleep(run, decided.steps):
+        yield from pieces(chosen, split - 1)
+
+
+def ends_part(piece, runs):
+    """What a report of ends has of a piece."""
+    found = list(islice(walk_of_ends(piece), runs + 1))
+    return Report(tuple(found[:runs]), len(found) > runs)
+
+
+def part(piece, runs):
+    """What a report has of a piece: the first leaves behind it, each with its choices and steps in front, and whether there are more."""
+    found = list(islice(walk(piece.world, piece.fuel), runs + 1))
+    steps = listed(piece.steps)
+    return Report(tuple(Leaf(piece.choices + leaf.choices, steps + leaf.steps, leaf.outcome) for leaf in found[:runs]), len(found) > runs)
+
+
+def joined(parts):
+    """The report that has these parts; there are more where one has more."""
+    return Report(tuple(leaf for found in parts for leaf in found.leaves), any(found.more for found in parts))
+
+
+def up_to_bad(found):
+    """A report up to its first deadlock or trap, with that; there are more where anything is left out."""
+    for count, leaf in enumerate(found.leaves, 1):
+        if is_bad(leaf):
+            return Report(found.leaves[:count], found.more or count < len(found.leaves))
+    return found
+
+
+def explored(walked, runs, fuel):
+    """The report of where a debugger is, in one piece: fuel is for the steps from there, and each leaf has all steps from the start."""
+    found = part(Run(walked.world, fuel), runs)
+    before = tuple(walked.steps[:walked.depth])
+    return found._replace(leaves=tuple(leaf._replace(steps=before + leaf.steps) for leaf in found.leaves))
+
+
+def report(script, mode, runs, fuel):
+    """The report of a script that was read, in one piece."""
+    return explored(Debugger(script, mode), runs, fuel)
+
+
+class Witness(NamedTuple):
+    """The steps from the start to a deadlock, and the calls that are blocked there."""
+    steps: tuple
+    blocked: tuple
+
+
+def witness(leaf):
+    """The witness of a leaf; None where that is no deadlock."""
+    word, *calls = leaf.outcome.split()
+    return Witness(leaf.steps, tuple(call_id_of(call.encode()) for call in calls)) if word == 'deadlock' else None
+
+
+class Refusal(NamedTuple):
+    """Why a witness is refused: by its number, and the place of the step where it is one."""
+    number: int
+    place: Optional[int] = None
+
+
+def verify(script, mode, steps, blocked):
+    """Why steps and blocked calls are no witness: the first step that isn't enabled, an end that is no deadlock, or other calls.
+
+    None where they are one.
+    """
+    world = first_world(script, mode)
+    for place, step in enumerate(steps):
+        world = next_world(world, step)
+        if world is None:
+            return Refusal(NO_SUCH_STEP, place)
+    if enabled_steps(world) or not outcome(world).startswith('deadlock'):
+        return Refusal(NOT_STUCK)
+    return None if tuple(blocked) == blocked_calls(world) else Refusal(WRONG_BLOCKED)
+
+
+def leaf_lines(number, leaf, witnesses):
+    """The line of a leaf, that of its witness where there is one and it is asked for, and those that explain it."""
+    yield f'leaf {number} [{" ".join(map(str, leaf.choices))}] {leaf.outcome}'
+    if witnesses and (found := witness(leaf)):
+        yield f'witness {number}: {", ".join(map(step_text, found.steps))}'
+    yield from leaf.explained
+
+
+def report_text(found, witnesses):
+    """The text of a report, with a line for each witness where they are asked for."""
+    lines = [line for number, leaf in enumerate(found.leaves) for line in leaf_lines(number, leaf, witnesses)]
+    lines.append(f'leaves {len(found.leaves)} more {"yes" if found.more else "no"}')
+    return ''.join(f'{line}\n' for line in lines)
+
+
+class End(NamedTuple):
+    """One of the different outcomes of a report: how many leaves end so, and the number of the first of these."""
+    outcome: str
+    leaves: int
+    first: int
+
+
+def ends_of(found):
+    """The different outcomes of a report, in the order in which it has them first."""
+    outcomes = [leaf.outcome for leaf in found.leaves]
+    return [End(outcome, outcomes.count(outcome), outcomes.index(outcome)) for outcome in dict.fromkeys(outcomes)]
+
+
+def group_text(found, witnesses):
+    """The text of a report with a line for each different outcome in the place of its leaves, and what stands below that of its first leaf."""
+    lines = []
+    for number, end in enumerate(ends_of(found)):
+        lines.append(f'end {number} leaves {end.leaves} first {end.first} {end.outcome}')
+        lines += list(leaf_lines(end.first, found.leaves[end.first], witnesses))[1:]
+    return ''.join(f'{line}\n' for line in lines) + report_text(found, False).splitlines(keepends=True)[-1]
+
+
+def is_bad(leaf):
+    """Whether a leaf makes the status of a check 1."""
+    return leaf.outcome.split()[0] in ('deadlock', 'trap')
+
+
+def is_whole(found):
+    """Whether all runs are listed, each to its end."""
+    return not found.more and all(leaf.outcome != CUT for leaf in found.leaves)
+
+
+def status(found, complete=False):
+    """The status of a check by its report; what that doesn't list has no part in it, unless it must be whole."""
+    if any(map(is_bad, found.leaves)):
+        return 1
+    return 0 if is_whole(found) or not complete else NOT_WHOLE
+
+
+def has_waitany(statements):
+    """Whether a wait for any of some handles stands among statements, or in a block of one."""
+    return any(isinstance(one, WaitAny)
+               or isinstance(one, Branch) and (has_waitany(one.then) or has_waitany(one.otherwise))
+               or isinstance(one, While) and has_waitany(one.body) for one in statements)
+
+
+def tells_all(script, mode):
+    """Whether a report where all runs are listed to their ends tells every way in which a script can end in a mode: with a wait for any of
+    some handles none does, and in a mode of slots neither."""
+    return not has_waitany(script.body) and slots_of(mode) is None
+
+
+def status_of(script, mode, found, complete):
+    """The status of a check of a script in a mode."""
+    told = status(found, complete)
+    return NOT_WHOLE if told == 0 and complete and not tells_all(script, mode) else told
+
+
+class Asked(NamedTuple):
+    """The options of a check; one that is None is left out. `until` is whether the first deadlock or trap is the last leaf, `ends` whether
+    the walk of ends is listed, `explain` whether each deadlock and each trap is explained."""
+    mode: Optional[str] = None
+    runs: Optional[int] = None
+    fuel: Optional[int] = None
+    witnesses: bool = False
+    complete: bool = False
+    split: Optional[int] = None
+    workers: Optional[int] = None
+    until: bool = False
+    piece: Optional[int] = None
+    pieces: bool = False
+    modes: Optional[int] = None
+    ends: bool = False
+    group: bool = False
+    explain: bool = False
+
+
+# What is meant where an option is left out.
+USUAL = Asked(mode=RENDEZVOUS, runs=1000, fuel=100000, split=1, workers=4)
+
+
+def refused(line):
+    """The result of a check that is refused by this line."""
+    return Result(b'', f'mpdbg: {line}\n'.encode(), 2)
+
+
+def reported(cut, asked):
+    """The report by the pieces that a script was cut into: of all of them, or of the one that is asked for."""
+    chosen = cut if asked.piece is None else [cut[asked.piece]]
+    found = joined([(ends_part if asked.ends else part)(piece, asked.runs) for piece in chosen])
+    return up_to_bad(found) if asked.until else found
+
+
+def explained(script, mode, found):
+    """A report with what explains each of its leaves."""
+    return found._replace(leaves=tuple(leaf._replace(explained=explaining.explanation(script, mode, leaf)) for leaf in found.leaves))
+
+
+def counted(found):
+    """What a report tells of its leaves in one line, and whether a deadlock or a trap is among them."""
+    ended = [leaf.outcome.split()[0] for leaf in found.leaves]
+    counts = [f'{name} {ended.count(word)}' for name, word in (('deadlocks', 'deadlock'), ('traps', 'trap'), ('cut', 'cut'))]
+    return f'leaves {len(ended)} {" ".join(counts)} more {"yes" if found.more else "no"}', any(map(is_bad, found.leaves))
+
+
+def modes_tried(script, asked):
+    """The result of a check in several modes, one after another: a line for each, up to one that is refused, and which is the first that has
+    nothing bad."""
+    lines, least, status = [], 'none', 0
+    for mode in (RENDEZVOUS, *(f'slots:{slots}' for slots in range(1, asked.modes + 1)), BUFFERED):
+        cut = list(islice(pieces(Run(first_world(script, mode), asked.fuel), asked.split), MOST_PIECES + 1))
+        if len(cut) > MOST_PIECES:
+            return refused('refused 31 too-many-pieces')._replace(output=''.join(lines).encode())
+        line, bad = counted(reported(cut, asked._replace(mode=mode, piece=None)))
+        lines.append(f'{mode} {line}\n')
+        least = mode if least == 'none' and not bad else least
+        status = 1 if bad else status
+    return Result(''.join([*lines, f'least {least}\n']).encode(), b'', status)
+
+
+def told(script, asked, found):
+    """The result of a check of a script that comes to a report."""
+    found = explained(script, asked.mode, found) if asked.explain else found
+    text = (group_text if asked.group else report_text)(found, asked.witnesses)
+    return Result(text.encode(), b'', status_of(script, asked.mode, found, asked.complete))
+
+
+def checked(script, asked):
+    """The result of a check of a script that was read: workers are tested first, then the number of pieces, and then that of the piece."""
+    if not 1 <= asked.workers <= MOST_WORKERS:
+        return refused('refused 35 bad-workers')
+    if asked.modes is not None:
+        return modes_tried(script, asked)
+    cut = list(islice(pieces(Run(first_world(script, asked.mode), asked.fuel), asked.split), MOST_PIECES + 1))
+    if len(cut) > MOST_PIECES:
+        return refused('refused 31 too-many-pieces')
+    if asked.pieces:
+        return Result(f'pieces {len(cut)}\n'.encode(), b'', 0)
+    if asked.piece is not None and asked.piece >= len(cut):
+        return refused(f'no piece {asked.piece} of {len(cut)}')
+    return told(script, asked, reported(cut, asked))
+
+
+def check(text, asked):
+    """The result of a check of the text of a file, which is None where that can't be read: the mode is tested first, and no option is
+    left out."""
+    if not is_mode(asked.mode):
+        return BAD_MODE
+    if text is None:
+        return BAD_FILE
+    try:
+        return checked(read_script(text), asked)
+    except Fault as fault:
+        return refusal(text, fault)
+
+
+def answer(text, asked):
+    """The result of a check that has these options."""
+    return check(text, Asked(*(usual if given is None else given for given, usual in zip(asked, USUAL))))
+
+
+def option_words(asked):
+    """The options as words of the command line."""
+    numbers = [(name, getattr(asked, name)) for name in ('mode', 'runs', 'fuel', 'split', 'workers', 'piece', 'modes')]
+    there = [(f'--{name}', str(value)) for name, value in numbers if value is not None]
+    flags = [('--witness', asked.witnesses), ('--complete', asked.complete), ('--pieces', asked.pieces), ('--ends', asked.ends),
+             ('--group', asked.group), ('--explain', asked.explain)]
+    return [word for pair in there for word in pair] + [flag for flag, is_there in flags if is_there] + ['--until', 'deadlock'] * asked.until
+
+
+def number_between(least, most):
+    """What reads a number of these."""
+    def number(word):
+        if not word.isdecimal() or not least <= int(word) <= most:
+            raise argparse.ArgumentTypeError(f'{word} is no number from {least} to {most}')
+        return int(word)
+    return number
+
+
+def asked_by(words):
+    """The file that words of the command line name, and the options of its check."""
+    parser = argparse.ArgumentParser(description=__doc__, formatter_class=argparse.RawDescriptionHelpFormatter)
+    parser.add_argument('file', metavar='FILE')
+    parser.add_argument('--mode', metavar='M')
+    for name, least, most in (('runs', 1, MOST_RUNS), ('fuel', 1, MOST_FUEL), ('split', 0, MOST_SPLIT), ('workers', 0, MOST_WORKERS_ASKED),
+                              ('piece', 0, MOST_PIECES - 1), ('modes', 0, MOST_MODES)):
+        parser.add_argument(f'--{name}', type=number_between(least, most), metavar='N')
+    parser.add_argument('--until', choices=['deadlock'])
+    parser.add_argument('--witness', dest='witnesses', action='store_true')
+    for name in ('complete', 'pieces', 'ends', 'group', 'explain'):
+        parser.add_argument(f'--{name}', action='store_true')
+    chosen = vars(parser.parse_args(words))
+    file = chosen.pop('file')
+    return file, Asked(**{**chosen, 'until': chosen['until'] is not None})
+
+
+def main():
+    file, asked = asked_by(sys.argv[1:])
+    result = answer(file_content(file), asked)
+    sys.stdout.buffer.write(result.output)
+    sys.stdout.buffer.flush()
+    sys.stderr.buffer.write(result.errors)
+    sys.exit(result.status)
+
+
+if __name__ == '__main__':
+    main()

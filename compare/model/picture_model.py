@@ -1,0 +1,357 @@
+"""The picture of a run, in the model: a space-time diagram as SVG, and the same as text, as docs/PICTURES.md says.
+
+    python3 compare/model/picture_model.py FILE [--mode M] [--choices C] [--fuel N]            writes the SVG of a run of the script
+    python3 compare/model/picture_model.py FILE .. --text                                      writes it as text
+
+It was written from that page, over the debugger, the runs and the explorer of the model. compare/runs/pictures.py compares a program with it.
+"""
+
+import argparse
+import sys
+from typing import NamedTuple, Optional
+
+from model import explorer
+from model.console_lines import has_ended, marked_text, reached
+from model.debugger import RENDEZVOUS, Debugger, call_word, enabled_steps, file_content, find_call, first_world, last_call, outcome, partner
+from model.explaining import next_line, plain_text
+from model.explorer import USUAL, Run
+from model.language import read_script
+from model.modes import slots_of
+from model.run_words import run_by
+from model.worlds import CallId
+
+MOST_MARKS = 20000
+TOO_LONG = 'refused: this run has too many calls to be drawn\n'
+ISSUED, PAIRED, RELEASED, WENT_ON = 'issued', 'paired', 'released', 'went on'
+
+
+# ---- rows
+
+class Mark(NamedTuple):
+    """What a step shows, the row at which it is drawn, and the calls that it is about."""
+    kind: str
+    row: int
+    call: Optional[CallId] = None
+    other: Optional[CallId] = None
+
+
+def marks_of_step(step, before, behind, row):
+    """What a step shows, where the next row is this one."""
+    if step.kind == 'local':
+        has_called = len(behind.ranks[step.first].calls) > len(before.ranks[step.first].calls)
+        return [Mark(ISSUED, row, last_call(behind, step.first))] if has_called else []
+    if step.kind == 'match':
+        return [Mark(PAIRED, row, step.first, step.second)]
+    if step.kind == 'release':
+        return [Mark(RELEASED, row), *(Mark(WENT_ON, row, last_call(behind, rank)) for rank in range(len(behind.ranks)))]
+    return [Mark(WENT_ON, row - 1, last_call(behind, step.first))]
+
+
+def takes_row(mark):
+    return mark.kind != WENT_ON
+
+
+def marks_of(walked):
+    """All that the steps of a walk show, in order."""
+    marks, row = [], 0
+    for step, before, behind in zip(walked.steps, walked.worlds, walked.worlds[1:]):
+        shown = marks_of_step(step, before, behind, row)
+        marks += shown
+        row += any(map(takes_row, shown))
+    return marks
+
+
+class Picture:
+    """What is drawn: the steps of a run, where they lead, and what they show."""
+
+    def __init__(self, walked):
+        self.walked, self.world, self.at = walked, walked.world, reached(walked)
+        self.ranks = range(len(self.world.ranks))
+        self.marks = marks_of(walked)
+        self.rows = sum(map(takes_row, self.marks))
+        self.issued = {mark.call: mark.row for mark in self.marks if mark.kind == ISSUED}
+
+    @property
+    def is_too_long(self):
+        return len(self.marks) > MOST_MARKS
+
+    def is_free(self, call_id):
+        return find_call(self.world, call_id).kind in ('send', 'recv') and partner(self.world, call_id) is None
+
+
+def word_of(call):
+    return call_word(call) if call.kind in ('send', 'recv') else call.kind
+
+
+# ---- the drawing: what is the same in each
+
+STYLE = '''<style type="text/css">
+text{font-family:monospace;font-size:11px;fill:#000}
+.head{font-size:13px;font-weight:bold}
+.name{text-anchor:middle}
+.left{text-anchor:end}
+.paper{fill:#fff}
+.lane{stroke:#999;stroke-width:1}
+.guide{stroke:#ccc;stroke-width:1;stroke-dasharray:1 4}
+.waiting{stroke:#b45f06;stroke-width:5}
+.posted{stroke:#38761d;stroke-width:2;stroke-dasharray:5 3}
+.arrow{stroke:#0b5394;stroke-width:1.5;fill:none;marker-end:url(#tip)}
+.bar{stroke:#000;stroke-width:4}
+.stub{stroke:#000;stroke-width:1.5;fill:#fff}
+.send{fill:#0b5394;stroke:#000}
+.recv{fill:#fff;stroke:#000;stroke-width:1.5}
+.wait{fill:#b45f06;stroke:#000}
+.waitany{fill:#fff;stroke:#b45f06;stroke-width:2}
+.barrier{fill:#000;stroke:#000}
+.ended{fill:none;stroke:#000;stroke-width:3}
+.running{fill:#fff;stroke:#000;stroke-width:1.5}
+.blocked{fill:#c00;stroke:#000}
+.trapped{fill:none;stroke:#c00;stroke-width:3}
+</style>
+<defs><marker id="tip" viewBox="0 0 10 10" refX="10" refY="5" markerWidth="9" markerHeight="9" markerUnits="userSpaceOnUse" orient="auto"><path d="M0 1L10 5L0 9z" fill="#0b5394"/></marker></defs>
+'''
+DISC, SQUARE, FLAT = 'm-5 0a5 5 0 1 0 10 0a5 5 0 1 0 -10 0z', 'm-5 -5h10v10h-10z', 'm-8 -3h16v6h-16z'
+PATHS = {'send': DISC, 'recv': DISC, 'wait': SQUARE, 'waitany': SQUARE, 'barrier': FLAT}
+KNOB = 'm-3 0a3 3 0 1 0 6 0a3 3 0 1 0 -6 0'
+TO_RIGHT, TO_LEFT, FROM_LEFT = 'l12 16' + KNOB, 'l-12 16' + KNOB, 'l-18 0' + KNOB
+ENDS = {'ended': 'm-9 0h18', 'running': 'm-6 -5h12l-6 10z', 'blocked': 'm-3 -7h6l5 5v5l-5 5h-6l-5 -5v-5z', 'trapped': 'm-6 -6l12 12m0 -12l-12 12'}
+
+
+def lane_x(rank):
+    return 96 + 90 * rank
+
+
+def row_y(row):
+    return 80 + 20 * row
+
+
+def line(kind, x1, y1, x2, y2):
+    return f'<line class="{kind}" x1="{x1}" y1="{y1}" x2="{x2}" y2="{y2}"/>\n'
+
+
+def path(kind, x, y, rest):
+    return f'<path class="{kind}" d="M{x} {y}{rest}"/>\n'
+
+
+def text(kind, x, y, content):
+    return f'<text class="{kind}" x="{x}" y="{y}">{content}</text>\n'
+
+
+def group(title, *parts):
+    return f'<g><title>{title}</title>\n{"".join(parts)}</g>\n'
+
+
+def in_columns(columns):
+    """The legend: columns of shapes, each with what it is."""
+    for x, (shape_x, entries) in zip((40, 230, 460), columns):
+        for place, (form, kind, rest, told) in enumerate(entries):
+            y = 20 * place
+            if form == 'line':
+                shape = f'<line class="{kind}" x1="{shape_x}" y1="{y}" x2="{shape_x + 20}" y2="{y}"/>'
+            else:
+                shape = f'<path class="{kind}" d="M{form[0]} {y + form[1]}{rest}"/>'
+            yield f'{shape}<text x="{x}" y="{y + 4}">{told}</text>\n'
+
+
+COLUMNS = ((None, (((20, 0), 'send', DISC, 'a send'), ((20, 0), 'recv', DISC, 'a receive'), ((20, 0), 'wait', SQUARE, 'a wait'),
+                   ((20, 0), 'waitany', SQUARE, 'a wait for any'), ((20, 0), 'barrier', FLAT, 'a barrier'))),
+           (200, (((200, -5), 'arrow', 'L220 5', 'a message, up to its match'), ((204, -6), 'stub', TO_RIGHT, 'a send that is not matched'),
+                  ((218, 0), 'stub', FROM_LEFT, 'a receive that is not'), ('line', 'posted', '', 'a receive is posted'),
+                  ('line', 'waiting', '', 'a rank waits'))),
+           (430, (('line', 'bar', '', 'a release'), ((440, 0), 'ended', ENDS['ended'], 'ended'), ((440, 0), 'blocked', ENDS['blocked'], 'blocked'),
+                  ((440, 0), 'trapped', ENDS['trapped'], 'trapped'), ((440, 0), 'running', ENDS['running'], 'can go on'))))
+LEGEND = ''.join(in_columns(COLUMNS)) + '</g>\n</svg>\n'
+
+
+# ---- the drawing: its shapes
+
+class Drawing(Picture):
+    """A picture as SVG."""
+
+    @property
+    def column(self):
+        return lane_x(len(self.ranks))
+
+    def row_parts(self, is_left, x, y, label, told):
+        """The label beside the lane, a guide, and what is told of the row."""
+        beside = text('left', x - 12, y + 4, label) if is_left else text('right', x + 12, y + 4, label)
+        return beside + line('guide', x + 80, y, self.column - 6, y) + text('row', self.column, y + 4, told)
+
+    def lane(self, rank):
+        return line('lane', lane_x(rank), 60, lane_x(rank), row_y(self.rows)) + text('name', lane_x(rank), 52, f'rank {rank}')
+
+    def waiting(self, call_id, row):
+        x = lane_x(call_id.rank)
+        return line('waiting', x, row_y(self.issued[call_id]) + 5, x, row_y(row) + 5)
+
+    def posted(self, call_id, row):
+        x = lane_x(call_id.rank) - 5
+        return line('posted', x, row_y(self.issued[call_id]), x, row_y(row))
+
+    def free(self, call_id, call, row):
+        """What is drawn of a send or a receive that stays free."""
+        x, y = lane_x(call_id.rank), row_y(row)
+        if call.kind == 'recv':
+            return self.posted(call_id, self.rows) + path('stub', x, y, FROM_LEFT)
+        return path('stub', x, y, TO_LEFT if call.other < call_id.rank else TO_RIGHT)
+
+    def issued_call(self, mark):
+        call_id, x, y = mark.call, lane_x(mark.call.rank), row_y(mark.row)
+        call, told = find_call(self.world, call_id), marked_text(self.at, call_id)
+        is_left = call.kind == 'send' and call.other > call_id.rank
+        parts = path(call.kind, x, y, PATHS[call.kind]), self.row_parts(is_left, x, y, f'{self.at.lines[call_id]} {word_of(call)}', told)
+        return (self.free(call_id, call, mark.row) if self.is_free(call_id) else '') + group(told, *parts)
+
+    def pair(self, mark):
+        send, receive = mark.call, mark.other
+        x1, y1, x2, y2 = lane_x(send.rank), row_y(self.issued[send]), lane_x(receive.rank), row_y(mark.row)
+        rest = f'C{x1 - 40} {y1} {x2 - 40} {y2} {x2} {y2}' if send.rank == receive.rank else f'L{x2} {y2}'
+        call = find_call(self.world, send)
+        label = f'{call.value} tag {call.tag}'
+        told = f'{send} to {receive}: value {label}'
+        return self.posted(receive, mark.row) + group(told, path('arrow', x1, y1, rest), self.row_parts(receive.rank < send.rank, x2, y2, label, told))
+
+    def release(self, mark):
+        y = row_y(mark.row)
+        bar = line('bar', lane_x(0) - 14, y, lane_x(self.ranks[-1]) + 14, y)
+        return group('release: all ranks leave the barrier', bar, text('row', self.column, y + 4, 'release'))
+
+    def mark(self, mark):
+        if mark.kind == WENT_ON:
+            return self.waiting(mark.call, mark.row)
+        return {ISSUED: self.issued_call, PAIRED: self.pair, RELEASED: self.release}[mark.kind](mark)
+
+    def end(self, number):
+        x, y, name = lane_x(number), row_y(self.rows), f'rank {number}'
+        kind, told = end_of(self.world.ranks[number])
+        waited = self.waiting(last_call(self.world, number), self.rows) if kind == 'blocked' else ''
+        return waited + group(f'{name}: {told}', path(kind, x, y, ENDS[kind]), text('name', x, y + 24, name), text('name', x, y + 38, told))
+
+    def svg(self):
+        """The whole, as text."""
+        width, height, title = self.column + 460, row_y(self.rows) + 190, title_of(self)
+        size = f'width="{width}" height="{height}"'
+        shapes = [*map(self.lane, self.ranks), *map(self.mark, self.marks), *map(self.end, self.ranks)]
+        return (f'<svg xmlns="http://www.w3.org/2000/svg" version="1.1" {size} viewBox="0 0 {width} {height}">\n<title>{title}</title>\n{STYLE}'
+                f'<rect class="paper" {size}/>\n{text("head", 12, 24, title)}{"".join(shapes)}'
+                f'<g transform="translate(12 {row_y(self.rows) + 76})">\n{LEGEND}')
+
+
+def end_of(rank):
+    """How a rank is at the end, and in words."""
+    if rank.mode == 'trapped':
+        return 'trapped', rank.trap
+    if rank.mode == 'blocked':
+        return 'blocked', 'blocked'
+    return ('ended', 'ended') if has_ended(rank) else ('running', f'at line {next_line(rank)}')
+
+
+def title_of(picture):
+    how = 'can go on' if enabled_steps(picture.world) else outcome(picture.world)
+    slots = slots_of(picture.world.mode)
+    mode = picture.world.mode if slots is None else f'slots:{slots}'
+    return f'{len(picture.ranks)} ranks, {mode}, {picture.walked.depth} steps: {how}'
+
+
+# ---- the picture as text
+
+LETTERS = {'send': 'S', 'recv': 'R', 'wait': 'W', 'waitany': 'A', 'barrier': 'B'}
+END_LETTERS = {'ended': 'E', 'running': 'V', 'blocked': '!', 'trapped': 'X'}
+LETTERS_TOLD = ('S send, R receive, W wait, A wait for any, B barrier, o-> match, == release\n'
+                'at the end: E ended, ! blocked, X trapped, V can go on\n')
+
+
+class Rows(Picture):
+    """A picture as text."""
+
+    def row(self, signs, told):
+        return f'{"".join(signs)} {told}\n'
+
+    def issued_call(self, mark):
+        call_id = mark.call
+        call = find_call(self.world, call_id)
+        signs = (f'{LETTERS[call.kind]} ' if rank == call_id.rank else '| ' for rank in self.ranks)
+        short = plain_text(call).partition(' value')[0]
+        return self.row(signs, f'{self.at.lines[call_id]}: {call_id} {short}{" free" if self.is_free(call_id) else ""}')
+
+    def pair(self, mark):
+        send, receive = mark.call, mark.other
+        signs = (sign_of_pair(send.rank, receive.rank, rank) for rank in self.ranks)
+        return self.row(signs, f'{send} to {receive}: {find_call(self.world, send).value}')
+
+    def mark(self, mark):
+        if mark.kind == WENT_ON:
+            return ''
+        if mark.kind == RELEASED:
+            return self.row(['=='] * len(self.ranks), 'release')
+        return self.issued_call(mark) if mark.kind == ISSUED else self.pair(mark)
+
+    def text(self):
+        """The whole, as text."""
+        ends = (f'{END_LETTERS[end_of(rank)[0]]} ' for rank in self.world.ranks)
+        lines = [self.row((f'{rank % 10} ' for rank in self.ranks), 'line: call'), *map(self.mark, self.marks), self.row(ends, 'at the end')]
+        return ''.join(lines) + LETTERS_TOLD
+
+
+def sign_of_pair(sender, receiver, rank):
+    """What stands in a lane where a message is taken."""
+    if rank == receiver:
+        return '> ' if sender < receiver else '@ ' if sender == receiver else '<-'
+    if rank == sender:
+        return 'o-' if sender < receiver else 'o '
+    return '--' if min(sender, receiver) < rank < max(sender, receiver) else '| '
+
+
+def svg_of(walked):
+    """The drawing of a walk; None where it shows too much."""
+    drawing = Drawing(walked)
+    return None if drawing.is_too_long else drawing.svg()
+
+
+def text_of(walked):
+    """The picture of a walk as text."""
+    rows = Rows(walked)
+    return TOO_LONG if rows.is_too_long else rows.text()
+
+
+# ---- runs
+
+def first_run(script, mode, fuel):
+    """The steps of the run that takes the first candidate of each choice."""
+    run = Run(first_world(script, mode), fuel)
+    while True:
+        run, decided = explorer.followed(run)
+        if explorer.ending(decided, run.fuel) is not None:
+            return explorer.listed(run.steps)
+        run = explorer.taken(run, decided.steps[0], 0)
+
+
+def walk(script, mode, steps):
+    """A debugger that has taken some steps."""
+    walked = Debugger(script, mode)
+    for step in steps:
+        walked.take(step)
+    return walked
+
+
+def steps_of(script, mode, choices, fuel):
+    """The steps of the run with some choices, or with the first candidates."""
+    return first_run(script, mode, fuel) if choices is None else run_by(Run(first_world(script, mode), fuel), choices).steps
+
+
+def main():
+    parser = argparse.ArgumentParser(description=__doc__, formatter_class=argparse.RawDescriptionHelpFormatter)
+    parser.add_argument('file', metavar='FILE')
+    parser.add_argument('--mode', default=RENDEZVOUS)
+    parser.add_argument('--choices')
+    parser.add_argument('--fuel', type=int, default=USUAL.fuel)
+    parser.add_argument('--text', action='store_true')
+    chosen = parser.parse_args()
+    choices = None if chosen.choices is None else tuple(map(int, chosen.choices.split()))
+    script = read_script(file_content(chosen.file))
+    walked = walk(script, chosen.mode, steps_of(script, chosen.mode, choices, chosen.fuel))
+    sys.stdout.write(text_of(walked) if chosen.text else svg_of(walked))
+
+
+if __name__ == '__main__':
+    main()

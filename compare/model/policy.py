@@ -1,0 +1,185 @@
+"""What a debugger does by itself, in the model: the decision of a world, breakpoints, and runs forward and back along decisions.
+
+No trace word tells of it. compare/runs/worked.py has rows of it, compare/runs/follow.py checks on walks what must hold of it.
+"""
+
+from typing import NamedTuple, Optional
+
+from model import debugger
+from model.debugger import Step, enabled_steps, find_call, next_world, outcome
+
+MOST_BREAKS = 64
+LEAF, CHOICE, FULL, MAX, BREAK, START = 'leaf', 'choice', 'full', 'max', 'break', 'start'
+
+
+class Forced(NamedTuple):
+    """The one step that a run takes."""
+    step: Step
+
+
+class Choice(NamedTuple):
+    """The matches, or the wakes of one rank, that somebody has to choose among, in the order of `enabled`; there may be one alone."""
+    steps: tuple
+
+
+class Leaf(NamedTuple):
+    """No step is enabled: how the run ended."""
+    outcome: str
+
+
+def first_of_kind(steps, kind):
+    return next((step for step in steps if step.kind == kind), None)
+
+
+def names_source(world, match):
+    """Whether the receive of a match says which rank it takes messages from."""
+    return find_call(world, match.second).other is not None
+
+
+def decision(world):
+    """What a run does in a world.
+
+    The first of these that is there: the local step of the lowest rank, the release, the wake of the lowest rank, the match of a
+    receive that names its source, first by receiver and number; else a choice among the wakes of the lowest rank that goes on by any of
+    some handles, else one among all matches that are left, else a leaf.
+    """
+    steps = enabled_steps(world)
+    for kind in ('local', 'release', 'wake'):
+        if (step := first_of_kind(steps, kind)) is not None:
+            return Forced(step)
+    matches = [step for step in steps if step.kind == 'match']
+    named = [step for step in matches if names_source(world, step)]
+    if named:
+        return Forced(named[0])
+    if (lowest := first_of_kind(steps, 'wakeany')) is not None:
+        return Choice(tuple(step for step in steps if step.kind == 'wakeany' and step.first == lowest.first))
+    return Choice(tuple(steps)) if steps else Leaf(outcome(world))
+
+
+class LineBreak(NamedTuple):
+    """A rank comes to a statement of a line, or all ranks leave a barrier and one of them does."""
+    line: int
+
+
+class ChangeBreak(NamedTuple):
+    """A cell of a rank gets another value."""
+    rank: int
+    cell: int
+
+
+class MatchBreak(NamedTuple):
+    """A call that a statement of a line made is matched."""
+    line: int
+
+
+def is_at_line(rank, line):
+    """Whether a rank is running, and its next statement begins on a line."""
+    return debugger.can_run(rank) and rank.rest[0].line == line
+
+
+def comes_to_line(after, step, line):
+    """Whether a step leads to a world in which a rank that it moved is at a line; a match moves none."""
+    if step.kind == 'match':
+        return False
+    moved = after.ranks if step.kind == 'release' else [after.ranks[step.first]]
+    return any(is_at_line(rank, line) for rank in moved)
+
+
+def cell_in(world, number, cell):
+    """What a cell holds; None where it isn't there."""
+    if number >= len(world.ranks) or cell >= len(world.ranks[number].cells):
+        return None
+    return world.ranks[number].cells[cell]
+
+
+def matches_line(world, step, line):
+    """Whether a step is a match of a call that a statement of a line made."""
+    return step.kind == 'match' and line in (find_call(world, step.first).line, find_call(world, step.second).line)
+
+
+def marked(stop, world, step):
+    """Whether a breakpoint marks a step that is enabled in a world."""
+    after = next_world(world, step)
+    if isinstance(stop, LineBreak):
+        return comes_to_line(after, step, stop.line)
+    if isinstance(stop, ChangeBreak):
+        return cell_in(world, stop.rank, stop.cell) != cell_in(after, stop.rank, stop.cell)
+    return matches_line(world, step, stop.line)
+
+
+class Breaks:
+    """Breakpoints in numbered places, 64 of them."""
+
+    def __init__(self):
+        self.places = [None] * MOST_BREAKS
+
+    def add(self, stop):
+        """Puts a breakpoint into the lowest free place; gives its number, or None where no place is free."""
+        for number, there in enumerate(self.places):
+            if there is None:
+                self.places[number] = stop
+                return number
+        return None
+
+    def remove(self, number):
+        """Frees a place; whether there was a breakpoint in it."""
+        if self.get(number) is None:
+            return False
+        self.places[number] = None
+        return True
+
+    def get(self, number):
+        """The breakpoint of a place, or None."""
+        return self.places[number] if number < len(self.places) else None
+
+    def marking(self, world, step):
+        """The lowest number of a breakpoint that marks a step, or None."""
+        found = (number for number, stop in enumerate(self.places) if stop is not None and marked(stop, world, step))
+        return next(found, None)
+
+
+class Stop(NamedTuple):
+    """Where a run stopped: how many steps it made or took back, why, and by which breakpoint where it is one."""
+    steps: int
+    cause: str
+    number: Optional[int] = None
+
+
+def standstill(walked, decided, made, most):
+    """Why a run stops before its next step; None where it goes on."""
+    if isinstance(decided, Leaf):
+        return LEAF
+    if isinstance(decided, Choice):
+        return CHOICE
+    if walked.depth == debugger.MOST_STEPS:
+        return FULL
+    return MAX if made == most else None
+
+
+def run(walked, breaks, most):
+    """Follows forced steps up to a breakpoint, a leaf, a choice, the last depth, or so many steps."""
+    made = 0
+    while True:
+        decided = decision(walked.world)
+        cause = standstill(walked, decided, made, most)
+        if cause is not None:
+            return Stop(made, cause)
+        world = walked.world
+        walked.take(decided.step)
+        made += 1
+        number = breaks.marking(world, decided.step)
+        if number is not None:
+            return Stop(made, BREAK, number)
+
+
+def run_back(walked, breaks):
+    """Takes steps back up to the last one that is marked, which it takes back too, or to the start."""
+    made = 0
+    while walked.depth:
+        step = walked.steps[walked.depth - 1]
+        walked.back()
+        made += 1
+        number = breaks.marking(walked.world, step)
+        if number is not None:
+            return Stop(made, BREAK, number)
+    return Stop(made, START)

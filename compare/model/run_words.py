@@ -1,0 +1,100 @@
+"""The run with some choices, in the model: its steps as trace words, as `words` writes them.
+
+    python3 compare/model/run_words.py FILE --choices "0 1 0" [--mode M] [--fuel N]    answers as `words` of the program does
+
+compare/rows/worked_ends.py has rows of it, and compare/runs/reread.py compares a program with it.
+"""
+
+import argparse
+import re
+import sys
+from typing import NamedTuple, Optional
+
+from model.debugger import BAD_FILE, BAD_MODE, RENDEZVOUS, Result, file_content, first_world, refusal, step_text
+from model.explorer import MOST_FUEL, USUAL, Leaf, Run, ending, followed, listed, number_between, refused, taken
+from model.language import Fault, read_script
+from model.modes import is_mode
+from started.programs import held
+
+# Numbers of one to nine digits, with one space or more between two, and any in front and behind; or nothing.
+CHOICES = re.compile(' *(?:[0-9]{1,9}(?: +[0-9]{1,9})* *)?')
+# What stands for the text in which a program's command line refuses wrong words.
+WRONG_WORDS = Result(b'', b'wrong words\n', 2)
+
+
+class BadChoices(Exception):
+    """No run has exactly these choices: the place of the first that is none, or how many there are, where the run wants more."""
+
+    def __init__(self, place):
+        super().__init__(place)
+        self.place = place
+
+
+def run_by(begun, choices):
+    """The leaf that a run comes to by some choices; raises the place where there is no such run."""
+    run = begun
+    while True:
+        run, decided = followed(run)
+        place, ended = len(run.choices), ending(decided, run.fuel)
+        if ended is not None and place == len(choices):
+            return Leaf(run.choices, listed(run.steps), ended)
+        if ended is not None or place == len(choices) or choices[place] >= len(decided.steps):
+            raise BadChoices(place)
+        run = taken(run, decided.steps[choices[place]], choices[place])
+
+
+class Words(NamedTuple):
+    """What `words` is asked: a script (None: there is no such file), the text of the choices, and options, which may be left out."""
+    script: Optional[bytes]
+    choices: str
+    mode: Optional[str] = None
+    fuel: Optional[int] = None
+    name: str = ''
+
+    def words(self, folder):
+        """The words that ask a program, with the file in a folder."""
+        options = [(f'--{name}', str(value)) for name, value in (('mode', self.mode), ('fuel', self.fuel)) if value is not None]
+        return ('words', held(folder, 'script.mpd', self.script), '--choices', self.choices, *(word for option in options for word in option))
+
+    def wanted(self):
+        """What must be answered."""
+        if CHOICES.fullmatch(self.choices) is None:
+            return WRONG_WORDS
+        return answer(self.script, tuple(map(int, re.findall('[0-9]+', self.choices))), self.mode or RENDEZVOUS, self.fuel or USUAL.fuel)
+
+
+def answer(text, choices, mode, fuel):
+    """The result for the text of a file, which is None where that can't be read: the mode is tested first."""
+    if not is_mode(mode):
+        return BAD_MODE
+    if text is None:
+        return BAD_FILE
+    try:
+        script = read_script(text)
+    except Fault as fault:
+        return refusal(text, fault)
+    try:
+        leaf = run_by(Run(first_world(script, mode), fuel), choices)
+    except BadChoices as bad:
+        return refused(f'bad choices at {bad.place}')
+    return Result(''.join(f'{step_text(step)}\n' for step in leaf.steps).encode(), b'', 0)
+
+
+def main():
+    parser = argparse.ArgumentParser(description=__doc__, formatter_class=argparse.RawDescriptionHelpFormatter)
+    parser.add_argument('file', metavar='FILE')
+    parser.add_argument('--choices', required=True)
+    parser.add_argument('--mode', metavar='M')
+    parser.add_argument('--fuel', type=number_between(1, MOST_FUEL), metavar='N')
+    chosen = parser.parse_args()
+    result = Words(file_content(chosen.file), chosen.choices, chosen.mode, chosen.fuel).wanted()
+    if result == WRONG_WORDS:
+        parser.error(f'{chosen.choices!r} are no choices')
+    sys.stdout.buffer.write(result.output)
+    sys.stdout.buffer.flush()
+    sys.stderr.buffer.write(result.errors)
+    sys.exit(result.status)
+
+
+if __name__ == '__main__':
+    main()

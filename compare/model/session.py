@@ -1,0 +1,377 @@
+"""A session, in the model: requests read from lines of JSON, what each is answered, and the bytes of the answers.
+
+    python3 compare/model/session.py FILE --mode M < REQUESTS    answers as `run` of the program does
+
+It was written from the description of requests and replies (docs/SESSIONS.md, "Requests", "Replies", "Refusals" and "The engine"), over
+the debugger, the runs and the explorer of the model. compare/rows/worked_sessions.py has rows of it, and compare/runs/sessions.py compares a program with it.
+"""
+
+import argparse
+import json
+import sys
+from typing import NamedTuple, Optional
+
+from model import debugger, explorer, policy
+from model.debugger import (BAD_FILE, BAD_MODE, MOST_READS, RENDEZVOUS, CallId, Debugger, Result, call_line, enabled_steps, file_content, find_call, lines_of,
+                            next_world, outcome, rank_state, record_line, refusal, step_of, step_text)
+from model.json_text import LARGEST_UNSIGNED, NoJson, read_json
+from model.language import Fault, read_script
+from model.modes import is_mode
+from model.policy import BREAK, Breaks, ChangeBreak, Choice, Forced, LineBreak, MatchBreak
+from runs import order
+
+LONGEST_LINE = 4096
+HIGHEST_LINE = 65537
+MOST_COUNT = 1000000
+LAST_VERSION = LARGEST_UNSIGNED
+
+NOT_ENABLED, FULL, AT_START, NO_REDO, NOT_BEFORE = 21, 22, 24, 25, 26
+LINE_TOO_LONG, NOT_JSON, BAD_FIELD, UNKNOWN_COMMAND = 41, 42, 43, 44
+STALE, NEEDS_CHOICE, NO_SUCH_BREAK, BREAKS_FULL, BAD_NUMBER = 51, 52, 53, 54, 55
+NAMES = {
+    NOT_ENABLED: 'not-enabled', FULL: 'full', AT_START: 'at-start', NO_REDO: 'no-redo', NOT_BEFORE: 'not-before',
+    LINE_TOO_LONG: 'line-too-long', NOT_JSON: 'not-json', BAD_FIELD: 'bad-field', UNKNOWN_COMMAND: 'unknown-command', STALE: 'stale',
+    NEEDS_CHOICE: 'needs-choice', NO_SUCH_BREAK: 'no-such-break', BREAKS_FULL: 'breaks-full', BAD_NUMBER: 'bad-number'}
+
+
+class Refused(Exception):
+    """A request is refused, by a number; `told` is what its reply has beside the name."""
+
+    def __init__(self, number, **told):
+        super().__init__(number)
+        self.number, self.told = number, told
+
+    def reply(self):
+        return {'error': NAMES[self.number], 'ok': False, **self.told}
+
+
+# ---- requests (docs/SESSIONS.md, "Requests")
+
+class Request(NamedTuple):
+    """A command, the version that it was meant for (None where it isn't said), and its fields by their names."""
+    command: str
+    at: Optional[int]
+    fields: dict
+
+
+def number_in(value):
+    """A whole number from 0 that fits 64 bits."""
+    if type(value) is not int or value < 0:
+        raise Refused(BAD_FIELD)
+    return value
+
+
+def step_in(value):
+    """The step that a text names, as a line of a trace does."""
+    words = [word for word in text_in(value).encode().replace(b'\t', b' ').split(b' ') if word]
+    step = step_of(words) if words else None
+    if step is None:
+        raise Refused(BAD_FIELD)
+    return step
+
+
+def text_in(value):
+    if type(value) is not str:
+        raise Refused(BAD_FIELD)
+    return value
+
+
+NUMBER, STEP, TEXT = number_in, step_in, text_in
+# The fields that each command has, but for those of a breakpoint.
+FIELDS = {
+    'step': {'step': STEP}, 'next': {}, 'run': {'max': NUMBER}, 'back': {'count': NUMBER}, 'redo': {'count': NUMBER},
+    'goto': {'depth': NUMBER}, 'run-back': {}, 'enabled': {}, 'state': {}, 'vars': {'rank': NUMBER}, 'calls': {'rank': NUMBER},
+    'why': {'rank': NUMBER, 'call': NUMBER}, 'break': {'kind': TEXT}, 'unbreak': {'break': NUMBER}, 'breaks': {},
+    'explore': {'runs': NUMBER, 'fuel': NUMBER}}
+MAY_HAVE = {'next': {'choice': NUMBER}}
+FIELDS_OF_KINDS = {'line': {'line': NUMBER}, 'match': {'line': NUMBER}, 'change': {'rank': NUMBER, 'cell': NUMBER}}
+
+
+def fields_of(command, entries):
+    """The fields that a command must have, each with what reads it."""
+    fields = FIELDS[command]
+    if command != 'break':
+        return fields
+    kind = entries.get('kind')
+    if type(kind) is not str or kind not in FIELDS_OF_KINDS:
+        raise Refused(BAD_FIELD)
+    return fields | FIELDS_OF_KINDS[kind]
+
+
+def read_fields(command, entries):
+    """The request of a command that is known, by what its object has beside it."""
+    needed = fields_of(command, entries)
+    readers = {**needed, **MAY_HAVE.get(command, {}), 'at': NUMBER}
+    if not set(needed) <= set(entries) <= set(readers):
+        raise Refused(BAD_FIELD)
+    fields = {name: readers[name](value) for name, value in entries.items()}
+    return Request(command, fields.pop('at', None), fields)
+
+
+def parse(line):
+    """The request of a line without its end; the first test that fails refuses it."""
+    if len(line) > LONGEST_LINE:
+        raise Refused(LINE_TOO_LONG)
+    try:
+        value = read_json(line)
+    except NoJson:
+        raise Refused(NOT_JSON) from None
+    if type(value) is not dict or type(value.get('cmd')) is not str:
+        raise Refused(BAD_FIELD)
+    entries = dict(value)
+    command = entries.pop('cmd')
+    if command not in FIELDS:
+        raise Refused(UNKNOWN_COMMAND)
+    return read_fields(command, entries)
+
+
+# ---- answers (docs/SESSIONS.md, "Replies" and "Refusals")
+
+def must_be(is_good, number):
+    """Refuses a request by a number where something isn't so."""
+    if not is_good:
+        raise Refused(number)
+
+
+def break_text(number, stop):
+    if isinstance(stop, ChangeBreak):
+        return f'{number} change {stop.rank} {stop.cell}'
+    return f'{number} {"line" if isinstance(stop, LineBreak) else "match"} {stop.line}'
+
+
+def partner_text(partner):
+    other, held = partner
+    return f'{other} eligible' if held is None else f'{other} held by {held}'
+
+
+def leaf_text(leaf):
+    return f'[{" ".join(map(str, leaf.choices))}] {leaf.outcome}'
+
+
+def text_of_call(world, call_id):
+    """What is shown of a call behind the word `call` and its name."""
+    return call_line(world, call_id).removeprefix(f'call {call_id} ')
+
+
+class Session:
+    """A debugger, its breakpoints, and the version, which each change that is answered ok raises."""
+
+    def __init__(self, script, mode=RENDEZVOUS):
+        self.debugger = Debugger(script, mode)
+        self.breaks = Breaks()
+        self.version = 0
+
+    @property
+    def world(self):
+        return self.debugger.world
+
+    def answer(self, request):
+        """The reply to a request."""
+        try:
+            self.test_version(request)
+            told = self.told(request)
+        except Refused as refused:
+            return refused.reply()
+        if request.command in CHANGING:
+            self.raise_version()
+        return {**told, 'ok': True, 'version': self.version}
+
+    def test_version(self, request):
+        if request.at is not None and request.at != self.version:
+            raise Refused(STALE, now=self.version)
+
+    def raise_version(self):
+        self.version = min(self.version + 1, LAST_VERSION)
+
+    def told(self, request):
+        """What a request is answered where it is answered ok, beside `ok` and the version; it is done then."""
+        return ANSWERS[request.command](self, **{KEYWORDS.get(name, name): value for name, value in request.fields.items()})
+
+    def take(self, step):
+        """Takes a step that somebody asks for."""
+        must_be(next_world(self.world, step) is not None, NOT_ENABLED)
+        must_be(self.debugger.depth < debugger.MOST_STEPS, FULL)
+        self.debugger.take(step)
+
+    def step(self, step):
+        self.take(step)
+        return self.where()
+
+    def where(self):
+        return {'depth': self.debugger.depth}
+
+    def next(self, choice=None):
+        """The step that is decided, or the candidate of that number."""
+        decided = policy.decision(self.world)
+        step = decided.step if isinstance(decided, Forced) else self.chosen(decided, choice)
+        self.take(step)
+        return {**self.where(), 'step': step_text(step)}
+
+    def chosen(self, decided, choice):
+        must_be(isinstance(decided, Choice), NOT_ENABLED)
+        if choice is None:
+            raise Refused(NEEDS_CHOICE, count=len(decided.steps))
+        must_be(choice < len(decided.steps), BAD_NUMBER)
+        return decided.steps[choice]
+
+    def stopped(self, stop):
+        """What is told behind a run."""
+        number = {'break': stop.number} if stop.cause == BREAK else {}
+        return {**self.where(), 'steps': stop.steps, 'stop': stop.cause, **number}
+
+    def run(self, most):
+        must_be(1 <= most <= MOST_COUNT, BAD_NUMBER)
+        return self.stopped(policy.run(self.debugger, self.breaks, most))
+
+    def run_back(self):
+        return self.stopped(policy.run_back(self.debugger, self.breaks))
+
+    def back(self, count):
+        must_be(1 <= count <= MOST_COUNT, BAD_NUMBER)
+        must_be(count <= self.debugger.depth, AT_START)
+        self.debugger.goto(self.debugger.depth - count)
+        return self.where()
+
+    def redo(self, count):
+        must_be(1 <= count <= MOST_COUNT, BAD_NUMBER)
+        must_be(count <= self.undone(), NO_REDO)
+        for _ in range(count):
+            self.debugger.redo()
+        return self.where()
+
+    def undone(self):
+        return len(self.debugger.steps) - self.debugger.depth
+
+    def goto(self, depth):
+        must_be(depth <= self.debugger.depth, NOT_BEFORE)
+        self.debugger.goto(depth)
+        return self.where()
+
+    def enabled(self):
+        return {'steps': [step_text(step) for step in enabled_steps(self.world)]}
+
+    def state(self):
+        sets = [record_line(record).removeprefix('set ') for record in self.world.records]
+        ended = {} if enabled_steps(self.world) else {'outcome': outcome(self.world)}
+        return {**self.where(), 'ranks': [rank_state(rank) for rank in self.world.ranks], 'sets': sets, 'undone': self.undone(), **ended}
+
+    def rank(self, number):
+        """The rank of a number."""
+        must_be(number < len(self.world.ranks), BAD_NUMBER)
+        return self.world.ranks[number]
+
+    def variables(self, rank):
+        there = self.rank(rank)
+        return {'vars': list(there.cells), 'handles': list(there.handles), 'out': list(there.printed)}
+
+    def calls(self, rank):
+        count = len(self.rank(rank).calls)
+        return {'calls': [text_of_call(self.world, CallId(rank, number)) for number in range(count)]}
+
+    def why(self, rank, call):
+        call_id = CallId(rank, call)
+        must_be(find_call(self.world, call_id) is not None, BAD_NUMBER)
+        return {'partners': list(map(partner_text, order.why(self.world, call_id)))}
+
+    def set_break(self, kind, line=None, rank=None, cell=None):
+        if kind == 'change':
+            must_be(cell < len(self.rank(rank).cells), BAD_NUMBER)
+            stop = ChangeBreak(rank, cell)
+        else:
+            must_be(1 <= line <= HIGHEST_LINE, BAD_NUMBER)
+            stop = LineBreak(line) if kind == 'line' else MatchBreak(line)
+        number = self.breaks.add(stop)
+        must_be(number is not None, BREAKS_FULL)
+        return {'break': number}
+
+    def unset_break(self, number):
+        must_be(self.breaks.remove(number), NO_SUCH_BREAK)
+        return {}
+
+    def list_breaks(self):
+        return {'breaks': [break_text(number, stop) for number, stop in enumerate(self.breaks.places) if stop is not None]}
+
+    def explore(self, runs, fuel):
+        must_be(1 <= runs <= explorer.MOST_RUNS and 1 <= fuel <= debugger.MOST_STEPS - self.debugger.depth, BAD_NUMBER)
+        found = explorer.explored(self.debugger, runs, fuel)
+        return {'leaves': list(map(leaf_text, found.leaves)), 'more': found.more}
+
+
+# A field whose name is no name of Python's.
+KEYWORDS = {'break': 'number', 'max': 'most'}
+ANSWERS = {
+    'step': Session.step, 'next': Session.next, 'run': Session.run, 'back': Session.back, 'redo': Session.redo, 'goto': Session.goto,
+    'run-back': Session.run_back, 'enabled': Session.enabled, 'state': Session.state, 'vars': Session.variables,
+    'calls': Session.calls, 'why': Session.why, 'break': Session.set_break, 'unbreak': Session.unset_break,
+    'breaks': Session.list_breaks, 'explore': Session.explore}
+CHANGING = frozenset(['step', 'next', 'run', 'back', 'redo', 'goto', 'run-back', 'break', 'unbreak'])
+
+
+def copied(session):
+    """A session like this one, which goes on by itself."""
+    copy = Session.__new__(Session)
+    copy.debugger, copy.breaks, copy.version = Debugger.__new__(Debugger), Breaks(), session.version
+    copy.debugger.worlds, copy.debugger.steps = list(session.debugger.worlds), list(session.debugger.steps)
+    copy.breaks.places = list(session.breaks.places)
+    return copy
+
+
+# ---- bytes (docs/SESSIONS.md, "Replies" and "The engine")
+
+def reply_bytes(reply):
+    """A reply as it is written: a compact object, its keys in ascending order, and a line feed."""
+    return json.dumps(reply, sort_keys=True, separators=(',', ':')).encode('ascii') + b'\n'
+
+
+def answer_line(session, line):
+    """The reply to a line without its end; None where it is empty."""
+    if not line:
+        return None
+    try:
+        request = parse(line)
+    except Refused as refused:
+        return refused.reply()
+    return session.answer(request)
+
+
+def replies(session, data):
+    """The replies to an input, one for each line that isn't empty."""
+    answers = (answer_line(session, line) for line in lines_of(data))
+    return b''.join(reply_bytes(reply) for reply in answers if reply is not None)
+
+
+def serve(text, data, mode=RENDEZVOUS):
+    """The result for the text of a script, which is None where its file can't be read, and an input of requests."""
+    if not is_mode(mode):
+        return BAD_MODE
+    if text is None:
+        return BAD_FILE
+    try:
+        session = Session(read_script(text), mode)
+    except Fault as fault:
+        return refusal(text, fault)
+    return Result(replies(session, data), b'', 0)
+
+
+def serve_packets(text, packets, mode=RENDEZVOUS):
+    """The result where each read of the input gives one packet; the read of its end counts too."""
+    if len(packets) < MOST_READS:
+        return serve(text, b''.join(packets), mode)
+    read = b''.join(packets[:MOST_READS])
+    return Result(serve(text, read[:read.rfind(b'\n') + 1], mode).output, b'mpdbg: turns\n', 3)
+
+
+def main():
+    parser = argparse.ArgumentParser(description=__doc__, formatter_class=argparse.RawDescriptionHelpFormatter)
+    parser.add_argument('file', metavar='FILE')
+    parser.add_argument('--mode', default=RENDEZVOUS, metavar='M')
+    chosen = parser.parse_args()
+    result = serve(file_content(chosen.file), sys.stdin.buffer.read(), chosen.mode)
+    sys.stdout.buffer.write(result.output)
+    sys.stdout.buffer.flush()
+    sys.stderr.buffer.write(result.errors)
+    sys.exit(result.status)
+
+
+if __name__ == '__main__':
+    main()

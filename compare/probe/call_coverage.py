@@ -1,0 +1,57 @@
+"""Which public functions of the crates the program of calls (compare/probe/memory/) names, by their names, and which are left out and why."""
+
+import glob
+import os
+import re
+
+from probe.calls_program import SOURCES, TOP
+
+# Crates without code of their own, and programs and tests.
+NO_CALLS = ('mpd_laws', 'mpd_meaning', 'mpd_complete', 'mpd_rows', 'mpd_tests', 'mpdbg')
+BY_WORDS = 'called by the words of the console'
+LEFT_OUT = {
+    'mpd_lines': {'run_behind': 'called by trace, plain and serve', 'push_all': 'of room that is kept, called by them'},
+    'mpd_trace': {'finish': 'called by plain'},
+    'mpd_rank': {'anew': 'of a record, called by a step that is taken again'},
+    'mpd_device': {'into_inner': 'of a device that fails', 'tick': 'a counter without bytes'},
+    'mpd_queue': {'disjoint': 'a law'},
+    'mpd_policy': {'decisions_can_be_followed': 'a law'}, 'mpd_model': {'lines_lose_nothing': 'a law'},
+    'mpd_witness': dict.fromkeys(('written_witness_is_read', 'written_witness_of_a_leaf_is_read'), 'a law'),
+    'mpd_c': {'text_ends_its_last_line': 'a law'},
+    'mpd_words': {'a_run_or_a_bad_choice': 'a law'}, 'mpd_explain': {
+        'calls_name_their_statements': 'a law',
+        **dict.fromkeys(('issue_line', 'rank_line', 'push_placed', 'push_wish', 'push_helps', 'push_all_absent', 'push_told', 'requests'), BY_WORDS)},
+    'mpd_session': dict.fromkeys(('debugger', 'breaks', 'lay'), BY_WORDS),
+    'mpd_view': dict.fromkeys(('push_calls', 'push_enabled', 'push_history', 'push_queues', 'push_ranks', 'push_standing', 'push_step', 'push_step_line',
+                               'push_why', 'push_why_rank', 'push_why_ranks', 'push_words'), BY_WORDS),
+    'mpd_search': dict.fromkeys(('seek', 'numbered_run', 'last_choice', 'name', 'push_runs', 'push_none', 'push_ahead', 'push_count', 'push_not_followed',
+                                 'push_no_choice'), BY_WORDS),
+    'mpd_picture': {'arrows_are_pairs': 'a law'}, 'mpd_console': {'has_quit': 'called by the program behind a console'},
+    'mpd_vocabulary': dict.fromkeys(('line_of', 'push_fault', 'push_help'), BY_WORDS),
+    'mpd_names': {
+        'bare': 'called by steps_of', 'cut': 'called by steps_of',
+        **dict.fromkeys(('named', 'push_break', 'push_cell_name', 'push_list', 'push_list_about', 'push_named', 'push_variables'), BY_WORDS)},
+    'mpd_pieces': dict.fromkeys(('pieces_join_to_the_walk', 'each_piece_is_reached', 'no_choice_is_the_whole', 'no_more_is_the_whole'), 'a law')}
+
+
+def text_of(path):
+    with open(path, encoding='utf-8') as file:
+        return file.read()
+
+
+def public_names():
+    """The crate and the name of each public function: those of types, and those of modules that others see."""
+    for lib in sorted(glob.glob(f'{TOP}/crates/*/src/lib.rt')):
+        crate, modules = lib.split('/')[-3], {'lib', *re.findall(r'^pub mod (\w+);', text_of(lib), re.M)}
+        for path in glob.glob(f'{os.path.dirname(lib)}/*.rt') if crate not in NO_CALLS else ():
+            is_seen = os.path.basename(path).removesuffix('.rt') in modules
+            yield from ((crate, name) for indent, name in re.findall(r'^( *)pub fn (\w+)', text_of(path), re.M) if is_seen or indent)
+
+
+def not_called():
+    """The public functions that no row can call, and that aren't left out for a reason; and those left out that aren't there."""
+    words = {word for path in glob.glob(f'{SOURCES}/*.rattle') for word in re.findall(r'\w+', text_of(path))}
+    names = set(public_names())
+    yield from (f'{crate}: {name}: no row calls it' for crate, name in sorted(names) if name not in words and name not in LEFT_OUT.get(crate, {}))
+    left_out = {(crate, name) for crate, of_crate in LEFT_OUT.items() for name in of_crate}
+    yield from (f'{crate}: {name}: left out, and not there' for crate, name in sorted(left_out - names))

@@ -1,0 +1,1 @@
+"""What was worked out by hand: inputs, and what each is answered."""

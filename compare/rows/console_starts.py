@@ -1,0 +1,69 @@
+"""Worked rows of how a console starts with a witness: what is told first, or why there is no console (console_worked.py).
+
+Each was worked out by hand from docs/CONSOLE.md and docs/FORMATS.md ("Faults and statuses"). The words `history` and `redo` stand behind each.
+"""
+
+from typing import NamedTuple, Optional, Union
+
+from model.console import NO_FILE, debug
+from model.debugger import BAD_FILE, BAD_MODE, BUFFERED, RENDEZVOUS, Result
+from rows.worked_console_scripts import LOOP
+
+
+class Start(NamedTuple):
+    """What it is of, a script (None: there is no such file), the text of a witness, and what must be answered; the mode."""
+    what: str
+    script: Optional[str]
+    witness: Union[bytes, str]
+    wanted: Result
+    mode: str = RENDEZVOUS
+
+    @property
+    def text(self):
+        return None if self.script is None else self.script.encode()
+
+
+TYPED = b'history\nredo\n'
+# Each rank waits for the other one, at once, or behind a send that none needs to wait for.
+BOTH_RECEIVE = 'mpd 1; ranks 2; var x;\nrecv x from 1 - rank tag 0;\n'
+BOTH_SEND = 'mpd 1; ranks 2; var x;\nsend 1 to 1 - rank tag 0;\nrecv x from 1 - rank tag 1;\n'
+AHEAD = Result(b'''deadlock 0.0 1.0 is 2 steps ahead
+2 ahead: local 0: line 2
+no step is taken
+1 local 0: line 2
+1 ahead: local 1: line 2
+''', b'', 0)
+
+
+def refused(text):
+    """What is answered where there is no console for the words of the command line."""
+    return Result(b'', f'mpdbg: {text}\n'.encode(), 2)
+
+
+STARTS = (
+    Start('a witness', BOTH_RECEIVE, b'deadlock 0.0 1.0\nlocal 0, local 1\n', AHEAD),
+    Start('a witness in a report', BOTH_RECEIVE, b'leaf 0 [] deadlock 0.0 1.0\nwitness 0: local 0, local 1\nleaves 1 more no\n', AHEAD),
+    Start('a step that is not enabled', BOTH_RECEIVE, b'deadlock 0.0 1.0\nlocal 0, local 0\n', refused('witness refused 32 no-such-step at 1')),
+    Start('a step of a rank that is not there', BOTH_RECEIVE, b'deadlock 0.0 1.0\nlocal 2\n', refused('witness refused 32 no-such-step at 0')),
+    Start('steps that lead to no end', BOTH_RECEIVE, b'deadlock 0.0 1.0\nlocal 0\n', refused('witness refused 33 not-stuck')),
+    Start('another call than those that are blocked', BOTH_RECEIVE, b'deadlock 0.0\nlocal 0, local 1\n', refused('witness refused 34 wrong-blocked')),
+    Start('calls in another order', BOTH_RECEIVE, b'deadlock 1.0 0.0\nlocal 0, local 1\n', refused('witness refused 34 wrong-blocked')),
+    Start('a deadlock of this mode alone', BOTH_SEND, b'deadlock 0.0 1.0\nlocal 0, local 1\n', AHEAD),
+    Start('the same where sends are buffered', BOTH_SEND, b'deadlock 0.0 1.0\nlocal 0, local 1\n', refused('witness refused 33 not-stuck'), BUFFERED),
+    Start('no word deadlock', BOTH_RECEIVE, b'deadlok 0.0\nlocal 0\n', refused('bad witness line 1')),
+    Start('no second line', BOTH_RECEIVE, b'deadlock 0.0\n', refused('bad witness line 2')),
+    Start('no file of a witness', BOTH_RECEIVE, NO_FILE, BAD_FILE),
+    Start('the mode before the files', None, NO_FILE, BAD_MODE, 'eager'),
+    Start('the script before the witness', None, b'deadlok', BAD_FILE),
+    Start('a fault of the script before the witness', 'mpd 1; ranks 2; 5', NO_FILE, refused('script refused 4 expected at 16 line 1')))
+STUCK_NOWHERE = b'deadlock 0.0\n' + b', '.join([b'local 0'] * 1_000_000)
+# What the model isn't asked.
+LONG_STARTS = (
+    Start('a million steps', LOOP, STUCK_NOWHERE + b'\n', refused('witness refused 33 not-stuck')),
+    Start('one step more', LOOP, STUCK_NOWHERE + b', local 0\n', refused('witness of more than 1000000 steps')))
+
+
+def start_problem(row):
+    """What the model answers otherwise than a row wants; None where nothing is."""
+    result = debug(row.text, TYPED, row.mode, row.witness)
+    return None if result == row.wanted else f'{result}'

@@ -1,0 +1,186 @@
+"""Worked dialogues of the console: words, a line each, and what each is answered; compare/runs/worked.py compares the model's.
+
+Each was worked out by hand from docs/CONSOLE.md, docs/FORMATS.md ("Explanations") and the rules of the language. A line that begins with `> `
+is typed, the lines behind it are its answer. A script is one of examples/, or stands here; its first line is line 1. compare/runs/consoles.py asks
+a program the same, and what takes a million steps too, which the model isn't asked.
+"""
+
+import os
+import re
+from typing import NamedTuple
+from unittest import mock
+
+from model import console, debugger, explorer
+from model.console_words import TABLE, full_name
+from rows.console_starts import STARTS, start_problem
+from rows.examples import EXAMPLES
+from rows.worked_console_choices import ALL_RUNS, CHOICES, MANY_RUNS
+from rows.worked_console_looks import LOOKS
+from rows.worked_console_moves import FIRST_RUNS, MOVES
+from rows.worked_console_scripts import LOOP, Dialogue
+from rows.worked_console_texts import TEXTS
+
+PAGE = os.path.join(os.path.dirname(EXAMPLES), 'docs', 'CONSOLE.md')
+DIALOGUES = MOVES + LOOKS + TEXTS + CHOICES
+SLOW = ALL_RUNS + FIRST_RUNS
+# What takes the model long: runs of 100,000 steps, and of one more.
+CUT = (
+    Dialogue('a run of one step too many, and the same from its second step on',
+             'mpd 1; ranks 1; var x;\nwhile x < 49999 { x = x + 1; }\nprint 1;\nprint 2;', '''
+> check
+1 no choice: cut
+1 run, and no more (1 cut)
+> next
+1 local 0: line 2
+next: local 0: line 2
+> deadlock
+no deadlock: 1 run, and no more (1 done)
+> follow 1
+run 1, done, is 100000 steps ahead
+100000 ahead: local 0: line 2
+> back
+depth 0
+100001 ahead: local 0: line 2
+> trap
+no trap: 1 run, and no more (1 cut)
+> follow 1
+run 1, cut, is 100000 steps ahead
+100000 ahead: local 0: line 2
+> goto 100000
+depth 100000
+next: local 0: line 4
+> undo-choice
+refused: no choice was made
+'''),)
+# What the model isn't asked: more than 65,536 runs, and a million steps.
+LONG = MANY_RUNS + (
+    Dialogue('a million steps', LOOP, '''
+> run
+1000000 steps, depth 1000000
+stopped: no more than 1000000 steps are kept
+next: local 0: line 2
+> next
+refused: no more than 1000000 steps are kept
+> local 0
+refused: no more than 1000000 steps are kept
+> check
+1 no choice: cut
+1 run, and no more (1 cut)
+> follow 1
+run 1, cut, is 0 steps ahead
+next: local 0: line 2
+> undo-choice
+refused: no choice was made
+> back 1000000
+depth 0
+1000000 ahead: local 0: line 2
+> redo 1000000
+depth 1000000
+next: local 0: line 2
+> run-back
+1000000 steps back, depth 0
+at the start
+1000000 ahead: local 0: line 2
+> goto 1000001
+refused: fewer steps are taken
+> goto 1000000
+depth 1000000
+next: local 0: line 2
+> back 999999
+depth 1
+999999 ahead: local 0: line 2
+> redo 1000001
+depth 1000000
+next: local 0: line 2
+'''),)
+
+
+class Ending(NamedTuple):
+    """Bytes that are read in one, and what they are answered, by a rank that loops."""
+    what: str
+    data: bytes
+    wanted: str
+
+
+FIRST_STEP = '1 local 0: line 2\nnext: local 0: line 2\n'
+TOO_LONG = 'refused: this line is too long\n'
+ENDINGS = (
+    Ending('nothing', b'', ''),
+    Ending('a last line without a line feed', b'next', FIRST_STEP),
+    Ending('carriage returns before line feeds', b'next\r\n\r\n', FIRST_STEP + '2 local 0: line 2\nnext: local 0: line 2\n'),
+    Ending('a carriage return at the end of the input', b'next\r', "unknown word 'next?': perhaps next\n"),
+    Ending('two carriage returns', b'next\r\r\n', "unknown word 'next?': perhaps next\n"),
+    Ending('a carriage return alone', b'next\n\r\r\n', FIRST_STEP + "unknown word '?': help lists all\n"),
+    Ending('as long as a line may be', b'next' + b' ' * 4092 + b'\r\n', FIRST_STEP),
+    Ending('one byte more', b'next' + b' ' * 4093 + b'\n', TOO_LONG),
+    Ending('one byte more, at the end', b'next' + b' ' * 4092 + b'\r', TOO_LONG),
+    Ending('a comment that is too long', b'#' * 4097 + b'\n#' + b'#' * 4095, TOO_LONG),
+    Ending('blanks that are too long, and what was last', b'next\n' + b' ' * 4097 + b'\n\n',
+           f'{FIRST_STEP}{TOO_LONG}2 local 0: line 2\nnext: local 0: line 2\n'),
+    Ending('a long word', b'n' * 4096, f"unknown word '{'n' * 4096}': perhaps next\n"),
+    Ending('bytes that are no UTF-8', b'\xff\xfe next\nn\xc3\nn\xc3\xa9\n', "unknown word '??': help lists all\nunknown word 'n?': perhaps next\n"
+           "unknown word 'n??': perhaps next\n"),
+    Ending('bytes that are no text behind a word', b'next \xff\nprint \x00\nbreak change 0 \xc3\n',
+           "usage: next [N]\nno variable or request is called '?'\nno variable is called '?'\n"),
+    Ending('an empty line first', b'\n\n', ''),
+    Ending('what stands behind the end', b'quit\nnext\n', ''),
+    Ending('the end with blanks', b' \t q\t \r\nnext\n', ''),
+    Ending('the end with a carriage return in it', b'quit\r\r\nnext\n', f"unknown word 'quit?': perhaps quit\n{FIRST_STEP}"),
+    Ending('the end with one before it', b'\rq\n\r\r\nnext\n', f"unknown word '?q': help lists all\nunknown word '?': help lists all\n{FIRST_STEP}"),
+    Ending('an end that is too long', b'quit' + b' ' * 4093 + b'\nnext\n', TOO_LONG + FIRST_STEP),
+    Ending('an end that is a comment, and one with more words', b'#quit\nquit #\nqui\nquitt\nnext\n', "usage: quit\nunknown word 'qui': perhaps quit\n"
+           f"unknown word 'quitt': perhaps quit\n{FIRST_STEP}"),
+    Ending('a form feed is no blank', b'next\x0c\n', "unknown word 'next?': perhaps next\n"))
+
+
+# ---- the model beside the rows
+
+def dialogue_problem(row):
+    """What the model answers otherwise than a dialogue wants; None where nothing is."""
+    limit = debugger.MOST_STEPS if row.limit is None else row.limit
+    fuel = console.MOST_FUEL if row.fuel is None else row.fuel
+    runs = explorer.MOST_RUNS if row.runs is None else row.runs
+    with (mock.patch.object(debugger, 'MOST_STEPS', limit), mock.patch.object(console, 'MOST_FUEL', fuel),
+          mock.patch.object(explorer, 'MOST_RUNS', runs)):
+        talked = console.begun(row.text, row.mode, row.witness_text)
+        if talked.first != row.first:
+            return f'{talked.first} was told first, and not {row.first}'
+        for typed, wanted in row.turns:
+            said = '' if talked.is_over else talked.answer(typed)
+            if said != wanted:
+                return f'{typed} was answered\n{said}and not\n{wanted}'
+    return None
+
+
+def ending_problem(row):
+    """The same of bytes that are read in one."""
+    result = console.debug(LOOP.encode(), row.data)
+    return None if result == debugger.Result(row.wanted.encode(), b'', 0) else f'{result}'
+
+
+def page_rows():
+    """The rows of the table of words in docs/CONSOLE.md: first column, second and third, without marks of code."""
+    with open(PAGE, encoding='ascii') as file:
+        lines = file.read().partition('\n## Words\n')[2].partition('\n## ')[0].splitlines()
+    rows = [[part.strip().replace('`', '') for part in line.strip('|').split('|')] for line in lines if re.match(r'\| `', line)]
+    return [tuple(row) for row in rows]
+
+
+def table_problem():
+    """What the table of the model has otherwise than the page; None where nothing is."""
+    here = [(', '.join(row.forms), ', '.join(row.short), row.what) for row in TABLE]
+    return None if page_rows() == here else f'the page has {set(page_rows()) ^ set(here)}'
+
+
+def words_without_dialogue():
+    """The words that no dialogue types: each must be typed where it fits its forms."""
+    answered = [typed.decode('latin-1').split()[0] for row in DIALOGUES for typed, answer in row.turns
+                if typed.split() and not answer.startswith(('usage', 'unknown'))]
+    return [word for row in TABLE for word in row.words if word not in map(full_name, answered)]
+
+
+def problems():
+    """All rows, each with its problem, or None."""
+    found = [(row.what, dialogue_problem(row)) for row in DIALOGUES + SLOW + CUT]
+    found += [(row.what, ending_problem(row)) for row in ENDINGS] + [(row.what, start_problem(row)) for row in STARTS]
+    return found + [('the table of words', table_problem()), ('words without a dialogue', ', '.join(words_without_dialogue()) or None)]

@@ -1,0 +1,530 @@
+"""Worked dialogues of the console about runs and choices: runs by number, deadlocks and traps that are sought, choices that are undone, all
+ranks that wait, and so many steps at once (console_worked.py)."""
+
+from rows.worked_console_scripts import (ANY_OF_ONE, AT_A_BARRIER, BESIDE_ANY, BOTH_RACES, HANG_THEN_TRAP, LOOP, MANY_ENDS, ONE_RACE, RARE, RARE_TRAP, RARER,
+                                         STOLEN_CHOICE, THIRD_TRAPS, TRAP_THEN_HANG, TWO_RACES, WAITS, Dialogue)
+
+# The choice of TRAP_THEN_HANG, its trap, its deadlock, and the choice of HANG_THEN_TRAP, whose lines are the same.
+TRAP_CHOICE = '''stopped at a choice of rank 0, line 3:
+  1 match 1.0 0.0: the send of rank 1, line 6, to the receive of rank 0, line 3
+  2 match 2.0 0.0: the send of rank 2, line 6, to the receive of rank 0, line 3'''
+TRAP_END = '''ended: trap 0 zero-divisor
+  rank 0, line 4: trap zero-divisor'''
+HANG_END = '''ended: deadlock 0.1 1.0
+  rank 0 waits at line 5, 0.1 recv from 2 tag 0: for a send of rank 2 with tag 0
+    nearest miss: line 6, 1.0 send to 0 tag 0 value 1: another source
+    the last that fits is taken: line 6, 2.0 send to 0 tag 0 value 2, by line 3, 0.0 recv from any tag 0
+  rank 1 waits at line 6, 1.0 send to 0 tag 0 value 1: for a receive of rank 0 from rank 1 with tag 0
+    nearest miss: line 5, 0.1 recv from 2 tag 0: another source
+    the last that fits is taken: line 3, 0.0 recv from any tag 0, by line 6, 2.0 send to 0 tag 0 value 2
+  rank 0 waits for rank 2 (ended)
+  rank 1 waits for rank 0'''
+
+CHOICES = (
+    Dialogue('a first run that traps, and a second one that is a deadlock', TRAP_THEN_HANG, f'''
+> check
+1 choices 1: trap 0 zero-divisor
+2 choices 2: deadlock 0.1 1.0
+2 runs, and no more (1 deadlock, 1 trap)
+> deadlock
+deadlock 0.1 1.0 is 11 steps ahead
+11 ahead: local 0: line 2
+> trap
+trap 0 zero-divisor is 10 steps ahead
+10 ahead: local 0: line 2
+> run
+6 steps, depth 6
+4 ahead: match 1.0 0.0: the send of rank 1, line 6, to the receive of rank 0, line 3
+{TRAP_CHOICE}
+> words
+local 0
+local 0
+local 1
+local 1
+local 2
+local 2
+>
+local 0
+local 0
+local 1
+local 1
+local 2
+local 2
+> run
+7 match 1.0 0.0: the send of rank 1, line 6, to the receive of rank 0, line 3
+3 ahead: wake 0: line 3
+>
+3 steps, depth 10
+{TRAP_END}
+> deadlock
+no deadlock: 1 run, and no more (1 trap)
+> trap
+trap 0 zero-divisor is 0 steps ahead
+{TRAP_END}
+> follow 1
+run 1, trap 0 zero-divisor, is 0 steps ahead
+{TRAP_END}
+> follow 2
+refused: there is no such run
+> undo-choice
+depth 6
+4 ahead: match 1.0 0.0: the send of rank 1, line 6, to the receive of rank 0, line 3
+{TRAP_CHOICE}
+> follow 2
+run 2, deadlock 0.1 1.0, is 5 steps ahead
+5 ahead: match 2.0 0.0: the send of rank 2, line 6, to the receive of rank 0, line 3
+{TRAP_CHOICE}
+> follow 3
+refused: there is no such run
+> follow 0
+refused: no such number
+> redo 5
+depth 11
+{HANG_END}
+> why
+line 5, 0.1 recv from 2 tag 0 free
+  has no partner yet: for a send of rank 2 with tag 0
+    nearest miss: line 6, 1.0 send to 0 tag 0 value 1: another source
+    the last that fits is taken: line 6, 2.0 send to 0 tag 0 value 2, by line 3, 0.0 recv from any tag 0
+line 6, 1.0 send to 0 tag 0 value 1 free
+  has no partner yet: for a receive of rank 0 from rank 1 with tag 0
+    nearest miss: line 5, 0.1 recv from 2 tag 0: another source
+    the last that fits is taken: line 3, 0.0 recv from any tag 0, by line 6, 2.0 send to 0 tag 0 value 2
+> trap
+no trap: 1 run, and no more (1 deadlock)
+> goto 10
+depth 10
+1 ahead: wake 2: line 6
+> f 1
+run 1, deadlock 0.1 1.0, is 1 step ahead
+1 ahead: wake 2: line 6
+> trap
+no trap: 1 run, and no more (1 deadlock)
+> f 000000002
+refused: there is no such run
+> redo
+11 wake 2: line 6
+{HANG_END}
+'''),
+    Dialogue('a first run that is a deadlock, and a second one that traps', HANG_THEN_TRAP, f'''
+> check 1
+1 choices 1: deadlock 0.1 2.0
+1 run, and there are more (1 deadlock)
+> trap
+trap 0 zero-divisor is 10 steps ahead
+10 ahead: local 0: line 2
+> run
+6 steps, depth 6
+4 ahead: match 2.0 0.0: the send of rank 2, line 6, to the receive of rank 0, line 3
+{TRAP_CHOICE}
+> next 1
+7 match 1.0 0.0: the send of rank 1, line 6, to the receive of rank 0, line 3
+next: wake 0: line 3
+> trap
+no trap: 1 run, and no more (1 deadlock)
+> u
+depth 6
+1 ahead: match 1.0 0.0: the send of rank 1, line 6, to the receive of rank 0, line 3
+{TRAP_CHOICE}
+> trap
+trap 0 zero-divisor is 4 steps ahead
+4 ahead: match 2.0 0.0: the send of rank 2, line 6, to the receive of rank 0, line 3
+{TRAP_CHOICE}
+> quit
+'''),
+    Dialogue('more runs that trap than are done', THIRD_TRAPS, '''
+> check
+1 choices 1: done
+2 choices 2: trap 0 assert
+3 choices 3: trap 0 assert
+3 runs, and no more (1 done, 2 trap)
+> deadlock
+no deadlock: 3 runs, and no more (1 done, 2 trap)
+> check 2
+1 choices 1: done
+2 choices 2: trap 0 assert
+2 runs, and there are more (1 done, 1 trap)
+> trap
+trap 0 assert is 12 steps ahead
+12 ahead: local 0: line 2
+'''),
+    Dialogue('as many runs as are looked at, and no more', TRAP_THEN_HANG, '''
+> deadlock
+deadlock 0.1 1.0 is 11 steps ahead
+11 ahead: local 0: line 2
+> goto 6
+depth 6
+5 ahead: match 2.0 0.0: the send of rank 2, line 6, to the receive of rank 0, line 3
+stopped at a choice of rank 0, line 3:
+  1 match 1.0 0.0: the send of rank 1, line 6, to the receive of rank 0, line 3
+  2 match 2.0 0.0: the send of rank 2, line 6, to the receive of rank 0, line 3
+> next 1
+7 match 1.0 0.0: the send of rank 1, line 6, to the receive of rank 0, line 3
+next: wake 0: line 3
+> deadlock
+no deadlock: 1 run, and no more (1 trap)
+''', runs=2),
+    Dialogue('a run that is cut, laid ahead', 'mpd 1; ranks 1; var x;\nwhile x < 4 { x = x + 1; }\nprint 1;\nprint 2;', '''
+> follow 1
+run 1, cut, is 10 steps ahead
+10 ahead: local 0: line 2
+> redo 10
+depth 10
+next: local 0: line 4
+> follow 2
+refused: there is no such run
+> follow 1
+run 1, done, is 1 step ahead
+1 ahead: local 0: line 4
+> trap
+no trap: 1 run, and no more (1 done)
+> goto 0
+depth 0
+11 ahead: local 0: line 2
+> trap
+no trap: 1 run, and no more (1 cut)
+> follow 1
+run 1, cut, is 10 steps ahead
+10 ahead: local 0: line 2
+''', fuel=10),
+    Dialogue('a run of as many steps as are kept, laid ahead', LOOP, '''
+> next
+1 local 0: line 2
+next: local 0: line 2
+> follow 1
+run 1, cut, is 2 steps ahead
+2 ahead: local 0: line 2
+> next 5
+2 steps, depth 3
+stopped: no more than 1000000 steps are kept
+next: local 0: line 2
+> next 1
+0 steps, depth 3
+stopped: no more than 1000000 steps are kept
+next: local 0: line 2
+> follow 1
+run 1, cut, is 0 steps ahead
+next: local 0: line 2
+> trap
+no trap: 1 run, and no more (1 cut)
+> u
+refused: no choice was made
+''', limit=3),
+    Dialogue('choices that are undone', TWO_RACES, f'''
+> undo-choice
+refused: no choice was made
+> run
+8 steps, depth 8
+{BOTH_RACES}
+> undo-choice
+refused: no choice was made
+> next 2
+9 match 3.0 1.0: the send of rank 3, line 5, to the receive of rank 1, line 3
+next: wake 1: line 3
+> wake 3
+10 wake 3: line 5
+next: wake 1: line 3
+> undo-choice
+depth 8
+2 ahead: match 3.0 1.0: the send of rank 3, line 5, to the receive of rank 1, line 3
+{BOTH_RACES}
+>
+refused: no choice was made
+> redo 2
+depth 10
+next: wake 1: line 3
+> run
+1 step, depth 11
+{ONE_RACE}
+> undo-choice
+depth 8
+3 ahead: match 3.0 1.0: the send of rank 3, line 5, to the receive of rank 1, line 3
+{BOTH_RACES}
+> run
+9 match 3.0 1.0: the send of rank 3, line 5, to the receive of rank 1, line 3
+2 ahead: wake 3: line 5
+> u
+depth 8
+3 ahead: match 3.0 1.0: the send of rank 3, line 5, to the receive of rank 1, line 3
+{BOTH_RACES}
+> goto 11
+depth 11
+{ONE_RACE}
+> next 1
+12 match 2.0 0.0: the send of rank 2, line 5, to the receive of rank 0, line 3
+next: wake 0: line 3
+> back
+depth 11
+1 ahead: match 2.0 0.0: the send of rank 2, line 5, to the receive of rank 0, line 3
+{ONE_RACE}
+> undo-choice
+depth 8
+4 ahead: match 3.0 1.0: the send of rank 3, line 5, to the receive of rank 1, line 3
+{BOTH_RACES}
+> goto 12
+depth 12
+next: wake 0: line 3
+> run
+2 steps, depth 14
+ended: done
+> undo-choice
+depth 11
+3 ahead: match 2.0 0.0: the send of rank 2, line 5, to the receive of rank 0, line 3
+{ONE_RACE}
+>
+depth 8
+6 ahead: match 3.0 1.0: the send of rank 3, line 5, to the receive of rank 1, line 3
+{BOTH_RACES}
+> next 1
+9 match 2.0 0.0: the send of rank 2, line 5, to the receive of rank 0, line 3
+next: wake 0: line 3
+> quit
+'''),
+    Dialogue('a step by hand where a choice was open, and none of its candidates', BESIDE_ANY, f'''
+> run
+8 steps, depth 8
+{ANY_OF_ONE}
+> match 1.1 0.1
+9 match 1.1 0.1: the send of rank 1, line 9, to the receive of rank 0, line 5
+{ANY_OF_ONE}
+> undo-choice
+depth 8
+1 ahead: match 1.1 0.1: the send of rank 1, line 9, to the receive of rank 0, line 5
+{ANY_OF_ONE}
+> next 1
+9 wakeany 0 0: line 6, by line 4, 0.0 irecv from 1 tag 1
+stopped at a choice of rank 0, line 5:
+  1 match 1.1 0.1: the send of rank 1, line 9, to the receive of rank 0, line 5
+> history 1
+9 wakeany 0 0: line 6, by line 4, 0.0 irecv from 1 tag 1
+> back
+depth 8
+1 ahead: wakeany 0 0: line 6, by line 4, 0.0 irecv from 1 tag 1
+{ANY_OF_ONE}
+'''),
+    Dialogue('a match by hand where no choice was open', 'stolen_message.mpd', '''
+> run 6
+6 steps, depth 6
+stopped: as many steps as were asked for
+next: local 2: line 7
+> match 1.0 0.0
+7 match 1.0 0.0: the send of rank 1, line 13, to the receive of rank 0, line 8
+next: local 2: line 7
+> undo-choice
+refused: no choice was made
+'''),
+    Dialogue('all ranks that wait for a call', WAITS, '''
+> why
+no rank waits for a call
+> next 3
+3 steps, depth 3
+stopped: as many steps as were asked for
+next: local 1: line 3
+> why
+line 5, 0.1 wait 0
+line 4, 0.0 irecv from 1 tag 3 free
+  has no partner yet: for a send of rank 1 with tag 3
+> next 1000000
+3 steps, depth 6
+ended: deadlock 0.1 1.1
+  rank 0 waits at line 5, 0.1 wait 0: for this request
+    line 4, 0.0 irecv from 1 tag 3: for a send of rank 1 with tag 3
+    nearest miss: line 7, 1.0 isend to 0 tag 4 value 7: another tag
+  rank 1 waits at line 8, 1.1 wait 0: for this request
+    line 7, 1.0 isend to 0 tag 4 value 7: for a receive of rank 0 from rank 1 with tag 4
+    nearest miss: line 4, 0.0 irecv from 1 tag 3: another tag
+  rank 0 waits for rank 1
+  rank 1 waits for rank 0
+  a cycle, where each waits for the next: rank 0, rank 1, rank 0
+> w
+line 5, 0.1 wait 0
+line 4, 0.0 irecv from 1 tag 3 free
+  has no partner yet: for a send of rank 1 with tag 3
+    nearest miss: line 7, 1.0 isend to 0 tag 4 value 7: another tag
+line 8, 1.1 wait 0
+line 7, 1.0 isend to 0 tag 4 value 7 free
+  has no partner yet: for a receive of rank 0 from rank 1 with tag 4
+    nearest miss: line 4, 0.0 irecv from 1 tag 3: another tag
+'''),
+    Dialogue('those that wait alone, and not one that has ended', AT_A_BARRIER, '''
+> run
+7 steps, depth 7
+ended: deadlock 0.0 1.0
+  rank 0 waits at line 2, 0.0 barrier: for all ranks at a barrier
+    rank 1 is not there: it is at another call
+    rank 2 is not there: it has ended
+  rank 1 waits at line 4, 1.0 ssend to 2 tag 0 value 1: for a receive of rank 2 from rank 1 with tag 0
+  rank 0 waits for rank 1, rank 2 (ended)
+  rank 1 waits for rank 2 (ended)
+> why
+line 2, 0.0 barrier
+    rank 1 is not there: it is at another call
+    rank 2 is not there: it has ended
+line 4, 1.0 ssend to 2 tag 0 value 1 free
+  has no partner yet: for a receive of rank 2 from rank 1 with tag 0
+'''),
+    Dialogue('none that waits where one has trapped', 'trap.mpd', '''
+> trap
+trap 1 zero-divisor is 9 steps ahead
+9 ahead: local 0: line 5
+> deadlock
+no deadlock: 1 run, and no more (1 trap)
+> redo 9
+depth 9
+ended: trap 1 zero-divisor
+  rank 1, line 10: trap zero-divisor
+> why
+no rank waits for a call
+> undo-choice
+refused: no choice was made
+'''),
+    Dialogue('so many steps at once, and none behind an end', 'first_message.mpd', '''
+> next 3
+3 steps, depth 3
+stopped: as many steps as were asked for
+next: local 1: line 8
+>
+3 steps, depth 6
+stopped: as many steps as were asked for
+next: wake 1: line 8
+> next 0
+refused: no such number
+> next 1000001
+refused: no such number
+> back 3
+depth 3
+3 ahead: local 1: line 8
+> next 1
+1 step, depth 4
+stopped: as many steps as were asked for
+2 ahead: match 0.0 1.0: the send of rank 0, line 6, to the receive of rank 1, line 8
+> break match 8
+breakpoint 0: match 8
+> n 9
+1 step, depth 5
+breakpoint 0: match 8
+1 ahead: wake 0: line 6
+> n 1000000
+3 steps, depth 8
+ended: done
+> next 0
+ended: done
+> next 1000001
+ended: done
+> run-back
+4 steps back, depth 4
+before breakpoint 0: match 8
+4 ahead: match 0.0 1.0: the send of rank 0, line 6, to the receive of rank 1, line 8
+'''),
+    Dialogue('so many steps up to a choice, and then a candidate', 'stolen_message.mpd', f'''
+> next 100
+9 steps, depth 9
+{STOLEN_CHOICE}
+>
+refused: there is no such candidate
+{STOLEN_CHOICE}
+> next 0
+refused: there is no such candidate
+{STOLEN_CHOICE}
+> next 000000002
+10 match 2.0 0.0: the send of rank 2, line 13, to the receive of rank 0, line 8
+next: wake 2: line 13
+> next 2
+2 steps, depth 12
+stopped: as many steps as were asked for
+next: wake 0: line 9
+> undo-choice
+depth 9
+3 ahead: match 2.0 0.0: the send of rank 2, line 13, to the receive of rank 0, line 8
+{STOLEN_CHOICE}
+> quit
+'''),
+    Dialogue('the first runs of many, of which one is a deadlock', RARE, '''
+> check 7
+1 choices 1 1 1 1 1: done
+2 choices 1 1 2 1 1: done
+3 choices 1 1 2 2 1: done
+4 choices 1 2 1 1 1: done
+5 choices 1 2 1 2 1: done
+6 choices 1 2 2 1 1: done
+7 choices 2 1 1 1 1: deadlock 0.1 1.0
+7 runs, and there are more (6 done, 1 deadlock)
+> follow 2
+run 2, done, is 68 steps ahead
+68 ahead: local 0: line 2
+> follow 7
+run 7, deadlock 0.1 1.0, is 65 steps ahead
+65 ahead: local 0: line 2
+> deadlock
+deadlock 0.1 1.0 is 65 steps ahead
+65 ahead: local 0: line 2
+'''),
+    Dialogue('a deadlock that the second look alone meets', RARE, '''
+> trap
+no trap: 2 runs, and no more (1 done, 1 deadlock)
+> follow 7
+refused: no such number
+> check 7
+refused: no such number
+> follow 6
+run 6, done, is 68 steps ahead
+68 ahead: local 0: line 2
+> deadlock
+deadlock 0.1 1.0 is 65 steps ahead
+65 ahead: local 0: line 2
+> run 25
+25 steps, depth 25
+40 ahead: match 2.0 0.0: the send of rank 2, line 3, to the receive of rank 0, line 3
+stopped at a choice:
+  1 match 1.0 0.0: the send of rank 1, line 3, to the receive of rank 0, line 3
+  2 match 2.0 0.0: the send of rank 2, line 3, to the receive of rank 0, line 3
+  3 match 5.0 3.0: the send of rank 5, line 6, to the receive of rank 3, line 6
+  4 match 6.0 4.0: the send of rank 6, line 6, to the receive of rank 4, line 6
+''', runs=6),
+    Dialogue('a trap that the second look alone meets', RARE_TRAP, '''
+> trap
+trap 0 zero-divisor is 65 steps ahead
+65 ahead: local 0: line 2
+> deadlock
+no deadlock: 2 runs, and no more (1 done, 1 trap)
+''', runs=6),
+    Dialogue('what neither look meets, and there are more', RARE, '''
+> deadlock
+no deadlock: 1 run, and there are more (1 done)
+> trap
+no trap: 1 run, and there are more (1 done)
+''', runs=1))
+# What takes the model some seconds.
+ALL_RUNS = (
+    Dialogue('all runs of a race beside others', RARE, '''
+> trap
+no trap: 60 runs, and no more (30 done, 30 deadlock)
+> follow 60
+run 60, deadlock 0.1 1.0, is 65 steps ahead
+65 ahead: local 0: line 2
+> follow 61
+refused: there is no such run
+'''),)
+# What the model isn't asked: more than 65,536 runs.
+MANY_RUNS = (
+    Dialogue('a deadlock behind more than 65,536 runs', RARER, '''
+> deadlock
+deadlock 0.1 1.0 is 143 steps ahead
+143 ahead: local 0: line 2
+> trap
+no trap: 2 runs, and no more (1 done, 1 deadlock)
+> follow 65536
+run 65536, done, is 146 steps ahead
+146 ahead: local 0: line 2
+> follow 65537
+refused: no such number
+'''),
+    Dialogue('more than 65,536 ends', MANY_ENDS, '''
+> deadlock
+no deadlock: 65536 runs, and there are more (65536 done)
+> trap
+no trap: 65536 runs, and there are more (65536 done)
+> follow 65536
+run 65536, done, is 74 steps ahead
+74 ahead: local 0: line 2
+'''))

@@ -1,0 +1,747 @@
+"""Worked dialogues of the console that go along runs: steps, choices, deadlocks, breakpoints, and steps that are undone (console_worked.py)."""
+
+from rows.worked_console_scripts import (ANY_OF_ONE, BESIDE_ANY, BOTH_RACES, LOOP, ONE_RACE, SEVEN_SENDERS, STOLEN_AHEAD, STOLEN_CHOICE, STOLEN_END,
+                                         STOLEN_STEPS, TWO_RACES, Dialogue, first_orders)
+
+MOVES = (
+    Dialogue('the first message, step by step, there and back', 'first_message.mpd', '''
+> next
+1 local 0: line 5
+next: local 0: line 6
+>
+2 local 0: line 6
+next: local 1: line 5
+> n
+3 local 1: line 5
+next: local 1: line 8
+> ranks
+rank 0 waits at line 6, 0.0 send to 1 tag 0 value 7
+rank 1 is at line 8
+> next
+4 local 1: line 8
+next: match 0.0 1.0: the send of rank 0, line 6, to the receive of rank 1, line 8
+> next 1
+1 step, depth 5
+stopped: as many steps as were asked for
+next: wake 0: line 6
+> run 1
+1 step, depth 6
+stopped: as many steps as were asked for
+next: wake 1: line 8
+> calls
+line 6, 0.0 send to 1 tag 0 value 7 with 1.0
+line 8, 1.0 recv from 0 tag 0 with 0.0 value 7
+> p x
+rank 0: x = 0
+rank 1: x = 0
+> next
+7 wake 1: line 8
+next: local 1: line 9
+> p x 1
+rank 1: x = 7
+> run
+1 step, depth 8
+ended: done
+> next
+ended: done
+> next 1
+ended: done
+> r
+0 steps, depth 8
+ended: done
+> vars
+rank 0: x = 0
+rank 1: x = 7
+rank 1 has printed 7
+> vars 0
+rank 0: x = 0
+> back
+depth 7
+1 ahead: local 1: line 9
+> redo
+8 local 1: line 9
+ended: done
+> b 3
+depth 5
+3 ahead: wake 0: line 6
+> redo 2
+depth 7
+1 ahead: local 1: line 9
+> redo 1
+8 local 1: line 9
+ended: done
+> goto 0
+depth 0
+8 ahead: local 0: line 5
+> next
+1 local 0: line 5
+7 ahead: local 0: line 6
+> g 1
+depth 1
+7 ahead: local 0: line 6
+> local 1
+2 local 1: line 5
+next: local 0: line 6
+> history
+1 local 0: line 5
+2 local 1: line 5
+> words
+local 0
+local 1
+> quit
+> next
+'''),
+    Dialogue('all short names', 'first_message.mpd', '''
+> r 2
+2 steps, depth 2
+stopped: as many steps as were asked for
+next: local 1: line 5
+> continue 1
+1 step, depth 3
+stopped: as many steps as were asked for
+next: local 1: line 8
+> c
+5 steps, depth 8
+ended: done
+> reverse-next
+depth 7
+1 ahead: local 1: line 9
+> reverse-continue
+7 steps back, depth 0
+at the start
+8 ahead: local 0: line 5
+> rc
+0 steps back, depth 0
+at the start
+8 ahead: local 0: line 5
+> break 8
+breakpoint 0: line 8
+> d 0
+deleted 0
+> l 1
+    1  # The first message: rank 0 sends 7, rank 1 receives it into x and prints it.
+    2  mpd 1;
+    3  ranks 2;
+    4  var x;
+    5  if rank == 0 {  <- rank 0, rank 1
+    6    send 7 to 1 tag 0;
+    7  } else {
+    8    recv x from 0 tag 0;
+    9    print x;
+> w 1
+rank 1 waits for no call
+> h
+no step is taken
+> ? q
+quit: ends
+> q
+'''),
+    Dialogue('a stolen message, and what holds the other one back', 'stolen_message.mpd', f'''
+> break match 8
+breakpoint 0: match 8
+> run
+9 steps, depth 9
+{STOLEN_CHOICE}
+> why 0
+line 9, 0.1 recv from 1 tag 7 free
+  could be matched with line 13, 1.0 send to 0 tag 7 value 42, but for line 8, 0.0 irecv from any tag any
+> why 0.0
+line 8, 0.0 irecv from any tag any free
+  can be matched with line 13, 1.0 send to 0 tag 7 value 42
+  can be matched with line 13, 2.0 send to 0 tag 1 value 5
+> why 1.0
+line 13, 1.0 send to 0 tag 7 value 42 free
+  can be matched with line 8, 0.0 irecv from any tag any
+  could be matched with line 9, 0.1 recv from 1 tag 7, but for line 8, 0.0 irecv from any tag any
+> enabled
+match 1.0 0.0: the send of rank 1, line 13, to the receive of rank 0, line 8
+match 2.0 0.0: the send of rank 2, line 13, to the receive of rank 0, line 8
+> queues
+pending 1 to 0: line 13, 1.0 send to 0 tag 7 value 42
+pending 2 to 0: line 13, 2.0 send to 0 tag 1 value 5
+posted 0: line 8, 0.0 irecv from any tag any
+posted 0: line 9, 0.1 recv from 1 tag 7
+> print r
+rank 0: r = line 8, 0.0 irecv from any tag any
+rank 1: r = no request
+rank 2: r = no request
+> list 0
+    5  var result;
+    6  req r;
+    7  if rank == 0 {{
+    8    irecv r note from any tag any;
+    9    recv result from 1 tag 7;  <- rank 0 blocked
+   10    wait r;
+   11    print result;
+   12  }} else {{
+   13    if rank == 1 {{ send 42 to 0 tag 7; }} else {{ send 5 to 0 tag 1; }}  <- rank 1 blocked, rank 2 blocked
+> check
+1 choices 1: deadlock 0.1 2.0
+2 choices 2: done
+2 runs, and no more (1 done, 1 deadlock)
+> check 1
+1 choices 1: deadlock 0.1 2.0
+1 run, and there are more (1 deadlock)
+> check 2
+1 choices 1: deadlock 0.1 2.0
+2 choices 2: done
+2 runs, and no more (1 done, 1 deadlock)
+> next
+{STOLEN_CHOICE}
+> next 0
+refused: there is no such candidate
+{STOLEN_CHOICE}
+> next 3
+refused: there is no such candidate
+{STOLEN_CHOICE}
+> run
+0 steps, depth 9
+{STOLEN_CHOICE}
+> next 1
+10 match 1.0 0.0: the send of rank 1, line 13, to the receive of rank 0, line 8
+next: wake 1: line 13
+> run
+1 step, depth 11
+{STOLEN_END}
+> why 0
+line 9, 0.1 recv from 1 tag 7 free
+  has no partner yet: for a send of rank 1 with tag 7
+    the last that fits is taken: line 13, 1.0 send to 0 tag 7 value 42, by line 8, 0.0 irecv from any tag any
+> why 1.0
+line 13, 1.0 send to 0 tag 7 value 42 with 0.0
+> enabled
+no step is enabled
+> check
+1 no choice: deadlock 0.1 2.0
+1 run, and no more (1 deadlock)
+> run-back
+2 steps back, depth 9
+before breakpoint 0: match 8
+2 ahead: match 1.0 0.0: the send of rank 1, line 13, to the receive of rank 0, line 8
+{STOLEN_CHOICE}
+> next 2
+10 match 2.0 0.0: the send of rank 2, line 13, to the receive of rank 0, line 8
+next: wake 2: line 13
+> why 0
+line 9, 0.1 recv from 1 tag 7 free
+  can be matched with line 13, 1.0 send to 0 tag 7 value 42
+> run
+7 steps, depth 17
+ended: done
+> history 3
+15 wake 0: line 10
+16 local 0: line 11
+17 wake 1: line 13
+> history
+8 local 2: line 13
+9 local 2: line 13
+10 match 2.0 0.0: the send of rank 2, line 13, to the receive of rank 0, line 8
+11 wake 2: line 13
+12 match 1.0 0.1: the send of rank 1, line 13, to the receive of rank 0, line 9
+13 wake 0: line 9
+14 local 0: line 10
+15 wake 0: line 10
+16 local 0: line 11
+17 wake 1: line 13
+> history 0
+> queues
+no free call
+> print r 0
+rank 0: r = no request
+> quit
+'''),
+    Dialogue('a deadlock that is laid ahead, and gone to', 'stolen_message.mpd', f'''
+> deadlock
+deadlock 0.1 2.0 is 11 steps ahead
+11 ahead: local 0: line 7
+> run
+9 steps, depth 9
+2 ahead: match 1.0 0.0: the send of rank 1, line 13, to the receive of rank 0, line 8
+{STOLEN_CHOICE}
+> redo
+10 match 1.0 0.0: the send of rank 1, line 13, to the receive of rank 0, line 8
+1 ahead: wake 1: line 13
+> run
+1 step, depth 11
+{STOLEN_END}
+> deadlock
+deadlock 0.1 2.0 is 0 steps ahead
+{STOLEN_END}
+> goto 9
+depth 9
+2 ahead: match 1.0 0.0: the send of rank 1, line 13, to the receive of rank 0, line 8
+{STOLEN_CHOICE}
+> deadlock
+deadlock 0.1 2.0 is 2 steps ahead
+2 ahead: match 1.0 0.0: the send of rank 1, line 13, to the receive of rank 0, line 8
+{STOLEN_CHOICE}
+> redo 2
+depth 11
+{STOLEN_END}
+> goto 10
+depth 10
+1 ahead: wake 1: line 13
+> deadlock
+deadlock 0.1 2.0 is 1 step ahead
+1 ahead: wake 1: line 13
+> goto 0
+depth 0
+11 ahead: local 0: line 7
+> run
+9 steps, depth 9
+2 ahead: match 1.0 0.0: the send of rank 1, line 13, to the receive of rank 0, line 8
+{STOLEN_CHOICE}
+>
+10 match 1.0 0.0: the send of rank 1, line 13, to the receive of rank 0, line 8
+1 ahead: wake 1: line 13
+>
+1 step, depth 11
+{STOLEN_END}
+>
+0 steps, depth 11
+{STOLEN_END}
+> goto 10
+depth 10
+1 ahead: wake 1: line 13
+> back
+depth 9
+2 ahead: match 1.0 0.0: the send of rank 1, line 13, to the receive of rank 0, line 8
+{STOLEN_CHOICE}
+> next 2
+10 match 2.0 0.0: the send of rank 2, line 13, to the receive of rank 0, line 8
+next: wake 2: line 13
+> run 2
+2 steps, depth 12
+stopped: as many steps as were asked for
+next: wake 0: line 9
+> back
+depth 11
+1 ahead: match 1.0 0.1: the send of rank 1, line 13, to the receive of rank 0, line 9
+> deadlock
+no deadlock: 1 run, and no more (1 done)
+> redo
+12 match 1.0 0.1: the send of rank 1, line 13, to the receive of rank 0, line 9
+next: wake 0: line 9
+> quit
+'''),
+    Dialogue('a witness lies ahead from the start on', 'stolen_message.mpd', f'''
+deadlock 0.1 2.0 is 11 steps ahead
+11 ahead: local 0: line 7
+> history
+no step is taken
+> show
+depth 0 of 11
+rank 0 at 7
+vars 0 0
+handles -
+out
+rank 1 at 7
+vars 0 0
+handles -
+out
+rank 2 at 7
+vars 0 0
+handles -
+out
+end
+> back
+refused: fewer steps are taken
+> goto 12
+refused: fewer steps are taken
+> goto 9
+depth 9
+2 ahead: match 1.0 0.0: the send of rank 1, line 13, to the receive of rank 0, line 8
+{STOLEN_CHOICE}
+> redo 3
+depth 11
+{STOLEN_END}
+> words
+{STOLEN_STEPS}
+> quit
+''', witness=STOLEN_AHEAD),
+    Dialogue('choices of several receives, and ends that differ in nothing', TWO_RACES, '''
+> run
+8 steps, depth 8
+stopped at a choice:
+  1 match 2.0 0.0: the send of rank 2, line 5, to the receive of rank 0, line 3
+  2 match 3.0 1.0: the send of rank 3, line 5, to the receive of rank 1, line 3
+> check
+1 choices 1 1: done
+2 choices 2 1: done
+2 runs, and no more (2 done)
+> deadlock
+no deadlock: 2 runs, and no more (2 done)
+> next 2
+9 match 3.0 1.0: the send of rank 3, line 5, to the receive of rank 1, line 3
+next: wake 1: line 3
+> run
+2 steps, depth 11
+stopped at a choice of rank 0, line 3:
+  1 match 2.0 0.0: the send of rank 2, line 5, to the receive of rank 0, line 3
+> next
+stopped at a choice of rank 0, line 3:
+  1 match 2.0 0.0: the send of rank 2, line 5, to the receive of rank 0, line 3
+> match 2.0 0.0
+12 match 2.0 0.0: the send of rank 2, line 5, to the receive of rank 0, line 3
+next: wake 0: line 3
+> wake 2
+13 wake 2: line 5
+next: wake 0: line 3
+> list
+    1  mpd 1; ranks 4; var x;
+    2  if rank < 2 {
+    3    recv x from any tag 0;  <- rank 0 blocked
+    4  } else {
+    5    send 7 to rank - 2 tag 0;
+    6  }
+ended: rank 1, rank 2, rank 3
+> list 3
+rank 3 has ended
+> list 4
+refused: no such number
+'''),
+    Dialogue('along the steps ahead, from choice to choice', TWO_RACES, f'''
+> run
+8 steps, depth 8
+{BOTH_RACES}
+> next 2
+9 match 3.0 1.0: the send of rank 3, line 5, to the receive of rank 1, line 3
+next: wake 1: line 3
+> run
+2 steps, depth 11
+{ONE_RACE}
+> run
+0 steps, depth 11
+{ONE_RACE}
+> next 1
+12 match 2.0 0.0: the send of rank 2, line 5, to the receive of rank 0, line 3
+next: wake 0: line 3
+> run
+2 steps, depth 14
+ended: done
+> goto 0
+depth 0
+14 ahead: local 0: line 2
+> run
+8 steps, depth 8
+6 ahead: match 3.0 1.0: the send of rank 3, line 5, to the receive of rank 1, line 3
+{BOTH_RACES}
+> run 0
+refused: no such number
+> break match 3
+breakpoint 0: match 3
+> break line 3
+breakpoint 1: line 3
+> delete 1
+deleted 1
+> run
+9 match 3.0 1.0: the send of rank 3, line 5, to the receive of rank 1, line 3
+5 ahead: wake 1: line 3
+>
+2 steps, depth 11
+3 ahead: match 2.0 0.0: the send of rank 2, line 5, to the receive of rank 0, line 3
+{ONE_RACE}
+>
+12 match 2.0 0.0: the send of rank 2, line 5, to the receive of rank 0, line 3
+2 ahead: wake 0: line 3
+>
+2 steps, depth 14
+ended: done
+>
+0 steps, depth 14
+ended: done
+> goto 8
+depth 8
+6 ahead: match 3.0 1.0: the send of rank 3, line 5, to the receive of rank 1, line 3
+{BOTH_RACES}
+> c 1000001
+9 match 3.0 1.0: the send of rank 3, line 5, to the receive of rank 1, line 3
+5 ahead: wake 1: line 3
+> goto 14
+depth 14
+ended: done
+> g 8
+depth 8
+6 ahead: match 3.0 1.0: the send of rank 3, line 5, to the receive of rank 1, line 3
+{BOTH_RACES}
+> run 7
+9 match 3.0 1.0: the send of rank 3, line 5, to the receive of rank 1, line 3
+5 ahead: wake 1: line 3
+> goto 10
+depth 10
+4 ahead: wake 3: line 5
+> goto 11
+depth 11
+3 ahead: match 2.0 0.0: the send of rank 2, line 5, to the receive of rank 0, line 3
+{ONE_RACE}
+> r 1
+12 match 2.0 0.0: the send of rank 2, line 5, to the receive of rank 0, line 3
+2 ahead: wake 0: line 3
+> back 4
+depth 8
+6 ahead: match 3.0 1.0: the send of rank 3, line 5, to the receive of rank 1, line 3
+{BOTH_RACES}
+> next 1
+9 match 2.0 0.0: the send of rank 2, line 5, to the receive of rank 0, line 3
+next: wake 0: line 3
+> goto 10
+refused: fewer steps are taken
+> quit
+'''),
+    Dialogue('a step ahead that is none of the candidates', BESIDE_ANY, f'''
+> run
+8 steps, depth 8
+{ANY_OF_ONE}
+> match 1.1 0.1
+9 match 1.1 0.1: the send of rank 1, line 9, to the receive of rank 0, line 5
+{ANY_OF_ONE}
+> run
+0 steps, depth 9
+{ANY_OF_ONE}
+> next 1
+10 wakeany 0 0: line 6, by line 4, 0.0 irecv from 1 tag 1
+ended: done
+> back 2
+depth 8
+2 ahead: match 1.1 0.1: the send of rank 1, line 9, to the receive of rank 0, line 5
+{ANY_OF_ONE}
+> run
+9 match 1.1 0.1: the send of rank 1, line 9, to the receive of rank 0, line 5
+1 ahead: wakeany 0 0: line 6, by line 4, 0.0 irecv from 1 tag 1
+{ANY_OF_ONE}
+>
+10 wakeany 0 0: line 6, by line 4, 0.0 irecv from 1 tag 1
+ended: done
+> goto 9
+depth 9
+1 ahead: wakeany 0 0: line 6, by line 4, 0.0 irecv from 1 tag 1
+{ANY_OF_ONE}
+> redo 2
+10 wakeany 0 0: line 6, by line 4, 0.0 irecv from 1 tag 1
+ended: done
+'''),
+    Dialogue('a barrier that all leave', 'skipped_barrier.mpd', '''
+> run 6
+6 steps, depth 6
+stopped: as many steps as were asked for
+next: release: all ranks leave the barrier
+> enabled
+release: all ranks leave the barrier
+> why 1
+line 6, 1.0 barrier
+> next
+7 release: all ranks leave the barrier
+next: local 0: line 7
+> why 1.0
+line 6, 1.0 barrier
+> break 9
+breakpoint 0: line 9
+> run
+2 steps, depth 9
+breakpoint 0: line 9
+next: local 0: line 9
+> run-back
+1 step back, depth 8
+before breakpoint 0: line 9
+1 ahead: local 0: line 8
+> run
+1 step, depth 9
+breakpoint 0: line 9
+next: local 0: line 9
+> break change 2 work
+breakpoint 1: change 2 work
+> breaks
+breakpoint 0: line 9
+breakpoint 1: change 2 work
+> delete 0
+deleted 0
+> break 7
+breakpoint 0: line 7
+> run-back
+3 steps back, depth 6
+before breakpoint 0: line 7
+3 ahead: release: all ranks leave the barrier
+> delete 0
+deleted 0
+> run
+8 steps, depth 14
+ended: deadlock 0.1 1.1
+  rank 0 waits at line 9, 0.1 barrier: for all ranks at a barrier
+    rank 2 is not there: it has ended
+  rank 1 waits at line 9, 1.1 barrier: for all ranks at a barrier
+    rank 2 is not there: it has ended
+  rank 0 waits for rank 2 (ended)
+  rank 1 waits for rank 2 (ended)
+> why 0.0
+line 6, 0.0 barrier
+> why 0.1
+line 9, 0.1 barrier
+    rank 2 is not there: it has ended
+'''),
+    Dialogue('a breakpoint of each kind, and of two the lower', 'first_message.mpd', '''
+> break line 9
+breakpoint 0: line 9
+> break match 6
+breakpoint 1: match 6
+> break change 1 x
+breakpoint 2: change 1 x
+> break match 8
+breakpoint 3: match 8
+> run
+5 steps, depth 5
+breakpoint 1: match 6
+next: wake 0: line 6
+> run 2
+2 steps, depth 7
+breakpoint 0: line 9
+next: local 1: line 9
+> delete 0
+deleted 0
+> delete 1
+deleted 1
+> run-back
+1 step back, depth 6
+before breakpoint 2: change 1 x
+1 ahead: wake 1: line 8
+> run-back
+2 steps back, depth 4
+before breakpoint 3: match 8
+3 ahead: match 0.0 1.0: the send of rank 0, line 6, to the receive of rank 1, line 8
+> run
+1 step, depth 5
+breakpoint 3: match 8
+2 ahead: wake 0: line 6
+> run
+2 steps, depth 7
+breakpoint 2: change 1 x
+next: local 1: line 9
+'''),
+    Dialogue('as many steps as are kept', LOOP, '''
+> run
+3 steps, depth 3
+stopped: no more than 1000000 steps are kept
+next: local 0: line 2
+> next
+refused: no more than 1000000 steps are kept
+> local 0
+refused: no more than 1000000 steps are kept
+> local 1
+refused: this step is not enabled
+> check
+1 no choice: cut
+1 run, and no more (1 cut)
+> deadlock
+no deadlock: 1 run, and no more (1 cut)
+> run 1
+0 steps, depth 3
+stopped: no more than 1000000 steps are kept
+next: local 0: line 2
+> back 2
+depth 1
+2 ahead: local 0: line 2
+> run 1
+1 step, depth 2
+stopped: as many steps as were asked for
+1 ahead: local 0: line 2
+> check
+1 no choice: cut
+1 run, and no more (1 cut)
+> run 1
+1 step, depth 3
+stopped: no more than 1000000 steps are kept
+next: local 0: line 2
+''', limit=3),
+    Dialogue('what is left of the steps that are kept', 'loop.mpd', '''
+> check
+1 no choice: cut
+1 run, and no more (1 cut)
+> run 4
+4 steps, depth 4
+stopped: as many steps as were asked for
+next: local 0: line 7
+> check
+1 no choice: cut
+1 run, and no more (1 cut)
+''', limit=10),
+    Dialogue('and where all are kept', 'loop.mpd', '''
+> run 3
+3 steps, depth 3
+stopped: as many steps as were asked for
+next: local 0: line 6
+> check
+1 no choice: done
+1 run, and no more (1 done)
+> deadlock
+no deadlock: 1 run, and no more (1 done)
+''', limit=11),
+    Dialogue('a run of one step too many, and the same from its second step on, where few may be tried',
+             'mpd 1; ranks 1; var x;\nwhile x < 4 { x = x + 1; }\nprint 1;\nprint 2;', '''
+> check
+1 no choice: cut
+1 run, and no more (1 cut)
+> deadlock
+no deadlock: 1 run, and no more (1 cut)
+> next
+1 local 0: line 2
+next: local 0: line 2
+> check
+1 no choice: done
+1 run, and no more (1 done)
+> deadlock
+no deadlock: 1 run, and no more (1 done)
+''', fuel=10),
+    Dialogue('steps ahead that are not those that come next', 'first_message.mpd', '''
+> next
+1 local 0: line 5
+next: local 0: line 6
+> local 1
+2 local 1: line 5
+next: local 0: line 6
+> local 1
+3 local 1: line 8
+next: local 0: line 6
+> back 2
+depth 1
+2 ahead: local 1: line 5
+> words
+local 0
+> enabled
+local 0: line 6
+local 1: line 5
+> check
+1 no choice: done
+1 run, and no more (1 done)
+> redo
+2 local 1: line 5
+1 ahead: local 1: line 8
+> next
+3 local 0: line 6
+next: local 1: line 8
+> redo
+refused: fewer steps are ahead
+'''),
+    Dialogue('a match that is enabled behind a local step', 'stolen_message.mpd', '''
+> run 6
+6 steps, depth 6
+stopped: as many steps as were asked for
+next: local 2: line 7
+> enabled
+local 2: line 7
+match 1.0 0.0: the send of rank 1, line 13, to the receive of rank 0, line 8
+'''),
+    Dialogue('the first of two deadlocks', 'missing_sender.mpd', '''
+> deadlock
+deadlock 0.2 is 21 steps ahead
+21 ahead: local 0: line 7
+> redo 7
+depth 7
+14 ahead: match 1.0 0.0: the send of rank 1, line 15, to the receive of rank 0, line 9
+stopped at a choice of rank 0, line 9:
+  1 match 1.0 0.0: the send of rank 1, line 15, to the receive of rank 0, line 9
+  2 match 2.0 0.0: the send of rank 2, line 15, to the receive of rank 0, line 9
+'''))
+# What takes the model some seconds.
+FIRST_RUNS = (
+    Dialogue('more runs than are listed where no number is said', SEVEN_SENDERS,
+             f'> check\n{first_orders(1000)}\n1000 runs, and there are more (1000 done)\n> check 1001\n{first_orders(1001)}\n'
+             '1001 runs, and there are more (1001 done)\n'),)

@@ -1,0 +1,277 @@
+"""Worked rows of checks that list ends or group their leaves, of runs by their choices, and of witnesses in whole reports.
+
+Each was worked out by hand from the rules (docs/DEFINITIONS.md, "What a walk says of all runs"; docs/FORMATS.md). compare/runs/worked.py has the
+model answer them, compare/runs/ends.py a program those of CHECKS, and compare/runs/reread.py those of WORDS and LEAVES.
+"""
+
+from itertools import product
+from typing import NamedTuple, Optional
+
+from cases.rare_cases import Races
+from model.debugger import BUFFERED, RENDEZVOUS, Result
+from model.explorer import Asked
+from model.run_words import WRONG_WORDS, Words
+from model.witness import LONGEST, Verification
+from rows.worked_explorer import BOTH_ANY, LOW_WANTED, OF_THREE, SIX, STUCK, TO_ITSELF, WITNESSED, CheckRow, check_problem, counting, gathering
+from rows.worked_pieces import TOO_MANY
+from rows.worked_runs import EMPTY, HEAD_TO_HEAD, ON_AND_ON, THREE
+
+# Four races of two senders, which share nothing: 2 * 2 * 2 * 2 ends, where the 8 matches have 40,320 orders. A match of a race stands in
+# front of those of the later races, so behind each other order what was tried before sleeps, and the last of that race never comes.
+FOUR_RACES = Races(4).script()
+ORDERS = [' '.join(f'{choice} 0' for choice in choices) for choices in product((0, 1), repeat=4)]
+BY_FOUR = '; '.join([*(f'leaf {number} [{choices}] done' for number, choices in enumerate(ORDERS)), 'leaves 16 more no'])
+# Two races of two senders, of which one is received: the first choice is among 1.0 and 2.0 for rank 0, and 4.0 and 5.0 for rank 3.
+# Where the second race is first, both candidates of the other one sleep.
+TWO_RACES = Races(2, 2, 1).script()
+STUCK_RACES = ('[0 0] deadlock 2.0 5.0', '[0 1] deadlock 2.0 4.0', '[1 0] deadlock 1.0 5.0', '[1 1] deadlock 1.0 4.0')
+BY_TWO = '; '.join([*(f'leaf {number} {leaf}' for number, leaf in enumerate(STUCK_RACES)), 'leaves 4 more no'])
+ALL_OF_TWO = BY_TWO.replace('leaves 4 more no', 'leaf 4 [2 0] deadlock 2.0 5.0; leaf 5 [2 1] deadlock 1.0 5.0; leaf 6 [3 0] deadlock 2.0 4.0; '
+                            'leaf 7 [3 1] deadlock 1.0 4.0; leaves 8 more no')
+# All senders of one race are received: each order is an end of its own.
+THREE_SENDERS = Races(1, 3, 3).script()
+BY_SENDERS = ('leaf 0 [0 0 0] done; leaf 1 [0 1 0] done; leaf 2 [1 0 0] done; leaf 3 [1 1 0] done; leaf 4 [2 0 0] done; leaf 5 [2 1 0] done; '
+              'leaves 6 more no')
+# Rank 3 sends to rank 1 before it sends to rank 0, so its second message comes where that of rank 2 sleeps, and is taken beside it.
+LATE = ('mpd 1; ranks 4; var x;\nif rank == 0 { recv x from any tag any; recv x from any tag any; }\nif rank == 1 { recv x from any tag any; }\n'
+        'if rank == 2 { send 2 to 0 tag 0; }\nif rank == 3 { send 3 to 1 tag 0; send 3 to 0 tag 0; }')
+# Both requests are complete, and are taken in either order; a wake doesn't sleep, since what it waits for may be waited for again.
+TWO_REQUESTS = ('mpd 2; ranks 1; var i; req r[2];\n'
+                'isend r[0] 1 to 0 tag 0; isend r[1] 2 to 0 tag 0; waitany r to i; waitany r to i;')
+BY_REQUESTS = 'leaf 0 [0 0] leftovers 0.0 0.1; leaf 1 [1 0] leftovers 0.0 0.1; leaves 2 more no'
+
+
+def cut(*choices):
+    """The lines of runs that are all cut, by their choices."""
+    return '; '.join([*(f'leaf {number} [{one}] cut' for number, one in enumerate(choices)), f'leaves {len(choices)} more no'])
+
+
+ENDS = Asked(ends=True)
+ENDED = (
+    CheckRow(FOUR_RACES, ENDS, BY_FOUR, 0), CheckRow(FOUR_RACES, ENDS._replace(complete=True), BY_FOUR, 0),
+    *(CheckRow(FOUR_RACES, ENDS._replace(split=split), BY_FOUR, 0) for split in (0, 2)),
+    CheckRow(TWO_RACES, Asked(), ALL_OF_TWO, 1), *(CheckRow(TWO_RACES, ENDS._replace(split=split), BY_TWO, 1) for split in (0, 1, 2, 3)),
+    CheckRow(THREE_SENDERS, Asked(), BY_SENDERS, 0), CheckRow(THREE_SENDERS, ENDS, BY_SENDERS, 0),
+    CheckRow(LATE, Asked(), 'leaf 0 [0 0 0] done; leaf 1 [1 0 0] done; leaf 2 [1 1 0] done; leaves 3 more no', 0),
+    *(CheckRow(LATE, ENDS._replace(split=split), 'leaf 0 [0 0 0] done; leaf 1 [1 1 0] done; leaves 2 more no', 0) for split in (0, 1, 2, 8)),
+    # where all runs end otherwise, the report is the same
+    CheckRow(THREE, ENDS, OF_THREE, 1), CheckRow(THREE, ENDS._replace(witnesses=True), WITNESSED, 1),
+    CheckRow(EMPTY, ENDS, 'leaf 0 [] done; leaves 1 more no', 0), CheckRow(TO_ITSELF, ENDS._replace(fuel=14), cut('0 0 0'), 0),
+    CheckRow(BOTH_ANY, ENDS, 'leaf 0 [0 0] done; leaf 1 [1 0] done; leaves 2 more no', 0),
+    # so many ends of each piece; a piece is cut by all candidates, and may have no end
+    CheckRow(TWO_RACES, ENDS._replace(pieces=True), 'pieces 4', 0), CheckRow(TWO_RACES, ENDS._replace(split=2, pieces=True), 'pieces 8', 0),
+    CheckRow(TWO_RACES, ENDS._replace(piece=1), 'leaf 0 [1 0] deadlock 1.0 5.0; leaf 1 [1 1] deadlock 1.0 4.0; leaves 2 more no', 1),
+    *(CheckRow(TWO_RACES, ENDS._replace(piece=piece, complete=complete), 'leaves 0 more no', 0) for piece in (2, 3) for complete in (False, True)),
+    *(CheckRow(TWO_RACES, ENDS._replace(split=2, piece=piece, runs=1, until=True), 'leaves 0 more no', 0) for piece in (4, 5, 6, 7)),
+    CheckRow(TWO_RACES, ENDS._replace(split=2, piece=3), 'leaf 0 [1 1] deadlock 1.0 4.0; leaves 1 more no', 1),
+    CheckRow(TWO_RACES, ENDS._replace(piece=4), '', 2, 'mpdbg: no piece 4 of 4'),
+    # of four races there are 8 candidates, and then one less each time: 8 * 7 * 6 pieces by three choices, and 1,680 by four
+    CheckRow(FOUR_RACES, ENDS._replace(split=3, pieces=True), 'pieces 336', 0), CheckRow(FOUR_RACES, ENDS._replace(split=4), '', 2, TOO_MANY),
+    CheckRow(TWO_RACES, ENDS._replace(runs=1), f'leaf 0 {STUCK_RACES[0]}; leaf 1 {STUCK_RACES[2]}; leaves 2 more yes', 1),
+    CheckRow(TWO_RACES, ENDS._replace(runs=2), BY_TWO, 1), CheckRow(TWO_RACES, ENDS._replace(runs=1, split=2), BY_TWO, 1),
+    CheckRow(TWO_RACES, ENDS._replace(runs=4, split=0), BY_TWO, 1),
+    CheckRow(TWO_RACES, ENDS._replace(runs=3, split=0), BY_TWO.replace(f'; leaf 3 {STUCK_RACES[3]}; leaves 4 more no', '; leaves 3 more yes'), 1),
+    # up to the first deadlock
+    CheckRow(TWO_RACES, ENDS._replace(until=True), f'leaf 0 {STUCK_RACES[0]}; leaves 1 more yes', 1),
+    CheckRow(LATE, ENDS._replace(until=True), 'leaf 0 [0 0 0] done; leaf 1 [1 1 0] done; leaves 2 more no', 0),
+    # twelve steps are before the first choice, three are taken by a match and what goes on by it; what is cut behind different matches is
+    # another end each time, and where all candidates sleep nothing is cut
+    CheckRow(TWO_RACES, ENDS._replace(fuel=12), cut(''), 0), CheckRow(TWO_RACES, ENDS._replace(fuel=13), cut('0', '1', '2', '3'), 0),
+    CheckRow(TWO_RACES, ENDS._replace(fuel=15, complete=True), cut('0', '1', '2', '3'), 4),
+    *(CheckRow(TWO_RACES, ENDS._replace(fuel=fuel), cut('0 0', '0 1', '1 0', '1 1'), 0) for fuel in (16, 17)),
+    CheckRow(TWO_RACES, ENDS._replace(fuel=18), BY_TWO, 1),
+    # in each mode
+    CheckRow(TWO_RACES, ENDS._replace(mode=BUFFERED, complete=True), BY_TWO.replace('deadlock', 'leftovers'), 0),
+    CheckRow(TWO_RACES, ENDS._replace(mode='slots:1', complete=True), BY_TWO.replace('deadlock', 'leftovers'), 4),
+    CheckRow(TWO_RACES, ENDS._replace(modes=0), 'rendezvous leaves 4 deadlocks 4 traps 0 cut 0 more no; '
+             'buffered leaves 4 deadlocks 0 traps 0 cut 0 more no; least buffered', 1),
+    # a choice among requests
+    CheckRow(TWO_REQUESTS, ENDS._replace(mode=BUFFERED), BY_REQUESTS, 0),
+    CheckRow(TWO_REQUESTS, ENDS._replace(mode=BUFFERED, complete=True), BY_REQUESTS, 4),
+    CheckRow(TWO_REQUESTS, ENDS, 'leaf 0 [] deadlock 0.2; leaves 1 more no', 1))
+
+GROUPED = (
+    CheckRow(THREE, Asked(group=True), 'end 0 leaves 1 first 0 done; end 1 leaves 1 first 1 deadlock 0.1 1.0; leaves 2 more no', 1),
+    CheckRow(THREE, Asked(group=True, witnesses=True),
+             f'end 0 leaves 1 first 0 done; end 1 leaves 1 first 1 deadlock 0.1 1.0; witness 1: {STUCK}; leaves 2 more no', 1),
+    CheckRow(TWO_RACES, Asked(group=True), 'end 0 leaves 2 first 0 deadlock 2.0 5.0; end 1 leaves 2 first 1 deadlock 2.0 4.0; '
+             'end 2 leaves 2 first 2 deadlock 1.0 5.0; end 3 leaves 2 first 3 deadlock 1.0 4.0; leaves 8 more no', 1),
+    CheckRow(TWO_RACES, ENDS._replace(group=True), 'end 0 leaves 1 first 0 deadlock 2.0 5.0; end 1 leaves 1 first 1 deadlock 2.0 4.0; '
+             'end 2 leaves 1 first 2 deadlock 1.0 5.0; end 3 leaves 1 first 3 deadlock 1.0 4.0; leaves 4 more no', 1),
+    CheckRow(TWO_RACES, Asked(group=True, piece=3),
+             'end 0 leaves 1 first 0 deadlock 2.0 4.0; end 1 leaves 1 first 1 deadlock 1.0 4.0; leaves 2 more no', 1),
+    CheckRow(TWO_RACES, ENDS._replace(group=True, piece=2, witnesses=True), 'leaves 0 more no', 0),
+    CheckRow(TWO_RACES, Asked(group=True, pieces=True), 'pieces 4', 0),
+    CheckRow(FOUR_RACES, ENDS._replace(group=True, complete=True), 'end 0 leaves 16 first 0 done; leaves 16 more no', 0),
+    CheckRow(THREE, Asked(group=True, fuel=9), 'end 0 leaves 2 first 0 cut; leaves 2 more no', 0),
+    CheckRow(THREE, Asked(group=True, fuel=9, complete=True), 'end 0 leaves 2 first 0 cut; leaves 2 more no', 4),
+    CheckRow(gathering(12, 2), Asked(group=True, runs=2, split=0), 'end 0 leaves 1 first 0 leftovers 3.0 4.0 5.0 6.0 7.0 8.0 9.0 10.0 11.0; '
+             'end 1 leaves 1 first 1 leftovers 2.0 4.0 5.0 6.0 7.0 8.0 9.0 10.0 11.0; leaves 2 more yes', 0),
+    CheckRow(LOW_WANTED, Asked(group=True, until=True), 'end 0 leaves 1 first 0 deadlock 2.0; leaves 1 more yes', 1),
+    CheckRow(LOW_WANTED, Asked(group=True, witnesses=True),
+             f'end 0 leaves 1 first 0 deadlock 2.0; witness 0: {SIX}, match 1.0 0.0, wake 0, local 0, wake 1; '
+             'end 1 leaves 1 first 1 trap 0 assert; leaves 2 more no', 1),
+    CheckRow(TWO_RACES, Asked(group=True, modes=0), 'rendezvous leaves 8 deadlocks 8 traps 0 cut 0 more no; '
+             'buffered leaves 8 deadlocks 0 traps 0 cut 0 more no; least buffered', 1))
+
+CHECKS = ENDED + GROUPED
+# What takes the model long, and is asked of programs alone: all orders of the matches of four races, one more race, and all four in pieces
+# of which most have no end.
+LONG_CHECKS = (
+    CheckRow(FOUR_RACES, Asked(group=True, runs=65536, split=0), 'end 0 leaves 40320 first 0 done; leaves 40320 more no', 0),
+    CheckRow(FOUR_RACES, Asked(group=True, runs=40319, split=0, complete=True), 'end 0 leaves 40319 first 0 done; leaves 40319 more yes', 4),
+    CheckRow(Races(5).script(), ENDS._replace(group=True, complete=True), 'end 0 leaves 32 first 0 done; leaves 32 more no', 0),
+    CheckRow(Races(5).script(), ENDS._replace(group=True, runs=31, split=0, complete=True), 'end 0 leaves 31 first 0 done; leaves 31 more yes', 4),
+    *(CheckRow(FOUR_RACES, ENDS._replace(split=split, complete=True), BY_FOUR, 0) for split in (1, 2, 3)))
+
+
+class WordsRow(NamedTuple):
+    """A script (None: no file), choices, the steps of their run, or what is said on standard error, and its status; a mode, and fuel."""
+    script: Optional[str]
+    choices: str
+    steps: str
+    errors: str = ''
+    mode: Optional[str] = None
+    fuel: Optional[int] = None
+    status: int = 2
+
+    def case(self):
+        return Words(None if self.script is None else self.script.encode(), self.choices, self.mode, self.fuel)
+
+    def wanted(self):
+        if self.errors:
+            return Result(b'', f'mpdbg: {self.errors}\n'.encode(), self.status)
+        return Result(''.join(f'{step}\n' for step in self.steps.split(', ') if step).encode(), b'', 0)
+
+
+def bad(script, choices, place, **more):
+    """A row of choices that no run has."""
+    return WordsRow(script, choices, '', f'bad choices at {place}', **more)
+
+
+FIRST_OF_THREE = f'{SIX}, match 1.0 0.0, wake 0, local 0, wake 1, match 2.0 0.1, wake 0, wake 2'
+ROUND = 'local 0, local 0, local 0, match 0.{} 0.{}, wake 0'
+WORDS = (
+    WordsRow(THREE, '1', STUCK), WordsRow(THREE, '0', FIRST_OF_THREE), WordsRow(THREE, '1', STUCK, mode=RENDEZVOUS), WordsRow(EMPTY, '', ''),
+    WordsRow(HEAD_TO_HEAD, '', 'local 0, local 1'), WordsRow(THREE, '01', STUCK), WordsRow(THREE, '000000001', STUCK),
+    # a run that is cut, to where its fuel is used up
+    WordsRow(THREE, '', SIX, fuel=6), WordsRow(THREE, '', 'local 0, local 0, local 1, local 1, local 2', fuel=5),
+    WordsRow(THREE, '0', f'{SIX}, match 1.0 0.0', fuel=7),
+    WordsRow(THREE, '1', STUCK, fuel=10), WordsRow(THREE, '1', STUCK.removesuffix(', wake 2'), fuel=9),
+    WordsRow(TO_ITSELF, '0 0', f'{ROUND.format(0, 1)}, {ROUND.format(2, 3)}, local 0, local 0, local 0', fuel=13),
+    WordsRow(TO_ITSELF, '0  0   0', f'{ROUND.format(0, 1)}, {ROUND.format(2, 3)}, {ROUND.format(4, 5).removesuffix(", wake 0")}', fuel=14),
+    bad(TO_ITSELF, '0 0', 2, fuel=14), bad(TO_ITSELF, '0 0 0', 2, fuel=13), bad(TO_ITSELF, '0 1 0', 1, fuel=14),
+    bad(TO_ITSELF, '0 0 0 0', 3, fuel=14),
+    # fewer than the run has, more, and candidates that are not there
+    bad(THREE, '', 0), bad(THREE, '2', 0), bad(THREE, '999999999', 0), bad(THREE, '0 0', 1), bad(THREE, '1 0', 1), bad(THREE, '0', 0, fuel=6),
+    bad(BOTH_ANY, '0', 1), bad(BOTH_ANY, '1 1', 1), bad(BOTH_ANY, '2 0', 0), bad(BOTH_ANY, '0 0 0', 2), bad(EMPTY, '0', 0),
+    bad(HEAD_TO_HEAD, '0 0', 0),
+    bad(TWO_REQUESTS, '0 0', 0), WordsRow(TWO_REQUESTS, '', 'local 0, local 0, local 0'),
+    WordsRow(TWO_REQUESTS, '1 0', 'local 0, local 0, local 0, wakeany 0 1, local 0, wakeany 0 0', mode=BUFFERED),
+    bad(TWO_REQUESTS, '1 1', 1, mode=BUFFERED),
+    # runs that sleep are runs, too
+    WordsRow(TWO_RACES, '2 0',
+             ', '.join([*(f'local {rank}, local {rank}' for rank in range(6)), 'match 4.0 3.0, wake 3, wake 4, match 1.0 0.0, wake 0, wake 1'])),
+    # the mode comes before the file, that before the script, and that before the choices
+    WordsRow(THREE, '2', '', 'bad mode', mode='fast'), WordsRow(None, '0', '', 'bad mode', mode='fast'), WordsRow(None, '9', '', 'device', status=3),
+    WordsRow('mpd 1;ranks 1;print', '9', '', 'script refused 4 expected at 19 line 1'))
+
+# Runs of 100,000 steps, where no fuel is named, and of as many steps as there may be; of programs alone.
+LONG_WORDS = (
+    WordsRow(counting(49999, 'recv i from 0 tag 0;'), '', ', '.join(['local 0'] * 100000)),
+    WordsRow(counting(49999, 'print 1; recv i from 0 tag 0;'), '', ', '.join(['local 0'] * 100000)),
+    bad(counting(49999, 'recv i from 0 tag 0;'), '0', 0), WordsRow(ON_AND_ON, '', ', '.join(['local 0'] * 1000000), fuel=1000000))
+
+# Wrong words of `check` and of `verify`, which are tested before the mode, which is wrong too.
+MISTAKES_OF_CHECK = ('--ends --ends', '--ends 1', '--ends=yes', '--ends=', '--group --group', '--group 1', '--group=no', '--Ends', '--end')
+MISTAKES_OF_VERIFY = ('--leaf', '--leaf -1', '--leaf x', '--leaf 1.0', '--leaf 0 --leaf 0', '--leaf 67108864', '--leaf=', '--leaf 0 1', '--leaves 0')
+# Wrong words: choices that are no numbers, and options; they are tested before the mode, which is wrong too.
+MISTAKES = (('--choices', '0,1'), ('--choices', 'x'), ('--choices', '-1'), ('--choices=-1',), ('--choices', '+1'), ('--choices', '1000000000'),
+            ('--choices', '0 0000000000'), ('--choices', '[0]'), ('--choices', '0.0'), ('--choices', '0\t0'), ('--choices', '0\n'), (),
+            ('--choices',), ('--choices', '0', '--choices', '0'), ('--choices', '0', '--fuel', '0'), ('--choices', '0', '--fuel', '1000001'),
+            ('--choices', '0', '--fuel', 'x'),
+            ('--choices', '0', '--runs', '5'), ('--choices', '0', '--witness'), ('--choices', '0', 'more'), ('--choices', '0', '1'))
+
+
+class LeafRow(NamedTuple):
+    """A script, the text of a report, a leaf or None, what `verify` answers (None: it has no such witness), and the mode."""
+    script: str
+    text: str
+    leaf: Optional[int]
+    output: Optional[str]
+    mode: Optional[str] = None
+
+    def case(self):
+        return Verification(self.script.encode(), self.text.encode(), self.mode, leaf=self.leaf)
+
+    def wanted(self):
+        if self.output is None:
+            return Result(b'', b'mpdbg: bad witness\n', 2)
+        return Result(f'{self.output}\n'.encode(), b'', 0 if self.output == 'accepted' else 1)
+
+
+# One of two messages is received, and the other sender waits for ever.
+ONE_OF_TWO = 'mpd 1; ranks 3; var x;\nif rank == 0 { recv x from any tag any; } else { send rank to 0 tag 0; }'
+LEAVES_OF_TWO = (('leaf 0 [0] deadlock 2.0', f'witness 0: {SIX}, match 1.0 0.0, wake 0, wake 1'),
+                 ('leaf 1 [1] deadlock 1.0', f'witness 1: {SIX}, match 2.0 0.0, wake 0, wake 2'))
+LAST = 'leaves 2 more no'
+
+
+def lines(*parts):
+    """The text of these lines."""
+    return ''.join(f'{line}\n' for line in parts)
+
+
+BOTH = lines(*LEAVES_OF_TWO[0], *LEAVES_OF_TWO[1], LAST)
+ONE_DONE = lines(*WITNESSED.split('; '))
+EXPLAINED = lines(*LEAVES_OF_TWO[0], '  rank 2, line 2, waits in 2.0 send to 0 tag 0 value 2',
+                  '  rank 2 waits for nobody who is left: rank 0 has ended', *LEAVES_OF_TWO[1],
+                  '  rank 1, line 2, waits in 1.0 send to 0 tag 0 value 1', '  witness 0: local 0', '  leaf 7 [] deadlock 0.0', LAST)
+WITH_TEN = lines('leaf 1 [1] done', 'leaf 10 [0] deadlock 2.0', LEAVES_OF_TWO[0][1].replace('witness 0', 'witness 10'), 'leaves 11 more no')
+LEAVES = (
+    LeafRow(ONE_OF_TWO, BOTH, 0, 'accepted'), LeafRow(ONE_OF_TWO, BOTH, 1, 'accepted'), LeafRow(ONE_OF_TWO, EXPLAINED, 0, 'accepted'),
+    LeafRow(ONE_OF_TWO, EXPLAINED, 1, 'accepted'), LeafRow(THREE, ONE_DONE, 1, 'accepted'), LeafRow(THREE, ONE_DONE, None, 'accepted'),
+    LeafRow(ONE_OF_TWO, lines(*LEAVES_OF_TWO[0], LEAVES_OF_TWO[1][0], LAST), None, 'accepted'),
+    LeafRow(ONE_OF_TWO, lines(LEAVES_OF_TWO[0][0], '  said of it', *LEAVES_OF_TWO[1], '  said of it', LAST), None, 'accepted'),
+    LeafRow(ONE_OF_TWO, lines(*LEAVES_OF_TWO[0]), 0, 'accepted'),
+    # a leaf that has none, several and none named, no leaf of that number, none right behind
+    LeafRow(THREE, ONE_DONE, 0, None), LeafRow(THREE, ONE_DONE, 2, None), LeafRow(ONE_OF_TWO, BOTH, None, None),
+    LeafRow(ONE_OF_TWO, EXPLAINED, None, None),
+    LeafRow(ONE_OF_TWO, BOTH, 2, None), LeafRow(ONE_OF_TWO, BOTH, 7, None),
+    LeafRow(ONE_OF_TWO, lines(LEAVES_OF_TWO[0][0], LEAVES_OF_TWO[1][0], LAST), None, None),
+    LeafRow(ONE_OF_TWO, lines(LEAVES_OF_TWO[0][0], *LEAVES_OF_TWO[1], LAST), 0, None),
+    LeafRow(ONE_OF_TWO, lines(LEAVES_OF_TWO[0][0], '  x', LEAVES_OF_TWO[0][1], LAST), 0, None),
+    LeafRow(EMPTY, lines('leaf 0 [] done', 'leaves 1 more no'), None, None), LeafRow(EMPTY, lines('leaf 0 [] done', 'leaves 1 more no'), 0, None),
+    LeafRow(EMPTY, lines('leaves 0 more no'), None, None),
+    LeafRow(ONE_OF_TWO, lines(LEAVES_OF_TWO[0][0], '  x', LEAVES_OF_TWO[0][1], *LEAVES_OF_TWO[1], LAST), None, None),
+    *(LeafRow(ONE_OF_TWO, WITH_TEN, leaf, wanted) for leaf, wanted in ((10, 'accepted'), (1, None), (0, None), (100, None))),
+    # other steps, other calls, of the leaf that is named alone
+    LeafRow(ONE_OF_TWO, BOTH.replace('wake 0, wake 2', 'wake 0'), 0, 'accepted'),
+    LeafRow(ONE_OF_TWO, BOTH.replace('wake 0, wake 2', 'wake 0'), 1, 'refused 33 not-stuck'),
+    LeafRow(ONE_OF_TWO, BOTH.replace('match 1.0 0.0', 'match 1.0 0.1'), 0, 'refused 32 no-such-step at 6'),
+    LeafRow(ONE_OF_TWO, BOTH.replace('match 1.0 0.0', 'match 1.0 0.1'), 1, 'accepted'),
+    LeafRow(ONE_OF_TWO, BOTH.replace('deadlock 2.0', 'deadlock 1.0'), 0, 'refused 34 wrong-blocked'),
+    LeafRow(ONE_OF_TWO, BOTH.replace('deadlock 2.0', 'deadlock 1.0'), 1, 'accepted'),
+    # the mode
+    LeafRow(ONE_OF_TWO, BOTH, 0, 'refused 33 not-stuck', BUFFERED), LeafRow(ONE_OF_TWO, BOTH, 0, 'accepted', RENDEZVOUS))
+
+
+# As many bytes as a report may have, and one more; of programs alone.
+LONG_LEAVES = (LeafRow(ONE_OF_TWO, BOTH.ljust(LONGEST, '\n'), 1, 'accepted'), LeafRow(ONE_OF_TWO, BOTH.ljust(LONGEST + 1, '\n'), 1, None))
+
+
+def said_problem(row):
+    """What is answered otherwise than a row wants; None where nothing is."""
+    said, wanted = row.case().wanted(), row.wanted()
+    if getattr(row, 'output', '') is None:
+        return None if (said.output, said.status) == (b'', 2) and said.errors.startswith(b'mpdbg: bad witness') else f'{said}'
+    return None if said == wanted else f'{said}'
+
+
+def problems():
+    """The name of each row, with what is wrong in it, or None."""
+    return ([(f'check {row.script} {row.asked}', check_problem(row)) for row in CHECKS]
+            + [(f'words {row.script} {row.choices!r} {row.mode} {row.fuel}', said_problem(row)) for row in WORDS]
+            + [(f'verify {row.script} --leaf {row.leaf}: {row.text[:300]!r}', said_problem(row)) for row in LEAVES]
+            + [(f'choices {words}', None if Words(b'', words[1]).wanted() == WRONG_WORDS else 'they are choices') for words in MISTAKES[:11]
+               if len(words) == 2])

@@ -1,0 +1,334 @@
+"""Worked rows of checks that explain deadlocks and traps, each worked out by hand from docs/FORMATS.md ("Explanations", "Groups").
+
+compare/runs/worked.py has the model answer them, and compare/runs/explained.py a program. A script is one of examples/, or stands here.
+"""
+
+from typing import NamedTuple
+
+from cases.explore_cases import Case
+from model.debugger import BUFFERED, RENDEZVOUS, Result
+from model.explorer import Asked
+from places import EXAMPLES
+
+# Requests that are waited for, of which each is nearly the other's partner.
+WAITS = '''mpd 1; ranks 2;
+var x; req h; req r[2];
+if rank == 0 {
+  irecv h x from 1 tag 3;
+  wait h;
+} else {
+  isend r[1] 7 to 0 tag 4;
+  wait r[1];
+}
+'''
+# A wait for any of two requests, the later of which has the first handle; one goes to a rank that has ended.
+ANY_OF_TWO = '''mpd 2; ranks 3;
+var x; var i; req r[3];
+if rank == 0 {
+  irecv r[2] x from 1 tag 1;
+  issend r[0] 5 to 2 tag 0;
+  waitany r to i;
+}
+if rank == 1 { recv x from 0 tag 0; }
+'''
+# Both ranks wait for any of two requests, and for one rank alone.
+ANY_OF_ONE_RANK = '''mpd 2; ranks 2;
+var x; var i; req r[2];
+irecv r[0] x from 1 - rank tag 0;
+irecv r[1] x from 1 - rank tag 1;
+waitany r to i;
+'''
+# A loop sends once more than is received; the last that was taken counts.
+ONCE_MORE = '''mpd 1; ranks 2; var x;
+if rank == 0 {
+  while 1 {
+    send 7 to 1 tag 2;
+  }
+} else { recv x from any tag 2; recv x from 0 tag any; }
+'''
+# Three ranks wait for each other, and a fourth one for one of them.
+OF_THREE = '''mpd 1; ranks 4; var x;
+if rank < 3 {
+  recv x from (rank + 1) % 3 tag 0;
+  send 1 to (rank + 2) % 3 tag 0;
+} else { recv x from 1 tag any; }
+'''
+# Two pairs wait for each other, and a rank for itself.
+APART = '''mpd 1; ranks 5; var x;
+if rank == 4 { ssend 1 to 4 tag 9; }
+recv x from 3 - rank tag rank;
+'''
+# Two ranks trap, one behind a loop, in a statement of two lines; what a third one waits for isn't told.
+TWO_TRAPS = '''mpd 1; ranks 3; var x; var a[2];
+if rank == 0 { a[2] = 1; }
+if rank == 1 {
+  while x < 3 { x = x + 1; }
+  send 1
+    to 3 tag 0;
+}
+recv x from 0 tag 0;
+'''
+# One rank is at a barrier, one at a receive behind which it has no statement left, and one has ended.
+ALONE_AT_IT = '''mpd 1; ranks 3; var x;
+if rank == 0 { barrier; }
+if rank == 1 { recv x from any tag 4; }
+'''
+NOBODY = 'mpd 1; ranks 1; var x;\nrecv x from any tag any;'
+# Of what nearly fits the first send, another tag counts, though a receive of another source stands before it.
+IN_ORDER = '''mpd 1; ranks 3; var x; req r[4];
+if rank == 0 {
+  irecv r[0] x from 2 tag 0;
+  irecv r[1] x from 1 tag 1;
+  irecv r[2] x from any tag 2;
+}
+if rank == 1 { send 7 to 0 tag 0; }
+if rank == 2 { recv x from 1 tag 0; }
+'''
+# The first by rank, and not by number, of those with another tag.
+FIRST_BY_RANK = '''mpd 1; ranks 4; var x; req r[2];
+if rank == 0 { recv x from any tag 0; }
+if rank == 1 { issend r[0] 5 to 3 tag 0; issend r[1] 6 to 0 tag 1; }
+if rank == 2 { issend r[0] 8 to 0 tag 2; }
+'''
+# Another source counts, though a send to another rank stands before it.
+SOURCE_FIRST = '''mpd 1; ranks 3; var x; req r;
+if rank == 0 { recv x from 1 tag 0; }
+if rank == 1 { issend r 5 to 2 tag 0; }
+if rank == 2 { issend r 6 to 0 tag 0; }
+'''
+OTHER_SOURCE = '''mpd 1; ranks 3; var x;
+if rank == 0 { recv x from 2 tag 0; }
+if rank == 1 { ssend 7 to 0 tag 0; }
+'''
+
+STOLEN = '''  rank 0 waits at line 9, 0.1 recv from 1 tag 7: for a send of rank 1 with tag 7
+    the last that fits is taken: line 13, 1.0 send to 0 tag 7 value 42, by line 8, 0.0 irecv from any tag any
+  rank 2 waits at line 13, 2.0 send to 0 tag 1 value 5: for a receive of rank 0 from rank 2 with tag 1
+    the last that fits is taken: line 8, 0.0 irecv from any tag any, by line 13, 1.0 send to 0 tag 7 value 42
+  rank 0 waits for rank 1 (ended)
+  rank 2 waits for rank 0
+'''
+STOLEN_STEPS = 'witness 0: local 0, local 0, local 0, local 1, local 1, local 1, local 2, local 2, local 2, match 1.0 0.0, wake 1\n'
+SWAPPED = '''leaf 0 [] deadlock 0.0 1.0
+  rank 0 waits at line 7, 0.0 send to 1 tag 1 value 640: for a receive of rank 1 from rank 0 with tag 1
+    nearest miss: line 10, 1.0 recv from 0 tag 2: another tag
+  rank 1 waits at line 10, 1.0 recv from 0 tag 2: for a send of rank 0 with tag 2
+    nearest miss: line 7, 0.0 send to 1 tag 1 value 640: another tag
+  rank 0 waits for rank 1
+  rank 1 waits for rank 0
+  a cycle, where each waits for the next: rank 0, rank 1, rank 0
+leaves 1 more no
+'''
+MISSING = '''  rank 0 waits at line 9, 0.2 recv from any tag 0: for a send of any rank with tag 0
+    the last that fits is taken: line 15, {}.0 send to 0 tag 0 value {}, by line 9, 0.1 recv from any tag 0
+  rank 0 waits for rank 1 (ended), rank 2 (ended)
+'''
+LATER, EARLIER = MISSING.format(2, 2), MISSING.format(1, 1)
+HEADS = '''  rank 0 waits at line 5, 0.0 send to 1 tag 5 value 10: for a receive of rank 1 from rank 0 with tag 5
+  rank 1 waits at line 5, 1.0 send to 0 tag 5 value 11: for a receive of rank 0 from rank 1 with tag 5
+  rank 0 waits for rank 1
+  rank 1 waits for rank 0
+  a cycle, where each waits for the next: rank 0, rank 1, rank 0
+'''
+SKIPPED = '''leaf 0 [] deadlock 0.1 1.1
+  rank 0 waits at line 9, 0.1 barrier: for all ranks at a barrier
+    rank 2 is not there: it has ended
+  rank 1 waits at line 9, 1.1 barrier: for all ranks at a barrier
+    rank 2 is not there: it has ended
+  rank 0 waits for rank 2 (ended)
+  rank 1 waits for rank 2 (ended)
+leaves 1 more no
+'''
+WAITED = '''leaf 0 [] deadlock 0.1 1.1
+  rank 0 waits at line 5, 0.1 wait 0: for this request
+    line 4, 0.0 irecv from 1 tag 3: for a send of rank 1 with tag 3
+    nearest miss: line 7, 1.0 isend to 0 tag 4 value 7: another tag
+  rank 1 waits at line 8, 1.1 wait 0: for this request
+    line 7, 1.0 isend to 0 tag 4 value 7: for a receive of rank 0 from rank 1 with tag 4
+    nearest miss: line 4, 0.0 irecv from 1 tag 3: another tag
+  rank 0 waits for rank 1
+  rank 1 waits for rank 0
+  a cycle, where each waits for the next: rank 0, rank 1, rank 0
+leaves 1 more no
+'''
+# A send that is buffered blocks nobody; it nearly fits all the same, and its mark isn't told.
+WAITED_BUFFERED = '''leaf 0 [] deadlock 0.1
+  rank 0 waits at line 5, 0.1 wait 0: for this request
+    line 4, 0.0 irecv from 1 tag 3: for a send of rank 1 with tag 3
+    nearest miss: line 7, 1.0 isend to 0 tag 4 value 7: another tag
+  rank 0 waits for rank 1 (ended)
+leaves 1 more no
+'''
+WAITED_FOR_ANY = '''leaf 0 [] deadlock 0.2 1.0
+  rank 0 waits at line 6, 0.2 waitany 0 3: for one of these requests
+    line 5, 0.1 issend to 2 tag 0 value 5: for a receive of rank 2 from rank 0 with tag 0
+    nearest miss: line 8, 1.0 recv from 0 tag 0: another destination
+    line 4, 0.0 irecv from 1 tag 1: for a send of rank 1 with tag 1
+  rank 1 waits at line 8, 1.0 recv from 0 tag 0: for a send of rank 0 with tag 0
+    nearest miss: line 5, 0.1 issend to 2 tag 0 value 5: another destination
+  rank 0 waits for rank 1, rank 2 (ended)
+  rank 1 waits for rank 0
+leaves 1 more no
+'''
+WAITED_FOR_ONE_RANK = '''leaf 0 [] deadlock 0.2 1.2
+  rank 0 waits at line 5, 0.2 waitany 0 2: for one of these requests
+    line 3, 0.0 irecv from 1 tag 0: for a send of rank 1 with tag 0
+    line 4, 0.1 irecv from 1 tag 1: for a send of rank 1 with tag 1
+  rank 1 waits at line 5, 1.2 waitany 0 2: for one of these requests
+    line 3, 1.0 irecv from 0 tag 0: for a send of rank 0 with tag 0
+    line 4, 1.1 irecv from 0 tag 1: for a send of rank 0 with tag 1
+  rank 0 waits for rank 1
+  rank 1 waits for rank 0
+  a cycle, where each waits for the next: rank 0, rank 1, rank 0
+leaves 1 more no
+'''
+SENT_ONCE_MORE = '''leaf 0 [0] deadlock 0.2
+  rank 0 waits at line 4, 0.2 send to 1 tag 2 value 7: for a receive of rank 1 from rank 0 with tag 2
+    the last that fits is taken: line 6, 1.1 recv from 0 tag any, by line 4, 0.1 send to 1 tag 2 value 7
+  rank 0 waits for rank 1 (ended)
+leaves 1 more no
+'''
+ROUND_OF_THREE = '''leaf 0 [] deadlock 0.0 1.0 2.0 3.0
+  rank 0 waits at line 3, 0.0 recv from 1 tag 0: for a send of rank 1 with tag 0
+  rank 1 waits at line 3, 1.0 recv from 2 tag 0: for a send of rank 2 with tag 0
+  rank 2 waits at line 3, 2.0 recv from 0 tag 0: for a send of rank 0 with tag 0
+  rank 3 waits at line 5, 3.0 recv from 1 tag any: for a send of rank 1 with any tag
+  rank 0 waits for rank 1
+  rank 1 waits for rank 2
+  rank 2 waits for rank 0
+  rank 3 waits for rank 1
+  a cycle, where each waits for the next: rank 0, rank 1, rank 2, rank 0
+leaves 1 more no
+'''
+ROUNDS_APART = '''leaf 0 [] deadlock 0.0 1.0 2.0 3.0 4.0
+  rank 0 waits at line 3, 0.0 recv from 3 tag 0: for a send of rank 3 with tag 0
+  rank 1 waits at line 3, 1.0 recv from 2 tag 1: for a send of rank 2 with tag 1
+  rank 2 waits at line 3, 2.0 recv from 1 tag 2: for a send of rank 1 with tag 2
+  rank 3 waits at line 3, 3.0 recv from 0 tag 3: for a send of rank 0 with tag 3
+  rank 4 waits at line 2, 4.0 ssend to 4 tag 9 value 1: for a receive of rank 4 from rank 4 with tag 9
+  rank 0 waits for rank 3
+  rank 1 waits for rank 2
+  rank 2 waits for rank 1
+  rank 3 waits for rank 0
+  rank 4 waits for rank 4
+  a cycle, where each waits for the next: rank 0, rank 3, rank 0
+  a cycle, where each waits for the next: rank 1, rank 2, rank 1
+  a cycle, where each waits for the next: rank 4, rank 4
+leaves 1 more no
+'''
+TRAPPED_TWICE = '''leaf 0 [] trap 0 bad-index 1 bad-rank
+  rank 0, line 2: trap bad-index
+  rank 1, line 5: trap bad-rank
+leaves 1 more no
+'''
+NOT_THERE = '''leaf 0 [] deadlock 0.0 1.0
+  rank 0 waits at line 2, 0.0 barrier: for all ranks at a barrier
+    rank 1 is not there: it is at another call
+    rank 2 is not there: it has ended
+  rank 1 waits at line 3, 1.0 recv from any tag 4: for a send of any rank with tag 4
+  rank 0 waits for rank 1, rank 2 (ended)
+  rank 1 waits for rank 0, rank 2 (ended)
+leaves 1 more no
+'''
+FOR_NOBODY = '''leaf 0 [] deadlock 0.0
+  rank 0 waits at line 2, 0.0 recv from any tag any: for a send of any rank with any tag
+  rank 0 waits for nobody
+leaves 1 more no
+'''
+MISSED_IN_ORDER = '''leaf 0 [] deadlock 1.0 2.0
+  rank 1 waits at line 7, 1.0 send to 0 tag 0 value 7: for a receive of rank 0 from rank 1 with tag 0
+    nearest miss: line 4, 0.1 irecv from 1 tag 1: another tag
+  rank 2 waits at line 8, 2.0 recv from 1 tag 0: for a send of rank 1 with tag 0
+    nearest miss: line 7, 1.0 send to 0 tag 0 value 7: another destination
+  rank 1 waits for rank 0 (ended)
+  rank 2 waits for rank 1
+leaves 1 more no
+'''
+MISSED_BY_SOURCE = '''leaf 0 [] deadlock 0.0 1.0
+  rank 0 waits at line 2, 0.0 recv from 2 tag 0: for a send of rank 2 with tag 0
+    nearest miss: line 3, 1.0 ssend to 0 tag 0 value 7: another source
+  rank 1 waits at line 3, 1.0 ssend to 0 tag 0 value 7: for a receive of rank 0 from rank 1 with tag 0
+    nearest miss: line 2, 0.0 recv from 2 tag 0: another source
+  rank 0 waits for rank 2 (ended)
+  rank 1 waits for rank 0
+leaves 1 more no
+'''
+MISSED_BY_RANK = '''leaf 0 [] deadlock 0.0
+  rank 0 waits at line 2, 0.0 recv from any tag 0: for a send of any rank with tag 0
+    nearest miss: line 3, 1.1 issend to 0 tag 1 value 6: another tag
+  rank 0 waits for rank 1 (ended), rank 2 (ended), rank 3 (ended)
+leaves 1 more no
+'''
+MISSED_BY_SOURCE_FIRST = '''leaf 0 [] deadlock 0.0
+  rank 0 waits at line 2, 0.0 recv from 1 tag 0: for a send of rank 1 with tag 0
+    nearest miss: line 4, 2.0 issend to 0 tag 0 value 6: another source
+  rank 0 waits for rank 1 (ended)
+leaves 1 more no
+'''
+WAITED_TWICE = 'leaf 0 [0] done\nleaf 1 [1] trap 0 assert\n  rank 0, line 12: trap assert\nleaves 2 more no\n'
+WAITED_TWICE_GROUPED = ('end 0 leaves 1 first 0 done\nend 1 leaves 1 first 1 trap 0 assert\n  rank 0, line 12: trap assert\n'
+                        'leaves 2 more no\n')
+TRAPPED = 'leaf 0 [] trap 1 zero-divisor\n  rank 1, line 10: trap zero-divisor\nleaves 1 more no\n'
+ALL_DONE = 'leaf 0 [] done\nleaves 1 more no\n'
+
+
+class Explained(NamedTuple):
+    """A script, or the name of an example, the options of its check beside `--explain`, and what is answered, with the status."""
+    script: str
+    text: str
+    asked: Asked = Asked()
+    status: int = 1
+
+    def case(self):
+        script = self.script.encode()
+        if self.script.isidentifier():
+            with open(f'{EXAMPLES}/{self.script}.mpd', 'rb') as file:
+                script = file.read()
+        return Case(f'row-{self.script if self.script.isidentifier() else "script"}', script, self.asked._replace(explain=True))
+
+    def wanted(self):
+        return Result(self.text.encode(), b'', self.status)
+
+
+GROUPED = Asked(group=True)
+STOLEN_LEAF = 'leaf 0 [0] deadlock 0.1 2.0\n'
+MISSING_REPORT = f'leaf 0 [0 0] deadlock 0.2\n{LATER}leaf 1 [1 0] deadlock 0.2\n{EARLIER}leaves 2 more no\n'
+ROWS = (
+    # the examples
+    Explained('stolen_message', f'{STOLEN_LEAF}{STOLEN}leaf 1 [1] done\nleaves 2 more no\n'),
+    Explained('stolen_message', f'{STOLEN_LEAF}{STOLEN_STEPS}{STOLEN}leaf 1 [1] done\nleaves 2 more no\n', Asked(witnesses=True)),
+    Explained('stolen_message', f'{STOLEN_LEAF}{STOLEN}leaves 1 more yes\n', Asked(until=True)),
+    Explained('stolen_message', f'{STOLEN_LEAF}{STOLEN}leaves 1 more no\n', Asked(piece=0)),
+    Explained('stolen_message', 'leaf 0 [1] done\nleaves 1 more no\n', Asked(piece=1), 0),
+    Explained('stolen_message', 'pieces 2\n', Asked(pieces=True), 0),
+    Explained('stolen_message', f'end 0 leaves 1 first 0 deadlock 0.1 2.0\n{STOLEN}end 1 leaves 1 first 1 done\nleaves 2 more no\n', GROUPED),
+    Explained('swapped_tags', SWAPPED),
+    *(Explained('missing_sender', MISSING_REPORT, Asked(split=split)) for split in (None, 0, 1, 2, 8)),
+    Explained('missing_sender', MISSING_REPORT, Asked(ends=True)),
+    Explained('missing_sender', f'end 0 leaves 2 first 0 deadlock 0.2\n{LATER}leaves 2 more no\n', GROUPED),
+    Explained('missing_sender', MISSING_REPORT, Asked(mode=BUFFERED)),
+    Explained('missing_sender', MISSING_REPORT, Asked(mode='slots:1')),
+    *(Explained('head_to_head', f'leaf 0 [] deadlock 0.0 1.0\n{HEADS}leaves 1 more no\n', Asked(mode=mode)) for mode in (None, RENDEZVOUS, 'slots:0')),
+    *(Explained('head_to_head', ALL_DONE, Asked(mode=mode), 0) for mode in (BUFFERED, 'slots:1')),
+    Explained('head_to_head', f'end 0 leaves 1 first 0 deadlock 0.0 1.0\nwitness 0: local 0, local 1\n{HEADS}leaves 1 more no\n',
+              Asked(witnesses=True, group=True)),
+    Explained('head_to_head', 'leaf 0 [] cut\nleaves 1 more no\n', Asked(fuel=1), 0),
+    Explained('lost_request', ALL_DONE, status=0), Explained('skipped_barrier', SKIPPED), Explained('waited_twice', WAITED_TWICE),
+    Explained('waited_twice', WAITED_TWICE_GROUPED, GROUPED),
+    Explained('trap', TRAPPED), Explained('trap', TRAPPED, Asked(witnesses=True)),
+    # requests
+    Explained(WAITS, WAITED), Explained(WAITS, WAITED, Asked(mode='slots:0')),
+    *(Explained(WAITS, WAITED_BUFFERED, Asked(mode=mode)) for mode in (BUFFERED, 'slots:1')),
+    Explained(ANY_OF_TWO, WAITED_FOR_ANY), Explained(ANY_OF_TWO, WAITED_FOR_ANY, Asked(mode=BUFFERED)),
+    Explained(ANY_OF_ONE_RANK, WAITED_FOR_ONE_RANK),
+    # what was taken, cycles, barriers, nobody, and what nearly fits
+    Explained(ONCE_MORE, SENT_ONCE_MORE), Explained(OF_THREE, ROUND_OF_THREE), Explained(APART, ROUNDS_APART), Explained(TWO_TRAPS, TRAPPED_TWICE),
+    Explained(ALONE_AT_IT, NOT_THERE), Explained(NOBODY, FOR_NOBODY), Explained(IN_ORDER, MISSED_IN_ORDER), Explained(OTHER_SOURCE, MISSED_BY_SOURCE),
+    Explained(FIRST_BY_RANK, MISSED_BY_RANK), Explained(SOURCE_FIRST, MISSED_BY_SOURCE_FIRST))
+
+
+def problems():
+    """The name of each row, with what the model says otherwise than it wants, or None."""
+    for row in ROWS:
+        said = row.case().wanted()
+        yield f'check {row.script} {row.asked}', None if said == row.wanted() else f'{said}'

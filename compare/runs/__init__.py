@@ -1,0 +1,1 @@
+"""The programs that compare, and try what must hold: what each does stands at its head."""

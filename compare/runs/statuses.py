@@ -1,0 +1,648 @@
+"""Runs the built program in each way to end: what it writes, what it says on standard error, and its status, each exactly.
+
+    python3 compare/runs/statuses.py PROGRAM
+    python3 compare/runs/statuses.py PROGRAM --two-modes    a program that has no modes `slots:K`
+    python3 compare/runs/statuses.py PROGRAM --version 1    a program that knows version 1 of the language alone, and two modes
+
+The examples, and the worked rows of compare/statuses/worked_program.py; devices that are full, closed, broken off, too short or interrupted;
+each fault of a script; the words of the command line, and the order in which they are tested; a script from a file; a refused
+script and a long check at a terminal; as many steps and reads as there may be; the deepest scripts on a small stack; more answers than memory;
+answers that come before the next read; parts of a check that are joined (part_statuses.py); all that of `run` (session_statuses.py) and of `debug` (console_statuses.py);
+each device that fails at each place (device_statuses.py), and each connection (connection_statuses.py). The status is 0 where every
+run ended as it must.
+"""
+
+import itertools
+import os
+import re
+import resource
+import select
+import subprocess
+import sys
+import tempfile
+import time
+
+sys.path.insert(0, os.path.dirname(os.path.dirname(os.path.abspath(__file__))))
+
+from model.debugger import MOST_READS, MOST_STEPS, RENDEZVOUS, Debugger, Result, Step, answer, answer_packets
+from model.language import MOST_OPEN_BLOCKS, MOST_OPERATORS, read_script, read_up_to
+from model.modes import KNOWN, know_modes
+from probe.call_sizes import nested
+from rows.examples import EXAMPLES, checks, consoles, example_names, lessons, open_example, strays
+from rows.worked_slots import NONE as BAD_SLOTS
+from started.devices import SECONDS, Files, at_terminal, broken_off, device, file_of_any_size, full, refused, soft_limit, unread_pipe
+from started.programs import file_of, held, run_in_packets
+from started.shims import HERE, built
+from statuses.connection_statuses import ROWS as CONNECTION_ROWS
+from statuses.console_statuses import ROWS as CONSOLE_ROWS
+from statuses.device_statuses import ROWS as DEVICE_ROWS
+from statuses.part_statuses import ROWS as PART_ROWS
+from statuses.session_statuses import ROWS as SESSION_ROWS
+from statuses.usage_texts import ANSWERS, BEFORE_A_MODE, MISTAKES, NO_MODE, NO_TEXT, known
+from statuses.worked_program import ROWS as WORKED_ROWS
+
+# What the deepest scripts are run with (docs/LANGUAGE.md, "Limits").
+STACK_KIB = 512
+# The memory for answers that have many times as many bytes.
+MUCH_MIB = 32
+
+SESSION = (b'mpd 1;\nranks 2;\nvar x;\nif rank == 0 { send 7 to 1 tag 0; } else { recv x from 0 tag 0; print x; }\n---\n'
+           b'local 0\nlocal 1\nlocal 0\nlocal 1\nmatch 0.0 1.0\nshow\nfly\nback\nwake 1\n')
+ENDED = Result(answer(SESSION).output, b'', 0)
+
+# Each fault of a script, at its place.
+FAULTS = (
+    (b' ' * 65537, b'1 too-long at 65536 line 1'),
+    (b'mpd 1;\nranks 1;\n# \x00\n', b'2 not-text at 18 line 3'),
+    (b'mpd 1;\nranks 1;\nprint 1 & 1;\n', b'3 bad-token at 24 line 3'),
+    (b'', b'4 expected at 0 line 1'),
+    (b'mpd 1;\nranks 1;\nprint 1\n\n', b'4 expected at 25 line 5'),
+    (b'mpd 1;\nranks 1;\nx = 1;\n', b'5 unknown-name at 16 line 3'),
+    (b'mpd 1;\nranks 1;\nvar x;\nvar x;\n', b'6 twice at 27 line 4'),
+    (b'mpd 1;\nranks 1;\nprint ' + b'-' * 65 + b'1;\n', b'7 too-deep at 86 line 3'),
+    (b'mpd 1;\nranks 1;\nvar a[1025];\n', b'8 too-many at 22 line 3'),
+    (b'mpd 1;\nranks 17;\n', b'9 bad-ranks at 13 line 2'),
+    (b'mpd 3;\n', b'10 not-in-version at 4 line 1'))
+
+
+def ended_rows(program):
+    """Status 0."""
+    yield 'a session', Files(file_of(SESSION)).run(program), ENDED
+    script = SESSION[:SESSION.index(b'---')]
+    yield 'a script alone', Files(file_of(script)).run(program), Result(b'', b'', 0)
+    yield 'a script and no words', Files(file_of(script + b'---\n')).run(program), Result(b'', b'', 0)
+
+
+def example_rows(program):
+    """Status 0 for each example, with what stands beside it: NAME.trace is answered by NAME.stdout, and neither is there alone."""
+    for name in example_names('.trace'):
+        trace, wanted = (open_example(name + ending) for ending in ('.trace', '.stdout'))
+        yield f'the example {name}', Files(file_of(trace)).run(program), Result(wanted, b'', 0)
+    yield 'answers that nothing asks for', Result(' '.join(strays()).encode(), b'', 0), Result(b'', b'', 0)
+
+
+def lesson_rows(program):
+    """Status 0 for each lesson of docs/COURSE.md, in each mode that it shows, traced and at the console, and the status of each check."""
+    for lesson in lessons():
+        mode = () if lesson.mode == RENDEZVOUS else ('--mode', lesson.mode)
+        result = Files(file_of(open_example(f'{lesson.name}.words'))).run(program, 'trace', lesson.script, *mode)
+        yield f'the lesson {lesson.name}, {lesson.mode}', result, Result(open_example(lesson.answers), b'', 0)
+    for typed in consoles():
+        mode = () if typed.mode == RENDEZVOUS else ('--mode', typed.mode)
+        result = Files(file_of(typed.data)).run(program, 'debug', typed.script, *mode)
+        yield f'the lesson {typed.beginning}, console', result, typed.wanted()
+    for checked in checks():
+        result = Files(None).run(program, 'check', checked.script, *checked.options)
+        yield f'the lesson {checked.name}, check {" ".join(checked.options)}', result, checked.wanted
+
+
+def refused_rows(program):
+    """Status 2, also where standard error takes nothing; standard output is not looked at."""
+    for data, fault in FAULTS:
+        yield fault.decode(), Files(file_of(data)).run(program), refused(fault)
+    behind = b'mpd 3;\n---\nlocal 0\n'
+    wanted = refused(FAULTS[-1][1])
+    yield 'refused before its words', Files(file_of(behind)).run(program), wanted
+    yield 'refused, output full', Files(file_of(behind), full()).run(program), wanted
+    yield 'refused, output closed', Files(file_of(behind), None).run(program), wanted
+    silent = Result(b'', b'', 2)
+    yield 'refused, errors full', Files(file_of(behind), errors=full()).run(program), silent
+    yield 'refused, errors closed', Files(file_of(behind), errors=None).run(program), silent
+    yield 'refused, errors unread', Files(file_of(behind), errors=unread_pipe()).run(program), silent
+
+
+def device_rows(program):
+    """Status 3 for want of a device."""
+    yield 'input closed', Files(None).run(program), device()
+    yield 'input a directory', Files(os.open('/', os.O_RDONLY)).run(program), device()
+    yield 'input that is written', Files(unread_pipe()).run(program), device()
+    yield 'input broken off', Files(broken_off(SESSION + b'back')).run(program), device(ENDED.output)
+    yield 'input broken off in its script', Files(broken_off(SESSION[:30])).run(program), device()
+    yield 'output full', Files(file_of(SESSION), full()).run(program), device()
+    yield 'output closed', Files(file_of(SESSION), None).run(program), device()
+    yield 'output unread', Files(file_of(SESSION), unread_pipe()).run(program), device()
+    yield 'output and errors full', Files(file_of(SESSION), full(), full()).run(program), Result(b'', b'', 3)
+    yield 'all closed', Files(None, None, None).run(program), Result(b'', b'', 3)
+    for size in (0, 1, 4, 5, 6, 100, len(ENDED.output) - 1):
+        # standard error is a pipe, so that it has no such limit
+        reading, writing = os.pipe()
+        with soft_limit(resource.RLIMIT_FSIZE, size):
+            result = Files(file_of_any_size(SESSION), errors=writing).run(program)
+        with open(reading, 'rb') as errors:
+            yield f'output of {size} bytes', result._replace(errors=errors.read()), device(ENDED.output[:size])
+
+
+LOOP = b'mpd 1; ranks 2; while 1 { }\n'
+
+
+def many_reads(count, last):
+    """An input that so many reads bring, the last of them this one."""
+    return [LOOP + b'---\nlocal 0\nlocal 1\n'] + [b'\n'] * (count - 2) + [last]
+
+
+def turns_rows(program):
+    """Status 3 where the input has not ended after as many reads as there may be; the end is one of them."""
+    for count in (MOST_READS - 1, MOST_READS):
+        packets = many_reads(count, b'local 0')
+        yield f'{count} packets and the end', run_in_packets(program, packets, SECONDS), answer_packets(packets)
+
+
+def full_rows(program):
+    """As many steps as there may be, then a refusal; steps taken back, and again, and refused again."""
+    behind = ('wake 0, local 0, local 1, show, back, back, show, local 0, local 0, local 0, back, local 1, show, '
+              'local 0, back, back, local 1, show, back').encode().split(b', ')
+    data = LOOP + b'---\n' + b'local 0\n' * MOST_STEPS + b'\n'.join([*behind, b''])
+    debugger = Debugger(read_script(LOOP))
+    # each step leads to the same world again
+    debugger.worlds *= MOST_STEPS + 1
+    debugger.steps = [Step('local', 0)] * MOST_STEPS
+    texts = [f'ok {depth}' for depth in range(1, MOST_STEPS + 1)] + [debugger.answer(line) for line in behind]
+    wanted = Result(''.join(text + '\n' for text in texts).encode(), b'', 0)
+    yield f'{MOST_STEPS} steps', Files(file_of(data)).run(program), wanted
+
+
+def interrupted_rows(program):
+    """Each read and each write is interrupted once: it is tried again, and nothing else is seen of it."""
+    with tempfile.TemporaryDirectory() as folder:
+        shim = built(os.path.join(HERE, 'interrupt_shim.c'), folder)
+        yield 'interrupted', Files(file_of(SESSION)).run(program, LD_PRELOAD=shim), ENDED
+
+
+class Talk:
+    """A program that is asked piece by piece; its input stays open."""
+
+    def __init__(self, program):
+        self.process = subprocess.Popen([program], stdin=subprocess.PIPE, stdout=subprocess.PIPE, stderr=subprocess.PIPE,
+                                        bufsize=0)
+
+    def ask(self, data, length):
+        """Writes a piece, and gives what comes, up to so many bytes or until nothing comes any more."""
+        self.process.stdin.write(data)
+        answers = b''
+        while len(answers) < length and select.select([self.process.stdout], [], [], SECONDS)[0]:
+            piece = os.read(self.process.stdout.fileno(), length - len(answers))
+            if not piece:
+                break
+            answers += piece
+        return answers
+
+    def end(self):
+        output, errors = self.process.communicate(timeout=SECONDS)
+        return Result(output, errors, self.process.returncode)
+
+
+def talk_rows(program):
+    """What a read brought is answered before the next one; a script that can't be read is refused before its input ends."""
+    place = SESSION.index(b'---\n') + 4
+    talk = Talk(program)
+    asked = SESSION[:place]
+    for line in SESSION[place:].splitlines(keepends=True):
+        before, asked = answer(asked).output, asked + line
+        wanted = answer(asked).output[len(before):]
+        answers = talk.ask(line if before else SESSION[:place] + line, len(wanted))
+        yield f'asked {line.decode().strip()}', Result(answers, b'', 0), Result(wanted, b'', 0)
+    yield 'asked no more', talk.end(), Result(b'', b'', 0)
+    process = subprocess.Popen([program], stdin=subprocess.PIPE, stdout=subprocess.PIPE, stderr=subprocess.PIPE)
+    os.write(process.stdin.fileno(), b' ' * 32_768)
+    os.write(process.stdin.fileno(), b' ' * 32_769)
+    status = process.wait(SECONDS)
+    yield 'too long before its end', Result(process.stdout.read(), process.stderr.read(), status), refused(FAULTS[0][1])
+    process.stdin.close()
+
+
+def no_input(program, *words):
+    return Files(file_of(b'')).run(program, *words)
+
+
+def usage_rows(program):
+    """Words that ask for help (status 0) or are wrong (2), with the whole text of each."""
+    for words, text in ANSWERS:
+        yield f'asked for {words}', no_input(program, *words.split('|')), Result(known(text).encode(), b'', 0)
+    for mistake in MISTAKES:
+        yield f'mistaken {mistake.words}', no_input(program, *mistake.words.split('|')), wrong_words(mistake)
+    yield 'no text', no_input(program, 'trace', b'\xff'), wrong_words(NO_TEXT)
+    for first, second in (('--choices', '--witness'), ('--choices', '--words'), ('--witness', '--words')):
+        told = Result(b'', f"mpdbg: {first} and {second} can't stand together\n".encode(), 2)
+        for words in ((first, '0', second, '1'), (f'{second}=1', f'{first}=', '--mode', 'no-mode')):
+            yield f'a run told twice, {words}', no_input(program, 'picture', 'no-such-file', *words), told
+    full_c = Files(file_of(b''), full()).run(program, 'c', os.path.join(EXAMPLES, 'race.mpd'))
+    yield 'a script in C, output full', full_c, device()
+    full_help = Files(file_of(b''), full()).run(program, '--help')
+    yield 'help, output full', full_help, device()
+
+
+def wrong_words(mistake):
+    return Result(b'', mistake.text.encode(), 2)
+
+
+# A script that behaves differently in the two modes, and the words that show it.
+EXCHANGE = b'mpd 1;\nranks 2;\nvar x;\nsend rank to 1 - rank tag 5;\nrecv x from 1 - rank tag 5;\n'
+WORDS = b'local 0\nlocal 1\nwake 0\n'
+BAD_MODE = Result(b'', b'mpdbg: bad mode\n', 2)
+
+
+def trace_rows(program):
+    """A script from a file, and its trace words on standard input; the order of tests is words, mode, file, script."""
+    with tempfile.TemporaryDirectory() as folder:
+        def held(name, data):
+            with open(os.path.join(folder, name), 'wb') as file:
+                file.write(data)
+            return file.name
+
+        def traced(*words, data=WORDS):
+            return Files(file_of(data)).run(program, 'trace', *words)
+
+        exchange, bad, missing = held('exchange', EXCHANGE), held('bad', b'mpd 1;ranks 1;print'), os.path.join(folder, 'none')
+        waits = Result(b'ok 1\nok 2\nrefused not-enabled\n', b'', 0)
+        passes = Result(b'ok 1\nok 2\nok 3\n', b'', 0)
+        yield 'a file', traced(exchange), waits
+        yield 'rendezvous', traced(exchange, '--mode', 'rendezvous'), waits
+        yield 'buffered', traced(exchange, '--mode', 'buffered'), passes
+        yield 'buffered first', traced('--mode=buffered', exchange), passes
+        yield 'a file behind --', traced('--mode', 'buffered', '--', exchange), passes
+        for mode in ('slots:1', 'slots:65536', 'slots:00001') * bool(KNOWN):
+            yield f'mode {mode!r}', traced(exchange, '--mode', mode), passes
+        for mode in ('slots:0', 'slots:00000') * bool(KNOWN):
+            yield f'mode {mode!r}', traced(exchange, '--mode', mode), waits
+        for mode in ('buffer', '', 'Buffered', 'buffered ', 'rendezvous buffered', *(() if KNOWN else ('slots:1',)), *BAD_SLOTS):
+            yield f'mode {mode!r}', traced(exchange, '--mode', mode), BAD_MODE
+        words = BEFORE_A_MODE.words.format(FILE=exchange).split('|')
+        yield 'a word before a mode', Files(file_of(WORDS)).run(program, *words), wrong_words(BEFORE_A_MODE)
+        yield 'a mode before a missing file', traced(missing, '--mode', 'none'), BAD_MODE
+        yield 'a mode before a bad script', traced(bad, '--mode', 'none'), BAD_MODE
+        for name in (missing, folder, '', os.path.join(exchange, 'x'), '/proc/self/mem'):
+            yield f'no file at {name}', traced(name), device()
+        yield 'a bad script', traced(bad), refused(b'4 expected at 19 line 1')
+        yield 'a bad script, input closed', Files(None).run(program, 'trace', bad), refused(b'4 expected at 19 line 1')
+        for data, fault in FAULTS:
+            yield f'a file, {fault.decode()}', traced(held('fault', data)), refused(fault)
+        yield 'a divided file', traced(held('divided', EXCHANGE + b'---\n')), refused(b'4 expected at 80 line 6')
+        yield 'a file of 65536 bytes', traced(held('long', EXCHANGE + b'#' * (65536 - len(EXCHANGE)))), waits
+        yield 'a file of 65537 bytes', traced(held('long', EXCHANGE + b'#' * (65537 - len(EXCHANGE)))), refused(b'1 too-long at 65536 line 6')
+        yield 'a file without an end', traced('/dev/zero'), refused(b'1 too-long at 65536 line 1')
+        yield 'a trace, input closed', Files(None).run(program, 'trace', exchange), device()
+        yield 'a trace, output full', Files(file_of(WORDS), full()).run(program, 'trace', exchange), device()
+        yield 'a trace of no words', traced(exchange, data=b''), Result(b'', b'', 0)
+        example = open_example('exchange.mpd')
+        yield 'the example of a file', traced(held('example', example), '--mode', 'buffered'), passes
+
+
+# A script that is refused at a byte, what stands on its line, what stands below that, and what is told of a token that can't stand there.
+SHOWN = (
+    (b'mpd 1;ranks 1;print', b'4 expected at 19 line 1', 'mpd 1;ranks 1;print', ' ' * 19, 'the end of the text'),
+    (b'mpd 1;\nranks 1;\n\tprint 1 & 1;\n', b'3 bad-token at 25 line 3', ' print 1 & 1;', ' ' * 9),
+    (b'mpd 1;\r\nranks 17;\r\n', b'9 bad-ranks at 14 line 2', 'ranks 17; ', ' ' * 6),
+    ('mpd 1;\nranks 1; # \u00fcber\n'.encode(), b'2 not-text at 18 line 2', 'ranks 1; # ??ber', ' ' * 11),
+    (b'mpd 1;\nranks 1;\nprint 1\n\n', b'4 expected at 25 line 5', '', '', "the end of the text; only ';' or an operator can stand here"),
+    # the one of docs/FORMATS.md
+    (b'mpd 1;\nranks 1;\nprint 1\nprint 2;\n', b'4 expected at 24 line 4', 'print 2;', '', "'print'; only ';' or an operator can stand here"),
+    (b'mpd 1;\nranks 1;\nprint 1 +;\n', b'4 expected at 25 line 3', 'print 1 +;', ' ' * 9, "';'"),
+    (b'', b'4 expected at 0 line 1', '', '', "the end of the text; only 'mpd' can stand here"),
+    (b'mpd 1;\nranks 1;\nx = 1;' + b' ' * 66 + b'# the end', b'5 unknown-name at 16 line 3', 'x = 1;' + ' ' * 66 + '...', ''),
+    (b'mpd 1;\nranks 1;\nvar x; ' + b' ' * 60 + b'x = y; x = 1234567890123456789012345678901234567890;', b'5 unknown-name at 87 line 3',
+     'var x; ' + ' ' * 60 + 'x = y...', ' ' * 71),
+    (b'mpd 1;\nranks 1;\nvar x; ' + b' ' * 61 + b'x = y; x = 1234567890123456789012345678901234567890;', b'5 unknown-name at 88 line 3',
+     '...' + ' ' * 32 + 'x = y; x = 12345678901234567890123456789...', ' ' * 39),
+    (b' ' * 65537, b'1 too-long at 65536 line 1', '...' + ' ' * 37, ' ' * 39),
+    # the end of a line, and of a text, as places
+    (b'\n' * 65534 + b'ab\n', b'1 too-long at 65536 line 65535', 'ab', '  '), (b'ab\ncd\n', b'4 expected at 0 line 1', 'ab', '', "'ab'; only 'mpd' can stand here"),
+    (b'mpd 1;\ncd\n', b'4 expected at 7 line 2', 'cd', '', "'cd'; only 'ranks' can stand here"))
+
+
+def terminal_rows(program):
+    """At a terminal, and there alone, the line of a script that is refused is shown, with a caret below the byte."""
+    with tempfile.TemporaryDirectory() as folder:
+        for data, fault, line, below, *told in SHOWN:
+            shown = refused(fault).errors + f'  {line}\n  {below}^\n'.encode() + ''.join(f'  found {it}\n' for it in told).encode()
+            name = os.path.join(folder, 'script')
+            with open(name, 'wb') as file:
+                file.write(data)
+            wanted = Result(b'', shown, 2)
+            yield f'a terminal, {fault.decode()}', at_terminal(program, data=data), wanted
+            yield f'a terminal and a file, {fault.decode()}', at_terminal(program, 'trace', name), wanted
+        yield 'a terminal, no fault', at_terminal(program, data=SESSION), ENDED
+
+
+# What stands in front of each text below, and places in these, marked by `^`: what is told there of the token, by the grammar of
+# docs/LANGUAGE.md. Nothing is told where four kinds of tokens or more can stand.
+HEADER = 'mpd 1; ranks 2; var x; var a[2]; req r; '
+ENDS = 'the end of the text'
+FOUND = (
+    ('print 1 ^print 2;', "'print'; only ';' or an operator can stand here"),
+    ('print 1 # the end^', f"{ENDS}; only ';' or an operator can stand here"),
+    ('print (1 ^;', "';'; only ')' or an operator can stand here"),
+    ('print 1 < 2 ^< 3;', "'<'; only ';' or an operator that is no comparison can stand here"),
+    ('print 1 == 2 + 3 ^>= 3;', "'>='; only ';' or an operator that is no comparison can stand here"),
+    ('print 1 < 2 && 3 ^5;', "'5'; only ';' or an operator can stand here"),
+    ('print 1 ^= 1;', "'='; only ';' or an operator can stand here"),
+    ('print ^;', "';'"), ('print 1 + ^* 2;', "'*'"), ('print ^any;', "'any'"),
+    ('print a^;', "';'; only '[' can stand here"), ('print a[0 ^;', "';'; only ']' or an operator can stand here"),
+    ('x^++;', "'+'; only '=' can stand here"), ('x ^+= 1;', "'+'; only '=' can stand here"), ('x ^== 1;', "'=='; only '=' can stand here"),
+    ('x ^&& 1;', "'&&'; only '=' can stand here"), ('x ^!= 1;', "'!='; only '=' can stand here"), ('x ^! 1;', "'!'; only '=' can stand here"),
+    ('x^[0] = 1;', "'['; only '=' can stand here"), ('a ^= 1;', "'='; only '[' can stand here"),
+    ('if 1 ^print 2;', "'print'; only '{' or an operator can stand here"), ('if 1 { } else ^if 2 { }', "'if'; only '{' can stand here"),
+    ('while x ^do { }', "'do'; only '{' or an operator can stand here"),
+    ('while 1 { print 1; ^', ENDS), ('^}', "'}'"), ('print 1; ^else { }', "'else'"), ('print 1; ^var y;', "'var'"), ('^12;', "'12'"),
+    ('send 1 ^0 tag 1;', "'0'; only 'to' or an operator can stand here"), ('send 1 to 0 ^;', "';'; only 'tag' or an operator can stand here"),
+    ('send 1 to ^any tag 0;', "'any'"), ('isend ^1 to 0 tag 0;', "'1'; only a name can stand here"),
+    ('recv ^;', "';'; only a name can stand here"), ('recv x ^to 0 tag 0;', "'to'; only 'from' can stand here"),
+    ('recv x from any ^+ 1 tag 0;', "'+'; only 'tag' can stand here"),
+    ('recv x from 0 ^;', "';'; only 'tag' or an operator can stand here"),
+    ('recv x from 0 tag any ^print x;', "'print'; only 'status' or ';' can stand here"),
+    ('recv x from 0 tag 0 ^print x;', "'print'; only 'status', ';' or an operator can stand here"),
+    ('recv x from 0 tag 0 status x ^;', "';'; only a name can stand here"), ('recv x from 0 tag 0 status x x ^x;', "'x'; only ';' can stand here"),
+    ('wait ^5;', "'5'; only a name can stand here"), ('barrier ^x;', "'x'; only ';' can stand here"), ('barrier^', f"{ENDS}; only ';' can stand here"),
+    # a token is shown up to 72 bytes of it
+    (f'print 1 ^{"0" * 72};', f"""'{"0" * 72}'; only ';' or an operator can stand here"""),
+    (f'print 1 ^{"0" * 73};', f"""'{"0" * 72}...'; only ';' or an operator can stand here"""),
+    (f'barrier ^{"y" * 64}', f"""'{"y" * 64}'; only ';' can stand here"""))
+# The same of what a script begins with.
+FOUND_FIRST = (
+    ('mpd^', f'{ENDS}; only a number can stand here'), ('mpd ^x;', "'x'; only a number can stand here"),
+    ('mpd 1^', f"{ENDS}; only ';' can stand here"), ('mpd 1; ^var x;', "'var'; only 'ranks' can stand here"),
+    ('mpd 1; ranks ^two;', "'two'; only a number can stand here"), ('mpd 1; ranks 2 ^var x;', "'var'; only ';' can stand here"),
+    ('mpd 1; ranks 2; var ^;', "';'; only a name can stand here"), ('mpd 1; ranks 2; req ^1;', "'1'; only a name can stand here"),
+    ('mpd 1; ranks 2; var y^', f"{ENDS}; only ';' or '[' can stand here"), ('mpd 1; ranks 2; var y[^];', "']'; only a number can stand here"),
+    ('mpd 1; ranks 2; var y[3^;', "';'; only ']' can stand here"), ('mpd 1; ranks 2; var y[3] ^x;', "'x'; only ';' can stand here"))
+# A text of as many bytes as a script may have: one token more would make it too long, so none is told.
+FOUND_LONG = ((HEADER + 'print 1' + ' ' * 65536)[:65536] + '^', ENDS)
+
+
+def found_rows(program):
+    """At a terminal what stands where the grammar doesn't allow it, and what could stand there where that is little."""
+    for marked, told in [*((HEADER + text, told) for text, told in FOUND), *FOUND_FIRST, FOUND_LONG]:
+        front, _, rest = marked.partition('^')
+        result = at_terminal(program, data=(front + rest).encode())
+        lines = result.errors.decode().splitlines()
+        wanted = (f'mpdbg: script refused 4 expected at {len(front)} line 1', f'  found {told}', 4, 2)
+        yield f'a terminal, {marked[:200]}', (lines[0], lines[-1], len(lines), result.status), wanted
+        one_line = Files(file_of((front + rest).encode())).run(program)
+        yield f'no terminal, {marked[:200]}', one_line, refused(wanted[0].removeprefix('mpdbg: script refused ').encode())
+
+
+def why_rows(program):
+    """At a terminal a fault of a device tells which file and why, and one of a mode which modes there are."""
+    def why(what):
+        return Result(b'', device().errors + f'  {what}\n'.encode(), 3)
+
+    with tempfile.TemporaryDirectory() as folder:
+        shim = built(os.path.join(HERE, 'terminal_shim.c'), folder)
+        script, missing, denied = (os.path.join(folder, name) for name in ('script', 'missing', 'denied'))
+        for name in (script, denied):
+            with open(name, 'wb') as file:
+                file.write(EXCHANGE)
+        reasons = ((missing, 'no such file'), (folder, 'is a directory'), (denied, 'permission denied'), ('', 'no such file'),
+                   (os.path.join(script, 'x'), 'Not a directory (os error 20)'), ('/proc/self/mem', 'Input/output error (os error 5)'))
+        for name, reason in reasons:
+            for words in (('trace', name), ('check', name, '--witness'), ('verify', name, script), ('verify', script, name), ('debug', name),
+                          ('debug', script, '--witness', name)):
+                yield f'a terminal, {words}', at_terminal(program, *words, LD_PRELOAD=shim), why(f"'{name}': {reason}")
+        for word in ('none', '', 'Buffered', 'slots:', 'slots:65537'):
+            wanted = BAD_MODE._replace(errors=BAD_MODE.errors + f'  {known(NO_MODE).format(word)}\n'.encode())
+            yield f'a terminal, mode {word!r}', at_terminal(program, 'trace', script, '--mode', word), wanted
+        yield 'a terminal, output full', at_terminal(program, data=SESSION, output=full()), why('standard output: no space left')
+        yield 'a terminal, help and output full', at_terminal(program, '--help', output=full()), why('standard output: no space left')
+        checked = at_terminal(program, 'check', script, output=full())
+        yield 'a terminal, check and output full', checked, why('standard output: no space left')
+        unread = at_terminal(program, data=SESSION, output=unread_pipe())
+        yield 'a terminal, output unread', unread, why('standard output: Broken pipe (os error 32)')
+        from_folder = at_terminal(program, reading=os.open('/', os.O_RDONLY))
+        yield 'a terminal, input a directory', from_folder, why('standard input: is a directory')
+        behind = at_terminal(program, reading=broken_off(SESSION))
+        yield 'a terminal, input broken off', behind, why('standard input: Connection reset by peer (os error 104)')._replace(output=ENDED.output)
+
+
+# Eight messages, one of each sender, to one receiver of any source, which then counts for a while: 40,320 leaves that take seconds.
+SLOW = (b'mpd 1;\nranks 9;\nvar x;\nvar i;\nif rank == 0 { while i < 8 { recv x from any tag any; i = i + 1; } while i < 600 { i = i + 1; } }\n'
+        b'else { send 1 to 0 tag 0; }\n')
+# Four messages, in all orders: 24 leaves, six of each candidate of the first choice.
+FEW = b'mpd 1; ranks 5; var x; var i;\nif rank == 0 { while i < 4 { recv x from any tag 0; i = i + 1; } } else { send 1 to 0 tag 0; }\n'
+NEVER_BAD = b'every way it can end is listed: it always ends, and never in a deadlock or trap\n'
+TOLD = rb'\rpieces ([0-9]+) of ([0-9]+), leaves ([0-9]{1,3}(?:,[0-9]{3})*)'
+RISING = re.compile(rb'(?:%b)+\r\x1b\[K' % TOLD + NEVER_BAD)
+
+
+def told_counts(counts, of_piece, pieces):
+    """What a terminal gets of these counts of leaves, each in place of the one before, and wiped at the end; each piece has so many."""
+    told = b''.join(b'\rpieces %d of %d, leaves %d' % ((count - 1) // of_piece, pieces, count) for count in counts)
+    return told + b'\r\x1b[K' * bool(counts)
+
+
+def is_rising(errors, pieces, seconds):
+    """Whether progress was told, once in each of so many seconds at most, with more leaves each time, and no fewer pieces, of all."""
+    told = [tuple(int(number.replace(b',', b'')) for number in numbers) for numbers in re.findall(TOLD, errors)]
+    ended, of_all, leaves = zip(*told) if told else ((), (), ())
+    is_fit = set(of_all) == {pieces} and max(ended) < pieces and list(ended) == sorted(ended) and list(leaves) == sorted(set(leaves))
+    return bool(RISING.fullmatch(errors)) and is_fit and len(told) <= seconds
+
+
+def progress_rows(program):
+    """At a terminal, and there alone, `check` says how many pieces are done and how many leaves there are so far, once a second at most,
+    and wipes it at the end."""
+    candidates = itertools.product(*(range(count) for count in range(8, 0, -1)))
+    leaves = [f"leaf {number} [{' '.join(map(str, taken))}] done\n" for number, taken in enumerate(candidates)]
+    report = ''.join(leaves + [f'leaves {len(leaves)} more no\n']).encode()
+    with tempfile.TemporaryDirectory() as folder:
+        slow, race = os.path.join(folder, 'slow'), os.path.join(folder, 'race')
+        for name, data in ((slow, SLOW), (race, open_example('race.mpd'))):
+            with open(name, 'wb') as file:
+                file.write(data)
+        before = time.time()
+        result = at_terminal(program, 'check', slow, '--runs', '65536', '--workers', '1')
+        told = is_rising(result.errors, 8, time.time() - before)
+        yield 'a terminal, a long check', (result._replace(errors=b''), told), (Result(report, b'', 0), True)
+        before = time.time()
+        result = at_terminal(program, 'check', slow, '--runs', '65536', '--workers', '4')
+        # (four processors may have done within a second)
+        told = result.errors == NEVER_BAD or is_rising(result.errors, 8, time.time() - before)
+        yield 'a terminal, a long check by four workers', (result._replace(errors=b''), told), (Result(report, b'', 0), True)
+        # 24 leaves, by a clock that goes on by so much at each: at the end of each second, all leaves so far are counted
+        shim, few = built(os.path.join(HERE, 'terminal_shim.c'), folder), os.path.join(folder, 'few')
+        with open(few, 'wb') as file:
+            file.write(FEW)
+        for pause, between in ((1000, 1), (999, 2), (500, 2), (400, 3), (250, 4), (42, 24), (41, 25)):
+            for split, of_piece, pieces in ((1, 6, 4), (0, 24, 1), (2, 2, 12)):
+                words = ('check', few, '--workers', '1', '--split', str(split))
+                result = at_terminal(program, *words, LD_PRELOAD=shim, CLOCK_MS=str(pause))
+                wanted = told_counts(range(between, 25, between), of_piece, pieces) + NEVER_BAD
+                yield f'a terminal, {pause} ms for each leaf, {pieces} pieces', result.errors, wanted
+        piece = at_terminal(program, 'check', few, '--piece', '3', LD_PRELOAD=shim, CLOCK_MS='1000')
+        yield 'a terminal, one piece', piece.errors, told_counts(range(1, 7), 6, 1)
+        short = at_terminal(program, 'check', race)
+        yield 'a terminal, a short check', short._replace(output=b''), Result(b'', b'every way it can end is listed: it always ends, in 2 ways, 1 of them a deadlock\n', 1)
+        yield 'no terminal, a check', Files(None).run(program, 'check', race)._replace(output=b''), Result(b'', b'', 1)
+
+
+# A script of examples/, the options of its check, the status, and what a terminal is told below the report.
+SUMMED = (
+    ('first_message', '', 0, 'every way it can end is listed: it always ends, and never in a deadlock or trap'),
+    ('first_message', '--complete', 0, 'every way it can end is listed: it always ends, and never in a deadlock or trap'),
+    ('head_to_head', '', 1, 'every way it can end is listed: it always ends, in 1 way, 1 of them a deadlock'),
+    ('trap', '', 1, 'every way it can end is listed: it always ends, in 1 way, 1 of them a trap'),
+    ('one_in_seven', '--complete', 1, 'every way it can end is listed: it always ends, in 7 ways, 1 of them a deadlock'),
+    ('one_in_seven', '--runs 1 --complete', 1, 'every way it can end is listed: it always ends, in 7 ways, 1 of them a deadlock'),
+    ('one_in_seven', '--split 0 --runs 6', 0, 'not everything was tried: 6 runs were listed, and there are more (--runs)'),
+    ('one_in_seven', '--split 0 --runs 6 --complete', 4, 'not everything was tried: 6 runs were listed, and there are more (--runs)'),
+    ('one_in_seven', '--split 0 --runs 1 --complete', 4, 'not everything was tried: 1 run was listed, and there are more (--runs)'),
+    ('one_in_seven', '--fuel 63', 0, 'not everything was tried: 1 run was cut (--fuel)'),
+    ('one_in_seven', '--fuel 63 --complete', 4, 'not everything was tried: 1 run was cut (--fuel)'),
+    ('one_in_seven', '--fuel 40 --complete', 4, 'not everything was tried: 7 runs were cut (--fuel)'),
+    ('one_in_seven', '--split 0 --runs 6 --fuel 40 --complete', 4,
+     'not everything was tried: 6 runs were listed, and there are more (--runs), 6 runs were cut (--fuel)'),
+    # up to the first deadlock, behind which there are others or none; where none is listed, it is the runs that leave something out
+    ('one_in_seven', '--until deadlock', 1, 'every way it can end is listed: it always ends, in 7 ways, 1 of them a deadlock'),
+    ('two_each', '--until deadlock', 1, 'not everything was tried: 1 run was listed, and there are more (--until)'),
+    ('one_in_seven', '--split 0 --runs 6 --until deadlock --complete', 4, 'not everything was tried: 6 runs were listed, and there are more (--runs)'),
+    # a waitany takes what is complete by then, so a report tells of its runs alone
+    ('waitany', '', 0, 'not everything was tried: what a waitany takes may depend on the order of steps'),
+    ('waitany', '--complete', 4, 'not everything was tried: what a waitany takes may depend on the order of steps'),
+    ('waitany', '--piece 1', 0, 'not everything was tried: what a waitany takes may depend on the order of steps'),
+    ('waitany', '--fuel 21 --complete', 4,
+     'not everything was tried: 2 runs were cut (--fuel), what a waitany takes may depend on the order of steps'),
+    ('waitany', '--split 0 --runs 1 --fuel 21', 0, 'not everything was tried: 1 run was listed, and there are more (--runs), 1 run was cut (--fuel), '
+     'what a waitany takes may depend on the order of steps'),
+    ('waited_twice', '--until deadlock --complete', 1, 'not everything was tried: what a waitany takes may depend on the order of steps'),
+    # a report that lists ends, each once, tells as much as one that lists all runs
+    ('four_races', '--ends', 0, 'every way it can end is listed: it always ends, and never in a deadlock or trap'),
+    ('four_races', '--ends --complete', 0, 'every way it can end is listed: it always ends, and never in a deadlock or trap'),
+    ('four_races', '--ends --split 0 --runs 3', 0, 'not everything was tried: 3 runs were listed, and there are more (--runs)'),
+    ('one_in_seven', '--ends', 1, 'every way it can end is listed: it always ends, in 7 ways, 1 of them a deadlock'),
+    ('waitany', '--ends --complete', 4, 'not everything was tried: what a waitany takes may depend on the order of steps'),
+    # so does one of runs that are drawn, where all of them were
+    ('one_in_seven', '--sample 500 --complete', 1, 'every way it can end is listed: it always ends, in 7 ways, 1 of them a deadlock'),
+    ('first_message', '--sample 5 --complete', 0, 'every way it can end is listed: it always ends, and never in a deadlock or trap'),
+    # a deadlock was found, so the status is not that of a report that isn't whole
+    ('race', '--split 0 --runs 1 --complete', 1, 'not everything was tried: 1 run was listed, and there are more (--runs)'),
+)
+
+# In a mode of slots a send is buffered or not by what was matched before it, so again a report tells of its runs alone.
+BY_ORDER = 'which sends are buffered may depend on the order of steps'
+SUMMED_IN_SLOTS = (
+    ('first_message', '--mode slots:1', 0, f'not everything was tried: {BY_ORDER}'),
+    ('first_message', '--mode slots:0 --complete', 4, f'not everything was tried: {BY_ORDER}'),
+    ('first_message', '--mode slots:65536 --complete', 4, f'not everything was tried: {BY_ORDER}'),
+    ('first_message', '--mode slots:1 --fuel 1 --complete', 4, f'not everything was tried: 1 run was cut (--fuel), {BY_ORDER}'),
+    ('first_message', '--mode slots:1 --piece 0', 0, f'not everything was tried: {BY_ORDER}'),
+    ('head_to_head', '--mode slots:0', 1, f'not everything was tried: {BY_ORDER}'),
+    ('head_to_head', '--mode slots:0 --complete', 1, f'not everything was tried: {BY_ORDER}'),
+    ('trap', '--mode slots:2', 1, f'not everything was tried: {BY_ORDER}'),
+    ('waitany', '--mode slots:0', 0, f'not everything was tried: what a waitany takes may depend on the order of steps, {BY_ORDER}'),
+    ('waitany', '--mode slots:0 --complete', 4, f'not everything was tried: what a waitany takes may depend on the order of steps, {BY_ORDER}'),
+)
+
+# Of modes that are tried in turn it is said which ones have a deadlock or a trap, as far as the first that has none.
+SUMMED_MODES = (
+    ('first_message', '--modes 1', 0, 'no deadlock or trap is listed in any of these modes'),
+    ('swapped_tags', '--modes 1', 1, 'hangs or traps in each of these modes'),
+    ('head_to_head', '--modes 2', 1, 'hangs or traps without a slot'),
+    ('freed_slot', '--modes 3', 1, 'hangs or traps with fewer than 2 slots'),
+    ('freed_slot', '--modes 1', 1, 'hangs or traps with each number of slots that was tried (--modes)'),
+    ('two_receives', '--modes 0', 1, 'hangs or traps in each of these modes'),
+)
+
+
+def summed_rows(program):
+    """At a terminal, and there alone, a line below a report says whether everything was tried, and how the script can end; with
+    `--complete` a report that isn't whole and has nothing bad has a status of its own."""
+    for name, options, status, line in SUMMED + (SUMMED_IN_SLOTS + SUMMED_MODES) * bool(KNOWN):
+        words = ('check', os.path.join(EXAMPLES, f'{name}.mpd'), *options.split())
+        result = at_terminal(program, *words)
+        yield f'a terminal, check {name} {options}', (result.errors, result.status), (line.encode() + b'\n', status)
+        quiet = Files(None).run(program, *words)
+        yield f'no terminal, check {name} {options}', quiet, Result(result.output, b'', status)
+
+
+# Two ranks that send before they receive, a witness of that, and a mode; and what a terminal is told below the verdict.
+HINTED = ((None, b'accepted', b'', 0), ('buffered', b'refused 33 not-stuck', b'  accepted in mode rendezvous (--mode)', 1), ('slots:0', b'accepted', b'', 0),
+          ('slots:1', b'refused 33 not-stuck', b'  accepted in mode rendezvous (--mode)', 1))
+
+
+def hint_rows(program):
+    """At a terminal, and there alone, a line below a verdict says in which other mode the witness is one."""
+    script = os.path.join(EXAMPLES, 'head_to_head.mpd')
+    with tempfile.TemporaryDirectory() as folder:
+        for text in (b'deadlock 0.0 1.0\nlocal 0, local 1\n', b'leaf 0 [] deadlock 0.0 1.0\nwitness 0: local 0, local 1\nleaves 1 more no\n'):
+            witness = held(folder, 'witness.txt', text)
+            for mode, verdict, hint, status in HINTED:
+                words = ('verify', script, witness, *(() if mode is None else ('--mode', mode)))
+                told = Result(verdict + b'\n', hint + b'\n' if hint else b'', status)
+                yield f'a terminal, {words[3:]} of {text[:20]}', at_terminal(program, *words), told
+                yield f'no terminal, {words[3:]} of {text[:20]}', Files(None).run(program, *words), told._replace(errors=b'')
+
+
+def deepest(block, opening, closing, cost):
+    """A script of blocks as deep as allowed, with expressions as deep as allowed inside, and the words to its end."""
+    most, fewer = MOST_OPERATORS // cost, (MOST_OPERATORS - 1) // cost
+    value, index = opening * most + '0' + closing * most, opening * fewer + '0' + closing * fewer
+    inside = (block + ' ') * MOST_OPEN_BLOCKS + f'print {value}; a[{index} * 0] = {value}; x = 1; '
+    text = f'mpd 1;\nranks 1;\nvar x;\nvar a[1];\n{inside}{"}" * MOST_OPEN_BLOCKS}\n---\n'
+    return (text + 'local 0\n' * 70 + 'show\n' + 'back\n' * 69 + 'show\n').encode()
+
+
+def stack_rows(program):
+    """The deepest scripts, on a stack of so many KiB."""
+    forms = {'(': (')', 1), '!': ('', 1), '-': ('', 1), 'a[': (']', 1), '(1 + ': (')', 2), '!(': (')', 2), '1 * (': (')', 2),
+             '0 || (': (')', 2), '1 && (': (')', 2), '(-a[': ('])', 3)}
+    for block in ('if 1 {', 'while !x {', 'if 0 { } else {'):
+        for opening, (closing, cost) in forms.items():
+            data = deepest(block, opening, closing, cost)
+            with soft_limit(resource.RLIMIT_STACK, STACK_KIB << 10):
+                result = Files(file_of(data)).run(program)
+            yield f'{block} {opening} on {STACK_KIB} KiB', result, answer(data)
+    data = nested(MOST_OPEN_BLOCKS, MOST_OPERATORS).encode() + b'\n---\n' + b'local 0\n' * 100 + b'show\n'
+    with soft_limit(resource.RLIMIT_STACK, STACK_KIB << 10):
+        result = Files(file_of(data)).run(program)
+    yield f'100 steps of the innermost of as many loops on {STACK_KIB} KiB', result, answer(data)
+
+
+def much_rows(program):
+    """Answers of many times the memory that the program may take: they are written before too many are gathered."""
+    ranks, cells = 4, 1023
+    text = (f'mpd 1; ranks {ranks}; var i; var a[{cells}];\n'
+            f'while i < {cells} {{ a[i] = -1234567890123456789; i = i + 1; }}\n---\n')
+    steps = ''.join(f'local {rank}\n' * (3 * cells + 1) for rank in range(ranks))
+    front, shows = (text + steps).encode(), 900
+    first = answer(front).output
+    shown = answer(front + b'show\n').output[len(first):]
+    data = front + b'show\n' * shows + b'back\n'
+    wanted = Result(first + shown * shows + b'ok %d\n' % (steps.count('\n') - 1), b'', 0)
+    # a limit that this process itself could not keep
+    result = Files(file_of(data)).run('sh', '-c', f'ulimit -v {MUCH_MIB << 10}; exec "$0"', program)
+    yield f'much to show with {MUCH_MIB} MiB', result, wanted
+
+
+ROWS = (ended_rows, example_rows, refused_rows, device_rows, usage_rows, trace_rows, terminal_rows, found_rows, why_rows, progress_rows, summed_rows, hint_rows,
+        interrupted_rows, talk_rows, stack_rows, much_rows, full_rows, turns_rows, lesson_rows, *WORKED_ROWS, *PART_ROWS, *SESSION_ROWS,
+        *CONSOLE_ROWS, *DEVICE_ROWS, *CONNECTION_ROWS)
+
+
+def main():
+    if sys.argv[2:] not in ([], ['--two-modes'], ['--version', '1']) or len(sys.argv) < 2:
+        sys.exit(__doc__)
+    if sys.argv[2:] == ['--version', '1']:
+        read_up_to(1)
+    know_modes(not sys.argv[2:])
+    program = os.path.abspath(sys.argv[1])
+    count = wrong = 0
+    for rows in ROWS:
+        before = count
+        for name, result, wanted in rows(program):
+            count += 1
+            if result != wanted:
+                wrong += 1
+                print(f'{name}: {shortened(result)}, wanted {shortened(wanted)}', flush=True)
+        if count == before:
+            wrong += 1
+            print(f'{rows.__name__}: nothing was run')
+    print(f'{count} runs, {wrong} wrong')
+    return 1 if wrong else 0
+
+
+def shortened(result):
+    if not isinstance(result, Result):
+        return result
+    return Result(result.output[-200:], result.errors[-200:], result.status)
+
+
+if __name__ == '__main__':
+    sys.exit(main())
