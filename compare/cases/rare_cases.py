@@ -1,13 +1,9 @@
 """Scripts whose runs are many: races that share nothing, and hangs that few runs come to.
 
-    python3 compare/cases/rare_cases.py hang --ranks 8           a script in which one run of seven hangs
-    python3 compare/cases/rare_cases.py races --races 4          four races of two senders each
-
 A depth-first walk varies the last choices first. Of a rare hang it is an early choice that decides, behind which stand so many others that
 the first thousand runs never come to another one; so a walk of few runs misses it, and runs that choose at random find it soon.
 """
 
-import argparse
 from typing import NamedTuple
 
 
@@ -66,21 +62,3 @@ FEW_RACES = (Races(2), Races(2, 2, 1), Races(3, 2, 1), Races(2, 3, 1), Races(1, 
 def races(random):
     """Few of them, of few senders, which a model can explore."""
     return random.choice(FEW_RACES)
-
-
-def main():
-    parser = argparse.ArgumentParser(description=__doc__, formatter_class=argparse.RawDescriptionHelpFormatter)
-    parser.add_argument('kind', choices=['hang', 'races'])
-    parser.add_argument('--ranks', type=int, default=8, help='how many ranks a hang has (8)')
-    parser.add_argument('--before', type=int, default=1, help='how many choices among two senders stand in front of the one that decides (1)')
-    parser.add_argument('--races', type=int, default=4, help='how many races (4)')
-    parser.add_argument('--senders', type=int, default=2, help='how many senders each race has (2)')
-    chosen = parser.parse_args()
-    if chosen.kind == 'hang':
-        print(Hang(chosen.ranks, chosen.before, named=chosen.ranks - 1).script(), end='')
-    else:
-        print(Races(chosen.races, chosen.senders, chosen.senders).script(), end='')
-
-
-if __name__ == '__main__':
-    main()

@@ -2,7 +2,7 @@
 
 from faults.policy_faults import Breakage
 from model import picture_model
-from model.picture_model import ISSUED, PAIRED, RELEASED, WENT_ON, Drawing, Picture, Rows
+from model.picture_model import ISSUED, PAIRED, RELEASED, WENT_ON, Drawing, Picture
 
 SOUND_MARKS = picture_model.marks_of_step
 SOUND = {name: getattr(Drawing, name) for name in ('pair', 'end', 'free', 'issued_call')}

@@ -4,13 +4,12 @@
 each standard send may be buffered or not, whatever was done with those before.
 """
 
-import os
 import re
 import tempfile
 from typing import NamedTuple
 
 from model.debugger import BUFFERED, RENDEZVOUS, after_local, can_run, enabled_steps, find_call, first_world, next_world
-from model.explorer import CUT, Run, candidates, followed, has_waitany, is_whole, report
+from model.explorer import CUT, has_waitany, is_whole, report
 from model.report_lines import read_report
 from started.programs import held, run_at_once
 

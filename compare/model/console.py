@@ -1,13 +1,10 @@
 """The console for people, in the model: a line that is typed, and what it is answered.
 
-    python3 compare/model/console.py FILE --mode M --witness WITNESS    answers as `debug` of the program does, at a terminal and without one
-
 It was written from docs/CONSOLE.md, over the session, the runs, the explorer and the explanations of the model. The words, and what may
 follow them, are those of console_words.py; texts of steps, calls and variables are those of console_lines.py. compare/rows/console_worked.py
 has rows of it, and compare/runs/consoles.py compares a program with it.
 """
 
-import argparse
 import re
 import sys
 from collections import Counter
@@ -535,24 +532,3 @@ def witness_text(path):
         return None
     text = file_content(path)
     return NO_FILE if text is None else text
-
-
-def main():
-    parser = argparse.ArgumentParser(description=__doc__, formatter_class=argparse.RawDescriptionHelpFormatter)
-    parser.add_argument('file', metavar='FILE')
-    parser.add_argument('--mode', default=RENDEZVOUS, metavar='M')
-    parser.add_argument('--witness', metavar='WITNESS')
-    chosen = parser.parse_args()
-    console = begun(file_content(chosen.file), chosen.mode, witness_text(chosen.witness))
-    if isinstance(console, Console) and sys.stdin.isatty():
-        talk(console)
-        return
-    result = answered(console, sys.stdin.buffer.read()) if isinstance(console, Console) else console
-    sys.stdout.buffer.write(result.output)
-    sys.stdout.buffer.flush()
-    sys.stderr.buffer.write(result.errors)
-    sys.exit(result.status)
-
-
-if __name__ == '__main__':
-    main()

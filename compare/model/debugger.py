@@ -1,13 +1,11 @@
 """The debugger: the steps of the ranks and their matches, the texts that show a world, the trace words, the input."""
 
-import argparse
-import sys
 from typing import NamedTuple
 
 from model import language
 from model.language import (Assert, Assign, Barrier, Branch, FAULT_NAMES, Fault, Print, Receive, Send, Trap, View, Wait, WaitAny, While, cell_of, evaluate,
                             read_script)
-from model.modes import BUFFERED, RENDEZVOUS, is_mode, slots_of
+from model.modes import BUFFERED, RENDEZVOUS, slots_of
 from model.worlds import BarrierCall, Call, CallId, Pair, Rank, Released, Step, WaitAnyCall, WaitCall, Woken, World
 
 HIGHEST_TAG = 32767
@@ -693,32 +691,3 @@ def file_content(path):
             return file.read()
     except OSError:
         return None
-
-
-def answer_words(words):
-    """What the program gives for the words of its command line: none, or `trace FILE`, with `--mode M` where one is named."""
-    parser = argparse.ArgumentParser(description='Answers as the program does: to look at one case.')
-    trace = parser.add_subparsers(dest='command').add_parser('trace')
-    trace.add_argument('file', metavar='FILE')
-    trace.add_argument('--mode', default=RENDEZVOUS)
-    chosen = parser.parse_args(words)
-    if chosen.command is None:
-        return answer(sys.stdin.buffer.read())
-    if not is_mode(chosen.mode):
-        return BAD_MODE
-    script = file_content(chosen.file)
-    if script is None:
-        return BAD_FILE
-    return answer_file(script, sys.stdin.buffer.read(), chosen.mode)
-
-
-def main():
-    result = answer_words(sys.argv[1:])
-    sys.stdout.buffer.write(result.output)
-    sys.stdout.buffer.flush()
-    sys.stderr.buffer.write(result.errors)
-    sys.exit(result.status)
-
-
-if __name__ == '__main__':
-    main()

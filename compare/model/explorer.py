@@ -1,20 +1,16 @@
 """The explorer, in the model: the leaves that runs along decisions come to, the report of them, by pieces, and witnesses of deadlocks.
 
-    python3 compare/model/explorer.py FILE [--runs N] [--split K] ..    answers as `check` of the program does, with all its options but
-                                                                        `--sample` (sampled.py)
-
 compare/rows/worked_explorer.py, compare/rows/worked_pieces.py, compare/rows/worked_ends.py and compare/rows/worked_explained.py have rows of it,
 compare/runs/explore_rules.py checks on random scripts what must hold of it, and compare/runs/explore.py, compare/runs/ends.py and compare/runs/explained.py
 compare a program with it.
 """
 
 import argparse
-import sys
 from itertools import islice
 from typing import NamedTuple, Optional
 
 from model import explaining, policy
-from model.debugger import (BAD_FILE, BAD_MODE, BUFFERED, RENDEZVOUS, Debugger, Result, blocked_calls, call_id_of, enabled_steps, file_content, first_world,
+from model.debugger import (BAD_FILE, BAD_MODE, BUFFERED, RENDEZVOUS, Debugger, Result, blocked_calls, call_id_of, enabled_steps, first_world,
                             next_world, outcome, refusal, step_text)
 from model.language import Branch, Fault, WaitAny, While, read_script
 from model.modes import is_mode, slots_of
@@ -436,16 +432,3 @@ def asked_by(words):
     chosen = vars(parser.parse_args(words))
     file = chosen.pop('file')
     return file, Asked(**{**chosen, 'until': chosen['until'] is not None})
-
-
-def main():
-    file, asked = asked_by(sys.argv[1:])
-    result = answer(file_content(file), asked)
-    sys.stdout.buffer.write(result.output)
-    sys.stdout.buffer.flush()
-    sys.stderr.buffer.write(result.errors)
-    sys.exit(result.status)
-
-
-if __name__ == '__main__':
-    main()

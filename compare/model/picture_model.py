@@ -1,21 +1,15 @@
 """The picture of a run, in the model: a space-time diagram as SVG, and the same as text, as docs/PICTURES.md says.
 
-    python3 compare/model/picture_model.py FILE [--mode M] [--choices C] [--fuel N]            writes the SVG of a run of the script
-    python3 compare/model/picture_model.py FILE .. --text                                      writes it as text
-
 It was written from that page, over the debugger, the runs and the explorer of the model. compare/runs/pictures.py compares a program with it.
 """
 
-import argparse
-import sys
 from typing import NamedTuple, Optional
 
 from model import explorer
 from model.console_lines import has_ended, marked_text, reached
-from model.debugger import RENDEZVOUS, Debugger, call_word, enabled_steps, file_content, find_call, first_world, last_call, outcome, partner
+from model.debugger import Debugger, call_word, enabled_steps, find_call, first_world, last_call, outcome, partner
 from model.explaining import next_line, plain_text
-from model.explorer import USUAL, Run
-from model.language import read_script
+from model.explorer import Run
 from model.modes import slots_of
 from model.run_words import run_by
 from model.worlds import CallId
@@ -337,21 +331,3 @@ def walk(script, mode, steps):
 def steps_of(script, mode, choices, fuel):
     """The steps of the run with some choices, or with the first candidates."""
     return first_run(script, mode, fuel) if choices is None else run_by(Run(first_world(script, mode), fuel), choices).steps
-
-
-def main():
-    parser = argparse.ArgumentParser(description=__doc__, formatter_class=argparse.RawDescriptionHelpFormatter)
-    parser.add_argument('file', metavar='FILE')
-    parser.add_argument('--mode', default=RENDEZVOUS)
-    parser.add_argument('--choices')
-    parser.add_argument('--fuel', type=int, default=USUAL.fuel)
-    parser.add_argument('--text', action='store_true')
-    chosen = parser.parse_args()
-    choices = None if chosen.choices is None else tuple(map(int, chosen.choices.split()))
-    script = read_script(file_content(chosen.file))
-    walked = walk(script, chosen.mode, steps_of(script, chosen.mode, choices, chosen.fuel))
-    sys.stdout.write(text_of(walked) if chosen.text else svg_of(walked))
-
-
-if __name__ == '__main__':
-    main()

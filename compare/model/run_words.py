@@ -1,17 +1,13 @@
 """The run with some choices, in the model: its steps as trace words, as `words` writes them.
 
-    python3 compare/model/run_words.py FILE --choices "0 1 0" [--mode M] [--fuel N]    answers as `words` of the program does
-
 compare/rows/worked_ends.py has rows of it, and compare/runs/reread.py compares a program with it.
 """
 
-import argparse
 import re
-import sys
 from typing import NamedTuple, Optional
 
-from model.debugger import BAD_FILE, BAD_MODE, RENDEZVOUS, Result, file_content, first_world, refusal, step_text
-from model.explorer import MOST_FUEL, USUAL, Leaf, Run, ending, followed, listed, number_between, refused, taken
+from model.debugger import BAD_FILE, BAD_MODE, RENDEZVOUS, Result, first_world, refusal, step_text
+from model.explorer import USUAL, Leaf, Run, ending, followed, listed, refused, taken
 from model.language import Fault, read_script
 from model.modes import is_mode
 from started.programs import held
@@ -78,23 +74,3 @@ def answer(text, choices, mode, fuel):
     except BadChoices as bad:
         return refused(f'bad choices at {bad.place}')
     return Result(''.join(f'{step_text(step)}\n' for step in leaf.steps).encode(), b'', 0)
-
-
-def main():
-    parser = argparse.ArgumentParser(description=__doc__, formatter_class=argparse.RawDescriptionHelpFormatter)
-    parser.add_argument('file', metavar='FILE')
-    parser.add_argument('--choices', required=True)
-    parser.add_argument('--mode', metavar='M')
-    parser.add_argument('--fuel', type=number_between(1, MOST_FUEL), metavar='N')
-    chosen = parser.parse_args()
-    result = Words(file_content(chosen.file), chosen.choices, chosen.mode, chosen.fuel).wanted()
-    if result == WRONG_WORDS:
-        parser.error(f'{chosen.choices!r} are no choices')
-    sys.stdout.buffer.write(result.output)
-    sys.stdout.buffer.flush()
-    sys.stderr.buffer.write(result.errors)
-    sys.exit(result.status)
-
-
-if __name__ == '__main__':
-    main()

@@ -1,18 +1,14 @@
 """A session, in the model: requests read from lines of JSON, what each is answered, and the bytes of the answers.
 
-    python3 compare/model/session.py FILE --mode M < REQUESTS    answers as `run` of the program does
-
 It was written from the description of requests and replies (docs/SESSIONS.md, "Requests", "Replies", "Refusals" and "The engine"), over
 the debugger, the runs and the explorer of the model. compare/rows/worked_sessions.py has rows of it, and compare/runs/sessions.py compares a program with it.
 """
 
-import argparse
 import json
-import sys
 from typing import NamedTuple, Optional
 
 from model import debugger, explorer, policy
-from model.debugger import (BAD_FILE, BAD_MODE, MOST_READS, RENDEZVOUS, CallId, Debugger, Result, call_line, enabled_steps, file_content, find_call, lines_of,
+from model.debugger import (BAD_FILE, BAD_MODE, MOST_READS, RENDEZVOUS, CallId, Debugger, Result, call_line, enabled_steps, find_call, lines_of,
                             next_world, outcome, rank_state, record_line, refusal, step_of, step_text)
 from model.json_text import LARGEST_UNSIGNED, NoJson, read_json
 from model.language import Fault, read_script
@@ -359,19 +355,3 @@ def serve_packets(text, packets, mode=RENDEZVOUS):
         return serve(text, b''.join(packets), mode)
     read = b''.join(packets[:MOST_READS])
     return Result(serve(text, read[:read.rfind(b'\n') + 1], mode).output, b'mpdbg: turns\n', 3)
-
-
-def main():
-    parser = argparse.ArgumentParser(description=__doc__, formatter_class=argparse.RawDescriptionHelpFormatter)
-    parser.add_argument('file', metavar='FILE')
-    parser.add_argument('--mode', default=RENDEZVOUS, metavar='M')
-    chosen = parser.parse_args()
-    result = serve(file_content(chosen.file), sys.stdin.buffer.read(), chosen.mode)
-    sys.stdout.buffer.write(result.output)
-    sys.stdout.buffer.flush()
-    sys.stderr.buffer.write(result.errors)
-    sys.exit(result.status)
-
-
-if __name__ == '__main__':
-    main()

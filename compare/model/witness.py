@@ -1,17 +1,14 @@
 """Witnesses as texts, in the model: what stands in one, or in a whole report, and what `verify` answers.
 
-    python3 compare/model/witness.py FILE REPORT [--leaf N] [--mode M]    answers as `verify` of the program does
-
 compare/rows/worked_explorer.py and compare/rows/worked_ends.py have rows of it, and compare/runs/explore.py and compare/runs/reread.py compare a program with it.
 """
 
 import argparse
 import re
-import sys
 from typing import NamedTuple, Optional
 
 from model import explorer
-from model.debugger import BAD_FILE, BAD_MODE, RENDEZVOUS, Result, call_id_of, file_content, refusal, step_of
+from model.debugger import BAD_FILE, BAD_MODE, RENDEZVOUS, Result, call_id_of, refusal, step_of
 from model.explorer import NO_SUCH_STEP, NOT_STUCK, WRONG_BLOCKED, Witness
 from model.language import Fault, read_script
 from model.modes import is_mode
@@ -192,16 +189,3 @@ def asked_by(words):
     parser.add_argument('--leaf', type=int, metavar='N')
     chosen = parser.parse_args(words)
     return chosen.file, chosen.witness, chosen.mode, chosen.leaf
-
-
-def main():
-    file, witness, mode, leaf = asked_by(sys.argv[1:])
-    result = Verification(file_content(file), file_content(witness), mode, leaf=leaf).wanted()
-    sys.stdout.buffer.write(result.output)
-    sys.stdout.buffer.flush()
-    sys.stderr.buffer.write(result.errors)
-    sys.exit(result.status)
-
-
-if __name__ == '__main__':
-    main()

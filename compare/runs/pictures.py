@@ -30,10 +30,10 @@ from cases.piece_cases import script_of
 from cases.reread_cases import report_asked
 from faults import picture_faults
 from model import picture_model
-from model.debugger import Result, enabled_steps, first_world, next_world, outcome, step_text
+from model.debugger import RENDEZVOUS, Result, enabled_steps, first_world, next_world, outcome, step_text
 from model.explorer import Run, ending, followed, listed, taken
 from model.language import read_script
-from model.picture_model import RENDEZVOUS, svg_of, text_of, walk
+from model.picture_model import svg_of, text_of, walk
 from model.remembered import steps_remembered
 from places import EXAMPLES
 from rows.picture_rows import ROWS

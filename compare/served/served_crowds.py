@@ -12,7 +12,6 @@ from random import Random
 from typing import NamedTuple
 
 from cases.session_cases import ALONG, ASKING, FILLING, FORWARD, MARKING, SPOILED, USUAL, Talk, is_small, script_for
-from model import debugger
 from model.debugger import BUFFERED, RENDEZVOUS, Debugger, lines_of
 from model.language import Fault, read_script
 from model.session import FIELDS, FULL, NAMES, Refused, parse

@@ -1,9 +1,7 @@
 """A server in Python that stands for `mpdbg serve`: a thread for each client, over the session of the model.
 
-    python3 compare/served/stand_in.py serve FILE --port P --clients N --mode M
-
-compare/runs/serving.py tries it without a fault, and with each of stand_in_faults.py and stand_in_server_faults.py. Two more words may stand
-before `serve`: the name of such a fault (--fault), and how many entries the history may have (--history).
+compare/runs/serving.py tries it without a fault, and with each of stand_in_faults.py and stand_in_server_faults.py. compare/runs/stand_in.py
+is the program of it.
 """
 
 import argparse
@@ -217,12 +215,3 @@ def run(words):
         sys.stderr.flush()
         os._exit(BAD_FILE.status)
     return 0
-
-
-if __name__ == '__main__':
-    # a fault is planted into the module of this name, which the main module is not, before any word is read
-    from served import stand_in
-    if '--fault' in sys.argv:
-        from served import stand_in_server_faults
-        stand_in_server_faults.plant(sys.argv[sys.argv.index('--fault') + 1])
-    sys.exit(stand_in.run(stand_in.arguments()))
