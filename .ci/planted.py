@@ -39,7 +39,7 @@ from cases.explore_cases import Case
 from edit_files import BadEdit, Edit, merged, touches
 from model import explorer, session, witness
 from model.debugger import RENDEZVOUS, answer
-from started.programs import held
+from model.files import held
 
 FOLDER = 'compare/broken'
 # What the words of a command line have in place of paths.

@@ -18,10 +18,10 @@ from model.console import NO_FILE, Console, debug, is_blank, way
 from model.console_words import TABLE, Asked, NotAsked, full_name, names_of
 from model.debugger import RENDEZVOUS, Debugger, enabled_steps, lines_of, step_text
 from model.explorer import CUT, leaf_lines, walk
+from model.files import held
 from model.language import Fault, read_script
 from model.modes import MODES, by_turns
 from model.policy import Choice, Forced
-from started.programs import held
 
 # What takes the model more steps or runs than these isn't asked for.
 LONGEST_RUN, MOST_RUNS, MOST_FUEL = 200, 60, 250

@@ -2,8 +2,8 @@
 
 import re
 
+from cases.explained_met import TOLD_BY as EXPLAINED
 from model.console_words import TABLE
-from runs.explained import TOLD_BY as EXPLAINED
 
 STEP = r'(local|match|wake|wakeany|release)\b.*'
 CALL = r'line \d+, \d+\.\d+ '

@@ -10,10 +10,10 @@ from cases.explore_cases import KINDS, KINDS_OF_2, KINDS_OF_SLOTS, Case, Kind, a
 from cases.piece_cases import SPLITS, cut, filled, has_few_leaves, made_small, one_piece, workers
 from cases.piece_cases import script_of as read_script_of
 from cases.rare_cases import races
+from cases.small_cases import several
 from cases.wildcard_cases import in_branches
 from model.explorer import ends_part
 from model.modes import is_turn_of_slots
-from runs.complete import several
 
 # One script of so many is of version 2.
 VERSION_2_EVERY = 6

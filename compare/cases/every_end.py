@@ -9,14 +9,15 @@ from typing import NamedTuple, Optional
 
 from cases.ends_cases import RACES
 from cases.explore_cases import kind_of, script_of
+from cases.small_cases import SMALL
 from model import debugger
+from model.complete import end_of, key
 from model.debugger import first_world, next_world, outcome
 from model.explorer import MOST_FUEL, Asked, Run
 from model.language import Fault, read_script
 from model.modes import MODES
 from model.report_lines import NoReport, must_be, read_report
 from model.run_words import BadChoices, run_by
-from runs.complete import SMALL, end_of, key
 
 # A script is small where it has so many worlds at most, none behind more steps than so many.
 MOST_WORLDS, MOST_STEPS = 1000, 70

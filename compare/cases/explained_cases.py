@@ -18,8 +18,8 @@ from cases.wildcard_cases import in_branches
 from model import explorer
 from model.debugger import BUFFERED, RENDEZVOUS, Debugger
 from model.explorer import Asked, option_words
+from model.files import held
 from model.sampler import sampled
-from started.programs import held
 
 DECLARED = 'var x; var y; var i; var s; var t; var a[4]; req h; req r[4]; req q[2];'
 # One script of so many is of the other kinds, and one of so many of these that are drawn here is of version 2.

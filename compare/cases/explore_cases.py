@@ -13,9 +13,9 @@ from cases.wildcard_cases import in_branches
 from model.canonical import now_and_then_canonical
 from model.debugger import RENDEZVOUS
 from model.explorer import Asked, answer, option_words, report
+from model.files import held
 from model.language import Fault, read_script
 from model.modes import MODES, SLOTS_EVERY, by_turns, is_turn_of_slots
-from started.programs import held
 
 DECLARED = 'var x; var y; var i; var s; var t; var a[4]; req h; req r[8];'
 

@@ -10,8 +10,9 @@ from typing import NamedTuple
 
 from model.debugger import BUFFERED, RENDEZVOUS, after_local, can_run, enabled_steps, find_call, first_world, next_world
 from model.explorer import CUT, has_waitany, is_whole, report
+from model.files import held
 from model.report_lines import read_report
-from started.programs import held, run_at_once
+from started.programs import run_at_once
 
 ENDED, TRAPPED, HUNG = 'ended', 'trapped', 'hung'
 # So many runs of a script, of so many steps, are listed; where these aren't all, the script is left out.

@@ -3,11 +3,10 @@
 What they are told of is `at`: a world, and the line of each call that was issued up to it (explaining.py).
 """
 
-from model import explaining
+from model import explaining, order
 from model.debugger import call_line, find_call, last_call, partner, pending, posted, step_text
 from model.explaining import Reached, call_text, next_line, wish
 from model.worlds import CallId
-from runs import order
 
 ABOUT = 4
 MESSAGES = 'send', 'recv'

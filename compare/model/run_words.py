@@ -8,9 +8,9 @@ from typing import NamedTuple, Optional
 
 from model.debugger import BAD_FILE, BAD_MODE, RENDEZVOUS, Result, first_world, refusal, step_text
 from model.explorer import USUAL, Leaf, Run, ending, followed, listed, refused, taken
+from model.files import held
 from model.language import Fault, read_script
 from model.modes import is_mode
-from started.programs import held
 
 # Numbers of one to nine digits, with one space or more between two, and any in front and behind; or nothing.
 CHOICES = re.compile(' *(?:[0-9]{1,9}(?: +[0-9]{1,9})* *)?')

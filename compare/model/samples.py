@@ -11,9 +11,9 @@ from typing import NamedTuple, Optional
 from model import explorer
 from model.debugger import RENDEZVOUS, Result
 from model.explorer import USUAL, Leaf, Report, Run, ending, followed, is_bad, listed, report_text, status_of, taken, walk
+from model.files import held
 from model.report_lines import NoReport, must_be, read_report
 from model.run_words import BadChoices, run_by
-from started.programs import held
 
 MOST_SEED = 18446744073709551615
 

@@ -7,14 +7,13 @@ the debugger, the runs and the explorer of the model. compare/rows/worked_sessio
 import json
 from typing import NamedTuple, Optional
 
-from model import debugger, explorer, policy
+from model import debugger, explorer, order, policy
 from model.debugger import (BAD_FILE, BAD_MODE, MOST_READS, RENDEZVOUS, CallId, Debugger, Result, call_line, enabled_steps, find_call, lines_of,
                             next_world, outcome, rank_state, record_line, refusal, step_of, step_text)
 from model.json_text import LARGEST_UNSIGNED, NoJson, read_json
 from model.language import Fault, read_script
 from model.modes import is_mode
 from model.policy import BREAK, Breaks, ChangeBreak, Choice, Forced, LineBreak, MatchBreak
-from runs import order
 
 LONGEST_LINE = 4096
 HIGHEST_LINE = 65537

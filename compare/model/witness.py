@@ -10,9 +10,9 @@ from typing import NamedTuple, Optional
 from model import explorer
 from model.debugger import BAD_FILE, BAD_MODE, RENDEZVOUS, Result, call_id_of, refusal, step_of
 from model.explorer import NO_SUCH_STEP, NOT_STUCK, WRONG_BLOCKED, Witness
+from model.files import held
 from model.language import Fault, read_script
 from model.modes import is_mode
-from started.programs import held
 
 REFUSAL_NAMES = {NO_SUCH_STEP: 'no-such-step', NOT_STUCK: 'not-stuck', WRONG_BLOCKED: 'wrong-blocked'}
 ACCEPTED = Result(b'accepted\n', b'', 0)

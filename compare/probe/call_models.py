@@ -4,7 +4,7 @@ A row names a call, as the program of compare/probe/memory/ does, and what that 
 the row, as it was worked out by hand (call_rows.py, call_listings.py). What is told of calls that explore is in call_reports.py.
 """
 
-from model import policy, session
+from model import order, policy, session
 from model.c_script import c_text
 from model.canonical import canonical
 from model.debugger import (RENDEZVOUS, CallId, Debugger, enabled_steps, find_call, next_world, outcome, partner, pending, rank_state, record_line, show,
@@ -15,7 +15,6 @@ from probe.call_consoles import CONSOLES
 from probe.call_given import Wanted, by_hand, line, no_state, numbered, steps_line, trail_text, unchanged, walked, world_of
 from probe.call_pictures import PICTURES
 from probe.call_reports import REPORTS
-from runs import order
 
 
 # ---- scripts

@@ -5,12 +5,11 @@ The model has no explanations: these were worked out by hand (call_explained.py)
 
 from itertools import islice
 
-from model import explorer, run_words, sampler, session, witness
+from model import complete, explorer, run_words, sampler, session, witness
 from model.debugger import Debugger, step_of
 from model.explorer import Run, pieces, report_text
 from probe.call_explained import explained, explanation
 from probe.call_given import by_hand, line, no_state, numbered, steps_line, trail_text, unchanged, walked
-from runs import complete
 
 
 def has(row, word):

@@ -3,6 +3,7 @@
 What is changed in a copy stands in compare/probe/. `rt try` builds it, with no proof, and runs it under its checks of memory.
 """
 
+import argparse
 import os
 import re
 import shutil
@@ -10,8 +11,11 @@ import subprocess
 import sys
 import tempfile
 from collections import Counter
-from typing import NamedTuple
+from concurrent.futures import ThreadPoolExecutor
+from typing import Callable, NamedTuple
+from unittest import mock
 
+from cases.explore_cases import Beside
 from places import TOP
 
 sys.path.append(f'{TOP}/.ci')
@@ -24,6 +28,8 @@ PROBES = 'compare/probe'
 # A batch is what the copy answers in one run, which may write 1 MiB under `rt try`.
 MOST_OUTPUT = 1_000_000
 MOST_WALKS = 50
+# How many walks a process makes at a time; and among so many one is sought on which a broken model says otherwise.
+CHUNK, MOST_SOUGHT = 20, 1000
 DIVIDER = b'\0'
 
 
@@ -153,3 +159,97 @@ def report(probe, found, text, seconds):
         print(f'{folder}/{batch.name}: {said.get(batch.name, "no answer")}')
     if differing:
         print(first_difference(probe, differing[0].walks[0], seconds))
+
+
+# ---- walks, and faults of the model that some walk must show
+
+class Trial(NamedTuple):
+    """What is tried in a copy: a probe; functions of a module that give the walk of a seed and number, None where there is none, what must be
+    answered to its input, and the faults of the model; and the folder of wrong bodies."""
+    probe: Probe
+    walked: Callable
+    expected: Callable
+    faults: Callable
+    bodies: str
+
+
+def parser_of(description):
+    """What reads the words of a command line."""
+    parser = argparse.ArgumentParser(description=description, formatter_class=argparse.RawDescriptionHelpFormatter)
+    parser.add_argument('--count', type=int, default=300, help='how many scripts of version 1 (300), and half as many of version 2')
+    parser.add_argument('--version', type=int, choices=[1, 2], default=2, help='the last version that the crates know (2)')
+    parser.add_argument('--seed', type=int, default=1, help='another seed gives other scripts (1)')
+    parser.add_argument('--planted', action='store_true', help='plant the wrong bodies too: a build for each')
+    parser.add_argument('--seconds', type=int, default=60, help='how long a run of the copy may take (60)')
+    parser.add_argument('--jobs', type=int, default=len(os.sched_getaffinity(0)), help='how many processes (one for each core)')
+    return parser
+
+
+def walked_chunk(walked, seed, numbers):
+    """The walks of some numbers."""
+    return [walk for number in numbers if (walk := walked(seed, number))]
+
+
+def some_walked(pool, walked, seed, count):
+    """So many walks."""
+    found, first = [], 0
+    while len(found) < count:
+        chunks = range(first, first + max(count - len(found), CHUNK) * 5 // 4, CHUNK)
+        tasks = [pool.submit(walked_chunk, walked, seed, range(chunk, chunk + CHUNK)) for chunk in chunks]
+        found += [walk for task in tasks for walk in task.result()]
+        first = chunks[-1] + CHUNK
+    return found[:count]
+
+
+def all_walked(pool, walked, chosen):
+    """So many walks of scripts of version 1, and half as many of version 2."""
+    found = some_walked(pool, walked, chosen.seed, chosen.count)
+    return found + (some_walked(pool, walked, Beside(chosen.seed), chosen.count // 2) if chosen.version > 1 else [])
+
+
+def noticing(trial, place, walks):
+    """The first walk on which this broken model says otherwise, with what it says, as a batch; None where there is none."""
+    fault = trial.faults()[place]
+    with mock.patch.object(fault.owner, fault.attribute, fault.replacement):
+        for walk in walks:
+            said = trial.expected(walk.data)
+            if said != walk.wanted:
+                return Batch(f'broken-{place}', [walk._replace(wanted=said)])
+    return None
+
+
+def sought_among(walks):
+    """The walks among which one is sought on which a broken model says otherwise: those of version 2 stand last."""
+    return walks[:MOST_SOUGHT] + walks[max(MOST_SOUGHT, len(walks) - MOST_SOUGHT):]
+
+
+def compare(trial, pool, chosen, walks):
+    """Compares the walks, and the broken models; gives how much is wrong."""
+    faults = trial.faults()
+    sought = [pool.submit(noticing, trial, place, sought_among(walks)) for place in range(len(faults))]
+    broken = [it.result() for it in sought]
+    all_batches = batches(walks)
+    said, text = tried(trial.probe, [*all_batches, *filter(None, broken)], [], chosen.seconds)
+    differing = [batch for batch in all_batches if said.get(batch.name) != 'expected']
+    if differing:
+        report(trial.probe, differing, text, chosen.seconds)
+    missed = [fault.name for fault, batch in zip(faults, broken) if not batch or said.get(batch.name) != 'differs']
+    for name in missed:
+        print(f'not noticed in the model: {name}')
+    print(f'{len(all_batches)} runs, {len(differing)} different; {len(broken)} broken models, {len(broken) - len(missed)} noticed')
+    return len(differing) + len(missed)
+
+
+def compare_planted(trial, chosen, walks):
+    """Plants each wrong body in a copy of its own; gives how many were not noticed."""
+    all_batches, missed = batches(walks), 0
+    bodies = [Change(f'{trial.bodies}/{name}') for name in sorted(os.listdir(trial.bodies))] if os.path.isdir(trial.bodies) else []
+    with ThreadPoolExecutor(chosen.jobs) as pool:
+        for body, (said, text) in zip(bodies, pool.map(lambda body: tried(trial.probe, all_batches, [body], chosen.seconds), bodies)):
+            found = Counter(said.get(batch.name, 'no answer') for batch in all_batches)
+            print(f'{body.name}: {dict(found)}', flush=True)
+            if set(found) - {'expected', 'differs'} or not found['differs']:
+                missed += 1
+                print(f'{body.name}: NOT NOTICED: {text[-1000:]}')
+    print(f'{len(bodies)} wrong bodies, {len(bodies) - missed} noticed')
+    return missed or not bodies

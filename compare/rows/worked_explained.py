@@ -9,28 +9,8 @@ from cases.explore_cases import Case
 from model.debugger import BUFFERED, RENDEZVOUS, Result
 from model.explorer import Asked
 from places import EXAMPLES
+from rows.worked_console_scripts import ANY_OF_TWO, WAITS
 
-# Requests that are waited for, of which each is nearly the other's partner.
-WAITS = '''mpd 1; ranks 2;
-var x; req h; req r[2];
-if rank == 0 {
-  irecv h x from 1 tag 3;
-  wait h;
-} else {
-  isend r[1] 7 to 0 tag 4;
-  wait r[1];
-}
-'''
-# A wait for any of two requests, the later of which has the first handle; one goes to a rank that has ended.
-ANY_OF_TWO = '''mpd 2; ranks 3;
-var x; var i; req r[3];
-if rank == 0 {
-  irecv r[2] x from 1 tag 1;
-  issend r[0] 5 to 2 tag 0;
-  waitany r to i;
-}
-if rank == 1 { recv x from 0 tag 0; }
-'''
 # Both ranks wait for any of two requests, and for one rank alone.
 ANY_OF_ONE_RANK = '''mpd 2; ranks 2;
 var x; var i; req r[2];

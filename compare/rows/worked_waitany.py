@@ -5,6 +5,7 @@ answer them. They are of each kind of rows that version 1 has: words and what `s
 reports, witnesses, dialogues, texts that are refused; and of the canonical text and the order of calls, for which there is no word.
 """
 
+from model import order
 from model.canonical import canonical
 from model.debugger import BUFFERED, RENDEZVOUS, CallId, Debugger
 from model.explorer import Asked
@@ -14,7 +15,6 @@ from rows.worked_runs import RunRow
 from rows.worked_sessions import ENABLED, NEXT, RUN, STATE, Dialogue, deep, needs_choice, no, ran, step, stepped
 from rows.worked_texts import Input, trap_input
 from rows.worked_traces import Row
-from runs import order
 
 HEAD = 'mpd 2;ranks 1;'
 TWO_CAME = ('mpd 2; ranks 2; var x; var y; var i; req r[2];\n'

@@ -19,7 +19,6 @@ from concurrent.futures import ProcessPoolExecutor
 from itertools import chain
 from random import Random
 from typing import NamedTuple
-from unittest import mock
 
 sys.path.insert(0, os.path.dirname(os.path.dirname(os.path.abspath(__file__))))
 
@@ -30,12 +29,13 @@ from faults import c_text_faults
 from model import c_script
 from model.canonical import now_and_then_canonical
 from model.debugger import BAD_FILE, Result, refusal
+from model.files import held
 from model.language import Fault, read_script
 from model.witness import agrees
 from places import TOP
 from rows.worked_c_text import ROWS
-from runs.explore import first_different
-from started.programs import held, run_at_once
+from runs import driving
+from runs.driving import first_different
 
 CHUNK = 25
 # So many scripts meet all that must be met.
@@ -87,8 +87,7 @@ def said(chosen, question):
     """What the program says to a question, or else the model."""
     if not chosen.program:
         return question.wanted()
-    with tempfile.TemporaryDirectory(prefix='c-text-') as folder:
-        return run_at_once(chosen.program, b'', chosen.seconds, words=('c', held(folder, 'script.mpd', question.text)))
+    return driving.said_by_program(chosen, 'c-text-', lambda folder: ('c', held(folder, 'script.mpd', question.text)))
 
 
 def met_in(question, wanted):
@@ -153,23 +152,19 @@ def compare(chosen, pool):
         problem, there = problem_of(chosen, question)
         met += there + Counter(examples=1)
         found += [] if problem is None else [(question, problem)]
-    chunks = [range(first, min(first + CHUNK, chosen.count)) for first in range(0, chosen.count, CHUNK)]
-    for problems, there in pool.map(compare_chunk, [chosen] * len(chunks), chunks):
+    for problems, there in driving.by_chunks(pool, compare_chunk, chosen, CHUNK):
         found += problems
         met += there
     for question, problem in found:
         print(f'{kept(question)}: {question.name}: {problem}')
-    print('; '.join(f'{name} {met[name]}' for name in MUST_MEET))
-    missed = [name for name in MUST_MEET if not met[name]] if chosen.count >= MANY else []
-    for name in missed:
-        print(f'{name} was not met')
+    missed = driving.unmet(MUST_MEET, met, chosen.count >= MANY)
     print(f'{met["written"] + met["refused"] + met["no file"]} texts, {len(found)} different')
-    return len(found) + len(missed)
+    return len(found) + missed
 
 
 def shows(fault, question, answer):
     """Whether the model with a fault says otherwise to a question than the program, or else the sound model."""
-    with mock.patch.object(fault.owner, fault.attribute, fault.replacement):
+    with driving.broken(fault):
         return not agrees(answer, question.wanted())
 
 

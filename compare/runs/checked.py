@@ -21,6 +21,7 @@ import tempfile
 sys.path.insert(0, os.path.dirname(os.path.dirname(os.path.abspath(__file__))))
 
 from places import TOP
+from runs import driving
 from runs.statuses import Result, example_rows, lesson_rows, refused_rows, shortened, usage_rows
 from started.programs import run_at_once
 from statuses.console_statuses import DIALOGUE_ROWS as CONSOLE_ROWS
@@ -119,17 +120,12 @@ def fault_rows(folder):
 def main():
     if len(sys.argv) > 2:
         sys.exit(__doc__)
-    count = wrong = 0
     with tempfile.TemporaryDirectory() as folder:
         found = list(fault_rows(folder))
         program = os.path.abspath(sys.argv[1]) if len(sys.argv) == 2 else build(TOP, 'mpdbg', f'{folder}/mpdbg')
         for rows in (example_rows, lesson_rows, refused_rows, usage_rows, DIALOGUE_ROWS, CONSOLE_ROWS):
             found += rows(program)
-        for name, result, wanted in found:
-            count += 1
-            if result != wanted:
-                wrong += 1
-                print(f'{name}: {shortened(result)}, wanted {shortened(wanted)}', flush=True)
+        count, wrong = driving.count_wrong(found, lambda result, wanted: f'{shortened(result)}, wanted {shortened(wanted)}')
     print(f'{count} runs of checked programs, {wrong} wrong')
     return 1 if wrong else 0
 

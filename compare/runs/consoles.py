@@ -25,14 +25,14 @@ from cases.console_cases import Case, random_case
 from cases.console_met import MUST_MEET, met_in
 from faults import console_faults
 from model.debugger import Result
+from model.files import held
 from model.witness import agrees
 from rows.console_starts import LONG_STARTS, STARTS, TYPED, start_problem
 from rows.console_worked import CUT, DIALOGUES, ENDINGS, LONG, SLOW, dialogue_problem, ending_problem
 from rows.worked_console_scripts import LOOP
 from runs import driving
-from runs.explore import first_different
+from runs.driving import first_different
 from started.console_terminal import wrong_at_terminal
-from started.programs import held
 
 CHUNK = 10
 # So many dialogues meet all that must be met; so many are tried of a fault that a worked row has shown.
@@ -111,8 +111,7 @@ def compare(chosen, pool):
         for case, how in found:
             differing += 1
             print(f'{kept(files, case)}: {how}', flush=True)
-    print(driving.met_line(MUST_MEET, met))
-    missed = driving.tell(driving.not_met(MUST_MEET, met, chosen.count >= MANY))
+    missed = driving.unmet(MUST_MEET, met, chosen.count >= MANY)
     print(f'{compared} lines in {chosen.count} dialogues, {differing} different')
     return differing + missed + (not compared)
 

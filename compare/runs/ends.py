@@ -14,7 +14,6 @@ met that must be.
 """
 
 import os
-import shlex
 import sys
 from collections import Counter
 from itertools import chain
@@ -26,12 +25,12 @@ from cases.explore_cases import Case
 from faults import ends_faults
 from model import explained_lines, explorer
 from model.explorer import CUT
+from model.files import held
 from model.remembered import steps_remembered
 from rows import worked_ends
 from rows.worked_explorer import wanted_result
 from runs import driving
-from runs.explore import first_different
-from started.programs import held
+from runs.driving import first_different
 
 # So many scripts meet all that must be met.
 MANY = 300
@@ -182,13 +181,6 @@ def compare_chunk(chosen, numbers):
     return found, met, met_of_every
 
 
-def kept(files, case):
-    """Keeps the file of a case; says what words ask the program of it."""
-    path = files.folder(case.name)
-    held(path, 'script.mpd', case.script)
-    return shlex.join(case.words(path))
-
-
 def compare(chosen, pool):
     """Compares so many scripts; gives how much differed, or was not met that must be."""
     rows = rows_wrong(chosen, pool)
@@ -200,11 +192,9 @@ def compare(chosen, pool):
         met_of_every += there_of_every
         for case, how in found:
             differing += 1
-            print(f'{kept(files, case)}: {how}', flush=True)
-    print(driving.met_line(MUST_MEET, met))
-    print(driving.met_line(MUST_MEET_OF_EVERY_END, met_of_every))
+            print(f'{files.case(case)}: {how}', flush=True)
     is_enough = chosen.count >= MANY
-    missed = driving.tell(driving.not_met(MUST_MEET, met, is_enough) + driving.not_met(MUST_MEET_OF_EVERY_END, met_of_every, is_enough))
+    missed = driving.unmet(MUST_MEET, met, is_enough) + driving.unmet(MUST_MEET_OF_EVERY_END, met_of_every, is_enough)
     print(f'{met["reports"]} reports of {chosen.count} scripts, {met_of_every["small scripts"]} beside all interleavings, {differing} different')
     return differing + missed + (not met['reports'])
 

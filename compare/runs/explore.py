@@ -17,14 +17,11 @@ and all was met that can be said, which fewer than 500 scripts needn't do.
 
 import argparse
 import os
-import shlex
 import sys
 import tempfile
 import time
 from collections import Counter
 from concurrent.futures import ProcessPoolExecutor
-from os.path import commonprefix
-from unittest import mock
 
 sys.path.insert(0, os.path.dirname(os.path.dirname(os.path.abspath(__file__))))
 
@@ -36,13 +33,16 @@ from faults import piece_faults, slots_faults, waitany_faults
 from faults.explore_faults import check_faults, told_faults, verify_faults
 from model.debugger import BUFFERED
 from model.explorer import MOST_SPLIT, MOST_WORKERS, NOT_WHOLE
+from model.files import held
 from model.language import read_up_to
 from model.modes import SLOTS_DRAWN, SLOTS_EVERY, has_slots, is_turn_of_slots, know_modes, slots_of
 from model.remembered import steps_remembered
 from model.witness import ACCEPTED, agrees
 from rows import worked_pieces, worked_slots, worked_waitany
 from rows.worked_explorer import CHECKS, LONG_CHECKS, LONG_TOLD, MISTAKES, MISTAKES_OF_VERIFY, TOLD, wanted_result
-from started.programs import held, limit, run_at_once
+from runs import driving
+from runs.driving import first_different
+from started.programs import run_at_once
 
 CHUNK = 10
 # So many scripts meet all that must be met.
@@ -189,32 +189,6 @@ def verifications_of(chosen, number):
     return random_verifications(chosen.seed, number)
 
 
-def piece(line, place):
-    """What stands in a line round a place."""
-    return line[max(0, place - 40):place + 40]
-
-
-def first_different(result, wanted):
-    """What is the first to differ in the output, else in the errors, with both statuses."""
-    for part in ('output', 'errors'):
-        said, due = (getattr(one, part).split(b'\n') + [b'(nothing)'] for one in (result, wanted))
-        for number, (line, right) in enumerate(zip(said, due), 1):
-            if line != right:
-                place = len(commonprefix([line, right]))
-                return (f'line {number} of {part} has {piece(line, place)!r} at {place}, wanted {piece(right, place)!r} '
-                        f'(status {result.status}, wanted {wanted.status})')
-    return f'status {result.status}, wanted {wanted.status}'
-
-
-def kept(folder, case):
-    """Keeps the files of a case in a temporary folder, which is made for the first one; says what words ask the program of it."""
-    if not folder:
-        folder.append(tempfile.mkdtemp(prefix='explore-'))
-    path = os.path.join(folder[0], case.name)
-    os.makedirs(path)
-    return shlex.join(case.words(path))
-
-
 def told_in(witness):
     """What a witness says, without its numbers: the outcome, the steps, and the mode."""
     leaf, steps = witness.text.splitlines()
@@ -272,25 +246,14 @@ def versions(chosen):
 
 def compare_random(chosen, pool):
     """Compares so many random scripts; gives how many cases there were and differed, and how much was not met that must be."""
-    chunks = [(one, range(first, min(first + CHUNK, one.count))) for one in versions(chosen) for first in range(0, one.count, CHUNK)]
-    tasks = [pool.submit(compare_chunk, *chunk) for chunk in chunks]
-    folder, compared, differing, met = [], 0, 0, Counter()
-    for count, found, met_there in (task.result() for task in tasks):
-        met += met_there
-        compared += count
-        differing += len(found)
-        for case, what in found:
-            print(f'{kept(folder, case)}: {what}', flush=True)
+    compared, differing, met = driving.all_compared(pool, compare_chunk, versions(chosen), CHUNK, driving.Kept('explore-').case)
     must_meet = MUST_MEET + MUST_MEET_OF_PIECES + MUST_MEET_OF_VERIFY + ('witnesses verified',) * chosen.every_split
     must_meet += MUST_MEET_OF_2 * (chosen.version > 1) + MUST_MEET_OF_SLOTS * has_slots(chosen)
-    print('; '.join(f'{name} {met[name]}' for name in must_meet))
+    print(driving.met_line(must_meet, met))
     if chosen.every_split:
         print(f'{sum(met[name] for name in PAIRS)} checks by {sum(met[name] > 0 for name in PAIRS)} pairs of choices and workers')
         must_meet += PAIRS
-    missed = [name for name in must_meet if not met[name]] if chosen.count >= MANY else []
-    for name in missed:
-        print(f'{name} was not met')
-    return compared, differing, len(missed)
+    return compared, differing, driving.tell(driving.not_met(must_meet, met, chosen.count >= MANY))
 
 
 def row_problem(chosen, case, wanted):
@@ -363,7 +326,7 @@ def is_noticed(chosen, place):
     fault, cases_of = faults(chosen)[place]
     for case in (case for number in range(chosen.count) for case in cases_of(chosen, number)):
         said = said_to(chosen, case)
-        with mock.patch.object(fault.owner, fault.attribute, fault.replacement):
+        with driving.broken(fault):
             if not agrees(said, case.wanted()):
                 return True
     return False
@@ -383,33 +346,16 @@ def compare_broken(chosen, pool):
 
 def prepare(chosen):
     """Readies a process for its part of a run."""
-    limit(chosen.memory, chosen.output)
+    driving.prepare(chosen)
     read_up_to(chosen.version)
     know_modes(has_slots(chosen))
 
 
 def arguments():
-    parser = argparse.ArgumentParser(description=__doc__, formatter_class=argparse.RawDescriptionHelpFormatter)
-    parser.add_argument('program', nargs='?', metavar='PROGRAM')
-    parser.add_argument('--count', type=int, default=1000, help='how many scripts of version 1 (1000), and a quarter of these of version 2')
-    parser.add_argument('--version', type=int, choices=[1, 2], default=2, help='the last version that the program knows (2)')
-    parser.add_argument('--two-modes', action='store_true', help='the program has no modes `slots:K`')
-    parser.add_argument('--seed', type=int, default=1, help='another seed gives other scripts (1)')
-    parser.add_argument('--every-split', action='store_true', help='check each script by 0 to 8 choices and 1 to 16 workers, too')
-    parser.add_argument('--broken', action='store_true', help='break the model on purpose; each fault must be noticed')
-    parser.add_argument('--short', action='store_true', help='leave out the rows of 100,000 steps and more')
-    parser.add_argument('--jobs', type=int, default=2, help='how many processes (2)')
-    parser.add_argument('--seconds', type=float, default=20, help='how long one check may take (20)')
-    parser.add_argument('--memory', type=int, default=4096, help='how much memory the program may take, in MiB (4096)')
-    parser.add_argument('--output', type=int, default=256, help='how much the program may write, in MiB (256)')
-    chosen = parser.parse_args()
-    if chosen.program is None and not chosen.broken:
-        parser.error('PROGRAM is left out with --broken alone')
-    if chosen.program:
-        chosen.program = os.path.abspath(chosen.program)
-        if not os.access(chosen.program, os.X_OK) or os.path.isdir(chosen.program):
-            parser.error(f'{chosen.program} is no program')
-    return chosen
+    flags = (('--every-split', 'check each script by 0 to 8 choices and 1 to 16 workers, too'), ('--short', 'leave out the rows of 100,000 steps and more'))
+    parser = driving.parser_of(__doc__, 'scripts of version 1 (1000), and a quarter of these of version 2', 1000, flags=flags)
+    driving.add_versions(parser)
+    return driving.chosen_by(parser, 'broken')
 
 
 def main():

@@ -14,7 +14,6 @@ refused for what was changed. What is enabled and decided, and how a run ended, 
 `show` (follow.py). The status is 0 where all of that holds, and was seen.
 """
 
-import argparse
 import os
 import re
 import sys
@@ -39,6 +38,7 @@ from model.language import Fault, read_script
 from model.modes import MODES, by_turns
 from model.policy import Choice
 from model.remembered import steps_remembered
+from runs import driving
 from runs.follow import due
 
 RUNS = (5, 20, 40, 40)
@@ -492,35 +492,14 @@ def check_kinds(seed, count, to_end):
     return met, wrong
 
 
-def missed(met):
-    """What was not met that must be."""
-    return [name for name in MUST_MEET if not met[name]]
-
-
-def check_broken(seed, count):
-    """How many broken models are not noticed."""
-    unnoticed = 0
-    for breakage in [*breakages(), *report_breakages(), *waitany_faults.walk_faults()]:
-        with mock.patch.object(breakage.owner, breakage.attribute, breakage.replacement):
-            _, wrong = check(seed, count, to_end=False)
-        unnoticed += not wrong
-        print(f'{breakage.name}: {wrong[0] if wrong else "NOT NOTICED"}', flush=True)
-    return unnoticed
+def faults():
+    """All faults of the model that must be noticed."""
+    return [*breakages(), *report_breakages(), *waitany_faults.walk_faults()]
 
 
 def main():
-    parser = argparse.ArgumentParser(description=__doc__, formatter_class=argparse.RawDescriptionHelpFormatter)
-    parser.add_argument('--count', type=int, default=300, help='how many scripts (300)')
-    parser.add_argument('--seed', type=int, default=1, help='another seed gives other scripts (1)')
-    parser.add_argument('--broken', action='store_true', help='break the model on purpose; each fault must be noticed')
-    chosen = parser.parse_args()
-    met, wrong = check(chosen.seed, chosen.count)
-    for what in wrong[:20] + [f'{name} was not met' for name in missed(met)]:
-        print(what)
-    print(', '.join(f'{name} {count}' for name, count in sorted(met.items())), f'- {len(wrong)} wrong')
-    if wrong or missed(met):
-        return 1
-    return 1 if chosen.broken and check_broken(chosen.seed, chosen.count) else 0
+    chosen = driving.rule_parser(__doc__, 'scripts', 300).parse_args()
+    return driving.holds(chosen, check, MUST_MEET, faults)
 
 
 if __name__ == '__main__':

@@ -11,7 +11,6 @@ and keep the steps that a trail keeps; and behind that it runs back, from one ma
 a step is told by the texts of `show` and the worlds of the trail alone. The status is 0 where all of that holds, and was seen.
 """
 
-import argparse
 import os
 import sys
 from collections import Counter
@@ -32,6 +31,7 @@ from model.policy import BREAK, CHOICE, FULL, LEAF, MAX, START, Breaks, ChangeBr
 from model.policy_words import decision_text, stop_text
 from rows import worked_slots, worked_waitany
 from rows.worked_runs import RUNS
+from runs import driving
 from runs.order import CHOSEN, LATER, all_calls, all_walks, steps_due
 
 KINDS = CHOSEN + LATER + ('trails', 'messages')
@@ -327,34 +327,14 @@ def check(seed, count, to_end=True):
     return met, wrong
 
 
-def missed(met):
-    return [name for name in MUST_MEET if not met[name]]
-
-
-def check_broken(seed, count):
-    """How many broken models are not noticed."""
-    unnoticed = 0
-    for breakage in [*breakages(), *waitany_faults.decision_faults(), *waitany_faults.mark_faults()]:
-        with mock.patch.object(breakage.owner, breakage.attribute, breakage.replacement):
-            _, wrong = check(seed, count, to_end=False)
-        unnoticed += not wrong
-        print(f'{breakage.name}: {wrong[0] if wrong else "NOT NOTICED"}', flush=True)
-    return unnoticed
+def faults():
+    """All faults of the model that must be noticed."""
+    return [*breakages(), *waitany_faults.decision_faults(), *waitany_faults.mark_faults()]
 
 
 def main():
-    parser = argparse.ArgumentParser(description=__doc__, formatter_class=argparse.RawDescriptionHelpFormatter)
-    parser.add_argument('--count', type=int, default=300, help='how many walks (300)')
-    parser.add_argument('--seed', type=int, default=1)
-    parser.add_argument('--broken', action='store_true', help='break the model on purpose; each fault must be noticed')
-    chosen = parser.parse_args()
-    met, wrong = check(chosen.seed, chosen.count)
-    for what in wrong[:20] + [f'{name} was not met' for name in missed(met)]:
-        print(what)
-    print(', '.join(f'{name} {count}' for name, count in sorted(met.items())), f'- {len(wrong)} wrong')
-    if wrong or missed(met):
-        return 1
-    return 1 if chosen.broken and check_broken(chosen.seed, chosen.count) else 0
+    chosen = driving.rule_parser(__doc__, 'walks', 300, 'another seed gives other walks (1)').parse_args()
+    return driving.holds(chosen, check, MUST_MEET, faults)
 
 
 if __name__ == '__main__':

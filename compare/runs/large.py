@@ -18,6 +18,7 @@ from model.language import read_script
 from model.policy import Forced, Leaf, decision
 from rows.worked_explorer import counting, gathered, gathering
 from rows.worked_pieces import TOO_MANY, gathered_in_pieces
+from runs import driving
 from started.programs import run_at_once
 
 SECONDS = 60
@@ -341,21 +342,16 @@ def first_difference(result, wanted):
     return f'status {result.status}, wanted {wanted.status}'
 
 
+def in_folder(rows):
+    """Rows, each of which is run in a folder of theirs."""
+    with tempfile.TemporaryDirectory(prefix='large-') as path:
+        yield from rows(Folder(os.path.abspath(sys.argv[1]), path))
+
+
 def main():
     if len(sys.argv) != 2:
         sys.exit(__doc__)
-    count = wrong = 0
-    for rows in ROWS:
-        before = count
-        with tempfile.TemporaryDirectory(prefix='large-') as path:
-            for name, result, wanted in rows(Folder(os.path.abspath(sys.argv[1]), path)):
-                count += 1
-                if result != wanted:
-                    wrong += 1
-                    print(f'{name}: {first_difference(result, wanted)}', flush=True)
-        if count == before:
-            wrong += 1
-            print(f'{rows.__name__}: nothing was run')
+    count, wrong = driving.count_wrong_of(ROWS, in_folder, first_difference)
     print(f'{count} runs on much, {wrong} wrong')
     return 1 if wrong else 0
 

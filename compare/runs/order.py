@@ -13,7 +13,6 @@ most records, and at its end, that the calls of each rank are in the order that 
 often as all have (docs/DEFINITIONS.md). The status is 0 where all of that holds, and was seen.
 """
 
-import argparse
 import json
 import os
 import sys
@@ -21,18 +20,19 @@ from collections import Counter
 from itertools import chain
 from random import Random
 from typing import NamedTuple
-from unittest import mock
 
 sys.path.insert(0, os.path.dirname(os.path.dirname(os.path.abspath(__file__))))
 
 from cases.kinds import KINDS
 from faults import slots_faults, waitany_faults
 from faults.breakages import buffered_by, going_on, one_left, wakes_at_barriers, without_gone, without_running
-from model import debugger
-from model.debugger import (BUFFERED, RENDEZVOUS, CallId, Debugger, Pair, Step, Woken, divided, eligible, enabled_steps, find_call, fits, free_calls, partner,
-                            receives_ahead, sends_ahead, slots_used, step_text)
+from faults.policy_faults import Breakage
+from model import debugger, order
+from model.debugger import (BUFFERED, RENDEZVOUS, CallId, Debugger, Pair, Step, Woken, divided, eligible, enabled_steps, find_call, partner, slots_used,
+                            step_text)
 from model.language import Fault, read_script
 from model.modes import MODES, SLOTS_DRAWN, by_turns, slots_of
+from runs import driving
 
 CHOSEN = ('wildcards', 'wildcards', 'requests', 'script', 'states')
 LATER = ('barriers', 'exchanges')
@@ -42,54 +42,6 @@ WITH_WAITANY, WITH_SLOTS = ('waitany',), ('slots',)
 MUST_MEET = ('worlds', 'releases', 'sends', 'receives', 'wait', 'blocks', 'behind a release', 'before a release', 'buffered',
              'wakes by a handle', 'waits for any of nothing', 'behind a wait for any', 'slots that are used', 'sends that find no slot',
              'slots that fall free')
-
-
-def holder(world, send_id, receive_id):
-    """What holds the match of two free calls back that fit: an earlier send, else an earlier receive; None where nothing does."""
-    ahead = sends_ahead(world, send_id, receive_id) or receives_ahead(world, send_id, receive_id)
-    return ahead[0] if ahead else None
-
-
-def why(world, call_id):
-    """The free calls that a free send or receive fits, by rank and number, each with what holds that match back, or None."""
-    call = find_call(world, call_id)
-    if call is None or call.kind not in ('send', 'recv') or partner(world, call_id) is not None:
-        return []
-    others = [(other_id, other.kind) for rank in range(len(world.ranks)) for other_id, other in free_calls(world, rank)]
-    if call.kind == 'send':
-        pairs = [(call_id, other_id) for other_id, kind in others if kind == 'recv']
-    else:
-        pairs = [(other_id, call_id) for other_id, kind in others if kind == 'send']
-    place = 1 if call.kind == 'send' else 0
-    return [(pair[place], holder(world, *pair)) for pair in pairs if fits(world, *pair)]
-
-
-def why_text(partners):
-    return ', '.join(f'{other} eligible' if held is None else f'{other} held by {held}' for other, held in partners)
-
-
-def covers(number, other):
-    """Whether what takes `number`, or any where that is None, takes all that `other` takes."""
-    return number is None or number == other
-
-
-def cases_of(world, first, second):
-    """The cases by which one call completes before a later one of its rank: `sends`, `receives`, `wait`, `blocks`."""
-    if first.rank != second.rank or first.number >= second.number or find_call(world, second) is None:
-        return set()
-    one, two = find_call(world, first), find_call(world, second)
-    found = {'blocks'} if one.blocks else set()
-    if two.kind == 'wait' and two.target == first.number:
-        found.add('wait')
-    if one.kind == two.kind == 'send' and (one.other, one.tag) == (two.other, two.tag):
-        found.add('sends')
-    if one.kind == two.kind == 'recv' and covers(one.other, two.other) and covers(one.tag, two.tag):
-        found.add('receives')
-    return found
-
-
-def before(world, first, second):
-    return bool(cases_of(world, first, second))
 
 
 def barriers_of(world, number):
@@ -143,7 +95,7 @@ def places_between(world, first, second, paired, left):
     """
     one, two = find_call(world, first), find_call(world, second)
     buffered = was_buffered(world, one)
-    for case in cases_of(world, first, second):
+    for case in order.cases_of(world, first, second):
         if case in ('sends', 'receives'):
             yield Places(case, [paired[second]] if second in paired else [], paired.get(first), [])
         elif case == 'wait':
@@ -219,7 +171,7 @@ def told_wrong(world):
              if any(other.rank == send.rank and other != send and taken == receive for other, taken in matches)]
     for number, rank in enumerate(world.ranks):
         for call_id, call in ((CallId(number, place), call) for place, call in enumerate(rank.calls)):
-            for other, held in why(world, call_id):
+            for other, held in order.why(world, call_id):
                 pair = (call_id, other) if call.kind == 'send' else (other, call_id)
                 if (held is None) != (pair in matches):
                     wrong.append(f'why of {call_id} at {other}')
@@ -355,14 +307,6 @@ def missed(met):
     return [name for name in MUST_MEET if not met[name]]
 
 
-class Breakage(NamedTuple):
-    """A fault put into the model on purpose: what stands in the place of something of a module."""
-    name: str
-    owner: object
-    attribute: str
-    replacement: object
-
-
 def without_case(cases_of, case, kind):
     """What leaves a case out where the first call is of a kind."""
     def cases(world, first, second):
@@ -372,10 +316,9 @@ def without_case(cases_of, case, kind):
 
 
 def breakages():
-    here = sys.modules[__name__]
     return (
-        Breakage('before without barriers', here, 'cases_of', without_case(cases_of, 'blocks', 'barrier')),
-        Breakage('before without waits for sends', here, 'cases_of', without_case(cases_of, 'wait', 'send')),
+        Breakage('before without barriers', order, 'cases_of', without_case(order.cases_of, 'blocks', 'barrier')),
+        Breakage('before without waits for sends', order, 'cases_of', without_case(order.cases_of, 'wait', 'send')),
         Breakage('a barrier released without ranks that are gone', debugger, 'can_release', without_gone),
         Breakage('a barrier released without ranks that run', debugger, 'can_release', without_running),
         Breakage('a release that leaves one rank blocked', debugger, 'after_release', one_left(debugger.after_release)),
@@ -386,7 +329,7 @@ def breakages():
                  buffered_by(lambda _, call: not call.synchronous)),
         Breakage('a rank that goes on behind a buffered send without a wake', debugger, 'after_local',
                  going_on(debugger.after_local)),
-        *waitany_faults.order_faults(here))
+        *waitany_faults.order_faults(order))
 
 
 def check_broken(seed, count):
@@ -394,31 +337,21 @@ def check_broken(seed, count):
     sound = check(seed, count)
     unnoticed = len(sound[1])
     for breakage in breakages():
-        with mock.patch.object(breakage.owner, breakage.attribute, breakage.replacement):
+        with driving.broken(breakage):
             met, wrong = check(seed, count, to_end=False)
         lost = [name for name in missed(met) if sound[0][name]]
         told = wrong[0] if wrong else f'not met: {", ".join(lost)}' if lost else 'NOT NOTICED'
         unnoticed += not (wrong or lost)
         print(f'{breakage.name}: {told}', flush=True)
-    return unnoticed + check_broken_slots(seed, count)
-
-
-def check_broken_slots(seed, count):
-    """The same of slots, by walks of scripts with many sends."""
-    unnoticed = 0
-    for breakage in slots_faults.order_faults():
-        with mock.patch.object(breakage.owner, breakage.attribute, breakage.replacement):
-            _, wrong = check(seed, count, to_end=False, drawn=walks_of_sends)
-        unnoticed += not wrong
-        print(f'{breakage.name}: {wrong[0] if wrong else "NOT NOTICED"}', flush=True)
-    return unnoticed
+    # the same of slots, by walks of scripts with many sends
+    return unnoticed + driving.count_unnoticed(slots_faults.order_faults(), lambda: check(seed, count, to_end=False, drawn=walks_of_sends))
 
 
 def row(data, taken, world):
     """A row: a script, the words taken, what `why` says of each send and receive, and which calls come before which."""
     script = divided(data)[0].decode('ascii')
-    told = [f'{call_id}: {why_text(why(world, call_id))}'.rstrip() for call_id in all_calls(world)]
-    pairs = [f'{one} {two}' for one in all_calls(world) for two in all_calls(world) if before(world, one, two)]
+    told = [f'{call_id}: {order.why_text(order.why(world, call_id))}'.rstrip() for call_id in all_calls(world)]
+    pairs = [f'{one} {two}' for one in all_calls(world) for two in all_calls(world) if order.before(world, one, two)]
     return [script, ''.join(f'{line}\n' for line in taken), '\n'.join(told), ', '.join(pairs)]
 
 
@@ -434,7 +367,7 @@ def rows(seed, count):
             if not answer.startswith('ok'):
                 continue
             taken = [step_text(step) for step in debugger.steps[:debugger.depth]]
-            partners = [why(debugger.world, call_id) for call_id in all_calls(debugger.world)]
+            partners = [order.why(debugger.world, call_id) for call_id in all_calls(debugger.world)]
             weight = sum(held is not None for listed in partners for _, held in listed), max(map(len, partners), default=0)
             if len(taken) <= 24 and weight > (0, 1) and (best is None or weight > best[0]):
                 best = weight, row(data, taken, debugger.world)
@@ -444,10 +377,7 @@ def rows(seed, count):
 
 
 def main():
-    parser = argparse.ArgumentParser(description=__doc__, formatter_class=argparse.RawDescriptionHelpFormatter)
-    parser.add_argument('--count', type=int, default=300, help='how many walks (300)')
-    parser.add_argument('--seed', type=int, default=1)
-    parser.add_argument('--broken', action='store_true', help='break the model on purpose; each fault must be noticed')
+    parser = driving.rule_parser(__doc__, 'walks', 300, 'another seed gives other walks (1)')
     parser.add_argument('--rows', type=int, metavar='N', help='write so many rows, each a list of texts in JSON')
     chosen = parser.parse_args()
     if chosen.rows:
@@ -458,9 +388,7 @@ def main():
     if chosen.broken:
         return 1 if check_broken(chosen.seed, chosen.count) else 0
     met, wrong = check(chosen.seed, chosen.count)
-    for what in wrong[:20]:
-        print(what)
-    print(', '.join(f'{name} {count}' for name, count in sorted(met.items())), f'- {len(wrong)} wrong')
+    driving.tell_wrong(met, wrong)
     return 0 if not wrong and not missed(met) else 1
 
 

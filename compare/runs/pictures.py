@@ -11,18 +11,14 @@ are the files that stand in examples/; `--write` writes these by the model. The 
 formed, and all was met that must be.
 """
 
-import argparse
 import os
 import sys
 import tempfile
-import time
 import xml.etree.ElementTree as tree
 from collections import Counter
-from concurrent.futures import ProcessPoolExecutor
 from pathlib import Path
 from random import Random
 from typing import NamedTuple, Optional
-from unittest import mock
 
 sys.path.insert(0, os.path.dirname(os.path.dirname(os.path.abspath(__file__))))
 
@@ -32,12 +28,14 @@ from faults import picture_faults
 from model import picture_model
 from model.debugger import RENDEZVOUS, Result, enabled_steps, first_world, next_world, outcome, step_text
 from model.explorer import Run, ending, followed, listed, taken
+from model.files import held
 from model.language import read_script
 from model.picture_model import svg_of, text_of, walk
 from model.remembered import steps_remembered
 from places import EXAMPLES
 from rows.picture_rows import ROWS
-from started.programs import held, limit, run_at_once
+from runs import driving
+from started.programs import run_at_once
 
 SVG = '{http://www.w3.org/2000/svg}'
 ELEMENTS = {SVG + name for name in ('svg', 'title', 'style', 'defs', 'marker', 'path', 'rect', 'text', 'line', 'g')}
@@ -237,20 +235,16 @@ def compare_chunk(chosen, numbers):
 
 def compare(chosen, pool):
     """How many pictures of random scripts are wrong, or how much was not met."""
-    chunks = [range(first, min(first + CHUNK, chosen.count)) for first in range(0, chosen.count, CHUNK)]
     differing, seen, count = 0, Counter(), 0
-    for found, seen_there, count_there in pool.map(compare_chunk, [chosen] * len(chunks), chunks):
+    for found, seen_there, count_there in driving.by_chunks(pool, compare_chunk, chosen, CHUNK):
         for number, asked, how in found:
             differing += 1
             print(f'script {number}, {asked.kind}, {asked.mode}: {how}', flush=True)
         seen += seen_there
         count += count_there
-    print('; '.join(f'{name} {seen[name]}' for name in MUST_MEET))
-    missed = [name for name in MUST_MEET if not seen[name]] if chosen.count >= MANY else []
-    for name in missed:
-        print(f'{name} was not met')
+    missed = driving.unmet(MUST_MEET, seen, chosen.count >= MANY)
     print(f'{count} pictures, {differing} wrong')
-    return differing + len(missed) + (not count)
+    return differing + missed + (not count)
 
 
 # ---- rows and examples
@@ -303,7 +297,7 @@ def compare_examples(chosen):
 
 def shows(fault, asked, drawn, text):
     """Whether the model with a fault draws otherwise."""
-    with mock.patch.object(fault.owner, fault.attribute, fault.replacement):
+    with driving.broken(fault):
         try:
             return asked.wanted().output != drawn or text_of(asked.walked()).encode() != text
         except (KeyError, StopIteration, AttributeError, IndexError):
@@ -318,45 +312,14 @@ def compare_broken(chosen):
     for asked in rows:
         drawn, text = said(chosen, asked).output, text_of(asked.walked()).encode()
         left = [fault for fault in left if not shows(fault, asked, drawn, text)]
-    for fault in left:
-        print(f'{fault.name}: NOT NOTICED', flush=True)
-    print(f'{count} broken models, {count - len(left)} noticed')
-    return len(left) + (not count)
-
-
-def prepare(chosen):
-    """Readies a process for its part of a run."""
-    limit(chosen.memory, chosen.output)
-
-
-def arguments():
-    parser = argparse.ArgumentParser(description=__doc__, formatter_class=argparse.RawDescriptionHelpFormatter)
-    parser.add_argument('program', nargs='?', metavar='PROGRAM')
-    parser.add_argument('--count', type=int, default=300, help='how many scripts (300)')
-    parser.add_argument('--seed', type=int, default=1, help='another seed gives other scripts (1)')
-    parser.add_argument('--console', action='store_true', help='compare the text that the console writes too')
-    parser.add_argument('--broken', action='store_true', help='break the model on purpose; each fault must be noticed')
-    parser.add_argument('--write', action='store_true', help='write the drawings of examples/ by the model')
-    parser.add_argument('--jobs', type=int, default=2, help='how many processes (2)')
-    parser.add_argument('--seconds', type=float, default=20, help='how long one answer may take (20)')
-    parser.add_argument('--memory', type=int, default=4096, help='how much memory the program may take, in MiB (4096)')
-    parser.add_argument('--output', type=int, default=256, help='how much the program may write, in MiB (256)')
-    chosen = parser.parse_args()
-    if chosen.program:
-        chosen.program = os.path.abspath(chosen.program)
-        if not os.access(chosen.program, os.X_OK) or os.path.isdir(chosen.program):
-            parser.error(f'{chosen.program} is no program')
-    return chosen
+    return driving.count_left([fault.name for fault in left], count)
 
 
 def main():
-    chosen = arguments()
-    began = time.monotonic()
-    with ProcessPoolExecutor(chosen.jobs, initializer=prepare, initargs=(chosen,)) as pool:
-        wrong = compare_rows(chosen) + compare_examples(chosen) + compare(chosen, pool)
-        wrong += compare_broken(chosen) if chosen.broken else 0
-    print(f'{time.monotonic() - began:.1f} seconds')
-    return 1 if wrong else 0
+    flags = (('--console', 'compare the text that the console writes too'), ('--write', 'write the drawings of examples/ by the model'))
+    chosen = driving.chosen_by(driving.parser_of(__doc__, 'scripts (300)', 300, 'answer', flags=flags))
+    return driving.driven(chosen, lambda chosen, pool: compare_rows(chosen) + compare_examples(chosen) + compare(chosen, pool),
+                          lambda chosen, _: compare_broken(chosen))
 
 
 if __name__ == '__main__':

@@ -15,14 +15,12 @@ model says otherwise, and what that one says must be found different. The status
 was said, nothing differed, and each broken model did.
 """
 
-import argparse
 import os
 import sys
 import time
 from collections import Counter
-from concurrent.futures import ProcessPoolExecutor, ThreadPoolExecutor
+from concurrent.futures import ProcessPoolExecutor
 from random import Random
-from unittest import mock
 
 sys.path.insert(0, os.path.dirname(os.path.dirname(os.path.abspath(__file__))))
 
@@ -35,10 +33,9 @@ from model.debugger import divided, rank_state
 from model.language import Fault, read_script, read_up_to
 from model.modes import MODES, by_turns, has_slots, know_modes
 from model.policy_words import Driven
-from probe.probing import DIVIDER, PROBES, TOP, Batch, Change, Probe, Walked, batches, report, tried
+from probe.probing import DIVIDER, PROBES, TOP, Probe, Trial, Walked, all_walked, compare, compare_planted, noticing, parser_of
 
 POLICY = Probe('policy.edit', 'policy.rattle', 'driven.rt', 'policy-main.rattle', ('mpd_policy',))
-BODIES = f'{PROBES}/broken-policy'
 CHOSEN = ('wildcards', 'wildcards', 'trails', 'barriers', 'exchanges', 'requests', 'script', 'messages')
 CHOSEN_OF_2 = ('waitany',)
 FORWARD = walks.Habits(show=(0.0,), back=(0.0, 0.05), any_step=(0.0, 0.1), odd=(0.0,), backs=(0, 1, 2, 5), along=(0.0, 0.1),
@@ -46,9 +43,6 @@ FORWARD = walks.Habits(show=(0.0,), back=(0.0, 0.05), any_step=(0.0, 0.1), odd=(
 SLOTS = 'slots:'
 # Behind so many steps nothing is asked any more: what a script does for ever would make it long.
 MOST_DEPTH = 150
-CHUNK = 20
-# Among so many walks one is sought on which a broken model says otherwise.
-MOST_SOUGHT = 1000
 # What must have been answered, or the run compared too little: the first words of an answer, or those of a line.
 MUST_MEET = (
     'forced local', 'forced match', 'forced wake', 'forced release', 'choice match', 'leaf done', 'leaf leftovers', 'leaf deadlock',
@@ -174,32 +168,6 @@ def expected(data):
     return ''.join(f'{text}\n' for text in answers if text is not None).encode() + b'ended' + DIVIDER
 
 
-def walked_chunk(seed, numbers):
-    return [walk for number in numbers if (walk := walked(seed, number))]
-
-
-def all_walked(pool, seed, count):
-    """So many walks."""
-    found, first = [], 0
-    while len(found) < count:
-        chunks = range(first, first + max(count - len(found), CHUNK) * 5 // 4, CHUNK)
-        tasks = [pool.submit(walked_chunk, seed, range(chunk, chunk + CHUNK)) for chunk in chunks]
-        found += [walk for task in tasks for walk in task.result()]
-        first = chunks[-1] + CHUNK
-    return found[:count]
-
-
-def noticing(place, walks):
-    """The first walk on which this broken model says otherwise, with what it says, as a batch; None where there is none."""
-    breakage = faults()[place]
-    with mock.patch.object(breakage.owner, breakage.attribute, breakage.replacement):
-        for walk in walks:
-            said = expected(walk.data)
-            if said != walk.wanted:
-                return Batch(f'broken-{place}', [walk._replace(wanted=said)])
-    return None
-
-
 def faults():
     """The faults that a walk can show: no walk comes to the last depth."""
     found = [breakage for breakage in policy_faults.breakages() if 'last depth' not in breakage.name and 'full' not in breakage.name]
@@ -211,58 +179,19 @@ def faults_of_2():
     return [*waitany_faults.decision_faults(), *waitany_faults.mark_faults()]
 
 
-def sought_among(walks):
-    """The walks among which one is sought on which a broken model says otherwise: those of version 2 stand last."""
-    return walks[:MOST_SOUGHT] + walks[max(MOST_SOUGHT, len(walks) - MOST_SOUGHT):]
-
-
-def compare(pool, chosen, walks):
-    """Compares the walks, and the broken models; gives how much is wrong."""
-    sought = [pool.submit(noticing, place, sought_among(walks)) for place in range(len(faults()))]
-    broken = [it.result() for it in sought]
-    all_batches = batches(walks)
-    said, text = tried(POLICY, [*all_batches, *filter(None, broken)], [], chosen.seconds)
-    differing = [batch for batch in all_batches if said.get(batch.name) != 'expected']
-    if differing:
-        report(POLICY, differing, text, chosen.seconds)
-    missed = [fault.name for fault, batch in zip(faults(), broken) if not batch or said.get(batch.name) != 'differs']
-    for name in missed:
-        print(f'not noticed in the model: {name}')
-    print(f'{len(all_batches)} runs, {len(differing)} different; {len(broken)} broken models, {len(broken) - len(missed)} noticed')
-    return len(differing) + len(missed)
-
-
-def compare_planted(chosen, walks):
-    """Plants each wrong body in a copy of its own; gives how many were not noticed."""
-    all_batches, missed = batches(walks), 0
-    bodies = [Change(f'{BODIES}/{name}') for name in sorted(os.listdir(BODIES))] if os.path.isdir(BODIES) else []
-    with ThreadPoolExecutor(chosen.jobs) as pool:
-        for body, (said, text) in zip(bodies, pool.map(lambda body: tried(POLICY, all_batches, [body], chosen.seconds), bodies)):
-            found = Counter(said.get(batch.name, 'no answer') for batch in all_batches)
-            print(f'{body.name}: {dict(found)}', flush=True)
-            if set(found) - {'expected', 'differs'} or not found['differs']:
-                missed += 1
-                print(f'{body.name}: NOT NOTICED: {text[-1000:]}')
-    print(f'{len(bodies)} wrong bodies, {len(bodies) - missed} noticed')
-    return missed or not bodies
+TRIAL = Trial(POLICY, walked, expected, faults, f'{PROBES}/broken-policy')
 
 
 def arguments():
-    parser = argparse.ArgumentParser(description=__doc__, formatter_class=argparse.RawDescriptionHelpFormatter)
-    parser.add_argument('--count', type=int, default=300, help='how many scripts of version 1 (300), and half as many of version 2')
-    parser.add_argument('--version', type=int, choices=[1, 2], default=2, help='the last version that the crates know (2)')
+    parser = parser_of(__doc__)
     parser.add_argument('--two-modes', action='store_true', help='the crates have no modes `slots:K`')
-    parser.add_argument('--seed', type=int, default=1, help='another seed gives other scripts (1)')
-    parser.add_argument('--planted', action='store_true', help='plant the wrong bodies too: a build for each')
     parser.add_argument('--model', action='store_true', help='make no copy: only see that the walks meet all, and notice each fault')
-    parser.add_argument('--seconds', type=int, default=60, help='how long a run of the copy may take (60)')
-    parser.add_argument('--jobs', type=int, default=len(os.sched_getaffinity(0)), help='how many processes (one for each core)')
     return parser.parse_args()
 
 
 def unnoticed_in_model(pool, walks):
     """How many broken models say the same as the sound one on all walks."""
-    sought = [pool.submit(noticing, place, walks) for place in range(len(faults()))]
+    sought = [pool.submit(noticing, TRIAL, place, walks) for place in range(len(faults()))]
     names = [fault.name for fault, it in zip(faults(), sought) if it.result() is None]
     for name in names:
         print(f'not noticed in the model: {name}')
@@ -282,16 +211,15 @@ def main():
     began = time.monotonic()
     know(chosen)
     with ProcessPoolExecutor(chosen.jobs, initializer=know, initargs=(chosen,)) as pool:
-        walks = all_walked(pool, chosen.seed, chosen.count)
-        walks += all_walked(pool, Beside(chosen.seed), chosen.count // 2) if chosen.version > 1 else []
+        walks = all_walked(pool, walked, chosen)
         met = sum((walk.met for walk in walks), Counter())
         must_meet = MUST_MEET + MUST_MEET_OF_2 * (chosen.version > 1)
         print(', '.join(f'{name} {met[name]}' for name in must_meet), flush=True)
         wrong = [f'{name} was not met' for name in must_meet if not met[name]]
         print('\n'.join(wrong), end='\n' if wrong else '')
-        is_wrong = (unnoticed_in_model(pool, walks) if chosen.model else compare(pool, chosen, walks)) if walks else True
+        is_wrong = (unnoticed_in_model(pool, walks) if chosen.model else compare(TRIAL, pool, chosen, walks)) if walks else True
     if chosen.planted:
-        is_wrong = compare_planted(chosen, walks) or is_wrong
+        is_wrong = compare_planted(TRIAL, chosen, walks) or is_wrong
     print(f'{len(walks)} scripts compared, {time.monotonic() - began:.1f} seconds')
     return 1 if wrong or is_wrong else 0
 

@@ -26,11 +26,12 @@ from cases.explore_cases import Case
 from model import console, session
 from model.debugger import BUFFERED, RENDEZVOUS, Debugger, Result, divided, enabled_steps, next_world, step_of, step_text
 from model.explorer import Asked
+from model.files import held
 from model.language import read_script
 from model.witness import Verification
 from places import EXAMPLES, TOP
 from rows import console_memory, session_memory
-from started.programs import held, run_at_once
+from started.programs import run_at_once
 from started.shims import built
 
 SHIM = f'{TOP}/bench/malloc_shim.c'

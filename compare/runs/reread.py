@@ -26,14 +26,14 @@ from faults import reread_faults
 from model import debugger
 from model.debugger import BUFFERED, RENDEZVOUS, Result, step_text
 from model.explorer import CUT
+from model.files import held
 from model.remembered import steps_remembered
 from model.report_lines import NoReport, read_report
 from model.run_words import WRONG_WORDS, Words
 from model.witness import agrees
 from rows.worked_ends import LEAVES, LONG_LEAVES, LONG_WORDS, MISTAKES, MISTAKES_OF_VERIFY, WORDS
 from runs import driving
-from runs.explore import first_different
-from started.programs import held
+from runs.driving import first_different
 
 # So many scripts meet all that must be met.
 MANY = 200
@@ -223,8 +223,7 @@ def compare(chosen, pool):
             print(f'{shlex.join(question.words(files.folder(differing)))}: {how}', flush=True)
         met += met_there
         asked += count
-    print(driving.met_line(MUST_MEET, met))
-    missed = driving.tell(driving.not_met(MUST_MEET, met, chosen.count >= MANY))
+    missed = driving.unmet(MUST_MEET, met, chosen.count >= MANY)
     print(f'{asked} questions to {met["reports"]} reports, {differing} different')
     return differing + missed + (not asked)
 

@@ -9,14 +9,12 @@ The status is 0 where inputs were compared and none differed. A program that cra
 writes too much differs.
 """
 
-import argparse
 import os
 import sys
 import tempfile
 import time
 from concurrent.futures import ProcessPoolExecutor
 from typing import NamedTuple
-from unittest import mock
 
 sys.path.insert(0, os.path.dirname(os.path.dirname(os.path.abspath(__file__))))
 
@@ -24,9 +22,11 @@ from cases.kinds import KINDS, counts_up_to, random_case, shares
 from faults import slots_faults, waitany_faults
 from faults.breakages import breakages
 from model.debugger import Result, answer, answer_file, answer_packets
+from model.files import held
 from model.language import read_script, read_up_to
 from model.modes import has_slots, know_modes
-from started.programs import limit, run_at_once, run_in_packets
+from runs import driving
+from started.programs import run_at_once, run_in_packets
 
 CHUNK = 8
 
@@ -80,29 +80,24 @@ def compare_chunk(chosen, kind, numbers):
     return len(numbers), found
 
 
-def keep(folder, case):
-    """Keeps an input, and its script where that is a file, in a temporary folder, which is made for the first one; says where."""
-    if not folder:
-        folder.append(tempfile.mkdtemp(prefix='compare-'))
-    path = os.path.join(folder[0], case.name)
-    with open(path, 'wb') as file:
-        file.write(case.data)
+def kept(files, case):
+    """Keeps an input, and its script where that is a file; says where."""
+    path = held(files.folder('.'), case.name, case.data)
     if case.mode is None:
         return path
-    with open(f'{path}.mpd', 'wb') as file:
-        file.write(case.script)
+    held(files.folder('.'), f'{case.name}.mpd', case.script)
     return f'trace {path}.mpd --mode {case.mode} < {path}'
 
 
-def report(folder, kind, count, found):
+def report(files, kind, count, found):
     for case, parts in found:
-        print(f'{keep(folder, case)}: {parts}')
+        print(f'{kept(files, case)}: {parts}')
     print(f'{kind}: {count} inputs, {len(found)} different', flush=True)
 
 
 def prepare(chosen):
     """Readies a process for its part of a run."""
-    limit(chosen.memory, chosen.output)
+    driving.prepare(chosen)
     know(chosen)
 
 
@@ -117,9 +112,9 @@ def counts_of(chosen):
     return shares(chosen.count, chosen.kind) if chosen.kind else counts_up_to(chosen.version, chosen.count)
 
 
-def compare_random(chosen, folder):
+def compare_random(chosen):
     """Compares inputs of the kinds; gives how many there were, and how many differed."""
-    counts = counts_of(chosen)
+    counts, files = counts_of(chosen), driving.Kept('compare-')
     compared = differing = 0
     with ProcessPoolExecutor(chosen.jobs, initializer=prepare, initargs=(chosen,)) as pool:
         tasks = {kind: [pool.submit(compare_chunk, chosen, kind, range(first, min(first + CHUNK, count)))
@@ -127,7 +122,7 @@ def compare_random(chosen, folder):
         for kind, chunks in tasks.items():
             results = [chunk.result() for chunk in chunks]
             count, found = sum(count for count, _ in results), sum((found for _, found in results), [])
-            report(folder, kind, count, found)
+            report(files, kind, count, found)
             compared += count
             differing += len(found)
     return compared, differing
@@ -143,8 +138,7 @@ def write_cases(chosen):
             if case.mode is not None:
                 continue
             for name, data in ((case.name, case.data), (f'{case.name}.stdout', answer(case.data).output)):
-                with open(os.path.join(chosen.write, name), 'wb') as file:
-                    file.write(data)
+                held(chosen.write, name, data)
             count += 1
     print(f'{count} cases in {chosen.write}')
     return 0 if count else 1
@@ -157,7 +151,7 @@ def count_noticed(chosen, breakage):
         case = random_case(breakage.kind, chosen.seed, number, chosen.packets)
         result = run(chosen.program, case, chosen.seconds) if chosen.program else expected(case)
         if result == expected(case):
-            with mock.patch.object(breakage.owner, breakage.attribute, breakage.replacement):
+            with driving.broken(breakage):
                 read_script.cache_clear()
                 noticed += int(result != expected(case))
             read_script.cache_clear()
@@ -172,29 +166,13 @@ def faults(chosen):
 
 
 def arguments():
-    parser = argparse.ArgumentParser(description=__doc__, formatter_class=argparse.RawDescriptionHelpFormatter)
-    parser.add_argument('program', nargs='?', metavar='PROGRAM')
-    parser.add_argument('--count', type=int, default=2000,
-                        help='inputs of version 1 (2000), a quarter of these of version 2 beside them, and a quarter that show slots; with '
-                        '--kind inputs in all; with --broken, of each kind')
-    parser.add_argument('--version', type=int, choices=[1, 2], default=2, help='the last version that the program knows (2)')
-    parser.add_argument('--two-modes', action='store_true', help='the program has no modes `slots:K`')
-    parser.add_argument('--seed', type=int, default=1, help='another seed gives other inputs (1)')
+    told = 'inputs of version 1 (2000), a quarter of these of version 2 beside them, and a quarter that show slots; with --kind in all; with --broken of each kind'
+    flags = (('--packets', 'each input cut into reads, and not only every third'),)
+    parser = driving.parser_of(__doc__, told, 2000, 'input', *driving.CORES, others='inputs', flags=flags)
+    driving.add_versions(parser)
     parser.add_argument('--kind', action='append', choices=list(KINDS), help='only this kind; may be given again')
-    parser.add_argument('--packets', action='store_true', help='each input cut into reads, and not only every third')
-    parser.add_argument('--broken', action='store_true', help='break the model on purpose; each fault must be noticed')
     parser.add_argument('--write', metavar='FOLDER', help='compare nothing: write inputs and outputs for `rt try --cases`')
-    parser.add_argument('--jobs', type=int, default=len(os.sched_getaffinity(0)), help='how many processes (one for each core)')
-    parser.add_argument('--seconds', type=float, default=20, help='how long one input may take (20)')
-    parser.add_argument('--memory', type=int, default=4096, help='how much memory the program may take, in MiB (4096)')
-    parser.add_argument('--output', type=int, default=256, help='how much the program may write, in MiB (256)')
-    chosen = parser.parse_args()
-    if chosen.program is None and not (chosen.broken or chosen.write):
-        parser.error('PROGRAM is left out with --broken or --write alone')
-    if chosen.program:
-        chosen.program = os.path.abspath(chosen.program)
-        if not os.access(chosen.program, os.X_OK) or os.path.isdir(chosen.program):
-            parser.error(f'{chosen.program} is no program')
+    chosen = driving.chosen_by(parser, 'broken', 'write')
     if chosen.broken and chosen.kind:
         parser.error('--broken has kinds of its own')
     return chosen
@@ -209,8 +187,7 @@ def main():
         noticed = [count_noticed(chosen, breakage) for breakage in faults(chosen)]
         return 0 if all(noticed) else 1
     began = time.monotonic()
-    folder = []
-    compared, differing = compare_random(chosen, folder)
+    compared, differing = compare_random(chosen)
     print(f'{compared} inputs compared, {differing} different, {time.monotonic() - began:.1f} seconds')
     if not compared:
         print('nothing was compared')

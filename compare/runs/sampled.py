@@ -26,11 +26,12 @@ from cases.samples_cases import (BITS, CHANGED_SEEDS, DRAWN, LEAST_DIFFERENT, MA
 from faults import samples_faults
 from model import samples
 from model.explorer import is_bad
+from model.files import held
 from model.remembered import steps_remembered
 from model.report_lines import NoReport, read_report
 from model.samples import MOST_SEED, Sampling, leaves_of, told_in, wrong_of
 from runs import driving
-from started.programs import held, run_at_once
+from started.programs import run_at_once
 
 # So many scripts meet all that must be met; so many hangs must be found.
 MANY, HANGS = 300, 9

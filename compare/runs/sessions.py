@@ -12,7 +12,6 @@ program that reads on before it replies never ends. Replies, standard error and 
 sessions were compared, none differed, and all was met that must be, which fewer than 300 needn't do.
 """
 
-import argparse
 import json
 import os
 import sys
@@ -22,7 +21,6 @@ from collections import Counter
 from concurrent.futures import ProcessPoolExecutor
 from functools import cache
 from typing import NamedTuple, Optional
-from unittest import mock
 
 sys.path.insert(0, os.path.dirname(os.path.dirname(os.path.abspath(__file__))))
 
@@ -33,13 +31,15 @@ from cases.session_lines import KINDS
 from faults import session_faults, session_line_faults, slots_faults, waitany_faults
 from model import session
 from model.debugger import Result
+from model.files import held
 from model.language import read_up_to
 from model.modes import has_slots, know_modes, slots_of
 from model.session import FIELDS, NAMES, lines_of, read_json
 from rows import worked_slots, worked_waitany
 from rows.worked_sessions import DIALOGUES, ENDINGS, FIRST, IN_PIECES, LONG, TESTED, dialogue_problem, tested_differently, tested_input, tested_problem
-from runs.explore import first_different
-from started.programs import held, limit, run_at_once, run_in_packets
+from runs import driving
+from runs.driving import first_different
+from started.programs import run_at_once, run_in_packets
 from started.turn_by_turn import run_in_turns
 
 CHUNK = 5
@@ -156,12 +156,9 @@ def met_of_slots(case, wanted):
 
 # ---- comparing
 
-def kept(folder, case):
-    """Keeps a session in a temporary folder, which is made for the first one; says how to ask it again."""
-    if not folder:
-        folder.append(tempfile.mkdtemp(prefix='sessions-'))
-    path = os.path.join(folder[0], case.name)
-    os.makedirs(path)
+def kept(files, case):
+    """Keeps a session; says how to ask it again."""
+    path = files.folder(case.name)
     return f'{" ".join(words_of(case, path))} < {held(path, "requests", case.data)} ({case.way})'
 
 
@@ -227,26 +224,14 @@ def versions(chosen):
 
 def compare_random(chosen, pool):
     """Compares so many random sessions; gives how many replies there were, how many sessions differed, and what was met."""
-    chunks = [(one, range(first, min(first + CHUNK, one.count))) for one in versions(chosen) for first in range(0, one.count, CHUNK)]
-    tasks = [pool.submit(compare_chunk, *chunk) for chunk in chunks]
-    folder, compared, differing, met = [], 0, 0, Counter()
-    for count, found, met_there in (task.result() for task in tasks):
-        met += met_there
-        compared += count
-        differing += len(found)
-        for case, what in found:
-            print(f'{kept(folder, case)}: {what}', flush=True)
-    return compared, differing, met
+    files = driving.Kept('sessions-')
+    return driving.all_compared(pool, compare_chunk, versions(chosen), CHUNK, lambda case: kept(files, case))
 
 
 def unmet(chosen, met):
     """Says what was met; gives how much was not that must be."""
     must_meet = MUST_MEET + TOLD_OF_2 * (chosen.version > 1) + TOLD_OF_SLOTS * has_slots(chosen)
-    print('; '.join(f'{name} {met[name]}' for name in must_meet))
-    missed = [name for name in must_meet if not met[name]] if chosen.count >= MANY else []
-    for name in missed:
-        print(f'{name} was not met')
-    return len(missed)
+    return driving.unmet(must_meet, met, chosen.count >= MANY)
 
 
 # ---- broken models
@@ -281,7 +266,7 @@ def heard(chosen, number):
 def is_noticed(chosen, place):
     """By what a fault of the model is noticed: a worked dialogue, or a session in which it says otherwise; None where it isn't."""
     fault, dialogues, chosen = breakages(chosen)[place]
-    with mock.patch.object(fault.owner, fault.attribute, fault.replacement):
+    with driving.broken(fault):
         if any(map(dialogue_problem, dialogues)):
             return 'a dialogue'
         if any(tested_problem(*row) for row in TESTED):
@@ -293,7 +278,7 @@ def noticing_session(chosen, fault):
     """The session in which a broken model says otherwise; None where there is none."""
     for number in range(chosen.count):
         case, said = heard(chosen, number)
-        with mock.patch.object(fault.owner, fault.attribute, fault.replacement):
+        with driving.broken(fault):
             if said != case.wanted():
                 return case.name
     return None
@@ -328,32 +313,16 @@ class Chosen(NamedTuple):
 
 def prepare(chosen):
     """Readies a process for its part of a run."""
-    limit(chosen.memory, chosen.output)
+    driving.prepare(chosen)
     read_up_to(chosen.version)
     know_modes(has_slots(chosen))
 
 
 def arguments():
-    parser = argparse.ArgumentParser(description=__doc__, formatter_class=argparse.RawDescriptionHelpFormatter)
-    parser.add_argument('program', nargs='?', metavar='PROGRAM')
-    parser.add_argument('--count', type=int, default=300,
-                        help='how many sessions of scripts of version 1 (300), and a quarter of these of version 2')
-    parser.add_argument('--version', type=int, choices=[1, 2], default=2, help='the last version that the program knows (2)')
-    parser.add_argument('--two-modes', action='store_true', help='the program has no modes `slots:K`')
-    parser.add_argument('--seed', type=int, default=1, help='another seed gives other sessions (1)')
-    parser.add_argument('--broken', action='store_true', help='break the model on purpose; each fault must be noticed')
-    parser.add_argument('--jobs', type=int, default=len(os.sched_getaffinity(0)), help='how many processes (one for each core)')
-    parser.add_argument('--seconds', type=float, default=20, help='how long one session may take (20)')
-    parser.add_argument('--memory', type=int, default=4096, help='how much memory the program may take, in MiB (4096)')
-    parser.add_argument('--output', type=int, default=256, help='how much the program may write, in MiB (256)')
-    chosen = Chosen(**vars(parser.parse_args()))
-    if chosen.program is None and not chosen.broken:
-        parser.error('PROGRAM is left out with --broken alone')
-    if chosen.program:
-        chosen = chosen._replace(program=os.path.abspath(chosen.program))
-        if not os.access(chosen.program, os.X_OK) or os.path.isdir(chosen.program):
-            parser.error(f'{chosen.program} is no program')
-    return chosen
+    told = 'sessions of scripts of version 1 (300), and a quarter of these of version 2'
+    parser = driving.parser_of(__doc__, told, 300, 'session', *driving.CORES, others='sessions')
+    driving.add_versions(parser)
+    return Chosen(**vars(driving.chosen_by(parser, 'broken')))
 
 
 def main():

@@ -25,11 +25,11 @@ from faults import slots_faults
 from model import debugger, explorer, session
 from model.debugger import Result
 from model.explorer import Asked, NOT_WHOLE, option_words
+from model.files import held
 from model.language import Fault
 from model.modes import BUFFERED, RENDEZVOUS
 from runs import driving
-from runs.explore import first_different
-from started.programs import held
+from runs.driving import first_different
 
 OF_MODEL, OF_PROGRAM = 500, 5000
 # So many scripts meet all that must be met.
@@ -196,8 +196,7 @@ def compare(chosen, pool):
             differing += 1
             print(kept(files.folder(differing), one), flush=True)
         met += met_there
-    print(driving.met_line(MUST_MEET, met))
-    missed = driving.tell(driving.not_met(MUST_MEET, met, chosen.count >= MANY))
+    missed = driving.unmet(MUST_MEET, met, chosen.count >= MANY)
     asked = sum(met[name] for name in ('check', 'trace', 'run'))
     print(f'{asked} answers in modes of slots, of {chosen.count} scripts, {differing} different')
     return differing + missed + (not asked)
@@ -227,8 +226,7 @@ def compare_broken(chosen, pool):
 
 def main():
     told = f'scripts ({OF_PROGRAM}, or {OF_MODEL} where the model stands for a program)'
-    cores = len(os.sched_getaffinity(0))
-    chosen = driving.chosen_by(driving.parser_of(__doc__, told, None, 'answer', cores, 'one for each core'))
+    chosen = driving.chosen_by(driving.parser_of(__doc__, told, None, 'answer', *driving.CORES))
     if chosen.count is None:
         chosen.count = OF_PROGRAM if chosen.program else OF_MODEL
     return driving.driven(chosen, compare, compare_broken)

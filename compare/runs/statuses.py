@@ -25,13 +25,15 @@ import time
 sys.path.insert(0, os.path.dirname(os.path.dirname(os.path.abspath(__file__))))
 
 from model.debugger import MOST_READS, MOST_STEPS, RENDEZVOUS, Debugger, Result, Step, answer, answer_packets
+from model.files import held
 from model.language import MOST_OPEN_BLOCKS, MOST_OPERATORS, read_script, read_up_to
 from model.modes import KNOWN, know_modes
 from probe.call_sizes import nested
 from rows.examples import EXAMPLES, checks, consoles, example_names, lessons, open_example, strays
 from rows.worked_slots import NONE as BAD_SLOTS
+from runs import driving
 from started.devices import SECONDS, Files, at_terminal, broken_off, device, file_of_any_size, full, refused, soft_limit, unread_pipe
-from started.programs import file_of, held, run_in_packets
+from started.programs import file_of, run_in_packets
 from started.shims import HERE, built
 from statuses.connection_statuses import ROWS as CONNECTION_ROWS
 from statuses.console_statuses import ROWS as CONSOLE_ROWS
@@ -623,17 +625,7 @@ def main():
         read_up_to(1)
     know_modes(not sys.argv[2:])
     program = os.path.abspath(sys.argv[1])
-    count = wrong = 0
-    for rows in ROWS:
-        before = count
-        for name, result, wanted in rows(program):
-            count += 1
-            if result != wanted:
-                wrong += 1
-                print(f'{name}: {shortened(result)}, wanted {shortened(wanted)}', flush=True)
-        if count == before:
-            wrong += 1
-            print(f'{rows.__name__}: nothing was run')
+    count, wrong = driving.count_wrong_of(ROWS, lambda rows: rows(program), lambda result, wanted: f'{shortened(result)}, wanted {shortened(wanted)}')
     print(f'{count} runs, {wrong} wrong')
     return 1 if wrong else 0
 

@@ -8,21 +8,19 @@ No trace word tells what the crates say of `why` and `before`. So a copy of the 
 answered by a line of them: compare/probe/ has what is changed in it, and `Board::why` and `Board::before` are called as they
 are. `rt try` builds the copy, with no proof, and runs it under its checks of memory. On random walks through random scripts, with
 undos, that line is asked for behind many steps and undos, and whatever is said must be, byte for byte, what the model says
-(compare/runs/order.py). A crash, a hang or too much output is a difference.
+(compare/model/order.py). A crash, a hang or too much output is a difference.
 
 Each run shows that it can fail: the model is broken on purpose in several ways, the program gets an input on which the broken
 model says otherwise, and what that one says must be found different. The status is 0 where there were scripts, all that can be
 said was said, nothing differed, and each broken model did.
 """
 
-import argparse
 import os
 import sys
 import time
 from collections import Counter
-from concurrent.futures import ProcessPoolExecutor, ThreadPoolExecutor
+from concurrent.futures import ProcessPoolExecutor
 from random import Random
-from typing import NamedTuple
 from unittest import mock
 
 sys.path.insert(0, os.path.dirname(os.path.dirname(os.path.abspath(__file__))))
@@ -30,21 +28,18 @@ sys.path.insert(0, os.path.dirname(os.path.dirname(os.path.abspath(__file__))))
 from cases.explore_cases import Beside
 from cases.kinds import KINDS
 from faults import waitany_faults
-from model import debugger, language
+from faults.policy_faults import Breakage
+from model import debugger, language, order
 from model.debugger import CallId, Debugger, Released, divided, find_call
 from model.language import Fault, read_script, read_up_to
-from probe.probing import DIVIDER, PROBES, TOP, Batch, Change, Probe, Walked, batches, report, tried
-from runs import order
+from probe.probing import DIVIDER, PROBES, TOP, Probe, Trial, Walked, all_walked, compare, compare_planted, parser_of
+from runs.order import without_case as without_case_of
 
 WHY = Probe('answer.edit', 'why.rattle', 'why.rt', 'main.rattle')
 CHOSEN = ('wildcards', 'wildcards', 'wildcards', 'requests', 'script', 'states', 'barriers', 'barriers', 'exchanges')
 CHOSEN_OF_2 = ('waitany',)
 # Worlds with more calls are not asked: the pairs of these are too many.
 MOST_CALLS = 40
-# How many walks a process makes at a time.
-CHUNK = 20
-# Among so many walks one is sought on which a broken model says otherwise.
-MOST_SOUGHT = 1000
 # What must have been met, or the run compared too little.
 MUST_MEET = ('worlds', 'undos', 'whys', 'pairs', 'eligible', 'held by a send', 'held by a recv', 'sends', 'receives', 'wait',
              'blocks', 'any source', 'any tag', 'status', 'barrier', 'synchronous send', 'release', 'behind a barrier')
@@ -162,26 +157,9 @@ def walked(seed, number):
     return Walked(f'{kind}-{seed}-{number}', data, expected(data), walk.met)
 
 
-def walked_chunk(seed, numbers):
-    return [walk for number in numbers if (walk := walked(seed, number))]
-
-
-def all_walked(pool, seed, count):
-    """So many walks."""
-    found, first = [], 0
-    while len(found) < count:
-        chunks = range(first, first + max(count - len(found), CHUNK) * 5 // 4, CHUNK)
-        tasks = [pool.submit(walked_chunk, seed, range(chunk, chunk + CHUNK)) for chunk in chunks]
-        found += [walk for task in tasks for walk in task.result()]
-        first = chunks[-1] + CHUNK
-    return found[:count]
-
-
-class Breakage(NamedTuple):
-    """A fault put into the model on purpose: what stands in the place of something of compare/runs/order.py."""
-    name: str
-    attribute: str
-    replacement: object
+def fault(name, attribute, replacement):
+    """A fault put into the model on purpose: what stands in the place of something of compare/model/order.py."""
+    return Breakage(name, order, attribute, replacement)
 
 
 def latest_holder(world, send_id, receive_id):
@@ -261,116 +239,60 @@ def standard_alone(fits):
 
 def breakages_of_barriers():
     return (
-        Breakage('no order behind a barrier', 'cases_of', order.without_case(order.cases_of, 'blocks', 'barrier')),
-        Breakage('synchronous sends in an order of their own', 'cases_of', apart(order.cases_of)),
-        Breakage('synchronous sends as no partners', 'fits', standard_alone(order.fits)),
+        fault('no order behind a barrier', 'cases_of', without_case_of(order.cases_of, 'blocks', 'barrier')),
+        fault('synchronous sends in an order of their own', 'cases_of', apart(order.cases_of)),
+        fault('synchronous sends as no partners', 'fits', standard_alone(order.fits)),
     )
 
 
 def breakages():
     why, cases_of, fits, covers = order.why, order.cases_of, order.fits, order.covers
     return (
-        Breakage('the latest call that is in the way', 'holder', latest_holder),
-        Breakage('a receive in the way named before a send', 'holder', receive_first),
-        Breakage('no receive in the way', 'holder', send_alone),
-        Breakage('the last partner left out', 'why', changed(why, lambda listed: listed[:-1])),
-        Breakage('the third partner left out', 'why', changed(why, lambda listed: listed[:2] + listed[3:])),
-        Breakage('partners of the last rank first', 'why', changed(why, lambda listed: listed[::-1])),
-        Breakage('partners of a paired call', 'partner', lambda *_: None),
-        Breakage('partners that do not fit', 'fits', lambda world, send_id, receive_id: fits(world, send_id, receive_id)
-                 or find_call(world, send_id).other == receive_id.rank),
-        Breakage('sends of other tags in order', 'cases_of', any_tags(cases_of)),
-        Breakage('equal sends in no order', 'cases_of', without_case(cases_of, 'sends')),
-        Breakage('covered receives in no order', 'cases_of', without_case(cases_of, 'receives')),
-        Breakage('a call behind its wait', 'cases_of', without_case(cases_of, 'wait')),
-        Breakage('no order behind what blocks', 'cases_of', without_case(cases_of, 'blocks')),
-        Breakage('any covers any alone', 'covers', lambda number, other: number == other),
-        Breakage('the covered receive first', 'covers', lambda number, other: covers(other, number)),
-        Breakage('both ways', 'cases_of', either_way(cases_of)),
-        Breakage('calls of two ranks in order', 'cases_of', of_two_ranks(cases_of)),
-        Breakage('before a call that is not there', 'cases_of', calls_there(cases_of)),
+        fault('the latest call that is in the way', 'holder', latest_holder),
+        fault('a receive in the way named before a send', 'holder', receive_first),
+        fault('no receive in the way', 'holder', send_alone),
+        fault('the last partner left out', 'why', changed(why, lambda listed: listed[:-1])),
+        fault('the third partner left out', 'why', changed(why, lambda listed: listed[:2] + listed[3:])),
+        fault('partners of the last rank first', 'why', changed(why, lambda listed: listed[::-1])),
+        fault('partners of a paired call', 'partner', lambda *_: None),
+        fault('partners that do not fit', 'fits', lambda world, send_id, receive_id: fits(world, send_id, receive_id)
+              or find_call(world, send_id).other == receive_id.rank),
+        fault('sends of other tags in order', 'cases_of', any_tags(cases_of)),
+        fault('equal sends in no order', 'cases_of', without_case(cases_of, 'sends')),
+        fault('covered receives in no order', 'cases_of', without_case(cases_of, 'receives')),
+        fault('a call behind its wait', 'cases_of', without_case(cases_of, 'wait')),
+        fault('no order behind what blocks', 'cases_of', without_case(cases_of, 'blocks')),
+        fault('any covers any alone', 'covers', lambda number, other: number == other),
+        fault('the covered receive first', 'covers', lambda number, other: covers(other, number)),
+        fault('both ways', 'cases_of', either_way(cases_of)),
+        fault('calls of two ranks in order', 'cases_of', of_two_ranks(cases_of)),
+        fault('before a call that is not there', 'cases_of', calls_there(cases_of)),
     ) + breakages_of_barriers() + (breakages_of_2() if 2 in language.VERSIONS else ())
 
 
 def breakages_of_2():
     """Those of waits for any."""
-    return tuple(Breakage(fault.name, fault.attribute, fault.replacement) for fault in waitany_faults.order_faults(order) if fault.owner is order)
+    return tuple(it for it in waitany_faults.order_faults(order) if it.owner is order)
 
 
-def noticing(place, walks):
-    """The first walk on which this broken model says otherwise, with what it says, as a batch; None where there is none."""
-    breakage = breakages()[place]
-    with mock.patch.object(order, breakage.attribute, breakage.replacement):
-        for walk in walks:
-            said = expected(walk.data)
-            if said != walk.wanted:
-                return Batch(f'broken-{place}', [walk._replace(wanted=said)])
-    return None
-
-
-def sought_among(walks):
-    """The walks among which one is sought on which a broken model says otherwise: those of version 2 stand last."""
-    return walks[:MOST_SOUGHT] + walks[max(MOST_SOUGHT, len(walks) - MOST_SOUGHT):]
-
-
-def compare(pool, chosen, walks):
-    """Compares the walks, and the broken models; gives how much is wrong."""
-    sought = [pool.submit(noticing, place, sought_among(walks)) for place in range(len(breakages()))]
-    broken = [it.result() for it in sought]
-    all_batches = batches(walks)
-    said, text = tried(WHY, [*all_batches, *filter(None, broken)], [], chosen.seconds)
-    differing = [batch for batch in all_batches if said.get(batch.name) != 'expected']
-    if differing:
-        report(WHY, differing, text, chosen.seconds)
-    missed = [breakage.name for breakage, batch in zip(breakages(), broken) if not batch or said.get(batch.name) != 'differs']
-    for name in missed:
-        print(f'not noticed in the model: {name}')
-    print(f'{len(all_batches)} runs, {len(differing)} different; {len(broken)} broken models, {len(broken) - len(missed)} noticed')
-    return len(differing) + len(missed)
-
-
-def compare_planted(chosen, walks):
-    """Plants each wrong body in a copy of its own; gives how many were not noticed."""
-    all_batches, missed = batches(walks), 0
-    bodies = [Change(f'{PROBES}/broken/{name}') for name in sorted(os.listdir(f'{PROBES}/broken'))]
-    with ThreadPoolExecutor(chosen.jobs) as pool:
-        for body, (said, text) in zip(bodies, pool.map(lambda body: tried(WHY, all_batches, [body], chosen.seconds), bodies)):
-            found = Counter(said.get(batch.name, 'no answer') for batch in all_batches)
-            print(f'{body.name}: {dict(found)}', flush=True)
-            if set(found) - {'expected', 'differs'} or not found['differs']:
-                missed += 1
-                print(f'{body.name}: NOT NOTICED: {text[-1000:]}')
-    print(f'{len(bodies)} wrong bodies, {len(bodies) - missed} noticed')
-    return missed or not bodies
-
-
-def arguments():
-    parser = argparse.ArgumentParser(description=__doc__, formatter_class=argparse.RawDescriptionHelpFormatter)
-    parser.add_argument('--count', type=int, default=300, help='how many scripts of version 1 (300), and half as many of version 2')
-    parser.add_argument('--version', type=int, choices=[1, 2], default=2, help='the last version that the crates know (2)')
-    parser.add_argument('--seed', type=int, default=1, help='another seed gives other scripts (1)')
-    parser.add_argument('--planted', action='store_true', help='plant the wrong bodies too: a build for each')
-    parser.add_argument('--seconds', type=int, default=60, help='how long a run of the copy may take (60)')
-    parser.add_argument('--jobs', type=int, default=len(os.sched_getaffinity(0)), help='how many processes (one for each core)')
-    return parser.parse_args()
+TRIAL = Trial(WHY, walked, expected, breakages, f'{PROBES}/broken')
 
 
 def main():
-    chosen = arguments()
+    chosen = parser_of(__doc__).parse_args()
     os.chdir(TOP)
     began = time.monotonic()
     read_up_to(chosen.version)
     with ProcessPoolExecutor(chosen.jobs, initializer=read_up_to, initargs=(chosen.version,)) as pool:
-        walks = all_walked(pool, chosen.seed, chosen.count)
-        walks += all_walked(pool, Beside(chosen.seed), chosen.count // 2) if chosen.version > 1 else []
+        walks = all_walked(pool, walked, chosen)
         met = sum((walk.met for walk in walks), Counter())
         print(', '.join(f'{name} {count}' for name, count in sorted(met.items())), flush=True)
         must_meet = MUST_MEET + MUST_MEET_OF_2 * (chosen.version > 1)
         wrong = [f'{name} was not met' for name in must_meet if not met[name]]
         print('\n'.join(wrong), end='\n' if wrong else '')
-        is_wrong = compare(pool, chosen, walks) if walks else True
+        is_wrong = compare(TRIAL, pool, chosen, walks) if walks else True
     if chosen.planted:
-        is_wrong = compare_planted(chosen, walks) or is_wrong
+        is_wrong = compare_planted(TRIAL, chosen, walks) or is_wrong
     print(f'{len(walks)} scripts compared, {time.monotonic() - began:.1f} seconds')
     return 1 if wrong or is_wrong else 0
 

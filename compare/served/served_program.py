@@ -11,8 +11,9 @@ import time
 from typing import NamedTuple
 
 from model.debugger import Result
+from model.files import held
 from served.served_clients import HERE, Client, Wrong, must_be
-from started.programs import content, held
+from started.programs import content
 
 # Ports that no connection is given by itself: a client whose own port is the one that it asks for would speak to itself.
 PORTS = range(20000, 32000)

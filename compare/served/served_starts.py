@@ -13,6 +13,7 @@ import tty
 
 from cases.session_cases import random_case
 from model.debugger import BAD_MODE, Result
+from model.files import held
 from model.session import Refused, lines_of, parse
 from rows.examples import EXAMPLES
 from rows.worked_sessions import STATE, deep, no, ran, step
@@ -20,7 +21,6 @@ from served.served_clients import HERE, Wrong, must_be
 from served.served_leavers import LOOP, ONE, SCRIPT, go, state
 from served.served_program import DEVICE, free_port
 from started.devices import refused, rest_told
-from started.programs import held
 from started.turn_by_turn import answered
 
 NO_DEVICE = Result(b'', DEVICE, 3)

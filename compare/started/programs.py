@@ -28,15 +28,6 @@ def file_of(data):
     return number
 
 
-def held(folder, name, data):
-    """The path of a file in a folder that has the bytes; of none that is there where they are None."""
-    path = os.path.join(folder, name)
-    if data is not None:
-        with open(path, 'wb') as file:
-            file.write(data)
-    return path
-
-
 def content(number):
     """What a file holds."""
     pieces = []

@@ -16,12 +16,13 @@ import tty
 from cases.console_cases import Case
 from model.console import GREETING
 from model.debugger import MOST_READS, Result
+from model.files import held
 from model.modes import KNOWN
 from rows.console_starts import AHEAD, BOTH_RECEIVE, STARTS, TYPED
 from rows.console_worked import DIALOGUES, ENDINGS, SLOW
 from rows.worked_console_scripts import LOOP
 from started.devices import SECONDS, Files, at_terminal, broken_off, device, file_of_any_size, full, refused, soft_limit, unread_pipe
-from started.programs import file_of, held, run_in_packets
+from started.programs import file_of, run_in_packets
 from started.shims import HERE, built
 from statuses.usage_texts import NO_MODE, known
 from statuses.worked_program import BAD_MODE, NO_FILE

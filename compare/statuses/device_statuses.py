@@ -15,11 +15,12 @@ import time
 from typing import NamedTuple
 
 from model.debugger import Result
+from model.files import held
 from rows.examples import EXAMPLES
 from rows.worked_sessions import DIALOGUES, STATE
 from rows.worked_traces import as_lines
 from started.devices import SECONDS, Files, device, full, refused, unread_pipe
-from started.programs import content, file_of, held, run_at_once, status_of
+from started.programs import content, file_of, run_at_once, status_of
 from started.shims import HERE, built
 from statuses.console_statuses import ANSWERS as ANSWERED_LINES, FIRST as TALKED_OF, LINES as TYPED_LINES
 from statuses.usage_texts import ANSWERS as HELP

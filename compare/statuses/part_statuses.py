@@ -10,11 +10,11 @@ import resource
 import tempfile
 
 from model.debugger import Result
+from model.files import held
 from model.language import MOST_OPEN_BLOCKS, MOST_OPERATORS
 from rows.examples import EXAMPLES
 from rows.worked_pieces import ONE_MORE
 from started.devices import Files, at_terminal, soft_limit
-from started.programs import held
 
 JOIN = os.path.join(EXAMPLES, 'join_parts.sh')
 PARTS = ('leaf 0 [0] done\nleaves 1 more no\n',

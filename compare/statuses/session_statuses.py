@@ -11,13 +11,14 @@ import resource
 import tempfile
 
 from model.debugger import MOST_READS, Result
+from model.files import held
 from model.modes import KNOWN
 from model.session import serve
 from rows import worked_slots, worked_waitany
 from rows.worked_runs import FIRST, HEAD_TO_HEAD
 from rows.worked_sessions import DIALOGUES, RUN, STATE, deep, no, ran, step, tested_differently, tested_input
 from started.devices import SECONDS, Files, at_terminal, broken_off, device, file_of_any_size, full, refused, soft_limit, unread_pipe
-from started.programs import file_of, held, run_in_packets
+from started.programs import file_of, run_in_packets
 from started.shims import HERE, built
 from statuses.usage_texts import NO_MODE, known
 from statuses.worked_program import BAD_MODE, INPUT, NO_FILE, OUTPUT, SCRIPT, Failing, of_what_is_known

@@ -14,9 +14,9 @@ from model import language
 from model.debugger import Result
 from model.modes import KNOWN
 from rows import worked_slots, worked_waitany
+from rows.worked_states import ALL, asked_words, row_problem
 from rows.worked_texts import FULL, all_inputs, wanted_result
 from rows.worked_traces import TRACES
-from runs.worked import ALL, asked_words, row_problem
 from started.programs import run_at_once, run_in_packets
 from started.shims import HERE, built
 
