@@ -1,6 +1,7 @@
 """Witnesses as texts, in the model: what stands in one, or in a whole report, and what `verify` answers.
 
-compare/rows/worked_explorer.py and compare/rows/worked_ends.py have rows of it, and compare/runs/explore.py and compare/runs/reread.py compare a program with it.
+compare/rows/worked_explorer.py and compare/rows/worked_ends.py have rows of it, and compare/runs/explore.py and
+compare/runs/reread.py compare a program with it.
 """
 
 import argparse

@@ -166,7 +166,8 @@ def faults(chosen):
 
 
 def arguments():
-    told = 'inputs of version 1 (2000), a quarter of these of version 2 beside them, and a quarter that show slots; with --kind in all; with --broken of each kind'
+    told = ('inputs of version 1 (2000), a quarter of these of version 2 beside them, and a quarter that show slots; with --kind in all; '
+            'with --broken of each kind')
     flags = (('--packets', 'each input cut into reads, and not only every third'),)
     parser = driving.parser_of(__doc__, told, 2000, 'input', *driving.CORES, others='inputs', flags=flags)
     driving.add_versions(parser)

@@ -2,13 +2,14 @@
 
     python3 compare/runs/worked.py
 
-Rows of states behind some steps stand in compare/rows/worked_states.py. Traces whose every byte was worked out stand in compare/rows/worked_traces.py, texts that print, trap or are refused in
-compare/rows/worked_texts.py; compare/runs/statuses.py has the built program answer all these too. Decisions, breakpoints and runs stand in
-compare/rows/worked_runs.py, reports and witnesses in compare/rows/worked_explorer.py, reports by pieces in compare/rows/worked_pieces.py, those that list ends
-or group them, and runs by their choices, in compare/rows/worked_ends.py, explanations in compare/rows/worked_explained.py, dialogues of a
-session in compare/rows/worked_sessions.py, rows of all these kinds for version 2 in compare/rows/worked_waitany.py, and for the modes `slots:K` in
-compare/rows/worked_slots.py. Dialogues of the console stand in compare/rows/console_worked.py. The lessons of docs/COURSE.md are rows too, with their
-answers in files. The status is 0 where the model answers all of them so.
+Rows of states behind some steps stand in compare/rows/worked_states.py. Traces whose every byte was worked out stand in
+compare/rows/worked_traces.py, texts that print, trap or are refused in compare/rows/worked_texts.py; compare/runs/statuses.py has the built
+program answer all these too. Decisions, breakpoints and runs stand in compare/rows/worked_runs.py, reports and witnesses in
+compare/rows/worked_explorer.py, reports by pieces in compare/rows/worked_pieces.py, those that list ends or group them, and runs by their
+choices, in compare/rows/worked_ends.py, explanations in compare/rows/worked_explained.py, dialogues of a session in
+compare/rows/worked_sessions.py, rows of all these kinds for version 2 in compare/rows/worked_waitany.py, and for the modes `slots:K` in
+compare/rows/worked_slots.py. Dialogues of the console stand in compare/rows/console_worked.py. The lessons of docs/COURSE.md are rows too,
+with their answers in files. The status is 0 where the model answers all of them so.
 """
 
 import os
