@@ -82,10 +82,10 @@ def compare_chunk(chosen, kind, numbers):
 
 def kept(files, case):
     """Keeps an input, and its script where that is a file; says where."""
-    path = held(files.folder('.'), case.name, case.data)
+    path = held(files.folder(''), case.name, case.data)
     if case.mode is None:
         return path
-    held(files.folder('.'), f'{case.name}.mpd', case.script)
+    held(files.folder(''), f'{case.name}.mpd', case.script)
     return f'trace {path}.mpd --mode {case.mode} < {path}'
 
 
