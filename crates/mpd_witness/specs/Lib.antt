@@ -5,4 +5,5 @@ pub mod WitnessLaws
 pub mod ReadBack
 pub mod ReportFile
 pub mod ReportRows
+pub mod FaultTexts
 pub mod Verdict
