@@ -279,6 +279,6 @@ REPORTS = {
     'Report looks': report_looks, 'verify': verified, 'verify_from': verified, 'split': split, 'explore_at': part_explored,
     'explore_by_pieces': by_pieces, 'mpd_pool::check': by_workers, 'mpd_check::check': check_written, 'check_piece': piece_written,
     'count_pieces': pieces_counted, 'check_mode': mode_written, 'put_least': by_hand, 'judge': judged, 'read_witness': witness_read,
-    'read_witness_file': witness_read, 'explain': leaf_explained, 'explain_all': all_explained, 'print_explained': explained_printed,
+    'explain': leaf_explained, 'explain_all': all_explained, 'print_explained': explained_printed,
     'check_listing': listing_written, 'check_sample': sample_written, 'is_left': left_behind, 'read_report': report_read,
     'read_report_witness': report_read, 'choices_of': by_hand, 'steps_by_choices': run_led, 'write_words': run_written}

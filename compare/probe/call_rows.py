@@ -34,7 +34,9 @@ def scripts():
         yield Row('mpd_code looks', script, spares=True)
     for script, what in ((MESSAGE, 'a message'), (WHOLE, 'all statements')):
         yield Row('mpd_script::read of all beginnings', script, most=0, what=what)
-    yield Row('mpd_trace::read_text', MESSAGE)
+    # fewer bytes than may be, as many, one more, and the first where none may be
+    for most in (65_536, len(MESSAGE), len(MESSAGE) - 1, 0):
+        yield Row('read_up_to', MESSAGE, argument=str(most))
     yield Row('mpd_trace::excerpt', MISSING, argument='24', by_hand=no_state('  print 2;\n  ^\n\n'))
     yield Row('mpd_trace::allowed', MISSING, argument='24',
               by_hand=no_state("  found 'print'; only ';' or an operator can stand here\n\n"))
@@ -258,10 +260,8 @@ def reports():
     yield Row('verify', RACE, (), NO_STEP)
     yield Row('judge', RACE, (), NO_STEP)
     yield Row('verify_from', RACE, (), NO_STEP, spares=True)
-    for call in ('read_witness', 'read_witness_file'):
-        yield Row(call, argument=TWO_LINES)
-        yield Row(call, argument='leaf 0 [] done\n')
-        yield Row(call, argument=TWO_LINES + 'x')
+    for text in (TWO_LINES, 'leaf 0 [] done\n', TWO_LINES + 'x'):
+        yield Row('read_witness', argument=text)
     yield from checks()
 
 

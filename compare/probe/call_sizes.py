@@ -60,7 +60,7 @@ def scripts():
     for call in ('mpd_script::read', 'mpd_script::print', 'mpd_c::print_c', 'mpd_code::lower'):
         yield Row(call, deepest, what='64 loops and 64 brackets', is_deep=True)
     yield Row('mpd_policy::run', deepest, (), '100', is_deep=True)
-    yield Row('mpd_trace::read_text', ' ' * BYTES, most=FEW, what='65,536 bytes')
+    yield Row('read_up_to', ' ' * BYTES, argument=str(BYTES), most=FEW, what='65,536 bytes')
     for path in sorted(glob.glob(f'{EXAMPLES}/*.mpd')):
         with open(path, encoding='ascii') as file:
             yield Row('mpd_script::read of all beginnings', file.read(), most=0, what=os.path.basename(path))
@@ -104,7 +104,7 @@ def reports():
     text = 'leaf 0 [] deadlock 0.0\nwitness 0: ' + ', '.join(to_the_end()) + '\n'
     for call in ('verify', 'verify_from', 'judge'):
         yield Row(call, LONG, (), text, most=FEW, what='4,002 steps')
-    for call in ('read_witness', 'read_witness_file'):
+    for call in ('read_witness', 'read_report_witness'):
         yield Row(call, argument=text, most=FEW, what='4,002 steps')
     for call, argument in (('explore', '10 10000 witnesses'), ('witness_of', '10 10000 0'), ('print_report', '10 10000 witnesses')):
         yield Row(call, LONG, (), argument, most=FEW, what='4,002 steps')

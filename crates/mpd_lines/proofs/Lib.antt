@@ -5,3 +5,4 @@ pub mod SentLaws
 pub mod GatherLaws
 pub mod SpokenLaws
 pub mod TurnLaws
+pub mod UpToLaws

@@ -5,3 +5,4 @@ pub mod FaultWords
 pub mod Served
 pub mod Turned
 pub mod Shown
+pub mod UpTo

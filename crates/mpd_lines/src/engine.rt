@@ -13,25 +13,22 @@ use crate::outbox::Outbox;
 use mpd_device::device::{DeviceFault, Sink, Source};
 use mpd_model::limits::READS_MAX;
 use std::alloc::Global;
-use thiserror::Error;
+use std::error::Error;
+use std::fmt;
 
 /// Bytes that one read can give.
 pub const READ_MAX: usize = 4096;
 
 /// Why the engine has ended before its input has.
-#[derive(Clone, Copy, PartialEq, Eq, Debug, Error)]
+#[derive(Clone, Copy, PartialEq, Eq, Debug)]
 pub enum EngineFault {
     /// A read failed.
-    #[error("read-failed")]
     ReadFailed,
     /// A write failed.
-    #[error("write-failed")]
     WriteFailed,
     /// So many reads were made as one engine may make.
-    #[error("too-many-turns")]
     TooManyTurns,
     /// A buffer that the engine keeps was refused, before anything was read.
-    #[error("memory")]
     Memory,
 }
 
@@ -60,6 +57,18 @@ impl EngineFault {
         }
     }
 }
+
+impl fmt::Display for EngineFault {
+    ghost use Rattle.std.specs.Prelude.{Some};
+
+    ghost output = { λ fault. Some (engine_fault_name fault) };
+
+    fn fmt<W: fmt::Write>(&self, f: &mut fmt::Formatter<W>) -> fmt::Result {
+        f.write_str(self.name())
+    }
+}
+
+impl Error for EngineFault {}
 
 /// What one read has brought.
 #[derive(Clone, Copy)]

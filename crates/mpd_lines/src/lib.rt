@@ -8,3 +8,4 @@ pub mod kept;
 pub mod line;
 pub mod outbox;
 mod seen;
+pub mod up_to;

@@ -19,6 +19,7 @@ pub mod Breakpoints
 pub mod Trail
 pub mod Running
 pub mod Faults
+pub mod FaultText
 pub mod Tokens
 pub mod Input
 pub mod Grammar

@@ -1,46 +1,37 @@
 //! Why a text is refused.
 
 ghost use Rattle.std.specs.Prelude.{◌≡◌};
+ghost use Rattle.mpd_model.specs.FaultText.{read_fault_text};
 ghost use Rattle.mpd_model.specs.Faults.{fault_name, fault_number, memory};
 
 use std::alloc::{AllocError, AllocFailed};
-use thiserror::Error;
+use std::error::Error;
+use std::fmt;
 
 /// What is wrong with a text (docs/LANGUAGE.md, "Faults").
-#[derive(Clone, Copy, Debug, PartialEq, Eq, Error)]
+#[derive(Clone, Copy, Debug, PartialEq, Eq)]
 pub enum FaultCode {
     /// The text is longer than 65,536 bytes.
-    #[error("too-long")]
     TooLong,
     /// A byte that may not stand in a text.
-    #[error("not-text")]
     NotText,
     /// What stands there is no token.
-    #[error("bad-token")]
     BadToken,
     /// A token that the grammar doesn't allow there, the end among them.
-    #[error("expected")]
     Expected,
     /// A name that isn't declared as what is wanted there.
-    #[error("unknown-name")]
     UnknownName,
     /// A name that was declared before.
-    #[error("twice")]
     Twice,
     /// The 65th open block, or the 65th bracket or operator of one expression.
-    #[error("too-deep")]
     TooDeep,
     /// Statement 4,097, or more cells than 1,024 variables and 256 handles.
-    #[error("too-many")]
     TooMany,
     /// The number of ranks isn't 1 to 16.
-    #[error("bad-ranks")]
     BadRanks,
     /// What this version of the language hasn't.
-    #[error("not-in-version")]
     NotInVersion,
     /// Memory was refused; the text may be a script.
-    #[error("memory")]
     Memory,
 }
 
@@ -84,14 +75,37 @@ impl FaultCode {
     }
 }
 
+impl fmt::Display for FaultCode {
+    ghost use Rattle.std.specs.Prelude.{Some};
+
+    ghost output = { λ fault. Some (fault_name fault) };
+
+    fn fmt<W: fmt::Write>(&self, f: &mut fmt::Formatter<W>) -> fmt::Result {
+        f.write_str(self.name())
+    }
+}
+
+impl Error for FaultCode {}
+
 /// A fault and where it is (docs/LANGUAGE.md, "Faults").
-#[derive(Clone, Copy, Debug, PartialEq, Eq, Error)]
-#[error("{code} at {place}")]
+#[derive(Clone, Copy, Debug, PartialEq, Eq)]
 pub struct ReadFault {
     pub code: FaultCode,
     /// A byte of the text, from 0, or the text's length for its end; 0 where memory was refused.
     pub place: usize,
 }
+
+impl fmt::Display for ReadFault {
+    ghost use Rattle.std.specs.Prelude.{Some};
+
+    ghost output = { λ fault. Some (read_fault_text fault) };
+
+    fn fmt<W: fmt::Write>(&self, f: &mut fmt::Formatter<W>) -> fmt::Result {
+        write!(f, "{} at {}", self.code, self.place)
+    }
+}
+
+impl Error for ReadFault {}
 
 impl From<AllocError> for ReadFault {
     ghost from_gives = { λ _ e. e ≡ memory };

@@ -22,11 +22,11 @@ use mpd_model::limits::STEPS_MAX;
 use mpd_pieces::split::{PIECES_MAX, Piece, SplitFault, split};
 use mpd_trail::debugger::Debugger;
 use std::alloc::{AllocError, Global};
+use std::error::Error;
 use std::marker::Sync;
 use std::sync::Wait;
-use std::thread;
 use std::thread::Threads;
-use thiserror::Error;
+use std::{fmt, thread};
 
 /// How many workers there are at most.
 pub const WORKERS_MAX: usize = 16;
@@ -39,16 +39,13 @@ pub struct CheckPlan {
 }
 
 /// Why there is no report.
-#[derive(Clone, Copy, PartialEq, Eq, Debug, Error)]
+#[derive(Clone, Copy, PartialEq, Eq, Debug)]
 pub enum PoolFault {
     /// There are to be no workers, or more than 16.
-    #[error("bad-workers")]
     BadWorkers,
     /// There are more than 1,024 pieces.
-    #[error("too-many-pieces")]
     TooManyPieces,
     /// A growth was refused.
-    #[error("memory")]
     Memory,
 }
 
@@ -75,6 +72,18 @@ impl PoolFault {
         }
     }
 }
+
+impl fmt::Display for PoolFault {
+    ghost use Rattle.std.specs.Prelude.{Some};
+
+    ghost output = { λ fault. Some (pool_fault_name fault) };
+
+    fn fmt<W: fmt::Write>(&self, f: &mut fmt::Formatter<W>) -> fmt::Result {
+        f.write_str(self.name())
+    }
+}
+
+impl Error for PoolFault {}
 
 /// Adds a worker, with a copy of the debugger and a pass.
 fn add_job<'c>(

@@ -1,5 +1,5 @@
 -- What was read of an input up to the line that divides it.
-use Rattle.std.proofs.Common.{◌≡◌, ℕ, zero, suc, false, ◌+◌, ◌<◌, ◌≤◌, List, [], ◌++◌, length, drop, Option, Some, None, Result, Ok, Err, IfOk, IfErr, refl, ap, sym, subst, ◌∙◌, append_assoc, arith, length-append}
+use Rattle.std.proofs.Common.{◌≡◌, ℕ, false, ◌+◌, ◌<◌, ◌≤◌, List, [], ◌++◌, length, drop, Option, Some, None, Result, Ok, Err, IfOk, IfErr, refl, ap, sym, subst, ◌∙◌, append_assoc, arith, length-append}
 use Rattle.std.specs.Io.KnownBytes.{Consumes, IsAtEnd, Keeps}
 use Rattle.mpd_device.specs.Seen.{SourceSeen}
 use Rattle.mpd_device.specs.Ends.{ends_of}
@@ -7,6 +7,7 @@ use Rattle.mpd_device.specs.declared.device.DeviceFault.{DeviceFault}
 use Rattle.mpd_model.specs.Lines.{divided}
 use Rattle.mpd_lines.specs.declared.engine.EngineFault.{EngineFault}
 use Rattle.mpd_lines.specs.declared.engine.EngineFault.TheVariants.{Memory}
+use Rattle.mpd_lines.proofs.UpToLaws.{ends_some, ends_one}
 use Rattle.mpd_trace.specs.Divided.{Begun, begun, splits, IsOpen, IsHeld}
 use Rattle.mpd_trace.specs.Collected.{IsJustRead, HeadOf, Collected, Follows}
 use Rattle.mpd_trace.specs.declared.plain.HeadEnd.{HeadEnd}
@@ -32,14 +33,6 @@ consumes_keeps (Some us) (Some vs) (Some ws) xs a k = a ∙ ap (λ t. xs ++ t) (
 
 consumes_same : (old new : Option (List ℕ)) (xs ys : List ℕ) → xs ≡ ys → Consumes old new ys → Consumes old new xs
 consumes_same old new xs ys is c = let P : List ℕ → Type 0 = λ x. Consumes old new x in subst P (sym is) c
-
-pub ends_some : (n before after : ℕ) → after ≡ before + ends_of {E = DeviceFault} (Ok n) → (n ≡ 0 → ⊥) → after ≡ before
-ends_some zero before after e h = absurd (h refl)
-ends_some (suc n) before after e h = omega (arith, e)
-
-pub ends_one : (n before after : ℕ) → after ≡ before + ends_of {E = DeviceFault} (Ok n) → n ≡ 0 → after ≡ before + 1
-ends_one zero before after e h = e
-ends_one (suc n) before after e h = absurd (omega (arith, h))
 
 abbrev Halves : Type 0
 Halves = List ℕ × List ℕ

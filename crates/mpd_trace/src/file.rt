@@ -1,49 +1,20 @@
 //! A script from a file of its own, and its code.
 ghost use Rattle.std.specs.Prelude.{IfOk, IfErr};
-ghost use Rattle.mpd_trace.specs.FileText.{IsRead, IsUnread, IsScriptOf, IsNoCode};
+ghost use Rattle.mpd_trace.specs.FileText.{IsScriptOf, IsNoCode};
 
 use crate::plain::{PlainFault, refusal};
 use mpd_code::code::Code;
 use mpd_code::lower::lower;
 use mpd_device::device::Source;
-use mpd_lines::engine::{EngineFault, READ_MAX};
-use mpd_lines::kept::push_all;
+use mpd_lines::engine::EngineFault;
+use mpd_lines::up_to::read_up_to;
 use mpd_model::limits::SCRIPT_MAX;
 use mpd_model::script::Script;
 use mpd_script::read;
 use std::alloc::Global;
-use std::cmp;
 
-/// Reads a text up to its end, or up to the byte that makes it too long for a script: 65,537 bytes at most. An `Err` is
-/// `ReadFailed` where a read failed, or `Memory`, before the first read.
-#[tactic(auto, using(crate::proofs::FileLaws::gathering))]
-pub fn read_text<S: Source>(alloc: Global, source: &mut S) -> Result<Vec<u8>, EngineFault>
-    ensures ok { IfOk result (λ text. IsRead (S.seen source.old) (S.seen source.new) text.items) }
-    ensures err { IfErr result (λ fault. IsUnread (S.seen source.old) (S.seen source.new) fault) }
-{
-    let mut buffer = [0u8; READ_MAX];
-    let Ok(mut text) = Vec::with_capacity(alloc, SCRIPT_MAX + 1) else {
-        return Err(EngineFault::Memory);
-    };
-    for turn in 0..SCRIPT_MAX + 1 {
-        let most = cmp::min(READ_MAX, SCRIPT_MAX + 1 - text.len());
-        let (part, _) = buffer.split_at_mut(most);
-        let Ok(count) = source.read(part) else {
-            return Err(EngineFault::ReadFailed);
-        };
-        if count == 0 {
-            return Ok(text);
-        }
-        let (piece, _) = part.split_at(count);
-        push_all(&mut text, piece);
-        if text.len() > SCRIPT_MAX {
-            return Ok(text);
-        }
-    }
-    unreachable!()
-}
-
-/// Reads the script of a source. `text` becomes what was read, also where the script is refused.
+/// Reads the script of a source, up to the byte that makes its text too long. `text` becomes what was read, also where the script is
+/// refused.
 #[tactic(auto, using(crate::proofs::FileLaws::refusing_texts))]
 pub fn read_script<S: Source>(
     alloc: Global,
@@ -53,7 +24,7 @@ pub fn read_script<S: Source>(
     ensures ok { IfOk result (λ script. IsScriptOf (S.seen source.old) (S.seen source.new) text.new.items script) }
     ensures err { IfErr result (λ fault. IsNoCode (S.seen source.old) (S.seen source.new) text.new.items fault) }
 {
-    match read_text(alloc, source) {
+    match read_up_to(alloc, source, SCRIPT_MAX) {
         Ok(bytes) => *text = bytes,
         Err(fault) => return Err(PlainFault::Engine(fault)),
     }

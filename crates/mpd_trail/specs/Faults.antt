@@ -29,3 +29,9 @@ redo_fault_number redo.Memory = 23
 abbrev pub redo_fault_name : RedoFault → List ℕ
 redo_fault_name redo.NoRedo = codes "no-redo"
 redo_fault_name redo.Memory = codes "memory"
+
+abbrev pub at_start_name : List ℕ
+at_start_name = codes "at-start"
+
+abbrev pub not_before_name : List ℕ
+not_before_name = codes "not-before"

@@ -1,11 +1,11 @@
 //! The trail: the steps that were taken, of which some may be undone, and the state that they lead to.
 
-ghost use Rattle.std.specs.Prelude.{◌≡◌, ◌↔◌, ◌<◌, ◌≤◌, IfOk, OnOk, OnErr, IsErrOf, IsOk, IsSome, IfSome, IfNone, Some, None, [], ◌∷◌, ◌++◌, ◌+◌, ◌-◌, length, take, drop, slice_get, vec_len, vec_capacity, codes};
+ghost use Rattle.std.specs.Prelude.{◌≡◌, ◌↔◌, ◌<◌, ◌≤◌, IfOk, OnOk, OnErr, IsErrOf, IsOk, IsSome, IfSome, IfNone, Some, None, [], ◌∷◌, ◌++◌, ◌+◌, ◌-◌, length, take, drop, slice_get, vec_len, vec_capacity};
 ghost use Rattle.mpd_model.specs.Next.{next};
 ghost use Rattle.mpd_model.specs.Trail.{first_standing, IsReached, IsRun, kept, noted, applied, taken_back, redone, gone_back, forgotten, with_steps, step_eq};
 ghost use Rattle.mpd_model.specs.declared.step.Step.{Step};
 ghost use Rattle.mpd_core.specs.Writes.{most_writes};
-ghost use Rattle.mpd_trail.specs.Faults.{apply_fault, apply_fault_number, apply_fault_name, redo_fault_number, redo_fault_name};
+ghost use Rattle.mpd_trail.specs.Faults.{apply_fault, apply_fault_number, apply_fault_name, redo_fault_number, redo_fault_name, at_start_name, not_before_name};
 ghost use Rattle.mpd_trail.specs.Kept.{room_in};
 ghost use Rattle.mpd_trail.specs.Views.{standing_of};
 ghost use Rattle.mpd_trail.specs.Writes.{most_writes_of};
@@ -20,20 +20,18 @@ use mpd_model::limits::STEPS_MAX;
 use mpd_model::step::Step;
 use mpd_rank::change::LocalRecord;
 use std::alloc::{AllocError, Global};
+use std::error::Error;
+use std::fmt;
 use std::marker::Model;
-use thiserror::Error;
 
 /// Why a step is refused. Nothing has changed.
-#[derive(Clone, Copy, PartialEq, Eq, Debug, Error)]
+#[derive(Clone, Copy, PartialEq, Eq, Debug)]
 pub enum ApplyFault {
     /// The relation of steps has no step there.
-    #[error("not-enabled")]
     NotEnabled,
     /// The step is enabled, and the trail has 1,000,000 steps that are not undone.
-    #[error("full")]
     Full,
     /// A growth was refused.
-    #[error("memory")]
     Memory,
 }
 
@@ -61,6 +59,18 @@ impl ApplyFault {
     }
 }
 
+impl fmt::Display for ApplyFault {
+    ghost use Rattle.std.specs.Prelude.{Some};
+
+    ghost output = { λ fault. Some (apply_fault_name fault) };
+
+    fn fmt<W: fmt::Write>(&self, f: &mut fmt::Formatter<W>) -> fmt::Result {
+        f.write_str(self.name())
+    }
+}
+
+impl Error for ApplyFault {}
+
 impl From<StepFault> for ApplyFault {
     ghost from_gives = { λ fault e. e ≡ apply_fault fault };
 
@@ -73,8 +83,7 @@ impl From<StepFault> for ApplyFault {
 }
 
 /// Nothing is left to be undone (24).
-#[derive(Clone, Copy, PartialEq, Eq, Debug, Error)]
-#[error("at-start")]
+#[derive(Clone, Copy, PartialEq, Eq, Debug)]
 pub struct AtStart;
 
 impl AtStart {
@@ -87,20 +96,30 @@ impl AtStart {
 
     /// Its name.
     pub fn name(self) -> &'static str
-        ensures { result.now ≡ codes "at-start" }
+        ensures { result.now ≡ at_start_name }
     {
         "at-start"
     }
 }
 
+impl fmt::Display for AtStart {
+    ghost use Rattle.std.specs.Prelude.{Some};
+
+    ghost output = { λ _. Some at_start_name };
+
+    fn fmt<W: fmt::Write>(&self, f: &mut fmt::Formatter<W>) -> fmt::Result {
+        f.write_str(self.name())
+    }
+}
+
+impl Error for AtStart {}
+
 /// Why no step is taken again. Nothing has changed.
-#[derive(Clone, Copy, PartialEq, Eq, Debug, Error)]
+#[derive(Clone, Copy, PartialEq, Eq, Debug)]
 pub enum RedoFault {
     /// No step is undone.
-    #[error("no-redo")]
     NoRedo,
     /// A growth was refused.
-    #[error("memory")]
     Memory,
 }
 
@@ -126,9 +145,20 @@ impl RedoFault {
     }
 }
 
+impl fmt::Display for RedoFault {
+    ghost use Rattle.std.specs.Prelude.{Some};
+
+    ghost output = { λ fault. Some (redo_fault_name fault) };
+
+    fn fmt<W: fmt::Write>(&self, f: &mut fmt::Formatter<W>) -> fmt::Result {
+        f.write_str(self.name())
+    }
+}
+
+impl Error for RedoFault {}
+
 /// The depth to go back to is above the present one (26).
-#[derive(Clone, Copy, PartialEq, Eq, Debug, Error)]
-#[error("not-before")]
+#[derive(Clone, Copy, PartialEq, Eq, Debug)]
 pub struct NotBefore;
 
 impl NotBefore {
@@ -141,11 +171,23 @@ impl NotBefore {
 
     /// Its name.
     pub fn name(self) -> &'static str
-        ensures { result.now ≡ codes "not-before" }
+        ensures { result.now ≡ not_before_name }
     {
         "not-before"
     }
 }
+
+impl fmt::Display for NotBefore {
+    ghost use Rattle.std.specs.Prelude.{Some};
+
+    ghost output = { λ _. Some not_before_name };
+
+    fn fmt<W: fmt::Write>(&self, f: &mut fmt::Formatter<W>) -> fmt::Result {
+        f.write_str(self.name())
+    }
+}
+
+impl Error for NotBefore {}
 
 /// The steps that were taken, and where they lead; contracts see it as a `DebuggerView`: its trail, its world, the room that is
 /// kept for steps, and how many writes its core has counted.

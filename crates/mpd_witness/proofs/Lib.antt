@@ -1,6 +1,5 @@
 mod PieceLemmas
 mod TextLemmas
-mod FileLemmas
 mod VerdictLemmas
 mod ClearTexts
 mod RoundTrip

@@ -2,8 +2,8 @@ pub mod Pieces
 pub mod WitnessText
 pub mod WitnessRows
 pub mod WitnessLaws
-pub mod WitnessFile
 pub mod ReadBack
 pub mod ReportFile
 pub mod ReportRows
+pub mod FaultTexts
 pub mod Verdict

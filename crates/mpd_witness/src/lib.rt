@@ -7,5 +7,4 @@ mod pieces;
 pub mod report_file;
 mod report_lines;
 pub mod report_text;
-pub mod witness_file;
 pub mod witness_text;

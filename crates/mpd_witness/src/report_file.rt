@@ -3,14 +3,16 @@
 ghost use Rattle.mpd_witness.specs.ReportFile.{IsFromReport};
 
 use crate::report_text::{ReportFault, read_report};
-use crate::witness_file::{WITNESS_MAX, read_bytes};
 use mpd_device::device::Source;
 use mpd_explore::report::Witness;
+use mpd_lines::up_to::read_up_to;
 use std::alloc::Global;
 
-/// Reads a witness of a source, which has the text of a report, or two lines alone (docs/FORMATS.md, "Witnesses"), in 1,000,000 reads at
-/// most: the only one there, or that of the leaf of this number. A text of more than 33,554,432 bytes is wrong in line 2, and is not read to
-/// its end.
+/// Bytes of a text with a witness: that of a run of 1,000,000 steps fits.
+pub const WITNESS_MAX: usize = 33_554_432;
+
+/// Reads a witness of a source, which has the text of a report, or two lines alone (docs/FORMATS.md, "Witnesses"): the only one there, or
+/// that of the leaf of this number. A text of more than 33,554,432 bytes is wrong in line 2, and is not read to its end.
 #[tactic(auto, using(crate::proofs::ReportFileLemmas::answering))]
 pub fn read_report_witness<S: Source>(
     alloc: Global,
@@ -19,7 +21,7 @@ pub fn read_report_witness<S: Source>(
 ) -> Result<Witness, ReportFault>
     ensures { IsFromReport leaf (S.seen source.old) (S.seen source.new) result }
 {
-    let text = match read_bytes(alloc, source) {
+    let text = match read_up_to(alloc, source, WITNESS_MAX) {
         Ok(text) => text,
         Err(fault) => return Err(ReportFault::Engine(fault)),
     };

@@ -1,6 +1,7 @@
 //! A witness from the text of a whole report (docs/FORMATS.md, "Witnesses").
 
 ghost use Rattle.std.specs.Prelude.{◌≡◌, ◌≤◌, ◌<◌, ◌+◌, ◌^◌, Ok, Err, IfOk, drop, length};
+ghost use Rattle.mpd_witness.specs.FaultTexts.{report_fault_shown};
 ghost use Rattle.mpd_witness.specs.WitnessText.{parts_at, line_of};
 ghost use Rattle.mpd_witness.specs.ReadBack.{unwitnessed, sole_leaf, named_leaf, leaf_wanted, witness_at, are_alone, as_two, witness_of_report, ReadsReport};
 ghost use Rattle.mpd_witness.specs.WitnessText.{witness_of, blocked_of, steps_of};
@@ -15,30 +16,44 @@ use mpd_explore::report::Witness;
 use mpd_lines::engine::EngineFault;
 use mpd_lines::line::without_return;
 use std::alloc::Global;
-use thiserror::Error;
+use std::error::Error;
+use std::fmt;
 
 /// Why no witness is read of a report.
-#[derive(Clone, Copy, PartialEq, Eq, Debug, Error)]
+#[derive(Clone, Copy, PartialEq, Eq, Debug)]
 pub enum ReportFault {
     /// This line, from 1, is the first that is wrong: 2 where the text is too long, whatever is in it.
-    #[error("line {0}")]
     BadLine(usize),
     /// There is none, or none behind the leaf that is asked for, which is a deadlock.
-    #[error("no-witness")]
     NoWitness,
     /// There are several, and no leaf is asked for.
-    #[error("several-witnesses")]
     SeveralWitnesses,
     /// No leaf has the number that is asked for.
-    #[error("no-such-leaf")]
     NoSuchLeaf,
     /// The leaf that is asked for is no deadlock.
-    #[error("no-deadlock")]
     NoDeadlock,
-    /// A read failed, or 1,000,000 reads were made, or memory was refused.
-    #[error("{0}")]
+    /// A read failed, or memory was refused.
     Engine(EngineFault),
 }
+
+impl fmt::Display for ReportFault {
+    ghost use Rattle.std.specs.Prelude.{Some};
+
+    ghost output = { λ fault. Some (report_fault_shown fault) };
+
+    fn fmt<W: fmt::Write>(&self, f: &mut fmt::Formatter<W>) -> fmt::Result {
+        match *self {
+            ReportFault::BadLine(line) => write!(f, "line {line}"),
+            ReportFault::NoWitness => f.write_str("no-witness"),
+            ReportFault::SeveralWitnesses => f.write_str("several-witnesses"),
+            ReportFault::NoSuchLeaf => f.write_str("no-such-leaf"),
+            ReportFault::NoDeadlock => f.write_str("no-deadlock"),
+            ReportFault::Engine(fault) => f.write_str(fault.name()),
+        }
+    }
+}
+
+impl Error for ReportFault {}
 
 /// What is wrong with a leaf that has no witness.
 fn unwitnessed(line: &[u8]) -> ReportFault

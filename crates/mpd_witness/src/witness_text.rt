@@ -2,6 +2,7 @@
 
 ghost use Rattle.std.specs.Prelude.{◌≡◌, codes};
 ghost use Rattle.mpd_model.specs.Words.{number_of, call_of, step_of};
+ghost use Rattle.mpd_witness.specs.FaultTexts.{text_fault_shown};
 ghost use Rattle.mpd_witness.specs.WitnessText.{behind_word, each_read, blocked_of, behind_cut, cut_at, steps_of, all_empty, witness_of, Skipped, ReadsLine, ReadsText};
 
 use crate::pieces::{Pieces, cut};
@@ -12,18 +13,32 @@ use mpd_model::outcome::CallList;
 use mpd_model::step::{CallId, Step};
 use mpd_model::words::{Command, command_of};
 use std::alloc::Global;
-use thiserror::Error;
+use std::error::Error;
+use std::fmt;
 
 /// Why a text is no witness.
-#[derive(Clone, Copy, PartialEq, Eq, Debug, Error)]
+#[derive(Clone, Copy, PartialEq, Eq, Debug)]
 pub enum WitnessTextFault {
     /// This line, 1 or 2, is the first that is wrong.
-    #[error("line {0}")]
     BadLine(usize),
     /// A growth was refused.
-    #[error("memory")]
     Memory,
 }
+
+impl fmt::Display for WitnessTextFault {
+    ghost use Rattle.std.specs.Prelude.{Some};
+
+    ghost output = { λ fault. Some (text_fault_shown fault) };
+
+    fn fmt<W: fmt::Write>(&self, f: &mut fmt::Formatter<W>) -> fmt::Result {
+        match *self {
+            WitnessTextFault::BadLine(line) => write!(f, "line {line}"),
+            WitnessTextFault::Memory => f.write_str("memory"),
+        }
+    }
+}
+
+impl Error for WitnessTextFault {}
 
 /// A number of 1 to 9 digits.
 pub(crate) fn number_of(word: &[u8]) -> Option<usize>

@@ -1,0 +1,44 @@
+//! The bytes of a source, up to so many.
+ghost use Rattle.std.specs.Prelude.{◌+◌, ◌<◌, ◌^◌, IfOk, IfErr};
+ghost use Rattle.mpd_lines.specs.UpTo.{IsRead, IsUnread};
+
+use crate::engine::{EngineFault, READ_MAX};
+use crate::kept::push_all;
+use mpd_device::device::Source;
+use std::alloc::Global;
+use std::cmp;
+
+/// Reads a source up to its end, or up to the first byte that is too many: one more than `max`. So there are more than `max` bytes
+/// exactly where that many are answered, and then the source isn't read to its end. An `Err` is `ReadFailed` where a read failed, or
+/// `Memory`, before the first read.
+#[tactic(auto, using(crate::proofs::UpToLaws::gathering))]
+pub fn read_up_to<S: Source>(
+    alloc: Global,
+    source: &mut S,
+    max: usize,
+) -> Result<Vec<u8>, EngineFault>
+    requires { max + 1 < 2 ^ 64 }
+    ensures ok { IfOk result (λ text. IsRead max (S.seen source.old) (S.seen source.new) text.items) }
+    ensures err { IfErr result (λ fault. IsUnread max (S.seen source.old) (S.seen source.new) fault) }
+{
+    let mut buffer = [0u8; READ_MAX];
+    let Ok(mut text) = Vec::with_capacity(alloc, max + 1) else {
+        return Err(EngineFault::Memory);
+    };
+    for turn in 0..max + 1 {
+        let most = cmp::min(READ_MAX, max + 1 - text.len());
+        let (part, _) = buffer.split_at_mut(most);
+        let Ok(count) = source.read(part) else {
+            return Err(EngineFault::ReadFailed);
+        };
+        if count == 0 {
+            return Ok(text);
+        }
+        let (piece, _) = part.split_at(count);
+        push_all(&mut text, piece);
+        if text.len() > max {
+            return Ok(text);
+        }
+    }
+    unreachable!()
+}
