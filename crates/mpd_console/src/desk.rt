@@ -83,7 +83,7 @@ fn reply_text(
 {
     let mut out = String::new(alloc);
     let debugger = session.debugger();
-    let _ = debugger.core();
+    debugger.state_is_reached();
     push_reply(
         alloc,
         debugger,
@@ -124,7 +124,7 @@ fn lead_text(alloc: Global, session: &Session<'_>, word: Word) -> Result<String,
     ensures { IfOk result (λ t. string_bytes t ≡ spec.lead_said session.now word) }
 {
     let debugger = session.debugger();
-    let _ = debugger.core();
+    debugger.state_is_reached();
     lead(alloc, debugger, word)
 }
 
@@ -175,7 +175,7 @@ fn look_text(
 {
     let mut out = String::new(alloc);
     let debugger = session.debugger();
-    let _ = debugger.core();
+    debugger.state_is_reached();
     push_look(alloc, debugger, session.breaks(), script, &mut out, word)?;
     push_prompt(session, &mut out, prompts_behind(is_prompting, word))?;
     Ok(out)
@@ -195,7 +195,7 @@ pub(crate) fn laid_text(
 {
     let mut out = String::new(alloc);
     let debugger = session.debugger();
-    let _ = debugger.core();
+    debugger.state_is_reached();
     push_ahead(alloc, &mut out, number, ending, ahead)?;
     push_standing(alloc, debugger, &mut out)?;
     push_prompt(session, &mut out, is_prompting)?;
@@ -290,7 +290,7 @@ fn sought_from(alloc: Global, session: &Session<'_>, way: Way) -> Result<Search,
     ensures lies { IfOk result (λ s. IfSome s.found (LiesAhead session.now.trail)) }
 {
     let debugger = session.debugger();
-    let _ = debugger.core();
+    debugger.state_is_reached();
     seek_run(alloc, debugger, way)
 }
 
@@ -322,7 +322,7 @@ fn numbered_from(
     ensures lies { IfOk result (λ o. IfSome o (LiesAhead session.now.trail)) }
 {
     let debugger = session.debugger();
-    let _ = debugger.core();
+    debugger.state_is_reached();
     numbered_run(alloc, debugger, number)
 }
 
@@ -474,7 +474,7 @@ fn doing_in(session: &Session<'_>, word: Word) -> Doing
     ensures { result ≡ spec.doing_in session.now word }
 {
     let debugger = session.debugger();
-    let _ = debugger.core();
+    debugger.state_is_reached();
     doing_of(debugger, word)
 }
 

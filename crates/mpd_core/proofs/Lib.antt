@@ -1,4 +1,5 @@
 pub mod StepLemmas
+pub mod SteppedLemmas
 pub mod RankLemmas
 pub mod RangeLemmas
 pub mod RoomLemmas

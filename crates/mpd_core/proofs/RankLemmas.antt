@@ -19,7 +19,7 @@ use Rattle.mpd_rank.specs.Records.{local_record, wake_record}
 use Rattle.mpd_core.specs.Views.{ranks_in, world_in, numbers_in, writes_in, Holds, HasTags}
 use Rattle.mpd_core.specs.OneRank.{ran_on, local_on}
 use Rattle.mpd_core.specs.Records.{local_record_at, wake_record_at}
-use Rattle.mpd_core.proofs.RoomLemmas.{no_room_with, room_kept, room_taken, room_spared}
+use Rattle.mpd_core.proofs.RoomLemmas.{room_kept, room_taken, room_spared}
 
 pub length-ranks_in : (s : Program) (vs : List RankView) → length (ranks_in s vs) ≡ length vs
 length-ranks_in s vs = length-map vs (rank_of s)
@@ -266,7 +266,7 @@ ended_not s (u ∷ vs) (suc i) v total h read e so_far = ended_not s vs i v tota
 
 pub ruleset ending = (ended_on, ended_not)
 
-pub ruleset at_rank = (on_board, held_set, next_some, next_none, none_on, recorded_ok, numbers_set, writes_set, woke_read, no_room_with, room_kept, room_taken, room_spared, put_back_read, update_read, stays_read, wake_back)
+pub ruleset at_rank = (numbers_set, writes_set, woke_read, room_kept, room_taken, room_spared, put_back_read, update_read, wake_back)
 
 pub ruleset reading = (slice_get-ranks_in)
 

@@ -4,6 +4,7 @@ pub mod OneRank
 pub mod Steps
 pub mod Undone
 pub mod Records
+pub mod Stepped
 pub mod Listed
 pub mod Looks
 pub mod Writes

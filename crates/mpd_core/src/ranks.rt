@@ -1,28 +1,26 @@
 //! One of the ranks is changed, or all of them.
 
-ghost use Rattle.std.specs.Prelude.{◌≡◌, ◌↔◌, ◌<◌, ◌≤◌, ◌+◌, ℕ, min, length, map, slice_get, replicate, vec_len, IfOk, IfSome, IfNone, IsSome, OnOk, OnErr, IsErrOf, Some, None};
+ghost use Rattle.std.specs.Prelude.{◌≡◌, ◌<◌, ◌≤◌, ◌+◌, ℕ, length, map, slice_get, replicate, vec_len, IfOk, IfSome, IfNone, IsSome, OnOk, OnErr, Some};
 ghost use Rattle.std.specs.Option.{option_map};
 ghost use Rattle.std.specs.List.{list_all, range_with_len};
 ghost use Rattle.mpd_model.specs.Program.{Program};
 ghost use Rattle.mpd_model.specs.World.{calls_of, start_rank};
-ghost use Rattle.mpd_model.specs.Next.{HasReceiver, next, with_issued, update_at, woken_rank};
+ghost use Rattle.mpd_model.specs.Next.{HasReceiver, with_issued, update_at, woken_rank};
 ghost use Rattle.mpd_model.specs.Outcomes.{has_ended};
 ghost use Rattle.mpd_match.specs.Changes.{without_last_call};
 ghost use Rattle.mpd_rank.specs.Views.{rank_of};
 ghost use Rattle.mpd_rank.specs.Undone.{undone_rank, unwoken};
-ghost use Rattle.mpd_rank.specs.Records.{local_record};
-ghost use Rattle.mpd_core.specs.Views.{ranks_in, world_in, numbers_in, room_in, writes_in, acting, Holds, HasTags};
+ghost use Rattle.mpd_core.specs.Views.{ranks_in, numbers_in, room_in, writes_in, acting, Holds, HasTags};
 ghost use Rattle.mpd_rank.specs.Plans.{HasTag};
-ghost use Rattle.mpd_core.specs.OneRank.{local_on, CanUnissueIf};
-ghost use Rattle.mpd_core.specs.Records.{local_record_at, wake_record_at};
-ghost use Rattle.mpd_core.specs.Undone.{unissued, CanUnissue};
+ghost use Rattle.mpd_core.specs.OneRank.{CanUnissueIf};
+ghost use Rattle.mpd_core.specs.Records.{wake_record_at};
+ghost use Rattle.mpd_core.specs.Stepped.{RankStepped, RanksStepped, Spent, Wrote};
 
 use crate::fault::StepFault;
 use mpd_code::code::Code;
 use mpd_match::board::Board;
 use mpd_model::call::{Activity, Call};
 use mpd_model::limits::RANKS_MAX;
-use mpd_model::step::Step;
 use mpd_rank::change::{Cells, LocalRecord, WakeRecord};
 use mpd_rank::rank::RankState;
 use std::alloc::{AllocError, Global};
@@ -102,23 +100,11 @@ fn step_call(
     requires rank { state.old.rank < length board.old.board.calls }
     requires ranks { length board.old.board.calls ≡ code.now.program.ranks }
     requires room { 1 ≤ state.old.room }
-    ensures ok { OnOk result (local_on code.now.program board.old.board state.old ≡ Some (rank_of code.now.program state.new, board.new.board)) }
-    ensures recorded { IfOk result (λ done. local_record state.old.rank code.now.program.ranks (rank_of code.now.program state.old) ≡ Some done) }
-    ensures back { IfOk result (λ done. undone_rank code.now.program (rank_of code.now.program state.new) done ≡ rank_of code.now.program state.old) }
-    ensures board_back { IfOk result (λ done. unissued board.new.board state.old.rank done.change ≡ board.old.board) }
-    ensures can { IfOk result (λ done. CanUnissue board.new.board state.old.rank done.change) }
-    ensures not_enabled { IsErrOf result StepFault.NotEnabled ↔ (local_on code.now.program board.old.board state.old ≡ None) }
-    ensures memory { IsErrOf result StepFault.Memory → board.old.room ≡ 0 }
-    ensures err { OnErr result (rank_of code.now.program state.new ≡ rank_of code.now.program state.old) }
-    ensures err_board { OnErr result (board.new.board ≡ board.old.board) }
+    ensures stepped { RankStepped code.now.program state.old board.old state.new board.new result }
+    ensures room { Spent state.old.room state.new.room result }
+    ensures board_room { Spent board.old.room board.new.room result }
+    ensures writes { Wrote (state.old.writes + board.old.writes) (state.new.writes + board.new.writes) result }
     ensures number { state.new.rank ≡ state.old.rank }
-    ensures room_left { state.old.room ≤ state.new.room + 1 }
-    ensures board_room { board.old.room ≤ board.new.room + 1 }
-    ensures err_room { OnErr result (state.old.room ≤ state.new.room) }
-    ensures err_board_room { OnErr result (board.old.room ≤ board.new.room) }
-    ensures rises { OnOk result (state.old.writes + board.old.writes + 1 ≤ state.new.writes + board.new.writes) }
-    ensures few { state.new.writes + board.new.writes ≤ state.old.writes + board.old.writes + 16 }
-    ensures unwritten { OnErr result (state.new.writes + board.new.writes ≡ state.old.writes + board.old.writes) }
     ensures ranks { length board.new.board.calls ≡ length board.old.board.calls }
     ensures tags { HasTags board.old.board → HasTags board.new.board }
 {
@@ -142,23 +128,11 @@ fn step_rank(
 ) -> Result<LocalRecord, StepFault>
     requires rank { state.old.rank < length board.old.board.calls }
     requires ranks { length board.old.board.calls ≡ code.now.program.ranks }
-    ensures ok { OnOk result (local_on code.now.program board.old.board state.old ≡ Some (rank_of code.now.program state.new, board.new.board)) }
-    ensures recorded { IfOk result (λ done. local_record state.old.rank code.now.program.ranks (rank_of code.now.program state.old) ≡ Some done) }
-    ensures back { IfOk result (λ done. undone_rank code.now.program (rank_of code.now.program state.new) done ≡ rank_of code.now.program state.old) }
-    ensures board_back { IfOk result (λ done. unissued board.new.board state.old.rank done.change ≡ board.old.board) }
-    ensures can { IfOk result (λ done. CanUnissue board.new.board state.old.rank done.change) }
-    ensures not_enabled { IsErrOf result StepFault.NotEnabled ↔ (local_on code.now.program board.old.board state.old ≡ None) }
-    ensures memory { IsErrOf result StepFault.Memory → min state.old.room board.old.room ≡ 0 }
-    ensures err { OnErr result (rank_of code.now.program state.new ≡ rank_of code.now.program state.old) }
-    ensures err_board { OnErr result (board.new.board ≡ board.old.board) }
+    ensures stepped { RankStepped code.now.program state.old board.old state.new board.new result }
+    ensures room { Spent state.old.room state.new.room result }
+    ensures board_room { Spent board.old.room board.new.room result }
+    ensures writes { Wrote (state.old.writes + board.old.writes) (state.new.writes + board.new.writes) result }
     ensures number { state.new.rank ≡ state.old.rank }
-    ensures room_left { state.old.room ≤ state.new.room + 1 }
-    ensures board_room { board.old.room ≤ board.new.room + 1 }
-    ensures err_room { OnErr result (state.old.room ≤ state.new.room) }
-    ensures err_board_room { OnErr result (board.old.room ≤ board.new.room) }
-    ensures rises { OnOk result (state.old.writes + board.old.writes + 1 ≤ state.new.writes + board.new.writes) }
-    ensures few { state.new.writes + board.new.writes ≤ state.old.writes + board.old.writes + 16 }
-    ensures unwritten { OnErr result (state.new.writes + board.new.writes ≡ state.old.writes + board.old.writes) }
     ensures ranks { length board.new.board.calls ≡ length board.old.board.calls }
     ensures tags { HasTags board.old.board → HasTags board.new.board }
 {
@@ -185,22 +159,11 @@ pub(crate) fn step_one(
 ) -> Result<LocalRecord, StepFault>
     requires within { rank < vec_len ranks.old }
     requires held { Holds code.now.program ranks.old.items board.old.board }
-    ensures ok { OnOk result (next (world_in code.now.program ranks.old.items board.old.board) (Step.Local rank) ≡ Some (world_in code.now.program ranks.new.items board.new.board)) }
-    ensures recorded { IfOk result (λ done. local_record_at (ranks_in code.now.program ranks.old.items) rank ≡ Some done) }
-    ensures back { IfOk result (λ done. update_at (ranks_in code.now.program ranks.new.items) rank (λ r. undone_rank code.now.program r done) ≡ ranks_in code.now.program ranks.old.items) }
-    ensures board_back { IfOk result (λ done. unissued board.new.board rank done.change ≡ board.old.board) }
-    ensures can { IfOk result (λ done. CanUnissue board.new.board rank done.change) }
-    ensures not_enabled { IsErrOf result StepFault.NotEnabled ↔ (next (world_in code.now.program ranks.old.items board.old.board) (Step.Local rank) ≡ None) }
-    ensures memory { IsErrOf result StepFault.Memory → room_in board.old.room ranks.old.items ≡ 0 }
-    ensures err { OnErr result (ranks_in code.now.program ranks.new.items ≡ ranks_in code.now.program ranks.old.items) }
-    ensures err_board { OnErr result (board.new.board ≡ board.old.board) }
+    ensures stepped { RanksStepped code.now.program rank ranks.old.items board.old ranks.new.items board.new result }
+    ensures room { Spent (room_in board.old.room ranks.old.items) (room_in board.new.room ranks.new.items) result }
+    ensures writes { Wrote (writes_in ranks.old.items + board.old.writes) (writes_in ranks.new.items + board.new.writes) result }
     ensures held { Holds code.now.program ranks.new.items board.new.board }
     ensures size { vec_len ranks.new ≡ vec_len ranks.old }
-    ensures room_left { room_in board.old.room ranks.old.items ≤ room_in board.new.room ranks.new.items + 1 }
-    ensures err_room { OnErr result (room_in board.old.room ranks.old.items ≤ room_in board.new.room ranks.new.items) }
-    ensures rises { OnOk result (writes_in ranks.old.items + board.old.writes + 1 ≤ writes_in ranks.new.items + board.new.writes) }
-    ensures few { writes_in ranks.new.items + board.new.writes ≤ writes_in ranks.old.items + board.old.writes + 16 }
-    ensures unwritten { OnErr result (writes_in ranks.new.items + board.new.writes ≡ writes_in ranks.old.items + board.old.writes) }
 {
     let state = &mut ranks[rank];
     step_rank(code, state, board)

@@ -57,7 +57,7 @@ pub fn explain(
     ensures reached { IsReached (standing_of debugger.new) }
     ensures memory { OnErr result (IsTrue (is_bad leaf.now.ending)) }
 {
-    let _ = debugger.core();
+    debugger.state_is_reached();
     if !leaf.is_bad() {
         return Ok(String::new(alloc));
     }
@@ -84,7 +84,7 @@ pub fn explain_all(
     ensures reached { IsReached (standing_of debugger.new) }
     ensures memory { OnErr result (0 < length report.now.leaves.items) }
 {
-    let _ = debugger.core();
+    debugger.state_is_reached();
     let mut texts = Vec::new(alloc);
     for leaf in &report.leaves {
         push_text(&mut texts, explain(alloc, debugger, leaf, fuel)?)?;

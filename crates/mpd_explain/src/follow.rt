@@ -26,7 +26,7 @@ fn take_step(debugger: &mut Debugger<'_>, base: usize, step: Step) -> Result<(),
     ensures depth { OnOk result (debugger.new.trail.depth ≡ debugger.old.trail.depth + 1) }
     ensures stays { Stays base (standing_of debugger.old) (standing_of debugger.new) }
 {
-    let _ = debugger.core();
+    debugger.state_is_reached();
     debugger.forward(step)
 }
 
@@ -103,7 +103,7 @@ pub(crate) fn follow(
     ensures leads { OnOk result (fold debugger.old.world (steps_by (run_at fuel choices.now debugger.old.world)) ≡ Some debugger.new.world) }
     ensures stays { Stays base (standing_of debugger.old) (standing_of debugger.new) }
 {
-    let _ = debugger.core();
+    debugger.state_is_reached();
     let mut left = choices;
     for used in 0..fuel {
         let Some(taken) = follow_one(alloc, debugger, base, fuel - used, left)? else {

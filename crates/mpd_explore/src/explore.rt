@@ -128,7 +128,7 @@ fn witness_here(
 ) -> Result<String, AllocError>
     ensures { IfOk result (λ t. string_bytes t ≡ behind_number (witness_by (kept debugger.now.trail) ending.now)) }
 {
-    let _ = debugger.core();
+    debugger.state_is_reached();
     let depth = debugger.depth();
     let (steps, _) = debugger.steps().split_at(depth);
     witness_text(alloc, steps, ending)
@@ -334,7 +334,7 @@ pub fn explore_asleep<W: Watch>(
     ensures memory { OnErr result ((0 < limits.runs) ⊎ (0 < length asleep.now)) }
 {
     decisions_can_be_followed();
-    let _ = debugger.core();
+    debugger.state_is_reached();
     let base = debugger.depth();
     let bounds = Bounds {
         base,

@@ -99,7 +99,7 @@ fn follow(
 fn steps_here(alloc: Global, debugger: &Debugger<'_>) -> Result<StepList, AllocError>
     ensures { IfOk result (λ steps. steps ≡ kept debugger.now.trail) }
 {
-    let _ = debugger.core();
+    debugger.state_is_reached();
     let depth = debugger.depth();
     let (steps, _) = debugger.steps().split_at(depth);
     let items = Vec::from_slice(alloc, steps)?;
@@ -142,7 +142,7 @@ pub fn witness_of(
     ensures reached { IsReached (standing_of debugger.new) }
     ensures memory { OnErr result (IsDeadlock leaf.now.ending) }
 {
-    let _ = debugger.core();
+    debugger.state_is_reached();
     let Ending::Ended(Outcome::Deadlock(calls)) = &leaf.ending else {
         return Ok(None);
     };

@@ -162,7 +162,7 @@ fn take_all(debugger: &mut Debugger<'_>, marks: &mut Vec<Mark>) -> Result<(), Al
     requires { debugger.old.trail.depth ≡ 0 }
     ensures { OnOk result (marks.new.items ≡ marks.old.items ++ spec.marks_behind debugger.old.world 0 debugger.old.trail.steps) }
 {
-    let _ = debugger.core();
+    debugger.state_is_reached();
     let mut row = 0;
     let count = debugger.steps().len();
     for place in 0..count {

@@ -121,7 +121,7 @@ fn have_run(
     ensures world { debugger.new.world ≡ debugger.old.world }
     ensures reached { IsReached (standing_of debugger.new) }
 {
-    let _ = debugger.core();
+    debugger.state_is_reached();
     for place in 0..pieces.len() {
         let is_run = has_run(alloc, debugger, &pieces[place], limits)?;
         if is_run {
@@ -150,7 +150,7 @@ pub fn is_left(
     ensures reached { IsReached (standing_of debugger.new) }
 {
     decisions_can_be_followed();
-    let _ = debugger.core();
+    debugger.state_is_reached();
     if !limits.ends {
         return Ok(place < pieces.len());
     }
@@ -184,7 +184,7 @@ fn explore_pieces<W: Watch>(
     ensures reached { IsReached (standing_of debugger.new) }
 {
     decisions_can_be_followed();
-    let _ = debugger.core();
+    debugger.state_is_reached();
     let mut report = Report {
         leaves: Vec::new(alloc),
         more: false,

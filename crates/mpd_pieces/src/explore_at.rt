@@ -122,7 +122,7 @@ pub fn explore_at<W: Watch>(
     ensures reached { IsReached (standing_of debugger.new) }
     ensures memory { OnErr result ((0 < limits.runs) ⊎ (0 < length choices.now)) }
 {
-    let _ = debugger.core();
+    debugger.state_is_reached();
     let base = debugger.depth();
     let found = explore_behind(alloc, debugger, choices, limits, watch);
     put_back(debugger, base);

@@ -44,7 +44,7 @@ fn take_choice(
     ensures deeper { OnOk result (debugger.new.trail.depth ≡ debugger.old.trail.depth + 1) }
     ensures beyond { Beyond (standing_of debugger.old) (standing_of debugger.new) }
 {
-    let _ = debugger.core();
+    debugger.state_is_reached();
     let choice = left[0];
     let step = candidates.items[choice];
     sleep.take(ends, &candidates.items, choice, step)?;
@@ -100,7 +100,7 @@ pub(crate) fn follow(
     ensures still { OnOk result (length choices.now ≡ 0 → sleep.new ≡ sleep.old) }
     ensures memory { OnErr result (0 < length choices.now) }
 {
-    let _ = debugger.core();
+    debugger.state_is_reached();
     let begun = debugger.depth();
     let mut left = choices;
     for depth in begun..limit {

@@ -95,7 +95,7 @@ fn look_ahead(alloc: Global, debugger: &mut Debugger<'_>, limit: usize) -> Resul
     ensures counted { IfOk result (λ m. pieces 1 (limit - debugger.old.trail.depth) debugger.old.world ≡ counted m) }
     ensures beyond { Beyond (standing_of debugger.old) (standing_of debugger.new) }
 {
-    let _ = debugger.core();
+    debugger.state_is_reached();
     let begun = debugger.depth();
     for depth in begun..limit {
         if let Some(count) = look(alloc, debugger)? {
@@ -139,7 +139,7 @@ fn candidates_behind(
     ensures world { debugger.new.world ≡ debugger.old.world }
     ensures reached { IsReached (standing_of debugger.new) }
 {
-    let _ = debugger.core();
+    debugger.state_is_reached();
     let base = debugger.depth();
     let limit = base + fuel;
     let found = look_behind(alloc, debugger, limit, choices);
@@ -279,7 +279,7 @@ fn grown(
     ensures world { debugger.new.world ≡ debugger.old.world }
     ensures reached { IsReached (standing_of debugger.new) }
 {
-    let _ = debugger.core();
+    debugger.state_is_reached();
     let mut made = Vec::new(alloc);
     let mut grows = false;
     for piece in from {
@@ -325,7 +325,7 @@ pub fn split(
     ensures reached { IsReached (standing_of debugger.new) }
 {
     decisions_can_be_followed();
-    let _ = debugger.core();
+    debugger.state_is_reached();
     let mut made = first_piece(alloc)?;
     for choice in 0..choices {
         let level = match grown(alloc, debugger, fuel, &made) {

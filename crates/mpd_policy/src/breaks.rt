@@ -44,11 +44,19 @@ impl Breaks {
     pub fn get(&self, number: usize) -> Option<Break>
         ensures { result ≡ break_at self.now number }
     {
-        let _ = self.bound();
+        self.numbers_have_places();
         if number >= BREAKS_MAX {
             return None;
         }
         self.places[number]
+    }
+
+    /// The law of places, which holds at all times: each number below `BREAKS_MAX` has one. It does nothing.
+    #[inline(always)]
+    fn numbers_have_places(&self)
+        ensures size { length self.now ≡ BREAKS_MAX }
+    {
+        let _ = &self.places;
     }
 
     /// A number from which on every place is free.
@@ -89,7 +97,7 @@ impl Breaks {
         ensures number { result ≡ lowest_free self.now }
         ensures within { IfSome result (λ n. n < BREAKS_MAX) }
     {
-        let _ = self.bound();
+        self.numbers_have_places();
         let count = BREAKS_MAX;
         for number in 0..count {
             if self.get(number).is_none() {
@@ -129,7 +137,7 @@ impl Breaks {
         ensures found { result ≡ is_some (break_at self.old number) }
         ensures after { self.new ≡ slice_set self.old number None }
     {
-        let _ = self.bound();
+        self.numbers_have_places();
         if number >= BREAKS_MAX {
             return false;
         }

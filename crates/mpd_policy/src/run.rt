@@ -99,7 +99,7 @@ fn go(debugger: &mut Debugger<'_>, breaks: &Breaks, max: usize) -> Result<Stop, 
     ensures went { Went breaks.now max (standing_of debugger.old) (standing_of debugger.new) result }
     ensures reached { IsReached (standing_of debugger.new) }
 {
-    let _ = debugger.core();
+    debugger.state_is_reached();
     for made in 0..max {
         let step = match look_ahead(debugger) {
             Ahead::Halt(cause) => return Ok(Stop { steps: made, cause }),
@@ -128,7 +128,7 @@ fn set_aside(alloc: Global, debugger: &Debugger<'_>) -> Result<Option<Vec<Step>>
     ensures none { IfOk result (λ saved. IfNone saved (length debugger.now.trail.steps ≡ debugger.now.trail.depth)) }
     ensures memory { OnErr result (debugger.now.trail.depth < length debugger.now.trail.steps) }
 {
-    let _ = debugger.core();
+    debugger.state_is_reached();
     let steps = debugger.steps();
     if debugger.depth() == steps.len() {
         return Ok(None);
@@ -172,7 +172,7 @@ pub fn run(
     ensures err_world { OnErr result (debugger.new.world ≡ debugger.old.world) }
     ensures memory { OnErr result ((debugger.old.trail.depth < length debugger.old.trail.steps) ⊎ (0 < length (ran debugger.old.trail.program breaks.now max debugger.old.trail.depth debugger.old.world).steps)) }
 {
-    let _ = debugger.core();
+    debugger.state_is_reached();
     let depth = debugger.depth();
     let saved = set_aside(alloc, debugger)?;
     match go(debugger, breaks, max) {
@@ -222,7 +222,7 @@ pub fn run_back(debugger: &mut Debugger<'_>, breaks: &Breaks) -> Stop
     ensures trail { debugger.new.trail ≡ gone_back debugger.old.trail (debugger.old.trail.depth - result.steps) }
     ensures reached { IsReached (standing_of debugger.new) }
 {
-    let _ = debugger.core();
+    debugger.state_is_reached();
     let depth = debugger.depth();
     for undone in 0..depth {
         let mark = take_back(debugger, breaks);

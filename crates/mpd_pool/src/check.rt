@@ -250,7 +250,7 @@ pub fn check<G: Gate, R: Threads + Wait + Sync>(
     ensures world { debugger.new.world ≡ debugger.old.world }
     ensures reached { IsReached (standing_of debugger.new) }
 {
-    let _ = debugger.core();
+    debugger.state_is_reached();
     if workers == 0 || workers > WORKERS_MAX {
         return Err(PoolFault::BadWorkers);
     }

@@ -37,7 +37,7 @@ fn draw_choice<R: Rng>(
     ensures deeper { OnOk result (debugger.new.trail.depth ≡ debugger.old.trail.depth + 1) }
     ensures beyond { Beyond (standing_of debugger.old) (standing_of debugger.new) }
 {
-    let _ = debugger.core();
+    debugger.state_is_reached();
     let index = draw_index(random, candidates.items.len());
     let step = candidates.items[index];
     choices.push(index)?;
@@ -94,7 +94,7 @@ fn draw_run<R: Rng>(
     ensures drew { IfOk result (λ end. Drew fuel (standing_of debugger.old) (R.stream random.old) choices.new.items end (standing_of debugger.new) (R.stream random.new)) }
     ensures beyond { Beyond (standing_of debugger.old) (standing_of debugger.new) }
 {
-    let _ = debugger.core();
+    debugger.state_is_reached();
     for turn in 0..fuel {
         if let Some(ending) = go_on(alloc, debugger, random, choices)? {
             return Ok(ending);

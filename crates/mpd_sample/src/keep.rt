@@ -79,7 +79,7 @@ fn witness_here(
 ) -> Result<String, AllocError>
     ensures { IfOk result (λ t. string_bytes t ≡ behind_number (witness_by (kept debugger.now.trail) ending.now)) }
 {
-    let _ = debugger.core();
+    debugger.state_is_reached();
     let depth = debugger.depth();
     let (steps, _) = debugger.steps().split_at(depth);
     witness_text(alloc, steps, ending)

@@ -78,7 +78,7 @@ fn add_run<R: Rng>(
     ensures world { debugger.new.world ≡ debugger.old.world }
     ensures reached { IsReached (standing_of debugger.new) }
 {
-    let _ = debugger.core();
+    debugger.state_is_reached();
     let base = debugger.depth();
     let added = draw_into(alloc, debugger, limits, random, report);
     put_back(debugger, base);
@@ -104,7 +104,7 @@ fn gather<R: Rng, W: Watch>(
     ensures reached { IsReached (standing_of debugger.new) }
     ensures memory { OnErr result (0 < limits.runs) }
 {
-    let _ = debugger.core();
+    debugger.state_is_reached();
     for turn in 0..limits.runs {
         let is_last = add_run(alloc, debugger, limits, random, report)?;
         watch.leaf(turn + 1);
@@ -203,7 +203,7 @@ pub fn sample<W: Watch>(
     ensures memory { OnErr result (0 < limits.runs) }
 {
     decisions_can_be_followed();
-    let _ = debugger.core();
+    debugger.state_is_reached();
     let mut report = collect(alloc, debugger, seed, limits, watch)?;
     match has_more(alloc, debugger, limits, report.leaves.len()) {
         Ok(more) => {

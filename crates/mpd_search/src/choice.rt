@@ -25,7 +25,7 @@ fn is_open(alloc: Global, core: &Core<'_>) -> Result<bool, AllocError>
 fn undo_to_choice(alloc: Global, debugger: &mut Debugger<'_>) -> Result<Option<usize>, AllocError>
     ensures { IfOk result (λ o. o ≡ spec.last_choice debugger.old.trail) }
 {
-    let _ = debugger.core();
+    debugger.state_is_reached();
     let depth = debugger.depth();
     for undone in 0..depth {
         let _ = debugger.undo();
@@ -43,7 +43,7 @@ fn undo_to_choice(alloc: Global, debugger: &mut Debugger<'_>) -> Result<Option<u
 pub fn last_choice(alloc: Global, debugger: &Debugger<'_>) -> Result<Option<usize>, AllocError>
     ensures { IfOk result (λ o. o ≡ spec.last_choice debugger.now.trail) }
 {
-    let _ = debugger.core();
+    debugger.state_is_reached();
     let mut copy = debugger.copy()?;
     let found = undo_to_choice(alloc, &mut copy);
     drop(copy);

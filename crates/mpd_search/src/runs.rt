@@ -67,7 +67,7 @@ fn runs_from(alloc: Global, debugger: &Debugger<'_>, runs: usize) -> Result<Repo
     ensures leaves { IfOk result (λ r. r.leaves.items ≡ spec.first_runs runs false (spec.fuel_at debugger.now.trail.depth) debugger.now.world) }
     ensures more { IfOk result (λ r. r.more ≡ spec.are_more runs false (spec.fuel_at debugger.now.trail.depth) debugger.now.world) }
 {
-    let _ = debugger.core();
+    debugger.state_is_reached();
     let fuel = fuel_at(debugger.depth());
     let mut copy = debugger.copy()?;
     first_runs(alloc, &mut copy, runs, fuel, false, false)

@@ -75,7 +75,7 @@ fn copy_ending(alloc: Global, ending: &Ending) -> Result<Ending, AllocError>
 fn joined(alloc: Global, debugger: &Debugger<'_>, more: StepList) -> Result<StepList, AllocError>
     ensures { IfOk result (λ steps. steps ≡ kept debugger.now.trail ++ more) }
 {
-    let _ = debugger.core();
+    debugger.state_is_reached();
     let depth = debugger.depth();
     let (steps, _) = debugger.steps().split_at(depth);
     let mut items = Vec::from_slice(alloc, steps)?;
@@ -119,7 +119,7 @@ fn whole_run(
     ensures lies { IfOk result (LiesAhead debugger.old.trail) }
 {
     decisions_can_be_followed();
-    let _ = debugger.core();
+    debugger.state_is_reached();
     let ending = copy_ending(alloc, &leaf.ending)?;
     let steps = steps_of(alloc, debugger, fuel, leaf)?;
     Ok(WholeRun { steps, ending })
@@ -221,7 +221,7 @@ pub fn seek(alloc: Global, debugger: &Debugger<'_>, way: Way) -> Result<Search, 
     ensures none { IfOk result (λ s. s.found ≡ None → runs.none_line way s.report.leaves.items s.report.more ≡ spec.nothing_line way debugger.now.trail debugger.now.world) }
     ensures lies { IfOk result (λ s. IfSome s.found (LiesAhead debugger.now.trail)) }
 {
-    let _ = debugger.core();
+    debugger.state_is_reached();
     let fuel = fuel_at(debugger.depth());
     let mut copy = debugger.copy()?;
     let report = look_twice(alloc, &mut copy, fuel, way)?;
@@ -269,7 +269,7 @@ pub fn numbered_run(
     if !is_number(number) {
         return Ok(None);
     }
-    let _ = debugger.core();
+    debugger.state_is_reached();
     let fuel = fuel_at(debugger.depth());
     let mut copy = debugger.copy()?;
     let report = first_runs(alloc, &mut copy, number, fuel, false, false)?;

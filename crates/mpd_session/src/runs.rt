@@ -67,7 +67,7 @@ pub fn report(
     ensures more { IfOk result (λ r. r.more ≡ nat_lt runs (length (map shown (walk fuel debugger.old.world)))) }
     ensures trail { debugger.new.trail ≡ debugger.old.trail }
 {
-    let _ = debugger.core();
+    debugger.state_is_reached();
     let limits = Limits {
         runs,
         fuel,

@@ -165,7 +165,7 @@ impl<'c> Session<'c> {
         ensures wants { OnErr result (may_want request.now.command ≡ true) }
         ensures current { OnErr result (is_current self.old.version request.now.at ≡ true) }
     {
-        let _ = self.debugger.core();
+        self.debugger.state_is_reached();
         let now = self.version;
         if !is_current(now, request.at) {
             return Ok(Reply::Refused(Refusal::Stale { now }));

@@ -166,7 +166,7 @@ pub fn redo(debugger: &mut Debugger<'_>, count: usize) -> Result<Effect, AllocEr
     if !is_within(1, STEPS_MAX, count) {
         return Ok(Effect::Refused(Refusal::BadNumber));
     }
-    let _ = debugger.core();
+    debugger.state_is_reached();
     let depth = debugger.depth();
     let undone = debugger.steps().len() - depth;
     if is_below(undone, count) {

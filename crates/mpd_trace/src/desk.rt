@@ -158,7 +158,7 @@ fn answer_other(debugger: &Debugger<'_>, out: &mut Vec<u8>)
     ensures replies { Replies out.old.items out.new.items (standing_of debugger.now) None (standing_of debugger.now) }
     ensures capacity { vec_capacity out.old ≤ vec_capacity out.new }
 {
-    let _ = debugger.core();
+    debugger.state_is_reached();
     refuse(out, BAD_WORD);
 }
 
@@ -192,7 +192,7 @@ fn answer_line(alloc: Global, debugger: &mut Debugger<'_>, line: &[u8], out: &mu
     ensures said { (text : List ℕ) × (out.new.items ≡ out.old.items ++ text) × AnswerOrMemory (standing_of debugger.old) line.now text (standing_of debugger.new) }
     ensures capacity { vec_capacity out.old ≤ vec_capacity out.new }
 {
-    let _ = debugger.core();
+    debugger.state_is_reached();
     if !has_word(line) {
         return;
     }
@@ -246,7 +246,7 @@ impl<'c> LineDesk for TraceDesk<'c> {
 
     #[tactic(auto, using(crate::proofs::DeskLemmas::refusing))]
     fn refuse_long(&mut self, out: &mut Vec<u8>) {
-        let _ = self.debugger.core();
+        self.debugger.state_is_reached();
         refuse(out, BAD_WORD)
     }
 }

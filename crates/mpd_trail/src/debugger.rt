@@ -329,6 +329,16 @@ impl<'c> Debugger<'c> {
         &self.core
     }
 
+    /// The law of where a debugger stands, which holds at all times: the steps not undone lead from the start to its state, and
+    /// the undone ones lead on from there. It does nothing.
+    #[inline(always)]
+    #[tactic(auto, using(crate::proofs::KeptLemmas::keeping))]
+    pub fn state_is_reached(&self)
+        ensures reached { IsReached (standing_of self.now) }
+    {
+        let _ = &self.core;
+    }
+
     /// Keeps room for one step, whatever it is. An `Err` is want of memory, and comes only where no such room was kept; where the
     /// debugger stands stays as it was.
     #[tactic(auto, using(crate::proofs::KeptLemmas::keeping))]
@@ -512,7 +522,7 @@ impl<'c> Debugger<'c> {
         ensures few { OnOk result (self.new.writes ≤ self.old.writes + most_writes_of self.old.trail.program.ranks (drop depth (kept self.old.trail))) }
         ensures unwritten { OnErr result (self.new.writes ≡ self.old.writes) }
     {
-        let _ = self.core();
+        self.state_is_reached();
         if depth > self.depth() {
             return Err(NotBefore);
         }

@@ -50,7 +50,7 @@ pub fn answer(debugger: &mut Debugger<'_>, command: Command) -> Reply
     ensures script { SameScript debugger.old.trail debugger.new.trail }
     ensures reached { IsReached (standing_of debugger.new) }
 {
-    let _ = debugger.core();
+    debugger.state_is_reached();
     match command {
         Command::Apply(step) => match debugger.apply(step) {
             Ok(()) => Reply::Done,
@@ -92,7 +92,7 @@ pub fn follow(
     ensures err_writes { OnErr result (debugger.new.writes ≡ debugger.old.writes) }
     ensures memory { OnErr result (0 < length commands.now) }
 {
-    let _ = debugger.core();
+    debugger.state_is_reached();
     let mut replies = Vec::with_capacity(alloc, commands.len())?;
     for command in commands {
         replies.push_reserved(answer(debugger, *command));

@@ -50,7 +50,7 @@ fn push_past(debugger: &mut Debugger<'_>, out: &mut String) -> Result<(), AllocE
 fn push_undone(debugger: &mut Debugger<'_>, out: &mut String) -> Result<(), AllocError>
     ensures { OnOk result (string_bytes out.new ≡ string_bytes out.old ++ past.past_lines debugger.old.trail.program debugger.old.world debugger.old.trail.depth (drop debugger.old.trail.depth debugger.old.trail.steps)) }
 {
-    let _ = debugger.core();
+    debugger.state_is_reached();
     let first = debugger.depth();
     let count = debugger.steps().len();
     for place in first..count {
@@ -120,7 +120,7 @@ fn push_each_word(out: &mut String, steps: &[Step]) -> Result<(), AllocError>
 pub fn push_words(debugger: &Debugger<'_>, out: &mut String) -> Result<(), AllocError>
     ensures { OnOk result (string_bytes out.new ≡ string_bytes out.old ++ past.words_text debugger.now.trail) }
 {
-    let _ = debugger.core();
+    debugger.state_is_reached();
     let depth = debugger.depth();
     push_each_word(out, &debugger.steps()[..depth])
 }

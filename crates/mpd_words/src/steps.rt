@@ -41,7 +41,7 @@ fn take_choice(
     ensures on { StepsOn limit place left.now (standing_of debugger.old) result (standing_of debugger.new) }
     ensures beyond { Beyond (standing_of debugger.old) (standing_of debugger.new) }
 {
-    let _ = debugger.core();
+    debugger.state_is_reached();
     let Some((choice, _)) = left.split_first() else {
         return Err(WordsFault::BadChoices(place));
     };
@@ -70,7 +70,7 @@ fn take_forced(
     ensures on { StepsOn limit place left.now (standing_of debugger.old) result (standing_of debugger.new) }
     ensures beyond { Beyond (standing_of debugger.old) (standing_of debugger.new) }
 {
-    let _ = debugger.core();
+    debugger.state_is_reached();
     match debugger.forward(step) {
         Ok(()) => Ok(Some(0)),
         Err(_) => Err(WordsFault::Memory),
@@ -128,7 +128,7 @@ fn follow(
     ensures on { GoesOn limit choices.now (standing_of debugger.old) result (standing_of debugger.new) }
     ensures beyond { Beyond (standing_of debugger.old) (standing_of debugger.new) }
 {
-    let _ = debugger.core();
+    debugger.state_is_reached();
     let begun = debugger.depth();
     let mut left = choices;
     let mut place = 0;
@@ -149,7 +149,7 @@ fn steps_behind(alloc: Global, debugger: &Debugger<'_>, base: usize) -> Result<S
     ensures steps { IfOk result (λ steps. steps ≡ drop base (kept debugger.now.trail)) }
     ensures memory { (place : ℕ) → result ≡ Err (WordsFault.BadChoices place) → ⊥ }
 {
-    let _ = debugger.core();
+    debugger.state_is_reached();
     let depth = debugger.depth();
     let (steps, _) = debugger.steps().split_at(depth);
     let (_, behind) = steps.split_at(base);
@@ -171,7 +171,7 @@ fn steps_from(
     ensures led { Led fuel choices.now debugger.old.world result }
     ensures beyond { Beyond (standing_of debugger.old) (standing_of debugger.new) }
 {
-    let _ = debugger.core();
+    debugger.state_is_reached();
     let base = debugger.depth();
     follow(alloc, debugger, base + fuel, choices)?;
     steps_behind(alloc, debugger, base)
@@ -195,7 +195,7 @@ pub fn steps_by_choices(
     ensures world { debugger.new.world ≡ debugger.old.world }
     ensures reached { IsReached (standing_of debugger.new) }
 {
-    let _ = debugger.core();
+    debugger.state_is_reached();
     let base = debugger.depth();
     let found = steps_from(alloc, debugger, choices, fuel);
     put_back(debugger, base);

@@ -9,4 +9,4 @@ pub returns-clause-text : goal.returns-clause-text
 returns-clause-text c =
     let d = c.args.debugger.now in
     let l = c.args.leaf.now in
-    if_ok c.retell-text.result (λ t h. h ∙ told_behind d.trail.program d.trail.mode (kept d.trail) (steps_by (run_at c.args.fuel l.choices d.world)) d.world l.ending c.core.ensures.reached.world) c.retell-text.ensures.text
+    if_ok c.retell-text.result (λ t h. h ∙ told_behind d.trail.program d.trail.mode (kept d.trail) (steps_by (run_at c.args.fuel l.choices d.world)) d.world l.ending c.state_is_reached.ensures.reached.world) c.retell-text.ensures.text

@@ -17,7 +17,7 @@ loop-place-init g c =
       good = λ h. ap any_bad c.new.ensures.items;
       trail = refl;
       world = refl;
-      reached = c.core.ensures.reached;
+      reached = c.state_is_reached.ensures.reached;
     }
 
 pub add_part-requires-clause-reaches : goal.add_part-requires-clause-reaches

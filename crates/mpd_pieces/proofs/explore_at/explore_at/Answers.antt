@@ -7,12 +7,12 @@ use Rattle.mpd_pieces.proofs.explore_at.explore_at.Goals as goal
 
 pub put_back-requires : goal.put_back-requires
 put_back-requires g c =
-    omega (arith, c.depth-base.ensures.value, beyond_depth (standing_of c.args.debugger.now) (standing_of c.explore_behind-found.new.debugger) c.core.ensures.reached c.explore_behind-found.ensures.beyond)
+    omega (arith, c.depth-base.ensures.value, beyond_depth (standing_of c.args.debugger.now) (standing_of c.explore_behind-found.new.debugger) c.state_is_reached.ensures.reached c.explore_behind-found.ensures.beyond)
 
 pub returns-clause-trail : goal.returns-clause-trail
 returns-clause-trail g c =
-    trail_found (standing_of c.args.debugger.now) (standing_of c.explore_behind-found.new.debugger) (standing_of c.put_back.new.debugger) c.core.ensures.reached c.requires.clean c.explore_behind-found.ensures.beyond (rw c.depth-base.ensures.value at c.put_back.ensures.trail)
+    trail_found (standing_of c.args.debugger.now) (standing_of c.explore_behind-found.new.debugger) (standing_of c.put_back.new.debugger) c.state_is_reached.ensures.reached c.requires.clean c.explore_behind-found.ensures.beyond (rw c.depth-base.ensures.value at c.put_back.ensures.trail)
 
 pub returns-clause-world : goal.returns-clause-world
 returns-clause-world g c =
-    world_found (standing_of c.args.debugger.now) (standing_of c.put_back.new.debugger) c.core.ensures.reached c.put_back.ensures.reached (returns-clause-trail g c)
+    world_found (standing_of c.args.debugger.now) (standing_of c.put_back.new.debugger) c.state_is_reached.ensures.reached c.put_back.ensures.reached (returns-clause-trail g c)

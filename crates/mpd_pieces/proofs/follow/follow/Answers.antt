@@ -8,7 +8,7 @@ use Rattle.mpd_pieces.proofs.follow.follow.Goals as goal
 pub loop-depth-init : goal.loop-depth-init
 loop-depth-init c =
     let d = standing_of c.args.debugger.now in
-    record { depth = sym c.depth-begun.ensures.value; going = going_none c.args.ends (asleep_there c.args.sleep.now) (c.args.limit - d.trail.depth) c.args.choices.now d c.core.ensures.reached c.requires.reaches; still = λ h. refl }
+    record { depth = sym c.depth-begun.ensures.value; going = going_none c.args.ends (asleep_there c.args.sleep.now) (c.args.limit - d.trail.depth) c.args.choices.now d c.state_is_reached.ensures.reached c.requires.reaches; still = λ h. refl }
 
 pub loop-depth-preserved : goal.loop-depth-preserved
 loop-depth-preserved c =

@@ -14,7 +14,7 @@ loop-choice-init c =
       few = omega (arith, ap length c.in_ok-made.ensures.ok);
       trail = refl;
       world = refl;
-      reached = c.core.ensures.reached;
+      reached = c.state_is_reached.ensures.reached;
     }
 
 pub grown-requires-clause-reaches : goal.grown-requires-clause-reaches

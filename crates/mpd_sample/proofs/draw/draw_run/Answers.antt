@@ -9,7 +9,7 @@ loop-turn-init g c =
     record {
       depth = omega arith;
       drawing = drawing_left c.args.fuel c.args.fuel (c.args.fuel - 0) d d (g.R.Rng.stream c.args.random.now) _ c.args.choices.now.items _ (omega arith) (drawing_none c.args.fuel d (g.R.Rng.stream c.args.random.now) c.args.choices.now.items);
-      beyond = beyond_same d d refl c.core.ensures.reached;
+      beyond = beyond_same d d refl c.state_is_reached.ensures.reached;
     }
 
 pub returns-in-Some-clause-drew : goal.returns-in-Some-clause-drew

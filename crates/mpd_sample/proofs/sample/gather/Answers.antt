@@ -12,7 +12,7 @@ loop-turn-init g c =
     record {
       trail = refl;
       world = refl;
-      reached = c.core.ensures.reached;
+      reached = c.state_is_reached.ensures.reached;
       sampling = sampling_left c.args.limits (kept d.trail) d.world s 0 c.args.limits.runs (c.args.limits.runs - 0) s _ _ (omega arith) (sampling_none c.args.limits (kept d.trail) d.world s c.args.report.now.leaves.items _ c.requires.none_told (ap (map string_bytes) c.requires.none_written));
     }
 

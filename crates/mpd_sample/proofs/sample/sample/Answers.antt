@@ -25,7 +25,7 @@ pub returns-in-Ok-clause-witnesses : goal.returns-in-Ok-clause-witnesses
 returns-in-Ok-clause-witnesses g c =
     let d = standing_of c.args.debugger.now in
     let lists : List (List ℕ) = draws c.args.limits.until_bad c.args.limits.fuel c.args.limits.runs d.world (seeded c.args.seed) in
-    sample_witnessed d.trail.program d.trail.mode (kept d.trail) c.args.limits.fuel d.world lists c.in_ok-report.report.leaves.items c.decisions_can_be_followed.ensures.follow c.core.ensures.reached.world c.in_ok-report.ensures.samples.leaves_are
+    sample_witnessed d.trail.program d.trail.mode (kept d.trail) c.args.limits.fuel d.world lists c.in_ok-report.report.leaves.items c.decisions_can_be_followed.ensures.follow c.state_is_reached.ensures.reached.world c.in_ok-report.ensures.samples.leaves_are
 
 pub returns-in-Ok-clause-drawn : goal.returns-in-Ok-clause-drawn
 returns-in-Ok-clause-drawn g c =

@@ -5,7 +5,7 @@ use Rattle.mpd_policy.proofs.NumberLemmas.{number_begins, number_now, number_ove
 use Rattle.mpd_policy.proofs.breaks.Breaks.lowest_free.Goals as goal
 
 pub loop-number-init : goal.loop-number-init
-loop-number-init c = number_begins (λ n. is_none (break_at c.args.self.now n)) BREAKS_MAX _ c.bound.ensures.size
+loop-number-init c = number_begins (λ n. is_none (break_at c.args.self.now n)) BREAKS_MAX _ c.numbers_have_places.ensures.size
 
 pub returns-then-is_none-clause-number : goal.returns-then-is_none-clause-number
 returns-then-is_none-clause-number c =

@@ -7,6 +7,6 @@ use Rattle.mpd_session.proofs.session.Session.answer.Goals as goal
 pub returns-clause-held : goal.returns-clause-held
 returns-clause-held c =
     let now : is_current c.self.inside.version c.args.request.now.at ≡ true = search rules in
-    current_1 c.self.inside.debugger.trail c.self.inside.breaks c.self.inside.version c.self.inside.debugger.world c.args.request.now c.core.ensures.reached now
+    current_1 c.self.inside.debugger.trail c.self.inside.breaks c.self.inside.version c.self.inside.debugger.world c.args.request.now c.state_is_reached.ensures.reached now
     c.in_ok-effect.effect c.carry_out.new.debugger.trail c.carry_out.new.breaks c.count.new.version c.in_ok-effect.ensures.effect c.in_ok-effect.ensures.trail c.in_ok-effect.ensures.breaks c.count.ensures
     ∙ ap (λ (s : Held). (respond s c.args.request.now).1) c.self.view_is

@@ -21,5 +21,5 @@ loop-self-preserved c =
       reached = c.undo.ensures.reached;
       room = omega (arith, i.room, c.undo.ensures.room_left);
       rises = search rules;
-      few = back_few s m n c.core.ensures.reached i.trail back some i.most (search rules) i.few;
+      few = back_few s m n c.state_is_reached.ensures.reached i.trail back some i.most (search rules) i.few;
     }
