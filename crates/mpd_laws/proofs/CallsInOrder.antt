@@ -1,6 +1,6 @@
 -- In every world that steps lead to, calls are in order.
 use Rattle.std.proofs.Common.{◌≡◌, ℕ, zero, suc, ◌+◌, ◌<◌, Bool, true, false, cond, ◌&&◌, ◌==◌, nat_lt, Option, Some, None, is_some, option_and_then, List, [], ◌∷◌, length, replicate, slice_get, refl, sym, ap, subst, ◌∙◌}
-use Rattle.std.proofs.lemmas.Bool.{eqb-true, ltb-true}
+use Rattle.std.proofs.lemmas.Bool.{eqb-true, ltb-true, and_parts}
 use Rattle.mpd_model.specs.declared.step.CallId.{CallId}
 use Rattle.mpd_model.specs.declared.step.Step.{Step}
 use Rattle.mpd_model.specs.declared.step.Step.TheVariants.{Local, Match, Wake, WakeAny, Release}
@@ -12,7 +12,6 @@ use Rattle.mpd_model.specs.Program.{Program}
 use Rattle.mpd_model.specs.World.{World, Board, start, start_rank, start_board, call_id, listed_calls, calls_of, kind_of, kind_at, is_barrier, last_call, eligible}
 use Rattle.mpd_model.specs.Next.{local, local_at, stepped, waits, can_wake, woken, can_wake_any, woken_any, can_release, released, with_set, next, fold}
 use Rattle.mpd_model.specs.Order.{blocks_rank, barriers, before, Ordered}
-use Rattle.mpd_laws.proofs.Eligible.{both_of}
 use Rattle.mpd_laws.proofs.Orderly.{Orderly, IsMarked, held}
 use Rattle.mpd_laws.proofs.OrderIssues.{local_keeps}
 use Rattle.mpd_laws.proofs.OrderReleases.{release_keeps}
@@ -94,9 +93,9 @@ fold_orderly (a ∷ steps) u w e h =
 
 order_by : (b : Board) → ((p i j : ℕ) → i < j → is_some (kind_at b (call_id p j)) ≡ true → Ordered b (call_id p i) (call_id p j)) → (x y : CallId) → before b x y ≡ true → Ordered b x y
 order_by b all x y e =
-    let one = both_of (x.rank == y.rank) _ e in
-    let two = both_of (nat_lt x.index y.index) _ one.1 in
-    let three = both_of (is_some (kind_at b y)) _ two.1 in
+    let one = and_parts (x.rank == y.rank) _ e in
+    let two = and_parts (nat_lt x.index y.index) _ one.1 in
+    let three = and_parts (is_some (kind_at b y)) _ two.1 in
     let rank : x.rank ≡ y.rank = eqb-true x.rank y.rank one.0 in
     subst (λ (q : ℕ). Ordered b (call_id q x.index) y) (sym rank) (all y.rank x.index y.index (ltb-true x.index y.index two.0) three.0)
 

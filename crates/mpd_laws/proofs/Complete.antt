@@ -19,6 +19,7 @@ use Rattle.mpd_model.specs.Input.{Input, Outcome, Parser, and_then, token, spell
 use Rattle.mpd_model.specs.Term.{Term, lit, own_rank, size, cell, element, op1, op2}
 use Rattle.mpd_model.specs.Tokens.{Spot}
 use Rattle.mpd_model.specs.Written.{Names, WrittenTerm, number, rank, ranks, name, entry, round, signs, higher, joins, left_level}
+use Rattle.mpd_laws.proofs.Prices.{cost_append, sign_costs, operator_costs}
 
 -- ---- steps on a known list of tokens
 
@@ -40,33 +41,6 @@ spend_at s rest b i =
     let more : (suc b == 0) ≡ false = grind (arith, nat_tests) in
     let less : suc b - 1 ≡ b = omega arith in
     rw (more, less) refl
-
--- ---- what the tokens cost
-
-pub cost_append : (a b : List Spot) → cost (a ++ b) ≡ cost a + cost b
-cost_append [] b = omega arith
-cost_append (s ∷ a) b = omega (arith, cost_append a b)
-
-operator_costs : (k : ℕ) (op : BinaryOp) (t : Token) → operator_at k t ≡ Some op → price t ≡ 1
-operator_costs k op (Is m.Equal) h = refl
-operator_costs k op (Is m.NotEqual) h = refl
-operator_costs k op (Is m.Or) h = refl
-operator_costs k op (Is m.And) h = refl
-operator_costs k op (Is m.Less) h = refl
-operator_costs k op (Is m.AtMost) h = refl
-operator_costs k op (Is m.Greater) h = refl
-operator_costs k op (Is m.AtLeast) h = refl
-operator_costs k op (Is m.Plus) h = refl
-operator_costs k op (Is m.Minus) h = refl
-operator_costs k op (Is m.Times) h = refl
-operator_costs k op (Is m.Divide) h = refl
-operator_costs k op (Is m.Remainder) h = refl
-operator_costs k op _ h = absurd (cc)
-
-sign_costs : (op : UnaryOp) (t : Token) → sign t ≡ Some op → price t ≡ 1
-sign_costs op (Is m.Minus) h = refl
-sign_costs op (Is m.Not) h = refl
-sign_costs op _ h = absurd (cc)
 
 other_level : (k j : ℕ) (op : BinaryOp) (o : Option (BinaryOp × ℕ)) → j < k → at_level k o ≡ Some op → at_level j o ≡ None
 other_level k j op None less h = refl

@@ -8,7 +8,6 @@ use Rattle.mpd_model.specs.declared.expr.UnaryOp.TheVariants as u
 use Rattle.mpd_model.specs.declared.place.DeclKind.TheVariants.{Variable}
 use Rattle.mpd_model.specs.declared.place.Place.{Place}
 use Rattle.mpd_model.specs.declared.read_fault.FaultCode.TheVariants.{UnknownName}
-use Rattle.mpd_model.specs.declared.read_fault.ReadFault.{ReadFault}
 use Rattle.mpd_model.specs.declared.slot.Slot.{Slot}
 use Rattle.mpd_model.specs.declared.token.Mark.{Mark}
 use Rattle.mpd_model.specs.declared.token.Mark.TheVariants as m
@@ -18,26 +17,16 @@ use Rattle.mpd_model.specs.Grammar.{atom_by, atom, bracket, index_inside, place_
 use Rattle.mpd_model.specs.Input.{Input, Outcome, Parser, and_then, token, place, spelling, advanced, spend, expect, sees, refusal, seek, sought, slot_in, same_kind, pure, fail, refuse}
 use Rattle.mpd_model.specs.ReaderLaws.{IsNotTooDeep, with_more, leaving_more}
 use Rattle.mpd_model.specs.Term.{Term, lit, own_rank, size, cell, element, op1, op2}
-use Rattle.mpd_laws.proofs.Sound.{bind_ok, ok_parts, guard_ok, expect_ok, seek_ok}
+use Rattle.mpd_laws.proofs.Sound.{bind_ok, ok_parts, spend_takes, expect_ok, seek_ok}
 
-bind_same : {A B : Type 0} (o : Outcome A) (f g : A → Parser B) → ((x : A × Input) → o ≡ Ok x → f x.0 x.1 ≡ g x.0 x.1) → and_then o f ≡ and_then o g
+pub bind_same : {A B : Type 0} (o : Outcome A) (f g : A → Parser B) → ((x : A × Input) → o ≡ Ok x → f x.0 x.1 ≡ g x.0 x.1) → and_then o f ≡ and_then o g
 bind_same (Ok x) f g h = h x refl
 bind_same (Err e) f g h = refl
-
-guard_false : {A : Type 0} (b : Bool) (e : ReadFault) (x y : A × Input) → cond b (Err e) (Ok x) ≡ Ok y → b ≡ false
-guard_false true e x y h = absurd (cc)
-guard_false false e x y h = refl
 
 -- ---- what is read leaves no more budget than there was
 
 spend_lowers : (i : Input) (y : Unit {0} × Input) → spend i ≡ Ok y → y.1.budget + 1 ≡ i.budget
-unfolding spend advanced
-spend_lowers i y h =
-    let e = guard_ok (i.budget == 0) _ _ y h in
-    let f = guard_false (i.budget == 0) _ _ y h in
-    let b : i.budget - 1 ≡ y.1.budget = ap (λ p. p.1.budget) e in
-    let n : i.budget ≢ 0 = grind (arith, nat_tests) in
-    omega arith
+spend_lowers i y h = omega (arith, spend_takes i y h)
 
 next_budget : (i j : Input) → j ≡ advanced i → j.budget ≡ i.budget
 unfolding advanced

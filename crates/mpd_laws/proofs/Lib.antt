@@ -1,17 +1,28 @@
-mod CallsInOrder
+mod Budget
+pub mod CallsInOrder
+pub mod Cells
+mod Cheap
+pub mod Complete
+pub mod CompleteParts
+pub mod CompleteScript
+pub mod CompleteStatements
 mod Counted
 mod Cuts
 pub mod Eligible
-mod Ends
+pub mod Ends
+pub mod Enough
 mod EnoughBlocks
 mod GoodSpots
+pub mod LineCuts
 pub mod LocalActivity
 mod Marks
 mod NoMemory
 mod OrderIssues
 mod OrderReleases
-mod OrderSteps
-mod Orderly
+pub mod OrderSteps
+pub mod Orderly
+mod Prices
+pub mod PrintAgain
 mod PrintScript
 mod PrintStatements
 mod PrintTerms
@@ -20,23 +31,15 @@ mod PrintableTerms
 mod ReadCosts
 mod ReadTrees
 mod ReadVersions
-mod Releases
+pub mod Releases
 mod Runs
 mod SendsDone
 mod Signs
 pub mod Slots
 mod SlotsHeld
-mod Sound
-mod SoundParts
-mod SoundStatements
-pub mod Splits
-pub mod Cells
-pub mod Complete
-pub mod CompleteParts
-pub mod CompleteScript
-pub mod CompleteStatements
-pub mod Enough
-pub mod LineCuts
-pub mod PrintAgain
+pub mod Sound
+pub mod SoundParts
 pub mod SoundScript
+pub mod SoundStatements
+pub mod Splits
 pub mod Turns

@@ -1,5 +1,6 @@
 -- What cutting a text into lines makes of the beginning of a line, and of the line feed that ends it.
-use Rattle.std.proofs.Common.{◌≡◌, ℕ, Bool, true, false, ◌&&◌, ◌||◌, ◌==◌, not, if◌then◌else◌, List, [], ◌∷◌, ◌++◌, map, filter, refl, ap, sym, ◌∙◌}
+use Rattle.std.proofs.Common.{◌≡◌, ℕ, Bool, true, false, ◌&&◌, ◌==◌, not, if◌then◌else◌, List, [], ◌∷◌, ◌++◌, map, filter, refl, ap, ◌∙◌}
+use Rattle.std.proofs.lemmas.Bool.{and_from, and_right, not-true, not_from_false, or_from}
 use Rattle.mpd_model.specs.Lines.{raw_lines, grow, joined, bare, ends_with_feed, is_ending, is_feed, is_none}
 
 -- no line feed among these bytes
@@ -20,35 +21,15 @@ pub and_second : (p q : Bool) → (p && q) ≡ true → q ≡ true
 and_second true q e = e
 and_second false q e = absurd (let h : false ≡ true = e in cc)
 
-pub and_both : (p q : Bool) → p ≡ true → q ≡ true → (p && q) ≡ true
-and_both true q e f = f
-and_both false q e f = e
-
-not_true : (p : Bool) → not p ≡ true → p ≡ false
-not_true true e = sym e
-not_true false e = refl
-
-not_false : (p : Bool) → p ≡ false → not p ≡ true
-not_false true e = sym e
-not_false false e = refl
-
-or_false : (p q : Bool) → p ≡ false → q ≡ false → (p || q) ≡ false
-or_false true q e f = e
-or_false false q e f = f
-
-and_none : (p q : Bool) → q ≡ false → (p && q) ≡ false
-and_none true q e = e
-and_none false q e = refl
-
 pub part_head : (b : ℕ) (l : List ℕ) → is_part (b ∷ l) ≡ true → (b == 10) ≡ false
-part_head b l e = not_true (b == 10) (and_first (not (b == 10)) (is_part l) e)
+part_head b l e = not-true (b == 10) (and_first (not (b == 10)) (is_part l) e)
 
 pub part_tail : (b : ℕ) (l : List ℕ) → is_part (b ∷ l) ≡ true → is_part l ≡ true
 part_tail b l e = and_second (not (b == 10)) (is_part l) e
 
 pub part_snoc : (p : List ℕ) (b : ℕ) → is_part p ≡ true → (b == 10) ≡ false → is_part (p ++ b ∷ []) ≡ true
-part_snoc [] b e f = and_both (not (b == 10)) true (not_false (b == 10) f) refl
-part_snoc (c ∷ p) b e f = and_both (not (c == 10)) (is_part (p ++ b ∷ [])) (and_first (not (c == 10)) (is_part p) e) (part_snoc p b (part_tail c p e) f)
+part_snoc [] b e f = and_from (not (b == 10)) true (not_from_false (b == 10) f) refl
+part_snoc (c ∷ p) b e f = and_from (not (c == 10)) (is_part (p ++ b ∷ [])) (and_first (not (c == 10)) (is_part p) e) (part_snoc p b (part_tail c p e) f)
 
 grow_last : (b : ℕ) (l : List ℕ) → grow b (ending_line l) ≡ (b ∷ l) ∷ []
 grow_last b [] = refl
@@ -83,7 +64,7 @@ pub bare_part : (p : List ℕ) → is_part p ≡ true → bare p ≡ p
 bare_part [] e = refl
 bare_part (b ∷ l) e =
     let not_end : is_ending b l ≡ false =
-    or_false (b == 10 && is_none l) (b == 13 && is_feed l) (ap (λ (v : Bool). v && is_none l) (part_head b l e)) (and_none (b == 13) (is_feed l) (feed_not l (part_tail b l e))) in
+    or_from (b == 10 && is_none l) (b == 13 && is_feed l) (ap (λ (v : Bool). v && is_none l) (part_head b l e)) (and_right (b == 13) (is_feed l) (feed_not l (part_tail b l e))) in
     ap (λ (v : Bool). if v then [] else b ∷ bare l) not_end ∙ ap (λ x. b ∷ x) (bare_part l (part_tail b l e))
 
 pub bare_last : (p : List ℕ) → is_part p ≡ true → map bare (ending_line p) ≡ ending_line p

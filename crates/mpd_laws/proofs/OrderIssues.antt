@@ -1,6 +1,6 @@
 -- A local step keeps calls in order: what it issues is named by no match set, and comes when its rank isn't blocked.
 use Rattle.std.proofs.Common.{◌≡◌, ◌≢◌, ◌⊎◌, ℕ, suc, ◌+◌, ◌-◌, ◌<◌, Bool, true, false, not, ◌&&◌, ◌||◌, ◌==◌, nat_lt, Option, Some, None, is_some, List, [], ◌∷◌, ◌++◌, take, length, length-append, slice_get, slice_set, inl, inr, refl, sym, ap, subst, ◌∙◌, arith}
-use Rattle.std.proofs.lemmas.Bool.{eqb-true}
+use Rattle.std.proofs.lemmas.Bool.{eqb-true, and_parts}
 use Rattle.std.proofs.lemmas.Bool.Decides.{eqb_tells}
 use Rattle.mpd_model.specs.declared.step.CallId.{CallId}
 use Rattle.mpd_model.specs.declared.call.Call.{Call}
@@ -14,7 +14,7 @@ use Rattle.mpd_model.specs.declared.call.MatchSet.TheVariants as set
 use Rattle.mpd_model.specs.World.{World, Board, RankWorld, call_id, listed_calls, calls_of, kind_of, kind_at, partner, is_buffered, is_barrier, slots_used}
 use Rattle.mpd_model.specs.Next.{Ran, local, blocks, stepped, with_call, with_issued, buffers_one, has_buffer, buffered_by, entered, waits, is_blocked}
 use Rattle.mpd_model.specs.Order.{matches_first, waits_for, blocks_rank, barriers, releases, barriers_before, is_released_by, names, is_exit, WentOn, Ordered}
-use Rattle.mpd_laws.proofs.Eligible.{both_of, known_within}
+use Rattle.mpd_laws.proofs.Eligible.{clash, known_within}
 use Rattle.mpd_laws.proofs.LocalActivity.{BlocksOn, local_blocks}
 use Rattle.mpd_laws.proofs.Orderly.{Orderly, IsAwaited, IsMarked, may_be, mentions, id_same}
 use Rattle.mpd_laws.proofs.Releases.{one_if, releases_cut, barriers_more}
@@ -146,7 +146,7 @@ new_unnamed w p r c y at h new (Pair s t) front behind e named =
 new_unnamed w p r c y at h new (Woke d) front behind e named =
     nothing_known (kind_at w.board y) new.unknown (h.named y (any_at_cut (λ n. mentions n y) w.board.sets front (Woke d) behind e named))
 new_unnamed w p r c y at h new set.Barrier front behind e named =
-    let count = eqb-true (barriers_before (with_call w.board p c) y) (releases front) (both_of (is_barrier (kind_at (with_call w.board p c) y)) _ named).1 in
+    let count = eqb-true (barriers_before (with_call w.board p c) y) (releases front) (and_parts (is_barrier (kind_at (with_call w.board p c) y)) _ named).1 in
     let ahead = new.ahead in
     let all = h.released p r at in
     let cut = releases_cut w.board.sets front set.Barrier behind e in
@@ -181,15 +181,12 @@ still_awaited : (w : World) (p : ℕ) (r after : RankWorld) (b : Board) (x : Cal
     → IsAwaited (record { ranks = slice_set w.ranks p after; board = b }) x
 still_awaited w p r after b x others at runs here =
     elim (eqb_tells x.rank p) [
-      | inl same ↦ absurd (clash (waits (slice_get w.ranks x.rank)) here.blocked (ap (λ (q : ℕ). waits (slice_get w.ranks q)) same.1 ∙ ap waits at ∙ runs))
+      | inl same ↦ absurd (clash here.blocked (ap (λ (q : ℕ). waits (slice_get w.ranks q)) same.1 ∙ ap waits at ∙ runs))
       | inr off ↦ record {
         last = ap (λ (calls : List Call). length calls) (others x.rank off.1) ∙ here.last;
         blocked = ap waits (others_kept w.ranks p x.rank after off.1) ∙ here.blocked;
       }
     ]
-  where
-    clash : (b : Bool) → b ≡ true → b ≡ false → ⊥
-    clash b e f = cc
 
 -- the world behind a step, with the call as it joined
 abbrev joined : World → ℕ → RankWorld → Call → World

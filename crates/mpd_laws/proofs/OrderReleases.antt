@@ -1,5 +1,6 @@
 -- A release keeps calls in order: it is of the barrier that each rank is blocked on.
 use Rattle.std.proofs.Common.{◌≡◌, ℕ, ◌+◌, ◌-◌, true, ◌&&◌, nat_lt, Option, Some, [], length, slice_get, inl, inr, refl, sym, ap, ◌∙◌, arith, eq-eqb}
+use Rattle.std.proofs.lemmas.Bool.{and_parts}
 use Rattle.std.proofs.lemmas.Option.{slice_get_within, slice_get-map}
 use Rattle.std.specs.Cmp.Derive.{both_true}
 use Rattle.std.specs.Option.{option_map}
@@ -8,7 +9,6 @@ use Rattle.mpd_model.specs.declared.call.MatchSet.TheVariants as set
 use Rattle.mpd_model.specs.World.{World, Board, RankWorld, call_id, calls_of, kind_at, is_barrier, last_call}
 use Rattle.mpd_model.specs.Next.{waits, is_at_barrier, can_release, going_on, released}
 use Rattle.mpd_model.specs.Order.{barriers, releases, barriers_before, WentOn}
-use Rattle.mpd_laws.proofs.Eligible.{both_of}
 use Rattle.mpd_laws.proofs.Orderly.{Orderly, IsAwaited, MayJoin, held, waiting}
 use Rattle.mpd_laws.proofs.OrderSteps.{named_more, ordered_more, went_kept}
 use Rattle.mpd_laws.proofs.Releases.{one_if, releases_more, barriers_last, one_of_all}
@@ -17,7 +17,7 @@ use Rattle.mpd_laws.proofs.Splits.{mapped_from}
 at_barrier : (w : World) → can_release w ≡ true → (p : ℕ) (r : RankWorld) → slice_get w.ranks p ≡ Some r → is_at_barrier w p ≡ true
 at_barrier w e p r at =
     let within = slice_get_within w.ranks p r at in
-    one_of_all (is_at_barrier w) 0 (length w.ranks) p (both_of (nat_lt 0 (length w.ranks)) _ e).1 (omega arith) (omega (arith, within))
+    one_of_all (is_at_barrier w) 0 (length w.ranks) p (and_parts (nat_lt 0 (length w.ranks)) _ e).1 (omega arith) (omega (arith, within))
 
 barrier_may_join : (b : Board) → MayJoin b set.Barrier
 barrier_may_join b = record {
@@ -46,7 +46,7 @@ goes_on w e h x here = record {
     index = let last = here.last in omega (arith, last)
 
     barrier : is_barrier (kind_at w.board x) ≡ true
-    barrier = ap (λ (i : ℕ). is_barrier (kind_at w.board (call_id x.rank i))) index ∙ (both_of (waits (slice_get w.ranks x.rank)) _ at).1
+    barrier = ap (λ (i : ℕ). is_barrier (kind_at w.board (call_id x.rank i))) index ∙ (and_parts (waits (slice_get w.ranks x.rank)) _ at).1
 
     count : barriers_before w.board x ≡ releases w.board.sets
     count =

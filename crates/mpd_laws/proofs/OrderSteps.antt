@@ -1,6 +1,6 @@
 -- Each step keeps calls in order, and so each run.
 use Rattle.std.proofs.Common.{◌≡◌, ◌≢◌, ◌⊎◌, ℕ, ℤ, suc, ◌+◌, ◌-◌, ◌<◌, Bool, true, false, cond, not, ◌&&◌, ◌||◌, Option, Some, None, is_some, List, [], ◌∷◌, ◌++◌, length, slice_get, inl, inr, refl, sym, ap, subst, ◌∙◌, arith, eq-eqb}
-use Rattle.std.proofs.lemmas.Bool.{cases_Bool, eqb-true}
+use Rattle.std.proofs.lemmas.Bool.{cases_Bool, eqb-true, and_parts, not-true, or_cases}
 use Rattle.std.proofs.lemmas.List.{append_assoc}
 use Rattle.std.proofs.lemmas.Bool.Decides.{eqb_tells}
 use Rattle.std.specs.Cmp.Derive.{both_true}
@@ -14,8 +14,8 @@ use Rattle.mpd_model.specs.declared.call.MatchSet.TheVariants as set
 use Rattle.mpd_model.specs.World.{World, Board, RankWorld, call_id, id_eq, calls_of, kind_at, partner, is_barrier, is_buffered, is_done, eligible, complete, complete_by, awaited_by, has_own_step, last_call}
 use Rattle.mpd_model.specs.Next.{waits, can_wake, put_at, woken_rank, wake_writes, wake_clears, woken_by, woken, request_handle, held_in, any_handle, any_writes, is_complete_some, can_wake_any, woken_any, with_set}
 use Rattle.mpd_model.specs.Order.{waits_for, is_number, barriers, releases, WentOn, Ordered}
-use Rattle.mpd_laws.proofs.Eligible.{both_of, denied, known_within}
-use Rattle.mpd_laws.proofs.Orderly.{Orderly, IsAwaited, MayJoin, mentions, is_named, held, waiting, passed, same_id, either_of, order_more, pair_may_join}
+use Rattle.mpd_laws.proofs.Eligible.{known_within}
+use Rattle.mpd_laws.proofs.Orderly.{Orderly, IsAwaited, MayJoin, mentions, is_named, held, waiting, passed, same_id, order_more, pair_may_join}
 use Rattle.mpd_laws.proofs.Releases.{one_if, releases_same}
 use Rattle.mpd_laws.proofs.Splits.{any_or_end, others_kept}
 
@@ -84,7 +84,7 @@ paired_named (set.Barrier ∷ sets) c e = paired_named sets c e
 complete_known : (w : World) → Orderly w → (c : CallId) (k : Option CallKind) → kind_at w.board c ≡ k → complete_by w.board (awaited_by c k) ≡ true → is_some k ≡ true
 complete_known w h c (Some k) is e = refl
 complete_known w h c None is e =
-    elim (either_of (is_some (partner w.board.sets c)) (is_buffered (kind_at w.board c)) e) [
+    elim (or_cases (is_some (partner w.board.sets c)) (is_buffered (kind_at w.board c)) e) [
       | inl paired ↦ ap (λ (o : Option CallKind). is_some o) (sym is) ∙ h.named c (paired_named w.board.sets c paired)
       | inr buffered ↦ absurd (let never : false ≡ true = sym (ap is_buffered is) ∙ buffered in cc)
     ]
@@ -99,10 +99,10 @@ awaits_done b c i (Some (Wait t)) e f = target t.target e f
 awaits_done b c i k e f = absurd (cc)
 
 awaited_done : (b : Board) (c : CallId) → complete b c ≡ true → complete_by b (awaited_by c (kind_at b c)) ≡ true
-awaited_done b c e = (both_of (not (has_own_step (kind_at b c))) _ e).1
+awaited_done b c e = (and_parts (not (has_own_step (kind_at b c))) _ e).1
 
 -- a barrier has a step of its own
-no_barrier : (k : Option CallKind) → has_own_step k ≡ false → is_barrier k ≡ false
+pub no_barrier : (k : Option CallKind) → has_own_step k ≡ false → is_barrier k ≡ false
 no_barrier (Some Barrier) e = absurd (cc)
 no_barrier k e = refl
 
@@ -186,8 +186,8 @@ on_keeps w p writes handle blocked other may h = record {
 
 pub wake_keeps : (w : World) (p : ℕ) → can_wake w p ≡ true → Orderly w → Orderly (woken w p)
 wake_keeps w p e h =
-    let parts = both_of (waits (slice_get w.ranks p)) _ e in
-    let other = no_barrier (kind_at w.board (last_call w.board p)) (denied _ (both_of (not (has_own_step (kind_at w.board (last_call w.board p)))) _ parts.1).0) in
+    let parts = and_parts (waits (slice_get w.ranks p)) _ e in
+    let other = no_barrier (kind_at w.board (last_call w.board p)) (not-true _ (and_parts (not (has_own_step (kind_at w.board (last_call w.board p)))) _ parts.1).0) in
     on_keeps w p (wake_writes w.board p) (wake_clears w.board p) parts.0 other (wake_may_join w h (last_call w.board p) parts.1) h
 
 -- ---- a wake by one of several requests
@@ -222,7 +222,7 @@ any_may_join w c has = record {
 
 pub wake_any_keeps : (w : World) (p i : ℕ) → can_wake_any w p i ≡ true → Orderly w → Orderly (woken_any w p i)
 wake_any_keeps w p i e h =
-    let parts = both_of (waits (slice_get w.ranks p)) _ e in
+    let parts = and_parts (waits (slice_get w.ranks p)) _ e in
     let found = some_handle w.board p (slice_get w.ranks p) (any_handle w p i) parts.1 in
     let has : HasRequests (kind_at w.board (last_call w.board p)) = has_requests (kind_at w.board (last_call w.board p)) i found.0 found.1 in
     on_keeps w p (any_writes w p i) (any_handle w p i) parts.0 has.other (any_may_join w (last_call w.board p) has) h

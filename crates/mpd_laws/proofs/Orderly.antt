@@ -1,6 +1,6 @@
 -- What every world of a run keeps, so that calls complete in order.
 use Rattle.std.proofs.Common.{◌≡◌, ◌⊎◌, ℕ, suc, ◌<◌, Bool, true, false, cond, not, ◌&&◌, ◌||◌, ◌==◌, ◌+◌, Option, Some, None, is_some, List, length, slice_get, inl, inr, refl, sym, ap, subst, ◌∙◌, arith, eq-eqb}
-use Rattle.std.proofs.lemmas.Bool.{eqb-true}
+use Rattle.std.proofs.lemmas.Bool.{eqb-true, and_parts, or_cases}
 use Rattle.std.specs.Cmp.Derive.{both_true}
 use Rattle.std.specs.List.{list_any}
 use Rattle.mpd_model.specs.declared.step.CallId.{CallId}
@@ -14,7 +14,7 @@ use Rattle.mpd_model.specs.declared.call.Mode.TheVariants.{Rendezvous, Buffered,
 use Rattle.mpd_model.specs.World.{World, Board, RankWorld, call_id, id_eq, calls_of, kind_at, partner, is_done, is_any_or, fitting, eligible, is_message_kind}
 use Rattle.mpd_model.specs.Next.{waits, is_at_barrier, with_set}
 use Rattle.mpd_model.specs.Order.{covers_number, matches_first, waits_for, blocks_rank, barriers, releases, WentOn, Ordered}
-use Rattle.mpd_laws.proofs.Eligible.{both_of, agrees, earlier_send_paired, earlier_recv_paired, message_known}
+use Rattle.mpd_laws.proofs.Eligible.{agrees, earlier_send_paired, earlier_recv_paired, message_known}
 use Rattle.mpd_laws.proofs.Splits.{end_or_before}
 
 -- ---- the invariant
@@ -76,12 +76,8 @@ id_same c = both_true (eq-eqb c.rank c.rank refl) (eq-eqb c.index c.index refl)
 
 pub same_id : (c d : CallId) → id_eq c d ≡ true → c ≡ d
 same_id c d e =
-    let parts = both_of (c.rank == d.rank) _ e in
+    let parts = and_parts (c.rank == d.rank) _ e in
     λ i. record { rank = eqb-true c.rank d.rank parts.0 i; index = eqb-true c.index d.index parts.1 i }
-
-pub either_of : (a b : Bool) → (a || b) ≡ true → (a ≡ true) ⊎ (b ≡ true)
-either_of true b e = inl refl
-either_of false b e = inr e
 
 -- ---- kinds that match first
 
@@ -92,7 +88,7 @@ covers_any (Some m) (Some n) k e f = ap (λ (z : ℕ). z == k) (eqb-true m n e) 
 
 first_send_fits : (x y r : Option CallKind) (p q : ℕ) → matches_first x y ≡ true → fitting y r p q ≡ true → fitting x r p q ≡ true
 first_send_fits (Some (Send a)) (Some (Send b)) (Some (Recv r)) p q e f =
-    let parts = both_of (a.to == b.to) _ e in
+    let parts = and_parts (a.to == b.to) _ e in
     let to : a.to ≡ b.to = eqb-true a.to b.to parts.0 in
     let tag : a.tag ≡ b.tag = eqb-true a.tag b.tag parts.1 in
     (λ i. (to i == q) && (is_any_or r.from p && is_any_or r.tag (tag i))) ∙ f
@@ -101,9 +97,9 @@ first_send_fits x y r p q e f = cc
 
 first_recv_fits : (s x y : Option CallKind) (p q : ℕ) → matches_first x y ≡ true → fitting s y p q ≡ true → fitting s x p q ≡ true
 first_recv_fits (Some (Send s)) (Some (Recv a)) (Some (Recv b)) p q e f =
-    let covered = both_of (covers_number a.from b.from) _ e in
-    let first = both_of (s.to == q) _ f in
-    let second = both_of (is_any_or b.from p) _ first.1 in
+    let covered = and_parts (covers_number a.from b.from) _ e in
+    let first = and_parts (s.to == q) _ f in
+    let second = and_parts (is_any_or b.from p) _ first.1 in
     (λ i. first.0 i && (covers_any a.from b.from p covered.0 second.0 i && covers_any a.tag b.tag s.tag covered.1 second.1 i))
 first_recv_fits (Some (Send s)) (Some (Send a)) (Some (Send b)) p q e f = cc
 first_recv_fits s x y p q e f = cc
@@ -144,7 +140,7 @@ order_more b n may p i j lt went old = record {
 pair_paired : (b : Board) (s r : CallId) → eligible b s r ≡ true → (p i j : ℕ) → i < j → mentions (Pair s r) (call_id p j) ≡ true → matches_first (kind_at b (call_id p i)) (kind_at b (call_id p j)) ≡ true
     → is_some (partner b.sets (call_id p i)) ≡ true
 pair_paired b s r e p i j lt named first =
-    elim (either_of (id_eq s (call_id p j)) (id_eq r (call_id p j)) named) [
+    elim (or_cases (id_eq s (call_id p j)) (id_eq r (call_id p j)) named) [
       | inl h ↦
           let as_send : eligible b (call_id p j) r ≡ true = ap (λ (c : CallId). eligible b c r) (sym (same_id s (call_id p j) h)) ∙ e in
           earlier_send_paired b p i j r as_send lt (first_send_fits (kind_at b (call_id p i)) (kind_at b (call_id p j)) (kind_at b r) p r.rank first (agrees b (call_id p j) r as_send).fit)
@@ -156,9 +152,9 @@ pair_paired b s r e p i j lt named first =
 pair_named : (b : Board) (s r : CallId) → eligible b s r ≡ true → (c : CallId) → mentions (Pair s r) c ≡ true → is_some (kind_at b c) ≡ true
 pair_named b s r e c named =
     let parts = agrees b s r e in
-    elim (either_of (id_eq s c) (id_eq r c) named) [
-      | inl h ↦ ap (λ (d : CallId). is_some (kind_at b d)) (sym (same_id s c h)) ∙ message_known _ (both_of (is_message_kind (kind_at b s)) _ parts.send_free).0
-      | inr h ↦ ap (λ (d : CallId). is_some (kind_at b d)) (sym (same_id r c h)) ∙ message_known _ (both_of (is_message_kind (kind_at b r)) _ parts.recv_free).0
+    elim (or_cases (id_eq s c) (id_eq r c) named) [
+      | inl h ↦ ap (λ (d : CallId). is_some (kind_at b d)) (sym (same_id s c h)) ∙ message_known _ (and_parts (is_message_kind (kind_at b s)) _ parts.send_free).0
+      | inr h ↦ ap (λ (d : CallId). is_some (kind_at b d)) (sym (same_id r c h)) ∙ message_known _ (and_parts (is_message_kind (kind_at b r)) _ parts.recv_free).0
     ]
 
 pub pair_may_join : (b : Board) (s r : CallId) → eligible b s r ≡ true → MayJoin b (Pair s r)

@@ -18,13 +18,11 @@ use Rattle.mpd_model.specs.declared.token.Mark.{Mark}
 use Rattle.mpd_model.specs.Parts.{Part, of_mark, of_term, of_target, of_name, parts_of}
 use Rattle.mpd_model.specs.Tree.{Tree, Block, simple, branch, repeat, no_more, then_more, block_of, trees, statements, statements_in}
 use Rattle.mpd_model.specs.Written.{WrittenTerm, WrittenTarget, whole, part, WrittenPart, by_mark, by_term, by_target, by_name, WrittenParts, no_part, then_part, WrittenTree, simply, repeats, chooses, chooses_else, braces, WrittenBody, ended, follows}
+use Rattle.mpd_laws.proofs.Cheap.{max_small}
 use Rattle.mpd_laws.proofs.Cuts.{Ends, Any, Spelled, join, turned, narrowed, fixed, blank_before, blank_behind, Both, both, IsOne, one, IsWord, one_word, IsNone, nothing}
 use Rattle.mpd_laws.proofs.Marks.{Parted, spaced, closed, parted_ends, mark_spelled}
 use Rattle.mpd_laws.proofs.PrintTerms.{TermSpots, term_spelled, name_spelled, names_of}
 use Rattle.mpd_laws.proofs.Signs.{square_open, square_close, if_word, while_word, end_sign, brace_open, brace_close, brace_end, else_word, brace_behind, line_end, two_spaces}
-
-max_small : (a b n : ℕ) → a ≤ n → b ≤ n → max a b ≤ n
-max_small a b n h k = grind arith
 
 -- ---- expressions
 

@@ -22,16 +22,13 @@ use Rattle.mpd_model.specs.Term.{Term, lit, own_rank, size, cell, element, op1, 
 use Rattle.mpd_model.specs.Tokens.{Spot, tokens_after, front, begins_name, word, sign as byte_sign}
 use Rattle.mpd_model.specs.Written.{Names, WrittenTerm, number, rank, ranks, name, entry, round, signs, higher, joins, left_level}
 use Rattle.mpd_laws.proofs.Cuts.{Ends, Spelled, join, turned, narrowed, Both, both, IsOne, one, IsWord, one_word}
+use Rattle.mpd_laws.proofs.Prices.{cost_append}
 use Rattle.mpd_laws.proofs.Runs.{word_spelled, decimal_spelled, decimal_first, first_of_names}
 use Rattle.mpd_laws.proofs.Signs.{square_open, square_close, round_open, round_close, minus, op_token, op_spelled, op_level, op_price}
 
 pub record TermSpots (ds : List Declared) (k : ℕ) (t : Term) (n : ℕ) (ss : List Spot) : Type 0 where
   pub written : WrittenTerm ds k ss t
   pub cost : cost ss ≡ n
-
-pub cost_append : (a b : List Spot) → cost (a ++ b) ≡ cost a + cost b
-cost_append [] b = omega arith
-cost_append (s ∷ a) b = omega (arith, cost_append a b)
 
 raise : (ds : List Declared) (j k : ℕ) (ss : List Spot) (t : Term) → j ≤ k → WrittenTerm ds j ss t → WrittenTerm ds k ss t
 raise ds j zero ss t h w = let e : j ≡ 0 = omega arith in subst (λ i. WrittenTerm ds i ss t) e w
@@ -73,9 +70,6 @@ unfolding word
 size_spelled = word_spelled (codes "size") refl refl
 
 -- ---- brackets
-
-pub close_price : (c : Spot) → c.token ≡ Is m.SquareClose → price c.token ≡ 0
-close_price c h = ap price h
 
 entry_spots : (ds : List Declared) (k : ℕ) (p : Place) (a : Term) (n : ℕ) → HasName ds Variable true p → (ss : List Spot)
     → Both (Both (Both (IsWord Name (name_text ds p)) (IsOne (Is m.SquareOpen))) (TermSpots ds 5 a n)) (IsOne (Is m.SquareClose)) ss → TermSpots ds k (element p a) (suc n) ss

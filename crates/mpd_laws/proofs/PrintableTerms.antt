@@ -6,7 +6,6 @@ use Rattle.std.proofs.lemmas.Bool.Decides.{nat_tests}
 use Rattle.std.proofs.lemmas.Slice.Eq.{bytes_eq-Decides}
 use Rattle.std.specs.Str.{bytes_eq}
 use Rattle.mpd_model.specs.declared.expr.BinaryOp.{BinaryOp}
-use Rattle.mpd_model.specs.declared.expr.UnaryOp.{UnaryOp}
 use Rattle.mpd_model.specs.declared.place.DeclKind.{DeclKind}
 use Rattle.mpd_model.specs.declared.place.DeclKind.TheVariants.{Variable}
 use Rattle.mpd_model.specs.declared.place.Place.{Place}
@@ -17,14 +16,14 @@ use Rattle.mpd_model.specs.declared.token.Token.TheVariants.{Is}
 use Rattle.mpd_model.specs.Canonical.{name_of, name_text, below}
 use Rattle.mpd_model.specs.Declaration.{Declared, variable_cells, handle_cells}
 use Rattle.mpd_model.specs.Costs.{price}
-use Rattle.mpd_model.specs.Grammar.{operator, at_level, operator_at, sign}
+use Rattle.mpd_model.specs.Grammar.{operator, at_level}
 use Rattle.mpd_model.specs.Input.{first_of, slot_from, slot_in}
 use Rattle.mpd_model.specs.Printable.{IsName, HasName, IsPrintableTerm, bracket_cost, term_cost, FewestBrackets}
 use Rattle.mpd_model.specs.Term.{Term, lit, own_rank, size, cell, element, op1, op2}
 use Rattle.mpd_model.specs.Tokens.{Spot}
 use Rattle.mpd_model.specs.Written.{Names, WrittenTerm, number, rank, ranks, name, entry, round, signs, higher, joins, left_level}
 use Rattle.mpd_laws.proofs.GoodSpots.{IsGood, AllGood, good_left, good_right}
-use Rattle.mpd_laws.proofs.PrintTerms.{cost_append}
+use Rattle.mpd_laws.proofs.Prices.{cost_append, operator_costs, sign_costs}
 
 -- ---- names
 
@@ -107,27 +106,6 @@ level_is k (Some p) op f h =
       | inr other ↦ let e = rw other at h in absurd (let x : ⊥ = cc in x)
     ]
 
-operator_price : (k : ℕ) (op : BinaryOp) (t : Token) → operator_at k t ≡ Some op → price t ≡ 1
-operator_price k op (Is m.Or) h = refl
-operator_price k op (Is m.And) h = refl
-operator_price k op (Is m.Equal) h = refl
-operator_price k op (Is m.NotEqual) h = refl
-operator_price k op (Is m.Less) h = refl
-operator_price k op (Is m.AtMost) h = refl
-operator_price k op (Is m.Greater) h = refl
-operator_price k op (Is m.AtLeast) h = refl
-operator_price k op (Is m.Plus) h = refl
-operator_price k op (Is m.Minus) h = refl
-operator_price k op (Is m.Times) h = refl
-operator_price k op (Is m.Divide) h = refl
-operator_price k op (Is m.Remainder) h = refl
-operator_price k op _ h = absurd (cc)
-
-sign_price : (op : UnaryOp) (t : Token) → sign t ≡ Some op → price t ≡ 1
-sign_price op (Is m.Minus) h = refl
-sign_price op (Is m.Not) h = refl
-sign_price op _ h = absurd (cc)
-
 -- ---- costs
 
 bracket_small : (v : Bool) → bracket_cost v ≤ 1
@@ -193,10 +171,10 @@ fewest ds _ _ _ (entry s a b ss p t h h1 h2 w) =
 fewest ds _ _ _ (round a b ss t h1 h2 w) =
     let counted : price a.token ≡ 1 = ap price h1 in
     omega (arith, cost_append ss (b ∷ []), fewest ds 5 ss t w, counted, one_more 0 5 t)
-fewest ds _ _ _ (signs s ss op t h w) = omega (arith, fewest ds 0 ss t w, sign_price op s.token h)
+fewest ds _ _ _ (signs s ss op t h w) = omega (arith, fewest ds 0 ss t w, sign_costs op s.token h)
 fewest ds _ _ _ (higher k ss t w) = omega (arith, fewest ds k ss t w, looser k t)
 fewest ds _ _ _ (joins k l r o op a b h w v) =
     let level : suc (below op) ≡ suc k = level_is (suc k) (operator o.token) op (ops_fit o.token) h in
     let under : below op ≡ k = omega (arith, level) in
-    let counted : price o.token ≡ 1 = operator_price (suc k) op o.token h in
+    let counted : price o.token ≡ 1 = operator_costs (suc k) op o.token h in
     omega (arith, cost_append l (o ∷ r), fewest ds (left_level k) l a w, fewest ds k r b v, counted, chain_by_cost k op a b under)

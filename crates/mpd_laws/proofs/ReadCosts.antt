@@ -1,5 +1,5 @@
 -- What is read as an expression costs no more, in its canonical text, than the budget that was taken.
-use Rattle.std.proofs.Common.{◌≡◌, ◌≢◌, ℕ, zero, suc, ◌+◌, ◌-◌, ◌≤◌, ◌==◌, Bool, true, false, cond, Option, Some, None, Ok, Err, refl, ap, sym, arith, inl, inr}
+use Rattle.std.proofs.Common.{◌≡◌, ◌≢◌, ℕ, zero, suc, ◌+◌, ◌≤◌, ◌==◌, Bool, true, false, cond, Option, Some, None, Ok, refl, ap, sym, arith, inl, inr}
 use Rattle.std.proofs.lemmas.Bool.{cases_Bool}
 use Rattle.std.proofs.lemmas.Bool.Decides.{nat_tests}
 use Rattle.mpd_model.specs.declared.limits.TheConstants.{NESTING_MAX}
@@ -9,7 +9,6 @@ use Rattle.mpd_model.specs.declared.expr.UnaryOp.TheVariants as u
 use Rattle.mpd_model.specs.declared.place.DeclKind.TheVariants.{Variable}
 use Rattle.mpd_model.specs.declared.place.Place.{Place}
 use Rattle.mpd_model.specs.declared.read_fault.FaultCode.TheVariants.{UnknownName}
-use Rattle.mpd_model.specs.declared.read_fault.ReadFault.{ReadFault}
 use Rattle.mpd_model.specs.declared.slot.Slot.{Slot}
 use Rattle.mpd_model.specs.declared.token.Mark.{Mark}
 use Rattle.mpd_model.specs.declared.token.Mark.TheVariants as m
@@ -22,30 +21,13 @@ use Rattle.mpd_model.specs.Printable.{term_cost}
 use Rattle.mpd_model.specs.Term.{Term, lit, own_rank, size, cell, element, op1, op2}
 use Rattle.mpd_model.specs.Written.{left_level}
 use Rattle.mpd_laws.proofs.PrintableTerms.{ops_fit, level_is, looser, one_more, chain_by_cost}
-use Rattle.mpd_laws.proofs.Sound.{bind_ok, ok_of, ok_parts, carried}
+use Rattle.mpd_laws.proofs.Sound.{bind_ok, ok_of, ok_parts, test_ok, spend_takes, carried}
 
 -- ---- what a success of a step says
 
-guard_ok : {A : Type 0} (b : Bool) (e : ReadFault) (x y : A × Input) → cond b (Err e) (Ok x) ≡ Ok y → (b ≡ false) × (x ≡ y)
-guard_ok true e x y h = absurd (cc)
-guard_ok false e x y h = (refl, cc)
-
-test_ok : {A : Type 0} (b : Bool) (e : ReadFault) (x y : A × Input) → cond b (Ok x) (Err e) ≡ Ok y → x ≡ y
-test_ok true e x y h = cc
-test_ok false e x y h = absurd (cc)
-
--- a bracket or an operator takes one
-spend_takes : (i : Input) (y : Unit {0} × Input) → spend i ≡ Ok y → i.budget ≡ suc y.1.budget
-unfolding spend advanced
-spend_takes i y h =
-    let e = guard_ok (i.budget == 0) _ _ y h in
-    let left : y.1.budget ≡ i.budget - 1 = sym (ap (λ p. p.1.budget) e.1) in
-    let some : i.budget ≢ 0 = λ z. grind (arith, nat_tests) in
-    omega (arith, left, some)
-
 expect_keeps : (wanted : Mark) (i : Input) (y : Unit {0} × Input) → expect wanted i ≡ Ok y → y.1.budget ≡ i.budget
 unfolding expect advanced
-expect_keeps wanted i y h = sym (ap (λ p. p.1.budget) (test_ok (sees wanted i) _ _ y h))
+expect_keeps wanted i y h = sym (ap (λ p. p.1.budget) (test_ok (sees wanted i) _ _ y h).1)
 
 sought_keeps : (b : Bool) (s : Slot) (i : Input) (y : Slot × Input) → cond b (pure s) (fail UnknownName) i ≡ Ok y → i ≡ y.1
 sought_keeps true s i y h = (ok_parts (s, i) y h).1

@@ -19,14 +19,12 @@ use Rattle.mpd_model.specs.Term.{Term, Target}
 use Rattle.mpd_model.specs.declared.stmt.Simple.TheVariants as st
 use Rattle.mpd_model.specs.Parts.{Part, of_mark, of_term, of_target, of_name, parts_of, Hole, mark_hole, term_hole, target_hole, name_hole, source_hole, status_hole, source_part, status_parts, Contents, filled}
 use Rattle.mpd_model.specs.Tree.{Tree, Block, simple, branch, repeat, no_more, then_more, block_of}
+use Rattle.mpd_laws.proofs.Cheap.{max_small}
 use Rattle.mpd_laws.proofs.ReadCosts.{expression_cheap}
 use Rattle.mpd_laws.proofs.Sound.{bind_ok, ok_parts}
 use Rattle.mpd_laws.proofs.SoundParts.{status_of}
 use Rattle.mpd_laws.proofs.SoundScript.{read_ok, refused}
 use Rattle.mpd_laws.proofs.SoundStatements.{since_ok}
-
-max_small : (a b n : ℕ) → a ≤ n → b ≤ n → max a b ≤ n
-max_small a b n h k = grind arith
 
 -- ---- each expression within the limit
 
@@ -287,6 +285,6 @@ pub reading_fine : (text : List ℕ) (p : Program) → reading text ≡ Ok p →
 unfolding reading
 reading_fine text p h =
     let a = refused (nat_lt max_text (length text)) _ _ p h in
-    let b = refused (nat_lt (prefix_len is_text text) (length text)) _ _ p a in
-    let c = read_ok (whole_script (start_of text)) p b in
+    let b = refused (nat_lt (prefix_len is_text text) (length text)) _ _ p a.1 in
+    let c = read_ok (whole_script (start_of text)) p b.1 in
     script_fine (start_of text) (p, c.0) c.1

@@ -195,7 +195,7 @@ pub scripts_of_version : (text : List ℕ) (p : Program) → reading text ≡ Ok
 unfolding reading
 scripts_of_version text p h =
     let a = refused (nat_lt max_text (length text)) _ _ p h in
-    let b = refused (nat_lt (prefix_len is_text text) (length text)) _ _ p a in
-    let c = read_ok (whole_script (start_of text)) p b in
+    let b = refused (nat_lt (prefix_len is_text text) (length text)) _ _ p a.1 in
+    let c = read_ok (whole_script (start_of text)) p b.1 in
     let v = script_in (start_of text) (p, c.0) c.1 in
     (v.some_version, v.version, v.body)

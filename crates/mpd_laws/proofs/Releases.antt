@@ -1,5 +1,6 @@
 -- Barriers and their releases, counted: what a list has with an item more.
 use Rattle.std.proofs.Common.{◌≡◌, ℕ, zero, suc, ◌+◌, ◌<◌, ◌≤◌, Bool, true, false, cond, Some, List, [], ◌∷◌, ◌++◌, take, length, slice_get, inl, inr, refl, ap, ◌∙◌, arith}
+use Rattle.std.proofs.lemmas.Bool.{and_parts}
 use Rattle.std.proofs.lemmas.Bool.Decides.{eqb_tells}
 use Rattle.std.specs.List.{list_all, range_with_len}
 use Rattle.std.proofs.lemmas.List.Sums.{sum_by-append}
@@ -7,7 +8,6 @@ use Rattle.mpd_model.specs.declared.call.Call.{Call}
 use Rattle.mpd_model.specs.declared.call.MatchSet.{MatchSet}
 use Rattle.mpd_model.specs.World.{is_barrier, kind_of}
 use Rattle.mpd_model.specs.Order.{is_release, releases, barriers}
-use Rattle.mpd_laws.proofs.Eligible.{both_of}
 
 abbrev pub one_if : Bool → ℕ
 one_if b = cond b 1 0
@@ -55,7 +55,7 @@ barriers_last (c ∷ calls) (suc i) e =
 pub one_of_all : (t : ℕ → Bool) (a n p : ℕ) → list_all t (range_with_len a n) ≡ true → a ≤ p → p < a + n → t p ≡ true
 one_of_all t a zero p e le lt = absurd (omega arith)
 one_of_all t a (suc n) p e le lt =
-    let parts = both_of (t a) (list_all t (range_with_len (a + 1) n)) e in
+    let parts = and_parts (t a) (list_all t (range_with_len (a + 1) n)) e in
     elim (eqb_tells p a) [
       | inl k ↦ ap t k.1 ∙ parts.0
       | inr k ↦

@@ -1,6 +1,6 @@
 -- How many slots of a rank are held, as a board gets a call more or a match set more.
 use Rattle.std.proofs.Common.{◌≡◌, ◌≢◌, ℕ, zero, suc, ◌+◌, ◌<◌, ◌≤◌, ◌==◌, Bool, true, false, cond, ◌&&◌, Option, Some, None, is_some, is_none, List, [], ◌∷◌, ◌++◌, length, length-append, slice_get, inl, inr, refl, sym, ap, ◌∙◌, arith, eq-eqb}
-use Rattle.std.proofs.lemmas.Bool.{cases_Bool, eqb-true, ne_eqb}
+use Rattle.std.proofs.lemmas.Bool.{cases_Bool, eqb-true, ne_eqb, and_parts}
 use Rattle.std.proofs.lemmas.Bool.Decides.{eqb_tells}
 use Rattle.std.proofs.lemmas.Option.{slice_get_past}
 use Rattle.std.specs.List.{filter, range_with_len}
@@ -13,7 +13,7 @@ use Rattle.mpd_model.specs.declared.call.MatchSet.TheVariants.{Pair, Woke}
 use Rattle.mpd_model.specs.declared.call.MatchSet.TheVariants as set
 use Rattle.mpd_model.specs.World.{Board, call_id, id_eq, listed_calls, calls_of, kind_of, kind_at, partner, is_message_kind, fits, receives, eligible, is_buffered, holds_slot, slots_used}
 use Rattle.mpd_model.specs.Next.{with_call, with_set}
-use Rattle.mpd_laws.proofs.Eligible.{both_of, agrees, fitting_recv, known_within}
+use Rattle.mpd_laws.proofs.Eligible.{agrees, fitting_recv, known_within}
 use Rattle.mpd_laws.proofs.Releases.{one_if}
 use Rattle.mpd_laws.proofs.Splits.{read_written, none_written, others_kept, end_read, same_or_end}
 
@@ -111,9 +111,6 @@ slots_of_no_rank b q e =
     let within = slots_within b q in
     let none : length (calls_of b q) ≡ 0 = ap (λ (o : Option (List Call)). length (listed_calls o)) e in
     omega (arith, within, none)
-
-pub slots_past_end : (b : Board) (q : ℕ) → length b.calls ≤ q → slots_used b q ≡ 0
-slots_past_end b q le = slots_of_no_rank b q (slice_get_past b.calls q le)
 
 -- ---- a call more
 
@@ -244,7 +241,7 @@ not_same s c ne =
     elim (cases_Bool (id_eq s c)) [
       | inr h ↦ h
       | inl h ↦
-          let parts = both_of (s.rank == c.rank) _ h in
+          let parts = and_parts (s.rank == c.rank) _ h in
           absurd (ne (λ i. record { rank = eqb-true s.rank c.rank parts.0 i; index = eqb-true s.index c.index parts.1 i }))
     ]
 
@@ -259,7 +256,7 @@ other_than_send b s r c other ne =
     by_test : (x : Bool) → id_eq r c ≡ x → (holds_slot b c && is_none (cond x (Some s) None)) ≡ holds_slot b c
     by_test false e = and_true (holds_slot b c)
     by_test true e =
-        let parts = both_of (r.rank == c.rank) _ e in
+        let parts = and_parts (r.rank == c.rank) _ e in
         let none = no_slot (λ i. record { rank = eqb-true r.rank c.rank parts.0 i; index = eqb-true r.index c.index parts.1 i }) in
         ap (λ (x : Bool). x && false) none ∙ sym none
 
@@ -336,7 +333,7 @@ slots_with_fitting b s r q free fit = slots_with_pair b s r q free (unbuffered (
 pub slots_with_match : (b : Board) (s r : CallId) (q : ℕ) → eligible b s r ≡ true → slots_used b q ≡ slots_used (with_set b (Pair s r)) q + at_rank s.rank (slots_of (kind_at b s)) q
 slots_with_match b s r q e =
     let parts = agrees b s r e in
-    slots_with_fitting b s r q (none_there (partner b.sets s) (both_of (is_message_kind (kind_at b s)) _ parts.send_free).1) parts.fit
+    slots_with_fitting b s r q (none_there (partner b.sets s) (and_parts (is_message_kind (kind_at b s)) _ parts.send_free).1) parts.fit
   where
     none_there : (o : Option CallId) → is_none o ≡ true → o ≡ None
     none_there None e = refl

@@ -1,5 +1,5 @@
 -- What the grammar's functions read as an expression is written so.
-use Rattle.std.proofs.Common.{◌≡◌, ◌≢◌, ℕ, zero, suc, ◌≤◌, ◌==◌, Bool, true, false, cond, List, [], ◌∷◌, ◌++◌, Option, Some, None, is_some, Ok, Err, refl, ap, sym, ◌∙◌, append_assoc, arith, rules, inl, inr}
+use Rattle.std.proofs.Common.{◌≡◌, ◌≢◌, ℕ, zero, suc, ◌-◌, ◌≤◌, ◌==◌, Bool, true, false, cond, List, [], ◌∷◌, ◌++◌, Option, Some, None, is_some, Ok, Err, refl, ap, sym, ◌∙◌, append_assoc, arith, rules, inl, inr}
 use Rattle.std.proofs.lemmas.Bool.{cases_Bool}
 use Rattle.std.proofs.lemmas.Bool.Decides.{nat_tests}
 use denote.Enum.Bare.{same_true}
@@ -36,9 +36,9 @@ ok_of x = Ok x
 pub ok_parts : {A : Type 0} (x y : A × Input) → ok_of x ≡ ok_of y → (x.0 ≡ y.0) × (x.1 ≡ y.1)
 ok_parts x y h = let e : x ≡ y = cc in (ap (λ p. p.0) e, ap (λ p. p.1) e)
 
-pub guard_ok : {A : Type 0} (b : Bool) (e : ReadFault) (x y : A × Input) → cond b (Err e) (Ok x) ≡ Ok y → x ≡ y
+pub guard_ok : {A : Type 0} (b : Bool) (e : ReadFault) (x y : A × Input) → cond b (Err e) (Ok x) ≡ Ok y → (b ≡ false) × (x ≡ y)
 guard_ok true e x y h = absurd (cc)
-guard_ok false e x y h = cc
+guard_ok false e x y h = (refl, cc)
 
 pub test_ok : {A : Type 0} (b : Bool) (e : ReadFault) (x y : A × Input) → cond b (Ok x) (Err e) ≡ Ok y → (b ≡ true) × (x ≡ y)
 test_ok true e x y h = (refl, cc)
@@ -92,7 +92,16 @@ pub spend_ok : (i : Input) (y : Unit {0} × Input) → spend i ≡ Ok y → (y.1
 unfolding spend advanced
 spend_ok i y h =
     let e = guard_ok (i.budget == 0) _ _ y h in
-    (sym (ap (λ p. p.1.tokens) e), sym (ap (λ p. p.1.version) e), sym (ap (λ p. p.1.decls) e), sym (ap (λ p. p.1.lines) e))
+    (sym (ap (λ p. p.1.tokens) e.1), sym (ap (λ p. p.1.version) e.1), sym (ap (λ p. p.1.decls) e.1), sym (ap (λ p. p.1.lines) e.1))
+
+-- a bracket or an operator takes one from the budget
+pub spend_takes : (i : Input) (y : Unit {0} × Input) → spend i ≡ Ok y → i.budget ≡ suc y.1.budget
+unfolding spend advanced
+spend_takes i y h =
+    let e = guard_ok (i.budget == 0) _ _ y h in
+    let left : y.1.budget ≡ i.budget - 1 = sym (ap (λ p. p.1.budget) e.1) in
+    let some : i.budget ≢ 0 = λ z. grind (arith, nat_tests) in
+    omega (arith, left, some)
 
 pub spend_step : (i : Input) (y : Unit {0} × Input) → token i ≢ End → spend i ≡ Ok y → Step i y.1
 spend_step i y some h = let s = spend_ok i y h in step i y.1 some s.0 s.1 s.2 s.3

@@ -1,4 +1,4 @@
--- What is read as the parts of a statement is written so.
+-- What is read as the parts of a statement is written so, each expression within the budget.
 use Rattle.std.proofs.Common.{◌≡◌, ℕ, suc, Bool, true, false, cond, List, [], ◌∷◌, ◌++◌, Option, None, Some, is_some, Ok, refl, sym, subst, ◌∙◌, append_assoc}
 use Rattle.mpd_model.specs.declared.limits.TheConstants.{NESTING_MAX}
 use Rattle.mpd_model.specs.declared.place.DeclKind.{DeclKind}
@@ -15,7 +15,9 @@ use Rattle.mpd_model.specs.Input.{Input, token, advanced, expect, seek, sees, ma
 use Rattle.mpd_model.specs.Parts.{Part, of_mark, of_term, of_target, of_name, Hole, mark_hole, term_hole, target_hole, name_hole, source_hole, status_hole, source_part, status_parts, Contents, filled}
 use Rattle.mpd_model.specs.Term.{Term, Target}
 use Rattle.mpd_model.specs.Tokens.{Spot}
-use Rattle.mpd_model.specs.Written.{Names, WrittenTerm, TermBetween, WrittenTarget, whole, part, WrittenPart, by_mark, by_term, by_target, by_name, WrittenParts, no_part, then_part}
+use Rattle.mpd_model.specs.Written.{Names, TermBetween}
+use Rattle.mpd_laws.proofs.Budget.{expression_within}
+use Rattle.mpd_laws.proofs.Cheap.{CheapTerm, CheapTarget, CheapPart, CheapParts, whole, part, by_mark, by_term, by_target, by_name, no_part, then_part}
 use Rattle.mpd_laws.proofs.Sound.{bind_ok, ok_parts, carried, Moves, no_move, then_moves, Step, next_step, sees_is, expect_step, NamedBy, name_step, expr_sound}
 
 -- ---- expressions that stand in no other
@@ -23,20 +25,15 @@ use Rattle.mpd_laws.proofs.Sound.{bind_ok, ok_parts, carried, Moves, no_move, th
 pub record Read (t : Term) (i j : Input) : Type 0 where
   pub used : List Spot
   pub moves : Moves used i j
-  pub written : WrittenTerm i.decls 5 used t
-
-read_of_takes : (t : Term) (i x j : Input) → x.tokens ≡ i.tokens → x.version ≡ i.version → x.decls ≡ i.decls → x.lines ≡ i.lines → TermBetween 5 t x j → Read t i j
-read_of_takes t i x j a v b c tk = record {
-  used = tk.used;
-  moves = record { is = sym a ∙ tk.is; version = tk.version ∙ v; decls = tk.decls ∙ b; lines = tk.lines ∙ c };
-  written = rw (← b) tk.written;
-}
+  pub written : CheapTerm i.decls used t
 
 pub expression_ok : (i : Input) (y : Term × Input) → expression i ≡ Ok y → Read y.0 i y.1
-expression_ok i y h = read_of_takes y.0 i (record i { budget = max_budget }) y.1 refl refl refl refl (expr_sound (suc NESTING_MAX) 5 (record i { budget = max_budget }) y.1 y.0 h)
+expression_ok i y h =
+    let tk : TermBetween 5 y.0 (record i { budget = max_budget }) y.1 = expr_sound (suc NESTING_MAX) 5 (record i { budget = max_budget }) y.1 y.0 h in
+    record { used = tk.used; moves = record { is = tk.is; version = tk.version; decls = tk.decls; lines = tk.lines }; written = (tk.written, expression_within i y tk.used h tk.is) }
 
 -- an expression seen from where the statement began
-here : (t : Term) (i x j : Input) → x.decls ≡ i.decls → (r : Read t x j) → WrittenTerm i.decls 5 r.used t
+here : (t : Term) (i x j : Input) → x.decls ≡ i.decls → (r : Read t x j) → CheapTerm i.decls r.used t
 here t i x j e r = rw (← e) r.written
 
 -- ---- places that stand in no expression
@@ -44,13 +41,13 @@ here t i x j e r = rw (← e) r.written
 pub record TargetBetween (kind : DeclKind) (t : Target) (i j : Input) : Type 0 where
   pub used : List Spot
   pub moves : Moves used i j
-  pub written : WrittenTarget i.decls kind used t
+  pub written : CheapTarget i.decls kind used t
 
 -- what follows the name of such a place
 pub record Outside (kind : DeclKind) (slot : Slot) (t : Target) (i j : Input) : Type 0 where
   pub used : List Spot
   pub moves : Moves used i j
-  pub written : (s : Spot) → NamedBy i.decls kind slot s → WrittenTarget i.decls kind (s ∷ used) t
+  pub written : (s : Spot) → NamedBy i.decls kind slot s → CheapTarget i.decls kind (s ∷ used) t
 
 abbrev whole_of : Slot → Target
 whole_of slot = record { place = place_of_slot slot; index = None }
@@ -113,7 +110,7 @@ statement_place_ok kind i y h = statement_place_case kind (token i) i y refl h
 record NameBetween (kind : DeclKind) (p : Place) (i j : Input) : Type 0 where
   used : List Spot
   moves : Moves used i j
-  written : WrittenPart i.decls used (of_name kind p)
+  written : CheapPart i.decls used (of_name kind p)
 
 named_by : (kind : DeclKind) (slot : Slot) (i j : Input) → (s : Step i j) → NamedBy i.decls kind slot s.spot → NameBetween kind (place_of_slot slot) i j
 named_by kind slot i j s n = record {
@@ -139,7 +136,7 @@ statement_name_ok kind i y h = statement_name_case kind (token i) i y refl h
 record SourceBetween (o : Option Term) (i j : Input) : Type 0 where
   used : List Spot
   moves : Moves used i j
-  written : WrittenPart i.decls used (source_part o)
+  written : CheapPart i.decls used (source_part o)
 
 source_case : (found : Bool) (i : Input) (y : Option Term × Input) → sees m.Any i ≡ found → source_by found (cond found (advanced i) i) ≡ Ok y → SourceBetween y.0 i y.1
 source_case true i y e h =
@@ -164,17 +161,17 @@ status_of p q = record { source = p; tag = q }
 record StatusBetween (o : Option StatusStmt) (i j : Input) : Type 0 where
   used : List Spot
   moves : Moves used i j
-  written : (ps : List Part) (rs : List Spot) → WrittenParts i.decls rs ps → WrittenParts i.decls (used ++ rs) (status_parts o ps)
+  written : (ps : List Part) (rs : List Spot) → CheapParts i.decls rs ps → CheapParts i.decls (used ++ rs) (status_parts o ps)
 
 -- a place before other parts, seen from where the statement began
-place_first : (t : Target) (ps : List Part) (ss rs : List Spot) (i x : Input) → x.decls ≡ i.decls → WrittenTarget x.decls Variable ss t → WrittenParts i.decls rs ps → WrittenParts i.decls (ss ++ rs) (of_target Variable t ∷ ps)
+place_first : (t : Target) (ps : List Part) (ss rs : List Spot) (i x : Input) → x.decls ≡ i.decls → CheapTarget x.decls Variable ss t → CheapParts i.decls rs ps → CheapParts i.decls (ss ++ rs) (of_target Variable t ∷ ps)
 place_first t ps ss rs i x e v w = then_part ss rs (of_target Variable t) ps (by_target ss Variable t (rw (← e) v)) w
 
 status_before : (p q : Target) (i x y j : Input) → (s : Step i x) → s.spot.token ≡ Is m.Status → TargetBetween Variable p x y → TargetBetween Variable q y j → StatusBetween (Some (status_of p q)) i j
 status_before p q i x y j s is n o = record {
   used = s.spot ∷ (n.used ++ o.used);
   moves = then_moves (s.spot ∷ []) (n.used ++ o.used) i x j s.moves (then_moves n.used o.used x y j n.moves o.moves);
-  written = λ ps rs w. subst (λ u. WrittenParts i.decls (s.spot ∷ u) (status_parts (Some (status_of p q)) ps)) (sym (append_assoc n.used o.used rs))
+  written = λ ps rs w. subst (λ u. CheapParts i.decls (s.spot ∷ u) (status_parts (Some (status_of p q)) ps)) (sym (append_assoc n.used o.used rs))
       (then_part (s.spot ∷ []) (n.used ++ (o.used ++ rs)) (of_mark m.Status) (of_target Variable p ∷ of_target Variable q ∷ ps) (by_mark s.spot m.Status is)
       (place_first p (of_target Variable q ∷ ps) n.used (o.used ++ rs) i x s.moves.decls n.written
       (place_first q ps o.used rs i y (n.moves.decls ∙ s.moves.decls) o.written w)));
@@ -206,7 +203,7 @@ pub record Fills {A : Type 0} (hs : List Hole) (made : Contents hs → A) (a : A
   pub used : List Spot
   pub end : Spot
   pub moves : Moves (used ++ end ∷ []) i j
-  pub written : WrittenParts i.decls used (filled hs contents)
+  pub written : CheapParts i.decls used (filled hs contents)
   pub closed : end.token ≡ Is m.Semicolon
 
 -- the tokens of a part and then those of the others, up to the end
@@ -214,10 +211,10 @@ pub part_moves : (ss rs : List Spot) (end : Spot) (i x j : Input) → Moves ss i
 part_moves ss rs end i x j a b = subst (λ u. Moves u i j) (sym (append_assoc ss rs (end ∷ []))) (then_moves ss (rs ++ end ∷ []) i x j a b)
 
 -- parts seen from where the statement began
-parts_here : (ps : List Part) (rs : List Spot) (i x : Input) → x.decls ≡ i.decls → WrittenParts x.decls rs ps → WrittenParts i.decls rs ps
+parts_here : (ps : List Part) (rs : List Spot) (i x : Input) → x.decls ≡ i.decls → CheapParts x.decls rs ps → CheapParts i.decls rs ps
 parts_here ps rs i x e w = rw (← e) w
 
-pub part_first : (p : Part) (ps : List Part) (ss rs : List Spot) (i x : Input) → x.decls ≡ i.decls → WrittenPart i.decls ss p → WrittenParts x.decls rs ps → WrittenParts i.decls (ss ++ rs) (p ∷ ps)
+pub part_first : (p : Part) (ps : List Part) (ss rs : List Spot) (i x : Input) → x.decls ≡ i.decls → CheapPart i.decls ss p → CheapParts x.decls rs ps → CheapParts i.decls (ss ++ rs) (p ∷ ps)
 part_first p ps ss rs i x e v w = then_part ss rs p ps v (parts_here ps rs i x e w)
 
 pub fill_ok : {A : Type 0} (hs : List Hole) (made : Contents hs → A) (i j : Input) (a : A) → fill hs made i ≡ Ok (a, j) → Fills hs made a i j

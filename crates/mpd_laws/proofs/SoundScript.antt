@@ -10,19 +10,20 @@ use Rattle.mpd_model.specs.declared.slot.Slot.{Slot}
 use Rattle.mpd_model.specs.declared.token.Mark.TheVariants as m
 use Rattle.mpd_model.specs.declared.token.Token.{Token}
 use Rattle.mpd_model.specs.declared.token.Token.TheVariants.{Number, Name, Is, End}
+use Rattle.mpd_model.specs.Costs.{dearest_script}
 use Rattle.mpd_model.specs.Declaration.{Declared}
 use Rattle.mpd_model.specs.Faults.{fault}
 use Rattle.mpd_model.specs.Grammar.{version_in, version_of, version_by, version, rank_count, ranks_of, ranks_by, ranks, natural, array_size_at, array_size_by, array_size, single, declarator, decl_by, decl, declares, decls_by, decls_from, decls, header, stmt, stmts, body, block, closes, max_blocks, max_text, is_text, read_of, reading}
 use Rattle.mpd_model.specs.Grammar as grammar
-use Rattle.mpd_model.specs.Input.{Input, Outcome, Parser, start_of, token, token_of, spelling, place, advanced, expect, sees, after, fresh, add, cells_fit, is_known, slot_in, pure, ◌>>=◌}
+use Rattle.mpd_model.specs.Input.{Input, Outcome, Parser, start_of, token, token_of, spelling, place, advanced, expect, sees, after, fresh, add, cells_fit, is_known, slot_in, pure, max_budget, ◌>>=◌}
 use Rattle.mpd_model.specs.Program.{Program}
 use Rattle.mpd_model.specs.Tokens.{Spot, tokens}
 use Rattle.mpd_model.specs.Tree.{Tree, block_of, statements_in}
-use Rattle.mpd_model.specs.Written.{WrittenDecls, none, declares_one, declares_array, declared_as, BodyBetween, WrittenScript, script}
+use Rattle.mpd_model.specs.Written.{WrittenDecls, none, declares_one, declares_array, declared_as, WrittenScript, script}
 use Rattle.mpd_laws.proofs.Counted.{body_lines}
 use Rattle.mpd_laws.proofs.Ends.{NoEnd, tokens_real, rest_real, none_left}
 use Rattle.mpd_laws.proofs.Sound.{bind_ok, ok_parts, carried, test_ok, Step, next_step, sees_is, expect_step}
-use Rattle.mpd_laws.proofs.SoundStatements.{append_none, statements_sound}
+use Rattle.mpd_laws.proofs.SoundStatements.{BodyBetween, append_none, statements_sound}
 
 -- ---- the numbers of the header
 
@@ -398,7 +399,7 @@ lines_counted i x y n ts depth inside e h b =
     let head = header_ok i (n, x) h in
     let t = statements_sound depth inside x y ts b in
     let l : y.lines ≡ t.begun = t.lines ∙ ap (λ r. r ++ t.begun) (head.lines ∙ e) in
-    ap length l ∙ body_lines x.decls t.used ts t.begun t.written
+    ap length l ∙ body_lines x.decls t.used ts t.begun t.written.0
 
 -- a header and a body are a script
 pub script_reads : (i x y : Input) (n : ℕ) (ts : List Tree) (v : ℕ) (ds : List Declared) (ls : List ℕ) → header i ≡ Ok (n, x) → body (block BLOCKS_MAX) false x ≡ Ok (ts, y)
@@ -421,7 +422,7 @@ unfolding stmts
 body_ends p inside zero found ts i j h = absurd (cc)
 body_ends p inside (suc n) found ts i j h = ends_case p inside n found ts i j (closes inside (token i)) refl (λ f x e. body_ends p inside n f ts x j e) h
 
-body_closed : (p : Parser (List Tree)) (inside : Bool) (i j : Input) (ts : List Tree) → body p inside i ≡ Ok (ts, j) → closes inside (token j) ≡ true
+pub body_closed : (p : Parser (List Tree)) (inside : Bool) (i j : Input) (ts : List Tree) → body p inside i ≡ Ok (ts, j) → closes inside (token j) ≡ true
 unfolding body
 body_closed p inside i j ts h = body_ends p inside (length i.tokens + 1) [] ts i j h
 
@@ -430,7 +431,7 @@ at_end End h = refl
 at_end _ h = absurd (cc)
 
 -- what is behind the last statement of a text
-nothing_left : (i x j : Input) (n : ℕ) (ts : List Tree) → NoEnd i.tokens → Header n i x → BodyBetween ts x j → closes false (token j) ≡ true → j.tokens ≡ []
+pub nothing_left : (i x j : Input) (n : ℕ) (ts : List Tree) → NoEnd i.tokens → Header n i x → BodyBetween ts x j → closes false (token j) ≡ true → j.tokens ≡ []
 unfolding token
 nothing_left i x j n ts real h b e =
     let all = h.mpd ∷ h.version ∷ h.first ∷ h.ranks ∷ h.count ∷ h.second ∷ h.used in
@@ -438,15 +439,22 @@ nothing_left i x j n ts real h b e =
     let behind_body : NoEnd j.tokens = rest_real b.used j.tokens (rw b.is at behind_header) in
     none_left j.tokens behind_body (at_end (token_of j.tokens) e)
 
-script_is : (i x j : Input) (n : ℕ) (ts : List Tree) → i.decls ≡ [] → i.lines ≡ [] → Header n i x → BodyBetween ts x j → j.tokens ≡ []
-    → WrittenScript i.tokens (record { version = j.version; ranks = n; decls = j.decls; body = ts; lines = j.lines })
+-- what is written as a script, each expression within the budget
+abbrev pub CheapScript : List Spot → Program → Type 0
+CheapScript ss p = (w : WrittenScript ss p) × (dearest_script ss p w ≤ max_budget)
+
+pub script_is : (i x j : Input) (n : ℕ) (ts : List Tree) → i.decls ≡ [] → i.lines ≡ [] → Header n i x → BodyBetween ts x j → j.tokens ≡ []
+    → CheapScript i.tokens (record { version = j.version; ranks = n; decls = j.decls; body = ts; lines = j.lines })
 script_is i x j n ts none_yet no_lines h b last =
     let used : x.tokens ≡ b.used = b.is ∙ ap (λ r. b.used ++ r) last ∙ sym (append_none Spot b.used) in
     let lines : j.lines ≡ b.begun = b.lines ∙ ap (λ r. r ++ b.begun) (h.lines ∙ no_lines) in
     let ds = carried_decls i.decls [] h.used x.decls none_yet h.decls in
-    rw (h.is, used, b.version, b.decls, lines) (script h.mpd h.version h.first h.ranks h.count h.second h.used b.used
-    (record { version = x.version; ranks = n; decls = x.decls; body = ts; lines = b.begun })
-    h.is_mpd h.is_version h.is_first h.is_ranks h.is_count h.is_second ds b.written)
+    rw (h.is, used, b.version, b.decls, lines) (
+      script h.mpd h.version h.first h.ranks h.count h.second h.used b.used
+          (record { version = x.version; ranks = n; decls = x.decls; body = ts; lines = b.begun })
+          h.is_mpd h.is_version h.is_first h.is_ranks h.is_count h.is_second ds b.written.0,
+      b.written.1,
+    )
 
 script_written : (i : Input) (y : Program × Input) → NoEnd i.tokens → i.decls ≡ [] → i.lines ≡ [] → grammar.script i ≡ Ok y → WrittenScript i.tokens y.0
 unfolding grammar.script
@@ -457,20 +465,20 @@ script_written i y real d l h =
     let head = header_ok i a.0 a.1 in
     let tail = statements_sound max_blocks false a.0.1 b.0.1 b.0.0 b.1 in
     let closed = body_closed (block max_blocks) false a.0.1 b.0.1 b.0.0 b.1 in
-    rw (← o.0) (script_is i a.0.1 b.0.1 a.0.0 b.0.0 d l head tail (nothing_left i a.0.1 b.0.1 a.0.0 b.0.0 real head tail closed))
+    rw (← o.0) (script_is i a.0.1 b.0.1 a.0.0 b.0.0 d l head tail (nothing_left i a.0.1 b.0.1 a.0.0 b.0.0 real head tail closed)).0
 
 pub read_ok : (o : Outcome Program) (p : Program) → read_of o ≡ Ok p → (j : Input) × (o ≡ Ok (p, j))
 read_ok (Ok y) p h = let e : y.0 ≡ p = cc in (y.1, rw (← e) refl)
 read_ok (Err f) p h = absurd (cc)
 
-pub refused : {A : Type 0} (b : Bool) (e : ReadFault) (x : Result A ReadFault) (a : A) → cond b (Err e) x ≡ Ok a → x ≡ Ok a
+pub refused : {A : Type 0} (b : Bool) (e : ReadFault) (x : Result A ReadFault) (a : A) → cond b (Err e) x ≡ Ok a → (b ≡ false) × (x ≡ Ok a)
 refused true e x a h = absurd (cc)
-refused false e x a h = h
+refused false e x a h = (refl, h)
 
 pub reading_written : (text : List ℕ) (p : Program) → reading text ≡ Ok p → WrittenScript (tokens text) p
 unfolding reading
 reading_written text p h =
     let a = refused (nat_lt max_text (length text)) _ _ p h in
-    let b = refused (nat_lt (prefix_len is_text text) (length text)) _ _ p a in
-    let c = read_ok (grammar.script (start_of text)) p b in
+    let b = refused (nat_lt (prefix_len is_text text) (length text)) _ _ p a.1 in
+    let c = read_ok (grammar.script (start_of text)) p b.1 in
     script_written (start_of text) (p, c.0) (tokens_real 0 0 1 text) refl refl c.1

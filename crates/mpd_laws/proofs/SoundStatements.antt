@@ -1,5 +1,5 @@
--- What the grammar's functions read as statements is written so.
-use Rattle.std.proofs.Common.{◌≡◌, ◌≢◌, ℕ, zero, suc, ◌+◌, Bool, true, false, cond, List, [], ◌∷◌, ◌++◌, Option, None, Some, Ok, refl, ap, sym, subst, ◌∙◌, append_assoc, length, nat_lt, nat_le, ◌≤◌, arith}
+-- What is read as statements is written so, each expression within the budget, and no more statements begin than may.
+use Rattle.std.proofs.Common.{◌≡◌, ◌≢◌, ℕ, zero, suc, ◌+◌, Bool, true, false, cond, List, [], ◌∷◌, ◌++◌, Option, None, Some, Ok, refl, ap, sym, subst, ◌∙◌, append_assoc, length, length-append, nat_lt, nat_le, ◌<◌, ◌≤◌, arith}
 use Rattle.std.proofs.lemmas.Bool.Decides.{nat_tests}
 use Rattle.mpd_model.specs.declared.limits.TheConstants.{STATEMENTS_MAX}
 use Rattle.mpd_model.specs.declared.place.DeclKind.TheVariants.{Variable}
@@ -17,9 +17,38 @@ use Rattle.mpd_model.specs.declared.stmt.Simple.TheVariants as st
 use Rattle.mpd_model.specs.Term.{Term}
 use Rattle.mpd_model.specs.Tokens.{Spot}
 use Rattle.mpd_model.specs.Tree.{Tree, simple, branch, repeat, no_more, block_of}
-use Rattle.mpd_model.specs.Written.{WrittenParts, then_part, by_mark, by_target, WrittenTree, simply, repeats, chooses, chooses_else, WrittenBlock, braces, WrittenBody, ended, follows, LinesBetween, TreeBetween, BlockBetween, BodyBetween}
+use Rattle.mpd_model.specs.Written as written
+use Rattle.mpd_laws.proofs.Cheap.{CheapParts, then_part, by_mark, by_target, CheapTree, simply, repeats, chooses, chooses_else, CheapBlock, braces, CheapBody, ended, follows}
 use Rattle.mpd_laws.proofs.Sound.{bind_ok, ok_parts, carried, test_ok, first_spot, Moves, Step, next_step, sees_is, expect_step, seek_ok, NamedBy}
 use Rattle.mpd_laws.proofs.SoundParts.{Read, expression_ok, index_outside_ok, part_moves, part_first, fill_ok}
+
+-- ---- no more statements than may be
+
+abbrev pub IsFew : Input → Type 0
+IsFew i = length i.lines ≤ STATEMENTS_MAX
+
+same_lines : (i j : Input) → j.lines ≡ i.lines → IsFew i → IsFew j
+same_lines i j e h = omega (arith, ap length e, h)
+
+-- the tokens between two states of the input write something, whose statements are on the lines that were noted
+pub record LinesBetween (Writes : List Declared → List Spot → List ℕ → Type 0) (i j : Input) : Type 0 where
+  pub used : List Spot
+  pub begun : List ℕ
+  pub is : i.tokens ≡ used ++ j.tokens
+  pub written : Writes i.decls used begun
+  pub version : j.version ≡ i.version
+  pub decls : j.decls ≡ i.decls
+  pub lines : j.lines ≡ i.lines ++ begun
+  pub few : IsFew i → IsFew j
+
+abbrev pub TreeBetween : Tree → Input → Input → Type 0
+TreeBetween t = LinesBetween (λ ds ss ls. CheapTree ds ss t ls)
+
+abbrev pub BlockBetween : List Tree → Input → Input → Type 0
+BlockBetween ts = LinesBetween (λ ds ss ls. CheapBlock ds ss ts ls)
+
+abbrev pub BodyBetween : List Tree → Input → Input → Type 0
+BodyBetween ts = LinesBetween (λ ds ss ls. CheapBody ds ss ts ls)
 
 -- ---- the first token of a statement
 
@@ -31,10 +60,11 @@ pub record Begun (i j : Input) : Type 0 where
   pub version : j.version ≡ i.version
   pub decls : j.decls ≡ i.decls
   pub lines : j.lines ≡ i.lines ++ spot.line ∷ []
+  pub few : IsFew j
 
-begin_statement_spot : (i j : Input) → token_of i.tokens ≢ End → j.tokens ≡ behind i.tokens → j.version ≡ i.version → j.decls ≡ i.decls → j.lines ≡ i.lines ++ first_line i.tokens ∷ [] → Begun i j
+begin_statement_spot : (i j : Input) → token_of i.tokens ≢ End → j.tokens ≡ behind i.tokens → j.version ≡ i.version → j.decls ≡ i.decls → j.lines ≡ i.lines ++ first_line i.tokens ∷ [] → IsFew j → Begun i j
 unfolding token spelling
-begin_statement_spot i j some a v b c =
+begin_statement_spot i j some a v b c few =
     let f = first_spot i.tokens some in
     record {
       spot = f.0;
@@ -44,7 +74,13 @@ begin_statement_spot i j some a v b c =
       version = v;
       decls = b;
       lines = c ∙ ap (λ r. i.lines ++ first_line r ∷ []) f.1;
+      few = few;
     }
+
+one_fits : (i j : Input) → nat_lt (length i.lines) STATEMENTS_MAX ≡ true → j.lines ≡ i.lines ++ first_line i.tokens ∷ [] → IsFew j
+one_fits i j h e =
+    let less : length i.lines < STATEMENTS_MAX = grind (arith, nat_tests) in
+    omega (arith, less, ap length e, length-append i.lines (first_line i.tokens ∷ []))
 
 pub begin_statement_ok : (i : Input) (y : Unit {0} × Input) → token i ≢ End → begin_statement i ≡ Ok y → Begun i y.1
 unfolding count advanced token
@@ -58,6 +94,7 @@ begin_statement_ok i y some h =
     let l : y.1.lines ≡ b.0.1.lines = sym (ap (λ k. k.lines) o.1) in
     begin_statement_spot i y.1 some
     (t ∙ sym (ap (λ p. behind p.1.tokens) c.1)) (v ∙ sym (ap (λ p. p.1.version) c.1)) (d ∙ sym (ap (λ p. p.1.decls) c.1)) (l ∙ sym (ap (λ p. p.1.lines) c.1))
+    (one_fits i y.1 c.0 (l ∙ sym (ap (λ p. p.1.lines) c.1)))
 
 -- ---- what follows the first token
 
@@ -69,28 +106,29 @@ pub record Rest (k : Mark) (t : Tree) (i j : Input) : Type 0 where
   pub version : j.version ≡ i.version
   pub decls : j.decls ≡ i.decls
   pub lines : j.lines ≡ i.lines ++ begun
-  pub written : (s : Spot) → s.token ≡ Is k → WrittenTree i.decls (s ∷ used) t (s.line ∷ begun)
+  pub few : IsFew i → IsFew j
+  pub written : (s : Spot) → s.token ≡ Is k → CheapTree i.decls (s ∷ used) t (s.line ∷ begun)
 
 pub append_none : (A : Type 0) (xs : List A) → xs ≡ xs ++ []
 append_none A [] = refl
 append_none A (x ∷ xs) = ap (λ r. x ∷ r) (append_none A xs)
 
 -- a statement that holds no other
-flat : (k : Mark) (t : Tree) (used : List Spot) (i j : Input) → Moves used i j → ((s : Spot) → s.token ≡ Is k → WrittenTree i.decls (s ∷ used) t (s.line ∷ [])) → Rest k t i j
-flat k t used i j x w = record { used = used; begun = []; is = x.is; version = x.version; decls = x.decls; lines = x.lines ∙ append_none ℕ i.lines; written = w }
+flat : (k : Mark) (t : Tree) (used : List Spot) (i j : Input) → Moves used i j → ((s : Spot) → s.token ≡ Is k → CheapTree i.decls (s ∷ used) t (s.line ∷ [])) → Rest k t i j
+flat k t used i j x w = record { used = used; begun = []; is = x.is; version = x.version; decls = x.decls; lines = x.lines ∙ append_none ℕ i.lines; few = same_lines i j x.lines; written = w }
 
 form_rest : (f : Form) (i j : Input) (t : Tree) → behind_word f i ≡ Ok (t, j) → Rest f.word t i j
 form_rest f i j t h =
     let r = fill_ok f.holes (λ c. simple (f.made c)) i j t h in
     subst (λ t. Rest f.word t i j) r.is (flat f.word (simple (f.made r.contents)) (r.used ++ r.end ∷ []) i j r.moves
     (λ s is. simply (s ∷ r.used) r.end (f.made r.contents)
-    (subst (WrittenParts i.decls (s ∷ r.used)) (sym (f.parts r.contents)) (then_part (s ∷ []) r.used (of_mark f.word) (filled f.holes r.contents) (by_mark s f.word is) r.written)) r.closed))
+    (subst (CheapParts i.decls (s ∷ r.used)) (sym (f.parts r.contents)) (then_part (s ∷ []) r.used (of_mark f.word) (filled f.holes r.contents) (by_mark s f.word is) r.written)) r.closed))
 
 -- what follows the name that an assignment begins with
 record Assigns (slot : Slot) (t : Tree) (i j : Input) : Type 0 where
   pub used : List Spot
   pub moves : Moves used i j
-  pub written : (s : Spot) → NamedBy i.decls Variable slot s → WrittenTree i.decls (s ∷ used) t (s.line ∷ [])
+  pub written : (s : Spot) → NamedBy i.decls Variable slot s → CheapTree i.decls (s ∷ used) t (s.line ∷ [])
 
 assignment_ok : (slot : Slot) (i j : Input) (t : Tree) → assignment slot i ≡ Ok (t, j) → Assigns slot t i j
 unfolding assignment
@@ -117,6 +155,7 @@ record Lines (used : List Spot) (begun : List ℕ) (i j : Input) : Type 0 where
   pub version : j.version ≡ i.version
   pub decls : j.decls ≡ i.decls
   pub lines : j.lines ≡ i.lines ++ begun
+  pub few : IsFew i → IsFew j
 
 then_lines : (a b : List Spot) (ls ms : List ℕ) (i j k : Input) → Lines a ls i j → Lines b ms j k → Lines (a ++ b) (ls ++ ms) i k
 then_lines a b ls ms i j k x y = record {
@@ -124,19 +163,20 @@ then_lines a b ls ms i j k x y = record {
   version = y.version ∙ x.version;
   decls = y.decls ∙ x.decls;
   lines = y.lines ∙ ap (λ r. r ++ ms) x.lines ∙ append_assoc i.lines ls ms;
+  few = λ h. y.few (x.few h);
 }
 
 moves_lines : (used : List Spot) (i j : Input) → Moves used i j → Lines used [] i j
-moves_lines used i j x = record { is = x.is; version = x.version; decls = x.decls; lines = x.lines ∙ append_none ℕ i.lines }
+moves_lines used i j x = record { is = x.is; version = x.version; decls = x.decls; lines = x.lines ∙ append_none ℕ i.lines; few = same_lines i j x.lines }
 
 lines_of : (W : List Declared → List Spot → List ℕ → Type 0) (i j : Input) (x : LinesBetween W i j) → Lines x.used x.begun i j
-lines_of W i j x = record { is = x.is; version = x.version; decls = x.decls; lines = x.lines }
+lines_of W i j x = record { is = x.is; version = x.version; decls = x.decls; lines = x.lines; few = x.few }
 
 abbrev OneBlock : List Tree → List Declared → List Spot → List ℕ → Type 0
-OneBlock ts ds ss ls = WrittenBlock ds ss ts ls
+OneBlock ts ds ss ls = CheapBlock ds ss ts ls
 
 -- a block seen from where the statement began
-there : (ts : List Tree) (i x j : Input) → x.decls ≡ i.decls → (b : BlockBetween ts x j) → WrittenBlock i.decls b.used ts b.begun
+there : (ts : List Tree) (i x j : Input) → x.decls ≡ i.decls → (b : BlockBetween ts x j) → CheapBlock i.decls b.used ts b.begun
 there ts i x j e b = rw (← e) b.written
 
 chosen_alone : (i a j : Input) (t : Term) (x : List Tree) → Read t i a → BlockBetween x a j → Rest m.If (branch t (block_of x) no_more) i j
@@ -149,6 +189,7 @@ chosen_alone i a j t x r b =
       version = all.version;
       decls = all.decls;
       lines = all.lines;
+      few = all.few;
       written = λ s is. chooses s r.used b.used t x b.begun is r.written (there x i a j r.moves.decls b);
     }
 
@@ -165,6 +206,7 @@ chosen_else i a b c j t x y r f w e g =
       version = all.version;
       decls = all.decls;
       lines = all.lines;
+      few = all.few;
       written = λ s is. chooses_else s w.spot r.used f.used g.used t x y f.begun g.begun is r.written (there x i a b r.moves.decls f) e (there y i c j (w.moves.decls ∙ one.decls) g);
     }
 
@@ -178,6 +220,7 @@ repeated i a j t x r b =
       version = all.version;
       decls = all.decls;
       lines = all.lines;
+      few = all.few;
       written = λ s is. repeats s r.used b.used t x b.begun is r.written (there x i a j r.moves.decls b);
     }
 
@@ -226,6 +269,7 @@ all_of k t i x j e b r = record {
   version = r.version ∙ b.version;
   decls = r.decls ∙ b.decls;
   lines = r.lines ∙ ap (λ q. q ++ r.begun) b.lines ∙ append_assoc i.lines (b.spot.line ∷ []) r.begun;
+  few = λ h. r.few b.few;
 }
 
 begin_statement_then : (k : Mark) (p : Parser Tree) → ((x j : Input) (t : Tree) → p x ≡ Ok (t, j) → Rest k t x j)
@@ -244,6 +288,7 @@ assigned slot t i x j b n r = record {
   version = r.moves.version ∙ b.version;
   decls = r.moves.decls ∙ b.decls;
   lines = r.moves.lines ∙ b.lines;
+  few = λ h. same_lines x j r.moves.lines b.few;
 }
 
 begin_statement_here : (i x : Input) (y : Unit {0} × Input) → i ≡ x → token i ≢ End → begin_statement x ≡ Ok y → Begun i y.1
@@ -311,14 +356,15 @@ none_more found ts i j a b = record {
     version = sym (ap (λ k. k.version) b);
     decls = sym (ap (λ k. k.decls) b);
     lines = sym (ap (λ k. k.lines) b) ∙ append_none ℕ i.lines;
+    few = same_lines i j (sym (ap (λ k. k.lines) b));
   };
 }
 
 abbrev OneBody : List Tree → List Declared → List Spot → List ℕ → Type 0
-OneBody ts ds ss ls = WrittenBody ds ss ts ls
+OneBody ts ds ss ls = CheapBody ds ss ts ls
 
 abbrev OneTree : Tree → List Declared → List Spot → List ℕ → Type 0
-OneTree t ds ss ls = WrittenTree ds ss t ls
+OneTree t ds ss ls = CheapTree ds ss t ls
 
 one_more : (found ts : List Tree) (t : Tree) (i x j : Input) → TreeBetween t i x → Found (found ++ t ∷ []) ts x j → Found found ts i j
 one_more found ts t i x j a b =
@@ -334,6 +380,7 @@ one_more found ts t i x j a b =
         version = both.version;
         decls = both.decls;
         lines = both.lines;
+        few = both.few;
       };
     }
 
@@ -369,6 +416,7 @@ in_braces ts i a b j o p x c q =
       version = all.version;
       decls = all.decls;
       lines = all.lines ∙ ap (λ r. i.lines ++ r) (sym (append_none ℕ x.begun));
+      few = all.few;
     }
 
 never : (b : Bool) (x y : Outcome (List Tree)) (z : List Tree × Input) → (x ≡ Ok z → ⊥) → (y ≡ Ok z → ⊥) → cond b x y ≡ Ok z → ⊥
@@ -394,3 +442,9 @@ block_sound (suc n) i j ts h =
 
 pub statements_sound : (depth : ℕ) (inside : Bool) (i j : Input) (ts : List Tree) → body (block depth) inside i ≡ Ok (ts, j) → BodyBetween ts i j
 statements_sound depth = body_sound (block depth) (block_sound depth)
+
+-- what is read is so written, whatever it costs
+pub statements_written : (depth : ℕ) (inside : Bool) (i j : Input) (ts : List Tree) → body (block depth) inside i ≡ Ok (ts, j) → written.BodyBetween ts i j
+statements_written depth inside i j ts h =
+    let x = statements_sound depth inside i j ts h in
+    record { used = x.used; begun = x.begun; is = x.is; written = x.written.0; version = x.version; decls = x.decls; lines = x.lines }

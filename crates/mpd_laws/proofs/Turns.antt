@@ -1,19 +1,16 @@
 -- Each turn takes a token, so more turns than there are tokens change nothing.
-use Rattle.std.proofs.Common.{◌≡◌, ℕ, zero, suc, ◌<◌, Bool, true, false, cond, List, [], ◌∷◌, ◌++◌, length, length-append, Option, Some, None, Ok, Err, refl, ap, arith, ◌+◌, ◌-◌, ◌∙◌}
+use Rattle.std.proofs.Common.{◌≡◌, ℕ, zero, suc, ◌<◌, Bool, true, false, cond, List, [], ◌∷◌, ◌++◌, length, length-append, Option, Some, None, refl, ap, arith, ◌+◌, ◌-◌, ◌∙◌}
 use Rattle.mpd_model.specs.declared.place.DeclKind.{DeclKind}
 use Rattle.mpd_model.specs.Declaration.{Declared}
 use Rattle.mpd_model.specs.Grammar.{closes, stmt, stmts, body, block, decl, declares, decls, decls_by, decls_from}
-use Rattle.mpd_model.specs.Input.{Input, Outcome, Parser, and_then, token, advanced, pure, ◌>>=◌}
+use Rattle.mpd_model.specs.Input.{Input, token, advanced, pure, ◌>>=◌}
 use Rattle.mpd_model.specs.Tokens.{Spot}
 use Rattle.mpd_model.specs.Tree.{Tree}
-use Rattle.mpd_model.specs.Written.{WrittenTree, simply, repeats, chooses, chooses_else, TreeBetween}
+use Rattle.mpd_model.specs.Written.{WrittenTree, simply, repeats, chooses, chooses_else}
+use Rattle.mpd_laws.proofs.Enough.{bind_same}
 use Rattle.mpd_laws.proofs.Sound.{Step}
 use Rattle.mpd_laws.proofs.SoundScript.{Declares, decl_ok, begins_decl}
-use Rattle.mpd_laws.proofs.SoundStatements.{block_sound, stmt_sound}
-
-bind_same : {A B : Type 0} (o : Outcome A) (f g : A → Parser B) → ((x : A × Input) → o ≡ Ok x → f x.0 x.1 ≡ g x.0 x.1) → and_then o f ≡ and_then o g
-bind_same (Ok x) f g h = h x refl
-bind_same (Err e) f g h = refl
+use Rattle.mpd_laws.proofs.SoundStatements.{TreeBetween, block_sound, stmt_sound}
 
 -- a statement has a token
 pub some_token : (ds : List Declared) (ss : List Spot) (t : Tree) (ls : List ℕ) → WrittenTree ds ss t ls → 0 < length ss
@@ -23,7 +20,7 @@ some_token ds ss t ls (chooses k e a v x ms h1 h2 b) = omega arith
 some_token ds ss t ls (chooses_else k w e a b v x y ms ns h1 h2 f h3 g) = omega arith
 
 tree_shorter : (t : Tree) (i j : Input) → TreeBetween t i j → length j.tokens < length i.tokens
-tree_shorter t i j x = omega (arith, some_token i.decls x.used t x.begun x.written, length-append x.used j.tokens, ap length x.is)
+tree_shorter t i j x = omega (arith, some_token i.decls x.used t x.begun x.written.0, length-append x.used j.tokens, ap length x.is)
 
 stmts_turn : (depth : ℕ) (inside : Bool) (n : ℕ) (found : List Tree) (i : Input) (ends : Bool)
     → ((f : List Tree) (x : Input) → length x.tokens < length i.tokens → stmts (block depth) inside n f x ≡ stmts (block depth) inside (suc n) f x)

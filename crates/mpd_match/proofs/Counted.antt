@@ -248,10 +248,4 @@ counted_new mode sides sets slots n ec es = record {
     count_in : Board → ℕ → List Call → ℕ
     count_in b q calls = length (filter (λ i. holds_slot b (call_id q i)) (range_with_len 0 (length calls)))
 
--- the same slots of the same board
-pub counted_same : (mode : Mode) (sides others : List SideView) (sets more : List MatchSet) (slots copied : List ℕ) → calls_in others ≡ calls_in sides → more ≡ sets → copied ≡ slots
-    → Counted (board_in mode sides sets) slots → Counted (board_in mode others more) copied
-counted_same mode sides others sets more slots copied ec es ek h = record {
-  ranks = ap length ek ∙ h.ranks ∙ sym (ap length ec);
-  held = λ q. ap (λ (xs : List ℕ). held_in xs q) ek ∙ h.held q ∙ sym (λ i. slots_used (record { mode = mode; calls = ec i; sets = es i }) q);
 }

@@ -2,12 +2,6 @@ pub mod Members
 pub mod Listed
 mod Twice
 mod Reached
-mod Successes
-mod Budget
-mod Cheap
-mod CheapParts
-mod CheapStatements
-mod Ends
 mod Limits
 mod ReadExactly
 mod TokenLines

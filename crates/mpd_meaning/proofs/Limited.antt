@@ -13,7 +13,7 @@ use Rattle.mpd_model.specs.Written.{WrittenTerm}
 use Rattle.mpd_laws.proofs.Complete.{expr_complete}
 use Rattle.mpd_laws.proofs.Enough.{expr_more}
 use Rattle.mpd_meaning.specs.FaultLaws.{IsLimit, IsRefusedByALimit}
-use Rattle.mpd_meaning.proofs.Successes.{ok_of, ok_parts}
+use Rattle.mpd_laws.proofs.Sound.{ok_of, ok_parts}
 
 -- ---- one after another
 

@@ -16,7 +16,7 @@ use Rattle.mpd_model.specs.Tokens.{Spot}
 use Rattle.mpd_model.specs.Written.{WrittenTerm, WrittenTarget, whole, part, WrittenPart, by_mark, by_term, by_target, by_name, WrittenParts, no_part, then_part}
 use Rattle.mpd_laws.proofs.Complete.{mark_stops}
 use Rattle.mpd_laws.proofs.CompleteParts.{expect_on, whole_on, seek_on, statement_place_as, statement_name_on, mark_seen, holes_stop, no_status, term_is_other, any_on, absent_on}
-use Rattle.mpd_meaning.proofs.CheapParts.{status_of}
+use Rattle.mpd_laws.proofs.SoundParts.{status_of}
 use Rattle.mpd_meaning.proofs.Limited.{GivesOrLimited, then_limited, step_limited, same_limited, given, expression_limited}
 
 -- the same of the same tokens

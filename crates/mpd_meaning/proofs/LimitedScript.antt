@@ -17,7 +17,7 @@ use Rattle.mpd_laws.proofs.SoundScript.{in_version}
 use Rattle.mpd_meaning.specs.FaultLaws.{IsRefusedByALimit}
 use Rattle.mpd_meaning.proofs.Limited.{GivesOrLimited, limited_bind}
 use Rattle.mpd_meaning.proofs.LimitedStatements.{whole_limited}
-use Rattle.mpd_meaning.proofs.Successes.{ok_of}
+use Rattle.mpd_laws.proofs.Sound.{ok_of}
 
 -- ---- one after another
 

@@ -15,7 +15,7 @@ use Rattle.mpd_model.specs.Input.{Input, Parser, token, spelling, place, advance
 use Rattle.mpd_laws.proofs.Cells.{variables_in-more, handles_in-more}
 use Rattle.mpd_laws.proofs.SoundScript.{in_version}
 use Rattle.mpd_meaning.proofs.Listed.{both_of}
-use Rattle.mpd_meaning.proofs.Successes.{bind_ok, ok_parts, carried, test_ok, expect_ok}
+use Rattle.mpd_laws.proofs.Sound.{bind_ok, ok_parts, carried, test_ok, expect_ok}
 
 -- ---- ranks
 

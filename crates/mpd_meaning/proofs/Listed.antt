@@ -1,9 +1,10 @@
 -- The list of steps has every step that leads to a world, and `outcome` asks every step.
 use Rattle.std.proofs.Common.{◌≡◌, ◌↔◌, ℕ, ◌+◌, ◌<◌, nat_lt, Bool, true, false, cond, ◌&&◌, ◌||◌, List, [], ◌∷◌, ◌++◌, length, map, slice_get, Option, Some, None, is_some, is_none, option_and_then, inl, inr, refl, sym, ap, ◌∙◌, arith}
+use Rattle.mpd_laws.proofs.Eligible.{clash}
 use Rattle.std.specs.Prelude.{IsSome}
 use Rattle.std.specs.Option.{option_map}
 use Rattle.std.specs.List.{list_any, range_with_len, Contains}
-use Rattle.std.proofs.lemmas.Bool.{ltb-true}
+use Rattle.std.proofs.lemmas.Bool.{ltb-true, and_parts}
 use Rattle.std.proofs.lemmas.Option.{slice_get_within}
 use Rattle.mpd_model.specs.declared.step.CallId.{CallId}
 use Rattle.mpd_model.specs.declared.step.Step.{Step}
@@ -21,11 +22,7 @@ use Rattle.mpd_meaning.proofs.Members.{In, in_contains, contains_in, in_left, in
 
 -- ---- tests
 
-pub both_of : (a b : Bool) → (a && b) ≡ true → (a ≡ true) × (b ≡ true)
-both_of true b e = (refl, e)
-both_of false b e = cc
-
-if_some : {A : Type 0} (b : Bool) (x : A) → is_some (cond b (Some x) None) ≡ true → b ≡ true
+pub if_some : {A : Type 0} (b : Bool) (x : A) → is_some (cond b (Some x) None) ≡ true → b ≡ true
 if_some true x e = refl
 if_some false x e = cc
 
@@ -61,7 +58,7 @@ record IsIssued (b : Board) (c : CallId) : Type 0 where
 
 issued : (b : Board) (c : CallId) → is_free b c ≡ true → IsIssued b c
 issued b c e =
-    let known : is_some (slice_get (calls_of b c.rank) c.index) ≡ true = kind_some (slice_get (calls_of b c.rank) c.index) (both_of (is_message_kind (kind_at b c)) (is_none (partner b.sets c)) e).0 in
+    let known : is_some (slice_get (calls_of b c.rank) c.index) ≡ true = kind_some (slice_get (calls_of b c.rank) c.index) (and_parts (is_message_kind (kind_at b c)) (is_none (partner b.sets c)) e).0 in
     let within = some_within (calls_of b c.rank) c.index known in
     let rank = some_within b.calls c.rank (has_list (slice_get b.calls c.rank) c.index known) in
     record { rank = in_range 0 (length b.calls) c.rank (omega arith) (omega (arith, rank)); index = in_range 0 (length (calls_of b c.rank)) c.index (omega arith) (omega (arith, within)) }
@@ -103,13 +100,13 @@ listed w h Release e =
     in_right (map Local ranks) (Release ∷ (map Wake ranks ++ (any_wakes_in w.board ++ matches_in w.board))) Release (inl refl)
 listed w h (Wake p) e =
     let ranks = rank_numbers w.board in
-    let ready = both_of (waits (slice_get w.ranks p)) (complete w.board (last_call w.board p)) (if_some (can_wake w p) (woken w p) e) in
+    let ready = and_parts (waits (slice_get w.ranks p)) (complete w.board (last_call w.board p)) (if_some (can_wake w p) (woken w p) e) in
     in_right (map Local ranks) (Release ∷ (map Wake ranks ++ (any_wakes_in w.board ++ matches_in w.board))) (Wake p)
     (inr (in_left (map Wake ranks) (any_wakes_in w.board ++ matches_in w.board) (Wake p) (in_map Wake ranks p (rank_listed w h p (waits_some (slice_get w.ranks p) ready.0)))))
 listed w h (WakeAny p i) e =
     let ranks = rank_numbers w.board in
     let last = kind_at w.board (last_call w.board p) in
-    let ready = both_of (waits (slice_get w.ranks p)) (is_complete_some w.board (any_call w p i)) (if_some (can_wake_any w p i) (woken_any w p i) e) in
+    let ready = and_parts (waits (slice_get w.ranks p)) (is_complete_some w.board (any_call w p i)) (if_some (can_wake_any w p i) (woken_any w p i) e) in
     let within = has_index w.board p i last (slice_get w.ranks p) ready.1 in
     in_right (map Local ranks) (Release ∷ (map Wake ranks ++ (any_wakes_in w.board ++ matches_in w.board))) (WakeAny p i)
     (inr (in_right (map Wake ranks) (any_wakes_in w.board ++ matches_in w.board) (WakeAny p i)
@@ -118,8 +115,8 @@ listed w h (WakeAny p i) e =
     (in_map (WakeAny p) (range_with_len 0 (requests_of last)) i (in_range 0 (requests_of last) i (omega arith) (omega (arith, within))))))))
 listed w h (Match s r) e =
     let ranks = rank_numbers w.board in
-    let one = both_of (is_free w.board s) _ (if_some (eligible w.board s r) (record w { board = with_set w.board (Pair s r) }) e) in
-    let two = both_of (is_free w.board r) _ one.1 in
+    let one = and_parts (is_free w.board s) _ (if_some (eligible w.board s r) (record w { board = with_set w.board (Pair s r) }) e) in
+    let two = and_parts (is_free w.board r) _ one.1 in
     in_right (map Local ranks) (Release ∷ (map Wake ranks ++ (any_wakes_in w.board ++ matches_in w.board))) (Match s r)
     (inr (in_right (map Wake ranks) (any_wakes_in w.board ++ matches_in w.board) (Match s r)
     (in_right (any_wakes_in w.board) (matches_in w.board) (Match s r) (match_listed w.board s r (issued w.board s one.0) (issued w.board r two.0)))))
@@ -136,7 +133,7 @@ not_some : {A : Type 0} (o : Option A) → o ≡ None → is_some o ≡ false
 not_some o e = ap is_some e
 
 -- a test that some member passes, and one that none does
-any_in : {A : Type 0} (t : A → Bool) (xs : List A) (x : A) → In xs x → t x ≡ true → list_any t xs ≡ true
+pub any_in : {A : Type 0} (t : A → Bool) (xs : List A) (x : A) → In xs x → t x ≡ true → list_any t xs ≡ true
 any_in t [] x h e = absurd h
 any_in t (y ∷ ys) x (inl same) e = ap (λ (b : Bool). b || list_any t ys) (ap t same ∙ e)
 any_in t (y ∷ ys) x (inr h) e = or_true (t y) (list_any t ys) (any_in t ys x h e)
@@ -152,9 +149,6 @@ here_or_later false t y ys more is e = more e
 any_from : {A : Type 0} (t : A → Bool) (xs : List A) → list_any t xs ≡ true → (x : A) × (t x ≡ true)
 any_from t [] e = absurd (cc)
 any_from t (y ∷ ys) e = here_or_later (t y) t y ys (λ f. any_from t ys f) refl e
-
-clash : (b : Bool) → b ≡ true → b ≡ false → ⊥
-clash b e f = cc
 
 no_world : (o : Option World) → (is_some o ≡ true → ⊥) → o ≡ None
 no_world None h = refl
@@ -179,12 +173,12 @@ ended_so w h = by_test (list_any (is_enabled w) (steps_of w)) refl
         let some = any_from (is_enabled w) (steps_of w) e in
         let is : outcome w ≡ None = outcome_is w true e in
         record {
-          ended = (λ o. absurd (let clash : None ≡ Some (ending w) = sym is ∙ o in cc), λ all. absurd (clash (is_enabled w some.0) some.1 (not_some (next w some.0) (all some.0))));
+          ended = (λ o. absurd (let clash : None ≡ Some (ending w) = sym is ∙ o in cc), λ all. absurd (clash some.1 (not_some (next w some.0) (all some.0))));
           goes_on = (λ o. some, λ s. is);
         }
     by_test false e =
         let is : outcome w ≡ Some (ending w) = outcome_is w false e in
-        let none : (a : Step) → is_some (next w a) ≡ true → ⊥ = λ a f. clash (list_any (is_enabled w) (steps_of w)) (any_in (is_enabled w) (steps_of w) a (listed w h a f) f) e in
+        let none : (a : Step) → is_some (next w a) ≡ true → ⊥ = λ a f. clash (any_in (is_enabled w) (steps_of w) a (listed w h a f) f) e in
         record {
           ended = (λ o a. no_world (next w a) (none a), λ all. is);
           goes_on = (λ o. absurd (let clash : Some (ending w) ≡ None = sym is ∙ o in cc), λ s. absurd (none s.0 s.1));

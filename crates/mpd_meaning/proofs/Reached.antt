@@ -1,5 +1,6 @@
 -- No step takes a rank its list of calls.
 use Rattle.std.proofs.Common.{◌≡◌, ℕ, ℤ, Bool, true, false, cond, List, [], ◌∷◌, length, slice_get, Option, Some, None, option_and_then, refl, subst, arith}
+use Rattle.mpd_laws.proofs.CallsInOrder.{joined_from}
 use Rattle.std.proofs.lemmas.List.{length-set, length-map, length-replicate}
 use Rattle.std.specs.Option.{option_map}
 use Rattle.mpd_model.specs.declared.call.Call.{Call}
@@ -19,10 +20,6 @@ chosen false x y e = absurd (cc)
 mapped_from : {A B : Type 0} (f : A → B) (o : Option A) (y : B) → option_map f o ≡ Some y → (x : A) × (f x ≡ y)
 mapped_from f None y e = absurd (cc)
 mapped_from f (Some x) y e = let is : f x ≡ y = cc in (x, is)
-
-joined_from : {A B : Type 0} (f : A → Option B) (o : Option A) (y : B) → option_and_then f o ≡ Some y → (x : A) × (o ≡ Some x) × (f x ≡ Some y)
-joined_from f None y e = absurd (cc)
-joined_from f (Some x) y e = (x, refl, e)
 
 -- as many calls' lists and ranks as before
 record IsAsLarge (w v : World) : Type 0 where

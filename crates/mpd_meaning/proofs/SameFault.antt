@@ -76,7 +76,7 @@ ends_last (s ∷ t ∷ ss) last = ends_last (t ∷ ss) last
 
 -- ---- the same fault
 
-read_fault : (o : Outcome Program) (f : ReadFault) → read_of o ≡ Err f → o ≡ Err f
+pub read_fault : (o : Outcome Program) (f : ReadFault) → read_of o ≡ Err f → o ≡ Err f
 read_fault (Ok p) f h = absurd (cc)
 read_fault (Err g) f h = cc
 

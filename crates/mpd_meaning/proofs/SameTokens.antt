@@ -96,9 +96,6 @@ Ends s = s.place + length s.text
 abbrev Carries : List Spot → List Spot → ℕ → Type 0
 Carries ss rs until = (before behind : List Spot) (last : Spot) → ss ≡ before ++ last ∷ behind → Ends last < until → Begins before last rs
 
-none_begins : (before : List Spot) (last : Spot) (behind : List Spot) → [] ≡ before ++ last ∷ behind → ⊥
-none_begins before last behind e = omega (arith, ap length e, length-append before (last ∷ behind))
-
 -- the first of them is the same, and the others carry
 more_carry : (s : Spot) (ss rs : List Spot) (until : ℕ) → Carries ss rs until → Carries (s ∷ ss) (s ∷ rs) until
 more_carry s ss rs until h [] behind last e less = let is : s ≡ last = cc in record { others = rs; is = ap (λ r. r ∷ rs) is }

@@ -1,5 +1,6 @@
 -- Tokens hold no line feed, so each has the line of its place.
 use Rattle.std.proofs.Common.{◌≡◌, ◌⊎◌, ℕ, zero, suc, ◌+◌, ◌-◌, ◌==◌, Bool, true, false, cond, ◌&&◌, not, List, [], ◌∷◌, ◌++◌, length, take, drop, inl, inr, refl, sym, ap, ◌∙◌, arith, append_assoc, length-append}
+use Rattle.mpd_laws.proofs.LineCuts.{and_second}
 use Rattle.std.proofs.lemmas.Bool.{cases_Bool, eqb-true}
 use Rattle.std.proofs.lemmas.Bool.Decides.{nat_tests}
 use Rattle.std.proofs.lemmas.List.{take_at, drop_at}
@@ -81,10 +82,6 @@ short_if next false x y h k = k
 short_two : (next k : ℕ) (long short : _) → (k == 10) ≡ false → IsShort next (cond (next == k) (Is long, 2) (Is short, 1))
 short_two next k long short f = short_if next (next == k) (Is long, 2) (Is short, 1) (λ e. inr (refl, is_other next k e f)) (inl refl)
 
-second : (a b : Bool) → (a && b) ≡ true → b ≡ true
-second true b e = e
-second false b e = cc
-
 pub sign_short : (b n : ℕ) → IsShort n (sign b n)
 unfolding sign
 sign_short b n =
@@ -94,8 +91,8 @@ sign_short b n =
     (short_if n (b == 60) _ _ (λ e. short_two n 61 m.AtMost m.Less refl) (short_if n (b == 62) _ _ (λ e. short_two n 61 m.AtLeast m.Greater refl)
     (short_if n (b == 43) _ _ (λ e. inl refl) (short_if n (b == 45) _ _ (λ e. inl refl) (short_if n (b == 42) _ _ (λ e. inl refl)
     (short_if n (b == 47) _ _ (λ e. inl refl) (short_if n (b == 37) _ _ (λ e. inl refl)
-    (short_if n (b == 38 && n == 38) _ _ (λ e. inr (refl, is_other n 38 (second (b == 38) (n == 38) e) refl))
-    (short_if n (b == 124 && n == 124) _ _ (λ e. inr (refl, is_other n 124 (second (b == 124) (n == 124) e) refl)) (inl refl))))))))))))))))))
+    (short_if n (b == 38 && n == 38) _ _ (λ e. inr (refl, is_other n 38 (and_second (b == 38) (n == 38) e) refl))
+    (short_if n (b == 124 && n == 124) _ _ (λ e. inr (refl, is_other n 124 (and_second (b == 124) (n == 124) e) refl)) (inl refl))))))))))))))))))
 
 -- the bytes of a sign behind its first
 sign_fed : (z : List ℕ) (b : ℕ) (p : Token × ℕ) → IsShort (slice_index (b ∷ z) 1) p → fed (take (p.1 - 1) z) ≡ 0

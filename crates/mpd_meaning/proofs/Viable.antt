@@ -14,12 +14,9 @@ use Rattle.mpd_model.specs.Faults.{fault}
 use Rattle.mpd_model.specs.Grammar.{declares}
 use Rattle.mpd_model.specs.Input.{Input, Outcome, Parser, and_then, token, place_of, spelling, place, advanced, behind, fail, refusal, sees, expect, spend, same_kind, sought, seek, slot_in, ◌>>=◌}
 use Rattle.mpd_model.specs.Tokens.{Spot}
-use Rattle.mpd_meaning.proofs.Successes.{first_spot, sees_is}
+use Rattle.mpd_laws.proofs.Sound.{first_spot, sees_is}
 
 -- ---- languages: sets of lists of tokens
-
-abbrev pub Language : Type 1
-Language = List Spot → Type 0
 
 pub data One (P : Spot → Type 0) : List Spot → Type 0 where
   one : (s : Spot) → P s → One P (s ∷ [])
@@ -83,7 +80,7 @@ HoldsBehind C = (us ts : List Spot) → C (us ++ ts) → C ts
 
 -- ---- one after another
 
-goes_behind : (L M : List Spot → Type 0) (us ts : List Spot) → ((vs : List Spot) → M vs → L (us ++ vs)) → Goes M ts → Goes L (us ++ ts)
+pub goes_behind : (L M : List Spot → Type 0) (us ts : List Spot) → ((vs : List Spot) → M vs → L (us ++ vs)) → Goes M ts → Goes L (us ++ ts)
 goes_behind L M us ts join g = record { more = g.more; written = subst L (sym (append_assoc us ts g.more)) (join (ts ++ g.more) g.written) }
 
 -- behind what was read

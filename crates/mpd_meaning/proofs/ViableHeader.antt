@@ -20,8 +20,8 @@ use Rattle.mpd_model.specs.Program.{Program}
 use Rattle.mpd_model.specs.Tokens.{Spot}
 use Rattle.mpd_model.specs.Written.{WrittenDecls, none, declares_one, declares_array, declared_as, ended, WrittenScript, script}
 use Rattle.mpd_laws.proofs.SoundScript.{in_version, decl_ok}
-use Rattle.mpd_meaning.proofs.Successes.{first_spot, sees_is}
-use Rattle.mpd_meaning.proofs.Viable.{One, one, HasToken, Default, Goes, Stops, spot_of, stuck_here, refused_here, next_read, one_read, expect_viable}
+use Rattle.mpd_laws.proofs.Sound.{first_spot, sees_is}
+use Rattle.mpd_meaning.proofs.Viable.{One, one, HasToken, Default, Goes, goes_behind, Stops, spot_of, stuck_here, refused_here, next_read, one_read, expect_viable}
 
 -- ---- where declarations change: what stands before a fault can be completed, without a condition
 
@@ -47,9 +47,6 @@ broken_refused : (L : List Spot → Type 0) (i : Input) → Default L → Broken
 unfolding place refusal
 broken_refused L i d = record { used = []; rest = i.tokens; is = refl; at = refl; go = record { more = d.tokens; written = d.written } }
 
-goes_on : (L M : List Spot → Type 0) (us ts : List Spot) → ((vs : List Spot) → M vs → L (us ++ vs)) → Goes M ts → Goes L (us ++ ts)
-goes_on L M us ts join g = record { more = g.more; written = subst L (sym (append_assoc us ts g.more)) (join (ts ++ g.more) g.written) }
-
 breaks_behind : {B : Type 0} (L M : List Spot → Type 0) (us : List Spot) (i j : Input) → i.tokens ≡ us ++ j.tokens → j.end ≡ i.end → ((ts : List Spot) → M ts → L (us ++ ts))
     → (o : Outcome B) → Breaks M j o → Breaks L i o
 breaks_behind L M us i j is e join (Ok p) h = h ∙ e
@@ -58,7 +55,7 @@ breaks_behind L M us i j is e join (Err f) h = record {
   rest = h.rest;
   is = is ∙ ap (λ ss. us ++ ss) h.is ∙ sym (append_assoc us h.used h.rest);
   at = h.at ∙ ap (λ n. place_of n h.rest) e;
-  go = goes_on L M us h.used join h.go;
+  go = goes_behind L M us h.used join h.go;
 }
 
 breaks_as : {A B : Type 0} (L : List Spot → Type 0) (i : Input) (o : Outcome A) (f : A → B) → Breaks L i o → Breaks L i (and_then o (λ a j. Ok (f a, j)))

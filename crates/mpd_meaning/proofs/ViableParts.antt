@@ -17,7 +17,7 @@ use Rattle.mpd_model.specs.Term.{Term, Target}
 use Rattle.mpd_model.specs.Tokens.{Spot}
 use Rattle.mpd_model.specs.Written.{Names, WrittenTarget, whole, part, WrittenPart, by_mark, by_term, by_target, by_name, WrittenParts, no_part, then_part}
 use Rattle.mpd_meaning.specs.PrefixLaws.{names}
-use Rattle.mpd_meaning.proofs.Successes.{sees_is}
+use Rattle.mpd_laws.proofs.Sound.{sees_is}
 use Rattle.mpd_meaning.proofs.Viable.{One, one, Seq, seq, HasToken, Default, both_default, Stops, IsViable, HoldsBehind, behind_spot, then_viable, stops_as, in_larger, refused_here, nothing_read, next_read, mark_default, expect_viable, Found, seek_stops}
 use Rattle.mpd_meaning.proofs.ViableTerms.{AtLevel, some_term, expression_viable}
 

@@ -23,7 +23,7 @@ use Rattle.mpd_laws.proofs.SoundScript.{Header, header_ok}
 use Rattle.mpd_meaning.specs.PrefixLaws.{CanBeCompleted, names, announces, some_names, some_declares, HasWhatItNames, before, WhatStandsBeforeAFaultCanBeCompleted}
 use Rattle.mpd_meaning.specs.TokenLaws.{IsPlacedIn}
 use Rattle.mpd_meaning.proofs.Local.{AllBehind}
-use Rattle.mpd_meaning.proofs.SameFault.{AllFrom, Rises, rising, text_reads}
+use Rattle.mpd_meaning.proofs.SameFault.{AllFrom, Rises, rising, read_fault, text_reads}
 use Rattle.mpd_meaning.proofs.TokenLines.{placed_by_recursion}
 use Rattle.mpd_meaning.proofs.Viable.{AllPlain, Default, Goes, Stuck, Stops, spot_of}
 use Rattle.mpd_meaning.proofs.ViableTerms.{some_term}
@@ -291,12 +291,8 @@ cut_text text us (s ∷ ts) e =
 
 -- ---- the law
 
-failed : (o : Outcome Program) (f : ReadFault) → read_of o ≡ Err f → o ≡ Err f
-failed (Ok p) f h = absurd (cc)
-failed (Err g) f h = cc
-
 pub before_a_fault : WhatStandsBeforeAFaultCanBeCompleted
 before_a_fault text f t h named =
-    let x = script_faulty (start_of text) refl f (failed (grammar.script (start_of text)) f (sym (text_reads text t) ∙ h)) in
+    let x = script_faulty (start_of text) refl f (read_fault (grammar.script (start_of text)) f (sym (text_reads text t) ∙ h)) in
     let cut : before f.place (tokens text) ≡ x.used = ap (λ p. before p (tokens text)) x.at ∙ ap (before (place_of (length text) x.rest)) x.is ∙ cut_text text x.used x.rest x.is in
     subst CanBeCompleted (sym cut) (x.go (subst HasWhatItNames cut named))

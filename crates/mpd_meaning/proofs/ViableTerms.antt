@@ -20,7 +20,7 @@ use Rattle.mpd_model.specs.Input.{Input, Outcome, Parser, token, spelling, advan
 use Rattle.mpd_model.specs.Term.{Term, lit, own_rank, size, cell, element, op1, op2}
 use Rattle.mpd_model.specs.Tokens.{Spot}
 use Rattle.mpd_model.specs.Written.{Names, WrittenTerm, number, rank, ranks, name, entry, round, signs, higher, joins, left_level}
-use Rattle.mpd_meaning.proofs.Successes.{sees_is}
+use Rattle.mpd_laws.proofs.Sound.{sees_is}
 use Rattle.mpd_meaning.proofs.Viable.{One, one, Seq, seq, HasToken, Default, both_default, Reads, Stops, IsViable, HoldsBehind, behind_spot, stops_then, then_viable, stops_as, in_larger, stuck_here, refused_here, nothing_read, next_read, some_token, mark_default, expect_viable, spend_stops, Found, seek_stops}
 
 -- some expression of a level

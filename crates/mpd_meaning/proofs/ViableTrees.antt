@@ -18,7 +18,7 @@ use Rattle.mpd_model.specs.Tokens.{Spot}
 use Rattle.mpd_model.specs.Tree.{Tree, simple, branch, repeat, no_more, block_of}
 use Rattle.mpd_model.specs.Written.{WrittenParts, no_part, then_part, by_mark, by_target, WrittenTree, simply, repeats, chooses, chooses_else, WrittenBlock, braces, WrittenBody, ended, follows}
 use Rattle.mpd_meaning.specs.PrefixLaws.{names}
-use Rattle.mpd_meaning.proofs.Successes.{sees_is}
+use Rattle.mpd_laws.proofs.Sound.{sees_is}
 use Rattle.mpd_meaning.proofs.Viable.{One, one, Seq, seq, HasToken, Default, both_default, spot_of, Stops, IsViable, HoldsBehind, behind_spot, then_viable, stops_as, in_larger, under, stuck_here, refused_here, nothing_read, mark_default, expect_viable, seek_stops}
 use Rattle.mpd_meaning.proofs.ViableTerms.{AtLevel, expression_viable}
 use Rattle.mpd_meaning.proofs.ViableParts.{SomeTarget, Fills, fills, Suits, IsServed, fills_default, index_viable, fill_viable}

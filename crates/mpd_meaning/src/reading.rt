@@ -5,7 +5,7 @@ ghost use Rattle.mpd_meaning.specs.PrefixLaws as prefix;
 ghost use Rattle.mpd_meaning.specs.ReadingLaws as law;
 
 use mpd_laws::reading::{
-    expressions_are_written, statements_are_of_version, turns_are_enough, written_scripts_are_read,
+    statements_are_of_version, turns_are_enough, written_scripts_are_read,
 };
 use mpd_laws::round_trip::read_scripts_are_printable;
 
@@ -13,7 +13,6 @@ use mpd_laws::round_trip::read_scripts_are_printable;
 pub fn what_is_read_is_written_within_the_limits()
     ensures { law.ReadIsWrittenWithin }
 {
-    expressions_are_written();
     statements_are_of_version();
     read_scripts_are_printable();
     written_scripts_are_read();

@@ -16,8 +16,8 @@ use Rattle.mpd_model.specs.Tree.{Tree, simple, branch, repeat, no_more, block_of
 use Rattle.mpd_model.specs.Written as written
 use Rattle.mpd_model.specs.Written.{Names, WrittenTerm, WrittenTarget, WrittenPart, WrittenParts, WrittenTree, WrittenBlock, WrittenBody}
 
-both_small : (a b n : ℕ) → a ≤ n → b ≤ n → max a b ≤ n
-both_small a b n h k = grind arith
+pub max_small : (a b n : ℕ) → a ≤ n → b ≤ n → max a b ≤ n
+max_small a b n h k = grind arith
 
 -- ---- the relations, each within the budget
 
@@ -68,22 +68,22 @@ module _ {ds : List Declared} where
   no_part = (written.no_part, omega arith)
 
   pub then_part : (ss rs : List Spot) (p : Part) (ps : List Part) → CheapPart ds ss p → CheapParts ds rs ps → CheapParts ds (ss ++ rs) (p ∷ ps)
-  then_part ss rs p ps v w = (written.then_part ss rs p ps v.0 w.0, both_small _ _ _ v.1 w.1)
+  then_part ss rs p ps v w = (written.then_part ss rs p ps v.0 w.0, max_small _ _ _ v.1 w.1)
 
   pub simply : (ss : List Spot) (end : Spot) (s : Simple) → CheapParts ds ss (parts_of s) → end.token ≡ Is m.Semicolon → CheapTree ds (ss ++ end ∷ []) (simple s) (first_line ss ∷ [])
   simply ss end s w h = (written.simply ss end s w.0 h, w.1)
 
   pub repeats : (k : Spot) (e a : List Spot) (t : Term) (x : List Tree) (ls : List ℕ) → k.token ≡ Is m.While → CheapTerm ds e t → CheapBlock ds a x ls
       → CheapTree ds (k ∷ e ++ a) (repeat t (block_of x)) (k.line ∷ ls)
-  repeats k e a t x ls h w f = (written.repeats k e a t x ls h w.0 f.0, both_small _ _ _ w.1 f.1)
+  repeats k e a t x ls h w f = (written.repeats k e a t x ls h w.0 f.0, max_small _ _ _ w.1 f.1)
 
   pub chooses : (k : Spot) (e a : List Spot) (t : Term) (x : List Tree) (ls : List ℕ) → k.token ≡ Is m.If → CheapTerm ds e t → CheapBlock ds a x ls
       → CheapTree ds (k ∷ e ++ a) (branch t (block_of x) no_more) (k.line ∷ ls)
-  chooses k e a t x ls h w f = (written.chooses k e a t x ls h w.0 f.0, both_small _ _ _ w.1 f.1)
+  chooses k e a t x ls h w f = (written.chooses k e a t x ls h w.0 f.0, max_small _ _ _ w.1 f.1)
 
   pub chooses_else : (k w : Spot) (e a b : List Spot) (t : Term) (x y : List Tree) (ls ms : List ℕ) → k.token ≡ Is m.If → CheapTerm ds e t → CheapBlock ds a x ls → w.token ≡ Is m.Else
       → CheapBlock ds b y ms → CheapTree ds (k ∷ e ++ a ++ w ∷ b) (branch t (block_of x) (block_of y)) (k.line ∷ ls ++ ms)
-  chooses_else k w e a b t x y ls ms h v f i g = (written.chooses_else k w e a b t x y ls ms h v.0 f.0 i g.0, both_small _ _ _ v.1 (both_small _ _ _ f.1 g.1))
+  chooses_else k w e a b t x y ls ms h v f i g = (written.chooses_else k w e a b t x y ls ms h v.0 f.0 i g.0, max_small _ _ _ v.1 (max_small _ _ _ f.1 g.1))
 
   pub braces : (a b : Spot) (ss : List Spot) (ts : List Tree) (ls : List ℕ) → a.token ≡ Is m.BraceOpen → CheapBody ds ss ts ls → b.token ≡ Is m.BraceClose
       → CheapBlock ds (a ∷ ss ++ b ∷ []) ts ls
@@ -93,4 +93,4 @@ module _ {ds : List Declared} where
   ended = (written.ended, omega arith)
 
   pub follows : (ss rs : List Spot) (t : Tree) (ts : List Tree) (ls ms : List ℕ) → CheapTree ds ss t ls → CheapBody ds rs ts ms → CheapBody ds (ss ++ rs) (t ∷ ts) (ls ++ ms)
-  follows ss rs t ts ls ms v w = (written.follows ss rs t ts ls ms v.0 w.0, both_small _ _ _ v.1 w.1)
+  follows ss rs t ts ls ms v w = (written.follows ss rs t ts ls ms v.0 w.0, max_small _ _ _ v.1 w.1)

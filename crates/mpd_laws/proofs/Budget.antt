@@ -1,47 +1,22 @@
 -- What is read as an expression has no more brackets and operators in its tokens than the budget that was taken.
-use Rattle.std.proofs.Common.{◌≡◌, ◌≢◌, ℕ, zero, suc, ◌+◌, ◌-◌, ◌≤◌, ◌==◌, Bool, true, false, cond, Option, Some, None, Ok, Err, List, [], ◌∷◌, ◌++◌, refl, ap, sym, subst, ◌∙◌, arith}
-use Rattle.std.proofs.lemmas.Bool.Decides.{nat_tests}
+use Rattle.std.proofs.Common.{◌≡◌, ℕ, zero, suc, ◌+◌, ◌≤◌, Bool, true, false, cond, Option, Some, None, Ok, List, ◌++◌, refl, ap, sym, subst, ◌∙◌, arith}
 use Rattle.mpd_model.specs.declared.limits.TheConstants.{NESTING_MAX}
 use Rattle.mpd_model.specs.declared.expr.BinaryOp.{BinaryOp}
 use Rattle.mpd_model.specs.declared.expr.UnaryOp.{UnaryOp}
 use Rattle.mpd_model.specs.declared.expr.UnaryOp.TheVariants as u
 use Rattle.mpd_model.specs.declared.place.DeclKind.TheVariants.{Variable}
 use Rattle.mpd_model.specs.declared.place.Place.{Place}
-use Rattle.mpd_model.specs.declared.read_fault.ReadFault.{ReadFault}
 use Rattle.mpd_model.specs.declared.token.Mark.{Mark}
 use Rattle.mpd_model.specs.declared.token.Mark.TheVariants as m
 use Rattle.mpd_model.specs.declared.token.Token.{Token}
 use Rattle.mpd_model.specs.declared.token.Token.TheVariants.{Number, Name, Is}
-use Rattle.mpd_model.specs.Costs.{counted, price, cost}
-use Rattle.mpd_model.specs.Grammar.{atom_by, atom, bracket, index_inside, place_inside, place_of_slot, rounds, unary, chain, chain_by, level, expr, expression, turns, operator, operator_at}
-use Rattle.mpd_model.specs.Input.{Input, Parser, token, token_of, advanced, behind, spend, expect, sees, seek, refuse, max_budget}
+use Rattle.mpd_model.specs.Costs.{price, cost}
+use Rattle.mpd_model.specs.Grammar.{atom_by, atom, bracket, index_inside, place_inside, place_of_slot, rounds, unary, chain, chain_by, level, expr, expression, turns, operator_at}
+use Rattle.mpd_model.specs.Input.{Input, Parser, token, advanced, behind, spend, expect, sees, seek, refuse, max_budget}
 use Rattle.mpd_model.specs.Term.{Term, lit, own_rank, size, cell, element, op1, op2}
 use Rattle.mpd_model.specs.Tokens.{Spot}
-use Rattle.mpd_meaning.proofs.Successes.{bind_ok, ok_of, ok_parts, expect_ok, seek_ok}
-
--- ---- a token costs one or nothing
-
-counted_most : (o : Option (BinaryOp × ℕ)) → counted o ≤ 1
-counted_most None = omega arith
-counted_most (Some p) = omega arith
-
-price_most : (t : Token) → price t ≤ 1
-price_most (Is m.RoundOpen) = omega arith
-price_most (Is m.SquareOpen) = omega arith
-price_most (Is m.Not) = omega arith
-price_most t = counted_most (operator t)
-
-cost_behind : (ss : List Spot) → cost ss ≤ cost (behind ss) + 1
-cost_behind [] = omega arith
-cost_behind (s ∷ ss) = omega (arith, price_most s.token)
-
-cost_free : (ss : List Spot) → price (token_of ss) ≡ 0 → cost ss ≡ cost (behind ss)
-cost_free [] h = refl
-cost_free (s ∷ ss) h = omega (arith, h)
-
-pub cost-append : (ss rs : List Spot) → cost (ss ++ rs) ≡ cost ss + cost rs
-cost-append [] rs = omega arith
-cost-append (s ∷ ss) rs = omega (arith, cost-append ss rs)
+use Rattle.mpd_laws.proofs.Prices.{cost_append, cost_behind, cost_free}
+use Rattle.mpd_laws.proofs.Sound.{bind_ok, ok_of, ok_parts, spend_ok, spend_takes, expect_ok, seek_ok}
 
 -- ---- what was taken from the budget pays for the tokens
 
@@ -51,18 +26,10 @@ Pays i j = cost i.tokens + j.budget ≤ cost j.tokens + i.budget
 no_pay : (i j : Input) → i ≡ j → Pays i j
 no_pay i j e = subst (Pays i) e (omega arith)
 
-guard_ok : {A : Type 0} (b : Bool) (e : ReadFault) (x y : A × Input) → cond b (Err e) (Ok x) ≡ Ok y → (b ≡ false) × (x ≡ y)
-guard_ok true e x y h = absurd (cc)
-guard_ok false e x y h = (refl, cc)
-
 spend_pays : (i : Input) (y : Unit {0} × Input) → spend i ≡ Ok y → Pays i y.1
-unfolding spend advanced
 spend_pays i y h =
-    let e = guard_ok (i.budget == 0) _ _ y h in
-    let left : y.1.budget ≡ i.budget - 1 = sym (ap (λ p. p.1.budget) e.1) in
-    let some : i.budget ≢ 0 = λ z. grind (arith, nat_tests) in
-    let next : cost y.1.tokens ≡ cost (behind i.tokens) = sym (ap (λ p. cost p.1.tokens) e.1) in
-    omega (arith, left, some, next, cost_behind i.tokens)
+    let e = spend_ok i y h in
+    omega (arith, spend_takes i y h, ap cost e.0, cost_behind i.tokens)
 
 -- a token that costs nothing
 next_pays : (i j : Input) (t : Token) → token i ≡ t → price t ≡ 0 → j ≡ advanced i → Pays i j
@@ -171,4 +138,4 @@ expr_paid (suc n) k i y h = level_paid (expr n) (expr_paid n) k i y h
 pub expression_within : (i : Input) (y : Term × Input) (used : List Spot) → expression i ≡ Ok y → i.tokens ≡ used ++ y.1.tokens → cost used ≤ max_budget
 expression_within i y used h is =
     let paid = expr_paid (suc NESTING_MAX) 5 (record i { budget = max_budget }) y h in
-    omega (arith, paid, ap cost is, cost-append used y.1.tokens)
+    omega (arith, paid, ap cost is, cost_append used y.1.tokens)
