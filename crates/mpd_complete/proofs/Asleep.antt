@@ -18,12 +18,12 @@ use Rattle.mpd_complete.specs.Same.{Same}
 use Rattle.mpd_complete.specs.CompleteLaws.{Joins, KeepsBuffers}
 use Rattle.mpd_explore.specs.Sleeping.{same_match, is_asleep, put_to_sleep}
 use Rattle.mpd_complete.proofs.Sets.{partner_more, else_none, partner_by}
-use Rattle.mpd_meaning.proofs.Members.{In}
-use Rattle.mpd_laws.proofs.CallsInOrder.{joined_from}
+use Rattle.mpd_meaning.proofs.listed.Members.{In}
+use Rattle.mpd_laws.proofs.ordered.CallsInOrder.{joined_from}
 use Rattle.mpd_complete.proofs.Worlds.{same_refl, same_sym, same_trans, follows_all}
 use Rattle.mpd_complete.proofs.Moves.{joining, partner_formed}
-use Rattle.mpd_laws.proofs.Eligible.{clash}
-use Rattle.mpd_laws.proofs.Orderly.{same_id}
+use Rattle.mpd_laws.proofs.ordered.Eligible.{clash}
+use Rattle.mpd_laws.proofs.ordered.Orderly.{same_id}
 use Rattle.mpd_complete.proofs.Pairs.{id_same, turned, recv_free, send_is_no_recv, recv_known, same_recv, no_both, is_send, match_again, match_freed, match_paired}
 use Rattle.mpd_complete.proofs.Steps.{IsWakeStep, local_step, wake_step, any_step, match_step, release_step}
 use Rattle.mpd_complete.proofs.Invariants.{Sound, keeps, stays_ample}

@@ -1,6 +1,6 @@
 -- Two steps that are enabled in one world, and are not two matches of one call nor two steps of one waitany, can be taken in either order.
 use Rattle.std.proofs.Common.{◌≡◌, ◌≢◌, ◌⊎◌, ℕ, zero, suc, ◌+◌, ◌<◌, ◌≤◌, ◌==◌, Bool, true, false, ◌&&◌, not, nat_lt, Option, Some, None, length, slice_get, inl, inr, refl, sym, ap, subst, ◌∙◌, arith, eq-eqb}
-use Rattle.mpd_laws.proofs.Releases.{one_of_all}
+use Rattle.mpd_laws.proofs.ordered.Releases.{one_of_all}
 use Rattle.std.proofs.lemmas.Bool.{and_parts, not-true}
 use Rattle.std.proofs.lemmas.Bool.Decides.{eqb_tells}
 use Rattle.std.proofs.lemmas.Option.{slice_get_within}
@@ -13,11 +13,11 @@ use Rattle.mpd_model.specs.declared.call.Call.{Call}
 use Rattle.mpd_model.specs.World.{World, id_eq, eligible, last_call}
 use Rattle.mpd_model.specs.Next.{stepped, waits, can_wake, woken, can_wake_any, woken_any, is_at_barrier, can_release, released, next}
 use Rattle.mpd_complete.specs.CompleteLaws.{apart, Joins, KeepsBuffers}
-use Rattle.mpd_laws.proofs.CallsInOrder.{chosen}
+use Rattle.mpd_laws.proofs.ordered.CallsInOrder.{chosen}
 use Rattle.mpd_complete.proofs.Worlds.{same_sym, taken}
 use Rattle.mpd_complete.proofs.Moves.{Known, joining, moved, paired, stepped_is, joining_paired, local_again, moved_swapped, moved_paired}
-use Rattle.mpd_laws.proofs.Eligible.{clash}
-use Rattle.mpd_laws.proofs.Orderly.{same_id}
+use Rattle.mpd_laws.proofs.ordered.Eligible.{clash}
+use Rattle.mpd_laws.proofs.ordered.Orderly.{same_id}
 use Rattle.mpd_complete.proofs.Pairs.{turned, match_again, match_freed, freed_paired, match_paired, paired_swapped, same_recv, same_send}
 use Rattle.mpd_complete.proofs.Steps.{IsLocalStep, IsWakeStep, local_step, wake_step, any_step, match_step, release_step}
 use Rattle.mpd_complete.proofs.Idle.{never_both}

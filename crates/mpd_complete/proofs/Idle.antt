@@ -23,10 +23,10 @@ use Rattle.mpd_model.specs.Program.{Program}
 use Rattle.mpd_model.specs.World.{World, RankWorld, start, start_rank, call_id, listed_calls, calls_of, kind_of, kind_at, has_own_step, last_call}
 use Rattle.mpd_model.specs.Next.{Ran, awaiting, handles_at, issued, ran_simple, ran, env_of, local_of, has_buffer, buffered_by, entered, is_blocked, waits, can_wake, request_handle, held_in, any_call, is_complete_some, can_wake_any, going_on, released}
 use Rattle.mpd_meaning.specs.StepLaws.{HasCalls}
-use Rattle.mpd_laws.proofs.LocalActivity.{call_blocks, BlocksOn}
-use Rattle.mpd_laws.proofs.Splits.{others_kept, read_written, end_read}
+use Rattle.mpd_laws.proofs.ordered.LocalActivity.{call_blocks, BlocksOn}
+use Rattle.mpd_laws.proofs.ordered.Splits.{others_kept, read_written, end_read}
 use Rattle.mpd_complete.proofs.Moves.{joining, moved, moved_beside, kind_beside}
-use Rattle.mpd_laws.proofs.Eligible.{clash}
+use Rattle.mpd_laws.proofs.ordered.Eligible.{clash}
 use Rattle.mpd_complete.proofs.Steps.{IsLocalStep}
 use Rattle.mpd_complete.proofs.Issues.{is_any, issues_none}
 

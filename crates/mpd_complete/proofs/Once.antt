@@ -1,6 +1,6 @@
 -- No two runs of a walk that sleeps end in one world: of two branches the first has its own pair in the end, which is asleep in the second.
 use Rattle.std.proofs.Common.{◌≡◌, ℕ, zero, suc, Bool, true, false, ◌||◌, Option, Some, None, is_some, option_and_then, List, [], ◌∷◌, ◌++◌, map, inl, inr, refl, sym, ap, subst, ◌∙◌, arith}
-use Rattle.mpd_meaning.proofs.Listed.{any_in}
+use Rattle.mpd_meaning.proofs.listed.Listed.{any_in}
 use Rattle.std.specs.Prelude.{slice_index_or}
 use Rattle.std.specs.Cmp.Derive.{both_true}
 use Rattle.std.specs.List.{list_any, AllPairs}
@@ -20,9 +20,9 @@ use Rattle.mpd_explore.specs.Walk.{Run, here, stepped, chosen, runs_of, stopped}
 use Rattle.mpd_complete.specs.CompleteLaws.{HasNoWaitany}
 use Rattle.mpd_explore.specs.Sleeping.{same_match, is_asleep, awake_runs, awake_branches, followed_awake, awake_walk, sleeping_walk}
 use Rattle.mpd_complete.specs.Sleeping.{EndApart}
-use Rattle.mpd_meaning.proofs.Members.{In, in_either, map_from, in_at}
-use Rattle.mpd_laws.proofs.CallsInOrder.{joined_from}
-use Rattle.mpd_laws.proofs.Eligible.{clash}
+use Rattle.mpd_meaning.proofs.listed.Members.{In, in_either, map_from, in_at}
+use Rattle.mpd_laws.proofs.ordered.CallsInOrder.{joined_from}
+use Rattle.mpd_laws.proofs.ordered.Eligible.{clash}
 use Rattle.mpd_complete.proofs.Pairs.{id_same, recv_known}
 use Rattle.mpd_complete.proofs.Steps.{match_step}
 use Rattle.mpd_complete.proofs.Invariants.{Sound, keeps}

@@ -1,6 +1,6 @@
 -- A match beside another step: what was eligible stays so as long as its calls are free, and two matches share no call but an open receive.
 use Rattle.std.proofs.Common.{◌≡◌, ◌⊎◌, ℕ, zero, suc, ◌<◌, ◌==◌, Bool, true, false, ◌||◌, not, Option, Some, None, is_some, is_none, option_and_then, List, [], ◌∷◌, ◌++◌, length, slice_get, inl, inr, refl, sym, ap, ◌∙◌, arith, eq-eqb}
-use Rattle.mpd_laws.proofs.Orderly.{same_id}
+use Rattle.mpd_laws.proofs.ordered.Orderly.{same_id}
 use Rattle.std.proofs.lemmas.Bool.{cases_order, eqb-true, and_parts, or_cases}
 use Rattle.std.specs.Cmp.Derive.{both_true}
 use Rattle.mpd_model.specs.declared.step.CallId.{CallId}
@@ -16,7 +16,7 @@ use Rattle.mpd_model.specs.Next.{waits, can_wake, writes_of, writes_by, own_writ
 use Rattle.mpd_model.specs.Decisions.{takes_any}
 use Rattle.mpd_model.specs.Why.{or_else}
 use Rattle.mpd_complete.specs.Same.{Same}
-use Rattle.mpd_laws.proofs.Eligible.{free_is_unpaired, known_within, message_known, fitting_send, fitting_recv, agrees, earlier_send_paired, earlier_recv_paired, one_send, eligible_from, clash}
+use Rattle.mpd_laws.proofs.ordered.Eligible.{free_is_unpaired, known_within, message_known, fitting_send, fitting_recv, agrees, earlier_send_paired, earlier_recv_paired, one_send, eligible_from, clash}
 use Rattle.mpd_complete.proofs.Sets.{partner_more, else_none, partner_by, Disjoint, sets_swapped, barrier_disjoint}
 use Rattle.mpd_complete.proofs.Moves.{moved, paired, awake, awake_any, kind_kept, partner_formed, woken_is}
 use Rattle.mpd_complete.proofs.Worlds.{taken}

@@ -1,7 +1,7 @@
 -- What is known where a step is enabled.
 use Rattle.std.proofs.Common.{◌≡◌, ◌≢◌, ℕ, ◌<◌, true, false, not, Option, Some, None, length, slice_get, refl, sym, ap, ◌∙◌}
-use Rattle.mpd_laws.proofs.OrderSteps.{no_barrier}
-use Rattle.mpd_laws.proofs.Orderly.{waiting}
+use Rattle.mpd_laws.proofs.ordered.OrderSteps.{no_barrier}
+use Rattle.mpd_laws.proofs.ordered.Orderly.{waiting}
 use Rattle.std.proofs.lemmas.Bool.{and_parts, not-true}
 use Rattle.std.proofs.lemmas.Option.{slice_get_within}
 use Rattle.mpd_model.specs.declared.step.CallId.{CallId}
@@ -12,9 +12,9 @@ use Rattle.mpd_model.specs.declared.call.CallKind.{CallKind}
 use Rattle.mpd_model.specs.declared.call.CallKind.TheVariants.{Waitany}
 use Rattle.mpd_model.specs.World.{World, Board, RankWorld, calls_of, kind_at, eligible, is_barrier, has_own_step, last_call}
 use Rattle.mpd_model.specs.Next.{Ran, local, local_at, stepped, is_blocked, waits, can_wake, wake_writes, wake_clears, woken, request_handle, held_in, any_handle, is_complete_some, can_wake_any, any_writes, woken_any, can_release, released, next}
-use Rattle.mpd_laws.proofs.LocalActivity.{BlocksOn, local_blocks}
-use Rattle.mpd_laws.proofs.CallsInOrder.{chosen, joined_from}
-use Rattle.mpd_laws.proofs.Splits.{mapped_from}
+use Rattle.mpd_laws.proofs.ordered.LocalActivity.{BlocksOn, local_blocks}
+use Rattle.mpd_laws.proofs.ordered.CallsInOrder.{chosen, joined_from}
+use Rattle.mpd_laws.proofs.ordered.Splits.{mapped_from}
 use Rattle.mpd_complete.proofs.Moves.{Known, joining, moved, paired, awake, awake_any, stepped_is, woken_is, wake_again, any_again}
 use Rattle.mpd_complete.proofs.Pairs.{wake_paired, any_paired}
 

@@ -15,9 +15,9 @@ use Rattle.mpd_explore.specs.declared.report.Ending.TheVariants.{Ended, Cut}
 use Rattle.mpd_explore.specs.Walk.{Run, here, runs_of, stopped}
 use Rattle.mpd_complete.specs.Same.{Same}
 use Rattle.mpd_complete.specs.CompleteLaws.{Joins, KeepsBuffers, was_cut, IsWhole, IsListed, GoesOnToAnEnd, IsRun, apart}
-use Rattle.mpd_laws.proofs.CallsInOrder.{joined_from}
+use Rattle.mpd_laws.proofs.ordered.CallsInOrder.{joined_from}
 use Rattle.mpd_complete.proofs.Worlds.{same_refl, same_sym, same_trans, ending_same, follows, follows_all}
-use Rattle.mpd_meaning.proofs.Members.{In, contains_in}
+use Rattle.mpd_meaning.proofs.listed.Members.{In, contains_in}
 use Rattle.mpd_complete.proofs.Invariants.{Sound, IsNamed, keeps, stays_ample, fold_ample, fold_sound, start_sound, stays_named}
 use Rattle.mpd_complete.proofs.Diamond.{diamond, steady}
 use Rattle.mpd_complete.proofs.Views.{world_of, in_enabled, from_enabled, Stuck, LeafView, View}

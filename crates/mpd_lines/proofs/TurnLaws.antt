@@ -69,8 +69,6 @@ part_more before read q r piece is on =
 ended_last : (before read q : List ℕ) → q ≡ part_from [] (before ++ read) → ended_from [] (before ++ read) ++ last_line q ≡ lines_of (before ++ read)
 ended_last before read q is = ap (λ x. ended_from [] (before ++ read) ++ last_line x) is ∙ all_lines (before ++ read)
 
-}
-
 pub so_far_more : {D : Type 0} (A : D → List ℕ → List ℕ → D → Type 0) (below : ℕ) (d m e : D) (before p q : List ℕ) (n : ℕ) (s0 s1 s2 : SourceSeen) (v0 v1 v2 : SinkSeen)
     → SoFar A d before n s0 s1 v0 v1 m p → Turned A below m p s1 s2 v1 v2 e q (Ok More) → CountedOnce s1 s2 v1 v2 (Ok More) → SoFar A d before (n + 1) s0 s2 v0 v2 e q
 so_far_more A below d m e before p q n s0 s1 s2 v0 v1 v2 f t c = record {
@@ -154,5 +152,3 @@ served_turns A below d e before q n turns s t v w f is = (
   tells_along A d e (ended_from [] (before ++ f.read)) (ended_lines (before ++ f.read)) v.contents w.contents (whole_lines (before ++ f.read)) f.told,
   (let le = f.most in omega (arith, le, is)),
 )
-
-}

@@ -1,7 +1,7 @@
 -- A send and a receive are eligible where each is the first of its line that fits the other; so of the sends of a rank at most one
 -- is eligible with a receive.
 use Rattle.std.proofs.Common.{◌≡◌, ◌≢◌, ℕ, ◌+◌, ◌<◌, ◌≤◌, Bool, true, false, cond, ◌&&◌, ◌||◌, not, nat_lt, Option, Some, None, is_some, List, [], ◌∷◌, inl, inr, refl, sym, ap, ◌∙◌, length, slice_get, arith}
-use Rattle.mpd_laws.proofs.Eligible.{clash}
+use Rattle.mpd_laws.proofs.ordered.Eligible.{clash}
 use Rattle.std.proofs.lemmas.Bool.{cases_lt, lt-ltb, le-ltb, and_parts, cases_Bool, not-true}
 use Rattle.std.proofs.lemmas.Bool.Decides.{eqb_tells}
 use Rattle.std.proofs.lemmas.Option.{slice_get_past}

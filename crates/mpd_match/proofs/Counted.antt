@@ -12,7 +12,7 @@ use Rattle.mpd_model.specs.declared.call.MatchSet.TheVariants.{Pair, Woke}
 use Rattle.mpd_model.specs.declared.call.MatchSet.TheVariants as set_kind
 use Rattle.mpd_model.specs.World.{Board, call_id, listed_calls, calls_of, kind_of, kind_at, partner, eligible, fits, is_buffered, holds_slot, last_call, slots_used}
 use Rattle.mpd_model.specs.Next.{with_call, with_set}
-use Rattle.mpd_laws.proofs.Slots.{is_pair, slots_within, slots_with_call, slots_with_lone, slots_with_fitting, slots_with_match}
+use Rattle.mpd_laws.proofs.buffered.Slots.{is_pair, slots_within, slots_with_call, slots_with_lone, slots_with_fitting, slots_with_match}
 use Rattle.mpd_match.specs.Views.{SideView, calls_in, board_in}
 use Rattle.mpd_match.specs.Changes.{issue_writes, unissue_writes, without_last_call, is_lone, last_set}
 use Rattle.mpd_match.specs.Slots.{slots_of, held_in, at_rank, Counted}
@@ -247,5 +247,3 @@ counted_new mode sides sets slots n ec es = record {
   where
     count_in : Board → ℕ → List Call → ℕ
     count_in b q calls = length (filter (λ i. holds_slot b (call_id q i)) (range_with_len 0 (length calls)))
-
-}

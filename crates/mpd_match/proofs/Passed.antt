@@ -1,6 +1,6 @@
 -- What passes a test, of the numbers of a list: in how many places a number stands, and what one leaves that passes no more.
 use Rattle.std.proofs.Common.{◌≡◌, ◌≢◌, ℕ, zero, suc, ◌+◌, ◌<◌, ◌≤◌, Bool, true, false, cond, List, [], ◌∷◌, ◌++◌, inl, inr, refl, sym, ap, ◌∙◌, arith}
-use Rattle.mpd_laws.proofs.Eligible.{clash}
+use Rattle.mpd_laws.proofs.ordered.Eligible.{clash}
 use Rattle.std.proofs.lemmas.Bool.{cases_Bool}
 use Rattle.std.proofs.lemmas.Bool.Decides.{eqb_tells}
 use Rattle.std.specs.List.{filter, range_with_len}

@@ -1,6 +1,6 @@
 -- Tags that are marked along a line of free sends, and receives that none of these fits.
 use Rattle.std.proofs.Common.{◌≡◌, ◌≢◌, ℕ, ◌/◌, ◌%◌, ◌^◌, ◌<◌, ◌≤◌, Bool, true, false, not, ◌&&◌, ◌==◌, eq-eqb, eqb-true, get_or, bit_or, Option, Some, None, List, [], ◌∷◌, ◌++◌, ◌⊎◌, inl, inr, refl, sym, ap, subst, ◌∙◌, map, length, set, arith}
-use Rattle.mpd_laws.proofs.Eligible.{clash}
+use Rattle.mpd_laws.proofs.ordered.Eligible.{clash}
 use Rattle.std.proofs.lemmas.Bool.{and_parts, not-true}
 use Rattle.std.proofs.lemmas.List.{get_or-set_same, get_or-set_other, length-set}
 use Rattle.std.proofs.lemmas.Nat.{mod_below}

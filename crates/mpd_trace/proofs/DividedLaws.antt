@@ -5,7 +5,7 @@ use Rattle.std.proofs.lemmas.Bool.{eqb-true, and_from}
 use Rattle.mpd_trace.specs.Divided.{Begun, begun, added, is_prefix, may_divide, ends_script, splits, settled_lines, ByteBrings, Measures}
 use Rattle.mpd_trace.specs.declared.divider.Taken.{Taken}
 use Rattle.mpd_trace.specs.declared.divider.Taken.TheVariants.{Open, Here, TooLong}
-use Rattle.mpd_laws.proofs.LineCuts.{is_part, joined_raw_lines, raw_feed, raw_part, bare_part, part_snoc, part_head, part_tail, and_first, and_second}
+use Rattle.mpd_laws.proofs.cutting.LineCuts.{is_part, joined_raw_lines, raw_feed, raw_part, bare_part, part_snoc, part_head, part_tail, and_first, and_second}
 
 abbrev Halves : Type 0
 Halves = List ℕ × List ℕ

@@ -1,4 +1,4 @@
-use Rattle.mpd_meaning.proofs.ReadExactly.{read_exactly}
+use Rattle.mpd_meaning.proofs.limited.ReadExactly.{read_exactly}
 use Rattle.mpd_meaning.proofs.reading.what_is_read_is_written_within_the_limits.Goals as goal
 
 pub returns : goal.returns
